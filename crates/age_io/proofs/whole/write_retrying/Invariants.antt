@@ -1,0 +1,11 @@
+use Rattle.std.proofs.Common.{◌≡◌, ◌<◌}
+use Rattle.age_io.proofs.Appending.{Untouched}
+use Rattle.age_io.proofs.whole.write_retrying.Given as goal
+
+abbrev pub invariant-loop-try : goal.invariant-loop-try
+invariant-loop-try g l =
+    let writer = g.W.Write in
+    record {
+      untouched : Untouched writer.tells writer.limited writer.faults writer.appended l.fn.writer l.writer;
+      rose : 0 < l._try → writer.faults l.fn.writer < writer.faults l.writer;
+    }

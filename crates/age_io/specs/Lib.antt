@@ -1,0 +1,3 @@
+pub mod Stretch
+pub mod Reading
+pub mod Writing

@@ -1,0 +1,76 @@
+-- What a call on a reader does to its meaning.
+use Rattle.std.specs.Prelude.{◌≡◌, ◌≢◌, ℕ, ◌+◌, ◌-◌, ◌^◌, ◌≤◌, ◌<◌, Bool, false, IsTrue, List, [], ◌++◌, length, take, ◌⊎◌, Result, IfOk, IfErr, OnErr}
+use Rattle.age_io.specs.Stretch.{Stretch, nothing, from_place, IsCleanEnd, IsFault}
+use Rattle.age_error.specs.Refusals.{IsDevice, IsInterruption}
+use Rattle.age_error.specs.declared.io.Error.{Error}
+use Rattle.age_error.specs.declared.io.Error.TheVariants.{UnexpectedEof, OutOfMemory}
+
+-- the largest count of faults: it is used up, and its device is asked no more
+abbrev pub most_faults : ℕ
+most_faults = 2 ^ 64 - 1
+
+-- no fault came in between, and the count isn't used up
+pub record IsQuiet (before after : ℕ) : Type 0 where
+  pub same : after ≡ before
+  pub below : after < most_faults
+
+-- these bytes were the beginning of the rest
+pub record Delivers (front : List ℕ) (old new : Stretch) : Type 0 where
+  pub bytes : old.bytes ≡ front ++ new.bytes
+  pub end : new.ends_well ≡ old.ends_well
+
+-- the rest stays, or the reader has failed
+abbrev pub StaysOrFails : Stretch → Stretch → Type 0
+StaysOrFails old new = (new ≡ old) ⊎ (new ≡ nothing)
+
+-- the place is in the content, and the rest is what stands from there on, or nothing of a failed reader
+pub record StandsIn (content : Stretch) (place : ℕ) (rest : Stretch) : Type 0 where
+  pub within : place ≤ length content.bytes
+  pub reaches : (rest ≡ from_place place content) ⊎ (rest ≡ nothing)
+
+-- What a read does: at `Ok(n)` the next n bytes stand in front of the buffer.
+pub record Reads {S : Type 0} (tells steady : S → Bool) (content : S → Stretch) (place : S → ℕ) (rest : S → Stretch) (faults : S → ℕ)
+    (old new : S) (buf : List ℕ) (result : Result ℕ Error) : Type 0 where
+  -- of every reader
+  pub count : IfOk result (λ n. n ≤ length buf)
+  pub same_tells : tells new ≡ tells old
+  pub same_steady : steady new ≡ steady old
+  pub no_fewer_faults : faults old ≤ faults new
+  pub device : IfErr result (λ e. IsDevice e → faults old < faults new)
+  pub unspent : IfOk result (λ _. 0 < length buf → faults new < most_faults)
+  -- of a reader that tells its bytes
+  pub same_content : IsTrue (tells old) → content new ≡ content old
+  pub bytes : IsTrue (tells old) → IfOk result (λ n. Delivers (take n buf) (rest old) (rest new))
+  pub moves : IsTrue (tells old) → IfOk result (λ n. place new ≡ place old + n)
+  pub end : IsTrue (tells old) → IfOk result (λ n. n ≡ 0 → 0 < length buf → IsCleanEnd (rest old))
+  pub stays : IsTrue (tells old) → OnErr result (place new ≡ place old)
+  pub left : IsTrue (tells old) → OnErr result (StaysOrFails (rest old) (rest new))
+  pub interrupted : IsTrue (tells old) → IfErr result (λ e. IsInterruption e → rest new ≡ rest old)
+  pub cause : IsTrue (tells old) → IfErr result (λ e. e ≢ OutOfMemory → IsQuiet (faults old) (faults new) → IsFault (rest old))
+
+-- A reader gave a beginning of the rest, of at most this many bytes, and stands after it, or has failed there.
+pub record TookSome (most old_place new_place : ℕ) (old new : Stretch) : Type 0 where
+  pub front : List ℕ
+  pub fits : length front ≤ most
+  pub moved : new_place ≡ old_place + length front
+  pub middle : Stretch
+  pub delivered : Delivers front old middle
+  pub left : StaysOrFails middle new
+
+-- the rest is too short for this many bytes, and where it ends well the error says so
+pub record IsShort (wanted : ℕ) (rest : Stretch) (e : Error) : Type 0 where
+  pub short : length rest.bytes < wanted
+  pub early : IsTrue rest.ends_well → e ≡ UnexpectedEof
+
+-- a fault stands before this many bytes came
+pub record EndsEarly (wanted : ℕ) (rest : Stretch) : Type 0 where
+  pub short : length rest.bytes < wanted
+  pub badly : rest.ends_well ≡ false
+
+-- A list has grown by what a reader delivered. What follows that is left, unless the reader has failed there.
+pub record Appended (old new : Stretch) (before after : List ℕ) : Type 0 where
+  pub front : List ℕ
+  pub grown : after ≡ before ++ front
+  pub middle : Stretch
+  pub delivered : Delivers front old middle
+  pub left : StaysOrFails middle new

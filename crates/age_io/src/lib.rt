@@ -1,0 +1,12 @@
+//! Readers and writers: what they mean, and calls that read or write until all is done.
+#![tactic(auto)]
+
+mod memory;
+mod traits;
+mod whole;
+
+pub use memory::Bytes;
+pub use traits::{Read, Write};
+pub use whole::{
+    fill, flush_retrying, read_exact, read_retrying, read_to_end, room_for, write_all, write_retrying,
+};

@@ -1,0 +1,156 @@
+//! What reads and writes.
+ghost use Rattle.std.specs.Prelude.{◌≡◌, ℕ, ◌^◌, ◌≤◌, ◌<◌, Bool, IsTrue, List, [], ◌++◌, length, refl};
+ghost use Rattle.std.proofs.Common.{◌∙◌};
+ghost use Rattle.age_error.specs.Bytes.{AreBytes};
+ghost use Rattle.age_io.specs.Stretch.{Stretch, nothing};
+ghost use Rattle.age_io.specs.Reading.{Reads, StandsIn, most_faults};
+ghost use Rattle.age_io.specs.Writing.{Writes, Flushes};
+
+use age_error::io::Error;
+
+/// Reads bytes.
+///
+/// What a reader means is said by its members. Its content is what it delivers from the start as long as nothing
+/// seeks: all bytes before the first fault, and whether a clean end follows them. Where it doesn't tell its bytes,
+/// nothing is said of them.
+pub trait Read {
+    /// Whether the members below say what the bytes are.
+    ghost tells: { Self → Bool };
+
+    /// Whether the rest is always that of the content at the place, also where the content ends badly.
+    ghost steady: { Self → Bool };
+
+    /// What a reader that never seeks delivers from the start.
+    ghost content: { Self → Stretch };
+
+    /// How many bytes of the content stand before the next read.
+    ghost place: { Self → ℕ };
+
+    /// What reads can still deliver: of a failed reader nothing, and it doesn't end well.
+    ghost rest: { Self → Stretch };
+
+    /// How often the device has failed.
+    ghost faults: { Self → ℕ };
+
+    /// Puts the next n bytes in front of `buf` and answers n. It is 0 only for an empty buffer or at a clean end.
+    ///
+    /// A refusal leaves the place where it was. It comes only where the device failed in this call or has failed
+    /// 2^64 - 1 times, where memory was refused, or where nothing but a fault is left. `Device(kind)` says that the
+    /// device failed in this call. After `Device(Interrupted)` the call may be made again.
+    fn read(&mut self, buf: &mut [u8]) -> Result<usize, Error>
+        ensures { Reads tells steady content place rest faults self.old self.new buf.new result };
+
+    /// The count of faults is a u64.
+    ghost faults_fit: { (r : Self) → faults r < 2 ^ 64 };
+
+    /// A reader whose count of faults is used up has failed.
+    ghost spent: { (r : Self) → IsTrue (tells r) → faults r ≡ most_faults → rest r ≡ nothing };
+
+    /// A reader whose content ends well is steady.
+    ghost well: { (r : Self) → IsTrue (tells r) → IsTrue (content r).ends_well → IsTrue (steady r) };
+
+    /// A steady reader stands within its content, and has its rest, unless it failed.
+    ghost stands: { (r : Self) → IsTrue (tells r) → IsTrue (steady r) → StandsIn (content r) (place r) (rest r) };
+
+    /// A content is a list of bytes.
+    ghost are_bytes: { (r : Self) → IsTrue (tells r) → AreBytes (content r).bytes };
+
+    /// A content has at most 2^63 - 1 bytes.
+    ghost short: { (r : Self) → IsTrue (tells r) → length (content r).bytes < 2 ^ 63 };
+
+    /// So has what stands before the place, on any content.
+    ghost place_fits: { (r : Self) → IsTrue (tells r) → place r < 2 ^ 63 };
+}
+
+/// Takes bytes.
+///
+/// What a writer means is said by its members. Where it doesn't tell its bytes, nothing is said of what went out.
+pub trait Write {
+    /// Whether `appended` says what went out.
+    ghost tells: { Self → Bool };
+
+    /// Whether a write or a flush may answer `TooLong`.
+    ghost limited: { Self → Bool };
+
+    /// How often the device has failed.
+    ghost faults: { Self → ℕ };
+
+    /// The second state is the first with these bytes appended.
+    ghost appended: { Self → List ℕ → Self → Type 0 };
+
+    /// Appends the first n bytes and answers n. A refusal appended nothing.
+    ///
+    /// `Device(kind)` says that the device failed in this call.
+    fn write(&mut self, bytes: &[u8]) -> Result<usize, Error>
+        ensures { Writes tells limited faults appended self.old self.new bytes.now result };
+
+    /// Sends on what a buffer holds back. It appends nothing.
+    fn flush(&mut self) -> Result<(), Error>
+        ensures { Flushes tells limited faults appended self.old self.new result };
+
+    /// The count of faults is a u64.
+    ghost faults_fit: { (w : Self) → faults w < 2 ^ 64 };
+
+    /// A state and itself are related by no bytes.
+    ghost appends_nothing: { (w : Self) → appended w [] w };
+
+    /// Bytes appended in turn are appended joined.
+    ghost joins: { (a b c : Self) (x y : List ℕ) → appended a x b → appended b y c → appended a (x ++ y) c };
+}
+
+impl<R: Read> Read for &mut R {
+    ghost tells = { λ r. R.tells r.now };
+
+    ghost steady = { λ r. R.steady r.now };
+
+    ghost content = { λ r. R.content r.now };
+
+    ghost place = { λ r. R.place r.now };
+
+    ghost rest = { λ r. R.rest r.now };
+
+    ghost faults = { λ r. R.faults r.now };
+
+    ghost faults_fit = { λ r. R.faults_fit r.now };
+
+    ghost spent = { λ r. R.spent r.now };
+
+    ghost well = { λ r. R.well r.now };
+
+    ghost stands = { λ r. R.stands r.now };
+
+    ghost are_bytes = { λ r. R.are_bytes r.now };
+
+    ghost short = { λ r. R.short r.now };
+
+    ghost place_fits = { λ r. R.place_fits r.now };
+
+    fn read(&mut self, buf: &mut [u8]) -> Result<usize, Error> {
+        Read::read(&mut **self, buf)
+    }
+}
+
+// What was appended through a reference was appended to what it lends: the two states are of one loan.
+impl<W: Write> Write for &mut W {
+    ghost tells = { λ w. W.tells w.now };
+
+    ghost limited = { λ w. W.limited w.now };
+
+    ghost faults = { λ w. W.faults w.now };
+
+    ghost appended = { λ a x b. (a.ghost_name ≡ b.ghost_name) × W.appended a.now x b.now };
+
+    ghost faults_fit = { λ w. W.faults_fit w.now };
+
+    ghost appends_nothing = { λ w. (refl, W.appends_nothing w.now) };
+
+    ghost joins = { λ a b c x y p q. (p.0 ∙ q.0, W.joins a.now b.now c.now x y p.1 q.1) };
+
+    fn write(&mut self, bytes: &[u8]) -> Result<usize, Error> {
+        Write::write(&mut **self, bytes)
+    }
+
+    fn flush(&mut self) -> Result<(), Error> {
+        Write::flush(&mut **self)
+    }
+}

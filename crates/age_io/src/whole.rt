@@ -1,0 +1,190 @@
+//! Reads and writes that go on until all is done.
+ghost use Rattle.std.specs.Prelude.{◌≡◌, ◌≢◌, ℕ, ◌+◌, ◌^◌, ◌≤◌, ◌<◌, Bool, IsTrue, List, [], ◌++◌, length, take, vec_len, false, IfOk, OnOk, IfErr, OnErr, IsErrAnd, Ok, Err};
+ghost use Rattle.age_error.specs.Refusals.{IsDevice, IsInterruption};
+ghost use Rattle.age_error.specs.declared.io.Error.TheVariants.{OutOfMemory, UnexpectedEof};
+ghost use Rattle.age_io.specs.Stretch.{Stretch, IsCleanEnd, IsFault, from_place};
+ghost use Rattle.age_io.specs.Reading.{Reads, IsQuiet, Delivers, StaysOrFails, TookSome, IsShort, Appended, EndsEarly, most_faults};
+ghost use Rattle.age_io.specs.Writing.{Writes, Flushes, WritesAll};
+
+use crate::traits::{Read, Write};
+use age_error::io::{Error, ErrorKind};
+use std::alloc::Global;
+
+// Whether the device was interrupted, so that the call may be made again.
+fn is_interruption<T>(answer: &Result<T, Error>) -> bool
+    ensures yes { IsTrue result → IsErrAnd answer.now IsInterruption }
+    ensures no { result ≡ false → IfErr answer.now (λ e. IsInterruption e → ⊥) }
+{
+    match answer {
+        Err(Error::Device(ErrorKind::Interrupted)) => true,
+        _ => false,
+    }
+}
+
+/// A read that is tried again after an interruption, up to 16 times in a row; after that it answers `Device(Other)`.
+pub fn read_retrying<R: Read>(reader: &mut R, buf: &mut [u8]) -> Result<usize, Error>
+    requires { 0 < length buf.old }
+    ensures reads { Reads R.tells R.steady R.content R.place R.rest R.faults reader.old reader.new buf.new result }
+    ensures patient { IfErr result (λ e. IsInterruption e → ⊥) }
+{
+    for _try in 0..17u8 {
+        let answer = reader.read(buf);
+        if !is_interruption(&answer) {
+            return answer;
+        }
+    }
+    Err(Error::Device(ErrorKind::Other))
+}
+
+/// A write that is tried again after an interruption, up to 16 times in a row; after that it answers `Device(Other)`.
+pub fn write_retrying<W: Write>(writer: &mut W, bytes: &[u8]) -> Result<usize, Error>
+    ensures writes { Writes W.tells W.limited W.faults W.appended writer.old writer.new bytes.now result }
+    ensures patient { IfErr result (λ e. IsInterruption e → ⊥) }
+{
+    for _try in 0..17u8 {
+        let answer = writer.write(bytes);
+        if !is_interruption(&answer) {
+            return answer;
+        }
+    }
+    Err(Error::Device(ErrorKind::Other))
+}
+
+/// A flush that is tried again after an interruption, up to 16 times in a row; after that it answers `Device(Other)`.
+pub fn flush_retrying<W: Write>(writer: &mut W) -> Result<(), Error>
+    ensures flushes { Flushes W.tells W.limited W.faults W.appended writer.old writer.new result }
+    ensures patient { IfErr result (λ e. IsInterruption e → ⊥) }
+{
+    for _try in 0..17u8 {
+        let answer = writer.flush();
+        if !is_interruption(&answer) {
+            return answer;
+        }
+    }
+    Err(Error::Device(ErrorKind::Other))
+}
+
+/// Fills the buffer, or as much of it as comes before a clean end. `filled` says how much, also after a refusal.
+///
+/// A refusal is that of the read that met it. An interruption is tried again as in `read_retrying`.
+pub fn fill<R: Read>(reader: &mut R, buf: &mut [u8], filled: &mut usize) -> Result<(), Error>
+    ensures tells { R.tells reader.new ≡ R.tells reader.old }
+    ensures steady { R.steady reader.new ≡ R.steady reader.old }
+    ensures faults { R.faults reader.old ≤ R.faults reader.new }
+    ensures device { IfErr result (λ e. IsDevice e → R.faults reader.old < R.faults reader.new) }
+    ensures unspent { 0 < length buf.old → OnOk result (R.faults reader.new < most_faults) }
+    ensures patient { IfErr result (λ e. IsInterruption e → ⊥) }
+    ensures count { filled.new ≤ length buf.new }
+    ensures content { IsTrue (R.tells reader.old) → R.content reader.new ≡ R.content reader.old }
+    ensures moves { IsTrue (R.tells reader.old) → R.place reader.new ≡ R.place reader.old + filled.new }
+    ensures bytes { IsTrue (R.tells reader.old) → OnOk result
+        (Delivers (take filled.new buf.new) (R.rest reader.old) (R.rest reader.new)) }
+    ensures end { IsTrue (R.tells reader.old) → OnOk result
+        (filled.new < length buf.new → IsCleanEnd (R.rest reader.new)) }
+    ensures cause { IsTrue (R.tells reader.old) → IfErr result (λ e. e ≢ OutOfMemory →
+        IsQuiet (R.faults reader.old) (R.faults reader.new) → EndsEarly (length buf.new) (R.rest reader.old)) }
+{
+    *filled = 0;
+    'reads: while *filled < buf.len() {
+        match read_retrying(reader, &mut buf[*filled..])? {
+            0 => return Ok(()),
+            n => *filled += n,
+        }
+    }
+    Ok(())
+}
+
+/// Fills the whole buffer. Where a clean end comes before that the answer is `UnexpectedEof`.
+///
+/// After a refusal the reader stands after the bytes that it gave. An interruption is tried again as in
+/// `read_retrying`.
+pub fn read_exact<R: Read>(reader: &mut R, buf: &mut [u8]) -> Result<(), Error>
+    ensures tells { R.tells reader.new ≡ R.tells reader.old }
+    ensures steady { R.steady reader.new ≡ R.steady reader.old }
+    ensures faults { R.faults reader.old ≤ R.faults reader.new }
+    ensures device { IfErr result (λ e. IsDevice e → R.faults reader.old < R.faults reader.new) }
+    ensures unspent { 0 < length buf.old → OnOk result (R.faults reader.new < most_faults) }
+    ensures content { IsTrue (R.tells reader.old) → R.content reader.new ≡ R.content reader.old }
+    ensures bytes { IsTrue (R.tells reader.old) → OnOk result
+        (Delivers buf.new (R.rest reader.old) (R.rest reader.new)) }
+    ensures moves { IsTrue (R.tells reader.old) → OnOk result
+        (R.place reader.new ≡ R.place reader.old + length buf.new) }
+    ensures err { IsTrue (R.tells reader.old) → OnErr result
+        (TookSome (length buf.new) (R.place reader.old) (R.place reader.new) (R.rest reader.old) (R.rest reader.new)) }
+    ensures early { IsTrue (R.tells reader.old) → IfErr result (λ e. e ≢ OutOfMemory →
+        IsQuiet (R.faults reader.old) (R.faults reader.new) →
+        IsShort (length buf.new) (R.rest reader.old) e) }
+{
+    let mut at = 0;
+    while at < buf.len() {
+        match read_retrying(reader, &mut buf[at..])? {
+            0 => return Err(Error::UnexpectedEof),
+            n => at += n,
+        }
+    }
+    Ok(())
+}
+
+// How many bytes `read_to_end` asks for at once.
+const PIECE: usize = 65_536;
+
+/// Appends the whole rest and answers its length in bytes. A success says that the rest ended well.
+///
+/// After a refusal what was delivered before it is appended. `OutOfMemory` comes where the list can't grow.
+/// An interruption is tried again as in `read_retrying`.
+pub fn read_to_end<R: Read>(
+    alloc: Global,
+    reader: &mut R,
+    buf: &mut Vec<u8>,
+) -> Result<usize, Error>
+    ensures tells { R.tells reader.new ≡ R.tells reader.old }
+    ensures steady { R.steady reader.new ≡ R.steady reader.old }
+    ensures faults { R.faults reader.old ≤ R.faults reader.new }
+    ensures device { IfErr result (λ e. IsDevice e → R.faults reader.old < R.faults reader.new) }
+    ensures unspent { OnOk result (R.faults reader.new < most_faults) }
+    ensures content { IsTrue (R.tells reader.old) → R.content reader.new ≡ R.content reader.old }
+    ensures bytes { IsTrue (R.tells reader.old) → OnOk result
+        (buf.new.items ≡ buf.old.items ++ (R.rest reader.old).bytes) }
+    ensures count { IfOk result (λ n. vec_len buf.new ≡ vec_len buf.old + n) }
+    ensures end { IsTrue (R.tells reader.old) → OnOk result (IsTrue (R.rest reader.old).ends_well) }
+    ensures err { IsTrue (R.tells reader.old) → OnErr result
+        (Appended (R.rest reader.old) (R.rest reader.new) buf.old.items buf.new.items) }
+    ensures cause { IsTrue (R.tells reader.old) → IfErr result (λ e. e ≢ OutOfMemory →
+        IsQuiet (R.faults reader.old) (R.faults reader.new) → (R.rest reader.old).ends_well ≡ false) }
+{
+    let mut room = room_for(alloc, PIECE)?;
+    let start = buf.len();
+    'reads: loop {
+        buf.reserve(room.len())?;
+        let count = read_retrying(reader, &mut room)?;
+        if count == 0 {
+            return Ok(buf.len() - start);
+        }
+        buf.extend_from_slice(&room[..count])?;
+    }
+}
+
+/// So many zero bytes, as room to read into.
+pub fn room_for(alloc: Global, size: usize) -> Result<Vec<u8>, Error>
+    ensures length { IfOk result (λ v. length v.items ≡ size) }
+    ensures memory { IfErr result (λ e. e ≡ OutOfMemory) }
+{
+    Ok(vec![in alloc; 0; size]?)
+}
+
+/// Writes all bytes. Where a write of some bytes takes none of them the answer is `WriteZero`.
+///
+/// After a refusal a beginning of the bytes went out. An interruption is tried again as in `write_retrying`.
+pub fn write_all<W: Write>(writer: &mut W, bytes: &[u8]) -> Result<(), Error>
+    ensures { WritesAll W.tells W.limited W.faults W.appended writer.old writer.new bytes.now result }
+{
+    let mut at = 0;
+    while at < bytes.len() {
+        match write_retrying(writer, &bytes[at..]) {
+            Err(e) => return Err(e),
+            Ok(0) => return Err(Error::WriteZero),
+            Ok(n) => at += n,
+        }
+    }
+    Ok(())
+}

@@ -1,0 +1,76 @@
+-- The payload of a plaintext, and what a chunk of a payload holds. `seal_of key nonce plain` is the cipher's seal.
+use Rattle.std.specs.Prelude.{◌≡◌, ℕ, zero, suc, ◌+◌, ◌-◌, ◌*◌, ◌/◌, Bool, true, false, ◌&&◌, ◌||◌, nat_eq, nat_le, nat_lt, if◌then◌else◌, List, [], ◌∷◌, ◌++◌, length, take, drop, Option, Some, None}
+use Rattle.std.specs.Int.{bytes_high_first}
+use Rattle.age_error.specs.Bytes.{AreBytes}
+
+-- a cipher's seal of a plaintext under a key and a nonce
+abbrev pub Seal : Type 0
+Seal = List ℕ → List ℕ → List ℕ → List ℕ
+
+-- part i of a list that is cut in parts of this size, of which the last may be short
+unfoldable pub cut : ℕ → ℕ → List ℕ → List ℕ
+cut size i xs = take size (drop (size * i) xs)
+
+-- ---- writing
+
+-- piece i of a plaintext, of at most 65,536 bytes
+abbrev pub piece : ℕ → List ℕ → List ℕ
+piece i plain = cut 65536 i plain
+
+-- the number of the last piece of n bytes: a full last piece stays one piece, and of no bytes piece 0 is empty
+abbrev pub last_piece : ℕ → ℕ
+last_piece n = (n - 1) / 65536
+
+-- the nonce of a chunk: its number in 11 bytes, big-endian, then 1 for the last chunk and 0 for the others
+unfoldable pub nonce : ℕ → Bool → List ℕ
+nonce i is_last = bytes_high_first 11 i ++ (if is_last then 1 else 0) ∷ []
+
+-- the seals of the first n pieces, none of them as the last
+abbrev pub middle_seals : Seal → List ℕ → List ℕ → ℕ → List ℕ
+middle_seals seal_of key plain zero = []
+middle_seals seal_of key plain (suc i) =
+    middle_seals seal_of key plain i ++ seal_of key (nonce i false) (piece i plain)
+
+-- the payload of a plaintext: the seals of its pieces in order, the last one as the last
+unfoldable pub payload : Seal → List ℕ → List ℕ → List ℕ
+payload seal_of key plain =
+    let last = last_piece (length plain) in
+    middle_seals seal_of key plain last ++ seal_of key (nonce last true) (piece last plain)
+
+-- ---- reading
+
+-- chunk i of a payload, of at most 65,552 bytes
+abbrev pub chunk : ℕ → List ℕ → List ℕ
+chunk i sealed = cut 65552 i sealed
+
+-- chunk i is full and the seal of these bytes under its nonce as a middle chunk
+pub record HeldAsMiddle (seal_of : Seal) (key sealed : List ℕ) (i : ℕ) (plain : List ℕ) : Type 0 where
+  pub full : length (chunk i sealed) ≡ 65552
+  pub bytes : AreBytes plain
+  pub is_seal : chunk i sealed ≡ seal_of key (nonce i false) plain
+
+-- chunk i isn't held as middle, and is the seal of these bytes under its nonce as the last chunk
+pub record HeldAsLast (seal_of : Seal) (key sealed : List ℕ) (i : ℕ) (plain : List ℕ) : Type 0 where
+  pub not_middle : (other : List ℕ) → HeldAsMiddle seal_of key sealed i other → ⊥
+  pub bytes : AreBytes plain
+  pub is_seal : chunk i sealed ≡ seal_of key (nonce i true) plain
+
+-- chunk i is held neither as middle nor as last
+pub record IsBad (seal_of : Seal) (key sealed : List ℕ) (i : ℕ) : Type 0 where
+  pub not_middle : (other : List ℕ) → HeldAsMiddle seal_of key sealed i other → ⊥
+  pub not_last : (other : List ℕ) → HeldAsLast seal_of key sealed i other → ⊥
+
+-- where the last piece of a plaintext is full, its seal as the last isn't a seal as a middle one too
+unfoldable pub LastIsNoMiddle : Seal → List ℕ → List ℕ → Type 0
+LastIsNoMiddle seal_of key plain =
+    let last = last_piece (length plain) in
+    (other : List ℕ) → length (piece last plain) ≡ 65536 → AreBytes other
+    → seal_of key (nonce last true) (piece last plain) ≡ seal_of key (nonce last false) other → ⊥
+
+-- the length of the plaintext of a payload of n bytes: 16 less for each chunk, where the last chunk has at least 16
+-- bytes, and more than 16 if it isn't the only one; other lengths belong to no plaintext
+unfoldable pub plain_len : ℕ → Option ℕ
+plain_len n =
+    let last = (n - 1) / 65552 in
+    let rest = n - 65552 * last in
+    if nat_le 16 rest && (nat_eq last 0 || nat_lt 16 rest) then Some (n - 16 * (last + 1)) else None

@@ -1,0 +1,4 @@
+//! The payload of a file: the plaintext in sealed chunks.
+#![tactic(auto)]
+
+pub mod nonce;
