@@ -6,3 +6,4 @@ pub mod WellLaws
 pub mod SizeLaws
 pub mod Reading
 pub mod ReadingLaws
+pub mod Reader

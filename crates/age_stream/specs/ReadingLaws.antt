@@ -12,7 +12,7 @@ use Rattle.age_stream.specs.Opening.{Shorter}
 use Rattle.age_stream.specs.Chunks.{Chunk, chunk_of, prepend, after_last, delivers, delivered}
 use Rattle.age_stream.specs.ChunkLaws.{delivered-chunk}
 use Rattle.age_stream.specs.WellLaws.{accepted, well-single, onward, well-length, delivered-nothing, delivered-none, HasLength}
-use Rattle.age_stream.specs.Reading.{payload_at, text_at, behind, rest_of, IsHeld, IsPast, IsBefore, IsInside}
+use Rattle.age_stream.specs.Reading.{payload_at, text_at, behind, rest_of, IsHeld, IsInside, IsSound}
 
 pub and-left : (a b : Bool) → IsTrue (a && b) → IsTrue a
 and-left true b is = refl
@@ -22,28 +22,29 @@ pub and-right : (a b : Bool) → IsTrue (a && b) → IsTrue b
 and-right true b is = is
 and-right false b is = cc
 
+-- the inner reader stands after the bytes that were taken, or has failed
+pub taken-rest : (content rest : Stretch) (place taken : ℕ) → StandsIn content place rest → taken ≤ place →
+    (rest ≡ from_place taken (payload_at place taken content)) ⊎ (rest ≡ nothing)
+taken-rest content rest place taken stands fits =
+    let back : place - taken + taken ≡ place = omega (arith, fits) in
+    elim stands.reaches [
+      | inl is ↦ inl (is ∙ sym (stretch-ext (from_place taken (payload_at place taken content)) (from_place place content)
+            (drop-drop taken (place - taken) content.bytes ∙ ap (λ k. drop k content.bytes) back) refl))
+      | inr is ↦ inr is
+    ]
+
 module _ (opened : List ℕ → List ℕ → List ℕ → Option (List ℕ)) (key : List ℕ) (law : Shorter opened key) where
   -- from a chunk on that isn't past the payload
-  pub reaches-before : (number at : ℕ) (payload : Stretch) → AreBytes payload.bytes → (delivered opened key 0 payload).ends_well ≡ true →
+  pub reaches-before : (number : ℕ) (payload : Stretch) → AreBytes payload.bytes → (delivered opened key 0 payload).ends_well ≡ true →
       (0 < number → 65552 * number < length payload.bytes) →
-      from_place at (delivered opened key number (from_place (65552 * number) payload)) ≡ from_place (65536 * number + at) (delivered opened key 0 payload)
-  reaches-before number at payload bytes well more =
-      let on = rw zero-add at (onward opened key law number 0 payload bytes well more) in
-      ap (from_place at) on ∙ stretch-ext _ _ (drop-drop at (65536 * number) (delivered opened key 0 payload).bytes) refl
+      delivered opened key number (from_place (65552 * number) payload) ≡ from_place (65536 * number) (delivered opened key 0 payload)
+  reaches-before number payload bytes well more = rw zero-add at (onward opened key law number 0 payload bytes well more)
 
   pub within-by : (number at : ℕ) (payload : Stretch) → AreBytes payload.bytes → (delivered opened key 0 payload).ends_well ≡ true → at ≤ 65536 →
       IsInside (length payload.bytes) number at → 65536 * number + at ≤ length (delivered opened key 0 payload).bytes
   within-by number at payload bytes well small inside =
       let h = well-length opened key law payload bytes well in
       elim (cases_lt 0 at) [ inl some ↦ omega (arith, h.less, h.enough, inside.inside some) | inr none ↦ omega (arith, h.less, h.enough, inside.front) ]
-
-  judged_by : (last : Bool) (number : ℕ) (payload : Stretch) →
-      (last ≡ true → length payload.bytes ≤ 65552 * number + 65552 → ⊥) ⊎ ((last ≡ true) × (length payload.bytes ≤ 65552 * number + 65552))
-  judged_by false number payload = inl (λ is _. absurd (true≢false (sym is)))
-  judged_by true number payload = elim (cases_lt (65552 * number + 65552) (length payload.bytes)) [
-    | inl more ↦ inl (λ _ few. absurd (omega (arith, more, few)))
-    | inr few ↦ inr (refl, few)
-  ]
 
   -- the chunk that is held, and what comes after it, is what stands from its first byte on
   pub held-reaches : (number : ℕ) (last : Bool) (chunk : List ℕ) (payload rest : Stretch) → AreBytes payload.bytes →
@@ -57,76 +58,69 @@ module _ (opened : List ℕ → List ℕ → List ℕ → Option (List ℕ)) (ke
       let more = drop 65552 here.bytes in
       let all : text ++ more ≡ here.bytes = take-append-drop 65552 here.bytes in
       let next : from_place 65552 here ≡ rest = stretch-ext _ _ (drop-drop 65552 (65552 * number) payload.bytes) refl ∙ sym ahead in
-      let judged : chunk_of opened key number text ≡ Ok (chunk, last) = elim (judged_by last number payload) [
-        | inl apart ↦ held.judged apart
-        | inr end ↦
-            let one = well-single opened key number here here_well (omega (arith, end.1, length-drop (65552 * number) payload.bytes)) in
-            let a = accepted opened key number text one.0 true one.1 in
-            let opens : opened key (nonce number true) text ≡ Some chunk = rw end.0 at held.opens in
-            let same : one.0 ≡ chunk = cc (sym a.opens ∙ opens) in
-            rw (end.0, ← same) one.1
-      ] in
       let short : length text < 65552 → (more ≡ []) × (payload.ends_well ≡ true) =
           λ less. (drop_all 65552 here.bytes (omega (arith, length-take 65552 here.bytes)), (held.whole less).0) in
       let chunked = rw all at (delivered-chunk opened key number text more payload.ends_well chunk last (omega (arith, length-take 65552 here.bytes))
-          short (λ less. (held.whole less).1) judged) in
+          short (λ less. (held.whole less).1) held.judged) in
       let moved : prepend chunk (behind opened key last number (from_place 65552 here)) ≡ delivered opened key number here = rw add-one (sym chunked) in
       rw (← next) (moved ∙ on)
 
   drop-prepended : (at : ℕ) (chunk : List ℕ) (s : Stretch) → at ≤ length chunk → prepend (drop at chunk) s ≡ from_place at (prepend chunk s)
   drop-prepended at chunk s within = stretch-ext _ _ (sym (drop-append-le at chunk s.bytes within)) refl
 
-  reaches_of : (failed held : Bool) (at : ℕ) (chunk : List ℕ) (last : Bool) (number taken : ℕ) (payload rest : Stretch) → AreBytes payload.bytes →
-      (delivered opened key 0 payload).ends_well ≡ true → (held ≡ true → at ≤ length chunk) →
-      (held ≡ true → IsHeld opened key payload number last chunk) → (failed ≡ false → held ≡ true → IsPast payload number last taken rest) →
-      (failed ≡ false → held ≡ false → IsBefore (length payload.bytes) number at taken) →
-      ((rest ≡ from_place taken payload) ⊎ (rest ≡ nothing)) →
-      (rest_of opened key failed held at chunk last number rest ≡ from_place (65536 * number + at) (delivered opened key 0 payload))
+  reaches_of : (failed held : Bool) (at : ℕ) (chunk : List ℕ) (last : Bool) (number taken place : ℕ) (content rest : Stretch) →
+      AreBytes (payload_at place taken content).bytes → (delivered opened key 0 (payload_at place taken content)).ends_well ≡ true →
+      (held ≡ true → at ≤ length chunk) → (held ≡ false → at ≡ 0) → IsSound opened key failed held at chunk last number taken place content rest →
+      ((rest ≡ from_place taken (payload_at place taken content)) ⊎ (rest ≡ nothing)) →
+      (rest_of opened key failed held at chunk last number rest ≡ from_place (65536 * number + at) (delivered opened key 0 (payload_at place taken content)))
           ⊎ (rest_of opened key failed held at chunk last number rest ≡ nothing)
   unfolding rest_of
-  reaches_of true held at chunk last number taken payload rest bytes well in_chunk is_held is_past is_before inner = inr refl
-  reaches_of false true at chunk last number taken payload rest bytes well in_chunk is_held is_past is_before inner =
+  reaches_of true held at chunk last number taken place content rest bytes well in_chunk start sound inner = inr refl
+  reaches_of false true at chunk last number taken place content rest bytes well in_chunk start sound inner =
+      let payload = payload_at place taken content in
       inl (drop-prepended at chunk (behind opened key last number rest) (in_chunk refl)
-          ∙ ap (from_place at) (held-reaches number last chunk payload rest bytes well (is_held refl) (is_past refl refl).ahead)
+          ∙ ap (from_place at) (held-reaches number last chunk payload rest bytes well (sound.is_held refl) (sound.is_past refl refl).ahead)
           ∙ stretch-ext _ _ (drop-drop at (65536 * number) (delivered opened key 0 payload).bytes) refl)
-  reaches_of false false at chunk last number taken payload rest bytes well in_chunk is_held is_past is_before inner =
-      let before = is_before refl refl in
-      elim inner [
-        | inl is ↦ elim (cases_lt (65552 * number) (length payload.bytes)) [
-            | inl more ↦ inl (rw (is, before.stood) (reaches-before number at payload bytes well (λ _. more)))
-            | inr past ↦ elim (cases_lt 0 number) [
-                | inl some ↦
-                    let none : at ≡ 0 = elim (cases_lt 0 at) [ inl s ↦ absurd (omega (arith, before.inside s)) | inr z ↦ omega arith ] in
-                    let empty : drop (65552 * number) payload.bytes ≡ [] = drop_all (65552 * number) payload.bytes past in
-                    inr (rw (is, before.stood, none, empty) (delivered-none opened key number payload.ends_well))
-                | inr zero ↦ inl (rw (is, before.stood) (reaches-before number at payload bytes well (λ s. absurd (omega arith))))
-              ]
+  reaches_of false false at chunk last number taken place content rest bytes well in_chunk start sound (inl is) =
+      let payload = payload_at place taken content in
+      let stood = sound.before refl refl in
+      let here : 65536 * number ≡ 65536 * number + at = omega (arith, start refl) in
+      let there : rest ≡ from_place (65552 * number) payload = is ∙ ap (λ n. from_place n payload) stood in
+      elim (cases_lt (65552 * number) (length payload.bytes)) [
+        | inl more ↦ inl (ap (delivered opened key number) there ∙ reaches-before number payload bytes well (λ _. more)
+              ∙ ap (λ n. from_place n (delivered opened key 0 payload)) here)
+        | inr past ↦ elim (cases_lt 0 number) [
+            | inl some ↦
+                let empty : drop (65552 * number) payload.bytes ≡ [] = drop_all (65552 * number) payload.bytes past in
+                inr (ap (delivered opened key number) (there ∙ stretch-ext _ (record { bytes = []; ends_well = payload.ends_well }) empty refl)
+                    ∙ delivered-none opened key number payload.ends_well)
+            | inr zero ↦ inl (ap (delivered opened key number) there ∙ reaches-before number payload bytes well (λ s. absurd (omega arith))
+                  ∙ ap (λ n. from_place n (delivered opened key 0 payload)) here)
           ]
-        | inr is ↦ inr (rw (is, delivered-nothing opened key number) (stretch-ext (from_place at nothing) nothing (drop_all at [] (omega arith)) refl))
       ]
+  reaches_of false false at chunk last number taken place content rest bytes well in_chunk start sound (inr is) =
+      inr (rw is (delivered-nothing opened key number))
 
   -- where a payload ends well, its reader stands in the plaintext
   pub stream_stands : (failed held : Bool) (at : ℕ) (chunk : List ℕ) (last : Bool) (number taken place : ℕ) (content rest : Stretch) → AreBytes content.bytes →
-      taken ≤ place → at ≤ 65536 → (held ≡ true → at ≤ length chunk) →
-      (held ≡ true → IsHeld opened key (payload_at place taken content) number last chunk) →
-      (failed ≡ false → held ≡ true → IsPast (payload_at place taken content) number last taken rest) →
-      (failed ≡ false → held ≡ false → IsBefore (length (payload_at place taken content).bytes) number at taken) →
-      IsInside (length (payload_at place taken content).bytes) number at →
+      at ≤ 65536 → (held ≡ true → at ≤ length chunk) → (held ≡ false → at ≡ 0) → IsSound opened key failed held at chunk last number taken place content rest →
       StandsIn content place rest → (delivered opened key 0 (payload_at place taken content)).ends_well ≡ true →
       StandsIn (delivered opened key 0 (payload_at place taken content)) (65536 * number + at) (rest_of opened key failed held at chunk last number rest)
-  stream_stands failed held at chunk last number taken place content rest bytes fits small in_chunk is_held is_past is_before inside stands well =
+  stream_stands failed held at chunk last number taken place content rest bytes small in_chunk start sound stands well =
       let payload = payload_at place taken content in
       let all : AreBytes payload.bytes = All-drop (λ x. x < 2 ^ 8) (place - taken) content.bytes bytes in
-      let back : place - taken + taken ≡ place = omega (arith, fits) in
-      let inner : (rest ≡ from_place taken payload) ⊎ (rest ≡ nothing) = elim stands.reaches [
-        | inl is ↦ inl (is ∙ sym (stretch-ext (from_place taken payload) (from_place place content)
-            (drop-drop taken (place - taken) content.bytes ∙ ap (λ k. drop k content.bytes) back) refl))
-        | inr is ↦ inr is
-      ] in
       record {
-        within = within-by number at payload all well small inside;
-        reaches = reaches_of failed held at chunk last number taken payload rest all well in_chunk is_held is_past is_before inner;
+        within = within-by number at payload all well small sound.inside;
+        reaches = reaches_of failed held at chunk last number taken place content rest all well in_chunk start sound (taken-rest content rest place taken stands sound.fits);
       }
+
+  -- a reader over a spent one has failed, or finds that out at its next read
+  pub stream_spent : (failed held : Bool) (at : ℕ) (chunk : List ℕ) (last : Bool) (number : ℕ) (rest : Stretch) →
+      (failed ≡ false → held ≡ true → ⊥) → rest ≡ nothing → rest_of opened key failed held at chunk last number rest ≡ nothing
+  unfolding rest_of
+  stream_spent true held at chunk last number rest unspent gone = refl
+  stream_spent false true at chunk last number rest unspent gone = absurd (unspent refl refl)
+  stream_spent false false at chunk last number rest unspent gone = rw gone (delivered-nothing opened key number)
 
 pub both-true : (a b : Bool) → IsTrue a → IsTrue b → IsTrue (a && b)
 both-true true b p q = q

@@ -2,3 +2,4 @@
 #![tactic(auto)]
 
 pub mod nonce;
+pub mod reader;

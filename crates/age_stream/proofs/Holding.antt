@@ -1,0 +1,336 @@
+-- What a `StreamReader`'s steps do to what it keeps and to what reads can still deliver.
+use Rattle.std.specs.Prelude.{◌≡◌, ◌≢◌, ℕ, ◌+◌, ◌-◌, ◌*◌, ◌/◌, ◌^◌, ◌<◌, ◌≤◌, ◌⊎◌, ◌&&◌, Option, Some, None, Result, Ok, Err, Bool, true, false, IsTrue, cond, List, [], ◌∷◌, ◌++◌, length, take, drop, min}
+use Rattle.std.proofs.Common.{refl, sym, ap, subst, ◌∙◌, inl, inr, arith, length-append, length-take, length-drop, add-one, zero-add, add-zero, length-take-le}
+use Rattle.std.proofs.lemmas.List.{append-nil, take-append-drop, drop-drop, drop_all, take_all, append_assoc, drop_at, take_at, drop-append-le, nil_from_length}
+use Rattle.std.proofs.lemmas.List.Elements.{All-drop, All-take}
+use Rattle.std.proofs.lemmas.Bool.{cases_lt, true≢false}
+use Rattle.age_error.specs.Bytes.{AreBytes}
+use Rattle.age_error.specs.declared.io.Error.{Error}
+use Rattle.age_io.specs.Stretch.{Stretch, nothing, from_place, stretch-ext, IsCleanEnd, IsFault}
+use Rattle.age_io.specs.Reading.{StandsIn, Delivers, EndsEarly}
+use Rattle.age_stream.specs.Payload.{nonce}
+use Rattle.age_stream.specs.Opening.{Shorter}
+use Rattle.age_stream.specs.Chunks.{Chunk, is_empty, chunk_of, prepend, after_last, delivers, delivered}
+use Rattle.age_stream.specs.ChunkLaws.{delivered-chunk, delivered-refused, delivered-cut}
+use Rattle.age_stream.specs.WellLaws.{accepted, delivered-nothing}
+use Rattle.age_stream.specs.Reading.{payload_at, text_at, behind, rest_of, IsFront, IsHeld, IsPast, IsInside, IsSound}
+use Rattle.age_stream.specs.ReadingLaws.{taken-rest}
+
+-- ---- lists
+
+-- the text that was read is what stands at the front
+pub front_of : (before after : Stretch) (text : List ℕ) → Delivers text before after → length text ≤ 65552 → (length text < 65552 → IsCleanEnd after) → take 65552 before.bytes ≡ text
+front_of before after text came most ended = elim (cases_lt (length text) 65552) [
+  | inl less ↦ rw (came.bytes, (ended less).bytes, append-nil) (take_all 65552 text most)
+  | inr full ↦ rw came.bytes (take_at text after.bytes 65552 (omega arith))
+]
+
+-- what was copied to the front of a buffer
+pub copied : (chunk copy after : List ℕ) (at count : ℕ) → at + count ≤ length chunk → copy ≡ take ((at + count) - at) (drop at chunk) →
+    take count (copy ++ after) ≡ take count (drop at chunk)
+copied chunk copy after at count fits is =
+    let n : (at + count) - at ≡ count = omega arith in
+    let front : copy ≡ take count (drop at chunk) = is ∙ ap (λ k. take k (drop at chunk)) n in
+    let long : length copy ≡ count = ap length front ∙ length-take-le count (drop at chunk) (omega (arith, length-drop at chunk)) in
+    take_at copy after count long ∙ front
+
+-- the buffer after a read into all of it
+pub refilled : (old new : List ℕ) (len : ℕ) → len ≡ length old → length new ≡ length old → take len (new ++ drop (length new) old) ≡ new
+refilled old new len same kept = take_at new (drop (length new) old) len (kept ∙ sym same)
+
+pub middle-by : (last : Bool) (at n : ℕ) → (last ≡ true → at < n) → n ≤ at → last ≡ false
+middle-by true at n more given = absurd (omega (arith, more refl))
+middle-by false at n more given = refl
+
+fault-of : (s : Stretch) → s ≡ nothing → IsFault s
+fault-of s is = rw is record { bytes = refl; ends_badly = refl }
+
+pub same-rest : (old new : Stretch) (text : List ℕ) → Delivers text old new → length text ≡ 0 → new ≡ old
+same-rest old new text came none =
+    let empty : text ≡ [] = nil_from_length text none in
+    stretch-ext new old (sym (came.bytes ∙ ap (λ t. t ++ new.bytes) empty)) came.end
+
+-- ---- the payload
+
+-- the payload stays where a read of the inner reader moves on
+pub payload-read : (content new_content : Stretch) (place new_place taken new_taken count : ℕ) → new_content ≡ content → new_place ≡ place + count → new_place < 2 ^ 63 →
+    new_taken ≡ min (taken + count) (2 ^ 64 - 1) → taken ≤ place →
+    (new_taken ≡ taken + count) × (payload_at new_place new_taken new_content ≡ payload_at place taken content)
+payload-read content new_content place new_place taken new_taken count same moved short took fits =
+    let all : new_taken ≡ taken + count = omega (arith, moved, took, fits, short) in
+    let start : new_place - new_taken ≡ place - taken = omega (arith, moved, all, fits) in
+    (all, rw (same, start) refl)
+
+-- a reader that delivered a beginning of what it had stands further in front
+front-gives : (content : Stretch) (place : ℕ) (front : List ℕ) (old new : Stretch) → IsFront content place old → Delivers front old new → IsFront content (place + length front) new
+front-gives content place front old new is came = λ well.
+    let was = is (sym came.end ∙ well) in
+    stretch-ext new (from_place (place + length front) content)
+        (sym (drop_at front new.bytes (length front) refl) ∙ ap (drop (length front)) (sym came.bytes ∙ ap (λ s. s.bytes) was) ∙ drop-drop (length front) place content.bytes)
+        (came.end ∙ ap (λ s. s.ends_well) was)
+
+module _ (opened : List ℕ → List ℕ → List ℕ → Option (List ℕ)) (key : List ℕ) where
+  -- ---- what reads can still deliver
+
+  pub rest_failed : (failed held : Bool) (at : ℕ) (chunk : List ℕ) (last : Bool) (number : ℕ) (rest : Stretch) → failed ≡ true → rest_of opened key failed held at chunk last number rest ≡ nothing
+  unfolding rest_of
+  rest_failed failed held at chunk last number rest is = rw is refl
+
+  pub fault_failed : (failed held : Bool) (at : ℕ) (chunk : List ℕ) (last : Bool) (number : ℕ) (rest : Stretch) → failed ≡ true → IsFault (rest_of opened key failed held at chunk last number rest)
+  fault_failed failed held at chunk last number rest is = fault-of _ (rest_failed failed held at chunk last number rest is)
+
+  pub rest-held : (failed held : Bool) (at : ℕ) (chunk : List ℕ) (last : Bool) (number : ℕ) (rest : Stretch) → failed ≡ false → held ≡ true →
+      rest_of opened key failed held at chunk last number rest ≡ prepend (drop at chunk) (behind opened key last number rest)
+  unfolding rest_of
+  rest-held failed held at chunk last number rest good is = rw (good, is) refl
+
+  pub rest-open : (failed held : Bool) (at : ℕ) (chunk : List ℕ) (last : Bool) (number : ℕ) (rest : Stretch) → failed ≡ false → held ≡ false →
+      rest_of opened key failed held at chunk last number rest ≡ delivered opened key number rest
+  unfolding rest_of
+  rest-open failed held at chunk last number rest good is = rw (good, is) refl
+
+  -- the place is the front of the next chunk
+  pub rest-passed : (failed held last : Bool) (at : ℕ) (chunk : List ℕ) (number : ℕ) (rest : Stretch) → failed ≡ false → held ≡ true → last ≡ false → at ≡ length chunk →
+      rest_of opened key failed false 0 chunk last (number + 1) rest ≡ rest_of opened key failed held at chunk last number rest
+  rest-passed failed held last at chunk number rest good is middle given =
+      rest-open failed false 0 chunk last (number + 1) rest good refl
+      ∙ sym (rest-held failed held at chunk last number rest good is ∙ rw (drop_all at chunk (omega (arith, given)), middle) refl)
+
+  -- nothing is held after the last chunk
+  rest-last : (failed held last : Bool) (at : ℕ) (chunk : List ℕ) (number : ℕ) (rest : Stretch) → failed ≡ false → held ≡ true → last ≡ true → at ≡ length chunk →
+      rest_of opened key failed held at chunk last number rest ≡ after_last rest.bytes rest.ends_well
+  rest-last failed held last at chunk number rest good is end given =
+      rest-held failed held at chunk last number rest good is ∙ rw (drop_all at chunk (omega (arith, given)), end) refl
+
+  pub end-early : (failed held last : Bool) (at : ℕ) (chunk : List ℕ) (number : ℕ) (rest : Stretch) → failed ≡ false → held ≡ true → last ≡ true → at ≡ length chunk →
+      EndsEarly 1 rest → IsFault (rest_of opened key failed held at chunk last number rest)
+  end-early failed held last at chunk number rest good is end given early =
+      let none : rest.bytes ≡ [] = nil_from_length rest.bytes (omega (arith, early.short)) in
+      fault-of _ (rest-last failed held last at chunk number rest good is end given ∙ rw (none, early.badly) refl)
+
+  some-more : (bytes : List ℕ) (w : Bool) → 0 < length bytes → after_last bytes w ≡ nothing
+  some-more [] w some = absurd (omega arith)
+  some-more (x ∷ xs) w some = refl
+
+  pub end-more : (failed held last : Bool) (at : ℕ) (chunk : List ℕ) (number : ℕ) (rest after : Stretch) (text : List ℕ) → failed ≡ false → held ≡ true → last ≡ true → at ≡ length chunk →
+      Delivers text rest after → 0 < length text → IsFault (rest_of opened key failed held at chunk last number rest)
+  end-more failed held last at chunk number rest after text good is end given came some =
+      fault-of _ (rest-last failed held last at chunk number rest good is end given
+          ∙ some-more rest.bytes rest.ends_well (omega (arith, ap length came.bytes, length-append text after.bytes)))
+
+  pub end-clean : (failed held last : Bool) (at : ℕ) (chunk : List ℕ) (number : ℕ) (rest after : Stretch) (text : List ℕ) → failed ≡ false → held ≡ true → last ≡ true → at ≡ length chunk →
+      Delivers text rest after → length text ≡ 0 → IsCleanEnd after →
+      IsCleanEnd (rest_of opened key failed held at chunk last number rest)
+          × (rest_of opened key false held at chunk last number after ≡ rest_of opened key failed held at chunk last number rest)
+  end-clean failed held last at chunk number rest after text good is end given came none clean =
+      let no_text : text ≡ [] = nil_from_length text none in
+      let no_bytes : rest.bytes ≡ [] = came.bytes ∙ rw (no_text, clean.bytes) refl in
+      let well : rest.ends_well ≡ true = sym came.end ∙ clean.ends_well in
+      let before = rest-last failed held last at chunk number rest good is end given ∙ rw (no_bytes, well) refl in
+      let later = rest-last false held last at chunk number after refl is end given ∙ rw (clean.bytes, clean.ends_well) refl in
+      (rw before record { bytes = refl; ends_well = refl }, later ∙ sym before)
+
+  -- what was copied from the chunk that is held was delivered
+  pub gives : (failed held last : Bool) (at count : ℕ) (chunk : List ℕ) (number : ℕ) (rest : Stretch) (front : List ℕ) →
+      failed ≡ false → held ≡ true → front ≡ take count (drop at chunk) →
+      Delivers front (rest_of opened key failed held at chunk last number rest) (rest_of opened key failed held (at + count) chunk last number rest)
+  gives failed held last at count chunk number rest front good is same =
+      let b = behind opened key last number rest in
+      let onward : drop count (drop at chunk) ≡ drop (at + count) chunk = drop-drop count at chunk in
+      rw (rest-held failed held at chunk last number rest good is, rest-held failed held (at + count) chunk last number rest good is) record {
+        bytes = rw (same, ← onward) (ap (λ h. h ++ b.bytes) (sym (take-append-drop count (drop at chunk)))
+            ∙ append_assoc (take count (drop at chunk)) (drop count (drop at chunk)) b.bytes);
+        end = refl;
+      }
+
+  -- ---- opening the chunk at the place
+
+  pub open-early : (failed held last : Bool) (at : ℕ) (chunk : List ℕ) (number : ℕ) (rest : Stretch) → failed ≡ false → held ≡ false →
+      EndsEarly 65552 rest → IsFault (rest_of opened key failed held at chunk last number rest)
+  open-early failed held last at chunk number rest good is early =
+      let gone : delivered opened key number rest ≡ nothing = rw early.badly (delivered-cut opened key number rest.bytes early.short) in
+      fault-of _ (rest-open failed held at chunk last number rest good is ∙ gone)
+
+  over-by : (text : List ℕ) (rest after : Stretch) → Delivers text rest after → (length text < 65552 → IsCleanEnd after) →
+      length text < 65552 → (after.bytes ≡ []) × (rest.ends_well ≡ true)
+  over-by text rest after came ended less = ((ended less).bytes, sym came.end ∙ (ended less).ends_well)
+
+  pub open-refused : (failed held last : Bool) (at : ℕ) (chunk : List ℕ) (number : ℕ) (rest after : Stretch) (text : List ℕ) (e : Error) → failed ≡ false → held ≡ false →
+      Delivers text rest after → length text ≤ 65552 → (length text < 65552 → IsCleanEnd after) → chunk_of opened key number text ≡ Err e →
+      IsFault (rest_of opened key failed held at chunk last number rest)
+  open-refused failed held last at chunk number rest after text e good is came most ended bad =
+      let gone : delivered opened key number rest ≡ nothing =
+          rw came.bytes (delivered-refused opened key number text after.bytes rest.ends_well e most (over-by text rest after came ended) bad) in
+      fault-of _ (rest-open failed held at chunk last number rest good is ∙ gone)
+
+  opened-rest : (number : ℕ) (rest after : Stretch) (text plain : List ℕ) (last : Bool) → Delivers text rest after → length text ≤ 65552 →
+      (length text < 65552 → IsCleanEnd after) → (length text < 65552 → last ≡ true) → chunk_of opened key number text ≡ Ok (plain, last) →
+      delivered opened key number rest ≡ prepend plain (behind opened key last number after)
+  opened-rest number rest after text plain last came most ended short is =
+      let chunked = delivered-chunk opened key number text after.bytes rest.ends_well plain last most (over-by text rest after came ended) short is in
+      rw (came.bytes, add-one, came.end) chunked
+
+  -- the chunk at the place is held now
+  pub rest-opened : (failed held last new_last : Bool) (at : ℕ) (chunk plain : List ℕ) (number : ℕ) (rest after : Stretch) (text : List ℕ) → failed ≡ false → held ≡ false →
+      Delivers text rest after → length text ≤ 65552 → (length text < 65552 → IsCleanEnd after) → (length text < 65552 → new_last ≡ true) →
+      chunk_of opened key number text ≡ Ok (plain, new_last) → at ≡ 0 →
+      rest_of opened key false true at plain new_last number after ≡ rest_of opened key failed held at chunk last number rest
+  rest-opened failed held last new_last at chunk plain number rest after text good is came most ended short ok start =
+      rest-held false true at plain new_last number after refl refl
+      ∙ ap (λ n. prepend (drop n plain) (behind opened key new_last number after)) start
+      ∙ sym (rest-open failed held at chunk last number rest good is ∙ opened-rest number rest after text plain new_last came most ended short ok)
+
+  -- an empty chunk was opened: nothing but a clean end was left
+  pub clean-opened : (failed held last new_last : Bool) (at : ℕ) (chunk plain : List ℕ) (number : ℕ) (rest after : Stretch) (text : List ℕ) → failed ≡ false → held ≡ false →
+      Delivers text rest after → length text ≤ 65552 → (length text < 65552 → IsCleanEnd after) → (length text < 65552 → new_last ≡ true) →
+      chunk_of opened key number text ≡ Ok (plain, new_last) → length plain + 16 ≡ length text → at ≡ 0 → at ≡ length plain →
+      IsCleanEnd (rest_of opened key failed held at chunk last number rest)
+  clean-opened failed held last new_last at chunk plain number rest after text good is came most ended short ok longer start whole =
+      let few : length text < 65552 = omega (arith, whole, longer, start) in
+      let same = rest-opened failed held last new_last at chunk plain number rest after text good is came most ended short ok start in
+      let now = rest-held false true at plain new_last number after refl refl in
+      let end = ended few in
+      rw (← same, now, short few, drop_all at plain (omega (arith, whole)), end.bytes, end.ends_well) record { bytes = refl; ends_well = refl }
+
+  -- ---- what a reader keeps
+
+  -- a new reader
+  pub sound-new : (chunk : List ℕ) (last : Bool) (place : ℕ) (content rest : Stretch) → StandsIn content place rest →
+      IsSound opened key false false 0 chunk last 0 0 place content rest
+  sound-new chunk last place content rest stands = let whole : place ≡ place - 0 = omega arith in record {
+    fits = omega arith;
+    inside = record { front = omega arith; inside = λ some. absurd (omega arith) };
+    before = λ _ _. refl;
+    is_held = λ held. absurd (true≢false (sym held));
+    is_past = λ _ held. absurd (true≢false (sym held));
+    front = λ _ well.
+        let unheld = rest-open false false 0 chunk last 0 rest refl refl in
+        unheld ∙ elim stands.reaches [
+          | inl is ↦ ap (delivered opened key 0) (is ∙ ap (λ n. from_place n content) whole)
+          | inr is ↦ absurd (true≢false (sym well ∙ ap (λ s. s.ends_well) (unheld ∙ ap (delivered opened key 0) is ∙ delivered-nothing opened key 0)))
+        ];
+  }
+
+  module _ (failed held : Bool) (at : ℕ) (chunk : List ℕ) (last : Bool) (number taken place : ℕ) (content rest : Stretch)
+      (sound : IsSound opened key failed held at chunk last number taken place content rest) where
+    -- the inner reader was read, and the reader has failed
+    pub sound-failed : (new_taken new_place count : ℕ) (new_content new_rest : Stretch) → new_content ≡ content → new_place ≡ place + count → new_place < 2 ^ 63 →
+        new_taken ≡ min (taken + count) (2 ^ 64 - 1) → IsSound opened key true held at chunk last number new_taken new_place new_content new_rest
+    sound-failed new_taken new_place count new_content new_rest same moved short took =
+        let read = payload-read content new_content place new_place taken new_taken count same moved short took sound.fits in
+        record {
+          fits = omega (arith, read.0, moved, sound.fits);
+          inside = subst (λ p. IsInside (length p.bytes) number at) (sym read.1) sound.inside;
+          before = λ good. absurd (true≢false good);
+          is_held = λ held_now. subst (λ p. IsHeld opened key p number last chunk) (sym read.1) (sound.is_held held_now);
+          is_past = λ good. absurd (true≢false good);
+          front = λ good. absurd (true≢false good);
+        }
+
+    -- the inner reader was found at its end after the last chunk
+    pub sound-ended : (new_taken new_place count : ℕ) (new_content new_rest : Stretch) → new_content ≡ content → new_place ≡ place + count → new_place < 2 ^ 63 →
+        new_taken ≡ min (taken + count) (2 ^ 64 - 1) → failed ≡ false → held ≡ true → count ≡ 0 → new_rest ≡ rest →
+        IsSound opened key false held at chunk last number new_taken new_place new_content new_rest
+    sound-ended new_taken new_place count new_content new_rest same moved short took good is_held none same_rest =
+        let read = payload-read content new_content place new_place taken new_taken count same moved short took sound.fits in
+        let same_taken : new_taken ≡ taken = omega (arith, read.0, none) in
+        record {
+          fits = omega (arith, read.0, moved, sound.fits);
+          inside = subst (λ p. IsInside (length p.bytes) number at) (sym read.1) sound.inside;
+          before = λ _ shut. absurd (true≢false (sym is_held ∙ shut));
+          is_held = λ held_now. subst (λ p. IsHeld opened key p number last chunk) (sym read.1) (sound.is_held held_now);
+          is_past = λ _ held_now. subst (λ p. IsPast p number last new_taken new_rest) (sym read.1)
+              (rw (same_taken, same_rest) (sound.is_past good held_now));
+          front = λ _. subst (λ p. IsFront (delivered opened key 0 p) (65536 * number + at) (rest_of opened key false held at chunk last number new_rest)) (sym read.1)
+              (rw (same_rest, ← good) (sound.front good));
+        }
+
+    -- bytes of the chunk that is held were given
+    pub sound-given : (law : Shorter opened key) (count : ℕ) → AreBytes content.bytes → failed ≡ false → held ≡ true → at + count ≤ length chunk →
+        IsSound opened key failed held (at + count) chunk last number taken place content rest
+    sound-given law count bytes good is_held within =
+        let payload = payload_at place taken content in
+        let text = text_at number payload in
+        let all : AreBytes payload.bytes = All-drop (λ x. x < 2 ^ 8) (place - taken) content.bytes bytes in
+        let are : AreBytes text = All-take (λ x. x < 2 ^ 8) 65552 (drop (65552 * number) payload.bytes) (All-drop (λ x. x < 2 ^ 8) (65552 * number) payload.bytes all) in
+        let short = law number last text chunk are (sound.is_held is_held).opens in
+        let here : 65536 * number + at + length (take count (drop at chunk)) ≡ 65536 * number + (at + count) =
+            omega (arith, length-take-le count (drop at chunk) (omega (arith, length-drop at chunk))) in
+        record {
+          fits = sound.fits;
+          inside = record {
+            front = sound.inside.front;
+            inside = λ some. omega (arith, short, within, length-take 65552 (drop (65552 * number) payload.bytes), length-drop (65552 * number) payload.bytes);
+          };
+          before = λ _ shut. absurd (true≢false (sym is_held ∙ shut));
+          is_held = sound.is_held;
+          is_past = sound.is_past;
+          front = λ _. subst (λ n. IsFront (delivered opened key 0 payload) n (rest_of opened key failed held (at + count) chunk last number rest)) here
+              (front-gives (delivered opened key 0 payload) (65536 * number + at) (take count (drop at chunk)) _ _ (sound.front good)
+                  (gives failed held last at count chunk number rest (take count (drop at chunk)) good is_held refl));
+        }
+
+    -- a middle chunk was given whole
+    pub sound-passed : failed ≡ false → held ≡ true → last ≡ false → at ≡ length chunk → length chunk ≡ 65536 →
+        IsSound opened key failed false 0 chunk last (number + 1) taken place content rest
+    sound-passed good is_held middle given full =
+        let payload = payload_at place taken content in
+        let here : 65536 * number + at ≡ 65536 * (number + 1) + 0 = omega (arith, given, full) in
+        let same = rest-passed failed held last at chunk number rest good is_held middle given in
+        let inside = sound.inside.inside (omega (arith, given, full)) in
+        record {
+          fits = sound.fits;
+          inside = record { front = omega (arith, inside, given, full); inside = λ some. absurd (omega arith) };
+          before = λ _ _. omega (arith, (sound.is_past good is_held).stood middle);
+          is_held = λ held_now. absurd (true≢false (sym held_now));
+          is_past = λ _ held_now. absurd (true≢false (sym held_now));
+          front = λ _. subst (λ n. IsFront (delivered opened key 0 payload) n (rest_of opened key failed false 0 chunk last (number + 1) rest)) here
+              (rw same (sound.front good));
+        }
+
+    -- the chunk at the place was read and opened
+    pub sound-opened : (new_taken new_place count : ℕ) (new_content new_rest : Stretch) (text plain : List ℕ) (new_last : Bool) →
+        new_content ≡ content → new_place ≡ place + count → new_place < 2 ^ 63 →
+        new_taken ≡ min (taken + count) (2 ^ 64 - 1) → failed ≡ false → held ≡ false → at ≡ 0 → StandsIn content place rest →
+        Delivers text rest new_rest → length text ≡ count → length text ≤ 65552 → (length text < 65552 → IsCleanEnd new_rest) → (length text < 65552 → new_last ≡ true) →
+        chunk_of opened key number text ≡ Ok (plain, new_last) →
+        IsSound opened key false true at plain new_last number new_taken new_place new_content new_rest
+    sound-opened new_taken new_place count new_content new_rest text plain new_last same moved short took good is_open start stands came counted most ended short_last ok =
+        let read = payload-read content new_content place new_place taken new_taken count same moved short took sound.fits in
+        let payload = payload_at place taken content in
+        let a = accepted opened key number text plain new_last ok in
+        let inner : rest ≡ from_place taken payload = elim (taken-rest content rest place taken stands sound.fits) [
+          | inl is ↦ is
+          | inr is ↦ absurd (omega (arith, a.some, ap length (sym (ap (λ s. s.bytes) is) ∙ came.bytes), length-append text new_rest.bytes))
+        ] in
+        let stood : taken ≡ 65552 * number = sound.before good is_open in
+        let here : rest.bytes ≡ drop (65552 * number) payload.bytes = ap (λ s. s.bytes) inner ∙ ap (λ n. drop n payload.bytes) stood in
+        let is_text : text_at number payload ≡ text = ap (take 65552) (sym here) ∙ front_of rest new_rest text came most ended in
+        let long : length text + length new_rest.bytes ≡ length payload.bytes - 65552 * number =
+            sym (length-append text new_rest.bytes) ∙ sym (ap length came.bytes) ∙ ap length here ∙ length-drop (65552 * number) payload.bytes in
+        let well : rest.ends_well ≡ payload.ends_well = ap (λ s. s.ends_well) inner in
+        let kept = rest-opened failed held last new_last at chunk plain number rest new_rest text good is_open came most ended short_last ok start in
+        let is_held : IsHeld opened key payload number new_last plain = record {
+          opens = rw is_text a.opens;
+          judged = rw is_text ok;
+          whole = λ less. let few : length text < 65552 = rw is_text at less in (sym well ∙ sym came.end ∙ (ended few).ends_well, short_last few);
+          some = omega (arith, a.some, long);
+        } in
+        let is_past : IsPast payload number new_last new_taken new_rest = record {
+          stood = λ middle. omega (arith, a.full middle, read.0, counted, stood);
+          ahead = stretch-ext new_rest (from_place (65552 * number + 65552) payload)
+              (elim (cases_lt (length text) 65552) [
+                | inl less ↦ (ended less).bytes ∙ sym (drop_all (65552 * number + 65552) payload.bytes
+                      (omega (arith, long, ap length (ended less).bytes, less)))
+                | inr full ↦ sym (drop_at text new_rest.bytes 65552 (omega arith)) ∙ ap (drop 65552) (sym came.bytes ∙ here) ∙ drop-drop 65552 (65552 * number) payload.bytes
+              ]) (came.end ∙ well);
+        } in
+        record {
+          fits = omega (arith, read.0, moved, sound.fits);
+          inside = subst (λ p. IsInside (length p.bytes) number at) (sym read.1) sound.inside;
+          before = λ _ shut. absurd (true≢false shut);
+          is_held = λ _. subst (λ p. IsHeld opened key p number new_last plain) (sym read.1) is_held;
+          is_past = λ _ _. subst (λ p. IsPast p number new_last new_taken new_rest) (sym read.1) is_past;
+          front = λ _. subst (λ p. IsFront (delivered opened key 0 p) (65536 * number + at) (rest_of opened key false true at plain new_last number new_rest)) (sym read.1)
+              (rw kept (sound.front good));
+        }

@@ -1,0 +1,417 @@
+//! Reading a payload.
+ghost use Rattle.std.specs.Prelude.{◌≡◌, ◌≢◌, ℕ, ◌+◌, ◌-◌, ◌*◌, ◌^◌, ◌<◌, ◌≤◌, ◌⊎◌, ◌&&◌, Option, Some, None, option_map, vec_items, IfSome, Bool, true, false, IsTrue, min, List, [], ◌++◌, length, take, drop, MatchResult, IfOk, IfErr, OnOk, OnErr, Ok, Err};
+ghost use Rattle.std.proofs.Common.{arith, refl};
+ghost use Rattle.age_error.specs.Bytes.{AreBytesOf};
+ghost use Rattle.age_error.specs.Refusals.{IsDevice, IsInterruption};
+ghost use Rattle.age_error.specs.declared.io.Error.TheVariants.{OutOfMemory, Failed, AfterLast};
+ghost use Rattle.age_io.specs.Stretch.{Stretch, nothing, from_place, IsCleanEnd, IsFault};
+ghost use Rattle.age_io.specs.Reading.{Reads, IsQuiet, Delivers, most_faults};
+ghost use Rattle.age_stream.specs.Payload.{nonce};
+ghost use Rattle.age_stream.specs.Chunks.{allowed, chunk_of, delivered};
+ghost use Rattle.age_stream.specs.Reading.{payload_at, text_at, rest_of, IsHeld, IsSound};
+ghost use Rattle.age_stream.specs.ReadingLaws.{and-left, and-right, both-true, stream_stands, stream_spent};
+ghost use Rattle.age_stream.specs.Opening.{shorter, opens_bytes};
+ghost use Rattle.age_stream.specs.SizeLaws.{delivered-bytes, delivered-short};
+
+use crate::nonce::nonce_of;
+use age_error::io::Error;
+use age_io::{Read, fill, room_for};
+use age_suite::suite::{Opens, Suite, known_array, known_bytes};
+use std::alloc::{AllocError, Global};
+use std::marker::PhantomData;
+
+/// The bytes of a full sealed chunk.
+pub const SEALED_CHUNK: usize = 65_552;
+
+/// How many chunks the longest plaintext has.
+pub const MOST_CHUNKS: u64 = 1 << 44;
+
+/// Reads a payload from `inner`, and gives its plaintext.
+pub struct StreamReader<S: Suite, R: Read> {
+    alloc: Global,
+    key: [u8; 32],
+    inner: R,
+    // Room for one sealed chunk.
+    sealed: Vec<u8>,
+    // The place is `at` in this chunk of the plaintext.
+    number: u64,
+    at: usize,
+    // Whether the plaintext of that chunk is held, and whether it is held as the last.
+    held: bool,
+    chunk: Vec<u8>,
+    last: bool,
+    // How many bytes were taken from the inner reader.
+    taken: u64,
+    failed: bool,
+    opens: Opens,
+    suite: PhantomData<S>,
+    ghost key_bytes: { AreBytesOf 32 key },
+    ghost room: { length sealed.items ≡ 65552 },
+    ghost offset: { at ≤ 65536 },
+    ghost limit: { number ≤ 2 ^ 44 },
+    ghost start: { held ≡ false → at ≡ 0 },
+    ghost in_chunk: { held ≡ true → at ≤ length chunk.items },
+    ghost small: { held ≡ true → length chunk.items ≤ 65536 },
+    ghost more: { held ≡ true → number < 2 ^ 44 },
+    ghost full: { held ≡ true → last ≡ false → length chunk.items ≡ 65536 },
+    ghost unspent: { failed ≡ false → held ≡ true → R.faults inner < most_faults },
+    ghost sound: { IsTrue (R.tells inner && R.steady inner) →
+        IsSound S.opened key failed held at chunk.items last number taken (R.place inner) (R.content inner) (R.rest inner) },
+}
+
+impl<S: Suite, R: Read> Read for StreamReader<S, R> {
+    ghost use Rattle.age_stream.specs.Reader.{payload_of, key_of, HasFailed, IsHolding, opens_of};
+
+    ghost tells = { λ r. R.tells r.inner && R.steady r.inner };
+
+    ghost steady = { λ r. (R.tells r.inner && R.steady r.inner)
+        && (delivered S.opened r.key 0 (payload_at (R.place r.inner) r.taken (R.content r.inner))).ends_well };
+
+    ghost content = { λ r. delivered S.opened r.key 0 (payload_at (R.place r.inner) r.taken (R.content r.inner)) };
+
+    ghost place = { λ r. 65536 * r.number + r.at };
+
+    ghost rest = { λ r. rest_of S.opened r.key r.failed r.held r.at r.chunk.items r.last r.number (R.rest r.inner) };
+
+    ghost faults = { λ r. R.faults r.inner };
+
+    ghost faults_fit = { λ r. R.faults_fit r.inner };
+
+    ghost spent = { λ r told is. stream_spent S.opened r.key (shorter S.seal_of S.opened S.cipher r.key r.key_bytes)
+        r.failed r.held r.at r.chunk.items r.last r.number (R.rest r.inner)
+        (λ good held. Prim.omega (arith, is, r.unspent good held)) (R.spent r.inner (and-left _ _ told) is) };
+
+    ghost well = { λ r told well. both-true _ _ told well };
+
+    ghost stands = { λ r told steady. stream_stands S.opened r.key (shorter S.seal_of S.opened S.cipher r.key r.key_bytes)
+        r.failed r.held r.at r.chunk.items r.last r.number r.taken (R.place r.inner) (R.content r.inner) (R.rest r.inner)
+        (R.are_bytes r.inner (and-left _ _ told)) r.offset r.in_chunk r.start (r.sound told)
+        (R.stands r.inner (and-left _ _ told) (and-right _ _ told)) (and-right _ _ steady) };
+
+    ghost are_bytes = { λ r told. delivered-bytes S.opened r.key (shorter S.seal_of S.opened S.cipher r.key r.key_bytes)
+        (opens_bytes S.seal_of S.opened S.cipher r.key r.key_bytes) 0 (R.place r.inner - r.taken) (R.content r.inner)
+        (R.are_bytes r.inner (and-left _ _ told)) };
+
+    ghost short = { λ r told. delivered-short S.opened r.key (shorter S.seal_of S.opened S.cipher r.key r.key_bytes)
+        (opens_bytes S.seal_of S.opened S.cipher r.key r.key_bytes) 0 (R.place r.inner - r.taken) (R.content r.inner)
+        (R.are_bytes r.inner (and-left _ _ told)) (R.short r.inner (and-left _ _ told)) };
+
+    ghost place_fits = { λ r told. Prim.omega (arith, r.offset, r.limit) };
+
+    /// Gives the smaller of the buffer and the rest of the chunk at the place.
+    #[tactic(auto, using(crate::proofs::Holding::rest_failed, crate::proofs::Holding::fault_failed))]
+    fn read(&mut self, buf: &mut [u8]) -> Result<usize, Error>
+        ensures reads { let reader = ⟦<StreamReader<S, R> as Read>⟧ in
+            Reads reader.tells reader.steady reader.content reader.place reader.rest reader.faults self.old self.new buf.new result }
+        ensures patient { IfErr result (λ e. IsInterruption e → ⊥) }
+        ensures payload { IsTrue (⟦<StreamReader<S, R> as Read>⟧.tells self.old) → payload_of self.new ≡ payload_of self.old }
+        ensures key { key_of self.new ≡ key_of self.old }
+        ensures failed { HasFailed self.old → (result ≡ Err Failed) × (self.new ≡ self.old) }
+        ensures fails { OnErr result (HasFailed self.new) }
+        ensures good { OnOk result (HasFailed self.new → ⊥) }
+        ensures empty { (HasFailed self.old → ⊥) → length buf.old ≡ 0 → (result ≡ Ok 0) × (self.new ≡ self.old) }
+        ensures opens { opens_of self.new ≤ opens_of self.old + 2 }
+        ensures held { IsHolding self.old → opens_of self.new ≡ opens_of self.old }
+    {
+        if self.failed {
+            return Err(Error::Failed);
+        }
+        if buf.is_empty() {
+            return Ok(0);
+        }
+        self.read_on(buf)
+    }
+}
+
+impl<S: Suite, R: Read> StreamReader<S, R> {
+    ghost use Rattle.age_stream.specs.Reader.{payload_of, key_of, HasFailed, IsHolding, opens_of};
+
+    /// A reader of the payload that begins where `inner` stands. It has opened nothing yet.
+    pub fn with_payload_key(alloc: Global, key: [u8; 32], inner: R) -> Result<Self, Error>
+        where R: Drop,
+        ensures good { IfOk result (λ r. HasFailed r → ⊥) }
+        ensures opens { IfOk result (λ r. opens_of r ≡ 0) }
+        ensures key { IfOk result (λ r. key_of r ≡ key) }
+        ensures payload { IfOk result (λ r. payload_of r ≡ from_place (R.place inner) (R.content inner)) }
+        ensures tells { IfOk result (λ r. ⟦<StreamReader<S, R> as Read>⟧.tells r ≡ (R.tells inner && R.steady inner)) }
+        ensures faults { IfOk result (λ r. ⟦<StreamReader<S, R> as Read>⟧.faults r ≡ R.faults inner) }
+        ensures place { IfOk result (λ r. ⟦<StreamReader<S, R> as Read>⟧.place r ≡ 0) }
+        ensures content { IfOk result (λ r. ⟦<StreamReader<S, R> as Read>⟧.content r
+            ≡ delivered S.opened key 0 (from_place (R.place inner) (R.content inner))) }
+        ensures rest { IfOk result (λ r. ⟦<StreamReader<S, R> as Read>⟧.rest r ≡ delivered S.opened key 0 (R.rest inner)) }
+        ensures memory { IfErr result (λ e. e ≡ OutOfMemory) }
+    {
+        known_array(&key);
+        let sealed = room_for(alloc, SEALED_CHUNK)?;
+        Ok(StreamReader {
+            alloc,
+            key,
+            inner,
+            sealed,
+            number: 0,
+            at: 0,
+            held: false,
+            chunk: Vec::new(alloc),
+            last: false,
+            taken: 0,
+            failed: false,
+            opens: Opens::new(),
+            suite: PhantomData,
+        })
+    }
+
+    /// How often this reader opened a chunk: one more for each call of the suite's `open`. It stays at 2^64 - 1.
+    pub fn opens(&self) -> u64
+        ensures { result ≡ opens_of self.now }
+    {
+        self.opens.count()
+    }
+
+    // A read of a good reader into a buffer that isn't empty.
+    #[tactic(auto, using(crate::proofs::Holding::rest_failed, crate::proofs::Holding::fault_failed))]
+    fn read_on(&mut self, buf: &mut [u8]) -> Result<usize, Error>
+        requires good { self.old.failed ≡ false }
+        requires some { 0 < length buf.old }
+        ensures reads { let reader = ⟦<StreamReader<S, R> as Read>⟧ in
+            Reads reader.tells reader.steady reader.content reader.place reader.rest reader.faults self.old self.new buf.new result }
+        ensures patient { IfErr result (λ e. IsInterruption e → ⊥) }
+        ensures payload { IsTrue (⟦<StreamReader<S, R> as Read>⟧.tells self.old) → payload_of self.new ≡ payload_of self.old }
+        ensures key { self.new.key ≡ self.old.key }
+        ensures fails { OnErr result (self.new.failed ≡ true) }
+        ensures good { OnOk result (self.new.failed ≡ false) }
+        ensures opens { self.new.opens ≤ self.old.opens + 2 }
+        ensures held { IsHolding self.old → self.new.opens ≡ self.old.opens }
+    {
+        if self.held && self.last && self.at == self.chunk.len() {
+            return self.end();
+        }
+        self.pass();
+        if !self.held {
+            if let Err(e) = self.open() {
+                return Err(e);
+            }
+        }
+        Ok(self.give(buf))
+    }
+
+    // After a middle chunk that was given whole the place is the front of the next.
+    fn pass(&mut self)
+        requires good { self.old.failed ≡ false }
+        requires more { self.old.held ≡ true → self.old.last ≡ true → self.old.at < length self.old.chunk.items }
+        ensures good { self.new.failed ≡ false }
+        ensures left { self.new.held ≡ true → self.new.at < length self.new.chunk.items }
+        ensures still { self.old.held ≡ true → self.old.at < length self.old.chunk.items → self.new.held ≡ true }
+        ensures inner { self.new.inner ≡ self.old.inner }
+        ensures taken { self.new.taken ≡ self.old.taken }
+        ensures key { self.new.key ≡ self.old.key }
+        ensures place { ⟦<StreamReader<S, R> as Read>⟧.place self.new ≡ ⟦<StreamReader<S, R> as Read>⟧.place self.old }
+        ensures rest { ⟦<StreamReader<S, R> as Read>⟧.rest self.new ≡ ⟦<StreamReader<S, R> as Read>⟧.rest self.old }
+        ensures opens { self.new.opens ≡ self.old.opens }
+    {
+        if self.held && self.at == self.chunk.len() {
+            self.number += 1;
+            self.at = 0;
+            self.held = false;
+        }
+    }
+
+    // After the last chunk: the end, or bytes that come after it.
+    fn end(&mut self) -> Result<usize, Error>
+        requires good { self.old.failed ≡ false }
+        requires held { self.old.held ≡ true }
+        requires last { self.old.last ≡ true }
+        requires given { self.old.at ≡ length self.old.chunk.items }
+        ensures tells { R.tells self.new.inner ≡ R.tells self.old.inner }
+        ensures steady { R.steady self.new.inner ≡ R.steady self.old.inner }
+        ensures faults { R.faults self.old.inner ≤ R.faults self.new.inner }
+        ensures device { IfErr result (λ e. IsDevice e → R.faults self.old.inner < R.faults self.new.inner) }
+        ensures unspent { OnOk result (R.faults self.new.inner < most_faults) }
+        ensures patient { IfErr result (λ e. IsInterruption e → ⊥) }
+        ensures none { IfOk result (λ n. n ≡ 0) }
+        ensures key { self.new.key ≡ self.old.key }
+        ensures payload { IsTrue (⟦<StreamReader<S, R> as Read>⟧.tells self.old) → payload_of self.new ≡ payload_of self.old }
+        ensures place { ⟦<StreamReader<S, R> as Read>⟧.place self.new ≡ ⟦<StreamReader<S, R> as Read>⟧.place self.old }
+        ensures end { let reader = ⟦<StreamReader<S, R> as Read>⟧ in IsTrue (reader.tells self.old) → OnOk result
+            (IsCleanEnd (reader.rest self.old) × (reader.rest self.new ≡ reader.rest self.old)) }
+        ensures fails { OnErr result (self.new.failed ≡ true) }
+        ensures good { OnOk result (self.new.failed ≡ false) }
+        ensures cause { let reader = ⟦<StreamReader<S, R> as Read>⟧ in IsTrue (reader.tells self.old) → IfErr result (λ e. e ≢ OutOfMemory →
+            IsQuiet (R.faults self.old.inner) (R.faults self.new.inner) → IsFault (reader.rest self.old)) }
+        ensures opens { self.new.opens ≡ self.old.opens }
+    {
+        self.failed = true;
+        let mut byte = [0u8; 1];
+        let mut count = 0;
+        let answer = fill(&mut self.inner, &mut byte, &mut count);
+        self.taken = self.taken.saturating_add(count as u64);
+        match answer {
+            Err(e) => Err(e),
+            Ok(()) => {
+                if count > 0 {
+                    return Err(Error::AfterLast);
+                }
+                self.failed = false;
+                Ok(0)
+            }
+        }
+    }
+
+    // Reads and opens the chunk at the place.
+    fn open(&mut self) -> Result<(), Error>
+        requires good { self.old.failed ≡ false }
+        requires closed { self.old.held ≡ false }
+        ensures tells { R.tells self.new.inner ≡ R.tells self.old.inner }
+        ensures steady { R.steady self.new.inner ≡ R.steady self.old.inner }
+        ensures faults { R.faults self.old.inner ≤ R.faults self.new.inner }
+        ensures device { IfErr result (λ e. IsDevice e → R.faults self.old.inner < R.faults self.new.inner) }
+        ensures unspent { OnOk result (R.faults self.new.inner < most_faults) }
+        ensures patient { IfErr result (λ e. IsInterruption e → ⊥) }
+        ensures key { self.new.key ≡ self.old.key }
+        ensures payload { IsTrue (⟦<StreamReader<S, R> as Read>⟧.tells self.old) → payload_of self.new ≡ payload_of self.old }
+        ensures place { ⟦<StreamReader<S, R> as Read>⟧.place self.new ≡ ⟦<StreamReader<S, R> as Read>⟧.place self.old }
+        ensures good { OnOk result ((self.new.failed ≡ false) × (self.new.held ≡ true)) }
+        ensures rest { let reader = ⟦<StreamReader<S, R> as Read>⟧ in IsTrue (reader.tells self.old) → OnOk result
+            (reader.rest self.new ≡ reader.rest self.old) }
+        ensures end { let reader = ⟦<StreamReader<S, R> as Read>⟧ in IsTrue (reader.tells self.old) → OnOk result
+            (self.new.at ≡ length self.new.chunk.items → IsCleanEnd (reader.rest self.old)) }
+        ensures fails { OnErr result (self.new.failed ≡ true) }
+        ensures cause { let reader = ⟦<StreamReader<S, R> as Read>⟧ in IsTrue (reader.tells self.old) → IfErr result (λ e. e ≢ OutOfMemory →
+            IsQuiet (R.faults self.old.inner) (R.faults self.new.inner) → IsFault (reader.rest self.old)) }
+        ensures opens { self.new.opens ≤ self.old.opens + 2 }
+    {
+        self.failed = true;
+        let mut count = 0;
+        let answer = fill(&mut self.inner, &mut self.sealed, &mut count);
+        self.taken = self.taken.saturating_add(count as u64);
+        match answer {
+            Err(e) => return Err(e),
+            Ok(()) => {}
+        }
+        match open_chunk::<S>(
+            self.alloc,
+            &mut self.opens,
+            &self.key,
+            self.number,
+            &self.sealed[..count],
+        ) {
+            Err(e) => Err(e),
+            Ok((chunk, last)) => {
+                self.chunk = chunk;
+                self.last = last;
+                self.held = true;
+                self.failed = false;
+                Ok(())
+            }
+        }
+    }
+
+    // Gives bytes of the chunk that is held.
+    fn give(&mut self, buf: &mut [u8]) -> usize
+        requires good { self.old.failed ≡ false }
+        requires held { self.old.held ≡ true }
+        ensures count { result ≡ min (length buf.old) (length self.old.chunk.items - self.old.at) }
+        ensures good { self.new.failed ≡ false }
+        ensures inner { self.new.inner ≡ self.old.inner }
+        ensures taken { self.new.taken ≡ self.old.taken }
+        ensures key { self.new.key ≡ self.old.key }
+        ensures front { take result buf.new ≡ take result (drop self.old.at self.old.chunk.items) }
+        ensures bytes { Delivers (take result buf.new)
+            (⟦<StreamReader<S, R> as Read>⟧.rest self.old) (⟦<StreamReader<S, R> as Read>⟧.rest self.new) }
+        ensures moves { ⟦<StreamReader<S, R> as Read>⟧.place self.new ≡ ⟦<StreamReader<S, R> as Read>⟧.place self.old + result }
+        ensures opens { self.new.opens ≡ self.old.opens }
+    {
+        let count = buf.len().min(self.chunk.len() - self.at);
+        buf[..count].copy_from_slice(&self.chunk[self.at..self.at + count]);
+        self.at += count;
+        count
+    }
+}
+
+impl<S: Suite, R: Read + Drop> Drop for StreamReader<S, R> {
+    fn drop(self) {
+        let StreamReader {
+            alloc: _,
+            key: _,
+            inner: _,
+            sealed: _,
+            number: _,
+            at: _,
+            held: _,
+            chunk: _,
+            last: _,
+            taken: _,
+            failed: _,
+            opens: _,
+            suite: _,
+        } = self;
+    }
+}
+
+// Opens a text under the nonce of a middle chunk or of the last one.
+fn open_as<S: Suite>(
+    alloc: Global,
+    opens: &mut Opens,
+    key: &[u8; 32],
+    number: u64,
+    last: bool,
+    sealed: &[u8],
+) -> Result<Option<Vec<u8>>, AllocError>
+    ensures opened { IfOk result (λ o. option_map vec_items o ≡ S.opened key.now (nonce number last) sealed.now) }
+    ensures length { IfOk result (λ o. IfSome o (λ v. length v.items + 16 ≡ length sealed.now)) }
+    ensures opens { opens.new ≤ opens.old + 1 }
+{
+    known_array(key);
+    known_bytes(sealed);
+    S::open(alloc, opens, key, &nonce_of(number, last), sealed)
+}
+
+// Opens a chunk, as middle or as last.
+#[tactic(auto, unfolding(crate::specs::Chunks::chunk_of))]
+fn open_chunk<S: Suite>(
+    alloc: Global,
+    opens: &mut Opens,
+    key: &[u8; 32],
+    number: u64,
+    sealed: &[u8],
+) -> Result<(Vec<u8>, bool), Error>
+    ensures chunk { MatchResult result (λ found. chunk_of S.opened key.now number sealed.now ≡ Ok (found.0.items, found.1))
+        (λ e. (e ≡ OutOfMemory) ⊎ (chunk_of S.opened key.now number sealed.now ≡ Err e)) }
+    ensures device { IfErr result (λ e. IsDevice e → ⊥) }
+    ensures in_limit { IfOk result (λ found. 0 < length found.0.items → number < 2 ^ 44) }
+    ensures first { IfOk result (λ found. length found.0.items ≡ 0 → number ≡ 0) }
+    ensures short { IfOk result (λ found. length sealed.now < 65552 → found.1 ≡ true) }
+    ensures length { IfOk result (λ found. length found.0.items + 16 ≡ length sealed.now) }
+    ensures opens { opens.new ≤ opens.old + 2 }
+{
+    if sealed.is_empty() {
+        return Err(Error::Truncated);
+    }
+    if sealed.len() == SEALED_CHUNK {
+        if let Some(plain) = open_as::<S>(alloc, opens, key, number, false, sealed)? {
+            return allow(number, plain, false);
+        }
+    }
+    match open_as::<S>(alloc, opens, key, number, true, sealed)? {
+        Some(plain) => allow(number, plain, true),
+        None => Err(Error::BadChunk),
+    }
+}
+
+// Refuses an empty chunk after others, and a byte past the longest plaintext.
+fn allow(number: u64, plain: Vec<u8>, last: bool) -> Result<(Vec<u8>, bool), Error>
+    ensures chunk { MatchResult result (λ found. allowed number (plain.items, last) ≡ Ok (found.0.items, found.1))
+        (λ e. allowed number (plain.items, last) ≡ Err e) }
+    ensures device { IfErr result (λ e. IsDevice e → ⊥) }
+    ensures in_limit { IfOk result (λ found. 0 < length found.0.items → number < 2 ^ 44) }
+    ensures first { IfOk result (λ found. length found.0.items ≡ 0 → number ≡ 0) }
+    ensures same { IfOk result (λ found. (found.0 ≡ plain) × (found.1 ≡ last)) }
+{
+    if plain.is_empty() {
+        if number > 0 {
+            return Err(Error::LastChunkEmpty);
+        }
+    } else if number >= MOST_CHUNKS {
+        return Err(Error::TooLong);
+    }
+    Ok((plain, last))
+}
