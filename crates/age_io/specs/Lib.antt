@@ -1,3 +1,5 @@
 pub mod Stretch
 pub mod Reading
 pub mod Writing
+pub mod Standard
+pub mod StandardFaults

@@ -1,0 +1,7 @@
+-- What a caller sees of a reader or a writer of std.
+use Rattle.std.specs.Prelude.{ℕ}
+use Rattle.age_io.specs.declared.standard.Std.{Std}
+
+-- how often its device has failed
+abbrev pub faults_of : {T : Type 0} → Std T → ℕ
+faults_of s = s.faults
