@@ -1,2 +1,9 @@
+pub mod Cuts
+pub mod Payloads
+pub mod FrontToEnd
+pub mod Judged
+pub mod Reopened
+pub mod Honest
 pub mod Opened
 pub mod Holding
+pub mod Answered

@@ -1,4 +1,6 @@
 pub mod Payload
+pub mod FrontToEnd
+pub mod Answering
 pub mod Opening
 pub mod Chunks
 pub mod ChunkLaws
@@ -7,3 +9,4 @@ pub mod SizeLaws
 pub mod Reading
 pub mod ReadingLaws
 pub mod Reader
+pub mod Laws

@@ -14,6 +14,10 @@ module _ {S R : Type 0} {suite : SuiteGhosts S} {read : Ghosts R} where
   abbrev pub key_of : StreamReader S R suite read → List ℕ
   key_of r = r.key
 
+  -- what the inner reader can still deliver
+  abbrev pub inner_rest_of : StreamReader S R suite read → Stretch
+  inner_rest_of r = read.rest r.inner
+
   -- it answers `Failed` to every read
   abbrev pub HasFailed : StreamReader S R suite read → Type 0
   HasFailed r = r.failed ≡ true

@@ -7,6 +7,7 @@ ghost use Rattle.age_error.specs.declared.io.Error.TheVariants.{OutOfMemory, Fai
 ghost use Rattle.age_io.specs.Stretch.{Stretch, nothing, from_place, IsCleanEnd, IsFault};
 ghost use Rattle.age_io.specs.Reading.{Reads, IsQuiet, Delivers, most_faults};
 ghost use Rattle.age_stream.specs.Payload.{nonce};
+ghost use Rattle.age_stream.specs.Answering.{Gives, Refuses, IsEnd};
 ghost use Rattle.age_stream.specs.Chunks.{allowed, chunk_of, delivered};
 ghost use Rattle.age_stream.specs.Reading.{payload_at, text_at, rest_of, IsHeld, IsSound};
 ghost use Rattle.age_stream.specs.ReadingLaws.{and-left, and-right, both-true, stream_stands, stream_spent};
@@ -60,7 +61,7 @@ pub struct StreamReader<S: Suite, R: Read> {
 }
 
 impl<S: Suite, R: Read> Read for StreamReader<S, R> {
-    ghost use Rattle.age_stream.specs.Reader.{payload_of, key_of, HasFailed, IsHolding, opens_of};
+    ghost use Rattle.age_stream.specs.Reader.{payload_of, key_of, inner_rest_of, HasFailed, IsHolding, opens_of};
 
     ghost tells = { λ r. R.tells r.inner && R.steady r.inner };
 
@@ -106,6 +107,17 @@ impl<S: Suite, R: Read> Read for StreamReader<S, R> {
         ensures patient { IfErr result (λ e. IsInterruption e → ⊥) }
         ensures payload { IsTrue (⟦<StreamReader<S, R> as Read>⟧.tells self.old) → payload_of self.new ≡ payload_of self.old }
         ensures key { key_of self.new ≡ key_of self.old }
+
+        // What it gives, which refusal it is, and what the payload was where it finds the end.
+        ensures gives { let reader = ⟦<StreamReader<S, R> as Read>⟧ in IsTrue (reader.tells self.old) → IfOk result (λ n. 0 < n →
+            Gives S.seal_of (key_of self.old) (payload_of self.old) (reader.place self.old) (length buf.old) (take n buf.new)) }
+        ensures refused { let reader = ⟦<StreamReader<S, R> as Read>⟧ in IsTrue (reader.tells self.old) → (HasFailed self.old → ⊥) →
+            IfErr result (λ e. e ≢ OutOfMemory → IsQuiet (reader.faults self.old) (reader.faults self.new) →
+            Refuses S.seal_of (key_of self.old) (payload_of self.old) (inner_rest_of self.old) (reader.place self.old) e) }
+        ensures finished { let reader = ⟦<StreamReader<S, R> as Read>⟧ in IsTrue (reader.tells self.old) → IfOk result (λ n. n ≡ 0 → 0 < length buf.new →
+            IsEnd S.seal_of (key_of self.old) (payload_of self.old) (reader.place self.old) (reader.content self.old).bytes) }
+
+        // The state after it, and how often it opens a chunk.
         ensures failed { HasFailed self.old → (result ≡ Err Failed) × (self.new ≡ self.old) }
         ensures fails { OnErr result (HasFailed self.new) }
         ensures good { OnOk result (HasFailed self.new → ⊥) }
@@ -124,7 +136,7 @@ impl<S: Suite, R: Read> Read for StreamReader<S, R> {
 }
 
 impl<S: Suite, R: Read> StreamReader<S, R> {
-    ghost use Rattle.age_stream.specs.Reader.{payload_of, key_of, HasFailed, IsHolding, opens_of};
+    ghost use Rattle.age_stream.specs.Reader.{payload_of, key_of, inner_rest_of, HasFailed, IsHolding, opens_of};
 
     /// A reader of the payload that begins where `inner` stands. It has opened nothing yet.
     pub fn with_payload_key(alloc: Global, key: [u8; 32], inner: R) -> Result<Self, Error>
@@ -177,6 +189,11 @@ impl<S: Suite, R: Read> StreamReader<S, R> {
         ensures patient { IfErr result (λ e. IsInterruption e → ⊥) }
         ensures payload { IsTrue (⟦<StreamReader<S, R> as Read>⟧.tells self.old) → payload_of self.new ≡ payload_of self.old }
         ensures key { self.new.key ≡ self.old.key }
+        ensures gives { let reader = ⟦<StreamReader<S, R> as Read>⟧ in IsTrue (reader.tells self.old) → IfOk result (λ n. 0 < n →
+            Gives S.seal_of self.old.key (payload_of self.old) (reader.place self.old) (length buf.old) (take n buf.new)) }
+        ensures refused { let reader = ⟦<StreamReader<S, R> as Read>⟧ in IsTrue (reader.tells self.old) → IfErr result (λ e. e ≢ OutOfMemory →
+            IsQuiet (R.faults self.old.inner) (R.faults self.new.inner) →
+            Refuses S.seal_of self.old.key (payload_of self.old) (R.rest self.old.inner) (reader.place self.old) e) }
         ensures fails { OnErr result (self.new.failed ≡ true) }
         ensures good { OnOk result (self.new.failed ≡ false) }
         ensures opens { self.new.opens ≤ self.old.opens + 2 }
@@ -237,6 +254,9 @@ impl<S: Suite, R: Read> StreamReader<S, R> {
         ensures good { OnOk result (self.new.failed ≡ false) }
         ensures cause { let reader = ⟦<StreamReader<S, R> as Read>⟧ in IsTrue (reader.tells self.old) → IfErr result (λ e. e ≢ OutOfMemory →
             IsQuiet (R.faults self.old.inner) (R.faults self.new.inner) → IsFault (reader.rest self.old)) }
+        ensures refused { let reader = ⟦<StreamReader<S, R> as Read>⟧ in IsTrue (reader.tells self.old) → IfErr result (λ e. e ≢ OutOfMemory →
+            IsQuiet (R.faults self.old.inner) (R.faults self.new.inner) →
+            Refuses S.seal_of self.old.key (payload_of self.old) (R.rest self.old.inner) (reader.place self.old) e) }
         ensures opens { self.new.opens ≡ self.old.opens }
     {
         self.failed = true;
@@ -277,6 +297,9 @@ impl<S: Suite, R: Read> StreamReader<S, R> {
         ensures fails { OnErr result (self.new.failed ≡ true) }
         ensures cause { let reader = ⟦<StreamReader<S, R> as Read>⟧ in IsTrue (reader.tells self.old) → IfErr result (λ e. e ≢ OutOfMemory →
             IsQuiet (R.faults self.old.inner) (R.faults self.new.inner) → IsFault (reader.rest self.old)) }
+        ensures refused { let reader = ⟦<StreamReader<S, R> as Read>⟧ in IsTrue (reader.tells self.old) → IfErr result (λ e. e ≢ OutOfMemory →
+            IsQuiet (R.faults self.old.inner) (R.faults self.new.inner) →
+            Refuses S.seal_of self.old.key (payload_of self.old) (R.rest self.old.inner) (reader.place self.old) e) }
         ensures opens { self.new.opens ≤ self.old.opens + 2 }
     {
         self.failed = true;
@@ -318,6 +341,8 @@ impl<S: Suite, R: Read> StreamReader<S, R> {
         ensures bytes { Delivers (take result buf.new)
             (⟦<StreamReader<S, R> as Read>⟧.rest self.old) (⟦<StreamReader<S, R> as Read>⟧.rest self.new) }
         ensures moves { ⟦<StreamReader<S, R> as Read>⟧.place self.new ≡ ⟦<StreamReader<S, R> as Read>⟧.place self.old + result }
+        ensures gives { let reader = ⟦<StreamReader<S, R> as Read>⟧ in IsTrue (reader.tells self.old) → 0 < result →
+            Gives S.seal_of self.old.key (payload_of self.old) (reader.place self.old) (length buf.old) (take result buf.new) }
         ensures opens { self.new.opens ≡ self.old.opens }
     {
         let count = buf.len().min(self.chunk.len() - self.at);

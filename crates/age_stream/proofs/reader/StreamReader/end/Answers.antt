@@ -1,7 +1,10 @@
-use Rattle.std.proofs.Common.{◌≡◌, ◌+◌, arith, length, take, length-take-le}
+use Rattle.std.proofs.Common.{◌≡◌, ◌+◌, arith, length, take, length-take-le, ◌<◌, ◌^◌, ◌-◌, inl, inr}
 use Rattle.std.proofs.lemmas.Bool.{true≢false}
+use Rattle.std.proofs.lemmas.List.Elements.{All-drop}
 use Rattle.age_io.specs.Reading.{EndsEarly}
+use Rattle.age_stream.specs.Reading.{payload_at}
 use Rattle.age_stream.specs.ReadingLaws.{and-left}
+use Rattle.age_stream.proofs.Answered.{refuses-after}
 use Rattle.age_stream.proofs.Holding.{end-early, end-more, end-clean, same-rest, sound-failed, sound-ended}
 use Rattle.age_stream.proofs.reader.StreamReader.end.Goals as goal
 
@@ -32,6 +35,38 @@ returns-else-count-gt0-clause-end g c = λ told.
         (g.R.Read.rest c.fill-answer.new.reader) text
         c.requires.good c.requires.held c.requires.last c.requires.given (c.in-Ok.ensures.bytes (and-left _ _ told))
         (omega (arith, size, c.if-count-gt0.false)) (c.in-Ok.ensures.end (and-left _ _ told) (omega (arith, one, c.if-count-gt0.false)))
+
+pub returns-in-Err-clause-refused : goal.returns-in-Err-clause-refused
+returns-in-Err-clause-refused g c = λ told memory quiet.
+    let self = c.args.self.now in
+    let size : length c.fill-answer.new.buf ≡ 1 = c.fill-answer.auto.buf in
+    let early : EndsEarly 1 (g.R.Read.rest self.inner) = rw size at (c.in-Err.ensures.cause (and-left _ _ told) memory quiet) in
+    record {
+      number = self.number;
+      from = omega arith;
+      to = omega (arith, self.offset);
+      why = inl (record { short = omega (arith, early.short); badly = early.badly });
+    }
+
+pub returns-then-count-gt0-clause-refused : goal.returns-then-count-gt0-clause-refused
+returns-then-count-gt0-clause-refused g c = λ told memory quiet.
+    let self = c.args.self.now in
+    let read = g.R.Read in
+    let sound = self.sound told in
+    let text = take c.fill-answer.new.filled c.fill-answer.new.buf in
+    let size : length text ≡ c.fill-answer.new.filled = length-take-le c.fill-answer.new.filled c.fill-answer.new.buf c.in-Ok.ensures.count in
+    let content = read.content self.inner in
+    record {
+      number = self.number;
+      from = omega arith;
+      to = omega (arith, self.offset);
+      why = inr (refuses-after g.S.Suite.seal_of g.S.Suite.opened g.met.S.Suite.cipher self.key self.key_bytes
+          (payload_at (read.place self.inner) self.taken content) (read.rest self.inner) (read.rest c.fill-answer.new.reader)
+          self.number self.taken self.last self.chunk.items text
+          (All-drop (λ x. x < 2 ^ 8) (read.place self.inner - self.taken) content.bytes (g.met.R.Read.are_bytes self.inner (and-left _ _ told)))
+          (sound.is_held c.requires.held) c.requires.last (sound.is_past c.requires.good c.requires.held)
+          (c.in-Ok.ensures.bytes (and-left _ _ told)) (omega (arith, size, c.if-count-gt0.true)));
+    }
 
 pub invariant_of-self : goal.invariant_of-self
 invariant_of-self g c =

@@ -2,6 +2,7 @@ use Rattle.std.proofs.Common.{◌≡◌, arith, ◌≤◌, ◌+◌, ◌⊎◌, l
 use Rattle.age_io.specs.Reading.{EndsEarly}
 use Rattle.age_stream.specs.ReadingLaws.{and-left, and-right}
 use Rattle.age_stream.specs.Chunks.{chunk_of}
+use Rattle.age_stream.proofs.Answered.{refuses-chunk}
 use Rattle.age_stream.proofs.Holding.{open-early, open-refused, rest-opened, clean-opened, refilled, sound-opened}
 use Rattle.age_error.specs.declared.io.Error.TheVariants.{OutOfMemory}
 use Rattle.age_stream.proofs.reader.StreamReader.open.Goals as goal
@@ -30,6 +31,43 @@ returns-in-Err-open_chunk-clause-cause g c = λ told memory quiet.
             (c.in-Ok.ensures.bytes (and-left _ _ told)) (omega (arith, long, size, c.in-Ok.ensures.count))
             (λ less. c.in-Ok.ensures.end (and-left _ _ told) (omega (arith, long, size, less))) bad
     ]
+
+pub returns-in-Err-clause-refused : goal.returns-in-Err-clause-refused
+returns-in-Err-clause-refused g c = λ told memory quiet.
+    let self = c.args.self.now in
+    let size : length c.fill-answer.new.buf ≡ 65552 = omega (arith, c.fill-answer.auto.buf, c.deref_mut.ensures.len, self.room, self.sealed.ok.0) in
+    record {
+      number = self.number;
+      from = omega arith;
+      to = omega (arith, self.offset);
+      why = inl (rw size at (c.in-Err.ensures.cause (and-left _ _ told) memory quiet));
+    }
+
+pub returns-in-Err-open_chunk-clause-refused : goal.returns-in-Err-open_chunk-clause-refused
+returns-in-Err-open_chunk-clause-refused g c = λ told memory quiet.
+    let self = c.args.self.now in
+    let read = g.R.Read in
+    let t = and-left _ _ told in
+    let sound = self.sound told in
+    let text = take c.fill-answer.new.filled c.fill-answer.new.buf in
+    let size : length c.fill-answer.new.buf ≡ 65552 = omega (arith, c.fill-answer.auto.buf, c.deref_mut.ensures.len, self.room, self.sealed.ok.0) in
+    let filled = refilled self.sealed.items c.fill-answer.new.buf self.sealed.len self.sealed.ok.0 (omega (arith, size, self.room)) in
+    let long : length text ≡ c.fill-answer.new.filled = length-take-le c.fill-answer.new.filled c.fill-answer.new.buf c.in-Ok.ensures.count in
+    let judged : (c.in-Err-open_chunk.e ≡ OutOfMemory) ⊎ (chunk_of g.S.Suite.opened self.key self.number text ≡ Err c.in-Err-open_chunk.e) =
+        rw (c.deref.ensures.value, filled) at c.in-Err-open_chunk.ensures.chunk in
+    record {
+      number = self.number;
+      from = omega arith;
+      to = omega (arith, self.offset);
+      why = elim judged [
+        | inl want ↦ absurd (memory want)
+        | inr bad ↦ inr (refuses-chunk g.S.Suite.seal_of g.S.Suite.opened g.met.S.Suite.cipher self.key self.key_bytes
+              (read.content self.inner) (read.rest self.inner) (read.rest c.fill-answer.new.reader) (read.place self.inner) self.taken self.number text c.in-Err-open_chunk.e
+              (g.met.R.Read.are_bytes self.inner t) (g.met.R.Read.stands self.inner t (and-right _ _ told)) sound.fits (sound.before c.requires.good c.requires.closed)
+              sound.inside.front (c.in-Ok.ensures.bytes t) (omega (arith, long, size, c.in-Ok.ensures.count))
+              (λ less. c.in-Ok.ensures.end t (omega (arith, long, size, less))) bad)
+      ];
+    }
 
 pub returns-in-Ok-open_chunk-clause-rest : goal.returns-in-Ok-open_chunk-clause-rest
 returns-in-Ok-open_chunk-clause-rest g c = λ told.

@@ -1,0 +1,160 @@
+//! The texts and the kinds of all refusals.
+
+use age_error::io::{ArmoredReadError, Error, ErrorKind};
+use age_error::suite::ScryptError;
+use std::alloc::Global;
+use std::fmt::Display;
+use std::process::Abort;
+use std::test::Fail;
+
+// What prints as this text.
+fn prints<D: Display>(rt: &impl Abort, alloc: Global, value: &D, text: &str) -> Result<(), Fail> {
+    assert_eq!(rt; value.to_string(alloc)?.as_str(), text);
+    Ok(())
+}
+
+#[test]
+fn errors_have_their_texts_and_kinds(rt: HostRuntime) -> Result<(), Fail> {
+    for (error, kind, text) in [
+        (
+            Error::Device(ErrorKind::NotFound),
+            ErrorKind::NotFound,
+            "device fault",
+        ),
+        (
+            Error::Device(ErrorKind::PermissionDenied),
+            ErrorKind::PermissionDenied,
+            "device fault",
+        ),
+        (
+            Error::Device(ErrorKind::Interrupted),
+            ErrorKind::Interrupted,
+            "device fault",
+        ),
+        (
+            Error::Device(ErrorKind::Other),
+            ErrorKind::Other,
+            "device fault",
+        ),
+        (
+            Error::UnexpectedEof,
+            ErrorKind::UnexpectedEof,
+            "input ended early",
+        ),
+        (
+            Error::WriteZero,
+            ErrorKind::WriteZero,
+            "nothing could be written",
+        ),
+        (
+            Error::BeforeStart,
+            ErrorKind::InvalidData,
+            "cannot seek before the start",
+        ),
+        (
+            Error::PastEnd,
+            ErrorKind::InvalidData,
+            "cannot seek past the end",
+        ),
+        (
+            Error::Truncated,
+            ErrorKind::UnexpectedEof,
+            "age file is truncated",
+        ),
+        (Error::BadChunk, ErrorKind::InvalidData, "decryption error"),
+        (
+            Error::AfterLast,
+            ErrorKind::InvalidData,
+            "last chunk has been processed",
+        ),
+        (
+            Error::LastChunkEmpty,
+            ErrorKind::InvalidData,
+            "last chunk is empty",
+        ),
+        (
+            Error::BadEnd,
+            ErrorKind::InvalidData,
+            "Last chunk is invalid, stream might be truncated",
+        ),
+        (
+            Error::TooLong,
+            ErrorKind::InvalidInput,
+            "more than the largest length",
+        ),
+        (
+            Error::LimitExceeded,
+            ErrorKind::InvalidData,
+            "input is longer than its limit",
+        ),
+        (
+            Error::Armor(ArmoredReadError::LineContainsCr),
+            ErrorKind::InvalidData,
+            "line contains CR",
+        ),
+        (
+            Error::NotIdentity { line: 1 },
+            ErrorKind::InvalidData,
+            "identity file contains non-identity data on line 1",
+        ),
+        (
+            Error::NotIdentity { line: 20_480 },
+            ErrorKind::InvalidData,
+            "identity file contains non-identity data on line 20480",
+        ),
+        (Error::Failed, ErrorKind::Other, "failed earlier"),
+        (Error::OutOfMemory, ErrorKind::OutOfMemory, "out of memory"),
+    ] {
+        assert_eq!(rt; error.kind(), kind, "at {text}");
+        prints(&rt, rt.alloc(), &error, text)?;
+    }
+    Ok(())
+}
+
+// An armor fault prints alike by itself and as a refusal.
+#[test]
+fn armor_faults_have_their_texts(rt: HostRuntime) -> Result<(), Fail> {
+    for (fault, text) in [
+        (ArmoredReadError::Base64, "invalid base64 in armor"),
+        (
+            ArmoredReadError::InvalidBeginMarker,
+            "invalid armor begin marker",
+        ),
+        (
+            ArmoredReadError::InvalidUtf8,
+            "stream did not contain valid UTF-8",
+        ),
+        (ArmoredReadError::LineContainsCr, "line contains CR"),
+        (
+            ArmoredReadError::MissingPadding,
+            "invalid armor (last line is missing padding)",
+        ),
+        (
+            ArmoredReadError::NotWrappedAt64Chars,
+            "invalid armor (not wrapped at 64 characters)",
+        ),
+        (
+            ArmoredReadError::ShortLineInMiddle,
+            "invalid armor (short line in middle of encoding)",
+        ),
+        (
+            ArmoredReadError::TrailingGarbage,
+            "invalid armor (non-whitespace characters after end marker)",
+        ),
+    ] {
+        prints(&rt, rt.alloc(), &fault, text)?;
+        prints(&rt, rt.alloc(), &Error::from(fault), text)?;
+    }
+    Ok(())
+}
+
+#[test]
+fn scrypt_errors_have_their_texts(rt: HostRuntime) -> Result<(), Fail> {
+    prints(
+        &rt,
+        rt.alloc(),
+        &ScryptError::InvalidParams,
+        "work factor refused",
+    )?;
+    prints(&rt, rt.alloc(), &ScryptError::OutOfMemory, "out of memory")
+}
