@@ -2,7 +2,7 @@
 use Rattle.std.specs.Prelude.{◌≡◌, ℕ, ◌+◌, ◌-◌, ◌*◌, ◌^◌, ◌<◌, ◌≤◌, ◌⊎◌, Option, Some, Ok, Err, Bool, true, false, List, [], ◌++◌, length, take, drop, min}
 use Rattle.std.proofs.Common.{refl, sym, ap, subst, ◌∙◌, inl, inr, arith, length-append, length-drop, length-take-le}
 use Rattle.std.proofs.lemmas.List.{nil_from_length}
-use Rattle.std.proofs.lemmas.List.Elements.{All-drop}
+use Rattle.std.proofs.lemmas.List.Elements.{All-drop, All-nil}
 use Rattle.std.proofs.lemmas.Bool.{true≢false}
 use Rattle.age_error.specs.Bytes.{AreBytes, AreBytesOf}
 use Rattle.age_error.specs.declared.io.Error.{Error}
@@ -33,6 +33,13 @@ text-read content rest after place taken number text stands fits stood came most
       let none : length text + length after.bytes ≡ 0 = sym (length-append text after.bytes) ∙ sym (ap length came.bytes) ∙ ap (λ s. length s.bytes) is in
       let clean = ended (omega (arith, none)) in
       absurd (true≢false (sym clean.ends_well ∙ came.end ∙ ap (λ s. s.ends_well) is))
+]
+
+-- the rest of a steady reader is bytes
+pub rest-bytes : (content rest : Stretch) (place : ℕ) → StandsIn content place rest → AreBytes content.bytes → AreBytes rest.bytes
+rest-bytes content rest place stands bytes = elim stands.reaches [
+  | inl is ↦ rw is (All-drop (λ x. x < 2 ^ 8) place content.bytes bytes)
+  | inr is ↦ rw is (All-nil (λ x. x < 2 ^ 8))
 ]
 
 module _ (seal_of : Seal) (opened : List ℕ → List ℕ → List ℕ → Option (List ℕ)) (law : IsCipher seal_of opened) (key : List ℕ) (k : AreBytesOf 32 key) where

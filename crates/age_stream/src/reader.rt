@@ -1,12 +1,12 @@
 //! Reading a payload.
 ghost use Rattle.std.specs.Prelude.{◌≡◌, ◌≢◌, ℕ, ◌+◌, ◌-◌, ◌*◌, ◌^◌, ◌<◌, ◌≤◌, ◌⊎◌, ◌&&◌, Option, Some, None, option_map, vec_items, IfSome, Bool, true, false, IsTrue, min, List, [], ◌++◌, length, take, drop, MatchResult, IfOk, IfErr, OnOk, OnErr, Ok, Err};
 ghost use Rattle.std.proofs.Common.{arith, refl};
-ghost use Rattle.age_error.specs.Bytes.{AreBytesOf};
+ghost use Rattle.age_error.specs.Bytes.{AreBytes, AreBytesOf};
 ghost use Rattle.age_error.specs.Refusals.{IsDevice, IsInterruption};
 ghost use Rattle.age_error.specs.declared.io.Error.TheVariants.{OutOfMemory, Failed, AfterLast};
-ghost use Rattle.age_io.specs.Stretch.{Stretch, nothing, from_place, IsCleanEnd, IsFault};
+ghost use Rattle.age_io.specs.Stretch.{Stretch, nothing, whole, from_place, IsCleanEnd, IsFault};
 ghost use Rattle.age_io.specs.Reading.{Reads, IsQuiet, Delivers, most_faults};
-ghost use Rattle.age_stream.specs.Payload.{nonce};
+ghost use Rattle.age_stream.specs.Payload.{nonce, payload, LastIsNoMiddle};
 ghost use Rattle.age_stream.specs.Answering.{Gives, Refuses, IsEnd};
 ghost use Rattle.age_stream.specs.Chunks.{allowed, chunk_of, delivered};
 ghost use Rattle.age_stream.specs.Reading.{payload_at, text_at, rest_of, IsHeld, IsSound};
@@ -151,6 +151,12 @@ impl<S: Suite, R: Read> StreamReader<S, R> {
         ensures content { IfOk result (λ r. ⟦<StreamReader<S, R> as Read>⟧.content r
             ≡ delivered S.opened key 0 (from_place (R.place inner) (R.content inner))) }
         ensures rest { IfOk result (λ r. ⟦<StreamReader<S, R> as Read>⟧.rest r ≡ delivered S.opened key 0 (R.rest inner)) }
+        // It reads a plaintext to a clean end exactly where it stands before the plaintext's payload and a clean end.
+        ensures success { IsTrue (R.tells inner && R.steady inner) → IfOk result (λ r. (plain : List ℕ) →
+            ⟦<StreamReader<S, R> as Read>⟧.rest r ≡ whole plain → R.rest inner ≡ whole (payload S.seal_of key plain)) }
+        ensures honest { IfOk result (λ r. (plain : List ℕ) → AreBytes plain → length plain ≤ 2 ^ 60 →
+            LastIsNoMiddle S.seal_of key plain → R.rest inner ≡ whole (payload S.seal_of key plain) →
+            ⟦<StreamReader<S, R> as Read>⟧.rest r ≡ whole plain) }
         ensures memory { IfErr result (λ e. e ≡ OutOfMemory) }
     {
         known_array(&key);

@@ -1,6 +1,10 @@
 use Rattle.age_stream.specs.ReadingLaws.{and-left, and-right}
 use Rattle.age_stream.proofs.Holding.{sound-new, rest-open}
-use Rattle.std.proofs.Common.{refl, false}
+use Rattle.age_stream.proofs.Answered.{rest-bytes}
+use Rattle.age_stream.proofs.Honest.{delivered-payload}
+use Rattle.age_stream.proofs.Reopened.{payload-delivered}
+use Rattle.std.proofs.Common.{refl, false, ◌∙◌, sym, ap}
+use Rattle.age_stream.specs.Chunks.{delivered}
 use Rattle.age_stream.proofs.reader.StreamReader.with_payload_key.Goals as goal
 
 pub invariant_of-result-clause-sound : goal.invariant_of-result-clause-sound
@@ -11,3 +15,17 @@ invariant_of-result-clause-sound g c = λ told.
 
 pub returns-clause-rest : goal.returns-clause-rest
 returns-clause-rest g c = rest-open g.S.Suite.opened c.args.key false false 0 _ _ 0 (g.R.Read.rest c.args.inner) refl refl
+
+pub returns-clause-success : goal.returns-clause-success
+returns-clause-success g c = λ told plain is.
+    let read = g.R.Read in
+    let inner = c.args.inner in
+    let t = and-left _ _ told in
+    payload-delivered g.S.Suite.seal_of g.S.Suite.opened g.met.S.Suite.cipher c.args.key c.known_array.ensures (read.rest inner) plain
+        (rest-bytes (read.content inner) (read.rest inner) (read.place inner) (g.met.R.Read.stands inner t (and-right _ _ told)) (g.met.R.Read.are_bytes inner t))
+        (sym (returns-clause-rest g c) ∙ is)
+
+pub returns-clause-honest : goal.returns-clause-honest
+returns-clause-honest g c = λ plain bytes most apart is.
+    returns-clause-rest g c ∙ ap (delivered g.S.Suite.opened c.args.key 0) is
+    ∙ delivered-payload g.S.Suite.seal_of g.S.Suite.opened g.met.S.Suite.cipher c.args.key c.known_array.ensures plain bytes most apart
