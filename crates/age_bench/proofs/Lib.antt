@@ -1,3 +1,4 @@
 pub mod Hex
 pub mod Steps
 pub mod Words
+pub mod Copied

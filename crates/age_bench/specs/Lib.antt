@@ -1,3 +1,4 @@
 pub mod Bench
 pub mod Command
 pub mod Laws
+pub mod Copying

@@ -2,8 +2,11 @@
 #![tactic(auto)]
 
 mod command;
+mod copying;
+mod error;
 #[cfg(test)]
 mod error_texts;
+mod payload;
 mod suite;
 #[cfg(test)]
 mod tests;

@@ -1,6 +1,7 @@
 -- Facts on what a writer appended, by the laws of `Write`.
 use Rattle.std.proofs.Common.{◌≡◌, ℕ, ◌+◌, ◌≤◌, ◌<◌, Bool, false, IsTrue, List, [], ◌++◌, length, take, drop, subst, sym, ◌∙◌, arith, append-nil, OnErr, OnOk, IfErr, Result, Ok, Err, IfOk}
 use Rattle.std.proofs.lemmas.Grind.{common_steps}
+use Rattle.std.proofs.lemmas.Result.{IfOk-weaker, IfErr-weaker, on_err_weaker}
 use Rattle.std.proofs.lemmas.List.{drop-take, take-append-drop, take-take}
 use Rattle.age_error.specs.declared.io.Error.{Error}
 use Rattle.age_io.specs.Writing.{Writes, Flushes}
@@ -12,18 +13,6 @@ take-both xs at n = grind (arith, common_steps, drop-take at n xs, take-take at 
 pub OnErr-of : {A E : Type 0} (r : Result A E) {P : Type 0} → P → OnErr r P
 OnErr-of (Ok x) h = tt
 OnErr-of (Err e) h = h
-
-IfOk-map : {A E : Type 0} (r : Result A E) {P Q : A → Type 0} → ((x : A) → P x → Q x) → IfOk r P → IfOk r Q
-IfOk-map (Ok x) f h = f x h
-IfOk-map (Err e) f h = tt
-
-IfErr-map : {A E : Type 0} (r : Result A E) {P Q : E → Type 0} → ((e : E) → P e → Q e) → IfErr r P → IfErr r Q
-IfErr-map (Ok x) f h = tt
-IfErr-map (Err e) f h = f e h
-
-OnErr-map : {A E : Type 0} (r : Result A E) {P Q : Type 0} → (P → Q) → OnErr r P → OnErr r Q
-OnErr-map (Ok x) f h = tt
-OnErr-map (Err e) f h = f h
 
 -- calls that were interrupted, so that nothing was appended
 pub record Untouched {S : Type 0} (tells limited : S → Bool) (faults : S → ℕ) (appended : S → List ℕ → S → Type 0) (old new : S) : Type 0 where
@@ -42,10 +31,10 @@ module _ {S : Type 0} (tells limited : S → Bool) (faults : S → ℕ) (appende
     same_tells = w.same_tells ∙ u.same_tells;
     same_limited = w.same_limited ∙ u.same_limited;
     no_fewer_faults = omega (arith, u.no_fewer_faults, w.no_fewer_faults);
-    device = IfErr-map r (λ e rose is. omega (arith, rose is, u.no_fewer_faults)) w.device;
+    device = IfErr-weaker r _ _ (λ e rose is. omega (arith, rose is, u.no_fewer_faults)) w.device;
     unlimited = λ none. w.unlimited (u.same_limited ∙ none);
-    takes = λ told. IfOk-map r (λ n took. joins old mid new [] (take n bytes) (u.nothing told) took) (w.takes (u.same_tells ∙ told));
-    refuses = λ told. OnErr-map r (λ none. joins old mid new [] [] (u.nothing told) none) (w.refuses (u.same_tells ∙ told));
+    takes = λ told. IfOk-weaker r _ _ (λ n took. joins old mid new [] (take n bytes) (u.nothing told) took) (w.takes (u.same_tells ∙ told));
+    refuses = λ told. on_err_weaker r (λ none. joins old mid new [] [] (u.nothing told) none) (w.refuses (u.same_tells ∙ told));
   }
 
   -- a flush after them
@@ -55,7 +44,7 @@ module _ {S : Type 0} (tells limited : S → Bool) (faults : S → ℕ) (appende
     same_tells = f.same_tells ∙ u.same_tells;
     same_limited = f.same_limited ∙ u.same_limited;
     no_fewer_faults = omega (arith, u.no_fewer_faults, f.no_fewer_faults);
-    device = IfErr-map r (λ e rose is. omega (arith, rose is, u.no_fewer_faults)) f.device;
+    device = IfErr-weaker r _ _ (λ e rose is. omega (arith, rose is, u.no_fewer_faults)) f.device;
     unspent = f.unspent;
     unlimited = λ none. f.unlimited (u.same_limited ∙ none);
     nothing = λ told. joins old mid new [] [] (u.nothing told) (f.nothing (u.same_tells ∙ told));

@@ -1,5 +1,5 @@
 -- Facts on what a reader delivers.
-use Rattle.std.proofs.Common.{◌≡◌, ℕ, ◌+◌, ◌-◌, ◌<◌, ◌≤◌, List, [], ◌∷◌, ◌++◌, length, take, drop, append_assoc, refl, sym, ◌∙◌, ap, arith, IsTrue, drop_at, length-take-le, le_refl, append-nil, inl}
+use Rattle.std.proofs.Common.{◌≡◌, ℕ, ◌+◌, ◌-◌, ◌<◌, ◌≤◌, List, [], ◌∷◌, ◌++◌, length, take, drop, append_assoc, refl, sym, ◌∙◌, ap, arith, IsTrue, drop_at, take_at, length-take-le, le_refl, append-nil, inl}
 use Rattle.std.proofs.lemmas.Grind.{common_steps}
 use borrow.Rule.Slice.PartMut.{put_mid, post_of}
 use Rattle.std.proofs.lemmas.Slice.{take-put_mid_below}
@@ -22,6 +22,10 @@ take-filled at k n xs ys within room =
     take-add at n (put_mid at k xs ys) ∙
     cong-append (take-put_mid_below at k xs ys at (le_refl at) within)
         (ap (take n) (drop_at (take at xs) (ys ++ after) at (length-take-le at xs within)) ∙ take-append-le n ys after room)
+
+-- the buffer of a list after a read into all of it
+pub refilled : (old new : List ℕ) (len : ℕ) → len ≡ length old → length new ≡ length old → take len (new ++ drop (length new) old) ≡ new
+refilled old new len same kept = take_at new (drop (length new) old) len (kept ∙ sym same)
 
 -- a list has grown by what was delivered
 pub record Grown (before after : List ℕ) (old new : Stretch) : Type 0 where

@@ -1,12 +1,11 @@
 -- What one more opened chunk shows.
-use Rattle.std.proofs.Common.{◌≡◌, ℕ, zero, suc, ◌+◌, ◌*◌, ◌<◌, ◌≤◌, ◌^◌, Bool, true, false, List, [], ◌++◌, length, drop, Option, Some, None, refl, sym, ◌∙◌, ap, subst, arith, add-one, ◌⊎◌, inl, inr}
-use Rattle.std.proofs.lemmas.List.{length-append, take-append-drop}
+use Rattle.std.proofs.Common.{◌≡◌, ℕ, zero, suc, ◌+◌, ◌*◌, ◌<◌, ◌≤◌, ◌^◌, Bool, true, false, List, [], ◌++◌, length, drop, Option, Some, None, refl, sym, ◌∙◌, ap, subst, arith, add-one, inl, inr}
+use Rattle.std.proofs.lemmas.List.{length-append, nil_from_length, take-append-drop}
 use Rattle.std.proofs.lemmas.List.Elements.{All-append, All-nil}
 use Rattle.std.proofs.lemmas.Bool.{cases_lt}
 use Rattle.std.specs.Prelude.{Result, Ok, Err, IsErr, IsErrAnd, IfErr}
-use Rattle.std.proofs.lemmas.List.{nil_from_length}
 use Rattle.age_error.specs.declared.io.Error.{Error}
-use Rattle.age_error.specs.declared.io.Error.TheVariants.{Truncated, BadChunk, AfterLast, LastChunkEmpty, TooLong, OutOfMemory}
+use Rattle.age_error.specs.declared.io.Error.TheVariants.{OutOfMemory}
 use Rattle.age_error.specs.Bytes.{AreBytes, AreBytesOf}
 use Rattle.age_suite.specs.Suite.{IsCipher}
 use Rattle.age_stream.specs.Opening.{nonce-bytes}
@@ -15,9 +14,11 @@ use Rattle.age_stream.specs.FrontToEnd.{IsAllowed, StopsAt, IsOpenedTo, IsRefusa
 use Rattle.age_stream.proofs.Payloads.{piece-bytes, length-seal, middle_seals-front, chunk-middle}
 use Rattle.age_stream.proofs.Cuts.{cut-bytes, length-cut, cut_more, cut_end, cut_rest}
 
+-- a chunk of bytes is bytes
 pub chunk-bytes : (i : ℕ) (sealed : List ℕ) → AreBytes sealed → AreBytes (chunk i sealed)
 chunk-bytes i sealed b = cut-bytes 65552 i sealed b
 
+-- the last piece is that after i full ones, if it isn't empty or is the first
 last_piece_is : (i n : ℕ) → n ≤ 65536 → (0 < i → 0 < n) → last_piece (65536 * i + n) ≡ i
 last_piece_is zero n h more = omega arith
 last_piece_is (suc i) n h more = let some = more (omega arith) in omega (arith, some)
@@ -29,12 +30,14 @@ module _ (seal_of : Seal) (opened : List ℕ → List ℕ → List ℕ → Optio
   opens_to i is_last plain e =
       (law.opens_exactly key (nonce i is_last) (chunk i sealed) plain k (nonce-bytes i is_last) (chunk-bytes i sealed b)).0 e
 
+  -- a chunk that doesn't open is no seal
   pub no_seal : (i : ℕ) (is_last : Bool) → opened key (nonce i is_last) (chunk i sealed) ≡ None
       → (plain : List ℕ) → AreBytes plain → chunk i sealed ≡ seal_of key (nonce i is_last) plain → ⊥
   no_seal i is_last none plain p e =
       let some = (law.opens_exactly key (nonce i is_last) (chunk i sealed) plain k (nonce-bytes i is_last) (chunk-bytes i sealed b)).1 (p, e) in
       cc (none, some)
 
+  -- a chunk that doesn't open as middle isn't held as one
   pub not_middle : (i : ℕ) → opened key (nonce i false) (chunk i sealed) ≡ None
       → (plain : List ℕ) → HeldAsMiddle seal_of key sealed i plain → ⊥
   not_middle i none plain held = no_seal i false none plain held.bytes held.is_seal
@@ -44,6 +47,7 @@ module _ (seal_of : Seal) (opened : List ℕ → List ℕ → List ℕ → Optio
       → (plain : List ℕ) → HeldAsMiddle seal_of key sealed i plain → ⊥
   short_not_middle i short plain held = absurd (omega (arith, held.full, length-cut 65552 i sealed))
 
+  -- a chunk that opens is held so
   pub held_last : (i : ℕ) (plain : List ℕ) → ((other : List ℕ) → HeldAsMiddle seal_of key sealed i other → ⊥)
       → opened key (nonce i true) (chunk i sealed) ≡ Some plain → HeldAsLast seal_of key sealed i plain
   held_last i plain no_middle some = record {
@@ -124,6 +128,7 @@ module _ (seal_of : Seal) (opened : List ℕ → List ℕ → List ℕ → Optio
       cut_rest 65552 i sealed short in
       rw (is_last, before, here, ← was.front, ← held.is_seal, rest) (sym (take-append-drop (65552 * i) sealed))
 
+  -- and what was opened has at most 2 ^ 60 bytes
   pub opened_limit : (i : ℕ) (out plain : List ℕ) → IsOpenedTo seal_of key sealed i out → i ≤ 2 ^ 44
       → IsAllowed i plain → HeldAsLast seal_of key sealed i plain → length (out ++ plain) ≤ 2 ^ 60
   opened_limit i out plain was reach allowed held =

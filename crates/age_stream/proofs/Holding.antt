@@ -34,10 +34,6 @@ copied chunk copy after at count fits is =
     let long : length copy ≡ count = ap length front ∙ length-take-le count (drop at chunk) (omega (arith, length-drop at chunk)) in
     take_at copy after count long ∙ front
 
--- the buffer after a read into all of it
-pub refilled : (old new : List ℕ) (len : ℕ) → len ≡ length old → length new ≡ length old → take len (new ++ drop (length new) old) ≡ new
-refilled old new len same kept = take_at new (drop (length new) old) len (kept ∙ sym same)
-
 pub middle-by : (last : Bool) (at n : ℕ) → (last ≡ true → at < n) → n ≤ at → last ≡ false
 middle-by true at n more given = absurd (omega (arith, more refl))
 middle-by false at n more given = refl

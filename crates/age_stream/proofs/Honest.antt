@@ -77,6 +77,7 @@ module _ (seal_of : Seal) (opened : List ℕ → List ℕ → List ℕ → Optio
         middle-delivered number (whole sealed) (piece number plain) (omega arith) one
         ∙ ap (prepend (piece number plain)) (delivered_from count (suc number) (omega arith)) ∙ piece_more number plain
 
+  -- the payload of a plaintext delivers it, and then a clean end
   pub delivered-payload : (plain : List ℕ) → AreBytes plain → length plain ≤ 2 ^ 60 → LastIsNoMiddle seal_of key plain →
       delivered opened key 0 (whole (payload seal_of key plain)) ≡ whole plain
   delivered-payload plain b most apart = delivered_from plain b most apart (last_piece (length plain)) 0 (zero-add (last_piece (length plain)))

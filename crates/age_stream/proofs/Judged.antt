@@ -1,6 +1,6 @@
 -- What the verdict on a chunk says in the words of the definition.
 use Rattle.std.specs.Prelude.{nat_lt, cond, option_map}
-use Rattle.std.proofs.Common.{◌≡◌, ℕ, suc, ◌+◌, ◌*◌, ◌<◌, ◌≤◌, ◌^◌, ◌⊎◌, inl, inr, Bool, true, false, List, [], ◌∷◌, length, take, drop, Option, Some, None, Result, Ok, Err, refl, sym, ap, ◌∙◌, arith, length-take, length-drop}
+use Rattle.std.proofs.Common.{◌≡◌, ℕ, suc, ◌+◌, ◌*◌, ◌<◌, ◌≤◌, ◌^◌, ◌⊎◌, inl, inr, Bool, true, false, List, [], ◌∷◌, length, drop, Option, Some, None, Result, Ok, Err, refl, sym, ap, ◌∙◌, arith, length-take, length-drop}
 use Rattle.std.proofs.lemmas.List.{nil_from_length, drop-drop}
 use Rattle.std.proofs.lemmas.Bool.{cases_lt, lt-ltb, ltb-true, ltb-false, true≢false}
 use Rattle.std.proofs.lemmas.Bool.Decides.{eqb_tells}
@@ -28,6 +28,7 @@ next_place number payload =
     let next : 65552 * number + 65552 ≡ 65552 * suc number = omega arith in
     stretch-ext _ _ (drop-drop 65552 (65552 * number) payload.bytes ∙ ap (λ n. drop n payload.bytes) next) refl
 
+-- a text with a byte isn't empty
 some_byte : (text : List ℕ) → 0 < length text → is_empty text ≡ false
 some_byte [] some = absurd (omega arith)
 some_byte (x ∷ xs) some = refl
@@ -50,6 +51,7 @@ allowed-refused number plain last e is = elim (allowed_by plain (nat_lt 0 number
   | inr far ↦ inr (far.0, far.1, ltb-false number (2 ^ 44) far.2)
 ]
 
+-- whether it is accepted as the last
 abbrev flag_of : Result Chunk Error → Bool
 flag_of (Ok found) = found.1
 flag_of (Err e) = false
@@ -115,12 +117,14 @@ module _ (seal_of : Seal) (opened : List ℕ → List ℕ → List ℕ → Optio
   abbrev text_of : ℕ → List ℕ
   text_of number = text_at number (whole sealed)
 
+  -- the text stands in the payload, or is empty
   length-text : (number : ℕ) → 65552 * number + length (text_of number) ≤ length sealed ⊎ (length (text_of number) ≡ 0)
   length-text number = elim (cases_lt (length sealed) (65552 * number)) [
     | inl past ↦ inr (omega (arith, length-take 65552 (drop (65552 * number) sealed), length-drop (65552 * number) sealed))
     | inr within ↦ inl (omega (arith, length-take 65552 (drop (65552 * number) sealed), length-drop (65552 * number) sealed))
   ]
 
+  -- what a reader's text opens to, the chunk does
   pub opens_chunk : (number : ℕ) (last : Bool) (o : Option (List ℕ)) → opened key (nonce number last) (text_of number) ≡ o →
       opened key (nonce number last) (chunk number sealed) ≡ o
   opens_chunk number last o is = sym (ap (opened key (nonce number last)) (text_chunk number (whole sealed))) ∙ is
@@ -154,6 +158,7 @@ module _ (seal_of : Seal) (opened : List ℕ → List ℕ → List ℕ → Optio
         | inr by ↦ held_last seal_of opened law key k sealed b number plain (middle-none number a.some by.0) (opens_chunk number true (Some plain) a.opens)
       ]
 
+  -- why what is held as middle is refused, and what isn't
   refused-middle : (number : ℕ) (plain : List ℕ) (e : Error) → HeldAsMiddle seal_of key sealed number plain → allowed number (plain, false) ≡ Err e →
       StopsAt seal_of key sealed number e
   refused-middle number plain e held is =
@@ -200,6 +205,7 @@ module _ (seal_of : Seal) (opened : List ℕ → List ℕ → List ℕ → Optio
 
   -- ---- the other way
 
+  -- what is held opens
   opens_held : (number : ℕ) (last : Bool) (plain : List ℕ) → AreBytes plain → chunk number sealed ≡ seal_of key (nonce number last) plain →
       opened key (nonce number last) (text_of number) ≡ Some plain
   opens_held number last plain p is = ap (opened key (nonce number last)) (text_chunk number (whole sealed))

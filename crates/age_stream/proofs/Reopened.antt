@@ -1,6 +1,6 @@
 -- Bytes that deliver a plaintext, and then a clean end, are its payload.
-use Rattle.std.proofs.Common.{◌≡◌, ℕ, zero, suc, ◌+◌, ◌*◌, ◌≤◌, inl, inr, true, false, List, [], ◌++◌, length, drop, Option, refl, sym, ap, subst, ◌∙◌, arith, length-drop}
-use Rattle.std.proofs.lemmas.List.{append_assoc, drop-drop}
+use Rattle.std.proofs.Common.{◌≡◌, ℕ, zero, suc, ◌+◌, ◌*◌, ◌≤◌, inl, inr, true, false, List, [], ◌++◌, length, Option, sym, ap, subst, ◌∙◌, arith, length-drop}
+use Rattle.std.proofs.lemmas.List.{append_assoc}
 use Rattle.std.proofs.lemmas.Bool.{cases_lt}
 use Rattle.age_error.specs.Bytes.{AreBytes, AreBytesOf}
 use Rattle.age_io.specs.Stretch.{Stretch, whole, from_place, stretch-ext}
@@ -23,6 +23,7 @@ module _ (seal_of : Seal) (opened : List ℕ → List ℕ → List ℕ → Optio
     bytes : s.bytes ≡ payload seal_of key (out ++ (delivered opened key number (here number s)).bytes)
     well : s.ends_well ≡ true
 
+  -- one chunk is left
   reopened-last : (number : ℕ) (s : Stretch) (out : List ℕ) → AreBytes s.bytes → IsOpenedTo seal_of key s.bytes number out →
       (delivered opened key number (here number s)).ends_well ≡ true → length s.bytes ≤ 65552 * number + 65552 → IsReopened s number out
   reopened-last number s out bytes was well few =
@@ -35,6 +36,7 @@ module _ (seal_of : Seal) (opened : List ℕ → List ℕ → List ℕ → Optio
         well = one.3;
       }
 
+  -- at most so many chunks are left, and one more
   reopened-by : (count number : ℕ) (s : Stretch) (out : List ℕ) → AreBytes s.bytes → IsOpenedTo seal_of key s.bytes number out →
       (delivered opened key number (here number s)).ends_well ≡ true → length s.bytes ≤ 65552 * (number + count) + 65552 → IsReopened s number out
   reopened-by zero number s out bytes was well few = reopened-last number s out bytes was well (omega arith)

@@ -1,12 +1,14 @@
 pub mod Payload
 pub mod FrontToEnd
-pub mod Answering
+pub mod Laws
 pub mod Opening
 pub mod Chunks
 pub mod ChunkLaws
 pub mod WellLaws
 pub mod SizeLaws
+pub mod Answering
 pub mod Reading
 pub mod ReadingLaws
 pub mod Reader
-pub mod Laws
+pub mod Writing
+pub mod WritingLaws

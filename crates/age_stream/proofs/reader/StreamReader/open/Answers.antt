@@ -1,9 +1,10 @@
 use Rattle.std.proofs.Common.{◌≡◌, arith, ◌≤◌, ◌+◌, ◌⊎◌, length, take, length-take-le, Ok, Err, inl, inr}
 use Rattle.age_io.specs.Reading.{EndsEarly}
+use Rattle.age_io.proofs.Delivering.{refilled}
 use Rattle.age_stream.specs.ReadingLaws.{and-left, and-right}
 use Rattle.age_stream.specs.Chunks.{chunk_of}
 use Rattle.age_stream.proofs.Answered.{refuses-chunk}
-use Rattle.age_stream.proofs.Holding.{open-early, open-refused, rest-opened, clean-opened, refilled, sound-opened}
+use Rattle.age_stream.proofs.Holding.{open-early, open-refused, rest-opened, clean-opened, sound-opened}
 use Rattle.age_error.specs.declared.io.Error.TheVariants.{OutOfMemory}
 use Rattle.age_stream.proofs.reader.StreamReader.open.Goals as goal
 

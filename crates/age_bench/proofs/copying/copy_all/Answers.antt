@@ -1,0 +1,35 @@
+use Rattle.std.proofs.Common.{◌≡◌, ◌<◌, ◌++◌, ◌∙◌, arith, length, take, drop}
+use Rattle.age_io.proofs.Delivering.{refilled}
+use Rattle.age_io.specs.Writing.{WritesAll}
+use Rattle.age_bench.proofs.Copied.{front-more, copied-more}
+use Rattle.age_bench.proofs.copying.copy_all.Goals as goal
+
+pub returns-in_err-write_all-clause-front : goal.returns-in_err-write_all-clause-front
+returns-in_err-write_all-clause-front g c = λ reader_told writer_told.
+    let read = g.R.Read in
+    let before = c.loop-piece.invariant in
+    let room = c.loop-piece.room in
+    let size : length c.read_retrying.new.buf ≡ length room.items = omega (arith, c.read_retrying.auto.buf, c.deref_mut.ensures.len, room.ok.0) in
+    let filled = refilled room.items c.read_retrying.new.buf room.len room.ok.0 size in
+    let refused = rw (c.deref.ensures.value, filled) at (c.in_err-write_all.ensures.refuses (before.writer_tells ∙ writer_told)) in
+    front-more g.W.Write.appended g.met.W.Write.joins (read.rest c.args.reader.now) (read.rest c.loop-piece.reader) (read.rest c.read_retrying.new.reader)
+        c.args.writer.now c.loop-piece.writer c.write_all.new.writer (take c.in_ok-count.count c.read_retrying.new.buf) refused.0
+        (before.copied reader_told writer_told) (c.in_ok-count.ensures.reads.bytes (before.reader_tells ∙ reader_told)) refused.2
+
+pub loop-piece-preserved : goal.loop-piece-preserved
+loop-piece-preserved g c =
+    let read = g.R.Read in
+    let before = c.loop-piece.invariant in
+    let room = c.loop-piece.room in
+    let size : length c.read_retrying.new.buf ≡ length room.items = omega (arith, c.read_retrying.auto.buf, c.deref_mut.ensures.len, room.ok.0) in
+    let filled = refilled room.items c.read_retrying.new.buf room.len room.ok.0 size in
+    record {
+      reader_tells = c.in_ok-count.ensures.reads.same_tells ∙ before.reader_tells;
+      writer_tells = c.in_ok-write_all.ensures.same_tells ∙ before.writer_tells;
+      room = rw filled (omega (arith, size, before.room));
+      copied = λ reader_told writer_told.
+          copied-more g.W.Write.appended g.met.W.Write.joins (read.rest c.args.reader.now) (read.rest c.loop-piece.reader) (read.rest c.read_retrying.new.reader)
+              c.args.writer.now c.loop-piece.writer c.write_all.new.writer (take c.in_ok-count.count c.read_retrying.new.buf)
+              (before.copied reader_told writer_told) (c.in_ok-count.ensures.reads.bytes (before.reader_tells ∙ reader_told))
+              (rw (c.deref.ensures.value, filled) at (c.in_ok-write_all.ensures.takes (before.writer_tells ∙ writer_told)));
+    }

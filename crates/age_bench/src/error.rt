@@ -1,0 +1,22 @@
+//! What a command refuses with.
+ghost use Rattle.std.specs.Prelude.{◌≡◌};
+ghost use Rattle.age_bench.specs.declared.error.CommandError.TheVariants.{Io};
+
+use age::io;
+use thiserror::Error;
+
+/// Why a command was refused. Its text is that of the error in it.
+#[derive(Debug, Drop, Error)]
+pub enum CommandError {
+    /// A reader or a writer refused, or what was read is no payload under the key.
+    #[error("{0}")]
+    Io(io::Error),
+}
+
+impl From<io::Error> for CommandError {
+    ghost from_gives = { λ error e. e ≡ Io error };
+
+    fn from(error: io::Error) -> CommandError {
+        CommandError::Io(error)
+    }
+}

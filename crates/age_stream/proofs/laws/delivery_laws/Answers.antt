@@ -1,0 +1,13 @@
+use Rattle.age_stream.proofs.Reopened.{payload-delivered}
+use Rattle.age_stream.proofs.Honest.{delivered-payload}
+use Rattle.age_stream.proofs.laws.delivery_laws.Goals as goal
+
+pub returns : goal.returns
+returns g c =
+    let seal_of = g.S.Suite.seal_of in
+    let opened = g.S.Suite.opened in
+    let law = g.met.S.Suite.cipher in
+    record {
+      opens_to_payload = λ key s plain k b is. payload-delivered seal_of opened law key k s plain b is;
+      payload_opens = λ key plain k b most apart. delivered-payload seal_of opened law key k plain b most apart;
+    }

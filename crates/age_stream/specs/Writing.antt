@@ -1,0 +1,83 @@
+-- What a `StreamWriter` has taken, and what it sent to its inner writer.
+use Rattle.std.specs.Prelude.{◌≡◌, ◌≢◌, ℕ, zero, suc, ◌+◌, ◌*◌, ◌≤◌, ◌<◌, ◌⊎◌, Bool, true, false, List, [], ◌++◌, length, take, drop, vec_len, Result, IfOk, IfErr}
+use Rattle.age_error.specs.Refusals.{IsDevice}
+use Rattle.age_error.specs.declared.io.Error.{Error}
+use Rattle.age_error.specs.declared.io.Error.TheVariants.{TooLong}
+use Rattle.age_stream.specs.Payload.{Seal, nonce, payload}
+use Rattle.age_stream.specs.declared.writer.StreamWriter.{StreamWriter}
+
+-- the seals of the first n pieces of a text as middle chunks, of which the first has this number
+abbrev pub middles : Seal → List ℕ → ℕ → ℕ → List ℕ → List ℕ
+middles seal_of key number zero text = []
+middles seal_of key number (suc n) text =
+    seal_of key (nonce number false) (take 65536 text) ++ middles seal_of key (suc number) n (drop 65536 text)
+
+-- it refused earlier, for another reason than its limit
+abbrev pub IsFailed : {S W : Type 0} → StreamWriter S W → Type 0
+IsFailed writer = writer.failed ≡ true
+
+-- it did not
+abbrev pub IsGood : {S W : Type 0} → StreamWriter S W → Type 0
+IsGood writer = writer.failed ≡ false
+
+-- the writer that the payload goes to
+abbrev pub inner_of : {S W : Type 0} → StreamWriter S W → W
+inner_of writer = writer.inner
+
+-- how many bytes of plaintext were taken in all
+abbrev pub taken_len : {S W : Type 0} → StreamWriter S W → ℕ
+taken_len writer = 65536 * writer.sealed + vec_len writer.held
+
+-- how many of them are held, since their chunk isn't sealed yet
+abbrev pub held_len : {S W : Type 0} → StreamWriter S W → ℕ
+held_len writer = vec_len writer.held
+
+-- a writer under this key that has taken nothing, over an inner writer in this state
+pub record WasMade {S W : Type 0} (key : List ℕ) (inner : W) (writer : StreamWriter S W) : Type 0 where
+  pub good : writer.failed ≡ false
+  pub same_key : writer.key ≡ key
+  pub same_inner : writer.inner ≡ inner
+  pub none_sealed : writer.sealed ≡ 0
+  pub none_held : writer.held.items ≡ []
+
+-- what writes do to an inner writer, whatever bytes they are
+pub record KeepsInner {W T : Type 0} (tells limited : W → Bool) (faults : W → ℕ) (old new : W) (result : Result T Error) : Type 0 where
+  pub same_tells : tells new ≡ tells old
+  pub same_limited : limited new ≡ limited old
+  pub no_fewer_faults : faults old ≤ faults new
+  pub device : IfErr result (λ e. IsDevice e → faults old < faults new)
+  pub unlimited : limited old ≡ false → IfErr result (λ e. e ≢ TooLong)
+
+module _ {S W : Type 0} (seal_of : Seal) (limited : W → Bool) (inner_appended : W → List ℕ → W → Type 0) where
+  -- the writer took these bytes: of what it held and these, the first pieces went out as middle chunks, and it holds the rest
+  pub record Sent (before : StreamWriter S W) (bytes : List ℕ) (after : StreamWriter S W) : Type 0 where
+    pub count : ℕ
+    pub fits : 65536 * count ≤ length (before.held.items ++ bytes)
+    pub same_key : after.key ≡ before.key
+    pub same_limited : limited after.inner ≡ limited before.inner
+    pub sealed : after.sealed ≡ before.sealed + count
+    pub held : after.held.items ≡ drop (65536 * count) (before.held.items ++ bytes)
+    pub sent : inner_appended before.inner (middles seal_of before.key before.sealed count (before.held.items ++ bytes)) after.inner
+
+  -- all pieces but the last went out: a full one only where a byte follows it, which is held
+  pub record Took (before : StreamWriter S W) (bytes : List ℕ) (after : StreamWriter S W) : Type 0 where
+    pub sending : Sent before bytes after
+    pub followed : 0 < sending.count → 0 < length after.held.items
+
+  -- A state is related to a failed one by every list, since that stays failed.
+  abbrev pub Appended : StreamWriter S W → List ℕ → StreamWriter S W → Type 0
+  Appended before bytes after = (after.failed ≡ true) ⊎ ((before.failed ≡ false) × (after.failed ≡ false) × Took before bytes after)
+
+-- where a writer was made under a key and took a plaintext since, its inner writer was given the plaintext's payload
+abbrev pub Finishes : {S W : Type 0} → Seal → (W → List ℕ → W → Type 0) → (StreamWriter S W → List ℕ → StreamWriter S W → Type 0)
+    → StreamWriter S W → Result W Error → Type 0
+Finishes {S} {W} seal_of inner_appended appended writer result =
+    (start : StreamWriter S W) (key plain : List ℕ) (first : W) → WasMade key first start → appended start plain writer
+    → IfOk result (inner_appended first (payload seal_of key plain))
+
+-- where a writer was made over an inner writer that never answers `TooLong`, this isn't `TooLong` either
+abbrev pub StaysUnlimited : {S W : Type 0} → (W → Bool) → (StreamWriter S W → List ℕ → StreamWriter S W → Type 0)
+    → StreamWriter S W → Result W Error → Type 0
+StaysUnlimited {S} {W} limited appended writer result =
+    (start : StreamWriter S W) (key plain : List ℕ) (first : W) → WasMade key first start → appended start plain writer
+    → limited first ≡ false → IfErr result (λ e. e ≢ TooLong)

@@ -1,0 +1,42 @@
+//! What is true of payloads, for proofs alone: the functions here do nothing, and their contracts are the laws.
+ghost use Rattle.std.specs.Prelude.{List, ℕ};
+ghost use Rattle.age_stream.specs.Laws.{ArePieces, PayloadLength, PlainLength, OnePlaintext, MiddleChunks, LastChunk, NotRefused, OpensToPayload, PayloadOpens};
+
+use age_suite::suite::Suite;
+
+/// The pieces of every plaintext, joined, are the plaintext: those before the last have 65,536 bytes, the last has no more,
+/// and it is empty only where the plaintext is.
+pub fn piece_law()
+    ensures { (plain : List ℕ) → ArePieces plain }
+{}
+
+/// What is true of payloads under every suite, for keys of 32 bytes (age-encryption.org/v1, Payload).
+///
+/// - `length`: a payload is bytes, 16 more for each chunk than its plaintext has.
+/// - `plain_length`: so the payload's length tells the plaintext's.
+/// - `one_plaintext`: under one key no two plaintexts have one payload.
+/// - `middle_chunks`: each chunk but the last is the seal of its piece under its nonce as a middle chunk.
+/// - `last_chunk`: the last chunk is the seal of the last piece as the last, and isn't one as a middle chunk, where the
+///   suite keeps these apart (`LastIsNoMiddle`, asked of a last piece of 65,536 bytes alone).
+/// - `not_refused`: such a payload, read from front to end, is refused for want of memory, or because its plaintext has
+///   more than 2^60 bytes.
+pub fn payload_laws<S: Suite>()
+    ensures length { PayloadLength S.seal_of }
+    ensures plain_length { PlainLength S.seal_of }
+    ensures one_plaintext { OnePlaintext S.seal_of }
+    ensures middle_chunks { MiddleChunks S.seal_of }
+    ensures last_chunk { LastChunk S.seal_of }
+    ensures not_refused { NotRefused S.seal_of }
+{}
+
+/// What a payload delivers under every suite, for keys of 32 bytes. `delivered S.opened key 0 s` is what a reader delivers
+/// that stands before the sealed bytes `s`, and `whole p` is `p` and then a clean end.
+///
+/// - `opens_to_payload`: success means payload. Sealed bytes that deliver a plaintext and then a clean end are the payload of
+///   that plaintext, and end cleanly themselves: none was changed, left out, added or moved.
+/// - `payload_opens`: the payload of a plaintext of at most 2^60 bytes delivers it and then a clean end, where the suite keeps
+///   a full last piece's seal apart from one as a middle chunk (`LastIsNoMiddle`).
+pub fn delivery_laws<S: Suite>()
+    ensures opens_to_payload { OpensToPayload S.seal_of S.opened }
+    ensures payload_opens { PayloadOpens S.seal_of S.opened }
+{}

@@ -1,0 +1,238 @@
+//! Writing a payload.
+ghost use Rattle.std.specs.Prelude.{◌≡◌, ◌≢◌, ℕ, ◌+◌, ◌*◌, ◌^◌, ◌<◌, ◌≤◌, Bool, true, false, IsTrue, List, [], ◌++◌, length, take, IfOk, IfErr, OnOk, OnErr, IsOk, IsOkAnd, Err, vec_len, vec_capacity};
+ghost use Rattle.age_error.specs.declared.io.Error.TheVariants.{Failed, OutOfMemory, TooLong};
+ghost use Rattle.age_io.specs.Writing.{WritesAll};
+ghost use Rattle.age_stream.specs.Payload.{nonce};
+
+use crate::nonce::nonce_of;
+use age_error::io::Error;
+use age_io::{Write, write_all};
+use age_suite::suite::Suite;
+use std::alloc::Global;
+use std::marker::PhantomData;
+
+/// How many bytes of plaintext a full chunk has.
+pub const CHUNK: usize = 65_536;
+
+/// How many bytes the longest plaintext has.
+pub const LONGEST_PLAINTEXT: u64 = 1 << 60;
+
+/// Takes a plaintext by `Write`, and writes its payload to an inner writer.
+///
+/// The payload is that of age-encryption.org/v1, "Payload": the plaintext in chunks of 65,536 bytes, each sealed
+/// under the payload key and a nonce that counts the chunks and says of the last one that it is (STREAM). It is
+/// whole only after `finish`. A writer that is dropped before that leaves a beginning of it.
+pub struct StreamWriter<S, W> {
+    pub(crate) alloc: Global,
+    pub(crate) key: [u8; 32],
+    pub(crate) inner: W,
+    // The last piece so far, which is not sealed before a byte follows it or `finish`.
+    pub(crate) held: Vec<u8>,
+    // How many pieces were sealed.
+    pub(crate) sealed: u64,
+    pub(crate) failed: bool,
+    pub(crate) suite: PhantomData<S>,
+    ghost one_piece: { vec_len held ≤ 65536 },
+    ghost has_room: { 65536 ≤ vec_capacity held },
+    ghost in_limit: { 65536 * sealed + vec_len held ≤ 2 ^ 60 },
+}
+
+impl<S: Suite, W: Write> StreamWriter<S, W> {
+    ghost use Rattle.age_stream.specs.Writing.{WasMade, Sent, Took, KeepsInner, taken_len, held_len};
+
+    /// A writer that has taken nothing. The payload begins where `inner` stands.
+    ///
+    /// It writes nothing. It takes memory for one chunk, 65,536 bytes, which serves for the whole plaintext, and
+    /// answers `OutOfMemory` where it is refused that. A chunk's seal is memory of its own, for as long as it is
+    /// written.
+    pub fn with_payload_key(alloc: Global, key: [u8; 32], inner: W) -> Result<Self, Error>
+    where
+        W: Drop,
+        ensures made { IfOk result (WasMade key inner) }
+        ensures empty { IfOk result (λ w. (taken_len w ≡ 0) × (held_len w ≡ 0)) }
+        ensures same_tells { IfOk result (λ w. ⟦<StreamWriter<S, W> as Write>⟧.tells w ≡ W.tells inner) }
+        ensures same_faults { IfOk result (λ w. ⟦<StreamWriter<S, W> as Write>⟧.faults w ≡ W.faults inner) }
+        ensures memory { IfErr result (λ e. e ≡ OutOfMemory) }
+    {
+        let held = Vec::with_capacity(alloc, CHUNK)?;
+        Ok(StreamWriter {
+            alloc,
+            key,
+            inner,
+            held,
+            sealed: 0,
+            failed: false,
+            suite: PhantomData,
+        })
+    }
+
+    // Seals what is held, where it is full, so that another byte finds room.
+    fn make_room(&mut self) -> Result<(), Error>
+        requires { taken_len self.old < 2 ^ 60 }
+        ensures room { OnOk result (held_len self.new < 65536) }
+        ensures roomy { held_len self.old < 65536 → IsOk result × (held_len self.new ≡ held_len self.old) × (self.new.inner ≡ self.old.inner) }
+        ensures total { OnOk result (taken_len self.new ≡ taken_len self.old) }
+        ensures sent { IsTrue (W.tells self.old.inner) → OnOk result (Sent S.seal_of W.limited W.appended self.old [] self.new) }
+        ensures failed { self.new.failed ≡ self.old.failed }
+        ensures inner { KeepsInner W.tells W.limited W.faults self.old.inner self.new.inner result }
+    {
+        if self.held.len() < CHUNK {
+            return Ok(());
+        }
+        write_chunk::<S, W>(
+            self.alloc,
+            &mut self.inner,
+            &self.key,
+            self.sealed,
+            false,
+            &self.held,
+        )?;
+        self.held.clear();
+        self.sealed += 1;
+        Ok(())
+    }
+
+    // Seals a full piece where nothing is held.
+    fn send_piece(&mut self, piece: &[u8]) -> Result<(), Error>
+        requires none { held_len self.old ≡ 0 }
+        requires full { length piece.now ≡ 65536 }
+        requires room { taken_len self.old + 65536 ≤ 2 ^ 60 }
+        ensures total { OnOk result (taken_len self.new ≡ taken_len self.old + 65536) }
+        ensures sent { IsTrue (W.tells self.old.inner) → OnOk result (Sent S.seal_of W.limited W.appended self.old piece.now self.new) }
+        ensures failed { self.new.failed ≡ self.old.failed }
+        ensures inner { KeepsInner W.tells W.limited W.faults self.old.inner self.new.inner result }
+    {
+        write_chunk::<S, W>(
+            self.alloc,
+            &mut self.inner,
+            &self.key,
+            self.sealed,
+            false,
+            piece,
+        )?;
+        self.sealed += 1;
+        Ok(())
+    }
+
+    // Holds bytes that find room, for which it takes no memory.
+    fn hold(&mut self, bytes: &[u8]) -> Result<(), Error>
+        requires fits { held_len self.old + length bytes.now ≤ 65536 }
+        requires room { taken_len self.old + length bytes.now ≤ 2 ^ 60 }
+        ensures ok { IsOk result }
+        ensures held { held_len self.new ≡ held_len self.old + length bytes.now }
+        ensures same_inner { self.new.inner ≡ self.old.inner }
+        ensures total { taken_len self.new ≡ taken_len self.old + length bytes.now }
+        ensures sent { IsTrue (W.tells self.old.inner) → OnOk result (Sent S.seal_of W.limited W.appended self.old bytes.now self.new) }
+        ensures failed { self.new.failed ≡ self.old.failed }
+        ensures inner { KeepsInner W.tells W.limited W.faults self.old.inner self.new.inner result }
+    {
+        self.held.extend_from_slice(bytes)?;
+        Ok(())
+    }
+
+    // Takes some of the bytes. A full piece is sealed only where a byte follows it: straight from `bytes`, where
+    // nothing is held before it.
+    fn take_some(&mut self, bytes: &[u8]) -> Result<usize, Error>
+        requires some { 0 < length bytes.now }
+        requires room { taken_len self.old + length bytes.now ≤ 2 ^ 60 }
+        ensures count { IfOk result (λ n. (0 < n) × (n ≤ length bytes.now)) }
+        ensures total { IfOk result (λ n. taken_len self.new ≡ taken_len self.old + n) }
+        ensures last { IfOk result (λ n. n ≡ length bytes.now → 0 < held_len self.new) }
+        ensures roomy { held_len self.old + length bytes.now ≤ 65536 → IsOkAnd result (λ n.
+            (held_len self.new ≡ held_len self.old + n) × (self.new.inner ≡ self.old.inner)) }
+        ensures sent { IsTrue (W.tells self.old.inner) → IfOk result (λ n. Sent S.seal_of W.limited W.appended self.old (take n bytes.now) self.new) }
+        ensures failed { self.new.failed ≡ self.old.failed }
+        ensures inner { KeepsInner W.tells W.limited W.faults self.old.inner self.new.inner result }
+    {
+        self.make_room()?;
+        let count = bytes.len().min(CHUNK - self.held.len());
+        if self.held.is_empty() && count < bytes.len() {
+            self.send_piece(&bytes[..count])?;
+            return Ok(count);
+        }
+        self.hold(&bytes[..count])?;
+        Ok(count)
+    }
+
+    // Takes all bytes.
+    pub(crate) fn take_all(&mut self, bytes: &[u8]) -> Result<(), Error>
+        requires { taken_len self.old + length bytes.now ≤ 2 ^ 60 }
+        ensures total { OnOk result (taken_len self.new ≡ taken_len self.old + length bytes.now) }
+        ensures roomy { held_len self.old + length bytes.now ≤ 65536 →
+            IsOk result × (held_len self.new ≡ held_len self.old + length bytes.now) × (self.new.inner ≡ self.old.inner) }
+        ensures took { IsTrue (W.tells self.old.inner) → OnOk result (Took S.seal_of W.limited W.appended self.old bytes.now self.new) }
+        ensures failed { self.new.failed ≡ self.old.failed }
+        ensures inner { KeepsInner W.tells W.limited W.faults self.old.inner self.new.inner result }
+    {
+        let mut done = 0;
+        while done < bytes.len() {
+            done += self.take_some(&bytes[done..])?;
+        }
+        Ok(())
+    }
+}
+
+impl<S: Suite, W: Write + Drop> StreamWriter<S, W> {
+    ghost use Rattle.age_stream.specs.Writing.{Finishes, IsFailed, StaysUnlimited, inner_of};
+
+    /// Seals what is held as the last chunk, writes it, and hands back the inner writer, which isn't flushed.
+    ///
+    /// On success the inner writer was given the payload of the whole plaintext. Where the writer failed before
+    /// the answer is `Failed`. Else a refusal is that of the inner writer, `WriteZero` where that took no byte, or
+    /// `OutOfMemory` where the suite was refused memory for the seal. After a refusal the payload is cut off, and
+    /// the inner writer is gone.
+    pub fn finish(self) -> Result<W, Error>
+        ensures ok { let writer = ⟦<StreamWriter<S, W> as Write>⟧ in
+            IsTrue (writer.tells self) → Finishes S.seal_of W.appended writer.appended self result }
+        ensures same_tells { IfOk result (λ inner. W.tells inner ≡ ⟦<StreamWriter<S, W> as Write>⟧.tells self) }
+        ensures same_limited { IfOk result (λ inner. W.limited inner ≡ W.limited (inner_of self)) }
+        ensures no_fewer_faults { IfOk result (λ inner. ⟦<StreamWriter<S, W> as Write>⟧.faults self ≤ W.faults inner) }
+        ensures failed { IsFailed self → result ≡ Err Failed }
+        ensures unlimited { W.limited (inner_of self) ≡ false → IfErr result (λ e. e ≢ TooLong) }
+        ensures made_unlimited { StaysUnlimited W.limited ⟦<StreamWriter<S, W> as Write>⟧.appended self result }
+    {
+        let StreamWriter {
+            alloc,
+            key,
+            mut inner,
+            held,
+            sealed,
+            failed,
+            suite: _,
+        } = self;
+        if failed {
+            return Err(Error::Failed);
+        }
+        write_chunk::<S, W>(alloc, &mut inner, &key, sealed, true, &held)?;
+        Ok(inner)
+    }
+}
+
+/// Seals a piece of plaintext as the chunk of this number, and writes it.
+pub(crate) fn write_chunk<S: Suite, W: Write>(
+    alloc: Global,
+    inner: &mut W,
+    key: &[u8; 32],
+    number: u64,
+    last: bool,
+    piece: &[u8],
+) -> Result<(), Error>
+    ensures { WritesAll W.tells W.limited W.faults W.appended inner.old inner.new (S.seal_of key.now (nonce number last) piece.now) result }
+{
+    let sealed = S::seal(alloc, key, &nonce_of(number, last), piece)?;
+    write_all(inner, &sealed)
+}
+
+impl<S, W: Drop> Drop for StreamWriter<S, W> {
+    fn drop(self) {
+        let StreamWriter {
+            alloc: _,
+            key: _,
+            inner: _,
+            held: _,
+            sealed: _,
+            failed: _,
+            suite: _,
+        } = self;
+    }
+}

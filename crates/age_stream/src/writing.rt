@@ -1,0 +1,93 @@
+//! `Write` for the writer of a payload.
+ghost use Rattle.std.specs.Prelude.{◌≡◌, ◌≢◌, ℕ, ◌+◌, ◌^◌, ◌<◌, ◌≤◌, true, false, List, [], length, IfOk, IfErr, OnOk, OnErr, IsOk, Err};
+ghost use Rattle.age_error.specs.declared.io.Error.TheVariants.{Failed, TooLong};
+ghost use Rattle.age_io.specs.Writing.{Writes, Flushes};
+
+use crate::writer::{CHUNK, LONGEST_PLAINTEXT, StreamWriter};
+use age_error::io::Error;
+use age_io::{Write, flush_retrying};
+use age_suite::suite::Suite;
+
+/// What was appended is plaintext that was taken. Only `finish` makes its payload whole.
+impl<S: Suite, W: Write> Write for StreamWriter<S, W> {
+    ghost use Rattle.age_stream.specs.Writing.{Appended, IsFailed, IsGood, inner_of, taken_len, held_len};
+    ghost use Rattle.age_stream.specs.WritingLaws.{Appended-nothing, Appended-both};
+
+    ghost tells = { λ w. W.tells w.inner };
+
+    ghost limited = { λ _. true };
+
+    ghost faults = { λ w. W.faults w.inner };
+
+    ghost appended = { Appended S.seal_of W.limited W.appended };
+
+    ghost faults_fit = { λ w. W.faults_fit w.inner };
+
+    ghost appends_nothing = { Appended-nothing S.seal_of W.limited W.appended W.appends_nothing };
+
+    ghost joins = { Appended-both S.seal_of W.limited W.appended W.joins };
+
+    /// Takes all bytes, and answers how many they are.
+    ///
+    /// A write past 2^60 bytes of plaintext in all is `TooLong`, and changes nothing. Any other refusal leaves the
+    /// writer failed: that of the inner writer, whatever it is, `WriteZero` where the inner writer took no byte,
+    /// and `OutOfMemory` where the suite was refused memory for a seal. A failed writer answers `Failed` and stays
+    /// as it is. Interruptions of the inner writer are retried as by `write_all`.
+    fn write(&mut self, bytes: &[u8]) -> Result<usize, Error>
+        ensures writes { let writer = ⟦<StreamWriter<S, W> as Write>⟧ in
+            Writes writer.tells writer.limited writer.faults writer.appended self.old self.new bytes.now result }
+        ensures all { IfOk result (λ n. n ≡ length bytes.now) }
+        ensures counts { OnOk result (taken_len self.new ≡ taken_len self.old + length bytes.now) }
+        ensures good { OnOk result (IsGood self.old × IsGood self.new) }
+        // A write that finds room in the chunk that is held is never refused, and sends nothing.
+        ensures finds_room { IsGood self.old → held_len self.old + length bytes.now ≤ 65536 → taken_len self.old + length bytes.now ≤ 2 ^ 60 →
+            IsOk result × (held_len self.new ≡ held_len self.old + length bytes.now) × (inner_of self.new ≡ inner_of self.old) }
+        ensures past_limit { IsGood self.old → 2 ^ 60 < taken_len self.old + length bytes.now → (result ≡ Err TooLong) × (self.new ≡ self.old) }
+        ensures fails { taken_len self.old + length bytes.now ≤ 2 ^ 60 → OnErr result (IsFailed self.new) }
+        ensures failed { IsFailed self.old → (result ≡ Err Failed) × (self.new ≡ self.old) }
+        // Where the inner writer never answers `TooLong`, it comes only past the limit.
+        ensures too_long { W.limited (inner_of self.old) ≡ false → IfErr result (λ e. e ≡ TooLong → 2 ^ 60 < taken_len self.old + length bytes.now) }
+        ensures same_limited { W.limited (inner_of self.new) ≡ W.limited (inner_of self.old) }
+    {
+        if self.failed {
+            return Err(Error::Failed);
+        }
+        let taken = self.sealed * CHUNK as u64 + self.held.len() as u64;
+        if bytes.len() as u64 > LONGEST_PLAINTEXT - taken {
+            return Err(Error::TooLong);
+        }
+        match self.take_all(bytes) {
+            Ok(()) => Ok(bytes.len()),
+            Err(e) => {
+                self.failed = true;
+                Err(e)
+            }
+        }
+    }
+
+    /// Flushes the inner writer alone: what is held stays so, since it may be the last piece.
+    ///
+    /// A refusal of the inner writer leaves the writer failed. A failed writer answers `Failed` and stays as it is.
+    /// Interruptions of the inner writer are retried as by `flush_retrying`.
+    fn flush(&mut self) -> Result<(), Error>
+        ensures flushes { let writer = ⟦<StreamWriter<S, W> as Write>⟧ in
+            Flushes writer.tells writer.limited writer.faults writer.appended self.old self.new result }
+        ensures counts { taken_len self.new ≡ taken_len self.old }
+        ensures good { OnOk result (IsGood self.old × IsGood self.new) }
+        ensures fails { OnErr result (IsFailed self.new) }
+        ensures failed { IsFailed self.old → (result ≡ Err Failed) × (self.new ≡ self.old) }
+        ensures unlimited { W.limited (inner_of self.old) ≡ false → IfErr result (λ e. e ≢ TooLong) }
+        ensures same_limited { W.limited (inner_of self.new) ≡ W.limited (inner_of self.old) }
+    {
+        if self.failed {
+            return Err(Error::Failed);
+        }
+        match flush_retrying(&mut self.inner) {
+            Ok(()) => Ok(()),
+            Err(e) => {
+                self.failed = true;
+                Err(e)
+            }
+        }
+    }
+}
