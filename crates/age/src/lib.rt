@@ -23,4 +23,5 @@ pub mod mac {
 /// The payload of a file: the plaintext in sealed chunks.
 pub mod stream {
     pub use age_stream::reader::StreamReader;
+    pub use age_stream::writer::StreamWriter;
 }

@@ -22,7 +22,7 @@ pub fn copy_all<R: Read, W: Write>(
     ensures tells { W.tells writer.new ≡ W.tells writer.old }
     ensures all { IsTrue (R.tells reader.old) → IsTrue (W.tells writer.old) → OnOk result
         (IsTrue (R.rest reader.old).ends_well × W.appended writer.old (R.rest reader.old).bytes writer.new) }
-    ensures front { IsTrue (R.tells reader.old) → IsTrue (W.tells writer.old) → 
+    ensures front { IsTrue (R.tells reader.old) → IsTrue (W.tells writer.old) →
         AppendsFront W.appended (R.rest reader.old).bytes writer.old writer.new }
 {
     let mut room = room_for(alloc, PIECE)?;

@@ -1,4 +1,4 @@
-//! A program over the bench suite, by which the other crates are tried and measured.
+//! The program `agebench`: the library over the bench suite, by which it is tried and measured.
 #![tactic(auto)]
 
 mod command;
@@ -12,27 +12,67 @@ mod suite;
 mod tests;
 
 use crate::command::{Command, parse};
+use crate::error::CommandError;
+use crate::payload::{open_all, seal_all};
+use age::io::{Error, Std};
 use std::process::ExitCode;
 use std::{env, io};
 
 const USAGE: &str =
     "usage: agebench seal|open KEY, encrypt TO DRAW [armor], decrypt WITH, at WITH PLACE COUNT, keygen DRAW";
 
-// What a command ends with.
-fn run_command(_command: Command) -> ExitCode {
-    ExitCode::FAILURE
+// The words after the program's name, or `None` where one is no text.
+fn arguments(rt: &HostRuntime) -> Result<Option<Vec<String>>, CommandError> {
+    let all = match env::args(rt) {
+        Ok(all) => all,
+        Err(error) if error.kind() == io::ErrorKind::OutOfMemory => {
+            return Err(CommandError::Io(Error::OutOfMemory));
+        }
+        Err(_) => return Ok(None),
+    };
+    let mut words = Vec::new(rt.alloc());
+    for word in all.skip(1) {
+        words
+            .push(word)
+            .map_err(|_| CommandError::Io(Error::OutOfMemory))?;
+    }
+    Ok(Some(words))
 }
 
-fn main(rt: HostRuntime) -> Result<ExitCode, io::Error> {
-    let mut words = Vec::new(rt.alloc());
-    for word in env::args(&rt)?.skip(1) {
-        words.push(word)?;
+// What the words ask for, or `None` where they are no command line.
+fn asked(rt: &HostRuntime) -> Result<Option<Command>, CommandError> {
+    match arguments(rt)? {
+        Some(words) => {
+            parse(rt.alloc(), &words).map_err(|_| CommandError::Io(Error::OutOfMemory))
+        }
+        None => Ok(None),
     }
-    match parse(rt.alloc(), &words)? {
-        Some(command) => Ok(run_command(command)),
-        None => {
-            eprintln!(rt; "{USAGE}")?;
-            Ok(ExitCode::from(2))
+}
+
+// Runs a command from standard input to standard output.
+fn run(rt: &HostRuntime, command: Command) -> Result<(), CommandError> {
+    let mut input = Std::new(rt.reader());
+    let mut output = Std::new(io::writer(rt));
+    match command {
+        Command::Seal { key } => seal_all(rt.alloc(), key, &mut input, &mut output),
+        Command::Open { key } => open_all(rt.alloc(), key, &mut input, &mut output),
+    }
+}
+
+fn main(rt: HostRuntime) -> ExitCode {
+    let done = match asked(&rt) {
+        Ok(Some(command)) => run(&rt, command),
+        Ok(None) => {
+            let _ = eprintln!(rt; "{USAGE}");
+            return ExitCode::from(2);
+        }
+        Err(error) => Err(error),
+    };
+    match done {
+        Ok(()) => ExitCode::SUCCESS,
+        Err(error) => {
+            let _ = eprintln!(rt; "agebench: {error}");
+            ExitCode::FAILURE
         }
     }
 }

@@ -1,5 +1,5 @@
 //! The commands on payloads under a given key.
-ghost use Rattle.std.specs.Prelude.{◌≡◌, ℕ, IsTrue, ◌&&◌, List, OnOk};
+ghost use Rattle.std.specs.Prelude.{◌≡◌, ℕ, IsTrue, ◌&&◌, List, IfOk, OnOk};
 ghost use Rattle.age_io.specs.Stretch.{whole};
 ghost use Rattle.age_stream.specs.Payload.{payload};
 ghost use Rattle.age_stream.specs.Chunks.{delivered};
@@ -9,9 +9,45 @@ ghost use Rattle.age_bench.specs.Copying.{AppendsFront};
 use crate::copying::copy_all;
 use crate::error::CommandError;
 use crate::suite::BenchSuite;
-use age::io::{Read, Write};
-use age::stream::StreamReader;
+use age::io::{Error, Read, Write};
+use age::stream::{StreamReader, StreamWriter};
+use age_io::flush_retrying;
 use std::alloc::Global;
+
+/// Reads what `reader` still has, and appends its payload under `key` to `writer`, which is flushed.
+///
+/// A success says that the input ended well, and that what was appended is its payload. It takes the memory of a few
+/// chunks. A plaintext past 2^60 bytes is `TooLong`.
+pub fn seal_all<R: Read, W: Write>(
+    alloc: Global,
+    key: [u8; 32],
+    reader: &mut R,
+    writer: &mut W,
+) -> Result<(), CommandError>
+    ensures { IsTrue (R.tells reader.old) → IsTrue (W.tells writer.old) → OnOk result
+        (IsTrue (R.rest reader.old).ends_well
+        × W.appended writer.old (payload bench_seal key (R.rest reader.old).bytes) writer.new) }
+{
+    let _out = seal_into::<R, &mut W>(alloc, key, reader, writer)?;
+    Ok(())
+}
+
+// The same with a writer that is handed in, and handed back.
+fn seal_into<R: Read, W: Write + Drop>(
+    alloc: Global,
+    key: [u8; 32],
+    reader: &mut R,
+    writer: W,
+) -> Result<W, Error>
+    ensures { IsTrue (R.tells reader.old) → IsTrue (W.tells writer) → IfOk result (λ out. IsTrue (R.rest reader.old).ends_well
+        × W.appended writer (payload bench_seal key (R.rest reader.old).bytes) out) }
+{
+    let mut stream = StreamWriter::<BenchSuite, W>::with_payload_key(alloc, key, writer)?;
+    copy_all(alloc, reader, &mut stream)?;
+    let mut out = stream.finish()?;
+    flush_retrying(&mut out)?;
+    Ok(out)
+}
 
 /// Reads a payload under `key` to its end, and appends its plaintext to `writer`.
 ///

@@ -54,7 +54,7 @@ module _ (seal_of : Seal) (opened : List ℕ → List ℕ → List ℕ → Optio
       Gives seal_of key payload (65536 * number + at) room front
   gives-held payload number at room last plain front b held small within is =
       let long : length front ≡ min room (length plain - at) =
-          ap length is ∙ length-take-le (min room (length plain - at)) (drop at plain) (omega (arith, length-drop at plain)) in
+      ap length is ∙ length-take-le (min room (length plain - at)) (drop at plain) (omega (arith, length-drop at plain)) in
       record {
         number = number;
         at = at;
@@ -84,7 +84,7 @@ module _ (seal_of : Seal) (opened : List ℕ → List ℕ → List ℕ → Optio
   refuses-after payload rest after number taken last plain text b held end past came some =
       let judged : chunk_of opened key number (text_at number payload) ≡ Ok (plain, true) = rw end at held.judged in
       let more : length text + length after.bytes ≡ length payload.bytes - (65552 * number + 65552) =
-          sym (length-append text after.bytes) ∙ sym (ap length came.bytes) ∙ ap (λ s. length s.bytes) past.ahead ∙ length-drop (65552 * number + 65552) payload.bytes in
+      sym (length-append text after.bytes) ∙ sym (ap length came.bytes) ∙ ap (λ s. length s.bytes) past.ahead ∙ length-drop (65552 * number + 65552) payload.bytes in
       judged-after_last seal_of opened law key k payload.bytes b number plain judged (omega (arith, more, some))
 
   -- the end was found: the payload was that of the content

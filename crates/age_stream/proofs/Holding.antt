@@ -62,8 +62,8 @@ front-gives : (content : Stretch) (place : ℕ) (front : List ℕ) (old new : St
 front-gives content place front old new is came = λ well.
     let was = is (sym came.end ∙ well) in
     stretch-ext new (from_place (place + length front) content)
-        (sym (drop_at front new.bytes (length front) refl) ∙ ap (drop (length front)) (sym came.bytes ∙ ap (λ s. s.bytes) was) ∙ drop-drop (length front) place content.bytes)
-        (came.end ∙ ap (λ s. s.ends_well) was)
+    (sym (drop_at front new.bytes (length front) refl) ∙ ap (drop (length front)) (sym came.bytes ∙ ap (λ s. s.bytes) was) ∙ drop-drop (length front) place content.bytes)
+    (came.end ∙ ap (λ s. s.ends_well) was)
 
 module _ (opened : List ℕ → List ℕ → List ℕ → Option (List ℕ)) (key : List ℕ) where
   -- ---- what reads can still deliver
@@ -112,12 +112,12 @@ module _ (opened : List ℕ → List ℕ → List ℕ → Option (List ℕ)) (ke
       Delivers text rest after → 0 < length text → IsFault (rest_of opened key failed held at chunk last number rest)
   end-more failed held last at chunk number rest after text good is end given came some =
       fault-of _ (rest-last failed held last at chunk number rest good is end given
-          ∙ some-more rest.bytes rest.ends_well (omega (arith, ap length came.bytes, length-append text after.bytes)))
+      ∙ some-more rest.bytes rest.ends_well (omega (arith, ap length came.bytes, length-append text after.bytes)))
 
   pub end-clean : (failed held last : Bool) (at : ℕ) (chunk : List ℕ) (number : ℕ) (rest after : Stretch) (text : List ℕ) → failed ≡ false → held ≡ true → last ≡ true → at ≡ length chunk →
       Delivers text rest after → length text ≡ 0 → IsCleanEnd after →
       IsCleanEnd (rest_of opened key failed held at chunk last number rest)
-          × (rest_of opened key false held at chunk last number after ≡ rest_of opened key failed held at chunk last number rest)
+      × (rest_of opened key false held at chunk last number after ≡ rest_of opened key failed held at chunk last number rest)
   end-clean failed held last at chunk number rest after text good is end given came none clean =
       let no_text : text ≡ [] = nil_from_length text none in
       let no_bytes : rest.bytes ≡ [] = came.bytes ∙ rw (no_text, clean.bytes) refl in
@@ -156,7 +156,7 @@ module _ (opened : List ℕ → List ℕ → List ℕ → Option (List ℕ)) (ke
       IsFault (rest_of opened key failed held at chunk last number rest)
   open-refused failed held last at chunk number rest after text e good is came most ended bad =
       let gone : delivered opened key number rest ≡ nothing =
-          rw came.bytes (delivered-refused opened key number text after.bytes rest.ends_well e most (over-by text rest after came ended) bad) in
+      rw came.bytes (delivered-refused opened key number text after.bytes rest.ends_well e most (over-by text rest after came ended) bad) in
       fault-of _ (rest-open failed held at chunk last number rest good is ∙ gone)
 
   opened-rest : (number : ℕ) (rest after : Stretch) (text plain : List ℕ) (last : Bool) → Delivers text rest after → length text ≤ 65552 →
@@ -251,7 +251,7 @@ module _ (opened : List ℕ → List ℕ → List ℕ → Option (List ℕ)) (ke
         let are : AreBytes text = All-take (λ x. x < 2 ^ 8) 65552 (drop (65552 * number) payload.bytes) (All-drop (λ x. x < 2 ^ 8) (65552 * number) payload.bytes all) in
         let short = law number last text chunk are (sound.is_held is_held).opens in
         let here : 65536 * number + at + length (take count (drop at chunk)) ≡ 65536 * number + (at + count) =
-            omega (arith, length-take-le count (drop at chunk) (omega (arith, length-drop at chunk))) in
+        omega (arith, length-take-le count (drop at chunk) (omega (arith, length-drop at chunk))) in
         record {
           fits = sound.fits;
           inside = record {
@@ -263,7 +263,7 @@ module _ (opened : List ℕ → List ℕ → List ℕ → Option (List ℕ)) (ke
           is_past = sound.is_past;
           front = λ _. subst (λ n. IsFront (delivered opened key 0 payload) n (rest_of opened key failed held (at + count) chunk last number rest)) here
               (front-gives (delivered opened key 0 payload) (65536 * number + at) (take count (drop at chunk)) _ _ (sound.front good)
-                  (gives failed held last at count chunk number rest (take count (drop at chunk)) good is_held refl));
+              (gives failed held last at count chunk number rest (take count (drop at chunk)) good is_held refl));
         }
 
     -- a middle chunk was given whole
@@ -303,7 +303,7 @@ module _ (opened : List ℕ → List ℕ → List ℕ → Option (List ℕ)) (ke
         let here : rest.bytes ≡ drop (65552 * number) payload.bytes = ap (λ s. s.bytes) inner ∙ ap (λ n. drop n payload.bytes) stood in
         let is_text : text_at number payload ≡ text = ap (take 65552) (sym here) ∙ front_of rest new_rest text came most ended in
         let long : length text + length new_rest.bytes ≡ length payload.bytes - 65552 * number =
-            sym (length-append text new_rest.bytes) ∙ sym (ap length came.bytes) ∙ ap length here ∙ length-drop (65552 * number) payload.bytes in
+        sym (length-append text new_rest.bytes) ∙ sym (ap length came.bytes) ∙ ap length here ∙ length-drop (65552 * number) payload.bytes in
         let well : rest.ends_well ≡ payload.ends_well = ap (λ s. s.ends_well) inner in
         let kept = rest-opened failed held last new_last at chunk plain number rest new_rest text good is_open came most ended short_last ok start in
         let is_held : IsHeld opened key payload number new_last plain = record {
@@ -317,7 +317,7 @@ module _ (opened : List ℕ → List ℕ → List ℕ → Option (List ℕ)) (ke
           ahead = stretch-ext new_rest (from_place (65552 * number + 65552) payload)
               (elim (cases_lt (length text) 65552) [
                 | inl less ↦ (ended less).bytes ∙ sym (drop_all (65552 * number + 65552) payload.bytes
-                      (omega (arith, long, ap length (ended less).bytes, less)))
+                    (omega (arith, long, ap length (ended less).bytes, less)))
                 | inr full ↦ sym (drop_at text new_rest.bytes 65552 (omega arith)) ∙ ap (drop 65552) (sym came.bytes ∙ here) ∙ drop-drop 65552 (65552 * number) payload.bytes
               ]) (came.end ∙ well);
         } in

@@ -63,4 +63,3 @@ module _ (opened : List ℕ → List ℕ → List ℕ → Option (List ℕ)) (ke
   -- what a reader delivers that stands before this chunk
   abbrev pub delivered : ℕ → Stretch → Stretch
   delivered number rest = delivers (length rest.bytes / 65552) number rest.bytes rest.ends_well
-

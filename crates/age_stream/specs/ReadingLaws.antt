@@ -29,7 +29,7 @@ taken-rest content rest place taken stands fits =
     let back : place - taken + taken ≡ place = omega (arith, fits) in
     elim stands.reaches [
       | inl is ↦ inl (is ∙ sym (stretch-ext (from_place taken (payload_at place taken content)) (from_place place content)
-            (drop-drop taken (place - taken) content.bytes ∙ ap (λ k. drop k content.bytes) back) refl))
+          (drop-drop taken (place - taken) content.bytes ∙ ap (λ k. drop k content.bytes) back) refl))
       | inr is ↦ inr is
     ]
 
@@ -59,9 +59,9 @@ module _ (opened : List ℕ → List ℕ → List ℕ → Option (List ℕ)) (ke
       let all : text ++ more ≡ here.bytes = take-append-drop 65552 here.bytes in
       let next : from_place 65552 here ≡ rest = stretch-ext _ _ (drop-drop 65552 (65552 * number) payload.bytes) refl ∙ sym ahead in
       let short : length text < 65552 → (more ≡ []) × (payload.ends_well ≡ true) =
-          λ less. (drop_all 65552 here.bytes (omega (arith, length-take 65552 here.bytes)), (held.whole less).0) in
+      λ less. (drop_all 65552 here.bytes (omega (arith, length-take 65552 here.bytes)), (held.whole less).0) in
       let chunked = rw all at (delivered-chunk opened key number text more payload.ends_well chunk last (omega (arith, length-take 65552 here.bytes))
-          short (λ less. (held.whole less).1) held.judged) in
+      short (λ less. (held.whole less).1) held.judged) in
       let moved : prepend chunk (behind opened key last number (from_place 65552 here)) ≡ delivered opened key number here = rw add-one (sym chunked) in
       rw (← next) (moved ∙ on)
 
@@ -73,14 +73,14 @@ module _ (opened : List ℕ → List ℕ → List ℕ → Option (List ℕ)) (ke
       (held ≡ true → at ≤ length chunk) → (held ≡ false → at ≡ 0) → IsSound opened key failed held at chunk last number taken place content rest →
       ((rest ≡ from_place taken (payload_at place taken content)) ⊎ (rest ≡ nothing)) →
       (rest_of opened key failed held at chunk last number rest ≡ from_place (65536 * number + at) (delivered opened key 0 (payload_at place taken content)))
-          ⊎ (rest_of opened key failed held at chunk last number rest ≡ nothing)
+      ⊎ (rest_of opened key failed held at chunk last number rest ≡ nothing)
   unfolding rest_of
   reaches_of true held at chunk last number taken place content rest bytes well in_chunk start sound inner = inr refl
   reaches_of false true at chunk last number taken place content rest bytes well in_chunk start sound inner =
       let payload = payload_at place taken content in
       inl (drop-prepended at chunk (behind opened key last number rest) (in_chunk refl)
-          ∙ ap (from_place at) (held-reaches number last chunk payload rest bytes well (sound.is_held refl) (sound.is_past refl refl).ahead)
-          ∙ stretch-ext _ _ (drop-drop at (65536 * number) (delivered opened key 0 payload).bytes) refl)
+      ∙ ap (from_place at) (held-reaches number last chunk payload rest bytes well (sound.is_held refl) (sound.is_past refl refl).ahead)
+      ∙ stretch-ext _ _ (drop-drop at (65536 * number) (delivered opened key 0 payload).bytes) refl)
   reaches_of false false at chunk last number taken place content rest bytes well in_chunk start sound (inl is) =
       let payload = payload_at place taken content in
       let stood = sound.before refl refl in
@@ -88,15 +88,15 @@ module _ (opened : List ℕ → List ℕ → List ℕ → Option (List ℕ)) (ke
       let there : rest ≡ from_place (65552 * number) payload = is ∙ ap (λ n. from_place n payload) stood in
       elim (cases_lt (65552 * number) (length payload.bytes)) [
         | inl more ↦ inl (ap (delivered opened key number) there ∙ reaches-before number payload bytes well (λ _. more)
-              ∙ ap (λ n. from_place n (delivered opened key 0 payload)) here)
+            ∙ ap (λ n. from_place n (delivered opened key 0 payload)) here)
         | inr past ↦ elim (cases_lt 0 number) [
-            | inl some ↦
-                let empty : drop (65552 * number) payload.bytes ≡ [] = drop_all (65552 * number) payload.bytes past in
-                inr (ap (delivered opened key number) (there ∙ stretch-ext _ (record { bytes = []; ends_well = payload.ends_well }) empty refl)
-                    ∙ delivered-none opened key number payload.ends_well)
-            | inr zero ↦ inl (ap (delivered opened key number) there ∙ reaches-before number payload bytes well (λ s. absurd (omega arith))
-                  ∙ ap (λ n. from_place n (delivered opened key 0 payload)) here)
-          ]
+          | inl some ↦
+              let empty : drop (65552 * number) payload.bytes ≡ [] = drop_all (65552 * number) payload.bytes past in
+              inr (ap (delivered opened key number) (there ∙ stretch-ext _ (record { bytes = []; ends_well = payload.ends_well }) empty refl)
+              ∙ delivered-none opened key number payload.ends_well)
+          | inr zero ↦ inl (ap (delivered opened key number) there ∙ reaches-before number payload bytes well (λ s. absurd (omega arith))
+              ∙ ap (λ n. from_place n (delivered opened key 0 payload)) here)
+        ]
       ]
   reaches_of false false at chunk last number taken place content rest bytes well in_chunk start sound (inr is) =
       inr (rw is (delivered-nothing opened key number))

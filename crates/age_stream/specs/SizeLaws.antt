@@ -50,14 +50,14 @@ module _ (opened : List ℕ → List ℕ → List ℕ → Option (List ℕ)) (ke
   unfolding delivers
   delivers-fits zero number bytes w are = cond-fits w _ (length bytes)
       (more-fits _ (length bytes + 0) (length bytes) (omega arith)
-          (after-fits (chunk_of opened key number bytes) number bytes 0 nothing (after_last [] true) are refl (none-fits nothing 0 refl) (none-fits (after_last [] true) 0 refl)))
+      (after-fits (chunk_of opened key number bytes) number bytes 0 nothing (after_last [] true) are refl (none-fits nothing 0 refl) (none-fits (after_last [] true) 0 refl)))
   delivers-fits (suc full) number bytes w are =
       let more = drop 65552 bytes in
       let text = take 65552 bytes in
       more-fits _ (length text + length more) (length bytes) (omega (arith, length-take 65552 bytes, length-drop 65552 bytes))
-          (after-fits (chunk_of opened key number text) number text (length more) (delivers opened key full (suc number) more w) (after_last more w)
-              (All-take (λ x. x < 2 ^ 8) 65552 bytes are) refl
-              (delivers-fits full (suc number) more w (All-drop (λ x. x < 2 ^ 8) 65552 bytes are)) (none-fits (after_last more w) (length more) refl))
+      (after-fits (chunk_of opened key number text) number text (length more) (delivers opened key full (suc number) more w) (after_last more w)
+      (All-take (λ x. x < 2 ^ 8) 65552 bytes are) refl
+      (delivers-fits full (suc number) more w (All-drop (λ x. x < 2 ^ 8) 65552 bytes are)) (none-fits (after_last more w) (length more) refl))
 
   pub delivered-bytes : (number n : ℕ) (s : Stretch) → AreBytes s.bytes → AreBytes (delivered opened key number (from_place n s)).bytes
   delivered-bytes number n s are = (delivers-fits _ number (drop n s.bytes) s.ends_well (All-drop (λ x. x < 2 ^ 8) n s.bytes are)).bytes

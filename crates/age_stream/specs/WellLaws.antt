@@ -44,9 +44,11 @@ allowed_if-by : (number : ℕ) (o : Option Chunk) (y : Chunk) → allowed_if num
 allowed_if-by number None y is = err-ok is
 allowed_if-by number (Some x) y is =
     let h = allowed-by x.0 (nat_lt 0 number) (nat_lt number (2 ^ 44)) x y is in
-    rw (← h.0) (refl,
+    rw (← h.0) (
+      refl,
       (λ none. let e = ltb-false 0 number (h.1 none) in omega arith),
-      (λ some. ltb-true number (2 ^ 44) (h.2 some)))
+      (λ some. ltb-true number (2 ^ 44) (h.2 some)),
+    )
 
 abbrev text_of : Option Chunk → List ℕ
 text_of None = []
@@ -162,7 +164,7 @@ module _ (opened : List ℕ → List ℕ → List ℕ → Option (List ℕ)) (ke
     from-prepended n plain s full =
         let both : 65536 + 65536 * n ≡ 65536 * suc n = omega arith in
         stretch-ext _ _ (ap (λ k. drop k (plain ++ s.bytes)) (sym both) ∙ sym (drop-drop (65536 * n) 65536 (plain ++ s.bytes))
-            ∙ ap (drop (65536 * n)) (drop_at plain s.bytes 65536 full)) refl
+        ∙ ap (drop (65536 * n)) (drop_at plain s.bytes 65536 full)) refl
 
     pub further : (n : ℕ) (s : Stretch) → from_place (65552 * n) (from_place 65552 s) ≡ from_place (65552 * suc n) s
     further n s =
@@ -182,7 +184,7 @@ module _ (opened : List ℕ → List ℕ → List ℕ → Option (List ℕ)) (ke
         let after = from_place 65552 s in
         let after_well : (delivered opened key (suc number) after).ends_well ≡ true = sym (ap (λ d. d.ends_well) m.2) ∙ well in
         let ih = onward n (suc number) after (All-drop (λ x. x < 2 ^ 8) 65552 s.bytes bytes) after_well
-            (λ some. omega (arith, more (omega arith), length-drop 65552 s.bytes)) in
+        (λ some. omega (arith, more (omega arith), length-drop 65552 s.bytes)) in
         let count : suc number + n ≡ number + suc n = omega arith in
         ap (λ d. delivered opened key (number + suc n) d) (sym (further n s)) ∙ ap (λ k. delivered opened key k (from_place (65552 * n) after)) (sym count)
         ∙ ih ∙ sym (ap (from_place (65536 * suc n)) m.2 ∙ from-prepended n plain (delivered opened key (suc number) after) full)
@@ -208,29 +210,30 @@ module _ (opened : List ℕ → List ℕ → List ℕ → Option (List ℕ)) (ke
           enough = omega (arith, short, all, none);
           more = λ later. elim (cases_lt 0 (length plain)) [ inl some ↦ omega (arith, short, all, none) | inr empty ↦ absurd (omega (arith, a.first (omega arith), none)) ];
         }
+
     well-length-by : (count number : ℕ) (s : Stretch) → AreBytes s.bytes → length s.bytes ≤ 65552 * count + 65552 → (delivered opened key number s).ends_well ≡ true →
         HasLength number (length s.bytes) (length (delivered opened key number s).bytes)
     well-length-by zero number s bytes few well = single-length number s bytes (omega arith) well
     well-length-by (suc count) number s bytes few well = elim (cases_lt 65552 (length s.bytes)) [
-        | inl long ↦
-            let m = well-middle number s well long in
-            let plain = m.0 in
-            let full = full-plain number (take 65552 s.bytes) plain (All-take (λ x. x < 2 ^ 8) 65552 s.bytes bytes) (omega (arith, length-take 65552 s.bytes)) m.1 in
-            let after = from_place 65552 s in
-            let after_well : (delivered opened key (suc number) after).ends_well ≡ true = sym (ap (λ d. d.ends_well) m.2) ∙ well in
-            let left = length-drop 65552 s.bytes in
-            let ih = well-length-by count (suc number) after (All-drop (λ x. x < 2 ^ 8) 65552 s.bytes bytes) (omega (arith, left)) after_well in
-            let n = length s.bytes in
-            let chunks : (n - 1) / 65552 ≡ (length after.bytes - 1) / 65552 + 1 = omega (arith, left) in
-            let len : length (delivered opened key number s).bytes ≡ 65536 + length (delivered opened key (suc number) after).bytes =
-                ap (λ d. length d.bytes) m.2 ∙ length-append plain (delivered opened key (suc number) after).bytes ∙ ap (λ k. k + length (delivered opened key (suc number) after).bytes) full in
-            rw len record {
-              less = omega (arith, ih.less, chunks, left);
-              enough = omega (arith, ih.enough, chunks, left);
-              more = λ _. omega (arith, ih.more (omega arith), chunks, left);
-            }
-        | inr few_now ↦ single-length number s bytes few_now well
-      ]
+      | inl long ↦
+          let m = well-middle number s well long in
+          let plain = m.0 in
+          let full = full-plain number (take 65552 s.bytes) plain (All-take (λ x. x < 2 ^ 8) 65552 s.bytes bytes) (omega (arith, length-take 65552 s.bytes)) m.1 in
+          let after = from_place 65552 s in
+          let after_well : (delivered opened key (suc number) after).ends_well ≡ true = sym (ap (λ d. d.ends_well) m.2) ∙ well in
+          let left = length-drop 65552 s.bytes in
+          let ih = well-length-by count (suc number) after (All-drop (λ x. x < 2 ^ 8) 65552 s.bytes bytes) (omega (arith, left)) after_well in
+          let n = length s.bytes in
+          let chunks : (n - 1) / 65552 ≡ (length after.bytes - 1) / 65552 + 1 = omega (arith, left) in
+          let len : length (delivered opened key number s).bytes ≡ 65536 + length (delivered opened key (suc number) after).bytes =
+          ap (λ d. length d.bytes) m.2 ∙ length-append plain (delivered opened key (suc number) after).bytes ∙ ap (λ k. k + length (delivered opened key (suc number) after).bytes) full in
+          rw len record {
+            less = omega (arith, ih.less, chunks, left);
+            enough = omega (arith, ih.enough, chunks, left);
+            more = λ _. omega (arith, ih.more (omega arith), chunks, left);
+          }
+      | inr few_now ↦ single-length number s bytes few_now well
+    ]
 
     -- the length of a payload that ends well, and that of its content
     pub well-length : (s : Stretch) → AreBytes s.bytes → (delivered opened key 0 s).ends_well ≡ true →

@@ -140,7 +140,8 @@ impl<S: Suite, R: Read> StreamReader<S, R> {
 
     /// A reader of the payload that begins where `inner` stands. It has opened nothing yet.
     pub fn with_payload_key(alloc: Global, key: [u8; 32], inner: R) -> Result<Self, Error>
-        where R: Drop,
+    where
+        R: Drop,
         ensures good { IfOk result (λ r. HasFailed r → ⊥) }
         ensures opens { IfOk result (λ r. opens_of r ≡ 0) }
         ensures key { IfOk result (λ r. key_of r ≡ key) }

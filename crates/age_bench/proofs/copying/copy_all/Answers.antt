@@ -13,8 +13,8 @@ returns-in_err-write_all-clause-front g c = λ reader_told writer_told.
     let filled = refilled room.items c.read_retrying.new.buf room.len room.ok.0 size in
     let refused = rw (c.deref.ensures.value, filled) at (c.in_err-write_all.ensures.refuses (before.writer_tells ∙ writer_told)) in
     front-more g.W.Write.appended g.met.W.Write.joins (read.rest c.args.reader.now) (read.rest c.loop-piece.reader) (read.rest c.read_retrying.new.reader)
-        c.args.writer.now c.loop-piece.writer c.write_all.new.writer (take c.in_ok-count.count c.read_retrying.new.buf) refused.0
-        (before.copied reader_told writer_told) (c.in_ok-count.ensures.reads.bytes (before.reader_tells ∙ reader_told)) refused.2
+    c.args.writer.now c.loop-piece.writer c.write_all.new.writer (take c.in_ok-count.count c.read_retrying.new.buf) refused.0
+    (before.copied reader_told writer_told) (c.in_ok-count.ensures.reads.bytes (before.reader_tells ∙ reader_told)) refused.2
 
 pub loop-piece-preserved : goal.loop-piece-preserved
 loop-piece-preserved g c =
@@ -29,7 +29,7 @@ loop-piece-preserved g c =
       room = rw filled (omega (arith, size, before.room));
       copied = λ reader_told writer_told.
           copied-more g.W.Write.appended g.met.W.Write.joins (read.rest c.args.reader.now) (read.rest c.loop-piece.reader) (read.rest c.read_retrying.new.reader)
-              c.args.writer.now c.loop-piece.writer c.write_all.new.writer (take c.in_ok-count.count c.read_retrying.new.buf)
-              (before.copied reader_told writer_told) (c.in_ok-count.ensures.reads.bytes (before.reader_tells ∙ reader_told))
-              (rw (c.deref.ensures.value, filled) at (c.in_ok-write_all.ensures.takes (before.writer_tells ∙ writer_told)));
+          c.args.writer.now c.loop-piece.writer c.write_all.new.writer (take c.in_ok-count.count c.read_retrying.new.buf)
+          (before.copied reader_told writer_told) (c.in_ok-count.ensures.reads.bytes (before.reader_tells ∙ reader_told))
+          (rw (c.deref.ensures.value, filled) at (c.in_ok-write_all.ensures.takes (before.writer_tells ∙ writer_told)));
     }

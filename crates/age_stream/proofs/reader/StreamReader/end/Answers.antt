@@ -14,7 +14,7 @@ returns-in-Err-clause-cause g c = λ told memory quiet.
     let size : length c.fill-answer.new.buf ≡ 1 = c.fill-answer.auto.buf in
     let early : EndsEarly 1 (g.R.Read.rest self.inner) = rw size at (c.in-Err.ensures.cause (and-left _ _ told) memory quiet) in
     end-early g.S.Suite.opened self.key self.failed self.held self.last self.at self.chunk.items self.number (g.R.Read.rest self.inner)
-        c.requires.good c.requires.held c.requires.last c.requires.given early
+    c.requires.good c.requires.held c.requires.last c.requires.given early
 
 pub returns-then-count-gt0-clause-cause : goal.returns-then-count-gt0-clause-cause
 returns-then-count-gt0-clause-cause g c = λ told memory quiet.
@@ -22,8 +22,8 @@ returns-then-count-gt0-clause-cause g c = λ told memory quiet.
     let text = take c.fill-answer.new.filled c.fill-answer.new.buf in
     let size : length text ≡ c.fill-answer.new.filled = length-take-le c.fill-answer.new.filled c.fill-answer.new.buf c.in-Ok.ensures.count in
     end-more g.S.Suite.opened self.key self.failed self.held self.last self.at self.chunk.items self.number (g.R.Read.rest self.inner)
-        (g.R.Read.rest c.fill-answer.new.reader) text
-        c.requires.good c.requires.held c.requires.last c.requires.given (c.in-Ok.ensures.bytes (and-left _ _ told)) (omega (arith, size, c.if-count-gt0.true))
+    (g.R.Read.rest c.fill-answer.new.reader) text
+    c.requires.good c.requires.held c.requires.last c.requires.given (c.in-Ok.ensures.bytes (and-left _ _ told)) (omega (arith, size, c.if-count-gt0.true))
 
 pub returns-else-count-gt0-clause-end : goal.returns-else-count-gt0-clause-end
 returns-else-count-gt0-clause-end g c = λ told.
@@ -32,9 +32,9 @@ returns-else-count-gt0-clause-end g c = λ told.
     let size : length text ≡ c.fill-answer.new.filled = length-take-le c.fill-answer.new.filled c.fill-answer.new.buf c.in-Ok.ensures.count in
     let one : length c.fill-answer.new.buf ≡ 1 = c.fill-answer.auto.buf in
     end-clean g.S.Suite.opened self.key self.failed self.held self.last self.at self.chunk.items self.number (g.R.Read.rest self.inner)
-        (g.R.Read.rest c.fill-answer.new.reader) text
-        c.requires.good c.requires.held c.requires.last c.requires.given (c.in-Ok.ensures.bytes (and-left _ _ told))
-        (omega (arith, size, c.if-count-gt0.false)) (c.in-Ok.ensures.end (and-left _ _ told) (omega (arith, one, c.if-count-gt0.false)))
+    (g.R.Read.rest c.fill-answer.new.reader) text
+    c.requires.good c.requires.held c.requires.last c.requires.given (c.in-Ok.ensures.bytes (and-left _ _ told))
+    (omega (arith, size, c.if-count-gt0.false)) (c.in-Ok.ensures.end (and-left _ _ told) (omega (arith, one, c.if-count-gt0.false)))
 
 pub returns-in-Err-clause-refused : goal.returns-in-Err-clause-refused
 returns-in-Err-clause-refused g c = λ told memory quiet.
@@ -88,9 +88,9 @@ invariant_of-self g c =
           let told_before = rw (c.in-Err.ensures.tells, c.in-Err.ensures.steady) at told in
           let t = and-left _ _ told_before in
           sound-failed g.S.Suite.opened self.key self.failed self.held self.at self.chunk.items self.last self.number self.taken
-              (read.place self.inner) (read.content self.inner) (read.rest self.inner) (self.sound told_before)
-              c.saturating_add-self.result (read.place after) c.fill-answer.new.filled (read.content after) (read.rest after)
-              (c.in-Err.ensures.content t) (c.in-Err.ensures.moves t) (g.met.R.Read.place_fits after (and-left _ _ told)) c.saturating_add-self.ensures;
+          (read.place self.inner) (read.content self.inner) (read.rest self.inner) (self.sound told_before)
+          c.saturating_add-self.result (read.place after) c.fill-answer.new.filled (read.content after) (read.rest after)
+          (c.in-Err.ensures.content t) (c.in-Err.ensures.moves t) (g.met.R.Read.place_fits after (and-left _ _ told)) c.saturating_add-self.ensures;
     }
 
 pub invariant_of-self-then-count-gt0-clause-sound : goal.invariant_of-self-then-count-gt0-clause-sound
@@ -101,9 +101,9 @@ invariant_of-self-then-count-gt0-clause-sound g c = λ told.
     let told_before = rw (c.in-Ok.ensures.tells, c.in-Ok.ensures.steady) at told in
     let t = and-left _ _ told_before in
     sound-failed g.S.Suite.opened self.key self.failed self.held self.at self.chunk.items self.last self.number self.taken
-        (read.place self.inner) (read.content self.inner) (read.rest self.inner) (self.sound told_before)
-        c.saturating_add-self.result (read.place after) c.fill-answer.new.filled (read.content after) (read.rest after)
-        (c.in-Ok.ensures.content t) (c.in-Ok.ensures.moves t) (g.met.R.Read.place_fits after (and-left _ _ told)) c.saturating_add-self.ensures
+    (read.place self.inner) (read.content self.inner) (read.rest self.inner) (self.sound told_before)
+    c.saturating_add-self.result (read.place after) c.fill-answer.new.filled (read.content after) (read.rest after)
+    (c.in-Ok.ensures.content t) (c.in-Ok.ensures.moves t) (g.met.R.Read.place_fits after (and-left _ _ told)) c.saturating_add-self.ensures
 
 pub invariant_of-self-in-Ok-clause-sound : goal.invariant_of-self-in-Ok-clause-sound
 invariant_of-self-in-Ok-clause-sound g c = λ told.
@@ -116,8 +116,8 @@ invariant_of-self-in-Ok-clause-sound g c = λ told.
     let size : length text ≡ c.fill-answer.new.filled = length-take-le c.fill-answer.new.filled c.fill-answer.new.buf c.in-Ok.ensures.count in
     let none : c.fill-answer.new.filled ≡ 0 = omega (arith, c.if-count-gt0.false) in
     sound-ended g.S.Suite.opened self.key self.failed self.held self.at self.chunk.items self.last self.number self.taken
-        (read.place self.inner) (read.content self.inner) (read.rest self.inner) (self.sound told_before)
-        c.saturating_add-self.result (read.place after) c.fill-answer.new.filled (read.content after) (read.rest after)
-        (c.in-Ok.ensures.content t) (c.in-Ok.ensures.moves t) (g.met.R.Read.place_fits after (and-left _ _ told)) c.saturating_add-self.ensures
-        c.requires.good c.requires.held none
-        (same-rest (read.rest self.inner) (read.rest after) text (c.in-Ok.ensures.bytes t) (omega (arith, size, none)))
+    (read.place self.inner) (read.content self.inner) (read.rest self.inner) (self.sound told_before)
+    c.saturating_add-self.result (read.place after) c.fill-answer.new.filled (read.content after) (read.rest after)
+    (c.in-Ok.ensures.content t) (c.in-Ok.ensures.moves t) (g.met.R.Read.place_fits after (and-left _ _ told)) c.saturating_add-self.ensures
+    c.requires.good c.requires.held none
+    (same-rest (read.rest self.inner) (read.rest after) text (c.in-Ok.ensures.bytes t) (omega (arith, size, none)))

@@ -14,7 +14,7 @@ returns-in-Err-clause-cause g c = λ told memory quiet.
     let size : length c.fill-answer.new.buf ≡ 65552 = omega (arith, c.fill-answer.auto.buf, c.deref_mut.ensures.len, self.room, self.sealed.ok.0) in
     let early : EndsEarly 65552 (g.R.Read.rest self.inner) = rw size at (c.in-Err.ensures.cause (and-left _ _ told) memory quiet) in
     open-early g.S.Suite.opened self.key self.failed self.held self.last self.at self.chunk.items self.number (g.R.Read.rest self.inner)
-        c.requires.good c.requires.closed early
+    c.requires.good c.requires.closed early
 
 pub returns-in-Err-open_chunk-clause-cause : goal.returns-in-Err-open_chunk-clause-cause
 returns-in-Err-open_chunk-clause-cause g c = λ told memory quiet.
@@ -24,13 +24,13 @@ returns-in-Err-open_chunk-clause-cause g c = λ told memory quiet.
     let filled = refilled self.sealed.items c.fill-answer.new.buf self.sealed.len self.sealed.ok.0 (omega (arith, size, self.room)) in
     let long : length text ≡ c.fill-answer.new.filled = length-take-le c.fill-answer.new.filled c.fill-answer.new.buf c.in-Ok.ensures.count in
     let judged : (c.in-Err-open_chunk.e ≡ OutOfMemory) ⊎ (chunk_of g.S.Suite.opened self.key self.number text ≡ Err c.in-Err-open_chunk.e) =
-        rw (c.deref.ensures.value, filled) at c.in-Err-open_chunk.ensures.chunk in
+    rw (c.deref.ensures.value, filled) at c.in-Err-open_chunk.ensures.chunk in
     elim judged [
       | inl want ↦ absurd (memory want)
       | inr bad ↦ open-refused g.S.Suite.opened self.key self.failed self.held self.last self.at self.chunk.items self.number (g.R.Read.rest self.inner)
-            (g.R.Read.rest c.fill-answer.new.reader) text c.in-Err-open_chunk.e c.requires.good c.requires.closed
-            (c.in-Ok.ensures.bytes (and-left _ _ told)) (omega (arith, long, size, c.in-Ok.ensures.count))
-            (λ less. c.in-Ok.ensures.end (and-left _ _ told) (omega (arith, long, size, less))) bad
+          (g.R.Read.rest c.fill-answer.new.reader) text c.in-Err-open_chunk.e c.requires.good c.requires.closed
+          (c.in-Ok.ensures.bytes (and-left _ _ told)) (omega (arith, long, size, c.in-Ok.ensures.count))
+          (λ less. c.in-Ok.ensures.end (and-left _ _ told) (omega (arith, long, size, less))) bad
     ]
 
 pub returns-in-Err-clause-refused : goal.returns-in-Err-clause-refused
@@ -55,7 +55,7 @@ returns-in-Err-open_chunk-clause-refused g c = λ told memory quiet.
     let filled = refilled self.sealed.items c.fill-answer.new.buf self.sealed.len self.sealed.ok.0 (omega (arith, size, self.room)) in
     let long : length text ≡ c.fill-answer.new.filled = length-take-le c.fill-answer.new.filled c.fill-answer.new.buf c.in-Ok.ensures.count in
     let judged : (c.in-Err-open_chunk.e ≡ OutOfMemory) ⊎ (chunk_of g.S.Suite.opened self.key self.number text ≡ Err c.in-Err-open_chunk.e) =
-        rw (c.deref.ensures.value, filled) at c.in-Err-open_chunk.ensures.chunk in
+    rw (c.deref.ensures.value, filled) at c.in-Err-open_chunk.ensures.chunk in
     record {
       number = self.number;
       from = omega arith;
@@ -63,10 +63,10 @@ returns-in-Err-open_chunk-clause-refused g c = λ told memory quiet.
       why = elim judged [
         | inl want ↦ absurd (memory want)
         | inr bad ↦ inr (refuses-chunk g.S.Suite.seal_of g.S.Suite.opened g.met.S.Suite.cipher self.key self.key_bytes
-              (read.content self.inner) (read.rest self.inner) (read.rest c.fill-answer.new.reader) (read.place self.inner) self.taken self.number text c.in-Err-open_chunk.e
-              (g.met.R.Read.are_bytes self.inner t) (g.met.R.Read.stands self.inner t (and-right _ _ told)) sound.fits (sound.before c.requires.good c.requires.closed)
-              sound.inside.front (c.in-Ok.ensures.bytes t) (omega (arith, long, size, c.in-Ok.ensures.count))
-              (λ less. c.in-Ok.ensures.end t (omega (arith, long, size, less))) bad)
+            (read.content self.inner) (read.rest self.inner) (read.rest c.fill-answer.new.reader) (read.place self.inner) self.taken self.number text c.in-Err-open_chunk.e
+            (g.met.R.Read.are_bytes self.inner t) (g.met.R.Read.stands self.inner t (and-right _ _ told)) sound.fits (sound.before c.requires.good c.requires.closed)
+            sound.inside.front (c.in-Ok.ensures.bytes t) (omega (arith, long, size, c.in-Ok.ensures.count))
+            (λ less. c.in-Ok.ensures.end t (omega (arith, long, size, less))) bad)
       ];
     }
 
@@ -81,9 +81,9 @@ returns-in-Ok-open_chunk-clause-rest g c = λ told.
     let plain = c.in-Ok-open_chunk.chunk in
     let ok : chunk_of g.S.Suite.opened self.key self.number text ≡ Ok (plain.items, c.in-Ok-open_chunk.last) = rw (c.deref.ensures.value, filled) at c.in-Ok-open_chunk.ensures.chunk in
     rest-opened g.S.Suite.opened self.key self.failed self.held self.last c.in-Ok-open_chunk.last self.at self.chunk.items plain.items self.number (g.R.Read.rest self.inner)
-        (g.R.Read.rest c.fill-answer.new.reader) text c.requires.good c.requires.closed
-        (c.in-Ok.ensures.bytes t) (omega (arith, long, size, c.in-Ok.ensures.count)) (λ less. c.in-Ok.ensures.end t (omega (arith, long, size, less)))
-        (rw (c.deref.ensures.value, filled) at c.in-Ok-open_chunk.ensures.short) ok (self.start c.requires.closed)
+    (g.R.Read.rest c.fill-answer.new.reader) text c.requires.good c.requires.closed
+    (c.in-Ok.ensures.bytes t) (omega (arith, long, size, c.in-Ok.ensures.count)) (λ less. c.in-Ok.ensures.end t (omega (arith, long, size, less)))
+    (rw (c.deref.ensures.value, filled) at c.in-Ok-open_chunk.ensures.short) ok (self.start c.requires.closed)
 
 pub returns-in-Ok-open_chunk-clause-end : goal.returns-in-Ok-open_chunk-clause-end
 returns-in-Ok-open_chunk-clause-end g c = λ told given.
@@ -97,9 +97,9 @@ returns-in-Ok-open_chunk-clause-end g c = λ told given.
     let ok : chunk_of g.S.Suite.opened self.key self.number text ≡ Ok (plain.items, c.in-Ok-open_chunk.last) = rw (c.deref.ensures.value, filled) at c.in-Ok-open_chunk.ensures.chunk in
     let longer : length plain.items + 16 ≡ length text = rw (c.deref.ensures.value, filled) at c.in-Ok-open_chunk.ensures.length in
     clean-opened g.S.Suite.opened self.key self.failed self.held self.last c.in-Ok-open_chunk.last self.at self.chunk.items plain.items self.number (g.R.Read.rest self.inner)
-        (g.R.Read.rest c.fill-answer.new.reader) text c.requires.good c.requires.closed
-        (c.in-Ok.ensures.bytes t) (omega (arith, long, size, c.in-Ok.ensures.count)) (λ less. c.in-Ok.ensures.end t (omega (arith, long, size, less)))
-        (rw (c.deref.ensures.value, filled) at c.in-Ok-open_chunk.ensures.short) ok longer (self.start c.requires.closed) given
+    (g.R.Read.rest c.fill-answer.new.reader) text c.requires.good c.requires.closed
+    (c.in-Ok.ensures.bytes t) (omega (arith, long, size, c.in-Ok.ensures.count)) (λ less. c.in-Ok.ensures.end t (omega (arith, long, size, less)))
+    (rw (c.deref.ensures.value, filled) at c.in-Ok-open_chunk.ensures.short) ok longer (self.start c.requires.closed) given
 
 pub invariant_of-self-in-Ok-open_chunk-clause-sound : goal.invariant_of-self-in-Ok-open_chunk-clause-sound
 invariant_of-self-in-Ok-open_chunk-clause-sound g c = λ told.
@@ -115,9 +115,9 @@ invariant_of-self-in-Ok-open_chunk-clause-sound g c = λ told.
     let plain = c.in-Ok-open_chunk.chunk in
     let ok : chunk_of g.S.Suite.opened self.key self.number text ≡ Ok (plain.items, c.in-Ok-open_chunk.last) = rw (c.deref.ensures.value, filled) at c.in-Ok-open_chunk.ensures.chunk in
     sound-opened g.S.Suite.opened self.key self.failed self.held self.at self.chunk.items self.last self.number self.taken
-        (read.place self.inner) (read.content self.inner) (read.rest self.inner) (self.sound told_before)
-        c.saturating_add-self.result (read.place after) c.fill-answer.new.filled (read.content after) (read.rest after) text plain.items c.in-Ok-open_chunk.last
-        (c.in-Ok.ensures.content t) (c.in-Ok.ensures.moves t) (g.met.R.Read.place_fits after (and-left _ _ told)) c.saturating_add-self.ensures
-        c.requires.good c.requires.closed (self.start c.requires.closed) (g.met.R.Read.stands self.inner t (and-right _ _ told_before))
-        (c.in-Ok.ensures.bytes t) long (omega (arith, long, size, c.in-Ok.ensures.count)) (λ less. c.in-Ok.ensures.end t (omega (arith, long, size, less)))
-        (rw (c.deref.ensures.value, filled) at c.in-Ok-open_chunk.ensures.short) ok
+    (read.place self.inner) (read.content self.inner) (read.rest self.inner) (self.sound told_before)
+    c.saturating_add-self.result (read.place after) c.fill-answer.new.filled (read.content after) (read.rest after) text plain.items c.in-Ok-open_chunk.last
+    (c.in-Ok.ensures.content t) (c.in-Ok.ensures.moves t) (g.met.R.Read.place_fits after (and-left _ _ told)) c.saturating_add-self.ensures
+    c.requires.good c.requires.closed (self.start c.requires.closed) (g.met.R.Read.stands self.inner t (and-right _ _ told_before))
+    (c.in-Ok.ensures.bytes t) long (omega (arith, long, size, c.in-Ok.ensures.count)) (λ less. c.in-Ok.ensures.end t (omega (arith, long, size, less)))
+    (rw (c.deref.ensures.value, filled) at c.in-Ok-open_chunk.ensures.short) ok

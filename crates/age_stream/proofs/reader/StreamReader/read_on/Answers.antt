@@ -24,11 +24,11 @@ returns-clause-gives g c = λ told some.
     let told_passed : IsTrue (read.tells c.pass.new.self.inner && read.steady c.pass.new.self.inner) = rw passed.inner told in
     let same_payload : payload_of c.pass.new.self ≡ payload_of self = rw (passed.inner, passed.taken) refl in
     let same : (65536 * mid.number + mid.at ≡ 65536 * self.number + self.at) × (payload_of mid ≡ payload_of self) × (mid.key ≡ self.key)
-        × (IsTrue (read.tells mid.inner && read.steady mid.inner)) =
-        elim c.if-not-self.branch [
-          | then-not-self+in_default w ↦
-              let opened = w.open.ensures in
-              rw w.self-is (opened.place ∙ passed.place, opened.payload told_passed ∙ same_payload, opened.key ∙ passed.key, rw (opened.tells, opened.steady) told_passed)
-          | else-not-self w ↦ rw w.self-is (passed.place, same_payload, passed.key, told_passed)
-        ] in
+    × (IsTrue (read.tells mid.inner && read.steady mid.inner)) =
+    elim c.if-not-self.branch [
+      | then-not-self+in_default w ↦
+          let opened = w.open.ensures in
+          rw w.self-is (opened.place ∙ passed.place, opened.payload told_passed ∙ same_payload, opened.key ∙ passed.key, rw (opened.tells, opened.steady) told_passed)
+      | else-not-self w ↦ rw w.self-is (passed.place, same_payload, passed.key, told_passed)
+    ] in
     rw (same.2, same.1, same.0) at (c.give.ensures.gives same.3 some)

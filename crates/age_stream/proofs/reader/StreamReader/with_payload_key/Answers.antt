@@ -11,7 +11,7 @@ pub invariant_of-result-clause-sound : goal.invariant_of-result-clause-sound
 invariant_of-result-clause-sound g c = λ told.
     let inner = c.args.inner in
     sound-new g.S.Suite.opened c.args.key _ _ (g.R.Read.place inner) (g.R.Read.content inner) (g.R.Read.rest inner)
-        (g.met.R.Read.stands inner (and-left _ _ told) (and-right _ _ told))
+    (g.met.R.Read.stands inner (and-left _ _ told) (and-right _ _ told))
 
 pub returns-clause-rest : goal.returns-clause-rest
 returns-clause-rest g c = rest-open g.S.Suite.opened c.args.key false false 0 _ _ 0 (g.R.Read.rest c.args.inner) refl refl
@@ -22,8 +22,8 @@ returns-clause-success g c = λ told plain is.
     let inner = c.args.inner in
     let t = and-left _ _ told in
     payload-delivered g.S.Suite.seal_of g.S.Suite.opened g.met.S.Suite.cipher c.args.key c.known_array.ensures (read.rest inner) plain
-        (rest-bytes (read.content inner) (read.rest inner) (read.place inner) (g.met.R.Read.stands inner t (and-right _ _ told)) (g.met.R.Read.are_bytes inner t))
-        (sym (returns-clause-rest g c) ∙ is)
+    (rest-bytes (read.content inner) (read.rest inner) (read.place inner) (g.met.R.Read.stands inner t (and-right _ _ told)) (g.met.R.Read.are_bytes inner t))
+    (sym (returns-clause-rest g c) ∙ is)
 
 pub returns-clause-honest : goal.returns-clause-honest
 returns-clause-honest g c = λ plain bytes most apart is.

@@ -21,11 +21,11 @@ returns-clause-finished g c = λ told.
     let short = shorter suite.seal_of suite.opened law self.key self.key_bytes in
     let payload = payload_at place self.taken content in
     IfOk-weaker c.read_on.result _ _
-        (λ n clean none some. end-found suite.seal_of suite.opened law self.key self.key_bytes payload (delivered suite.opened self.key 0 payload)
-            (rest_of suite.opened self.key self.failed self.held self.at self.chunk.items self.last self.number (read.rest self.inner)) _
-            (All-drop (λ x. x < 2 ^ 8) (place - self.taken) content.bytes bytes)
-            (delivered-bytes suite.opened self.key short (opens_bytes suite.seal_of suite.opened law self.key self.key_bytes) 0 (place - self.taken) content bytes) refl
-            (λ well. (stream_stands suite.opened self.key short self.failed self.held self.at self.chunk.items self.last self.number self.taken place content (read.rest self.inner)
-                bytes self.offset self.in_chunk self.start (self.sound told) (g.met.R.Read.stands self.inner (and-left _ _ told) (and-right _ _ told)) well).within)
-            ((self.sound told).front c.if-self.false) (clean none some))
-        (c.read_on.ensures.reads.end told)
+    (λ n clean none some. end-found suite.seal_of suite.opened law self.key self.key_bytes payload (delivered suite.opened self.key 0 payload)
+    (rest_of suite.opened self.key self.failed self.held self.at self.chunk.items self.last self.number (read.rest self.inner)) _
+    (All-drop (λ x. x < 2 ^ 8) (place - self.taken) content.bytes bytes)
+    (delivered-bytes suite.opened self.key short (opens_bytes suite.seal_of suite.opened law self.key self.key_bytes) 0 (place - self.taken) content bytes) refl
+    (λ well. (stream_stands suite.opened self.key short self.failed self.held self.at self.chunk.items self.last self.number self.taken place content (read.rest self.inner)
+    bytes self.offset self.in_chunk self.start (self.sound told) (g.met.R.Read.stands self.inner (and-left _ _ told) (and-right _ _ told)) well).within)
+    ((self.sound told).front c.if-self.false) (clean none some))
+    (c.read_on.ensures.reads.end told)
