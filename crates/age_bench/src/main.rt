@@ -6,7 +6,11 @@ mod copying;
 mod error;
 #[cfg(test)]
 mod error_texts;
+#[cfg(test)]
+mod fixtures;
 mod payload;
+#[cfg(test)]
+mod stream_tests;
 mod suite;
 #[cfg(test)]
 mod tests;

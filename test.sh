@@ -1,0 +1,29 @@
+#!/usr/bin/env bash
+# The whole gate: every proof from nothing, the edits that must be refused, the tests and the program's stored run, and
+# then the program on damaged input, with failing memory, reads and writes. The last line counts all of them.
+set -uo pipefail
+cd "$(dirname "$0")"
+log=$(mktemp -d)
+trap 'rm -rf "$log"' EXIT
+status=0
+
+rt ci 2>&1 | tee "$log/gate" || status=1
+gate=$(grep -E '^[0-9]+ passed, [0-9]+ failed$' "$log/gate" | tail -n 1)
+[ -n "$gate" ] || { gate='0 passed, 1 failed'; status=1; }
+
+echo "The program with failing memory, reads and writes, and on damaged payloads:"
+if ./agebench seal "$(printf '00%.0s' {1..32})" </dev/null >/dev/null; then
+    python3 faults/run.py crates/age_bench/out/age_bench 2>&1 | tee "$log/faults" || status=1
+fi
+faults=$(grep -E '^[0-9]+ passed, [0-9]+ failed$' "$log/faults" 2>/dev/null | tail -n 1)
+[ -n "$faults" ] || { faults='0 passed, 1 failed'; status=1; }
+
+read -r gate_passed _ gate_failed _ <<<"$gate"
+read -r faults_passed _ faults_failed _ <<<"$faults"
+failed=$((gate_failed + faults_failed))
+[ "$failed" -eq 0 ] || status=1
+[ "$status" -eq 0 ] || [ "$failed" -gt 0 ] || failed=1
+echo "gate: $gate"
+echo "faults: $faults"
+echo "$((gate_passed + faults_passed)) passed, $failed failed"
+exit "$status"
