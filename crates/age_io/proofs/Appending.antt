@@ -1,5 +1,5 @@
 -- Facts on what a writer appended, by the laws of `Write`.
-use Rattle.std.proofs.Common.{◌≡◌, ℕ, ◌+◌, ◌≤◌, ◌<◌, Bool, false, IsTrue, List, [], ◌++◌, length, take, drop, subst, sym, ◌∙◌, arith, append-nil, OnErr, OnOk, IfErr, Result, Ok, Err, IfOk}
+use Rattle.std.proofs.Common.{◌≡◌, ℕ, ◌+◌, ◌≤◌, Bool, IsTrue, List, [], ◌++◌, take, drop, subst, ◌∙◌, arith, append-nil, OnErr, Result, Ok, Err}
 use Rattle.std.proofs.lemmas.Grind.{common_steps}
 use Rattle.std.proofs.lemmas.Result.{IfOk-weaker, IfErr-weaker, on_err_weaker}
 use Rattle.std.proofs.lemmas.List.{drop-take, take-append-drop, take-take}
@@ -62,9 +62,9 @@ module _ {S : Type 0} (tells limited : S → Bool) (faults : S → ℕ) (appende
 
   -- more bytes of the same list
   pub further : (a b c : S) (xs : List ℕ) (at n : ℕ) → appended a (take at xs) b → appended b (take n (drop at xs)) c →
-    appended a (take (at + n) xs) c
+      appended a (take (at + n) xs) c
   further a b c xs at n p q =
-    subst (λ l. appended a l c) (take-both xs at n) (joins a b c (take at xs) (take n (drop at xs)) p q)
+      subst (λ l. appended a l c) (take-both xs at n) (joins a b c (take at xs) (take n (drop at xs)) p q)
 
   pub before_nothing : (a b c : S) (x : List ℕ) → appended a x b → appended b [] c → appended a x c
   before_nothing a b c x p q = subst (λ l. appended a l c) (append-nil x) (joins a b c x [] p q)

@@ -1,6 +1,5 @@
 -- Facts on what a reader delivers.
-use Rattle.std.proofs.Common.{◌≡◌, ℕ, ◌+◌, ◌-◌, ◌<◌, ◌≤◌, List, [], ◌∷◌, ◌++◌, length, take, drop, append_assoc, refl, sym, ◌∙◌, ap, arith, IsTrue, drop_at, take_at, length-take-le, le_refl, append-nil, inl}
-use Rattle.std.proofs.lemmas.Grind.{common_steps}
+use Rattle.std.proofs.Common.{◌≡◌, ℕ, ◌+◌, ◌≤◌, List, [], ◌++◌, length, take, drop, append_assoc, refl, sym, ◌∙◌, ap, drop_at, take_at, length-take-le, le_refl, append-nil, inl}
 use borrow.Rule.Slice.PartMut.{put_mid, post_of}
 use Rattle.std.proofs.lemmas.Slice.{take-put_mid_below}
 use lib.Seq.{take-add, take-append-le}
@@ -21,7 +20,7 @@ take-filled at k n xs ys within room =
     let after = post_of at k xs in
     take-add at n (put_mid at k xs ys) ∙
     cong-append (take-put_mid_below at k xs ys at (le_refl at) within)
-        (ap (take n) (drop_at (take at xs) (ys ++ after) at (length-take-le at xs within)) ∙ take-append-le n ys after room)
+    (ap (take n) (drop_at (take at xs) (ys ++ after) at (length-take-le at xs within)) ∙ take-append-le n ys after room)
 
 -- the buffer of a list after a read into all of it
 pub refilled : (old new : List ℕ) (len : ℕ) → len ≡ length old → length new ≡ length old → take len (new ++ drop (length new) old) ≡ new
@@ -36,17 +35,17 @@ pub record Grown (before after : List ℕ) (old new : Stretch) : Type 0 where
 pub Grown-more : (before middle after more : List ℕ) (old reached new : Stretch) → Grown before middle old reached →
     Delivers more reached new → after ≡ middle ++ more → Grown before after old new
 Grown-more before middle after more old reached new g d e = record {
-      front = g.front ++ more;
-      grown = e ∙ ap (λ l. l ++ more) g.grown ∙ append_assoc before g.front more;
-      delivered = Delivers-joined g.front more old reached new g.delivered d;
-    }
+  front = g.front ++ more;
+  grown = e ∙ ap (λ l. l ++ more) g.grown ∙ append_assoc before g.front more;
+  delivered = Delivers-joined g.front more old reached new g.delivered d;
+}
 
 -- nothing was read yet
 pub Appended-none : (s : Stretch) (xs : List ℕ) → Appended s s xs xs
 Appended-none s xs = record {
-      front = [];
-      grown = sym (append-nil xs);
-      middle = s;
-      delivered = record { bytes = refl; end = refl };
-      left = inl refl;
-    }
+  front = [];
+  grown = sym (append-nil xs);
+  middle = s;
+  delivered = record { bytes = refl; end = refl };
+  left = inl refl;
+}

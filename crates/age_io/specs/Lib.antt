@@ -1,5 +1,6 @@
 pub mod Stretch
 pub mod Reading
 pub mod Writing
+pub mod Slices
 pub mod Standard
 pub mod StandardFaults

@@ -1,5 +1,5 @@
 -- What a call on a reader does to its meaning.
-use Rattle.std.specs.Prelude.{◌≡◌, ◌≢◌, ℕ, ◌+◌, ◌-◌, ◌^◌, ◌≤◌, ◌<◌, Bool, false, IsTrue, List, [], ◌++◌, length, take, ◌⊎◌, Result, IfOk, IfErr, OnErr}
+use Rattle.std.specs.Prelude.{◌≡◌, ◌≢◌, ℕ, ◌+◌, ◌-◌, ◌^◌, ◌≤◌, ◌<◌, Bool, false, IsTrue, List, ◌++◌, length, take, ◌⊎◌, Result, IfOk, IfErr, OnErr}
 use Rattle.age_io.specs.Stretch.{Stretch, nothing, from_place, IsCleanEnd, IsFault}
 use Rattle.age_error.specs.Refusals.{IsDevice, IsInterruption}
 use Rattle.age_error.specs.declared.io.Error.{Error}
@@ -47,6 +47,12 @@ pub record Reads {S : Type 0} (tells steady : S → Bool) (content : S → Stret
   pub left : IsTrue (tells old) → OnErr result (StaysOrFails (rest old) (rest new))
   pub interrupted : IsTrue (tells old) → IfErr result (λ e. IsInterruption e → rest new ≡ rest old)
   pub cause : IsTrue (tells old) → IfErr result (λ e. e ≢ OutOfMemory → IsQuiet (faults old) (faults new) → IsFault (rest old))
+
+-- A reader gave these bytes, the beginning of the rest, and stands after them, or has failed there.
+pub record Gave (front : List ℕ) (old new : Stretch) : Type 0 where
+  pub middle : Stretch
+  pub delivered : Delivers front old middle
+  pub left : StaysOrFails middle new
 
 -- A reader gave a beginning of the rest, of at most this many bytes, and stands after it, or has failed there.
 pub record TookSome (most old_place new_place : ℕ) (old new : Stretch) : Type 0 where

@@ -5,3 +5,7 @@ use Rattle.age_io.specs.declared.standard.Std.{Std}
 -- how often its device has failed
 abbrev pub faults_of : {T : Type 0} → Std T → ℕ
 faults_of s = s.faults
+
+-- its device
+abbrev pub inner_of : {T : Type 0} → Std T → T
+inner_of s = s.inner

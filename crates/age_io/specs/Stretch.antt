@@ -1,6 +1,6 @@
 -- A stretch of bytes that a reader delivers, and how it ends.
 use Rattle.std.proofs.Common.{ap, ◌∙◌}
-use Rattle.std.specs.Prelude.{◌≡◌, ℕ, Bool, true, false, IsTrue, List, [], ◌++◌, drop}
+use Rattle.std.specs.Prelude.{◌≡◌, ℕ, Bool, true, false, IsTrue, List, [], drop}
 
 -- bytes, and whether a clean end follows them. Otherwise a fault does.
 pub record Stretch : Type 0 where

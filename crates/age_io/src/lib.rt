@@ -10,5 +10,6 @@ pub use memory::Bytes;
 pub use standard::Std;
 pub use traits::{Read, Write};
 pub use whole::{
-    fill, flush_retrying, read_exact, read_retrying, read_to_end, room_for, write_all, write_retrying,
+    fill, flush_retrying, read_exact, read_retrying, read_to_end, room_for, write_all,
+    write_retrying,
 };

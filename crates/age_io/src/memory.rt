@@ -6,12 +6,12 @@ ghost use Rattle.age_error.specs.Bytes.{AreBytes};
 ghost use Rattle.age_error.specs.declared.io.Error.TheVariants.{OutOfMemory};
 ghost use Rattle.age_io.specs.Stretch.{Stretch, whole, from_place};
 ghost use Rattle.age_io.specs.Reading.{Reads};
-ghost use Rattle.age_io.specs.Writing.{Writes};
+ghost use Rattle.age_io.specs.Writing.{Writes, Flushes};
 
 use crate::traits::{Read, Write};
 use age_error::io::Error;
 
-/// Reads a slice. It never fails and takes no memory.
+/// Reads a slice of fewer than 2^63 bytes. It never refuses and takes no memory.
 #[derive(Drop)]
 pub struct Bytes<'a> {
     bytes: &'a [u8],
@@ -33,15 +33,17 @@ impl<'a> Bytes<'a> {
 }
 
 impl<'a> Read for Bytes<'a> {
+    ghost use Rattle.age_io.specs.Slices.{bytes_of, place_of};
+
     ghost tells = { λ _. true };
 
     ghost steady = { λ _. true };
 
-    ghost content = { λ r. whole r.bytes.now };
+    ghost content = { λ r. whole (bytes_of r) };
 
-    ghost place = { λ r. r.place };
+    ghost place = { λ r. place_of r };
 
-    ghost rest = { λ r. from_place r.place (whole r.bytes.now) };
+    ghost rest = { λ r. from_place (place_of r) (whole (bytes_of r)) };
 
     ghost faults = { λ _. 0 };
 
@@ -59,11 +61,13 @@ impl<'a> Read for Bytes<'a> {
 
     ghost place_fits = { λ r _. Prim.omega (arith, r.within, r.short) };
 
-    /// Gives as many bytes as the buffer takes and the rest has.
+    /// Gives as many bytes as the buffer takes and the rest has, and answers how many. It never refuses, and leaves
+    /// the buffer behind them as it was.
     fn read(&mut self, buf: &mut [u8]) -> Result<usize, Error>
         ensures reads { let reader = ⟦<Bytes<'a> as Read>⟧ in
             Reads reader.tells reader.steady reader.content reader.place reader.rest reader.faults self.old self.new buf.new result }
         ensures all { result ≡ Ok (min (length buf.old) (length (⟦<Bytes<'a> as Read>⟧.rest self.old).bytes)) }
+        ensures behind { IfOk result (λ n. drop n buf.new ≡ drop n buf.old) }
     {
         let count = buf.len().min(self.bytes.len() - self.place);
         buf[..count].copy_from_slice(&self.bytes[self.place..self.place + count]);
@@ -88,7 +92,8 @@ impl Write for Vec<u8> {
 
     ghost joins = { λ a b c x y p q. Prim.grind (arith, common_steps) };
 
-    /// Appends all bytes, or answers `OutOfMemory` with nothing appended.
+    /// Appends all bytes and answers their count. Where the list can't grow it answers `OutOfMemory` and has appended
+    /// nothing; it refuses with nothing else, and may be called again.
     fn write(&mut self, bytes: &[u8]) -> Result<usize, Error>
         ensures writes { let writer = ⟦<Vec<u8> as Write>⟧ in
             Writes writer.tells writer.limited writer.faults writer.appended self.old self.new bytes.now result }
@@ -99,8 +104,13 @@ impl Write for Vec<u8> {
         Ok(bytes.len())
     }
 
-    /// Does nothing.
-    fn flush(&mut self) -> Result<(), Error> {
+    /// Does nothing, since nothing is held back, and never refuses.
+    fn flush(&mut self) -> Result<(), Error>
+        ensures flushes { let writer = ⟦<Vec<u8> as Write>⟧ in
+            Flushes writer.tells writer.limited writer.faults writer.appended self.old self.new result }
+        ensures done { result ≡ Ok tt }
+        ensures same { self.new ≡ self.old }
+    {
         Ok(())
     }
 }

@@ -1,12 +1,13 @@
 //! Readers and writers of std as those of this port.
-ghost use Rattle.std.specs.Prelude.{◌≡◌, ℕ, ◌+◌, ◌^◌, ◌<◌, ◌≤◌, false, List, length, Ok, Err};
+ghost use Rattle.std.specs.Prelude.{◌≡◌, ℕ, ◌+◌, ◌^◌, ◌<◌, ◌≤◌, false, List, length, Ok, Err, OnOk, IfErr};
 ghost use Rattle.std.specs.IoError.{error_kind};
+ghost use Rattle.std.specs.Io.KnownBytes.{ReadConsumes, WriteAppends, Keeps};
 ghost use Rattle.std.proofs.Common.{arith, le_refl, refl};
 ghost use Rattle.age_error.specs.declared.io.Error.TheVariants.{Failed, Device};
 ghost use Rattle.age_io.specs.Stretch.{Stretch, nothing};
 ghost use Rattle.age_io.specs.Reading.{Reads, most_faults};
 ghost use Rattle.age_io.specs.Writing.{Writes, Flushes};
-ghost use Rattle.age_io.specs.Standard.{kind_from};
+ghost use Rattle.age_io.specs.Standard.{CountsFaults, kind_from};
 
 use crate::traits::{Read, Write};
 use age_error::io::{Error, ErrorKind};
@@ -14,8 +15,9 @@ use std::io;
 
 /// A reader or a writer of std. It doesn't tell its bytes, since nobody can know what a device gives.
 ///
-/// Each error of the device counts as a fault and is answered as `Device(kind)`, where a kind that this port doesn't
-/// name is `Other`. After 2^64 - 1 faults it answers `Failed` and asks its device no more.
+/// Each error of the device counts as one fault and is answered as `Device(kind)`, where a kind that this port doesn't
+/// name is `Other`; the next call asks the device again. After 2^64 - 1 faults it answers `Failed` and asks its device
+/// no more. It refuses with nothing else.
 #[derive(Drop)]
 pub struct Std<T> {
     inner: T,
@@ -24,18 +26,31 @@ pub struct Std<T> {
 }
 
 impl<T> Std<T> {
-    ghost use Rattle.age_io.specs.StandardFaults.{faults_of};
+    ghost use Rattle.age_io.specs.StandardFaults.{faults_of, inner_of};
 
     /// This reader or writer, which has not failed yet.
     pub fn new(inner: T) -> Std<T>
-        ensures { faults_of result ≡ 0 }
+        ensures inner { inner_of result ≡ inner }
+        ensures faults { faults_of result ≡ 0 }
     {
         Std { inner, faults: 0 }
+    }
+
+    // Refuses where the count of faults is used up.
+    fn unspent(&self) -> Result<(), Error>
+        ensures unspent { OnOk result (self.now.faults < most_faults) }
+        ensures spent { IfErr result (λ e. (e ≡ Failed) × (self.now.faults ≡ most_faults)) }
+    {
+        if self.faults == u64::MAX {
+            return Err(Error::Failed);
+        }
+        Ok(())
     }
 
     // One more fault, of this kind.
     fn fault(&mut self, error: &io::Error) -> Error
         requires { self.old.faults < most_faults }
+        ensures inner { self.new.inner ≡ self.old.inner }
         ensures faults { self.new.faults ≡ self.old.faults + 1 }
         ensures kind { result ≡ Device (kind_from (error_kind error.now)) }
     {
@@ -62,6 +77,8 @@ fn kind_of(kind: io::ErrorKind) -> ErrorKind
 }
 
 impl<T: io::Read> Read for Std<T> {
+    ghost use Rattle.age_io.specs.StandardFaults.{faults_of, inner_of};
+
     ghost tells = { λ _. false };
 
     ghost steady = { λ _. false };
@@ -72,7 +89,7 @@ impl<T: io::Read> Read for Std<T> {
 
     ghost rest = { λ _. nothing };
 
-    ghost faults = { λ r. r.faults };
+    ghost faults = { λ r. faults_of r };
 
     ghost faults_fit = { λ r. r.fits };
 
@@ -88,15 +105,17 @@ impl<T: io::Read> Read for Std<T> {
 
     ghost place_fits = { λ _ told. Prim.cc };
 
-    /// One read of the device.
+    /// One read of the device. What std knows of its bytes holds of this read too.
+    ///
+    /// A refusal is `Device(kind)`, or `Failed` once the faults are used up.
     fn read(&mut self, buf: &mut [u8]) -> Result<usize, Error>
         ensures reads { let reader = ⟦<Std<T> as Read>⟧ in
             Reads reader.tells reader.steady reader.content reader.place reader.rest reader.faults self.old self.new buf.new result }
+        ensures bytes { ReadConsumes (T.remaining (inner_of self.old)) (T.remaining (inner_of self.new)) result buf.new }
+        ensures asked { faults_of self.old < most_faults → CountsFaults (faults_of self.old) (faults_of self.new) result }
         ensures spent { ⟦<Std<T> as Read>⟧.faults self.old ≡ most_faults → (result ≡ Err Failed) × (self.new ≡ self.old) }
     {
-        if self.faults == u64::MAX {
-            return Err(Error::Failed);
-        }
+        self.unspent()?;
         match self.inner.read(buf) {
             Ok(count) => Ok(count),
             Err(error) => Err(self.fault(&error)),
@@ -105,14 +124,16 @@ impl<T: io::Read> Read for Std<T> {
 }
 
 impl<T: io::Write> Write for Std<T> {
+    ghost use Rattle.age_io.specs.StandardFaults.{faults_of, inner_of};
+
     ghost tells = { λ _. false };
 
     ghost limited = { λ _. false };
 
-    ghost faults = { λ w. w.faults };
+    ghost faults = { λ w. faults_of w };
 
     // Of what went out nothing is known.
-    ghost appended = { λ a x b. a.faults ≤ b.faults };
+    ghost appended = { λ a x b. faults_of a ≤ faults_of b };
 
     ghost faults_fit = { λ w. w.fits };
 
@@ -120,15 +141,17 @@ impl<T: io::Write> Write for Std<T> {
 
     ghost joins = { λ a b c x y p q. Prim.omega (arith, p, q) };
 
-    /// One write to the device.
+    /// One write to the device. What std knows of its bytes holds of this write too.
+    ///
+    /// A refusal is `Device(kind)`, or `Failed` once the faults are used up.
     fn write(&mut self, bytes: &[u8]) -> Result<usize, Error>
         ensures writes { let writer = ⟦<Std<T> as Write>⟧ in
             Writes writer.tells writer.limited writer.faults writer.appended self.old self.new bytes.now result }
+        ensures bytes { WriteAppends (T.contents (inner_of self.old)) (T.contents (inner_of self.new)) result bytes.now }
+        ensures asked { faults_of self.old < most_faults → CountsFaults (faults_of self.old) (faults_of self.new) result }
         ensures spent { ⟦<Std<T> as Write>⟧.faults self.old ≡ most_faults → (result ≡ Err Failed) × (self.new ≡ self.old) }
     {
-        if self.faults == u64::MAX {
-            return Err(Error::Failed);
-        }
+        self.unspent()?;
         match self.inner.write(bytes) {
             Ok(count) => Ok(count),
             Err(error) => Err(self.fault(&error)),
@@ -136,14 +159,16 @@ impl<T: io::Write> Write for Std<T> {
     }
 
     /// One flush of the device.
+    ///
+    /// A refusal is `Device(kind)`, or `Failed` once the faults are used up.
     fn flush(&mut self) -> Result<(), Error>
         ensures flushes { let writer = ⟦<Std<T> as Write>⟧ in
             Flushes writer.tells writer.limited writer.faults writer.appended self.old self.new result }
+        ensures bytes { Keeps (T.contents (inner_of self.old)) (T.contents (inner_of self.new)) }
+        ensures asked { faults_of self.old < most_faults → CountsFaults (faults_of self.old) (faults_of self.new) result }
         ensures spent { ⟦<Std<T> as Write>⟧.faults self.old ≡ most_faults → (result ≡ Err Failed) × (self.new ≡ self.old) }
     {
-        if self.faults == u64::MAX {
-            return Err(Error::Failed);
-        }
+        self.unspent()?;
         match self.inner.flush() {
             Ok(()) => Ok(()),
             Err(error) => Err(self.fault(&error)),

@@ -1,9 +1,9 @@
 //! Reads and writes that go on until all is done.
-ghost use Rattle.std.specs.Prelude.{◌≡◌, ◌≢◌, ℕ, ◌+◌, ◌^◌, ◌≤◌, ◌<◌, Bool, IsTrue, List, [], ◌++◌, length, take, vec_len, false, IfOk, OnOk, IfErr, OnErr, IsErrAnd, Ok, Err};
+ghost use Rattle.std.specs.Prelude.{◌≡◌, ◌≢◌, ℕ, ◌+◌, ◌^◌, ◌≤◌, ◌<◌, Bool, IsTrue, List, [], ◌++◌, length, take, vec_len, All, false, IfOk, OnOk, IfErr, OnErr, IsErrAnd, Ok, Err};
 ghost use Rattle.age_error.specs.Refusals.{IsDevice, IsInterruption};
 ghost use Rattle.age_error.specs.declared.io.Error.TheVariants.{OutOfMemory, UnexpectedEof};
 ghost use Rattle.age_io.specs.Stretch.{Stretch, IsCleanEnd, IsFault, from_place};
-ghost use Rattle.age_io.specs.Reading.{Reads, IsQuiet, Delivers, StaysOrFails, TookSome, IsShort, Appended, EndsEarly, most_faults};
+ghost use Rattle.age_io.specs.Reading.{Reads, IsQuiet, Delivers, StaysOrFails, TookSome, IsShort, Appended, EndsEarly, Gave, most_faults};
 ghost use Rattle.age_io.specs.Writing.{Writes, Flushes, WritesAll};
 
 use crate::traits::{Read, Write};
@@ -21,7 +21,10 @@ fn is_interruption<T>(answer: &Result<T, Error>) -> bool
     }
 }
 
-/// A read that is tried again after an interruption, up to 16 times in a row; after that it answers `Device(Other)`.
+/// One read that is tried again after an interruption, up to 16 times in a row; after that it answers `Device(Other)`.
+///
+/// Otherwise the answer is the last read's, with its bytes in front of `buf` and their count, and so are its errors
+/// and the reader's state after them. It is never `Device(Interrupted)`.
 pub fn read_retrying<R: Read>(reader: &mut R, buf: &mut [u8]) -> Result<usize, Error>
     requires { 0 < length buf.old }
     ensures reads { Reads R.tells R.steady R.content R.place R.rest R.faults reader.old reader.new buf.new result }
@@ -36,7 +39,10 @@ pub fn read_retrying<R: Read>(reader: &mut R, buf: &mut [u8]) -> Result<usize, E
     Err(Error::Device(ErrorKind::Other))
 }
 
-/// A write that is tried again after an interruption, up to 16 times in a row; after that it answers `Device(Other)`.
+/// One write that is tried again after an interruption, up to 16 times in a row; after that it answers `Device(Other)`.
+///
+/// Otherwise the answer is the last write's: how many bytes it took, from the front. After a refusal nothing was
+/// appended. It is never `Device(Interrupted)`.
 pub fn write_retrying<W: Write>(writer: &mut W, bytes: &[u8]) -> Result<usize, Error>
     ensures writes { Writes W.tells W.limited W.faults W.appended writer.old writer.new bytes.now result }
     ensures patient { IfErr result (λ e. IsInterruption e → ⊥) }
@@ -50,7 +56,9 @@ pub fn write_retrying<W: Write>(writer: &mut W, bytes: &[u8]) -> Result<usize, E
     Err(Error::Device(ErrorKind::Other))
 }
 
-/// A flush that is tried again after an interruption, up to 16 times in a row; after that it answers `Device(Other)`.
+/// One flush that is tried again after an interruption, up to 16 times in a row; after that it answers `Device(Other)`.
+///
+/// Otherwise the answer is the last flush's. It appends nothing, and is never `Device(Interrupted)`.
 pub fn flush_retrying<W: Write>(writer: &mut W) -> Result<(), Error>
     ensures flushes { Flushes W.tells W.limited W.faults W.appended writer.old writer.new result }
     ensures patient { IfErr result (λ e. IsInterruption e → ⊥) }
@@ -64,9 +72,10 @@ pub fn flush_retrying<W: Write>(writer: &mut W) -> Result<(), Error>
     Err(Error::Device(ErrorKind::Other))
 }
 
-/// Fills the buffer, or as much of it as comes before a clean end. `filled` says how much, also after a refusal.
+/// Fills the buffer, or as much of it as comes before a clean end. `filled` says how many bytes, also after a refusal.
 ///
-/// A refusal is that of the read that met it. An interruption is tried again as in `read_retrying`.
+/// A refusal is that of the read that met it. The reader then stands after the bytes in `filled`, or has failed there.
+/// An interruption is tried again as in `read_retrying`.
 pub fn fill<R: Read>(reader: &mut R, buf: &mut [u8], filled: &mut usize) -> Result<(), Error>
     ensures tells { R.tells reader.new ≡ R.tells reader.old }
     ensures steady { R.steady reader.new ≡ R.steady reader.old }
@@ -81,6 +90,8 @@ pub fn fill<R: Read>(reader: &mut R, buf: &mut [u8], filled: &mut usize) -> Resu
         (Delivers (take filled.new buf.new) (R.rest reader.old) (R.rest reader.new)) }
     ensures end { IsTrue (R.tells reader.old) → OnOk result
         (filled.new < length buf.new → IsCleanEnd (R.rest reader.new)) }
+    ensures err { IsTrue (R.tells reader.old) → OnErr result
+        (Gave (take filled.new buf.new) (R.rest reader.old) (R.rest reader.new)) }
     ensures cause { IsTrue (R.tells reader.old) → IfErr result (λ e. e ≢ OutOfMemory →
         IsQuiet (R.faults reader.old) (R.faults reader.new) → EndsEarly (length buf.new) (R.rest reader.old)) }
 {
@@ -96,7 +107,8 @@ pub fn fill<R: Read>(reader: &mut R, buf: &mut [u8], filled: &mut usize) -> Resu
 
 /// Fills the whole buffer. Where a clean end comes before that the answer is `UnexpectedEof`.
 ///
-/// After a refusal the reader stands after the bytes that it gave. An interruption is tried again as in
+/// Any other refusal is that of the read that met it. The reader then stands after the bytes that it gave, at most the
+/// buffer's length, or has failed there; what the buffer holds isn't said. An interruption is tried again as in
 /// `read_retrying`.
 pub fn read_exact<R: Read>(reader: &mut R, buf: &mut [u8]) -> Result<(), Error>
     ensures tells { R.tells reader.new ≡ R.tells reader.old }
@@ -104,6 +116,7 @@ pub fn read_exact<R: Read>(reader: &mut R, buf: &mut [u8]) -> Result<(), Error>
     ensures faults { R.faults reader.old ≤ R.faults reader.new }
     ensures device { IfErr result (λ e. IsDevice e → R.faults reader.old < R.faults reader.new) }
     ensures unspent { 0 < length buf.old → OnOk result (R.faults reader.new < most_faults) }
+    ensures patient { IfErr result (λ e. IsInterruption e → ⊥) }
     ensures content { IsTrue (R.tells reader.old) → R.content reader.new ≡ R.content reader.old }
     ensures bytes { IsTrue (R.tells reader.old) → OnOk result
         (Delivers buf.new (R.rest reader.old) (R.rest reader.new)) }
@@ -128,10 +141,11 @@ pub fn read_exact<R: Read>(reader: &mut R, buf: &mut [u8]) -> Result<(), Error>
 // How many bytes `read_to_end` asks for at once.
 const PIECE: usize = 65_536;
 
-/// Appends the whole rest and answers its length in bytes. A success says that the rest ended well.
+/// Appends the whole rest and answers its length in bytes. A success says that the rest ended well, and the reader
+/// stands at its end.
 ///
-/// After a refusal what was delivered before it is appended. `OutOfMemory` comes where the list can't grow.
-/// An interruption is tried again as in `read_retrying`.
+/// A refusal is that of the read that met it, or `OutOfMemory` where the list can't grow. What was delivered before it
+/// is appended, and no byte is lost. An interruption is tried again as in `read_retrying`.
 pub fn read_to_end<R: Read>(
     alloc: Global,
     reader: &mut R,
@@ -142,11 +156,15 @@ pub fn read_to_end<R: Read>(
     ensures faults { R.faults reader.old ≤ R.faults reader.new }
     ensures device { IfErr result (λ e. IsDevice e → R.faults reader.old < R.faults reader.new) }
     ensures unspent { OnOk result (R.faults reader.new < most_faults) }
+    ensures patient { IfErr result (λ e. IsInterruption e → ⊥) }
     ensures content { IsTrue (R.tells reader.old) → R.content reader.new ≡ R.content reader.old }
     ensures bytes { IsTrue (R.tells reader.old) → OnOk result
         (buf.new.items ≡ buf.old.items ++ (R.rest reader.old).bytes) }
     ensures count { IfOk result (λ n. vec_len buf.new ≡ vec_len buf.old + n) }
+    ensures moves { IsTrue (R.tells reader.old) →
+        R.place reader.new + vec_len buf.old ≡ R.place reader.old + vec_len buf.new }
     ensures end { IsTrue (R.tells reader.old) → OnOk result (IsTrue (R.rest reader.old).ends_well) }
+    ensures left { IsTrue (R.tells reader.old) → OnOk result (IsCleanEnd (R.rest reader.new)) }
     ensures err { IsTrue (R.tells reader.old) → OnErr result
         (Appended (R.rest reader.old) (R.rest reader.new) buf.old.items buf.new.items) }
     ensures cause { IsTrue (R.tells reader.old) → IfErr result (λ e. e ≢ OutOfMemory →
@@ -164,9 +182,10 @@ pub fn read_to_end<R: Read>(
     }
 }
 
-/// So many zero bytes, as room to read into.
+/// A list of `size` zero bytes, as room to read into. It refuses with `OutOfMemory` alone.
 pub fn room_for(alloc: Global, size: usize) -> Result<Vec<u8>, Error>
     ensures length { IfOk result (λ v. length v.items ≡ size) }
+    ensures zeros { IfOk result (λ v. All (λ b. b ≡ 0) v.items) }
     ensures memory { IfErr result (λ e. e ≡ OutOfMemory) }
 {
     Ok(vec![in alloc; 0; size]?)
@@ -174,9 +193,11 @@ pub fn room_for(alloc: Global, size: usize) -> Result<Vec<u8>, Error>
 
 /// Writes all bytes. Where a write of some bytes takes none of them the answer is `WriteZero`.
 ///
-/// After a refusal a beginning of the bytes went out. An interruption is tried again as in `write_retrying`.
+/// Any other refusal is that of the write that met it. A beginning of the bytes was then appended, and how many isn't
+/// said. An interruption is tried again as in `write_retrying`.
 pub fn write_all<W: Write>(writer: &mut W, bytes: &[u8]) -> Result<(), Error>
-    ensures { WritesAll W.tells W.limited W.faults W.appended writer.old writer.new bytes.now result }
+    ensures writes { WritesAll W.tells W.limited W.faults W.appended writer.old writer.new bytes.now result }
+    ensures patient { IfErr result (λ e. IsInterruption e → ⊥) }
 {
     let mut at = 0;
     while at < bytes.len() {

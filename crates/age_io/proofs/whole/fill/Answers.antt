@@ -1,4 +1,4 @@
-use Rattle.std.proofs.Common.{arith, ◌∙◌, ◌+◌, ◌-◌, ◌≤◌, sym, length}
+use Rattle.std.proofs.Common.{arith, ◌∙◌, ◌-◌, length}
 use Rattle.std.proofs.lemmas.Grind.{common_steps}
 use Rattle.age_io.proofs.Delivering.{Delivers-joined, take-filled}
 use Rattle.age_io.proofs.whole.fill.Goals as goal
@@ -16,8 +16,8 @@ reads-preserved g c =
       so_far = λ told.
           let k = length c.reads.buf - c.reads.filled in
           let filled = take-filled c.reads.filled k c.in_ok-n.n c.reads.buf c.read_retrying.new.buf
-              c.reads.invariant.within got.count in
+          c.reads.invariant.within got.count in
           rw filled (Delivers-joined _ _ _ _ _ (c.reads.invariant.so_far told)
-              (got.bytes (c.reads.invariant.same_tells ∙ told)));
+          (got.bytes (c.reads.invariant.same_tells ∙ told)));
       unspent = λ _. got.unspent (grind (arith, common_steps));
     }

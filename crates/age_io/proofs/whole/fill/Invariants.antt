@@ -1,4 +1,4 @@
-use Rattle.std.proofs.Common.{◌≡◌, ◌≤◌, ◌<◌, ◌-◌, ◌+◌, IsTrue, [], length, take}
+use Rattle.std.proofs.Common.{◌≡◌, ◌≤◌, ◌<◌, ◌-◌, ◌+◌, IsTrue, length, take}
 use Rattle.age_io.specs.Reading.{Delivers, most_faults}
 use Rattle.age_io.proofs.whole.fill.Given as goal
 

@@ -1,4 +1,4 @@
-use Rattle.std.proofs.Common.{◌≡◌, ◌<◌}
+use Rattle.std.proofs.Common.{◌<◌}
 use Rattle.age_io.proofs.Appending.{Untouched}
 use Rattle.age_io.proofs.whole.flush_retrying.Given as goal
 

@@ -1,4 +1,4 @@
-use Rattle.std.proofs.Common.{arith, ◌∙◌, ◌+◌, ◌-◌, ◌≤◌, sym, length}
+use Rattle.std.proofs.Common.{arith, ◌∙◌, ◌-◌, length}
 use Rattle.std.proofs.lemmas.Grind.{common_steps}
 use Rattle.age_io.proofs.Delivering.{Delivers-joined, take-filled}
 use Rattle.age_io.proofs.whole.read_exact.Goals as goal
@@ -16,8 +16,8 @@ loop-at-preserved g c =
       so_far = λ told.
           let k = length c.loop-at.buf - c.loop-at.at in
           let filled = take-filled c.loop-at.at k c.in_ok-n.n c.loop-at.buf c.read_retrying.new.buf
-              c.loop-at.invariant.within got.count in
+          c.loop-at.invariant.within got.count in
           rw filled (Delivers-joined _ _ _ _ _ (c.loop-at.invariant.so_far told)
-              (got.bytes (c.loop-at.invariant.same_tells ∙ told)));
+          (got.bytes (c.loop-at.invariant.same_tells ∙ told)));
       unspent = λ _. got.unspent (grind (arith, common_steps));
     }

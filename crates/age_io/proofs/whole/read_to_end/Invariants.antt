@@ -1,4 +1,4 @@
-use Rattle.std.proofs.Common.{◌≡◌, ◌≤◌, ◌<◌, ◌-◌, ◌++◌, ◌^◌, IsTrue, vec_len, length}
+use Rattle.std.proofs.Common.{◌≡◌, ◌≤◌, ◌<◌, ◌-◌, ◌+◌, ◌^◌, IsTrue, vec_len, length}
 use Rattle.age_io.proofs.Delivering.{Grown}
 use Rattle.age_io.proofs.whole.read_to_end.Given as goal
 
@@ -13,6 +13,7 @@ invariant-reads g l =
       some_room : 0 < length l.room.items;
       start : l.start ≡ vec_len l.fn.buf;
       longer : vec_len l.fn.buf ≤ vec_len l.buf;
+      moved : IsTrue (reader.tells l.fn.reader) → reader.place l.reader + vec_len l.fn.buf ≡ reader.place l.fn.reader + vec_len l.buf;
       so_far : IsTrue (reader.tells l.fn.reader) → Grown l.fn.buf.items l.buf.items (reader.rest l.fn.reader) (reader.rest l.reader);
     }
 

@@ -1,11 +1,11 @@
-use Rattle.std.proofs.Common.{◌≡◌, arith, ◌∙◌, ◌+◌, ◌≤◌, sym, subst, length, take, drop}
+use Rattle.std.proofs.Common.{◌≡◌, arith, ◌∙◌, subst, take, drop}
 use Rattle.std.proofs.lemmas.Grind.{common_steps}
 use Rattle.std.proofs.lemmas.List.{take_rest}
 use Rattle.age_io.proofs.Appending.{further, before_nothing}
 use Rattle.age_io.proofs.whole.write_all.Goals as goal
 
-pub returns-in-Err : goal.returns-in-Err
-returns-in-Err g c =
+pub returns-in-Err-clause-writes : goal.returns-in-Err-clause-writes
+returns-in-Err-clause-writes g c =
     let sent = c.in-Err.ensures.writes in
     let before = c.loop-at.invariant in
     record {
@@ -15,13 +15,16 @@ returns-in-Err g c =
       device = λ is. omega (arith, sent.device is, before.no_fewer_faults);
       unlimited = λ none. sent.unlimited (before.same_limited ∙ none);
       takes = λ told. tt;
-      refuses = λ told. (c.loop-at.at, before.within,
-          before_nothing g.W.Write.tells g.W.Write.limited g.W.Write.faults g.W.Write.appended g.met.W.Write.joins _ _ _ _
-              (before.so_far told) (sent.refuses (before.same_tells ∙ told)));
+      refuses = λ told. (
+        c.loop-at.at,
+        before.within,
+        before_nothing g.W.Write.tells g.W.Write.limited g.W.Write.faults g.W.Write.appended g.met.W.Write.joins _ _ _ _
+            (before.so_far told) (sent.refuses (before.same_tells ∙ told)),
+      );
     }
 
-pub returns-in-Ok-eq0 : goal.returns-in-Ok-eq0
-returns-in-Ok-eq0 g c =
+pub returns-in-Ok-eq0-clause-writes : goal.returns-in-Ok-eq0-clause-writes
+returns-in-Ok-eq0-clause-writes g c =
     let sent = c.in-Ok-eq0.ensures.writes in
     let before = c.loop-at.invariant in
     let zero-is : c.in-Ok-eq0.field-0 ≡ 0 = omega (arith, c.in-Ok-eq0.field-0-test) in
@@ -32,9 +35,12 @@ returns-in-Ok-eq0 g c =
       device = λ is. absurd is;
       unlimited = λ none is. (cc);
       takes = λ told. tt;
-      refuses = λ told. (c.loop-at.at, before.within,
-          before_nothing g.W.Write.tells g.W.Write.limited g.W.Write.faults g.W.Write.appended g.met.W.Write.joins _ _ _ _
-              (before.so_far told) (subst (λ n. g.W.Write.appended c.loop-at.writer (take n (drop c.loop-at.at c.args.bytes.now)) c.write_retrying.new.writer) zero-is (rw take_rest at (sent.takes (before.same_tells ∙ told)))));
+      refuses = λ told. (
+        c.loop-at.at,
+        before.within,
+        before_nothing g.W.Write.tells g.W.Write.limited g.W.Write.faults g.W.Write.appended g.met.W.Write.joins _ _ _ _
+            (before.so_far told) (subst (λ n. g.W.Write.appended c.loop-at.writer (take n (drop c.loop-at.at c.args.bytes.now)) c.write_retrying.new.writer) zero-is (rw take_rest at (sent.takes (before.same_tells ∙ told)))),
+      );
     }
 
 pub loop-at-preserved : goal.loop-at-preserved
