@@ -1,39 +1,23 @@
 -- What a `StreamReader`'s steps answer, in the words of the definition.
-use Rattle.std.specs.Prelude.{◌≡◌, ℕ, ◌+◌, ◌-◌, ◌*◌, ◌^◌, ◌<◌, ◌≤◌, ◌⊎◌, Option, Some, Ok, Err, Bool, true, false, List, [], ◌++◌, length, take, drop, min}
-use Rattle.std.proofs.Common.{refl, sym, ap, subst, ◌∙◌, inl, inr, arith, length-append, length-drop, length-take-le}
-use Rattle.std.proofs.lemmas.List.{nil_from_length}
+use Rattle.std.specs.Prelude.{◌≡◌, ℕ, ◌+◌, ◌-◌, ◌*◌, ◌^◌, ◌<◌, ◌≤◌, Option, Ok, Err, Bool, true, false, List, length, take, drop, min}
+use Rattle.std.proofs.Common.{refl, sym, ap, ◌∙◌, inl, inr, arith, length-append, length-drop, length-take-le}
 use Rattle.std.proofs.lemmas.List.Elements.{All-drop, All-nil}
-use Rattle.std.proofs.lemmas.Bool.{true≢false}
 use Rattle.age_error.specs.Bytes.{AreBytes, AreBytesOf}
 use Rattle.age_error.specs.declared.io.Error.{Error}
 use Rattle.age_error.specs.declared.io.Error.TheVariants.{AfterLast}
 use Rattle.age_suite.specs.Suite.{IsCipher}
-use Rattle.age_io.specs.Stretch.{Stretch, whole, nothing, from_place, stretch-ext, IsCleanEnd}
-use Rattle.age_io.specs.Reading.{StandsIn, Delivers, EndsEarly}
-use Rattle.age_stream.specs.Payload.{Seal, chunk}
-use Rattle.age_stream.specs.Opening.{shorter}
+use Rattle.age_io.specs.Stretch.{Stretch, whole, stretch-ext, IsCleanEnd}
+use Rattle.age_io.specs.Reading.{StandsIn, Delivers}
+use Rattle.age_stream.specs.Payload.{Seal}
 use Rattle.age_stream.specs.Chunks.{chunk_of, delivered}
 use Rattle.age_stream.specs.FrontToEnd.{StopsAt}
-use Rattle.age_stream.specs.Answering.{IsHeldAs, Gives, Refuses, IsEnd}
-use Rattle.age_stream.specs.Reading.{payload_at, text_at, rest_of, IsFront, IsHeld, IsPast, IsInside, IsSound}
-use Rattle.age_stream.specs.ReadingLaws.{taken-rest, stream_stands}
+use Rattle.age_stream.specs.WellLaws.{accepted}
+use Rattle.age_stream.specs.Answering.{IsHeldAs, Gives, IsEnd}
+use Rattle.age_stream.specs.Reading.{payload_at, text_at, IsFront, IsHeld, IsPast}
 use Rattle.age_stream.proofs.Payloads.{plain_len-payload, chunk-last}
-use Rattle.age_stream.proofs.Judged.{text_chunk, judged-middle, judged-last, judged-refused, judged-after_last}
+use Rattle.age_stream.proofs.Judged.{text_chunk, allowed-accepted, judged-middle, judged-last, judged-refused, judged-after_last}
 use Rattle.age_stream.proofs.Reopened.{payload-delivered}
-use Rattle.age_stream.proofs.Holding.{front_of}
-
--- what was read from the inner reader is the text of the chunk at the place
-pub text-read : (content rest after : Stretch) (place taken number : ℕ) (text : List ℕ) → StandsIn content place rest → taken ≤ place → taken ≡ 65552 * number →
-    Delivers text rest after → length text ≤ 65552 → (length text < 65552 → IsCleanEnd after) → text_at number (payload_at place taken content) ≡ text
-text-read content rest after place taken number text stands fits stood came most ended = elim (taken-rest content rest place taken stands fits) [
-  | inl is ↦
-      let here : rest.bytes ≡ drop (65552 * number) (payload_at place taken content).bytes = ap (λ s. s.bytes) is ∙ ap (λ n. drop n (payload_at place taken content).bytes) stood in
-      ap (take 65552) (sym here) ∙ front_of rest after text came most ended
-  | inr is ↦
-      let none : length text + length after.bytes ≡ 0 = sym (length-append text after.bytes) ∙ sym (ap length came.bytes) ∙ ap (λ s. length s.bytes) is in
-      let clean = ended (omega (arith, none)) in
-      absurd (true≢false (sym clean.ends_well ∙ came.end ∙ ap (λ s. s.ends_well) is))
-]
+use Rattle.age_stream.proofs.Holding.{TookText, text-read}
 
 -- the rest of a steady reader is bytes
 pub rest-bytes : (content rest : Stretch) (place : ℕ) → StandsIn content place rest → AreBytes content.bytes → AreBytes rest.bytes
@@ -64,6 +48,7 @@ module _ (seal_of : Seal) (opened : List ℕ → List ℕ → List ℕ → Optio
         within = within;
         small = small;
         held = held_as last payload.bytes plain number b held.judged;
+        allowed = allowed-accepted opened key number (text_at number payload) plain last (accepted opened key number (text_at number payload) plain last held.judged);
         judged = λ less. (held.whole (rw (text_chunk number payload) less)).0;
         exact = long;
         are = is ∙ ap (λ n. take n (drop at plain)) (sym long);
@@ -71,12 +56,12 @@ module _ (seal_of : Seal) (opened : List ℕ → List ℕ → List ℕ → Optio
 
   -- the chunk at the place was read and is refused
   pub refuses-chunk : (content rest after : Stretch) (place taken number : ℕ) (text : List ℕ) (e : Error) → AreBytes content.bytes → StandsIn content place rest → taken ≤ place → taken ≡ 65552 * number →
-      65552 * number ≤ length (payload_at place taken content).bytes → Delivers text rest after → length text ≤ 65552 → (length text < 65552 → IsCleanEnd after) → chunk_of opened key number text ≡ Err e →
+      65552 * number ≤ length (payload_at place taken content).bytes → TookText rest after text → chunk_of opened key number text ≡ Err e →
       StopsAt seal_of key (payload_at place taken content).bytes number e
-  refuses-chunk content rest after place taken number text e bytes stands fits stood within came most ended bad =
+  refuses-chunk content rest after place taken number text e bytes stands fits stood within took bad =
       let payload = payload_at place taken content in
       let b : AreBytes payload.bytes = All-drop (λ x. x < 2 ^ 8) (place - taken) content.bytes bytes in
-      judged-refused seal_of opened law key k payload.bytes b number e within (rw (text-read content rest after place taken number text stands fits stood came most ended) bad)
+      judged-refused seal_of opened law key k payload.bytes b number e within (rw (text-read content rest after place taken number text stands fits stood took) bad)
 
   -- a byte comes after the last chunk
   pub refuses-after : (payload rest after : Stretch) (number taken : ℕ) (last : Bool) (plain text : List ℕ) → AreBytes payload.bytes → IsHeld opened key payload number last plain → last ≡ true →

@@ -1,16 +1,15 @@
 -- What a `StreamReader`'s steps do to what it keeps and to what reads can still deliver.
-use Rattle.std.specs.Prelude.{◌≡◌, ◌≢◌, ℕ, ◌+◌, ◌-◌, ◌*◌, ◌/◌, ◌^◌, ◌<◌, ◌≤◌, ◌⊎◌, ◌&&◌, Option, Some, None, Result, Ok, Err, Bool, true, false, IsTrue, cond, List, [], ◌∷◌, ◌++◌, length, take, drop, min}
-use Rattle.std.proofs.Common.{refl, sym, ap, subst, ◌∙◌, inl, inr, arith, length-append, length-take, length-drop, add-one, zero-add, add-zero, length-take-le}
-use Rattle.std.proofs.lemmas.List.{append-nil, take-append-drop, drop-drop, drop_all, take_all, append_assoc, drop_at, take_at, drop-append-le, nil_from_length}
+use Rattle.std.specs.Prelude.{◌≡◌, ℕ, ◌+◌, ◌-◌, ◌*◌, ◌^◌, ◌<◌, ◌≤◌, Option, Ok, Err, Bool, true, false, List, [], ◌∷◌, ◌++◌, length, take, drop, min}
+use Rattle.std.proofs.Common.{refl, sym, ap, subst, ◌∙◌, inl, inr, arith, length-append, length-take, length-drop, add-one, length-take-le}
+use Rattle.std.proofs.lemmas.List.{append-nil, take-append-drop, drop-drop, drop_all, take_all, append_assoc, drop_at, take_at, nil_from_length}
 use Rattle.std.proofs.lemmas.List.Elements.{All-drop, All-take}
 use Rattle.std.proofs.lemmas.Bool.{cases_lt, true≢false}
 use Rattle.age_error.specs.Bytes.{AreBytes}
 use Rattle.age_error.specs.declared.io.Error.{Error}
 use Rattle.age_io.specs.Stretch.{Stretch, nothing, from_place, stretch-ext, IsCleanEnd, IsFault}
 use Rattle.age_io.specs.Reading.{StandsIn, Delivers, EndsEarly}
-use Rattle.age_stream.specs.Payload.{nonce}
 use Rattle.age_stream.specs.Opening.{Shorter}
-use Rattle.age_stream.specs.Chunks.{Chunk, is_empty, chunk_of, prepend, after_last, delivers, delivered}
+use Rattle.age_stream.specs.Chunks.{chunk_of, prepend, after_last, delivered}
 use Rattle.age_stream.specs.ChunkLaws.{delivered-chunk, delivered-refused, delivered-cut}
 use Rattle.age_stream.specs.WellLaws.{accepted, delivered-nothing}
 use Rattle.age_stream.specs.Reading.{payload_at, text_at, behind, rest_of, IsFront, IsHeld, IsPast, IsInside, IsSound}
@@ -18,12 +17,45 @@ use Rattle.age_stream.specs.ReadingLaws.{taken-rest}
 
 -- ---- lists
 
+-- an inner reader gave a full text, or all that was left before its clean end
+pub record TookText (before after : Stretch) (text : List ℕ) : Type 0 where
+  pub came : Delivers text before after
+  pub most : length text ≤ 65552
+  pub ended : length text < 65552 → IsCleanEnd after
+
+-- what was read into room for a full text
+pub took-text : (buf : List ℕ) (count : ℕ) (before after : Stretch) → length buf ≡ 65552 → count ≤ length buf → Delivers (take count buf) before after →
+    (count < length buf → IsCleanEnd after) → TookText before after (take count buf)
+took-text buf count before after size fits came ended =
+    let long : length (take count buf) ≡ count = length-take-le count buf fits in
+    record { came = came; most = omega arith; ended = λ less. ended (omega (arith, long, size, less)) }
+
 -- the text that was read is what stands at the front
-pub front_of : (before after : Stretch) (text : List ℕ) → Delivers text before after → length text ≤ 65552 → (length text < 65552 → IsCleanEnd after) → take 65552 before.bytes ≡ text
-front_of before after text came most ended = elim (cases_lt (length text) 65552) [
-  | inl less ↦ rw (came.bytes, (ended less).bytes, append-nil) (take_all 65552 text most)
-  | inr full ↦ rw came.bytes (take_at text after.bytes 65552 (omega arith))
+front_of : (before after : Stretch) (text : List ℕ) → TookText before after text → take 65552 before.bytes ≡ text
+front_of before after text took = elim (cases_lt (length text) 65552) [
+  | inl less ↦ rw (took.came.bytes, (took.ended less).bytes, append-nil) (take_all 65552 text took.most)
+  | inr full ↦ rw took.came.bytes (take_at text after.bytes 65552 (omega (arith, took.most)))
 ]
+
+-- a reader that gave a text hadn't failed: it stood after the bytes that were taken
+stood-taken : (content rest after : Stretch) (place taken : ℕ) (text : List ℕ) → StandsIn content place rest → taken ≤ place → TookText rest after text →
+    rest ≡ from_place taken (payload_at place taken content)
+stood-taken content rest after place taken text stands fits took = elim (taken-rest content rest place taken stands fits) [
+  | inl is ↦ is
+  | inr is ↦
+      let none : length text + length after.bytes ≡ 0 = sym (length-append text after.bytes) ∙ sym (ap length took.came.bytes) ∙ ap (λ s. length s.bytes) is in
+      let clean = took.ended (omega (arith, none)) in
+      absurd (true≢false (sym clean.ends_well ∙ took.came.end ∙ ap (λ s. s.ends_well) is))
+]
+
+-- the text that was read is that of the chunk at the place
+pub text-read : (content rest after : Stretch) (place taken number : ℕ) (text : List ℕ) → StandsIn content place rest → taken ≤ place → taken ≡ 65552 * number →
+    TookText rest after text → text_at number (payload_at place taken content) ≡ text
+text-read content rest after place taken number text stands fits stood took =
+    let payload = payload_at place taken content in
+    let here : rest.bytes ≡ drop (65552 * number) payload.bytes =
+    ap (λ s. s.bytes) (stood-taken content rest after place taken text stands fits took) ∙ ap (λ n. drop n payload.bytes) stood in
+    ap (take 65552) (sym here) ∙ front_of rest after text took
 
 -- what was copied to the front of a buffer
 pub copied : (chunk copy after : List ℕ) (at count : ℕ) → at + count ≤ length chunk → copy ≡ take ((at + count) - at) (drop at chunk) →
@@ -147,45 +179,42 @@ module _ (opened : List ℕ → List ℕ → List ℕ → Option (List ℕ)) (ke
       let gone : delivered opened key number rest ≡ nothing = rw early.badly (delivered-cut opened key number rest.bytes early.short) in
       fault-of _ (rest-open failed held at chunk last number rest good is ∙ gone)
 
-  over-by : (text : List ℕ) (rest after : Stretch) → Delivers text rest after → (length text < 65552 → IsCleanEnd after) →
-      length text < 65552 → (after.bytes ≡ []) × (rest.ends_well ≡ true)
-  over-by text rest after came ended less = ((ended less).bytes, sym came.end ∙ (ended less).ends_well)
+  over-by : (text : List ℕ) (rest after : Stretch) → TookText rest after text → length text < 65552 → (after.bytes ≡ []) × (rest.ends_well ≡ true)
+  over-by text rest after took less = ((took.ended less).bytes, sym took.came.end ∙ (took.ended less).ends_well)
 
   pub open-refused : (failed held last : Bool) (at : ℕ) (chunk : List ℕ) (number : ℕ) (rest after : Stretch) (text : List ℕ) (e : Error) → failed ≡ false → held ≡ false →
-      Delivers text rest after → length text ≤ 65552 → (length text < 65552 → IsCleanEnd after) → chunk_of opened key number text ≡ Err e →
-      IsFault (rest_of opened key failed held at chunk last number rest)
-  open-refused failed held last at chunk number rest after text e good is came most ended bad =
+      TookText rest after text → chunk_of opened key number text ≡ Err e → IsFault (rest_of opened key failed held at chunk last number rest)
+  open-refused failed held last at chunk number rest after text e good is took bad =
       let gone : delivered opened key number rest ≡ nothing =
-      rw came.bytes (delivered-refused opened key number text after.bytes rest.ends_well e most (over-by text rest after came ended) bad) in
+      rw took.came.bytes (delivered-refused opened key number text after.bytes rest.ends_well e took.most (over-by text rest after took) bad) in
       fault-of _ (rest-open failed held at chunk last number rest good is ∙ gone)
 
-  opened-rest : (number : ℕ) (rest after : Stretch) (text plain : List ℕ) (last : Bool) → Delivers text rest after → length text ≤ 65552 →
-      (length text < 65552 → IsCleanEnd after) → (length text < 65552 → last ≡ true) → chunk_of opened key number text ≡ Ok (plain, last) →
+  opened-rest : (number : ℕ) (rest after : Stretch) (text plain : List ℕ) (last : Bool) → TookText rest after text →
+      (length text < 65552 → last ≡ true) → chunk_of opened key number text ≡ Ok (plain, last) →
       delivered opened key number rest ≡ prepend plain (behind opened key last number after)
-  opened-rest number rest after text plain last came most ended short is =
-      let chunked = delivered-chunk opened key number text after.bytes rest.ends_well plain last most (over-by text rest after came ended) short is in
-      rw (came.bytes, add-one, came.end) chunked
+  opened-rest number rest after text plain last took short is =
+      let chunked = delivered-chunk opened key number text after.bytes rest.ends_well plain last took.most (over-by text rest after took) short is in
+      rw (took.came.bytes, add-one, took.came.end) chunked
 
   -- the chunk at the place is held now
   pub rest-opened : (failed held last new_last : Bool) (at : ℕ) (chunk plain : List ℕ) (number : ℕ) (rest after : Stretch) (text : List ℕ) → failed ≡ false → held ≡ false →
-      Delivers text rest after → length text ≤ 65552 → (length text < 65552 → IsCleanEnd after) → (length text < 65552 → new_last ≡ true) →
-      chunk_of opened key number text ≡ Ok (plain, new_last) → at ≡ 0 →
+      TookText rest after text → (length text < 65552 → new_last ≡ true) → chunk_of opened key number text ≡ Ok (plain, new_last) → at ≡ 0 →
       rest_of opened key false true at plain new_last number after ≡ rest_of opened key failed held at chunk last number rest
-  rest-opened failed held last new_last at chunk plain number rest after text good is came most ended short ok start =
+  rest-opened failed held last new_last at chunk plain number rest after text good is took short ok start =
       rest-held false true at plain new_last number after refl refl
       ∙ ap (λ n. prepend (drop n plain) (behind opened key new_last number after)) start
-      ∙ sym (rest-open failed held at chunk last number rest good is ∙ opened-rest number rest after text plain new_last came most ended short ok)
+      ∙ sym (rest-open failed held at chunk last number rest good is ∙ opened-rest number rest after text plain new_last took short ok)
 
   -- an empty chunk was opened: nothing but a clean end was left
   pub clean-opened : (failed held last new_last : Bool) (at : ℕ) (chunk plain : List ℕ) (number : ℕ) (rest after : Stretch) (text : List ℕ) → failed ≡ false → held ≡ false →
-      Delivers text rest after → length text ≤ 65552 → (length text < 65552 → IsCleanEnd after) → (length text < 65552 → new_last ≡ true) →
+      TookText rest after text → (length text < 65552 → new_last ≡ true) →
       chunk_of opened key number text ≡ Ok (plain, new_last) → length plain + 16 ≡ length text → at ≡ 0 → at ≡ length plain →
       IsCleanEnd (rest_of opened key failed held at chunk last number rest)
-  clean-opened failed held last new_last at chunk plain number rest after text good is came most ended short ok longer start whole =
+  clean-opened failed held last new_last at chunk plain number rest after text good is took short ok longer start whole =
       let few : length text < 65552 = omega (arith, whole, longer, start) in
-      let same = rest-opened failed held last new_last at chunk plain number rest after text good is came most ended short ok start in
+      let same = rest-opened failed held last new_last at chunk plain number rest after text good is took short ok start in
       let now = rest-held false true at plain new_last number after refl refl in
-      let end = ended few in
+      let end = took.ended few in
       rw (← same, now, short few, drop_all at plain (omega (arith, whole)), end.bytes, end.ends_well) record { bytes = refl; ends_well = refl }
 
   -- ---- what a reader keeps
@@ -288,24 +317,23 @@ module _ (opened : List ℕ → List ℕ → List ℕ → Option (List ℕ)) (ke
     pub sound-opened : (new_taken new_place count : ℕ) (new_content new_rest : Stretch) (text plain : List ℕ) (new_last : Bool) →
         new_content ≡ content → new_place ≡ place + count → new_place < 2 ^ 63 →
         new_taken ≡ min (taken + count) (2 ^ 64 - 1) → failed ≡ false → held ≡ false → at ≡ 0 → StandsIn content place rest →
-        Delivers text rest new_rest → length text ≡ count → length text ≤ 65552 → (length text < 65552 → IsCleanEnd new_rest) → (length text < 65552 → new_last ≡ true) →
+        TookText rest new_rest text → length text ≡ count → (length text < 65552 → new_last ≡ true) →
         chunk_of opened key number text ≡ Ok (plain, new_last) →
         IsSound opened key false true at plain new_last number new_taken new_place new_content new_rest
-    sound-opened new_taken new_place count new_content new_rest text plain new_last same moved short took good is_open start stands came counted most ended short_last ok =
+    sound-opened new_taken new_place count new_content new_rest text plain new_last same moved short took good is_open start stands took_text counted short_last ok =
+        let came = took_text.came in
+        let ended = took_text.ended in
         let read = payload-read content new_content place new_place taken new_taken count same moved short took sound.fits in
         let payload = payload_at place taken content in
         let a = accepted opened key number text plain new_last ok in
-        let inner : rest ≡ from_place taken payload = elim (taken-rest content rest place taken stands sound.fits) [
-          | inl is ↦ is
-          | inr is ↦ absurd (omega (arith, a.some, ap length (sym (ap (λ s. s.bytes) is) ∙ came.bytes), length-append text new_rest.bytes))
-        ] in
+        let inner = stood-taken content rest new_rest place taken text stands sound.fits took_text in
         let stood : taken ≡ 65552 * number = sound.before good is_open in
         let here : rest.bytes ≡ drop (65552 * number) payload.bytes = ap (λ s. s.bytes) inner ∙ ap (λ n. drop n payload.bytes) stood in
-        let is_text : text_at number payload ≡ text = ap (take 65552) (sym here) ∙ front_of rest new_rest text came most ended in
+        let is_text = text-read content rest new_rest place taken number text stands sound.fits stood took_text in
         let long : length text + length new_rest.bytes ≡ length payload.bytes - 65552 * number =
         sym (length-append text new_rest.bytes) ∙ sym (ap length came.bytes) ∙ ap length here ∙ length-drop (65552 * number) payload.bytes in
         let well : rest.ends_well ≡ payload.ends_well = ap (λ s. s.ends_well) inner in
-        let kept = rest-opened failed held last new_last at chunk plain number rest new_rest text good is_open came most ended short_last ok start in
+        let kept = rest-opened failed held last new_last at chunk plain number rest new_rest text good is_open took_text short_last ok start in
         let is_held : IsHeld opened key payload number new_last plain = record {
           opens = rw is_text a.opens;
           judged = rw is_text ok;

@@ -1,5 +1,5 @@
 -- What opened is 16 bytes shorter than its text.
-use Rattle.std.specs.Prelude.{◌≡◌, ℕ, ◌+◌, Option, Some, None, Result, Ok, Err, IfOk, IfSome, Bool, List, length, option_map, Vec, vec_items}
+use Rattle.std.specs.Prelude.{◌≡◌, ℕ, ◌+◌, Option, Some, None, Result, Ok, Err, IfOk, IfSome, Bool, List, length, option_map}
 use Rattle.std.proofs.Common.{sym}
 use Rattle.age_error.specs.Bytes.{AreBytes}
 use Rattle.age_stream.specs.Payload.{nonce}

@@ -1,10 +1,10 @@
 -- What a read of a payload answers, in the words of the definition.
-use Rattle.std.specs.Prelude.{◌≡◌, ℕ, ◌+◌, ◌-◌, ◌*◌, ◌<◌, ◌≤◌, ◌⊎◌, Bool, true, false, List, length, take, drop, min, Option, Some}
+use Rattle.std.specs.Prelude.{◌≡◌, ℕ, ◌+◌, ◌-◌, ◌*◌, ◌<◌, ◌≤◌, ◌⊎◌, Bool, true, false, List, length, take, drop, min, Some}
 use Rattle.age_error.specs.declared.io.Error.{Error}
 use Rattle.age_io.specs.Stretch.{Stretch, whole}
 use Rattle.age_io.specs.Reading.{EndsEarly}
 use Rattle.age_stream.specs.Payload.{Seal, nonce, piece, last_piece, payload, plain_len, chunk, HeldAsMiddle, HeldAsLast}
-use Rattle.age_stream.specs.FrontToEnd.{StopsAt}
+use Rattle.age_stream.specs.FrontToEnd.{IsAllowed, StopsAt}
 
 -- chunk i is held with these bytes, as the last chunk or as a middle one
 abbrev pub IsHeldAs : Bool → Seal → List ℕ → List ℕ → ℕ → List ℕ → Type 0
@@ -12,7 +12,8 @@ IsHeldAs true seal_of key sealed i plain = HeldAsLast seal_of key sealed i plain
 IsHeldAs false seal_of key sealed i plain = HeldAsMiddle seal_of key sealed i plain
 
 -- A read at this place into room for so many bytes gives these: the smaller of the room and what is left of the chunk
--- at the place. A chunk that isn't full was judged only since the payload ends well.
+-- at the place, which is held and not refused by itself. A chunk that isn't full was judged only since the payload ends
+-- well.
 pub record Gives (seal_of : Seal) (key : List ℕ) (sealed : Stretch) (place room : ℕ) (bytes : List ℕ) : Type 0 where
   pub number : ℕ
   pub at : ℕ
@@ -22,18 +23,19 @@ pub record Gives (seal_of : Seal) (key : List ℕ) (sealed : Stretch) (place roo
   pub within : at < length plain
   pub small : length plain ≤ 65536
   pub held : IsHeldAs last seal_of key sealed.bytes number plain
+  pub allowed : IsAllowed number plain
   pub judged : length (chunk number sealed.bytes) < 65552 → sealed.ends_well ≡ true
   pub exact : length bytes ≡ min room (length plain - at)
   pub are : bytes ≡ take (length bytes) (drop at plain)
 
 -- A read at this place is refused, where memory was there and the device didn't fail: the inner reader, which had this
--- rest, meets its own fault before a chunk is whole, and the refusal is that of the fault; or the chunk at the place,
--- or the bytes after it, say why.
-pub record Refuses (seal_of : Seal) (key : List ℕ) (sealed rest : Stretch) (place : ℕ) (error : Error) : Type 0 where
+-- rest, meets its own fault before it gave what was wanted of it, and the refusal is that of the fault; or the chunk at
+-- the place, or the bytes after it, say why.
+pub record Refuses (seal_of : Seal) (key : List ℕ) (sealed rest : Stretch) (wanted place : ℕ) (error : Error) : Type 0 where
   pub number : ℕ
   pub from : 65536 * number ≤ place
   pub to : place ≤ 65536 * number + 65536
-  pub why : EndsEarly 65552 rest ⊎ StopsAt seal_of key sealed.bytes number error
+  pub why : EndsEarly wanted rest ⊎ StopsAt seal_of key sealed.bytes number error
 
 -- A read that finds the end: the payload is that of the plaintext and nothing else, all of the plaintext was before
 -- the place, and so the payload's length and its last chunk are what they must be.

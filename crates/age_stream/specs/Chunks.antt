@@ -1,7 +1,7 @@
 -- How sealed chunks are judged, and what they deliver.
-use Rattle.std.specs.Prelude.{◌≡◌, ℕ, ◌/◌, ◌^◌, ◌==◌, ◌&&◌, nat_lt, Option, Some, None, Result, Ok, Err, Bool, true, false, cond, List, [], ◌∷◌, ◌++◌, length, take, drop, option_map}
+use Rattle.std.specs.Prelude.{ℕ, ◌/◌, ◌^◌, ◌==◌, ◌&&◌, nat_lt, Option, Some, None, Result, Ok, Err, Bool, true, false, cond, List, [], ◌∷◌, ◌++◌, length, take, drop, option_map}
 use Rattle.std.proofs.Common.{zero, suc}
-use Rattle.age_io.specs.Stretch.{Stretch, nothing, from_place}
+use Rattle.age_io.specs.Stretch.{Stretch, nothing}
 use Rattle.age_error.specs.declared.io.Error.{Error}
 use Rattle.age_error.specs.declared.io.Error.TheVariants.{Truncated, BadChunk, LastChunkEmpty, TooLong}
 use Rattle.age_stream.specs.Payload.{nonce}

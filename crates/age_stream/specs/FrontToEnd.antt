@@ -12,7 +12,8 @@ pub record IsAllowed (i : ℕ) (plain : List ℕ) : Type 0 where
 
 -- Why a read stops at chunk i, after chunks that are held as middle. A chunk is judged by itself before what follows it is looked at.
 abbrev pub StopsAt : Seal → List ℕ → List ℕ → ℕ → Error → Type 0
--- no byte is left, and no chunk was held as last
+-- No byte is left, and no chunk was held as last. (age-encryption.org/v1, Payload: decryption signals an error if the end
+-- of the file is reached without decrypting a final chunk.)
 StopsAt seal_of key sealed i Truncated = length sealed ≡ 65552 * i
 -- a chunk is there, and is held neither as middle nor as last
 StopsAt seal_of key sealed i BadChunk = (65552 * i < length sealed) × IsBad seal_of key sealed i

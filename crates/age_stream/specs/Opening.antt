@@ -1,5 +1,5 @@
 -- What a lawful cipher says of a text that opened.
-use Rattle.std.proofs.Common.{◌≡◌, ◌∙◌, sym, ap, ℕ, zero, suc, ◌+◌, ◌<◌, ◌^◌, Option, Some, None, Bool, true, false, List, [], ◌∷◌, ◌++◌, if◌then◌else◌, lit<, length, arith, refl}
+use Rattle.std.proofs.Common.{◌≡◌, ◌∙◌, sym, ap, ℕ, zero, suc, ◌+◌, ◌<◌, ◌^◌, Option, Some, Bool, true, false, List, [], ◌∷◌, if◌then◌else◌, lit<, length, arith, refl}
 use Rattle.std.proofs.lemmas.List.Elements.{All-append, All-nil, All-cons}
 use Rattle.std.specs.Int.{byte_at, bytes_high_first}
 use Rattle.age_error.specs.Bytes.{AreBytes, AreBytesOf}

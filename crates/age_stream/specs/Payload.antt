@@ -1,9 +1,11 @@
--- The payload of a plaintext, and what a chunk of a payload holds. `seal_of key nonce plain` is the cipher's seal.
+-- The payload of a plaintext, and what a chunk of a payload holds: age-encryption.org/v1, section "Payload", a variant of
+-- STREAM. Under "standard" stands what that section says. `seal_of key nonce plain` is the cipher's seal.
 use Rattle.std.specs.Prelude.{◌≡◌, ℕ, zero, suc, ◌+◌, ◌-◌, ◌*◌, ◌/◌, Bool, true, false, ◌&&◌, ◌||◌, nat_eq, nat_le, nat_lt, if◌then◌else◌, List, [], ◌∷◌, ◌++◌, length, take, drop, Option, Some, None}
 use Rattle.std.specs.Int.{bytes_high_first}
 use Rattle.age_error.specs.Bytes.{AreBytes}
 
 -- a cipher's seal of a plaintext under a key and a nonce
+-- standard: each chunk is encrypted with ChaCha20-Poly1305, using the payload key and a nonce of 12 bytes
 abbrev pub Seal : Type 0
 Seal = List ℕ → List ℕ → List ℕ → List ℕ
 
@@ -14,24 +16,30 @@ cut size i xs = take size (drop (size * i) xs)
 -- ---- writing
 
 -- piece i of a plaintext, of at most 65,536 bytes
+-- standard: the payload is split in chunks of 64 KiB
 abbrev pub piece : ℕ → List ℕ → List ℕ
 piece i plain = cut 65536 i plain
 
 -- the number of the last piece of n bytes: a full last piece stays one piece, and of no bytes piece 0 is empty
+-- standard: the final chunk may be shorter than 64 KiB, but isn't empty unless the whole payload is
 abbrev pub last_piece : ℕ → ℕ
 last_piece n = (n - 1) / 65536
 
 -- the nonce of a chunk: its number in 11 bytes, big-endian, then 1 for the last chunk and 0 for the others
+-- standard: the first 11 bytes are a big endian chunk counter that starts at zero and rises by one for each chunk; the
+-- last byte is 0x01 for the final chunk and 0x00 for all preceding ones
 unfoldable pub nonce : ℕ → Bool → List ℕ
 nonce i is_last = bytes_high_first 11 i ++ (if is_last then 1 else 0) ∷ []
 
 -- the seals of the first n pieces, none of them as the last
+-- standard: the chunks that precede the final one, in order
 abbrev pub middle_seals : Seal → List ℕ → List ℕ → ℕ → List ℕ
 middle_seals seal_of key plain zero = []
 middle_seals seal_of key plain (suc i) =
     middle_seals seal_of key plain i ++ seal_of key (nonce i false) (piece i plain)
 
 -- the payload of a plaintext: the seals of its pieces in order, the last one as the last
+-- standard: each chunk is encrypted under its nonce, the final one under that of the final chunk
 unfoldable pub payload : Seal → List ℕ → List ℕ → List ℕ
 payload seal_of key plain =
     let last = last_piece (length plain) in
@@ -40,22 +48,27 @@ payload seal_of key plain =
 -- ---- reading
 
 -- chunk i of a payload, of at most 65,552 bytes
+-- standard: the payload is decrypted one chunk at a time, each with a tag of 16 bytes; a place is found by a multiple of
+-- the encrypted chunk size
 abbrev pub chunk : ℕ → List ℕ → List ℕ
 chunk i sealed = cut 65552 i sealed
 
 -- chunk i is full and the seal of these bytes under its nonce as a middle chunk
+-- standard: a chunk before the final one has 64 KiB, and 0x00 in its nonce
 pub record HeldAsMiddle (seal_of : Seal) (key sealed : List ℕ) (i : ℕ) (plain : List ℕ) : Type 0 where
   pub full : length (chunk i sealed) ≡ 65552
   pub bytes : AreBytes plain
   pub is_seal : chunk i sealed ≡ seal_of key (nonce i false) plain
 
 -- chunk i isn't held as middle, and is the seal of these bytes under its nonce as the last chunk
+-- standard: the final chunk has 0x01 in its nonce
 pub record HeldAsLast (seal_of : Seal) (key sealed : List ℕ) (i : ℕ) (plain : List ℕ) : Type 0 where
   pub not_middle : (other : List ℕ) → HeldAsMiddle seal_of key sealed i other → ⊥
   pub bytes : AreBytes plain
   pub is_seal : chunk i sealed ≡ seal_of key (nonce i true) plain
 
 -- chunk i is held neither as middle nor as last
+-- standard: its decryption fails
 pub record IsBad (seal_of : Seal) (key sealed : List ℕ) (i : ℕ) : Type 0 where
   pub not_middle : (other : List ℕ) → HeldAsMiddle seal_of key sealed i other → ⊥
   pub not_last : (other : List ℕ) → HeldAsLast seal_of key sealed i other → ⊥
@@ -69,6 +82,7 @@ LastIsNoMiddle seal_of key plain =
 
 -- the length of the plaintext of a payload of n bytes: 16 less for each chunk, where the last chunk has at least 16
 -- bytes, and more than 16 if it isn't the only one; other lengths belong to no plaintext
+-- standard: the final chunk isn't empty unless the whole payload is
 unfoldable pub plain_len : ℕ → Option ℕ
 plain_len n =
     let last = (n - 1) / 65552 in

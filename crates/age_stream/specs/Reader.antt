@@ -1,10 +1,11 @@
--- What a caller sees of a `StreamReader`.
-use Rattle.std.specs.Prelude.{◌≡◌, ℕ, ◌<◌, true, List, length}
+-- What a caller sees of a `StreamReader`, and what it means as a reader.
+use Rattle.std.specs.Prelude.{◌≡◌, ℕ, ◌+◌, ◌*◌, ◌<◌, ◌&&◌, Bool, true, cond, List, length}
 use Rattle.age_suite.specs.declared.suite.Suite.{Ghosts as SuiteGhosts}
 use Rattle.age_io.specs.declared.traits.Read.{Ghosts}
 use Rattle.age_io.specs.Stretch.{Stretch}
 use Rattle.age_stream.specs.declared.reader.StreamReader.{StreamReader}
-use Rattle.age_stream.specs.Reading.{payload_at}
+use Rattle.age_stream.specs.Chunks.{delivered}
+use Rattle.age_stream.specs.Reading.{payload_at, rest_of}
 
 module _ {S R : Type 0} {suite : SuiteGhosts S} {read : Ghosts R} where
   -- its payload: what the inner reader's content had from its place on when this reader was made
@@ -18,6 +19,11 @@ module _ {S R : Type 0} {suite : SuiteGhosts S} {read : Ghosts R} where
   abbrev pub inner_rest_of : StreamReader S R suite read → Stretch
   inner_rest_of r = read.rest r.inner
 
+  -- how many bytes it asks the inner reader for when it has given what it holds: after the last chunk one, which must
+  -- not come, else a full sealed chunk
+  abbrev pub wanted_of : StreamReader S R suite read → ℕ
+  wanted_of r = cond (r.held && r.last) 1 65552
+
   -- it answers `Failed` to every read
   abbrev pub HasFailed : StreamReader S R suite read → Type 0
   HasFailed r = r.failed ≡ true
@@ -29,3 +35,29 @@ module _ {S R : Type 0} {suite : SuiteGhosts S} {read : Ghosts R} where
   -- how often it opened a chunk
   abbrev pub opens_of : StreamReader S R suite read → ℕ
   opens_of r = r.opens
+
+  -- ---- its members as a reader
+
+  -- it tells its bytes where the inner reader tells its own and stays with them
+  abbrev pub tells_of : StreamReader S R suite read → Bool
+  tells_of r = read.tells r.inner && read.steady r.inner
+
+  -- its content: the plaintext that its payload delivers
+  abbrev pub content_of : StreamReader S R suite read → Stretch
+  content_of r = delivered suite.opened r.key 0 (payload_of r)
+
+  -- it stays with its content where that ends well
+  abbrev pub steady_of : StreamReader S R suite read → Bool
+  steady_of r = tells_of r && (content_of r).ends_well
+
+  -- how many bytes of the plaintext stand before the place
+  abbrev pub place_of : StreamReader S R suite read → ℕ
+  place_of r = 65536 * r.number + r.at
+
+  -- the plaintext that its reads can still deliver
+  abbrev pub plain_rest_of : StreamReader S R suite read → Stretch
+  plain_rest_of r = rest_of suite.opened r.key r.failed r.held r.at r.chunk.items r.last r.number (read.rest r.inner)
+
+  -- how often the inner reader's device failed
+  abbrev pub faults_of : StreamReader S R suite read → ℕ
+  faults_of r = read.faults r.inner

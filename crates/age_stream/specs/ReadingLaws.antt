@@ -1,17 +1,16 @@
 -- The laws of a `StreamReader`.
-use Rattle.std.specs.Prelude.{◌≡◌, ℕ, ◌+◌, ◌-◌, ◌*◌, ◌/◌, ◌^◌, ◌<◌, ◌≤◌, ◌⊎◌, ◌&&◌, Option, Some, None, Result, Ok, Err, Bool, true, false, IsTrue, cond, List, [], ◌++◌, length, take, drop}
-use Rattle.std.proofs.Common.{refl, sym, ap, subst, ◌∙◌, inl, inr, arith, length-append, length-take, length-drop, add-one, zero-add, add-zero, suc}
-use Rattle.std.proofs.lemmas.List.{append-nil, take-append-drop, drop-drop, drop_all, take_all, append_assoc, drop_at, drop-append-le}
-use Rattle.std.proofs.lemmas.List.Elements.{All-drop, All-take}
-use Rattle.std.proofs.lemmas.Bool.{cases_lt, true≢false}
+use Rattle.std.specs.Prelude.{◌≡◌, ℕ, ◌+◌, ◌-◌, ◌*◌, ◌^◌, ◌<◌, ◌≤◌, ◌⊎◌, ◌&&◌, Option, Bool, true, false, IsTrue, List, [], ◌++◌, length, drop}
+use Rattle.std.proofs.Common.{refl, sym, ap, ◌∙◌, inl, inr, arith, length-take, add-one, zero-add}
+use Rattle.std.proofs.lemmas.List.{take-append-drop, drop-drop, drop_all, drop-append-le}
+use Rattle.std.proofs.lemmas.List.Elements.{All-drop}
+use Rattle.std.proofs.lemmas.Bool.{cases_lt}
 use Rattle.age_error.specs.Bytes.{AreBytes}
 use Rattle.age_io.specs.Stretch.{Stretch, nothing, from_place, stretch-ext}
 use Rattle.age_io.specs.Reading.{StandsIn}
-use Rattle.age_stream.specs.Payload.{nonce}
 use Rattle.age_stream.specs.Opening.{Shorter}
-use Rattle.age_stream.specs.Chunks.{Chunk, chunk_of, prepend, after_last, delivers, delivered}
+use Rattle.age_stream.specs.Chunks.{prepend, delivered}
 use Rattle.age_stream.specs.ChunkLaws.{delivered-chunk}
-use Rattle.age_stream.specs.WellLaws.{accepted, well-single, onward, well-length, delivered-nothing, delivered-none, HasLength}
+use Rattle.age_stream.specs.WellLaws.{onward, well-length, delivered-nothing, delivered-none}
 use Rattle.age_stream.specs.Reading.{payload_at, text_at, behind, rest_of, IsHeld, IsInside, IsSound}
 
 pub and-left : (a b : Bool) → IsTrue (a && b) → IsTrue a

@@ -1,12 +1,12 @@
 -- What a payload delivers is bytes, and no more of them than it has.
-use Rattle.std.specs.Prelude.{◌≡◌, ℕ, ◌+◌, ◌*◌, ◌/◌, ◌^◌, ◌<◌, ◌≤◌, Option, Some, None, Result, Ok, Err, Bool, true, false, cond, List, [], ◌++◌, length, take, drop}
+use Rattle.std.specs.Prelude.{◌≡◌, ℕ, ◌+◌, ◌/◌, ◌^◌, ◌<◌, ◌≤◌, Option, Result, Ok, Err, Bool, true, false, cond, List, [], length, take, drop}
 use Rattle.std.proofs.Common.{zero, suc, refl, arith, length-append, length-take, length-drop}
 use Rattle.std.proofs.lemmas.List.Elements.{All-drop, All-take, All-append, All-nil}
 use Rattle.age_error.specs.Bytes.{AreBytes}
 use Rattle.age_io.specs.Stretch.{Stretch, nothing, from_place}
 use Rattle.age_error.specs.declared.io.Error.{Error}
 use Rattle.age_stream.specs.Opening.{Shorter, OpensBytes}
-use Rattle.age_stream.specs.Chunks.{Chunk, chunk_of, prepend, after_last, after_chunk, delivers, delivered}
+use Rattle.age_stream.specs.Chunks.{Chunk, chunk_of, after_last, after_chunk, delivers, delivered}
 use Rattle.age_stream.specs.WellLaws.{accepted}
 
 -- these are bytes, at most n of them

@@ -1,16 +1,16 @@
 -- Payloads that end well: what stands from each chunk on, and how long they are.
 use Rattle.std.specs.Prelude.{◌≡◌, ℕ, ◌+◌, ◌-◌, ◌*◌, ◌/◌, ◌^◌, ◌<◌, ◌≤◌, ◌==◌, ◌&&◌, ◌⊎◌, nat_lt, Option, Some, None, Result, Ok, Err, Bool, true, false, cond, List, [], ◌∷◌, ◌++◌, length, take, drop, option_map}
-use Rattle.std.proofs.Common.{zero, suc, refl, sym, ap, subst, ◌∙◌, inl, inr, arith, length-append, length-take, length-drop, add-one, zero-add, add-zero}
-use Rattle.std.proofs.lemmas.List.{append-nil, take_at, drop_at, take-append-drop, drop-drop, drop_all, take_all, append_assoc, nil_from_length}
+use Rattle.std.proofs.Common.{zero, suc, refl, sym, ap, ◌∙◌, inl, inr, arith, length-append, length-take, length-drop, add-zero}
+use Rattle.std.proofs.lemmas.List.{append-nil, drop_at, take-append-drop, drop-drop, take_all}
 use Rattle.std.proofs.lemmas.List.Elements.{All-drop, All-take}
-use Rattle.std.proofs.lemmas.Bool.{cases_lt, ltb-true, ltb-false, eqb-true, true≢false}
+use Rattle.std.proofs.lemmas.Bool.{cases_lt, ltb-true, ltb-false, eqb-true}
 use Rattle.age_error.specs.Bytes.{AreBytes}
 use Rattle.age_io.specs.Stretch.{Stretch, nothing, from_place, stretch-ext}
 use Rattle.age_error.specs.declared.io.Error.{Error}
-use Rattle.age_error.specs.declared.io.Error.TheVariants.{Truncated, BadChunk, LastChunkEmpty, TooLong}
+use Rattle.age_error.specs.declared.io.Error.TheVariants.{LastChunkEmpty, TooLong}
 use Rattle.age_stream.specs.Payload.{nonce}
 use Rattle.age_stream.specs.Opening.{Shorter}
-use Rattle.age_stream.specs.Chunks.{Chunk, is_empty, allowed, allowed_if, or_else, opened_as, opened_chunk, chunk_of, prepend, after_last, after_chunk, delivers, delivered}
+use Rattle.age_stream.specs.Chunks.{Chunk, is_empty, allowed_if, or_else, opened_chunk, chunk_of, prepend, after_last, after_chunk, delivers, delivered}
 use Rattle.age_stream.specs.ChunkLaws.{delivered-full, delivered-short}
 
 err-ok : {X : Type 0} {e : Error} {c : Chunk} → ◌≡◌ {A = Result Chunk Error} (Err e) (Ok c) → X

@@ -9,7 +9,8 @@ ghost use Rattle.age_io.specs.Reading.{Reads, IsQuiet, Delivers, most_faults};
 ghost use Rattle.age_stream.specs.Payload.{nonce, payload, LastIsNoMiddle};
 ghost use Rattle.age_stream.specs.Answering.{Gives, Refuses, IsEnd};
 ghost use Rattle.age_stream.specs.Chunks.{allowed, chunk_of, delivered};
-ghost use Rattle.age_stream.specs.Reading.{payload_at, text_at, rest_of, IsHeld, IsSound};
+ghost use Rattle.age_stream.specs.Reading.{payload_at, IsSound};
+ghost use Rattle.age_suite.specs.Suite.{one_more};
 ghost use Rattle.age_stream.specs.ReadingLaws.{and-left, and-right, both-true, stream_stands, stream_spent};
 ghost use Rattle.age_stream.specs.Opening.{shorter, opens_bytes};
 ghost use Rattle.age_stream.specs.SizeLaws.{delivered-bytes, delivered-short};
@@ -21,13 +22,17 @@ use age_suite::suite::{Opens, Suite, known_array, known_bytes};
 use std::alloc::{AllocError, Global};
 use std::marker::PhantomData;
 
-/// The bytes of a full sealed chunk.
+/// How many bytes a full sealed chunk has.
 pub const SEALED_CHUNK: usize = 65_552;
 
-/// How many chunks the longest plaintext has.
+/// How many chunks the longest plaintext has, of 2^60 bytes.
 pub const MOST_CHUNKS: u64 = 1 << 44;
 
-/// Reads a payload from `inner`, and gives its plaintext.
+/// Reads a payload from an inner reader, and gives its plaintext by `Read`.
+///
+/// The payload is that of age-encryption.org/v1, "Payload": the plaintext in chunks of 65,536 bytes, each sealed under
+/// the payload key and a nonce that counts the chunks and says of the last one that it is (STREAM). A sealed chunk has
+/// 16 bytes more. Each chunk is opened whole before a byte of it is given, and one is held at a time.
 pub struct StreamReader<S: Suite, R: Read> {
     alloc: Global,
     key: [u8; 32],
@@ -55,26 +60,27 @@ pub struct StreamReader<S: Suite, R: Read> {
     ghost small: { held ≡ true → length chunk.items ≤ 65536 },
     ghost more: { held ≡ true → number < 2 ^ 44 },
     ghost full: { held ≡ true → last ≡ false → length chunk.items ≡ 65536 },
+    ghost count_fits: { opens < 2 ^ 64 },
     ghost unspent: { failed ≡ false → held ≡ true → R.faults inner < most_faults },
     ghost sound: { IsTrue (R.tells inner && R.steady inner) →
         IsSound S.opened key failed held at chunk.items last number taken (R.place inner) (R.content inner) (R.rest inner) },
 }
 
 impl<S: Suite, R: Read> Read for StreamReader<S, R> {
-    ghost use Rattle.age_stream.specs.Reader.{payload_of, key_of, inner_rest_of, HasFailed, IsHolding, opens_of};
+    ghost use Rattle.age_stream.specs.Reader.{payload_of, key_of, inner_rest_of, wanted_of, HasFailed, IsHolding, opens_of};
+    ghost use Rattle.age_stream.specs.Reader.{tells_of, steady_of, content_of, place_of, plain_rest_of, faults_of};
 
-    ghost tells = { λ r. R.tells r.inner && R.steady r.inner };
+    ghost tells = { tells_of };
 
-    ghost steady = { λ r. (R.tells r.inner && R.steady r.inner)
-        && (delivered S.opened r.key 0 (payload_at (R.place r.inner) r.taken (R.content r.inner))).ends_well };
+    ghost steady = { steady_of };
 
-    ghost content = { λ r. delivered S.opened r.key 0 (payload_at (R.place r.inner) r.taken (R.content r.inner)) };
+    ghost content = { content_of };
 
-    ghost place = { λ r. 65536 * r.number + r.at };
+    ghost place = { place_of };
 
-    ghost rest = { λ r. rest_of S.opened r.key r.failed r.held r.at r.chunk.items r.last r.number (R.rest r.inner) };
+    ghost rest = { plain_rest_of };
 
-    ghost faults = { λ r. R.faults r.inner };
+    ghost faults = { faults_of };
 
     ghost faults_fit = { λ r. R.faults_fit r.inner };
 
@@ -99,7 +105,25 @@ impl<S: Suite, R: Read> Read for StreamReader<S, R> {
 
     ghost place_fits = { λ r told. Prim.omega (arith, r.offset, r.limit) };
 
-    /// Gives the smaller of the buffer and the rest of the chunk at the place.
+    /// Puts the next bytes of the plaintext in front of `buf`, and answers how many they are: the smaller of the buffer
+    /// and what is left of the chunk at the place.
+    ///
+    /// An empty buffer changes nothing, and the answer is 0. Else 0 is the end: the payload was that of exactly the
+    /// plaintext that stands before the place. Where no byte is held the next chunk is read and opened, a full one as
+    /// a middle chunk and then as the last, a shorter one, after which the inner reader ends well, only as the last.
+    /// So a read opens a chunk at most twice. A refusal is
+    ///
+    /// - `Truncated`: no byte is left, and no chunk was the last.
+    /// - `BadChunk`: the chunk opens neither as a middle one nor as the last.
+    /// - `LastChunkEmpty`: the last chunk is empty, and isn't the only one.
+    /// - `TooLong`: the chunk holds a byte of the plaintext at place 2^60 or later.
+    /// - `AfterLast`: bytes follow the last chunk, which was given whole before.
+    /// - that of the inner reader, where it refuses before a chunk is whole, or in place of its end after the last
+    ///   chunk. Its interruptions are retried as by `fill`.
+    /// - `OutOfMemory`: the suite was refused memory for the plaintext of a chunk. Nothing is said of the payload.
+    /// - `Failed`: it refused before.
+    ///
+    /// After a refusal the reader has failed, and stays so. The place and `buf` are as they were.
     #[tactic(auto, using(crate::proofs::Holding::rest_failed, crate::proofs::Holding::fault_failed))]
     fn read(&mut self, buf: &mut [u8]) -> Result<usize, Error>
         ensures reads { let reader = ⟦<StreamReader<S, R> as Read>⟧ in
@@ -113,17 +137,25 @@ impl<S: Suite, R: Read> Read for StreamReader<S, R> {
             Gives S.seal_of (key_of self.old) (payload_of self.old) (reader.place self.old) (length buf.old) (take n buf.new)) }
         ensures refused { let reader = ⟦<StreamReader<S, R> as Read>⟧ in IsTrue (reader.tells self.old) → (HasFailed self.old → ⊥) →
             IfErr result (λ e. e ≢ OutOfMemory → IsQuiet (reader.faults self.old) (reader.faults self.new) →
-            Refuses S.seal_of (key_of self.old) (payload_of self.old) (inner_rest_of self.old) (reader.place self.old) e) }
+            Refuses S.seal_of (key_of self.old) (payload_of self.old) (inner_rest_of self.old) (wanted_of self.old) (reader.place self.old) e) }
         ensures finished { let reader = ⟦<StreamReader<S, R> as Read>⟧ in IsTrue (reader.tells self.old) → IfOk result (λ n. n ≡ 0 → 0 < length buf.new →
             IsEnd S.seal_of (key_of self.old) (payload_of self.old) (reader.place self.old) (reader.content self.old).bytes) }
+
+        // Of the buffer nothing else changes.
+        ensures beyond { IfOk result (λ n. drop n buf.new ≡ drop n buf.old) }
+        ensures untouched { OnErr result (buf.new ≡ buf.old) }
 
         // The state after it, and how often it opens a chunk.
         ensures failed { HasFailed self.old → (result ≡ Err Failed) × (self.new ≡ self.old) }
         ensures fails { OnErr result (HasFailed self.new) }
         ensures good { OnOk result (HasFailed self.new → ⊥) }
         ensures empty { (HasFailed self.old → ⊥) → length buf.old ≡ 0 → (result ≡ Ok 0) × (self.new ≡ self.old) }
+        ensures inner_end { IsTrue (⟦<StreamReader<S, R> as Read>⟧.tells self.old) → OnOk result
+            ((inner_rest_of self.new).ends_well ≡ (inner_rest_of self.old).ends_well) }
+        ensures counts { opens_of self.old ≤ opens_of self.new }
         ensures opens { opens_of self.new ≤ opens_of self.old + 2 }
         ensures held { IsHolding self.old → opens_of self.new ≡ opens_of self.old }
+        ensures opened { (IsHolding self.old → ⊥) → IfOk result (λ n. 0 < n → one_more (opens_of self.old) ≤ opens_of self.new) }
     {
         if self.failed {
             return Err(Error::Failed);
@@ -136,9 +168,14 @@ impl<S: Suite, R: Read> Read for StreamReader<S, R> {
 }
 
 impl<S: Suite, R: Read> StreamReader<S, R> {
-    ghost use Rattle.age_stream.specs.Reader.{payload_of, key_of, inner_rest_of, HasFailed, IsHolding, opens_of};
+    ghost use Rattle.age_stream.specs.Reader.{payload_of, key_of, inner_rest_of, wanted_of, HasFailed, IsHolding, opens_of};
 
-    /// A reader of the payload that begins where `inner` stands. It has opened nothing yet.
+    /// A reader of the payload that begins where `inner` stands, under the payload key of 32 bytes. It stands before the
+    /// first byte of the plaintext.
+    ///
+    /// It reads nothing and opens nothing yet. It takes memory for one sealed chunk, 65,552 bytes, which serves for the
+    /// whole payload, and answers `OutOfMemory` where it is refused that. A chunk's plaintext is memory of its own, for
+    /// as long as it is held.
     pub fn with_payload_key(alloc: Global, key: [u8; 32], inner: R) -> Result<Self, Error>
     where
         R: Drop,
@@ -146,6 +183,7 @@ impl<S: Suite, R: Read> StreamReader<S, R> {
         ensures opens { IfOk result (λ r. opens_of r ≡ 0) }
         ensures key { IfOk result (λ r. key_of r ≡ key) }
         ensures payload { IfOk result (λ r. payload_of r ≡ from_place (R.place inner) (R.content inner)) }
+        ensures inner_rest { IfOk result (λ r. inner_rest_of r ≡ R.rest inner) }
         ensures tells { IfOk result (λ r. ⟦<StreamReader<S, R> as Read>⟧.tells r ≡ (R.tells inner && R.steady inner)) }
         ensures faults { IfOk result (λ r. ⟦<StreamReader<S, R> as Read>⟧.faults r ≡ R.faults inner) }
         ensures place { IfOk result (λ r. ⟦<StreamReader<S, R> as Read>⟧.place r ≡ 0) }
@@ -200,11 +238,17 @@ impl<S: Suite, R: Read> StreamReader<S, R> {
             Gives S.seal_of self.old.key (payload_of self.old) (reader.place self.old) (length buf.old) (take n buf.new)) }
         ensures refused { let reader = ⟦<StreamReader<S, R> as Read>⟧ in IsTrue (reader.tells self.old) → IfErr result (λ e. e ≢ OutOfMemory →
             IsQuiet (R.faults self.old.inner) (R.faults self.new.inner) →
-            Refuses S.seal_of self.old.key (payload_of self.old) (R.rest self.old.inner) (reader.place self.old) e) }
+            Refuses S.seal_of self.old.key (payload_of self.old) (R.rest self.old.inner) (wanted_of self.old) (reader.place self.old) e) }
+        ensures beyond { IfOk result (λ n. drop n buf.new ≡ drop n buf.old) }
+        ensures untouched { OnErr result (buf.new ≡ buf.old) }
         ensures fails { OnErr result (self.new.failed ≡ true) }
         ensures good { OnOk result (self.new.failed ≡ false) }
+        ensures inner_end { IsTrue (⟦<StreamReader<S, R> as Read>⟧.tells self.old) → OnOk result
+            ((R.rest self.new.inner).ends_well ≡ (R.rest self.old.inner).ends_well) }
+        ensures counts { self.old.opens ≤ self.new.opens }
         ensures opens { self.new.opens ≤ self.old.opens + 2 }
         ensures held { IsHolding self.old → self.new.opens ≡ self.old.opens }
+        ensures opened { (IsHolding self.old → ⊥) → IfOk result (λ n. 0 < n → one_more self.old.opens ≤ self.new.opens) }
     {
         if self.held && self.last && self.at == self.chunk.len() {
             return self.end();
@@ -224,7 +268,9 @@ impl<S: Suite, R: Read> StreamReader<S, R> {
         requires more { self.old.held ≡ true → self.old.last ≡ true → self.old.at < length self.old.chunk.items }
         ensures good { self.new.failed ≡ false }
         ensures left { self.new.held ≡ true → self.new.at < length self.new.chunk.items }
-        ensures still { self.old.held ≡ true → self.old.at < length self.old.chunk.items → self.new.held ≡ true }
+        ensures still { IsHolding self.old → self.new.held ≡ true }
+        ensures was { self.new.held ≡ true → IsHolding self.old }
+        ensures wanted { wanted_of self.new ≡ wanted_of self.old }
         ensures inner { self.new.inner ≡ self.old.inner }
         ensures taken { self.new.taken ≡ self.old.taken }
         ensures key { self.new.key ≡ self.old.key }
@@ -263,9 +309,12 @@ impl<S: Suite, R: Read> StreamReader<S, R> {
             IsQuiet (R.faults self.old.inner) (R.faults self.new.inner) → IsFault (reader.rest self.old)) }
         ensures refused { let reader = ⟦<StreamReader<S, R> as Read>⟧ in IsTrue (reader.tells self.old) → IfErr result (λ e. e ≢ OutOfMemory →
             IsQuiet (R.faults self.old.inner) (R.faults self.new.inner) →
-            Refuses S.seal_of self.old.key (payload_of self.old) (R.rest self.old.inner) (reader.place self.old) e) }
+            Refuses S.seal_of self.old.key (payload_of self.old) (R.rest self.old.inner) (wanted_of self.old) (reader.place self.old) e) }
+        ensures inner_end { IsTrue (⟦<StreamReader<S, R> as Read>⟧.tells self.old) → OnOk result
+            ((R.rest self.new.inner).ends_well ≡ (R.rest self.old.inner).ends_well) }
         ensures opens { self.new.opens ≡ self.old.opens }
     {
+        // It stays so on each way out but the last.
         self.failed = true;
         let mut byte = [0u8; 1];
         let mut count = 0;
@@ -306,9 +355,14 @@ impl<S: Suite, R: Read> StreamReader<S, R> {
             IsQuiet (R.faults self.old.inner) (R.faults self.new.inner) → IsFault (reader.rest self.old)) }
         ensures refused { let reader = ⟦<StreamReader<S, R> as Read>⟧ in IsTrue (reader.tells self.old) → IfErr result (λ e. e ≢ OutOfMemory →
             IsQuiet (R.faults self.old.inner) (R.faults self.new.inner) →
-            Refuses S.seal_of self.old.key (payload_of self.old) (R.rest self.old.inner) (reader.place self.old) e) }
+            Refuses S.seal_of self.old.key (payload_of self.old) (R.rest self.old.inner) (wanted_of self.old) (reader.place self.old) e) }
+        ensures inner_end { IsTrue (⟦<StreamReader<S, R> as Read>⟧.tells self.old) → OnOk result
+            ((R.rest self.new.inner).ends_well ≡ (R.rest self.old.inner).ends_well) }
+        ensures counts { self.old.opens ≤ self.new.opens }
         ensures opens { self.new.opens ≤ self.old.opens + 2 }
+        ensures opened { OnOk result (one_more self.old.opens ≤ self.new.opens) }
     {
+        // It stays so on each way out but the last.
         self.failed = true;
         let mut count = 0;
         let answer = fill(&mut self.inner, &mut self.sealed, &mut count);
@@ -345,6 +399,7 @@ impl<S: Suite, R: Read> StreamReader<S, R> {
         ensures taken { self.new.taken ≡ self.old.taken }
         ensures key { self.new.key ≡ self.old.key }
         ensures front { take result buf.new ≡ take result (drop self.old.at self.old.chunk.items) }
+        ensures beyond { drop result buf.new ≡ drop result buf.old }
         ensures bytes { Delivers (take result buf.new)
             (⟦<StreamReader<S, R> as Read>⟧.rest self.old) (⟦<StreamReader<S, R> as Read>⟧.rest self.new) }
         ensures moves { ⟦<StreamReader<S, R> as Read>⟧.place self.new ≡ ⟦<StreamReader<S, R> as Read>⟧.place self.old + result }
@@ -390,7 +445,7 @@ fn open_as<S: Suite>(
 ) -> Result<Option<Vec<u8>>, AllocError>
     ensures opened { IfOk result (λ o. option_map vec_items o ≡ S.opened key.now (nonce number last) sealed.now) }
     ensures length { IfOk result (λ o. IfSome o (λ v. length v.items + 16 ≡ length sealed.now)) }
-    ensures opens { opens.new ≤ opens.old + 1 }
+    ensures opens { opens.new ≡ one_more opens.old }
 {
     known_array(key);
     known_bytes(sealed);
@@ -413,7 +468,10 @@ fn open_chunk<S: Suite>(
     ensures first { IfOk result (λ found. length found.0.items ≡ 0 → number ≡ 0) }
     ensures short { IfOk result (λ found. length sealed.now < 65552 → found.1 ≡ true) }
     ensures length { IfOk result (λ found. length found.0.items + 16 ≡ length sealed.now) }
+    ensures fits { opens.old < 2 ^ 64 → opens.new < 2 ^ 64 }
+    ensures counts { opens.old < 2 ^ 64 → opens.old ≤ opens.new }
     ensures opens { opens.new ≤ opens.old + 2 }
+    ensures opened { opens.old < 2 ^ 64 → OnOk result (one_more opens.old ≤ opens.new) }
 {
     if sealed.is_empty() {
         return Err(Error::Truncated);

@@ -13,11 +13,11 @@ impl<S: Suite, W: Write> Write for StreamWriter<S, W> {
     ghost use Rattle.age_stream.specs.Writing.{Appended, IsFailed, IsGood, inner_of, taken_len, held_len};
     ghost use Rattle.age_stream.specs.WritingLaws.{Appended-nothing, Appended-both};
 
-    ghost tells = { λ w. W.tells w.inner };
+    ghost tells = { λ w. W.tells (inner_of w) };
 
     ghost limited = { λ _. true };
 
-    ghost faults = { λ w. W.faults w.inner };
+    ghost faults = { λ w. W.faults (inner_of w) };
 
     ghost appended = { Appended S.seal_of W.limited W.appended };
 

@@ -1,8 +1,9 @@
-use Rattle.std.proofs.Common.{◌≡◌, ◌+◌, arith, length, take, length-take-le, ◌<◌, ◌^◌, ◌-◌, inl, inr}
+use Rattle.std.proofs.Common.{◌≡◌, IsTrue, refl, subst, arith, length, take, length-take-le, ◌<◌, ◌^◌, ◌-◌, inl, inr}
 use Rattle.std.proofs.lemmas.Bool.{true≢false}
 use Rattle.std.proofs.lemmas.List.Elements.{All-drop}
 use Rattle.age_io.specs.Reading.{EndsEarly}
 use Rattle.age_stream.specs.Reading.{payload_at}
+use Rattle.age_stream.specs.Reader.{wanted_of}
 use Rattle.age_stream.specs.ReadingLaws.{and-left}
 use Rattle.age_stream.proofs.Answered.{refuses-after}
 use Rattle.age_stream.proofs.Holding.{end-early, end-more, end-clean, same-rest, sound-failed, sound-ended}
@@ -41,11 +42,12 @@ returns-in-Err-clause-refused g c = λ told memory quiet.
     let self = c.args.self.now in
     let size : length c.fill-answer.new.buf ≡ 1 = c.fill-answer.auto.buf in
     let early : EndsEarly 1 (g.R.Read.rest self.inner) = rw size at (c.in-Err.ensures.cause (and-left _ _ told) memory quiet) in
+    let wanted : 1 ≡ wanted_of self = rw (c.requires.held, c.requires.last) refl in
     record {
       number = self.number;
       from = omega arith;
       to = omega (arith, self.offset);
-      why = inl (record { short = omega (arith, early.short); badly = early.badly });
+      why = inl (subst (λ n. EndsEarly n (g.R.Read.rest self.inner)) wanted early);
     }
 
 pub returns-then-count-gt0-clause-refused : goal.returns-then-count-gt0-clause-refused
@@ -83,10 +85,11 @@ invariant_of-self g c =
       small = self.small;
       more = self.more;
       full = self.full;
+      count_fits = self.count_fits;
       unspent = λ good. absurd (true≢false good);
       sound = λ told.
           let told_before = rw (c.in-Err.ensures.tells, c.in-Err.ensures.steady) at told in
-          let t = and-left _ _ told_before in
+          let t : IsTrue (read.tells self.inner) = and-left _ _ told_before in
           sound-failed g.S.Suite.opened self.key self.failed self.held self.at self.chunk.items self.last self.number self.taken
           (read.place self.inner) (read.content self.inner) (read.rest self.inner) (self.sound told_before)
           c.saturating_add-self.result (read.place after) c.fill-answer.new.filled (read.content after) (read.rest after)
@@ -99,7 +102,7 @@ invariant_of-self-then-count-gt0-clause-sound g c = λ told.
     let read = g.R.Read in
     let after = c.fill-answer.new.reader in
     let told_before = rw (c.in-Ok.ensures.tells, c.in-Ok.ensures.steady) at told in
-    let t = and-left _ _ told_before in
+    let t : IsTrue (read.tells self.inner) = and-left _ _ told_before in
     sound-failed g.S.Suite.opened self.key self.failed self.held self.at self.chunk.items self.last self.number self.taken
     (read.place self.inner) (read.content self.inner) (read.rest self.inner) (self.sound told_before)
     c.saturating_add-self.result (read.place after) c.fill-answer.new.filled (read.content after) (read.rest after)
@@ -111,7 +114,7 @@ invariant_of-self-in-Ok-clause-sound g c = λ told.
     let read = g.R.Read in
     let after = c.fill-answer.new.reader in
     let told_before = rw (c.in-Ok.ensures.tells, c.in-Ok.ensures.steady) at told in
-    let t = and-left _ _ told_before in
+    let t : IsTrue (read.tells self.inner) = and-left _ _ told_before in
     let text = take c.fill-answer.new.filled c.fill-answer.new.buf in
     let size : length text ≡ c.fill-answer.new.filled = length-take-le c.fill-answer.new.filled c.fill-answer.new.buf c.in-Ok.ensures.count in
     let none : c.fill-answer.new.filled ≡ 0 = omega (arith, c.if-count-gt0.false) in

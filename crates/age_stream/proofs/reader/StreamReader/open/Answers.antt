@@ -1,10 +1,11 @@
-use Rattle.std.proofs.Common.{◌≡◌, arith, ◌≤◌, ◌+◌, ◌⊎◌, length, take, length-take-le, Ok, Err, inl, inr}
+use Rattle.std.proofs.Common.{◌≡◌, IsTrue, refl, subst, arith, ◌+◌, ◌⊎◌, length, take, length-take-le, Ok, Err, inl, inr}
 use Rattle.age_io.specs.Reading.{EndsEarly}
 use Rattle.age_io.proofs.Delivering.{refilled}
 use Rattle.age_stream.specs.ReadingLaws.{and-left, and-right}
 use Rattle.age_stream.specs.Chunks.{chunk_of}
+use Rattle.age_stream.specs.Reader.{wanted_of}
 use Rattle.age_stream.proofs.Answered.{refuses-chunk}
-use Rattle.age_stream.proofs.Holding.{open-early, open-refused, rest-opened, clean-opened, sound-opened}
+use Rattle.age_stream.proofs.Holding.{TookText, took-text, open-early, open-refused, rest-opened, clean-opened, sound-opened}
 use Rattle.age_error.specs.declared.io.Error.TheVariants.{OutOfMemory}
 use Rattle.age_stream.proofs.reader.StreamReader.open.Goals as goal
 
@@ -19,41 +20,44 @@ returns-in-Err-clause-cause g c = λ told memory quiet.
 pub returns-in-Err-open_chunk-clause-cause : goal.returns-in-Err-open_chunk-clause-cause
 returns-in-Err-open_chunk-clause-cause g c = λ told memory quiet.
     let self = c.args.self.now in
+    let t : IsTrue (g.R.Read.tells self.inner) = and-left _ _ told in
     let text = take c.fill-answer.new.filled c.fill-answer.new.buf in
     let size : length c.fill-answer.new.buf ≡ 65552 = omega (arith, c.fill-answer.auto.buf, c.deref_mut.ensures.len, self.room, self.sealed.ok.0) in
     let filled = refilled self.sealed.items c.fill-answer.new.buf self.sealed.len self.sealed.ok.0 (omega (arith, size, self.room)) in
-    let long : length text ≡ c.fill-answer.new.filled = length-take-le c.fill-answer.new.filled c.fill-answer.new.buf c.in-Ok.ensures.count in
+    let took : TookText (g.R.Read.rest self.inner) (g.R.Read.rest c.fill-answer.new.reader) text =
+    took-text c.fill-answer.new.buf c.fill-answer.new.filled _ _ size c.in-Ok.ensures.count (c.in-Ok.ensures.bytes t) (c.in-Ok.ensures.end t) in
     let judged : (c.in-Err-open_chunk.e ≡ OutOfMemory) ⊎ (chunk_of g.S.Suite.opened self.key self.number text ≡ Err c.in-Err-open_chunk.e) =
     rw (c.deref.ensures.value, filled) at c.in-Err-open_chunk.ensures.chunk in
     elim judged [
       | inl want ↦ absurd (memory want)
       | inr bad ↦ open-refused g.S.Suite.opened self.key self.failed self.held self.last self.at self.chunk.items self.number (g.R.Read.rest self.inner)
-          (g.R.Read.rest c.fill-answer.new.reader) text c.in-Err-open_chunk.e c.requires.good c.requires.closed
-          (c.in-Ok.ensures.bytes (and-left _ _ told)) (omega (arith, long, size, c.in-Ok.ensures.count))
-          (λ less. c.in-Ok.ensures.end (and-left _ _ told) (omega (arith, long, size, less))) bad
+          (g.R.Read.rest c.fill-answer.new.reader) text c.in-Err-open_chunk.e c.requires.good c.requires.closed took bad
     ]
 
 pub returns-in-Err-clause-refused : goal.returns-in-Err-clause-refused
 returns-in-Err-clause-refused g c = λ told memory quiet.
     let self = c.args.self.now in
     let size : length c.fill-answer.new.buf ≡ 65552 = omega (arith, c.fill-answer.auto.buf, c.deref_mut.ensures.len, self.room, self.sealed.ok.0) in
+    let early : EndsEarly 65552 (g.R.Read.rest self.inner) = rw size at (c.in-Err.ensures.cause (and-left _ _ told) memory quiet) in
+    let wanted : 65552 ≡ wanted_of self = rw c.requires.closed refl in
     record {
       number = self.number;
       from = omega arith;
       to = omega (arith, self.offset);
-      why = inl (rw size at (c.in-Err.ensures.cause (and-left _ _ told) memory quiet));
+      why = inl (subst (λ n. EndsEarly n (g.R.Read.rest self.inner)) wanted early);
     }
 
 pub returns-in-Err-open_chunk-clause-refused : goal.returns-in-Err-open_chunk-clause-refused
 returns-in-Err-open_chunk-clause-refused g c = λ told memory quiet.
     let self = c.args.self.now in
     let read = g.R.Read in
-    let t = and-left _ _ told in
+    let t : IsTrue (g.R.Read.tells self.inner) = and-left _ _ told in
     let sound = self.sound told in
     let text = take c.fill-answer.new.filled c.fill-answer.new.buf in
     let size : length c.fill-answer.new.buf ≡ 65552 = omega (arith, c.fill-answer.auto.buf, c.deref_mut.ensures.len, self.room, self.sealed.ok.0) in
     let filled = refilled self.sealed.items c.fill-answer.new.buf self.sealed.len self.sealed.ok.0 (omega (arith, size, self.room)) in
-    let long : length text ≡ c.fill-answer.new.filled = length-take-le c.fill-answer.new.filled c.fill-answer.new.buf c.in-Ok.ensures.count in
+    let took : TookText (g.R.Read.rest self.inner) (g.R.Read.rest c.fill-answer.new.reader) text =
+    took-text c.fill-answer.new.buf c.fill-answer.new.filled _ _ size c.in-Ok.ensures.count (c.in-Ok.ensures.bytes t) (c.in-Ok.ensures.end t) in
     let judged : (c.in-Err-open_chunk.e ≡ OutOfMemory) ⊎ (chunk_of g.S.Suite.opened self.key self.number text ≡ Err c.in-Err-open_chunk.e) =
     rw (c.deref.ensures.value, filled) at c.in-Err-open_chunk.ensures.chunk in
     record {
@@ -65,40 +69,39 @@ returns-in-Err-open_chunk-clause-refused g c = λ told memory quiet.
         | inr bad ↦ inr (refuses-chunk g.S.Suite.seal_of g.S.Suite.opened g.met.S.Suite.cipher self.key self.key_bytes
             (read.content self.inner) (read.rest self.inner) (read.rest c.fill-answer.new.reader) (read.place self.inner) self.taken self.number text c.in-Err-open_chunk.e
             (g.met.R.Read.are_bytes self.inner t) (g.met.R.Read.stands self.inner t (and-right _ _ told)) sound.fits (sound.before c.requires.good c.requires.closed)
-            sound.inside.front (c.in-Ok.ensures.bytes t) (omega (arith, long, size, c.in-Ok.ensures.count))
-            (λ less. c.in-Ok.ensures.end t (omega (arith, long, size, less))) bad)
+            sound.inside.front took bad)
       ];
     }
 
 pub returns-in-Ok-open_chunk-clause-rest : goal.returns-in-Ok-open_chunk-clause-rest
 returns-in-Ok-open_chunk-clause-rest g c = λ told.
     let self = c.args.self.now in
-    let t = and-left _ _ told in
+    let t : IsTrue (g.R.Read.tells self.inner) = and-left _ _ told in
     let text = take c.fill-answer.new.filled c.fill-answer.new.buf in
     let size : length c.fill-answer.new.buf ≡ 65552 = omega (arith, c.fill-answer.auto.buf, c.deref_mut.ensures.len, self.room, self.sealed.ok.0) in
     let filled = refilled self.sealed.items c.fill-answer.new.buf self.sealed.len self.sealed.ok.0 (omega (arith, size, self.room)) in
-    let long : length text ≡ c.fill-answer.new.filled = length-take-le c.fill-answer.new.filled c.fill-answer.new.buf c.in-Ok.ensures.count in
+    let took : TookText (g.R.Read.rest self.inner) (g.R.Read.rest c.fill-answer.new.reader) text =
+    took-text c.fill-answer.new.buf c.fill-answer.new.filled _ _ size c.in-Ok.ensures.count (c.in-Ok.ensures.bytes t) (c.in-Ok.ensures.end t) in
     let plain = c.in-Ok-open_chunk.chunk in
     let ok : chunk_of g.S.Suite.opened self.key self.number text ≡ Ok (plain.items, c.in-Ok-open_chunk.last) = rw (c.deref.ensures.value, filled) at c.in-Ok-open_chunk.ensures.chunk in
     rest-opened g.S.Suite.opened self.key self.failed self.held self.last c.in-Ok-open_chunk.last self.at self.chunk.items plain.items self.number (g.R.Read.rest self.inner)
-    (g.R.Read.rest c.fill-answer.new.reader) text c.requires.good c.requires.closed
-    (c.in-Ok.ensures.bytes t) (omega (arith, long, size, c.in-Ok.ensures.count)) (λ less. c.in-Ok.ensures.end t (omega (arith, long, size, less)))
+    (g.R.Read.rest c.fill-answer.new.reader) text c.requires.good c.requires.closed took
     (rw (c.deref.ensures.value, filled) at c.in-Ok-open_chunk.ensures.short) ok (self.start c.requires.closed)
 
 pub returns-in-Ok-open_chunk-clause-end : goal.returns-in-Ok-open_chunk-clause-end
 returns-in-Ok-open_chunk-clause-end g c = λ told given.
     let self = c.args.self.now in
-    let t = and-left _ _ told in
+    let t : IsTrue (g.R.Read.tells self.inner) = and-left _ _ told in
     let text = take c.fill-answer.new.filled c.fill-answer.new.buf in
     let size : length c.fill-answer.new.buf ≡ 65552 = omega (arith, c.fill-answer.auto.buf, c.deref_mut.ensures.len, self.room, self.sealed.ok.0) in
     let filled = refilled self.sealed.items c.fill-answer.new.buf self.sealed.len self.sealed.ok.0 (omega (arith, size, self.room)) in
-    let long : length text ≡ c.fill-answer.new.filled = length-take-le c.fill-answer.new.filled c.fill-answer.new.buf c.in-Ok.ensures.count in
+    let took : TookText (g.R.Read.rest self.inner) (g.R.Read.rest c.fill-answer.new.reader) text =
+    took-text c.fill-answer.new.buf c.fill-answer.new.filled _ _ size c.in-Ok.ensures.count (c.in-Ok.ensures.bytes t) (c.in-Ok.ensures.end t) in
     let plain = c.in-Ok-open_chunk.chunk in
     let ok : chunk_of g.S.Suite.opened self.key self.number text ≡ Ok (plain.items, c.in-Ok-open_chunk.last) = rw (c.deref.ensures.value, filled) at c.in-Ok-open_chunk.ensures.chunk in
     let longer : length plain.items + 16 ≡ length text = rw (c.deref.ensures.value, filled) at c.in-Ok-open_chunk.ensures.length in
     clean-opened g.S.Suite.opened self.key self.failed self.held self.last c.in-Ok-open_chunk.last self.at self.chunk.items plain.items self.number (g.R.Read.rest self.inner)
-    (g.R.Read.rest c.fill-answer.new.reader) text c.requires.good c.requires.closed
-    (c.in-Ok.ensures.bytes t) (omega (arith, long, size, c.in-Ok.ensures.count)) (λ less. c.in-Ok.ensures.end t (omega (arith, long, size, less)))
+    (g.R.Read.rest c.fill-answer.new.reader) text c.requires.good c.requires.closed took
     (rw (c.deref.ensures.value, filled) at c.in-Ok-open_chunk.ensures.short) ok longer (self.start c.requires.closed) given
 
 pub invariant_of-self-in-Ok-open_chunk-clause-sound : goal.invariant_of-self-in-Ok-open_chunk-clause-sound
@@ -107,11 +110,12 @@ invariant_of-self-in-Ok-open_chunk-clause-sound g c = λ told.
     let read = g.R.Read in
     let after = c.fill-answer.new.reader in
     let told_before = rw (c.in-Ok.ensures.tells, c.in-Ok.ensures.steady) at told in
-    let t = and-left _ _ told_before in
+    let t : IsTrue (g.R.Read.tells self.inner) = and-left _ _ told_before in
     let text = take c.fill-answer.new.filled c.fill-answer.new.buf in
     let size : length c.fill-answer.new.buf ≡ 65552 = omega (arith, c.fill-answer.auto.buf, c.deref_mut.ensures.len, self.room, self.sealed.ok.0) in
     let filled = refilled self.sealed.items c.fill-answer.new.buf self.sealed.len self.sealed.ok.0 (omega (arith, size, self.room)) in
-    let long : length text ≡ c.fill-answer.new.filled = length-take-le c.fill-answer.new.filled c.fill-answer.new.buf c.in-Ok.ensures.count in
+    let took : TookText (g.R.Read.rest self.inner) (g.R.Read.rest c.fill-answer.new.reader) text =
+    took-text c.fill-answer.new.buf c.fill-answer.new.filled _ _ size c.in-Ok.ensures.count (c.in-Ok.ensures.bytes t) (c.in-Ok.ensures.end t) in
     let plain = c.in-Ok-open_chunk.chunk in
     let ok : chunk_of g.S.Suite.opened self.key self.number text ≡ Ok (plain.items, c.in-Ok-open_chunk.last) = rw (c.deref.ensures.value, filled) at c.in-Ok-open_chunk.ensures.chunk in
     sound-opened g.S.Suite.opened self.key self.failed self.held self.at self.chunk.items self.last self.number self.taken
@@ -119,5 +123,5 @@ invariant_of-self-in-Ok-open_chunk-clause-sound g c = λ told.
     c.saturating_add-self.result (read.place after) c.fill-answer.new.filled (read.content after) (read.rest after) text plain.items c.in-Ok-open_chunk.last
     (c.in-Ok.ensures.content t) (c.in-Ok.ensures.moves t) (g.met.R.Read.place_fits after (and-left _ _ told)) c.saturating_add-self.ensures
     c.requires.good c.requires.closed (self.start c.requires.closed) (g.met.R.Read.stands self.inner t (and-right _ _ told_before))
-    (c.in-Ok.ensures.bytes t) long (omega (arith, long, size, c.in-Ok.ensures.count)) (λ less. c.in-Ok.ensures.end t (omega (arith, long, size, less)))
+    took (length-take-le c.fill-answer.new.filled c.fill-answer.new.buf c.in-Ok.ensures.count)
     (rw (c.deref.ensures.value, filled) at c.in-Ok-open_chunk.ensures.short) ok

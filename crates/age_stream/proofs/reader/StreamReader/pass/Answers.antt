@@ -1,4 +1,4 @@
-use Rattle.std.proofs.Common.{◌≡◌, ◌≤◌, arith, length, false}
+use Rattle.std.proofs.Common.{◌≡◌, arith, length, false}
 use Rattle.age_stream.proofs.Holding.{rest-passed, middle-by, sound-passed}
 use Rattle.age_stream.proofs.reader.StreamReader.pass.Goals as goal
 

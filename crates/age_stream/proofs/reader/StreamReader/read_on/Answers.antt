@@ -1,6 +1,5 @@
 use Rattle.std.proofs.Common.{◌≡◌, ◌+◌, ◌*◌, ◌∙◌, IsTrue, ◌&&◌, refl}
 use Rattle.age_io.specs.Reading.{IsQuiet}
-use Rattle.age_stream.specs.Answering.{Gives, Refuses}
 use Rattle.age_stream.specs.Reader.{payload_of}
 use Rattle.age_stream.proofs.reader.StreamReader.read_on.Goals.{then-not-self+in_default, else-not-self}
 use Rattle.age_stream.proofs.reader.StreamReader.read_on.Goals as goal
@@ -13,7 +12,7 @@ returns-in-Err-clause-refused g c = λ told memory quiet.
     let read = g.R.Read in
     let told_mid : IsTrue (read.tells mid.inner && read.steady mid.inner) = rw passed.inner told in
     let quiet_mid : IsQuiet (read.faults mid.inner) (read.faults c.open.new.self.inner) = rw passed.inner quiet in
-    rw (passed.key, passed.inner, passed.taken, passed.place) at (c.in-Err.ensures.refused told_mid memory quiet_mid)
+    rw (passed.key, passed.inner, passed.taken, passed.place, passed.wanted) at (c.in-Err.ensures.refused told_mid memory quiet_mid)
 
 pub returns-clause-gives : goal.returns-clause-gives
 returns-clause-gives g c = λ told some.
@@ -22,7 +21,7 @@ returns-clause-gives g c = λ told some.
     let mid = c.if-not-self.self in
     let passed = c.pass.ensures in
     let told_passed : IsTrue (read.tells c.pass.new.self.inner && read.steady c.pass.new.self.inner) = rw passed.inner told in
-    let same_payload : payload_of c.pass.new.self ≡ payload_of self = rw (passed.inner, passed.taken) refl in
+    let same_payload : payload_of c.pass.new.self ≡ payload_of self = rw (passed.inner, passed.taken) (refl {a = payload_of self}) in
     let same : (65536 * mid.number + mid.at ≡ 65536 * self.number + self.at) × (payload_of mid ≡ payload_of self) × (mid.key ≡ self.key)
     × (IsTrue (read.tells mid.inner && read.steady mid.inner)) =
     elim c.if-not-self.branch [
