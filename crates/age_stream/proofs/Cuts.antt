@@ -1,7 +1,8 @@
 -- Lists cut in parts of one size. The size is a variable here: `take` at a large numeral takes as many steps to compute.
-use Rattle.std.proofs.Common.{◌≡◌, ℕ, zero, suc, ◌+◌, ◌-◌, ◌*◌, ◌<◌, ◌≤◌, ◌^◌, List, ◌++◌, length, take, drop, min, get_or, refl, sym, ◌∙◌, ap, arith, Fits, w8}
+use Rattle.std.proofs.Common.{◌≡◌, ℕ, zero, suc, ◌+◌, ◌-◌, ◌*◌, ◌<◌, ◌≤◌, ◌^◌, List, ◌++◌, length, take, drop, min, get_or, refl, sym, ◌∙◌, ap, arith, inl, inr, Fits, w8}
+use Rattle.std.proofs.lemmas.Bool.{cases_lt}
 use Rattle.std.proofs.Math.Nat.{mul_comm}
-use Rattle.std.proofs.lemmas.List.{length-take, length-drop, take_at, drop_at, take_all, take-append-le, drop-append-le, take_min}
+use Rattle.std.proofs.lemmas.List.{length-take, length-drop, take_at, drop_at, take_all, take-append-drop, take-append-le, drop-append-le, take_min}
 use Rattle.std.proofs.lemmas.List.Elements.{All-take, All-drop, All-from_get_or}
 use Rattle.std.proofs.Math.Seq.{take-add}
 use Rattle.age_error.specs.Bytes.{AreBytes, AreBytesOf}
@@ -30,6 +31,13 @@ cut-front size i front rest h =
     let a : size * i ≤ length front = omega arith in
     let b : size ≤ length (drop (size * i) front) = rw length-drop (omega arith) in
     rw (drop-append-le, take-append-le) refl
+
+-- where a list was cut off after a part, the part stays
+pub cut-take : (size i m : ℕ) (xs : List ℕ) → size * i + size ≤ m → cut size i (take m xs) ≡ cut size i xs
+cut-take size i m xs before = elim (cases_lt (length xs) m) [
+  | inl less ↦ ap (cut size i) (take_all m xs (omega arith))
+  | inr enough ↦ sym (cut-front size i (take m xs) (drop m xs) (omega (arith, length-take m xs))) ∙ ap (cut size i) (take-append-drop m xs)
+]
 
 -- a part of full size after i of them
 pub cut_at : (size i : ℕ) (front part rest : List ℕ) → length front ≡ size * i → length part ≡ size → cut size i (front ++ (part ++ rest)) ≡ part

@@ -14,9 +14,10 @@ use Rattle.age_stream.proofs.Payloads.{held-middle, held-last, payload-bytes, le
 use Rattle.age_stream.proofs.Judged.{next_place, held-judged_middle, held-judged_last}
 
 -- a piece and what stands after it
-piece_more : (i : ℕ) (plain : List ℕ) → prepend (piece i plain) (from_place (65536 * suc i) (whole plain)) ≡ from_place (65536 * i) (whole plain)
+pub piece_more : (i : ℕ) (s : Stretch) → prepend (piece i s.bytes) (from_place (65536 * suc i) s) ≡ from_place (65536 * i) s
 unfolding cut
-piece_more i plain =
+piece_more i s =
+    let plain = s.bytes in
     let next : 65536 * i + 65536 ≡ 65536 * suc i = omega arith in
     stretch-ext _ _ (ap (λ n. take 65536 (drop (65536 * i) plain) ++ drop n plain) (sym next)
     ∙ ap (λ xs. take 65536 (drop (65536 * i) plain) ++ xs) (sym (drop-drop 65536 (65536 * i) plain))
@@ -24,7 +25,7 @@ piece_more i plain =
 
 module _ (seal_of : Seal) (opened : List ℕ → List ℕ → List ℕ → Option (List ℕ)) (law : IsCipher seal_of opened) (key : List ℕ) (k : AreBytesOf 32 key) where
   -- a full chunk and what stands after it
-  middle-delivered : (number : ℕ) (s : Stretch) (plain : List ℕ) → 65552 * number + 65552 ≤ length s.bytes →
+  pub middle-delivered : (number : ℕ) (s : Stretch) (plain : List ℕ) → 65552 * number + 65552 ≤ length s.bytes →
       chunk_of opened key number (text_at number s) ≡ Ok (plain, false) →
       delivered opened key number (from_place (65552 * number) s) ≡ prepend plain (delivered opened key (suc number) (from_place (65552 * suc number) s))
   middle-delivered number s plain full is =
@@ -75,7 +76,7 @@ module _ (seal_of : Seal) (opened : List ℕ → List ℕ → List ℕ → Optio
         let allowed : IsAllowed number (piece number plain) = record { some = λ later. omega arith; limit = λ some. omega arith } in
         let one = held-judged_middle seal_of opened law key k sealed (payload-bytes seal_of opened law key k plain b).bytes number (piece number plain) held allowed in
         middle-delivered number (whole sealed) (piece number plain) (omega arith) one
-        ∙ ap (prepend (piece number plain)) (delivered_from count (suc number) (omega arith)) ∙ piece_more number plain
+        ∙ ap (prepend (piece number plain)) (delivered_from count (suc number) (omega arith)) ∙ piece_more number (whole plain)
 
   -- the payload of a plaintext delivers it, and then a clean end
   pub delivered-payload : (plain : List ℕ) → AreBytes plain → length plain ≤ 2 ^ 60 → LastIsNoMiddle seal_of key plain →

@@ -7,3 +7,4 @@ pub mod Honest
 pub mod Opened
 pub mod Holding
 pub mod Answered
+pub mod Shortened

@@ -1,5 +1,5 @@
 -- What is true of payloads under every lawful cipher.
-use Rattle.std.specs.Prelude.{◌≡◌, ℕ, zero, suc, ◌+◌, ◌*◌, ◌<◌, ◌≤◌, ◌^◌, ◌⊎◌, List, [], ◌++◌, length, Option, Some}
+use Rattle.std.specs.Prelude.{◌≡◌, ℕ, zero, suc, ◌+◌, ◌*◌, ◌<◌, ◌≤◌, ◌^◌, ◌⊎◌, Bool, false, List, [], ◌++◌, length, take, Option, Some}
 use Rattle.age_error.specs.Bytes.{AreBytes, AreBytesOf}
 use Rattle.age_stream.specs.Payload.{Seal, piece, last_piece, payload, HeldAsMiddle, HeldAsLast, LastIsNoMiddle, plain_len}
 use Rattle.age_io.specs.Stretch.{Stretch, whole}
@@ -61,3 +61,16 @@ OpensToPayload seal_of opened = (key : List ℕ) (s : Stretch) (plain : List ℕ
 abbrev pub PayloadOpens : Seal → (List ℕ → List ℕ → List ℕ → Option (List ℕ)) → Type 0
 PayloadOpens seal_of opened = (key plain : List ℕ) → AreBytesOf 32 key → AreBytes plain → length plain ≤ 2 ^ 60
     → LastIsNoMiddle seal_of key plain → delivered opened key 0 (whole (payload seal_of key plain)) ≡ whole plain
+
+-- a payload that was cut after n chunks, before the last one, delivers the n pieces before the cut, and then a fault
+abbrev pub CutPayload : Seal → (List ℕ → List ℕ → List ℕ → Option (List ℕ)) → Type 0
+CutPayload seal_of opened = (key plain : List ℕ) (n : ℕ) → AreBytesOf 32 key → AreBytes plain → length plain ≤ 2 ^ 60
+    → n ≤ last_piece (length plain)
+    → delivered opened key 0 (whole (take (65552 * n) (payload seal_of key plain)))
+    ≡ record { bytes = take (65536 * n) plain; ends_well = false }
+
+-- sealed bytes in which others follow a chunk that is held as last never deliver a clean end
+abbrev pub NothingAfterLast : Seal → (List ℕ → List ℕ → List ℕ → Option (List ℕ)) → Type 0
+NothingAfterLast seal_of opened = (key : List ℕ) (s : Stretch) (i : ℕ) (last plain : List ℕ) → AreBytesOf 32 key → AreBytes s.bytes
+    → HeldAsLast seal_of key s.bytes i last → 65552 * (i + 1) < length s.bytes
+    → delivered opened key 0 s ≡ whole plain → ⊥

@@ -3,7 +3,7 @@ use Rattle.std.specs.Prelude.{◌≡◌, ◌≢◌, ℕ, zero, suc, ◌+◌, ◌
 use Rattle.age_error.specs.Refusals.{IsDevice}
 use Rattle.age_error.specs.declared.io.Error.{Error}
 use Rattle.age_error.specs.declared.io.Error.TheVariants.{TooLong}
-use Rattle.age_stream.specs.Payload.{Seal, nonce, payload}
+use Rattle.age_stream.specs.Payload.{Seal, nonce, last_piece, middle_seals, payload}
 use Rattle.age_stream.specs.declared.writer.StreamWriter.{StreamWriter}
 
 -- the seals of the first n pieces of a text as middle chunks, of which the first has this number
@@ -67,6 +67,14 @@ module _ {S W : Type 0} (seal_of : Seal) (limited : W → Bool) (inner_appended 
   -- A state is related to a failed one by every list, since that stays failed.
   abbrev pub Appended : StreamWriter S W → List ℕ → StreamWriter S W → Type 0
   Appended before bytes after = (after.failed ≡ true) ⊎ ((before.failed ≡ false) × (after.failed ≡ false) × Took before bytes after)
+
+-- where a writer was made under a key and took a plaintext since, its inner writer was given the seals, as middle chunks,
+-- of all pieces of the plaintext but the last
+abbrev pub HasSent : {S W : Type 0} → Seal → (W → List ℕ → W → Type 0) → (StreamWriter S W → List ℕ → StreamWriter S W → Type 0)
+    → StreamWriter S W → Type 0
+HasSent {S} {W} seal_of inner_appended appended writer =
+    (start : StreamWriter S W) (key plain : List ℕ) (first : W) → WasMade key first start → appended start plain writer
+    → inner_appended first (middle_seals seal_of key plain (last_piece (length plain))) writer.inner
 
 -- where a writer was made under a key and took a plaintext since, its inner writer was given the plaintext's payload
 abbrev pub Finishes : {S W : Type 0} → Seal → (W → List ℕ → W → Type 0) → (StreamWriter S W → List ℕ → StreamWriter S W → Type 0)

@@ -37,7 +37,7 @@ module _ (seal_of : Seal) (key : List ℕ) where
   piece-is i p = refl
 
   -- the chunks from the front are those that the payload's definition joins from the end
-  middles-all : (n : ℕ) (p : List ℕ) → middle_seals seal_of key p n ≡ middles seal_of key 0 n p
+  pub middles-all : (n : ℕ) (p : List ℕ) → middle_seals seal_of key p n ≡ middles seal_of key 0 n p
   middles-all zero p = refl
   middles-all (suc n) p =
       let count : suc n ≡ n + 1 = omega arith in
@@ -206,6 +206,18 @@ module _ {S W : Type 0} (seal_of : Seal) (limited : W → Bool) (inner_appended 
         | inr none ↦ omega (arith, left, small, whole)
       ]
 
+  -- all pieces but the last went out as middle chunks
+  pub sent-so_far : (writer : StreamWriter S W) → length writer.held.items ≤ 65536 → writer.failed ≡ false →
+      (start : StreamWriter S W) (key plain : List ℕ) (first : W) → WasMade key first start →
+      Appended seal_of limited inner_appended start plain writer →
+      inner_appended first (middle_seals seal_of key plain (last_piece (length plain))) writer.inner
+  sent-so_far writer small good start key plain first made (inl failed) = absurd (true≢false (sym failed ∙ good))
+  sent-so_far writer small good start key plain first made (inr taken) =
+      let t : start.held.items ++ plain ≡ plain = ap (λ (h : List ℕ). h ++ plain) made.none_held in
+      let count : taken.2.sending.count ≡ last_piece (length plain) = count-is start writer plain made.none_held small taken.2 in
+      rw (middles-all seal_of key (last_piece (length plain)) plain)
+      (rw (t, count, made.none_sealed, made.same_key, made.same_inner) at taken.2.sending.sent)
+
   -- the last piece goes out as the last
   pub sealed-last : ((a b c : W) (x y : List ℕ) → inner_appended a x b → inner_appended b y c → inner_appended a (x ++ y) c) →
       (writer : StreamWriter S W) (inner : W) → length writer.held.items ≤ 65536 → writer.failed ≡ false →
@@ -220,7 +232,8 @@ module _ {S W : Type 0} (seal_of : Seal) (limited : W → Bool) (inner_appended 
       let count : s.count ≡ n = count-is start writer plain made.none_held small taken.2 in
       let held : writer.held.items ≡ drop (65536 * n) plain = s.held ∙ rw (t, count) refl in
       let sealed : writer.sealed ≡ n = s.sealed ∙ rw (made.none_sealed, count, zero-add) refl in
-      let front : inner_appended first (middles seal_of key 0 n plain) writer.inner = rw (t, count, made.none_sealed, made.same_key, made.same_inner) at s.sent in
+      let front : inner_appended first (middles seal_of key 0 n plain) writer.inner =
+      rw (middles-all seal_of key n plain) at (sent-so_far writer small good start key plain first made (inr taken)) in
       let last : inner_appended writer.inner (seal_of key (nonce n true) (drop (65536 * n) plain)) inner =
       rw (s.same_key, made.same_key, sealed, held) at sent in
       rw (payload-parts seal_of key plain) (joins first writer.inner inner _ _ front last)

@@ -1,7 +1,10 @@
 //! What is true of payloads, for proofs alone: the functions here do nothing, and their contracts are the laws.
 ghost use Rattle.std.specs.Prelude.{List, ℕ};
-ghost use Rattle.age_stream.specs.Laws.{ArePieces, PayloadLength, PlainLength, OnePlaintext, MiddleChunks, LastChunk, NotRefused, OpensToPayload, PayloadOpens};
+ghost use Rattle.age_stream.specs.Writing.{IsGood, HasSent};
+ghost use Rattle.age_stream.specs.Laws.{ArePieces, PayloadLength, PlainLength, OnePlaintext, MiddleChunks, LastChunk, NotRefused, OpensToPayload, PayloadOpens, CutPayload, NothingAfterLast};
 
+use crate::writer::StreamWriter;
+use age_io::Write;
 use age_suite::suite::Suite;
 
 /// The pieces of every plaintext, joined, are the plaintext: those before the last have 65,536 bytes, the last has no more,
@@ -36,7 +39,21 @@ pub fn payload_laws<S: Suite>()
 ///   that plaintext, and end cleanly themselves: none was changed, left out, added or moved.
 /// - `payload_opens`: the payload of a plaintext of at most 2^60 bytes delivers it and then a clean end, where the suite keeps
 ///   a full last piece's seal apart from one as a middle chunk (`LastIsNoMiddle`).
+/// - `cut_payload`: a payload that was cut between two of its chunks delivers the pieces before the cut and then a fault,
+///   never a clean end.
+/// - `nothing_after_last`: nor is a clean end delivered where bytes follow a chunk that is held as the last.
 pub fn delivery_laws<S: Suite>()
     ensures opens_to_payload { OpensToPayload S.seal_of S.opened }
     ensures payload_opens { PayloadOpens S.seal_of S.opened }
+    ensures cut_payload { CutPayload S.seal_of S.opened }
+    ensures nothing_after_last { NothingAfterLast S.seal_of S.opened }
 {}
+
+/// What a writer that hasn't failed has sent so far (age-encryption.org/v1, Payload): where it was made under a key over an
+/// inner writer, and took a plaintext since by writes and flushes of any number, the inner writer was given the seals, as
+/// middle chunks, of all pieces of the plaintext but the last.
+pub fn writer_law<S: Suite, W: Write>(writer: &StreamWriter<S, W>)
+    ensures { IsGood writer.now → HasSent S.seal_of W.appended ⟦<StreamWriter<S, W> as Write>⟧.appended writer.now }
+{
+    let _writer = writer;
+}

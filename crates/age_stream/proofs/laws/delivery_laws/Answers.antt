@@ -1,5 +1,6 @@
 use Rattle.age_stream.proofs.Reopened.{payload-delivered}
 use Rattle.age_stream.proofs.Honest.{delivered-payload}
+use Rattle.age_stream.proofs.Shortened.{shortened, lengthened}
 use Rattle.age_stream.proofs.laws.delivery_laws.Goals as goal
 
 pub returns : goal.returns
@@ -10,4 +11,6 @@ returns g c =
     record {
       opens_to_payload = λ key s plain k b is. payload-delivered seal_of opened law key k s plain b is;
       payload_opens = λ key plain k b most apart. delivered-payload seal_of opened law key k plain b most apart;
+      cut_payload = λ key plain n k b most fits. shortened seal_of opened law key k plain n b most fits;
+      nothing_after_last = λ key s i last plain k b held more is. lengthened seal_of opened law key k s i last plain b held more is;
     }
