@@ -1,8 +1,10 @@
 -- Copying piece by piece.
-use Rattle.std.specs.Prelude.{◌≡◌, ℕ, ◌≤◌, Bool, IsTrue, List, [], ◌++◌, length, take, drop, ◌⊎◌}
-use Rattle.std.proofs.Common.{refl, sym, ap, subst, ◌∙◌, inl, inr, append_assoc, append-nil, take-append-drop}
-use Rattle.age_io.specs.Stretch.{Stretch, IsCleanEnd}
-use Rattle.age_io.specs.Reading.{Delivers}
+use Rattle.std.specs.Prelude.{◌≡◌, ◌≢◌, ℕ, false, IsTrue, List, [], ◌++◌, take, drop}
+use Rattle.std.proofs.Common.{refl, sym, ap, subst, ◌∙◌, append_assoc, append-nil, take-append-drop}
+use Rattle.age_error.specs.declared.io.Error.{Error}
+use Rattle.age_error.specs.declared.io.Error.TheVariants.{OutOfMemory}
+use Rattle.age_io.specs.Stretch.{Stretch, IsCleanEnd, IsFault}
+use Rattle.age_io.specs.Reading.{Delivers, IsQuiet}
 use Rattle.age_io.proofs.Delivering.{Delivers-joined}
 use Rattle.age_bench.specs.Copying.{AppendsFront}
 
@@ -11,6 +13,14 @@ pub record IsCopied {W : Type 0} (appended : W → List ℕ → W → Type 0) (o
   pub front : List ℕ
   pub delivered : Delivers front old new
   pub out : appended before front after
+
+-- before a clean end a quiet reader refuses only for want of memory
+pub well-is-no-fault : (e : Error) (before after : ℕ) (s : Stretch) → (e ≢ OutOfMemory → IsQuiet before after → IsFault s) →
+    IsQuiet before after → IsTrue s.ends_well → e ≡ OutOfMemory
+well-is-no-fault OutOfMemory before after s cause quiet well = refl
+well-is-no-fault _ before after s cause quiet well =
+    let badly : s.ends_well ≡ false = (cause (λ same. Prim.cc) quiet).ends_badly in
+    absurd (Prim.cc)
 
 module _ {W : Type 0} (appended : W → List ℕ → W → Type 0)
     (joins : (a b c : W) (x y : List ℕ) → appended a x b → appended b y c → appended a (x ++ y) c) where

@@ -2,13 +2,23 @@
 #![tactic(auto)]
 
 mod command;
+#[cfg(test)]
+mod command_tests;
 mod copying;
 mod error;
 #[cfg(test)]
 mod error_texts;
 #[cfg(test)]
+mod fakes;
+#[cfg(test)]
+mod fault_tests;
+#[cfg(test)]
 mod fixtures;
 mod payload;
+#[cfg(test)]
+mod refusal_tests;
+#[cfg(test)]
+mod standard_tests;
 #[cfg(test)]
 mod stream_tests;
 mod suite;

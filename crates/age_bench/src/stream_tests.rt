@@ -1,5 +1,7 @@
 //! Payloads as streams. The digests are those of HMAC in Python.
 
+ghost use Rattle.std.specs.Prelude.{◌<◌};
+
 use crate::fixtures::{KEY, digest, plaintext};
 use crate::suite::BenchSuite;
 use age::io::{Bytes, Error, Read, Write, read_exact, read_to_end};
@@ -13,7 +15,11 @@ use std::test::Fail;
 fn written(alloc: Global, plain: &[u8], piece: usize) -> Result<Vec<u8>, Error>
     requires { 0 < piece }
 {
-    let mut writer = StreamWriter::<BenchSuite, Vec<u8>>::with_payload_key(alloc, KEY, Vec::new(alloc))?;
+    let mut writer = StreamWriter::<BenchSuite, Vec<u8>>::with_payload_key(
+        alloc,
+        KEY,
+        Vec::new(alloc),
+    )?;
     for part in plain.chunks(piece) {
         writer.write(part)?;
         writer.flush()?;
@@ -34,7 +40,9 @@ fn payloads_are_written_and_read_back(rt: HostRuntime) -> Result<(), Fail> {
         let payload = written(alloc, &plain, 1 << 20)?;
         assert_eq!(rt; payload.len(), payload_length);
         assert_eq!(rt; digest(&payload), expected, "of {length} bytes");
-        assert!(rt; seal_whole::<BenchSuite>(alloc, &KEY, &plain)?.as_slice() == payload.as_slice());
+        assert!(rt;
+            seal_whole::<BenchSuite>(alloc, &KEY, &plain)?.as_slice() == payload.as_slice()
+        );
         let opened = open_whole::<BenchSuite>(alloc, &mut Opens::new(), &KEY, &payload)?;
         assert!(rt; opened.as_slice() == plain.as_slice(), "of {length} bytes");
 
@@ -69,7 +77,11 @@ fn how_a_plaintext_is_cut_into_writes_is_not_seen(rt: HostRuntime) -> Result<(),
     for piece in [1, 65_535, 65_536, 131_072] {
         let payload = written(alloc, &plain, piece)?;
         assert_eq!(rt; payload.len(), 131_104);
-        assert_eq!(rt; digest(&payload), 0x5f42_35d1_0738_d687, "in pieces of {piece}");
+        assert_eq!(rt;
+            digest(&payload),
+            0x5f42_35d1_0738_d687,
+            "in pieces of {piece}"
+        );
     }
     Ok(())
 }

@@ -1,6 +1,7 @@
 //! Values from outside: of RFC 4231, and of HMAC in Python.
 
 use crate::command::{Command, parse};
+use crate::fixtures::KEY;
 use crate::suite::BenchSuite;
 use age_error::suite::ScryptError;
 use age_suite::mac::{HmacWriter, hmac};
@@ -36,11 +37,6 @@ fn hmac_of_a_long_key(rt: HostRuntime) {
     writer.update(b" - Hash Key First");
     assert_eq!(rt; writer.finalize(), expected);
 }
-
-const KEY: [u8; 32] = [
-    0, 1, 2, 3, 4, 5, 6, 7, 8, 9, 10, 11, 12, 13, 14, 15, 16, 17, 18, 19, 20, 21, 22, 23, 24, 25,
-    26, 27, 28, 29, 30, 31,
-];
 
 const NONCE: [u8; 12] = [100, 101, 102, 103, 104, 105, 106, 107, 108, 109, 110, 111];
 

@@ -1,4 +1,4 @@
-use Rattle.std.proofs.Common.{◌≡◌, IsTrue, ◌∙◌, sym, refl}
+use Rattle.std.proofs.Common.{◌∙◌, refl}
 use Rattle.age_io.specs.Stretch.{whole, stretch-ext}
 use Rattle.age_stream.specs.Chunks.{delivered}
 use Rattle.age_bench.specs.Bench.{bench_opened}

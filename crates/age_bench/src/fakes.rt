@@ -1,0 +1,68 @@
+//! Readers and writers of std that fail on purpose. `Std` makes readers and writers of this port of them.
+
+use std::io;
+use std::io::{ErrorKind, Read, Write};
+
+/// What a call on a device does.
+#[derive(Clone, Copy)]
+pub enum Step {
+    /// It moves at most so many bytes.
+    Move(usize),
+    /// It moves nothing and fails.
+    Fail(ErrorKind),
+}
+
+/// What the calls on a device do, one after the other. Those after the last step move at most `most` bytes.
+#[derive(Clone, Copy)]
+pub struct Script<'a> {
+    pub steps: &'a [Step],
+    pub most: usize,
+}
+
+impl<'a> Script<'a> {
+    // How many bytes the next call moves at most.
+    fn next(&mut self) -> io::Result<usize> {
+        let Some((step, later)) = self.steps.split_first() else {
+            return Ok(self.most);
+        };
+        self.steps = later;
+        match *step {
+            Step::Move(most) => Ok(most),
+            Step::Fail(kind) => Err(io::Error::from(kind)),
+        }
+    }
+}
+
+/// Gives bytes as its script says.
+#[derive(Drop)]
+pub struct Source<'a> {
+    pub script: Script<'a>,
+    pub bytes: &'a [u8],
+}
+
+impl<'a> Read for Source<'a> {
+    fn read(&mut self, buf: &mut [u8]) -> io::Result<usize> {
+        let most = self.script.next()?.min(buf.len());
+        self.bytes.read(&mut buf[..most])
+    }
+}
+
+/// Keeps the bytes that it takes, and takes them as its script says. A flush is a step too.
+#[derive(Drop)]
+pub struct Sink<'a> {
+    pub script: Script<'a>,
+    pub bytes: Vec<u8>,
+}
+
+impl<'a> Write for Sink<'a> {
+    fn write(&mut self, buf: &[u8]) -> io::Result<usize> {
+        let most = self.script.next()?.min(buf.len());
+        self.bytes.extend_from_slice(&buf[..most])?;
+        Ok(most)
+    }
+
+    fn flush(&mut self) -> io::Result<()> {
+        self.script.next()?;
+        Ok(())
+    }
+}
