@@ -1,9 +1,9 @@
 //! The texts and the kinds of all refusals.
 
-use age_error::io::{ArmoredReadError, Error, ErrorKind};
+use age_error::io::{ArmoredReadError, Error, ErrorKind, SeekFrom};
 use age_error::suite::ScryptError;
 use std::alloc::Global;
-use std::fmt::Display;
+use std::fmt::{Debug, Display};
 use std::process::Abort;
 use std::test::Fail;
 
@@ -157,4 +157,40 @@ fn scrypt_errors_have_their_texts(rt: HostRuntime) -> Result<(), Fail> {
         "work factor refused",
     )?;
     prints(&rt, rt.alloc(), &ScryptError::OutOfMemory, "out of memory")
+}
+
+// What is shown of a value for debugging is this text.
+fn shows<D: Debug>(rt: &impl Abort, alloc: Global, value: &D, text: &str) -> Result<(), Fail> {
+    assert_eq!(rt; format!(in alloc; "{value:?}")?.as_str(), text);
+    Ok(())
+}
+
+// As Rust's derive writes them.
+#[test]
+fn values_are_shown_for_debugging(rt: HostRuntime) -> Result<(), Fail> {
+    let alloc = rt.alloc();
+    shows(&rt, alloc, &Error::BadChunk, "BadChunk")?;
+    shows(
+        &rt,
+        alloc,
+        &Error::Device(ErrorKind::NotFound),
+        "Device(NotFound)",
+    )?;
+    shows(
+        &rt,
+        alloc,
+        &Error::NotIdentity { line: 3 },
+        "NotIdentity { line: 3 }",
+    )?;
+    shows(
+        &rt,
+        alloc,
+        &Error::Armor(ArmoredReadError::Base64),
+        "Armor(Base64)",
+    )?;
+    shows(&rt, alloc, &ErrorKind::InvalidData, "InvalidData")?;
+    shows(&rt, alloc, &SeekFrom::Start(5), "Start(5)")?;
+    shows(&rt, alloc, &SeekFrom::End(-1), "End(-1)")?;
+    shows(&rt, alloc, &ScryptError::InvalidParams, "InvalidParams")?;
+    Ok(())
 }
