@@ -1,6 +1,7 @@
 #!/usr/bin/env bash
 # Seconds and peak memory of `agebench seal` and `agebench open`, beside `sha256sum` of the same bytes: the bench suite
-# has to hash each byte once, so that is the floor. Each is the least of five runs. The argument is the size in MiB.
+# has to hash each byte once, so that is the floor. Each time is the least of five runs. The argument is the size in MiB.
+# Peak memory is measured by /usr/bin/time, where it is there.
 set -euo pipefail
 size=${1:-256}
 top=$(cd "$(dirname "$0")/.." && pwd)
@@ -13,24 +14,29 @@ head -c "$((size * 1048576))" /dev/urandom >"$folder/plain"
 "$program" seal "$key" <"$folder/plain" >"$folder/sealed"
 "$program" open "$key" <"$folder/sealed" | cmp - "$folder/plain"
 
-# The least seconds of five runs and the most KiB, as `SECONDS KIB`.
+# The least seconds of five runs, and the peak KiB of one more, as `SECONDS KIB`.
 least() {
-    python3 - "$@" <<'PYTHON'
-import os, resource, subprocess, sys, time
+    local given=$1 seconds memory=0
+    shift
+    seconds=$(python3 - "$given" "$@" <<'PYTHON'
+import os, subprocess, sys, time
 given, words = sys.argv[1], sys.argv[2:]
-best, most = None, 0
+best = None
 for _ in range(5):
     with open(given, "rb") as source, open(os.devnull, "wb") as sink:
         start = time.perf_counter()
-        child = subprocess.Popen(words, stdin=source, stdout=sink)
-        _, status, usage = os.wait4(child.pid, 0)
+        status = subprocess.run(words, stdin=source, stdout=sink).returncode
         took = time.perf_counter() - start
     if status != 0:
         sys.exit(f"{words[0]} failed")
     best = took if best is None else min(best, took)
-    most = max(most, usage.ru_maxrss)
-print(f"{best:.3f} {most}")
+print(f"{best:.3f}")
 PYTHON
+    )
+    if [ -x /usr/bin/time ]; then
+        memory=$({ /usr/bin/time -f %M "$@" <"$given" >/dev/null; } 2>&1)
+    fi
+    echo "$seconds $memory"
 }
 
 floor=$(least "$folder/plain" sha256sum)

@@ -1,5 +1,5 @@
 -- The payload of a plaintext, and what a chunk of a payload holds: age-encryption.org/v1, section "Payload", a variant of
--- STREAM. Under "standard" stands what that section says. `seal_of key nonce plain` is the cipher's seal.
+-- STREAM. Under "standard" stands what that section asks, in our words. `seal_of key nonce plain` is the cipher's seal.
 use Rattle.std.specs.Prelude.{◌≡◌, ℕ, zero, suc, ◌+◌, ◌-◌, ◌*◌, ◌/◌, Bool, true, false, ◌&&◌, ◌||◌, nat_eq, nat_le, nat_lt, if◌then◌else◌, List, [], ◌∷◌, ◌++◌, length, take, drop, Option, Some, None}
 use Rattle.std.specs.Int.{bytes_high_first}
 use Rattle.age_error.specs.Bytes.{AreBytes}
