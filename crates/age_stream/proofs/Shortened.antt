@@ -1,6 +1,6 @@
 -- A payload that was cut between two chunks delivers its first pieces, and then a fault; and bytes after a chunk that is
 -- held as last never end well.
-use Rattle.std.proofs.Common.{◌≡◌, ℕ, zero, suc, ◌+◌, ◌*◌, ◌-◌, ◌<◌, ◌≤◌, ◌^◌, true, false, List, [], length, take, drop, Option, Ok, refl, sym, ap, subst, ◌∙◌, arith, length-take, length-drop, zero-add}
+use Rattle.std.proofs.Common.{◌≡◌, ℕ, zero, suc, ◌+◌, ◌*◌, ◌<◌, ◌≤◌, ◌^◌, true, false, List, [], length, take, drop, Option, refl, sym, ap, ◌∙◌, arith, length-take, zero-add}
 use Rattle.std.proofs.lemmas.List.{drop_all}
 use Rattle.std.proofs.lemmas.List.Elements.{All-take}
 use Rattle.age_error.specs.Bytes.{AreBytes, AreBytesOf}
@@ -13,7 +13,7 @@ use Rattle.age_stream.specs.FrontToEnd.{IsAllowed}
 use Rattle.age_stream.specs.Opening.{shorter, opens_bytes}
 use Rattle.age_stream.specs.SizeLaws.{delivered-bytes}
 use Rattle.age_stream.proofs.Cuts.{cut-take}
-use Rattle.age_stream.proofs.Payloads.{held-middle, payload-bytes, length-payload, length-full_piece, length-last_piece, chunk-payload}
+use Rattle.age_stream.proofs.Payloads.{held-middle, payload-bytes, length-payload, length-full_piece, length-last_piece}
 use Rattle.age_stream.proofs.Judged.{held-judged_middle}
 use Rattle.age_stream.proofs.Honest.{piece_more, middle-delivered}
 use Rattle.age_stream.proofs.Reopened.{payload-delivered}

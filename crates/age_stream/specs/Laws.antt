@@ -1,5 +1,5 @@
 -- What is true of payloads under every lawful cipher.
-use Rattle.std.specs.Prelude.{◌≡◌, ℕ, zero, suc, ◌+◌, ◌*◌, ◌<◌, ◌≤◌, ◌^◌, ◌⊎◌, Bool, false, List, [], ◌++◌, length, take, Option, Some}
+use Rattle.std.specs.Prelude.{◌≡◌, ℕ, zero, suc, ◌+◌, ◌*◌, ◌<◌, ◌≤◌, ◌^◌, ◌⊎◌, false, List, [], ◌++◌, length, take, Option, Some}
 use Rattle.age_error.specs.Bytes.{AreBytes, AreBytesOf}
 use Rattle.age_stream.specs.Payload.{Seal, piece, last_piece, payload, HeldAsMiddle, HeldAsLast, LastIsNoMiddle, plain_len}
 use Rattle.age_io.specs.Stretch.{Stretch, whole}
