@@ -1,0 +1,21 @@
+-- The engines over the format's alphabet.
+use Rattle.std.proofs.Common.{◌≡◌, ℕ, List, Bool, false, ap, sym, subst, ◌∙◌}
+use Rattle.base64.specs.declared.engine.general_purpose.GeneralPurpose.{GeneralPurpose}
+use Rattle.base64.specs.declared.engine.DecodePaddingMode.{DecodePaddingMode}
+use Rattle.base64.specs.declared.engine.DecodePaddingMode.TheVariants.{RequireNone}
+use Rattle.base64.specs.GeneralPurpose.{encode_of, IsConfig, engine_symbols, engine_padding, engine_config}
+use Rattle.base64.specs.Rfc4648.{encode}
+use Rattle.base64.specs.Decode.{IsExact}
+use Rattle.age_format.specs.Base64.{symbols, columns}
+use Rattle.age_format.specs.Engine.{IsHeaderEngine}
+
+written : (e : GeneralPurpose) (padding : Bool) (mode : DecodePaddingMode) → engine_symbols e ≡ symbols → engine_padding e ≡ 61
+    → IsConfig (engine_config e) padding false mode → (bytes : List ℕ) → encode_of e bytes ≡ encode symbols 61 padding bytes
+written e padding mode s p k bytes =
+    ap (λ t. encode t e.padding.value e.config.encode_padding bytes) s ∙ ap (λ x. encode symbols x e.config.encode_padding bytes) p
+    ∙ ap (λ b. encode symbols 61 b bytes) k.0
+
+pub header_engine_is : (e : GeneralPurpose) → engine_symbols e ≡ symbols → engine_padding e ≡ 61
+    → IsConfig (engine_config e) false false RequireNone → IsHeaderEngine e
+unfolding columns
+header_engine_is e s p k = (written e false RequireNone s p k, (k.1, subst (λ m. IsExact m e.config.encode_padding) (sym k.2) k.0))

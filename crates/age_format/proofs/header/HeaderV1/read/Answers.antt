@@ -1,0 +1,66 @@
+use Rattle.std.proofs.Common.{◌∙◌}
+use Rattle.age_error.specs.declared.decrypt.DecryptError.TheVariants as decrypt
+use Rattle.age_error.specs.DecryptErrors.{DecryptRefusal, decrypt_of_io}
+use Rattle.age_format.specs.ReadingHeader.{RefusesHeader}
+use Rattle.age_format.specs.Verdict.{Header, UnknownVersion, Bad}
+use Rattle.age_format.proofs.HeaderReading.{took_verdict, reads_header, ran_out_after, reader_refused, refusal_of_error}
+use Rattle.age_format.proofs.header.HeaderV1.read.Goals as goal
+
+pub returns-in-Bad-clause-refused : goal.returns-in-Bad-clause-refused
+returns-in-Bad-clause-refused g c = λ told.
+    let before = c.bytes.invariant in
+    let here = before.same_tells ∙ told in
+    let decides = (rw c.in-Bad.is at c.in_ok-more.ensures) in (
+      _,
+      took_verdict c.bytes.header.legacy (g.R.Read.rest c.args.reader.now) _ _ _ _ _ c.bytes.header.text c.in_ok-byte.byte Bad before.legacy
+          (before.so_far told) (c.in_ok-byte.ensures.byte here) (before.moved told) (c.in_ok-byte.ensures.moves here) c.text-size.ensures.undecided decides,
+    )
+
+pub returns-in-UnknownVersion-clause-refused : goal.returns-in-UnknownVersion-clause-refused
+returns-in-UnknownVersion-clause-refused g c = λ told.
+    let before = c.bytes.invariant in
+    let here = before.same_tells ∙ told in
+    let decides = (rw c.in-UnknownVersion.is at c.in_ok-more.ensures) in (
+      _,
+      took_verdict c.bytes.header.legacy (g.R.Read.rest c.args.reader.now) _ _ _ _ _ c.bytes.header.text c.in_ok-byte.byte UnknownVersion before.legacy
+          (before.so_far told) (c.in_ok-byte.ensures.byte here) (before.moved told) (c.in_ok-byte.ensures.moves here) c.text-size.ensures.undecided decides,
+    )
+
+pub returns-in-Header-clause-header : goal.returns-in-Header-clause-header
+returns-in-Header-clause-header g c = λ told.
+    let before = c.bytes.invariant in
+    let here = before.same_tells ∙ told in
+    let decides = (rw c.in-Header.is at c.in_ok-more.ensures) in
+    let took = took_verdict c.bytes.header.legacy (g.R.Read.rest c.args.reader.now) _ _ _ _ _ c.bytes.header.text c.in_ok-byte.byte
+    (Header c.in-Header.stanzas.items c.in-Header.mac) before.legacy
+    (before.so_far told) (c.in_ok-byte.ensures.byte here) (before.moved told) (c.in_ok-byte.ensures.moves here) c.text-size.ensures.undecided decides.1 in
+    let made = c.header_of_text.ensures in
+    reads_header _ _ _ _ _ c.in-Header.text.items c.in-Header.stanzas.items c.in-Header.mac c.header_of_text.result took decides.0 made.stanzas made.mac made.covered
+
+pub returns-in_err-byte-clause-refused : goal.returns-in_err-byte-clause-refused
+returns-in_err-byte-clause-refused g c = λ told.
+    let read = g.R.Read in
+    let before = c.bytes.invariant in
+    let here = before.same_tells ∙ told in
+    let failed = c.in_err-byte.ensures in
+    let e = c.in_err-byte.field-0.0 in
+    let refused = reader_refused c.bytes.header.legacy (read.faults c.args.reader.now) (read.faults c.bytes.reader) (read.faults c.next_byte.new.reader)
+    (read.rest c.args.reader.now) (read.rest c.bytes.reader) (read.rest c.next_byte.new.reader)
+    (read.place c.args.reader.now) (read.place c.bytes.reader) (read.place c.next_byte.new.reader) c.bytes.header.text e before.legacy
+    (before.so_far told) (failed.left here) (before.moved told) (failed.stays here) c.text-size.ensures.undecided
+    before.no_fewer_faults failed.faults (failed.cause here) in
+    let refuses = λ (x : DecryptRefusal). RefusesHeader (read.faults c.args.reader.now) (read.faults c.next_byte.new.reader)
+    (read.rest c.args.reader.now) (read.rest c.next_byte.new.reader) (read.place c.args.reader.now) (read.place c.next_byte.new.reader) x in
+    refusal_of_error c.from_residual.result (decrypt_of_io e) refuses c.from_residual.ensures.1 refused
+
+pub returns-in_err-more-clause-refused : goal.returns-in_err-more-clause-refused
+returns-in_err-more-clause-refused g c = λ told.
+    let read = g.R.Read in
+    let before = c.bytes.invariant in
+    let here = before.same_tells ∙ told in
+    let ran_out = ran_out_after c.bytes.header.legacy (read.rest c.args.reader.now) (read.rest c.bytes.reader) (read.rest c.next_byte.new.reader)
+    (read.place c.args.reader.now) (read.place c.bytes.reader) (read.place c.next_byte.new.reader) c.bytes.header.text c.in_ok-byte.byte before.legacy
+    (before.so_far told) (c.in_ok-byte.ensures.byte here) (before.moved told) (c.in_ok-byte.ensures.moves here) c.text-size.ensures.undecided in
+    let refuses = λ (x : DecryptRefusal). RefusesHeader (read.faults c.args.reader.now) (read.faults c.next_byte.new.reader)
+    (read.rest c.args.reader.now) (read.rest c.next_byte.new.reader) (read.place c.args.reader.now) (read.place c.next_byte.new.reader) x in
+    refusal_of_error c.from_residual-in_err-more.result decrypt.OutOfMemory refuses c.from_residual-in_err-more.ensures.1 ran_out

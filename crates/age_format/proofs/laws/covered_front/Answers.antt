@@ -1,0 +1,5 @@
+use Rattle.age_format.proofs.Covered.{covered_is}
+use Rattle.age_format.proofs.laws.covered_front.Goals as goal
+
+pub returns : goal.returns
+returns c = covered_is

@@ -1,0 +1,5 @@
+use Rattle.age_format.proofs.Verdicts.{one_verdict}
+use Rattle.age_format.proofs.laws.verdict_is_unique.Goals as goal
+
+pub returns : goal.returns
+returns c = one_verdict

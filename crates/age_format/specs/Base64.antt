@@ -1,0 +1,12 @@
+-- Base64 of RFC 4648 section 4 over the alphabet of the format.
+use Rattle.std.specs.Prelude.{ℕ, List, false, codes}
+use Rattle.base64.specs.Rfc4648.{encode}
+
+-- the 64 symbols in their order
+abbrev pub symbols : List ℕ
+symbols = codes "ABCDEFGHIJKLMNOPQRSTUVWXYZabcdefghijklmnopqrstuvwxyz0123456789+/"
+
+-- the base64 of a header
+-- standard: canonical base64 of RFC 4648 section 4, without padding, and refused where unused bits aren't zero
+unfoldable pub columns : List ℕ → List ℕ
+columns bytes = encode symbols 61 false bytes

@@ -1,0 +1,110 @@
+//! A reader of headers that is given one byte after another, and so never takes one too many.
+
+ghost use Rattle.std.specs.Prelude.{◌≡◌, ◌++◌, ◌∷◌, [], IfOk};
+ghost use Rattle.age_format.specs.Verdict.{IsUndecided};
+ghost use Rattle.age_format.specs.Steps.{IsStep};
+
+use crate::stanza::Stanza;
+use crate::state::{Judged, State, judge};
+use std::alloc::{AllocError, Global};
+use std::marker::Model;
+
+/// The beginning of each header.
+const MAGIC: [u8; 19] = *b"age-encryption.org/";
+
+/// The text of a header so far, which decides nothing yet. It means that text, and whether the legacy form is allowed.
+#[derive(Drop)]
+pub struct HeaderReader {
+    legacy: bool,
+    text: Vec<u8>,
+    start: usize,
+    state: State,
+}
+
+impl Model for HeaderReader {
+    ghost use Rattle.age_format.specs.Progress.{IsInProgress, ReaderValue};
+
+    ghost Value = { ReaderValue };
+
+    ghost view = { λ r. record { legacy = r.legacy; text = r.text.items } };
+
+    ghost invariant = { λ r. IsInProgress r.legacy r.state r.start r.text.items };
+}
+
+/// What one more byte says.
+#[derive(Drop)]
+pub enum Step {
+    /// The text decides nothing so far: the reader goes on.
+    More(HeaderReader),
+    /// The stanzas, the MAC, and the whole text.
+    Header(Vec<Stanza>, [u8; 32], Vec<u8>),
+    /// The version's line tells another version than v1.
+    UnknownVersion,
+    /// No header and no unknown version's line goes on from the text.
+    Bad,
+}
+
+impl HeaderReader {
+    /// A reader that read nothing. With `legacy` a stanza's body may lack its final line where that would be empty.
+    pub fn new(alloc: Global, legacy: bool) -> HeaderReader
+        ensures { result ≡ record { legacy = legacy; text = [] } }
+    {
+        HeaderReader {
+            legacy,
+            text: Vec::new(alloc),
+            start: 0,
+            state: State::Version,
+        }
+    }
+
+    /// The text so far, no front of which decides.
+    pub fn text(&self) -> &[u8]
+        ensures text { result.now ≡ self.now.text }
+        ensures undecided { IsUndecided self.now.legacy self.now.text }
+    {
+        self.text.as_slice()
+    }
+
+    /// Takes one more byte, and says what the text says with it. `AllocError` comes only for want of memory, and the
+    /// reader is gone then.
+    pub fn push(mut self, alloc: Global, byte: u8) -> Result<Step, AllocError>
+        ensures { IfOk result (λ step. IsStep self.legacy step (self.text ++ byte ∷ [])) }
+    {
+        let place = self.text.len();
+        if place < MAGIC.len() {
+            if byte != MAGIC[place] {
+                return Ok(Step::Bad);
+            }
+        } else if byte == b'\n' {
+            return self.end_line(alloc);
+        } else if byte < 32 || byte > 126 {
+            return Ok(Step::Bad);
+        }
+        self.text.push(byte)?;
+        Ok(Step::More(self))
+    }
+
+    /// Takes the line feed that ends a line.
+    fn end_line(self, alloc: Global) -> Result<Step, AllocError>
+        ensures { IfOk result (λ step. IsStep self.legacy step (self.text ++ 10 ∷ [])) }
+    {
+        let legacy = self.legacy;
+        let mut text = self.text;
+        let judged = judge(alloc, legacy, self.state, &text[self.start..])?;
+        text.push(b'\n')?;
+        match judged {
+            Judged::Allowed(state) => {
+                let start = text.len();
+                Ok(Step::More(HeaderReader {
+                    legacy,
+                    text,
+                    start,
+                    state,
+                }))
+            }
+            Judged::Bad => Ok(Step::Bad),
+            Judged::UnknownVersion => Ok(Step::UnknownVersion),
+            Judged::Header(stanzas, mac) => Ok(Step::Header(stanzas, mac, text)),
+        }
+    }
+}

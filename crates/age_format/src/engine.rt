@@ -1,0 +1,22 @@
+//! The engine of the format's base64, over an alphabet that is written out here.
+
+ghost use Rattle.age_format.specs.Engine.{IsHeaderEngine};
+
+use base64::alphabet::Alphabet;
+use base64::engine::DecodePaddingMode;
+use base64::engine::general_purpose::{GeneralPurpose, GeneralPurposeConfig};
+
+const SYMBOLS: &str = "ABCDEFGHIJKLMNOPQRSTUVWXYZabcdefghijklmnopqrstuvwxyz0123456789+/";
+
+/// The base64 of headers: canonical, without padding.
+pub(crate) fn header_engine() -> GeneralPurpose
+    ensures { IsHeaderEngine result }
+{
+    let Ok(alphabet) = Alphabet::new(SYMBOLS) else {
+        unreachable!();
+    };
+    let config = GeneralPurposeConfig::new()
+        .with_encode_padding(false)
+        .with_decode_padding_mode(DecodePaddingMode::RequireNone);
+    GeneralPurpose::new(&alphabet, config)
+}
