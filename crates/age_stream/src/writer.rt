@@ -17,6 +17,26 @@ pub const CHUNK: usize = 65_536;
 /// How many bytes the longest plaintext has.
 pub const LONGEST_PLAINTEXT: u64 = 1 << 60;
 
+/// Memory for the chunk that a `StreamWriter` holds, for one who writes to the inner writer before and wants to be sure
+/// of the memory first.
+#[derive(Drop)]
+pub struct ChunkRoom {
+    alloc: Global,
+    held: Vec<u8>,
+    ghost empty: { held.items ≡ [] },
+    ghost has_room: { 65536 ≤ vec_capacity held },
+}
+
+impl ChunkRoom {
+    /// Memory for one chunk of plaintext, 65,536 bytes. It answers `OutOfMemory` where it is refused that.
+    pub fn new(alloc: Global) -> Result<ChunkRoom, Error>
+        ensures { IfErr result (λ e. e ≡ OutOfMemory) }
+    {
+        let held = Vec::with_capacity(alloc, CHUNK)?;
+        Ok(ChunkRoom { alloc, held })
+    }
+}
+
 /// Takes a plaintext by `Write`, and writes its payload to an inner writer.
 ///
 /// The payload is that of age-encryption.org/v1, "Payload": the plaintext in chunks of 65,536 bytes, each sealed
@@ -54,8 +74,19 @@ impl<S: Suite, W: Write> StreamWriter<S, W> {
         ensures same_faults { IfOk result (λ w. ⟦<StreamWriter<S, W> as Write>⟧.faults w ≡ W.faults inner) }
         ensures memory { IfErr result (λ e. e ≡ OutOfMemory) }
     {
-        let held = Vec::with_capacity(alloc, CHUNK)?;
-        Ok(StreamWriter {
+        let room = ChunkRoom::new(alloc)?;
+        Ok(StreamWriter::with_room(room, key, inner))
+    }
+
+    /// The same with memory that was taken before. It takes none itself, so it never refuses.
+    pub fn with_room(room: ChunkRoom, key: [u8; 32], inner: W) -> Self
+        ensures made { WasMade key inner result }
+        ensures empty { (taken_len result ≡ 0) × (held_len result ≡ 0) }
+        ensures same_tells { ⟦<StreamWriter<S, W> as Write>⟧.tells result ≡ W.tells inner }
+        ensures same_faults { ⟦<StreamWriter<S, W> as Write>⟧.faults result ≡ W.faults inner }
+    {
+        let ChunkRoom { alloc, held } = room;
+        StreamWriter {
             alloc,
             key,
             inner,
@@ -63,7 +94,7 @@ impl<S: Suite, W: Write> StreamWriter<S, W> {
             sealed: 0,
             failed: false,
             suite: PhantomData,
-        })
+        }
     }
 
     // Seals what is held, where it is full, so that another byte finds room.

@@ -1,0 +1,51 @@
+-- From what an encryptor wrote first to the file in the end.
+use Rattle.std.proofs.Common.{◌≡◌, ◌∙◌, sym, ap, subst, ℕ, Bool, List, ◌++◌, length, IsTrue, append_assoc}
+use Rattle.std.proofs.lemmas.Result.{IfOk-weaker}
+use Rattle.age_format.specs.Header.{IsHeader, IsHeaderText, covered, covered_text, header_text}
+use Rattle.age_format.specs.HeaderV1.{HeaderValue, header_mac, reads_legacy}
+use Rattle.age_format.specs.Stanza.{StanzaValue}
+use Rattle.age_stream.specs.Payload.{Seal, payload}
+use Rattle.age_stream.specs.declared.writer.StreamWriter.{StreamWriter}
+use Rattle.age_protocol.specs.Encrypting.{Prepared}
+use Rattle.age_protocol.specs.File.{IsReady, IsFileOf, payload_key, file_front, file_text}
+use Rattle.age_protocol.specs.Starting.{Starts, WritesFile}
+
+-- the text of a canonical header and the nonce are what stands before the payload
+pub front_is : (file_key : List ℕ) (h : HeaderValue) (nonce text : List ℕ) → IsReady file_key h nonce
+    → text ≡ header_text h.stanzas h.mac ++ nonce → text ≡ file_front file_key h.stanzas nonce
+unfolding file_front
+front_is file_key h nonce text ready is = is ∙ ap (λ mac. header_text h.stanzas mac ++ nonce) ready.right
+
+-- what the writer's `finish` appends to the header and the nonce makes the file
+pub writes_file : {S W : Type 0} (seal_of : Seal) (tells limited : W → Bool) (faults : W → ℕ) (inner_appended : W → List ℕ → W → Type 0)
+    (appended : StreamWriter S W → List ℕ → StreamWriter S W → Type 0)
+    (joins : (a b c : W) (x y : List ℕ) → inner_appended a x b → inner_appended b y c → inner_appended a (x ++ y) c)
+    (file : Prepared) (output : W) (writer : StreamWriter S W) → IsTrue (tells output)
+    → Starts tells limited faults inner_appended file output writer → WritesFile seal_of inner_appended appended file output writer
+unfolding file_text
+writes_file seal_of tells limited faults inner_appended appended joins file output writer told starts plain last finished took finishes =
+    IfOk-weaker finished _ _
+    (λ inner sent. joins output starts.inner inner (file_front file.file_key file.stanzas file.nonce)
+    (payload seal_of (payload_key file.file_key file.nonce) plain) (starts.front told) sent)
+    (finishes writer (payload_key file.file_key file.nonce) plain starts.inner starts.made took)
+
+-- the file of a plaintext is a file of it
+pub is_file : (seal_of : Seal) (file_key : List ℕ) (h : HeaderValue) (nonce plain : List ℕ) → IsReady file_key h nonce
+    → ((legacy : Bool) (stanzas : List StanzaValue) (mac : List ℕ) → IsHeader stanzas mac → IsHeaderText legacy (header_text stanzas mac) stanzas mac)
+    → ((stanzas : List StanzaValue) (mac : List ℕ) → length mac ≡ 32 → covered (header_text stanzas mac) ≡ covered_text stanzas)
+    → IsFileOf seal_of file_key h.stanzas plain (file_text seal_of file_key h.stanzas nonce plain)
+unfolding file_text file_front
+is_file seal_of file_key h nonce plain ready is_text covers =
+    let mac = header_mac file_key (covered_text h.stanzas) in
+    let header = header_text h.stanzas mac in
+    let good : IsHeader h.stanzas mac = subst (λ m. IsHeader h.stanzas m) ready.right ready.header in
+    record {
+      header = header;
+      mac = mac;
+      nonce = nonce;
+      text = is_text reads_legacy h.stanzas mac good;
+      rule = ready.rule;
+      right = ap (λ front. header_mac file_key front) (sym (covers h.stanzas mac good.is_mac.len));
+      sixteen = ready.sixteen;
+      whole = append_assoc header nonce (payload seal_of (payload_key file_key nonce) plain);
+    }

@@ -1,0 +1,6 @@
+pub mod Asking
+pub mod Sets
+pub mod Files
+pub mod Fronts
+pub mod Rule
+pub mod Accepted

@@ -1,0 +1,39 @@
+use Rattle.std.proofs.Common.{rules, ◌≡◌, IsTrue, inr, subst}
+use Rattle.age_format.specs.HeaderV1.{header_mac}
+use Rattle.age_protocol.specs.File.{payload_key}
+use Rattle.age_protocol.specs.OpeningFile.{IsReaderOf}
+use Rattle.age_protocol.proofs.Fronts.{file_of}
+use Rattle.age_protocol.proofs.decryptor.Decryptor.decrypt_with.Goals as goal
+
+pub returns : goal.returns
+returns g c =
+    let made = c.in_ok-reader.ensures in
+    let self = c.args.self in
+    let file_key = c.args.file_key.now in
+    let yes : IsTrue c.verify_mac.result = search rules in
+    let right : self.header.mac ≡ header_mac file_key self.header.covered = c.verify_mac.ensures.0 yes in
+    let reader : IsReaderOf (payload_key file_key self.nonce) self.input c.in_ok-reader.reader =
+    subst (λ key. IsReaderOf key self.input c.in_ok-reader.reader) c.payload_key_of-key.ensures (record {
+      good = made.good;
+      opens = made.opens;
+      same_key = made.key;
+      sealed = made.payload;
+      inner_rest = made.inner_rest;
+      tells = made.tells;
+      faults = made.faults;
+      place = made.place;
+      content = made.content;
+      rest = made.rest;
+      success = made.success;
+      honest = made.honest;
+    }) in
+    inr (
+      right,
+      record {
+        right = right;
+        reader = reader;
+        file = λ told start start_place plain front all.
+            file_of g.S.Suite.seal_of file_key self.header self.nonce start (g.R.Read.rest self.input) start_place (g.R.Read.place self.input)
+            plain right front (reader.success told plain all);
+      },
+    )

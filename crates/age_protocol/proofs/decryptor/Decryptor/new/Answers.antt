@@ -1,0 +1,69 @@
+use Rattle.std.proofs.Common.{rules, ◌≡◌, ◌∙◌, length, refl, inl, inr, arith}
+use Rattle.age_error.specs.DecryptErrors.{decrypt_of_io}
+use Rattle.age_protocol.proofs.Fronts.{took_both, of_error, is_device}
+use Rattle.age_protocol.proofs.decryptor.Decryptor.new.Goals as goal
+
+pub returns-in_err-read_exact-clause-refused : goal.returns-in_err-read_exact-clause-refused
+returns-in_err-read_exact-clause-refused g c =
+    let first = c.in_ok-header.ensures in
+    let then = c.in_err-read_exact.ensures in
+    let error = c.in_err-read_exact.field-0.0 in
+    let sixteen : length c.read_exact.new.buf ≡ 16 = omega arith in
+    of_error _ (decrypt_of_io error) _ c.from_residual-in_err-read_exact.ensures.1 (
+      c.read_exact.new.reader,
+      record {
+        keeps = record {
+          same_tells = then.tells ∙ first.tells;
+          same_steady = then.steady ∙ first.steady;
+          no_fewer_faults = omega (arith, first.faults, then.faults);
+          same_content = λ told. then.content (first.tells ∙ told) ∙ first.content told;
+        };
+        device = λ device. omega (arith, first.faults, then.device (is_device error device));
+        why = λ told. inr (inl (record {
+          h = c.in_ok-header.header;
+          after = g.R.Read.rest c.read.new.reader;
+          after_place = g.R.Read.place c.read.new.reader;
+          header = first.header told;
+          some = rw sixteen at (then.err (first.tells ∙ told));
+          error = error;
+          is = refl;
+          short = λ other quiet. rw sixteen at (then.early (first.tells ∙ told) other
+              (record { same = omega (arith, quiet.same, first.faults, then.faults); below = quiet.below }));
+        }));
+      },
+    )
+
+pub returns-then-not-keeps_scrypt_rule-clause-refused :
+    goal.returns-then-not-keeps_scrypt_rule-clause-refused
+returns-then-not-keeps_scrypt_rule-clause-refused g c =
+    let first = c.in_ok-header.ensures in
+    let then = c.in_ok-read_exact.ensures in (
+      c.read_exact.new.reader,
+      record {
+        keeps = record {
+          same_tells = then.tells ∙ first.tells;
+          same_steady = then.steady ∙ first.steady;
+          no_fewer_faults = omega (arith, first.faults, then.faults);
+          same_content = λ told. then.content (first.tells ∙ told) ∙ first.content told;
+        };
+        device = λ device. absurd device;
+        why = λ told. inr (inr (record {
+          h = c.in_ok-header.header;
+          nonce = c.read_exact.new.buf;
+          took = took_both _ _ _ _ _ _ _ _ (first.header told) c.known_array.ensures
+              (then.bytes (first.tells ∙ told)) (then.moves (first.tells ∙ told));
+          broken = λ rule. search rules;
+          is = refl;
+        }));
+      },
+    )
+
+pub returns-clause-front : goal.returns-clause-front
+returns-clause-front g c = λ told.
+    let first = c.in_ok-header.ensures in
+    let then = c.in_ok-read_exact.ensures in
+    record {
+      took = took_both _ _ _ _ _ _ _ _ (first.header told) c.known_array.ensures
+          (then.bytes (first.tells ∙ told)) (then.moves (first.tells ∙ told));
+      rule = search rules;
+    }

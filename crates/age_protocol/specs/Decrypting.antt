@@ -1,0 +1,65 @@
+-- What a decryptor reads before the payload, and why it refuses.
+use Rattle.std.specs.Prelude.{◌≡◌, ◌≢◌, ◌⊎◌, ℕ, ◌+◌, ◌≤◌, ◌<◌, Bool, List, ◌++◌, length, IsTrue}
+use Rattle.age_error.specs.Bytes.{AreBytesOf}
+use Rattle.age_error.specs.DecryptErrors.{DecryptRefusal, InvalidHeader, decrypt_refusal, decrypt_of_io, IsDeviceRefusal}
+use Rattle.age_error.specs.declared.io.Error.{Error}
+use Rattle.age_error.specs.declared.io.Error.TheVariants as io
+use Rattle.age_io.specs.Stretch.{Stretch}
+use Rattle.age_io.specs.Reading.{Delivers, TookSome, IsQuiet, IsShort}
+use Rattle.age_format.specs.Header.{KeepsScryptRule, covered}
+use Rattle.age_format.specs.Verdict.{Header, IsVerdict}
+use Rattle.age_format.specs.HeaderV1.{HeaderValue, reads_legacy}
+use Rattle.age_format.specs.ReadingHeader.{ReadsHeader, RefusesHeader}
+
+-- A header text and 16 bytes were taken from the front of the rest, and no byte more.
+pub record TookHeaderAndNonce (old new : Stretch) (old_place new_place : ℕ) (h : HeaderValue) (nonce : List ℕ) : Type 0 where
+  pub header : List ℕ
+  pub verdict : IsVerdict reads_legacy old.bytes header (Header h.stanzas h.mac)
+  pub told : h.covered ≡ covered header
+  pub sixteen : AreBytesOf 16 nonce
+  pub delivered : Delivers (header ++ nonce) old new
+  pub moved : new_place ≡ old_place + length (header ++ nonce)
+
+-- The same, and where a stanza is one of a passphrase it is the only one.
+pub record ReadsFront (old new : Stretch) (old_place new_place : ℕ) (h : HeaderValue) (nonce : List ℕ) : Type 0 where
+  pub took : TookHeaderAndNonce old new old_place new_place h nonce
+  pub rule : KeepsScryptRule h.stanzas
+
+-- A header was read, and the 16 bytes of a nonce didn't follow. Without a fault fewer bytes were left, and where these end
+-- well the refusal says so.
+pub record LacksNonce (old_faults new_faults : ℕ) (old new : Stretch) (old_place new_place : ℕ) (e : DecryptRefusal) : Type 0 where
+  pub h : HeaderValue
+  pub after : Stretch
+  pub after_place : ℕ
+  pub header : ReadsHeader old after old_place after_place h
+  pub some : TookSome 16 after_place new_place after new
+  pub error : Error
+  pub is : e ≡ decrypt_refusal (decrypt_of_io error)
+  pub short : error ≢ io.OutOfMemory → IsQuiet old_faults new_faults → IsShort 16 after error
+
+-- A header and a nonce were read, and a stanza of a passphrase stands beside others.
+pub record BreaksRule (old new : Stretch) (old_place new_place : ℕ) (e : DecryptRefusal) : Type 0 where
+  pub h : HeaderValue
+  pub nonce : List ℕ
+  pub took : TookHeaderAndNonce old new old_place new_place h nonce
+  pub broken : KeepsScryptRule h.stanzas → ⊥
+  pub is : e ≡ InvalidHeader
+
+module _ {R : Type 0} (tells steady : R → Bool) (content : R → Stretch) (place : R → ℕ) (rest : R → Stretch) (faults : R → ℕ) where
+  -- What reading does to a reader, whatever it reads.
+  pub record KeepsReader (old new : R) : Type 0 where
+    -- of every reader
+    pub same_tells : tells new ≡ tells old
+    pub same_steady : steady new ≡ steady old
+    pub no_fewer_faults : faults old ≤ faults new
+    -- of a reader that tells its bytes
+    pub same_content : IsTrue (tells old) → content new ≡ content old
+
+  -- Why there is no decryptor, and the reader when it was given up. The causes are looked for in this order.
+  pub record RefusesFront (old new : R) (e : DecryptRefusal) : Type 0 where
+    pub keeps : KeepsReader old new
+    pub device : IsDeviceRefusal e → faults old < faults new
+    -- of a reader that tells its bytes
+    pub why : IsTrue (tells old) → RefusesHeader (faults old) (faults new) (rest old) (rest new) (place old) (place new) e
+        ⊎ LacksNonce (faults old) (faults new) (rest old) (rest new) (place old) (place new) e
+        ⊎ BreaksRule (rest old) (rest new) (place old) (place new) e

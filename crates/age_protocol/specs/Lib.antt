@@ -1,0 +1,11 @@
+pub mod Answering
+pub mod AskedSoFar
+pub mod Labels
+pub mod Encrypting
+pub mod Answers
+pub mod File
+pub mod Starting
+pub mod Decrypting
+pub mod Decryptor
+pub mod OpeningFile
+pub mod Laws

@@ -1,0 +1,118 @@
+//! Decrypting a file.
+ghost use Rattle.std.specs.Prelude.{◌≡◌, ◌<◌, IsTrue, Ok, IfOk, IfErr};
+ghost use Rattle.age_error.specs.Bytes.{AreBytesOf};
+ghost use Rattle.age_error.specs.DecryptErrors.{decrypt_refusal, IsInterruptedRefusal};
+ghost use Rattle.age_io.specs.Reading.{most_faults};
+ghost use Rattle.age_format.specs.Header.{KeepsScryptRule};
+ghost use Rattle.age_format.specs.Unwrapping.{UnwrapAnswer, Unwraps};
+ghost use Rattle.age_protocol.specs.Answering.{FirstThatAnswers, decided};
+ghost use Rattle.age_protocol.specs.Decrypting.{ReadsFront, KeepsReader, RefusesFront};
+ghost use Rattle.age_protocol.specs.OpeningFile.{Decrypts};
+
+use crate::answering::file_key_of;
+use crate::keys::payload_key_of;
+use age_error::DecryptError;
+use age_format::{HeaderV1, Identity};
+use age_io::{Read, read_exact};
+use age_stream::reader::StreamReader;
+use age_suite::secrecy::FileKey;
+use age_suite::suite::{Suite, known_array};
+use std::alloc::Global;
+use std::marker::PhantomData;
+
+/// The header and the nonce of a file that were read from its front, and the reader, which stands before the payload.
+pub struct Decryptor<S, R> {
+    input: R,
+    header: HeaderV1,
+    nonce: [u8; 16],
+    suite: PhantomData<S>,
+}
+
+impl<S: Suite, R: Read + Drop> Decryptor<S, R> {
+    ghost use Rattle.age_protocol.specs.Decryptor.{header_of, nonce_of, input_of};
+
+    /// Reads the header and the nonce of 16 bytes from the front of the input, and no byte after them.
+    ///
+    /// The refusals, in the order in which they are looked for: those of `HeaderV1::read`; where fewer than 16 bytes follow
+    /// the header `Io(UnexpectedEof)`, or the reader's own refusal where it doesn't end well; `InvalidHeader` where a stanza
+    /// with the tag `scrypt` stands beside another. After a refusal the reader is gone.
+    pub fn new(alloc: Global, input: R) -> Result<Self, DecryptError>
+        ensures keeps { IfOk result (λ d. KeepsReader R.tells R.steady R.content R.place R.rest R.faults input (input_of d)) }
+        ensures unspent { IfOk result (λ d. R.faults (input_of d) < most_faults) }
+        ensures sixteen { IfOk result (λ d. AreBytesOf 16 (nonce_of d)) }
+        ensures rule { IfOk result (λ d. KeepsScryptRule (header_of d).stanzas) }
+        ensures front { IsTrue (R.tells input) → IfOk result (λ d.
+            ReadsFront (R.rest input) (R.rest (input_of d)) (R.place input) (R.place (input_of d)) (header_of d) (nonce_of d)) }
+        ensures patient { IfErr result (λ e. IsInterruptedRefusal (decrypt_refusal e) → ⊥) }
+        ensures refused { IfErr result (λ e. (last : R) × RefusesFront R.tells R.steady R.content R.place R.rest R.faults input last (decrypt_refusal e)) }
+    {
+        let mut input = input;
+        let header = HeaderV1::read(alloc, &mut input)?;
+        let mut nonce = [0; 16];
+        read_exact(&mut input, &mut nonce)?;
+        known_array(&nonce);
+        if !header.keeps_scrypt_rule() {
+            return Err(DecryptError::InvalidHeader);
+        }
+        Ok(Decryptor {
+            input,
+            header,
+            nonce,
+            suite: PhantomData,
+        })
+    }
+
+    /// A reader of the plaintext, by the file key that the identities get from the header's stanzas.
+    ///
+    /// The identities are asked in their order. The first whose answer isn't `None` decides: its refusal is the answer, and
+    /// those after it aren't asked. `NoMatchingKeys` where none answers, and `InvalidMac` where the header's MAC isn't the
+    /// one under the file key. `OutOfMemory` where memory for one sealed chunk, 65,552 bytes, is refused. Nothing of the
+    /// payload is read yet. After a refusal the input is gone.
+    pub fn decrypt<I: Identity>(
+        self,
+        alloc: Global,
+        identities: &mut [I],
+    ) -> Result<StreamReader<S, R>, DecryptError>
+        ensures { (answer : UnwrapAnswer)
+            × FirstThatAnswers (λ identity answer after. Unwraps I.unwraps identity (header_of self).stanzas answer after) identities.old answer identities.new
+            × Decrypts (decided answer) (header_of self) (nonce_of self) (input_of self) result }
+    {
+        match file_key_of(alloc, identities, self.header.stanzas()) {
+            Ok(file_key) => self.decrypt_with(alloc, &file_key),
+            Err(error) => Err(error),
+        }
+    }
+
+    // With the file key of the identity that decides.
+    fn decrypt_with(
+        self,
+        alloc: Global,
+        file_key: &FileKey,
+    ) -> Result<StreamReader<S, R>, DecryptError>
+        ensures { Decrypts (Ok file_key.now) (header_of self) (nonce_of self) (input_of self) result }
+    {
+        let Decryptor {
+            input,
+            header,
+            nonce,
+            suite: _,
+        } = self;
+        if !header.verify_mac(file_key) {
+            return Err(DecryptError::InvalidMac);
+        }
+        let key = payload_key_of(file_key, &nonce);
+        let reader = StreamReader::with_payload_key(alloc, key, input)?;
+        Ok(reader)
+    }
+}
+
+impl<S, R: Drop> Drop for Decryptor<S, R> {
+    fn drop(self) {
+        let Decryptor {
+            input: _,
+            header: _,
+            nonce: _,
+            suite: _,
+        } = self;
+    }
+}

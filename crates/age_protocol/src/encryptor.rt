@@ -1,0 +1,171 @@
+//! Encrypting a file.
+ghost use Rattle.std.specs.Prelude.{◌≡◌, ◌≢◌, ℕ, List, [], ◌++◌, Some, Ok, IsTrue, IfOk, OnOk, IfErr};
+ghost use Rattle.age_error.specs.Refusals.{IsInterruption};
+ghost use Rattle.age_error.specs.declared.io.Error.TheVariants.{OutOfMemory};
+ghost use Rattle.age_protocol.specs.Answers.{encrypt_answer};
+ghost use Rattle.age_format.specs.Header.{header_text, IsHeader, KeepsScryptRule};
+ghost use Rattle.age_protocol.specs.Encrypting.{IsOrNoMemory, Prepares};
+ghost use Rattle.age_io.specs.Writing.{WritesAll};
+ghost use Rattle.age_protocol.specs.File.{file_text, IsFileOf};
+ghost use Rattle.age_protocol.specs.Starting.{Starts, WritesFile, GivesUp};
+
+use crate::encrypting::prepare;
+use crate::keys::payload_key_of;
+use age_error::{EncryptError, io};
+use age_format::{
+    Grease, HeaderV1, Recipient, Stanza, canonical_text_is_text, canonical_text_reads_back,
+};
+use age_io::{Write, write_all};
+use age_stream::writer::{ChunkRoom, StreamWriter};
+use age_suite::draw::Draw;
+use age_suite::secrecy::FileKey;
+use age_suite::suite::{Suite, known_array};
+use std::alloc::Global;
+use std::marker::{Model, PhantomData};
+
+/// All that a file's header and payload are made of but the plaintext: a file key, the stanzas that hold it, and the nonce
+/// of the payload. In contracts it is a record of these three.
+pub struct Encryptor<S> {
+    header: HeaderV1,
+    nonce: [u8; 16],
+    file_key: FileKey,
+    suite: PhantomData<S>,
+}
+
+impl<S> Model for Encryptor<S> {
+    ghost use Rattle.age_protocol.specs.Encrypting.{Prepared};
+    ghost use Rattle.age_protocol.specs.File.{IsReady};
+
+    ghost Value = { Prepared };
+
+    ghost view = { λ e. record { file_key = e.file_key; stanzas = e.header.stanzas; nonce = e.nonce } };
+
+    ghost invariant = { λ e. IsReady e.file_key e.header e.nonce };
+}
+
+// What a header is: a fact for proofs alone.
+fn known_header(header: &HeaderV1)
+    ensures { IsHeader header.now.stanzas header.now.mac }
+{
+    let _stanzas = header.stanzas();
+}
+
+// What stands before the payload: the header's text and the nonce.
+fn text_before_payload(
+    alloc: Global,
+    header: &HeaderV1,
+    nonce: &[u8; 16],
+) -> Result<Vec<u8>, io::Error>
+    ensures text { IfOk result (λ text. text.items ≡ header_text header.now.stanzas header.now.mac ++ nonce.now) }
+    ensures memory { IfErr result (λ e. e ≡ OutOfMemory) }
+{
+    let mut text = header.text(alloc)?;
+    text.extend_from_slice(nonce)?;
+    Ok(text)
+}
+
+// Writes what stands before the payload, once the memory for that and for a chunk is there.
+fn write_front<W: Write>(
+    alloc: Global,
+    header: &HeaderV1,
+    nonce: &[u8; 16],
+    output: &mut W,
+) -> Result<ChunkRoom, io::Error>
+    ensures writes { WritesAll W.tells W.limited W.faults W.appended output.old output.new (header_text header.now.stanzas header.now.mac ++ nonce.now) result }
+    ensures patient { IfErr result (λ e. IsInterruption e → ⊥) }
+{
+    let text = text_before_payload(alloc, header, nonce)?;
+    let room = ChunkRoom::new(alloc)?;
+    write_all(output, &text)?;
+    Ok(room)
+}
+
+impl<S: Suite> Encryptor<S> {
+    /// A file key of 16 bytes, drawn and wrapped for all recipients in their order, and then a nonce of 16 bytes.
+    ///
+    /// Where no recipient answered a stanza with the tag `scrypt`, the grease is the header's last stanza. The refusals, in
+    /// the order in which they are looked for:
+    ///
+    /// - `ShortRandom`: fewer than 16 bytes are left for the file key.
+    /// - that of the first recipient that refuses; those after it aren't asked.
+    /// - `InvalidRecipientLabels`: a label of the first recipient isn't a string of bytes 33 to 126. A recipient's labels
+    ///   are looked at before the next one is asked.
+    /// - `IncompatibleRecipients`: a later recipient's labels aren't the same set as the first one's;
+    ///   `MixedRecipientAndPassphrase` where this is so and a stanza so far has the tag `scrypt`.
+    /// - `MissingRecipients`: there is no recipient.
+    /// - `MixedRecipientAndPassphrase`: a stanza with the tag `scrypt` stands beside another.
+    /// - `ShortRandom`: fewer than 16 bytes are left for the nonce.
+    ///
+    /// `OutOfMemory` can come where a recipient's stanzas are joined to those before, where the grease is, and where the
+    /// header is made. After a refusal `draw` has lost what was taken before it.
+    pub fn with_recipients(
+        alloc: Global,
+        recipients: &[Box<dyn Recipient>],
+        draw: &mut Draw,
+        grease: Grease,
+    ) -> Result<Encryptor<S>, EncryptError>
+        ensures { Prepares ⟦<Box<dyn Recipient> as Recipient>⟧.wraps recipients.now (Some grease) draw.old (encrypt_answer result) draw.new }
+    {
+        prepare(alloc, recipients, draw, Some(grease))
+    }
+
+    // With the canonical header of the stanzas, whose MAC is that under the file key.
+    pub(crate) fn with_header(
+        alloc: Global,
+        file_key: FileKey,
+        stanzas: Vec<Stanza>,
+        nonce: [u8; 16],
+    ) -> Result<Encryptor<S>, EncryptError>
+        requires some { stanzas.items ≢ [] }
+        requires rule { KeepsScryptRule stanzas.items }
+        ensures { IsOrNoMemory (Ok (record { file_key = file_key; stanzas = stanzas.items; nonce = nonce })) (encrypt_answer result) }
+    {
+        let header = HeaderV1::new(alloc, stanzas, &file_key)?;
+        known_header(&header);
+        known_array(&nonce);
+        Ok(Encryptor {
+            header,
+            nonce,
+            file_key,
+            suite: PhantomData,
+        })
+    }
+
+    /// Writes the header and the nonce to `output`, and answers a writer that takes the plaintext, and writes its payload
+    /// after them. The file is whole only after the writer's `finish`.
+    ///
+    /// Its memory is taken first: the text of the header, and room for one chunk of 65,536 bytes. Where it is refused that
+    /// it answers `OutOfMemory` and has written nothing. Any other refusal is that of the output, or `WriteZero` where that
+    /// took no byte; a beginning of header and nonce was then written. Interruptions are retried as by `write_all`.
+    pub fn wrap_output<W: Write + Drop>(
+        self,
+        alloc: Global,
+        output: W,
+    ) -> Result<StreamWriter<S, W>, io::Error>
+        ensures starts { IfOk result (Starts W.tells W.limited W.faults W.appended self output) }
+        ensures file { IsTrue (W.tells output) → IfOk result (WritesFile S.seal_of W.appended ⟦<StreamWriter<S, W> as Write>⟧.appended self output) }
+        // By the definition of a file that decryptors are proved by, what it writes is one.
+        ensures is_file { OnOk result ((plain : List ℕ) →
+            IsFileOf S.seal_of self.file_key self.stanzas plain (file_text S.seal_of self.file_key self.stanzas self.nonce plain)) }
+        ensures refused { IfErr result (GivesUp W.tells W.limited W.faults W.appended self output) }
+        ensures patient { IfErr result (λ e. IsInterruption e → ⊥) }
+    {
+        canonical_text_is_text();
+        canonical_text_reads_back();
+        let mut output = output;
+        let room = write_front(alloc, &self.header, &self.nonce, &mut output)?;
+        let key = payload_key_of(&self.file_key, &self.nonce);
+        Ok(StreamWriter::with_room(room, key, output))
+    }
+}
+
+impl<S> Drop for Encryptor<S> {
+    fn drop(self) {
+        let Encryptor {
+            header: _,
+            nonce: _,
+            file_key: _,
+            suite: _,
+        } = self;
+    }
+}

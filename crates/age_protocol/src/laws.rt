@@ -1,0 +1,46 @@
+//! What is true of files and labels, for proofs alone: the functions here do nothing, and their contracts are the laws.
+ghost use Rattle.std.specs.Prelude.{◌↔◌, IsTrue, List, ℕ};
+ghost use Rattle.std.specs.List.{Contains};
+ghost use Rattle.age_error.specs.Labels.{labels_of};
+ghost use Rattle.age_protocol.specs.Labels.{same_labels};
+ghost use Rattle.age_protocol.specs.Laws.{ReadsBack, RefusesNoFile, FileOpens};
+
+use age_format::{header_text_reads_back, verdict_is_unique};
+use age_io::Read;
+use age_suite::suite::Suite;
+use std::collections::BTreeSet;
+
+/// A decryptor that was made of bytes which begin as a file has read the file's header and nonce, and no byte more.
+pub fn front_reads_back()
+    ensures { ReadsBack }
+{
+    header_text_reads_back();
+    verdict_is_unique();
+}
+
+/// `Decryptor::new` refuses bytes that begin as a file for want of memory, or after a fault of the device, and else never.
+pub fn front_is_accepted<R: Read>()
+    ensures { RefusesNoFile R.tells R.steady R.content R.place R.rest R.faults }
+{
+    header_text_reads_back();
+    verdict_is_unique();
+}
+
+/// Where the bytes are a file of a plaintext under a file key, a decryptor's header has the right MAC under that file key,
+/// and the payload of the plaintext, under its payload key, is what is left. So `Decryptor::decrypt` with that file key is no
+/// `InvalidMac`, and its reader delivers the plaintext as the law of payloads says.
+pub fn file_opens<S: Suite>()
+    ensures { FileOpens S.seal_of }
+{
+    front_reads_back();
+}
+
+/// Labels are compared as sets: two sets are the same, by their texts in order, exactly where each has the labels of the
+/// other.
+pub fn labels_are_sets(left: &BTreeSet<String>, right: &BTreeSet<String>)
+    ensures { IsTrue (same_labels (labels_of left.now) (labels_of right.now))
+        ↔ ((label : List ℕ) → Contains (labels_of left.now) label ↔ Contains (labels_of right.now) label) }
+{
+    let _left = left.len();
+    let _right = right.len();
+}
