@@ -3,6 +3,13 @@
 //! This crate only passes on what the crates below it have, under the paths that a user names.
 #![tactic(auto)]
 
+pub use age_error::decrypt::DecryptError;
+pub use age_error::encrypt::EncryptError;
+pub use age_format::Identity;
+pub use age_format::Recipient;
+pub use age_protocol::decryptor::Decryptor;
+pub use age_protocol::encryptor::Encryptor;
+
 /// Readers, writers and their refusals.
 pub mod io {
     pub use age_error::io::{Error, ErrorKind};
@@ -15,9 +22,29 @@ pub mod suite {
     pub use age_suite::suite::{Opens, Suite};
 }
 
-/// Message authentication.
+/// Message authentication and the derivation of keys.
 pub mod mac {
-    pub use age_suite::mac::hmac;
+    pub use age_suite::mac::{HmacWriter, hkdf, hmac};
+}
+
+/// Random bytes that are handed in.
+pub mod draw {
+    pub use age_suite::draw::Draw;
+}
+
+/// Values that are kept secret.
+pub mod secrecy {
+    pub use age_suite::secrecy::FileKey;
+}
+
+/// Stanzas and headers.
+pub mod format {
+    pub use age_format::{Grease, HeaderV1, Stanza};
+}
+
+/// What a plugin's name is refused with.
+pub mod plugin {
+    pub use age_error::resolve::ResolveError;
 }
 
 /// The payload of a file: the plaintext in sealed chunks.

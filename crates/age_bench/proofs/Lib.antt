@@ -2,3 +2,4 @@ pub mod Hex
 pub mod Steps
 pub mod Words
 pub mod Copied
+mod Decrypted

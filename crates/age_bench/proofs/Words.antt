@@ -1,18 +1,31 @@
 -- How many words ask for something.
 use Rattle.std.specs.Prelude.{◌≡◌, ℕ, ◌<◌, List, [], ◌∷◌, length, map, None, refl}
 use Rattle.std.proofs.Common.{arith}
-use Rattle.age_bench.specs.Command.{parsed}
+use Rattle.age_bench.specs.Command.{parsed, three_words}
 
 module _ {Word : Type 0} (bytes : Word → List ℕ) where
-  -- fewer than two words ask for nothing
-  pub few_words : (words : List Word) → length words < 2 → parsed (map bytes words) ≡ None
-  few_words [] h = refl
-  few_words (a ∷ []) h = refl
-  few_words (a ∷ b ∷ words) h = absurd (omega arith)
+  -- what isn't two words is three, if anything
+  pub few_of_two : (words : List Word) → length words < 2 → parsed (map bytes words) ≡ three_words (map bytes words)
+  few_of_two [] h = refl
+  few_of_two (a ∷ []) h = refl
+  few_of_two (a ∷ b ∷ words) h = absurd (omega arith)
 
-  -- nor do more than two
-  pub many_words : (words : List Word) → 2 < length words → parsed (map bytes words) ≡ None
-  many_words [] h = refl
-  many_words (a ∷ []) h = refl
-  many_words (a ∷ b ∷ []) h = absurd (omega arith)
-  many_words (a ∷ b ∷ c ∷ words) h = refl
+  pub many_of_two : (words : List Word) → 2 < length words → parsed (map bytes words) ≡ three_words (map bytes words)
+  many_of_two [] h = refl
+  many_of_two (a ∷ []) h = refl
+  many_of_two (a ∷ b ∷ []) h = absurd (omega arith)
+  many_of_two (a ∷ b ∷ c ∷ words) h = refl
+
+  -- and what isn't three words asks for nothing else
+  pub few_of_three : (words : List Word) → length words < 3 → three_words (map bytes words) ≡ None
+  few_of_three [] h = refl
+  few_of_three (a ∷ []) h = refl
+  few_of_three (a ∷ b ∷ []) h = refl
+  few_of_three (a ∷ b ∷ c ∷ words) h = absurd (omega arith)
+
+  pub many_of_three : (words : List Word) → 3 < length words → three_words (map bytes words) ≡ None
+  many_of_three [] h = refl
+  many_of_three (a ∷ []) h = refl
+  many_of_three (a ∷ b ∷ []) h = refl
+  many_of_three (a ∷ b ∷ c ∷ []) h = absurd (omega arith)
+  many_of_three (a ∷ b ∷ c ∷ d ∷ words) h = refl

@@ -1,8 +1,25 @@
 -- What the words of a command line ask for. A word is a list of bytes.
-use Rattle.std.specs.Prelude.{ℕ, ◌+◌, ◌-◌, ◌*◌, ◌&&◌, List, [], ◌∷◌, length, nat_eq, nat_le, bytes_eq, if◌then◌else◌, Option, Some, None, option_map}
+use Rattle.std.specs.Prelude.{ℕ, ◌+◌, ◌-◌, ◌*◌, ◌&&◌, List, [], ◌∷◌, length, nat_eq, nat_le, bytes_eq, codes, if◌then◌else◌, Option, Some, None, option_map}
 use Rattle.std.specs.Option.{option_and_then}
+use Rattle.age_bench.specs.declared.command.To.{To}
+use Rattle.age_bench.specs.declared.command.To.TheVariants as to
+use Rattle.age_bench.specs.declared.command.With.{With}
+use Rattle.age_bench.specs.declared.command.With.TheVariants as with_
 use Rattle.age_bench.specs.declared.command.Command.{Command}
-use Rattle.age_bench.specs.declared.command.Command.TheVariants.{Seal, Open}
+use Rattle.age_bench.specs.declared.command.Command.TheVariants as command
+
+-- what a command asks for, apart from where its bytes lie in memory
+pub data CommandValue : Type 0 where
+  Seal : List ℕ → CommandValue
+  Open : List ℕ → CommandValue
+  Encrypt : To → List ℕ → CommandValue
+  Decrypt : With → CommandValue
+
+abbrev pub command_value : Command → CommandValue
+command_value (command.Seal key) = Seal key
+command_value (command.Open key) = Open key
+command_value (command.Encrypt to draw) = Encrypt to draw.items
+command_value (command.Decrypt with_) = Decrypt with_
 
 -- the value of a hexadecimal digit: '0' to '9', 'a' to 'f' or 'A' to 'F'
 abbrev pub digit_of : ℕ → Option ℕ
@@ -12,32 +29,48 @@ digit_of c =
     else if nat_le 65 c && nat_le c 70 then Some (c - 65 + 10)
     else None
 
--- the bytes that a text of hexadecimal digits writes, two digits a byte, the high one first
+-- the byte that two hexadecimal digits write, the high one first
+abbrev pub byte_of : ℕ → ℕ → Option ℕ
+byte_of high low = option_and_then (λ h. option_map (λ l. 16 * h + l) (digit_of low)) (digit_of high)
+
+-- the bytes that a text of hexadecimal digits writes, two digits a byte
 abbrev pub bytes_of : List ℕ → Option (List ℕ)
 bytes_of [] = Some []
 bytes_of (_ ∷ []) = None
-bytes_of (high ∷ low ∷ text) =
-    option_and_then (λ h. option_and_then (λ l. option_map (λ bytes. (16 * h + l) ∷ bytes) (bytes_of text)) (digit_of low)) (digit_of high)
+bytes_of (high ∷ low ∷ text) = option_and_then (λ byte. option_map (λ bytes. byte ∷ bytes) (bytes_of text)) (byte_of high low)
 
 -- a key is written by 64 digits
 abbrev pub key_of : List ℕ → Option (List ℕ)
 key_of text = if nat_eq (length text) 64 then bytes_of text else None
 
--- `seal` and `open`
-abbrev pub seal_name : List ℕ
-seal_name = 115 ∷ 101 ∷ 97 ∷ 108 ∷ []
+-- the recipient that a word names
+abbrev pub to_of : List ℕ → Option To
+to_of word = if bytes_eq word (codes "bench") then Some to.Bench else None
 
-abbrev pub open_name : List ℕ
-open_name = 111 ∷ 112 ∷ 101 ∷ 110 ∷ []
+-- the identity that a word names
+abbrev pub with_of : List ℕ → Option With
+with_of word = if bytes_eq word (codes "bench") then Some with_.Bench else None
 
 -- the command of this name with this key
-abbrev pub named : List ℕ → List ℕ → Option Command
+abbrev pub named : List ℕ → List ℕ → Option CommandValue
 named name key =
-    if bytes_eq name seal_name then Some (Seal key)
-    else if bytes_eq name open_name then Some (Open key)
+    if bytes_eq name (codes "seal") then Some (Seal key)
+    else if bytes_eq name (codes "open") then Some (Open key)
     else None
 
--- a name and a key
-abbrev pub parsed : List (List ℕ) → Option Command
-parsed (name ∷ text ∷ []) = option_and_then (named name) (key_of text)
-parsed _ = None
+-- `decrypt WITH`, `seal KEY` and `open KEY`
+abbrev pub two_words : List ℕ → List ℕ → Option CommandValue
+two_words name word =
+    if bytes_eq name (codes "decrypt") then option_map Decrypt (with_of word) else option_and_then (named name) (key_of word)
+
+-- `encrypt TO DRAW`
+abbrev pub encrypt_of : List ℕ → List ℕ → Option CommandValue
+encrypt_of to draw = option_and_then (λ t. option_map (Encrypt t) (bytes_of draw)) (to_of to)
+
+abbrev pub three_words : List (List ℕ) → Option CommandValue
+three_words (name ∷ to ∷ draw ∷ []) = if bytes_eq name (codes "encrypt") then encrypt_of to draw else None
+three_words words = None
+
+abbrev pub parsed : List (List ℕ) → Option CommandValue
+parsed (name ∷ word ∷ []) = two_words name word
+parsed words = three_words words

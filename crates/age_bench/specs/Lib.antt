@@ -2,3 +2,4 @@ pub mod Bench
 pub mod Command
 pub mod Laws
 pub mod Copying
+pub mod Recipient

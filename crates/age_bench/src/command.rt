@@ -1,17 +1,35 @@
 //! What the words of a command line ask for.
 
-ghost use Rattle.std.specs.Prelude.{◌≡◌, ◌<◌, map, string_bytes, IfSome, Ok};
-ghost use Rattle.age_bench.specs.Command.{digit_of, key_of, named, parsed};
+ghost use Rattle.std.specs.Prelude.{◌≡◌, ◌<◌, map, string_bytes, vec_items, IfOk, IfSome, option_map};
+ghost use Rattle.age_bench.specs.Command.{bytes_of, byte_of, command_value, digit_of, encrypt_of, key_of, named, parsed, three_words, to_of, two_words, with_of};
 
 use std::alloc::{AllocError, Global};
 
-/// What the program is to do with its standard input.
+/// To whom the program encrypts.
 #[derive(Clone, Copy, Debug, PartialEq, Eq)]
+pub enum To {
+    /// The recipient of the bench suite.
+    Bench,
+}
+
+/// With what the program decrypts.
+#[derive(Clone, Copy, Debug, PartialEq, Eq)]
+pub enum With {
+    /// The identity of the bench suite.
+    Bench,
+}
+
+/// What the program is to do with its standard input.
+#[derive(Debug, Drop, PartialEq, Eq)]
 pub enum Command {
     /// Write the payload of the input under the key.
     Seal { key: [u8; 32] },
     /// Write the plaintext of the payload that the input is under the key.
     Open { key: [u8; 32] },
+    /// Write the input encrypted to a recipient, with these random bytes.
+    Encrypt { to: To, draw: Vec<u8> },
+    /// Write the plaintext of the file that the input is, decrypted with an identity.
+    Decrypt { with: With },
 }
 
 // The value of a hexadecimal digit of either case.
@@ -27,25 +45,70 @@ fn digit_value(digit: u8) -> Option<u8>
     }
 }
 
+// The byte that two hexadecimal digits write.
+fn byte_value(high: u8, low: u8) -> Option<u8>
+    ensures { result ≡ byte_of high low }
+{
+    Some(16 * digit_value(high)? + digit_value(low)?)
+}
+
+// The bytes that a text of hexadecimal digits writes, two digits a byte.
+fn parse_bytes(alloc: Global, text: &[u8]) -> Result<Option<Vec<u8>>, AllocError>
+    ensures { IfOk result (λ found. option_map vec_items found ≡ bytes_of text.now) }
+{
+    if text.len() % 2 != 0 {
+        return Ok(None);
+    }
+    let mut bytes = Vec::with_capacity(alloc, text.len() / 2)?;
+    for i in 0..text.len() / 2 {
+        let Some(byte) = byte_value(text[2 * i], text[2 * i + 1]) else {
+            return Ok(None);
+        };
+        bytes.push(byte)?;
+    }
+    Ok(Some(bytes))
+}
+
 // The key that 64 hexadecimal digits write.
-fn parse_key(text: &[u8]) -> Option<[u8; 32]>
-    ensures { result ≡ key_of text.now }
+#[tactic(auto, using(crate::proofs::Hex::key_found, crate::proofs::Hex::no_key))]
+fn parse_key(alloc: Global, text: &str) -> Result<Option<[u8; 32]>, AllocError>
+    ensures { IfOk result (λ found. found ≡ key_of text.now) }
 {
     if text.len() != 64 {
-        return None;
+        return Ok(None);
     }
-    let mut key = [0; 32];
-    for i in 0..32 {
-        let high = digit_value(text[2 * i])?;
-        let low = digit_value(text[2 * i + 1])?;
-        key[i] = 16 * high + low;
+    let Some(bytes) = parse_bytes(alloc, text.as_bytes())? else {
+        return Ok(None);
+    };
+    match <[u8; 32]>::try_from(bytes.as_slice()) {
+        Ok(key) => Ok(Some(key)),
+        Err(_) => Ok(None),
     }
-    Some(key)
+}
+
+// The recipient that a word names.
+fn parse_to(word: &str) -> Option<To>
+    ensures { result ≡ to_of word.now }
+{
+    match word {
+        "bench" => Some(To::Bench),
+        _ => None,
+    }
+}
+
+// The identity that a word names.
+fn parse_with(word: &str) -> Option<With>
+    ensures { result ≡ with_of word.now }
+{
+    match word {
+        "bench" => Some(With::Bench),
+        _ => None,
+    }
 }
 
 // The command of this name with this key.
 fn named(name: &str, key: [u8; 32]) -> Option<Command>
-    ensures { result ≡ named name.now key }
+    ensures { option_map command_value result ≡ named name.now key }
 {
     match name {
         "seal" => Some(Command::Seal { key }),
@@ -54,18 +117,55 @@ fn named(name: &str, key: [u8; 32]) -> Option<Command>
     }
 }
 
-/// What the words after the program's name ask for: `seal KEY` or `open KEY`, where KEY is 64
-/// hexadecimal digits of either case, two a byte, the high digit first. `Ok(None)` says that they
-/// are no command line of this program. It takes no memory and always answers `Ok`.
-#[tactic(auto, using(crate::proofs::Words::few_words, crate::proofs::Words::many_words))]
-pub fn parse(_alloc: Global, words: &[String]) -> Result<Option<Command>, AllocError>
-    ensures { result ≡ Ok (parsed (map string_bytes words.now)) }
+// `decrypt WITH`, `seal KEY` and `open KEY`.
+fn parse_two(alloc: Global, name: &str, word: &str) -> Result<Option<Command>, AllocError>
+    ensures { IfOk result (λ found. option_map command_value found ≡ two_words name.now word.now) }
 {
-    let [name, text] = words else {
+    if name == "decrypt" {
+        return Ok(parse_with(word).map(|with| Command::Decrypt { with }));
+    }
+    match parse_key(alloc, word)? {
+        Some(key) => Ok(named(name, key)),
+        None => Ok(None),
+    }
+}
+
+// `encrypt TO DRAW`.
+fn parse_encrypt(alloc: Global, to: &str, draw: &str) -> Result<Option<Command>, AllocError>
+    ensures { IfOk result (λ found. option_map command_value found ≡ encrypt_of to.now draw.now) }
+{
+    let Some(to) = parse_to(to) else {
         return Ok(None);
     };
-    let Some(key) = parse_key(text.as_bytes()) else {
+    let draw = parse_bytes(alloc, draw.as_bytes())?;
+    Ok(draw.map(|draw| Command::Encrypt { to, draw }))
+}
+
+// A command of three words.
+#[tactic(auto, using(crate::proofs::Words::few_of_three, crate::proofs::Words::many_of_three))]
+fn parse_three(alloc: Global, words: &[String]) -> Result<Option<Command>, AllocError>
+    ensures { IfOk result (λ found. option_map command_value found ≡ three_words (map string_bytes words.now)) }
+{
+    let [name, to, draw] = words else {
         return Ok(None);
     };
-    Ok(named(name.as_str(), key))
+    if name.as_str() != "encrypt" {
+        return Ok(None);
+    }
+    parse_encrypt(alloc, to.as_str(), draw.as_str())
+}
+
+/// What the words after the program's name ask for: `seal KEY`, `open KEY`, `encrypt TO DRAW` or `decrypt WITH`.
+///
+/// KEY is 64 hexadecimal digits of either case, two a byte, the high digit first, and DRAW so any number of bytes; TO
+/// and WITH are `bench`. `Ok(None)` says that they are no command line of this program. `AllocError` where memory for the
+/// bytes of KEY or DRAW is refused.
+#[tactic(auto, using(crate::proofs::Words::few_of_two, crate::proofs::Words::many_of_two))]
+pub fn parse(alloc: Global, words: &[String]) -> Result<Option<Command>, AllocError>
+    ensures { IfOk result (λ found. option_map command_value found ≡ parsed (map string_bytes words.now)) }
+{
+    let [name, word] = words else {
+        return parse_three(alloc, words);
+    };
+    parse_two(alloc, name.as_str(), word.as_str())
 }

@@ -8,7 +8,12 @@ use std::process::Abort;
 use std::test::Fail;
 
 // What prints as this text.
-fn prints<D: Display>(rt: &impl Abort, alloc: Global, value: &D, text: &str) -> Result<(), Fail> {
+pub fn prints<D: Display>(
+    rt: &impl Abort,
+    alloc: Global,
+    value: &D,
+    text: &str,
+) -> Result<(), Fail> {
     assert_eq!(rt; value.to_string(alloc)?.as_str(), text);
     Ok(())
 }
@@ -160,7 +165,7 @@ fn scrypt_errors_have_their_texts(rt: HostRuntime) -> Result<(), Fail> {
 }
 
 // What is shown of a value for debugging is this text.
-fn shows<D: Debug>(rt: &impl Abort, alloc: Global, value: &D, text: &str) -> Result<(), Fail> {
+pub fn shows<D: Debug>(rt: &impl Abort, alloc: Global, value: &D, text: &str) -> Result<(), Fail> {
     assert_eq!(rt; format!(in alloc; "{value:?}")?.as_str(), text);
     Ok(())
 }

@@ -12,11 +12,23 @@ mod error_texts;
 mod fakes;
 #[cfg(test)]
 mod fault_tests;
+mod file;
+#[cfg(test)]
+mod file_tests;
 #[cfg(test)]
 mod fixtures;
+#[cfg(test)]
+mod header_tests;
+#[cfg(test)]
+mod long_error_texts;
 mod payload;
+mod recipient;
+#[cfg(test)]
+mod recipient_tests;
 #[cfg(test)]
 mod refusal_tests;
+#[cfg(test)]
+mod scripted;
 #[cfg(test)]
 mod standard_tests;
 #[cfg(test)]
@@ -27,7 +39,9 @@ mod tests;
 
 use crate::command::{Command, parse};
 use crate::error::CommandError;
+use crate::file::{decrypt_with, encrypt_to};
 use crate::payload::{open_all, seal_all};
+use age::draw::Draw;
 use age::io::{Error, Std};
 use std::process::ExitCode;
 use std::{env, io};
@@ -70,6 +84,10 @@ fn run(rt: &HostRuntime, command: Command) -> Result<(), CommandError> {
     match command {
         Command::Seal { key } => seal_all(rt.alloc(), key, &mut input, &mut output),
         Command::Open { key } => open_all(rt.alloc(), key, &mut input, &mut output),
+        Command::Encrypt { to, draw } => {
+            encrypt_to(rt.alloc(), to, Draw::new(draw), &mut input, &mut output)
+        }
+        Command::Decrypt { with } => decrypt_with(rt.alloc(), with, &mut input, &mut output),
     }
 }
 

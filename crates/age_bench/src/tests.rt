@@ -1,10 +1,11 @@
 //! Values from outside: of RFC 4231, and of HMAC in Python.
 
-use crate::command::{Command, parse};
+use crate::command::{Command, To, With, parse};
 use crate::fixtures::KEY;
 use crate::suite::BenchSuite;
+use age::draw::Draw;
 use age_error::suite::ScryptError;
-use age_suite::mac::{HmacWriter, hmac};
+use age_suite::mac::{HmacWriter, hkdf, hmac};
 use age_suite::suite::{Opens, Suite};
 use std::alloc::{AllocError, Global};
 use std::process::Abort;
@@ -36,6 +37,47 @@ fn hmac_of_a_long_key(rt: HostRuntime) {
     writer.update(b"");
     writer.update(b" - Hash Key First");
     assert_eq!(rt; writer.finalize(), expected);
+}
+
+// RFC 5869, case 1, whose output goes on for ten bytes more.
+#[test]
+fn hkdf_of_a_salt_and_info(rt: HostRuntime) {
+    let salt = [0, 1, 2, 3, 4, 5, 6, 7, 8, 9, 10, 11, 12];
+    let info = [0xf0, 0xf1, 0xf2, 0xf3, 0xf4, 0xf5, 0xf6, 0xf7, 0xf8, 0xf9];
+    let expected = [
+        0x3c, 0xb2, 0x5f, 0x25, 0xfa, 0xac, 0xd5, 0x7a, 0x90, 0x43, 0x4f, 0x64, 0xd0, 0x36, 0x2f,
+        0x2a, 0x2d, 0x2d, 0x0a, 0x90, 0xcf, 0x1a, 0x5a, 0x4c, 0x5d, 0xb0, 0x2d, 0x56, 0xec, 0xc4,
+        0xc5, 0xbf,
+    ];
+    assert_eq!(rt; hkdf(&salt, &info, &[0x0b; 22]), expected);
+}
+
+#[test]
+fn macs_are_verified(rt: HostRuntime) {
+    let mut mac = hmac(&KEY, b"text");
+    for (size, changed, expected) in [
+        (32, false, true),
+        (31, false, false),
+        (0, false, false),
+        (32, true, false),
+    ] {
+        let mut writer = HmacWriter::new(&KEY);
+        writer.update(b"text");
+        mac[31] ^= u8::from(changed);
+        assert_eq!(rt; writer.verify(&mac[..size]), expected, "of {size} bytes");
+    }
+}
+
+#[test]
+fn random_bytes_are_drawn_once(rt: HostRuntime) -> Result<(), Fail> {
+    let mut draw = Draw::new([1, 2, 3, 4, 5].to_vec(rt.alloc())?);
+    assert_eq!(rt; draw.take::<3>(), Some([1, 2, 3]));
+    assert_eq!(rt; draw.take::<3>(), None);
+    assert_eq!(rt; draw.left(), 2);
+    assert_eq!(rt; draw.take::<2>(), Some([4, 5]));
+    assert_eq!(rt; draw.take::<0>(), Some([]));
+    assert_eq!(rt; draw.left(), 0);
+    Ok(())
 }
 
 const NONCE: [u8; 12] = [100, 101, 102, 103, 104, 105, 106, 107, 108, 109, 110, 111];
@@ -179,6 +221,20 @@ fn parsed(alloc: Global, line: &str) -> Result<Option<Command>, AllocError> {
     parse(alloc, &words)
 }
 
+// An empty word is no random bytes at all.
+#[test]
+fn no_random_bytes_are_parsed(rt: HostRuntime) -> Result<(), Fail> {
+    let alloc = rt.alloc();
+    let mut words = Vec::new(alloc);
+    for word in ["encrypt", "bench", ""] {
+        words.push(String::from_str(alloc, word)?)?;
+    }
+    let to = To::Bench;
+    let draw = Vec::new(alloc);
+    assert_eq!(rt; parse(alloc, &words)?, Some(Command::Encrypt { to, draw }));
+    Ok(())
+}
+
 #[test]
 fn commands_are_parsed(rt: HostRuntime) -> Result<(), Fail> {
     let alloc = rt.alloc();
@@ -190,6 +246,17 @@ fn commands_are_parsed(rt: HostRuntime) -> Result<(), Fail> {
         let open = format!(in alloc; "open {text}")?;
         assert_eq!(rt; parsed(alloc, &open)?, Some(Command::Open { key: KEY }));
     }
+    let to = To::Bench;
+    let draw = [0x0a, 0xbc].to_vec(alloc)?;
+    assert_eq!(rt;
+        parsed(alloc, "encrypt bench 0AbC")?,
+        Some(Command::Encrypt { to, draw })
+    );
+    let with = With::Bench;
+    assert_eq!(rt;
+        parsed(alloc, "decrypt bench")?,
+        Some(Command::Decrypt { with })
+    );
     for line in [
         "",
         "seal",
@@ -203,6 +270,15 @@ fn commands_are_parsed(rt: HostRuntime) -> Result<(), Fail> {
         "Seal 000102030405060708090a0b0c0d0e0f101112131415161718191a1b1c1d1e1f",
         "mend 000102030405060708090a0b0c0d0e0f101112131415161718191a1b1c1d1e1f",
         "000102030405060708090a0b0c0d0e0f101112131415161718191a1b1c1d1e1f seal",
+        "encrypt bench",
+        "encrypt bench 0",
+        "encrypt bench 0g",
+        "encrypt other 00",
+        "encrypt bench 00 armor",
+        "decrypt",
+        "decrypt other",
+        "decrypt bench 00",
+        "at bench",
     ] {
         assert_eq!(rt; parsed(alloc, line)?, None, "at {line}");
     }

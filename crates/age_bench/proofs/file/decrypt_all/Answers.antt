@@ -1,0 +1,15 @@
+use Rattle.std.proofs.Common.{◌≡◌, ◌∙◌, refl, ap, rules}
+use Rattle.age_io.specs.Stretch.{whole, stretch-ext}
+use Rattle.age_stream.specs.ReadingLaws.{and-left}
+use Rattle.age_bench.proofs.Decrypted.{decided_key, both_told}
+use Rattle.age_bench.proofs.file.decrypt_all.Goals as goal
+
+pub returns : goal.returns
+returns g c = λ reader_told writer_told.
+    let made = c.in_ok-decryptor.ensures in
+    let (answer, first, decrypts) = c.in_ok-stream.ensures in
+    let (key, is, opens) = decided_key answer _ _ _ _ decrypts in
+    let told = both_told _ _ _ _ made.keeps.same_tells made.keeps.same_steady reader_told in
+    let copied = c.in_ok-copy_all.ensures.all (opens.reader.tells ∙ told) writer_told in
+    let file = opens.file told _ _ _ (made.front (and-left _ _ reader_told)) (stretch-ext _ (whole _) refl copied.0) in
+    (key, _, _, (rw is at first), file.0, file.1, copied.1)

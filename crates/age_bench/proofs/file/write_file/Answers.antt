@@ -1,0 +1,19 @@
+use Rattle.std.proofs.Common.{◌≡◌, ◌∙◌, [], true, Ok, ap}
+use Rattle.std.proofs.lemmas.List.{append-nil}
+use Rattle.age_protocol.specs.File.{file_text}
+use Rattle.age_bench.specs.Bench.{bench_seal}
+use Rattle.age_bench.proofs.file.write_file.Goals as goal
+
+pub returns : goal.returns
+returns g c = λ reader_told writer_told.
+    let started = c.in_ok-stream.ensures in
+    let told : g.W.Write.tells c.in_ok-stream.stream.inner ≡ true = ap g.W.Write.tells started.starts.made.same_inner ∙ (started.starts.same_tells ∙ writer_told) in
+    let copied = c.in_ok-copy_all.ensures in
+    let all = copied.all reader_told told in
+    let done = c.in_ok-out.ensures in
+    let file = c.args.encryptor in
+    let text = file_text bench_seal file.file_key file.stanzas file.nonce (g.R.Read.rest c.args.reader.now).bytes in
+    let written : g.W.Write.appended c.args.writer text c.in_ok-out.out = started.file writer_told _ _ (Ok c.in_ok-out.out) all.1 (done.ok (copied.tells ∙ told)) in
+    let flushed = c.in_ok-flush_retrying.ensures.flushes in
+    let nothing : g.W.Write.appended c.in_ok-out.out [] c.flush_retrying.new.writer = flushed.nothing (done.same_tells ∙ copied.tells ∙ told) in
+    (all.0, rw append-nil at (g.met.W.Write.joins _ _ _ text [] written nothing))

@@ -1,0 +1,135 @@
+//! The commands on whole files.
+ghost use Rattle.std.specs.Prelude.{◌≡◌, ℕ, IsTrue, ◌&&◌, List, Some, Ok, IfOk, OnOk, IfErr};
+ghost use Rattle.age_protocol.specs.Encrypting.{Prepared, Prepares};
+ghost use Rattle.age_protocol.specs.File.{file_text, IsFileOf};
+ghost use Rattle.age_protocol.specs.Answering.{FirstThatAnswers};
+ghost use Rattle.age_format.specs.Stanza.{StanzaValue};
+ghost use Rattle.age_format.specs.Unwrapping.{Unwraps};
+ghost use Rattle.age_bench.specs.Bench.{bench_seal};
+ghost use Rattle.age_bench.specs.Recipient.{bench_grease};
+
+use crate::command::{To, With};
+use crate::copying::copy_all;
+use crate::error::CommandError;
+use crate::recipient::{BenchIdentity, BenchRecipient};
+use crate::suite::BenchSuite;
+use age::draw::Draw;
+use age::format::{Grease, Stanza};
+use age::io::{Read, Write};
+use age::{DecryptError, Decryptor, EncryptError, Encryptor, Identity, Recipient};
+use age_io::flush_retrying;
+use std::alloc::Global;
+
+// The stanza that each file has besides those of its recipients: the tag `agebench-grease`, no arguments and no body.
+fn grease(alloc: Global) -> Result<Grease, EncryptError>
+    ensures { IfOk result (λ grease. grease ≡ bench_grease) }
+{
+    let tag = String::from_str(alloc, "agebench-grease")?;
+    let Some(stanza) = Stanza::new(tag, Vec::new(alloc), Vec::new(alloc)) else {
+        unreachable!();
+    };
+    match Grease::new(stanza) {
+        Some(grease) => Ok(grease),
+        None => unreachable!(),
+    }
+}
+
+/// Reads what `reader` still has, and appends the file of it, encrypted to the recipients, to `writer`, which is flushed.
+///
+/// The random bytes are drawn before anything is read or written; what is left of them is not used. A success says that
+/// the input ended well, and that what was appended is its file. It takes the memory of the header's text and of a few
+/// chunks. A plaintext past 2^60 bytes is `TooLong`.
+pub fn encrypt_all<R: Read, W: Write>(
+    alloc: Global,
+    recipients: &[Box<dyn Recipient>],
+    draw: Draw,
+    reader: &mut R,
+    writer: &mut W,
+) -> Result<(), CommandError>
+    ensures { IsTrue (R.tells reader.old) → IsTrue (W.tells writer.old) → OnOk result
+        ((file : Prepared) × (left : List ℕ)
+        × Prepares ⟦<Box<dyn Recipient> as Recipient>⟧.wraps recipients.now (Some bench_grease) draw (Ok file) left
+        × IsTrue (R.rest reader.old).ends_well
+        × W.appended writer.old (file_text bench_seal file.file_key file.stanzas file.nonce (R.rest reader.old).bytes) writer.new) }
+{
+    let mut draw = draw;
+    let grease = grease(alloc)?;
+    let encryptor = Encryptor::<BenchSuite>::with_recipients(alloc, recipients, &mut draw, grease)?;
+    let _out = write_file::<R, &mut W>(alloc, encryptor, reader, writer)?;
+    Ok(())
+}
+
+// The same once the recipients have answered, with a writer that is handed in, and handed back.
+fn write_file<R: Read, W: Write + Drop>(
+    alloc: Global,
+    encryptor: Encryptor<BenchSuite>,
+    reader: &mut R,
+    writer: W,
+) -> Result<W, CommandError>
+    ensures { IsTrue (R.tells reader.old) → IsTrue (W.tells writer) → IfOk result (λ out. IsTrue (R.rest reader.old).ends_well
+        × W.appended writer (file_text bench_seal encryptor.file_key encryptor.stanzas encryptor.nonce (R.rest reader.old).bytes) out) }
+{
+    let mut stream = encryptor.wrap_output(alloc, writer)?;
+    copy_all(alloc, reader, &mut stream)?;
+    let mut out = stream.finish()?;
+    flush_retrying(&mut out)?;
+    Ok(out)
+}
+
+/// Reads a file to its end, and appends its plaintext, decrypted by one of the identities, to `writer`.
+///
+/// A success says that the input was a file of exactly what was appended, under the file key of the first identity that
+/// answered. After a refusal of the header nothing was appended; after one of the payload a beginning of what its
+/// good chunks open to.
+pub fn decrypt_all<R: Read, W: Write>(
+    alloc: Global,
+    identities: &mut [Box<dyn Identity>],
+    reader: &mut R,
+    writer: &mut W,
+) -> Result<(), CommandError>
+    ensures { IsTrue (R.tells reader.old && R.steady reader.old) → IsTrue (W.tells writer.old) → OnOk result
+        ((file_key : List ℕ) × (stanzas : List StanzaValue) × (plain : List ℕ)
+        × FirstThatAnswers (λ identity answer after. Unwraps ⟦<Box<dyn Identity> as Identity>⟧.unwraps identity stanzas answer after)
+        identities.old (Some (Ok file_key)) identities.new
+        × IsTrue (R.rest reader.old).ends_well
+        × IsFileOf bench_seal file_key stanzas plain (R.rest reader.old).bytes
+        × W.appended writer.old plain writer.new) }
+{
+    let decryptor = Decryptor::<BenchSuite, &mut R>::new(alloc, reader)?;
+    let mut stream = decryptor.decrypt(alloc, identities)?;
+    copy_all(alloc, &mut stream, writer)?;
+    Ok(())
+}
+
+/// `encrypt_all` to the recipient that a word of the command line names.
+pub fn encrypt_to<R: Read, W: Write>(
+    alloc: Global,
+    to: To,
+    draw: Draw,
+    reader: &mut R,
+    writer: &mut W,
+) -> Result<(), CommandError> {
+    let mut recipients: Vec<Box<dyn Recipient>> = Vec::new(alloc);
+    match to {
+        To::Bench => recipients
+            .push(Box::new(alloc, BenchRecipient).map_err(EncryptError::from)?)
+            .map_err(EncryptError::from)?,
+    }
+    encrypt_all(alloc, &recipients, draw, reader, writer)
+}
+
+/// `decrypt_all` with the identity that a word of the command line names.
+pub fn decrypt_with<R: Read, W: Write>(
+    alloc: Global,
+    with: With,
+    reader: &mut R,
+    writer: &mut W,
+) -> Result<(), CommandError> {
+    let mut identities: Vec<Box<dyn Identity>> = Vec::new(alloc);
+    match with {
+        With::Bench => identities
+            .push(Box::new(alloc, BenchIdentity).map_err(DecryptError::from)?)
+            .map_err(DecryptError::from)?,
+    }
+    decrypt_all(alloc, &mut identities, reader, writer)
+}

@@ -1,0 +1,216 @@
+//! Whole files to `bench`. The expected bytes are those of Python, from the format's own words.
+
+use crate::file::{decrypt_all, encrypt_all};
+use crate::recipient::{BenchIdentity, BenchRecipient};
+use crate::suite::BenchSuite;
+use age::draw::Draw;
+use age::format::{Grease, Stanza};
+use age::io::{Bytes, Error, read_to_end, write_all};
+use age::{DecryptError, Decryptor, Encryptor, Identity, Recipient};
+use std::alloc::{AllocError, Global};
+use std::process::Abort;
+use std::test::Fail;
+
+const MESSAGE: &[u8] = b"This is a test message. For testing.";
+
+// The file of the message to `bench`, where each random byte is 0 and the grease stanza is `x-grease`: the header's text
+// has 115 bytes, and the nonce of 16 zeros follows it.
+const HEADER: &[u8] =
+    b"age-encryption.org/v1\n-> bench\nAAAAAAAAAAAAAAAAAAAAAA\n-> x-grease\n\n--- V7seaDdC75BAsSxvbcxwXtSW8y5Dt7T/GP+foqDPt34\n";
+
+const SEALED: [u8; 52] = [
+    0x7e, 0x60, 0xc4, 0xf6, 0xdc, 0x6b, 0xb7, 0x0a, 0x70, 0xec, 0xd9, 0x1b, 0xed, 0x19, 0xc0, 0x3e,
+    0xc4, 0x43, 0xfd, 0x85, 0x51, 0xa4, 0xb1, 0x14, 0x91, 0xf1, 0x08, 0xba, 0x92, 0x6e, 0x5c, 0x1a,
+    0x43, 0x66, 0xca, 0xab, 0x68, 0x3d, 0x25, 0xf3, 0xed, 0xed, 0x42, 0xa2, 0xc3, 0x2f, 0x4f, 0xec,
+    0xd1, 0x6c, 0xd1, 0x12,
+];
+
+// The message's file, and so many bytes after it.
+fn message_file(alloc: Global, more: &[u8]) -> Result<Vec<u8>, AllocError> {
+    let mut file = Vec::from_slice(alloc, HEADER)?;
+    file.extend_from_slice(&[0; 16])?;
+    file.extend_from_slice(&SEALED)?;
+    file.extend_from_slice(more)?;
+    Ok(file)
+}
+
+// So many random bytes, all of them 0.
+fn zeros(alloc: Global, count: usize) -> Result<Draw, AllocError> {
+    Ok(Draw::new(vec![in alloc; 0; count]?))
+}
+
+// A stanza without arguments and body.
+fn empty_stanza(alloc: Global, tag: &str) -> Result<Option<Stanza>, AllocError> {
+    let tag = String::from_str(alloc, tag)?;
+    Ok(Stanza::new(tag, Vec::new(alloc), Vec::new(alloc)))
+}
+
+#[test]
+fn a_message_has_its_file(rt: HostRuntime) -> Result<(), Fail> {
+    let alloc = rt.alloc();
+    let mut recipients: Vec<Box<dyn Recipient>> = Vec::new(alloc);
+    recipients.push(Box::new(alloc, BenchRecipient)?)?;
+    let Some(grease) = empty_stanza(alloc, "x-grease")?.and_then(Grease::new) else {
+        return Err(Fail::from("no grease"));
+    };
+    let mut draw = zeros(alloc, 33)?;
+    let encryptor = Encryptor::<BenchSuite>::with_recipients(
+        alloc,
+        &recipients,
+        &mut draw,
+        grease,
+    )?;
+    assert_eq!(rt; draw.left(), 1);
+    let mut stream = encryptor.wrap_output(alloc, Vec::new(alloc))?;
+    write_all(&mut stream, MESSAGE)?;
+    let file = stream.finish()?;
+    assert!(rt; file.as_slice() == message_file(alloc, &[])?.as_slice());
+    Ok(())
+}
+
+#[test]
+fn a_file_has_its_message(rt: HostRuntime) -> Result<(), Fail> {
+    let alloc = rt.alloc();
+    let file = message_file(alloc, &[])?;
+    let decryptor = Decryptor::<BenchSuite, Bytes>::new(alloc, Bytes::new(&file))?;
+    let mut identities: Vec<Box<dyn Identity>> = Vec::new(alloc);
+    identities.push(Box::new(alloc, BenchIdentity)?)?;
+    let mut stream = decryptor.decrypt(alloc, &mut identities)?;
+    let mut plain = Vec::new(alloc);
+    let count = read_to_end(alloc, &mut stream, &mut plain)?;
+    assert_eq!(rt; count, 36);
+    assert_eq!(rt; plain.as_slice(), MESSAGE);
+    Ok(())
+}
+
+// Encrypting with so many random bytes gives so many bytes of file, or this text and nothing.
+fn encrypts(
+    rt: &impl Abort,
+    alloc: Global,
+    plain: &[u8],
+    random: usize,
+    expected: Result<usize, &str>,
+) -> Result<(), Fail> {
+    let mut recipients: Vec<Box<dyn Recipient>> = Vec::new(alloc);
+    recipients.push(Box::new(alloc, BenchRecipient)?)?;
+    let draw = zeros(alloc, random)?;
+    let mut file = Vec::new(alloc);
+    match encrypt_all(alloc, &recipients, draw, &mut Bytes::new(plain), &mut file) {
+        Ok(()) => assert_eq!(rt; Ok(file.len()), expected),
+        Err(error) => {
+            let text = error.to_string(alloc)?;
+            assert_eq!(rt; Err(text.as_str()), expected);
+            assert_eq!(rt; file.len(), 0);
+        }
+    }
+    Ok(())
+}
+
+#[test]
+fn files_have_their_lengths(rt: HostRuntime) -> Result<(), Fail> {
+    let alloc = rt.alloc();
+    let ran_out = Err("random bytes ran out");
+    for (plain, random, expected) in [
+        (MESSAGE, 32, Ok(190)),
+        (b"".as_slice(), 32, Ok(154)),
+        (MESSAGE, 33, Ok(190)),
+        (MESSAGE, 31, ran_out),
+        (MESSAGE, 16, ran_out),
+        (MESSAGE, 15, ran_out),
+        (MESSAGE, 0, ran_out),
+    ] {
+        encrypts(&rt, alloc, plain, random, expected)?;
+    }
+    Ok(())
+}
+
+// Decrypting is refused with this text, before anything is written.
+fn is_refused(rt: &impl Abort, alloc: Global, file: &[u8], expected: &str) -> Result<(), Fail> {
+    let mut identities: Vec<Box<dyn Identity>> = Vec::new(alloc);
+    identities.push(Box::new(alloc, BenchIdentity)?)?;
+    let mut plain = Vec::new(alloc);
+    match decrypt_all(alloc, &mut identities, &mut Bytes::new(file), &mut plain) {
+        Ok(()) => return Err(Fail::from("decrypted")),
+        Err(error) => assert_eq!(rt; error.to_string(alloc)?.as_str(), expected),
+    }
+    assert_eq!(rt; plain.len(), 0);
+    Ok(())
+}
+
+// One bit of the MAC, in a column that has no unused bits.
+#[test]
+fn a_changed_mac_is_refused(rt: HostRuntime) -> Result<(), Fail> {
+    let alloc = rt.alloc();
+    let mut file = message_file(alloc, &[])?;
+    assert_eq!(rt; file[71], b'V');
+    file[71] = b'U';
+    is_refused(&rt, alloc, &file, "invalid header MAC")
+}
+
+#[test]
+fn files_cut_in_their_front_end_early(rt: HostRuntime) -> Result<(), Fail> {
+    let alloc = rt.alloc();
+    for length in [0, 1, 21, 22, 70, 114, 115, 116, 130] {
+        let mut file = message_file(alloc, &[])?;
+        file.truncate(length);
+        is_refused(&rt, alloc, &file, "input ended early")?;
+    }
+    let mut file = message_file(alloc, &[])?;
+    file.truncate(131);
+    is_refused(&rt, alloc, &file, "age file is truncated")
+}
+
+// A stanza of a passphrase beside another, whose MAC is nobody's, and so many bytes after the header.
+fn beside_passphrase(alloc: Global, after: usize) -> Result<Vec<u8>, AllocError> {
+    let mut file = Vec::from_slice(
+        alloc,
+        b"age-encryption.org/v1\n-> scrypt AAAA 10\nAAAA\n-> bench\nAAAAAAAAAAAAAAAAAAAAAA\n--- AAAAAAAAAAAAAAAAAAAAAAAAAAAAAAAAAAAAAAAAAAA\n",
+    )?;
+    file.extend_from_slice(&[0; 16][..after])?;
+    Ok(file)
+}
+
+// The nonce is read before the stanzas are looked at.
+#[test]
+fn a_passphrase_beside_others_is_refused_after_the_nonce(rt: HostRuntime) -> Result<(), Fail> {
+    let alloc = rt.alloc();
+    is_refused(
+        &rt,
+        alloc,
+        &beside_passphrase(alloc, 15)?,
+        "input ended early",
+    )?;
+    is_refused(&rt, alloc, &beside_passphrase(alloc, 16)?, "invalid header")
+}
+
+// Header and nonce, and no byte after them.
+#[test]
+fn a_decryptor_reads_no_byte_of_the_payload(rt: HostRuntime) -> Result<(), Fail> {
+    let alloc = rt.alloc();
+    let file = message_file(alloc, b"after")?;
+    let mut input = Bytes::new(&file);
+    drop(Decryptor::<BenchSuite, &mut Bytes>::new(alloc, &mut input)?);
+    let mut rest = Vec::new(alloc);
+    let count = read_to_end(alloc, &mut input, &mut rest)?;
+    assert_eq!(rt; count, 57);
+    assert!(rt; rest.as_slice() == &file[131..]);
+    Ok(())
+}
+
+#[test]
+fn short_inputs_are_refused_by_name(rt: HostRuntime) -> Result<(), Fail> {
+    let alloc = rt.alloc();
+    for (text, expected) in [
+        (b"".as_slice(), "input ended early"),
+        (b"age-encryption.org/v1", "input ended early"),
+        (b"hello", "invalid header"),
+        (b"age-encryption.org/v2\n", "unknown format"),
+        (b"age-encryption.org/v1\n--- \n", "invalid header"),
+    ] {
+        match Decryptor::<BenchSuite, Bytes>::new(alloc, Bytes::new(text)) {
+            Ok(_) => return Err(Fail::from("read")),
+            Err(error) => assert_eq!(rt; error.to_string(alloc)?.as_str(), expected),
+        }
+    }
+    Ok(())
+}

@@ -1,0 +1,72 @@
+//! A recipient and an identity for tests, whose answers are given.
+
+use age::draw::Draw;
+use age::format::Stanza;
+use age::secrecy::FileKey;
+use age::{DecryptError, EncryptError, Identity, Recipient};
+use std::alloc::Global;
+use std::collections::BTreeSet;
+
+/// Answers one stanza of a tag whose body is the file key, or none, after it drew 32 bytes where it draws, with labels.
+#[derive(Drop)]
+pub struct ScriptedRecipient {
+    pub tag: Option<String>,
+    pub draws: bool,
+    pub labels: BTreeSet<String>,
+}
+
+impl Recipient for ScriptedRecipient {
+    ghost wraps = { λ _ _ _ _ _. Unit {0} };
+
+    fn wrap_file_key(
+        &self,
+        alloc: Global,
+        file_key: &FileKey,
+        draw: &mut Draw,
+    ) -> Result<(Vec<Stanza>, BTreeSet<String>), EncryptError> {
+        if self.draws && draw.take::<32>().is_none() {
+            return Err(EncryptError::ShortRandom);
+        }
+        let mut stanzas = Vec::new(alloc);
+        if let Some(tag) = &self.tag {
+            let body = Vec::from_slice(alloc, file_key.expose_secret())?;
+            if let Some(stanza) = Stanza::new(tag.clone()?, Vec::new(alloc), body) {
+                stanzas.push(stanza)?;
+            }
+        }
+        Ok((stanzas, self.labels.clone()?))
+    }
+}
+
+/// What an identity answers.
+#[derive(Clone, Copy, Drop)]
+pub enum Script {
+    Nothing,
+    Refusal,
+    /// A key of 16 times the number of the times that it was asked, this one too.
+    TimesAsked,
+}
+
+/// Answers by its script, and counts how often it was asked.
+#[derive(Drop)]
+pub struct ScriptedIdentity {
+    pub script: Script,
+    pub asked: u8,
+}
+
+impl Identity for ScriptedIdentity {
+    ghost unwraps = { λ _ _ _ _. Unit {0} };
+
+    fn unwrap_stanza(
+        &mut self,
+        _alloc: Global,
+        _stanza: &Stanza,
+    ) -> Option<Result<FileKey, DecryptError>> {
+        self.asked = self.asked.saturating_add(1);
+        match self.script {
+            Script::Nothing => None,
+            Script::Refusal => Some(Err(DecryptError::DecryptionFailed)),
+            Script::TimesAsked => Some(Ok(FileKey::new([self.asked; 16]))),
+        }
+    }
+}
