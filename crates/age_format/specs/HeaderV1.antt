@@ -16,7 +16,7 @@ pub record IsHeaderValue (h : HeaderValue) : Type 0 where
   pub header : IsHeader h.stanzas h.mac
   pub front : AreBytes h.covered
 
--- headers are read with the legacy form of a stanza
+-- whether `HeaderV1` reads the legacy form of a stanza too
 abbrev pub reads_legacy : Bool
 reads_legacy = false
 

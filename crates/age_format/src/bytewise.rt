@@ -14,7 +14,7 @@ const MAGIC: [u8; 19] = *b"age-encryption.org/";
 
 /// The text of a header so far, which decides nothing yet. It means that text, and whether the legacy form is allowed.
 #[derive(Drop)]
-pub struct HeaderReader {
+pub(crate) struct HeaderReader {
     legacy: bool,
     text: Vec<u8>,
     start: usize,
@@ -33,7 +33,7 @@ impl Model for HeaderReader {
 
 /// What one more byte says.
 #[derive(Drop)]
-pub enum Step {
+pub(crate) enum Step {
     /// The text decides nothing so far: the reader goes on.
     More(HeaderReader),
     /// The stanzas, the MAC, and the whole text.
@@ -46,7 +46,7 @@ pub enum Step {
 
 impl HeaderReader {
     /// A reader that read nothing. With `legacy` a stanza's body may lack its final line where that would be empty.
-    pub fn new(alloc: Global, legacy: bool) -> HeaderReader
+    pub(crate) fn new(alloc: Global, legacy: bool) -> HeaderReader
         ensures { result ≡ record { legacy = legacy; text = [] } }
     {
         HeaderReader {
@@ -58,7 +58,7 @@ impl HeaderReader {
     }
 
     /// The text so far, no front of which decides.
-    pub fn text(&self) -> &[u8]
+    pub(crate) fn text(&self) -> &[u8]
         ensures text { result.now ≡ self.now.text }
         ensures undecided { IsUndecided self.now.legacy self.now.text }
     {
@@ -67,7 +67,7 @@ impl HeaderReader {
 
     /// Takes one more byte, and says what the text says with it. `AllocError` comes only for want of memory, and the
     /// reader is gone then.
-    pub fn push(mut self, alloc: Global, byte: u8) -> Result<Step, AllocError>
+    pub(crate) fn push(mut self, alloc: Global, byte: u8) -> Result<Step, AllocError>
         ensures { IfOk result (λ step. IsStep self.legacy step (self.text ++ byte ∷ [])) }
     {
         let place = self.text.len();

@@ -233,7 +233,12 @@ impl HeaderV1 {
         ensures stanzas { result.items ≡ self.stanzas }
         ensures header { IsHeader self.stanzas self.mac }
     {
-        self.stanzas
+        let HeaderV1 {
+            stanzas,
+            mac: _,
+            covered: _,
+        } = self;
+        stanzas
     }
 
     /// The MAC as it stands in the header, right or wrong.

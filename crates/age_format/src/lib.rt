@@ -14,7 +14,6 @@ mod stanza;
 mod state;
 mod write;
 
-pub use bytewise::{HeaderReader, Step};
 pub use grease::Grease;
 pub use header::HeaderV1;
 pub use identity::Identity;

@@ -99,7 +99,7 @@ impl Stanza {
     }
 
     /// Appends the canonical text. `AllocError` comes only for want of memory, and part of the text may be there then.
-    pub fn write(&self, out: &mut Vec<u8>) -> Result<(), AllocError>
+    pub(crate) fn write(&self, out: &mut Vec<u8>) -> Result<(), AllocError>
         ensures { OnOk result (out.new.items ≡ out.old.items ++ stanza_text self.now) }
     {
         push_first_line(self.tag.as_str(), self.args.as_slice(), out)?;

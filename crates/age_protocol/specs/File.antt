@@ -22,7 +22,7 @@ unfoldable pub file_text : Seal → List ℕ → List StanzaValue → List ℕ �
 file_text seal_of file_key stanzas nonce plain =
     file_front file_key stanzas nonce ++ payload seal_of (payload_key file_key nonce) plain
 
--- the text of a header as files have it: a body's empty last line may be left out
+-- the text of a header as it is read from files
 abbrev pub IsFileHeader : List ℕ → List StanzaValue → List ℕ → Type 0
 IsFileHeader text stanzas mac = IsHeaderText reads_legacy text stanzas mac
 

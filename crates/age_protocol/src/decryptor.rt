@@ -35,7 +35,7 @@ impl<S: Suite, R: Read + Drop> Decryptor<S, R> {
     ///
     /// The refusals, in the order in which they are looked for: those of `HeaderV1::read`; where fewer than 16 bytes follow
     /// the header `Io(UnexpectedEof)`, or the reader's own refusal where it doesn't end well; `InvalidHeader` where a stanza
-    /// with the tag `scrypt` stands beside another. After a refusal the reader is gone.
+    /// with the tag `scrypt` stands beside another. `OutOfMemory` where memory is refused. After a refusal the reader is gone.
     pub fn new(alloc: Global, input: R) -> Result<Self, DecryptError>
         ensures keeps { IfOk result (λ d. KeepsReader R.tells R.steady R.content R.place R.rest R.faults input (input_of d)) }
         ensures unspent { IfOk result (λ d. R.faults (input_of d) < most_faults) }
