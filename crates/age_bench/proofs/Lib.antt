@@ -2,4 +2,6 @@ pub mod Hex
 pub mod Steps
 pub mod Words
 pub mod Copied
-mod Decrypted
+pub mod Decrypted
+pub mod Unwrapped
+pub mod Wrapped

@@ -1,9 +1,11 @@
 -- What the bench recipient and the bench identity answer.
-use Rattle.std.specs.Prelude.{ℕ, List, [], ◌∷◌, Some, None, Ok, Err, if◌then◌else◌, length, nat_eq, bytes_eq, codes}
+use Rattle.std.specs.Prelude.{◌≡◌, ◌≢◌, ℕ, List, [], ◌∷◌, ◌++◌, Some, None, Ok, Err, if◌then◌else◌, length, take, drop, nat_eq, bytes_eq, codes, All}
 use Rattle.age_error.specs.DecryptErrors.{InvalidHeader}
 use Rattle.age_format.specs.Stanza.{StanzaValue}
 use Rattle.age_format.specs.Wrapping.{Wrapped}
 use Rattle.age_format.specs.Unwrapping.{UnwrapAnswer}
+use Rattle.age_protocol.specs.File.{file_text}
+use Rattle.age_bench.specs.Bench.{bench_seal}
 
 -- the stanza whose body is the file key
 abbrev pub bench_stanza : List ℕ → StanzaValue
@@ -25,3 +27,17 @@ bench_unwrapped stanza =
 -- the stanza that each file of the program has besides those of its recipients
 abbrev pub bench_grease : StanzaValue
 bench_grease = record { tag = codes "agebench-grease"; args = []; body = [] }
+
+-- the file of a plaintext for the bench recipient: the first 16 random bytes are the file key, the next 16 the nonce
+abbrev pub bench_file : List ℕ → List ℕ → List ℕ
+bench_file draws plain =
+    let file_key = take 16 draws in
+    file_text bench_seal file_key (bench_stanza file_key ∷ bench_grease ∷ []) (take 16 (drop 16 draws)) plain
+
+-- the first stanza with the tag `bench` is that of this file key, of 16 bytes
+pub record HoldsBenchKey (file_key : List ℕ) (stanzas : List StanzaValue) : Type 0 where
+  pub passed : List StanzaValue
+  pub later : List StanzaValue
+  pub all : stanzas ≡ passed ++ bench_stanza file_key ∷ later
+  pub others : All (λ s. s.tag ≢ codes "bench") passed
+  pub sixteen : length file_key ≡ 16

@@ -1,12 +1,12 @@
 //! The commands on whole files.
-ghost use Rattle.std.specs.Prelude.{◌≡◌, ℕ, IsTrue, ◌&&◌, List, Some, Ok, IfOk, OnOk, IfErr};
+ghost use Rattle.std.specs.Prelude.{◌≡◌, ◌≤◌, ℕ, length, IsTrue, ◌&&◌, List, Some, Ok, IfOk, OnOk, IfErr};
 ghost use Rattle.age_protocol.specs.Encrypting.{Prepared, Prepares};
 ghost use Rattle.age_protocol.specs.File.{file_text, IsFileOf};
 ghost use Rattle.age_protocol.specs.Answering.{FirstThatAnswers};
 ghost use Rattle.age_format.specs.Stanza.{StanzaValue};
 ghost use Rattle.age_format.specs.Unwrapping.{Unwraps};
 ghost use Rattle.age_bench.specs.Bench.{bench_seal};
-ghost use Rattle.age_bench.specs.Recipient.{bench_grease};
+ghost use Rattle.age_bench.specs.Recipient.{bench_grease, bench_file, HoldsBenchKey};
 
 use crate::command::{To, With};
 use crate::copying::copy_all;
@@ -102,13 +102,21 @@ pub fn decrypt_all<R: Read, W: Write>(
 }
 
 /// `encrypt_all` to the recipient that a word of the command line names.
+///
+/// The first 16 random bytes are the file key, and the next 16 the nonce of the payload. So what a success appended to
+/// `writer` is set by the random bytes and the plaintext alone. It refuses as `encrypt_all` does: fewer than 32 random
+/// bytes are `ShortRandom`.
 pub fn encrypt_to<R: Read, W: Write>(
     alloc: Global,
     to: To,
     draw: Draw,
     reader: &mut R,
     writer: &mut W,
-) -> Result<(), CommandError> {
+) -> Result<(), CommandError>
+    ensures { IsTrue (R.tells reader.old) → IsTrue (W.tells writer.old) → OnOk result
+        ((32 ≤ length draw) × IsTrue (R.rest reader.old).ends_well
+        × W.appended writer.old (bench_file draw (R.rest reader.old).bytes) writer.new) }
+{
     let mut recipients: Vec<Box<dyn Recipient>> = Vec::new(alloc);
     match to {
         To::Bench => recipients
@@ -119,12 +127,22 @@ pub fn encrypt_to<R: Read, W: Write>(
 }
 
 /// `decrypt_all` with the identity that a word of the command line names.
+///
+/// A success says that the input was a file of exactly what was appended to `writer`, under the file key of 16 bytes that
+/// its first stanza with the tag `bench` holds. It refuses as `decrypt_all` does, and then the same was appended.
 pub fn decrypt_with<R: Read, W: Write>(
     alloc: Global,
     with: With,
     reader: &mut R,
     writer: &mut W,
-) -> Result<(), CommandError> {
+) -> Result<(), CommandError>
+    ensures { IsTrue (R.tells reader.old && R.steady reader.old) → IsTrue (W.tells writer.old) → OnOk result
+        ((file_key : List ℕ) × (stanzas : List StanzaValue) × (plain : List ℕ)
+        × HoldsBenchKey file_key stanzas
+        × IsTrue (R.rest reader.old).ends_well
+        × IsFileOf bench_seal file_key stanzas plain (R.rest reader.old).bytes
+        × W.appended writer.old plain writer.new) }
+{
     let mut identities: Vec<Box<dyn Identity>> = Vec::new(alloc);
     match with {
         With::Bench => identities
