@@ -215,9 +215,13 @@ def main():
         plain = draw.randbytes(100000)
         sealed = payload(plain)
         whole = second.encrypted(DRAW, plain)
+        short = b"This is a test message. For testing."
+        encrypt_words, decrypt_words = ["encrypt", "bench", DRAW.hex()], ["decrypt", "bench"]
+        runs.injected("encrypt a message", encrypt_words, short, second.encrypted(DRAW, short), "alloc", NO_MEMORY)
+        runs.injected("decrypt a message", decrypt_words, second.encrypted(DRAW, short), short, "alloc", NO_MEMORY)
         for name, words, given, want in [
                 ("seal", seal_words, plain, sealed), ("open", open_words, sealed, plain),
-                ("encrypt", ["encrypt", "bench", DRAW.hex()], plain, whole), ("decrypt", ["decrypt", "bench"], whole, plain)]:
+                ("encrypt", encrypt_words, plain, whole), ("decrypt", decrypt_words, whole, plain)]:
             runs.injected(name, words, given, want, "alloc", NO_MEMORY)
             for call in ["read", "write"]:
                 runs.injected(name, words, given, want, call, DEVICE)

@@ -1,7 +1,6 @@
 -- What a reader that was given says of the identities.
-use Rattle.std.specs.Prelude.{◌≡◌, ℕ, Bool, ◌&&◌, IsTrue, List, Option, Some, None, Result, Ok, Err, refl}
+use Rattle.std.specs.Prelude.{◌≡◌, ℕ, Bool, ◌&&◌, IsTrue, List, Some, None, Ok, Err, refl}
 use Rattle.std.proofs.Common.{inl, inr}
-use Rattle.age_error.specs.DecryptErrors.{DecryptRefusal}
 use Rattle.age_format.specs.Unwrapping.{UnwrapAnswer}
 use Rattle.age_format.specs.HeaderV1.{HeaderValue}
 use Rattle.age_suite.specs.declared.suite.Suite.{Ghosts as SuiteGhosts}

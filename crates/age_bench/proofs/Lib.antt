@@ -5,3 +5,4 @@ pub mod Copied
 pub mod Decrypted
 pub mod Unwrapped
 pub mod Wrapped
+pub mod OneFile

@@ -3,3 +3,5 @@ pub mod Command
 pub mod Laws
 pub mod Copying
 pub mod Recipient
+pub mod Errors
+pub mod FileLaws

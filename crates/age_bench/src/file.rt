@@ -6,6 +6,7 @@ ghost use Rattle.age_protocol.specs.Answering.{FirstThatAnswers};
 ghost use Rattle.age_format.specs.Stanza.{StanzaValue};
 ghost use Rattle.age_format.specs.Unwrapping.{Unwraps};
 ghost use Rattle.age_bench.specs.Bench.{bench_seal};
+ghost use Rattle.age_bench.specs.Errors.{IsEncryptError, IsDecryptError};
 ghost use Rattle.age_bench.specs.Recipient.{bench_grease, bench_file, HoldsBenchKey};
 
 use crate::command::{To, With};
@@ -37,8 +38,8 @@ fn grease(alloc: Global) -> Result<Grease, EncryptError>
 /// Reads what `reader` still has, and appends the file of it, encrypted to the recipients, to `writer`, which is flushed.
 ///
 /// The random bytes are drawn before anything is read or written; what is left of them is not used. A success says that
-/// the input ended well, and that what was appended is its file. It takes the memory of the header's text and of a few
-/// chunks. A plaintext past 2^60 bytes is `TooLong`.
+/// the input ended well, and that what was appended is its file; after an error of encryption nothing was read or written.
+/// It takes the memory of the header's text and of a few chunks. A plaintext past 2^60 bytes is `TooLong`.
 pub fn encrypt_all<R: Read, W: Write>(
     alloc: Global,
     recipients: &[Box<dyn Recipient>],
@@ -46,11 +47,12 @@ pub fn encrypt_all<R: Read, W: Write>(
     reader: &mut R,
     writer: &mut W,
 ) -> Result<(), CommandError>
-    ensures { IsTrue (R.tells reader.old) → IsTrue (W.tells writer.old) → OnOk result
+    ensures file { IsTrue (R.tells reader.old) → IsTrue (W.tells writer.old) → OnOk result
         ((file : Prepared) × (left : List ℕ)
         × Prepares ⟦<Box<dyn Recipient> as Recipient>⟧.wraps recipients.now (Some bench_grease) draw (Ok file) left
         × IsTrue (R.rest reader.old).ends_well
         × W.appended writer.old (file_text bench_seal file.file_key file.stanzas file.nonce (R.rest reader.old).bytes) writer.new) }
+    ensures refused { IfErr result (λ e. IsEncryptError e → (reader.new ≡ reader.old) × (writer.new ≡ writer.old)) }
 {
     let mut draw = draw;
     let grease = grease(alloc)?;
@@ -66,8 +68,9 @@ fn write_file<R: Read, W: Write + Drop>(
     reader: &mut R,
     writer: W,
 ) -> Result<W, CommandError>
-    ensures { IsTrue (R.tells reader.old) → IsTrue (W.tells writer) → IfOk result (λ out. IsTrue (R.rest reader.old).ends_well
+    ensures file { IsTrue (R.tells reader.old) → IsTrue (W.tells writer) → IfOk result (λ out. IsTrue (R.rest reader.old).ends_well
         × W.appended writer (file_text bench_seal encryptor.file_key encryptor.stanzas encryptor.nonce (R.rest reader.old).bytes) out) }
+    ensures later { IfErr result (λ e. IsEncryptError e → ⊥) }
 {
     let mut stream = encryptor.wrap_output(alloc, writer)?;
     copy_all(alloc, reader, &mut stream)?;
@@ -87,13 +90,14 @@ pub fn decrypt_all<R: Read, W: Write>(
     reader: &mut R,
     writer: &mut W,
 ) -> Result<(), CommandError>
-    ensures { IsTrue (R.tells reader.old && R.steady reader.old) → IsTrue (W.tells writer.old) → OnOk result
+    ensures file { IsTrue (R.tells reader.old && R.steady reader.old) → IsTrue (W.tells writer.old) → OnOk result
         ((file_key : List ℕ) × (stanzas : List StanzaValue) × (plain : List ℕ)
         × FirstThatAnswers (λ identity answer after. Unwraps ⟦<Box<dyn Identity> as Identity>⟧.unwraps identity stanzas answer after)
         identities.old (Some (Ok file_key)) identities.new
         × IsTrue (R.rest reader.old).ends_well
         × IsFileOf bench_seal file_key stanzas plain (R.rest reader.old).bytes
         × W.appended writer.old plain writer.new) }
+    ensures refused { IfErr result (λ e. IsDecryptError e → writer.new ≡ writer.old) }
 {
     let decryptor = Decryptor::<BenchSuite, &mut R>::new(alloc, reader)?;
     let mut stream = decryptor.decrypt(alloc, identities)?;
@@ -113,9 +117,10 @@ pub fn encrypt_to<R: Read, W: Write>(
     reader: &mut R,
     writer: &mut W,
 ) -> Result<(), CommandError>
-    ensures { IsTrue (R.tells reader.old) → IsTrue (W.tells writer.old) → OnOk result
+    ensures file { IsTrue (R.tells reader.old) → IsTrue (W.tells writer.old) → OnOk result
         ((32 ≤ length draw) × IsTrue (R.rest reader.old).ends_well
         × W.appended writer.old (bench_file draw (R.rest reader.old).bytes) writer.new) }
+    ensures refused { IfErr result (λ e. IsEncryptError e → (reader.new ≡ reader.old) × (writer.new ≡ writer.old)) }
 {
     let mut recipients: Vec<Box<dyn Recipient>> = Vec::new(alloc);
     match to {
@@ -136,12 +141,13 @@ pub fn decrypt_with<R: Read, W: Write>(
     reader: &mut R,
     writer: &mut W,
 ) -> Result<(), CommandError>
-    ensures { IsTrue (R.tells reader.old && R.steady reader.old) → IsTrue (W.tells writer.old) → OnOk result
+    ensures file { IsTrue (R.tells reader.old && R.steady reader.old) → IsTrue (W.tells writer.old) → OnOk result
         ((file_key : List ℕ) × (stanzas : List StanzaValue) × (plain : List ℕ)
         × HoldsBenchKey file_key stanzas
         × IsTrue (R.rest reader.old).ends_well
         × IsFileOf bench_seal file_key stanzas plain (R.rest reader.old).bytes
         × W.appended writer.old plain writer.new) }
+    ensures refused { IfErr result (λ e. IsDecryptError e → writer.new ≡ writer.old) }
 {
     let mut identities: Vec<Box<dyn Identity>> = Vec::new(alloc);
     match with {

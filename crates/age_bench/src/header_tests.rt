@@ -82,7 +82,7 @@ fn is_refused_after_version(
 ) -> Result<(), Fail> {
     let mut text = Vec::from_slice(alloc, b"age-encryption.org/v1\n")?;
     text.extend_from_slice(lines)?;
-    is_refused(rt, alloc, &text, 22 + taken, expected)
+    is_refused(rt, alloc, &text, taken.saturating_add(22), expected)
 }
 
 #[test]
@@ -165,8 +165,11 @@ fn a_header_is_read_and_no_byte_after_it(rt: HostRuntime) -> Result<(), Fail> {
     assert!(rt; header.verify_mac(&FileKey::new(NO_KEY)));
     assert!(rt; !header.verify_mac(&FileKey::new([1; 16])));
     assert_eq!(rt; &header.mac()[..4], [0x57, 0xbb, 0x1e, 0x68].as_slice());
-    assert!(rt; header.stanzas()[0] == stanza_of(alloc, "bench", "", &NO_KEY)?);
-    assert!(rt; header.stanzas()[1] == stanza_of(alloc, "x-grease", "", &[])?);
+    let [first, second] = header.stanzas() else {
+        return Err(Fail::from("not two stanzas"));
+    };
+    assert!(rt; *first == stanza_of(alloc, "bench", "", &NO_KEY)?);
+    assert!(rt; *second == stanza_of(alloc, "x-grease", "", &[])?);
     assert_eq!(rt; header.into_stanzas().len(), 2);
     Ok(())
 }
@@ -203,9 +206,10 @@ fn headers_are_made_and_read_back(rt: HostRuntime) -> Result<(), Fail> {
 fn a_header_of_10_000_stanzas_is_read(rt: HostRuntime) -> Result<(), Fail> {
     let alloc = rt.alloc();
     let mut stanzas = Vec::new(alloc);
-    for _ in 0..10_000 {
+    for _ in 0..9_999 {
         stanzas.push(stanza_of(alloc, "x", "", &[])?)?;
     }
+    stanzas.push(stanza_of(alloc, "y", "", &[])?)?;
     let header = HeaderV1::new(alloc, stanzas, &FileKey::new(NO_KEY))?;
     let mut text = Vec::new(alloc);
     header.write(alloc, &mut text)?;

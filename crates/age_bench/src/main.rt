@@ -19,6 +19,7 @@ mod file_tests;
 mod fixtures;
 #[cfg(test)]
 mod header_tests;
+mod laws;
 #[cfg(test)]
 mod long_error_texts;
 mod payload;

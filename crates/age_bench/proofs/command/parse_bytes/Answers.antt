@@ -1,5 +1,5 @@
-use Rattle.std.proofs.Common.{◌≡◌, ◌+◌, ◌*◌, refl, sym, arith}
-use Rattle.age_bench.proofs.Hex.{prepended-nil, odd, bad_byte, byte_more, text_done}
+use Rattle.std.proofs.Common.{◌≡◌, ◌+◌, ◌*◌, sym, arith}
+use Rattle.age_bench.proofs.Hex.{odd, byte_more, text_done}
 use Rattle.age_bench.proofs.command.parse_bytes.Goals as goal
 
 pub returns-then-text-ne0 : goal.returns-then-text-ne0

@@ -1,11 +1,11 @@
-use Rattle.std.proofs.Common.{◌≡◌, ◌∙◌, refl, ap, rules}
+use Rattle.std.proofs.Common.{◌∙◌, refl}
 use Rattle.age_io.specs.Stretch.{whole, stretch-ext}
 use Rattle.age_stream.specs.ReadingLaws.{and-left}
 use Rattle.age_bench.proofs.Decrypted.{decided_key, both_told}
 use Rattle.age_bench.proofs.file.decrypt_all.Goals as goal
 
-pub returns : goal.returns
-returns g c = λ reader_told writer_told.
+pub returns-clause-file : goal.returns-clause-file
+returns-clause-file g c = λ reader_told writer_told.
     let made = c.in_ok-decryptor.ensures in
     let (answer, first, decrypts) = c.in_ok-stream.ensures in
     let (key, is, opens) = decided_key answer _ _ _ _ decrypts in

@@ -32,9 +32,9 @@ key_given identities stanzas key after decides =
     holds stanzas key (any_decides bench_unwrapped unwraps
     (λ identity all answer then changes. is_bench identity.vtable identity.value all answer changes.0 changes.2) identities stanzas (Ok key) after decides)
 
-pub returns : goal.returns
-returns g c = λ reader_told writer_told.
+pub returns-clause-file : goal.returns-clause-file
+returns-clause-file g c = λ reader_told writer_told.
     on_ok_weaker c.decrypt_all.result (λ done.
     let (key, stanzas, plain, decides, well, file, appended) = done in
     (key, stanzas, plain, key_given c.deref_mut.result.now stanzas key c.decrypt_all.new.identities decides, well, file, appended))
-    (c.decrypt_all.ensures reader_told writer_told)
+    (c.decrypt_all.ensures.file reader_told writer_told)

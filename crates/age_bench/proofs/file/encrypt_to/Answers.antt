@@ -20,11 +20,11 @@ is_bench : (i : own-1.I) (recipient : (own-1.entry i).0.Denot) (file_key draws :
 is_bench (inl bench) recipient file_key draws answer left h = h
 is_bench (inr none) recipient file_key draws answer left h = absurd none
 
-pub returns : goal.returns
-returns g c = λ reader_told writer_told.
+pub returns-clause-file : goal.returns-clause-file
+returns-clause-file g c = λ reader_told writer_told.
     let box = c.into_dyn_box.result in
     let one : c.deref.result.now ≡ box ∷ [] = search rules in
     let rest = g.R.Read.rest c.args.reader.now in
     let filed = bench_filed wraps box (is_bench box.vtable box.value) c.args.draw rest.bytes (IsTrue rest.ends_well)
     (λ text. g.W.Write.appended c.args.writer.now text c.encrypt_all.new.writer) in
-    on_ok_weaker c.encrypt_all.result filed (rw one at (c.encrypt_all.ensures reader_told writer_told))
+    on_ok_weaker c.encrypt_all.result filed (rw one at (c.encrypt_all.ensures.file reader_told writer_told))

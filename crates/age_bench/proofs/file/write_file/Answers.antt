@@ -4,8 +4,8 @@ use Rattle.age_protocol.specs.File.{file_text}
 use Rattle.age_bench.specs.Bench.{bench_seal}
 use Rattle.age_bench.proofs.file.write_file.Goals as goal
 
-pub returns : goal.returns
-returns g c = λ reader_told writer_told.
+pub returns-clause-file : goal.returns-clause-file
+returns-clause-file g c = λ reader_told writer_told.
     let started = c.in_ok-stream.ensures in
     let told : g.W.Write.tells c.in_ok-stream.stream.inner ≡ true = ap g.W.Write.tells started.starts.made.same_inner ∙ (started.starts.same_tells ∙ writer_told) in
     let copied = c.in_ok-copy_all.ensures in
