@@ -219,6 +219,8 @@ def main():
         encrypt_words, decrypt_words = ["encrypt", "bench", DRAW.hex()], ["decrypt", "bench"]
         runs.injected("encrypt a message", encrypt_words, short, second.encrypted(DRAW, short), "alloc", NO_MEMORY)
         runs.injected("decrypt a message", decrypt_words, second.encrypted(DRAW, short), short, "alloc", NO_MEMORY)
+        other = second.encrypted(bytes(32), short, b"x-grease")
+        runs.injected("decrypt a message with other grease", decrypt_words, other, short, "alloc", NO_MEMORY)
         for name, words, given, want in [
                 ("seal", seal_words, plain, sealed), ("open", open_words, sealed, plain),
                 ("encrypt", encrypt_words, plain, whole), ("decrypt", decrypt_words, whole, plain)]:
