@@ -5,8 +5,7 @@
 
 pub use age_error::decrypt::DecryptError;
 pub use age_error::encrypt::EncryptError;
-pub use age_format::Identity;
-pub use age_format::Recipient;
+pub use age_format::{Identity, Recipient};
 pub use age_protocol::decryptor::Decryptor;
 pub use age_protocol::encryptor::Encryptor;
 
