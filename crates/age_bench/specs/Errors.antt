@@ -1,4 +1,8 @@
--- What a command was about when it refused.
+-- What a command was about when it refused, and why.
+use Rattle.std.specs.Prelude.{◌≡◌, ◌≢◌, ◌⊎◌, ℕ, List, Result, Ok, Err}
+use Rattle.age_error.specs.DecryptErrors.{DecryptRefusal, decrypt_refusal, InvalidMac, OutOfMemory}
+use Rattle.age_error.specs.EncryptErrors.{EncryptRefusal, encrypt_refusal}
+use Rattle.age_format.specs.HeaderV1.{HeaderValue, header_mac}
 use Rattle.age_bench.specs.declared.error.CommandError.{CommandError}
 use Rattle.age_bench.specs.declared.error.CommandError.TheVariants.{Encrypt, Decrypt}
 
@@ -11,3 +15,18 @@ IsEncryptError other = ⊥
 abbrev pub IsDecryptError : CommandError → Type 0
 IsDecryptError (Decrypt e) = Unit {0}
 IsDecryptError other = ⊥
+
+-- an error of encryption is one of these refusals
+abbrev pub EncryptsUnless : (EncryptRefusal → Type 0) → CommandError → Type 0
+EncryptsUnless IsCause (Encrypt e) = IsCause (encrypt_refusal e)
+EncryptsUnless IsCause other = Unit {0}
+
+-- an error of decryption is one of these refusals
+abbrev pub DecryptsUnless : (DecryptRefusal → Type 0) → CommandError → Type 0
+DecryptsUnless IsCause (Decrypt e) = IsCause (decrypt_refusal e)
+DecryptsUnless IsCause other = Unit {0}
+
+-- after the identity that decides has answered: its own refusal, or the header's MAC is wrong under its file key, or memory was refused
+abbrev pub RefusesKey : Result (List ℕ) DecryptRefusal → HeaderValue → DecryptRefusal → Type 0
+RefusesKey (Err own) h refusal = refusal ≡ own
+RefusesKey (Ok file_key) h refusal = ((h.mac ≢ header_mac file_key h.covered) × (refusal ≡ InvalidMac)) ⊎ (refusal ≡ OutOfMemory)

@@ -1,12 +1,15 @@
 //! The commands on whole files.
-ghost use Rattle.std.specs.Prelude.{◌≡◌, ◌≤◌, ℕ, length, IsTrue, ◌&&◌, List, Some, Ok, IfOk, OnOk, IfErr};
+ghost use Rattle.std.specs.Prelude.{◌≡◌, ◌≤◌, ℕ, length, IsTrue, ◌&&◌, List, Some, Ok, Err, ◌⊎◌, IfOk, OnOk, IfErr};
 ghost use Rattle.age_protocol.specs.Encrypting.{Prepared, Prepares};
 ghost use Rattle.age_protocol.specs.File.{file_text, IsFileOf};
-ghost use Rattle.age_protocol.specs.Answering.{FirstThatAnswers};
+ghost use Rattle.age_protocol.specs.Answering.{FirstThatAnswers, decided};
+ghost use Rattle.age_protocol.specs.Decrypting.{RefusesFront};
+ghost use Rattle.age_format.specs.HeaderV1.{HeaderValue};
 ghost use Rattle.age_format.specs.Stanza.{StanzaValue};
-ghost use Rattle.age_format.specs.Unwrapping.{Unwraps};
+ghost use Rattle.age_format.specs.Unwrapping.{UnwrapAnswer, Unwraps};
 ghost use Rattle.age_bench.specs.Bench.{bench_seal};
-ghost use Rattle.age_bench.specs.Errors.{IsEncryptError, IsDecryptError};
+ghost use Rattle.age_error.specs.EncryptErrors.{encrypt_refusal, OutOfMemory};
+ghost use Rattle.age_bench.specs.Errors.{IsEncryptError, IsDecryptError, EncryptsUnless, DecryptsUnless, RefusesKey};
 ghost use Rattle.age_bench.specs.Recipient.{bench_grease, bench_file, HoldsBenchKey};
 
 use crate::command::{To, With};
@@ -23,7 +26,8 @@ use std::alloc::Global;
 
 // The stanza that each file has besides those of its recipients: the tag `agebench-grease`, no arguments and no body.
 fn grease(alloc: Global) -> Result<Grease, EncryptError>
-    ensures { IfOk result (λ grease. grease ≡ bench_grease) }
+    ensures value { IfOk result (λ grease. grease ≡ bench_grease) }
+    ensures memory { IfErr result (λ e. encrypt_refusal e ≡ OutOfMemory) }
 {
     let tag = String::from_str(alloc, "agebench-grease")?;
     let Some(stanza) = Stanza::new(tag, Vec::new(alloc), Vec::new(alloc)) else {
@@ -53,6 +57,8 @@ pub fn encrypt_all<R: Read, W: Write>(
         × IsTrue (R.rest reader.old).ends_well
         × W.appended writer.old (file_text bench_seal file.file_key file.stanzas file.nonce (R.rest reader.old).bytes) writer.new) }
     ensures refused { IfErr result (λ e. IsEncryptError e → (reader.new ≡ reader.old) × (writer.new ≡ writer.old)) }
+    ensures why { IfErr result (λ e. EncryptsUnless (λ refusal. (refusal ≡ OutOfMemory) ⊎ ((left : List ℕ)
+        × Prepares ⟦<Box<dyn Recipient> as Recipient>⟧.wraps recipients.now (Some bench_grease) draw (Err refusal) left)) e) }
 {
     let mut draw = draw;
     let grease = grease(alloc)?;
@@ -98,6 +104,12 @@ pub fn decrypt_all<R: Read, W: Write>(
         × IsFileOf bench_seal file_key stanzas plain (R.rest reader.old).bytes
         × W.appended writer.old plain writer.new) }
     ensures refused { IfErr result (λ e. IsDecryptError e → writer.new ≡ writer.old) }
+    ensures why { IfErr result (λ e. DecryptsUnless (λ refusal.
+        ((last : _) × RefusesFront R.tells R.steady R.content R.place R.rest R.faults reader.old last refusal)
+        ⊎ ((h : HeaderValue) × (answer : UnwrapAnswer)
+        × FirstThatAnswers (λ identity answer after. Unwraps ⟦<Box<dyn Identity> as Identity>⟧.unwraps identity h.stanzas answer after)
+        identities.old answer identities.new
+        × RefusesKey (decided answer) h refusal)) e) }
 {
     let decryptor = Decryptor::<BenchSuite, &mut R>::new(alloc, reader)?;
     let mut stream = decryptor.decrypt(alloc, identities)?;
