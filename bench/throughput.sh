@@ -17,40 +17,33 @@ head -c "$((size * 1048576))" /dev/urandom >"$folder/plain"
 "$program" encrypt bench "$draw" <"$folder/plain" >"$folder/file"
 "$program" decrypt bench <"$folder/file" | cmp - "$folder/plain"
 
-# The least seconds of five runs, and the peak KiB of one more, as `SECONDS KIB`.
-least() {
-    local given=$1 seconds memory=0
-    shift
-    seconds=$(python3 - "$given" "$@" <<'PYTHON'
+# The least seconds of five runs of each, which take turns so that all meet the same machine, and the peak KiB of one more.
+python3 - "$folder" "$program" "$key" "$draw" "$size" <<'PYTHON'
 import os, subprocess, sys, time
-given, words = sys.argv[1], sys.argv[2:]
-best = None
-for _ in range(5):
-    with open(given, "rb") as source, open(os.devnull, "wb") as sink:
-        start = time.perf_counter()
-        status = subprocess.run(words, stdin=source, stdout=sink).returncode
-        took = time.perf_counter() - start
-    if status != 0:
-        sys.exit(f"{words[0]} failed")
-    best = took if best is None else min(best, took)
-print(f"{best:.3f}")
-PYTHON
-    )
-    if [ -x /usr/bin/time ]; then
-        memory=$({ /usr/bin/time -f %M "$@" <"$given" >/dev/null; } 2>&1)
-    fi
-    echo "$seconds $memory"
-}
+folder, program, key, draw, size = sys.argv[1:]
+jobs = {"sha256sum": (["sha256sum"], "plain"), "seal": ([program, "seal", key], "plain"),
+        "encrypt": ([program, "encrypt", "bench", draw], "plain"), "open": ([program, "open", key], "sealed"),
+        "decrypt": ([program, "decrypt", "bench"], "file")}
 
-floor=$(least "$folder/plain" sha256sum)
-seal=$(least "$folder/plain" "$program" seal "$key")
-open=$(least "$folder/sealed" "$program" open "$key")
-encrypt=$(least "$folder/plain" "$program" encrypt bench "$draw")
-decrypt=$(least "$folder/file" "$program" decrypt bench)
-read -r floor_seconds _ <<<"$floor"
-echo "$size MiB, least of five runs:"
-for row in "sha256sum $floor" "seal $seal" "open $open" "encrypt $encrypt" "decrypt $decrypt"; do
-    read -r name seconds memory <<<"$row"
-    awk -v n="$name" -v s="$seconds" -v f="$floor_seconds" -v m="$memory" \
-        'BEGIN { printf "%-10s %7.3f s  %5.2f of sha256sum  peak %6.2f MiB\n", n, s, s / f, m / 1024 }'
-done
+
+def run(words, given):
+    with open(os.path.join(folder, given), "rb") as source, open(os.devnull, "wb") as sink:
+        start = time.perf_counter()
+        done = subprocess.run(words, stdin=source, stdout=sink, stderr=subprocess.PIPE)
+        took = time.perf_counter() - start
+    if done.returncode != 0:
+        sys.exit(f"{words} failed")
+    return took, done.stderr
+
+
+best = {}
+for _ in range(5):
+    for name, (words, given) in jobs.items():
+        best[name] = min(run(words, given)[0], best.get(name, float("inf")))
+print(f"{size} MiB, least of five runs:")
+for name, (words, given) in jobs.items():
+    peak = ""
+    if os.access("/usr/bin/time", os.X_OK):
+        peak = f"  peak {int(run(['/usr/bin/time', '-f', '%M', *words], given)[1]) / 1024:6.2f} MiB"
+    print(f"{name:<10} {best[name]:7.3f} s  {best[name] / best['sha256sum']:5.2f} of sha256sum{peak}")
+PYTHON
