@@ -1,5 +1,7 @@
 //! A recipient and an identity for tests, whose answers are given.
 
+ghost use Rattle.std.specs.Prelude.{◌≡◌, ◌+◌, ◌-◌, ◌^◌, false, min};
+
 use age::draw::Draw;
 use age::format::Stanza;
 use age::secrecy::FileKey;
@@ -16,7 +18,7 @@ pub struct ScriptedRecipient {
 }
 
 impl Recipient for ScriptedRecipient {
-    ghost wraps = { λ _ _ _ _ _. Unit {0} };
+    ghost wraps = { λ recipient _ before _ left. recipient.draws ≡ false → left ≡ before };
 
     fn wrap_file_key(
         &self,
@@ -55,7 +57,7 @@ pub struct ScriptedIdentity {
 }
 
 impl Identity for ScriptedIdentity {
-    ghost unwraps = { λ _ _ _ _. Unit {0} };
+    ghost unwraps = { λ before _ _ after. (after.script ≡ before.script) × (after.asked ≡ min (before.asked + 1) (2 ^ 8 - 1)) };
 
     fn unwrap_stanza(
         &mut self,
