@@ -5,12 +5,12 @@ use Rattle.std.proofs.lemmas.List.Elements.{All-take, All-drop}
 use Rattle.std.specs.List.{AllByRecursion}
 use Rattle.age_error.specs.Bytes.{AreBytes}
 use Rattle.age_format.specs.Reading.{IsBody}
-use Rattle.age_format.specs.Bytes.{Lacks}
-use Rattle.age_format.specs.Bytes.{line, pieces_and_rest}
-use Rattle.age_format.specs.Base64.{columns}
+use Rattle.age_base64.specs.Lines.{Lacks}
+use Rattle.age_base64.specs.Lines.{line, pieces_and_rest}
+use Rattle.age_base64.specs.Base64.{columns}
 use Rattle.age_format.specs.Stanza.{body_text}
-use Rattle.age_format.proofs.Lines.{split_line}
-use Rattle.age_format.proofs.Columns.{columns-append, length-columns, columns_same, columns_symbols, IsSymbol, Lacks_columns}
+use Rattle.age_base64.proofs.Lines.{split_line}
+use Rattle.age_base64.proofs.Columns.{columns-append, length-columns, columns_same, columns_symbols, IsSymbol, Lacks_columns}
 
 -- the text of a body of fewer than 48 bytes is one line
 pub body_text_short : (b : List ℕ) → length b < 48 → body_text b ≡ line (columns b)

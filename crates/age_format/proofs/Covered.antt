@@ -3,11 +3,11 @@ use Rattle.std.proofs.Common.{◌≡◌, ℕ, ◌+◌, ◌-◌, List, [], ◌∷
 use Rattle.std.proofs.lemmas.List.{take_at}
 use Rattle.std.specs.Prelude.{codes}
 use Rattle.std.specs.List.{flat_map}
-use Rattle.age_format.specs.Bytes.{line}
-use Rattle.age_format.specs.Base64.{columns}
+use Rattle.age_base64.specs.Lines.{line}
+use Rattle.age_base64.specs.Base64.{columns}
 use Rattle.age_format.specs.Stanza.{StanzaValue, stanza_text}
 use Rattle.age_format.specs.Header.{mac_line, version_line, IsHeaderText, covered, covered_text, header_text}
-use Rattle.age_format.proofs.Columns.{length-columns}
+use Rattle.age_base64.proofs.Columns.{length-columns}
 
 covered_of : (t middle m : List ℕ) → t ≡ line version_line ++ (middle ++ line (mac_line m)) → length m ≡ 32
     → covered t ≡ line version_line ++ (middle ++ codes "---")

@@ -2,11 +2,12 @@
 use Rattle.std.proofs.Common.{◌≡◌, ◌≢◌, ℕ, suc, zero, ◌<◌, ◌≤◌, ◌⊎◌, inl, inr, List, [], ◌∷◌, ◌++◌, length, refl, ap, sym, arith, append_assoc, subst, ◌∙◌, length-append, Bool}
 use Rattle.std.proofs.lemmas.List.{append-nil, append_cancel_left, same_from_push, nil_from_length}
 use Rattle.std.specs.Prelude.{codes, slice_index}
-use Rattle.age_format.specs.Bytes.{line, Lacks}
+use Rattle.age_base64.specs.Lines.{line, Lacks}
 use Rattle.age_format.specs.Stanza.{StanzaValue}
 use Rattle.age_format.specs.Header.{magic, version_line, IsHeaderText}
 use Rattle.age_format.specs.Verdict.{Verdict, Header, UnknownVersion, Bad, Decides, IsUndecided, IsVerdict}
-use Rattle.age_format.proofs.Lines.{lacks_tested, Lacks-append, Lacks_string, split_line}
+use Rattle.age_base64.proofs.Lines.{lacks_tested, Lacks-append, split_line}
+use Rattle.age_format.proofs.Words.{Lacks_string}
 use Rattle.age_format.proofs.Verdicts.{fronts, version_line_lacks, header_ends}
 
 -- a front of the text with one more byte, other than itself, is a front of the text

@@ -11,14 +11,14 @@ use Rattle.age_error.specs.DecryptErrors.{DecryptRefusal, decrypt_refusal, decry
 use Rattle.age_io.specs.Stretch.{Stretch}
 use Rattle.age_io.specs.Reading.{Delivers, StaysOrFails, IsQuiet, IsShort}
 use Rattle.age_io.proofs.Delivering.{Delivers-joined}
-use Rattle.age_format.specs.Base64.{columns}
-use Rattle.age_format.specs.Bytes.{line}
+use Rattle.age_base64.specs.Base64.{columns}
+use Rattle.age_base64.specs.Lines.{line}
 use Rattle.age_format.specs.Stanza.{StanzaValue, IsStanza}
 use Rattle.age_format.specs.Header.{AreStanzaTexts, IsHeaderText, IsHeader, covered, mac_line, version_line}
 use Rattle.age_format.specs.Verdict.{Verdict, Header, Decides, IsUndecided, IsVerdict}
 use Rattle.age_format.specs.HeaderV1.{HeaderValue, reads_legacy}
 use Rattle.age_format.specs.ReadingHeader.{TookVerdict, ReadsHeader, TookFront, RunsOut, RefusesHeader}
-use Rattle.age_format.proofs.Columns.{length-columns}
+use Rattle.age_base64.proofs.Columns.{length-columns}
 use Rattle.age_format.proofs.Deciding.{none_shorter, verdict_here}
 
 -- the byte after a front that decides nothing decides

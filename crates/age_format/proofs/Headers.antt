@@ -5,13 +5,14 @@ use Rattle.std.specs.Prelude.{slice_index}
 use Rattle.std.specs.List.{AllByRecursion, flat_map, join_with_byte}
 use Rattle.age_error.specs.Bytes.{AreBytesOf}
 use Rattle.age_format.specs.Reading.{IsBody}
-use Rattle.age_format.specs.Bytes.{Lacks}
-use Rattle.age_format.specs.Bytes.{line}
-use Rattle.age_format.specs.Base64.{columns}
+use Rattle.age_base64.specs.Lines.{Lacks}
+use Rattle.age_base64.specs.Lines.{line}
+use Rattle.age_base64.specs.Base64.{columns}
 use Rattle.age_format.specs.Stanza.{StanzaValue, body_text, stanza_text, first_line, IsStanzaText, IsStanza}
 use Rattle.age_format.specs.Header.{mac_line, version_line, AreStanzaTexts, IsHeaderText, IsHeader, header_text}
-use Rattle.age_format.proofs.Lines.{Lacks_words, split_line, same_words}
-use Rattle.age_format.proofs.Columns.{columns_same}
+use Rattle.age_base64.proofs.Lines.{split_line}
+use Rattle.age_format.proofs.Words.{Lacks_words, same_words}
+use Rattle.age_base64.proofs.Columns.{columns_same}
 use Rattle.age_format.proofs.Body.{Hyphen, body_lines, body_text_ends, same_body, lacks_feed}
 
 pub first_line_lacks : (s : StanzaValue) → IsStanza s → Lacks 10 (first_line s)

@@ -4,8 +4,8 @@ use Rattle.std.proofs.lemmas.List.{append-nil, length-replicate}
 use Rattle.std.proofs.lemmas.List.Elements.{All-nil, All-replicate}
 use Rattle.std.specs.List.{flat_map}
 use Rattle.age_error.specs.Bytes.{AreBytesOf}
-use Rattle.age_format.specs.Bytes.{line}
-use Rattle.age_format.specs.Base64.{columns}
+use Rattle.age_base64.specs.Lines.{line}
+use Rattle.age_base64.specs.Base64.{columns}
 use Rattle.age_format.specs.Stanza.{StanzaValue, first_line, stanza_text}
 use Rattle.age_format.specs.Header.{version_line, mac_line, IsHeaderText, IsHeader, header_text}
 use Rattle.age_format.specs.Verdict.{Verdict, Decides}

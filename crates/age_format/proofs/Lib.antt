@@ -1,11 +1,9 @@
-pub mod Lines
-pub mod Columns
+pub mod Words
 pub mod Body
 pub mod Headers
 pub mod Verdicts
 pub mod Strings
 pub mod Equality
-pub mod Engines
 pub mod Writing
 pub mod Parsing
 pub mod Steps

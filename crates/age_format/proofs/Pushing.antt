@@ -1,12 +1,12 @@
 -- One more byte.
 use Rattle.std.proofs.Common.{◌≡◌, ◌≢◌, ℕ, List, [], ◌∷◌, ◌++◌, length, take, drop, ap, sym, arith, append_assoc, subst, ◌∙◌, length-append, Bool}
 use Rattle.std.proofs.lemmas.List.{take-append-drop, take_all, drop_all, take-append-le, drop-append-le}
-use Rattle.age_format.specs.Bytes.{line, Lacks}
+use Rattle.age_base64.specs.Lines.{line, Lacks}
 use Rattle.age_format.specs.Verdict.{Verdict, Decides, IsUndecided}
 use Rattle.age_format.specs.Reading.{IsAt}
 use Rattle.age_format.specs.Progress.{IsInProgress}
 use Rattle.age_format.specs.declared.state.State.{State}
-use Rattle.age_format.proofs.Lines.{Lacks-append}
+use Rattle.age_base64.proofs.Lines.{Lacks-append}
 use Rattle.age_format.proofs.Deciding.{undecided_more}
 use Rattle.age_format.proofs.Hope.{allowed_quiet}
 

@@ -5,15 +5,17 @@ use Rattle.std.proofs.lemmas.List.{append_cancel_left, get_or_append_left}
 use Rattle.std.specs.Prelude.{codes}
 use Rattle.std.specs.List.{AllByRecursion, join_with_byte}
 use Rattle.age_error.specs.Bytes.{AreBytes}
-use Rattle.age_format.specs.Bytes.{line, Lacks, IsString, IsGraphic}
-use Rattle.age_format.specs.Base64.{columns}
+use Rattle.age_base64.specs.Lines.{line, Lacks}
+use Rattle.age_format.specs.Bytes.{IsString, IsGraphic}
+use Rattle.age_base64.specs.Base64.{columns}
 use Rattle.age_format.specs.Stanza.{StanzaValue, IsStanza, first_line}
 use Rattle.age_format.specs.Header.{magic, version_line, mac_line, AreStanzaTexts, IsHeaderText}
 use Rattle.age_format.specs.Verdict.{Verdict, Header, UnknownVersion, Bad, Decides, IsVerdict}
 use Rattle.age_format.specs.Reading.{IsBody}
-use Rattle.age_format.proofs.Lines.{each-append, each_right, split_line, lacks_tested, Lacks-append, Lacks_string}
+use Rattle.age_base64.proofs.Lines.{each-append, each_right, split_line, lacks_tested, Lacks-append}
+use Rattle.age_format.proofs.Words.{Lacks_string}
 use Rattle.age_format.proofs.Strings.{graphic_told}
-use Rattle.age_format.proofs.Columns.{IsSymbol, columns_symbols}
+use Rattle.age_base64.proofs.Columns.{IsSymbol, columns_symbols}
 use Rattle.age_format.proofs.Body.{front_bytes, back_bytes}
 use Rattle.age_format.proofs.Headers.{stanza_parts, same_header}
 use Rattle.age_format.proofs.Verdicts.{version_line_lacks}

@@ -4,17 +4,19 @@ use Rattle.std.proofs.lemmas.List.{append-nil, nil_from_length}
 use Rattle.std.proofs.lemmas.List.Elements.{All-append}
 use Rattle.std.specs.Prelude.{codes}
 use Rattle.age_error.specs.Bytes.{AreBytes, AreBytesOf}
-use Rattle.age_format.specs.Bytes.{line, IsString, Lacks}
-use Rattle.age_format.specs.Base64.{columns}
+use Rattle.age_base64.specs.Lines.{line, Lacks}
+use Rattle.age_format.specs.Bytes.{IsString}
+use Rattle.age_base64.specs.Base64.{columns}
 use Rattle.age_format.specs.Stanza.{StanzaValue, IsStanza, IsStanzaText, first_line, stanza_text, body_text, grown}
 use Rattle.age_format.specs.Header.{mac_line, magic, version_line, AreStanzaTexts, IsHeaderText}
 use Rattle.age_format.specs.Verdict.{EndsInBadLine}
 use Rattle.age_format.specs.Reading.{IsBody, IsTail, IsBodyAndTail, IsInBody, IsAt, IsBefore}
 use Rattle.age_format.specs.declared.state.State.{State}
-use Rattle.age_format.proofs.Columns.{columns_same, length-columns}
+use Rattle.age_base64.proofs.Columns.{columns_same, length-columns}
 use Rattle.age_format.proofs.Body.{IsBodyText, body_text_short, body_text_long}
 use Rattle.age_format.proofs.Headers.{not_both}
-use Rattle.age_format.proofs.Lines.{Lacks-append, Lacks_string, lacks_tested, split_line}
+use Rattle.age_base64.proofs.Lines.{Lacks-append, lacks_tested, split_line}
+use Rattle.age_format.proofs.Words.{Lacks_string}
 use Rattle.age_format.proofs.Verdicts.{version_line_lacks}
 use Rattle.age_format.proofs.Steps.{tail_line, opened, bad_line, regroup, hyphen_over, other_body}
 

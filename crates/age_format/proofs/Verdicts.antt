@@ -2,12 +2,13 @@
 use Rattle.std.proofs.Common.{◌≡◌, ℕ, ◌<◌, ◌⊎◌, inl, inr, List, [], ◌∷◌, ◌++◌, length, refl, ap, sym, arith, append_assoc, subst, ◌∙◌, length-append, Bool}
 use Rattle.std.proofs.lemmas.List.{append-nil, append_cancel_left, same_from_push}
 use Rattle.std.specs.Prelude.{codes}
-use Rattle.age_format.specs.Bytes.{Lacks}
-use Rattle.age_format.specs.Bytes.{line}
+use Rattle.age_base64.specs.Lines.{Lacks}
+use Rattle.age_base64.specs.Lines.{line}
 use Rattle.age_format.specs.Stanza.{StanzaValue}
 use Rattle.age_format.specs.Header.{magic, version_line, mac_line, IsHeaderText}
 use Rattle.age_format.specs.Verdict.{Verdict, Header, UnknownVersion, Bad, IsUnknownVersion, IsBadFront, Decides, IsVerdict}
-use Rattle.age_format.proofs.Lines.{Lacks-append, Lacks_string, lacks_tested, split_line}
+use Rattle.age_base64.proofs.Lines.{Lacks-append, lacks_tested, split_line}
+use Rattle.age_format.proofs.Words.{Lacks_string}
 use Rattle.age_format.proofs.Headers.{same_header}
 
 -- two fronts of one input

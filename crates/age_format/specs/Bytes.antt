@@ -1,12 +1,6 @@
--- Lists of bytes: lines, strings, and lists cut in pieces. Under "standard" stands what age-encryption.org/v1 asks, in our
--- words.
-use Rattle.std.specs.Prelude.{◌≢◌, ℕ, zero, suc, ◌≤◌, Bool, ◌&&◌, nat_lt, nat_le, List, [], ◌∷◌, ◌++◌, length, take, drop}
+-- Strings of the format. Under "standard" stands what age-encryption.org/v1 asks, in our words.
+use Rattle.std.specs.Prelude.{◌≢◌, ℕ, ◌≤◌, Bool, ◌&&◌, nat_lt, nat_le, List, [], length}
 use Rattle.std.specs.List.{AllByRecursion, list_all}
-
--- the bytes, then a line feed
--- standard: a line of a header ends with one LF, never with CR LF
-abbrev pub line : List ℕ → List ℕ
-line bytes = bytes ++ 10 ∷ []
 
 -- a printable byte that is no space
 -- standard: VCHAR of RFC 5234
@@ -25,12 +19,3 @@ is_graphic b = nat_le 33 b && nat_le b 126
 -- whether a list is a string of the format
 abbrev pub is_string_of : List ℕ → Bool
 is_string_of s = nat_lt 0 (length s) && list_all is_graphic s
-
--- so many pieces of n, and a last one of what is left
-unfoldable pub pieces_and_rest : ℕ → ℕ → List ℕ → List (List ℕ)
-pieces_and_rest zero n xs = xs ∷ []
-pieces_and_rest (suc count) n xs = take n xs ∷ pieces_and_rest count n (drop n xs)
-
--- no element is c
-abbrev pub Lacks : ℕ → List ℕ → Type 0
-Lacks c xs = AllByRecursion (λ d. d ≢ c) xs

@@ -1,12 +1,10 @@
 pub mod Bytes
-pub mod Base64
 pub mod Stanza
 pub mod Header
 pub mod Verdict
 pub mod Reading
 pub mod Progress
 pub mod Steps
-pub mod Engine
 pub mod HeaderV1
 pub mod ReadingHeader
 pub mod Wrapping

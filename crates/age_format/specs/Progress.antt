@@ -1,6 +1,6 @@
 -- A reader of a header that takes one byte after another.
 use Rattle.std.specs.Prelude.{ℕ, ◌≤◌, Bool, List, length, take, drop}
-use Rattle.age_format.specs.Bytes.{Lacks}
+use Rattle.age_base64.specs.Lines.{Lacks}
 use Rattle.age_format.specs.Verdict.{IsUndecided}
 use Rattle.age_format.specs.Reading.{IsAt}
 use Rattle.age_format.specs.declared.state.State.{State}

@@ -1,8 +1,8 @@
 -- Where a reader of a header stands between two lines.
 use Rattle.std.specs.Prelude.{◌≡◌, ◌≢◌, ℕ, zero, suc, ◌<◌, Bool, true, List, [], ◌∷◌, ◌++◌, length, ◌⊎◌}
 use Rattle.age_error.specs.Bytes.{AreBytesOf}
-use Rattle.age_format.specs.Bytes.{line}
-use Rattle.age_format.specs.Base64.{columns}
+use Rattle.age_base64.specs.Lines.{line}
+use Rattle.age_base64.specs.Base64.{columns}
 use Rattle.age_format.specs.Stanza.{StanzaValue, IsStanza, first_line, grown}
 use Rattle.age_format.specs.Header.{mac_line, version_line, AreStanzaTexts, IsHeaderText}
 use Rattle.age_format.specs.Verdict.{EndsInBadLine, IsUnknownVersion}

@@ -5,8 +5,9 @@ use Rattle.std.specs.List.{AllByRecursion, join_with_byte, flat_map}
 use Rattle.std.specs.Cmp.Lexicographic.{pointwise}
 use Rattle.std.specs.Ordering.{on, eq_of_both}
 use Rattle.age_error.specs.Bytes.{AreBytes}
-use Rattle.age_format.specs.Bytes.{line, IsString, pieces_and_rest}
-use Rattle.age_format.specs.Base64.{columns}
+use Rattle.age_base64.specs.Lines.{line, pieces_and_rest}
+use Rattle.age_format.specs.Bytes.{IsString}
+use Rattle.age_base64.specs.Base64.{columns}
 
 -- what a stanza says, apart from where it lies in memory
 -- standard: a type, arguments, and a body of bytes

@@ -1,7 +1,8 @@
 -- What the shortest deciding front of an input says. age-encryption.org/v1, section "Header", says which texts are headers;
 -- what comes earliest that no header goes on from is refused at once, so that nothing past it is taken.
 use Rattle.std.specs.Prelude.{◌≡◌, ◌≢◌, ℕ, ◌<◌, ◌≤◌, Bool, List, [], ◌∷◌, ◌++◌, length, slice_index, codes, ◌⊎◌}
-use Rattle.age_format.specs.Bytes.{line, IsString}
+use Rattle.age_base64.specs.Lines.{line}
+use Rattle.age_format.specs.Bytes.{IsString}
 use Rattle.age_format.specs.Stanza.{StanzaValue}
 use Rattle.age_format.specs.Header.{magic, IsHeaderText}
 

@@ -8,15 +8,15 @@ ghost use Rattle.age_error.specs.DecryptErrors.{decrypt_refusal, IsDeviceRefusal
 ghost use Rattle.age_io.specs.Reading.{Delivers, IsQuiet, IsShort, StaysOrFails, most_faults};
 ghost use Rattle.age_io.specs.Writing.{WritesAll};
 ghost use Rattle.age_suite.specs.Mac.{hkdf_of};
-ghost use Rattle.age_format.specs.Bytes.{line};
-ghost use Rattle.age_format.specs.Base64.{columns};
+ghost use Rattle.age_base64.specs.Lines.{line};
+ghost use Rattle.age_base64.specs.Base64.{columns};
 ghost use Rattle.age_format.specs.Stanza.{IsStanza};
 ghost use Rattle.age_format.specs.Header.{covered, covered_text, header_text, IsHeader, IsHeaderText, KeepsScryptRule};
 ghost use Rattle.age_format.specs.HeaderV1.{header_mac, reads_legacy, IsScrypt};
 ghost use Rattle.age_format.specs.ReadingHeader.{ReadsHeader, RefusesHeader};
 
 use crate::bytewise::{HeaderReader, Step};
-use crate::engine::header_engine;
+use age_base64::header_engine;
 use crate::stanza::Stanza;
 use crate::write::push_columns;
 use age_error::{DecryptError, io};

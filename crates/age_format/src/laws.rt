@@ -2,7 +2,7 @@
 //! of a stanza is a text of it.
 
 ghost use Rattle.std.specs.Prelude.{◌≡◌, ◌++◌, ◌↔◌, Bool, IsTrue, length, List, [], ℕ, codes};
-ghost use Rattle.age_format.specs.Bytes.{line};
+ghost use Rattle.age_base64.specs.Lines.{line};
 ghost use Rattle.age_format.specs.Stanza.{StanzaValue, stanza_eq};
 ghost use Rattle.age_format.specs.Header.{IsHeader, IsHeaderText, covered, covered_text, header_text, version_line};
 ghost use Rattle.age_format.specs.Verdict.{IsVerdict, Verdict, Header};

@@ -3,7 +3,6 @@
 #![tactic(auto)]
 
 mod bytewise;
-mod engine;
 mod grease;
 mod header;
 mod identity;

@@ -3,12 +3,13 @@
 ghost use Rattle.std.specs.Prelude.{◌≡◌, ◌≢◌, ◌++◌, ◌∷◌, [], ◌≤◌, ◌<◌, ◌==◌, ◌↔◌, ℕ, List, length, map, IfOk, MatchOption, IsTrue, string_bytes, codes};
 ghost use Rattle.std.specs.List.{AllByRecursion, join_with_byte, slice_split};
 ghost use Rattle.age_error.specs.Bytes.{AreBytes, AreBytesOf};
-ghost use Rattle.age_format.specs.Bytes.{line, IsString};
-ghost use Rattle.age_format.specs.Base64.{columns};
+ghost use Rattle.age_base64.specs.Lines.{line};
+ghost use Rattle.age_format.specs.Bytes.{IsString};
+ghost use Rattle.age_base64.specs.Base64.{columns};
 ghost use Rattle.age_format.specs.Stanza.{StanzaValue, IsStanza, first_line};
 ghost use Rattle.age_format.specs.Header.{mac_line};
 
-use crate::engine::header_engine;
+use age_base64::header_engine;
 use crate::stanza::{Stanza, is_string};
 use base64::DecodeAllocError;
 use std::alloc::{AllocError, Global};

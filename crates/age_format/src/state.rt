@@ -1,7 +1,7 @@
 //! A header's lines, one after another.
 
 ghost use Rattle.std.specs.Prelude.{◌≡◌, ◌≢◌, ◌++◌, ◌∷◌, ℕ, List, true, IfOk};
-ghost use Rattle.age_format.specs.Bytes.{line, Lacks};
+ghost use Rattle.age_base64.specs.Lines.{line, Lacks};
 ghost use Rattle.age_format.specs.Reading.{IsAt, IsBefore, IsJudged};
 
 use crate::parse::{after_prefix, decode_columns, parse_first_line, parse_mac_line};

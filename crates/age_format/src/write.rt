@@ -2,12 +2,12 @@
 
 ghost use Rattle.std.specs.Prelude.{◌≡◌, ◌++◌, ◌∷◌, ◌≤◌, length, map, OnOk, string_bytes, codes};
 ghost use Rattle.std.specs.List.{join_with_byte};
-ghost use Rattle.age_format.specs.Bytes.{line};
-ghost use Rattle.age_format.specs.Base64.{columns};
+ghost use Rattle.age_base64.specs.Lines.{line};
+ghost use Rattle.age_base64.specs.Base64.{columns};
 ghost use Rattle.age_format.specs.Stanza.{body_text};
-ghost use Rattle.age_format.specs.Engine.{IsHeaderEngine};
+ghost use Rattle.age_base64.specs.Engine.{IsHeaderEngine};
 
-use crate::engine::header_engine;
+use age_base64::header_engine;
 use base64::engine::general_purpose::GeneralPurpose;
 use std::alloc::AllocError;
 

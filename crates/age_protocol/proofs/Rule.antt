@@ -4,7 +4,7 @@ use Rattle.std.specs.Prelude.{codes, bytes_eq}
 use Rattle.std.specs.List.{AllByRecursion, list_any}
 use Rattle.std.proofs.lemmas.Slice.Eq.{bytes_eq-Decides}
 use Rattle.std.proofs.lemmas.Bool.{true≢false}
-use Rattle.age_format.proofs.Lines.{each-append}
+use Rattle.age_base64.proofs.Lines.{each-append}
 use Rattle.age_format.specs.Stanza.{StanzaValue, IsGreaseTag}
 use Rattle.age_format.specs.Header.{KeepsScryptRule}
 use Rattle.age_protocol.specs.Labels.{has_scrypt}

@@ -1,5 +1,5 @@
 use Rattle.std.proofs.Common.{rules, ◌≡◌, ◌++◌, ◌∷◌, ℕ, List, [], sym, ◌∙◌, ap, subst}
-use Rattle.age_format.specs.Bytes.{line}
+use Rattle.age_base64.specs.Lines.{line}
 use Rattle.age_format.specs.Stanza.{StanzaValue, grown}
 use Rattle.age_format.specs.Reading.{IsInBody, IsBodyAndTail, IsTail}
 use Rattle.age_format.proofs.States.{goes_on_in_body, closes_body, bad_body, too_long, IsAfterBody}

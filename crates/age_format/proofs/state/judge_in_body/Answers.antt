@@ -1,6 +1,6 @@
 use Rattle.std.proofs.Common.{◌≡◌, ◌++◌, ◌∷◌, ◌≢◌, ℕ, List, [], true, false, sym, ◌∙◌, subst}
 use Rattle.std.proofs.lemmas.Result.{IfOk-weaker}
-use Rattle.age_format.specs.Bytes.{line}
+use Rattle.age_base64.specs.Lines.{line}
 use Rattle.age_format.specs.Stanza.{StanzaValue}
 use Rattle.age_format.specs.Reading.{IsTail}
 use Rattle.age_format.proofs.States.{closes_legacy, IsAfterBody}

@@ -1,6 +1,6 @@
 use Rattle.std.proofs.Common.{◌++◌, ◌∷◌, ◌∙◌, ap}
-use Rattle.age_format.specs.Bytes.{line}
-use Rattle.age_format.specs.Base64.{columns}
+use Rattle.age_base64.specs.Lines.{line}
+use Rattle.age_base64.specs.Base64.{columns}
 use Rattle.age_format.specs.Header.{covered_text, header_text}
 use Rattle.age_format.proofs.HeaderWriting.{whole_text}
 use Rattle.age_format.proofs.header.HeaderV1.text.Goals as goal

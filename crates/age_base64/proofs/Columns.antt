@@ -15,8 +15,8 @@ use Rattle.base64.proofs.RoundTrip.{length-encode_symbols}
 use Rattle.base64.proofs.Tables.{all_below_at}
 use Rattle.std.proofs.lemmas.Bool.{and_parts, leb-true, eqb-false, not-true}
 use Rattle.age_error.specs.Bytes.{AreBytes}
-use Rattle.age_format.specs.Bytes.{Lacks}
-use Rattle.age_format.specs.Base64.{symbols, columns}
+use Rattle.age_base64.specs.Lines.{Lacks}
+use Rattle.age_base64.specs.Base64.{symbols, columns}
 
 pub columns-append : (a b : List ℕ) → length a % 3 ≡ 0 → columns (a ++ b) ≡ columns a ++ columns b
 unfolding columns

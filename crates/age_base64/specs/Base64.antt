@@ -1,5 +1,5 @@
 -- Base64 of RFC 4648 section 4 over the alphabet of the format.
-use Rattle.std.specs.Prelude.{ℕ, List, false, codes}
+use Rattle.std.specs.Prelude.{ℕ, List, true, false, codes}
 use Rattle.base64.specs.Rfc4648.{encode}
 
 -- the 64 symbols in their order
@@ -10,3 +10,8 @@ symbols = codes "ABCDEFGHIJKLMNOPQRSTUVWXYZabcdefghijklmnopqrstuvwxyz0123456789+
 -- standard: canonical base64 of RFC 4648 section 4, without padding, and refused where unused bits aren't zero
 unfoldable pub columns : List ℕ → List ℕ
 columns bytes = encode symbols 61 false bytes
+
+-- the base64 of armor
+-- standard: canonical base64 of RFC 4648 section 4, with padding
+unfoldable pub padded_columns : List ℕ → List ℕ
+padded_columns bytes = encode symbols 61 true bytes

@@ -1,13 +1,13 @@
 -- The engines over the format's alphabet.
-use Rattle.std.proofs.Common.{◌≡◌, ℕ, List, Bool, false, ap, sym, subst, ◌∙◌}
+use Rattle.std.proofs.Common.{◌≡◌, ℕ, List, Bool, true, false, ap, sym, subst, ◌∙◌}
 use Rattle.base64.specs.declared.engine.general_purpose.GeneralPurpose.{GeneralPurpose}
 use Rattle.base64.specs.declared.engine.DecodePaddingMode.{DecodePaddingMode}
-use Rattle.base64.specs.declared.engine.DecodePaddingMode.TheVariants.{RequireNone}
+use Rattle.base64.specs.declared.engine.DecodePaddingMode.TheVariants.{RequireNone, RequireCanonical}
 use Rattle.base64.specs.GeneralPurpose.{encode_of, IsConfig, engine_symbols, engine_padding, engine_config}
 use Rattle.base64.specs.Rfc4648.{encode}
 use Rattle.base64.specs.Decode.{IsExact}
-use Rattle.age_format.specs.Base64.{symbols, columns}
-use Rattle.age_format.specs.Engine.{IsHeaderEngine}
+use Rattle.age_base64.specs.Base64.{symbols, columns, padded_columns}
+use Rattle.age_base64.specs.Engine.{IsHeaderEngine, IsArmorEngine}
 
 written : (e : GeneralPurpose) (padding : Bool) (mode : DecodePaddingMode) → engine_symbols e ≡ symbols → engine_padding e ≡ 61
     → IsConfig (engine_config e) padding false mode → (bytes : List ℕ) → encode_of e bytes ≡ encode symbols 61 padding bytes
@@ -19,3 +19,8 @@ pub header_engine_is : (e : GeneralPurpose) → engine_symbols e ≡ symbols →
     → IsConfig (engine_config e) false false RequireNone → IsHeaderEngine e
 unfolding columns
 header_engine_is e s p k = (written e false RequireNone s p k, (k.1, subst (λ m. IsExact m e.config.encode_padding) (sym k.2) k.0))
+
+pub armor_engine_is : (e : GeneralPurpose) → engine_symbols e ≡ symbols → engine_padding e ≡ 61
+    → IsConfig (engine_config e) true false RequireCanonical → IsArmorEngine e
+unfolding padded_columns
+armor_engine_is e s p k = (written e true RequireCanonical s p k, (k.1, subst (λ m. IsExact m e.config.encode_padding) (sym k.2) k.0))

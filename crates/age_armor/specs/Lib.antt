@@ -1,0 +1,3 @@
+pub mod Armor
+pub mod LineVerdict
+pub mod Delivered

@@ -1,0 +1,3 @@
+pub mod Lines
+pub mod Base64
+pub mod Engine

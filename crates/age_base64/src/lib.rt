@@ -1,0 +1,7 @@
+//! The base64 of the format, over an alphabet that is written out here: what headers and armor share (RFC 4648 section 4;
+//! age-encryption.org/v1, sections "Header" and "ASCII armor").
+#![tactic(auto)]
+
+mod engine;
+
+pub use engine::{armor_engine, header_engine};
