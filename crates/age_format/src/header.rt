@@ -16,9 +16,9 @@ ghost use Rattle.age_format.specs.HeaderV1.{header_mac, reads_legacy, IsScrypt};
 ghost use Rattle.age_format.specs.ReadingHeader.{ReadsHeader, RefusesHeader};
 
 use crate::bytewise::{HeaderReader, Step};
-use age_base64::header_engine;
 use crate::stanza::Stanza;
 use crate::write::push_columns;
+use age_base64::header_engine;
 use age_error::{DecryptError, io};
 use age_io::{Read, Write, read_retrying, write_all};
 use age_suite::mac::{HmacWriter, hkdf, hmac};

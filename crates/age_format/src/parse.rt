@@ -9,8 +9,8 @@ ghost use Rattle.age_base64.specs.Base64.{columns};
 ghost use Rattle.age_format.specs.Stanza.{StanzaValue, IsStanza, first_line};
 ghost use Rattle.age_format.specs.Header.{mac_line};
 
-use age_base64::header_engine;
 use crate::stanza::{Stanza, is_string};
+use age_base64::header_engine;
 use base64::DecodeAllocError;
 use std::alloc::{AllocError, Global};
 
