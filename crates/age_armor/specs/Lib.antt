@@ -1,3 +1,4 @@
 pub mod Armor
 pub mod LineVerdict
 pub mod Delivered
+pub mod FirstFault

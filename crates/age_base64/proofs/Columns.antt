@@ -49,24 +49,27 @@ columns_same a b ha hb e =
     let ok : Path (Result (List ℕ) DecodeError) (Ok a) (Ok b) = sym da ∙ ap (decode_of standard_no_pad) both ∙ db in
     cc
 
--- a symbol of base64: no line feed, and no hyphen
+-- a symbol of base64: no line feed, no hyphen, and no padding
 abbrev pub IsSymbol : ℕ → Type 0
-IsSymbol c = (43 ≤ c) × (c ≤ 122) × (c ≢ 45)
+IsSymbol c = (43 ≤ c) × (c ≤ 122) × (c ≢ 45) × (c ≢ 61)
 
 symbol_passes : ℕ → Bool
-symbol_passes i = nat_le 43 (slice_index symbols i) && nat_le (slice_index symbols i) 122 && not (slice_index symbols i == 45)
+symbol_passes i = nat_le 43 (slice_index symbols i) && nat_le (slice_index symbols i) 122 && not (slice_index symbols i == 45) && not (slice_index symbols i == 61)
 
 all_pass : all_below symbol_passes 64 ≡ true
 unfolding symbol_passes
 all_pass = refl
 
+passed : (c : ℕ) → (nat_le 43 c && nat_le c 122 && not (c == 45) && not (c == 61)) ≡ true → IsSymbol c
+passed c h =
+    let no_equals = and_parts (nat_le 43 c && nat_le c 122 && not (c == 45)) (not (c == 61)) h in
+    let no_hyphen = and_parts (nat_le 43 c && nat_le c 122) (not (c == 45)) no_equals.0 in
+    let range = and_parts (nat_le 43 c) (nat_le c 122) no_hyphen.0 in
+    (leb-true 43 c range.0, leb-true c 122 range.1, eqb-false c 45 (not-true (c == 45) no_hyphen.1), eqb-false c 61 (not-true (c == 61) no_equals.1))
+
 IsSymbol_at : (i : ℕ) → i < 64 → IsSymbol (slice_index symbols i)
 unfolding symbol_passes
-IsSymbol_at i lt =
-    let h = all_below_at symbol_passes 64 i all_pass lt in
-    let outer = and_parts (nat_le 43 (slice_index symbols i) && nat_le (slice_index symbols i) 122) (not (slice_index symbols i == 45)) h in
-    let inner = and_parts (nat_le 43 (slice_index symbols i)) (nat_le (slice_index symbols i) 122) outer.0 in
-    (leb-true 43 (slice_index symbols i) inner.0, leb-true (slice_index symbols i) 122 inner.1, eqb-false (slice_index symbols i) 45 (not-true (slice_index symbols i == 45) outer.1))
+IsSymbol_at i lt = passed (slice_index symbols i) (all_below_at symbol_passes 64 i all_pass lt)
 
 pub are_symbols : (m : List ℕ) → IsBytes m → AllByRecursion IsSymbol (encode_symbols symbols m)
 unfolding encode_symbols

@@ -1,3 +1,4 @@
 pub mod Lines
 pub mod Columns
+pub mod PaddedColumns
 pub mod Engines

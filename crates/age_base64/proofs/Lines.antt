@@ -29,12 +29,19 @@ pub each-append : {X : Type 0} (P : X → Type 0) (a b : List X) → AllByRecurs
 each-append P [] b ha hb = hb
 each-append P (d ∷ a) b ha hb = (ha.0, each-append P a b ha.1 hb)
 
+pub each_left : {X : Type 0} (P : X → Type 0) (a b : List X) → AllByRecursion P (a ++ b) → AllByRecursion P a
+each_left P [] b h = tt
+each_left P (d ∷ a) b h = (h.0, each_left P a b h.1)
+
 pub each_right : {X : Type 0} (P : X → Type 0) (a b : List X) → AllByRecursion P (a ++ b) → AllByRecursion P b
 each_right P [] b h = h
 each_right P (d ∷ a) b h = each_right P a b h.1
 
 pub Lacks-append : (c : ℕ) (a b : List ℕ) → Lacks c a → Lacks c b → Lacks c (a ++ b)
 Lacks-append c a b = each-append (λ d. d ≢ c) a b
+
+pub Lacks_left : (c : ℕ) (a b : List ℕ) → Lacks c (a ++ b) → Lacks c a
+Lacks_left c a b = each_left (λ d. d ≢ c) a b
 
 pub Lacks_right : (c : ℕ) (a b : List ℕ) → Lacks c (a ++ b) → Lacks c b
 Lacks_right c a b = each_right (λ d. d ≢ c) a b
