@@ -20,18 +20,20 @@ use Rattle.age_armor.specs.Armor.{armor_lines, begin_marker, end_marker, IsEnded
 use Rattle.age_armor.specs.LineVerdict.{LineVerdict, Refuses, Ends, Holds, verdict, IsLineVerdict, IsFirst, IsClear, line_columns, is_short}
 use Rattle.age_armor.specs.Delivered.{Ending, Clean, Refused, InnerFault, Outcome, ends, prepend, at_end, raw_lines, is_space, trailing, after_line, section, after_marker, delivered}
 use Rattle.age_armor.proofs.Verdicts.{one_verdict}
-use Rattle.age_armor.proofs.RawLines.{AreRaw, are_raw, concat_raw, columns_none, ended_back, lines_nil, lines_one, lines_more, not_short_full}
-use Rattle.age_armor.proofs.Shapes.{HasMarkerLine, shape_of, early_delivers, plain_delivers, open_marker_delivers, marker_line_delivers}
+use Rattle.age_armor.proofs.RawLines.{AreRaw, are_raw, raw_line, concat_raw, columns_none, ended_back, lines_nil, lines_one, lines_more, not_short_full}
+use Rattle.age_armor.specs.FirstFault.{IsFirstLine, HasMarkerLine}
+use Rattle.age_armor.proofs.Delivering.{length_end}
+use Rattle.age_armor.proofs.Shapes.{shape_of, early_delivers, plain_delivers, open_marker_delivers, marker_line_delivers}
 
 -- the lines carry x, after a short line or not
-pub record Back (s : Bool) (text x : List ℕ) : Type 0 where
-  pub front : List ℕ
-  pub end : List ℕ
-  pub whole : text ≡ front ++ end
-  pub lines : AreEndedLines (armor_lines (padded_columns x)) front
-  pub ends : IsEnd end
-  pub each : AreBytes x
-  pub none : s ≡ true → x ≡ []
+record LinesCarry (s : Bool) (text x : List ℕ) : Type 0 where
+  front : List ℕ
+  end : List ℕ
+  whole : text ≡ front ++ end
+  lines : AreEndedLines (armor_lines (padded_columns x)) front
+  ends : IsEnd end
+  each : AreBytes x
+  none : s ≡ true → x ≡ []
 
 pub refused_clean : {X : Type 0} (e : Error) → Path Ending (Refused e) Clean → X
 refused_clean e p = cc p
@@ -58,9 +60,12 @@ spaces_back (b ∷ space) e = elim (cases_Bool (is_space b)) [
   | inr p ↦ refused_clean _ (rw p at e)
 ]
 
+ended_line : (raw k : List ℕ) → raw ≡ k ++ 10 ∷ [] → IsEndedLine (line_columns raw) raw
+ended_line raw k e = subst (λ r. IsEndedLine (line_columns r) r) (sym e) (ended_back k)
+
 -- a good line before lines that carry x
 good_back : (s : Bool) (b raw x text : List ℕ) → IsLineVerdict s raw (Holds b) → IsEndedLine (line_columns raw) raw →
-    Back (is_short (line_columns raw)) text x → Back s (raw ++ text) (b ++ x)
+    LinesCarry (is_short (line_columns raw)) text x → LinesCarry s (raw ++ text) (b ++ x)
 good_back s b raw x text (first, some, fits, each, same) ended back = record {
   front = raw ++ back.front;
   end = back.end;
@@ -85,54 +90,47 @@ good_back s b raw x text (first, some, fits, each, same) ended back = record {
       | inr e ↦ lines_more b x (not_short_full b size (rw same at e))
     ]
 
-by_verdict : (v : LineVerdict) (s : Bool) (raw : List ℕ) (more : List (List ℕ)) (next : Outcome) (x : List ℕ) → IsLineVerdict s raw v →
-    ((((k : List ℕ) × (raw ≡ k ++ 10 ∷ []) × Lacks 10 k)) ⊎ (Lacks 10 raw × (more ≡ []))) →
-    ((((k : List ℕ) × (raw ≡ k ++ 10 ∷ []) × Lacks 10 k)) → next.ending ≡ Clean → Back (is_short (line_columns raw)) (concat more) next.bytes) →
-    (more ≡ [] → next ≡ ends (Refused (Armor NotWrappedAt64Chars))) →
-    after_line v next (trailing (concat more) true) ≡ record { bytes = x; ending = Clean } → Back s (raw ++ concat more) x
-by_verdict (Refuses e) s raw more next x h shape ih last p = refused_clean _ (ap (λ o. o.ending) p)
-by_verdict Ends s raw more next x h shape ih last p =
-    let nothing : x ≡ [] = sym (ap (λ o. o.bytes) p) in
-    record {
-      front = [];
-      end = raw ++ concat more;
-      whole = refl;
-      lines = rw (nothing, lines_nil) refl;
-      ends = elim shape [
-        | inl (k, e, lacks) ↦ inr (raw, concat more, refl, subst (λ l. IsEndedLine l raw) h.1 (subst (λ r. IsEndedLine (line_columns r) r) (sym e) (ended_back k)), spaces_back (concat more) (ap (λ o. o.ending) p))
-        | inr (lacks, e) ↦ inl (rw (e, append-nil) (sym (columns_none raw lacks) ∙ h.1))
-      ];
-      each = rw nothing (All-nil (λ d. d < 2 ^ 8));
-      none = λ e. nothing;
-    }
-by_verdict (Holds b) s raw more next x h (inr (lacks, e)) ih last p =
-    refused_clean _ (sym (ap (λ o. o.ending) (last e)) ∙ ap (λ o. o.ending) p)
-by_verdict (Holds b) s raw more next x h (inl (k, e, lacks)) ih last p =
-    let all : b ++ next.bytes ≡ x = ap (λ o. o.bytes) p in
-    let clean : next.ending ≡ Clean = ap (λ o. o.ending) p in
-    subst (Back s (raw ++ concat more)) all
-    (good_back s b raw next.bytes (concat more) h (subst (λ r. IsEndedLine (line_columns r) r) (sym e) (ended_back k)) (ih (k, e, lacks) clean))
+-- the end marker's line, and then white space
+end_back : (s : Bool) (raw rest : List ℕ) → IsFirstLine (raw ++ rest) raw rest → line_columns raw ≡ end_marker → trailing rest true ≡ Clean → IsEnd (raw ++ rest)
+end_back s raw rest line marker clean = elim line.stops [
+  | inl (k, e, lacks) ↦ inr (raw, rest, refl, subst (λ l. IsEndedLine l raw) marker (ended_line raw k e), spaces_back rest clean)
+  | inr (lacks, over) ↦ inl (rw (over, append-nil) (sym (columns_none raw lacks) ∙ marker))
+]
 
-pub outcome-ext : (o : Outcome) (x : List ℕ) → o.bytes ≡ x → o.ending ≡ Clean → o ≡ record { bytes = x; ending = Clean }
-outcome-ext o x p q =
-    let make : List ℕ → Ending → Outcome = λ bytes ending. record { bytes = bytes; ending = ending } in
-    ap (λ y. make y o.ending) p ∙ ap (λ z. make x z) q
+no_end : (s : Bool) (text x : List ℕ) → LinesCarry s text x → text ≡ [] → ⊥
+no_end s text x back over =
+    let all : length text ≡ length back.front + length back.end = ap length back.whole ∙ length-append back.front back.end in
+    omega (arith, all, ap length over, length_end back.end back.ends)
 
-pub section_back : (ls : List (List ℕ)) → AreRaw ls → (s : Bool) (x : List ℕ) → section s ls true ≡ record { bytes = x; ending = Clean } → Back s (concat ls) x
-section_back [] a s x p = refused_clean _ (ap (λ o. o.ending) p)
-section_back (raw ∷ more) (inl (k, a)) s x p =
-    let next = section (is_short (line_columns raw)) more true in
-    by_verdict (verdict s raw) s raw more next x (one_verdict s raw) (inl k)
-    (λ _ clean. section_back more a (is_short (line_columns raw)) next.bytes (outcome-ext next next.bytes refl clean))
-    (λ e. ap (λ ls. section (is_short (line_columns raw)) ls true) e) p
-section_back (raw ∷ more) (inr (lacks, e)) s x p =
-    let next = section (is_short (line_columns raw)) more true in
-    by_verdict (verdict s raw) s raw more next x (one_verdict s raw) (inr (lacks, e))
-    (λ k clean. refused_clean _ (sym (ap (λ ls. (section (is_short (line_columns raw)) ls true).ending) e) ∙ clean))
-    (λ e. ap (λ ls. section (is_short (line_columns raw)) ls true) e) p
+clean_at : (v : LineVerdict) (s : Bool) (raw rest : List ℕ) (next : Outcome) → IsFirstLine (raw ++ rest) raw rest → IsLineVerdict s raw v →
+    (next.ending ≡ Clean → LinesCarry (is_short (line_columns raw)) rest next.bytes) →
+    (after_line v next (trailing rest true)).ending ≡ Clean → LinesCarry s (raw ++ rest) (after_line v next (trailing rest true)).bytes
+clean_at (Refuses e) s raw rest next line h ih p = refused_clean (Armor e) p
+clean_at Ends s raw rest next line h ih p = record {
+  front = [];
+  end = raw ++ rest;
+  whole = refl;
+  lines = rw lines_nil refl;
+  ends = end_back s raw rest line h.1 p;
+  each = All-nil (λ d. d < 2 ^ 8);
+  none = λ e. refl;
+}
+clean_at (Holds b) s raw rest next line h ih p = elim line.stops [
+  | inl (k, e, lacks) ↦ good_back s b raw next.bytes rest h (ended_line raw k e) (ih p)
+  | inr (lacks, over) ↦ absurd (no_end (is_short (line_columns raw)) rest next.bytes (ih p) over)
+]
 
-lines_back : (x text : List ℕ) → section false (raw_lines text) true ≡ record { bytes = x; ending = Clean } → Back false text x
-lines_back x text p = subst (λ t. Back false t x) (concat_raw text) (section_back (raw_lines text) (are_raw text) false x p)
+section_back : (ls : List (List ℕ)) → AreRaw ls → (s : Bool) → (section s ls true).ending ≡ Clean → LinesCarry s (concat ls) (section s ls true).bytes
+section_back [] a s p = refused_clean (Armor NotWrappedAt64Chars) p
+section_back (raw ∷ more) a s p =
+    let (line, others) = raw_line raw more a in
+    clean_at (verdict s raw) s raw (concat more) (section (is_short (line_columns raw)) more true) line (one_verdict s raw)
+    (section_back more others (is_short (line_columns raw))) p
+
+lines_back : (x text : List ℕ) → section false (raw_lines text) true ≡ record { bytes = x; ending = Clean } → LinesCarry false text x
+lines_back x text p =
+    let back = section_back (raw_lines text) (are_raw text) false (ap (λ o. o.ending) p) in
+    subst (λ t. LinesCarry false t x) (concat_raw text) (subst (LinesCarry false (concat (raw_lines text))) (ap (λ o. o.bytes) p) back)
 
 marker_back : (text x : List ℕ) → HasMarkerLine text → delivered text true ≡ record { bytes = x; ending = Clean } → Carries text x
 marker_back text x m p =

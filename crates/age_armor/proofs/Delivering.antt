@@ -127,7 +127,7 @@ section_delivers (suc fuel) x front end small h lines is_end = elim (cases_lt 48
   ]
 ]
 
-length_end : (t : List ℕ) → IsEnd t → 32 ≤ length t
+pub length_end : (t : List ℕ) → IsEnd t → 32 ≤ length t
 length_end t (inl e) = omega (arith, ap length e)
 length_end t (inr (ended, space, e, inl h, spaces)) = let len = ap length (e ∙ ap (λ y. y ++ space) h) in omega (arith, simp length-append at len)
 length_end t (inr (ended, space, e, inr h, spaces)) = let len = ap length (e ∙ ap (λ y. y ++ space) h) in omega (arith, simp length-append at len)

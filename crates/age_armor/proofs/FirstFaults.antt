@@ -20,10 +20,10 @@ use Rattle.age_base64.proofs.PaddedColumns.{IsAscii-padded_columns, Lacks_padded
 use Rattle.age_armor.specs.Armor.{armor_lines, begin_marker, end_marker, IsEndedLine, AreEndedLines, IsEnd, IsSpace, CarriesArmored, CarriesBinary, Carries}
 use Rattle.age_armor.specs.LineVerdict.{LineVerdict, Refuses, Ends, Holds, verdict, columns_verdict, IsLineVerdict, IsFirst, IsClear, line_columns, is_short}
 use Rattle.age_armor.specs.Delivered.{Ending, Clean, Refused, InnerFault, Outcome, ends, prepend, at_end, raw_lines, is_space, trailing, after_line, section, after_marker, delivered}
-use Rattle.age_armor.specs.FirstFault.{IsFirstLine, IsFaultAtFront, IsFaultAfter, EndsEarly, HasBadMarker, HasBadLine, IsFirstFault}
+use Rattle.age_armor.specs.FirstFault.{IsFirstLine, IsFaultAfter, HasBadLine, IsFirstFault}
 use Rattle.age_armor.proofs.Verdicts.{one_verdict, passes_to, verdict_is}
-use Rattle.age_armor.proofs.RawLines.{AreRaw, are_raw, concat_raw, raw_lines_ended, raw_lines_last}
-use Rattle.age_armor.proofs.Shapes.{HasOpenMarker, HasMarkerLine, shape_of, early_delivers, plain_delivers, open_marker_delivers, marker_line_delivers}
+use Rattle.age_armor.proofs.RawLines.{AreRaw, are_raw, raw_line, concat_raw, raw_lines_ended, raw_lines_last}
+use Rattle.age_armor.proofs.Shapes.{shape_of, early_delivers, plain_delivers, open_marker_delivers, marker_line_delivers}
 use Rattle.age_armor.proofs.Delivering.{carried_delivered, spaces_end}
 use Rattle.age_armor.proofs.CleanEnds.{delivered_carried, is_space_back, refused_clean}
 
@@ -93,25 +93,20 @@ fault_after [] s text e (raw, rest, line, inr (h, garbage, named)) =
 fault_after (piece ∷ pieces) s text e (raw, rest, line, h, more) =
     section_by s text raw rest (Holds piece) line h ∙ ap (λ o. prepend piece o) (fault_after pieces (is_short (line_columns raw)) rest e more)
 
-pub fault_delivered : (text bytes : List ℕ) (e : Error) → IsFirstFault text bytes e → delivered text true ≡ record { bytes = bytes; ending = Refused e }
-fault_delivered text bytes e (inl p) =
-    early_delivers text true p.short ∙ outcome_is [] bytes (Refused UnexpectedEof) (Refused e) (sym p.none) (ap (λ f. Refused f) (sym p.named))
-fault_delivered text bytes e (inr (inl p)) =
-    open_marker_delivers text true (record { size = p.size; after = p.after; marker = p.marker; unended = p.unended })
-    ∙ outcome_is [] bytes (Refused (Armor InvalidBeginMarker)) (Refused e) (sym p.none) (ap (λ f. Refused f) (sym p.named))
-fault_delivered text bytes e (inr (inr p)) =
-    marker_line_delivers text p.first p.rest true p.size p.whole p.marker ∙ fault_after p.pieces false p.rest p.fault p.after
+bad_line_delivered : (s : Bool) (text bytes : List ℕ) (e : Error) → HasBadLine s text bytes e → section s (raw_lines text) true ≡ record { bytes = bytes; ending = Refused e }
+bad_line_delivered s text bytes e p =
+    fault_after p.pieces s text p.fault p.after
     ∙ outcome_is (concat p.pieces) bytes (Refused (Armor p.fault)) (Refused e) (sym p.held) (ap (λ f. Refused f) (sym p.named))
 
--- ---- what delivers a refusal has that first fault
+pub fault_delivered : (text bytes : List ℕ) (e : Error) → IsFirstFault text bytes e → delivered text true ≡ record { bytes = bytes; ending = Refused e }
+fault_delivered text bytes e (inl (short, none, named)) =
+    early_delivers text true short ∙ outcome_is [] bytes (Refused UnexpectedEof) (Refused e) (sym none) (ap (λ f. Refused f) (sym named))
+fault_delivered text bytes e (inr (inl (m, none, named))) =
+    open_marker_delivers text true m ∙ outcome_is [] bytes (Refused (Armor InvalidBeginMarker)) (Refused e) (sym none) (ap (λ f. Refused f) (sym named))
+fault_delivered text bytes e (inr (inr (m, p))) =
+    marker_line_delivers text m.first m.rest true m.size m.whole m.marker ∙ bad_line_delivered false m.rest bytes e p
 
--- good lines that hold the bytes, and then the fault
-record FaultIn (s : Bool) (text bytes : List ℕ) (e : Error) : Type 0 where
-  pieces : List (List ℕ)
-  held : bytes ≡ concat pieces
-  fault : ArmoredReadError
-  after : IsFaultAfter s pieces text fault
-  named : e ≡ Armor fault
+-- ---- what delivers a refusal has that first fault
 
 garbage_named : (t : List ℕ) (e : Error) → trailing t true ≡ Refused e → e ≡ Armor TrailingGarbage
 garbage_named [] e p = refused_clean e (sym p)
@@ -121,8 +116,8 @@ garbage_named (b ∷ t) e p = elim (cases_Bool (is_space b)) [
 ]
 
 fault_at : (v : LineVerdict) (s : Bool) (raw rest : List ℕ) (next : Outcome) (e : Error) → IsFirstLine (raw ++ rest) raw rest → IsLineVerdict s raw v →
-    (next.ending ≡ Refused e → FaultIn (is_short (line_columns raw)) rest next.bytes e) →
-    (after_line v next (trailing rest true)).ending ≡ Refused e → FaultIn s (raw ++ rest) (after_line v next (trailing rest true)).bytes e
+    (next.ending ≡ Refused e → HasBadLine (is_short (line_columns raw)) rest next.bytes e) →
+    (after_line v next (trailing rest true)).ending ≡ Refused e → HasBadLine s (raw ++ rest) (after_line v next (trailing rest true)).bytes e
 fault_at (Refuses f) s raw rest next e line h ih p = record {
   pieces = [];
   held = refl;
@@ -147,11 +142,7 @@ fault_at (Holds b) s raw rest next e line h ih p =
       named = found.named;
     }
 
-raw_line : (raw : List ℕ) (more : List (List ℕ)) → AreRaw (raw ∷ more) → IsFirstLine (raw ++ concat more) raw (concat more) × AreRaw more
-raw_line raw more (inl (k, a)) = (record { whole = refl; stops = inl k }, a)
-raw_line raw more (inr (lacks, over)) = (record { whole = refl; stops = inr (lacks, ap concat over) }, subst AreRaw (sym over) tt)
-
-section_faults : (ls : List (List ℕ)) → AreRaw ls → (s : Bool) (e : Error) → (section s ls true).ending ≡ Refused e → FaultIn s (concat ls) (section s ls true).bytes e
+section_faults : (ls : List (List ℕ)) → AreRaw ls → (s : Bool) (e : Error) → (section s ls true).ending ≡ Refused e → HasBadLine s (concat ls) (section s ls true).bytes e
 section_faults [] a s e p = record {
   pieces = [];
   held = refl;
@@ -164,41 +155,23 @@ section_faults (raw ∷ more) a s e p =
     fault_at (verdict s raw) s raw (concat more) (section (is_short (line_columns raw)) more true) e line (one_verdict s raw)
     (section_faults more others (is_short (line_columns raw)) e) p
 
-line_faults : (text : List ℕ) (s : Bool) (e : Error) → (section s (raw_lines text) true).ending ≡ Refused e → FaultIn s text (section s (raw_lines text) true).bytes e
+line_faults : (text : List ℕ) (s : Bool) (e : Error) → (section s (raw_lines text) true).ending ≡ Refused e → HasBadLine s text (section s (raw_lines text) true).bytes e
 line_faults text s e p =
-    subst (λ t. FaultIn s t (section s (raw_lines text) true).bytes e) (concat_raw text) (section_faults (raw_lines text) (are_raw text) s e p)
+    subst (λ t. HasBadLine s t (section s (raw_lines text) true).bytes e) (concat_raw text) (section_faults (raw_lines text) (are_raw text) s e p)
 
 pub refused_faulty : (text : List ℕ) (e : Error) → (delivered text true).ending ≡ Refused e → IsFirstFault text (delivered text true).bytes e
 refused_faulty text e p = elim (shape_of text) [
   | inl short ↦
       let is = early_delivers text true short in
-      inl (record { short = short; none = ap (λ o. o.bytes) is; named = refused_same e UnexpectedEof (sym p ∙ ap (λ o. o.ending) is) })
+      inl (short, ap (λ o. o.bytes) is, refused_same e UnexpectedEof (sym p ∙ ap (λ o. o.ending) is))
   | inr (inl plain) ↦ refused_clean e (sym p ∙ ap (λ o. o.ending) (plain_delivers text true plain.size plain.plain))
   | inr (inr (inl m)) ↦
       let is = open_marker_delivers text true m in
-      inr (inl (record {
-        size = m.size;
-        after = m.after;
-        marker = m.marker;
-        unended = m.unended;
-        none = ap (λ o. o.bytes) is;
-        named = refused_same e (Armor InvalidBeginMarker) (sym p ∙ ap (λ o. o.ending) is);
-      }))
+      inr (inl (m, ap (λ o. o.bytes) is, refused_same e (Armor InvalidBeginMarker) (sym p ∙ ap (λ o. o.ending) is)))
   | inr (inr (inr m)) ↦
       let is = marker_line_delivers text m.first m.rest true m.size m.whole m.marker in
       let found = line_faults m.rest false e (sym (ap (λ o. o.ending) is) ∙ p) in
-      inr (inr (record {
-        size = m.size;
-        first = m.first;
-        rest = m.rest;
-        whole = m.whole;
-        marker = m.marker;
-        pieces = found.pieces;
-        held = ap (λ o. o.bytes) is ∙ found.held;
-        fault = found.fault;
-        after = found.after;
-        named = found.named;
-      }))
+      inr (inr (m, subst (λ bytes. HasBadLine false m.rest bytes e) (sym (ap (λ o. o.bytes) is)) found))
 ]
 
 -- ---- a text that ends well never ends by the fault of its reader

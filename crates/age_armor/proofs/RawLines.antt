@@ -16,6 +16,7 @@ use Rattle.age_base64.specs.Base64.{padded_columns, symbols}
 use Rattle.age_armor.specs.Armor.{armor_lines, IsEndedLine}
 use Rattle.age_armor.specs.LineVerdict.{last_is, but_last, without_last, line_columns, is_short}
 use Rattle.age_armor.specs.Delivered.{raw_lines, push_front}
+use Rattle.age_armor.specs.FirstFault.{IsFirstLine}
 use Rattle.age_base64.proofs.Lines.{Lacks-append, Lacks_left}
 use Rattle.age_armor.proofs.ArmorLines.{armor_lines_short, armor_lines_long}
 use Rattle.age_base64.proofs.PaddedColumns.{Lacks_equals, length-padded_columns, padded_columns-append, padded_columns-nil}
@@ -113,6 +114,11 @@ are_raw (c ∷ text) = elim (cases_Bool (c == 10)) [
   | inl e ↦ rw e (inl (([], ap (λ x. x ∷ []) (eqb-true c 10 e), tt), are_raw text))
   | inr e ↦ rw e (raw_push c (raw_lines text) (eqb-false c 10 e) (are_raw text))
 ]
+
+-- such a line is the first line of the text that it begins
+pub raw_line : (raw : List ℕ) (more : List (List ℕ)) → AreRaw (raw ∷ more) → IsFirstLine (raw ++ concat more) raw (concat more) × AreRaw more
+raw_line raw more (inl (k, a)) = (record { whole = refl; stops = inl k }, a)
+raw_line raw more (inr (lacks, over)) = (record { whole = refl; stops = inr (lacks, ap concat over) }, subst AreRaw (sym over) tt)
 
 -- ---- base64 with padding
 

@@ -19,6 +19,7 @@ use Rattle.age_base64.proofs.PaddedColumns.{IsAscii-padded_columns, Lacks_padded
 use Rattle.age_armor.specs.Armor.{armor_lines, begin_marker, end_marker, IsEndedLine, AreEndedLines, IsEnd, IsSpace, CarriesArmored, CarriesBinary, Carries}
 use Rattle.age_armor.specs.LineVerdict.{LineVerdict, Refuses, Ends, Holds, verdict, IsLineVerdict, IsFirst, IsClear, line_columns, is_short}
 use Rattle.age_armor.specs.Delivered.{Ending, Clean, Refused, InnerFault, Outcome, ends, prepend, at_end, raw_lines, is_space, trailing, after_line, section, after_marker, delivered}
+use Rattle.age_armor.specs.FirstFault.{HasOpenMarker, HasMarkerLine}
 
 -- ---- beginnings
 
@@ -37,21 +38,6 @@ after_ending k first rest e (inl h) = inl (append_cancel_left begin_marker k (10
 after_ending k first rest e (inr h) = inr (append_cancel_left begin_marker k (13 ∷ 10 ∷ rest) (e ∙ ap (λ f. f ++ rest) h ∙ append_assoc begin_marker (13 ∷ 10 ∷ []) rest))
 
 -- ---- the shapes
-
--- the begin marker's line at the front
-pub record HasMarkerLine (text : List ℕ) : Type 0 where
-  pub size : 36 ≤ length text
-  pub first : List ℕ
-  pub rest : List ℕ
-  pub whole : text ≡ first ++ rest
-  pub marker : IsEndedLine begin_marker first
-
--- the begin marker at the front, with no line ending after it
-pub record HasOpenMarker (text : List ℕ) : Type 0 where
-  pub size : 36 ≤ length text
-  pub after : List ℕ
-  pub marker : text ≡ begin_marker ++ after
-  pub unended : (first rest : List ℕ) → text ≡ first ++ rest → IsEndedLine begin_marker first → ⊥
 
 -- each text has one of four shapes
 abbrev pub Shape : List ℕ → Type 0

@@ -14,46 +14,42 @@ pub record IsFirstLine (text raw rest : List ℕ) : Type 0 where
   pub whole : text ≡ raw ++ rest
   pub stops : ((columns : List ℕ) × (raw ≡ line columns) × Lacks 10 columns) ⊎ (Lacks 10 raw × (rest ≡ []))
 
--- the first line is at fault, or it is the end marker and not white space alone follows
-abbrev pub IsFaultAtFront : Bool → List ℕ → ArmoredReadError → Type 0
-IsFaultAtFront after_short text e = (raw : List ℕ) × (rest : List ℕ) × IsFirstLine text raw rest
-    × (IsLineVerdict after_short raw (Refuses e)
-    ⊎ (IsLineVerdict after_short raw Ends × (AllByRecursion IsSpace rest → ⊥) × (e ≡ TrailingGarbage)))
+-- the line is at fault, or it is the end marker and not white space alone follows
+abbrev pub IsFaultAt : Bool → List ℕ → List ℕ → ArmoredReadError → Type 0
+IsFaultAt after_short raw rest e = IsLineVerdict after_short raw (Refuses e)
+    ⊎ (IsLineVerdict after_short raw Ends × (AllByRecursion IsSpace rest → ⊥) × (e ≡ TrailingGarbage))
 
 -- first good lines, which hold these pieces, and then the fault
 abbrev pub IsFaultAfter : Bool → List (List ℕ) → List ℕ → ArmoredReadError → Type 0
-IsFaultAfter after_short [] text e = IsFaultAtFront after_short text e
+IsFaultAfter after_short [] text e = (raw : List ℕ) × (rest : List ℕ) × IsFirstLine text raw rest × IsFaultAt after_short raw rest e
 IsFaultAfter after_short (piece ∷ pieces) text e = (raw : List ℕ) × (rest : List ℕ) × IsFirstLine text raw rest
     × IsLineVerdict after_short raw (Holds piece) × IsFaultAfter (is_short (line_columns raw)) pieces rest e
 
--- fewer bytes than the begin marker, its line ending and one more take
-pub record EndsEarly (text bytes : List ℕ) (e : Error) : Type 0 where
-  pub short : length text < 36
-  pub none : bytes ≡ []
-  pub named : e ≡ UnexpectedEof
+-- good lines hold the bytes, and the line after them is at fault; after_short says whether a short line came before them
+pub record HasBadLine (after_short : Bool) (text bytes : List ℕ) (e : Error) : Type 0 where
+  pub pieces : List (List ℕ)
+  pub held : bytes ≡ concat pieces
+  pub fault : ArmoredReadError
+  pub after : IsFaultAfter after_short pieces text fault
+  pub named : e ≡ Armor fault
 
--- the begin marker with neither LF nor CRLF after it
-pub record HasBadMarker (text bytes : List ℕ) (e : Error) : Type 0 where
+-- the text is long enough to be looked at, and begins with the begin marker and neither LF nor CRLF after it
+pub record HasOpenMarker (text : List ℕ) : Type 0 where
   pub size : 36 ≤ length text
   pub after : List ℕ
   pub marker : text ≡ begin_marker ++ after
   pub unended : (first rest : List ℕ) → text ≡ first ++ rest → IsEndedLine begin_marker first → ⊥
-  pub none : bytes ≡ []
-  pub named : e ≡ Armor InvalidBeginMarker
 
--- the begin marker's line, good lines that hold the bytes, and then a fault
-pub record HasBadLine (text bytes : List ℕ) (e : Error) : Type 0 where
+-- it is long enough, and begins with the begin marker's line
+pub record HasMarkerLine (text : List ℕ) : Type 0 where
   pub size : 36 ≤ length text
   pub first : List ℕ
   pub rest : List ℕ
   pub whole : text ≡ first ++ rest
   pub marker : IsEndedLine begin_marker first
-  pub pieces : List (List ℕ)
-  pub held : bytes ≡ concat pieces
-  pub fault : ArmoredReadError
-  pub after : IsFaultAfter false pieces rest fault
-  pub named : e ≡ Armor fault
 
 -- e is the first fault of the text, and the good lines before it hold these bytes
 abbrev pub IsFirstFault : List ℕ → List ℕ → Error → Type 0
-IsFirstFault text bytes e = EndsEarly text bytes e ⊎ HasBadMarker text bytes e ⊎ HasBadLine text bytes e
+IsFirstFault text bytes e = ((length text < 36) × (bytes ≡ []) × (e ≡ UnexpectedEof))
+    ⊎ (HasOpenMarker text × (bytes ≡ []) × (e ≡ Armor InvalidBeginMarker))
+    ⊎ ((marked : HasMarkerLine text) × HasBadLine false marked.rest bytes e)
