@@ -1,15 +1,10 @@
 -- A text carries at most one list of bytes, and its armor carries it.
-use Rattle.std.proofs.Common.{◌≡◌, ℕ, suc, zero, ◌/◌, ◌<◌, ◌⊎◌, inl, inr, List, [], ◌∷◌, ◌++◌, length, take, drop, replicate, refl, ap, sym, arith, append_assoc, subst, ◌∙◌, Result, Ok}
+use Rattle.std.proofs.Common.{◌≡◌, ℕ, suc, zero, ◌/◌, ◌⊎◌, inl, inr, List, [], ◌∷◌, ◌++◌, length, take, drop, refl, ap, sym, arith, append_assoc, subst, ◌∙◌}
 use Rattle.std.proofs.lemmas.List.{append-nil, take-append-drop}
 use Rattle.std.specs.List.{AllByRecursion, flat_map, concat}
-use Rattle.base64.specs.GeneralPurpose.{decode_of, encode_of}
-use Rattle.base64.specs.Engines.{standard}
-use Rattle.base64.specs.declared.decode.DecodeError.{DecodeError}
-use Rattle.base64.proofs.EngineFacts.{decode_of-encode_of}
-use Rattle.base64.specs.Rfc4648.{encode_symbols, padding_len}
 use Rattle.age_error.specs.Bytes.{AreBytes}
 use Rattle.age_base64.specs.Lines.{line, Lacks, pieces_and_rest}
-use Rattle.age_base64.specs.Base64.{padded_columns, symbols}
+use Rattle.age_base64.specs.Base64.{padded_columns}
 use Rattle.age_armor.specs.Armor.{armor_lines, armor, begin_marker, end_marker, IsEndedLine, AreEndedLines, IsEnd, CarriesArmored, CarriesBinary, Carries}
 use Rattle.age_base64.proofs.Lines.{split_at, Lacks-append, Lacks_left, Lacks_right, lacks_tested}
 use Rattle.age_base64.proofs.PaddedColumns.{Lacks_padded_columns, Lacks_hyphen, padded_columns_same}

@@ -1,24 +1,19 @@
 -- What is delivered with a clean end is carried.
-use Rattle.std.proofs.Common.{◌≡◌, ◌≢◌, ℕ, suc, zero, ◌+◌, ◌^◌, ◌<◌, ◌≤◌, ◌==◌, ◌⊎◌, inl, inr, Bool, true, false, List, [], ◌∷◌, ◌++◌, length, take, drop, refl, ap, sym, subst, arith, ◌∙◌, if◌then◌else◌, ◌&&◌, ◌||◌, nat_lt, nat_eq, append_assoc}
-use Rattle.std.specs.List.{AllByRecursion, concat, list_all, starts_with}
-use Rattle.std.specs.Str.{IsAscii}
-use Rattle.std.specs.Cmp.Lexicographic.{bytes_decides}
-use Rattle.std.proofs.lemmas.Bool.{true≢false, cases_Bool, cases_lt, and_parts, or_cases, eqb-true, ltb-true, ltb-false, lt-ltb, le-ltb}
-use Rattle.std.proofs.lemmas.List.{append-nil, append_cancel_left, length-append, take_at, drop_at, take-append-drop, length-take, length-drop, nil_from_length}
-use Rattle.std.proofs.lemmas.List.Elements.{All-nil, All-append, All-take, All-drop}
-use Rattle.std.proofs.lemmas.Str.{IsUtf8-from_ascii, IsAscii-append}
+use Rattle.std.proofs.Common.{◌≡◌, ℕ, ◌+◌, ◌^◌, ◌<◌, ◌≤◌, ◌==◌, inl, inr, Bool, true, false, List, [], ◌∷◌, ◌++◌, length, refl, ap, sym, subst, arith, ◌∙◌, ◌||◌, append_assoc}
+use Rattle.std.specs.List.{AllByRecursion, concat}
+use Rattle.std.proofs.lemmas.Bool.{true≢false, cases_Bool, or_cases, eqb-true}
+use Rattle.std.proofs.lemmas.List.{append-nil, length-append}
+use Rattle.std.proofs.lemmas.List.Elements.{All-nil, All-append}
 use Rattle.age_error.specs.Bytes.{AreBytes}
 use Rattle.age_error.specs.declared.io.Error.{Error}
 use Rattle.age_error.specs.declared.io.Error.TheVariants.{Armor, UnexpectedEof}
-use Rattle.age_error.specs.declared.io.ArmoredReadError.{ArmoredReadError}
-use Rattle.age_error.specs.declared.io.ArmoredReadError.TheVariants.{InvalidBeginMarker, NotWrappedAt64Chars, TrailingGarbage}
-use Rattle.age_base64.specs.Lines.{line, Lacks}
+use Rattle.age_error.specs.declared.io.ArmoredReadError.TheVariants.{InvalidBeginMarker, NotWrappedAt64Chars}
+use Rattle.age_base64.specs.Lines.{line}
 use Rattle.age_base64.specs.Base64.{padded_columns}
-use Rattle.age_base64.proofs.Lines.{lacks_tested}
-use Rattle.age_base64.proofs.PaddedColumns.{IsAscii-padded_columns, Lacks_padded_columns, Lacks_hyphen, length-padded_columns}
-use Rattle.age_armor.specs.Armor.{armor_lines, begin_marker, end_marker, IsEndedLine, AreEndedLines, IsEnd, IsSpace, CarriesArmored, CarriesBinary, Carries}
-use Rattle.age_armor.specs.LineVerdict.{LineVerdict, Refuses, Ends, Holds, verdict, IsLineVerdict, IsFirst, IsClear, line_columns, is_short}
-use Rattle.age_armor.specs.Delivered.{Ending, Clean, Refused, InnerFault, Outcome, ends, prepend, at_end, raw_lines, is_space, trailing, after_line, section, after_marker, delivered}
+use Rattle.age_base64.proofs.PaddedColumns.{length-padded_columns}
+use Rattle.age_armor.specs.Armor.{armor_lines, end_marker, IsEndedLine, AreEndedLines, IsEnd, IsSpace, Carries}
+use Rattle.age_armor.specs.LineVerdict.{LineVerdict, Refuses, Ends, Holds, verdict, IsLineVerdict, line_columns, is_short}
+use Rattle.age_armor.specs.Delivered.{Ending, Clean, Refused, Outcome, raw_lines, is_space, trailing, after_line, section, delivered}
 use Rattle.age_armor.proofs.Verdicts.{one_verdict}
 use Rattle.age_armor.proofs.RawLines.{AreRaw, are_raw, raw_line, concat_raw, columns_none, ended_back, lines_nil, lines_one, lines_more, not_short_full}
 use Rattle.age_armor.specs.FirstFault.{IsFirstLine, HasMarkerLine}

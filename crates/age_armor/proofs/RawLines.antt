@@ -1,23 +1,16 @@
 -- The lines of a text and their columns.
-use Rattle.std.proofs.Common.{◌≡◌, ◌≢◌, ℕ, suc, zero, ◌+◌, ◌*◌, ◌%◌, ◌/◌, ◌<◌, ◌≤◌, ◌==◌, ◌⊎◌, inl, inr, Bool, true, false, List, [], ◌∷◌, ◌++◌, length, take, drop, replicate, refl, ap, sym, subst, arith, ◌∙◌, if◌then◌else◌, ◌&&◌, ◌||◌, not, nat_lt, nat_le, append_assoc}
-use Rattle.std.specs.Prelude.{slice_index}
-use Rattle.std.specs.List.{AllByRecursion, concat, list_all}
-use Rattle.std.specs.Str.{IsUtf8, IsAscii}
-use Rattle.std.proofs.lemmas.Bool.{true≢false, cases_Bool, and_parts, or_parts, eqb-true, eqb-false, eq-eqb, ne_eqb, ltb-true, ltb-false, le-ltb, not-true}
-use Rattle.std.proofs.lemmas.List.{append-nil, length-append, length-replicate, take_at, drop_at, nil_from_length}
-use Rattle.base64.specs.Rfc4648.{encode_symbols, padding_len, unpadded_len}
-use Rattle.base64.specs.Tables.{all_below}
-use Rattle.base64.proofs.Tables.{all_below_at}
-use Rattle.base64.proofs.EngineFacts.{encode-append}
-use Rattle.base64.proofs.RoundTrip.{length-encode_symbols}
+use Rattle.std.proofs.Common.{◌≡◌, ◌≢◌, ℕ, suc, zero, ◌<◌, ◌≤◌, ◌==◌, ◌⊎◌, inl, inr, true, false, List, [], ◌∷◌, ◌++◌, length, replicate, refl, ap, sym, subst, arith, ◌∙◌, append_assoc}
+use Rattle.std.specs.List.{concat}
+use Rattle.std.proofs.lemmas.Bool.{true≢false, cases_Bool, or_parts, eqb-true, eqb-false, eq-eqb, ne_eqb, ltb-false, le-ltb}
+use Rattle.std.proofs.lemmas.List.{append-nil, length-append, take_at, drop_at}
+use Rattle.base64.specs.Rfc4648.{encode_symbols, padding_len}
 use Rattle.age_error.specs.Bytes.{AreBytes}
-use Rattle.age_base64.specs.Lines.{line, Lacks}
+use Rattle.age_base64.specs.Lines.{Lacks}
 use Rattle.age_base64.specs.Base64.{padded_columns, symbols}
 use Rattle.age_armor.specs.Armor.{armor_lines, IsEndedLine}
 use Rattle.age_armor.specs.LineVerdict.{last_is, but_last, without_last, line_columns, is_short}
 use Rattle.age_armor.specs.Delivered.{raw_lines, push_front}
 use Rattle.age_armor.specs.FirstFault.{IsFirstLine}
-use Rattle.age_base64.proofs.Lines.{Lacks-append, Lacks_left}
 use Rattle.age_armor.proofs.ArmorLines.{armor_lines_short, armor_lines_long}
 use Rattle.age_base64.proofs.PaddedColumns.{Lacks_equals, length-padded_columns, padded_columns-append, padded_columns-nil}
 

@@ -1,21 +1,12 @@
 -- Each line has exactly one verdict.
-use Rattle.std.proofs.Common.{◌≡◌, ◌≢◌, ℕ, suc, zero, ◌%◌, ◌^◌, ◌<◌, ◌≤◌, ◌==◌, ◌⊎◌, inl, inr, Bool, true, false, List, [], ◌∷◌, ◌++◌, length, refl, ap, sym, subst, arith, ◌∙◌, Option, Some, None, Result, Ok, if◌then◌else◌, cond, ◌&&◌, ◌||◌, not, nat_lt, nat_eq}
-use Rattle.std.specs.Prelude.{slice_index}
+use Rattle.std.proofs.Common.{◌≡◌, ◌≢◌, ℕ, ◌%◌, ◌^◌, ◌<◌, ◌≤◌, ◌==◌, ◌⊎◌, inl, inr, Bool, true, false, List, [], ◌∷◌, length, refl, ap, sym, subst, arith, ◌∙◌, Option, Some, None, if◌then◌else◌, ◌&&◌, ◌||◌, nat_lt}
 use Rattle.std.specs.List.{list_any, list_all}
 use Rattle.std.specs.Str.{IsUtf8, is_utf8, bytes_eq}
 use Rattle.std.specs.Cmp.Lexicographic.{bytes_decides}
-use Rattle.std.proofs.lemmas.Bool.{true≢false, cases_Bool, and_parts, and_from, or_cases, or_parts, or_from, eqb-true, eqb-false, eq-eqb, ne_eqb, ltb-true, ltb-false, lt-ltb, le-ltb, false_from_ne_true, not_from_true, not_from_false, or_left, or_right}
+use Rattle.std.proofs.lemmas.Bool.{true≢false, cases_Bool, and_parts, and_from, or_cases, or_parts, or_from, eqb-true, eqb-false, eq-eqb, ne_eqb, ltb-true, ltb-false, lt-ltb, le-ltb, false_from_ne_true, or_right}
 use Rattle.std.proofs.lemmas.Str.{IsUtf8-from_is_utf8, is_utf8-from_IsUtf8}
-use Rattle.base64.specs.GeneralPurpose.{decode_of, decoded_of, encode_of}
+use Rattle.base64.specs.GeneralPurpose.{decoded_of}
 use Rattle.base64.specs.Engines.{standard}
-use Rattle.base64.specs.declared.decode.DecodeError.{DecodeError}
-use Rattle.base64.proofs.EngineFacts.{decode_of-encode_of}
-use Rattle.std.proofs.lemmas.List.{length-append, length-replicate}
-use Rattle.base64.proofs.RoundTrip.{length-encode_symbols}
-use Rattle.base64.specs.Rfc4648.{encode_symbols, padding_len, unpadded_len}
-use Rattle.age_base64.specs.Base64.{symbols}
-use Rattle.std.specs.Prelude.{◌+◌, replicate}
-use Rattle.age_error.specs.declared.io.ArmoredReadError.{ArmoredReadError}
 use Rattle.age_error.specs.declared.io.ArmoredReadError.TheVariants.{Base64, InvalidBeginMarker, InvalidUtf8, LineContainsCr, MissingPadding, NotWrappedAt64Chars, ShortLineInMiddle, TrailingGarbage}
 use Rattle.age_error.specs.Bytes.{AreBytes}
 use Rattle.age_base64.specs.Lines.{Lacks}

@@ -1,3 +1,4 @@
 pub mod Appending
 pub mod Delivering
 pub mod Retrying
+pub mod Holding

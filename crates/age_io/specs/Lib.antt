@@ -4,3 +4,8 @@ pub mod Writing
 pub mod Slices
 pub mod Standard
 pub mod StandardFaults
+pub mod Filling
+pub mod Buffering
+pub mod Buffered
+pub mod Behind
+pub mod Failing

@@ -8,6 +8,7 @@ ghost use Rattle.age_io.specs.Stretch.{Stretch, whole, from_place};
 ghost use Rattle.age_io.specs.Reading.{Reads};
 ghost use Rattle.age_io.specs.Writing.{Writes, Flushes};
 
+use crate::bufread::BufRead;
 use crate::traits::{Read, Write};
 use age_error::io::Error;
 
@@ -73,6 +74,21 @@ impl<'a> Read for Bytes<'a> {
         buf[..count].copy_from_slice(&self.bytes[self.place..self.place + count]);
         self.place += count;
         Ok(count)
+    }
+}
+
+impl<'a> BufRead for Bytes<'a> {
+    ghost use Rattle.age_io.specs.Slices.{bytes_of, place_of};
+
+    ghost shown = { λ r. drop (place_of r) (bytes_of r) };
+
+    /// Shows the whole rest. It never refuses.
+    fn fill_buf(&mut self) -> Result<&[u8], Error> {
+        Ok(&self.bytes[self.place..])
+    }
+
+    fn consume(&mut self, amount: usize) {
+        self.place += amount;
     }
 }
 

@@ -1,0 +1,229 @@
+//! A reader with a buffer.
+ghost use Rattle.std.specs.Prelude.{◌≡◌, ℕ, ◌+◌, ◌-◌, ◌≤◌, ◌<◌, ◌&&◌, Bool, true, false, IsTrue, List, length, take, min, Ok, Err, IfOk, IfErr, OnOk, OnErr, IsErrAnd, ◌≢◌};
+ghost use Rattle.std.specs.Io.BufRead.{Rests};
+ghost use types.Logic.{sem};
+ghost use denote.Follow.{follows};
+ghost use Rattle.std.proofs.Common.{arith};
+ghost use Rattle.age_error.specs.Refusals.{IsDevice, IsInterruption};
+ghost use Rattle.age_error.specs.declared.io.Error.TheVariants.{OutOfMemory, Failed};
+ghost use Rattle.age_io.specs.Stretch.{IsCleanEnd, IsFault, from_place};
+ghost use Rattle.age_io.specs.Reading.{Reads, IsQuiet, Delivers, most_faults};
+ghost use Rattle.age_io.specs.Failing.{FailsForGood};
+ghost use Rattle.age_io.specs.Filling.{IsFront, Fills, Consumes};
+ghost use Rattle.age_io.specs.Buffering.{held, rest_behind};
+ghost use Rattle.age_io.specs.Behind.{stands_behind, spent_behind};
+
+use crate::bufread::BufRead;
+use crate::traits::Read;
+use crate::whole::{read_retrying, room_for};
+use age_error::io::Error;
+use std::alloc::Global;
+
+// How many bytes it reads ahead at most.
+const ROOM: usize = 8_192;
+
+/// Reads ahead from an inner reader, and shows what it holds.
+///
+/// Its content is that of the inner reader, and it begins where the inner reader stood when it was made. Once a read
+/// of the inner reader has refused, this reader has failed and answers `Failed` to every read.
+#[derive(Drop)]
+pub struct BufReader<R: Read> {
+    inner: R,
+    // The bytes from `given` to `filled` were read and not given yet.
+    buffer: Vec<u8>,
+    given: usize,
+    filled: usize,
+    failed: bool,
+    ghost order: { given ≤ filled },
+    ghost within: { filled ≤ length buffer.items },
+    ghost room: { 0 < length buffer.items },
+    ghost unspent: { failed ≡ false → given < filled → R.faults inner < most_faults },
+    ghost fits: { IsTrue (R.tells inner) → filled - given ≤ R.place inner },
+    ghost follows: { IsTrue (R.tells inner) → IsTrue (R.steady inner) → failed ≡ false → given < filled →
+        rest_behind false (held buffer.items given filled) (R.rest inner)
+        ≡ from_place (R.place inner - (filled - given)) (R.content inner) },
+}
+
+impl<R: Read> Read for BufReader<R> {
+    ghost use Rattle.age_io.specs.Buffered.{inner_of, has_failed, place_of, rest_of};
+
+    ghost tells = { λ r. R.tells (inner_of r) };
+
+    ghost steady = { λ r. R.steady (inner_of r) };
+
+    ghost content = { λ r. R.content (inner_of r) };
+
+    ghost place = { λ r. place_of r };
+
+    ghost rest = { λ r. rest_of r };
+
+    ghost faults = { λ r. R.faults (inner_of r) };
+
+    ghost faults_fit = { λ r. R.faults_fit r.inner };
+
+    ghost spent = { λ r told is. spent_behind (R.rest r.inner) (R.faults r.inner) r.buffer.items r.given r.filled r.failed
+        r.within r.unspent is (R.spent r.inner told is) };
+
+    ghost well = { λ r. R.well r.inner };
+
+    ghost stands = { λ r told steady. stands_behind (R.content r.inner) (R.rest r.inner) (R.place r.inner)
+        r.buffer.items r.given r.filled r.failed r.within r.order (R.stands r.inner told steady) (r.follows told steady) };
+
+    ghost are_bytes = { λ r. R.are_bytes r.inner };
+
+    ghost short = { λ r. R.short r.inner };
+
+    ghost place_fits = { λ r told. Prim.omega (arith, R.place_fits r.inner told) };
+
+    /// Gives what is held, as far as `buf` takes it. Where nothing is held it first reads ahead, once, or, where `buf`
+    /// has more room than its own buffer, straight into `buf`.
+    ///
+    /// An empty buffer changes nothing. An interruption of the inner reader is tried again up to 16 times in a row; after
+    /// that the answer is `Device(Other)`. A refusal is that of the inner reader, and leaves this one failed; what `buf`
+    /// holds then isn't said. A failed reader answers `Failed`, also into an empty buffer.
+    fn read(&mut self, buf: &mut [u8]) -> Result<usize, Error>
+        ensures reads { let reader = ⟦<BufReader<R> as Read>⟧ in
+            Reads reader.tells reader.steady reader.content reader.place reader.rest reader.faults self.old self.new buf.new result }
+        ensures own { FailsForGood (has_failed self.old) (has_failed self.new) result }
+        ensures still { IsTrue (has_failed self.old) → self.new ≡ self.old }
+        ensures empty { has_failed self.old ≡ false → length buf.old ≡ 0 → (result ≡ Ok 0) × (self.new ≡ self.old) }
+    {
+        if self.failed {
+            return Err(Error::Failed);
+        }
+        if buf.is_empty() {
+            return Ok(0);
+        }
+        if self.given == self.filled && buf.len() >= self.buffer.len() {
+            return self.read_past(buf);
+        }
+        self.hold()?;
+        Ok(self.give(buf))
+    }
+}
+
+impl<R: Read> BufReader<R> {
+    ghost use Rattle.age_io.specs.Buffered.{inner_of, has_failed, place_of, rest_of, shown_of};
+
+    /// A reader of what the inner reader reads, from where that stands.
+    ///
+    /// It reads nothing yet. It takes memory for its buffer alone, and answers `OutOfMemory` where it is refused that.
+    pub fn new(alloc: Global, inner: R) -> Result<BufReader<R>, Error>
+    where
+        R: Drop,
+        ensures inner { IfOk result (λ r. inner_of r ≡ inner) }
+        ensures place { IfOk result (λ r. place_of r ≡ R.place inner) }
+        ensures rest { IfOk result (λ r. rest_of r ≡ R.rest inner) }
+        ensures good { IfOk result (λ r. has_failed r ≡ false) }
+        ensures memory { IfErr result (λ e. e ≡ OutOfMemory) }
+    {
+        let buffer = room_for(alloc, ROOM)?;
+        Ok(BufReader {
+            inner,
+            buffer,
+            given: 0,
+            filled: 0,
+            failed: false,
+        })
+    }
+
+    // One read of the inner reader past the buffer, which holds nothing.
+    fn read_past(&mut self, buf: &mut [u8]) -> Result<usize, Error>
+        requires good { self.old.failed ≡ false }
+        requires empty { self.old.given ≡ self.old.filled }
+        requires some { 0 < length buf.old }
+        ensures reads { let reader = ⟦<BufReader<R> as Read>⟧ in
+            Reads reader.tells reader.steady reader.content reader.place reader.rest reader.faults self.old self.new buf.new result }
+        ensures own { FailsForGood (has_failed self.old) (has_failed self.new) result }
+    {
+        self.failed = true;
+        let count = read_retrying(&mut self.inner, buf)?;
+        self.failed = false;
+        Ok(count)
+    }
+
+    // Reads ahead where nothing is held. After a success nothing is held at a clean end alone.
+    fn hold(&mut self) -> Result<(), Error>
+        requires { self.old.failed ≡ false }
+        ensures tells { R.tells self.new.inner ≡ R.tells self.old.inner }
+        ensures steady { R.steady self.new.inner ≡ R.steady self.old.inner }
+        ensures faults { R.faults self.old.inner ≤ R.faults self.new.inner }
+        ensures device { IfErr result (λ e. IsDevice e → R.faults self.old.inner < R.faults self.new.inner) }
+        ensures unspent { OnOk result (R.faults self.new.inner < most_faults) }
+        ensures good { OnOk result (self.new.failed ≡ false) }
+        ensures fails { OnErr result (self.new.failed ≡ true) }
+        ensures patient { IfErr result (λ e. IsInterruption e → ⊥) }
+        ensures content { IsTrue (R.tells self.old.inner) → R.content self.new.inner ≡ R.content self.old.inner }
+        ensures place { IsTrue (R.tells self.old.inner) → place_of self.new ≡ place_of self.old }
+        ensures rest { IsTrue (R.tells self.old.inner) → OnOk result (rest_of self.new ≡ rest_of self.old) }
+        ensures end { IsTrue (R.tells self.old.inner) → OnOk result
+            (self.new.given ≡ self.new.filled → IsCleanEnd (rest_of self.old)) }
+        ensures cause { IsTrue (R.tells self.old.inner) → IfErr result (λ e. e ≢ OutOfMemory →
+            IsQuiet (R.faults self.old.inner) (R.faults self.new.inner) → IsFault (rest_of self.old)) }
+    {
+        if self.given < self.filled {
+            return Ok(());
+        }
+        self.given = 0;
+        self.filled = 0;
+        match read_retrying(&mut self.inner, &mut self.buffer) {
+            Ok(count) => {
+                self.filled = count;
+                Ok(())
+            }
+            Err(e) => {
+                self.failed = true;
+                Err(e)
+            }
+        }
+    }
+
+    // What is held.
+    fn as_held(&self) -> &[u8]
+        ensures { result.now ≡ held self.now.buffer.items self.now.given self.now.filled }
+    {
+        &self.buffer[self.given..self.filled]
+    }
+
+    // Gives what is held, as far as `buf` takes it.
+    fn give(&mut self, buf: &mut [u8]) -> usize
+        requires { self.old.failed ≡ false }
+        ensures count { result ≡ min (length buf.old) (self.old.filled - self.old.given) }
+        ensures inner { self.new.inner ≡ self.old.inner }
+        ensures good { self.new.failed ≡ false }
+        ensures bytes { Delivers (take result buf.new) (rest_of self.old) (rest_of self.new) }
+        ensures moves { IsTrue (R.tells self.old.inner) → place_of self.new ≡ place_of self.old + result }
+    {
+        let count = buf.len().min(self.filled - self.given);
+        buf[..count].copy_from_slice(&self.buffer[self.given..self.given + count]);
+        self.given += count;
+        count
+    }
+}
+
+impl<R: Read> BufRead for BufReader<R> {
+    ghost use Rattle.age_io.specs.Buffered.{has_failed, shown_of};
+
+    ghost shown = { λ r. shown_of r };
+
+    ghost besides = { λ old new result. FailsForGood (has_failed old) (has_failed new) result };
+
+    /// Shows what is held. Where nothing is held it first reads ahead, once, and refuses as `read` does.
+    fn fill_buf(&mut self) -> Result<&[u8], Error> {
+        if self.failed {
+            return Err(Error::Failed);
+        }
+        self.hold()?;
+        Ok(self.as_held())
+    }
+
+    /// Drops the first `amount` bytes of what is held. It neither fails nor makes good again.
+    fn consume(&mut self, amount: usize)
+        requires { amount ≤ length (shown_of self.old) }
+        ensures consumes { let reader = ⟦<BufReader<R> as Read>⟧ in
+            Consumes reader.tells reader.steady reader.content reader.place reader.rest reader.faults (λ r. shown_of r) self.old self.new amount }
+        ensures failed { has_failed self.new ≡ has_failed self.old }
+    {
+        self.given += amount;
+    }
+}
