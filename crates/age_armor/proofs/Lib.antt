@@ -6,3 +6,7 @@ pub mod Shapes
 pub mod Delivering
 pub mod CleanEnds
 pub mod FirstFaults
+pub mod ArmorText
+pub mod Encoded
+pub mod WrittenLines
+pub mod Ending

@@ -1,6 +1,7 @@
 //! The theorems on armor that hold of the format itself. Each is a function that does nothing, with the theorem as its contract.
 
 ghost use Rattle.std.specs.Prelude.{◌≡◌, ◌++◌, ◌+◌, ◌*◌, ◌/◌, ◌⊎◌, List, ◌∷◌, length, ℕ, Bool, true};
+ghost use Rattle.std.specs.Str.{IsUtf8};
 ghost use Rattle.age_base64.specs.Base64.{padded_columns};
 ghost use Rattle.age_error.specs.Bytes.{AreBytes};
 ghost use Rattle.age_error.specs.declared.io.Error.{Error as Refusal};
@@ -31,6 +32,11 @@ pub fn armor_is_carrying()
 /// 48 bytes begun.
 pub fn armor_length()
     ensures { (bytes : List ℕ) → length (armor bytes) ≡ 68 + 4 * ((length bytes + 2) / 3) + (length bytes + 47) / 48 }
+{}
+
+/// Armor is a text: its bytes are UTF-8, all of them ASCII.
+pub fn armor_is_text()
+    ensures { (bytes : List ℕ) → IsUtf8 (armor bytes) }
 {}
 
 /// A text carries at most one list of bytes.

@@ -1,0 +1,73 @@
+-- The end of a text.
+use Rattle.std.proofs.Common.{◌≡◌, ℕ, ◌+◌, ◌*◌, ◌/◌, Bool, true, false, List, [], ◌++◌, length, drop, refl, ap, sym, subst, ◌∙◌, append_assoc, Result, Ok, Err, OnOk, IfOk, inl, inr}
+use Rattle.std.proofs.lemmas.Bool.{true≢false}
+use Rattle.std.specs.List.{flat_map}
+use Rattle.age_base64.specs.Lines.{line}
+use Rattle.age_base64.specs.Base64.{padded_columns}
+use Rattle.age_armor.specs.Armor.{armor, armor_lines, begin_marker, end_marker}
+use Rattle.age_armor.specs.declared.format.Format.{Format}
+use Rattle.age_armor.specs.declared.format.Format.TheVariants.{Binary, AsciiArmor}
+use Rattle.age_armor.specs.declared.writer.ArmoredWriter.{ArmoredWriter}
+use Rattle.age_armor.specs.FullLines.{full_lines}
+use Rattle.age_armor.specs.Writing.{Took, Takes, Appended, WasMade, Begins, text_of, in_armor}
+use Rattle.age_armor.proofs.WrittenLines.{lines_parts}
+
+-- what the end adds to full lines
+abbrev pub end_of : List ℕ → List ℕ
+end_of held = flat_map line (armor_lines (padded_columns held)) ++ line end_marker
+
+-- the begin marker, full lines and the end
+armor_parts : (bytes held : List ℕ) (n : ℕ) → n ≡ length bytes / 48 → held ≡ drop (48 * n) bytes →
+    (line begin_marker ++ full_lines n bytes) ++ end_of held ≡ armor bytes
+unfolding armor
+armor_parts bytes held n count is =
+    let rest : List ℕ = flat_map line (armor_lines (padded_columns (drop (48 * n) bytes))) in
+    ap (λ h. (line begin_marker ++ full_lines n bytes) ++ end_of h) is
+    ∙ append_assoc (line begin_marker) (full_lines n bytes) (rest ++ line end_marker)
+    ∙ ap (λ y. line begin_marker ++ y) (sym (append_assoc (full_lines n bytes) rest (line end_marker)))
+    ∙ ap (λ y. line begin_marker ++ (y ++ line end_marker)) (sym (lines_parts n bytes count))
+
+module _ {W : Type 0} (appended : W → List ℕ → W → Type 0)
+    (joins : (a b c : W) (x y : List ℕ) → appended a x b → appended b y c → appended a (x ++ y) c) where
+  armor_ended : (start writer : ArmoredWriter W) (bytes : List ℕ) (first inner : W) → start.held.items ≡ [] →
+      appended first (line begin_marker) start.inner → Took appended start bytes writer → appended writer.inner (end_of writer.held.items) inner →
+      appended first (armor bytes) inner
+  armor_ended start writer bytes first inner none begun took sent =
+      let all : start.held.items ++ bytes ≡ bytes = ap (λ (h : List ℕ). h ++ bytes) none in
+      let n = length bytes / 48 in
+      let held : writer.held.items ≡ drop (48 * n) bytes = rw all at took.held in
+      let front : appended start.inner (full_lines n bytes) writer.inner = rw all at took.sent in
+      let two = joins first start.inner writer.inner (line begin_marker) (full_lines n bytes) begun front in
+      let three = joins first writer.inner inner (line begin_marker ++ full_lines n bytes) (end_of writer.held.items) two sent in
+      subst (λ t. appended first t inner) (armor_parts bytes writer.held.items n refl held) three
+
+  armor_by_form : (start writer : ArmoredWriter W) (format : Format) (bytes : List ℕ) (first inner : W) → WasMade appended format first start →
+      in_armor format ≡ true → Takes appended (in_armor format) start bytes writer → appended writer.inner (end_of writer.held.items) inner →
+      appended first (text_of format bytes) inner
+  armor_by_form start writer Binary bytes first inner made form took sent = absurd (true≢false (sym form))
+  armor_by_form start writer AsciiArmor bytes first inner made form took sent =
+      armor_ended start writer bytes first inner made.none_held made.begins took sent
+
+  binary_by_form : (start writer : ArmoredWriter W) (format : Format) (bytes : List ℕ) (first : W) → WasMade appended format first start →
+      in_armor format ≡ false → Takes appended (in_armor format) start bytes writer → appended first (text_of format bytes) writer.inner
+  binary_by_form start writer Binary bytes first made form took = subst (λ w. appended w bytes writer.inner) made.begins took
+  binary_by_form start writer AsciiArmor bytes first made form took = absurd (true≢false form)
+
+  -- in armor the end makes the text whole
+  pub finishes_armor : (writer : ArmoredWriter W) (inner : W) → writer.failed ≡ false → writer.armored ≡ true →
+      appended writer.inner (end_of writer.held.items) inner →
+      (start : ArmoredWriter W) (format : Format) (bytes : List ℕ) (first : W) → WasMade appended format first start →
+      Appended appended start bytes writer → appended first (text_of format bytes) inner
+  finishes_armor writer inner good armored sent start format bytes first made (inl failed) = absurd (true≢false (sym failed ∙ good))
+  finishes_armor writer inner good armored sent start format bytes first made (inr taken) =
+      armor_by_form start writer format bytes first inner made (sym made.same_form ∙ sym taken.2 ∙ armored)
+      (subst (λ b. Takes appended b start bytes writer) made.same_form taken.3) sent
+
+  -- in binary it is whole
+  pub finishes_binary : (writer : ArmoredWriter W) → writer.failed ≡ false → writer.armored ≡ false →
+      (start : ArmoredWriter W) (format : Format) (bytes : List ℕ) (first : W) → WasMade appended format first start →
+      Appended appended start bytes writer → appended first (text_of format bytes) writer.inner
+  finishes_binary writer good plain start format bytes first made (inl failed) = absurd (true≢false (sym failed ∙ good))
+  finishes_binary writer good plain start format bytes first made (inr taken) =
+      binary_by_form start writer format bytes first made (sym made.same_form ∙ sym taken.2 ∙ plain)
+      (subst (λ b. Takes appended b start bytes writer) made.same_form taken.3)

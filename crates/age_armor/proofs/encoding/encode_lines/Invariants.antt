@@ -1,0 +1,6 @@
+use Rattle.std.proofs.Common.{◌≡◌, ◌*◌, take}
+use Rattle.age_armor.specs.FullLines.{full_lines}
+use Rattle.age_armor.proofs.encoding.encode_lines.Given as goal
+
+abbrev pub invariant-lines : goal.invariant-lines
+invariant-lines l = take (65 * l.number) l.text ≡ full_lines l.number l.bytes

@@ -1,0 +1,19 @@
+use Rattle.std.proofs.Common.{◌≡◌, ◌<◌, ◌∙◌, arith, rules, length, ap, sym, subst, ◌++◌}
+use Rattle.std.proofs.lemmas.Result.{on_ok_weaker}
+use Rattle.age_base64.specs.Lines.{line}
+use Rattle.age_base64.specs.Base64.{padded_columns}
+use Rattle.age_armor.specs.Armor.{end_marker}
+use Rattle.age_armor.proofs.WrittenLines.{last_line, no_line}
+use Rattle.age_armor.proofs.sending.write_end.Goals as goal
+
+pub returns-then-is_empty-clause-sent : goal.returns-then-is_empty-clause-sent
+returns-then-is_empty-clause-sent g c = λ told.
+    let none : length c.args.held.now ≡ 0 = search rules in
+    rw (no_line c.args.held.now none) (c.write_end_marker.ensures.sent told)
+
+pub returns-clause-sent : goal.returns-clause-sent
+returns-clause-sent g c = λ told.
+    let some : 0 < length c.args.held.now = grind arith in
+    rw (last_line c.args.held.now some c.requires)
+    (on_ok_weaker c.write_end_marker-2.result (g.met.W.Write.joins c.args.inner.now c.write_last_line.new.inner c.write_end_marker-2.new.inner (line (padded_columns c.args.held.now)) (line end_marker)
+    (c.in_ok-write_last_line.ensures.sent told)) (c.write_end_marker-2.ensures.sent (c.in_ok-write_last_line.ensures.keeps.same_tells ∙ told)))

@@ -1,0 +1,15 @@
+use Rattle.std.proofs.Common.{◌≡◌, ◌∙◌, ◌+◌, arith, length, ap, sym, subst, take, slice_set}
+use Rattle.std.proofs.lemmas.Result.{on_ok_weaker}
+use Rattle.age_base64.specs.Lines.{line}
+use Rattle.age_base64.specs.Base64.{padded_columns}
+use Rattle.age_base64.proofs.PaddedColumns.{length-padded_columns}
+use Rattle.age_armor.proofs.Encoded.{ended_line}
+use Rattle.age_armor.proofs.sending.write_last_line.Goals as goal
+
+pub returns-clause-sent : goal.returns-clause-sent
+returns-clause-sent g c = λ told.
+    let bytes = c.args.bytes.now in
+    let n = c.encode-columns.result in
+    let text : take (n + 1) (slice_set c.encode-columns.new.columns n 10) ≡ line (padded_columns bytes) =
+    ended_line (padded_columns bytes) _ c.encode-columns.new.columns n c.encode-columns.ensures.written (length-padded_columns bytes ∙ sym c.encode-columns.ensures.count) (omega (arith, c.encode-columns.ensures.count)) in
+    on_ok_weaker c.write_all.result (subst (λ z. g.W.Write.appended c.args.inner.now z c.write_all.new.writer) text) (c.write_all.ensures.writes.takes told)

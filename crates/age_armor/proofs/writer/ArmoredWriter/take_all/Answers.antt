@@ -1,0 +1,41 @@
+use Rattle.std.proofs.Common.{◌≡◌, ◌∙◌, arith, refl, length, length-drop}
+use Rattle.std.proofs.lemmas.List.{take_rest, take_all}
+use Rattle.std.proofs.Math.Seq.{take-add}
+use Rattle.age_armor.specs.WritingLaws.{Took-both, Took-nothing}
+use Rattle.age_armor.proofs.writer.ArmoredWriter.take_all.Goals as goal
+
+pub loop-done-init : goal.loop-done-init
+loop-done-init g c = record {
+  within = omega arith;
+  roomy = λ _. (omega arith, refl);
+  failed = refl;
+  same_form = refl;
+  same_tells = refl;
+  same_limited = refl;
+  no_fewer_faults = omega arith;
+  took = λ told. Took-nothing g.W.Write.appended c.args.self.now (omega (arith, c.args.self.now.part, c.args.self.now.held.ok.0))
+      (g.met.W.Write.appends_nothing c.args.self.now.inner);
+}
+
+pub loop-done-preserved : goal.loop-done-preserved
+loop-done-preserved g c =
+    let before = c.loop-done.invariant in
+    let now = c.in_ok-done.ensures in
+    let bytes = c.args.bytes.now in
+    record {
+      within = omega (arith, length-drop c.loop-done.done bytes, now.count.1);
+      roomy = λ room.
+          let first = before.roomy room in
+          let next = now.roomy (rw take_rest (omega (arith, first.0, length-drop c.loop-done.done bytes))) in
+          (omega (arith, first.0, next.0), next.1 ∙ first.1);
+      failed = now.failed ∙ before.failed;
+      same_form = now.same_form ∙ before.same_form;
+      same_tells = now.inner.same_tells ∙ before.same_tells;
+      same_limited = now.inner.same_limited ∙ before.same_limited;
+      no_fewer_faults = omega (arith, now.inner.no_fewer_faults);
+      took = λ told. rw (take-add c.loop-done.done c.in_ok-done.field-0 bytes)
+          (Took-both g.W.Write.appended g.met.W.Write.joins _ _ _ _ _ (before.took told) (rw (take_rest bytes c.loop-done.done) at (now.took (before.same_tells ∙ told))));
+    }
+
+pub returns-clause-took : goal.returns-clause-took
+returns-clause-took g c = λ told. rw (take_all c.loop-done.done c.args.bytes.now c.loop-done-test.false) at (c.loop-done.invariant.took told)

@@ -1,0 +1,85 @@
+-- What an `ArmoredWriter` has taken, and what it sent to its inner writer.
+use Rattle.std.specs.Prelude.{◌≡◌, ℕ, ◌*◌, ◌/◌, ◌≤◌, ◌<◌, ◌⊎◌, ◌≢◌, Bool, true, false, List, [], ◌++◌, length, drop, vec_len, Result, IfOk, IfErr}
+use Rattle.age_base64.specs.Lines.{line}
+use Rattle.age_error.specs.Refusals.{IsDevice, IsInterruption}
+use Rattle.age_error.specs.declared.io.Error.{Error}
+use Rattle.age_error.specs.declared.io.Error.TheVariants.{TooLong}
+use Rattle.age_armor.specs.Armor.{armor, begin_marker}
+use Rattle.age_armor.specs.declared.format.Format.{Format}
+use Rattle.age_armor.specs.declared.format.Format.TheVariants.{Binary, AsciiArmor}
+use Rattle.age_armor.specs.FullLines.{full_lines}
+use Rattle.age_armor.specs.declared.writer.ArmoredWriter.{ArmoredWriter}
+
+abbrev pub in_armor : Format → Bool
+in_armor Binary = false
+in_armor AsciiArmor = true
+
+-- the text in this form that carries the bytes
+abbrev pub text_of : Format → List ℕ → List ℕ
+text_of Binary bytes = bytes
+text_of AsciiArmor bytes = armor bytes
+
+-- it writes armor, and not the bytes themselves
+abbrev pub is_armored : {W : Type 0} → ArmoredWriter W → Bool
+is_armored writer = writer.armored
+
+-- it refused earlier; in binary it never does
+abbrev pub IsFailed : {W : Type 0} → ArmoredWriter W → Type 0
+IsFailed writer = writer.failed ≡ true
+
+-- it did not
+abbrev pub IsGood : {W : Type 0} → ArmoredWriter W → Type 0
+IsGood writer = writer.failed ≡ false
+
+-- the writer that the text goes to
+abbrev pub inner_of : {W : Type 0} → ArmoredWriter W → W
+inner_of writer = writer.inner
+
+-- how many bytes are held, since they don't fill a line yet
+abbrev pub held_len : {W : Type 0} → ArmoredWriter W → ℕ
+held_len writer = vec_len writer.held
+
+-- what writes do to an inner writer, whatever bytes they are; an interruption is none of their refusals
+pub record KeepsInner {W T : Type 0} (tells limited : W → Bool) (faults : W → ℕ) (old new : W) (result : Result T Error) : Type 0 where
+  pub same_tells : tells new ≡ tells old
+  pub same_limited : limited new ≡ limited old
+  pub no_fewer_faults : faults old ≤ faults new
+  pub device : IfErr result (λ e. IsDevice e → faults old < faults new)
+  pub unlimited : limited old ≡ false → IfErr result (λ e. e ≢ TooLong)
+  pub patient : IfErr result (λ e. IsInterruption e → ⊥)
+
+module _ {W : Type 0} (inner_appended : W → List ℕ → W → Type 0) where
+  -- what goes out before the first byte is taken
+  abbrev pub Begins : Bool → W → W → Type 0
+  Begins true first inner = inner_appended first (line begin_marker) inner
+  Begins false first inner = inner ≡ first
+
+  -- a writer in this form that has taken nothing, over an inner writer that was in this state before
+  pub record WasMade (format : Format) (first : W) (writer : ArmoredWriter W) : Type 0 where
+    pub good : writer.failed ≡ false
+    pub same_form : writer.armored ≡ in_armor format
+    pub none_held : writer.held.items ≡ []
+    pub begins : Begins (in_armor format) first writer.inner
+
+  -- in armor: of what was held and these bytes all full lines went out, and the rest is held
+  pub record Took (before : ArmoredWriter W) (bytes : List ℕ) (after : ArmoredWriter W) : Type 0 where
+    pub held : after.held.items ≡ drop (48 * (length (before.held.items ++ bytes) / 48)) (before.held.items ++ bytes)
+    pub sent : inner_appended before.inner (full_lines (length (before.held.items ++ bytes) / 48) (before.held.items ++ bytes)) after.inner
+
+  -- in armor or in binary
+  abbrev pub Takes : Bool → ArmoredWriter W → List ℕ → ArmoredWriter W → Type 0
+  Takes true before bytes after = Took before bytes after
+  Takes false before bytes after = inner_appended before.inner bytes after.inner
+
+  -- A state is related to a failed one by every list, since that stays failed.
+  abbrev pub Appended : ArmoredWriter W → List ℕ → ArmoredWriter W → Type 0
+  Appended before bytes after = (after.failed ≡ true)
+      ⊎ ((before.failed ≡ false) × (after.failed ≡ false) × (after.armored ≡ before.armored) × Takes before.armored before bytes after)
+
+-- where a writer was made in a form and took bytes since, its inner writer was given the text that carries them, from before
+-- the writer was made
+abbrev pub Finishes : {W : Type 0} → (W → List ℕ → W → Type 0) → (ArmoredWriter W → List ℕ → ArmoredWriter W → Type 0)
+    → ArmoredWriter W → Result W Error → Type 0
+Finishes {W} inner_appended appended writer result =
+    (start : ArmoredWriter W) (format : Format) (bytes : List ℕ) (first : W) → WasMade inner_appended format first start
+    → appended start bytes writer → IfOk result (inner_appended first (text_of format bytes))

@@ -1,0 +1,55 @@
+//! Lines of armor, encoded.
+ghost use Rattle.std.specs.Prelude.{◌≡◌, ◌+◌, ◌*◌, ◌/◌, ◌%◌, ◌≤◌, ◌++◌, length, drop};
+ghost use Rattle.age_base64.specs.Lines.{line};
+ghost use Rattle.age_base64.specs.Base64.{padded_columns};
+ghost use Rattle.age_armor.specs.FullLines.{full_lines};
+
+use age_base64::armor_engine;
+
+/// How many bytes a full line carries.
+pub(crate) const LINE: usize = 48;
+
+/// How many columns of base64 a full line has.
+pub(crate) const COLUMNS: usize = 64;
+
+/// How many bytes the text of a full line has: its columns and LF.
+pub(crate) const LINE_TEXT: usize = 65;
+
+/// Writes the columns of `bytes` to the front of `columns`, and answers how many they are.
+pub(crate) fn encode(bytes: &[u8], columns: &mut [u8]) -> usize
+    requires { 4 * ((length bytes.now + 2) / 3) ≤ length columns.old }
+    ensures count { result ≡ 4 * ((length bytes.now + 2) / 3) }
+    ensures written { columns.new ≡ padded_columns bytes.now ++ drop result columns.old }
+{
+    let Ok(count) = armor_engine().encode_slice(bytes, columns) else {
+        unreachable!();
+    };
+    count
+}
+
+// Writes the line of these columns.
+fn write_line(columns: &[u8], text: &mut [u8])
+    requires { length text.old ≡ length columns.now + 1 }
+    ensures { text.new ≡ line columns.now }
+{
+    let count = columns.len();
+    text[..count].copy_from_slice(columns);
+    text[count] = b'\n';
+}
+
+/// Writes the lines that carry `bytes`, which fill them, to `text`, which they fill. All are encoded in one call, to
+/// `columns`, and copied from there: that is faster than a call for each line.
+pub(crate) fn encode_lines(bytes: &[u8], columns: &mut [u8], text: &mut [u8])
+    requires full { length bytes.now % 48 ≡ 0 }
+    requires room { length columns.old ≡ 64 * (length bytes.now / 48) }
+    requires text_room { length text.old ≡ 65 * (length bytes.now / 48) }
+    ensures { text.new ≡ full_lines (length bytes.now / 48) bytes.now }
+{
+    encode(bytes, columns);
+    'lines: for number in 0..bytes.len() / LINE {
+        write_line(
+            &columns[COLUMNS * number..COLUMNS * number + COLUMNS],
+            &mut text[LINE_TEXT * number..LINE_TEXT * number + LINE_TEXT],
+        );
+    }
+}

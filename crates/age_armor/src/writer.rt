@@ -1,0 +1,233 @@
+//! Writing armor.
+ghost use Rattle.std.specs.Prelude.{◌≡◌, ◌≢◌, ℕ, ◌+◌, ◌*◌, ◌<◌, ◌≤◌, Bool, true, false, IsTrue, List, [], ◌++◌, length, take, IfOk, IfErr, OnOk, OnErr, IsOk, IsOkAnd, Ok, Err, vec_len, vec_capacity};
+ghost use Rattle.age_error.specs.Refusals.{IsInterruption};
+ghost use Rattle.age_error.specs.declared.io.Error.TheVariants.{Failed, TooLong};
+
+use crate::encoding::{COLUMNS, LINE, LINE_TEXT};
+use crate::format::Format;
+use crate::sending::{write_begin, write_end, write_lines};
+use age_error::io::Error;
+use age_io::{Write, room_for};
+use std::alloc::Global;
+
+// How many full lines go out in one write at most.
+const LINES: usize = 1024;
+
+/// Takes bytes by `Write`, and writes the text that carries them to an inner writer: their armor, or the bytes
+/// themselves.
+///
+/// Armor is that of age-encryption.org/v1, section "ASCII armor": the begin marker, base64 with padding in lines of
+/// 64 columns, and the end marker, each with LF. It is whole only after `finish`. A writer that is dropped before that
+/// leaves a beginning of it.
+pub struct ArmoredWriter<W> {
+    pub(crate) inner: W,
+    pub(crate) armored: bool,
+    // What doesn't fill a line yet.
+    pub(crate) held: Vec<u8>,
+    // Room for the columns and for the text of `LINES` lines. What stands there between calls is no longer needed.
+    pub(crate) columns: Vec<u8>,
+    pub(crate) text: Vec<u8>,
+    pub(crate) failed: bool,
+    ghost part: { vec_len held < 48 },
+    ghost has_room: { armored ≡ true → 48 ≤ vec_capacity held },
+    ghost has_columns: { armored ≡ true → length columns.items ≡ 65536 },
+    ghost has_text: { armored ≡ true → length text.items ≡ 66560 },
+    ghost armor_alone: { armored ≡ false → failed ≡ false },
+}
+
+impl<W: Write> ArmoredWriter<W> {
+    ghost use Rattle.age_armor.specs.Writing.{WasMade, Took, KeepsInner, IsGood, is_armored, inner_of, held_len, in_armor};
+
+    /// A writer that has taken nothing. The text begins where `inner` stands.
+    ///
+    /// In armor it first takes the memory that serves for the whole text, and answers `OutOfMemory` where it is refused
+    /// that; nothing was written then. Then it writes the begin marker and LF: any other refusal is that of the inner
+    /// writer, or `WriteZero` where that took no byte. Interruptions of the inner writer are retried as by `write_all`.
+    /// In binary it writes nothing, takes no memory and never refuses.
+    pub fn wrap_output(alloc: Global, mut inner: W, format: Format) -> Result<Self, Error>
+    where
+        W: Drop,
+        ensures made { IsTrue (W.tells inner) → IfOk result (WasMade W.appended format inner) }
+        ensures empty { IfOk result (λ w. IsGood w × (held_len w ≡ 0) × (is_armored w ≡ in_armor format)) }
+        ensures same_tells { IfOk result (λ w. ⟦<ArmoredWriter<W> as Write>⟧.tells w ≡ W.tells inner) }
+        ensures same_limited { IfOk result (λ w. ⟦<ArmoredWriter<W> as Write>⟧.limited w ≡ W.limited inner) }
+        ensures no_fewer_faults { IfOk result (λ w. W.faults inner ≤ ⟦<ArmoredWriter<W> as Write>⟧.faults w) }
+        ensures binary { in_armor format ≡ false → IsOk result }
+        ensures unlimited { W.limited inner ≡ false → IfErr result (λ e. e ≢ TooLong) }
+        ensures patient { IfErr result (λ e. IsInterruption e → ⊥) }
+    {
+        if let Format::Binary = format {
+            return Ok(ArmoredWriter {
+                inner,
+                armored: false,
+                held: Vec::new(alloc),
+                columns: Vec::new(alloc),
+                text: Vec::new(alloc),
+                failed: false,
+            });
+        }
+        let held = Vec::with_capacity(alloc, LINE)?;
+        let columns = room_for(alloc, LINES * COLUMNS)?;
+        let text = room_for(alloc, LINES * LINE_TEXT)?;
+        write_begin(&mut inner)?;
+        Ok(ArmoredWriter {
+            inner,
+            armored: true,
+            held,
+            columns,
+            text,
+            failed: false,
+        })
+    }
+
+    // Takes full lines from the front of the bytes, where nothing is held.
+    fn take_lines(&mut self, bytes: &[u8]) -> Result<usize, Error>
+        requires form { is_armored self.old ≡ true }
+        requires none { held_len self.old ≡ 0 }
+        requires full { 48 ≤ length bytes.now }
+        ensures count { IfOk result (λ n. (0 < n) × (n ≤ length bytes.now)) }
+        ensures took { IsTrue (W.tells (inner_of self.old)) → IfOk result (λ n. Took W.appended self.old (take n bytes.now) self.new) }
+        ensures inner { KeepsInner W.tells W.limited W.faults (inner_of self.old) (inner_of self.new) result }
+        ensures failed { self.new.failed ≡ self.old.failed }
+        ensures same_form { is_armored self.new ≡ is_armored self.old }
+    {
+        let count = LINE * (bytes.len() / LINE).min(LINES);
+        write_lines(
+            &mut self.inner,
+            &mut self.columns,
+            &mut self.text,
+            &bytes[..count],
+        )?;
+        Ok(count)
+    }
+
+    // Takes bytes that fill the line that is held.
+    fn fill_line(&mut self, bytes: &[u8]) -> Result<(), Error>
+        requires form { is_armored self.old ≡ true }
+        requires fills { held_len self.old + length bytes.now ≡ 48 }
+        ensures took { IsTrue (W.tells (inner_of self.old)) → OnOk result (Took W.appended self.old bytes.now self.new) }
+        ensures inner { KeepsInner W.tells W.limited W.faults (inner_of self.old) (inner_of self.new) result }
+        ensures failed { self.new.failed ≡ self.old.failed }
+        ensures same_form { is_armored self.new ≡ is_armored self.old }
+    {
+        self.held.extend_from_slice(bytes)?;
+        let sent = write_lines(
+            &mut self.inner,
+            &mut self.columns,
+            &mut self.text,
+            &self.held,
+        );
+        self.held.clear();
+        sent
+    }
+
+    // Holds bytes that don't fill a line, for which it takes no memory.
+    fn hold(&mut self, bytes: &[u8]) -> Result<(), Error>
+        requires form { is_armored self.old ≡ true }
+        requires fits { held_len self.old + length bytes.now < 48 }
+        ensures ok { IsOk result }
+        ensures held { held_len self.new ≡ held_len self.old + length bytes.now }
+        ensures same_inner { inner_of self.new ≡ inner_of self.old }
+        ensures took { IsTrue (W.tells (inner_of self.old)) → OnOk result (Took W.appended self.old bytes.now self.new) }
+        ensures inner { KeepsInner W.tells W.limited W.faults (inner_of self.old) (inner_of self.new) result }
+        ensures failed { self.new.failed ≡ self.old.failed }
+        ensures same_form { is_armored self.new ≡ is_armored self.old }
+    {
+        self.held.extend_from_slice(bytes)?;
+        Ok(())
+    }
+
+    // Takes some of the bytes. A line goes out as soon as it is full.
+    fn take_some(&mut self, bytes: &[u8]) -> Result<usize, Error>
+        requires form { is_armored self.old ≡ true }
+        requires some { 0 < length bytes.now }
+        ensures count { IfOk result (λ n. (0 < n) × (n ≤ length bytes.now)) }
+        ensures took { IsTrue (W.tells (inner_of self.old)) → IfOk result (λ n. Took W.appended self.old (take n bytes.now) self.new) }
+        ensures roomy { held_len self.old + length bytes.now < 48 → IsOkAnd result (λ n.
+            (held_len self.new ≡ held_len self.old + n) × (inner_of self.new ≡ inner_of self.old)) }
+        ensures inner { KeepsInner W.tells W.limited W.faults (inner_of self.old) (inner_of self.new) result }
+        ensures failed { self.new.failed ≡ self.old.failed }
+        ensures same_form { is_armored self.new ≡ is_armored self.old }
+    {
+        if self.held.is_empty() && bytes.len() >= LINE {
+            return self.take_lines(bytes);
+        }
+        let count = bytes.len().min(LINE - self.held.len());
+        if self.held.len() + count < LINE {
+            self.hold(&bytes[..count])?;
+            return Ok(count);
+        }
+        self.fill_line(&bytes[..count])?;
+        Ok(count)
+    }
+
+    // Takes all bytes.
+    pub(crate) fn take_all(&mut self, bytes: &[u8]) -> Result<(), Error>
+        requires form { is_armored self.old ≡ true }
+        ensures took { IsTrue (W.tells (inner_of self.old)) → OnOk result (Took W.appended self.old bytes.now self.new) }
+        ensures roomy { held_len self.old + length bytes.now < 48 →
+            IsOk result × (held_len self.new ≡ held_len self.old + length bytes.now) × (inner_of self.new ≡ inner_of self.old) }
+        ensures inner { KeepsInner W.tells W.limited W.faults (inner_of self.old) (inner_of self.new) result }
+        ensures failed { self.new.failed ≡ self.old.failed }
+        ensures same_form { is_armored self.new ≡ is_armored self.old }
+    {
+        let mut done = 0;
+        while done < bytes.len() {
+            done += self.take_some(&bytes[done..])?;
+        }
+        Ok(())
+    }
+}
+
+impl<W: Write + Drop> ArmoredWriter<W> {
+    ghost use Rattle.age_armor.specs.Writing.{Finishes, IsFailed, inner_of, is_armored};
+
+    /// In armor it writes the line of what is held, where that is some bytes, and the end marker and LF. It hands back
+    /// the inner writer, which isn't flushed.
+    ///
+    /// On success the inner writer was given the text that carries all bytes taken. Where the writer failed before the
+    /// answer is `Failed`. Else a refusal is that of the inner writer, or `WriteZero` where that took no byte. After a
+    /// refusal the text is cut off, and the inner writer is gone. It takes no memory of its own. In binary it writes
+    /// nothing and never refuses.
+    pub fn finish(self) -> Result<W, Error>
+        ensures ok { let writer = ⟦<ArmoredWriter<W> as Write>⟧ in
+            IsTrue (writer.tells self) → Finishes W.appended writer.appended self result }
+        ensures same_tells { IfOk result (λ inner. W.tells inner ≡ ⟦<ArmoredWriter<W> as Write>⟧.tells self) }
+        ensures same_limited { IfOk result (λ inner. W.limited inner ≡ ⟦<ArmoredWriter<W> as Write>⟧.limited self) }
+        ensures no_fewer_faults { IfOk result (λ inner. ⟦<ArmoredWriter<W> as Write>⟧.faults self ≤ W.faults inner) }
+        ensures failed { IsFailed self → result ≡ Err Failed }
+        ensures binary { is_armored self ≡ false → result ≡ Ok (inner_of self) }
+        ensures unlimited { ⟦<ArmoredWriter<W> as Write>⟧.limited self ≡ false → IfErr result (λ e. e ≢ TooLong) }
+        ensures patient { IfErr result (λ e. IsInterruption e → ⊥) }
+    {
+        let ArmoredWriter {
+            mut inner,
+            armored,
+            held,
+            columns: _,
+            text: _,
+            failed,
+        } = self;
+        if failed {
+            return Err(Error::Failed);
+        }
+        if !armored {
+            return Ok(inner);
+        }
+        write_end(&mut inner, &held)?;
+        Ok(inner)
+    }
+}
+
+impl<W: Drop> Drop for ArmoredWriter<W> {
+    fn drop(self) {
+        let ArmoredWriter {
+            inner: _,
+            armored: _,
+            held: _,
+            columns: _,
+            text: _,
+            failed: _,
+        } = self;
+    }
+}
