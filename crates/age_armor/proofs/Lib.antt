@@ -10,3 +10,9 @@ pub mod ArmorText
 pub mod Encoded
 pub mod WrittenLines
 pub mod Ending
+pub mod Ahead
+pub mod Whole
+pub mod Testing
+pub mod Taking
+pub mod Staging
+pub mod ReaderSteps

@@ -6,3 +6,13 @@ pub mod FullLines
 pub mod FullLineLaws
 pub mod Writing
 pub mod WritingLaws
+pub mod DeliveredLaws
+pub mod Decoder
+pub mod Judging
+pub mod Showing
+pub mod Counting
+pub mod Stages
+pub mod Ahead
+pub mod ReaderLaws
+pub mod Ending
+pub mod Reader

@@ -1,12 +1,20 @@
-//! Armor: the ASCII form of a file (age-encryption.org/v1, section "ASCII armor"): its definitions, and its writer.
+//! Armor: the ASCII form of a file, written and read (age-encryption.org/v1, section "ASCII armor").
 #![tactic(auto)]
 
+mod counted;
+mod decoding;
 #[cfg(test)]
 mod definition_tests;
 mod encoding;
 mod format;
+mod judging;
 mod laws;
+mod reader;
+#[cfg(test)]
+mod reader_tests;
 mod sending;
+mod showing;
+mod stages;
 mod writer;
 #[cfg(test)]
 mod writer_tests;
@@ -17,4 +25,5 @@ pub use laws::{
     armor_is_carrying, armor_is_text, armor_length, carried_is_delivered, carried_is_unique,
     delivered_is_carried, first_fault_is_unique, verdict_is_unique,
 };
+pub use reader::ArmoredReader;
 pub use writer::ArmoredWriter;

@@ -1,0 +1,186 @@
+-- The next bytes of armor.
+use Rattle.std.proofs.Common.{◌≡◌, ◌≢◌, ℕ, suc, zero, ◌+◌, ◌≤◌, ◌<◌, Bool, true, false, ◌||◌, IsTrue, List, [], ◌∷◌, ◌++◌, length, take, drop, refl, ap, sym, subst, arith, ◌∙◌, append_assoc, length-append, nat_lt, nat_eq}
+use Rattle.std.specs.Prelude.{slice_index}
+use Rattle.std.specs.List.{starts_with, concat}
+use Rattle.std.proofs.lemmas.Bool.{true≢false, cases_Bool, false_from_ne_true, le-ltb, lt-ltb, or_right}
+use Rattle.std.proofs.lemmas.List.{append-nil, take-append-le, drop-append-le, length-take-le}
+use Rattle.std.proofs.Common.{inl}
+use Rattle.age_io.specs.Stretch.{Stretch, IsCleanEnd, IsFault}
+use Rattle.age_io.specs.Reading.{Delivers, IsQuiet}
+use Rattle.age_error.specs.declared.io.Error.{Error}
+use Rattle.age_error.specs.declared.io.Error.TheVariants.{Armor, UnexpectedEof}
+use Rattle.age_error.specs.declared.io.ArmoredReadError.TheVariants.{InvalidBeginMarker, NotWrappedAt64Chars}
+use Rattle.age_base64.specs.Lines.{line as ended, Lacks}
+use Rattle.age_error.specs.Bytes.{AreBytes}
+use Rattle.age_armor.specs.Armor.{begin_marker}
+use Rattle.age_base64.specs.Base64.{padded_columns}
+use Rattle.age_base64.proofs.PaddedColumns.{padded_columns-nil, Lacks_padded_columns, length-padded_columns}
+use Rattle.age_armor.specs.LineVerdict.{LineVerdict, Refuses, Ends, Holds, verdict, is_short, line_columns, last_is, IsLineVerdict}
+use Rattle.age_armor.specs.Delivered.{Outcome, Ending, Clean, Refused, InnerFault, ends, prepend, at_end, raw_lines, section, trailing, after_line, after_marker, delivered}
+use Rattle.age_armor.specs.Counting.{TakesLine, IsFew, IsCutShort}
+use Rattle.age_armor.specs.Showing.{TakesFull}
+use Rattle.age_armor.specs.Stages.{ahead, Advances, Stops, IsNamed}
+use Rattle.age_armor.specs.declared.stages.Stage.TheVariants.{Lines}
+use Rattle.age_armor.proofs.RawLines.{concat_raw, raw_lines_ended, columns_lf, last_is_end, full_length, full_not_short}
+use Rattle.age_armor.specs.DeliveredLaws.{length_line_columns}
+use Rattle.age_armor.proofs.Verdicts.{one_verdict}
+use Rattle.age_armor.proofs.Delivering.{good_line}
+use Rattle.age_armor.proofs.Shapes.{begins_back, early_delivers}
+
+pub stops_of : (o : Outcome) (e : Error) (end : Ending) → o ≡ ends end → IsNamed end e → Stops o e
+stops_of o e end same named = record { nothing = ap (λ x. x.bytes) same; named = subst (λ x. IsNamed x e) (sym (ap (λ x. x.ending) same)) named }
+
+pub advances_none : (before after : Outcome) (bytes : List ℕ) → bytes ≡ [] → before ≡ after → Advances before bytes after
+advances_none before after bytes none same = record { same = rw none same }
+
+-- ---- detection
+
+few_text : (text : List ℕ) (w : Bool) → length text < 36 → delivered text w ≡ ends (at_end w (Refused UnexpectedEof))
+unfolding delivered
+few_text text w few = rw (lt-ltb (length text) 36 few) refl
+
+pub few_clean : (count : ℕ) (old : Stretch) → count ≤ 36 → IsFew count true old → Stops (delivered old.bytes old.ends_well) UnexpectedEof
+few_clean count old fits few =
+    stops_of _ _ (Refused UnexpectedEof) (few_text old.bytes old.ends_well (omega (arith, few.few)) ∙ ap (λ w. ends (at_end w (Refused UnexpectedEof))) few.end) refl
+
+pub few_fault : (count : ℕ) (old : Stretch) (e : Error) → count ≤ 36 → IsFew count false old → Stops (delivered old.bytes old.ends_well) e
+few_fault count old e fits few =
+    stops_of _ _ InnerFault (few_text old.bytes old.ends_well (omega (arith, few.few)) ∙ ap (λ w. ends (at_end w (Refused UnexpectedEof))) few.end) tt
+
+pub few_end : (front : List ℕ) (old mid : Stretch) → length front ≡ 35 → Delivers front old mid → IsCleanEnd mid → IsFew 36 true old
+few_end front old mid size d clean =
+    let whole = ap length (d.bytes ∙ ap (λ x. front ++ x) clean.bytes ∙ append-nil front) in
+    record { few = omega (arith, whole, size); end = sym d.end ∙ clean.ends_well }
+
+pub few_bad : (front : List ℕ) (old mid : Stretch) → length front ≡ 35 → Delivers front old mid → IsFault mid → IsFew 36 false old
+few_bad front old mid size d fault =
+    let whole = ap length (d.bytes ∙ ap (λ x. front ++ x) fault.bytes ∙ append-nil front) in
+    record { few = omega (arith, whole, size); end = sym d.end ∙ fault.ends_badly }
+
+long_text : (front : List ℕ) (old mid : Stretch) → length front ≡ 35 → Delivers front old mid → 0 < length mid.bytes → nat_lt (length old.bytes) 36 ≡ false
+long_text front old mid size d some = le-ltb (length old.bytes) 36 (omega (arith, size, some, ap length d.bytes ∙ length-append front mid.bytes))
+
+begins_same : (front : List ℕ) (old mid : Stretch) → length front ≡ 35 → Delivers front old mid → starts_with nat_eq old.bytes begin_marker ≡ starts_with nat_eq front begin_marker
+begins_same front old mid size d =
+    let same : take 34 old.bytes ≡ take 34 front = ap (take 34) d.bytes ∙ take-append-le 34 front mid.bytes (omega (arith, size)) in
+    rw same refl
+
+outcome-same : (x y : List ℕ) (v w : Bool) → x ≡ y → v ≡ w → Path Outcome (record { bytes = x; ending = at_end v Clean }) (record { bytes = y; ending = at_end w Clean })
+outcome-same x y v w p q =
+    let make : List ℕ → Bool → Outcome = λ bytes e. record { bytes = bytes; ending = at_end e Clean } in
+    ap (λ z. make z v) p ∙ ap (λ z. make y z) q
+
+pub detects_binary : (front : List ℕ) (old mid : Stretch) → length front ≡ 35 → Delivers front old mid → 0 < length mid.bytes →
+    starts_with nat_eq front begin_marker ≡ false → Advances (delivered old.bytes old.ends_well) front (record { bytes = mid.bytes; ending = at_end mid.ends_well Clean })
+unfolding delivered
+detects_binary front old mid size d some other = record {
+  same = rw (long_text front old mid size d some, begins_same front old mid size d, other) (outcome-same _ _ _ _ d.bytes (sym d.end));
+}
+
+last_one : (n : ℕ) (xs : List ℕ) → length xs ≡ suc n → drop n xs ≡ slice_index xs n ∷ []
+last_one zero [] e = absurd (omega arith)
+last_one zero (x ∷ []) e = refl
+last_one zero (x ∷ y ∷ xs) e = absurd (omega arith)
+last_one (suc n) [] e = absurd (omega arith)
+last_one (suc n) (x ∷ xs) e = last_one n xs (omega arith)
+
+detects_marker : (front : List ℕ) (old mid : Stretch) → length front ≡ 35 → Delivers front old mid → 0 < length mid.bytes →
+    starts_with nat_eq front begin_marker ≡ true → delivered old.bytes old.ends_well ≡ after_marker (slice_index front 34 ∷ mid.bytes) mid.ends_well
+unfolding delivered
+detects_marker front old mid size d some begins =
+    let after : drop 34 old.bytes ≡ slice_index front 34 ∷ mid.bytes =
+    ap (drop 34) d.bytes ∙ drop-append-le 34 front mid.bytes (omega (arith, size)) ∙ ap (λ x. x ++ mid.bytes) (last_one 34 front size) in
+    rw (long_text front old mid size d some, begins_same front old mid size d, begins, after, d.end) refl
+
+pub detects_lf : (front : List ℕ) (old mid : Stretch) → length front ≡ 35 → Delivers front old mid → 0 < length mid.bytes →
+    starts_with nat_eq front begin_marker ≡ true → slice_index front 34 ≡ 10 → delivered old.bytes old.ends_well ≡ section false (raw_lines mid.bytes) mid.ends_well
+detects_lf front old mid size d some begins lf = detects_marker front old mid size d some begins ∙ rw lf refl
+
+pub detects_crlf : (front : List ℕ) (old mid new : Stretch) → length front ≡ 35 → Delivers front old mid → 0 < length mid.bytes →
+    starts_with nat_eq front begin_marker ≡ true → slice_index front 34 ≡ 13 → Delivers (10 ∷ []) mid new → delivered old.bytes old.ends_well ≡ section false (raw_lines new.bytes) new.ends_well
+detects_crlf front old mid new size d some begins cr next = detects_marker front old mid size d some begins ∙ rw (cr, next.bytes, next.end) refl
+
+begins_other : (x y : ℕ) (xs ys : List ℕ) → x ≢ y → starts_with nat_eq (x ∷ xs) (y ∷ ys) ≡ false
+begins_other x y xs ys other = false_from_ne_true _ (λ e. let same : x ≡ y = cc (begins_back (y ∷ ys) (x ∷ xs) e) in other same)
+
+begins_other_next : (x b y : ℕ) (xs : List ℕ) → b ≢ y → starts_with nat_eq (x ∷ b ∷ xs) (13 ∷ y ∷ []) ≡ false
+begins_other_next x b y xs other = false_from_ne_true _ (λ e. let same : b ≡ y = cc (begins_back (13 ∷ y ∷ []) (x ∷ b ∷ xs) e) in other same)
+
+pub detects_bad : (front : List ℕ) (old mid : Stretch) → length front ≡ 35 → Delivers front old mid → 0 < length mid.bytes →
+    starts_with nat_eq front begin_marker ≡ true → slice_index front 34 ≢ 10 → slice_index front 34 ≢ 13 → Stops (delivered old.bytes old.ends_well) (Armor InvalidBeginMarker)
+detects_bad front old mid size d some begins no_lf no_cr =
+    stops_of _ _ (Refused (Armor InvalidBeginMarker)) (detects_marker front old mid size d some begins
+    ∙ rw (begins_other (slice_index front 34) 10 mid.bytes [] no_lf, begins_other (slice_index front 34) 13 mid.bytes (10 ∷ []) no_cr) refl) refl
+
+pub detects_bad_next : (front : List ℕ) (old mid new : Stretch) (b : ℕ) → length front ≡ 35 → Delivers front old mid → 0 < length mid.bytes →
+    starts_with nat_eq front begin_marker ≡ true → slice_index front 34 ≢ 10 → Delivers (b ∷ []) mid new → b ≢ 10 → Stops (delivered old.bytes old.ends_well) (Armor InvalidBeginMarker)
+detects_bad_next front old mid new b size d some begins no_lf next other =
+    stops_of _ _ (Refused (Armor InvalidBeginMarker)) (detects_marker front old mid size d some begins
+    ∙ rw (begins_other (slice_index front 34) 10 mid.bytes [] no_lf, next.bytes, begins_other_next (slice_index front 34) b 10 new.bytes other) refl) refl
+
+-- ---- a line
+
+pub line_step : (s : Bool) (raw : List ℕ) (old mid : Stretch) → TakesLine raw old mid → 0 < length raw → section s (raw_lines old.bytes) old.ends_well
+    ≡ after_line (verdict s raw) (section (is_short (line_columns raw)) (raw_lines mid.bytes) mid.ends_well) (trailing mid.bytes mid.ends_well)
+line_step s raw old mid t some = rw (t.first some, t.whole some, ← t.end, concat_raw mid.bytes) refl
+
+pub line_ends : (s : Bool) (raw : List ℕ) (old mid : Stretch) → TakesLine raw old mid → 0 < length raw → verdict s raw ≡ Ends → trailing mid.bytes mid.ends_well ≡ Clean →
+    section s (raw_lines old.bytes) old.ends_well ≡ ends Clean
+line_ends s raw old mid t some v clean = line_step s raw old mid t some ∙ rw (v, clean) refl
+
+pub line_trails : (s : Bool) (raw : List ℕ) (old mid : Stretch) (e : Error) → TakesLine raw old mid → 0 < length raw → verdict s raw ≡ Ends → IsNamed (trailing mid.bytes mid.ends_well) e →
+    Stops (section s (raw_lines old.bytes) old.ends_well) e
+line_trails s raw old mid e t some v named = stops_of _ _ (trailing mid.bytes mid.ends_well) (line_step s raw old mid t some ∙ rw v refl) named
+
+pub line_refuses : (s : Bool) (raw : List ℕ) (old mid : Stretch) (e : Error) (f : _) → TakesLine raw old mid → 0 < length raw → verdict s raw ≡ Refuses f → e ≡ Armor f →
+    Stops (section s (raw_lines old.bytes) old.ends_well) e
+line_refuses s raw old mid e f t some v named = stops_of _ _ (Refused (Armor f)) (line_step s raw old mid t some ∙ rw v refl) named
+
+pub holds_some : (s : Bool) (raw b : List ℕ) → verdict s raw ≡ Holds b → 0 < length b
+holds_some s raw [] v =
+    let h = subst (IsLineVerdict s raw) v (one_verdict s raw) in
+    absurd (omega (arith, h.1, ap length h.4, ap length padded_columns-nil))
+holds_some s raw (c ∷ b) v = omega arith
+
+-- ---- a full line, taken whole
+
+pub full_step : (bytes : List ℕ) (old new : Stretch) → TakesFull bytes old new →
+    Advances (section false (raw_lines old.bytes) old.ends_well) bytes (section false (raw_lines new.bytes) new.ends_well)
+full_step bytes old new t =
+    let columns = padded_columns bytes in
+    let feeds : Lacks 10 columns = Lacks_padded_columns 10 (omega arith) bytes t.each in
+    let returns : Lacks 13 columns = Lacks_padded_columns 13 (omega arith) bytes t.each in
+    let same : old.bytes ≡ columns ++ 10 ∷ new.bytes = t.delivered.bytes ∙ append_assoc columns (10 ∷ []) new.bytes in
+    let rows : raw_lines old.bytes ≡ (columns ++ 10 ∷ []) ∷ raw_lines new.bytes = ap raw_lines same ∙ raw_lines_ended columns new.bytes feeds in
+    let size = t.size in
+    let holds : verdict false (columns ++ 10 ∷ []) ≡ Holds bytes = (good_line bytes (columns ++ 10 ∷ []) t.each (omega (arith, size)) (omega (arith, size)) (inl refl)).0 in
+    let short : is_short (line_columns (columns ++ 10 ∷ [])) ≡ false = ap is_short (columns_lf columns returns) ∙ full_not_short bytes t.each size in
+    let ended : (old.ends_well || last_is 10 (columns ++ 10 ∷ [])) ≡ true = or_right _ _ (last_is_end columns 10 10) in
+    record { same = rw (rows, ended, holds, short, t.delivered.end) refl }
+
+pub one_of : (xs : List ℕ) → length xs ≡ 1 → xs ≡ slice_index xs 0 ∷ []
+one_of [] e = absurd (omega arith)
+one_of (x ∷ []) e = refl
+one_of (x ∷ y ∷ xs) e = absurd (omega (arith, e))
+
+-- no line is left before the clean end
+pub empty_line : (s : Bool) (raw : List ℕ) (old new : Stretch) → TakesLine raw old new → length raw ≡ 0 → Stops (section s (raw_lines old.bytes) old.ends_well) (Armor NotWrappedAt64Chars)
+empty_line s raw old new t none =
+    let clean = t.empty none in
+    stops_of _ _ (Refused (Armor NotWrappedAt64Chars)) (rw (clean.bytes, clean.ends_well) refl) refl
+
+-- a fault comes before the line is whole
+pub cut_line : (s : Bool) (old : Stretch) (e : Error) → IsCutShort old → Stops (section s (raw_lines old.bytes) old.ends_well) e
+cut_line s old e cut = stops_of _ _ InnerFault (cut s) tt
+
+held_small : (s : Bool) (raw b : List ℕ) → verdict s raw ≡ Holds b → length b ≤ length raw
+held_small s raw b v =
+    let h = subst (IsLineVerdict s raw) v (one_verdict s raw) in
+    omega (arith, ap length h.4, length-padded_columns b, length_line_columns raw)
+
+pub holds_count : (s : Bool) (raw bytes : List ℕ) (n : ℕ) → verdict s raw ≡ Holds (take n bytes) → length bytes ≡ 48 → n ≤ 48 → (0 < n) × (n ≤ length raw)
+holds_count s raw bytes n v size fits =
+    let some = holds_some s raw (take n bytes) v in
+    let small = held_small s raw (take n bytes) v in
+    let all : length (take n bytes) ≡ n = length-take-le n bytes (omega (arith, size, fits)) in
+    (omega (arith, some, all), omega (arith, small, all))

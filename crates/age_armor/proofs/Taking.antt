@@ -1,0 +1,122 @@
+-- Lines that are taken from a reader.
+use Rattle.std.proofs.Common.{◌≡◌, ◌≢◌, ℕ, zero, suc, Some, take, ◌+◌, ◌≤◌, ◌<◌, Bool, true, false, ◌||◌, IsTrue, List, [], ◌∷◌, ◌++◌, length, refl, ap, sym, subst, arith, ◌∙◌, append_assoc, length-append}
+use Rattle.std.proofs.lemmas.Bool.{or_left, or_right, and_parts, true≢false, cases_Bool}
+use Rattle.std.proofs.lemmas.List.{append-nil}
+use Rattle.std.specs.List.{list_all}
+use Rattle.std.specs.Prelude.{slice_index}
+use Rattle.age_base64.specs.Base64.{padded_columns}
+use Rattle.age_armor.specs.Showing.{BeginsFull}
+use Rattle.age_armor.proofs.Verdicts.{decoded_is}
+use Rattle.std.proofs.Common.{inl, inr}
+use Rattle.age_error.specs.declared.io.Error.TheVariants.{Armor}
+use Rattle.age_error.specs.declared.io.ArmoredReadError.TheVariants.{TrailingGarbage}
+use Rattle.age_io.specs.Stretch.{Stretch, IsCleanEnd, IsFault}
+use Rattle.age_io.specs.Reading.{Delivers, IsQuiet}
+use Rattle.age_base64.specs.Lines.{Lacks, line as ended}
+use Rattle.age_base64.proofs.Lines.{Lacks-append}
+use Rattle.age_armor.specs.LineVerdict.{decoded, last_is}
+use Rattle.age_armor.specs.Delivered.{raw_lines, section, ends, InnerFault, Outcome}
+use Rattle.age_armor.specs.Counting.{TakesLine, IsCutShort}
+use Rattle.age_armor.specs.Delivered.{Ending, Clean, Refused, is_space, trailing}
+use Rattle.age_armor.specs.Stages.{IsNamed}
+use Rattle.age_armor.proofs.RawLines.{raw_lines_ended, raw_lines_last, last_lacks, last_is_end}
+
+pub cut_short : (line : List ℕ) (old mid : Stretch) → Lacks 10 line → Delivers line old mid → IsFault mid → IsCutShort old
+cut_short line old mid lacks d fault s =
+    let bytes : old.bytes ≡ line = d.bytes ∙ ap (λ x. line ++ x) fault.bytes ∙ append-nil line in
+    let end : old.ends_well ≡ false = sym d.end ∙ fault.ends_badly in
+    rw (bytes, end) (go line lacks)
+  where
+    go : (line : List ℕ) → Lacks 10 line → section s (raw_lines line) false ≡ ends InnerFault
+    go [] lacks = refl
+    go (c ∷ line) lacks = rw (raw_lines_last c line lacks, last_lacks 10 (c ∷ line) lacks) refl
+
+last_first : (line : List ℕ) → Lacks 10 line → 0 < length line → raw_lines line ≡ line ∷ []
+last_first [] lacks some = absurd (omega arith)
+last_first (c ∷ line) lacks some = raw_lines_last c line lacks
+
+empty_nil : (line : List ℕ) → length line ≡ 0 → line ≡ []
+empty_nil [] e = refl
+empty_nil (c ∷ line) e = absurd (omega arith)
+
+pub taken_end : (line : List ℕ) (old mid new : Stretch) → Lacks 10 line → Delivers line old mid → IsCleanEnd mid → new ≡ mid → TakesLine line old new
+taken_end line old mid new lacks d clean same =
+    let bytes : old.bytes ≡ line = d.bytes ∙ ap (λ x. line ++ x) clean.bytes ∙ append-nil line in
+    let end : old.ends_well ≡ true = sym d.end ∙ clean.ends_well in
+    let after : new.bytes ≡ [] = ap (λ s. s.bytes) same ∙ clean.bytes in
+    record {
+      empty = λ none. record { bytes = bytes ∙ empty_nil line none; ends_well = end };
+      first = λ some. rw (bytes, after) (last_first line lacks some);
+      whole = λ some. or_left _ _ end;
+      end = ap (λ s. s.ends_well) same ∙ d.end;
+    }
+
+pub taken_line : (line all : List ℕ) (old mid new : Stretch) → Lacks 10 line → Delivers line old mid → Delivers (10 ∷ []) mid new → all ≡ line ++ 10 ∷ [] → TakesLine all old new
+taken_line line all old mid new lacks d next same =
+    let bytes : old.bytes ≡ line ++ 10 ∷ new.bytes = d.bytes ∙ ap (λ x. line ++ x) next.bytes in
+    record {
+      empty = λ none. absurd (omega (arith, none, ap length same, length-append line (10 ∷ [])));
+      first = λ some. rw (bytes, same) (raw_lines_ended line new.bytes lacks);
+      whole = λ some. or_right _ _ (ap (last_is 10) same ∙ last_is_end line 10 10);
+      end = next.end ∙ d.end;
+    }
+
+pub quiet_after : (a b c : ℕ) → a ≤ b → b ≤ c → IsQuiet a c → IsQuiet b c
+quiet_after a b c p q quiet = record { same = omega (arith, quiet.same); below = quiet.below }
+
+-- ---- what follows the end marker's line
+
+all_spaces : (front rest : List ℕ) (w : Bool) → list_all is_space front ≡ true → trailing (front ++ rest) w ≡ trailing rest w
+all_spaces [] rest w h = refl
+all_spaces (b ∷ front) rest w h = let p = and_parts (is_space b) (list_all is_space front) h in rw p.0 (all_spaces front rest w p.1)
+
+some_other : (front rest : List ℕ) (w : Bool) → list_all is_space front ≡ false → trailing (front ++ rest) w ≡ Refused (Armor TrailingGarbage)
+some_other [] rest w h = absurd (true≢false h)
+some_other (b ∷ front) rest w h = elim (cases_Bool (is_space b)) [
+  | inl e ↦ rw e (some_other front rest w (rw e at h))
+  | inr e ↦ rw e refl
+]
+
+pub spaces_taken : (front : List ℕ) (old mid new : Stretch) → list_all is_space front ≡ true → Delivers front mid new →
+    trailing mid.bytes mid.ends_well ≡ trailing old.bytes old.ends_well → trailing new.bytes new.ends_well ≡ trailing old.bytes old.ends_well
+spaces_taken front old mid new all d same =
+    sym (all_spaces front new.bytes new.ends_well all) ∙ ap (λ x. trailing x new.ends_well) (sym d.bytes) ∙ ap (λ w. trailing mid.bytes w) d.end ∙ same
+
+pub garbage_taken : (front : List ℕ) (old mid new : Stretch) → list_all is_space front ≡ false → Delivers front mid new →
+    trailing mid.bytes mid.ends_well ≡ trailing old.bytes old.ends_well → IsNamed (trailing old.bytes old.ends_well) (Armor TrailingGarbage)
+garbage_taken front old mid new other d same =
+    let found : trailing old.bytes old.ends_well ≡ Refused (Armor TrailingGarbage) =
+    sym same ∙ ap (λ x. trailing x mid.ends_well) d.bytes ∙ some_other front new.bytes mid.ends_well other in
+    rw found refl
+
+-- the end of the text comes after a part of a line
+pub taken_none : (line all : List ℕ) (old mid new : Stretch) → Lacks 10 line → Delivers line old mid → (all ≡ line) × (new ≡ mid) × IsCleanEnd mid → TakesLine all old new
+taken_none line all old mid new lacks d t = rw t.0 (taken_end line old mid new lacks d t.2 t.1)
+
+-- the rest of a line and its LF come after a part of it
+pub taken_run : (before after : List ℕ) (old mid new : Stretch) → Lacks 10 before → Delivers before old mid →
+    ((run : List ℕ) × (after ≡ before ++ ended run) × Delivers (ended run) mid new × Lacks 10 run) → TakesLine after old new
+taken_run before after old mid new lacks d t =
+    let run = t.0 in
+    let cut : Stretch = record { bytes = 10 ∷ new.bytes; ends_well = new.ends_well } in
+    let whole : old.bytes ≡ (before ++ run) ++ 10 ∷ new.bytes =
+    d.bytes ∙ ap (λ x. before ++ x) (t.2.bytes ∙ append_assoc run (10 ∷ []) new.bytes) ∙ sym (append_assoc before run (10 ∷ new.bytes)) in
+    let first : Delivers (before ++ run) old cut = record { bytes = whole; end = t.2.end ∙ d.end } in
+    let next : Delivers (10 ∷ []) cut new = record { bytes = refl; end = refl } in
+    taken_line (before ++ run) after old cut new (Lacks-append 10 before run lacks t.3) first next (t.1 ∙ sym (append_assoc before run (10 ∷ [])))
+
+-- ---- a line that is shown whole
+
+take_more : (n : ℕ) (xs : List ℕ) → n < length xs → take (suc n) xs ≡ take n xs ++ slice_index xs n ∷ []
+take_more zero [] some = absurd (omega (arith, some))
+take_more zero (x ∷ xs) some = refl
+take_more (suc n) [] some = absurd (omega (arith, some))
+take_more (suc n) (x ∷ xs) some = ap (λ z. x ∷ z) (take_more n xs (omega (arith, some)))
+
+pub begins_full : (front bytes columns : List ℕ) → 65 ≤ length front → slice_index front 64 ≡ 10 → columns ≡ take 64 front → decoded columns ≡ Some bytes →
+    length bytes ≡ 48 → BeginsFull bytes front
+begins_full front bytes columns long feed same stands size =
+    let is = decoded_is columns bytes stands in
+    let whole : take 65 front ≡ ended (padded_columns bytes) =
+    take_more 64 front (omega (arith, long)) ∙ ap (λ z. take 64 front ++ z ∷ []) feed ∙ ap (λ z. z ++ 10 ∷ []) (sym same ∙ is.1) in
+    record { size = size; each = is.0; within = long; same = whole }

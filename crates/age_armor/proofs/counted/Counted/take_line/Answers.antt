@@ -1,0 +1,25 @@
+use Rattle.std.proofs.Common.{◌≡◌, ◌≢◌, ◌≤◌, ◌∙◌, arith}
+use Rattle.age_armor.proofs.Taking.{cut_short, quiet_after, taken_none, taken_run}
+use Rattle.age_armor.proofs.counted.Counted.take_line.Goals as goal
+
+pub overflow_sub-len : goal.overflow_sub-len
+overflow_sub-len g c = omega (arith, c.len-before.ensures, c.len.ensures, c.take_run-answer.ensures.longer)
+
+pub returns-in-Err-clause-cause : goal.returns-in-Err-clause-cause
+returns-in-Err-clause-cause g c = λ told other quiet.
+    let loop = c.runs.invariant in
+    let asks = c.in-Err.ensures.asks in
+    cut_short c.runs.line.items (g.R.Read.rest c.args.self.now.inner) (g.R.Read.rest c.runs.self.inner) (loop.unended told) (loop.so_far told)
+    (asks.cause (loop.same_tells ∙ told) other (quiet_after _ _ _ loop.no_fewer_faults asks.no_fewer_faults quiet))
+
+pub returns-in-Nothing-clause-line : goal.returns-in-Nothing-clause-line
+returns-in-Nothing-clause-line g c = λ told.
+    let loop = c.runs.invariant in
+    taken_none c.runs.line.items c.take_run-answer.new.line.items (g.R.Read.rest c.args.self.now.inner) (g.R.Read.rest c.runs.self.inner) (g.R.Read.rest c.take_run-answer.new.reader)
+    (loop.unended told) (loop.so_far told) (rw c.in-Nothing.is at (c.in-Ok.ensures.run (loop.same_tells ∙ told)))
+
+pub returns-in-Ended-clause-line : goal.returns-in-Ended-clause-line
+returns-in-Ended-clause-line g c = λ told.
+    let loop = c.runs.invariant in
+    taken_run c.runs.line.items c.take_run-answer.new.line.items (g.R.Read.rest c.args.self.now.inner) (g.R.Read.rest c.runs.self.inner) (g.R.Read.rest c.take_run-answer.new.reader)
+    (loop.unended told) (loop.so_far told) (rw c.in-Ended.is at (c.in-Ok.ensures.run (loop.same_tells ∙ told)))

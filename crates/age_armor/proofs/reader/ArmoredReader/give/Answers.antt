@@ -1,0 +1,59 @@
+use Rattle.std.proofs.Common.{◌≡◌, ◌+◌, ◌-◌, ◌≤◌, arith, drop, take, length, length-take-le, length-drop, sym, IsTrue, refl}
+use Rattle.std.proofs.lemmas.Grind.{common_steps}
+use Rattle.age_io.specs.Reading.{StandsIn}
+use Rattle.age_io.specs.Buffering.{held}
+use Rattle.age_io.proofs.Holding.{copied-held, length-held}
+use Rattle.age_armor.specs.Ahead.{rest_ahead}
+use Rattle.age_armor.specs.DeliveredLaws.{content_of, stands_by, stands_follows}
+use Rattle.age_armor.proofs.Ahead.{given_stands, gives_front, shown_further, ending_same}
+use Rattle.age_armor.proofs.reader.ArmoredReader.give.Goals as goal
+
+pub invariant_of-self : goal.invariant_of-self
+invariant_of-self g c =
+    let before = c.args.self.now in
+    let reader = g.R.Read in
+    let n = c.min-count.result in
+    let all : before.filled ≤ length before.bytes = omega (arith, before.within, before.room) in
+    let content = content_of (reader.content before.source.inner) (reader.place before.source.inner - before.source.taken) in
+    let rest = rest_ahead before.failed before.bytes before.given before.filled before.stage (reader.rest before.source.inner) in
+    let new = rest_ahead before.failed before.bytes (before.given + n) before.filled before.stage (reader.rest before.source.inner) in
+    let fits : n ≤ before.filled - before.given = grind (arith, common_steps) in
+    let front = take n (held before.bytes before.given before.filled) in
+    let size : n ≡ length front = sym (length-take-le n (held before.bytes before.given before.filled) (rw (length-held before.bytes before.given before.filled all) fits)) in
+    let d = gives_front before.failed before.bytes front before.given before.filled n before.stage (reader.rest before.source.inner) c.requires refl in
+    let place : (IsTrue (reader.tells before.source.inner) → c.saturating_add-self.result ≡ before.place + n) = λ told.
+    omega (arith, c.saturating_add-self.ensures, before.counted told, before.source.behind told, g.met.R.Read.place_fits before.source.inner told, fits) in
+    let stands : (IsTrue (reader.tells before.source.inner) → IsTrue (reader.steady before.source.inner) → StandsIn content c.saturating_add-self.result new) = λ told steady.
+    rw (place told) (given_stands content rest new before.place n front size d
+    (stands_by content rest before.place (before.inside told steady) (before.follows told steady))) in
+    record {
+      room = before.room;
+      order = let h : before.given + n ≤ before.filled = omega (arith, before.order, fits) in h;
+      within = before.within;
+      fresh = λ start. omega (arith, before.fresh start, fits);
+      unspent = before.unspent;
+      counted = λ told. omega (arith, before.counted told, place told, fits);
+      inside = λ told steady. (stands told steady).within;
+      follows = λ told steady some. stands_follows content new c.saturating_add-self.result (stands told steady) some;
+    }
+
+pub returns-clause-shown : goal.returns-clause-shown
+returns-clause-shown g c = shown_further c.args.self.now.failed c.args.self.now.bytes c.args.self.now.given c.args.self.now.filled c.min-count.result
+
+pub returns-clause-ending : goal.returns-clause-ending
+returns-clause-ending g c = ending_same c.args.self.now.bytes c.args.self.now.given c.args.self.now.filled (c.args.self.now.given + c.min-count.result) c.args.self.now.stage (g.R.Read.rest c.args.self.now.source.inner)
+
+pub returns-clause-bytes : goal.returns-clause-bytes
+returns-clause-bytes g c =
+    let before = c.args.self.now in
+    let n = c.min-count.result in
+    let all : before.filled ≤ length before.bytes = omega (arith, before.within, before.room) in
+    let fits : before.given + n ≤ before.filled = grind (arith, common_steps) in
+    gives_front before.failed before.bytes _ before.given before.filled n before.stage (g.R.Read.rest before.source.inner) c.requires
+    (copied-held before.bytes c.copy_from_slice.new.self (drop n c.args.buf.now) before.given before.filled n all fits c.copy_from_slice.ensures.after)
+
+pub returns-clause-moves : goal.returns-clause-moves
+returns-clause-moves g c = λ told.
+    let before = c.args.self.now in
+    let fits : c.min-count.result ≤ before.filled - before.given = grind (arith, common_steps) in
+    omega (arith, c.saturating_add-self.ensures, before.counted told, before.source.behind told, g.met.R.Read.place_fits before.source.inner told, fits)

@@ -1,0 +1,116 @@
+use Rattle.std.proofs.Common.{◌≡◌, ◌∙◌, ◌-◌, ◌≤◌, ◌<◌, [], arith, length, sym, ap, subst, IsTrue, refl, true, false}
+use Rattle.std.proofs.lemmas.Bool.{true≢false}
+use Rattle.age_io.specs.Reading.{StandsIn}
+use Rattle.age_armor.specs.Ahead.{rest_ahead, shown_ahead}
+use Rattle.age_armor.specs.DeliveredLaws.{content_of, stands_by, stands_follows}
+use Rattle.age_armor.proofs.Ahead.{kept_stands, rest_failed, hold_rest, hold_ending, hold_end, hold_fault, hold_named, ended_clean, shown_none}
+use Rattle.age_armor.proofs.reader.ArmoredReader.hold.Goals as goal
+
+pub returns-then-is_ready-clause-end : goal.returns-then-is_ready-clause-end
+returns-then-is_ready-clause-end g c = λ told none.
+    let before = c.args.self.now in
+    hold_end before.failed before.bytes before.given before.filled before.stage (g.R.Read.rest before.source.inner) c.requires
+    (omega (arith, before.within, before.room)) (omega (arith, none))
+    (ended_clean before.stage (g.R.Read.rest before.source.inner) (c.is_ready.ensures.end c.if-is_ready.true none))
+
+pub invariant_of-self : goal.invariant_of-self
+invariant_of-self g c =
+    let before = c.args.self.now in
+    let reader = g.R.Read in
+    let now = c.in-Ok.ensures in
+    let piece = c.in-Ok.piece in
+    let source = c.advance.new.source in
+    let bytes = c.advance.new.bytes in
+    let all : before.filled ≤ length before.bytes = omega (arith, before.within, before.room) in
+    let empty : before.filled ≤ before.given = omega (arith, c.is_ready.ensures.none c.if-is_ready.false) in
+    let content = content_of (reader.content before.source.inner) (reader.place before.source.inner - before.source.taken) in
+    let other = content_of (reader.content source.inner) (reader.place source.inner - source.taken) in
+    let rest = rest_ahead before.failed before.bytes before.given before.filled before.stage (reader.rest before.source.inner) in
+    let new = rest_ahead before.failed bytes 0 piece.count piece.next (reader.rest source.inner) in
+    let told_before : (IsTrue (reader.tells source.inner) → IsTrue (reader.tells before.source.inner)) = λ told. sym now.kept.same_tells ∙ told in
+    let steady_before : (IsTrue (reader.steady source.inner) → IsTrue (reader.steady before.source.inner)) = λ steady. sym now.kept.same_steady ∙ steady in
+    let same : (IsTrue (reader.tells source.inner) → other ≡ content) = λ told. rw (now.kept.same_content (told_before told), now.kept.origin (told_before told)) refl in
+    let kept : (IsTrue (reader.tells source.inner) → new ≡ rest) = λ told.
+    hold_rest before.failed before.bytes bytes before.given before.filled piece.count before.stage piece.next (reader.rest before.source.inner) (reader.rest source.inner)
+    c.requires all empty (now.bytes (told_before told)) in
+    let stands : (IsTrue (reader.tells source.inner) → IsTrue (reader.steady source.inner) → StandsIn other before.place new) = λ told steady.
+    kept_stands content other rest new before.place (same told) (kept told)
+    (stands_by content rest before.place (before.inside (told_before told) (steady_before steady)) (before.follows (told_before told) (steady_before steady))) in
+    record {
+      room = c.advance.array_long;
+      order = let h : 0 ≤ piece.count = omega arith in h;
+      within = now.fits;
+      fresh = λ start. absurd (true≢false (sym start ∙ now.begun));
+      unspent = λ good begun. now.kept.unspent;
+      counted = λ told. omega (arith, before.counted (told_before told), now.taken (told_before told));
+      inside = λ told steady. (stands told steady).within;
+      follows = λ told steady some. stands_follows other new before.place (stands told steady) some;
+    }
+
+pub invariant_of-self-in-Err : goal.invariant_of-self-in-Err
+invariant_of-self-in-Err g c =
+    let before = c.args.self.now in
+    let reader = g.R.Read in
+    let now = c.in-Err.ensures in
+    let source = c.advance.new.source in
+    let content = content_of (reader.content before.source.inner) (reader.place before.source.inner - before.source.taken) in
+    let other = content_of (reader.content source.inner) (reader.place source.inner - source.taken) in
+    let told_before : (IsTrue (reader.tells source.inner) → IsTrue (reader.tells before.source.inner)) = λ told. sym now.kept.same_tells ∙ told in
+    let steady_before : (IsTrue (reader.steady source.inner) → IsTrue (reader.steady before.source.inner)) = λ steady. sym now.kept.same_steady ∙ steady in
+    let same : (IsTrue (reader.tells source.inner) → other ≡ content) = λ told. rw (now.kept.same_content (told_before told), now.kept.origin (told_before told)) refl in
+    record {
+      room = before.room;
+      order = before.order;
+      within = before.within;
+      fresh = before.fresh;
+      unspent = λ good. absurd (true≢false good);
+      counted = λ told. omega (arith, before.counted (told_before told), now.kept.more (told_before told));
+      inside = λ told steady. subst (λ s. before.place ≤ length s.bytes) (sym (same told)) (before.inside (told_before told) (steady_before steady));
+      follows = λ told steady some. absurd (some (rest_failed before.bytes before.given before.filled before.stage (reader.rest source.inner)));
+    }
+
+pub returns-in-Ok-clause-rest : goal.returns-in-Ok-clause-rest
+returns-in-Ok-clause-rest g c = λ told.
+    let before = c.args.self.now in
+    let empty : before.filled ≤ before.given = omega (arith, c.is_ready.ensures.none c.if-is_ready.false) in
+    hold_rest before.failed before.bytes c.advance.new.bytes before.given before.filled c.in-Ok.piece.count before.stage c.in-Ok.piece.next
+    (g.R.Read.rest before.source.inner) (g.R.Read.rest c.advance.new.source.inner) c.requires (omega (arith, before.within, before.room)) empty (c.in-Ok.ensures.bytes told)
+
+pub returns-in-Ok-clause-end : goal.returns-in-Ok-clause-end
+returns-in-Ok-clause-end g c = λ told none.
+    let before = c.args.self.now in
+    let empty : before.filled ≤ before.given = omega (arith, c.is_ready.ensures.none c.if-is_ready.false) in
+    hold_end before.failed before.bytes before.given before.filled before.stage (g.R.Read.rest before.source.inner) c.requires
+    (omega (arith, before.within, before.room)) empty (c.in-Ok.ensures.end told (sym none))
+
+pub returns-in-Ok-clause-ending : goal.returns-in-Ok-clause-ending
+returns-in-Ok-clause-ending g c = λ told.
+    let before = c.args.self.now in
+    hold_ending before.bytes c.advance.new.bytes before.given before.filled c.in-Ok.piece.count before.stage c.in-Ok.piece.next
+    (g.R.Read.rest before.source.inner) (g.R.Read.rest c.advance.new.source.inner) (c.in-Ok.ensures.bytes told)
+
+pub returns-in-Ok-clause-same : goal.returns-in-Ok-clause-same
+returns-in-Ok-clause-same g c = λ some.
+    let before = c.args.self.now in
+    let none : shown_ahead before.failed before.bytes before.given before.filled ≡ [] =
+    shown_none before.failed before.bytes before.given before.filled (omega (arith, before.within, before.room)) (c.is_ready.ensures.none c.if-is_ready.false) in
+    absurd (omega (arith, ap length none, some))
+
+pub returns-in-Err-clause-same : goal.returns-in-Err-clause-same
+returns-in-Err-clause-same g c = λ some.
+    let before = c.args.self.now in
+    let none : shown_ahead before.failed before.bytes before.given before.filled ≡ [] =
+    shown_none before.failed before.bytes before.given before.filled (omega (arith, before.within, before.room)) (c.is_ready.ensures.none c.if-is_ready.false) in
+    absurd (omega (arith, ap length none, some))
+
+pub returns-in-Err-clause-cause : goal.returns-in-Err-clause-cause
+returns-in-Err-clause-cause g c = λ told other quiet.
+    let before = c.args.self.now in
+    let empty : before.filled ≤ before.given = omega (arith, c.is_ready.ensures.none c.if-is_ready.false) in
+    hold_fault before.failed before.bytes before.given before.filled before.stage (g.R.Read.rest before.source.inner) c.in-Err.e c.requires
+    (omega (arith, before.within, before.room)) empty (c.in-Err.ensures.cause told other quiet)
+
+pub returns-in-Err-clause-named : goal.returns-in-Err-clause-named
+returns-in-Err-clause-named g c = λ told other quiet.
+    let before = c.args.self.now in
+    hold_named before.bytes before.given before.filled before.stage (g.R.Read.rest before.source.inner) c.in-Err.e (c.in-Err.ensures.cause told other quiet)

@@ -1,0 +1,45 @@
+use Rattle.std.proofs.Common.{◌≡◌, ◌-◌, ◌≤◌, ◌∙◌, arith, drop, sym, subst, refl, ap, IsTrue, true, false, length}
+use Rattle.std.proofs.lemmas.Bool.{true≢false}
+use Rattle.age_io.specs.Reading.{StandsIn}
+use Rattle.age_armor.specs.declared.stages.Stage.TheVariants.{Start}
+use Rattle.age_armor.specs.Ahead.{rest_ahead}
+use Rattle.age_armor.specs.DeliveredLaws.{content_of, stands_by, stands_follows}
+use Rattle.age_armor.proofs.Ahead.{starts, starts_rest, starts_outcome, starts_shown}
+use Rattle.age_armor.proofs.Whole.{rest_carries, carried_rest}
+use Rattle.age_armor.proofs.reader.ArmoredReader.new_buffered.Goals as goal
+
+pub invariant_of-result-2 : goal.invariant_of-result-2
+invariant_of-result-2 g c =
+    let reader = g.R.Read in
+    let inner = c.args.inner in
+    let place = reader.place inner - 0 in
+    let zero : reader.place inner - 0 ≡ reader.place inner = omega arith in
+    let content = content_of (reader.content inner) place in
+    let rest = rest_ahead false _ 0 0 Start (reader.rest inner) in
+    let stands : (IsTrue (reader.tells inner) → IsTrue (reader.steady inner) → StandsIn content 0 rest) = λ told steady.
+    starts (reader.content inner) (reader.rest inner) place _ (rw zero (g.met.R.Read.stands inner told steady)) in
+    record {
+      room = refl;
+      order = let h : 0 ≤ 0 = omega arith in h;
+      within = let h : 0 ≤ 48 = omega arith in h;
+      fresh = λ start. refl;
+      unspent = λ good begun. absurd (true≢false begun);
+      counted = λ told. let h : 0 ≤ 0 = omega arith in h;
+      inside = λ told steady. (stands told steady).within;
+      follows = λ told steady some. stands_follows content rest 0 (stands told steady) some;
+    }
+
+pub returns-clause-shown : goal.returns-clause-shown
+returns-clause-shown g c = starts_shown _
+
+pub returns-clause-outcome : goal.returns-clause-outcome
+returns-clause-outcome g c = starts_outcome _ (g.R.Read.rest c.args.inner)
+
+pub returns-clause-rest : goal.returns-clause-rest
+returns-clause-rest g c = starts_rest _ (g.R.Read.rest c.args.inner)
+
+pub returns-clause-carries : goal.returns-clause-carries
+returns-clause-carries g c = λ told. rw (starts_rest _ (g.R.Read.rest c.args.inner)) (rest_carries (g.R.Read.rest c.args.inner))
+
+pub returns-clause-honest : goal.returns-clause-honest
+returns-clause-honest g c = λ bytes well carried. starts_rest _ (g.R.Read.rest c.args.inner) ∙ carried_rest (g.R.Read.rest c.args.inner) bytes well carried

@@ -1,0 +1,113 @@
+use Rattle.std.proofs.Common.{◌≡◌, ◌∙◌, ◌+◌, ◌-◌, ◌≤◌, arith, drop, take, length, length-take-le, sym, subst, IsTrue, refl, true}
+use Rattle.std.proofs.lemmas.Bool.{true≢false}
+use Rattle.age_io.specs.Reading.{StandsIn}
+use Rattle.age_armor.specs.Ahead.{rest_ahead}
+use Rattle.age_armor.specs.DeliveredLaws.{content_of, stands_by, stands_follows}
+use Rattle.age_armor.proofs.Ahead.{kept_stands, failed_stands, given_stands, rest_failed, pass_delivers, pass_end, pass_fault, pass_named, pass_ending, shown_none}
+use Rattle.age_armor.proofs.reader.ArmoredReader.pass.Goals as goal
+
+pub invariant_of-self : goal.invariant_of-self
+invariant_of-self g c =
+    let before = c.args.self.now in
+    let reader = g.R.Read in
+    let now = c.in-Ok.ensures in
+    let n = c.in-Ok.count in
+    let source = c.read.new.self in
+    let all : before.filled ≤ length before.bytes = omega (arith, before.within, before.room) in
+    let content = content_of (reader.content before.source.inner) (reader.place before.source.inner - before.source.taken) in
+    let other = content_of (reader.content source.inner) (reader.place source.inner - source.taken) in
+    let rest = rest_ahead before.failed before.bytes before.given before.filled before.stage (reader.rest before.source.inner) in
+    let new = rest_ahead before.failed before.bytes before.given before.filled before.stage (reader.rest source.inner) in
+    let front = take n c.read.new.buf in
+    let size : n ≡ length front = sym (length-take-le n c.read.new.buf now.count) in
+    let told_before : (IsTrue (reader.tells source.inner) → IsTrue (reader.tells before.source.inner)) = λ told. sym now.kept.same_tells ∙ told in
+    let steady_before : (IsTrue (reader.steady source.inner) → IsTrue (reader.steady before.source.inner)) = λ steady. sym now.kept.same_steady ∙ steady in
+    let same : (IsTrue (reader.tells source.inner) → other ≡ content) = λ told. rw (now.kept.same_content (told_before told), now.kept.origin (told_before told)) refl in
+    let place : (IsTrue (reader.tells source.inner) → c.saturating_add-self.result ≡ before.place + n) = λ told.
+    omega (arith, c.saturating_add-self.ensures, before.counted (told_before told), now.taken (told_before told), source.behind told, g.met.R.Read.place_fits source.inner told) in
+    let stands : (IsTrue (reader.tells source.inner) → IsTrue (reader.steady source.inner) → StandsIn other c.saturating_add-self.result new) = λ told steady.
+    rw (place told, same told) (given_stands content rest new before.place n front size
+    (pass_delivers before.failed before.bytes front before.given before.filled before.stage _ _ c.requires.good c.requires.binary all c.requires.given (now.bytes (told_before told)))
+    (stands_by content rest before.place (before.inside (told_before told) (steady_before steady)) (before.follows (told_before told) (steady_before steady)))) in
+    record {
+      room = before.room;
+      order = before.order;
+      within = before.within;
+      fresh = before.fresh;
+      unspent = λ good begun. now.kept.unspent;
+      counted = λ told. omega (arith, before.counted (told_before told), place told, now.taken (told_before told));
+      inside = λ told steady. (stands told steady).within;
+      follows = λ told steady some. stands_follows other new c.saturating_add-self.result (stands told steady) some;
+    }
+
+pub returns-in-Ok-clause-bytes : goal.returns-in-Ok-clause-bytes
+returns-in-Ok-clause-bytes g c = λ told.
+    let before = c.args.self.now in
+    pass_delivers before.failed before.bytes _ before.given before.filled before.stage _ _ c.requires.good c.requires.binary
+    (omega (arith, before.within, before.room)) c.requires.given (c.in-Ok.ensures.bytes told)
+
+pub returns-in-Ok-clause-end : goal.returns-in-Ok-clause-end
+returns-in-Ok-clause-end g c = λ told none.
+    let before = c.args.self.now in
+    pass_end before.failed before.bytes before.given before.filled before.stage _ c.requires.good c.requires.binary
+    (omega (arith, before.within, before.room)) c.requires.given (c.in-Ok.ensures.end told none)
+
+pub returns-in-Ok-clause-ending : goal.returns-in-Ok-clause-ending
+returns-in-Ok-clause-ending g c = λ told.
+    let before = c.args.self.now in
+    pass_ending before.bytes _ before.given before.filled before.stage _ _ c.requires.binary (c.in-Ok.ensures.bytes told)
+
+pub returns-in-Err-clause-cause : goal.returns-in-Err-clause-cause
+returns-in-Err-clause-cause g c = λ told other quiet.
+    let before = c.args.self.now in
+    pass_fault before.failed before.bytes before.given before.filled before.stage _ c.requires.good c.requires.binary
+    (omega (arith, before.within, before.room)) c.requires.given (c.in-Err.ensures.cause told other quiet)
+
+pub returns-in-Err-clause-named : goal.returns-in-Err-clause-named
+returns-in-Err-clause-named g c = λ told other quiet.
+    let before = c.args.self.now in
+    pass_named before.bytes before.given before.filled before.stage _ c.in-Err.e c.requires.binary (c.in-Err.ensures.cause told other quiet)
+
+pub invariant_of-self-in-Err : goal.invariant_of-self-in-Err
+invariant_of-self-in-Err g c =
+    let before = c.args.self.now in
+    let reader = g.R.Read in
+    let now = c.in-Err.ensures in
+    let source = c.read.new.self in
+    let content = content_of (reader.content before.source.inner) (reader.place before.source.inner - before.source.taken) in
+    let other = content_of (reader.content source.inner) (reader.place source.inner - source.taken) in
+    let told_before : (IsTrue (reader.tells source.inner) → IsTrue (reader.tells before.source.inner)) = λ told. sym now.kept.same_tells ∙ told in
+    let steady_before : (IsTrue (reader.steady source.inner) → IsTrue (reader.steady before.source.inner)) = λ steady. sym now.kept.same_steady ∙ steady in
+    let same : (IsTrue (reader.tells source.inner) → other ≡ content) = λ told. rw (now.kept.same_content (told_before told), now.kept.origin (told_before told)) refl in
+    record {
+      room = before.room;
+      order = before.order;
+      within = before.within;
+      fresh = before.fresh;
+      unspent = λ good. absurd (true≢false good);
+      counted = λ told. omega (arith, before.counted (told_before told), now.kept.more (told_before told));
+      inside = λ told steady. subst (λ s. before.place ≤ length s.bytes) (sym (same told)) (before.inside (told_before told) (steady_before steady));
+      follows = λ told steady some. absurd (some (rest_failed before.bytes before.given before.filled before.stage (reader.rest source.inner)));
+    }
+
+pub returns-in-Ok-clause-shown : goal.returns-in-Ok-clause-shown
+returns-in-Ok-clause-shown g c =
+    let before = c.args.self.now in
+    shown_none before.failed before.bytes before.given before.filled (omega (arith, before.within, before.room)) c.requires.given
+
+pub returns-in-Err-clause-shown : goal.returns-in-Err-clause-shown
+returns-in-Err-clause-shown g c =
+    let before = c.args.self.now in
+    shown_none before.failed before.bytes before.given before.filled (omega (arith, before.within, before.room)) c.requires.given
+
+pub returns-in-Err-clause-gone : goal.returns-in-Err-clause-gone
+returns-in-Err-clause-gone g c =
+    let before = c.args.self.now in
+    rest_failed before.bytes before.given before.filled before.stage (g.R.Read.rest c.read.new.self.inner)
+
+pub returns-in-Ok-clause-moves : goal.returns-in-Ok-clause-moves
+returns-in-Ok-clause-moves g c = λ told.
+    let before = c.args.self.now in
+    let now = c.in-Ok.ensures in
+    let told_now : IsTrue (g.R.Read.tells c.read.new.self.inner) = now.kept.same_tells ∙ told in
+    omega (arith, c.saturating_add-self.ensures, before.counted told, now.taken told, c.read.new.self.behind told_now, g.met.R.Read.place_fits c.read.new.self.inner told_now)

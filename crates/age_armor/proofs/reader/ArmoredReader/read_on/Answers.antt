@@ -1,0 +1,99 @@
+use Rattle.std.proofs.Common.{◌≡◌, ◌∙◌, ◌-◌, ◌+◌, ◌≤◌, arith, length, take, drop, length-drop, sym, ap, subst, IsTrue, inr}
+use Rattle.age_io.specs.Reading.{Delivers}
+use Rattle.age_armor.specs.Ahead.{rest_ahead, shown_ahead}
+use Rattle.age_armor.specs.DeliveredLaws.{content_of}
+use Rattle.age_armor.proofs.Ahead.{rest_gone, length_held, shown_small}
+use Rattle.age_armor.proofs.ReaderSteps.{unspent_ok, ends_ok, left_err, patient_err}
+use Rattle.age_armor.proofs.reader.ArmoredReader.read_on.Goals as goal
+
+pub returns-then-is_passing-clause-reads : goal.returns-then-is_passing-clause-reads
+returns-then-is_passing-clause-reads g c =
+    let now = c.pass.ensures in
+    record {
+      count = now.count;
+      same_tells = now.tells;
+      same_steady = now.steady;
+      no_fewer_faults = now.faults;
+      device = now.device;
+      unspent = unspent_ok c.pass.result _ _ now.unspent;
+      same_content = now.content;
+      bytes = now.bytes;
+      moves = now.moves;
+      end = λ told. ends_ok c.pass.result _ _ (now.end told);
+      stays = λ told. now.stays;
+      left = λ told. left_err c.pass.result _ _ now.gone;
+      interrupted = λ told. patient_err c.pass.result _ now.patient;
+      cause = now.cause;
+    }
+
+pub returns-in-Err-clause-reads : goal.returns-in-Err-clause-reads
+returns-in-Err-clause-reads g c =
+    let now = c.in-Err.ensures in
+    let after = c.hold.new.self in
+    record {
+      count = tt;
+      same_tells = now.tells;
+      same_steady = now.steady;
+      no_fewer_faults = now.faults;
+      device = now.device;
+      unspent = tt;
+      same_content = now.content;
+      bytes = λ told. tt;
+      moves = λ told. tt;
+      end = λ told. tt;
+      stays = λ told. now.place;
+      left = λ told. inr (rest_gone after.failed after.bytes after.given after.filled after.stage (g.R.Read.rest after.source.inner) now.failed);
+      interrupted = λ told again. absurd (now.patient again);
+      cause = now.cause;
+    }
+
+pub returns-in-Ok-clause-reads : goal.returns-in-Ok-clause-reads
+returns-in-Ok-clause-reads g c =
+    let reader = g.R.Read in
+    let now = c.in-Ok.ensures in
+    let given = c.give.ensures in
+    let held = c.hold.new.self in
+    let after = c.give.new.self in
+    let n = c.give.result in
+    let inner : after.source.inner ≡ held.source.inner = ap (λ s. s.inner) given.source in
+    let faults : reader.faults after.source.inner ≡ reader.faults held.source.inner = ap reader.faults inner in
+    let rest = rest_ahead held.failed held.bytes held.given held.filled held.stage (reader.rest held.source.inner) in
+    let left = rest_ahead after.failed after.bytes after.given after.filled after.stage (reader.rest after.source.inner) in
+    let content : content_of (reader.content after.source.inner) (reader.place after.source.inner - after.source.taken)
+    ≡ content_of (reader.content held.source.inner) (reader.place held.source.inner - held.source.taken) =
+    ap (λ s. content_of (reader.content s.inner) (reader.place s.inner - s.taken)) given.source in
+    record {
+      count = omega (arith, given.count, c.give.auto.buf);
+      same_tells = ap reader.tells inner ∙ now.tells;
+      same_steady = ap reader.steady inner ∙ now.steady;
+      no_fewer_faults = omega (arith, faults, now.faults);
+      device = tt;
+      unspent = λ some. omega (arith, faults, now.unspent);
+      same_content = λ told. content ∙ now.content told;
+      bytes = λ told. subst (λ s. Delivers (take n c.give.new.buf) s left) (now.rest told) given.bytes;
+      moves = λ told. omega (arith, given.moves (now.tells ∙ told), now.place);
+      end = λ told none some. now.end told (omega (arith, none, given.count, held.order, c.requires.some));
+      stays = λ told. tt;
+      left = λ told. tt;
+      interrupted = λ told. tt;
+      cause = λ told. tt;
+    }
+
+pub returns-in-Ok-clause-held : goal.returns-in-Ok-clause-held
+returns-in-Ok-clause-held g c = λ some.
+    let held = c.hold.new.self in
+    let all : held.filled ≤ length held.bytes = omega (arith, held.within, held.room) in
+    let size = length_held held.failed held.bytes held.given held.filled all c.in-Ok.ensures.fresh in
+    let same = ap length ((c.in-Ok.ensures.same some).1) in
+    omega (arith, c.give.ensures.count, size, same)
+
+pub returns-in-Ok-clause-line : goal.returns-in-Ok-clause-line
+returns-in-Ok-clause-line g c = λ armored.
+    let held = c.hold.new.self in
+    let all : held.filled ≤ length held.bytes = omega (arith, held.within, held.room) in
+    let size = length_held held.failed held.bytes held.given held.filled all c.in-Ok.ensures.fresh in
+    let shown = shown_ahead held.failed held.bytes held.given held.filled in
+    let small = shown_small held.failed held.bytes held.given held.filled held.within in
+    let cut = length-drop c.give.result shown in
+    let left = ap length c.give.ensures.shown in
+    omega (arith, c.give.ensures.count, size, small, cut, left)

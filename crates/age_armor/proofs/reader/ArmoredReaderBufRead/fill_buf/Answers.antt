@@ -1,0 +1,119 @@
+use Rattle.std.proofs.Common.{◌≡◌, ◌∙◌, ◌≤◌, arith, refl, sym, subst, inl, inr, IsTrue, true, false}
+use Rattle.std.proofs.lemmas.Bool.{true≢false}
+use Rattle.age_io.specs.Filling.{IsFront}
+use Rattle.age_armor.proofs.Ahead.{fault_gone, rest_gone}
+use Rattle.age_armor.proofs.reader.ArmoredReaderBufRead.fill_buf.Goals as goal
+
+pub returns-then-self : goal.returns-then-self
+returns-then-self g c =
+    let before = c.args.self.now in (
+      (
+        refl,
+        λ r. tt,
+        record {
+          same_tells = refl;
+          same_steady = refl;
+          no_fewer_faults = omega arith;
+          device = λ device. absurd device;
+          unspent = tt;
+          shows = tt;
+          own = (
+            record {
+              failed = λ gone. refl;
+              fails = c.if-self.true;
+              good = tt;
+              patient = λ again. absurd again;
+            },
+            record {
+              same = λ told. tt;
+              named = λ told good. absurd (true≢false (sym c.if-self.true ∙ good));
+            },
+          );
+          same_content = λ told. refl;
+          stays = λ told. refl;
+          same_rest = λ told. tt;
+          left = λ told. inl refl;
+          interrupted = λ told again. absurd again;
+          cause = λ told other quiet. fault_gone before.failed before.bytes before.given before.filled before.stage (g.R.Read.rest before.source.inner) c.if-self.true;
+        },
+      ),
+      record { front = λ told. tt; end = λ told. tt; after = tt },
+    )
+
+pub returns-in-Err : goal.returns-in-Err
+returns-in-Err g c =
+    let now = c.in-Err.ensures in
+    let after = c.hold.new.self in (
+      (
+        refl,
+        λ r. tt,
+        record {
+          same_tells = now.tells;
+          same_steady = now.steady;
+          no_fewer_faults = now.faults;
+          device = now.device;
+          unspent = tt;
+          shows = tt;
+          own = (
+            record {
+              failed = λ gone. absurd (true≢false (sym gone ∙ c.if-self.false));
+              fails = now.failed;
+              good = tt;
+              patient = now.patient;
+            },
+            record {
+              same = λ told. tt;
+              named = λ told good. now.named told;
+            },
+          );
+          same_content = now.content;
+          stays = λ told. now.place;
+          same_rest = λ told. tt;
+          left = λ told. inr (rest_gone after.failed after.bytes after.given after.filled after.stage (g.R.Read.rest after.source.inner) now.failed);
+          interrupted = λ told again. absurd (now.patient again);
+          cause = now.cause;
+        },
+      ),
+      record { front = λ told. tt; end = λ told. tt; after = tt },
+    )
+
+pub returns-in-Ok : goal.returns-in-Ok
+returns-in-Ok g c =
+    let now = c.in-Ok.ensures in
+    let held = c.as_held.ensures in (
+      (
+        refl,
+        λ r. tt,
+        record {
+          same_tells = now.tells;
+          same_steady = now.steady;
+          no_fewer_faults = now.faults;
+          device = tt;
+          unspent = now.unspent;
+          shows = held.shown;
+          own = (
+            record {
+              failed = λ gone. absurd (true≢false (sym gone ∙ c.if-self.false));
+              fails = tt;
+              good = now.fresh;
+              patient = tt;
+            },
+            record {
+              same = now.ending;
+              named = λ told good. tt;
+            },
+          );
+          same_content = now.content;
+          stays = λ told. now.place;
+          same_rest = now.rest;
+          left = λ told. tt;
+          interrupted = λ told. tt;
+          cause = λ told. tt;
+        },
+      ),
+      record {
+        front = λ told. subst (λ s. IsFront c.as_held.result.now s) (now.rest told) held.front;
+        end = λ told none. now.end told (held.none none);
+        after = tt;
+      },
+    )

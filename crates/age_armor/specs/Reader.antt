@@ -1,0 +1,45 @@
+-- What a caller sees of an `ArmoredReader`, and what it means as a reader.
+use Rattle.std.specs.Prelude.{◌≡◌, ℕ, ◌-◌, Bool, true, List}
+use Rattle.age_io.specs.declared.traits.Read as readers
+use Rattle.age_io.specs.declared.bufread.BufRead as buffered
+use Rattle.age_io.specs.Stretch.{Stretch}
+use Rattle.age_armor.specs.declared.reader.ArmoredReader.{ArmoredReader}
+use Rattle.age_armor.specs.Delivered.{Outcome}
+use Rattle.age_armor.specs.Stages.{is_armored}
+use Rattle.age_armor.specs.Ahead.{outcome_ahead, rest_ahead, shown_ahead}
+use Rattle.age_armor.specs.DeliveredLaws.{content_of}
+
+module _ {R : Type 0} {buf : buffered.Ghosts R} {read : readers.Ghosts R} where
+  -- the reader that gives the text
+  abbrev pub inner_of : ArmoredReader R buf read → R
+  inner_of r = r.source.inner
+
+  -- whether it answers `Failed` to every read
+  abbrev pub has_failed : ArmoredReader R buf read → Bool
+  has_failed r = r.failed
+
+  -- whether it has found the begin marker
+  abbrev pub has_armor : ArmoredReader R buf read → Bool
+  has_armor r = is_armored r.stage
+
+  -- what the text still delivers, by the definition of armor, and how it ends
+  abbrev pub outcome_of : ArmoredReader R buf read → Outcome
+  outcome_of r = outcome_ahead r.bytes r.given r.filled r.stage (read.rest r.source.inner)
+
+  -- ---- its members as a reader
+
+  -- what the text delivers from where the inner reader stood when this reader was made
+  abbrev pub armored_content : ArmoredReader R buf read → Stretch
+  armored_content r = content_of (read.content r.source.inner) (read.place r.source.inner - r.source.taken)
+
+  -- how many bytes of that stand before the place
+  abbrev pub place_of : ArmoredReader R buf read → ℕ
+  place_of r = r.place
+
+  -- what its reads can still deliver
+  abbrev pub armored_rest : ArmoredReader R buf read → Stretch
+  armored_rest r = rest_ahead r.failed r.bytes r.given r.filled r.stage (read.rest r.source.inner)
+
+  -- what it shows: the rest of the line that it holds
+  abbrev pub shown_of : ArmoredReader R buf read → List ℕ
+  shown_of r = shown_ahead r.failed r.bytes r.given r.filled

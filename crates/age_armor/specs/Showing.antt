@@ -1,0 +1,52 @@
+-- What is done with the bytes that a reader shows.
+use Rattle.std.specs.Prelude.{◌≡◌, ◌≢◌, ℕ, ◌+◌, ◌≤◌, ◌<◌, Bool, IsTrue, List, [], ◌∷◌, ◌++◌, length, take, drop, Result, IfOk, IfErr, OnOk, OnErr}
+use Rattle.age_error.specs.Bytes.{AreBytes}
+use Rattle.age_error.specs.Refusals.{IsDevice, IsInterruption}
+use Rattle.age_error.specs.declared.io.Error.{Error}
+use Rattle.age_error.specs.declared.io.Error.TheVariants.{OutOfMemory}
+use Rattle.age_io.specs.Stretch.{Stretch, IsCleanEnd, IsFault}
+use Rattle.age_io.specs.Reading.{IsQuiet, Delivers, most_faults}
+use Rattle.age_base64.specs.Lines.{line, Lacks}
+use Rattle.age_base64.specs.Base64.{padded_columns}
+use Rattle.age_armor.specs.declared.showing.Run.{Run}
+use Rattle.age_armor.specs.declared.showing.Run.TheVariants.{Nothing, Open, Ended}
+
+-- A call that asks the reader for bytes. Where it refuses nothing was taken.
+pub record Asks {S A : Type 0} (tells steady : S → Bool) (content : S → Stretch) (place : S → ℕ) (rest : S → Stretch) (faults : S → ℕ)
+    (old new : S) (result : Result A Error) : Type 0 where
+  -- of every reader
+  pub same_tells : tells new ≡ tells old
+  pub same_steady : steady new ≡ steady old
+  pub no_fewer_faults : faults old ≤ faults new
+  pub device : IfErr result (λ e. IsDevice e → faults old < faults new)
+  pub unspent : OnOk result (faults new < most_faults)
+  -- of a reader that tells its bytes
+  pub same_content : IsTrue (tells old) → content new ≡ content old
+  pub stays : IsTrue (tells old) → OnErr result (place new ≡ place old)
+  pub interrupted : IsTrue (tells old) → IfErr result (λ e. IsInterruption e → rest new ≡ rest old)
+  pub cause : IsTrue (tells old) → IfErr result (λ e. e ≢ OutOfMemory → IsQuiet (faults old) (faults new) → IsFault (rest old))
+
+-- a line of 64 columns that stands for these 48 bytes was taken
+pub record TakesFull (bytes : List ℕ) (old new : Stretch) : Type 0 where
+  pub size : length bytes ≡ 48
+  pub each : AreBytes bytes
+  pub delivered : Delivers (line (padded_columns bytes)) old new
+
+-- these bytes begin with a line of 64 columns that stands for those 48
+pub record BeginsFull (bytes front : List ℕ) : Type 0 where
+  pub size : length bytes ≡ 48
+  pub each : AreBytes bytes
+  pub within : 65 ≤ length front
+  pub same : take 65 front ≡ line (padded_columns bytes)
+
+-- the first LF stands there
+pub record IsLineEnd (at : ℕ) (bytes : List ℕ) : Type 0 where
+  pub within : at < length bytes
+  pub before : Lacks 10 (take at bytes)
+  pub same : take (at + 1) bytes ≡ line (take at bytes)
+
+-- what was appended to a line: nothing at a clean end, bytes before its LF, or all up to that
+abbrev pub TakesRun : Run → List ℕ → List ℕ → Stretch → Stretch → Type 0
+TakesRun Nothing before after old new = (after ≡ before) × (new ≡ old) × IsCleanEnd old
+TakesRun Open before after old new = (run : List ℕ) × (after ≡ before ++ run) × Delivers run old new × Lacks 10 run
+TakesRun Ended before after old new = (run : List ℕ) × (after ≡ before ++ line run) × Delivers (line run) old new × Lacks 10 run

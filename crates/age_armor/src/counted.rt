@@ -1,0 +1,170 @@
+//! A reader whose taken bytes are counted.
+ghost use Rattle.std.specs.Prelude.{◌≡◌, ◌≢◌, ℕ, ◌+◌, ◌≤◌, ◌<◌, Bool, true, false, IsTrue, List, [], ◌∷◌, ◌++◌, length, take, IfOk, IfErr, OnOk, OnErr};
+ghost use Rattle.age_error.specs.Refusals.{IsInterruption};
+ghost use Rattle.age_error.specs.declared.io.Error.TheVariants.{OutOfMemory};
+ghost use Rattle.age_io.specs.Stretch.{IsCleanEnd, IsFault};
+ghost use Rattle.age_io.specs.Reading.{Delivers, IsQuiet};
+ghost use Rattle.std.specs.List.{list_all};
+ghost use Rattle.age_armor.specs.Delivered.{is_space as is_white};
+
+use crate::decoding::Decoder;
+use crate::showing::{Run, look, take_full, take_run};
+use age_error::io::{ArmoredReadError, Error};
+use age_io::{BufRead, fill, read_retrying};
+
+/// A reader of a text, and how many bytes were taken from it.
+#[derive(Drop)]
+pub(crate) struct Counted<R: BufRead> {
+    pub(crate) inner: R,
+    pub(crate) taken: u64,
+    ghost behind: { IsTrue (R.Read.tells inner) → taken ≤ R.Read.place inner },
+}
+
+// Space, tab, LF, FF or CR.
+fn is_space(byte: u8) -> bool
+    ensures { result ≡ is_white byte }
+{
+    matches!(byte, b' ' | b'\t' | b'\n' | 12 | b'\r')
+}
+
+fn are_spaces(bytes: &[u8]) -> bool
+    ensures { result ≡ list_all is_white bytes.now }
+{
+    let mut rest = bytes;
+    while let Some((byte, tail)) = rest.split_first() {
+        if !is_space(*byte) {
+            return false;
+        }
+        rest = tail;
+    }
+    true
+}
+
+impl<R: BufRead> Counted<R> {
+    ghost use Rattle.age_armor.specs.Counting.{Kept, TakesLine, IsCutShort, IsFew};
+    ghost use Rattle.age_armor.specs.Showing.{TakesFull};
+    ghost use Rattle.age_armor.specs.Stages.{IsNamed};
+    ghost use Rattle.age_armor.specs.Delivered.{trailing, Clean};
+
+    /// Whether nothing is left but a clean end.
+    pub(crate) fn is_at_end(&mut self) -> Result<bool, Error>
+        ensures kept { Kept R.Read.tells R.Read.steady R.Read.content R.Read.place R.Read.faults self.old.inner self.old.taken self.new.inner self.new.taken result }
+        ensures taken { self.new.taken ≡ self.old.taken }
+        ensures same { IsTrue (R.Read.tells self.old.inner) → OnOk result (R.Read.rest self.new.inner ≡ R.Read.rest self.old.inner) }
+        ensures some { IsTrue (R.Read.tells self.old.inner) → IfOk result (λ is. is ≡ false → 0 < length (R.Read.rest self.old.inner).bytes) }
+        ensures end { IsTrue (R.Read.tells self.old.inner) → IfOk result (λ is. IsTrue is → IsCleanEnd (R.Read.rest self.old.inner)) }
+        ensures cause { IsTrue (R.Read.tells self.old.inner) → IfErr result (λ e. e ≢ OutOfMemory → IsQuiet (R.Read.faults self.old.inner) (R.Read.faults self.new.inner) →
+            IsFault (R.Read.rest self.old.inner)) }
+    {
+        look(&mut self.inner)
+    }
+
+    /// Reads as the inner reader does.
+    pub(crate) fn read(&mut self, buf: &mut [u8]) -> Result<usize, Error>
+        requires { 0 < length buf.old }
+        ensures kept { Kept R.Read.tells R.Read.steady R.Read.content R.Read.place R.Read.faults self.old.inner self.old.taken self.new.inner self.new.taken result }
+        ensures count { IfOk result (λ n. n ≤ length buf.new) }
+        ensures taken { IsTrue (R.Read.tells self.old.inner) → IfOk result (λ n. self.new.taken ≡ self.old.taken + n) }
+        ensures bytes { IsTrue (R.Read.tells self.old.inner) → IfOk result (λ n. Delivers (take n buf.new) (R.Read.rest self.old.inner) (R.Read.rest self.new.inner)) }
+        ensures end { IsTrue (R.Read.tells self.old.inner) → IfOk result (λ n. n ≡ 0 → IsCleanEnd (R.Read.rest self.old.inner)) }
+        ensures cause { IsTrue (R.Read.tells self.old.inner) → IfErr result (λ e. e ≢ OutOfMemory → IsQuiet (R.Read.faults self.old.inner) (R.Read.faults self.new.inner) →
+            IsFault (R.Read.rest self.old.inner)) }
+    {
+        match read_retrying(&mut self.inner, buf) {
+            Err(e) => Err(e),
+            Ok(count) => {
+                self.taken = self.taken.saturating_add(count as u64);
+                Ok(count)
+            }
+        }
+    }
+
+    /// Fills `front`, or answers that there are fewer bytes.
+    pub(crate) fn take_front(&mut self, front: &mut [u8]) -> Result<bool, Error>
+        requires { 0 < length front.old }
+        ensures kept { Kept R.Read.tells R.Read.steady R.Read.content R.Read.place R.Read.faults self.old.inner self.old.taken self.new.inner self.new.taken result }
+        ensures taken { IsTrue (R.Read.tells self.old.inner) → IfOk result (λ whole. IsTrue whole → self.new.taken ≡ self.old.taken + length front.new) }
+        ensures bytes { IsTrue (R.Read.tells self.old.inner) → IfOk result (λ whole. IsTrue whole → Delivers front.new (R.Read.rest self.old.inner) (R.Read.rest self.new.inner)) }
+        ensures few { IsTrue (R.Read.tells self.old.inner) → IfOk result (λ whole. whole ≡ false → IsFew (length front.new) true (R.Read.rest self.old.inner)) }
+        ensures cause { IsTrue (R.Read.tells self.old.inner) → IfErr result (λ e. e ≢ OutOfMemory → IsQuiet (R.Read.faults self.old.inner) (R.Read.faults self.new.inner) →
+            IsFew (length front.new) false (R.Read.rest self.old.inner)) }
+    {
+        let mut count = 0;
+        let answer = fill(&mut self.inner, front, &mut count);
+        self.taken = self.taken.saturating_add(count as u64);
+        match answer {
+            Err(e) => Err(e),
+            Ok(()) => Ok(count == front.len()),
+        }
+    }
+
+    /// Takes a line that is shown whole, where it is 64 symbols and LF, and puts the 48 bytes that it stands for in
+    /// `bytes`. Else it takes nothing and answers false.
+    pub(crate) fn take_full(
+        &mut self,
+        decoder: &Decoder,
+        bytes: &mut [u8; 48],
+    ) -> Result<bool, Error>
+        ensures kept { Kept R.Read.tells R.Read.steady R.Read.content R.Read.place R.Read.faults self.old.inner self.old.taken self.new.inner self.new.taken result }
+        ensures none { IsTrue (R.Read.tells self.old.inner) → IfOk result (λ is. is ≡ false → R.Read.rest self.new.inner ≡ R.Read.rest self.old.inner) }
+        ensures full { IsTrue (R.Read.tells self.old.inner) → IfOk result (λ is. IsTrue is → TakesFull bytes.new (R.Read.rest self.old.inner) (R.Read.rest self.new.inner)) }
+        ensures taken { IsTrue (R.Read.tells self.old.inner) → IfOk result (λ is. IsTrue is → self.new.taken ≡ self.old.taken + 65) }
+        ensures cause { IsTrue (R.Read.tells self.old.inner) → IfErr result (λ e. e ≢ OutOfMemory → IsQuiet (R.Read.faults self.old.inner) (R.Read.faults self.new.inner) →
+            IsFault (R.Read.rest self.old.inner)) }
+    {
+        match take_full(&mut self.inner, decoder, bytes) {
+            Err(e) => Err(e),
+            Ok(full) => {
+                if full {
+                    self.taken = self.taken.saturating_add(65);
+                }
+                Ok(full)
+            }
+        }
+    }
+
+    /// Takes a line up to its LF, or to the end, and puts it in `line`. It is empty at a clean end alone.
+    pub(crate) fn take_line(&mut self, line: &mut Vec<u8>) -> Result<(), Error>
+        ensures kept { Kept R.Read.tells R.Read.steady R.Read.content R.Read.place R.Read.faults self.old.inner self.old.taken self.new.inner self.new.taken result }
+        ensures taken { IsTrue (R.Read.tells self.old.inner) → OnOk result (self.new.taken ≡ self.old.taken + length line.new.items) }
+        ensures line { IsTrue (R.Read.tells self.old.inner) → OnOk result (TakesLine line.new.items (R.Read.rest self.old.inner) (R.Read.rest self.new.inner)) }
+        ensures cause { IsTrue (R.Read.tells self.old.inner) → IfErr result (λ e. e ≢ OutOfMemory → IsQuiet (R.Read.faults self.old.inner) (R.Read.faults self.new.inner) →
+            IsCutShort (R.Read.rest self.old.inner)) }
+    {
+        line.clear();
+        'runs: loop {
+            let before = line.len();
+            let answer = take_run(&mut self.inner, line);
+            self.taken = self.taken.saturating_add((line.len() - before) as u64);
+            match answer {
+                Err(e) => return Err(e),
+                Ok(run) => match run {
+                    Run::Open => {}
+                    Run::Nothing => return Ok(()),
+                    Run::Ended => return Ok(()),
+                },
+            }
+        }
+    }
+
+    /// Takes what follows the end marker's line: white space and then a clean end. `room` is room to read into.
+    pub(crate) fn take_trailing(&mut self, room: &mut [u8; 48]) -> Result<(), Error>
+        ensures kept { Kept R.Read.tells R.Read.steady R.Read.content R.Read.place R.Read.faults self.old.inner self.old.taken self.new.inner self.new.taken result }
+        ensures clean { IsTrue (R.Read.tells self.old.inner) → OnOk result (trailing (R.Read.rest self.old.inner).bytes (R.Read.rest self.old.inner).ends_well ≡ Clean) }
+        ensures cause { IsTrue (R.Read.tells self.old.inner) → IfErr result (λ e. e ≢ OutOfMemory → IsQuiet (R.Read.faults self.old.inner) (R.Read.faults self.new.inner) →
+            IsNamed (trailing (R.Read.rest self.old.inner).bytes (R.Read.rest self.old.inner).ends_well) e) }
+    {
+        for _count in 0..u64::MAX {
+            match self.read(room) {
+                Err(e) => return Err(e),
+                Ok(0) => return Ok(()),
+                Ok(count) => {
+                    if !are_spaces(&room[..count]) {
+                        return Err(Error::Armor(ArmoredReadError::TrailingGarbage));
+                    }
+                }
+            }
+        }
+        Err(Error::TooLong)
+    }
+}

@@ -1,0 +1,56 @@
+//! Decoding the columns of a line.
+ghost use Rattle.std.specs.Prelude.{◌≡◌, ◌≤◌, IsTrue, Some, None, take, length, MatchOption};
+ghost use Rattle.age_error.specs.Bytes.{AreBytes};
+ghost use Rattle.age_armor.specs.LineVerdict.{decoded};
+ghost use Rattle.age_armor.specs.Decoder.{DecodesArmor, RefusesNoArmor};
+
+use age_base64::armor_engine;
+use base64::engine::general_purpose::GeneralPurpose;
+
+/// The engine of armor's base64. It is made once, since making it fills its tables.
+#[derive(Drop)]
+pub(crate) struct Decoder {
+    engine: GeneralPurpose,
+    ghost decodes: { DecodesArmor engine },
+    ghost takes: { RefusesNoArmor engine },
+}
+
+// What a slice of bytes holds is numbers below 256: a fact for proofs alone, which costs nothing.
+fn known_bytes(bytes: &[u8])
+    ensures { AreBytes bytes.now }
+{}
+
+impl Decoder {
+    pub(crate) fn new() -> Decoder {
+        Decoder {
+            engine: armor_engine(),
+        }
+    }
+
+    /// Puts the bytes that the columns stand for in front of `bytes`, and answers how many they are; or `None` where the
+    /// columns are no canonical base64 with padding (RFC 4648 section 4).
+    pub(crate) fn decode(&self, columns: &[u8], bytes: &mut [u8; 48]) -> Option<usize>
+        requires { length columns.now ≤ 64 }
+        ensures { MatchOption result
+            (decoded columns.now ≡ None)
+            (λ n. (decoded columns.now ≡ Some (take n bytes.new)) × (n ≤ 48)) }
+    {
+        match self.engine.decode_slice_unchecked(columns, bytes) {
+            Ok(count) => {
+                known_bytes(bytes);
+                Some(count)
+            }
+            Err(_) => None,
+        }
+    }
+
+    /// Whether 64 columns are the base64 of 48 bytes, which are then in `bytes`.
+    pub(crate) fn decode_full(&self, columns: &[u8; 64], bytes: &mut [u8; 48]) -> bool
+        ensures { IsTrue result → decoded columns.now ≡ Some bytes.new }
+    {
+        match self.decode(columns, bytes) {
+            Some(count) => count == 48,
+            None => false,
+        }
+    }
+}

@@ -1,0 +1,399 @@
+//! Reading armor.
+ghost use Rattle.std.specs.Prelude.{◌≡◌, ◌≢◌, ℕ, ◌+◌, ◌-◌, ◌^◌, ◌≤◌, ◌<◌, Bool, true, false, IsTrue, List, [], ◌++◌, length, take, drop, min, IfOk, IfErr, OnOk, OnErr, Ok, Err};
+ghost use Rattle.std.proofs.Common.{arith};
+ghost use Rattle.age_error.specs.Bytes.{AreBytes};
+ghost use Rattle.age_error.specs.Refusals.{IsDevice, IsInterruption};
+ghost use Rattle.age_error.specs.declared.io.Error.TheVariants.{OutOfMemory, Failed};
+ghost use Rattle.age_io.specs.Stretch.{Stretch, nothing, whole, from_place, IsCleanEnd, IsFault};
+ghost use Rattle.age_io.specs.Reading.{Reads, IsQuiet, Delivers, most_faults};
+ghost use Rattle.age_io.specs.Filling.{IsFront, Consumes};
+ghost use Rattle.age_io.specs.Failing.{FailsForGood};
+ghost use Rattle.age_armor.specs.Armor.{Carries};
+ghost use Rattle.age_armor.specs.Delivered.{stretch_of, delivered};
+ghost use Rattle.age_armor.specs.Stages.{is_start, is_ended, IsNamed};
+ghost use Rattle.age_armor.specs.Ending.{KeepsEnding};
+ghost use Rattle.age_armor.specs.declared.stages.Stage.TheVariants.{Binary};
+ghost use Rattle.age_armor.specs.Ahead.{outcome_ahead, rest_ahead, shown_ahead};
+ghost use Rattle.age_armor.specs.DeliveredLaws.{content_of, content_bytes, content_short, stands_by};
+ghost use Rattle.age_armor.specs.ReaderLaws.{spent_ahead, well_inner};
+
+use crate::counted::Counted;
+use crate::decoding::Decoder;
+use crate::stages::{Stage, advance};
+use age_error::io::Error;
+use age_io::{BufRead, BufReader, Read};
+use std::alloc::Global;
+
+/// Reads what a text carries: the data of an armored text, and a binary text unchanged (age-encryption.org/v1, section
+/// "ASCII armor").
+///
+/// The text begins where the inner reader stands when this one is made, and places count from there. The first read
+/// finds out which of the two it is. One line is held at a time.
+#[derive(Drop)]
+pub struct ArmoredReader<R: BufRead> {
+    source: Counted<R>,
+    decoder: Decoder,
+    stage: Stage,
+    // The text of a line, where the inner reader doesn't show it in one piece.
+    line: Vec<u8>,
+    // The bytes from `given` to `filled` were read and not given yet.
+    bytes: [u8; 48],
+    given: usize,
+    filled: usize,
+    place: u64,
+    failed: bool,
+    ghost room: { length bytes ≡ 48 },
+    ghost order: { given ≤ filled },
+    ghost within: { filled ≤ 48 },
+    ghost fresh: { is_start stage ≡ true → given ≡ filled },
+    ghost unspent: { failed ≡ false → is_start stage ≡ false → R.Read.faults source.inner < most_faults },
+    ghost counted: { IsTrue (R.Read.tells source.inner) → place + (filled - given) ≤ source.taken },
+    ghost inside: { IsTrue (R.Read.tells source.inner) → IsTrue (R.Read.steady source.inner) →
+        place ≤ length (content_of (R.Read.content source.inner) (R.Read.place source.inner - source.taken)).bytes },
+    ghost follows: { IsTrue (R.Read.tells source.inner) → IsTrue (R.Read.steady source.inner) →
+        (rest_ahead failed bytes given filled stage (R.Read.rest source.inner) ≡ nothing → ⊥) →
+        rest_ahead failed bytes given filled stage (R.Read.rest source.inner)
+        ≡ from_place place (content_of (R.Read.content source.inner) (R.Read.place source.inner - source.taken)) },
+}
+
+impl<R: BufRead> Read for ArmoredReader<R> {
+    ghost use Rattle.age_armor.specs.Reader.{inner_of, has_failed, has_armor, outcome_of, armored_content, place_of, armored_rest, shown_of};
+
+    ghost tells = { λ r. R.Read.tells (inner_of r) };
+
+    ghost steady = { λ r. R.Read.steady (inner_of r) };
+
+    ghost content = { armored_content };
+
+    ghost place = { place_of };
+
+    ghost rest = { armored_rest };
+
+    ghost faults = { λ r. R.Read.faults (inner_of r) };
+
+    ghost faults_fit = { λ r. R.Read.faults_fit r.source.inner };
+
+    ghost spent = { λ r told is. spent_ahead r.failed r.bytes r.given r.filled r.stage (R.Read.rest r.source.inner)
+        (R.Read.faults r.source.inner) r.fresh r.unspent is (R.Read.spent r.source.inner told is) };
+
+    ghost well = { λ r told well. R.Read.well r.source.inner told (well_inner (R.Read.content r.source.inner) (R.Read.place r.source.inner - r.source.taken) well) };
+
+    ghost stands = { λ r told steady. stands_by (armored_content r) (armored_rest r) r.place (r.inside told steady) (r.follows told steady) };
+
+    ghost are_bytes = { λ r told. content_bytes (R.Read.content r.source.inner) (R.Read.place r.source.inner - r.source.taken)
+        (R.Read.are_bytes r.source.inner told) };
+
+    ghost short = { λ r told. content_short (R.Read.content r.source.inner) (R.Read.place r.source.inner - r.source.taken)
+        (R.Read.are_bytes r.source.inner told) (R.Read.short r.source.inner told) };
+
+    ghost place_fits = { λ r told. Prim.omega (arith, R.Read.place_fits r.source.inner told, r.counted told, r.source.behind told) };
+
+    /// Puts the next bytes in front of `buf`, and answers how many they are: of armor at most the rest of one line.
+    ///
+    /// An empty buffer changes nothing, and the answer is 0. Else 0 is the end: the inner reader ended well, and the text
+    /// carries exactly the bytes that were given. A refusal is
+    ///
+    /// - `UnexpectedEof`: the text has fewer than 36 bytes.
+    /// - `Armor(..)`: the first fault of the text, in the order of its lines.
+    /// - that of the inner reader, where it refuses before a line is whole, or in place of its end. Its interruptions
+    ///   are tried again up to 16 times in a row; after that the answer is `Device(Other)`.
+    /// - `OutOfMemory`: memory for a line's text was refused.
+    /// - `Failed`: it refused before.
+    ///
+    /// After a refusal the reader has failed, and stays so. The place is as it was.
+    #[tactic(auto, using(crate::proofs::Ahead::rest_failed, crate::proofs::Ahead::shown_small))]
+    fn read(&mut self, buf: &mut [u8]) -> Result<usize, Error>
+        ensures reads { let reader = ⟦<ArmoredReader<R> as Read>⟧ in
+            Reads reader.tells reader.steady reader.content reader.place reader.rest reader.faults self.old self.new buf.new result }
+        // After a refusal it answers `Failed`. A refusal that neither the device nor memory made is that of the text's end,
+        // which reads don't change.
+        ensures good { FailsForGood (has_failed self.old) (has_failed self.new) result }
+        ensures ending { let reader = ⟦<ArmoredReader<R> as Read>⟧ in KeepsEnding (reader.tells self.old) (has_failed self.old)
+            (reader.faults self.old) (reader.faults self.new) (outcome_of self.old).ending (outcome_of self.new).ending result }
+
+        // It gives what is held of a line, or of the next one.
+        ensures held { 0 < length (shown_of self.old) → IfOk result (λ n. n ≤ length (shown_of self.old)) }
+        ensures line { IsTrue (has_armor self.new) → IfOk result (λ n. n + length (shown_of self.new) ≤ 48) }
+
+        ensures failed { IsTrue (has_failed self.old) → (result ≡ Err Failed) × (self.new ≡ self.old) }
+        ensures empty { has_failed self.old ≡ false → length buf.old ≡ 0 → (result ≡ Ok 0) × (self.new ≡ self.old) }
+    {
+        if self.failed {
+            return Err(Error::Failed);
+        }
+        if buf.is_empty() {
+            return Ok(0);
+        }
+        self.read_on(buf)
+    }
+}
+
+impl<R: BufRead> ArmoredReader<R> {
+    ghost use Rattle.age_armor.specs.Reader.{inner_of, has_failed, has_armor, outcome_of, armored_content, place_of, armored_rest, shown_of};
+
+    /// A reader of what the text carries that begins where `inner` stands.
+    ///
+    /// It reads nothing yet and takes no memory.
+    pub fn new_buffered(alloc: Global, inner: R) -> Result<ArmoredReader<R>, Error>
+    where
+        R: Drop,
+        ensures inner { IfOk result (λ r. inner_of r ≡ inner) }
+        ensures good { IfOk result (λ r. has_failed r ≡ false) }
+        ensures shown { IfOk result (λ r. shown_of r ≡ []) }
+        ensures place { IfOk result (λ r. place_of r ≡ 0) }
+        ensures content { IfOk result (λ r. armored_content r ≡ content_of (R.Read.content inner) (R.Read.place inner)) }
+        ensures outcome { IfOk result (λ r. outcome_of r ≡ delivered (R.Read.rest inner).bytes (R.Read.rest inner).ends_well) }
+        ensures rest { IfOk result (λ r. armored_rest r ≡ stretch_of (delivered (R.Read.rest inner).bytes (R.Read.rest inner).ends_well)) }
+
+        // What it delivers to a clean end is what the inner reader's rest carries, and the other way.
+        ensures carries { IsTrue (R.Read.tells inner) → IfOk result (λ r. IsTrue (armored_rest r).ends_well →
+            IsTrue (R.Read.rest inner).ends_well × (AreBytes (R.Read.rest inner).bytes → Carries (R.Read.rest inner).bytes (armored_rest r).bytes)) }
+        ensures honest { (bytes : List ℕ) → IsTrue (R.Read.rest inner).ends_well → Carries (R.Read.rest inner).bytes bytes →
+            IfOk result (λ r. armored_rest r ≡ whole bytes) }
+        ensures memory { IfErr result (λ e. e ≡ OutOfMemory) }
+    {
+        Ok(ArmoredReader {
+            source: Counted { inner, taken: 0 },
+            decoder: Decoder::new(),
+            stage: Stage::Start,
+            line: Vec::new(alloc),
+            bytes: [0; 48],
+            given: 0,
+            filled: 0,
+            place: 0,
+            failed: false,
+        })
+    }
+
+    // A read of a good reader into a buffer that isn't empty.
+    #[tactic(auto, using(crate::proofs::Ahead::rest_failed, crate::proofs::Ahead::shown_small))]
+    fn read_on(&mut self, buf: &mut [u8]) -> Result<usize, Error>
+        requires good { self.old.failed ≡ false }
+        requires some { 0 < length buf.old }
+        ensures reads { let reader = ⟦<ArmoredReader<R> as Read>⟧ in
+            Reads reader.tells reader.steady reader.content reader.place reader.rest reader.faults self.old self.new buf.new result }
+        ensures patient { IfErr result (λ e. IsInterruption e → ⊥) }
+        ensures named { IsTrue (R.Read.tells self.old.source.inner) → IfErr result (λ e. e ≢ OutOfMemory →
+            IsQuiet (R.Read.faults self.old.source.inner) (R.Read.faults self.new.source.inner) → IsNamed (outcome_of self.old).ending e) }
+        ensures ending { IsTrue (R.Read.tells self.old.source.inner) → OnOk result ((outcome_of self.new).ending ≡ (outcome_of self.old).ending) }
+        ensures held { 0 < length (shown_of self.old) → IfOk result (λ n. n ≤ length (shown_of self.old)) }
+        ensures line { IsTrue (has_armor self.new) → IfOk result (λ n. n + length (shown_of self.new) ≤ 48) }
+        ensures fails { OnErr result (self.new.failed ≡ true) }
+        ensures good { OnOk result (self.new.failed ≡ false) }
+    {
+        if self.is_passing() {
+            return self.pass(buf);
+        }
+        match self.hold() {
+            Err(e) => Err(e),
+            Ok(()) => Ok(self.give(buf)),
+        }
+    }
+
+    // Whether the text is binary and nothing of it is held.
+    fn is_passing(&self) -> bool
+        ensures { IsTrue result → (self.now.stage ≡ Binary) × (self.now.given ≡ self.now.filled) }
+    {
+        match self.stage {
+            Stage::Binary => self.given == self.filled,
+            _ => false,
+        }
+    }
+
+    // Passes on a read of a binary text.
+    #[tactic(auto, using(crate::proofs::Ahead::rest_failed))]
+    fn pass(&mut self, buf: &mut [u8]) -> Result<usize, Error>
+        requires good { self.old.failed ≡ false }
+        requires some { 0 < length buf.old }
+        requires binary { self.old.stage ≡ Binary }
+        requires given { self.old.given ≡ self.old.filled }
+        ensures tells { R.Read.tells self.new.source.inner ≡ R.Read.tells self.old.source.inner }
+        ensures steady { R.Read.steady self.new.source.inner ≡ R.Read.steady self.old.source.inner }
+        ensures faults { R.Read.faults self.old.source.inner ≤ R.Read.faults self.new.source.inner }
+        ensures device { IfErr result (λ e. IsDevice e → R.Read.faults self.old.source.inner < R.Read.faults self.new.source.inner) }
+        ensures unspent { OnOk result (R.Read.faults self.new.source.inner < most_faults) }
+        ensures patient { IfErr result (λ e. IsInterruption e → ⊥) }
+        ensures content { IsTrue (R.Read.tells self.old.source.inner) → armored_content self.new ≡ armored_content self.old }
+        ensures count { IfOk result (λ n. n ≤ length buf.new) }
+        ensures bytes { IsTrue (R.Read.tells self.old.source.inner) → IfOk result (λ n.
+            Delivers (take n buf.new) (armored_rest self.old) (armored_rest self.new)) }
+        ensures moves { IsTrue (R.Read.tells self.old.source.inner) → IfOk result (λ n. self.new.place ≡ self.old.place + n) }
+        ensures end { IsTrue (R.Read.tells self.old.source.inner) → IfOk result (λ n. n ≡ 0 → IsCleanEnd (armored_rest self.old)) }
+        ensures stays { OnErr result (self.new.place ≡ self.old.place) }
+        ensures gone { OnErr result (armored_rest self.new ≡ nothing) }
+        ensures cause { IsTrue (R.Read.tells self.old.source.inner) → IfErr result (λ e. e ≢ OutOfMemory →
+            IsQuiet (R.Read.faults self.old.source.inner) (R.Read.faults self.new.source.inner) → IsFault (armored_rest self.old)) }
+        ensures named { IsTrue (R.Read.tells self.old.source.inner) → IfErr result (λ e. e ≢ OutOfMemory →
+            IsQuiet (R.Read.faults self.old.source.inner) (R.Read.faults self.new.source.inner) → IsNamed (outcome_of self.old).ending e) }
+        ensures ending { IsTrue (R.Read.tells self.old.source.inner) → OnOk result ((outcome_of self.new).ending ≡ (outcome_of self.old).ending) }
+        ensures shown { shown_of self.old ≡ [] }
+        ensures binary { has_armor self.new ≡ false }
+        ensures fails { OnErr result (self.new.failed ≡ true) }
+        ensures good { OnOk result (self.new.failed ≡ false) }
+    {
+        match self.source.read(buf) {
+            Ok(count) => {
+                self.place = self.place.saturating_add(count as u64);
+                Ok(count)
+            }
+            Err(e) => {
+                self.failed = true;
+                Err(e)
+            }
+        }
+    }
+
+    // Whether a byte is held, or the end was found.
+    fn is_ready(&self) -> bool
+        ensures begun { IsTrue result → is_start self.now.stage ≡ false }
+        ensures end { IsTrue result → self.now.given ≡ self.now.filled → is_ended self.now.stage ≡ true }
+        ensures none { result ≡ false → self.now.given ≡ self.now.filled }
+        ensures more { result ≡ false → is_ended self.now.stage ≡ false }
+    {
+        self.given < self.filled || matches!(self.stage, Stage::Ended)
+    }
+
+    // Reads on where nothing is held. Then nothing is held at a clean end alone.
+    #[tactic(auto, using(crate::proofs::Ahead::rest_failed))]
+    fn hold(&mut self) -> Result<(), Error>
+        requires { self.old.failed ≡ false }
+        ensures tells { R.Read.tells self.new.source.inner ≡ R.Read.tells self.old.source.inner }
+        ensures steady { R.Read.steady self.new.source.inner ≡ R.Read.steady self.old.source.inner }
+        ensures faults { R.Read.faults self.old.source.inner ≤ R.Read.faults self.new.source.inner }
+        ensures device { IfErr result (λ e. IsDevice e → R.Read.faults self.old.source.inner < R.Read.faults self.new.source.inner) }
+        ensures unspent { OnOk result (R.Read.faults self.new.source.inner < most_faults) }
+        ensures patient { IfErr result (λ e. IsInterruption e → ⊥) }
+        ensures content { IsTrue (R.Read.tells self.old.source.inner) → armored_content self.new ≡ armored_content self.old }
+        ensures place { self.new.place ≡ self.old.place }
+        ensures fresh { OnOk result (self.new.failed ≡ false) }
+        ensures rest { IsTrue (R.Read.tells self.old.source.inner) → OnOk result (armored_rest self.new ≡ armored_rest self.old) }
+        ensures end { IsTrue (R.Read.tells self.old.source.inner) → OnOk result
+            (self.new.given ≡ self.new.filled → IsCleanEnd (armored_rest self.old)) }
+        ensures ending { IsTrue (R.Read.tells self.old.source.inner) → OnOk result ((outcome_of self.new).ending ≡ (outcome_of self.old).ending) }
+        ensures same { 0 < length (shown_of self.old) → (result ≡ Ok tt) × (shown_of self.new ≡ shown_of self.old) }
+        ensures failed { OnErr result (self.new.failed ≡ true) }
+        ensures cause { IsTrue (R.Read.tells self.old.source.inner) → IfErr result (λ e. e ≢ OutOfMemory →
+            IsQuiet (R.Read.faults self.old.source.inner) (R.Read.faults self.new.source.inner) → IsFault (armored_rest self.old)) }
+        ensures named { IsTrue (R.Read.tells self.old.source.inner) → IfErr result (λ e. e ≢ OutOfMemory →
+            IsQuiet (R.Read.faults self.old.source.inner) (R.Read.faults self.new.source.inner) → IsNamed (outcome_of self.old).ending e) }
+    {
+        if self.is_ready() {
+            return Ok(());
+        }
+        // Read apart: a refusal leaves the reader's bytes as they are.
+        let mut bytes = self.bytes;
+        match advance(
+            &mut self.source,
+            &self.decoder,
+            self.stage,
+            &mut self.line,
+            &mut bytes,
+        ) {
+            Ok(piece) => {
+                self.bytes = bytes;
+                self.stage = piece.next;
+                self.given = 0;
+                self.filled = piece.count;
+                Ok(())
+            }
+            Err(e) => {
+                self.failed = true;
+                Err(e)
+            }
+        }
+    }
+
+    // Gives what is held, as far as `buf` has room.
+    fn give(&mut self, buf: &mut [u8]) -> usize
+        requires { self.old.failed ≡ false }
+        ensures count { result ≡ min (length buf.old) (self.old.filled - self.old.given) }
+        ensures source { self.new.source ≡ self.old.source }
+        ensures stage { self.new.stage ≡ self.old.stage }
+        ensures fresh { self.new.failed ≡ false }
+        ensures shown { shown_of self.new ≡ drop result (shown_of self.old) }
+        ensures bytes { Delivers (take result buf.new) (armored_rest self.old) (armored_rest self.new) }
+        ensures ending { (outcome_of self.new).ending ≡ (outcome_of self.old).ending }
+        ensures moves { IsTrue (R.Read.tells self.old.source.inner) → self.new.place ≡ self.old.place + result }
+    {
+        let count = buf.len().min(self.filled - self.given);
+        buf[..count].copy_from_slice(&self.bytes[self.given..self.given + count]);
+        self.given += count;
+        self.place = self.place.saturating_add(count as u64);
+        count
+    }
+
+    // What is held.
+    fn as_held(&self) -> &[u8]
+        requires { self.now.failed ≡ false }
+        ensures shown { shown_of self.now ≡ result.now }
+        ensures front { IsFront result.now (armored_rest self.now) }
+        ensures none { length result.now ≡ 0 → self.now.given ≡ self.now.filled }
+    {
+        &self.bytes[self.given..self.filled]
+    }
+}
+
+impl<R: BufRead> BufRead for ArmoredReader<R> {
+    ghost use Rattle.age_armor.specs.Reader.{inner_of, has_failed, outcome_of, shown_of};
+
+    ghost shown = { shown_of };
+
+    ghost besides = { λ old new result. FailsForGood (has_failed old) (has_failed new) result
+        × KeepsEnding (R.Read.tells (inner_of old)) (has_failed old) (R.Read.faults (inner_of old)) (R.Read.faults (inner_of new))
+        (outcome_of old).ending (outcome_of new).ending result };
+
+    /// Shows what is held of a line, or the next line's bytes where nothing is held.
+    ///
+    /// It refuses as `read` does.
+    #[tactic(auto, using(crate::proofs::Ahead::rest_failed))]
+    fn fill_buf(&mut self) -> Result<&[u8], Error> {
+        if self.failed {
+            return Err(Error::Failed);
+        }
+        match self.hold() {
+            Err(e) => Err(e),
+            Ok(()) => Ok(self.as_held()),
+        }
+    }
+
+    /// Takes bytes of what was shown. It neither fails nor makes good again, and how the text ends stays the same.
+    fn consume(&mut self, amount: usize)
+        requires { amount ≤ length (shown_of self.old) }
+        ensures consumes { let reader = ⟦<ArmoredReader<R> as Read>⟧ in
+            Consumes reader.tells reader.steady reader.content reader.place reader.rest reader.faults (λ r. shown_of r) self.old self.new amount }
+        ensures failed { has_failed self.new ≡ has_failed self.old }
+        ensures ending { (outcome_of self.new).ending ≡ (outcome_of self.old).ending }
+    {
+        self.given += amount;
+        self.place = self.place.saturating_add(amount as u64);
+    }
+}
+
+impl<R: Read> ArmoredReader<BufReader<R>> {
+    ghost use Rattle.age_armor.specs.Reader.{has_failed, outcome_of, armored_content, place_of, armored_rest, shown_of};
+
+    /// A reader of what the text carries that begins where `inner` stands, over a buffer of its own.
+    ///
+    /// It reads nothing yet. It takes memory for the buffer, and answers `OutOfMemory` where it is refused that.
+    pub fn new(alloc: Global, inner: R) -> Result<ArmoredReader<BufReader<R>>, Error>
+    where
+        R: Drop,
+        ensures tells { IfOk result (λ r. ⟦<ArmoredReader<BufReader<R>> as Read>⟧.tells r ≡ R.tells inner) }
+        ensures steady { IfOk result (λ r. ⟦<ArmoredReader<BufReader<R>> as Read>⟧.steady r ≡ R.steady inner) }
+        ensures faults { IfOk result (λ r. ⟦<ArmoredReader<BufReader<R>> as Read>⟧.faults r ≡ R.faults inner) }
+        ensures good { IfOk result (λ r. has_failed r ≡ false) }
+        ensures shown { IfOk result (λ r. shown_of r ≡ []) }
+        ensures place { IfOk result (λ r. place_of r ≡ 0) }
+        ensures content { IfOk result (λ r. armored_content r ≡ content_of (R.content inner) (R.place inner)) }
+        ensures outcome { IfOk result (λ r. outcome_of r ≡ delivered (R.rest inner).bytes (R.rest inner).ends_well) }
+        ensures rest { IfOk result (λ r. armored_rest r ≡ stretch_of (delivered (R.rest inner).bytes (R.rest inner).ends_well)) }
+        ensures carries { IsTrue (R.tells inner) → IfOk result (λ r. IsTrue (armored_rest r).ends_well →
+            IsTrue (R.rest inner).ends_well × (AreBytes (R.rest inner).bytes → Carries (R.rest inner).bytes (armored_rest r).bytes)) }
+        ensures honest { (bytes : List ℕ) → IsTrue (R.rest inner).ends_well → Carries (R.rest inner).bytes bytes →
+            IfOk result (λ r. armored_rest r ≡ whole bytes) }
+        ensures memory { IfErr result (λ e. e ≡ OutOfMemory) }
+    {
+        let buffered = BufReader::new(alloc, inner)?;
+        ArmoredReader::new_buffered(alloc, buffered)
+    }
+}

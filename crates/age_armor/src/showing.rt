@@ -1,0 +1,182 @@
+//! What is done with the bytes that a reader shows. Each call is tried again after an interruption, up to 16 times.
+ghost use Rattle.std.specs.Prelude.{◌≡◌, ◌≢◌, ℕ, ◌+◌, ◌≤◌, ◌<◌, Bool, true, false, IsTrue, List, [], ◌∷◌, ◌++◌, length, take, drop, vec_len, MatchOption, IfOk, IfErr, OnOk, OnErr, IsErrAnd};
+ghost use Rattle.age_error.specs.Refusals.{IsInterruption};
+ghost use Rattle.age_io.specs.Stretch.{IsCleanEnd};
+ghost use Rattle.age_base64.specs.Lines.{Lacks};
+ghost use Rattle.age_armor.specs.Showing.{Asks, TakesFull, BeginsFull, TakesRun, IsLineEnd};
+ghost use Rattle.age_armor.specs.declared.showing.Run.TheVariants.{Open as open_run};
+
+use crate::decoding::Decoder;
+use age_error::io::{Error, ErrorKind};
+use age_io::BufRead;
+
+/// What was taken of a line.
+#[derive(Clone, Copy)]
+pub(crate) enum Run {
+    /// Nothing, since the text ends there.
+    Nothing,
+    /// A part of it, without its LF.
+    Open,
+    /// All of it up to its LF.
+    Ended,
+}
+
+// Whether the device was interrupted, so that the call may be made again.
+fn is_interruption<T>(answer: &Result<T, Error>) -> bool
+    ensures yes { IsTrue result → IsErrAnd answer.now IsInterruption }
+    ensures no { result ≡ false → IfErr answer.now (λ e. IsInterruption e → ⊥) }
+{
+    match answer {
+        Err(Error::Device(ErrorKind::Interrupted)) => true,
+        _ => false,
+    }
+}
+
+fn look_once<B: BufRead>(reader: &mut B) -> Result<bool, Error>
+    ensures asks { Asks B.Read.tells B.Read.steady B.Read.content B.Read.place B.Read.rest B.Read.faults reader.old reader.new result }
+    ensures stays { IsTrue (B.Read.tells reader.old) → OnOk result (B.Read.place reader.new ≡ B.Read.place reader.old) }
+    ensures same { IsTrue (B.Read.tells reader.old) → OnOk result (B.Read.rest reader.new ≡ B.Read.rest reader.old) }
+    ensures some { IsTrue (B.Read.tells reader.old) → IfOk result (λ is. is ≡ false → 0 < length (B.Read.rest reader.old).bytes) }
+    ensures end { IsTrue (B.Read.tells reader.old) → IfOk result (λ is. IsTrue is → IsCleanEnd (B.Read.rest reader.old)) }
+{
+    let front = reader.fill_buf()?;
+    Ok(front.is_empty())
+}
+
+/// Whether nothing is left but a clean end.
+pub(crate) fn look<B: BufRead>(reader: &mut B) -> Result<bool, Error>
+    ensures asks { Asks B.Read.tells B.Read.steady B.Read.content B.Read.place B.Read.rest B.Read.faults reader.old reader.new result }
+    ensures patient { IfErr result (λ e. IsInterruption e → ⊥) }
+    ensures stays { IsTrue (B.Read.tells reader.old) → OnOk result (B.Read.place reader.new ≡ B.Read.place reader.old) }
+    ensures same { IsTrue (B.Read.tells reader.old) → OnOk result (B.Read.rest reader.new ≡ B.Read.rest reader.old) }
+    ensures some { IsTrue (B.Read.tells reader.old) → IfOk result (λ is. is ≡ false → 0 < length (B.Read.rest reader.old).bytes) }
+    ensures end { IsTrue (B.Read.tells reader.old) → IfOk result (λ is. IsTrue is → IsCleanEnd (B.Read.rest reader.old)) }
+{
+    for _try in 0..17u8 {
+        let answer = look_once(reader);
+        if !is_interruption(&answer) {
+            return answer;
+        }
+    }
+    Err(Error::Device(ErrorKind::Other))
+}
+
+// Whether the first line that is shown is 64 columns of base64 and LF; the 48 bytes that they stand for are then in `bytes`.
+fn begins_full(front: &[u8], decoder: &Decoder, bytes: &mut [u8; 48]) -> bool
+    ensures { IsTrue result → BeginsFull bytes.new front.now }
+{
+    if front.len() < 65 {
+        return false;
+    }
+    if front[64] != b'\n' {
+        return false;
+    }
+    let Some(columns) = front.first_chunk::<64>() else {
+        return false;
+    };
+    decoder.decode_full(columns, bytes)
+}
+
+fn full_once<B: BufRead>(
+    reader: &mut B,
+    decoder: &Decoder,
+    bytes: &mut [u8; 48],
+) -> Result<bool, Error>
+    ensures asks { Asks B.Read.tells B.Read.steady B.Read.content B.Read.place B.Read.rest B.Read.faults reader.old reader.new result }
+    ensures none { IsTrue (B.Read.tells reader.old) → IfOk result (λ is. is ≡ false →
+        (B.Read.rest reader.new ≡ B.Read.rest reader.old) × (B.Read.place reader.new ≡ B.Read.place reader.old)) }
+    ensures full { IsTrue (B.Read.tells reader.old) → IfOk result (λ is. IsTrue is →
+        TakesFull bytes.new (B.Read.rest reader.old) (B.Read.rest reader.new) × (B.Read.place reader.new ≡ B.Read.place reader.old + 65)) }
+{
+    let front = reader.fill_buf()?;
+    if !begins_full(front, decoder, bytes) {
+        return Ok(false);
+    }
+    reader.consume(65);
+    Ok(true)
+}
+
+/// Takes a line that is shown whole, where it is 64 symbols and LF, and puts the 48 bytes that it stands for in `bytes`.
+/// Else it takes nothing and answers false.
+pub(crate) fn take_full<B: BufRead>(
+    reader: &mut B,
+    decoder: &Decoder,
+    bytes: &mut [u8; 48],
+) -> Result<bool, Error>
+    ensures asks { Asks B.Read.tells B.Read.steady B.Read.content B.Read.place B.Read.rest B.Read.faults reader.old reader.new result }
+    ensures patient { IfErr result (λ e. IsInterruption e → ⊥) }
+    ensures none { IsTrue (B.Read.tells reader.old) → IfOk result (λ is. is ≡ false →
+        (B.Read.rest reader.new ≡ B.Read.rest reader.old) × (B.Read.place reader.new ≡ B.Read.place reader.old)) }
+    ensures full { IsTrue (B.Read.tells reader.old) → IfOk result (λ is. IsTrue is →
+        TakesFull bytes.new (B.Read.rest reader.old) (B.Read.rest reader.new) × (B.Read.place reader.new ≡ B.Read.place reader.old + 65)) }
+{
+    for _try in 0..17u8 {
+        let answer = full_once(reader, decoder, bytes);
+        if !is_interruption(&answer) {
+            return answer;
+        }
+    }
+    Err(Error::Device(ErrorKind::Other))
+}
+
+// Where the first LF stands.
+fn line_end(bytes: &[u8]) -> Option<usize>
+    ensures { MatchOption result (Lacks 10 bytes.now) (λ at. IsLineEnd at bytes.now) }
+{
+    for at in 0..bytes.len() {
+        if bytes[at] == b'\n' {
+            return Some(at);
+        }
+    }
+    None
+}
+
+fn run_once<B: BufRead>(reader: &mut B, line: &mut Vec<u8>) -> Result<Run, Error>
+    ensures asks { Asks B.Read.tells B.Read.steady B.Read.content B.Read.place B.Read.rest B.Read.faults reader.old reader.new result }
+    ensures longer { vec_len line.old ≤ vec_len line.new }
+    ensures grows { IfOk result (λ run. run ≡ open_run → vec_len line.old < vec_len line.new) }
+    ensures kept { OnErr result (line.new.items ≡ line.old.items) }
+    ensures run { IsTrue (B.Read.tells reader.old) → IfOk result (λ run.
+        TakesRun run line.old.items line.new.items (B.Read.rest reader.old) (B.Read.rest reader.new)) }
+    ensures moves { IsTrue (B.Read.tells reader.old) → OnOk result
+        (B.Read.place reader.new + length line.old.items ≡ B.Read.place reader.old + length line.new.items) }
+{
+    let front = reader.fill_buf()?;
+    if front.is_empty() {
+        return Ok(Run::Nothing);
+    }
+    match line_end(front) {
+        Some(at) => {
+            line.extend_from_slice(&front[..at + 1])?;
+            reader.consume(at + 1);
+            Ok(Run::Ended)
+        }
+        None => {
+            let count = front.len();
+            line.extend_from_slice(front)?;
+            reader.consume(count);
+            Ok(Run::Open)
+        }
+    }
+}
+
+/// Appends what is shown of a line, up to its LF.
+pub(crate) fn take_run<B: BufRead>(reader: &mut B, line: &mut Vec<u8>) -> Result<Run, Error>
+    ensures asks { Asks B.Read.tells B.Read.steady B.Read.content B.Read.place B.Read.rest B.Read.faults reader.old reader.new result }
+    ensures patient { IfErr result (λ e. IsInterruption e → ⊥) }
+    ensures longer { vec_len line.old ≤ vec_len line.new }
+    ensures grows { IfOk result (λ run. run ≡ open_run → vec_len line.old < vec_len line.new) }
+    ensures kept { OnErr result (line.new.items ≡ line.old.items) }
+    ensures run { IsTrue (B.Read.tells reader.old) → IfOk result (λ run.
+        TakesRun run line.old.items line.new.items (B.Read.rest reader.old) (B.Read.rest reader.new)) }
+    ensures moves { IsTrue (B.Read.tells reader.old) → OnOk result
+        (B.Read.place reader.new + length line.old.items ≡ B.Read.place reader.old + length line.new.items) }
+{
+    for _try in 0..17u8 {
+        let answer = run_once(reader, line);
+        if !is_interruption(&answer) {
+            return answer;
+        }
+    }
+    Err(Error::Device(ErrorKind::Other))
+}
