@@ -1,9 +1,9 @@
 -- Lines that were encoded into a buffer.
-use Rattle.std.proofs.Common.{◌≡◌, ℕ, suc, Bool, false, ◌+◌, ◌*◌, ◌/◌, ◌%◌, ◌<◌, ◌≤◌, true, List, [], ◌∷◌, ◌++◌, length, take, drop, replicate, slice_index, slice_set, refl, ap, sym, ◌∙◌, arith, append_assoc, length-drop}
+use Rattle.std.proofs.Common.{◌≡◌, ℕ, Bool, false, ◌+◌, ◌*◌, ◌/◌, ◌<◌, ◌≤◌, true, List, [], ◌∷◌, ◌++◌, length, take, drop, slice_index, slice_set, refl, ap, sym, ◌∙◌, arith, append_assoc, length-drop}
 use Rattle.std.proofs.lemmas.List.{append-nil, drop_more, drop_all, take-append-drop, length-append, length-replicate, length-take-le, set_at, take_at, drop_at}
 use Rattle.std.proofs.lemmas.Slice.{take-put_mid}
 use borrow.Rule.Slice.PartMut.{put_mid}
-use Rattle.base64.specs.Rfc4648.{encode_symbols, encode, encoded_size, padding_len}
+use Rattle.base64.specs.Rfc4648.{encode, encoded_size}
 use Rattle.base64.specs.GeneralPurpose.{encode_of, encoded_size_of}
 use Rattle.base64.specs.declared.engine.general_purpose.GeneralPurpose.{GeneralPurpose}
 use Rattle.base64.proofs.RoundTrip.{length-encode_symbols}

@@ -1,5 +1,5 @@
 -- The end of a text.
-use Rattle.std.proofs.Common.{◌≡◌, ℕ, ◌+◌, ◌*◌, ◌/◌, Bool, true, false, List, [], ◌++◌, length, drop, refl, ap, sym, subst, ◌∙◌, append_assoc, Result, Ok, Err, OnOk, IfOk, inl, inr}
+use Rattle.std.proofs.Common.{◌≡◌, ℕ, ◌*◌, ◌/◌, true, false, List, [], ◌++◌, length, drop, refl, ap, sym, subst, ◌∙◌, append_assoc, inl, inr}
 use Rattle.std.proofs.lemmas.Bool.{true≢false}
 use Rattle.std.specs.List.{flat_map}
 use Rattle.age_base64.specs.Lines.{line}
@@ -9,7 +9,7 @@ use Rattle.age_armor.specs.declared.format.Format.{Format}
 use Rattle.age_armor.specs.declared.format.Format.TheVariants.{Binary, AsciiArmor}
 use Rattle.age_armor.specs.declared.writer.ArmoredWriter.{ArmoredWriter}
 use Rattle.age_armor.specs.FullLines.{full_lines}
-use Rattle.age_armor.specs.Writing.{Took, Takes, Appended, WasMade, Begins, text_of, in_armor}
+use Rattle.age_armor.specs.Writing.{Took, Takes, Appended, WasMade, text_of, in_armor}
 use Rattle.age_armor.proofs.WrittenLines.{lines_parts}
 
 -- what the end adds to full lines

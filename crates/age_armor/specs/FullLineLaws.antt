@@ -1,5 +1,5 @@
 -- Full lines, some and then others.
-use Rattle.std.specs.Prelude.{◌≡◌, ℕ, zero, suc, ◌+◌, ◌*◌, ◌≤◌, List, [], ◌++◌, length, take, drop}
+use Rattle.std.specs.Prelude.{◌≡◌, ℕ, zero, suc, ◌+◌, ◌*◌, ◌≤◌, List, ◌++◌, length, take, drop}
 use Rattle.std.proofs.Common.{refl, sym, ◌∙◌, arith, zero-add, append_assoc, length-drop}
 use Rattle.std.proofs.lemmas.List.{take-append-le, drop-append-le, drop-drop}
 use Rattle.age_base64.specs.Lines.{line}

@@ -1,11 +1,9 @@
 -- The laws of `Appended`.
-use Rattle.std.specs.Prelude.{◌≡◌, ℕ, ◌+◌, ◌*◌, ◌/◌, ◌%◌, ◌≤◌, ◌<◌, Bool, true, false, List, [], ◌∷◌, ◌++◌, length, take, drop}
-use Rattle.std.proofs.Common.{zero, suc, refl, sym, ap, ◌∙◌, inl, inr, arith, zero-add, append_assoc, length-append, length-drop, subst}
+use Rattle.std.specs.Prelude.{◌≡◌, ℕ, ◌+◌, ◌*◌, ◌/◌, ◌%◌, ◌≤◌, ◌<◌, Bool, true, false, List, [], ◌++◌, length, drop}
+use Rattle.std.proofs.Common.{refl, sym, ap, ◌∙◌, inl, inr, arith, append_assoc, length-append, length-drop, subst}
 use Rattle.std.proofs.lemmas.Bool.{true≢false}
 use Rattle.std.proofs.lemmas.List.{append-nil, drop_all, drop-append-le, drop-drop}
 use Rattle.age_armor.specs.declared.writer.ArmoredWriter.{ArmoredWriter}
-use Rattle.age_base64.specs.Lines.{line}
-use Rattle.age_base64.specs.Base64.{padded_columns}
 use Rattle.age_armor.specs.FullLines.{full_lines}
 use Rattle.age_armor.specs.FullLineLaws.{full_lines-front, full_lines-both}
 use Rattle.age_armor.specs.Writing.{Took, Takes, Appended}

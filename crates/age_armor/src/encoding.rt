@@ -5,6 +5,8 @@ ghost use Rattle.age_base64.specs.Base64.{padded_columns};
 ghost use Rattle.age_armor.specs.FullLines.{full_lines};
 
 use age_base64::armor_engine;
+use base64::engine::general_purpose::GeneralPurpose;
+use std::marker::Model;
 
 /// How many bytes a full line carries.
 pub(crate) const LINE: usize = 48;
@@ -15,16 +17,42 @@ pub(crate) const COLUMNS: usize = 64;
 /// How many bytes the text of a full line has: its columns and LF.
 pub(crate) const LINE_TEXT: usize = 65;
 
-/// Writes the columns of `bytes` to the front of `columns`, and answers how many they are.
-pub(crate) fn encode(bytes: &[u8], columns: &mut [u8]) -> usize
-    requires { 4 * ((length bytes.now + 2) / 3) ≤ length columns.old }
-    ensures count { result ≡ 4 * ((length bytes.now + 2) / 3) }
-    ensures written { columns.new ≡ padded_columns bytes.now ++ drop result columns.old }
-{
-    let Ok(count) = armor_engine().encode_slice(bytes, columns) else {
-        unreachable!();
-    };
-    count
+/// Writes the base64 of armor. It is made once, and kept with its tables; clauses see nothing of it.
+#[derive(Drop)]
+pub(crate) struct ColumnEncoder {
+    engine: GeneralPurpose,
+}
+
+impl Model for ColumnEncoder {
+    ghost use Rattle.std.specs.Prelude.{◌≡◌, List, ℕ};
+    ghost use Rattle.base64.specs.GeneralPurpose.{encode_of};
+    ghost use Rattle.age_base64.specs.Base64.{padded_columns};
+
+    ghost Value = { Unit {0} };
+
+    ghost view = { λ _. tt };
+
+    ghost invariant = { λ e. (bytes : List ℕ) → encode_of e.engine bytes ≡ padded_columns bytes };
+}
+
+impl ColumnEncoder {
+    pub(crate) fn new() -> ColumnEncoder {
+        ColumnEncoder {
+            engine: armor_engine(),
+        }
+    }
+
+    /// Writes the columns of `bytes` to the front of `columns`, and answers how many they are.
+    pub(crate) fn encode(&self, bytes: &[u8], columns: &mut [u8]) -> usize
+        requires { 4 * ((length bytes.now + 2) / 3) ≤ length columns.old }
+        ensures count { result ≡ 4 * ((length bytes.now + 2) / 3) }
+        ensures written { columns.new ≡ padded_columns bytes.now ++ drop result columns.old }
+    {
+        let Ok(count) = self.engine.encode_slice(bytes, columns) else {
+            unreachable!();
+        };
+        count
+    }
 }
 
 // Writes the line of these columns.
@@ -39,13 +67,18 @@ fn write_line(columns: &[u8], text: &mut [u8])
 
 /// Writes the lines that carry `bytes`, which fill them, to `text`, which they fill. All are encoded in one call, to
 /// `columns`, and copied from there: that is faster than a call for each line.
-pub(crate) fn encode_lines(bytes: &[u8], columns: &mut [u8], text: &mut [u8])
+pub(crate) fn encode_lines(
+    encoder: &ColumnEncoder,
+    bytes: &[u8],
+    columns: &mut [u8],
+    text: &mut [u8],
+)
     requires full { length bytes.now % 48 ≡ 0 }
     requires room { length columns.old ≡ 64 * (length bytes.now / 48) }
     requires text_room { length text.old ≡ 65 * (length bytes.now / 48) }
     ensures { text.new ≡ full_lines (length bytes.now / 48) bytes.now }
 {
-    encode(bytes, columns);
+    encoder.encode(bytes, columns);
     'lines: for number in 0..bytes.len() / LINE {
         write_line(
             &columns[COLUMNS * number..COLUMNS * number + COLUMNS],

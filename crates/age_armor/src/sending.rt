@@ -7,7 +7,7 @@ ghost use Rattle.age_armor.specs.Armor.{armor_lines, begin_marker, end_marker};
 ghost use Rattle.age_armor.specs.FullLines.{full_lines};
 ghost use Rattle.age_armor.specs.Writing.{KeepsInner};
 
-use crate::encoding::{COLUMNS, LINE, LINE_TEXT, encode, encode_lines};
+use crate::encoding::{COLUMNS, ColumnEncoder, LINE, LINE_TEXT, encode_lines};
 use age_error::io::Error;
 use age_io::{Write, write_all};
 
@@ -23,6 +23,7 @@ pub(crate) fn write_begin<W: Write>(inner: &mut W) -> Result<(), Error>
 /// longer needed.
 pub(crate) fn write_lines<W: Write>(
     inner: &mut W,
+    encoder: &ColumnEncoder,
     columns: &mut [u8],
     text: &mut [u8],
     bytes: &[u8],
@@ -36,18 +37,27 @@ pub(crate) fn write_lines<W: Write>(
 {
     let lines = bytes.len() / LINE;
     let size = LINE_TEXT * lines;
-    encode_lines(bytes, &mut columns[..COLUMNS * lines], &mut text[..size]);
+    encode_lines(
+        encoder,
+        bytes,
+        &mut columns[..COLUMNS * lines],
+        &mut text[..size],
+    );
     write_all(inner, &text[..size])
 }
 
 // Writes the line that carries these bytes, which don't fill one.
-fn write_last_line<W: Write>(inner: &mut W, bytes: &[u8]) -> Result<(), Error>
+fn write_last_line<W: Write>(
+    inner: &mut W,
+    encoder: &ColumnEncoder,
+    bytes: &[u8],
+) -> Result<(), Error>
     requires { length bytes.now < 48 }
     ensures keeps { KeepsInner W.tells W.limited W.faults inner.old inner.new result }
     ensures sent { IsTrue (W.tells inner.old) → OnOk result (W.appended inner.old (line (padded_columns bytes.now)) inner.new) }
 {
     let mut text = [0u8; LINE_TEXT];
-    let columns = encode(bytes, &mut text);
+    let columns = encoder.encode(bytes, &mut text);
     text[columns] = b'\n';
     write_all(inner, &text[..columns + 1])
 }
@@ -61,7 +71,11 @@ fn write_end_marker<W: Write>(inner: &mut W) -> Result<(), Error>
 }
 
 /// Writes the line that carries what is held, where that is some bytes, and the end marker and LF.
-pub(crate) fn write_end<W: Write>(inner: &mut W, held: &[u8]) -> Result<(), Error>
+pub(crate) fn write_end<W: Write>(
+    inner: &mut W,
+    encoder: &ColumnEncoder,
+    held: &[u8],
+) -> Result<(), Error>
     requires { length held.now < 48 }
     ensures keeps { KeepsInner W.tells W.limited W.faults inner.old inner.new result }
     ensures sent { IsTrue (W.tells inner.old) → OnOk result
@@ -70,6 +84,6 @@ pub(crate) fn write_end<W: Write>(inner: &mut W, held: &[u8]) -> Result<(), Erro
     if held.is_empty() {
         return write_end_marker(inner);
     }
-    write_last_line(inner, held)?;
+    write_last_line(inner, encoder, held)?;
     write_end_marker(inner)
 }

@@ -3,7 +3,7 @@ ghost use Rattle.std.specs.Prelude.{◌≡◌, ◌≢◌, ℕ, ◌+◌, ◌*◌,
 ghost use Rattle.age_error.specs.Refusals.{IsInterruption};
 ghost use Rattle.age_error.specs.declared.io.Error.TheVariants.{Failed, TooLong};
 
-use crate::encoding::{COLUMNS, LINE, LINE_TEXT};
+use crate::encoding::{COLUMNS, ColumnEncoder, LINE, LINE_TEXT};
 use crate::format::Format;
 use crate::sending::{write_begin, write_end, write_lines};
 use age_error::io::Error;
@@ -24,6 +24,7 @@ pub struct ArmoredWriter<W> {
     pub(crate) armored: bool,
     // What doesn't fill a line yet.
     pub(crate) held: Vec<u8>,
+    pub(crate) encoder: ColumnEncoder,
     // Room for the columns and for the text of `LINES` lines. What stands there between calls is no longer needed.
     pub(crate) columns: Vec<u8>,
     pub(crate) text: Vec<u8>,
@@ -61,6 +62,7 @@ impl<W: Write> ArmoredWriter<W> {
                 inner,
                 armored: false,
                 held: Vec::new(alloc),
+                encoder: ColumnEncoder::new(),
                 columns: Vec::new(alloc),
                 text: Vec::new(alloc),
                 failed: false,
@@ -74,6 +76,7 @@ impl<W: Write> ArmoredWriter<W> {
             inner,
             armored: true,
             held,
+            encoder: ColumnEncoder::new(),
             columns,
             text,
             failed: false,
@@ -94,6 +97,7 @@ impl<W: Write> ArmoredWriter<W> {
         let count = LINE * (bytes.len() / LINE).min(LINES);
         write_lines(
             &mut self.inner,
+            &self.encoder,
             &mut self.columns,
             &mut self.text,
             &bytes[..count],
@@ -113,6 +117,7 @@ impl<W: Write> ArmoredWriter<W> {
         self.held.extend_from_slice(bytes)?;
         let sent = write_lines(
             &mut self.inner,
+            &self.encoder,
             &mut self.columns,
             &mut self.text,
             &self.held,
@@ -204,6 +209,7 @@ impl<W: Write + Drop> ArmoredWriter<W> {
             mut inner,
             armored,
             held,
+            encoder,
             columns: _,
             text: _,
             failed,
@@ -214,7 +220,7 @@ impl<W: Write + Drop> ArmoredWriter<W> {
         if !armored {
             return Ok(inner);
         }
-        write_end(&mut inner, &held)?;
+        write_end(&mut inner, &encoder, &held)?;
         Ok(inner)
     }
 }
@@ -225,6 +231,7 @@ impl<W: Drop> Drop for ArmoredWriter<W> {
             inner: _,
             armored: _,
             held: _,
+            encoder: _,
             columns: _,
             text: _,
             failed: _,

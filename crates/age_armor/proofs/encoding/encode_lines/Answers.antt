@@ -1,4 +1,4 @@
-use Rattle.std.proofs.Common.{◌≡◌, ◌≤◌, ◌+◌, ◌-◌, ◌*◌, ◌/◌, ◌∙◌, ℕ, arith, refl, length, ap, sym, take, drop}
+use Rattle.std.proofs.Common.{◌≡◌, ◌≤◌, ◌+◌, ◌-◌, ◌*◌, ◌/◌, ◌∙◌, arith, refl, length, ap, sym, take, drop}
 use Rattle.std.proofs.lemmas.List.{take_all}
 use Rattle.age_base64.specs.Lines.{line}
 use Rattle.age_base64.specs.Base64.{padded_columns}

@@ -1,4 +1,4 @@
-use Rattle.std.proofs.Common.{◌≡◌, ◌∙◌, ◌+◌, arith, length, ap, sym, subst, take, slice_set}
+use Rattle.std.proofs.Common.{◌≡◌, ◌∙◌, ◌+◌, arith, sym, subst, take, slice_set}
 use Rattle.std.proofs.lemmas.Result.{on_ok_weaker}
 use Rattle.age_base64.specs.Lines.{line}
 use Rattle.age_base64.specs.Base64.{padded_columns}

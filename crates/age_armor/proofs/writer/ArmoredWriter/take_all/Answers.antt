@@ -1,4 +1,4 @@
-use Rattle.std.proofs.Common.{◌≡◌, ◌∙◌, arith, refl, length, length-drop}
+use Rattle.std.proofs.Common.{◌∙◌, arith, refl, length-drop}
 use Rattle.std.proofs.lemmas.List.{take_rest, take_all}
 use Rattle.std.proofs.Math.Seq.{take-add}
 use Rattle.age_armor.specs.WritingLaws.{Took-both, Took-nothing}
