@@ -1,5 +1,5 @@
 #!/usr/bin/env python3
-"""Runs agebench where memory, reads and writes fail or fall short, and on damaged payloads and files.
+"""Runs agebench where memory, reads and writes fail or fall short, and on damaged payloads, files and armor.
 
 Each run must answer the right bytes, or a beginning of them and the refusal that belongs to the fault. The right
 bytes are those of a second implementation, `second.py`, written from the format's own words. Prints each run that
@@ -12,7 +12,7 @@ import sys
 import tempfile
 
 import second
-from second import PIECE, VERSION, stanza
+from second import BEGIN, END, PIECE, VERSION, armor, stanza
 
 KEY = bytes(range(32))
 TRUNCATED = "age file is truncated"
@@ -27,6 +27,14 @@ UNKNOWN = "unknown format"
 EARLY = "input ended early"
 NO_KEYS = "no matching keys"
 NO_RANDOM = "random bytes ran out"
+BASE64 = "invalid base64 in armor"
+BEGIN_MARKER = "invalid armor begin marker"
+NOT_UTF8 = "stream did not contain valid UTF-8"
+HAS_CR = "line contains CR"
+NO_PADDING = "invalid armor (last line is missing padding)"
+NOT_WRAPPED = "invalid armor (not wrapped at 64 characters)"
+SHORT_LINE = "invalid armor (short line in middle of encoding)"
+TRAILING = "invalid armor (non-whitespace characters after end marker)"
 DRAW = bytes(range(100, 132))
 USAGE = ("usage: agebench seal|open KEY, encrypt TO DRAW [armor], decrypt WITH, at WITH PLACE COUNT, "
          "keygen DRAW\n")
@@ -168,16 +176,87 @@ def files(runs):
             ("a MAC of 44 columns", front + b"--- " + b"A" * 44 + b"\n", BAD_HEADER),
             ("a MAC of a second spelling", front + b"--- " + b"A" * 42 + b"B\n", BAD_HEADER),
             ("a long version", b"age-encryption.org/" + b"v" * 2 ** 20, EARLY)]:
+        if text != EARLY:
+            given += bytes(max(36 - len(given), 0))
         runs.refuses(f"decrypt a header with {words}", decrypt, given, b"", text)
+    for given in [b"hello", b"age-encryption.org/v2\n", bytes(35), BEGIN + b"\n", b"\xff" * 35]:
+        runs.refuses(f"decrypt {len(given)} bytes of any kind", decrypt, given, b"", EARLY)
     many = [stanza([b"x"], b"")] * 10000 + [body]
     runs.answers("decrypt a file of 10,001 stanzas", decrypt, second.file(key, many, name, plain), plain)
+
+
+def armored_files(runs):
+    """Armored files, whatever their lines end with."""
+    encrypt, decrypt = ["encrypt", "bench", DRAW.hex(), "armor"], ["decrypt", "bench"]
+    draw = random.Random(3)
+    for size in [0, 1, 36, 65535, 65536, 65537, 200000]:
+        plain = draw.randbytes(size)
+        whole = second.encrypted(DRAW, plain)
+        text = armor(whole)
+        runs.answers(f"encrypt {size} bytes in armor", encrypt, plain, text)
+        mixed = b"".join(line + draw.choice([b"\n", b"\r\n"]) for line in second.armor_lines(whole))
+        for words, given in [("LF", text), ("CRLF", armor(whole, b"\r\n")), ("LF and CRLF", mixed),
+                             ("no last line ending", text[:-1]), ("white space after it", mixed + b" \t\r\n\f\n" * 50000),
+                             ("a space after it", text + b" "), ("a CR after it", text + b"\r")]:
+            runs.answers(f"decrypt {size} bytes in armor with {words}", decrypt, given, plain)
+    for count in [0, 15, 16, 31]:
+        runs.refuses(f"encrypt in armor with {count} random bytes", encrypt[:2] + [DRAW.hex()[:2 * count], "armor"], b"abc",
+                     b"", NO_RANDOM)
+
+
+def in_armor(runs, name, plain, given, text):
+    """What an armored file of a plaintext answers that was damaged: the chunks before the fault, and its text."""
+    carried, fault = second.carried(given)
+    agrees = fault == text and second.encrypted(DRAW, plain).startswith(carried)
+    runs.judge(f"{name}: the second implementation", agrees, (fault, carried, "", False))
+    front = len(second.encrypted(DRAW, b"")) - 16
+    good = max(len(carried) - front, 0) // (PIECE + 16)
+    runs.refuses(name, ["decrypt", "bench"], given, plain[:PIECE * good], text)
+
+
+def damaged_armor(runs):
+    """Each fault of armor, in the header's lines, behind a whole chunk, and behind all of the payload."""
+    draw = random.Random(4)
+    for size in [36, 65536, 140000]:
+        plain = draw.randbytes(size)
+        text = armor(second.encrypted(DRAW, plain))
+        lines = text.splitlines(keepends=True)
+        full, last = lines[1].rstrip(), len(lines) - 2
+        for words, front, fault in [("a space after the begin marker", BEGIN + b" \n", BEGIN_MARKER),
+                                    ("a CR after the begin marker", BEGIN + b"\r\r\n", BEGIN_MARKER),
+                                    ("no line after the begin marker", BEGIN + full + b"\n", BEGIN_MARKER)]:
+            in_armor(runs, f"{size} bytes in armor: {words}", plain, front + b"".join(lines[1:]), fault)
+        for place in [1, 2, last // 2, last]:
+            before, after = b"".join(lines[:place]), b"".join(lines[place + 1:])
+            for words, line, fault in [
+                    ("a line that isn't UTF-8", full[:63] + b"\xff\n", NOT_UTF8), ("63 columns and CRLF", full[:63] + b"\r\n", NO_PADDING),
+                    ("a line with a CR", b"\r" + full[1:] + b"\n", HAS_CR), ("two CRs", full + b"\r\r\n", HAS_CR),
+                    ("63 columns", full[:63] + b"\n", NO_PADDING), ("65 columns", full + b"A\n", NO_PADDING),
+                    ("68 columns", full + b"AAAA\n", NOT_WRAPPED), ("no column", b"\n", NOT_WRAPPED),
+                    ("a second spelling", full[:60] + b"AB==\n", BASE64), ("another letter", full[:63] + b"-\n", BASE64),
+                    ("padding within", full[:56] + b"AA==AAAA\n", BASE64), ("a space", full[:63] + b" \n", BASE64),
+                    ("a begin marker", BEGIN + b"\n", NO_PADDING)]:
+                in_armor(runs, f"{size} bytes in armor: {words} at line {place}", plain, before + line + after, fault)
+            in_armor(runs, f"{size} bytes in armor cut before line {place}", plain, before, EARLY if len(before) < 36 else NOT_WRAPPED)
+            in_armor(runs, f"{size} bytes in armor cut in line {place}", plain, before + b"A" * 63, NO_PADDING)
+        for words, line, fault in [("a whole line", full + b"\n", SHORT_LINE), ("another short line", b"YQ==\n", NOT_WRAPPED),
+                                   ("no column", b"\n", NOT_WRAPPED)]:
+            cut = b"".join(lines[:2]) + lines[2][:60] + b"\n" + line + b"".join(lines[3:])
+            in_armor(runs, f"{size} bytes in armor: {words} after a short line", plain, cut, fault)
+        for words, after in [("a byte", b"x"), ("a byte after white space", b" \t\r\n\f" * 20000 + b"x"),
+                             ("a vertical tab", b"\v"), ("another file", text), ("a byte that isn't UTF-8", b"\xff")]:
+            in_armor(runs, f"{size} bytes in armor: {words} after the end marker", plain, text + after, TRAILING)
+        in_armor(runs, f"{size} bytes in armor without the end marker", plain, b"".join(lines[:-1]), NOT_WRAPPED)
+        in_armor(runs, f"{size} bytes in armor: a space after the end marker", plain, text[:-1] + b" \n", NOT_WRAPPED)
 
 
 def command_lines(runs):
     key = KEY.hex()
     lines = [[], ["--help"], ["seal"], ["open"], ["seal", key[:-1]], ["open", key + "0"], ["seal", key, "x"],
              ["open", "g" + key[1:]], ["sealed", key], ["seal", ""], ["encrypt", "bench"], ["encrypt", "bench", "0"],
-             ["encrypt", "bench", "0g"], ["encrypt", "other", "00"], ["encrypt", "bench", "00", "x"], ["decrypt"],
+             ["encrypt", "bench", "0g"], ["encrypt", "other", "00"], ["encrypt", "bench", "00", "x"], ["encrypt", "bench", "00", ""],
+             ["encrypt", "bench", "00", "Armor"], ["encrypt", "bench", "00", "armor", "armor"], ["encrypt", "bench", "armor"],
+             ["encrypt", "other", "00", "armor"], ["encrypt", "bench", "0", "armor"], ["decrypt", "bench", "armor"], ["decrypt"],
              ["decrypt", "other"], ["decrypt", "bench", "x"], ["keygen", "00" * 32], [b"seal", b"\xff" * 64]]
     for words in lines:
         got = runs.run(words, b"abc")
@@ -217,13 +296,18 @@ def main():
         whole = second.encrypted(DRAW, plain)
         short = b"This is a test message. For testing."
         encrypt_words, decrypt_words = ["encrypt", "bench", DRAW.hex()], ["decrypt", "bench"]
+        armor_words, text = encrypt_words + ["armor"], armor(whole)
         runs.injected("encrypt a message", encrypt_words, short, second.encrypted(DRAW, short), "alloc", NO_MEMORY)
         runs.injected("decrypt a message", decrypt_words, second.encrypted(DRAW, short), short, "alloc", NO_MEMORY)
+        armored = armor(second.encrypted(DRAW, short))
+        runs.injected("encrypt a message in armor", armor_words, short, armored, "alloc", NO_MEMORY)
+        runs.injected("decrypt a message in armor", decrypt_words, armored, short, "alloc", NO_MEMORY)
         other = second.encrypted(bytes(32), short, b"x-grease")
         runs.injected("decrypt a message with other grease", decrypt_words, other, short, "alloc", NO_MEMORY)
         for name, words, given, want in [
                 ("seal", seal_words, plain, sealed), ("open", open_words, sealed, plain),
-                ("encrypt", encrypt_words, plain, whole), ("decrypt", decrypt_words, whole, plain)]:
+                ("encrypt", encrypt_words, plain, whole), ("decrypt", decrypt_words, whole, plain),
+                ("encrypt in armor", armor_words, plain, text), ("decrypt armor", decrypt_words, text, plain)]:
             runs.injected(name, words, given, want, "alloc", NO_MEMORY)
             for call in ["read", "write"]:
                 runs.injected(name, words, given, want, call, DEVICE)
@@ -234,6 +318,8 @@ def main():
         plain = draw.randbytes(200000)
         damaged(runs, open_words, plain, payload(plain))
         files(runs)
+        armored_files(runs)
+        damaged_armor(runs)
         command_lines(runs)
     print(f"{runs.passed} passed, {runs.failed} failed")
     sys.exit(1 if runs.failed else 0)

@@ -1,11 +1,13 @@
 """A second implementation of what agebench writes: payloads and files of age-encryption.org/v1 under the bench suite,
-from the format's own words."""
+and their armor, from the format's own words."""
 import base64
 import hashlib
 import hmac
 
 PIECE = 65536
 VERSION = b"age-encryption.org/v1\n"
+BEGIN = b"-----BEGIN AGE ENCRYPTED FILE-----"
+END = b"-----END AGE ENCRYPTED FILE-----"
 
 
 def mac(key, text):
@@ -64,3 +66,60 @@ def encrypted(draw, plain, grease=b"agebench-grease"):
     """The file of a plaintext to `bench`, with these random bytes."""
     file_key, file_nonce = draw[:16], draw[16:32]
     return file(file_key, [stanza([b"bench"], file_key), stanza([grease], b"")], file_nonce, plain)
+
+
+def armor_lines(given):
+    """The lines of the armor of these bytes, without their endings."""
+    text = base64.b64encode(given)
+    return [BEGIN] + [text[i:i + 64] for i in range(0, len(text), 64)] + [END]
+
+
+def armor(given, ending=b"\n"):
+    return b"".join(line + ending for line in armor_lines(given))
+
+
+def line_fault(line, after_short):
+    """What is wrong with a line without its ending, or None: it is neither the end marker nor holds a CR."""
+    if after_short:
+        return "short line in middle of encoding" if len(line) == 64 else "not wrapped at 64 characters"
+    if len(line) % 4:
+        return "last line is missing padding"
+    if not 0 < len(line) <= 64:
+        return "not wrapped at 64 characters"
+    try:
+        canonical = base64.b64encode(base64.b64decode(line, validate=True)) == line
+    except ValueError:
+        canonical = False
+    return None if canonical else "base64"
+
+
+def carried(text):
+    """What a text carries, armored or not, up to the first fault, and the text of that or None."""
+    if len(text) < 36:
+        return b"", "input ended early"
+    if not text.startswith(BEGIN):
+        return text, None
+    first, rest = text[len(BEGIN):].split(b"\n", 1) if b"\n" in text else (b"x", b"")
+    if first not in (b"", b"\r"):
+        return b"", "invalid armor begin marker"
+    given, after_short = bytearray(), False
+    while True:
+        line, ending, rest = rest.partition(b"\n")
+        try:
+            line.decode()
+        except UnicodeDecodeError:
+            return bytes(given), "stream did not contain valid UTF-8"
+        if ending and line.endswith(b"\r"):
+            line = line[:-1]
+        if b"\r" in line:
+            return bytes(given), "line contains CR"
+        if line == END:
+            break
+        fault = line_fault(line, after_short)
+        if fault:
+            return bytes(given), "invalid base64 in armor" if fault == "base64" else f"invalid armor ({fault})"
+        given += base64.b64decode(line)
+        after_short = len(line) < 64 or line.endswith(b"=")
+    if rest.strip(b" \t\n\f\r"):
+        return bytes(given), "invalid armor (non-whitespace characters after end marker)"
+    return bytes(given), None

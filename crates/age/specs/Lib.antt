@@ -8,6 +8,10 @@ pub use Rattle.age_suite.specs.Suite
 pub use Rattle.age_io.specs.Reading
 pub use Rattle.age_io.specs.Stretch
 pub use Rattle.age_io.specs.Writing
+pub use Rattle.age_armor.specs.Armor
+pub use Rattle.age_armor.specs.Delivered
+pub use Rattle.age_armor.specs.LineVerdict
+pub use Rattle.age_armor.specs.Writing as ArmorWriting
 pub use Rattle.age_format.specs.Header
 pub use Rattle.age_format.specs.HeaderV1
 pub use Rattle.age_format.specs.ReadingHeader

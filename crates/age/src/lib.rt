@@ -8,11 +8,14 @@ pub use age_error::encrypt::EncryptError;
 pub use age_format::{Identity, Recipient};
 pub use age_protocol::decryptor::Decryptor;
 pub use age_protocol::encryptor::Encryptor;
+pub use age_protocol::simple::{decrypt, encrypt, encrypt_and_armor};
 
 /// Readers, writers and their refusals.
 pub mod io {
     pub use age_error::io::{Error, ErrorKind};
-    pub use age_io::{Bytes, Read, Std, Write, read_exact, read_to_end, write_all};
+    pub use age_io::{
+        BufRead, BufReader, Bytes, Read, Std, Write, read_exact, read_to_end, write_all,
+    };
 }
 
 /// The primitives that a user hands in, with their laws.
@@ -39,6 +42,12 @@ pub mod secrecy {
 /// Stanzas and headers.
 pub mod format {
     pub use age_format::{Grease, HeaderV1, Stanza};
+}
+
+/// The ASCII form of a file.
+pub mod armor {
+    pub use age_armor::{ArmoredReader, ArmoredWriter, Format};
+    pub use age_error::io::ArmoredReadError;
 }
 
 /// What a plugin's name is refused with.

@@ -1,5 +1,5 @@
 -- What a reader of armor holds, and what is ahead of it.
-use Rattle.std.proofs.Common.{◌≡◌, ℕ, ◌+◌, ◌-◌, ◌≤◌, Bool, true, false, IsTrue, List, [], ◌∷◌, ◌++◌, length, take, drop, refl, ap, sym, arith, ◌∙◌, append_assoc, length-append, length-drop, length-take, length-take-le, inl, inr}
+use Rattle.std.proofs.Common.{◌≡◌, ℕ, ◌+◌, ◌-◌, ◌≤◌, Bool, true, false, List, [], ◌++◌, length, take, drop, refl, ap, sym, arith, ◌∙◌, append_assoc, length-append, length-drop, length-take, length-take-le, inl, inr}
 use Rattle.std.proofs.lemmas.Bool.{true≢false}
 use Rattle.std.proofs.lemmas.List.{drop_all, drop-drop, drop-take, take-append-drop, drop_at, nil_from_length}
 use Rattle.age_io.specs.Stretch.{Stretch, nothing, from_place, stretch-ext, IsCleanEnd, IsFault}
@@ -15,7 +15,7 @@ use Rattle.age_armor.specs.Stages.{ahead, is_ended, Advances, Stops, IsNamed}
 use Rattle.age_armor.specs.Ahead.{rest_ahead, shown_ahead, outcome_ahead}
 use Rattle.age_armor.specs.Delivered.{Ending, Clean, Refused, InnerFault, ends, is_clean, at_end, stretch_of, delivered}
 use Rattle.age_armor.specs.ReaderLaws.{nothing_delivered}
-use Rattle.age_armor.specs.DeliveredLaws.{content_of, stands_by, stands_follows}
+use Rattle.age_armor.specs.DeliveredLaws.{content_of}
 
 pub rest_failed : (bytes : List ℕ) (given filled : ℕ) (stage : Stage) (rest : Stretch) → rest_ahead true bytes given filled stage rest ≡ nothing
 unfolding rest_ahead

@@ -15,7 +15,8 @@ use Rattle.age_armor.specs.Armor.{armor_lines, end_marker, IsEndedLine, AreEnded
 use Rattle.age_armor.specs.LineVerdict.{LineVerdict, Refuses, Ends, Holds, verdict, IsLineVerdict, line_columns, is_short}
 use Rattle.age_armor.specs.Delivered.{Ending, Clean, Refused, Outcome, raw_lines, is_space, trailing, after_line, section, delivered}
 use Rattle.age_armor.proofs.Verdicts.{one_verdict}
-use Rattle.age_armor.proofs.RawLines.{AreRaw, are_raw, raw_line, concat_raw, columns_none, ended_back, lines_nil, lines_one, lines_more, not_short_full}
+use Rattle.age_armor.specs.DeliveredLaws.{concat_raw}
+use Rattle.age_armor.proofs.RawLines.{AreRaw, are_raw, raw_line, columns_none, ended_back, lines_nil, lines_one, lines_more, not_short_full}
 use Rattle.age_armor.specs.FirstFault.{IsFirstLine, HasMarkerLine}
 use Rattle.age_armor.proofs.Delivering.{length_end}
 use Rattle.age_armor.proofs.Shapes.{shape_of, early_delivers, plain_delivers, open_marker_delivers, marker_line_delivers}

@@ -16,7 +16,8 @@ use Rattle.age_armor.specs.LineVerdict.{Ends, Holds, verdict, IsFirst, IsClear, 
 use Rattle.age_armor.specs.Delivered.{Clean, Outcome, ends, prepend, raw_lines, is_space, trailing, section, delivered}
 use Rattle.age_armor.proofs.Carrying.{up_to_feed, lacks_feed}
 use Rattle.age_armor.proofs.Verdicts.{verdict_is}
-use Rattle.age_armor.proofs.RawLines.{concat_raw, raw_lines_ended, raw_lines_last, columns_of_ended, columns_none, lines_nil, lines_one, lines_more, full_not_short}
+use Rattle.age_armor.specs.DeliveredLaws.{concat_raw}
+use Rattle.age_armor.proofs.RawLines.{raw_lines_ended, raw_lines_last, columns_of_ended, columns_none, lines_nil, lines_one, lines_more, full_not_short}
 use Rattle.age_armor.proofs.Shapes.{plain_delivers, marker_line_delivers}
 
 -- ---- good lines

@@ -1,11 +1,12 @@
 -- Lines that were encoded into a buffer.
-use Rattle.std.proofs.Common.{◌≡◌, ℕ, Bool, false, ◌+◌, ◌*◌, ◌/◌, ◌<◌, ◌≤◌, true, List, [], ◌∷◌, ◌++◌, length, take, drop, slice_index, slice_set, refl, ap, sym, ◌∙◌, arith, append_assoc, length-drop}
+use Rattle.std.proofs.Common.{◌≡◌, ℕ, Bool, false, ◌+◌, ◌*◌, ◌/◌, ◌<◌, ◌≤◌, true, List, [], ◌∷◌, ◌++◌, length, take, drop, slice_index, slice_set, refl, ap, sym, ◌∙◌, arith, append_assoc, length-drop, Result, Ok}
 use Rattle.std.proofs.lemmas.List.{append-nil, drop_more, drop_all, take-append-drop, length-append, length-replicate, length-take-le, set_at, take_at, drop_at}
 use Rattle.std.proofs.lemmas.Slice.{take-put_mid}
 use borrow.Rule.Slice.PartMut.{put_mid}
 use Rattle.base64.specs.Rfc4648.{encode, encoded_size}
 use Rattle.base64.specs.GeneralPurpose.{encode_of, encoded_size_of}
 use Rattle.base64.specs.declared.engine.general_purpose.GeneralPurpose.{GeneralPurpose}
+use Rattle.base64.specs.declared.encode.EncodeSliceError.{EncodeSliceError}
 use Rattle.base64.proofs.RoundTrip.{length-encode_symbols}
 use Rattle.age_base64.specs.Lines.{line}
 use Rattle.age_base64.specs.Base64.{padded_columns}
@@ -60,6 +61,14 @@ length-encode t pad false bytes = rw append-nil (length-encode_symbols t bytes)
 pub encoded_size-is : (e : GeneralPurpose) → ((bytes : List ℕ) → encode_of e bytes ≡ padded_columns bytes) → (bytes : List ℕ) →
     encoded_size_of e (length bytes) ≡ 4 * ((length bytes + 2) / 3)
 encoded_size-is e h bytes = sym (length-encode _ _ _ bytes) ∙ ap length (h bytes) ∙ length-padded_columns bytes
+
+-- how many columns were written, where they fit
+pub count-is : (e : GeneralPurpose) → ((bytes : List ℕ) → encode_of e bytes ≡ padded_columns bytes) → (bytes : List ℕ) (room count : ℕ) (result : Result ℕ EncodeSliceError) →
+    result ≡ Ok count → 4 * ((length bytes + 2) / 3) ≤ room → (encoded_size_of e (length bytes) ≤ room → result ≡ Ok (encoded_size_of e (length bytes))) →
+    count ≡ encoded_size_of e (length bytes)
+count-is e h bytes room count result is fits ensured =
+    let same : Path (Result ℕ EncodeSliceError) (Ok count) (Ok (encoded_size_of e (length bytes))) = sym is ∙ ensured (omega (arith, encoded_size-is e h bytes, fits)) in
+    cc
 
 -- LF after columns that were written to the front
 pub ended_line : (cols old new : List ℕ) (n : ℕ) → new ≡ cols ++ drop n old → length cols ≡ n → n < length new →

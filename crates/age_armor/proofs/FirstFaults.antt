@@ -16,7 +16,8 @@ use Rattle.age_armor.specs.LineVerdict.{LineVerdict, Refuses, Ends, Holds, verdi
 use Rattle.age_armor.specs.Delivered.{Ending, Clean, Refused, InnerFault, Outcome, ends, prepend, raw_lines, is_space, trailing, after_line, section, delivered}
 use Rattle.age_armor.specs.FirstFault.{IsFirstLine, IsFaultAfter, HasBadLine, IsFirstFault}
 use Rattle.age_armor.proofs.Verdicts.{one_verdict, passes_to, verdict_is}
-use Rattle.age_armor.proofs.RawLines.{AreRaw, are_raw, raw_line, concat_raw, raw_lines_ended, raw_lines_last}
+use Rattle.age_armor.specs.DeliveredLaws.{concat_raw}
+use Rattle.age_armor.proofs.RawLines.{AreRaw, are_raw, raw_line, raw_lines_ended, raw_lines_last}
 use Rattle.age_armor.proofs.Shapes.{shape_of, early_delivers, plain_delivers, open_marker_delivers, marker_line_delivers}
 use Rattle.age_armor.proofs.Delivering.{carried_delivered, spaces_end}
 use Rattle.age_armor.proofs.CleanEnds.{delivered_carried, is_space_back, refused_clean}

@@ -80,17 +80,6 @@ pub raw_lines_last : (c : ℕ) (k : List ℕ) → Lacks 10 (c ∷ k) → raw_lin
 raw_lines_last c [] h = rw (ne_eqb c 10 h.0) refl
 raw_lines_last c (d ∷ k) h = rw (ne_eqb c 10 h.0) (ap (push_front c) (raw_lines_last d k h.1))
 
-concat_push : (c : ℕ) (ls : List (List ℕ)) → concat (push_front c ls) ≡ c ∷ concat ls
-concat_push c [] = refl
-concat_push c (l ∷ ls) = refl
-
-pub concat_raw : (text : List ℕ) → concat (raw_lines text) ≡ text
-concat_raw [] = refl
-concat_raw (c ∷ text) = elim (cases_Bool (c == 10)) [
-  | inl e ↦ rw e (ap (λ l. c ∷ l) (concat_raw text))
-  | inr e ↦ rw e (concat_push c (raw_lines text) ∙ ap (λ l. c ∷ l) (concat_raw text))
-]
-
 -- each line has a LF at its end and nowhere else, but for the last, which may have none
 abbrev pub AreRaw : List (List ℕ) → Type 0
 AreRaw [] = Unit {0}

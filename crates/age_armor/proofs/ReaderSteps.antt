@@ -3,8 +3,8 @@ use Rattle.std.proofs.Common.{◌≡◌, ℕ, inr}
 use Rattle.std.specs.Prelude.{Result, Ok, Err, IfOk, IfErr, OnOk, OnErr}
 use Rattle.age_error.specs.declared.io.Error.{Error}
 use Rattle.age_error.specs.Refusals.{IsInterruption}
-use Rattle.age_io.specs.Stretch.{Stretch, nothing, IsCleanEnd}
-use Rattle.age_io.specs.Reading.{StaysOrFails, most_faults}
+use Rattle.age_io.specs.Stretch.{Stretch, nothing}
+use Rattle.age_io.specs.Reading.{StaysOrFails}
 
 pub unspent_ok : (result : Result ℕ Error) (P Q : Type 0) → OnOk result Q → IfOk result (λ _. P → Q)
 unspent_ok (Ok n) P Q h = λ p. h

@@ -1,31 +1,29 @@
 -- The next bytes of armor.
-use Rattle.std.proofs.Common.{◌≡◌, ◌≢◌, ℕ, suc, zero, ◌+◌, ◌≤◌, ◌<◌, Bool, true, false, ◌||◌, IsTrue, List, [], ◌∷◌, ◌++◌, length, take, drop, refl, ap, sym, subst, arith, ◌∙◌, append_assoc, length-append, nat_lt, nat_eq}
+use Rattle.std.proofs.Common.{◌≡◌, ◌≢◌, ℕ, suc, zero, ◌≤◌, ◌<◌, Bool, true, false, ◌||◌, List, [], ◌∷◌, ◌++◌, length, take, drop, refl, ap, sym, subst, arith, ◌∙◌, append_assoc, length-append, nat_lt, nat_eq}
 use Rattle.std.specs.Prelude.{slice_index}
-use Rattle.std.specs.List.{starts_with, concat}
-use Rattle.std.proofs.lemmas.Bool.{true≢false, cases_Bool, false_from_ne_true, le-ltb, lt-ltb, or_right}
+use Rattle.std.specs.List.{starts_with}
+use Rattle.std.proofs.lemmas.Bool.{false_from_ne_true, le-ltb, lt-ltb, or_right}
 use Rattle.std.proofs.lemmas.List.{append-nil, take-append-le, drop-append-le, length-take-le}
 use Rattle.std.proofs.Common.{inl}
 use Rattle.age_io.specs.Stretch.{Stretch, IsCleanEnd, IsFault}
-use Rattle.age_io.specs.Reading.{Delivers, IsQuiet}
+use Rattle.age_io.specs.Reading.{Delivers}
 use Rattle.age_error.specs.declared.io.Error.{Error}
 use Rattle.age_error.specs.declared.io.Error.TheVariants.{Armor, UnexpectedEof}
 use Rattle.age_error.specs.declared.io.ArmoredReadError.TheVariants.{InvalidBeginMarker, NotWrappedAt64Chars}
-use Rattle.age_base64.specs.Lines.{line as ended, Lacks}
-use Rattle.age_error.specs.Bytes.{AreBytes}
+use Rattle.age_base64.specs.Lines.{Lacks}
 use Rattle.age_armor.specs.Armor.{begin_marker}
 use Rattle.age_base64.specs.Base64.{padded_columns}
 use Rattle.age_base64.proofs.PaddedColumns.{padded_columns-nil, Lacks_padded_columns, length-padded_columns}
-use Rattle.age_armor.specs.LineVerdict.{LineVerdict, Refuses, Ends, Holds, verdict, is_short, line_columns, last_is, IsLineVerdict}
-use Rattle.age_armor.specs.Delivered.{Outcome, Ending, Clean, Refused, InnerFault, ends, prepend, at_end, raw_lines, section, trailing, after_line, after_marker, delivered}
+use Rattle.age_armor.specs.LineVerdict.{Refuses, Ends, Holds, verdict, is_short, line_columns, last_is, IsLineVerdict}
+use Rattle.age_armor.specs.Delivered.{Outcome, Ending, Clean, Refused, InnerFault, ends, at_end, raw_lines, section, trailing, after_line, after_marker, delivered}
 use Rattle.age_armor.specs.Counting.{TakesLine, IsFew, IsCutShort}
 use Rattle.age_armor.specs.Showing.{TakesFull}
-use Rattle.age_armor.specs.Stages.{ahead, Advances, Stops, IsNamed}
-use Rattle.age_armor.specs.declared.stages.Stage.TheVariants.{Lines}
-use Rattle.age_armor.proofs.RawLines.{concat_raw, raw_lines_ended, columns_lf, last_is_end, full_length, full_not_short}
-use Rattle.age_armor.specs.DeliveredLaws.{length_line_columns}
+use Rattle.age_armor.specs.Stages.{Advances, Stops, IsNamed}
+use Rattle.age_armor.proofs.RawLines.{raw_lines_ended, columns_lf, last_is_end, full_not_short}
+use Rattle.age_armor.specs.DeliveredLaws.{length_line_columns, concat_raw}
 use Rattle.age_armor.proofs.Verdicts.{one_verdict}
 use Rattle.age_armor.proofs.Delivering.{good_line}
-use Rattle.age_armor.proofs.Shapes.{begins_back, early_delivers}
+use Rattle.age_armor.proofs.Shapes.{begins_back}
 
 pub stops_of : (o : Outcome) (e : Error) (end : Ending) → o ≡ ends end → IsNamed end e → Stops o e
 stops_of o e end same named = record { nothing = ap (λ x. x.bytes) same; named = subst (λ x. IsNamed x e) (sym (ap (λ x. x.ending) same)) named }

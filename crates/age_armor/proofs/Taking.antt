@@ -1,12 +1,12 @@
 -- Lines that are taken from a reader.
-use Rattle.std.proofs.Common.{◌≡◌, ◌≢◌, ℕ, zero, suc, Some, take, ◌+◌, ◌≤◌, ◌<◌, Bool, true, false, ◌||◌, IsTrue, List, [], ◌∷◌, ◌++◌, length, refl, ap, sym, subst, arith, ◌∙◌, append_assoc, length-append}
+use Rattle.std.proofs.Common.{◌≡◌, ℕ, zero, suc, Some, take, ◌≤◌, ◌<◌, Bool, true, false, List, [], ◌∷◌, ◌++◌, length, refl, ap, sym, arith, ◌∙◌, append_assoc, length-append}
 use Rattle.std.proofs.lemmas.Bool.{or_left, or_right, and_parts, true≢false, cases_Bool}
 use Rattle.std.proofs.lemmas.List.{append-nil}
 use Rattle.std.specs.List.{list_all}
 use Rattle.std.specs.Prelude.{slice_index}
 use Rattle.age_base64.specs.Base64.{padded_columns}
 use Rattle.age_armor.specs.Showing.{BeginsFull}
-use Rattle.age_armor.proofs.Verdicts.{decoded_is}
+use Rattle.age_armor.specs.DeliveredLaws.{decoded_is}
 use Rattle.std.proofs.Common.{inl, inr}
 use Rattle.age_error.specs.declared.io.Error.TheVariants.{Armor}
 use Rattle.age_error.specs.declared.io.ArmoredReadError.TheVariants.{TrailingGarbage}
@@ -15,9 +15,9 @@ use Rattle.age_io.specs.Reading.{Delivers, IsQuiet}
 use Rattle.age_base64.specs.Lines.{Lacks, line as ended}
 use Rattle.age_base64.proofs.Lines.{Lacks-append}
 use Rattle.age_armor.specs.LineVerdict.{decoded, last_is}
-use Rattle.age_armor.specs.Delivered.{raw_lines, section, ends, InnerFault, Outcome}
+use Rattle.age_armor.specs.Delivered.{raw_lines, section, ends, InnerFault}
 use Rattle.age_armor.specs.Counting.{TakesLine, IsCutShort}
-use Rattle.age_armor.specs.Delivered.{Ending, Clean, Refused, is_space, trailing}
+use Rattle.age_armor.specs.Delivered.{Refused, is_space, trailing}
 use Rattle.age_armor.specs.Stages.{IsNamed}
 use Rattle.age_armor.proofs.RawLines.{raw_lines_ended, raw_lines_last, last_lacks, last_is_end}
 

@@ -1,6 +1,5 @@
 -- The code's tests of a line.
-use Rattle.std.proofs.Common.{◌≡◌, ◌≢◌, ℕ, ◌==◌, Bool, List, [], ◌∷◌, ◌++◌, ap, sym, ◌∙◌, Result, Ok, Err}
-use Rattle.base64.specs.GeneralPurpose.{decode_of}
+use Rattle.std.proofs.Common.{◌≡◌, ℕ, ◌==◌, Bool, List, [], ◌∷◌, ◌++◌, ap, sym, ◌∙◌, Result, Ok, Err}
 use Rattle.base64.specs.declared.decode.DecodeError.{DecodeError}
 use Rattle.base64.specs.declared.engine.general_purpose.GeneralPurpose.{GeneralPurpose}
 use Rattle.base64.proofs.EngineFacts.{decode_of_strict, decode_of_iff}

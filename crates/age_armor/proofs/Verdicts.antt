@@ -1,19 +1,20 @@
 -- Each line has exactly one verdict.
-use Rattle.std.proofs.Common.{◌≡◌, ◌≢◌, ℕ, ◌%◌, ◌^◌, ◌<◌, ◌≤◌, ◌==◌, ◌⊎◌, inl, inr, Bool, true, false, List, [], ◌∷◌, length, refl, ap, sym, subst, arith, ◌∙◌, Option, Some, None, if◌then◌else◌, ◌&&◌, ◌||◌, nat_lt}
+use Rattle.std.proofs.Common.{◌≡◌, ◌≢◌, ℕ, ◌%◌, ◌^◌, ◌<◌, ◌≤◌, ◌==◌, ◌⊎◌, inl, inr, Bool, true, false, List, [], ◌∷◌, length, refl, ap, sym, arith, ◌∙◌, Option, Some, None, if◌then◌else◌, ◌||◌, nat_lt}
 use Rattle.std.specs.List.{list_any, list_all}
 use Rattle.std.specs.Str.{IsUtf8, is_utf8, bytes_eq}
 use Rattle.std.specs.Cmp.Lexicographic.{bytes_decides}
-use Rattle.std.proofs.lemmas.Bool.{true≢false, cases_Bool, and_parts, and_from, or_cases, or_parts, or_from, eqb-true, eqb-false, eq-eqb, ne_eqb, ltb-true, ltb-false, lt-ltb, le-ltb, false_from_ne_true, or_right}
+use Rattle.std.proofs.lemmas.Bool.{true≢false, cases_Bool, and_from, or_cases, or_parts, or_from, eqb-true, eqb-false, eq-eqb, ne_eqb, ltb-true, ltb-false, lt-ltb, le-ltb, false_from_ne_true, or_right}
 use Rattle.std.proofs.lemmas.Str.{IsUtf8-from_is_utf8, is_utf8-from_IsUtf8}
 use Rattle.base64.specs.GeneralPurpose.{decoded_of}
 use Rattle.base64.specs.Engines.{standard}
 use Rattle.age_error.specs.declared.io.ArmoredReadError.TheVariants.{Base64, InvalidBeginMarker, InvalidUtf8, LineContainsCr, MissingPadding, NotWrappedAt64Chars, ShortLineInMiddle, TrailingGarbage}
 use Rattle.age_error.specs.Bytes.{AreBytes}
 use Rattle.age_base64.specs.Lines.{Lacks}
-use Rattle.std.proofs.lemmas.List.Elements.{All-nil, All-cons, All-head, All-tail}
+use Rattle.std.proofs.lemmas.List.Elements.{All-head, All-tail}
 use Rattle.age_base64.specs.Base64.{padded_columns}
 use Rattle.age_armor.specs.Armor.{end_marker}
-use Rattle.age_armor.specs.LineVerdict.{LineVerdict, Refuses, Ends, Holds, verdict, columns_verdict, first_verdict, decoded_verdict, decoded, if_encoded, line_columns, IsClear, IsFirst, IsLineVerdict}
+use Rattle.age_armor.specs.LineVerdict.{LineVerdict, Refuses, Ends, Holds, verdict, columns_verdict, first_verdict, decoded_verdict, decoded, line_columns, IsClear, IsFirst, IsLineVerdict}
+use Rattle.age_armor.specs.DeliveredLaws.{decoded_is}
 use Rattle.age_base64.proofs.PaddedColumns.{decodes_padded, length-padded_columns}
 
 -- ---- decoding
@@ -23,28 +24,6 @@ below_all [] h = refl
 below_all (x ∷ b) h =
     let fits : x < 2 ^ 8 = All-head (λ d. d < 2 ^ 8) x b h in
     and_from _ _ (lt-ltb x 256 (omega (arith, fits))) (below_all b (All-tail (λ d. d < 2 ^ 8) x b h))
-
-all_below : (b : List ℕ) → list_all (λ x. nat_lt x 256) b ≡ true → AreBytes b
-all_below [] h = All-nil (λ d. d < 2 ^ 8)
-all_below (x ∷ b) h =
-    let parts = and_parts (nat_lt x 256) (list_all (λ d. nat_lt d 256) b) h in
-    let fits : x < 256 = ltb-true x 256 parts.0 in
-    All-cons (λ d. d < 2 ^ 8) x b (omega (arith, fits)) (all_below b parts.1)
-
-encoded_is : (l : List ℕ) (o : Option (List ℕ)) (b : List ℕ) → if_encoded l o ≡ Some b → AreBytes b × (l ≡ padded_columns b)
-encoded_is l None b e = cc e
-encoded_is l (Some c) b e = go _ refl e
-  where
-    go : (t : Bool) → (list_all (λ x. nat_lt x 256) c && bytes_eq l (padded_columns c)) ≡ t → (if t then Some c else None) ≡ Some b → AreBytes b × (l ≡ padded_columns b)
-    go true t e =
-        let same : c ≡ b = cc e in
-        let parts = and_parts _ _ t in
-        (subst AreBytes same (all_below c parts.0), (bytes_decides l (padded_columns c)).0 parts.1 ∙ ap padded_columns same)
-    go false t e = cc e
-
-pub decoded_is : (l b : List ℕ) → decoded l ≡ Some b → AreBytes b × (l ≡ padded_columns b)
-unfolding decoded
-decoded_is l b e = encoded_is l (decoded_of standard l) b e
 
 standard_decodes : (b : List ℕ) → AreBytes b → decoded_of standard (padded_columns b) ≡ Some b
 unfolding decoded_of

@@ -1,5 +1,5 @@
 -- What a reader of armor delivers to a clean end, and what the text carries.
-use Rattle.std.proofs.Common.{◌≡◌, Bool, true, false, IsTrue, List, ℕ, refl, ap, sym, ◌∙◌}
+use Rattle.std.proofs.Common.{◌≡◌, true, IsTrue, List, ℕ, refl, ap, sym, ◌∙◌}
 use Rattle.std.proofs.lemmas.Bool.{true≢false}
 use Rattle.age_error.specs.Bytes.{AreBytes}
 use Rattle.age_io.specs.Stretch.{Stretch, whole}

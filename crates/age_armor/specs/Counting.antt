@@ -1,7 +1,7 @@
 -- A reader of which bytes are taken and counted.
-use Rattle.std.specs.Prelude.{◌≡◌, ◌≢◌, ℕ, ◌+◌, ◌-◌, ◌≤◌, ◌<◌, Bool, true, ◌||◌, IsTrue, List, [], ◌∷◌, ◌++◌, length, Result, IfOk, IfErr, OnOk, OnErr}
-use Rattle.age_io.specs.Stretch.{Stretch, IsCleanEnd, IsFault}
-use Rattle.age_io.specs.Reading.{IsQuiet, Delivers, most_faults}
+use Rattle.std.specs.Prelude.{◌≡◌, ℕ, ◌-◌, ◌≤◌, ◌<◌, Bool, true, ◌||◌, IsTrue, List, ◌∷◌, length, Result, IfErr, OnOk}
+use Rattle.age_io.specs.Stretch.{Stretch, IsCleanEnd}
+use Rattle.age_io.specs.Reading.{most_faults}
 use Rattle.age_error.specs.Refusals.{IsDevice, IsInterruption}
 use Rattle.age_error.specs.declared.io.Error.{Error}
 use Rattle.age_armor.specs.LineVerdict.{last_is}

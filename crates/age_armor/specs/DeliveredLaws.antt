@@ -1,27 +1,25 @@
 -- The laws of what a text delivers.
-use Rattle.std.specs.Prelude.{◌≡◌, ◌≢◌, ℕ, ◌+◌, ◌-◌, ◌%◌, ◌≤◌, ◌<◌, ◌==◌, ◌^◌, Bool, true, false, IsTrue, nat_lt, nat_eq, ◌&&◌, ◌||◌, not, if◌then◌else◌, List, [], ◌∷◌, ◌++◌, length, take, drop, slice_index, Option, Some, None, refl, ◌⊎◌}
-use Rattle.std.proofs.Common.{zero, suc, arith, sym, ap, subst, ◌∙◌, inl, inr, length-append, length-drop}
-use Rattle.std.proofs.lemmas.Bool.{ltb-true, and_parts, true≢false, cases_Bool}
-use Rattle.std.proofs.lemmas.List.{length-replicate}
+use Rattle.std.specs.Prelude.{◌≡◌, ℕ, ◌+◌, ◌%◌, ◌≤◌, ◌<◌, ◌==◌, ◌^◌, Bool, true, false, nat_lt, nat_eq, ◌&&◌, ◌||◌, not, if◌then◌else◌, List, [], ◌∷◌, length, drop, Option, Some, None, refl, ◌⊎◌}
+use Rattle.std.proofs.Common.{arith, sym, ap, subst, ◌∙◌, inl, inr, length-append, length-drop}
+use Rattle.std.proofs.lemmas.Bool.{ltb-true, and_parts, true≢false}
 use Rattle.std.proofs.lemmas.List.Elements.{All-nil, All-cons, All-append, All-drop}
 use Rattle.std.specs.List.{list_all, list_any, concat, starts_with}
 use Rattle.std.specs.Str.{is_utf8, bytes_eq}
 use Rattle.std.specs.Cmp.Lexicographic.{bytes_decides}
 use Rattle.base64.specs.GeneralPurpose.{decoded_of}
 use Rattle.base64.specs.Engines.{standard}
-use Rattle.base64.specs.Rfc4648.{encode_symbols, padding_len, unpadded_len}
-use Rattle.base64.proofs.RoundTrip.{length-encode_symbols}
 use Rattle.age_error.specs.declared.io.Error.TheVariants.{Armor, UnexpectedEof}
 use Rattle.age_error.specs.declared.io.ArmoredReadError.TheVariants.{InvalidBeginMarker}
 use Rattle.age_error.specs.declared.io.ArmoredReadError.{ArmoredReadError}
-use Rattle.age_error.specs.declared.io.ArmoredReadError.TheVariants.{Base64, InvalidUtf8, LineContainsCr, MissingPadding, NotWrappedAt64Chars, ShortLineInMiddle}
+use Rattle.age_error.specs.declared.io.ArmoredReadError.TheVariants.{InvalidUtf8, LineContainsCr, MissingPadding, NotWrappedAt64Chars, ShortLineInMiddle}
 use Rattle.age_error.specs.Bytes.{AreBytes}
 use Rattle.age_io.specs.Stretch.{Stretch, nothing, from_place, stretch-ext}
 use Rattle.age_io.specs.Reading.{StandsIn}
-use Rattle.age_base64.specs.Base64.{padded_columns, symbols}
+use Rattle.age_base64.specs.Base64.{padded_columns}
+use Rattle.age_base64.proofs.PaddedColumns.{length-padded_columns}
 use Rattle.age_armor.specs.Armor.{begin_marker, end_marker}
-use Rattle.age_armor.specs.LineVerdict.{LineVerdict, Refuses, Ends, Holds, verdict, columns_verdict, first_verdict, decoded_verdict, decoded, if_encoded, line_columns, is_short, last_is, but_last, without_last}
-use Rattle.age_armor.specs.Delivered.{Outcome, Ending, Clean, Refused, InnerFault, ends, prepend, at_end, raw_lines, push_front, section, is_space, trailing, after_line, after_marker, delivered, stretch_of, is_clean}
+use Rattle.age_armor.specs.LineVerdict.{LineVerdict, Refuses, Ends, Holds, verdict, columns_verdict, decoded_verdict, decoded, if_encoded, line_columns, is_short, last_is, but_last, without_last}
+use Rattle.age_armor.specs.Delivered.{Outcome, Ending, Refused, InnerFault, ends, at_end, raw_lines, push_front, section, after_line, delivered, stretch_of}
 
 if-either : {X : Type 0} (P : X → Type 0) (c : Bool) (x y : X) → P x → P y → P (if c then x else y)
 if-either P true x y p q = p
@@ -35,21 +33,21 @@ all_bytes (x ∷ b) h =
     let below : x < 2 ^ 8 = let lt = ltb-true x 256 (and_parts _ _ h).0 in omega (arith, lt) in
     All-cons (λ x. x < 2 ^ 8) x b below (all_bytes b (and_parts _ _ h).1)
 
-length-padded : (b : List ℕ) → length b ≤ length (padded_columns b)
-unfolding padded_columns
-length-padded b = rw (length-append, length-encode_symbols symbols b) (omega arith)
-
-checked : (l c b : List ℕ) (t : Bool) → (list_all (λ x. nat_lt x 256) c && bytes_eq l (padded_columns c)) ≡ t → (if t then Some c else None) ≡ Some b → AreBytes b × (length b ≤ length l)
+checked : (l c b : List ℕ) (t : Bool) → (list_all (λ x. nat_lt x 256) c && bytes_eq l (padded_columns c)) ≡ t → (if t then Some c else None) ≡ Some b → AreBytes b × (l ≡ padded_columns b)
 checked l c b true t e =
     let same : c ≡ b = cc e in
     let parts = and_parts _ _ t in
-    let enc = ap length ((bytes_decides l (padded_columns c)).0 parts.1) in
-    (subst AreBytes same (all_bytes c parts.0), subst (λ x. length x ≤ length l) same (omega (arith, enc, length-padded c)))
+    (subst AreBytes same (all_bytes c parts.0), (bytes_decides l (padded_columns c)).0 parts.1 ∙ ap padded_columns same)
 checked l c b false t e = cc e
 
-encoded : (l : List ℕ) (o : Option (List ℕ)) (b : List ℕ) → if_encoded l o ≡ Some b → AreBytes b × (length b ≤ length l)
+encoded : (l : List ℕ) (o : Option (List ℕ)) (b : List ℕ) → if_encoded l o ≡ Some b → AreBytes b × (l ≡ padded_columns b)
 encoded l None b e = cc e
 encoded l (Some c) b e = checked l c b _ refl e
+
+-- what is decoded is bytes, and their base64 is what was there
+pub decoded_is : (l b : List ℕ) → decoded l ≡ Some b → AreBytes b × (l ≡ padded_columns b)
+unfolding decoded
+decoded_is l b e = encoded l (decoded_of standard l) b e
 
 -- what holds of a good line
 IsSmall : ℕ → LineVerdict → Type 0
@@ -69,8 +67,7 @@ by_decoded l None h b p = cc p
 by_decoded l (Some c) h b p = let same : c ≡ b = cc p in h b (ap (λ x. Some x) same)
 
 decoded_small : (l b : List ℕ) → decoded l ≡ Some b → AreBytes b × (length b ≤ length l)
-unfolding decoded
-decoded_small l b e = encoded l (decoded_of standard l) b e
+decoded_small l b e = let p = decoded_is l b e in (p.0, omega (arith, ap length p.1, length-padded_columns b))
 
 columns_small : (s : Bool) (l : List ℕ) → IsSmall (length l) (columns_verdict s l)
 columns_small s l =

@@ -3,7 +3,7 @@ use Rattle.std.specs.Prelude.{◌≡◌, ◌≢◌, ℕ, Bool, false, IsTrue, Re
 use Rattle.age_error.specs.declared.io.Error.{Error}
 use Rattle.age_error.specs.declared.io.Error.TheVariants.{OutOfMemory}
 use Rattle.age_io.specs.Reading.{IsQuiet}
-use Rattle.age_armor.specs.Delivered.{Ending, Clean, Refused, InnerFault}
+use Rattle.age_armor.specs.Delivered.{Ending}
 use Rattle.age_armor.specs.Stages.{IsNamed}
 
 -- What a call says of the text's end, where `old` and `new` are how it ends before and after it: a success keeps it, and a

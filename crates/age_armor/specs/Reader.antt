@@ -1,5 +1,5 @@
 -- What a caller sees of an `ArmoredReader`, and what it means as a reader.
-use Rattle.std.specs.Prelude.{◌≡◌, ℕ, ◌-◌, Bool, true, List}
+use Rattle.std.specs.Prelude.{ℕ, ◌-◌, Bool, List}
 use Rattle.age_io.specs.declared.traits.Read as readers
 use Rattle.age_io.specs.declared.bufread.BufRead as buffered
 use Rattle.age_io.specs.Stretch.{Stretch}

@@ -1,6 +1,6 @@
 -- The laws of a reader of armor, over its parts.
-use Rattle.std.specs.Prelude.{◌≡◌, ℕ, ◌<◌, ◌≤◌, Bool, true, false, IsTrue, List, [], ◌∷◌, length, take, drop, nat_lt, nat_eq, ◌||◌, if◌then◌else◌, refl}
-use Rattle.std.proofs.Common.{arith, sym, ap, ◌∙◌, inl, inr, length-take}
+use Rattle.std.specs.Prelude.{◌≡◌, ℕ, ◌<◌, Bool, true, false, IsTrue, List, [], ◌∷◌, length, take, drop, nat_lt, nat_eq, ◌||◌, if◌then◌else◌, refl}
+use Rattle.std.proofs.Common.{arith, sym, ◌∙◌, inl, inr, length-take}
 use Rattle.std.proofs.lemmas.Bool.{true≢false, cases_Bool}
 use Rattle.std.proofs.lemmas.List.{drop_all}
 use Rattle.std.specs.List.{concat, starts_with}
@@ -11,7 +11,7 @@ use Rattle.age_armor.specs.Armor.{begin_marker}
 use Rattle.age_armor.specs.LineVerdict.{LineVerdict, Refuses, Ends, Holds, verdict, is_short, line_columns, last_is}
 use Rattle.age_armor.specs.declared.stages.Stage.{Stage}
 use Rattle.age_armor.specs.declared.stages.Stage.TheVariants.{Start, Binary, Lines, Ended}
-use Rattle.age_armor.specs.Delivered.{Outcome, Ending, Clean, Refused, InnerFault, is_clean, is_space, trailing, after_line, section, raw_lines, delivered, stretch_of}
+use Rattle.age_armor.specs.Delivered.{Outcome, Ending, is_clean, is_space, trailing, after_line, section, raw_lines, delivered, stretch_of}
 use Rattle.age_armor.specs.Stages.{is_start}
 use Rattle.age_armor.specs.Ahead.{rest_ahead}
 use Rattle.age_armor.specs.DeliveredLaws.{content_of}

@@ -1,5 +1,5 @@
 -- What a reader of armor has before it, by what it has found so far.
-use Rattle.std.specs.Prelude.{◌≡◌, ◌≢◌, ℕ, ◌<◌, Bool, true, false, List, [], ◌∷◌, length}
+use Rattle.std.specs.Prelude.{◌≡◌, ℕ, ◌<◌, Bool, true, false, List, []}
 use Rattle.age_io.specs.Stretch.{Stretch}
 use Rattle.age_error.specs.declared.io.Error.{Error}
 use Rattle.age_armor.specs.declared.stages.Stage.{Stage}

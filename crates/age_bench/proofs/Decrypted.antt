@@ -1,26 +1,20 @@
--- What a reader that was given says of the identities.
-use Rattle.std.specs.Prelude.{◌≡◌, ℕ, Bool, ◌&&◌, IsTrue, List, Some, None, Result, Ok, Err, IfErr, refl}
-use Rattle.std.proofs.Common.{inl, inr}
+-- What a refusal says of the identities and of the text.
+use Rattle.std.specs.Prelude.{◌≡◌, ◌⊎◌, ◌≤◌, ◌<◌, ℕ, Bool, ◌&&◌, IsTrue, List, Result, Ok, Err, IfErr}
+use Rattle.std.proofs.Common.{◌∙◌, inl, inr, subst}
 use Rattle.age_error.specs.declared.decrypt.DecryptError.{DecryptError}
 use Rattle.age_error.specs.DecryptErrors.{DecryptRefusal, decrypt_refusal}
-use Rattle.age_bench.specs.Errors.{RefusesKey}
-use Rattle.age_format.specs.Unwrapping.{UnwrapAnswer}
+use Rattle.age_io.specs.Stretch.{Stretch}
+use Rattle.age_armor.specs.Delivered.{delivered, stretch_of}
+use Rattle.age_format.specs.ReadingHeader.{RefusesHeader}
+use Rattle.age_protocol.specs.Decrypting.{RefusesFront, LacksNonce, BreaksRule}
+use Rattle.age_bench.specs.Errors.{RefusesKey, RefusesText}
 use Rattle.age_format.specs.HeaderV1.{HeaderValue}
 use Rattle.age_suite.specs.declared.suite.Suite.{Ghosts as SuiteGhosts}
 use Rattle.age_io.specs.declared.traits.Read.{Ghosts}
 use Rattle.age_stream.specs.declared.reader.StreamReader.{StreamReader}
-use Rattle.age_protocol.specs.Answering.{decided}
-use Rattle.age_protocol.specs.OpeningFile.{Decrypts, OpensFile}
+use Rattle.age_protocol.specs.OpeningFile.{Decrypts}
 
 module _ {S R : Type 0} {suite : SuiteGhosts S} {read : Ghosts R} where
-  -- an identity answered a file key, which opens the file
-  pub decided_key : (answer : UnwrapAnswer) (h : HeaderValue) (nonce : List ℕ) (input : R) (r : StreamReader S R suite read)
-      → Decrypts (decided answer) h nonce input (Ok r) → (file_key : List ℕ) × (answer ≡ Some (Ok file_key)) × OpensFile file_key h nonce input r
-  decided_key None h nonce input r d = absurd d
-  decided_key (Some (Err e)) h nonce input r d = absurd d
-  decided_key (Some (Ok key)) h nonce input r (inl wrong) = absurd wrong.1
-  decided_key (Some (Ok key)) h nonce input r (inr right) = (key, refl, right.1)
-
   -- a refusal after an identity has decided has its cause
   pub refused_key : (key : Result (List ℕ) DecryptRefusal) (h : HeaderValue) (nonce : List ℕ) (input : R)
       (result : Result (StreamReader S R suite read) DecryptError) → Decrypts key h nonce input result
@@ -34,3 +28,31 @@ module _ {S R : Type 0} {suite : SuiteGhosts S} {read : Ghosts R} where
 -- two facts that stay stay together
 pub both_told : (a b a' b' : Bool) → a' ≡ a → b' ≡ b → IsTrue (a && b) → IsTrue (a' && b')
 both_told a b a' b' p q t = rw (p, q) t
+
+-- the causes by which what a text delivers doesn't begin as a file
+abbrev Causes : ℕ → ℕ → Stretch → Stretch → ℕ → ℕ → DecryptRefusal → Type 0
+Causes old_faults new_faults old new old_place new_place e = RefusesHeader old_faults new_faults old new old_place new_place e
+    ⊎ LacksNonce old_faults new_faults old new old_place new_place e
+    ⊎ BreaksRule old new old_place new_place e
+
+-- of a reader of a text they are those of the reader that gives the text
+pub refuses_text : {A R : Type 0} (tells steady : A → Bool) (content : A → Stretch) (place : A → ℕ) (rest : A → Stretch) (faults : A → ℕ)
+    (r_tells : R → Bool) (r_rest : R → Stretch) (r_faults : R → ℕ) (text last : A) (reader r_last : R) (e : DecryptRefusal)
+    → tells text ≡ r_tells reader → faults text ≡ r_faults reader → faults last ≡ r_faults r_last → place text ≡ 0
+    → rest text ≡ stretch_of (delivered (r_rest reader).bytes (r_rest reader).ends_well)
+    → RefusesFront tells steady content place rest faults text last e → RefusesText r_tells r_rest r_faults reader r_last e
+refuses_text tells steady content place rest faults r_tells r_rest r_faults text last reader r_last e told old_faults new_faults start is refuses = record {
+  no_fewer_faults = subst (λ (n : ℕ). n ≤ r_faults r_last) old_faults (subst (λ (n : ℕ). faults text ≤ n) new_faults refuses.keeps.no_fewer_faults);
+  device = λ d. subst (λ (n : ℕ). n < r_faults r_last) old_faults (subst (λ (n : ℕ). faults text < n) new_faults (refuses.device d));
+  left = rest last;
+  place = place last;
+  why = λ tells_text.
+      let delivers = stretch_of (delivered (r_rest reader).bytes (r_rest reader).ends_well) in
+      let by_text : Causes (faults text) (faults last) delivers (rest last) (place text) (place last) e =
+      subst (λ (s : Stretch). Causes (faults text) (faults last) s (rest last) (place text) (place last) e) is (refuses.why (told ∙ tells_text)) in
+      let by_place : Causes (faults text) (faults last) delivers (rest last) 0 (place last) e =
+      subst (λ (p : ℕ). Causes (faults text) (faults last) delivers (rest last) p (place last) e) start by_text in
+      let by_faults : Causes (r_faults reader) (faults last) delivers (rest last) 0 (place last) e =
+      subst (λ (n : ℕ). Causes n (faults last) delivers (rest last) 0 (place last) e) old_faults by_place in
+      subst (λ (n : ℕ). Causes (r_faults reader) n delivers (rest last) 0 (place last) e) new_faults by_faults;
+}

@@ -6,3 +6,4 @@ pub mod Decrypted
 pub mod Unwrapped
 pub mod Wrapped
 pub mod OneFile
+pub mod BothForms

@@ -1,64 +1,31 @@
 -- A file tells its stanzas, and under a file key its plaintext.
-use Rattle.std.specs.Prelude.{◌≡◌, ◌≢◌, ◌<◌, ◌^◌, ◌+◌, ◌*◌, ℕ, zero, suc, Bool, true, false, List, [], ◌∷◌, ◌++◌, length, take, drop, codes, All, refl}
+use Rattle.std.specs.Prelude.{◌≡◌, ◌≢◌, ◌<◌, ◌≤◌, ◌^◌, ◌+◌, ◌*◌, ℕ, zero, suc, Bool, true, false, List, [], ◌∷◌, ◌++◌, length, take, drop, codes, All, refl}
 use Rattle.std.proofs.Common.{◌∙◌, sym, ap, subst, arith, inl, length-drop}
-use Rattle.std.proofs.lemmas.List.{append_cancel_left, drop_at, take_at, length-take-le}
+use Rattle.std.proofs.lemmas.List.{drop_at, take_at, length-take-le}
 use Rattle.std.proofs.lemmas.List.Elements.{All-nil, All-append, All-head, All-take, All-drop}
 use Rattle.age_error.specs.Bytes.{AreBytes, AreBytesOf}
 use Rattle.age_suite.specs.Mac.{hmac_of}
 use Rattle.age_suite.proofs.Digests.{hmac_of-bytes, hkdf_of-bytes}
 use Rattle.age_format.specs.Stanza.{StanzaValue, IsStanza}
 use Rattle.age_format.specs.Header.{IsHeader, IsHeaderText, covered, covered_text, header_text}
-use Rattle.age_format.specs.HeaderV1.{HeaderValue, header_mac, reads_legacy}
-use Rattle.age_format.specs.Verdict.{Header, IsVerdict}
+use Rattle.age_format.specs.HeaderV1.{HeaderValue, header_mac}
 use Rattle.age_format.proofs.Strings.{string_tested}
-use Rattle.age_stream.specs.Payload.{Seal, piece, nonce, middle_seals, last_piece, payload}
+use Rattle.age_stream.specs.Payload.{piece, nonce, middle_seals, last_piece, payload}
 use Rattle.age_stream.specs.Laws.{ArePieces, PayloadLength, OnePlaintext, joined}
 use Rattle.age_protocol.specs.File.{IsFileOf, IsReady, payload_key}
 use Rattle.age_protocol.proofs.Accepted.{ReadsAlone, HasOneVerdict}
 use Rattle.age_protocol.proofs.Files.{is_file}
+use Rattle.age_protocol.proofs.OneFile.{one_header, same_payload}
 use Rattle.age_bench.specs.Bench.{bench_seal, masked, tag_of}
-use Rattle.age_bench.specs.Recipient.{bench_stanza, bench_grease, bench_file}
+use Rattle.age_bench.specs.Recipient.{bench_stanza, bench_grease, bench_file, HoldsBenchKey}
 use Rattle.age_bench.specs.Laws.{masked_twice, masked-bytes}
-use Rattle.age_bench.specs.FileLaws.{IsBenchFile, GivesBack}
+use Rattle.age_bench.specs.FileLaws.{IsBenchFile}
 
 -- ---- any file
 
-payload_key-bytes : (file_key nonce : List ℕ) → AreBytesOf 32 (payload_key file_key nonce)
+pub payload_key-bytes : (file_key nonce : List ℕ) → AreBytesOf 32 (payload_key file_key nonce)
 unfolding payload_key
 payload_key-bytes file_key nonce = hkdf_of-bytes nonce (codes "payload") file_key
-
-module _ (alone : ReadsAlone) (one : HasOneVerdict) (seal_of : Seal) where
-  verdict : (file_key : List ℕ) (stanzas : List StanzaValue) (plain bytes : List ℕ) (f : IsFileOf seal_of file_key stanzas plain bytes)
-      → IsVerdict reads_legacy bytes f.header (Header stanzas f.mac)
-  verdict file_key stanzas plain bytes f =
-      subst (λ input. IsVerdict reads_legacy input f.header (Header stanzas f.mac)) (sym f.whole)
-      (alone reads_legacy f.header (f.nonce ++ payload seal_of (payload_key file_key f.nonce) plain) stanzas f.mac f.text)
-
-  -- the same bytes have the same stanzas
-  one_header : (k l : List ℕ) (s t : List StanzaValue) (p q bytes : List ℕ) (f : IsFileOf seal_of k s p bytes) (g : IsFileOf seal_of l t q bytes)
-      → (f.header ≡ g.header) × (s ≡ t)
-  one_header k l s t p q bytes f g =
-      let same = one reads_legacy bytes f.header g.header (Header s f.mac) (Header t g.mac) (verdict k s p bytes f) (verdict l t q bytes g) in
-      let says = same.1 in
-      (same.0, Prim.cc)
-
-  -- and under one file key one plaintext
-  one_plain : PayloadLength seal_of → OnePlaintext seal_of → ((key plain : List ℕ) → AreBytes (payload seal_of key plain) → AreBytes plain)
-      → (k : List ℕ) (s t : List StanzaValue) (p q bytes : List ℕ) → IsFileOf seal_of k s p bytes → IsFileOf seal_of k t q bytes → AreBytes q → p ≡ q
-  one_plain size law back k s t p q bytes f g d =
-      let sealed = payload seal_of (payload_key k f.nonce) p in
-      let other = payload seal_of (payload_key k g.nonce) q in
-      let front : f.header ≡ g.header = (one_header k k s t p q bytes f g).0 in
-      let all : f.header ++ (f.nonce ++ sealed) ≡ f.header ++ (g.nonce ++ other) =
-      sym f.whole ∙ g.whole ∙ ap (λ h. h ++ (g.nonce ++ other)) (sym front) in
-      let rest : f.nonce ++ sealed ≡ g.nonce ++ other = append_cancel_left f.header (f.nonce ++ sealed) (g.nonce ++ other) all in
-      let n : f.nonce ≡ g.nonce = sym (take_at f.nonce sealed 16 f.sixteen.len) ∙ ap (λ l. take 16 l) rest ∙ take_at g.nonce other 16 g.sixteen.len in
-      let same : sealed ≡ other = sym (drop_at f.nonce sealed 16 f.sixteen.len) ∙ ap (λ l. drop 16 l) rest ∙ drop_at g.nonce other 16 g.sixteen.len in
-      let is : sealed ≡ payload seal_of (payload_key k f.nonce) q = same ∙ ap (λ m. payload seal_of (payload_key k m) q) (sym n) in
-      let whole : AreBytesOf (length q + 16 * (last_piece (length q) + 1)) (payload seal_of (payload_key k f.nonce) q) =
-      size (payload_key k f.nonce) q (payload_key-bytes k f.nonce) d in
-      let b : AreBytes p = back (payload_key k f.nonce) p (subst AreBytes (sym is) whole.bytes) in
-      law (payload_key k f.nonce) p q (payload_key-bytes k f.nonce) b d is
 
 -- ---- what is sealed as bytes is bytes
 
@@ -96,12 +63,17 @@ payload_opened key plain pieces b =
 
 -- ---- the bench file
 
+-- it is a file of no other plaintext under the file key that its first bench stanza holds
+abbrev pub IsAlone : Type 0
+IsAlone = (draws plain file_key : List ℕ) (stanzas : List StanzaValue) (given : List ℕ) → AreBytes draws → 32 ≤ length draws → AreBytes plain
+    → HoldsBenchKey file_key stanzas → IsFileOf bench_seal file_key stanzas given (bench_file draws plain) → given ≡ plain
+
 -- the first of a list, or the grease where there is none
 abbrev first_of : List StanzaValue → StanzaValue
 first_of [] = bench_grease
 first_of (s ∷ stanzas) = s
 
-header_mac-bytes : (file_key front : List ℕ) → AreBytesOf 32 (header_mac file_key front)
+pub header_mac-bytes : (file_key front : List ℕ) → AreBytesOf 32 (header_mac file_key front)
 unfolding header_mac
 header_mac-bytes file_key front = hmac_of-bytes _ front
 
@@ -149,12 +121,18 @@ module _ (is_text : (legacy : Bool) (stanzas : List StanzaValue) (mac : List ℕ
   first_key key file_key (p ∷ passed) later is others =
       absurd (All-head (λ s. s.tag ≢ codes "bench") p passed others (sym (ap (λ l. (first_of l).tag) is)))
 
-  pub gives_back : ReadsAlone → HasOneVerdict → PayloadLength bench_seal → OnePlaintext bench_seal → ((plain : List ℕ) → ArePieces plain) → GivesBack
-  gives_back alone one size law pieces draws plain file_key stanzas given b long p holds f =
+  pub is_alone : ReadsAlone → HasOneVerdict → PayloadLength bench_seal → OnePlaintext bench_seal → ((plain : List ℕ) → ArePieces plain) → IsAlone
+  is_alone alone one size law pieces draws plain file_key stanzas given b long p holds f =
       let key = take 16 draws in
       let text = bench_file draws plain in
       let made = is_bench_file draws plain b long in
-      let same = (one_header alone one bench_seal key file_key _ stanzas plain given text made f).1 in
+      let same = one_header alone one bench_seal key file_key _ stanzas plain given text made f in
       let is : key ≡ file_key = first_key key file_key holds.passed holds.later (same ∙ holds.all) holds.others in
       let g : IsFileOf bench_seal key stanzas given text = subst (λ k. IsFileOf bench_seal k stanzas given text) (sym is) f in
-      one_plain alone one bench_seal size law (λ k xs. payload_opened k xs (pieces xs)) key stanzas _ given plain text g made p
+      let sealing = payload_key key g.nonce in
+      let is_payload : payload bench_seal sealing given ≡ payload bench_seal sealing plain =
+      same_payload alone one bench_seal key stanzas _ given plain text g made in
+      let whole : AreBytesOf (length plain + 16 * (last_piece (length plain) + 1)) (payload bench_seal sealing plain) =
+      size sealing plain (payload_key-bytes key g.nonce) p in
+      let opened : AreBytes given = payload_opened sealing given (pieces given) (subst AreBytes (sym is_payload) whole.bytes) in
+      law sealing given plain (payload_key-bytes key g.nonce) opened p is_payload

@@ -1,6 +1,8 @@
 -- What the words of a command line ask for. A word is a list of bytes.
 use Rattle.std.specs.Prelude.{ℕ, ◌+◌, ◌-◌, ◌*◌, ◌&&◌, List, [], ◌∷◌, length, nat_eq, nat_le, bytes_eq, codes, if◌then◌else◌, Option, Some, None, option_map}
 use Rattle.std.specs.Option.{option_and_then}
+use Rattle.age_armor.specs.declared.format.Format.{Format}
+use Rattle.age_armor.specs.declared.format.Format.TheVariants.{Binary, AsciiArmor}
 use Rattle.age_bench.specs.declared.command.To.{To}
 use Rattle.age_bench.specs.declared.command.To.TheVariants as to
 use Rattle.age_bench.specs.declared.command.With.{With}
@@ -12,13 +14,13 @@ use Rattle.age_bench.specs.declared.command.Command.TheVariants as command
 pub data CommandValue : Type 0 where
   Seal : List ℕ → CommandValue
   Open : List ℕ → CommandValue
-  Encrypt : To → List ℕ → CommandValue
+  Encrypt : To → List ℕ → Format → CommandValue
   Decrypt : With → CommandValue
 
 abbrev pub command_value : Command → CommandValue
 command_value (command.Seal key) = Seal key
 command_value (command.Open key) = Open key
-command_value (command.Encrypt to draw) = Encrypt to draw.items
+command_value (command.Encrypt to draw format) = Encrypt to draw.items format
 command_value (command.Decrypt with_) = Decrypt with_
 
 -- the value of a hexadecimal digit: '0' to '9', 'a' to 'f' or 'A' to 'F'
@@ -63,14 +65,22 @@ abbrev pub two_words : List ℕ → List ℕ → Option CommandValue
 two_words name word =
     if bytes_eq name (codes "decrypt") then option_map Decrypt (with_of word) else option_and_then (named name) (key_of word)
 
--- `encrypt TO DRAW`
-abbrev pub encrypt_of : List ℕ → List ℕ → Option CommandValue
-encrypt_of to draw = option_and_then (λ t. option_map (Encrypt t) (bytes_of draw)) (to_of to)
+-- `encrypt TO DRAW`, in this form
+abbrev pub encrypt_of : List ℕ → List ℕ → Format → Option CommandValue
+encrypt_of to draw format = option_and_then (λ t. option_map (λ bytes. Encrypt t bytes format) (bytes_of draw)) (to_of to)
 
-abbrev pub three_words : List (List ℕ) → Option CommandValue
-three_words (name ∷ to ∷ draw ∷ []) = if bytes_eq name (codes "encrypt") then encrypt_of to draw else None
-three_words words = None
+-- the form that the words after DRAW ask for: no words, or `armor`
+abbrev pub format_of : List (List ℕ) → Option Format
+format_of [] = Some Binary
+format_of (word ∷ []) = if bytes_eq word (codes "armor") then Some AsciiArmor else None
+format_of (word ∷ other ∷ words) = None
+
+-- `encrypt TO DRAW` and `encrypt TO DRAW armor`
+abbrev pub many_words : List (List ℕ) → Option CommandValue
+many_words (name ∷ to ∷ draw ∷ more) =
+    if bytes_eq name (codes "encrypt") then option_and_then (encrypt_of to draw) (format_of more) else None
+many_words words = None
 
 abbrev pub parsed : List (List ℕ) → Option CommandValue
 parsed (name ∷ word ∷ []) = two_words name word
-parsed words = three_words words
+parsed words = many_words words

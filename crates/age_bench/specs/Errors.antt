@@ -1,8 +1,12 @@
 -- What a command was about when it refused, and why.
-use Rattle.std.specs.Prelude.{◌≡◌, ◌≢◌, ◌⊎◌, ℕ, List, Result, Ok, Err}
-use Rattle.age_error.specs.DecryptErrors.{DecryptRefusal, decrypt_refusal, InvalidMac, OutOfMemory}
+use Rattle.std.specs.Prelude.{◌≡◌, ◌≢◌, ◌⊎◌, ◌≤◌, ◌<◌, ℕ, Bool, IsTrue, List, Result, Ok, Err}
+use Rattle.age_error.specs.DecryptErrors.{DecryptRefusal, IsDeviceRefusal, decrypt_refusal, InvalidMac, OutOfMemory}
 use Rattle.age_error.specs.EncryptErrors.{EncryptRefusal, encrypt_refusal}
+use Rattle.age_io.specs.Stretch.{Stretch}
+use Rattle.age_armor.specs.Delivered.{delivered, stretch_of}
 use Rattle.age_format.specs.HeaderV1.{HeaderValue, header_mac}
+use Rattle.age_format.specs.ReadingHeader.{RefusesHeader}
+use Rattle.age_protocol.specs.Decrypting.{LacksNonce, BreaksRule}
 use Rattle.age_bench.specs.declared.error.CommandError.{CommandError}
 use Rattle.age_bench.specs.declared.error.CommandError.TheVariants.{Encrypt, Decrypt}
 
@@ -25,6 +29,19 @@ EncryptsUnless IsCause other = Unit {0}
 abbrev pub DecryptsUnless : (DecryptRefusal → Type 0) → CommandError → Type 0
 DecryptsUnless IsCause (Decrypt e) = IsCause (decrypt_refusal e)
 DecryptsUnless IsCause other = Unit {0}
+
+-- Why what a text delivers doesn't begin as a file, and the reader of the text when it was given up. A part of what it
+-- delivers was read, up to this place, and this was left.
+pub record RefusesText {R : Type 0} (tells : R → Bool) (rest : R → Stretch) (faults : R → ℕ) (old last : R) (e : DecryptRefusal) : Type 0 where
+  pub no_fewer_faults : faults old ≤ faults last
+  pub device : IsDeviceRefusal e → faults old < faults last
+  pub left : Stretch
+  pub place : ℕ
+  -- of a reader that tells its bytes
+  pub why : let text = stretch_of (delivered (rest old).bytes (rest old).ends_well) in IsTrue (tells old)
+      → RefusesHeader (faults old) (faults last) text left 0 place e
+      ⊎ LacksNonce (faults old) (faults last) text left 0 place e
+      ⊎ BreaksRule text left 0 place e
 
 -- after the identity that decides has answered: its own refusal, or the header's MAC is wrong under its file key, or memory was refused
 abbrev pub RefusesKey : Result (List ℕ) DecryptRefusal → HeaderValue → DecryptRefusal → Type 0

@@ -1,6 +1,9 @@
 -- What is true of the files of the bench recipient.
 use Rattle.std.specs.Prelude.{◌≡◌, ◌≤◌, ℕ, List, [], ◌∷◌, length, take}
 use Rattle.age_error.specs.Bytes.{AreBytes}
+use Rattle.age_armor.specs.Armor.{Carries}
+use Rattle.age_armor.specs.declared.format.Format.{Format}
+use Rattle.age_armor.specs.Writing.{text_of}
 use Rattle.age_format.specs.Stanza.{StanzaValue}
 use Rattle.age_protocol.specs.File.{IsFileOf}
 use Rattle.age_bench.specs.Bench.{bench_seal}
@@ -11,7 +14,13 @@ abbrev pub IsBenchFile : Type 0
 IsBenchFile = (draws plain : List ℕ) → AreBytes draws → 32 ≤ length draws
     → IsFileOf bench_seal (take 16 draws) (bench_stanza (take 16 draws) ∷ bench_grease ∷ []) plain (bench_file draws plain)
 
--- it is a file of no other plaintext under the file key that its first bench stanza holds
+-- the text in either form carries it
+abbrev pub IsCarried : Type 0
+IsCarried = (format : Format) (draws plain : List ℕ) → AreBytes draws → 32 ≤ length draws → AreBytes plain
+    → Carries (text_of format (bench_file draws plain)) (bench_file draws plain)
+
+-- what the text in either form carries is a file of no other plaintext under the file key that its first bench stanza holds
 abbrev pub GivesBack : Type 0
-GivesBack = (draws plain file_key : List ℕ) (stanzas : List StanzaValue) (given : List ℕ) → AreBytes draws → 32 ≤ length draws → AreBytes plain
-    → HoldsBenchKey file_key stanzas → IsFileOf bench_seal file_key stanzas given (bench_file draws plain) → given ≡ plain
+GivesBack = (format : Format) (draws plain bytes file_key : List ℕ) (stanzas : List StanzaValue) (given : List ℕ)
+    → AreBytes draws → 32 ≤ length draws → AreBytes plain → Carries (text_of format (bench_file draws plain)) bytes
+    → HoldsBenchKey file_key stanzas → IsFileOf bench_seal file_key stanzas given bytes → given ≡ plain

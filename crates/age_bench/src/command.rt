@@ -1,8 +1,9 @@
 //! What the words of a command line ask for.
 
 ghost use Rattle.std.specs.Prelude.{◌≡◌, ◌<◌, map, string_bytes, vec_items, IfOk, IfSome, option_map};
-ghost use Rattle.age_bench.specs.Command.{bytes_of, byte_of, command_value, digit_of, encrypt_of, key_of, named, parsed, three_words, to_of, two_words, with_of};
+ghost use Rattle.age_bench.specs.Command.{bytes_of, byte_of, command_value, digit_of, encrypt_of, format_of, key_of, many_words, named, parsed, to_of, two_words, with_of};
 
+use age::armor::Format;
 use std::alloc::{AllocError, Global};
 
 /// To whom the program encrypts.
@@ -20,16 +21,26 @@ pub enum With {
 }
 
 /// What the program is to do with its standard input.
-#[derive(Debug, Drop, PartialEq, Eq)]
+#[derive(Drop)]
 pub enum Command {
     /// Write the payload of the input under the key.
-    Seal { key: [u8; 32] },
+    Seal {
+        key: [u8; 32],
+    },
     /// Write the plaintext of the payload that the input is under the key.
-    Open { key: [u8; 32] },
-    /// Write the input encrypted to a recipient, with these random bytes.
-    Encrypt { to: To, draw: Vec<u8> },
-    /// Write the plaintext of the file that the input is, decrypted with an identity.
-    Decrypt { with: With },
+    Open {
+        key: [u8; 32],
+    },
+    /// Write the input encrypted to a recipient, with these random bytes, in this form.
+    Encrypt {
+        to: To,
+        draw: Vec<u8>,
+        format: Format,
+    },
+    /// Write the plaintext of the file that the input is or carries, decrypted with an identity.
+    Decrypt {
+        with: With,
+    },
 }
 
 // The value of a hexadecimal digit of either case.
@@ -130,32 +141,55 @@ fn parse_two(alloc: Global, name: &str, word: &str) -> Result<Option<Command>, A
     }
 }
 
-// `encrypt TO DRAW`.
-fn parse_encrypt(alloc: Global, to: &str, draw: &str) -> Result<Option<Command>, AllocError>
-    ensures { IfOk result (λ found. option_map command_value found ≡ encrypt_of to.now draw.now) }
+// The form that the words after DRAW ask for: none of them for the bytes themselves, `armor` for armor.
+fn parse_format(words: &[String]) -> Option<Format>
+    ensures { result ≡ format_of (map string_bytes words.now) }
+{
+    let Some((word, more)) = words.split_first() else {
+        return Some(Format::Binary);
+    };
+    if more.is_empty() && word.as_str() == "armor" {
+        Some(Format::AsciiArmor)
+    } else {
+        None
+    }
+}
+
+// `encrypt TO DRAW` and `encrypt TO DRAW armor`.
+fn parse_encrypt(
+    alloc: Global,
+    to: &str,
+    draw: &str,
+    format: Format,
+) -> Result<Option<Command>, AllocError>
+    ensures { IfOk result (λ found. option_map command_value found ≡ encrypt_of to.now draw.now format) }
 {
     let Some(to) = parse_to(to) else {
         return Ok(None);
     };
     let draw = parse_bytes(alloc, draw.as_bytes())?;
-    Ok(draw.map(|draw| Command::Encrypt { to, draw }))
+    Ok(draw.map(|draw| Command::Encrypt { to, draw, format }))
 }
 
-// A command of three words.
-#[tactic(auto, using(crate::proofs::Words::few_of_three, crate::proofs::Words::many_of_three))]
-fn parse_three(alloc: Global, words: &[String]) -> Result<Option<Command>, AllocError>
-    ensures { IfOk result (λ found. option_map command_value found ≡ three_words (map string_bytes words.now)) }
+// A command of three words or more.
+#[tactic(auto, using(crate::proofs::Words::few_of_many))]
+fn parse_many(alloc: Global, words: &[String]) -> Result<Option<Command>, AllocError>
+    ensures { IfOk result (λ found. option_map command_value found ≡ many_words (map string_bytes words.now)) }
 {
-    let [name, to, draw] = words else {
+    let [name, to, draw, more @ ..] = words else {
         return Ok(None);
     };
     if name.as_str() != "encrypt" {
         return Ok(None);
     }
-    parse_encrypt(alloc, to.as_str(), draw.as_str())
+    let Some(format) = parse_format(more) else {
+        return Ok(None);
+    };
+    parse_encrypt(alloc, to.as_str(), draw.as_str(), format)
 }
 
-/// What the words after the program's name ask for: `seal KEY`, `open KEY`, `encrypt TO DRAW` or `decrypt WITH`.
+/// What the words after the program's name ask for: `seal KEY`, `open KEY`, `encrypt TO DRAW`, `encrypt TO DRAW armor` or
+/// `decrypt WITH`.
 ///
 /// KEY is 64 hexadecimal digits of either case, two a byte, the high digit first, and DRAW so any number of bytes; TO
 /// and WITH are `bench`. `Ok(None)` says that they are no command line of this program. `AllocError` where memory for the
@@ -165,7 +199,7 @@ pub fn parse(alloc: Global, words: &[String]) -> Result<Option<Command>, AllocEr
     ensures { IfOk result (λ found. option_map command_value found ≡ parsed (map string_bytes words.now)) }
 {
     let [name, word] = words else {
-        return parse_three(alloc, words);
+        return parse_many(alloc, words);
     };
     parse_two(alloc, name.as_str(), word.as_str())
 }

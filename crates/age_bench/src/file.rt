@@ -3,13 +3,14 @@ ghost use Rattle.std.specs.Prelude.{◌≡◌, ◌≤◌, ℕ, length, IsTrue, �
 ghost use Rattle.age_protocol.specs.Encrypting.{Prepared, Prepares};
 ghost use Rattle.age_protocol.specs.File.{file_text, IsFileOf};
 ghost use Rattle.age_protocol.specs.Answering.{FirstThatAnswers, decided};
-ghost use Rattle.age_protocol.specs.Decrypting.{RefusesFront};
+ghost use Rattle.age_armor.specs.Armor.{Carries};
+ghost use Rattle.age_armor.specs.Writing.{text_of};
 ghost use Rattle.age_format.specs.HeaderV1.{HeaderValue};
 ghost use Rattle.age_format.specs.Stanza.{StanzaValue};
 ghost use Rattle.age_format.specs.Unwrapping.{UnwrapAnswer, Unwraps};
 ghost use Rattle.age_bench.specs.Bench.{bench_seal};
 ghost use Rattle.age_error.specs.EncryptErrors.{encrypt_refusal, OutOfMemory};
-ghost use Rattle.age_bench.specs.Errors.{IsEncryptError, IsDecryptError, EncryptsUnless, DecryptsUnless, RefusesKey};
+ghost use Rattle.age_bench.specs.Errors.{IsEncryptError, IsDecryptError, EncryptsUnless, DecryptsUnless, RefusesText, RefusesKey};
 ghost use Rattle.age_bench.specs.Recipient.{bench_grease, bench_file, HoldsBenchKey};
 
 use crate::command::{To, With};
@@ -17,6 +18,7 @@ use crate::copying::copy_all;
 use crate::error::CommandError;
 use crate::recipient::{BenchIdentity, BenchRecipient};
 use crate::suite::BenchSuite;
+use age::armor::{ArmoredReader, ArmoredWriter, Format};
 use age::draw::Draw;
 use age::format::{Grease, Stanza};
 use age::io::{Read, Write};
@@ -39,15 +41,18 @@ fn grease(alloc: Global) -> Result<Grease, EncryptError>
     }
 }
 
-/// Reads what `reader` still has, and appends the file of it, encrypted to the recipients, to `writer`, which is flushed.
+/// Reads what `reader` still has, and appends the file of it, encrypted to the recipients, to `writer`, which is flushed:
+/// the file itself, or its armor.
 ///
 /// The random bytes are drawn before anything is read or written; what is left of them is not used. A success says that
-/// the input ended well, and that what was appended is its file; after an error of encryption nothing was read or written.
-/// It takes the memory of the header's text and of a few chunks. A plaintext past 2^60 bytes is `TooLong`.
+/// the input ended well, and that what was appended is its file in this form; after an error of encryption nothing was
+/// read or written. It takes the memory of the header's text, of a few chunks, and in armor of some lines. A plaintext past
+/// 2^60 bytes is `TooLong`.
 pub fn encrypt_all<R: Read, W: Write>(
     alloc: Global,
     recipients: &[Box<dyn Recipient>],
     draw: Draw,
+    format: Format,
     reader: &mut R,
     writer: &mut W,
 ) -> Result<(), CommandError>
@@ -55,7 +60,7 @@ pub fn encrypt_all<R: Read, W: Write>(
         ((file : Prepared) × (left : List ℕ)
         × Prepares ⟦<Box<dyn Recipient> as Recipient>⟧.wraps recipients.now (Some bench_grease) draw (Ok file) left
         × IsTrue (R.rest reader.old).ends_well
-        × W.appended writer.old (file_text bench_seal file.file_key file.stanzas file.nonce (R.rest reader.old).bytes) writer.new) }
+        × W.appended writer.old (text_of format (file_text bench_seal file.file_key file.stanzas file.nonce (R.rest reader.old).bytes)) writer.new) }
     ensures refused { IfErr result (λ e. IsEncryptError e → (reader.new ≡ reader.old) × (writer.new ≡ writer.old)) }
     ensures why { IfErr result (λ e. EncryptsUnless (λ refusal. (refusal ≡ OutOfMemory) ⊎ ((left : List ℕ)
         × Prepares ⟦<Box<dyn Recipient> as Recipient>⟧.wraps recipients.now (Some bench_grease) draw (Err refusal) left)) e) }
@@ -63,7 +68,7 @@ pub fn encrypt_all<R: Read, W: Write>(
     let mut draw = draw;
     let grease = grease(alloc)?;
     let encryptor = Encryptor::<BenchSuite>::with_recipients(alloc, recipients, &mut draw, grease)?;
-    let _out = write_file::<R, &mut W>(alloc, encryptor, reader, writer)?;
+    let _out = write_file::<R, &mut W>(alloc, encryptor, format, reader, writer)?;
     Ok(())
 }
 
@@ -71,25 +76,28 @@ pub fn encrypt_all<R: Read, W: Write>(
 fn write_file<R: Read, W: Write + Drop>(
     alloc: Global,
     encryptor: Encryptor<BenchSuite>,
+    format: Format,
     reader: &mut R,
     writer: W,
 ) -> Result<W, CommandError>
     ensures file { IsTrue (R.tells reader.old) → IsTrue (W.tells writer) → IfOk result (λ out. IsTrue (R.rest reader.old).ends_well
-        × W.appended writer (file_text bench_seal encryptor.file_key encryptor.stanzas encryptor.nonce (R.rest reader.old).bytes) out) }
+        × W.appended writer (text_of format (file_text bench_seal encryptor.file_key encryptor.stanzas encryptor.nonce (R.rest reader.old).bytes)) out) }
     ensures later { IfErr result (λ e. IsEncryptError e → ⊥) }
 {
-    let mut stream = encryptor.wrap_output(alloc, writer)?;
+    let armored = ArmoredWriter::wrap_output(alloc, writer, format)?;
+    let mut stream = encryptor.wrap_output(alloc, armored)?;
     copy_all(alloc, reader, &mut stream)?;
-    let mut out = stream.finish()?;
+    let finished = stream.finish()?;
+    let mut out = finished.finish()?;
     flush_retrying(&mut out)?;
     Ok(out)
 }
 
-/// Reads a file to its end, and appends its plaintext, decrypted by one of the identities, to `writer`.
+/// Reads a file to its end, bare or armored, and appends its plaintext, decrypted by one of the identities, to `writer`.
 ///
-/// A success says that the input was a file of exactly what was appended, under the file key of the first identity that
-/// answered. After a refusal of the header nothing was appended; after one of the payload a beginning of what its
-/// good chunks open to.
+/// A success says that the input carried a file of exactly what was appended, under the file key of the first identity
+/// that answered. After a refusal of the header, or of the armor before its end, nothing was appended; after a later one a
+/// beginning of what the good chunks open to. Fewer than 36 bytes are `UnexpectedEof`, whatever they are.
 pub fn decrypt_all<R: Read, W: Write>(
     alloc: Global,
     identities: &mut [Box<dyn Identity>],
@@ -97,21 +105,23 @@ pub fn decrypt_all<R: Read, W: Write>(
     writer: &mut W,
 ) -> Result<(), CommandError>
     ensures file { IsTrue (R.tells reader.old && R.steady reader.old) → IsTrue (W.tells writer.old) → OnOk result
-        ((file_key : List ℕ) × (stanzas : List StanzaValue) × (plain : List ℕ)
+        ((file_key : List ℕ) × (stanzas : List StanzaValue) × (plain : List ℕ) × (bytes : List ℕ)
         × FirstThatAnswers (λ identity answer after. Unwraps ⟦<Box<dyn Identity> as Identity>⟧.unwraps identity stanzas answer after)
         identities.old (Some (Ok file_key)) identities.new
         × IsTrue (R.rest reader.old).ends_well
-        × IsFileOf bench_seal file_key stanzas plain (R.rest reader.old).bytes
+        × Carries (R.rest reader.old).bytes bytes
+        × IsFileOf bench_seal file_key stanzas plain bytes
         × W.appended writer.old plain writer.new) }
     ensures refused { IfErr result (λ e. IsDecryptError e → writer.new ≡ writer.old) }
     ensures why { IfErr result (λ e. DecryptsUnless (λ refusal.
-        ((last : _) × RefusesFront R.tells R.steady R.content R.place R.rest R.faults reader.old last refusal)
+        ((last : R) × RefusesText R.tells R.rest R.faults reader.old last refusal)
         ⊎ ((h : HeaderValue) × (answer : UnwrapAnswer)
         × FirstThatAnswers (λ identity answer after. Unwraps ⟦<Box<dyn Identity> as Identity>⟧.unwraps identity h.stanzas answer after)
         identities.old answer identities.new
         × RefusesKey (decided answer) h refusal)) e) }
 {
-    let decryptor = Decryptor::<BenchSuite, &mut R>::new(alloc, reader)?;
+    let text = ArmoredReader::new(alloc, reader)?;
+    let decryptor = Decryptor::<BenchSuite, _>::new(alloc, text)?;
     let mut stream = decryptor.decrypt(alloc, identities)?;
     copy_all(alloc, &mut stream, writer)?;
     Ok(())
@@ -120,18 +130,19 @@ pub fn decrypt_all<R: Read, W: Write>(
 /// `encrypt_all` to the recipient that a word of the command line names.
 ///
 /// The first 16 random bytes are the file key, and the next 16 the nonce of the payload. So what a success appended to
-/// `writer` is set by the random bytes and the plaintext alone. It refuses as `encrypt_all` does: fewer than 32 random
+/// `writer` is set by the random bytes, the form and the plaintext alone. It refuses as `encrypt_all` does: fewer than 32 random
 /// bytes are `ShortRandom`.
 pub fn encrypt_to<R: Read, W: Write>(
     alloc: Global,
     to: To,
     draw: Draw,
+    format: Format,
     reader: &mut R,
     writer: &mut W,
 ) -> Result<(), CommandError>
     ensures file { IsTrue (R.tells reader.old) → IsTrue (W.tells writer.old) → OnOk result
         ((32 ≤ length draw) × IsTrue (R.rest reader.old).ends_well
-        × W.appended writer.old (bench_file draw (R.rest reader.old).bytes) writer.new) }
+        × W.appended writer.old (text_of format (bench_file draw (R.rest reader.old).bytes)) writer.new) }
     ensures refused { IfErr result (λ e. IsEncryptError e → (reader.new ≡ reader.old) × (writer.new ≡ writer.old)) }
 {
     let mut recipients: Vec<Box<dyn Recipient>> = Vec::new(alloc);
@@ -140,13 +151,13 @@ pub fn encrypt_to<R: Read, W: Write>(
             .push(Box::new(alloc, BenchRecipient).map_err(EncryptError::from)?)
             .map_err(EncryptError::from)?,
     }
-    encrypt_all(alloc, &recipients, draw, reader, writer)
+    encrypt_all(alloc, &recipients, draw, format, reader, writer)
 }
 
 /// `decrypt_all` with the identity that a word of the command line names.
 ///
-/// A success says that the input was a file of exactly what was appended to `writer`, under the file key of 16 bytes that
-/// its first stanza with the tag `bench` holds. It refuses as `decrypt_all` does, and then the same was appended.
+/// A success says that the input carried a file of exactly what was appended to `writer`, under the file key of 16 bytes
+/// that its first stanza with the tag `bench` holds. It refuses as `decrypt_all` does, and then the same was appended.
 pub fn decrypt_with<R: Read, W: Write>(
     alloc: Global,
     with: With,
@@ -154,10 +165,11 @@ pub fn decrypt_with<R: Read, W: Write>(
     writer: &mut W,
 ) -> Result<(), CommandError>
     ensures file { IsTrue (R.tells reader.old && R.steady reader.old) → IsTrue (W.tells writer.old) → OnOk result
-        ((file_key : List ℕ) × (stanzas : List StanzaValue) × (plain : List ℕ)
+        ((file_key : List ℕ) × (stanzas : List StanzaValue) × (plain : List ℕ) × (bytes : List ℕ)
         × HoldsBenchKey file_key stanzas
         × IsTrue (R.rest reader.old).ends_well
-        × IsFileOf bench_seal file_key stanzas plain (R.rest reader.old).bytes
+        × Carries (R.rest reader.old).bytes bytes
+        × IsFileOf bench_seal file_key stanzas plain bytes
         × W.appended writer.old plain writer.new) }
     ensures refused { IfErr result (λ e. IsDecryptError e → writer.new ≡ writer.old) }
 {

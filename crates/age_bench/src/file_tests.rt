@@ -2,49 +2,16 @@
 
 use crate::command::{To, With};
 use crate::file::{decrypt_all, decrypt_with, encrypt_all, encrypt_to};
+use crate::fixtures::{MESSAGE, SEALED, empty_stanza, message_file, zeros};
 use crate::recipient::{BenchIdentity, BenchRecipient};
 use crate::suite::BenchSuite;
-use age::draw::Draw;
-use age::format::{Grease, Stanza};
-use age::io::{Bytes, Error, read_to_end, write_all};
-use age::{DecryptError, Decryptor, Encryptor, Identity, Recipient};
+use age::armor::Format;
+use age::format::Grease;
+use age::io::{Bytes, read_to_end, write_all};
+use age::{Decryptor, Encryptor, Identity, Recipient};
 use std::alloc::{AllocError, Global};
 use std::process::Abort;
 use std::test::Fail;
-
-const MESSAGE: &[u8] = b"This is a test message. For testing.";
-
-// The file of the message to `bench`, where each random byte is 0 and the grease stanza is `x-grease`: the header's text
-// has 115 bytes, and the nonce of 16 zeros follows it.
-const HEADER: &[u8] =
-    b"age-encryption.org/v1\n-> bench\nAAAAAAAAAAAAAAAAAAAAAA\n-> x-grease\n\n--- V7seaDdC75BAsSxvbcxwXtSW8y5Dt7T/GP+foqDPt34\n";
-
-const SEALED: [u8; 52] = [
-    0x7e, 0x60, 0xc4, 0xf6, 0xdc, 0x6b, 0xb7, 0x0a, 0x70, 0xec, 0xd9, 0x1b, 0xed, 0x19, 0xc0, 0x3e,
-    0xc4, 0x43, 0xfd, 0x85, 0x51, 0xa4, 0xb1, 0x14, 0x91, 0xf1, 0x08, 0xba, 0x92, 0x6e, 0x5c, 0x1a,
-    0x43, 0x66, 0xca, 0xab, 0x68, 0x3d, 0x25, 0xf3, 0xed, 0xed, 0x42, 0xa2, 0xc3, 0x2f, 0x4f, 0xec,
-    0xd1, 0x6c, 0xd1, 0x12,
-];
-
-// The message's file, and so many bytes after it.
-fn message_file(alloc: Global, more: &[u8]) -> Result<Vec<u8>, AllocError> {
-    let mut file = Vec::from_slice(alloc, HEADER)?;
-    file.extend_from_slice(&[0; 16])?;
-    file.extend_from_slice(&SEALED)?;
-    file.extend_from_slice(more)?;
-    Ok(file)
-}
-
-// So many random bytes, all of them 0.
-fn zeros(alloc: Global, count: usize) -> Result<Draw, AllocError> {
-    Ok(Draw::new(vec![in alloc; 0; count]?))
-}
-
-// A stanza without arguments and body.
-fn empty_stanza(alloc: Global, tag: &str) -> Result<Option<Stanza>, AllocError> {
-    let tag = String::from_str(alloc, tag)?;
-    Ok(Stanza::new(tag, Vec::new(alloc), Vec::new(alloc)))
-}
 
 #[test]
 fn a_message_has_its_file(rt: HostRuntime) -> Result<(), Fail> {
@@ -96,7 +63,15 @@ fn encrypts(
     recipients.push(Box::new(alloc, BenchRecipient)?)?;
     let draw = zeros(alloc, random)?;
     let mut file = Vec::new(alloc);
-    match encrypt_all(alloc, &recipients, draw, &mut Bytes::new(plain), &mut file) {
+    let mut input = Bytes::new(plain);
+    match encrypt_all(
+        alloc,
+        &recipients,
+        draw,
+        Format::Binary,
+        &mut input,
+        &mut file,
+    ) {
         Ok(()) => assert_eq!(rt; Ok(file.len()), expected),
         Err(error) => {
             let text = error.to_string(alloc)?;
@@ -130,7 +105,14 @@ fn the_commands_turn_each_other_back(rt: HostRuntime) -> Result<(), Fail> {
     let alloc = rt.alloc();
     let draw = zeros(alloc, 32)?;
     let mut file = Vec::new(alloc);
-    encrypt_to(alloc, To::Bench, draw, &mut Bytes::new(MESSAGE), &mut file)?;
+    encrypt_to(
+        alloc,
+        To::Bench,
+        draw,
+        Format::Binary,
+        &mut Bytes::new(MESSAGE),
+        &mut file,
+    )?;
     assert_eq!(rt; file.len(), 190);
     let mut plain = Vec::new(alloc);
     decrypt_with(alloc, With::Bench, &mut Bytes::new(&file), &mut plain)?;

@@ -1,5 +1,7 @@
-//! What the tests of payloads share.
+//! What tests share.
 
+use age::draw::Draw;
+use age::format::Stanza;
 use age::mac::hmac;
 use std::alloc::{AllocError, Global};
 
@@ -22,4 +24,40 @@ pub fn plaintext(alloc: Global, length: usize) -> Result<Vec<u8>, AllocError> {
 pub fn digest(bytes: &[u8]) -> u64 {
     let [a, b, c, d, e, f, g, h, ..] = hmac(&[], bytes);
     u64::from_be_bytes([a, b, c, d, e, f, g, h])
+}
+
+/// A plaintext of 36 bytes.
+pub const MESSAGE: &[u8] = b"This is a test message. For testing.";
+
+// The file of the message to `bench`, where each random byte is 0 and the grease stanza is `x-grease`: the header's text
+// has 115 bytes, and the nonce of 16 zeros follows it.
+const HEADER: &[u8] =
+    b"age-encryption.org/v1\n-> bench\nAAAAAAAAAAAAAAAAAAAAAA\n-> x-grease\n\n--- V7seaDdC75BAsSxvbcxwXtSW8y5Dt7T/GP+foqDPt34\n";
+
+/// The payload of the message in that file.
+pub const SEALED: [u8; 52] = [
+    0x7e, 0x60, 0xc4, 0xf6, 0xdc, 0x6b, 0xb7, 0x0a, 0x70, 0xec, 0xd9, 0x1b, 0xed, 0x19, 0xc0, 0x3e,
+    0xc4, 0x43, 0xfd, 0x85, 0x51, 0xa4, 0xb1, 0x14, 0x91, 0xf1, 0x08, 0xba, 0x92, 0x6e, 0x5c, 0x1a,
+    0x43, 0x66, 0xca, 0xab, 0x68, 0x3d, 0x25, 0xf3, 0xed, 0xed, 0x42, 0xa2, 0xc3, 0x2f, 0x4f, 0xec,
+    0xd1, 0x6c, 0xd1, 0x12,
+];
+
+/// The message's file, and these bytes after it.
+pub fn message_file(alloc: Global, more: &[u8]) -> Result<Vec<u8>, AllocError> {
+    let mut file = Vec::from_slice(alloc, HEADER)?;
+    file.extend_from_slice(&[0; 16])?;
+    file.extend_from_slice(&SEALED)?;
+    file.extend_from_slice(more)?;
+    Ok(file)
+}
+
+/// So many random bytes, all of them 0.
+pub fn zeros(alloc: Global, count: usize) -> Result<Draw, AllocError> {
+    Ok(Draw::new(vec![in alloc; 0; count]?))
+}
+
+/// A stanza without arguments and body.
+pub fn empty_stanza(alloc: Global, tag: &str) -> Result<Option<Stanza>, AllocError> {
+    let tag = String::from_str(alloc, tag)?;
+    Ok(Stanza::new(tag, Vec::new(alloc), Vec::new(alloc)))
 }

@@ -1,6 +1,10 @@
 //! The program `agebench`: the library over the bench suite, by which it is tried and measured.
 #![tactic(auto)]
 
+#[cfg(test)]
+mod armor_tests;
+#[cfg(test)]
+mod buffered_tests;
 mod command;
 #[cfg(test)]
 mod command_tests;
@@ -37,6 +41,8 @@ mod stream_tests;
 mod suite;
 #[cfg(test)]
 mod tests;
+#[cfg(test)]
+mod whole_file_tests;
 
 use crate::command::{Command, parse};
 use crate::error::CommandError;
@@ -85,8 +91,9 @@ fn run(rt: &HostRuntime, command: Command) -> Result<(), CommandError> {
     match command {
         Command::Seal { key } => seal_all(rt.alloc(), key, &mut input, &mut output),
         Command::Open { key } => open_all(rt.alloc(), key, &mut input, &mut output),
-        Command::Encrypt { to, draw } => {
-            encrypt_to(rt.alloc(), to, Draw::new(draw), &mut input, &mut output)
+        Command::Encrypt { to, draw, format } => {
+            let draw = Draw::new(draw);
+            encrypt_to(rt.alloc(), to, draw, format, &mut input, &mut output)
         }
         Command::Decrypt { with } => decrypt_with(rt.alloc(), with, &mut input, &mut output),
     }

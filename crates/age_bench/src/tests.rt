@@ -3,6 +3,7 @@
 use crate::command::{Command, To, With, parse};
 use crate::fixtures::KEY;
 use crate::suite::BenchSuite;
+use age::armor::Format;
 use age::draw::Draw;
 use age_error::suite::ScryptError;
 use age_suite::mac::{HmacWriter, hkdf, hmac};
@@ -221,6 +222,18 @@ fn parsed(alloc: Global, line: &str) -> Result<Option<Command>, AllocError> {
     parse(alloc, &words)
 }
 
+// Whether a command encrypts to `bench` with these random bytes, in armor or not.
+fn encrypts(command: Option<Command>, random: &[u8], in_armor: bool) -> bool {
+    let Some(Command::Encrypt { to, draw, format }) = command else {
+        return false;
+    };
+    let armor = match format {
+        Format::Binary => false,
+        Format::AsciiArmor => true,
+    };
+    to == To::Bench && draw.as_slice() == random && armor == in_armor
+}
+
 // An empty word is no random bytes at all.
 #[test]
 fn no_random_bytes_are_parsed(rt: HostRuntime) -> Result<(), Fail> {
@@ -229,10 +242,19 @@ fn no_random_bytes_are_parsed(rt: HostRuntime) -> Result<(), Fail> {
     for word in ["encrypt", "bench", ""] {
         words.push(String::from_str(alloc, word)?)?;
     }
-    let to = To::Bench;
-    let draw = Vec::new(alloc);
-    assert_eq!(rt; parse(alloc, &words)?, Some(Command::Encrypt { to, draw }));
+    assert!(rt; encrypts(parse(alloc, &words)?, &[], false));
+    words.push(String::from_str(alloc, "armor")?)?;
+    assert!(rt; encrypts(parse(alloc, &words)?, &[], true));
     Ok(())
+}
+
+// The key of a command that seals, or of one that opens.
+fn key_of(command: Option<Command>, to_seal: bool) -> Option<[u8; 32]> {
+    match command {
+        Some(Command::Seal { key }) if to_seal => Some(key),
+        Some(Command::Open { key }) if !to_seal => Some(key),
+        _ => None,
+    }
 }
 
 #[test]
@@ -242,21 +264,29 @@ fn commands_are_parsed(rt: HostRuntime) -> Result<(), Fail> {
     let upper = "000102030405060708090A0B0C0D0E0F101112131415161718191A1B1C1D1E1F";
     for text in [lower, upper] {
         let seal = format!(in alloc; "seal {text}")?;
-        assert_eq!(rt; parsed(alloc, &seal)?, Some(Command::Seal { key: KEY }));
+        assert_eq!(rt; key_of(parsed(alloc, &seal)?, true), Some(KEY));
         let open = format!(in alloc; "open {text}")?;
-        assert_eq!(rt; parsed(alloc, &open)?, Some(Command::Open { key: KEY }));
+        assert_eq!(rt; key_of(parsed(alloc, &open)?, false), Some(KEY));
     }
-    let to = To::Bench;
-    let draw = [0x0a, 0xbc].to_vec(alloc)?;
-    assert_eq!(rt;
-        parsed(alloc, "encrypt bench 0AbC")?,
-        Some(Command::Encrypt { to, draw })
-    );
-    let with = With::Bench;
-    assert_eq!(rt;
-        parsed(alloc, "decrypt bench")?,
-        Some(Command::Decrypt { with })
-    );
+    for (line, in_armor) in [
+        ("encrypt bench 0AbC", false),
+        ("encrypt bench 0AbC armor", true),
+    ] {
+        assert!(rt;
+            encrypts(parsed(alloc, line)?, &[0x0a, 0xbc], in_armor),
+            "at {line}"
+        );
+    }
+    match parsed(alloc, "decrypt bench")? {
+        Some(Command::Decrypt { with }) => assert_eq!(rt; with, With::Bench),
+        _ => return Err(Fail::from("another command")),
+    }
+    Ok(())
+}
+
+#[test]
+fn wrong_command_lines_are_refused(rt: HostRuntime) -> Result<(), Fail> {
+    let alloc = rt.alloc();
     for line in [
         "",
         "seal",
@@ -274,13 +304,19 @@ fn commands_are_parsed(rt: HostRuntime) -> Result<(), Fail> {
         "encrypt bench 0",
         "encrypt bench 0g",
         "encrypt other 00",
-        "encrypt bench 00 armor",
+        "encrypt bench armor",
+        "encrypt bench 0 armor",
+        "encrypt other 00 armor",
+        "encrypt bench 00 Armor",
+        "encrypt bench 00 binary",
+        "encrypt bench 00 armor armor",
         "decrypt",
         "decrypt other",
         "decrypt bench 00",
+        "decrypt bench armor",
         "at bench",
     ] {
-        assert_eq!(rt; parsed(alloc, line)?, None, "at {line}");
+        assert!(rt; parsed(alloc, line)?.is_none(), "at {line}");
     }
     Ok(())
 }

@@ -13,7 +13,7 @@ use Rattle.age_format.specs.Verdict.{Verdict, Header, UnknownVersion, Bad, IsVer
 use Rattle.age_format.specs.ReadingHeader.{RefusesHeader}
 use Rattle.age_stream.specs.Payload.{Seal, payload}
 use Rattle.age_protocol.specs.File.{BeginsAsFile, payload_key}
-use Rattle.age_protocol.specs.Decrypting.{LacksNonce, BreaksRule}
+use Rattle.age_protocol.specs.Decrypting.{LacksNonce, BreaksRule, WhyNoFront}
 use Rattle.age_protocol.specs.Laws.{ReadsBack, RefusesNoFile, FileOpens}
 
 -- two lists of one length with something after them
@@ -29,7 +29,7 @@ same_stanzas s t m n is = cc
 same_mac : (s t : List StanzaValue) (m n : List ℕ) → Header s m ≡ Header t n → m ≡ n
 same_mac s t m n is = cc
 
-memory_or_not : (e : Error) → (e ≡ io.OutOfMemory) ⊎ (e ≢ io.OutOfMemory)
+pub memory_or_not : (e : Error) → (e ≡ io.OutOfMemory) ⊎ (e ≢ io.OutOfMemory)
 memory_or_not (io.Device kind) = inr (λ is. cc)
 memory_or_not io.UnexpectedEof = inr (λ is. cc)
 memory_or_not io.WriteZero = inr (λ is. cc)
@@ -120,13 +120,19 @@ module _ (alone : ReadsAlone) (one : HasOneVerdict) where
         (verdict_of header stanzas mac nonce more old.bytes begins) in
         absurd (breaks.broken (subst (λ xs. KeepsScryptRule xs) (sym (same_stanzas breaks.h.stanzas stanzas breaks.h.mac mac same.1)) begins.rule))
 
+    -- bytes that begin as a file are refused for want of memory alone
+    pub front_accepted : (f g : ℕ) (old new : Stretch) (p q : ℕ) (e : DecryptRefusal) → BeginsAsFile header stanzas mac nonce more old.bytes
+        → IsQuiet f g → WhyNoFront f g old new p q e → e ≡ refusals.OutOfMemory
+    front_accepted f g old new p q e begins quiet why = elim why [
+      | inl why ↦ header_accepted f g old new p q e begins quiet why
+      | inr (inl lacks) ↦ nonce_follows f g old new p q e begins quiet lacks
+      | inr (inr breaks) ↦ rule_kept old new p q e begins breaks
+    ]
+
   pub accepted : {R : Type 0} (tells steady : R → Bool) (content : R → Stretch) (place : R → ℕ) (rest : R → Stretch) (faults : R → ℕ)
       → RefusesNoFile tells steady content place rest faults
-  accepted tells steady content place rest faults old new e header stanzas mac nonce more refuses told quiet begins = elim (refuses.why told) [
-    | inl why ↦ header_accepted header stanzas mac nonce more (faults old) (faults new) (rest old) (rest new) (place old) (place new) e begins quiet why
-    | inr (inl lacks) ↦ nonce_follows header stanzas mac nonce more (faults old) (faults new) (rest old) (rest new) (place old) (place new) e begins quiet lacks
-    | inr (inr breaks) ↦ rule_kept header stanzas mac nonce more (rest old) (rest new) (place old) (place new) e begins breaks
-  ]
+  accepted tells steady content place rest faults old new e header stanzas mac nonce more refuses told quiet begins =
+      front_accepted header stanzas mac nonce more (faults old) (faults new) (rest old) (rest new) (place old) (place new) e begins quiet (refuses.why told)
 
 pub opens : (back : ReadsBack) (seal_of : Seal) → FileOpens seal_of
 opens back seal_of start rest start_place place h nonce file_key stanzas plain front file =

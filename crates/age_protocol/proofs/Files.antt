@@ -1,13 +1,20 @@
 -- From what an encryptor wrote first to the file in the end.
-use Rattle.std.proofs.Common.{◌≡◌, ◌∙◌, sym, ap, subst, ℕ, Bool, List, ◌++◌, length, IsTrue, append_assoc}
+use Rattle.std.proofs.Common.{◌≡◌, ◌∙◌, refl, sym, ap, subst, inr, ℕ, ◌<◌, ◌^◌, Bool, List, ◌++◌, length, IsTrue, append_assoc, length-append, arith}
+use Rattle.std.specs.Prelude.{slice_index}
+use Rattle.std.proofs.lemmas.List.Elements.{All-append}
 use Rattle.std.proofs.lemmas.Result.{IfOk-weaker}
-use Rattle.age_format.specs.Header.{IsHeader, IsHeaderText, covered, covered_text, header_text}
+use Rattle.age_error.specs.Bytes.{AreBytes, AreBytesOf}
+use Rattle.age_suite.specs.Mac.{hkdf_of}
+use Rattle.age_base64.specs.Lines.{line}
+use Rattle.age_format.specs.Header.{IsHeader, IsHeaderText, covered, covered_text, header_text, mac_line, version_line}
 use Rattle.age_format.specs.HeaderV1.{HeaderValue, header_mac, reads_legacy}
 use Rattle.age_format.specs.Stanza.{StanzaValue}
 use Rattle.age_stream.specs.Payload.{Seal, payload}
+use Rattle.age_stream.specs.Laws.{PayloadLength}
 use Rattle.age_stream.specs.declared.writer.StreamWriter.{StreamWriter}
 use Rattle.age_protocol.specs.Encrypting.{Prepared}
 use Rattle.age_protocol.specs.File.{IsReady, IsFileOf, payload_key, file_front, file_text}
+use Rattle.age_protocol.specs.Laws.{CarriesItself}
 use Rattle.age_protocol.specs.Starting.{Starts, WritesFile}
 
 -- the text of a canonical header and the nonce are what stands before the payload
@@ -28,6 +35,44 @@ writes_file seal_of tells limited faults inner_appended appended joins file outp
     (λ inner sent. joins output starts.inner inner (file_front file.file_key file.stanzas file.nonce)
     (payload seal_of (payload_key file.file_key file.nonce) plain) (starts.front told) sent)
     (finishes writer (payload_key file.file_key file.nonce) plain starts.inner starts.made took)
+
+-- the file of bytes is bytes
+pub file_bytes : (seal_of : Seal) (file_key : List ℕ) (h : HeaderValue) (nonce plain : List ℕ)
+    → ((salt info input : List ℕ) → AreBytesOf 32 (hkdf_of salt info input)) → PayloadLength seal_of
+    → IsReady file_key h nonce → AreBytes (header_text h.stanzas h.mac ++ nonce) → AreBytes plain
+    → AreBytes (file_text seal_of file_key h.stanzas nonce plain)
+unfolding file_text payload_key
+file_bytes seal_of file_key h nonce plain key_bytes size ready front each =
+    All-append (λ x. x < 2 ^ 8) (file_front file_key h.stanzas nonce) (payload seal_of (payload_key file_key nonce) plain)
+    (subst AreBytes (front_is file_key h nonce (header_text h.stanzas h.mac ++ nonce) ready refl) front)
+    (size (payload_key file_key nonce) plain (key_bytes _ _ _) each).bytes
+
+-- a file carries itself: it has 36 bytes or more, and doesn't begin as armor does
+pub carries_itself : (seal_of : Seal) → CarriesItself seal_of
+carries_itself seal_of file_key stanzas plain bytes each f =
+    let middle = f.text.middle in
+    let last = line (mac_line f.mac) in
+    let sealed = payload seal_of (payload_key file_key f.nonce) plain in
+    let whole : bytes ≡ (line version_line ++ (middle ++ last)) ++ (f.nonce ++ sealed) = f.whole ∙ ap (λ h. h ++ (f.nonce ++ sealed)) f.text.spelled in
+    let first : length (line version_line) ≡ 22 = refl in
+    record {
+      each = each;
+      way = inr (record {
+        size = omega (
+          arith,
+          ap length whole,
+          length-append (line version_line ++ (middle ++ last)) (f.nonce ++ sealed),
+          length-append (line version_line) (middle ++ last),
+          length-append f.nonce sealed,
+          first,
+          f.sixteen.len,
+        );
+        plain = λ rest is.
+            let other : 97 ≡ 45 = ap (λ l. slice_index l 0) (sym whole ∙ is) in
+            absurd (omega (arith, other));
+        same = refl;
+      });
+    }
 
 -- the file of a plaintext is a file of it
 pub is_file : (seal_of : Seal) (file_key : List ℕ) (h : HeaderValue) (nonce plain : List ℕ) → IsReady file_key h nonce

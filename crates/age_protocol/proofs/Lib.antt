@@ -4,3 +4,7 @@ pub mod Files
 pub mod Fronts
 pub mod Rule
 pub mod Accepted
+pub mod OneFile
+pub mod WholeFiles
+pub mod Carried
+pub mod Opened

@@ -45,6 +45,12 @@ pub record BreaksRule (old new : Stretch) (old_place new_place : ℕ) (e : Decry
   pub broken : KeepsScryptRule h.stanzas → ⊥
   pub is : e ≡ InvalidHeader
 
+-- Why no header and no nonce were read, in the order in which the causes are looked for.
+abbrev pub WhyNoFront : ℕ → ℕ → Stretch → Stretch → ℕ → ℕ → DecryptRefusal → Type 0
+WhyNoFront old_faults new_faults old new old_place new_place e = RefusesHeader old_faults new_faults old new old_place new_place e
+    ⊎ LacksNonce old_faults new_faults old new old_place new_place e
+    ⊎ BreaksRule old new old_place new_place e
+
 module _ {R : Type 0} (tells steady : R → Bool) (content : R → Stretch) (place : R → ℕ) (rest : R → Stretch) (faults : R → ℕ) where
   -- What reading does to a reader, whatever it reads.
   pub record KeepsReader (old new : R) : Type 0 where
@@ -55,11 +61,9 @@ module _ {R : Type 0} (tells steady : R → Bool) (content : R → Stretch) (pla
     -- of a reader that tells its bytes
     pub same_content : IsTrue (tells old) → content new ≡ content old
 
-  -- Why there is no decryptor, and the reader when it was given up. The causes are looked for in this order.
+  -- Why there is no decryptor, and the reader when it was given up.
   pub record RefusesFront (old new : R) (e : DecryptRefusal) : Type 0 where
     pub keeps : KeepsReader old new
     pub device : IsDeviceRefusal e → faults old < faults new
     -- of a reader that tells its bytes
-    pub why : IsTrue (tells old) → RefusesHeader (faults old) (faults new) (rest old) (rest new) (place old) (place new) e
-        ⊎ LacksNonce (faults old) (faults new) (rest old) (rest new) (place old) (place new) e
-        ⊎ BreaksRule (rest old) (rest new) (place old) (place new) e
+    pub why : IsTrue (tells old) → WhyNoFront (faults old) (faults new) (rest old) (rest new) (place old) (place new) e

@@ -1,14 +1,18 @@
 -- The laws of files.
 use Rattle.std.specs.Prelude.{◌≡◌, ℕ, Bool, List, IsTrue}
+use Rattle.age_error.specs.Bytes.{AreBytes}
 use Rattle.age_error.specs.DecryptErrors.{DecryptRefusal, OutOfMemory}
 use Rattle.age_io.specs.Stretch.{Stretch}
 use Rattle.age_io.specs.Reading.{IsQuiet}
+use Rattle.age_armor.specs.Armor.{Carries}
 use Rattle.age_format.specs.Stanza.{StanzaValue}
 use Rattle.age_format.specs.Header.{covered}
 use Rattle.age_format.specs.HeaderV1.{HeaderValue, header_mac}
+use Rattle.age_format.specs.Unwrapping.{UnwrapAnswer}
 use Rattle.age_stream.specs.Payload.{Seal, payload}
 use Rattle.age_protocol.specs.File.{BeginsAsFile, IsFileOf, payload_key}
 use Rattle.age_protocol.specs.Decrypting.{ReadsFront, RefusesFront}
+use Rattle.age_protocol.specs.WholeFiles.{CarriesFileFor, Decrypts, Refuses}
 
 -- what a decryptor reads from bytes that begin as a file: the header, the nonce, and no byte of what follows
 abbrev pub ReadsBack : Type 0
@@ -29,3 +33,29 @@ FileOpens seal_of = (start rest : Stretch) (start_place place : ℕ) (h : Header
     → ReadsFront start rest start_place place h nonce → IsFileOf seal_of file_key stanzas plain start.bytes
     → (h.stanzas ≡ stanzas) × (h.mac ≡ header_mac file_key h.covered)
     × (rest.bytes ≡ payload seal_of (payload_key file_key nonce) plain) × (rest.ends_well ≡ start.ends_well)
+
+-- the bytes of a file tell its stanzas
+abbrev pub OneHeader : Seal → Type 0
+OneHeader seal_of = (file_key other : List ℕ) (stanzas others : List StanzaValue) (first second bytes : List ℕ)
+    → IsFileOf seal_of file_key stanzas first bytes → IsFileOf seal_of other others second bytes → stanzas ≡ others
+
+-- and under one file key its plaintext
+abbrev pub OnePlain : Seal → Type 0
+OnePlain seal_of = (file_key : List ℕ) (stanzas others : List StanzaValue) (first second bytes : List ℕ) → AreBytes first → AreBytes second
+    → IsFileOf seal_of file_key stanzas first bytes → IsFileOf seal_of file_key others second bytes → first ≡ second
+
+-- a file is what it carries itself
+abbrev pub CarriesItself : Seal → Type 0
+CarriesItself seal_of = (file_key : List ℕ) (stanzas : List StanzaValue) (plain bytes : List ℕ) → AreBytes bytes
+    → IsFileOf seal_of file_key stanzas plain bytes → Carries bytes bytes
+
+module _ {I : Type 0} (seal_of : Seal) (unwraps : I → List StanzaValue → UnwrapAnswer → I → Type 0) where
+  -- what carries a file for the identity is decrypted to nothing but its plaintext
+  abbrev pub GivesBack : Type 0
+  GivesBack = (before after : I) (file plain given : List ℕ)
+      → CarriesFileFor seal_of unwraps before file plain → Decrypts seal_of unwraps before file given after → given ≡ plain
+
+  -- and refused for want of memory alone
+  abbrev pub RefusesNone : Type 0
+  RefusesNone = (before after : I) (file plain : List ℕ) (refusal : DecryptRefusal)
+      → CarriesFileFor seal_of unwraps before file plain → Refuses seal_of unwraps before file after refusal → refusal ≡ OutOfMemory

@@ -8,4 +8,5 @@ pub mod Starting
 pub mod Decrypting
 pub mod Decryptor
 pub mod OpeningFile
+pub mod WholeFiles
 pub mod Laws

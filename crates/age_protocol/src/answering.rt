@@ -39,3 +39,19 @@ pub(crate) fn file_key_of<I: Identity>(
         None => Err(DecryptError::NoMatchingKeys),
     }
 }
+
+/// The same of one identity alone.
+pub(crate) fn file_key_by_one<I: Identity>(
+    alloc: Global,
+    identity: &mut I,
+    stanzas: &[Stanza],
+) -> Result<FileKey, DecryptError>
+    ensures { (answer : UnwrapAnswer)
+        × Unwraps I.unwraps identity.old stanzas.now answer identity.new
+        × (key_answer result ≡ decided answer) }
+{
+    match identity.unwrap_stanzas(alloc, stanzas) {
+        Some(answer) => answer,
+        None => Err(DecryptError::NoMatchingKeys),
+    }
+}

@@ -9,7 +9,7 @@ ghost use Rattle.age_protocol.specs.Answering.{FirstThatAnswers, decided};
 ghost use Rattle.age_protocol.specs.Decrypting.{ReadsFront, KeepsReader, RefusesFront};
 ghost use Rattle.age_protocol.specs.OpeningFile.{Decrypts};
 
-use crate::answering::file_key_of;
+use crate::answering::{file_key_by_one, file_key_of};
 use crate::keys::payload_key_of;
 use age_error::DecryptError;
 use age_format::{HeaderV1, Identity};
@@ -78,6 +78,24 @@ impl<S: Suite, R: Read + Drop> Decryptor<S, R> {
             × Decrypts (decided answer) (header_of self) (nonce_of self) (input_of self) result }
     {
         match file_key_of(alloc, identities, self.header.stanzas()) {
+            Ok(file_key) => self.decrypt_with(alloc, &file_key),
+            Err(error) => Err(error),
+        }
+    }
+
+    /// `decrypt` with one identity: its answer decides.
+    ///
+    /// The refusals are the identity's own, `NoMatchingKeys` where it answers `None`, and those of `decrypt` after that.
+    pub fn decrypt_one<I: Identity>(
+        self,
+        alloc: Global,
+        identity: &mut I,
+    ) -> Result<StreamReader<S, R>, DecryptError>
+        ensures { (answer : UnwrapAnswer)
+            × Unwraps I.unwraps identity.old (header_of self).stanzas answer identity.new
+            × Decrypts (decided answer) (header_of self) (nonce_of self) (input_of self) result }
+    {
+        match file_key_by_one(alloc, identity, self.header.stanzas()) {
             Ok(file_key) => self.decrypt_with(alloc, &file_key),
             Err(error) => Err(error),
         }

@@ -1,5 +1,6 @@
 //! Encrypting a file.
 ghost use Rattle.std.specs.Prelude.{◌≡◌, ◌≢◌, ℕ, List, [], ◌++◌, Some, Ok, IsTrue, IfOk, OnOk, IfErr};
+ghost use Rattle.age_error.specs.Bytes.{AreBytes};
 ghost use Rattle.age_error.specs.Refusals.{IsInterruption};
 ghost use Rattle.age_error.specs.declared.io.Error.TheVariants.{OutOfMemory};
 ghost use Rattle.age_protocol.specs.Answers.{encrypt_answer};
@@ -16,10 +17,12 @@ use age_format::{
     Grease, HeaderV1, Recipient, Stanza, canonical_text_is_text, canonical_text_reads_back,
 };
 use age_io::{Write, write_all};
+use age_stream::laws::payload_laws;
 use age_stream::writer::{ChunkRoom, StreamWriter};
 use age_suite::draw::Draw;
+use age_suite::mac::mac_laws;
 use age_suite::secrecy::FileKey;
-use age_suite::suite::{Suite, known_array};
+use age_suite::suite::{Suite, known_array, known_bytes};
 use std::alloc::Global;
 use std::marker::{Model, PhantomData};
 
@@ -73,8 +76,10 @@ fn write_front<W: Write>(
 ) -> Result<ChunkRoom, io::Error>
     ensures writes { WritesAll W.tells W.limited W.faults W.appended output.old output.new (header_text header.now.stanzas header.now.mac ++ nonce.now) result }
     ensures patient { IfErr result (λ e. IsInterruption e → ⊥) }
+    ensures bytes { OnOk result (AreBytes (header_text header.now.stanzas header.now.mac ++ nonce.now)) }
 {
     let text = text_before_payload(alloc, header, nonce)?;
+    known_bytes(&text);
     let room = ChunkRoom::new(alloc)?;
     write_all(output, &text)?;
     Ok(room)
@@ -98,13 +103,15 @@ impl<S: Suite> Encryptor<S> {
     ///
     /// `OutOfMemory` can come where a recipient's stanzas are joined to those before, where the grease is, and where the
     /// header is made. After a refusal `draw` has lost what was taken before it.
-    pub fn with_recipients(
+    ///
+    /// The recipients are of one type: `Box<dyn Recipient>` for several of different types, `&R` for one that is borrowed.
+    pub fn with_recipients<R: Recipient>(
         alloc: Global,
-        recipients: &[Box<dyn Recipient>],
+        recipients: &[R],
         draw: &mut Draw,
         grease: Grease,
     ) -> Result<Encryptor<S>, EncryptError>
-        ensures { Prepares ⟦<Box<dyn Recipient> as Recipient>⟧.wraps recipients.now (Some grease) draw.old (encrypt_answer result) draw.new }
+        ensures { Prepares R.wraps recipients.now (Some grease) draw.old (encrypt_answer result) draw.new }
     {
         prepare(alloc, recipients, draw, Some(grease))
     }
@@ -147,11 +154,14 @@ impl<S: Suite> Encryptor<S> {
         // By the definition of a file that decryptors are proved by, what it writes is one.
         ensures is_file { OnOk result ((plain : List ℕ) →
             IsFileOf S.seal_of self.file_key self.stanzas plain (file_text S.seal_of self.file_key self.stanzas self.nonce plain)) }
+        ensures bytes { OnOk result ((plain : List ℕ) → AreBytes plain → AreBytes (file_text S.seal_of self.file_key self.stanzas self.nonce plain)) }
         ensures refused { IfErr result (GivesUp W.tells W.limited W.faults W.appended self output) }
         ensures patient { IfErr result (λ e. IsInterruption e → ⊥) }
     {
         canonical_text_is_text();
         canonical_text_reads_back();
+        payload_laws::<S>();
+        mac_laws();
         let mut output = output;
         let room = write_front(alloc, &self.header, &self.nonce, &mut output)?;
         let key = payload_key_of(&self.file_key, &self.nonce);

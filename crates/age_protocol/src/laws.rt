@@ -3,10 +3,13 @@ ghost use Rattle.std.specs.Prelude.{◌↔◌, IsTrue, List, ℕ};
 ghost use Rattle.std.specs.List.{Contains};
 ghost use Rattle.age_error.specs.Labels.{labels_of};
 ghost use Rattle.age_protocol.specs.Labels.{same_labels};
-ghost use Rattle.age_protocol.specs.Laws.{ReadsBack, RefusesNoFile, FileOpens};
+ghost use Rattle.age_protocol.specs.Laws.{ReadsBack, RefusesNoFile, FileOpens, OneHeader, OnePlain, CarriesItself, GivesBack, RefusesNone};
 
-use age_format::{header_text_reads_back, verdict_is_unique};
+use age_armor::{carried_is_delivered, carried_is_unique};
+use age_format::{Identity, header_text_reads_back, verdict_is_unique};
 use age_io::Read;
+use age_stream::laws::payload_laws;
+use age_suite::mac::mac_laws;
 use age_suite::suite::Suite;
 use std::collections::BTreeSet;
 
@@ -33,6 +36,35 @@ pub fn file_opens<S: Suite>()
     ensures { FileOpens S.seal_of }
 {
     front_reads_back();
+}
+
+/// The bytes of a file tell its stanzas, and under one file key its plaintext.
+pub fn one_plaintext<S: Suite>()
+    ensures header { OneHeader S.seal_of }
+    ensures plaintext { OnePlain S.seal_of }
+{
+    header_text_reads_back();
+    verdict_is_unique();
+    payload_laws::<S>();
+    mac_laws();
+}
+
+/// A file that isn't armored carries itself: no file is so short that it would be refused, and none begins as armor does.
+pub fn files_carry_themselves<S: Suite>()
+    ensures { CarriesItself S.seal_of }
+{}
+
+/// A text that carries a file, bare or armored, whose file key the identity gets: what a success of `decrypt` says of it is
+/// true of no other plaintext, and what a refusal says of it is true of want of memory alone.
+pub fn carried_files<S: Suite, I: Identity>()
+    ensures gives_back { GivesBack S.seal_of I.unwraps }
+    ensures refuses_none { RefusesNone S.seal_of I.unwraps }
+{
+    header_text_reads_back();
+    verdict_is_unique();
+    carried_is_unique();
+    carried_is_delivered();
+    one_plaintext::<S>();
 }
 
 /// Labels are compared as sets: two sets are the same, by their texts in order, exactly where each has the labels of the

@@ -8,6 +8,7 @@ pub mod encryptor;
 mod gathering;
 mod keys;
 pub mod laws;
+pub mod simple;
 
 pub use decryptor::Decryptor;
 pub use encryptor::Encryptor;

@@ -1,6 +1,5 @@
-use Rattle.std.proofs.Common.{◌≡◌, ◌∙◌, ap, sym}
 use Rattle.age_error.specs.declared.io.ArmoredReadError.TheVariants.{InvalidUtf8}
-use Rattle.age_armor.specs.LineVerdict.{Refuses, columns_verdict, is_short, line_columns, verdict}
+use Rattle.age_armor.specs.LineVerdict.{Refuses, columns_verdict, line_columns, verdict}
 use Rattle.age_armor.proofs.Verdicts.{passes_to, verdict_is}
 use Rattle.age_armor.proofs.Testing.{judged_by}
 use Rattle.age_armor.proofs.judging.judge.Goals as goal

@@ -1,5 +1,4 @@
-use Rattle.std.proofs.Common.{◌≡◌, ◌≤◌, length, arith}
-use Rattle.std.specs.Prelude.{slice_index}
+use Rattle.std.proofs.Common.{arith}
 use Rattle.age_armor.proofs.Taking.{begins_full}
 use Rattle.age_armor.proofs.showing.begins_full.Goals as goal
 

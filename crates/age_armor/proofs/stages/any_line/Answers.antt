@@ -1,6 +1,5 @@
-use Rattle.std.proofs.Common.{◌≡◌, ◌≢◌, ◌<◌, ◌≤◌, ◌∙◌, length, take, arith, refl, sym}
+use Rattle.std.proofs.Common.{◌∙◌, arith, refl, sym}
 use Rattle.std.proofs.lemmas.Bool.{eqb-false, eqb-true}
-use Rattle.age_armor.specs.LineVerdict.{verdict, Ends}
 use Rattle.age_armor.proofs.Staging.{advances_none, cut_line, empty_line, holds_count, line_ends, line_refuses, line_trails}
 use Rattle.age_armor.proofs.Taking.{quiet_after}
 use Rattle.age_armor.proofs.stages.any_line.Goals as goal

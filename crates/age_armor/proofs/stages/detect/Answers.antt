@@ -1,6 +1,6 @@
-use Rattle.std.proofs.Common.{◌≡◌, ◌≢◌, ◌<◌, ◌≤◌, ◌∙◌, length, arith}
+use Rattle.std.proofs.Common.{◌<◌, ◌∙◌, length, arith}
 use Rattle.std.proofs.lemmas.Result.{IfErr-weaker}
-use Rattle.age_io.specs.Reading.{Delivers, IsQuiet}
+use Rattle.age_io.specs.Reading.{Delivers}
 use Rattle.age_armor.proofs.Taking.{quiet_after}
 use Rattle.age_armor.proofs.Staging.{few_clean, few_fault, few_end, few_bad}
 use Rattle.age_armor.proofs.stages.detect.Goals as goal

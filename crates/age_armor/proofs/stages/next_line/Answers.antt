@@ -1,4 +1,4 @@
-use Rattle.std.proofs.Common.{◌≡◌, arith}
+use Rattle.std.proofs.Common.{arith}
 use Rattle.std.proofs.lemmas.List.{take_all}
 use Rattle.age_armor.proofs.Staging.{full_step}
 use Rattle.age_armor.proofs.stages.next_line.Goals as goal

@@ -35,6 +35,6 @@ key_given identities stanzas key after decides =
 pub returns-clause-file : goal.returns-clause-file
 returns-clause-file g c = λ reader_told writer_told.
     on_ok_weaker c.decrypt_all.result (λ done.
-    let (key, stanzas, plain, decides, well, file, appended) = done in
-    (key, stanzas, plain, key_given c.deref_mut.result.now stanzas key c.decrypt_all.new.identities decides, well, file, appended))
+    let (key, stanzas, plain, bytes, decides, well, carries, file, appended) = done in
+    (key, stanzas, plain, bytes, key_given c.deref_mut.result.now stanzas key c.decrypt_all.new.identities decides, well, carries, file, appended))
     (c.decrypt_all.ensures.file reader_told writer_told)

@@ -3,6 +3,7 @@ use Rattle.std.proofs.lemmas.Result.{on_ok_weaker}
 use Rattle.std.specs.Bool.{IsTrue}
 use Rattle.std.specs.declared.dyn_box.DynBox.{DynBox}
 use Rattle.age_format.specs.Wrapping.{WrapAnswer}
+use Rattle.age_armor.specs.Writing.{text_of}
 use Rattle.age_bench.proofs.Wrapped.{BenchAnswers, bench_filed}
 use Rattle.age_bench.proofs.file.encrypt_to.OwnLists.{own-1}
 use Rattle.age_bench.proofs.file.encrypt_to.Goals as goal
@@ -26,5 +27,5 @@ returns-clause-file g c = λ reader_told writer_told.
     let one : c.deref.result.now ≡ box ∷ [] = search rules in
     let rest = g.R.Read.rest c.args.reader.now in
     let filed = bench_filed wraps box (is_bench box.vtable box.value) c.args.draw rest.bytes (IsTrue rest.ends_well)
-    (λ text. g.W.Write.appended c.args.writer.now text c.encrypt_all.new.writer) in
+    (λ text. g.W.Write.appended c.args.writer.now (text_of c.args.format text) c.encrypt_all.new.writer) in
     on_ok_weaker c.encrypt_all.result filed (rw one at (c.encrypt_all.ensures.file reader_told writer_told))

@@ -1,4 +1,5 @@
-use Rattle.age_bench.proofs.OneFile.{is_bench_file, gives_back}
+use Rattle.age_bench.proofs.OneFile.{is_bench_file, is_alone}
+use Rattle.age_bench.proofs.BothForms.{is_carried, gives_back}
 use Rattle.age_bench.proofs.laws.bench_file_laws.Goals as goal
 
 pub returns : goal.returns
@@ -6,7 +7,10 @@ returns c =
     let is_text = c.canonical_text_is_text.ensures in
     let covers = c.canonical_text_reads_back.ensures.covers in
     let payloads = c.payload_laws.ensures in
+    let alone = is_alone is_text covers c.header_text_reads_back.ensures c.verdict_is_unique.ensures payloads.length payloads.one_plaintext c.piece_law.ensures in
+    let armored = c.armor_is_carrying.ensures.itself in
     record {
       is_file = is_bench_file is_text covers;
-      gives_back = gives_back is_text covers c.header_text_reads_back.ensures c.verdict_is_unique.ensures payloads.length payloads.one_plaintext c.piece_law.ensures;
+      is_carried = is_carried armored payloads.length;
+      gives_back = gives_back armored payloads.length c.carried_is_unique.ensures alone;
     }

@@ -1,4 +1,4 @@
-use Rattle.std.proofs.Common.{◌≡◌, ◌≢◌, ◌≤◌, ◌∙◌, ◌-◌, arith, IsTrue}
+use Rattle.std.proofs.Common.{arith}
 use Rattle.age_armor.proofs.counted.Counted.take_full.Goals as goal
 
 pub returns-then-full-clause-kept : goal.returns-then-full-clause-kept

@@ -1,4 +1,4 @@
-use Rattle.std.proofs.Common.{◌≡◌, ◌≢◌, ◌≤◌, ◌∙◌, arith}
+use Rattle.std.proofs.Common.{◌∙◌, arith}
 use Rattle.age_armor.proofs.Taking.{cut_short, quiet_after, taken_none, taken_run}
 use Rattle.age_armor.proofs.counted.Counted.take_line.Goals as goal
 

@@ -1,4 +1,4 @@
-use Rattle.std.proofs.Common.{◌≡◌, ◌≢◌, ◌≤◌, ◌∙◌, ◌+◌, ◌-◌, take, arith, sym, IsTrue}
+use Rattle.std.proofs.Common.{◌∙◌, take, arith, sym}
 use Rattle.age_armor.proofs.Taking.{garbage_taken, spaces_taken}
 use Rattle.age_armor.proofs.counted.Counted.take_trailing.Goals as goal
 

@@ -1,4 +1,4 @@
-use Rattle.std.proofs.Common.{◌≡◌, ◌≤◌, ◌<◌, ◌^◌, arith, take, length, rules}
+use Rattle.std.proofs.Common.{◌<◌, ◌^◌, arith, rules}
 use Rattle.std.proofs.lemmas.List.Elements.{All-take}
 use Rattle.age_armor.proofs.Verdicts.{is_decoded, none_decoded}
 use Rattle.age_armor.proofs.decoding.Decoder.decode.Goals as goal

@@ -1,4 +1,3 @@
-use Rattle.std.proofs.Common.{◌≡◌}
 use Rattle.age_armor.proofs.Testing.{decodes_armor, refuses_no_armor}
 use Rattle.age_armor.proofs.decoding.Decoder.new.Goals as goal
 

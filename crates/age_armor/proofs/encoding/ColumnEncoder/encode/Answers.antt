@@ -1,27 +1,17 @@
-use Rattle.std.proofs.Common.{◌≡◌, ◌∙◌, ◌+◌, ◌*◌, ◌/◌, ◌++◌, ℕ, arith, length, ap, sym, drop, Result, Ok}
-use Rattle.base64.specs.declared.encode.EncodeSliceError.{EncodeSliceError}
+use Rattle.std.proofs.Common.{◌∙◌, ◌++◌, ap, sym, drop, length}
 use Rattle.base64.specs.GeneralPurpose.{encoded_size_of}
 use Rattle.age_base64.specs.Base64.{padded_columns}
-use Rattle.age_armor.proofs.Encoded.{encoded_size-is}
+use Rattle.age_armor.proofs.Encoded.{encoded_size-is, count-is}
 use Rattle.age_armor.proofs.encoding.ColumnEncoder.encode.Goals as goal
 
 pub returns-clause-count : goal.returns-clause-count
 returns-clause-count c =
-    let bytes = c.args.bytes.now in
-    let e = c.self.inside.engine in
-    let n : ℕ = encoded_size_of e (length bytes) in
-    let size : n ≡ 4 * ((length bytes + 2) / 3) = encoded_size-is e c.self.invariant bytes in
-    let same : Path (Result ℕ EncodeSliceError) (Ok c.in-Ok.count) (Ok n) = sym c.in-Ok.is ∙ c.encode_slice.ensures.fits (omega (arith, size, c.requires)) in
-    let count : c.in-Ok.count ≡ n = cc in
-    count ∙ size
+    count-is c.self.inside.engine c.self.invariant c.args.bytes.now _ _ _ c.in-Ok.is c.requires c.encode_slice.ensures.fits
+    ∙ encoded_size-is c.self.inside.engine c.self.invariant c.args.bytes.now
 
 pub returns-clause-written : goal.returns-clause-written
 returns-clause-written c =
     let bytes = c.args.bytes.now in
-    let old = c.args.columns.now in
     let e = c.self.inside.engine in
-    let n : ℕ = encoded_size_of e (length bytes) in
-    let size : n ≡ 4 * ((length bytes + 2) / 3) = encoded_size-is e c.self.invariant bytes in
-    let same : Path (Result ℕ EncodeSliceError) (Ok c.in-Ok.count) (Ok n) = sym c.in-Ok.is ∙ c.encode_slice.ensures.fits (omega (arith, size, c.requires)) in
-    let count : c.in-Ok.count ≡ n = cc in
-    c.in-Ok.ensures.written ∙ ap (λ z. z ++ drop n old) (c.self.invariant bytes) ∙ ap (λ k. padded_columns bytes ++ drop k old) (sym count)
+    c.in-Ok.ensures.written ∙ ap (λ z. z ++ drop (encoded_size_of e (length bytes)) c.args.columns.now) (c.self.invariant bytes)
+    ∙ ap (λ k. padded_columns bytes ++ drop k c.args.columns.now) (sym (count-is e c.self.invariant bytes _ _ _ c.in-Ok.is c.requires c.encode_slice.ensures.fits))

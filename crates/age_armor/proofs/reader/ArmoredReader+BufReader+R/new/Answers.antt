@@ -1,4 +1,3 @@
-use Rattle.std.proofs.Common.{◌≡◌, IsTrue, sym}
 use Rattle.age_armor.proofs.reader.ArmoredReader+BufReader+R.new.Goals as goal
 
 pub returns-clause-honest : goal.returns-clause-honest

@@ -1,4 +1,4 @@
-use Rattle.std.proofs.Common.{◌≡◌, ◌∙◌, sym, subst}
+use Rattle.std.proofs.Common.{◌∙◌}
 use Rattle.age_armor.proofs.Ahead.{held_mid, shown_held, front_held}
 use Rattle.age_armor.proofs.reader.ArmoredReader.as_held.Goals as goal
 

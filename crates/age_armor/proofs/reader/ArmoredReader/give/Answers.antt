@@ -1,4 +1,4 @@
-use Rattle.std.proofs.Common.{◌≡◌, ◌+◌, ◌-◌, ◌≤◌, arith, drop, take, length, length-take-le, length-drop, sym, IsTrue, refl}
+use Rattle.std.proofs.Common.{◌≡◌, ◌+◌, ◌-◌, ◌≤◌, arith, drop, take, length, length-take-le, sym, IsTrue, refl}
 use Rattle.std.proofs.lemmas.Grind.{common_steps}
 use Rattle.age_io.specs.Reading.{StandsIn}
 use Rattle.age_io.specs.Buffering.{held}

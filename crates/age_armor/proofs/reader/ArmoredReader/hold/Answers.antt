@@ -1,4 +1,4 @@
-use Rattle.std.proofs.Common.{◌≡◌, ◌∙◌, ◌-◌, ◌≤◌, ◌<◌, [], arith, length, sym, ap, subst, IsTrue, refl, true, false}
+use Rattle.std.proofs.Common.{◌≡◌, ◌∙◌, ◌-◌, ◌≤◌, [], arith, length, sym, ap, subst, IsTrue, refl}
 use Rattle.std.proofs.lemmas.Bool.{true≢false}
 use Rattle.age_io.specs.Reading.{StandsIn}
 use Rattle.age_armor.specs.Ahead.{rest_ahead, shown_ahead}

@@ -1,9 +1,9 @@
-use Rattle.std.proofs.Common.{◌≡◌, ◌-◌, ◌≤◌, ◌∙◌, arith, drop, sym, subst, refl, ap, IsTrue, true, false, length}
+use Rattle.std.proofs.Common.{◌≡◌, ◌-◌, ◌≤◌, ◌∙◌, arith, refl, IsTrue, false}
 use Rattle.std.proofs.lemmas.Bool.{true≢false}
 use Rattle.age_io.specs.Reading.{StandsIn}
 use Rattle.age_armor.specs.declared.stages.Stage.TheVariants.{Start}
 use Rattle.age_armor.specs.Ahead.{rest_ahead}
-use Rattle.age_armor.specs.DeliveredLaws.{content_of, stands_by, stands_follows}
+use Rattle.age_armor.specs.DeliveredLaws.{content_of, stands_follows}
 use Rattle.age_armor.proofs.Ahead.{starts, starts_rest, starts_outcome, starts_shown}
 use Rattle.age_armor.proofs.Whole.{rest_carries, carried_rest}
 use Rattle.age_armor.proofs.reader.ArmoredReader.new_buffered.Goals as goal

@@ -1,9 +1,9 @@
-use Rattle.std.proofs.Common.{◌≡◌, ◌∙◌, ◌+◌, ◌-◌, ◌≤◌, arith, drop, take, length, length-take-le, sym, subst, IsTrue, refl, true}
+use Rattle.std.proofs.Common.{◌≡◌, ◌∙◌, ◌+◌, ◌-◌, ◌≤◌, arith, take, length, length-take-le, sym, subst, IsTrue, refl}
 use Rattle.std.proofs.lemmas.Bool.{true≢false}
 use Rattle.age_io.specs.Reading.{StandsIn}
 use Rattle.age_armor.specs.Ahead.{rest_ahead}
 use Rattle.age_armor.specs.DeliveredLaws.{content_of, stands_by, stands_follows}
-use Rattle.age_armor.proofs.Ahead.{kept_stands, failed_stands, given_stands, rest_failed, pass_delivers, pass_end, pass_fault, pass_named, pass_ending, shown_none}
+use Rattle.age_armor.proofs.Ahead.{given_stands, rest_failed, pass_delivers, pass_end, pass_fault, pass_named, pass_ending, shown_none}
 use Rattle.age_armor.proofs.reader.ArmoredReader.pass.Goals as goal
 
 pub invariant_of-self : goal.invariant_of-self

@@ -1,9 +1,5 @@
-use Rattle.std.proofs.Common.{◌≡◌, ◌+◌, ◌-◌, ◌≤◌, arith, take, length, IsTrue, Bool, false, refl}
-use Rattle.std.proofs.lemmas.Grind.{common_steps}
-use Rattle.std.proofs.lemmas.Bool.{true≢false}
-use Rattle.age_io.specs.Reading.{StandsIn, Delivers}
-use Rattle.age_io.specs.Stretch.{nothing}
-use Rattle.age_armor.specs.Stages.{is_start}
+use Rattle.std.proofs.Common.{◌≡◌, ◌+◌, ◌-◌, ◌≤◌, arith, take, length, IsTrue, refl}
+use Rattle.age_io.specs.Reading.{StandsIn}
 use Rattle.age_armor.specs.Ahead.{rest_ahead, shown_ahead}
 use Rattle.age_armor.specs.DeliveredLaws.{content_of, stands_by, stands_follows}
 use Rattle.age_armor.proofs.Ahead.{given_stands, gives_shown, shown_fits, length_shown, shown_further, ending_same}

@@ -1,4 +1,4 @@
-use Rattle.std.proofs.Common.{◌≡◌, ◌∙◌, ◌≤◌, arith, refl, sym, subst, inl, inr, IsTrue, true, false}
+use Rattle.std.proofs.Common.{◌∙◌, arith, refl, sym, subst, inl, inr}
 use Rattle.std.proofs.lemmas.Bool.{true≢false}
 use Rattle.age_io.specs.Filling.{IsFront}
 use Rattle.age_armor.proofs.Ahead.{fault_gone, rest_gone}

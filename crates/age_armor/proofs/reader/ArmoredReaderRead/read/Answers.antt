@@ -1,4 +1,4 @@
-use Rattle.std.proofs.Common.{◌≡◌, ◌∙◌, ◌+◌, ◌≤◌, arith, refl, sym, inl, length, IsTrue, true, false}
+use Rattle.std.proofs.Common.{◌≡◌, ◌∙◌, arith, refl, sym, inl, length}
 use Rattle.std.proofs.lemmas.Bool.{true≢false, eqb-true}
 use Rattle.age_armor.proofs.Ahead.{fault_gone, shown_small}
 use Rattle.age_armor.proofs.reader.ArmoredReaderRead.read.Goals as goal

@@ -1,9 +1,10 @@
 use Rattle.std.proofs.Common.{Err, refl, subst}
+use Rattle.age_error.specs.Bytes.{AreBytes}
 use Rattle.age_io.specs.Writing.{WritesAll}
 use Rattle.age_stream.specs.Writing.{WasMade}
 use Rattle.age_protocol.specs.File.{file_front, file_text, IsFileOf}
 use Rattle.age_protocol.specs.Starting.{Starts}
-use Rattle.age_protocol.proofs.Files.{front_is, writes_file, is_file}
+use Rattle.age_protocol.proofs.Files.{front_is, writes_file, is_file, file_bytes}
 use Rattle.age_protocol.proofs.Fronts.{of_error}
 use Rattle.age_protocol.proofs.encryptor.Encryptor.wrap_output.Goals as goal
 
@@ -51,3 +52,10 @@ returns-clause-is_file g c = λ plain.
     subst (λ file. IsFileOf g.S.Suite.seal_of file.file_key file.stanzas plain (file_text g.S.Suite.seal_of file.file_key file.stanzas file.nonce plain)) c.self.view_is
     (is_file g.S.Suite.seal_of inside.file_key inside.header inside.nonce plain c.self.invariant
     c.canonical_text_is_text.ensures c.canonical_text_reads_back.ensures.covers)
+
+pub returns-clause-bytes : goal.returns-clause-bytes
+returns-clause-bytes g c = λ plain each.
+    let inside = c.self.inside in
+    subst (λ file. AreBytes (file_text g.S.Suite.seal_of file.file_key file.stanzas file.nonce plain)) c.self.view_is
+    (file_bytes g.S.Suite.seal_of inside.file_key inside.header inside.nonce plain c.mac_laws.ensures.key_bytes c.payload_laws.ensures.length
+    c.self.invariant c.in_ok-room.ensures.bytes each)

@@ -1,0 +1,48 @@
+-- A file tells its stanzas, and under a file key its plaintext.
+use Rattle.std.proofs.Common.{◌≡◌, ◌∙◌, sym, ap, subst, ℕ, List, ◌++◌, take, drop, take_at, drop_at}
+use Rattle.std.proofs.lemmas.List.{append_cancel_left}
+use Rattle.age_error.specs.Bytes.{AreBytesOf}
+use Rattle.age_format.specs.Stanza.{StanzaValue}
+use Rattle.age_format.specs.HeaderV1.{reads_legacy}
+use Rattle.age_format.specs.Verdict.{Header, IsVerdict}
+use Rattle.age_suite.specs.Mac.{hkdf_of}
+use Rattle.age_stream.specs.Payload.{Seal, payload}
+use Rattle.age_stream.specs.Laws.{OnePlaintext}
+use Rattle.age_protocol.specs.File.{IsFileOf, payload_key}
+use Rattle.age_protocol.specs.Laws.{OneHeader, OnePlain}
+use Rattle.age_protocol.proofs.Accepted.{ReadsAlone, HasOneVerdict}
+
+module _ (alone : ReadsAlone) (one : HasOneVerdict) (seal_of : Seal) where
+  verdict : (k : List ℕ) (s : List StanzaValue) (p bytes : List ℕ) (f : IsFileOf seal_of k s p bytes)
+      → IsVerdict reads_legacy bytes f.header (Header s f.mac)
+  verdict k s p bytes f =
+      subst (λ input. IsVerdict reads_legacy input f.header (Header s f.mac)) (sym f.whole)
+      (alone reads_legacy f.header (f.nonce ++ payload seal_of (payload_key k f.nonce) p) s f.mac f.text)
+
+  same_header : (k l : List ℕ) (s t : List StanzaValue) (p q bytes : List ℕ) (f : IsFileOf seal_of k s p bytes) (g : IsFileOf seal_of l t q bytes)
+      → (f.header ≡ g.header) × (s ≡ t)
+  same_header k l s t p q bytes f g =
+      let same = one reads_legacy bytes f.header g.header (Header s f.mac) (Header t g.mac) (verdict k s p bytes f) (verdict l t q bytes g) in
+      let says = same.1 in
+      (same.0, Prim.cc)
+
+  pub one_header : OneHeader seal_of
+  one_header k l s t p q bytes f g = (same_header k l s t p q bytes f g).1
+
+  -- under one file key they have the same payload
+  pub same_payload : (k : List ℕ) (s t : List StanzaValue) (p q bytes : List ℕ) (f : IsFileOf seal_of k s p bytes) → IsFileOf seal_of k t q bytes
+      → payload seal_of (payload_key k f.nonce) p ≡ payload seal_of (payload_key k f.nonce) q
+  same_payload k s t p q bytes f g =
+      let sealed = payload seal_of (payload_key k f.nonce) p in
+      let other = payload seal_of (payload_key k g.nonce) q in
+      let front : f.header ≡ g.header = (same_header k k s t p q bytes f g).0 in
+      let all : f.header ++ (f.nonce ++ sealed) ≡ f.header ++ (g.nonce ++ other) =
+      sym f.whole ∙ g.whole ∙ ap (λ h. h ++ (g.nonce ++ other)) (sym front) in
+      let rest : f.nonce ++ sealed ≡ g.nonce ++ other = append_cancel_left f.header (f.nonce ++ sealed) (g.nonce ++ other) all in
+      let n : f.nonce ≡ g.nonce = sym (take_at f.nonce sealed 16 f.sixteen.len) ∙ ap (λ l. take 16 l) rest ∙ take_at g.nonce other 16 g.sixteen.len in
+      let same : sealed ≡ other = sym (drop_at f.nonce sealed 16 f.sixteen.len) ∙ ap (λ l. drop 16 l) rest ∙ drop_at g.nonce other 16 g.sixteen.len in
+      same ∙ ap (λ m. payload seal_of (payload_key k m) q) (sym n)
+
+  pub one_plain : ((salt info input : List ℕ) → AreBytesOf 32 (hkdf_of salt info input)) → OnePlaintext seal_of → OnePlain seal_of
+  unfolding payload_key
+  one_plain key_bytes law k s t p q bytes b d f g = law (payload_key k f.nonce) p q (key_bytes _ _ _) b d (same_payload k s t p q bytes f g)

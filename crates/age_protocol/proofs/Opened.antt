@@ -1,0 +1,71 @@
+-- What was read of a file, and what the identity's answer came to.
+use Rattle.std.proofs.Common.{◌≡◌, ◌≢◌, ◌∙◌, refl, sym, ap, inl, inr, ℕ, Bool, true, false, List, IsTrue, Some, None, Ok, Err, Result, IfErr, arith}
+use Rattle.age_error.specs.Refusals.{IsDevice}
+use Rattle.age_error.specs.DecryptErrors.{DecryptRefusal, decrypt_refusal, decrypt_of_io}
+use Rattle.age_error.specs.declared.decrypt.DecryptError.{DecryptError}
+use Rattle.age_error.specs.declared.io.Error.{Error}
+use Rattle.age_error.specs.declared.io.Error.TheVariants as io
+use Rattle.age_suite.specs.declared.suite.Suite.{Ghosts as SuiteGhosts}
+use Rattle.age_io.specs.declared.traits.Read.{Ghosts}
+use Rattle.age_io.specs.Stretch.{Stretch, whole}
+use Rattle.age_format.specs.HeaderV1.{HeaderValue}
+use Rattle.age_format.specs.Unwrapping.{UnwrapAnswer}
+use Rattle.age_stream.specs.Reader.{plain_rest_of}
+use Rattle.age_stream.specs.declared.reader.StreamReader.{StreamReader}
+use Rattle.age_protocol.specs.Answering.{decided}
+use Rattle.age_protocol.specs.Decrypting.{RefusesFront}
+use Rattle.age_protocol.specs.File.{payload_key}
+use Rattle.age_protocol.specs.OpeningFile.{Decrypts, OpensFile}
+use Rattle.age_protocol.specs.WholeFiles.{LacksFront, RefusesPayload, RefusesRest}
+
+-- of a reader whose device never fails
+pub lacks_front : {R : Type 0} (tells steady : R → Bool) (content : R → Stretch) (place : R → ℕ) (rest : R → Stretch) (faults : R → ℕ)
+    (old last : R) (e : DecryptRefusal) (start : Stretch) → RefusesFront tells steady content place rest faults old last e
+    → IsTrue (tells old) → rest old ≡ start → place old ≡ 0 → faults old ≡ 0 → faults last ≡ 0 → LacksFront start e
+lacks_front tells steady content place rest faults old last e start refuses told rest_is place_is none still = record {
+  left = rest last;
+  place = place last;
+  why = rw (rest_is, place_is, none, still) at (refuses.why told);
+  no_device = λ device. omega (arith, refuses.device device, none, still);
+}
+
+module _ {S R : Type 0} {suite : SuiteGhosts S} {read : Ghosts R} where
+  -- an identity answered a file key, which opens the file
+  pub decided_key : (answer : UnwrapAnswer) (h : HeaderValue) (nonce : List ℕ) (input : R) (r : StreamReader S R suite read)
+      → Decrypts (decided answer) h nonce input (Ok r) → (file_key : List ℕ) × (answer ≡ Some (Ok file_key)) × OpensFile file_key h nonce input r
+  decided_key None h nonce input r d = absurd d
+  decided_key (Some (Err e)) h nonce input r d = absurd d
+  decided_key (Some (Ok key)) h nonce input r (inl wrong) = absurd wrong.1
+  decided_key (Some (Ok key)) h nonce input r (inr right) = (key, refl, right.1)
+
+  -- no reader was given
+  pub refuses_rest : (key : Result (List ℕ) DecryptRefusal) (h : HeaderValue) (nonce : List ℕ) (input : R)
+      (result : Result (StreamReader S R suite read) DecryptError) → Decrypts key h nonce input result
+      → IfErr result (λ e. RefusesRest suite.seal_of key h nonce (read.rest input) (decrypt_refusal e))
+  refuses_rest (Err own) h nonce input (Ok r) d = tt
+  refuses_rest (Err own) h nonce input (Err e) d = d
+  refuses_rest (Ok key) h nonce input (Ok r) d = tt
+  refuses_rest (Ok key) h nonce input (Err e) (inl wrong) = inl wrong
+  refuses_rest (Ok key) h nonce input (Err e) (inr right) = inr (
+    right.0,
+    record {
+      error = io.OutOfMemory;
+      is = right.1;
+      no_device = λ device. device;
+      bad = λ other. absurd (other refl);
+    },
+  )
+
+  -- the reader that was given met an end that isn't clean
+  pub refuses_payload : (file_key : List ℕ) (h : HeaderValue) (nonce : List ℕ) (input : R) (r : StreamReader S R suite read) (e : Error)
+      → OpensFile file_key h nonce input r → (IsDevice e → ⊥) → (e ≢ io.OutOfMemory → (plain_rest_of r).ends_well ≡ false)
+      → RefusesPayload suite.seal_of (payload_key file_key nonce) (read.rest input) (decrypt_refusal (decrypt_of_io e))
+  refuses_payload file_key h nonce input r e opens none badly = record {
+    error = e;
+    is = refl;
+    no_device = none;
+    bad = λ other plain bytes within last is.
+        let all : plain_rest_of r ≡ whole plain = opens.reader.honest plain bytes within last is in
+        let well : true ≡ false = sym (ap (λ s. s.ends_well) all) ∙ badly other in
+        absurd (Prim.cc);
+  }

@@ -1,0 +1,111 @@
+-- What the calls on whole files answer.
+use Rattle.std.specs.Prelude.{◌≡◌, ◌≢◌, ◌⊎◌, ℕ, ◌^◌, ◌<◌, ◌≤◌, true, List, length, Some, Result, Ok, Err, MatchResult}
+use Rattle.age_error.specs.Bytes.{AreBytes}
+use Rattle.age_error.specs.Refusals.{IsDevice}
+use Rattle.age_error.specs.DecryptErrors.{DecryptRefusal, InvalidMac, OutOfMemory, decrypt_refusal, decrypt_of_io, IsDeviceRefusal}
+use Rattle.age_error.specs.EncryptErrors.{EncryptRefusal, encrypt_refusal, encrypt_of_io}
+use Rattle.age_error.specs.declared.io.Error.{Error}
+use Rattle.age_error.specs.declared.io.Error.TheVariants as io
+use Rattle.age_io.specs.Stretch.{Stretch, whole}
+use Rattle.age_armor.specs.Armor.{Carries}
+use Rattle.age_armor.specs.Delivered.{delivered, stretch_of}
+use Rattle.age_format.specs.Stanza.{StanzaValue}
+use Rattle.age_format.specs.HeaderV1.{HeaderValue, header_mac}
+use Rattle.age_format.specs.Unwrapping.{UnwrapAnswer, Unwraps}
+use Rattle.age_stream.specs.Payload.{Seal, payload, LastIsNoMiddle}
+use Rattle.age_protocol.specs.Answering.{decided}
+use Rattle.age_protocol.specs.Decrypting.{ReadsFront, WhyNoFront}
+use Rattle.age_protocol.specs.Encrypting.{Prepared}
+use Rattle.age_protocol.specs.File.{payload_key, file_text, IsFileOf}
+
+-- ---- encryption
+
+-- A refusal while a plaintext of this many bytes is written: want of memory has a variant of its own, and `TooLong` comes
+-- only past 2^60 bytes.
+pub record RefusesOutput (size : ℕ) (refusal : EncryptRefusal) : Type 0 where
+  pub error : Error
+  pub is : refusal ≡ encrypt_refusal (encrypt_of_io error)
+  pub too_long : error ≡ io.TooLong → 2 ^ 60 < size
+
+-- What was written is the file of the plaintext, in this form, which carries it. By the definition that decryptors are
+-- proved by it is a file.
+pub record IsWritten (seal_of : Seal) (form : List ℕ → List ℕ) (plain : List ℕ) (file : Prepared) (written : List ℕ) : Type 0 where
+  pub within : length plain ≤ 2 ^ 60
+  pub text : written ≡ form (file_text seal_of file.file_key file.stanzas file.nonce plain)
+  pub carries : Carries written (file_text seal_of file.file_key file.stanzas file.nonce plain)
+  pub is_file : IsFileOf seal_of file.file_key file.stanzas plain (file_text seal_of file.file_key file.stanzas file.nonce plain)
+
+-- What an encryption answers once the recipient has: the recipient's refusal, or the file that its answer makes.
+abbrev pub Encrypts : Seal → (List ℕ → List ℕ) → List ℕ → Result Prepared EncryptRefusal → Result (List ℕ) EncryptRefusal → Type 0
+Encrypts seal_of form plain (Err refusal) answer = answer ≡ Err refusal
+Encrypts seal_of form plain (Ok file) answer = MatchResult answer (IsWritten seal_of form plain file) (RefusesOutput (length plain))
+
+-- ---- decryption
+
+-- What is read of a file, bare or armored: the bytes that it carries and a clean end, or the bytes before its first fault.
+abbrev pub read_of : List ℕ → Stretch
+read_of file = stretch_of (delivered file true)
+
+-- Why no header with a nonce was read from the front.
+pub record LacksFront (start : Stretch) (refusal : DecryptRefusal) : Type 0 where
+  pub left : Stretch
+  pub place : ℕ
+  pub why : WhyNoFront 0 0 start left 0 place refusal
+  pub no_device : IsDeviceRefusal refusal → ⊥
+
+-- What is left after the nonce is no payload of a plaintext under this key, or memory was refused.
+pub record RefusesPayload (seal_of : Seal) (key : List ℕ) (left : Stretch) (refusal : DecryptRefusal) : Type 0 where
+  pub error : Error
+  pub is : refusal ≡ decrypt_refusal (decrypt_of_io error)
+  pub no_device : IsDevice error → ⊥
+  pub bad : error ≢ io.OutOfMemory → (plain : List ℕ) → AreBytes plain → length plain ≤ 2 ^ 60
+      → LastIsNoMiddle seal_of key plain → left ≢ whole (payload seal_of key plain)
+
+-- Of the file key, or the refusal, that the identity's answer comes to: a refusal is the answer. With a file key the header's
+-- MAC is wrong under it, or else the payload is refused.
+abbrev pub RefusesRest : Seal → Result (List ℕ) DecryptRefusal → HeaderValue → List ℕ → Stretch → DecryptRefusal → Type 0
+RefusesRest seal_of (Err own) h nonce left refusal = refusal ≡ own
+RefusesRest seal_of (Ok file_key) h nonce left refusal =
+    ((h.mac ≢ header_mac file_key h.covered) × (refusal ≡ InvalidMac))
+    ⊎ ((h.mac ≡ header_mac file_key h.covered) × RefusesPayload seal_of (payload_key file_key nonce) left refusal)
+
+module _ {I : Type 0} (seal_of : Seal) (unwraps : I → List StanzaValue → UnwrapAnswer → I → Type 0) where
+  -- The bytes carry a file of the plaintext, under the file key that the identity got from the header's stanzas.
+  pub record Decrypts (before : I) (file plain : List ℕ) (after : I) : Type 0 where
+    pub carried : List ℕ
+    pub carries : Carries file carried
+    pub file_key : List ℕ
+    pub stanzas : List StanzaValue
+    pub asked : Unwraps unwraps before stanzas (Some (Ok file_key)) after
+    pub bytes : AreBytes plain
+    pub is_file : IsFileOf seal_of file_key stanzas plain carried
+
+  -- The header and the nonce were read from the front, and the identity was asked.
+  pub record RefusesAsked (before : I) (start : Stretch) (after : I) (refusal : DecryptRefusal) : Type 0 where
+    pub h : HeaderValue
+    pub nonce : List ℕ
+    pub left : Stretch
+    pub place : ℕ
+    pub front : ReadsFront start left 0 place h nonce
+    pub answer : UnwrapAnswer
+    pub asked : Unwraps unwraps before h.stanzas answer after
+    pub why : RefusesRest seal_of (decided answer) h nonce left refusal
+
+  -- Why a file isn't decrypted. The identity is asked only where a header with a nonce was read.
+  abbrev pub Refuses : I → List ℕ → I → DecryptRefusal → Type 0
+  Refuses before file after refusal =
+      ((after ≡ before) × ((refusal ≡ OutOfMemory) ⊎ LacksFront (read_of file) refusal))
+      ⊎ RefusesAsked before (read_of file) after refusal
+
+  -- The bytes carry a file of the plaintext whose file key the identity gets, unless it is refused memory.
+  pub record CarriesFileFor (identity : I) (file plain : List ℕ) : Type 0 where
+    pub carried : List ℕ
+    pub carries : Carries file carried
+    pub file_key : List ℕ
+    pub stanzas : List StanzaValue
+    pub is_file : IsFileOf seal_of file_key stanzas plain carried
+    pub bytes : AreBytes plain
+    pub within : length plain ≤ 2 ^ 60
+    pub last : LastIsNoMiddle seal_of (payload_key file_key is_file.nonce) plain
+    pub right : (answer : UnwrapAnswer) (after : I) → Unwraps unwraps identity stanzas answer after
+        → (answer ≡ Some (Ok file_key)) ⊎ (answer ≡ Some (Err OutOfMemory))
