@@ -5,7 +5,9 @@ pub use Rattle.age_error.specs.Refusals
 pub use Rattle.age_suite.specs.Draw
 pub use Rattle.age_suite.specs.Mac
 pub use Rattle.age_suite.specs.Suite
+pub use Rattle.age_io.specs.Cursor
 pub use Rattle.age_io.specs.Reading
+pub use Rattle.age_io.specs.Replies
 pub use Rattle.age_io.specs.Stretch
 pub use Rattle.age_io.specs.Writing
 pub use Rattle.age_armor.specs.Armor

@@ -12,9 +12,10 @@ pub use age_protocol::simple::{decrypt, encrypt, encrypt_and_armor};
 
 /// Readers, writers and their refusals.
 pub mod io {
-    pub use age_error::io::{Error, ErrorKind};
+    pub use age_error::io::{Error, ErrorKind, SeekFrom};
     pub use age_io::{
-        BufRead, BufReader, Bytes, Read, Std, Write, read_exact, read_to_end, write_all,
+        Answer, BufRead, BufReader, Bytes, Op, Read, Seek, Std, Write, read_exact, read_to_end,
+        run, write_all,
     };
 }
 

@@ -11,6 +11,8 @@ pub mod Encoded
 pub mod WrittenLines
 pub mod Ending
 pub mod Ahead
+pub mod AheadLines
+pub mod Retrying
 pub mod Whole
 pub mod Testing
 pub mod Taking

@@ -1,12 +1,8 @@
 -- Lines that are taken from a reader.
-use Rattle.std.proofs.Common.{◌≡◌, ℕ, zero, suc, Some, take, ◌≤◌, ◌<◌, Bool, true, false, List, [], ◌∷◌, ◌++◌, length, refl, ap, sym, arith, ◌∙◌, append_assoc, length-append}
+use Rattle.std.proofs.Common.{◌≡◌, ℕ, ◌≤◌, ◌<◌, Bool, true, false, List, [], ◌∷◌, ◌++◌, length, refl, ap, sym, arith, ◌∙◌, append_assoc, length-append}
 use Rattle.std.proofs.lemmas.Bool.{or_left, or_right, and_parts, true≢false, cases_Bool}
 use Rattle.std.proofs.lemmas.List.{append-nil}
 use Rattle.std.specs.List.{list_all}
-use Rattle.std.specs.Prelude.{slice_index}
-use Rattle.age_base64.specs.Base64.{padded_columns}
-use Rattle.age_armor.specs.Showing.{BeginsFull}
-use Rattle.age_armor.specs.DeliveredLaws.{decoded_is}
 use Rattle.std.proofs.Common.{inl, inr}
 use Rattle.age_error.specs.declared.io.Error.TheVariants.{Armor}
 use Rattle.age_error.specs.declared.io.ArmoredReadError.TheVariants.{TrailingGarbage}
@@ -14,7 +10,7 @@ use Rattle.age_io.specs.Stretch.{Stretch, IsCleanEnd, IsFault}
 use Rattle.age_io.specs.Reading.{Delivers, IsQuiet}
 use Rattle.age_base64.specs.Lines.{Lacks, line as ended}
 use Rattle.age_base64.proofs.Lines.{Lacks-append}
-use Rattle.age_armor.specs.LineVerdict.{decoded, last_is}
+use Rattle.age_armor.specs.LineVerdict.{last_is}
 use Rattle.age_armor.specs.Delivered.{raw_lines, section, ends, InnerFault}
 use Rattle.age_armor.specs.Counting.{TakesLine, IsCutShort}
 use Rattle.age_armor.specs.Delivered.{Refused, is_space, trailing}
@@ -104,19 +100,3 @@ taken_run before after old mid new lacks d t =
     let first : Delivers (before ++ run) old cut = record { bytes = whole; end = t.2.end ∙ d.end } in
     let next : Delivers (10 ∷ []) cut new = record { bytes = refl; end = refl } in
     taken_line (before ++ run) after old cut new (Lacks-append 10 before run lacks t.3) first next (t.1 ∙ sym (append_assoc before run (10 ∷ [])))
-
--- ---- a line that is shown whole
-
-take_more : (n : ℕ) (xs : List ℕ) → n < length xs → take (suc n) xs ≡ take n xs ++ slice_index xs n ∷ []
-take_more zero [] some = absurd (omega (arith, some))
-take_more zero (x ∷ xs) some = refl
-take_more (suc n) [] some = absurd (omega (arith, some))
-take_more (suc n) (x ∷ xs) some = ap (λ z. x ∷ z) (take_more n xs (omega (arith, some)))
-
-pub begins_full : (front bytes columns : List ℕ) → 65 ≤ length front → slice_index front 64 ≡ 10 → columns ≡ take 64 front → decoded columns ≡ Some bytes →
-    length bytes ≡ 48 → BeginsFull bytes front
-begins_full front bytes columns long feed same stands size =
-    let is = decoded_is columns bytes stands in
-    let whole : take 65 front ≡ ended (padded_columns bytes) =
-    take_more 64 front (omega (arith, long)) ∙ ap (λ z. take 64 front ++ z ∷ []) feed ∙ ap (λ z. z ++ 10 ∷ []) (sym same ∙ is.1) in
-    record { size = size; each = is.0; within = long; same = whole }

@@ -1,5 +1,5 @@
 -- What is done with the bytes that a reader shows.
-use Rattle.std.specs.Prelude.{◌≡◌, ◌≢◌, ℕ, ◌+◌, ◌≤◌, ◌<◌, Bool, IsTrue, List, ◌++◌, length, take, Result, IfErr, OnOk, OnErr}
+use Rattle.std.specs.Prelude.{◌≡◌, ◌≢◌, ℕ, ◌+◌, ◌-◌, ◌*◌, ◌≤◌, ◌<◌, Bool, IsTrue, List, ◌++◌, length, take, drop, Result, IfErr, OnOk, OnErr}
 use Rattle.age_error.specs.Bytes.{AreBytes}
 use Rattle.age_error.specs.Refusals.{IsDevice, IsInterruption}
 use Rattle.age_error.specs.declared.io.Error.{Error}
@@ -8,6 +8,7 @@ use Rattle.age_io.specs.Stretch.{Stretch, IsCleanEnd, IsFault}
 use Rattle.age_io.specs.Reading.{IsQuiet, Delivers, most_faults}
 use Rattle.age_base64.specs.Lines.{line, Lacks}
 use Rattle.age_base64.specs.Base64.{padded_columns}
+use Rattle.age_armor.specs.FullLines.{full_lines}
 use Rattle.age_armor.specs.declared.showing.Run.{Run}
 use Rattle.age_armor.specs.declared.showing.Run.TheVariants.{Nothing, Open, Ended}
 
@@ -32,12 +33,11 @@ pub record TakesFull (bytes : List ℕ) (old new : Stretch) : Type 0 where
   pub each : AreBytes bytes
   pub delivered : Delivers (line (padded_columns bytes)) old new
 
--- these bytes begin with a line of 64 columns that stands for those 48
-pub record BeginsFull (bytes front : List ℕ) : Type 0 where
-  pub size : length bytes ≡ 48
-  pub each : AreBytes bytes
-  pub within : 65 ≤ length front
-  pub same : take 65 front ≡ line (padded_columns bytes)
+-- what is shown begins with so many lines of 64 columns, which stand for the bytes from the next on
+pub record IsAhead (bytes : List ℕ) (next left : ℕ) (shown : List ℕ) : Type 0 where
+  pub room : 48 * left ≤ length bytes - next
+  pub within : 65 * left ≤ length shown
+  pub lines : take (65 * left) shown ≡ full_lines left (drop next bytes)
 
 -- the first LF stands there
 pub record IsLineEnd (at : ℕ) (bytes : List ℕ) : Type 0 where

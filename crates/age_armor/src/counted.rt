@@ -1,14 +1,16 @@
 //! A reader whose taken bytes are counted.
-ghost use Rattle.std.specs.Prelude.{◌≡◌, ◌≢◌, ℕ, ◌+◌, ◌≤◌, ◌<◌, Bool, true, false, IsTrue, List, [], ◌∷◌, ◌++◌, length, take, IfOk, IfErr, OnOk, OnErr};
+ghost use Rattle.std.specs.Prelude.{◌≡◌, ◌≢◌, ℕ, ◌+◌, ◌≤◌, ◌<◌, Bool, true, false, IsTrue, List, [], ◌∷◌, ◌++◌, length, take, IfOk, IfErr, OnOk, OnErr, Ok};
 ghost use Rattle.age_error.specs.Refusals.{IsInterruption};
 ghost use Rattle.age_error.specs.declared.io.Error.TheVariants.{OutOfMemory};
 ghost use Rattle.age_io.specs.Stretch.{IsCleanEnd, IsFault};
-ghost use Rattle.age_io.specs.Reading.{Delivers, IsQuiet};
+ghost use Rattle.age_io.specs.Reading.{Delivers, IsQuiet, most_faults};
 ghost use Rattle.std.specs.List.{list_all};
 ghost use Rattle.age_armor.specs.Delivered.{is_space as is_white};
+ghost use Rattle.age_armor.specs.Showing.{IsAhead};
 
-use crate::decoding::Decoder;
-use crate::showing::{Run, look, take_full, take_run};
+use crate::decoding::{Decoder, known_bytes};
+use crate::encoding::{LINE, LINE_TEXT};
+use crate::showing::{Run, look, show_lines, take_run};
 use age_error::io::{ArmoredReadError, Error};
 use age_io::{BufRead, fill, read_retrying};
 
@@ -17,7 +19,14 @@ use age_io::{BufRead, fill, read_retrying};
 pub(crate) struct Counted<R: BufRead> {
     pub(crate) inner: R,
     pub(crate) taken: u64,
+    // The bytes of lines that the inner reader shows first and that aren't taken yet: `left` lines, from `next` on.
+    pub(crate) ahead: [u8; 768],
+    pub(crate) next: usize,
+    pub(crate) left: usize,
     ghost behind: { IsTrue (R.Read.tells inner) → taken ≤ R.Read.place inner },
+    ghost size: { length ahead ≡ 768 },
+    ghost shows: { IsAhead ahead next left (R.shown inner) },
+    ghost unspent: { 0 < left → R.Read.faults inner < most_faults },
 }
 
 // Space, tab, LF, FF or CR.
@@ -47,6 +56,7 @@ impl<R: BufRead> Counted<R> {
     ghost use Rattle.age_armor.specs.Delivered.{trailing, Clean};
 
     /// Whether nothing is left but a clean end.
+    #[tactic(auto, using(crate::proofs::AheadLines::ahead_none))]
     pub(crate) fn is_at_end(&mut self) -> Result<bool, Error>
         ensures kept { Kept R.Read.tells R.Read.steady R.Read.content R.Read.place R.Read.faults self.old.inner self.old.taken self.new.inner self.new.taken result }
         ensures taken { self.new.taken ≡ self.old.taken }
@@ -56,10 +66,12 @@ impl<R: BufRead> Counted<R> {
         ensures cause { IsTrue (R.Read.tells self.old.inner) → IfErr result (λ e. e ≢ OutOfMemory → IsQuiet (R.Read.faults self.old.inner) (R.Read.faults self.new.inner) →
             IsFault (R.Read.rest self.old.inner)) }
     {
+        self.left = 0;
         look(&mut self.inner)
     }
 
     /// Reads as the inner reader does.
+    #[tactic(auto, using(crate::proofs::AheadLines::ahead_none))]
     pub(crate) fn read(&mut self, buf: &mut [u8]) -> Result<usize, Error>
         requires { 0 < length buf.old }
         ensures kept { Kept R.Read.tells R.Read.steady R.Read.content R.Read.place R.Read.faults self.old.inner self.old.taken self.new.inner self.new.taken result }
@@ -70,6 +82,7 @@ impl<R: BufRead> Counted<R> {
         ensures cause { IsTrue (R.Read.tells self.old.inner) → IfErr result (λ e. e ≢ OutOfMemory → IsQuiet (R.Read.faults self.old.inner) (R.Read.faults self.new.inner) →
             IsFault (R.Read.rest self.old.inner)) }
     {
+        self.left = 0;
         match read_retrying(&mut self.inner, buf) {
             Err(e) => Err(e),
             Ok(count) => {
@@ -80,6 +93,7 @@ impl<R: BufRead> Counted<R> {
     }
 
     /// Fills `front`, or answers that there are fewer bytes.
+    #[tactic(auto, using(crate::proofs::AheadLines::ahead_none))]
     pub(crate) fn take_front(&mut self, front: &mut [u8]) -> Result<bool, Error>
         requires { 0 < length front.old }
         ensures kept { Kept R.Read.tells R.Read.steady R.Read.content R.Read.place R.Read.faults self.old.inner self.old.taken self.new.inner self.new.taken result }
@@ -89,6 +103,7 @@ impl<R: BufRead> Counted<R> {
         ensures cause { IsTrue (R.Read.tells self.old.inner) → IfErr result (λ e. e ≢ OutOfMemory → IsQuiet (R.Read.faults self.old.inner) (R.Read.faults self.new.inner) →
             IsFew (length front.new) false (R.Read.rest self.old.inner)) }
     {
+        self.left = 0;
         let mut count = 0;
         let answer = fill(&mut self.inner, front, &mut count);
         self.taken = self.taken.saturating_add(count as u64);
@@ -96,6 +111,46 @@ impl<R: BufRead> Counted<R> {
             Err(e) => Err(e),
             Ok(()) => Ok(count == front.len()),
         }
+    }
+
+    // Decodes the lines that are shown, where none is left. It takes nothing.
+    #[tactic(auto, using(crate::proofs::AheadLines::ahead_none))]
+    fn look_ahead(&mut self, decoder: &Decoder) -> Result<(), Error>
+        ensures kept { Kept R.Read.tells R.Read.steady R.Read.content R.Read.place R.Read.faults self.old.inner self.old.taken self.new.inner self.new.taken result }
+        ensures same { IsTrue (R.Read.tells self.old.inner) → OnOk result (R.Read.rest self.new.inner ≡ R.Read.rest self.old.inner) }
+        ensures taken { self.new.taken ≡ self.old.taken }
+        ensures cause { IsTrue (R.Read.tells self.old.inner) → IfErr result (λ e. e ≢ OutOfMemory → IsQuiet (R.Read.faults self.old.inner) (R.Read.faults self.new.inner) →
+            IsFault (R.Read.rest self.old.inner)) }
+    {
+        if self.left > 0 {
+            return Ok(());
+        }
+        self.left = 0;
+        match show_lines(&mut self.inner, decoder, &mut self.ahead) {
+            Err(e) => Err(e),
+            Ok(count) => {
+                self.next = 0;
+                self.left = count;
+                Ok(())
+            }
+        }
+    }
+
+    // Takes the first of the lines that are left, and puts its bytes in `bytes`.
+    fn take_ahead(&mut self, bytes: &mut [u8; 48]) -> Result<bool, Error>
+        requires { 0 < self.old.left }
+        ensures ok { result ≡ Ok true }
+        ensures kept { Kept R.Read.tells R.Read.steady R.Read.content R.Read.place R.Read.faults self.old.inner self.old.taken self.new.inner self.new.taken result }
+        ensures full { IsTrue (R.Read.tells self.old.inner) → TakesFull bytes.new (R.Read.rest self.old.inner) (R.Read.rest self.new.inner) }
+        ensures taken { IsTrue (R.Read.tells self.old.inner) → self.new.taken ≡ self.old.taken + 65 }
+    {
+        bytes.copy_from_slice(&self.ahead[self.next..self.next + LINE]);
+        known_bytes(bytes);
+        self.inner.consume(LINE_TEXT);
+        self.taken = self.taken.saturating_add(65);
+        self.next += LINE;
+        self.left -= 1;
+        Ok(true)
     }
 
     /// Takes a line that is shown whole, where it is 64 symbols and LF, and puts the 48 bytes that it stands for in
@@ -112,15 +167,14 @@ impl<R: BufRead> Counted<R> {
         ensures cause { IsTrue (R.Read.tells self.old.inner) → IfErr result (λ e. e ≢ OutOfMemory → IsQuiet (R.Read.faults self.old.inner) (R.Read.faults self.new.inner) →
             IsFault (R.Read.rest self.old.inner)) }
     {
-        match take_full(&mut self.inner, decoder, bytes) {
-            Err(e) => Err(e),
-            Ok(full) => {
-                if full {
-                    self.taken = self.taken.saturating_add(65);
-                }
-                Ok(full)
-            }
+        match self.look_ahead(decoder) {
+            Err(e) => return Err(e),
+            Ok(()) => {}
         }
+        if self.left == 0 {
+            return Ok(false);
+        }
+        self.take_ahead(bytes)
     }
 
     /// Takes a line up to its LF, or to the end, and puts it in `line`. It is empty at a clean end alone.
@@ -131,6 +185,7 @@ impl<R: BufRead> Counted<R> {
         ensures cause { IsTrue (R.Read.tells self.old.inner) → IfErr result (λ e. e ≢ OutOfMemory → IsQuiet (R.Read.faults self.old.inner) (R.Read.faults self.new.inner) →
             IsCutShort (R.Read.rest self.old.inner)) }
     {
+        self.left = 0;
         line.clear();
         'runs: loop {
             let before = line.len();

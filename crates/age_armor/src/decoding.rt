@@ -1,5 +1,5 @@
 //! Decoding the columns of a line.
-ghost use Rattle.std.specs.Prelude.{◌≡◌, ◌≤◌, IsTrue, Some, None, take, length, MatchOption};
+ghost use Rattle.std.specs.Prelude.{◌≡◌, ◌*◌, ◌≤◌, IsTrue, Some, None, take, length, MatchOption};
 ghost use Rattle.age_error.specs.Bytes.{AreBytes};
 ghost use Rattle.age_armor.specs.LineVerdict.{decoded};
 ghost use Rattle.age_armor.specs.Decoder.{DecodesArmor, RefusesNoArmor};
@@ -16,7 +16,7 @@ pub(crate) struct Decoder {
 }
 
 // What a slice of bytes holds is numbers below 256: a fact for proofs alone, which costs nothing.
-fn known_bytes(bytes: &[u8])
+pub(crate) fn known_bytes(bytes: &[u8])
     ensures { AreBytes bytes.now }
 {}
 
@@ -44,13 +44,17 @@ impl Decoder {
         }
     }
 
-    /// Whether 64 columns are the base64 of 48 bytes, which are then in `bytes`.
-    pub(crate) fn decode_full(&self, columns: &[u8; 64], bytes: &mut [u8; 48]) -> bool
+    /// Whether columns are the base64 of as many bytes as fill `bytes`, which are then there.
+    pub(crate) fn decode_full(&self, columns: &[u8], bytes: &mut [u8]) -> bool
+        requires { length columns.now * 3 ≡ length bytes.old * 4 }
         ensures { IsTrue result → decoded columns.now ≡ Some bytes.new }
     {
-        match self.decode(columns, bytes) {
-            Some(count) => count == 48,
-            None => false,
+        match self.engine.decode_slice_unchecked(columns, bytes) {
+            Ok(count) => {
+                known_bytes(bytes);
+                count == bytes.len()
+            }
+            Err(_) => false,
         }
     }
 }

@@ -7,6 +7,7 @@ mod decoding;
 mod definition_tests;
 mod encoding;
 mod format;
+mod gathering;
 mod judging;
 mod laws;
 mod reader;

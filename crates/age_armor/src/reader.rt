@@ -28,7 +28,8 @@ use std::alloc::Global;
 /// "ASCII armor").
 ///
 /// The text begins where the inner reader stands when this one is made, and places count from there. The first read
-/// finds out which of the two it is. One line is held at a time.
+/// finds out which of the two it is. One line is held at a time. Up to 16 lines that the inner reader shows are decoded in
+/// one call, each is taken from it only when it is asked for.
 #[derive(Drop)]
 pub struct ArmoredReader<R: BufRead> {
     source: Counted<R>,
@@ -153,7 +154,13 @@ impl<R: BufRead> ArmoredReader<R> {
         ensures memory { IfErr result (λ e. e ≡ OutOfMemory) }
     {
         Ok(ArmoredReader {
-            source: Counted { inner, taken: 0 },
+            source: Counted {
+                inner,
+                taken: 0,
+                ahead: [0; 768],
+                next: 0,
+                left: 0,
+            },
             decoder: Decoder::new(),
             stage: Stage::Start,
             line: Vec::new(alloc),

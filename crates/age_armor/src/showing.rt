@@ -3,10 +3,11 @@ ghost use Rattle.std.specs.Prelude.{◌≡◌, ◌≢◌, ℕ, ◌+◌, ◌≤�
 ghost use Rattle.age_error.specs.Refusals.{IsInterruption};
 ghost use Rattle.age_io.specs.Stretch.{IsCleanEnd};
 ghost use Rattle.age_base64.specs.Lines.{Lacks};
-ghost use Rattle.age_armor.specs.Showing.{Asks, TakesFull, BeginsFull, TakesRun, IsLineEnd};
+ghost use Rattle.age_armor.specs.Showing.{Asks, IsAhead, TakesRun, IsLineEnd};
 ghost use Rattle.age_armor.specs.declared.showing.Run.TheVariants.{Open as open_run};
 
 use crate::decoding::Decoder;
+use crate::gathering::decode_ahead;
 use age_error::io::{Error, ErrorKind};
 use age_io::BufRead;
 
@@ -61,57 +62,36 @@ pub(crate) fn look<B: BufRead>(reader: &mut B) -> Result<bool, Error>
     Err(Error::Device(ErrorKind::Other))
 }
 
-// Whether the first line that is shown is 64 columns of base64 and LF; the 48 bytes that they stand for are then in `bytes`.
-fn begins_full(front: &[u8], decoder: &Decoder, bytes: &mut [u8; 48]) -> bool
-    ensures { IsTrue result → BeginsFull bytes.new front.now }
-{
-    if front.len() < 65 {
-        return false;
-    }
-    if front[64] != b'\n' {
-        return false;
-    }
-    let Some(columns) = front.first_chunk::<64>() else {
-        return false;
-    };
-    decoder.decode_full(columns, bytes)
-}
-
-fn full_once<B: BufRead>(
+fn show_once<B: BufRead>(
     reader: &mut B,
     decoder: &Decoder,
-    bytes: &mut [u8; 48],
-) -> Result<bool, Error>
+    ahead: &mut [u8; 768],
+) -> Result<usize, Error>
     ensures asks { Asks B.Read.tells B.Read.steady B.Read.content B.Read.place B.Read.rest B.Read.faults reader.old reader.new result }
-    ensures none { IsTrue (B.Read.tells reader.old) → IfOk result (λ is. is ≡ false →
-        (B.Read.rest reader.new ≡ B.Read.rest reader.old) × (B.Read.place reader.new ≡ B.Read.place reader.old)) }
-    ensures full { IsTrue (B.Read.tells reader.old) → IfOk result (λ is. IsTrue is →
-        TakesFull bytes.new (B.Read.rest reader.old) (B.Read.rest reader.new) × (B.Read.place reader.new ≡ B.Read.place reader.old + 65)) }
+    ensures stays { IsTrue (B.Read.tells reader.old) → OnOk result (B.Read.place reader.new ≡ B.Read.place reader.old) }
+    ensures same { IsTrue (B.Read.tells reader.old) → OnOk result (B.Read.rest reader.new ≡ B.Read.rest reader.old) }
+    ensures ahead { IfOk result (λ n. IsAhead ahead.new 0 n (B.shown reader.new)) }
+    ensures size { length ahead.new ≡ 768 }
 {
     let front = reader.fill_buf()?;
-    if !begins_full(front, decoder, bytes) {
-        return Ok(false);
-    }
-    reader.consume(65);
-    Ok(true)
+    Ok(decode_ahead(front, decoder, ahead))
 }
 
-/// Takes a line that is shown whole, where it is 64 symbols and LF, and puts the 48 bytes that it stands for in `bytes`.
-/// Else it takes nothing and answers false.
-pub(crate) fn take_full<B: BufRead>(
+/// Decodes the first lines that are shown into `ahead`, and answers how many they are. It takes nothing.
+pub(crate) fn show_lines<B: BufRead>(
     reader: &mut B,
     decoder: &Decoder,
-    bytes: &mut [u8; 48],
-) -> Result<bool, Error>
+    ahead: &mut [u8; 768],
+) -> Result<usize, Error>
     ensures asks { Asks B.Read.tells B.Read.steady B.Read.content B.Read.place B.Read.rest B.Read.faults reader.old reader.new result }
     ensures patient { IfErr result (λ e. IsInterruption e → ⊥) }
-    ensures none { IsTrue (B.Read.tells reader.old) → IfOk result (λ is. is ≡ false →
-        (B.Read.rest reader.new ≡ B.Read.rest reader.old) × (B.Read.place reader.new ≡ B.Read.place reader.old)) }
-    ensures full { IsTrue (B.Read.tells reader.old) → IfOk result (λ is. IsTrue is →
-        TakesFull bytes.new (B.Read.rest reader.old) (B.Read.rest reader.new) × (B.Read.place reader.new ≡ B.Read.place reader.old + 65)) }
+    ensures stays { IsTrue (B.Read.tells reader.old) → OnOk result (B.Read.place reader.new ≡ B.Read.place reader.old) }
+    ensures same { IsTrue (B.Read.tells reader.old) → OnOk result (B.Read.rest reader.new ≡ B.Read.rest reader.old) }
+    ensures ahead { IfOk result (λ n. IsAhead ahead.new 0 n (B.shown reader.new)) }
+    ensures size { length ahead.new ≡ 768 }
 {
     for _try in 0..17u8 {
-        let answer = full_once(reader, decoder, bytes);
+        let answer = show_once(reader, decoder, ahead);
         if !is_interruption(&answer) {
             return answer;
         }

@@ -2,7 +2,6 @@
 use Rattle.std.proofs.Common.{◌≡◌, ℕ, ◌+◌, ◌-◌, ◌≤◌, ◌<◌, Bool, true, false, List, [], ◌++◌, length, take, drop, refl, arith, sym, ap, ◌∙◌, length-take-le, length-drop, length-append, append_assoc, inl, inr}
 use Rattle.std.proofs.Math.Seq.{drop-nil}
 use Rattle.std.proofs.lemmas.List.{drop-drop, take-append-drop, drop-append-le, take_at, drop-take, take-take}
-use Rattle.std.proofs.lemmas.Grind.{common_steps}
 use Rattle.age_io.specs.Stretch.{Stretch, from_place, stretch-ext}
 use Rattle.age_io.specs.Reading.{StandsIn, Delivers}
 use Rattle.age_io.specs.Buffering.{held, rest_behind, shown_behind}

@@ -1,6 +1,7 @@
 -- What an interrupted call says.
-use Rattle.std.proofs.Common.{Result, Ok, Err, IfErr, OnErr}
+use Rattle.std.proofs.Common.{◌≡◌, ℕ, ◌<◌, ◌≤◌, Bool, IsTrue, Result, Ok, Err, IfErr, OnErr}
 use Rattle.std.specs.Prelude.{IsErrAnd}
+use Rattle.age_io.specs.Stretch.{Stretch}
 use Rattle.age_error.specs.Refusals.{IsDevice, IsInterruption}
 use Rattle.age_error.specs.declared.io.Error.{Error}
 use Rattle.age_error.specs.declared.io.Error.TheVariants.{Device}
@@ -18,3 +19,14 @@ rose-by (Err e) is rose = rose (interruption-device e is)
 pub refused-by : {A P : Type 0} (r : Result A Error) → IsErrAnd r IsInterruption → OnErr r P → P
 refused-by (Ok x) is h = absurd is
 refused-by (Err e) is h = h
+
+-- a reader after so many calls, each of which was interrupted
+pub record Interrupted {S : Type 0} (tells steady : S → Bool) (content : S → Stretch) (place : S → ℕ) (rest : S → Stretch) (faults : S → ℕ)
+    (old new : S) (calls : ℕ) : Type 0 where
+  pub same_tells : tells new ≡ tells old
+  pub same_steady : steady new ≡ steady old
+  pub no_fewer_faults : faults old ≤ faults new
+  pub rose : 0 < calls → faults old < faults new
+  pub same_content : IsTrue (tells old) → content new ≡ content old
+  pub same_place : IsTrue (tells old) → place new ≡ place old
+  pub same_rest : IsTrue (tells old) → rest new ≡ rest old

@@ -9,3 +9,5 @@ pub mod Buffering
 pub mod Buffered
 pub mod Behind
 pub mod Failing
+pub mod Cursor
+pub mod Replies

@@ -1,7 +1,10 @@
 -- The kind of an error of std, as this port sorts it, and how its errors are counted.
-use Rattle.std.specs.Prelude.{◌≡◌, ℕ, ◌+◌, Result, MatchResult}
+use Rattle.std.specs.Prelude.{◌≡◌, ℕ, ◌+◌, ◌^◌, ◌&&◌, nat_lt, if◌then◌else◌, Option, Some, Result, Ok, Err, MatchResult}
+use Rattle.age_io.specs.Cursor.{sought}
 use Rattle.age_error.specs.Refusals.{IsDevice}
 use Rattle.age_error.specs.declared.io.Error.{Error}
+use Rattle.age_error.specs.declared.io.Error.TheVariants.{TooLong}
+use Rattle.age_error.specs.declared.io.SeekFrom.{SeekFrom}
 use Rattle.std.specs.declared.io.ErrorKind.{ErrorKind as StandardKind}
 use Rattle.std.specs.declared.io.ErrorKind.TheVariants.{NotFound as not_found, PermissionDenied as permission_denied, Interrupted as interrupted, UnexpectedEof as unexpected_eof, WriteZero as write_zero, InvalidData as invalid_data, InvalidInput as invalid_input, OutOfMemory as out_of_memory}
 use Rattle.age_error.specs.declared.io.ErrorKind.{ErrorKind}
@@ -22,3 +25,22 @@ kind_from _ = Other
 -- a refusal is the device's, and is one fault more
 abbrev pub CountsFaults : {T : Type 0} → ℕ → ℕ → Result T Error → Type 0
 CountsFaults old new result = MatchResult result (λ _. new ≡ old) (λ e. IsDevice e × (new ≡ old + 1))
+
+-- a refusal that isn't the device's
+abbrev pub IsNoDevice : Error → Type 0
+IsNoDevice e = IsDevice e → ⊥
+
+-- a fault of the device is one fault more, and nothing else counts as one
+abbrev pub CountsOwnFaults : {T : Type 0} → ℕ → ℕ → Result T Error → Type 0
+CountsOwnFaults old new result = MatchResult result (λ _. new ≡ old)
+    (λ e. (IsDevice e → new ≡ old + 1) × (IsNoDevice e → new ≡ old))
+
+-- what a seek answers in a content whose place and length are below 2^63; another is refused
+abbrev pub sought_below : SeekFrom → ℕ → ℕ → Result ℕ Error
+sought_below to place len = if nat_lt place (2 ^ 63) && nat_lt len (2 ^ 63) then sought to place len else Err TooLong
+
+-- A seek from this place, whose answer should be `wanted`: it is, unless the device fails, and the device stands at
+-- the target, or after a refusal where it stood.
+abbrev pub StandsAfter : Result ℕ Error → ℕ → Option ℕ → Result ℕ Error → Type 0
+StandsAfter wanted place position result = MatchResult result (λ n. (wanted ≡ Ok n) × (position ≡ Some n))
+    (λ e. IsNoDevice e → (wanted ≡ Err e) × (position ≡ Some place))

@@ -1,5 +1,5 @@
 //! A reader with a buffer.
-ghost use Rattle.std.specs.Prelude.{◌≡◌, ℕ, ◌+◌, ◌-◌, ◌≤◌, ◌<◌, ◌&&◌, Bool, true, false, IsTrue, List, length, take, min, Ok, Err, IfOk, IfErr, OnOk, OnErr, IsErrAnd, ◌≢◌};
+ghost use Rattle.std.specs.Prelude.{◌≡◌, ℕ, ◌+◌, ◌-◌, ◌^◌, ◌≤◌, ◌<◌, ◌&&◌, Bool, true, false, IsTrue, List, length, take, min, Ok, Err, Some, IfOk, IfErr, OnOk, OnErr, IsErrAnd, ◌≢◌};
 ghost use Rattle.std.specs.Io.BufRead.{Rests};
 ghost use types.Logic.{sem};
 ghost use denote.Follow.{follows};
@@ -10,13 +10,15 @@ ghost use Rattle.age_io.specs.Stretch.{IsCleanEnd, IsFault, from_place};
 ghost use Rattle.age_io.specs.Reading.{Reads, IsQuiet, Delivers, most_faults};
 ghost use Rattle.age_io.specs.Failing.{FailsForGood};
 ghost use Rattle.age_io.specs.Filling.{IsFront, Fills, Consumes};
+ghost use Rattle.age_io.specs.Cursor.{Seeks, IsRefusal, place_at};
 ghost use Rattle.age_io.specs.Buffering.{held, rest_behind};
 ghost use Rattle.age_io.specs.Behind.{stands_behind, spent_behind};
 
 use crate::bufread::BufRead;
+use crate::seeking::Seek;
 use crate::traits::Read;
-use crate::whole::{read_retrying, room_for};
-use age_error::io::Error;
+use crate::whole::{read_retrying, room_for, seek_retrying};
+use age_error::io::{Error, SeekFrom};
 use std::alloc::Global;
 
 // How many bytes it reads ahead at most.
@@ -225,5 +227,107 @@ impl<R: Read> BufRead for BufReader<R> {
         ensures failed { has_failed self.new ≡ has_failed self.old }
     {
         self.given += amount;
+    }
+}
+
+impl<R: Seek> BufReader<R> {
+    ghost use Rattle.age_io.specs.Buffered.{place_of, rest_of};
+
+    // Lets go of what is held, so that the inner reader stands where this one does.
+    fn put_back(&mut self) -> Result<(), Error>
+        ensures tells { R.tells self.new.inner ≡ R.tells self.old.inner }
+        ensures steady { R.steady self.new.inner ≡ R.steady self.old.inner }
+        ensures faults { R.faults self.old.inner ≤ R.faults self.new.inner }
+        ensures device { IfErr result (λ e. IsDevice e → R.faults self.old.inner < R.faults self.new.inner) }
+        ensures empty { OnOk result (self.new.given ≡ self.new.filled) }
+        ensures same { OnOk result (self.new.failed ≡ self.old.failed) }
+        ensures fails { OnErr result (self.new.failed ≡ true) }
+        ensures other { IfErr result (λ e. IsRefusal e → ⊥) }
+        ensures patient { IfErr result (λ e. IsInterruption e → ⊥) }
+        ensures content { IsTrue (R.tells self.old.inner) → R.content self.new.inner ≡ R.content self.old.inner }
+        ensures place { IsTrue (R.tells self.old.inner) → place_of self.new ≡ place_of self.old }
+        ensures sound { IsTrue (R.tells self.old.inner) → IsTrue (R.steady self.old.inner) → OnOk result
+            (self.old.failed ≡ false → rest_of self.old ≡ from_place (place_of self.old) (R.content self.old.inner) →
+            R.rest self.new.inner ≡ from_place (R.place self.new.inner) (R.content self.new.inner)) }
+        ensures cause { IsTrue (R.tells self.old.inner) → IsTrue (R.content self.old.inner).ends_well →
+            IfErr result (λ e. e ≢ OutOfMemory → IsQuiet (R.faults self.old.inner) (R.faults self.new.inner) → ⊥) }
+    {
+        if self.given == self.filled {
+            return Ok(());
+        }
+        let back = distance_back(self.filled - self.given);
+        match seek_retrying(&mut self.inner, SeekFrom::Current(back)) {
+            Ok(_place) => {
+                self.given = 0;
+                self.filled = 0;
+                Ok(())
+            }
+            Err(e) => {
+                self.failed = true;
+                Err(unrefused(e))
+            }
+        }
+    }
+}
+
+// So many bytes back.
+fn distance_back(count: usize) -> i64
+    requires { count < 2 ^ 63 }
+    ensures { (place : ℕ) → count ≤ place → place_at place result ≡ Some (place - count) }
+{
+    -(count as i64)
+}
+
+// Whether it says that the target is outside the content.
+fn is_refusal(error: Error) -> bool
+    ensures yes { IsTrue result → IsRefusal error }
+    ensures no { result ≡ false → IsRefusal error → ⊥ }
+{
+    match error {
+        Error::BeforeStart | Error::PastEnd => true,
+        _ => false,
+    }
+}
+
+// The error of a seek to bytes that were read: that they are outside the content is an answer of a broken reader alone.
+fn unrefused(error: Error) -> Error
+    ensures other { IsRefusal result → ⊥ }
+    ensures same { (IsRefusal error → ⊥) → result ≡ error }
+    ensures failed { IsRefusal error → result ≡ Failed }
+{
+    if is_refusal(error) {
+        Error::Failed
+    } else {
+        error
+    }
+}
+
+impl<R: Seek> Seek for BufReader<R> {
+    ghost use Rattle.age_io.specs.Buffered.{has_failed};
+
+    /// Moves the inner reader, after it has let go of what is held. An interruption of the inner reader is tried again up
+    /// to 16 times in a row; after that the answer is `Device(Other)`.
+    ///
+    /// A success makes a failed reader good again. A refusal with `BeforeStart` or `PastEnd` leaves it failed or good, as
+    /// it was; any other leaves it failed.
+    fn seek(&mut self, to: SeekFrom) -> Result<u64, Error>
+        ensures seeks { let reader = ⟦<BufReader<R> as Read>⟧ in
+            Seeks reader.tells reader.steady reader.content reader.place reader.rest reader.faults self.old self.new to result }
+        ensures patient { IfErr result (λ e. IsInterruption e → ⊥) }
+        ensures good { OnOk result (has_failed self.new ≡ false) }
+        ensures unmoved { IfErr result (λ e. IsRefusal e → has_failed self.new ≡ has_failed self.old) }
+        ensures fails { IfErr result (λ e. (IsRefusal e → ⊥) → IsTrue (has_failed self.new)) }
+    {
+        self.put_back()?;
+        match seek_retrying(&mut self.inner, to) {
+            Ok(place) => {
+                self.failed = false;
+                Ok(place)
+            }
+            Err(e) => {
+                self.failed = self.failed || !is_refusal(e);
+                Err(e)
+            }
+        }
     }
 }

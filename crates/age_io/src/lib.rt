@@ -3,17 +3,25 @@
 
 mod buffered;
 mod bufread;
+mod laws;
 mod memory;
+mod operations;
+mod seeking;
 mod standard;
+mod targets;
 mod traits;
 mod whole;
 
 pub use buffered::BufReader;
 pub use bufread::BufRead;
+pub use laws::cursor_laws;
 pub use memory::Bytes;
+pub use operations::{Answer, Op, run};
+pub use seeking::Seek;
 pub use standard::Std;
+pub use targets::{place_at, sought};
 pub use traits::{Read, Write};
 pub use whole::{
-    fill, flush_retrying, read_exact, read_retrying, read_to_end, room_for, write_all,
-    write_retrying,
+    fill, flush_retrying, read_exact, read_retrying, read_to_end, room_for, seek_retrying,
+    write_all, write_retrying,
 };

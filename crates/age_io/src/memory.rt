@@ -6,11 +6,15 @@ ghost use Rattle.age_error.specs.Bytes.{AreBytes};
 ghost use Rattle.age_error.specs.declared.io.Error.TheVariants.{OutOfMemory};
 ghost use Rattle.age_io.specs.Stretch.{Stretch, whole, from_place};
 ghost use Rattle.age_io.specs.Reading.{Reads};
+ghost use Rattle.age_io.specs.Cursor;
+ghost use Rattle.age_io.specs.Cursor.{Seeks};
 ghost use Rattle.age_io.specs.Writing.{Writes, Flushes};
 
 use crate::bufread::BufRead;
+use crate::seeking::Seek;
+use crate::targets::sought;
 use crate::traits::{Read, Write};
-use age_error::io::Error;
+use age_error::io::{Error, SeekFrom};
 
 /// Reads a slice of fewer than 2^63 bytes. It never refuses and takes no memory.
 #[derive(Drop)]
@@ -89,6 +93,23 @@ impl<'a> BufRead for Bytes<'a> {
 
     fn consume(&mut self, amount: usize) {
         self.place += amount;
+    }
+}
+
+impl<'a> Seek for Bytes<'a> {
+    ghost use Rattle.age_io.specs.Slices.{bytes_of, place_of};
+
+    /// Moves to a target from 0 to the slice's length. It refuses with `BeforeStart` and `PastEnd` alone, and changes
+    /// nothing then.
+    fn seek(&mut self, to: SeekFrom) -> Result<u64, Error>
+        ensures seeks { let reader = ⟦<Bytes<'a> as Read>⟧ in
+            Seeks reader.tells reader.steady reader.content reader.place reader.rest reader.faults self.old self.new to result }
+        ensures all { result ≡ Cursor.sought to (place_of self.old) (length (bytes_of self.old)) }
+        ensures refuses { OnErr result (self.new ≡ self.old) }
+    {
+        let place = sought(to, self.place as u64, self.bytes.len() as u64)?;
+        self.place = place as usize;
+        Ok(place)
     }
 }
 

@@ -1,16 +1,20 @@
 //! Readers and writers of std as those of this port.
-ghost use Rattle.std.specs.Prelude.{◌≡◌, ℕ, ◌+◌, ◌^◌, ◌<◌, ◌≤◌, false, List, length, Ok, Err, OnOk, IfErr};
+ghost use Rattle.std.specs.Prelude.{◌≡◌, ℕ, ◌+◌, ◌^◌, ◌<◌, ◌≤◌, false, List, length, Some, Ok, Err, OnOk, IfErr};
 ghost use Rattle.std.specs.IoError.{error_kind};
+ghost use Rattle.std.specs.Io.Seek.{SeekMoves};
 ghost use Rattle.std.specs.Io.KnownBytes.{ReadConsumes, WriteAppends, Keeps};
 ghost use Rattle.std.proofs.Common.{arith, le_refl, refl};
 ghost use Rattle.age_error.specs.declared.io.Error.TheVariants.{Failed, Device};
 ghost use Rattle.age_io.specs.Stretch.{Stretch, nothing};
 ghost use Rattle.age_io.specs.Reading.{Reads, most_faults};
+ghost use Rattle.age_io.specs.Cursor.{Seeks};
 ghost use Rattle.age_io.specs.Writing.{Writes, Flushes};
-ghost use Rattle.age_io.specs.Standard.{CountsFaults, kind_from};
+ghost use Rattle.age_io.specs.Standard.{CountsFaults, CountsOwnFaults, IsNoDevice, StandsAfter, sought_below, kind_from};
 
+use crate::seeking::Seek;
+use crate::targets::sought;
 use crate::traits::{Read, Write};
-use age_error::io::{Error, ErrorKind};
+use age_error::io::{Error, ErrorKind, SeekFrom};
 use std::io;
 
 /// A reader or a writer of std. It doesn't tell its bytes, since nobody can know what a device gives.
@@ -119,6 +123,64 @@ impl<T: io::Read> Read for Std<T> {
         match self.inner.read(buf) {
             Ok(count) => Ok(count),
             Err(error) => Err(self.fault(&error)),
+        }
+    }
+}
+
+impl<T: io::Seek> Std<T> {
+    // One seek of the device.
+    fn ask_seek(&mut self, to: io::SeekFrom) -> Result<u64, Error>
+        requires { self.old.faults < most_faults }
+        ensures counts { CountsFaults self.old.faults self.new.faults result }
+        ensures moves { SeekMoves (T.stream_position self.old.inner) (T.stream_position self.new.inner) (T.stream_bytes self.old.inner) to result }
+        ensures bytes { Keeps (T.stream_bytes self.old.inner) (T.stream_bytes self.new.inner) }
+    {
+        match self.inner.seek(to) {
+            Ok(place) => Ok(place),
+            Err(error) => Err(self.fault(&error)),
+        }
+    }
+}
+
+// Where a seek leads from a place in a content of this length. A place or a length of 2^63 or more is `TooLong`.
+fn target_of(to: SeekFrom, place: u64, len: u64) -> Result<u64, Error>
+    ensures sought { result ≡ sought_below to place len }
+    ensures refused { IfErr result IsNoDevice }
+{
+    const MOST: u64 = 0x7fff_ffff_ffff_ffff;
+    if place > MOST || len > MOST {
+        return Err(Error::TooLong);
+    }
+    sought(to, place, len)
+}
+
+impl<T: io::Read + io::Seek> Seek for Std<T> {
+    ghost use Rattle.age_io.specs.StandardFaults.{faults_of, inner_of};
+
+    /// Asks the device for its place and its length, and moves it to a target from 0 to the length.
+    ///
+    /// A target below 0 is `BeforeStart`, one above the length `PastEnd`, and a place or a length of 2^63 or more
+    /// `TooLong`; the device then stands where it stood. Any other refusal is `Device(kind)`, after which the device may
+    /// stand elsewhere, or `Failed` once the faults are used up.
+    fn seek(&mut self, to: SeekFrom) -> Result<u64, Error>
+        ensures seeks { let reader = ⟦<Std<T> as Read>⟧ in
+            Seeks reader.tells reader.steady reader.content reader.place reader.rest reader.faults self.old self.new to result }
+        ensures moves { faults_of self.old < most_faults → (place : ℕ) (bytes : List ℕ) →
+            T.stream_position (inner_of self.old) ≡ Some place → T.stream_bytes (inner_of self.old) ≡ Some bytes →
+            StandsAfter (sought_below to place (length bytes)) place (T.stream_position (inner_of self.new)) result }
+        ensures bytes { Keeps (T.stream_bytes (inner_of self.old)) (T.stream_bytes (inner_of self.new)) }
+        ensures asked { faults_of self.old < most_faults → CountsOwnFaults (faults_of self.old) (faults_of self.new) result }
+        ensures spent { faults_of self.old ≡ most_faults → (result ≡ Err Failed) × (self.new ≡ self.old) }
+    {
+        self.unspent()?;
+        let place = self.ask_seek(io::SeekFrom::Current(0))?;
+        let len = self.ask_seek(io::SeekFrom::End(0))?;
+        match target_of(to, place, len) {
+            Ok(target) => self.ask_seek(io::SeekFrom::Start(target)),
+            Err(error) => {
+                self.ask_seek(io::SeekFrom::Start(place))?;
+                Err(error)
+            }
         }
     }
 }

@@ -4,10 +4,12 @@ ghost use Rattle.age_error.specs.Refusals.{IsDevice, IsInterruption};
 ghost use Rattle.age_error.specs.declared.io.Error.TheVariants.{OutOfMemory, UnexpectedEof};
 ghost use Rattle.age_io.specs.Stretch.{Stretch, IsCleanEnd, IsFault, from_place};
 ghost use Rattle.age_io.specs.Reading.{Reads, IsQuiet, Delivers, StaysOrFails, TookSome, IsShort, Appended, EndsEarly, Gave, most_faults};
+ghost use Rattle.age_io.specs.Cursor.{Seeks};
 ghost use Rattle.age_io.specs.Writing.{Writes, Flushes, WritesAll};
 
+use crate::seeking::Seek;
 use crate::traits::{Read, Write};
-use age_error::io::{Error, ErrorKind};
+use age_error::io::{Error, ErrorKind, SeekFrom};
 use std::alloc::Global;
 
 // Whether the device was interrupted, so that the call may be made again.
@@ -32,6 +34,23 @@ pub fn read_retrying<R: Read>(reader: &mut R, buf: &mut [u8]) -> Result<usize, E
 {
     for _try in 0..17u8 {
         let answer = reader.read(buf);
+        if !is_interruption(&answer) {
+            return answer;
+        }
+    }
+    Err(Error::Device(ErrorKind::Other))
+}
+
+/// One seek that is tried again after an interruption, up to 16 times in a row; after that it answers `Device(Other)`.
+///
+/// Otherwise the answer is the last seek's, and so are its refusals and the reader's state after them. It is never
+/// `Device(Interrupted)`.
+pub fn seek_retrying<R: Seek>(reader: &mut R, to: SeekFrom) -> Result<u64, Error>
+    ensures seeks { Seeks R.tells R.steady R.content R.place R.rest R.faults reader.old reader.new to result }
+    ensures patient { IfErr result (λ e. IsInterruption e → ⊥) }
+{
+    for _try in 0..17u8 {
+        let answer = reader.seek(to);
         if !is_interruption(&answer) {
             return answer;
         }

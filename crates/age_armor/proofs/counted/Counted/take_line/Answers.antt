@@ -1,4 +1,5 @@
 use Rattle.std.proofs.Common.{◌∙◌, arith}
+use Rattle.age_armor.proofs.AheadLines.{ahead_none}
 use Rattle.age_armor.proofs.Taking.{cut_short, quiet_after, taken_none, taken_run}
 use Rattle.age_armor.proofs.counted.Counted.take_line.Goals as goal
 
@@ -23,3 +24,9 @@ returns-in-Ended-clause-line g c = λ told.
     let loop = c.runs.invariant in
     taken_run c.runs.line.items c.take_run-answer.new.line.items (g.R.Read.rest c.args.self.now.inner) (g.R.Read.rest c.runs.self.inner) (g.R.Read.rest c.take_run-answer.new.reader)
     (loop.unended told) (loop.so_far told) (rw c.in-Ended.is at (c.in-Ok.ensures.run (loop.same_tells ∙ told)))
+
+pub invariant_of-self-clause-shows : goal.invariant_of-self-clause-shows
+invariant_of-self-clause-shows g c = ahead_none _ _ _
+
+pub invariant_of-self-in-runs-clause-shows : goal.invariant_of-self-in-runs-clause-shows
+invariant_of-self-in-runs-clause-shows g c = rw c.runs.invariant.none (ahead_none c.runs.self.ahead _ c.runs.self.next)

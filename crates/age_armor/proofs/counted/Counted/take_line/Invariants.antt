@@ -7,6 +7,7 @@ abbrev pub invariant-runs : goal.invariant-runs
 invariant-runs g l =
     let reader = g.R.Read in
     record {
+      none : l.self.left ≡ 0;
       same_tells : reader.tells l.self.inner ≡ reader.tells l.fn.self.inner;
       same_steady : reader.steady l.self.inner ≡ reader.steady l.fn.self.inner;
       no_fewer_faults : reader.faults l.fn.self.inner ≤ reader.faults l.self.inner;

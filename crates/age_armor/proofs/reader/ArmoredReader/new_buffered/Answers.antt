@@ -5,6 +5,7 @@ use Rattle.age_armor.specs.declared.stages.Stage.TheVariants.{Start}
 use Rattle.age_armor.specs.Ahead.{rest_ahead}
 use Rattle.age_armor.specs.DeliveredLaws.{content_of, stands_follows}
 use Rattle.age_armor.proofs.Ahead.{starts, starts_rest, starts_outcome, starts_shown}
+use Rattle.age_armor.proofs.AheadLines.{ahead_none}
 use Rattle.age_armor.proofs.Whole.{rest_carries, carried_rest}
 use Rattle.age_armor.proofs.reader.ArmoredReader.new_buffered.Goals as goal
 
@@ -43,3 +44,6 @@ returns-clause-carries g c = λ told. rw (starts_rest _ (g.R.Read.rest c.args.in
 
 pub returns-clause-honest : goal.returns-clause-honest
 returns-clause-honest g c = λ bytes well carried. starts_rest _ (g.R.Read.rest c.args.inner) ∙ carried_rest (g.R.Read.rest c.args.inner) bytes well carried
+
+pub invariant_of-result-clause-shows : goal.invariant_of-result-clause-shows
+invariant_of-result-clause-shows g c = ahead_none _ _ 0

@@ -1,0 +1,47 @@
+-- Reads along a content.
+use Rattle.std.proofs.Common.{◌≡◌, ℕ, ◌+◌, List, [], ◌++◌, length, take, drop, refl, sym, ◌∙◌, ap, arith, subst, length-append}
+use Rattle.std.proofs.lemmas.List.{drop-drop, take_at, drop_at}
+use lib.Seq.{take-add}
+use Rattle.age_io.specs.Stretch.{Stretch, from_place}
+use Rattle.age_io.specs.Stretch.{stretch-ext}
+use Rattle.age_io.specs.Reading.{Delivers}
+
+-- Reads from a start place have given these bytes, and the reader stands after them.
+pub record Reached (content : Stretch) (start : ℕ) (got : List ℕ) (place : ℕ) (rest : Stretch) : Type 0 where
+  pub given : got ≡ take (length got) (drop start content.bytes)
+  pub moved : place ≡ start + length got
+  pub left : rest ≡ from_place place content
+
+-- a reader on a place of the content delivers what stands there
+pub delivered-at : (content new : Stretch) (place : ℕ) (front : List ℕ) → Delivers front (from_place place content) new →
+    (front ≡ take (length front) (drop place content.bytes)) × (new ≡ from_place (place + length front) content)
+delivered-at content new place front d =
+    let after : drop place content.bytes ≡ front ++ new.bytes = d.bytes in (
+      rw (after, take_at front new.bytes (length front) refl) refl,
+      stretch-ext new (from_place (place + length front) content)
+          (sym (sym (drop-drop (length front) place content.bytes) ∙ ap (drop (length front)) after ∙ drop_at front new.bytes (length front) refl))
+          d.end,
+    )
+
+pub Reached-none : (content rest : Stretch) (start : ℕ) → rest ≡ from_place start content → Reached content start [] start rest
+Reached-none content rest start e = record { given = refl; moved = omega arith; left = e }
+
+joined-of : (a b x y z : List ℕ) → a ≡ x → b ≡ y → z ≡ x ++ y → a ++ b ≡ z
+joined-of a b x y z p q r = cc
+
+pub Reached-more : (content rest new : Stretch) (start place new_place : ℕ) (got more : List ℕ) → Reached content start got place rest →
+    Delivers more rest new → new_place ≡ place + length more → Reached content start (got ++ more) new_place new
+Reached-more content rest new start place new_place got more r d e =
+    let d2 : Delivers more (from_place place content) new = subst (λ s. Delivers more s new) r.left d in
+    let at = delivered-at content new place more d2 in
+    let given : more ≡ take (length more) (drop (start + length got) content.bytes) = rw (← r.moved) at.0 in
+    record {
+      given =
+          let onward : drop (start + length got) content.bytes ≡ drop (length got) (drop start content.bytes) =
+          sym (drop-drop (length got) start content.bytes) in
+          let joined = take-add (length got) (length more) (drop start content.bytes) in
+          let more_given : more ≡ take (length more) (drop (length got) (drop start content.bytes)) = given ∙ ap (take (length more)) onward in
+          rw length-append (joined-of got more _ _ _ r.given more_given joined);
+      moved = rw length-append (omega arith);
+      left = rw e at.1;
+    }

@@ -1,0 +1,25 @@
+use Rattle.std.proofs.Common.{arith, ◌∙◌, ◌≡◌, ◌+◌, ◌++◌, take, length, vec_len}
+use Rattle.std.proofs.lemmas.Grind.{common_steps}
+use Rattle.age_io.proofs.Reaching.{Reached-more}
+use Rattle.age_io.proofs.operations.read_up_to.Goals as goal
+
+pub reads-preserved : goal.reads-preserved
+reads-preserved g c =
+    let got = c.in-Ok.ensures in
+    let grown : c.extend_from_slice.new.self.items ≡ c.reads.got.items ++ take c.in-Ok.more c.read.new.buf = grind (arith, common_steps) in
+    let longer : vec_len c.extend_from_slice.new.self ≡ vec_len c.reads.got + c.in-Ok.more = grind (arith, common_steps) in
+    record {
+      same_tells = cc;
+      same_steady = cc;
+      no_fewer_faults = omega arith;
+      same_content = λ told. got.same_content (c.reads.invariant.same_tells ∙ told) ∙ c.reads.invariant.same_content told;
+      most = grind (arith, common_steps, longer);
+      so_far = λ told whole.
+          let before = c.reads.invariant.same_tells ∙ told in
+          let moved : g.R.Read.place c.read.new.self ≡ g.R.Read.place c.reads.reader + length (take c.in-Ok.more c.read.new.buf) =
+          grind (arith, common_steps, got.moves before) in
+          rw grown (Reached-more (g.R.Read.content c.args.reader.now) (g.R.Read.rest c.reads.reader) (g.R.Read.rest c.read.new.self)
+          (g.R.Read.place c.args.reader.now) (g.R.Read.place c.reads.reader) (g.R.Read.place c.read.new.self)
+          c.reads.got.items (take c.in-Ok.more c.read.new.buf)
+          (c.reads.invariant.so_far told whole) (got.bytes before) moved);
+    }

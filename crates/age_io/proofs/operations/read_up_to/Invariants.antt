@@ -1,0 +1,21 @@
+use Rattle.std.proofs.Common.{◌≡◌, ◌≤◌, ◌-◌, IsTrue, vec_len}
+use Rattle.age_io.specs.Stretch.{from_place}
+use Rattle.age_io.proofs.Reaching.{Reached}
+use Rattle.age_io.proofs.operations.read_up_to.Given as goal
+
+abbrev pub invariant-reads : goal.invariant-reads
+invariant-reads g l =
+    let reader = g.R.Read in
+    record {
+      same_tells : reader.tells l.reader ≡ reader.tells l.fn.reader;
+      same_steady : reader.steady l.reader ≡ reader.steady l.fn.reader;
+      no_fewer_faults : reader.faults l.fn.reader ≤ reader.faults l.reader;
+      same_content : IsTrue (reader.tells l.fn.reader) → reader.content l.reader ≡ reader.content l.fn.reader;
+      most : vec_len l.got ≤ l.count;
+      so_far : IsTrue (reader.tells l.fn.reader) →
+          reader.rest l.fn.reader ≡ from_place (reader.place l.fn.reader) (reader.content l.fn.reader) →
+          Reached (reader.content l.fn.reader) (reader.place l.fn.reader) l.got.items (reader.place l.reader) (reader.rest l.reader);
+    }
+
+abbrev pub decreases-reads : goal.decreases-reads
+decreases-reads g l = l.count - vec_len l.got

@@ -1,0 +1,22 @@
+use Rattle.std.proofs.Common.{◌≡◌, ◌≤◌, IsTrue, vec_len, All, drop}
+use Rattle.age_io.specs.Stretch.{from_place}
+use Rattle.age_io.specs.Reading.{IsQuiet}
+use Rattle.age_io.specs.Replies.{IsNoWant, IsDeviceFault}
+use Rattle.age_io.proofs.Replying.{Answered}
+use Rattle.age_io.proofs.operations.run.Given as goal
+
+abbrev pub invariant-loop-op : goal.invariant-loop-op
+invariant-loop-op g l =
+    let reader = g.R.Read in
+    record {
+      same_tells : reader.tells l.reader ≡ reader.tells l.fn.reader;
+      same_steady : reader.steady l.reader ≡ reader.steady l.fn.reader;
+      no_fewer_faults : reader.faults l.fn.reader ≤ reader.faults l.reader;
+      same_content : IsTrue (reader.tells l.fn.reader) → reader.content l.reader ≡ reader.content l.fn.reader;
+      so_many : vec_len l.answers ≡ l.op-index;
+      no_device : reader.faults l.reader ≡ reader.faults l.fn.reader → All (λ a. IsDeviceFault a → ⊥) l.answers.items;
+      told : IsTrue (reader.tells l.fn.reader) → IsTrue (reader.content l.fn.reader).ends_well →
+          reader.rest l.fn.reader ≡ from_place (reader.place l.fn.reader) (reader.content l.fn.reader) →
+          IsQuiet (reader.faults l.fn.reader) (reader.faults l.reader) → All IsNoWant l.answers.items →
+          Answered l.ops (drop l.op-index l.ops) (reader.content l.fn.reader) (reader.place l.fn.reader) l.answers.items (reader.place l.reader) (reader.rest l.reader);
+    }

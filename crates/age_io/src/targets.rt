@@ -1,0 +1,37 @@
+//! Where seeks lead.
+ghost use Rattle.std.specs.Prelude.{◌≡◌, ◌^◌, ◌<◌};
+ghost use Rattle.age_io.specs.Cursor;
+
+use age_error::io::{Error, SeekFrom};
+
+/// Where a seek leads from a place in a content of `len` bytes: to a target from 0 to `len`.
+///
+/// A target below 0 is `BeforeStart`, one above `len` is `PastEnd`.
+pub fn sought(to: SeekFrom, place: u64, len: u64) -> Result<u64, Error>
+    requires place { place < 2 ^ 63 }
+    requires len { len < 2 ^ 63 }
+    ensures { result ≡ Cursor.sought to place len }
+{
+    let target = match to {
+        SeekFrom::Start(target) => target,
+        SeekFrom::End(distance) => place_at(len, distance).ok_or(Error::BeforeStart)?,
+        SeekFrom::Current(distance) => place_at(place, distance).ok_or(Error::BeforeStart)?,
+    };
+    if target <= len {
+        Ok(target)
+    } else {
+        Err(Error::PastEnd)
+    }
+}
+
+/// The place at this distance from another, or `None` where it is below 0.
+pub fn place_at(base: u64, distance: i64) -> Option<u64>
+    requires { base < 2 ^ 63 }
+    ensures { result ≡ Cursor.place_at base distance }
+{
+    if distance < 0 {
+        base.checked_sub(distance.unsigned_abs())
+    } else {
+        Some(base + distance as u64)
+    }
+}
