@@ -20,6 +20,13 @@ pub fn plaintext(alloc: Global, length: usize) -> Result<Vec<u8>, AllocError> {
     Ok(plain)
 }
 
+/// The bytes from one place to another, as far as they are there.
+pub fn part(bytes: &[u8], from: usize, to: usize) -> &[u8] {
+    let end = to.min(bytes.len());
+    let start = from.min(end);
+    &bytes[start..end]
+}
+
 /// The first 8 bytes of the HMAC of some bytes under an empty key.
 pub fn digest(bytes: &[u8]) -> u64 {
     let [a, b, c, d, e, f, g, h, ..] = hmac(&[], bytes);

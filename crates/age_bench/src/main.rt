@@ -23,6 +23,8 @@ mod file_tests;
 mod fixtures;
 #[cfg(test)]
 mod header_tests;
+#[cfg(test)]
+mod io_seek_tests;
 mod laws;
 #[cfg(test)]
 mod long_error_texts;
@@ -35,12 +37,16 @@ mod refusal_tests;
 #[cfg(test)]
 mod scripted;
 #[cfg(test)]
+mod seek_tests;
+#[cfg(test)]
 mod standard_tests;
 #[cfg(test)]
 mod stream_tests;
 mod suite;
 #[cfg(test)]
 mod tests;
+#[cfg(test)]
+mod vast_tests;
 #[cfg(test)]
 mod whole_file_tests;
 

@@ -27,7 +27,7 @@ const ROOM: usize = 8_192;
 /// Reads ahead from an inner reader, and shows what it holds.
 ///
 /// Its content is that of the inner reader, and it begins where the inner reader stood when it was made. Once a read
-/// of the inner reader has refused, this reader has failed and answers `Failed` to every read.
+/// of the inner reader has refused, this reader has failed and answers `Failed` to every read, until a seek succeeds.
 #[derive(Drop)]
 pub struct BufReader<R: Read> {
     inner: R,

@@ -9,7 +9,7 @@ use Rattle.age_error.specs.declared.io.Error.{Error}
 use Rattle.age_error.specs.declared.io.Error.TheVariants.{Truncated, BadChunk, AfterLast, LastChunkEmpty, TooLong}
 use Rattle.age_io.specs.Stretch.{Stretch, whole, from_place, stretch-ext}
 use Rattle.age_suite.specs.Suite.{IsCipher}
-use Rattle.age_stream.specs.Payload.{Seal, nonce, cut, chunk, HeldAsMiddle, HeldAsLast}
+use Rattle.age_stream.specs.Payload.{Seal, nonce, cut, chunk, final_chunk, EndsAsLast, HeldAsMiddle, HeldAsLast}
 use Rattle.age_stream.specs.Opening.{nonce-bytes}
 use Rattle.age_stream.specs.Chunks.{Chunk, is_empty, allowed, allowed_if, opened_as, chunk_of}
 use Rattle.age_stream.specs.WellLaws.{Accepted, accepted}
@@ -107,6 +107,14 @@ module _ (opened : List ℕ → List ℕ → List ℕ → Option (List ℕ)) (ke
 
   pub judged_by : (number : ℕ) (text : List ℕ) → 0 < length text → ByMiddle number text ⊎ ByLast number text
   judged_by number text some = judged-with number text some (opened key (nonce number false) text) refl
+
+  -- a short chunk that opens as the last, and isn't refused by itself, is accepted
+  pub judged-short : (number : ℕ) (text plain : List ℕ) → length text < 65552 → 0 < length text → (0 < number → 0 < length plain) → number < 2 ^ 44 →
+      opened key (nonce number true) text ≡ Some plain → chunk_of opened key number text ≡ Ok (plain, true)
+  judged-short number text plain less some byte few is = elim (judged_by number text some) [
+    | inl middle ↦ absurd (omega (arith, less, middle.1))
+    | inr by ↦ by.1 ∙ rw is (allowed-ok number plain true (record { some = byte; limit = λ _. few }))
+  ]
 
   chunk_of-none : (number : ℕ) → chunk_of opened key number [] ≡ Err Truncated
   unfolding chunk_of
@@ -235,3 +243,13 @@ module _ (seal_of : Seal) (opened : List ℕ → List ℕ → List ℕ → Optio
         | inl middle ↦ absurd (held.not_middle middle.0 (middle-held number middle.0 middle.1 middle.2))
         | inr by ↦ by.1 ∙ rw opens (allowed-ok number plain true allowed_so)
       ]
+
+  -- what opens as the last at the end is the last chunk
+  pub ends_last : (number : ℕ) (plain : List ℕ) → number ≡ final_chunk (length sealed) → opened key (nonce number true) (text_of number) ≡ Some plain → EndsAsLast seal_of key sealed
+  ends_last number plain is opens =
+      let both = (law.opens_exactly key (nonce number true) (chunk number sealed) plain k (nonce-bytes number true) (chunk-bytes number sealed b)).0 (opens_chunk number true (Some plain) opens) in
+      record { plain = plain; bytes = both.0; is_seal = rw (← is) both.1 }
+
+  -- what doesn't open as the last at the end isn't the seal of any bytes as the last
+  pub ends_badly : opened key (nonce (final_chunk (length sealed)) true) (text_of (final_chunk (length sealed))) ≡ None → EndsAsLast seal_of key sealed → ⊥
+  ends_badly none ends = cc (none, opens_held (final_chunk (length sealed)) true ends.plain ends.bytes ends.is_seal)

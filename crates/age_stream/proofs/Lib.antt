@@ -8,3 +8,10 @@ pub mod Opened
 pub mod Holding
 pub mod Answered
 pub mod Shortened
+pub mod Lengths
+pub mod Inner
+pub mod Last
+pub mod Moving
+pub mod Sound
+pub mod Ending
+pub mod Standing

@@ -12,3 +12,4 @@ pub mod ReadingLaws
 pub mod Reader
 pub mod Writing
 pub mod WritingLaws
+pub mod Targets

@@ -73,6 +73,16 @@ pub record IsBad (seal_of : Seal) (key sealed : List ℕ) (i : ℕ) : Type 0 whe
   pub not_middle : (other : List ℕ) → HeldAsMiddle seal_of key sealed i other → ⊥
   pub not_last : (other : List ℕ) → HeldAsLast seal_of key sealed i other → ⊥
 
+-- the number of the last chunk of a payload of n bytes
+abbrev pub final_chunk : ℕ → ℕ
+final_chunk n = (n - 1) / 65552
+
+-- the last chunk of a payload is the seal of some bytes under its nonce as the last chunk
+pub record EndsAsLast (seal_of : Seal) (key sealed : List ℕ) : Type 0 where
+  pub plain : List ℕ
+  pub bytes : AreBytes plain
+  pub is_seal : let last = final_chunk (length sealed) in chunk last sealed ≡ seal_of key (nonce last true) plain
+
 -- where the last piece of a plaintext is full, its seal as the last isn't a seal as a middle one too
 unfoldable pub LastIsNoMiddle : Seal → List ℕ → List ℕ → Type 0
 LastIsNoMiddle seal_of key plain =
@@ -85,6 +95,6 @@ LastIsNoMiddle seal_of key plain =
 -- standard: the final chunk isn't empty unless the whole payload is
 unfoldable pub plain_len : ℕ → Option ℕ
 plain_len n =
-    let last = (n - 1) / 65552 in
+    let last = final_chunk n in
     let rest = n - 65552 * last in
     if nat_le 16 rest && (nat_eq last 0 || nat_lt 16 rest) then Some (n - 16 * (last + 1)) else None

@@ -4,6 +4,7 @@ use Rattle.age_suite.specs.declared.suite.Suite.{Ghosts as SuiteGhosts}
 use Rattle.age_io.specs.declared.traits.Read.{Ghosts}
 use Rattle.age_io.specs.Stretch.{Stretch}
 use Rattle.age_stream.specs.declared.reader.StreamReader.{StreamReader}
+use Rattle.age_stream.specs.Payload.{final_chunk}
 use Rattle.age_stream.specs.Chunks.{delivered}
 use Rattle.age_stream.specs.Reading.{payload_at, rest_of}
 
@@ -28,9 +29,21 @@ module _ {S R : Type 0} {suite : SuiteGhosts S} {read : Ghosts R} where
   abbrev pub HasFailed : StreamReader S R suite read → Type 0
   HasFailed r = r.failed ≡ true
 
+  -- a seek was made that didn't end at its first test
+  abbrev pub HasSought : StreamReader S R suite read → Type 0
+  HasSought r = r.sought ≡ true
+
   -- it holds a byte of the chunk at the place
   abbrev pub IsHolding : StreamReader S R suite read → Type 0
   IsHolding r = (r.held ≡ true) × (r.at < length r.chunk.items)
+
+  -- it has come through a chunk that it holds as the last
+  abbrev pub IsAfterLast : StreamReader S R suite read → Type 0
+  IsAfterLast r = (r.held ≡ true) × (r.last ≡ true) × (r.at ≡ length r.chunk.items)
+
+  -- it holds the payload's last chunk as the last
+  abbrev pub HoldsEnd : StreamReader S R suite read → Type 0
+  HoldsEnd r = (r.held ≡ true) × (r.last ≡ true) × (r.number ≡ final_chunk (length (payload_of r).bytes))
 
   -- how often it opened a chunk
   abbrev pub opens_of : StreamReader S R suite read → ℕ

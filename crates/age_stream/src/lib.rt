@@ -3,7 +3,9 @@
 
 pub mod laws;
 pub mod nonce;
+mod random;
 pub mod reader;
+mod seeking;
 pub mod whole;
 pub mod writer;
 mod writing;

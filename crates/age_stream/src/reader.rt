@@ -7,9 +7,9 @@ ghost use Rattle.age_error.specs.declared.io.Error.TheVariants.{OutOfMemory, Fai
 ghost use Rattle.age_io.specs.Stretch.{Stretch, nothing, whole, from_place, IsCleanEnd, IsFault};
 ghost use Rattle.age_io.specs.Reading.{Reads, IsQuiet, Delivers, most_faults};
 ghost use Rattle.age_stream.specs.Payload.{nonce, payload, LastIsNoMiddle};
-ghost use Rattle.age_stream.specs.Answering.{Gives, Refuses, IsEnd};
+ghost use Rattle.age_stream.specs.Answering.{Gives, Refuses, RefusesItself, IsEnd, IsGoodEnd};
 ghost use Rattle.age_stream.specs.Chunks.{allowed, chunk_of, delivered};
-ghost use Rattle.age_stream.specs.Reading.{payload_at, IsSound};
+ghost use Rattle.age_stream.specs.Reading.{payload_at, spare, IsSound};
 ghost use Rattle.age_suite.specs.Suite.{one_more};
 ghost use Rattle.age_stream.specs.ReadingLaws.{and-left, and-right, both-true, stream_stands, stream_spent};
 ghost use Rattle.age_stream.specs.Opening.{shorter, opens_bytes};
@@ -32,30 +32,32 @@ pub const MOST_CHUNKS: u64 = 1 << 44;
 ///
 /// The payload is that of age-encryption.org/v1, "Payload": the plaintext in chunks of 65,536 bytes, each sealed under
 /// the payload key and a nonce that counts the chunks and says of the last one that it is (STREAM). A sealed chunk has
-/// 16 bytes more. Each chunk is opened whole before a byte of it is given, and one is held at a time.
+/// 16 bytes more. Each chunk is opened whole before a byte of it is given, and one is held at a time. It seeks where the
+/// inner reader does.
 pub struct StreamReader<S: Suite, R: Read> {
-    alloc: Global,
-    key: [u8; 32],
-    inner: R,
+    pub(crate) alloc: Global,
+    pub(crate) key: [u8; 32],
+    pub(crate) inner: R,
     // Room for one sealed chunk.
-    sealed: Vec<u8>,
+    pub(crate) sealed: Vec<u8>,
     // The place is `at` in this chunk of the plaintext.
-    number: u64,
-    at: usize,
+    pub(crate) number: u64,
+    pub(crate) at: usize,
     // Whether the plaintext of that chunk is held, and whether it is held as the last.
-    held: bool,
-    chunk: Vec<u8>,
-    last: bool,
+    pub(crate) held: bool,
+    pub(crate) chunk: Vec<u8>,
+    pub(crate) last: bool,
     // How many bytes were taken from the inner reader.
-    taken: u64,
-    failed: bool,
-    opens: Opens,
-    suite: PhantomData<S>,
+    pub(crate) taken: u64,
+    pub(crate) failed: bool,
+    // Whether a seek was made.
+    pub(crate) sought: bool,
+    pub(crate) opens: Opens,
+    pub(crate) suite: PhantomData<S>,
     ghost key_bytes: { AreBytesOf 32 key },
     ghost room: { length sealed.items ≡ 65552 },
     ghost offset: { at ≤ 65536 },
     ghost limit: { number ≤ 2 ^ 44 },
-    ghost start: { held ≡ false → at ≡ 0 },
     ghost in_chunk: { held ≡ true → at ≤ length chunk.items },
     ghost small: { held ≡ true → length chunk.items ≤ 65536 },
     ghost more: { held ≡ true → number < 2 ^ 44 },
@@ -63,11 +65,11 @@ pub struct StreamReader<S: Suite, R: Read> {
     ghost count_fits: { opens < 2 ^ 64 },
     ghost unspent: { failed ≡ false → held ≡ true → R.faults inner < most_faults },
     ghost sound: { IsTrue (R.tells inner && R.steady inner) →
-        IsSound S.opened key failed held at chunk.items last number taken (R.place inner) (R.content inner) (R.rest inner) },
+        IsSound S.opened key failed held at chunk.items last sought number taken (R.place inner) (R.content inner) (R.rest inner) },
 }
 
 impl<S: Suite, R: Read> Read for StreamReader<S, R> {
-    ghost use Rattle.age_stream.specs.Reader.{payload_of, key_of, inner_rest_of, wanted_of, HasFailed, IsHolding, opens_of};
+    ghost use Rattle.age_stream.specs.Reader.{payload_of, key_of, inner_rest_of, wanted_of, HasFailed, HasSought, IsHolding, IsAfterLast, opens_of};
     ghost use Rattle.age_stream.specs.Reader.{tells_of, steady_of, content_of, place_of, plain_rest_of, faults_of};
 
     ghost tells = { tells_of };
@@ -91,8 +93,8 @@ impl<S: Suite, R: Read> Read for StreamReader<S, R> {
     ghost well = { λ r told well. both-true _ _ told well };
 
     ghost stands = { λ r told steady. stream_stands S.opened r.key (shorter S.seal_of S.opened S.cipher r.key r.key_bytes)
-        r.failed r.held r.at r.chunk.items r.last r.number r.taken (R.place r.inner) (R.content r.inner) (R.rest r.inner)
-        (R.are_bytes r.inner (and-left _ _ told)) r.offset r.in_chunk r.start (r.sound told)
+        r.failed r.held r.at r.chunk.items r.last r.sought r.number r.taken (R.place r.inner) (R.content r.inner) (R.rest r.inner)
+        (R.are_bytes r.inner (and-left _ _ told)) r.offset r.in_chunk (r.sound told)
         (R.stands r.inner (and-left _ _ told) (and-right _ _ told)) (and-right _ _ steady) };
 
     ghost are_bytes = { λ r told. delivered-bytes S.opened r.key (shorter S.seal_of S.opened S.cipher r.key r.key_bytes)
@@ -108,22 +110,25 @@ impl<S: Suite, R: Read> Read for StreamReader<S, R> {
     /// Puts the next bytes of the plaintext in front of `buf`, and answers how many they are: the smaller of the buffer
     /// and what is left of the chunk at the place.
     ///
-    /// An empty buffer changes nothing, and the answer is 0. Else 0 is the end: the payload was that of exactly the
-    /// plaintext that stands before the place. Where no byte is held the next chunk is read and opened, a full one as
-    /// a middle chunk and then as the last, a shorter one, after which the inner reader ends well, only as the last.
-    /// So a read opens a chunk at most twice. A refusal is
+    /// An empty buffer changes nothing, and the answer is 0. Else 0 is the end: the place is the plaintext's length, as
+    /// the payload's own length gives it, and the last chunk is one. Where no seek was made, the payload was then that of
+    /// exactly the plaintext. Where no byte is held the chunk at the place is read and opened, a full one as a middle
+    /// chunk and then as the last, a shorter one, after which the inner reader ends well, only as the last. So a read
+    /// opens a chunk at most twice. It seeks nothing. A refusal is
     ///
-    /// - `Truncated`: no byte is left, and no chunk was the last.
+    /// - `Truncated`: no byte is left, and no chunk was the last; or fewer than a seek found, which an inner reader that
+    ///   tells its bytes never has.
     /// - `BadChunk`: the chunk opens neither as a middle one nor as the last.
     /// - `LastChunkEmpty`: the last chunk is empty, and isn't the only one.
     /// - `TooLong`: the chunk holds a byte of the plaintext at place 2^60 or later.
-    /// - `AfterLast`: bytes follow the last chunk, which was given whole before.
+    /// - `AfterLast`: bytes follow a chunk that opened as the last, and that reads came through to its end since the last
+    ///   seek that succeeded. Right after a seek the chunk at the place is judged by itself.
     /// - that of the inner reader, where it refuses before a chunk is whole, or in place of its end after the last
     ///   chunk. Its interruptions are retried as by `fill`.
     /// - `OutOfMemory`: the suite was refused memory for the plaintext of a chunk. Nothing is said of the payload.
     /// - `Failed`: it refused before.
     ///
-    /// After a refusal the reader has failed, and stays so. The place and `buf` are as they were.
+    /// After a refusal the reader has failed, and stays so until a seek succeeds. The place and `buf` are as they were.
     #[tactic(auto, using(crate::proofs::Holding::rest_failed, crate::proofs::Holding::fault_failed))]
     fn read(&mut self, buf: &mut [u8]) -> Result<usize, Error>
         ensures reads { let reader = ⟦<StreamReader<S, R> as Read>⟧ in
@@ -132,14 +137,22 @@ impl<S: Suite, R: Read> Read for StreamReader<S, R> {
         ensures payload { IsTrue (⟦<StreamReader<S, R> as Read>⟧.tells self.old) → payload_of self.new ≡ payload_of self.old }
         ensures key { key_of self.new ≡ key_of self.old }
 
-        // What it gives, which refusal it is, and what the payload was where it finds the end.
+        // What it gives, which refusal it is, and what the payload was where it finds the end. Only a reader that came
+        // through a chunk that it holds as the last looks at the bytes after it: right after a seek the chunk at the place
+        // is judged by itself.
         ensures gives { let reader = ⟦<StreamReader<S, R> as Read>⟧ in IsTrue (reader.tells self.old) → IfOk result (λ n. 0 < n →
             Gives S.seal_of (key_of self.old) (payload_of self.old) (reader.place self.old) (length buf.old) (take n buf.new)) }
         ensures refused { let reader = ⟦<StreamReader<S, R> as Read>⟧ in IsTrue (reader.tells self.old) → (HasFailed self.old → ⊥) →
             IfErr result (λ e. e ≢ OutOfMemory → IsQuiet (reader.faults self.old) (reader.faults self.new) →
             Refuses S.seal_of (key_of self.old) (payload_of self.old) (inner_rest_of self.old) (wanted_of self.old) (reader.place self.old) e) }
-        ensures finished { let reader = ⟦<StreamReader<S, R> as Read>⟧ in IsTrue (reader.tells self.old) → IfOk result (λ n. n ≡ 0 → 0 < length buf.new →
+        ensures by_itself { let reader = ⟦<StreamReader<S, R> as Read>⟧ in IsTrue (reader.tells self.old) → (HasFailed self.old → ⊥) → (IsAfterLast self.old → ⊥) →
+            IfErr result (λ e. e ≢ OutOfMemory → IsQuiet (reader.faults self.old) (reader.faults self.new) →
+            RefusesItself S.seal_of (key_of self.old) (payload_of self.old) (inner_rest_of self.old) (wanted_of self.old) (reader.place self.old) e) }
+        ensures finished { let reader = ⟦<StreamReader<S, R> as Read>⟧ in IsTrue (reader.tells self.old) → (HasSought self.old → IsTrue (reader.content self.old).ends_well) →
+            IfOk result (λ n. n ≡ 0 → 0 < length buf.new →
             IsEnd S.seal_of (key_of self.old) (payload_of self.old) (reader.place self.old) (reader.content self.old).bytes) }
+        ensures ended { let reader = ⟦<StreamReader<S, R> as Read>⟧ in IsTrue (reader.tells self.old) → IfOk result (λ n. n ≡ 0 → 0 < length buf.new →
+            IsGoodEnd S.seal_of (key_of self.old) (payload_of self.old) (reader.place self.old)) }
 
         // Of the buffer nothing else changes.
         ensures beyond { IfOk result (λ n. drop n buf.new ≡ drop n buf.old) }
@@ -152,6 +165,7 @@ impl<S: Suite, R: Read> Read for StreamReader<S, R> {
         ensures empty { (HasFailed self.old → ⊥) → length buf.old ≡ 0 → (result ≡ Ok 0) × (self.new ≡ self.old) }
         ensures inner_end { IsTrue (⟦<StreamReader<S, R> as Read>⟧.tells self.old) → OnOk result
             ((inner_rest_of self.new).ends_well ≡ (inner_rest_of self.old).ends_well) }
+        ensures sought { HasSought self.new → HasSought self.old }
         ensures counts { opens_of self.old ≤ opens_of self.new }
         ensures opens { opens_of self.new ≤ opens_of self.old + 2 }
         ensures held { IsHolding self.old → opens_of self.new ≡ opens_of self.old }
@@ -168,7 +182,7 @@ impl<S: Suite, R: Read> Read for StreamReader<S, R> {
 }
 
 impl<S: Suite, R: Read> StreamReader<S, R> {
-    ghost use Rattle.age_stream.specs.Reader.{payload_of, key_of, inner_rest_of, wanted_of, HasFailed, IsHolding, opens_of};
+    ghost use Rattle.age_stream.specs.Reader.{payload_of, key_of, inner_rest_of, wanted_of, HasFailed, HasSought, IsHolding, IsAfterLast, opens_of};
 
     /// A reader of the payload that begins where `inner` stands, under the payload key of 32 bytes. It stands before the
     /// first byte of the plaintext.
@@ -181,6 +195,7 @@ impl<S: Suite, R: Read> StreamReader<S, R> {
         R: Drop,
         ensures good { IfOk result (λ r. HasFailed r → ⊥) }
         ensures opens { IfOk result (λ r. opens_of r ≡ 0) }
+        ensures unsought { IfOk result (λ r. HasSought r → ⊥) }
         ensures key { IfOk result (λ r. key_of r ≡ key) }
         ensures payload { IfOk result (λ r. payload_of r ≡ from_place (R.place inner) (R.content inner)) }
         ensures inner_rest { IfOk result (λ r. inner_rest_of r ≡ R.rest inner) }
@@ -212,6 +227,7 @@ impl<S: Suite, R: Read> StreamReader<S, R> {
             last: false,
             taken: 0,
             failed: false,
+            sought: false,
             opens: Opens::new(),
             suite: PhantomData,
         })
@@ -226,7 +242,7 @@ impl<S: Suite, R: Read> StreamReader<S, R> {
 
     // A read of a good reader into a buffer that isn't empty.
     #[tactic(auto, using(crate::proofs::Holding::rest_failed, crate::proofs::Holding::fault_failed))]
-    fn read_on(&mut self, buf: &mut [u8]) -> Result<usize, Error>
+    pub(crate) fn read_on(&mut self, buf: &mut [u8]) -> Result<usize, Error>
         requires good { self.old.failed ≡ false }
         requires some { 0 < length buf.old }
         ensures reads { let reader = ⟦<StreamReader<S, R> as Read>⟧ in
@@ -239,6 +255,12 @@ impl<S: Suite, R: Read> StreamReader<S, R> {
         ensures refused { let reader = ⟦<StreamReader<S, R> as Read>⟧ in IsTrue (reader.tells self.old) → IfErr result (λ e. e ≢ OutOfMemory →
             IsQuiet (R.faults self.old.inner) (R.faults self.new.inner) →
             Refuses S.seal_of self.old.key (payload_of self.old) (R.rest self.old.inner) (wanted_of self.old) (reader.place self.old) e) }
+        ensures by_itself { let reader = ⟦<StreamReader<S, R> as Read>⟧ in IsTrue (reader.tells self.old) → (IsAfterLast self.old → ⊥) →
+            IfErr result (λ e. e ≢ OutOfMemory → IsQuiet (R.faults self.old.inner) (R.faults self.new.inner) →
+            RefusesItself S.seal_of self.old.key (payload_of self.old) (R.rest self.old.inner) (wanted_of self.old) (reader.place self.old) e) }
+        ensures ended { let reader = ⟦<StreamReader<S, R> as Read>⟧ in IsTrue (reader.tells self.old) → IfOk result (λ n. n ≡ 0 →
+            IsGoodEnd S.seal_of self.old.key (payload_of self.old) (reader.place self.old)) }
+        ensures sought { self.new.sought ≡ self.old.sought }
         ensures beyond { IfOk result (λ n. drop n buf.new ≡ drop n buf.old) }
         ensures untouched { OnErr result (buf.new ≡ buf.old) }
         ensures fails { OnErr result (self.new.failed ≡ true) }
@@ -249,17 +271,62 @@ impl<S: Suite, R: Read> StreamReader<S, R> {
         ensures opens { self.new.opens ≤ self.old.opens + 2 }
         ensures held { IsHolding self.old → self.new.opens ≡ self.old.opens }
         ensures opened { (IsHolding self.old → ⊥) → IfOk result (λ n. 0 < n → one_more self.old.opens ≤ self.new.opens) }
+        ensures placed { IfOk result (λ n. 65536 * self.new.number + self.new.at ≡ 65536 * self.old.number + self.old.at + n) }
+        ensures stayed { OnErr result (65536 * self.new.number + self.new.at ≡ 65536 * self.old.number + self.old.at) }
+        ensures spared { OnOk result (self.new.opens + spare self.new.held self.new.last + self.old.number
+            ≤ self.old.opens + spare self.old.held self.old.last + self.new.number) }
+        ensures spent { self.new.opens + self.old.number ≤ self.old.opens + spare self.old.held self.old.last + self.new.number }
     {
         if self.held && self.last && self.at == self.chunk.len() {
             return self.end();
         }
-        self.pass();
-        if !self.held {
-            if let Err(e) = self.open() {
-                return Err(e);
-            }
+        match self.hold() {
+            Err(e) => Err(e),
+            Ok(()) => Ok(self.give(buf)),
         }
-        Ok(self.give(buf))
+    }
+
+    // Holds a byte of the chunk at the place, or the last chunk, which is empty.
+    fn hold(&mut self) -> Result<(), Error>
+        requires good { self.old.failed ≡ false }
+        requires more { self.old.held ≡ true → self.old.last ≡ true → self.old.at < length self.old.chunk.items }
+        ensures tells { R.tells self.new.inner ≡ R.tells self.old.inner }
+        ensures steady { R.steady self.new.inner ≡ R.steady self.old.inner }
+        ensures faults { R.faults self.old.inner ≤ R.faults self.new.inner }
+        ensures device { IfErr result (λ e. IsDevice e → R.faults self.old.inner < R.faults self.new.inner) }
+        ensures patient { IfErr result (λ e. IsInterruption e → ⊥) }
+        ensures key { self.new.key ≡ self.old.key }
+        ensures sought { self.new.sought ≡ self.old.sought }
+        ensures payload { IsTrue (⟦<StreamReader<S, R> as Read>⟧.tells self.old) → payload_of self.new ≡ payload_of self.old }
+        ensures place { ⟦<StreamReader<S, R> as Read>⟧.place self.new ≡ ⟦<StreamReader<S, R> as Read>⟧.place self.old }
+        ensures good { OnOk result ((self.new.failed ≡ false) × (self.new.held ≡ true)) }
+        ensures rest { let reader = ⟦<StreamReader<S, R> as Read>⟧ in IsTrue (reader.tells self.old) → OnOk result
+            (reader.rest self.new ≡ reader.rest self.old) }
+        ensures end { let reader = ⟦<StreamReader<S, R> as Read>⟧ in IsTrue (reader.tells self.old) → OnOk result
+            (self.new.at ≡ length self.new.chunk.items → IsCleanEnd (reader.rest self.old)) }
+        ensures ended { let reader = ⟦<StreamReader<S, R> as Read>⟧ in IsTrue (reader.tells self.old) → OnOk result
+            (self.new.at ≡ length self.new.chunk.items → IsGoodEnd S.seal_of self.old.key (payload_of self.old) (reader.place self.old)) }
+        ensures fails { OnErr result (self.new.failed ≡ true) }
+        ensures cause { let reader = ⟦<StreamReader<S, R> as Read>⟧ in IsTrue (reader.tells self.old) → IfErr result (λ e. e ≢ OutOfMemory →
+            IsQuiet (R.faults self.old.inner) (R.faults self.new.inner) → IsFault (reader.rest self.old)) }
+        ensures refused { let reader = ⟦<StreamReader<S, R> as Read>⟧ in IsTrue (reader.tells self.old) → IfErr result (λ e. e ≢ OutOfMemory →
+            IsQuiet (R.faults self.old.inner) (R.faults self.new.inner) →
+            RefusesItself S.seal_of self.old.key (payload_of self.old) (R.rest self.old.inner) (wanted_of self.old) (reader.place self.old) e) }
+        ensures inner_end { IsTrue (⟦<StreamReader<S, R> as Read>⟧.tells self.old) → OnOk result
+            ((R.rest self.new.inner).ends_well ≡ (R.rest self.old.inner).ends_well) }
+        ensures counts { self.old.opens ≤ self.new.opens }
+        ensures opens { self.new.opens ≤ self.old.opens + 2 }
+        ensures held { IsHolding self.old → self.new.opens ≡ self.old.opens }
+        ensures opened { (IsHolding self.old → ⊥) → OnOk result (one_more self.old.opens ≤ self.new.opens) }
+        ensures spared { OnOk result (self.new.opens + spare self.new.held self.new.last + self.old.number
+            ≤ self.old.opens + spare self.old.held self.old.last + self.new.number) }
+        ensures spent { self.new.opens + self.old.number ≤ self.old.opens + spare self.old.held self.old.last + self.new.number }
+    {
+        self.pass();
+        if self.held {
+            return Ok(());
+        }
+        self.open()
     }
 
     // After a middle chunk that was given whole the place is the front of the next.
@@ -271,9 +338,12 @@ impl<S: Suite, R: Read> StreamReader<S, R> {
         ensures still { IsHolding self.old → self.new.held ≡ true }
         ensures was { self.new.held ≡ true → IsHolding self.old }
         ensures wanted { wanted_of self.new ≡ wanted_of self.old }
+        ensures spared { self.new.opens + spare self.new.held self.new.last + self.old.number
+            ≤ self.old.opens + spare self.old.held self.old.last + self.new.number }
         ensures inner { self.new.inner ≡ self.old.inner }
         ensures taken { self.new.taken ≡ self.old.taken }
         ensures key { self.new.key ≡ self.old.key }
+        ensures sought { self.new.sought ≡ self.old.sought }
         ensures place { ⟦<StreamReader<S, R> as Read>⟧.place self.new ≡ ⟦<StreamReader<S, R> as Read>⟧.place self.old }
         ensures rest { ⟦<StreamReader<S, R> as Read>⟧.rest self.new ≡ ⟦<StreamReader<S, R> as Read>⟧.rest self.old }
         ensures opens { self.new.opens ≡ self.old.opens }
@@ -299,10 +369,13 @@ impl<S: Suite, R: Read> StreamReader<S, R> {
         ensures patient { IfErr result (λ e. IsInterruption e → ⊥) }
         ensures none { IfOk result (λ n. n ≡ 0) }
         ensures key { self.new.key ≡ self.old.key }
+        ensures sought { self.new.sought ≡ self.old.sought }
         ensures payload { IsTrue (⟦<StreamReader<S, R> as Read>⟧.tells self.old) → payload_of self.new ≡ payload_of self.old }
         ensures place { ⟦<StreamReader<S, R> as Read>⟧.place self.new ≡ ⟦<StreamReader<S, R> as Read>⟧.place self.old }
         ensures end { let reader = ⟦<StreamReader<S, R> as Read>⟧ in IsTrue (reader.tells self.old) → OnOk result
             (IsCleanEnd (reader.rest self.old) × (reader.rest self.new ≡ reader.rest self.old)) }
+        ensures ended { let reader = ⟦<StreamReader<S, R> as Read>⟧ in IsTrue (reader.tells self.old) → OnOk result
+            (IsGoodEnd S.seal_of self.old.key (payload_of self.old) (reader.place self.old)) }
         ensures fails { OnErr result (self.new.failed ≡ true) }
         ensures good { OnOk result (self.new.failed ≡ false) }
         ensures cause { let reader = ⟦<StreamReader<S, R> as Read>⟧ in IsTrue (reader.tells self.old) → IfErr result (λ e. e ≢ OutOfMemory →
@@ -312,6 +385,7 @@ impl<S: Suite, R: Read> StreamReader<S, R> {
             Refuses S.seal_of self.old.key (payload_of self.old) (R.rest self.old.inner) (wanted_of self.old) (reader.place self.old) e) }
         ensures inner_end { IsTrue (⟦<StreamReader<S, R> as Read>⟧.tells self.old) → OnOk result
             ((R.rest self.new.inner).ends_well ≡ (R.rest self.old.inner).ends_well) }
+        ensures same { (self.new.number ≡ self.old.number) × (self.new.held ≡ self.old.held) × (self.new.last ≡ self.old.last) }
         ensures opens { self.new.opens ≡ self.old.opens }
     {
         // It stays so on each way out but the last.
@@ -343,6 +417,7 @@ impl<S: Suite, R: Read> StreamReader<S, R> {
         ensures unspent { OnOk result (R.faults self.new.inner < most_faults) }
         ensures patient { IfErr result (λ e. IsInterruption e → ⊥) }
         ensures key { self.new.key ≡ self.old.key }
+        ensures sought { self.new.sought ≡ self.old.sought }
         ensures payload { IsTrue (⟦<StreamReader<S, R> as Read>⟧.tells self.old) → payload_of self.new ≡ payload_of self.old }
         ensures place { ⟦<StreamReader<S, R> as Read>⟧.place self.new ≡ ⟦<StreamReader<S, R> as Read>⟧.place self.old }
         ensures good { OnOk result ((self.new.failed ≡ false) × (self.new.held ≡ true)) }
@@ -350,14 +425,18 @@ impl<S: Suite, R: Read> StreamReader<S, R> {
             (reader.rest self.new ≡ reader.rest self.old) }
         ensures end { let reader = ⟦<StreamReader<S, R> as Read>⟧ in IsTrue (reader.tells self.old) → OnOk result
             (self.new.at ≡ length self.new.chunk.items → IsCleanEnd (reader.rest self.old)) }
+        ensures ended { let reader = ⟦<StreamReader<S, R> as Read>⟧ in IsTrue (reader.tells self.old) → OnOk result
+            (self.new.at ≡ length self.new.chunk.items → IsGoodEnd S.seal_of self.old.key (payload_of self.old) (reader.place self.old)) }
         ensures fails { OnErr result (self.new.failed ≡ true) }
         ensures cause { let reader = ⟦<StreamReader<S, R> as Read>⟧ in IsTrue (reader.tells self.old) → IfErr result (λ e. e ≢ OutOfMemory →
             IsQuiet (R.faults self.old.inner) (R.faults self.new.inner) → IsFault (reader.rest self.old)) }
         ensures refused { let reader = ⟦<StreamReader<S, R> as Read>⟧ in IsTrue (reader.tells self.old) → IfErr result (λ e. e ≢ OutOfMemory →
             IsQuiet (R.faults self.old.inner) (R.faults self.new.inner) →
-            Refuses S.seal_of self.old.key (payload_of self.old) (R.rest self.old.inner) (wanted_of self.old) (reader.place self.old) e) }
+            RefusesItself S.seal_of self.old.key (payload_of self.old) (R.rest self.old.inner) (wanted_of self.old) (reader.place self.old) e) }
         ensures inner_end { IsTrue (⟦<StreamReader<S, R> as Read>⟧.tells self.old) → OnOk result
             ((R.rest self.new.inner).ends_well ≡ (R.rest self.old.inner).ends_well) }
+        ensures number { self.new.number ≡ self.old.number }
+        ensures spared { OnOk result (self.new.opens + spare self.new.held self.new.last ≤ self.old.opens + 2) }
         ensures counts { self.old.opens ≤ self.new.opens }
         ensures opens { self.new.opens ≤ self.old.opens + 2 }
         ensures opened { OnOk result (one_more self.old.opens ≤ self.new.opens) }
@@ -380,6 +459,10 @@ impl<S: Suite, R: Read> StreamReader<S, R> {
         ) {
             Err(e) => Err(e),
             Ok((chunk, last)) => {
+                // Only where the inner reader has fewer bytes than a seek found.
+                if self.at > chunk.len() {
+                    return Err(Error::Truncated);
+                }
                 self.chunk = chunk;
                 self.last = last;
                 self.held = true;
@@ -398,6 +481,7 @@ impl<S: Suite, R: Read> StreamReader<S, R> {
         ensures inner { self.new.inner ≡ self.old.inner }
         ensures taken { self.new.taken ≡ self.old.taken }
         ensures key { self.new.key ≡ self.old.key }
+        ensures sought { self.new.sought ≡ self.old.sought }
         ensures front { take result buf.new ≡ take result (drop self.old.at self.old.chunk.items) }
         ensures beyond { drop result buf.new ≡ drop result buf.old }
         ensures bytes { Delivers (take result buf.new)
@@ -405,6 +489,7 @@ impl<S: Suite, R: Read> StreamReader<S, R> {
         ensures moves { ⟦<StreamReader<S, R> as Read>⟧.place self.new ≡ ⟦<StreamReader<S, R> as Read>⟧.place self.old + result }
         ensures gives { let reader = ⟦<StreamReader<S, R> as Read>⟧ in IsTrue (reader.tells self.old) → 0 < result →
             Gives S.seal_of self.old.key (payload_of self.old) (reader.place self.old) (length buf.old) (take result buf.new) }
+        ensures same { (self.new.number ≡ self.old.number) × (self.new.held ≡ self.old.held) × (self.new.last ≡ self.old.last) }
         ensures opens { self.new.opens ≡ self.old.opens }
     {
         let count = buf.len().min(self.chunk.len() - self.at);
@@ -428,6 +513,7 @@ impl<S: Suite, R: Read + Drop> Drop for StreamReader<S, R> {
             last: _,
             taken: _,
             failed: _,
+            sought: _,
             opens: _,
             suite: _,
         } = self;
@@ -435,7 +521,7 @@ impl<S: Suite, R: Read + Drop> Drop for StreamReader<S, R> {
 }
 
 // Opens a text under the nonce of a middle chunk or of the last one.
-fn open_as<S: Suite>(
+pub(crate) fn open_as<S: Suite>(
     alloc: Global,
     opens: &mut Opens,
     key: &[u8; 32],
@@ -464,6 +550,7 @@ fn open_chunk<S: Suite>(
     ensures chunk { MatchResult result (λ found. chunk_of S.opened key.now number sealed.now ≡ Ok (found.0.items, found.1))
         (λ e. (e ≡ OutOfMemory) ⊎ (chunk_of S.opened key.now number sealed.now ≡ Err e)) }
     ensures device { IfErr result (λ e. IsDevice e → ⊥) }
+    ensures itself { IfErr result (λ e. e ≢ AfterLast) }
     ensures in_limit { IfOk result (λ found. 0 < length found.0.items → number < 2 ^ 44) }
     ensures first { IfOk result (λ found. length found.0.items ≡ 0 → number ≡ 0) }
     ensures short { IfOk result (λ found. length sealed.now < 65552 → found.1 ≡ true) }
@@ -471,6 +558,7 @@ fn open_chunk<S: Suite>(
     ensures fits { opens.old < 2 ^ 64 → opens.new < 2 ^ 64 }
     ensures counts { opens.old < 2 ^ 64 → opens.old ≤ opens.new }
     ensures opens { opens.new ≤ opens.old + 2 }
+    ensures middle { IfOk result (λ found. found.1 ≡ false → opens.new ≤ opens.old + 1) }
     ensures opened { opens.old < 2 ^ 64 → OnOk result (one_more opens.old ≤ opens.new) }
 {
     if sealed.is_empty() {
@@ -492,6 +580,7 @@ fn allow(number: u64, plain: Vec<u8>, last: bool) -> Result<(Vec<u8>, bool), Err
     ensures chunk { MatchResult result (λ found. allowed number (plain.items, last) ≡ Ok (found.0.items, found.1))
         (λ e. allowed number (plain.items, last) ≡ Err e) }
     ensures device { IfErr result (λ e. IsDevice e → ⊥) }
+    ensures itself { IfErr result (λ e. e ≢ AfterLast) }
     ensures in_limit { IfOk result (λ found. 0 < length found.0.items → number < 2 ^ 44) }
     ensures first { IfOk result (λ found. length found.0.items ≡ 0 → number ≡ 0) }
     ensures same { IfOk result (λ found. (found.0 ≡ plain) × (found.1 ≡ last)) }

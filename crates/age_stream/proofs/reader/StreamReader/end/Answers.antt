@@ -1,11 +1,11 @@
-use Rattle.std.proofs.Common.{◌≡◌, IsTrue, refl, subst, arith, length, take, length-take-le, ◌<◌, ◌^◌, ◌-◌, inl, inr}
+use Rattle.std.proofs.Common.{◌≡◌, ◌∙◌, ap, sym, IsTrue, refl, subst, arith, length, take, length-take-le, ◌<◌, ◌^◌, ◌-◌, inl, inr}
 use Rattle.std.proofs.lemmas.Bool.{true≢false}
 use Rattle.std.proofs.lemmas.List.Elements.{All-drop}
 use Rattle.age_io.specs.Reading.{EndsEarly}
 use Rattle.age_stream.specs.Reading.{payload_at}
 use Rattle.age_stream.specs.Reader.{wanted_of}
 use Rattle.age_stream.specs.ReadingLaws.{and-left}
-use Rattle.age_stream.proofs.Answered.{refuses-after}
+use Rattle.age_stream.proofs.Answered.{refuses-after, good-end}
 use Rattle.age_stream.proofs.Holding.{end-early, end-more, end-clean, same-rest, sound-failed, sound-ended}
 use Rattle.age_stream.proofs.reader.StreamReader.end.Goals as goal
 
@@ -64,7 +64,7 @@ returns-then-count-gt0-clause-refused g c = λ told memory quiet.
       to = omega (arith, self.offset);
       why = inr (refuses-after g.S.Suite.seal_of g.S.Suite.opened g.met.S.Suite.cipher self.key self.key_bytes
           (payload_at (read.place self.inner) self.taken content) (read.rest self.inner) (read.rest c.fill-answer.new.reader)
-          self.number self.taken self.last self.chunk.items text
+          self.number self.taken self.last self.at self.chunk.items text
           (All-drop (λ x. x < 2 ^ 8) (read.place self.inner - self.taken) content.bytes (g.met.R.Read.are_bytes self.inner (and-left _ _ told)))
           (sound.is_held c.requires.held) c.requires.last (sound.is_past c.requires.good c.requires.held)
           (c.in-Ok.ensures.bytes (and-left _ _ told)) (omega (arith, size, c.if-count-gt0.true)));
@@ -80,7 +80,6 @@ invariant_of-self g c =
       room = self.room;
       offset = self.offset;
       limit = self.limit;
-      start = self.start;
       in_chunk = self.in_chunk;
       small = self.small;
       more = self.more;
@@ -90,7 +89,7 @@ invariant_of-self g c =
       sound = λ told.
           let told_before = rw (c.in-Err.ensures.tells, c.in-Err.ensures.steady) at told in
           let t : IsTrue (read.tells self.inner) = and-left _ _ told_before in
-          sound-failed g.S.Suite.opened self.key self.failed self.held self.at self.chunk.items self.last self.number self.taken
+          sound-failed g.S.Suite.opened self.key self.failed self.held self.at self.chunk.items self.last self.sought self.number self.taken
           (read.place self.inner) (read.content self.inner) (read.rest self.inner) (self.sound told_before)
           c.saturating_add-self.result (read.place after) c.fill-answer.new.filled (read.content after) (read.rest after)
           (c.in-Err.ensures.content t) (c.in-Err.ensures.moves t) (g.met.R.Read.place_fits after (and-left _ _ told)) c.saturating_add-self.ensures;
@@ -103,7 +102,7 @@ invariant_of-self-then-count-gt0-clause-sound g c = λ told.
     let after = c.fill-answer.new.reader in
     let told_before = rw (c.in-Ok.ensures.tells, c.in-Ok.ensures.steady) at told in
     let t : IsTrue (read.tells self.inner) = and-left _ _ told_before in
-    sound-failed g.S.Suite.opened self.key self.failed self.held self.at self.chunk.items self.last self.number self.taken
+    sound-failed g.S.Suite.opened self.key self.failed self.held self.at self.chunk.items self.last self.sought self.number self.taken
     (read.place self.inner) (read.content self.inner) (read.rest self.inner) (self.sound told_before)
     c.saturating_add-self.result (read.place after) c.fill-answer.new.filled (read.content after) (read.rest after)
     (c.in-Ok.ensures.content t) (c.in-Ok.ensures.moves t) (g.met.R.Read.place_fits after (and-left _ _ told)) c.saturating_add-self.ensures
@@ -118,9 +117,28 @@ invariant_of-self-in-Ok-clause-sound g c = λ told.
     let text = take c.fill-answer.new.filled c.fill-answer.new.buf in
     let size : length text ≡ c.fill-answer.new.filled = length-take-le c.fill-answer.new.filled c.fill-answer.new.buf c.in-Ok.ensures.count in
     let none : c.fill-answer.new.filled ≡ 0 = omega (arith, c.if-count-gt0.false) in
-    sound-ended g.S.Suite.opened self.key self.failed self.held self.at self.chunk.items self.last self.number self.taken
+    sound-ended g.S.Suite.opened self.key self.failed self.held self.at self.chunk.items self.last self.sought self.number self.taken
     (read.place self.inner) (read.content self.inner) (read.rest self.inner) (self.sound told_before)
     c.saturating_add-self.result (read.place after) c.fill-answer.new.filled (read.content after) (read.rest after)
     (c.in-Ok.ensures.content t) (c.in-Ok.ensures.moves t) (g.met.R.Read.place_fits after (and-left _ _ told)) c.saturating_add-self.ensures
     c.requires.good c.requires.held none
     (same-rest (read.rest self.inner) (read.rest after) text (c.in-Ok.ensures.bytes t) (omega (arith, size, none)))
+
+pub returns-else-count-gt0-clause-ended : goal.returns-else-count-gt0-clause-ended
+returns-else-count-gt0-clause-ended g c = λ told.
+    let self = c.args.self.now in
+    let read = g.R.Read in
+    let t = and-left _ _ told in
+    let sound = self.sound told in
+    let after = c.fill-answer.new.reader in
+    let content = read.content self.inner in
+    let text = take c.fill-answer.new.filled c.fill-answer.new.buf in
+    let size : length text ≡ c.fill-answer.new.filled = length-take-le c.fill-answer.new.filled c.fill-answer.new.buf c.in-Ok.ensures.count in
+    let one : length c.fill-answer.new.buf ≡ 1 = c.fill-answer.auto.buf in
+    let clean = c.in-Ok.ensures.end t (omega (arith, one, c.if-count-gt0.false)) in
+    let same = same-rest (read.rest self.inner) (read.rest after) text (c.in-Ok.ensures.bytes t) (omega (arith, size, c.if-count-gt0.false)) in
+    good-end g.S.Suite.seal_of g.S.Suite.opened g.met.S.Suite.cipher self.key self.key_bytes
+    (payload_at (read.place self.inner) self.taken content) (read.rest self.inner) self.number self.taken self.at self.last self.chunk.items
+    (All-drop (λ x. x < 2 ^ 8) (read.place self.inner - self.taken) content.bytes (g.met.R.Read.are_bytes self.inner t))
+    (sound.is_held c.requires.held) c.requires.last (sound.is_past c.requires.good c.requires.held) c.requires.given
+    (record { bytes = ap (λ s. s.bytes) (sym same) ∙ clean.bytes; ends_well = ap (λ s. s.ends_well) (sym same) ∙ clean.ends_well })

@@ -12,11 +12,11 @@ pub invariant_of-self-clause-sound : goal.invariant_of-self-clause-sound
 invariant_of-self-clause-sound g c = λ told.
     let self = c.args.self.now in
     let inner = g.R.Read in
-    sound-given g.S.Suite.opened self.key self.failed self.held self.at self.chunk.items self.last self.number self.taken
+    sound-given g.S.Suite.opened self.key self.failed self.held self.at self.chunk.items self.last self.sought self.number self.taken
     (inner.place self.inner) (inner.content self.inner) (inner.rest self.inner) (self.sound told)
     (shorter g.S.Suite.seal_of g.S.Suite.opened g.met.S.Suite.cipher self.key self.key_bytes) c.min-count.result
     (g.met.R.Read.are_bytes self.inner (and-left _ _ told)) c.requires.good c.requires.held
-    (omega (arith, self.in_chunk c.requires.held, self.chunk.ok.0))
+    (omega (arith, self.in_chunk c.requires.held, self.chunk.ok.0)) (self.small c.requires.held)
 
 pub returns-clause-front : goal.returns-clause-front
 returns-clause-front g c =

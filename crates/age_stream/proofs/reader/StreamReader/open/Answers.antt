@@ -1,11 +1,11 @@
-use Rattle.std.proofs.Common.{◌≡◌, IsTrue, refl, subst, arith, ◌+◌, ◌⊎◌, length, take, length-take-le, Ok, Err, inl, inr}
+use Rattle.std.proofs.Common.{◌≡◌, IsTrue, refl, subst, arith, ◌+◌, ◌<◌, ◌⊎◌, length, take, length-take-le, Ok, Err, inl, inr, true}
 use Rattle.age_io.specs.Reading.{EndsEarly}
 use Rattle.age_io.proofs.Delivering.{refilled}
 use Rattle.age_stream.specs.ReadingLaws.{and-left, and-right}
 use Rattle.age_stream.specs.Chunks.{chunk_of}
 use Rattle.age_stream.specs.Reader.{wanted_of}
-use Rattle.age_stream.proofs.Answered.{refuses-chunk}
-use Rattle.age_stream.proofs.Holding.{TookText, took-text, open-early, open-refused, rest-opened, clean-opened, sound-opened}
+use Rattle.age_stream.proofs.Answered.{refuses-chunk, good-opened}
+use Rattle.age_stream.proofs.Holding.{TookText, took-text, open-early, open-refused, opened-before, rest-opened, clean-opened, sound-opened, spare-opened}
 use Rattle.age_error.specs.declared.io.Error.TheVariants.{OutOfMemory}
 use Rattle.age_stream.proofs.reader.StreamReader.open.Goals as goal
 
@@ -43,7 +43,7 @@ returns-in-Err-clause-refused g c = λ told memory quiet.
     record {
       number = self.number;
       from = omega arith;
-      to = omega (arith, self.offset);
+      to = omega (arith, ((self.sound told).before c.requires.good c.requires.closed).under);
       why = inl (subst (λ n. EndsEarly n (g.R.Read.rest self.inner)) wanted early);
     }
 
@@ -53,6 +53,7 @@ returns-in-Err-open_chunk-clause-refused g c = λ told memory quiet.
     let read = g.R.Read in
     let t : IsTrue (g.R.Read.tells self.inner) = and-left _ _ told in
     let sound = self.sound told in
+    let before = sound.before c.requires.good c.requires.closed in
     let text = take c.fill-answer.new.filled c.fill-answer.new.buf in
     let size : length c.fill-answer.new.buf ≡ 65552 = omega (arith, c.fill-answer.auto.buf, c.deref_mut.ensures.len, self.room, self.sealed.ok.0) in
     let filled = refilled self.sealed.items c.fill-answer.new.buf self.sealed.len self.sealed.ok.0 (omega (arith, size, self.room)) in
@@ -63,18 +64,64 @@ returns-in-Err-open_chunk-clause-refused g c = λ told memory quiet.
     record {
       number = self.number;
       from = omega arith;
-      to = omega (arith, self.offset);
+      to = omega (arith, before.under);
       why = elim judged [
         | inl want ↦ absurd (memory want)
-        | inr bad ↦ inr (refuses-chunk g.S.Suite.seal_of g.S.Suite.opened g.met.S.Suite.cipher self.key self.key_bytes
-            (read.content self.inner) (read.rest self.inner) (read.rest c.fill-answer.new.reader) (read.place self.inner) self.taken self.number text c.in-Err-open_chunk.e
-            (g.met.R.Read.are_bytes self.inner t) (g.met.R.Read.stands self.inner t (and-right _ _ told)) sound.fits (sound.before c.requires.good c.requires.closed)
-            sound.inside.front took bad)
+        | inr bad ↦ inr (
+          c.in-Err-open_chunk.ensures.itself,
+          refuses-chunk g.S.Suite.seal_of g.S.Suite.opened g.met.S.Suite.cipher self.key self.key_bytes
+              (read.content self.inner) (read.rest self.inner) (read.rest c.fill-answer.new.reader) (read.place self.inner) self.taken self.number text c.in-Err-open_chunk.e
+              (g.met.R.Read.are_bytes self.inner t) (g.met.R.Read.stands self.inner t (and-right _ _ told)) sound.fits before.stood
+              sound.inside.front took bad,
+        )
       ];
     }
 
-pub returns-in-Ok-open_chunk-clause-rest : goal.returns-in-Ok-open_chunk-clause-rest
-returns-in-Ok-open_chunk-clause-rest g c = λ told.
+-- the chunk that was opened has a byte at a place behind its front
+pub returns-then-self-len-clause-cause : goal.returns-then-self-len-clause-cause
+returns-then-self-len-clause-cause g c = λ told memory quiet.
+    let self = c.args.self.now in
+    let read = g.R.Read in
+    let t : IsTrue (g.R.Read.tells self.inner) = and-left _ _ told in
+    let sound = self.sound told in
+    let text = take c.fill-answer.new.filled c.fill-answer.new.buf in
+    let size : length c.fill-answer.new.buf ≡ 65552 = omega (arith, c.fill-answer.auto.buf, c.deref_mut.ensures.len, self.room, self.sealed.ok.0) in
+    let filled = refilled self.sealed.items c.fill-answer.new.buf self.sealed.len self.sealed.ok.0 (omega (arith, size, self.room)) in
+    let took : TookText (g.R.Read.rest self.inner) (g.R.Read.rest c.fill-answer.new.reader) text =
+    took-text c.fill-answer.new.buf c.fill-answer.new.filled _ _ size c.in-Ok.ensures.count (c.in-Ok.ensures.bytes t) (c.in-Ok.ensures.end t) in
+    let plain = c.in-Ok-open_chunk.chunk in
+    let longer : length plain.items + 16 ≡ length text = rw (c.deref.ensures.value, filled) at c.in-Ok-open_chunk.ensures.length in
+    let past : length plain.items < self.at = omega (arith, c.if-self-len.true, c.len.ensures, plain.ok.0) in
+    absurd (omega (
+      arith,
+      past,
+      opened-before (read.content self.inner) (read.rest self.inner) (read.rest c.fill-answer.new.reader) (read.place self.inner) self.taken self.number self.at
+          text (length plain.items) (g.met.R.Read.stands self.inner t (and-right _ _ told)) sound.fits (sound.before c.requires.good c.requires.closed) took longer (omega (arith, past)),
+    ))
+
+pub returns-then-self-len-clause-refused : goal.returns-then-self-len-clause-refused
+returns-then-self-len-clause-refused g c = λ told memory quiet.
+    let self = c.args.self.now in
+    let read = g.R.Read in
+    let t : IsTrue (g.R.Read.tells self.inner) = and-left _ _ told in
+    let sound = self.sound told in
+    let text = take c.fill-answer.new.filled c.fill-answer.new.buf in
+    let size : length c.fill-answer.new.buf ≡ 65552 = omega (arith, c.fill-answer.auto.buf, c.deref_mut.ensures.len, self.room, self.sealed.ok.0) in
+    let filled = refilled self.sealed.items c.fill-answer.new.buf self.sealed.len self.sealed.ok.0 (omega (arith, size, self.room)) in
+    let took : TookText (g.R.Read.rest self.inner) (g.R.Read.rest c.fill-answer.new.reader) text =
+    took-text c.fill-answer.new.buf c.fill-answer.new.filled _ _ size c.in-Ok.ensures.count (c.in-Ok.ensures.bytes t) (c.in-Ok.ensures.end t) in
+    let plain = c.in-Ok-open_chunk.chunk in
+    let longer : length plain.items + 16 ≡ length text = rw (c.deref.ensures.value, filled) at c.in-Ok-open_chunk.ensures.length in
+    let past : length plain.items < self.at = omega (arith, c.if-self-len.true, c.len.ensures, plain.ok.0) in
+    absurd (omega (
+      arith,
+      past,
+      opened-before (read.content self.inner) (read.rest self.inner) (read.rest c.fill-answer.new.reader) (read.place self.inner) self.taken self.number self.at
+          text (length plain.items) (g.met.R.Read.stands self.inner t (and-right _ _ told)) sound.fits (sound.before c.requires.good c.requires.closed) took longer (omega (arith, past)),
+    ))
+
+pub returns-else-self-len-clause-rest : goal.returns-else-self-len-clause-rest
+returns-else-self-len-clause-rest g c = λ told.
     let self = c.args.self.now in
     let t : IsTrue (g.R.Read.tells self.inner) = and-left _ _ told in
     let text = take c.fill-answer.new.filled c.fill-answer.new.buf in
@@ -86,12 +133,14 @@ returns-in-Ok-open_chunk-clause-rest g c = λ told.
     let ok : chunk_of g.S.Suite.opened self.key self.number text ≡ Ok (plain.items, c.in-Ok-open_chunk.last) = rw (c.deref.ensures.value, filled) at c.in-Ok-open_chunk.ensures.chunk in
     rest-opened g.S.Suite.opened self.key self.failed self.held self.last c.in-Ok-open_chunk.last self.at self.chunk.items plain.items self.number (g.R.Read.rest self.inner)
     (g.R.Read.rest c.fill-answer.new.reader) text c.requires.good c.requires.closed took
-    (rw (c.deref.ensures.value, filled) at c.in-Ok-open_chunk.ensures.short) ok (self.start c.requires.closed)
+    (rw (c.deref.ensures.value, filled) at c.in-Ok-open_chunk.ensures.short) ok (omega (arith, c.if-self-len.false, c.len.ensures, plain.ok.0))
 
-pub returns-in-Ok-open_chunk-clause-end : goal.returns-in-Ok-open_chunk-clause-end
-returns-in-Ok-open_chunk-clause-end g c = λ told given.
+pub returns-else-self-len-clause-end : goal.returns-else-self-len-clause-end
+returns-else-self-len-clause-end g c = λ told given.
     let self = c.args.self.now in
+    let read = g.R.Read in
     let t : IsTrue (g.R.Read.tells self.inner) = and-left _ _ told in
+    let sound = self.sound told in
     let text = take c.fill-answer.new.filled c.fill-answer.new.buf in
     let size : length c.fill-answer.new.buf ≡ 65552 = omega (arith, c.fill-answer.auto.buf, c.deref_mut.ensures.len, self.room, self.sealed.ok.0) in
     let filled = refilled self.sealed.items c.fill-answer.new.buf self.sealed.len self.sealed.ok.0 (omega (arith, size, self.room)) in
@@ -102,7 +151,32 @@ returns-in-Ok-open_chunk-clause-end g c = λ told given.
     let longer : length plain.items + 16 ≡ length text = rw (c.deref.ensures.value, filled) at c.in-Ok-open_chunk.ensures.length in
     clean-opened g.S.Suite.opened self.key self.failed self.held self.last c.in-Ok-open_chunk.last self.at self.chunk.items plain.items self.number (g.R.Read.rest self.inner)
     (g.R.Read.rest c.fill-answer.new.reader) text c.requires.good c.requires.closed took
-    (rw (c.deref.ensures.value, filled) at c.in-Ok-open_chunk.ensures.short) ok longer (self.start c.requires.closed) given
+    (rw (c.deref.ensures.value, filled) at c.in-Ok-open_chunk.ensures.short) ok longer
+    (opened-before (read.content self.inner) (read.rest self.inner) (read.rest c.fill-answer.new.reader) (read.place self.inner) self.taken self.number self.at
+    text (length plain.items) (g.met.R.Read.stands self.inner t (and-right _ _ told)) sound.fits (sound.before c.requires.good c.requires.closed) took longer) given
+
+pub returns-else-self-len-clause-ended : goal.returns-else-self-len-clause-ended
+returns-else-self-len-clause-ended g c = λ told given.
+    let self = c.args.self.now in
+    let read = g.R.Read in
+    let t : IsTrue (g.R.Read.tells self.inner) = and-left _ _ told in
+    let sound = self.sound told in
+    let before = sound.before c.requires.good c.requires.closed in
+    let content = read.content self.inner in
+    let text = take c.fill-answer.new.filled c.fill-answer.new.buf in
+    let size : length c.fill-answer.new.buf ≡ 65552 = omega (arith, c.fill-answer.auto.buf, c.deref_mut.ensures.len, self.room, self.sealed.ok.0) in
+    let filled = refilled self.sealed.items c.fill-answer.new.buf self.sealed.len self.sealed.ok.0 (omega (arith, size, self.room)) in
+    let took : TookText (g.R.Read.rest self.inner) (g.R.Read.rest c.fill-answer.new.reader) text =
+    took-text c.fill-answer.new.buf c.fill-answer.new.filled _ _ size c.in-Ok.ensures.count (c.in-Ok.ensures.bytes t) (c.in-Ok.ensures.end t) in
+    let plain = c.in-Ok-open_chunk.chunk in
+    let ok : chunk_of g.S.Suite.opened self.key self.number text ≡ Ok (plain.items, c.in-Ok-open_chunk.last) = rw (c.deref.ensures.value, filled) at c.in-Ok-open_chunk.ensures.chunk in
+    let longer : length plain.items + 16 ≡ length text = rw (c.deref.ensures.value, filled) at c.in-Ok-open_chunk.ensures.length in
+    let stands = g.met.R.Read.stands self.inner t (and-right _ _ told) in
+    let inside = opened-before content (read.rest self.inner) (read.rest c.fill-answer.new.reader) (read.place self.inner) self.taken self.number self.at
+    text (length plain.items) stands sound.fits before took longer in
+    good-opened g.S.Suite.seal_of g.S.Suite.opened g.met.S.Suite.cipher self.key self.key_bytes
+    content (read.rest self.inner) (read.rest c.fill-answer.new.reader) (read.place self.inner) self.taken self.number self.at c.in-Ok-open_chunk.last text plain.items
+    (g.met.R.Read.are_bytes self.inner t) stands sound.fits before.stood took (rw (c.deref.ensures.value, filled) at c.in-Ok-open_chunk.ensures.short) ok longer inside given
 
 pub invariant_of-self-in-Ok-open_chunk-clause-sound : goal.invariant_of-self-in-Ok-open_chunk-clause-sound
 invariant_of-self-in-Ok-open_chunk-clause-sound g c = λ told.
@@ -118,10 +192,14 @@ invariant_of-self-in-Ok-open_chunk-clause-sound g c = λ told.
     took-text c.fill-answer.new.buf c.fill-answer.new.filled _ _ size c.in-Ok.ensures.count (c.in-Ok.ensures.bytes t) (c.in-Ok.ensures.end t) in
     let plain = c.in-Ok-open_chunk.chunk in
     let ok : chunk_of g.S.Suite.opened self.key self.number text ≡ Ok (plain.items, c.in-Ok-open_chunk.last) = rw (c.deref.ensures.value, filled) at c.in-Ok-open_chunk.ensures.chunk in
-    sound-opened g.S.Suite.opened self.key self.failed self.held self.at self.chunk.items self.last self.number self.taken
+    sound-opened g.S.Suite.opened self.key self.failed self.held self.at self.chunk.items self.last self.sought self.number self.taken
     (read.place self.inner) (read.content self.inner) (read.rest self.inner) (self.sound told_before)
     c.saturating_add-self.result (read.place after) c.fill-answer.new.filled (read.content after) (read.rest after) text plain.items c.in-Ok-open_chunk.last
     (c.in-Ok.ensures.content t) (c.in-Ok.ensures.moves t) (g.met.R.Read.place_fits after (and-left _ _ told)) c.saturating_add-self.ensures
-    c.requires.good c.requires.closed (self.start c.requires.closed) (g.met.R.Read.stands self.inner t (and-right _ _ told_before))
+    c.requires.good c.requires.closed (omega (arith, c.if-self-len.false, c.len.ensures, plain.ok.0)) (g.met.R.Read.stands self.inner t (and-right _ _ told_before))
     took (length-take-le c.fill-answer.new.filled c.fill-answer.new.buf c.in-Ok.ensures.count)
     (rw (c.deref.ensures.value, filled) at c.in-Ok-open_chunk.ensures.short) ok
+
+pub returns-else-self-len-clause-spared : goal.returns-else-self-len-clause-spared
+returns-else-self-len-clause-spared g c =
+    spare-opened true c.in-Ok-open_chunk.last c.args.self.now.opens c.open_chunk.new.opens refl c.in-Ok-open_chunk.ensures.middle c.in-Ok-open_chunk.ensures.opens

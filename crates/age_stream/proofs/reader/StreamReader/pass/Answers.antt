@@ -15,6 +15,13 @@ invariant_of-self-clause-sound g c = λ told.
     let inner = g.R.Read in
     let given : self.at ≡ length self.chunk.items = omega (arith, c.if-self-len.true, c.len.ensures, self.chunk.ok.0) in
     let middle : self.last ≡ false = middle-by self.last self.at (length self.chunk.items) (c.requires.more c.if-self.true) (omega (arith, given)) in
-    sound-passed g.S.Suite.opened self.key self.failed self.held self.at self.chunk.items self.last self.number self.taken
+    sound-passed g.S.Suite.opened self.key self.failed self.held self.at self.chunk.items self.last self.sought self.number self.taken
     (inner.place self.inner) (inner.content self.inner) (inner.rest self.inner) (self.sound told)
     c.requires.good c.if-self.true middle given (self.full c.if-self.true middle)
+
+pub returns-then-self-len-clause-spared : goal.returns-then-self-len-clause-spared
+returns-then-self-len-clause-spared g c =
+    let self = c.args.self.now in
+    let given : self.at ≡ length self.chunk.items = omega (arith, c.if-self-len.true, c.len.ensures, self.chunk.ok.0) in
+    let middle : self.last ≡ false = middle-by self.last self.at (length self.chunk.items) (c.requires.more c.if-self.true) (omega (arith, given)) in
+    rw (c.if-self.true, middle) (omega arith)

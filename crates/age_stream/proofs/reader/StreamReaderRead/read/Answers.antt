@@ -1,4 +1,4 @@
-use Rattle.std.proofs.Common.{refl, ◌<◌, ◌^◌, ◌-◌}
+use Rattle.std.proofs.Common.{◌≡◌, refl, true, ◌+◌, ◌*◌, ◌<◌, ◌^◌, ◌-◌}
 use Rattle.std.proofs.lemmas.List.Elements.{All-drop}
 use Rattle.std.proofs.lemmas.Result.{IfOk-weaker}
 use Rattle.age_stream.specs.Reading.{payload_at, rest_of}
@@ -6,11 +6,11 @@ use Rattle.age_stream.specs.Chunks.{delivered}
 use Rattle.age_stream.specs.Opening.{shorter, opens_bytes}
 use Rattle.age_stream.specs.SizeLaws.{delivered-bytes}
 use Rattle.age_stream.specs.ReadingLaws.{and-left, and-right, stream_stands}
-use Rattle.age_stream.proofs.Answered.{end-found}
+use Rattle.age_stream.proofs.Answered.{end-found, front-either}
 use Rattle.age_stream.proofs.reader.StreamReaderRead.read.Goals as goal
 
 pub returns-clause-finished : goal.returns-clause-finished
-returns-clause-finished g c = λ told.
+returns-clause-finished g c = λ told unsought.
     let self = c.args.self.now in
     let read = g.R.Read in
     let suite = g.S.Suite in
@@ -20,12 +20,26 @@ returns-clause-finished g c = λ told.
     let bytes = g.met.R.Read.are_bytes self.inner (and-left _ _ told) in
     let short = shorter suite.seal_of suite.opened law self.key self.key_bytes in
     let payload = payload_at place self.taken content in
+    let rest = rest_of suite.opened self.key self.failed self.held self.at self.chunk.items self.last self.number (read.rest self.inner) in
+    let stands = λ (well : (delivered suite.opened self.key 0 payload).ends_well ≡ true).
+    stream_stands suite.opened self.key short self.failed self.held self.at self.chunk.items self.last self.sought self.number self.taken place content (read.rest self.inner)
+    bytes self.offset self.in_chunk (self.sound told) (g.met.R.Read.stands self.inner (and-left _ _ told) (and-right _ _ told)) well in
     IfOk-weaker c.read_on.result _ _
     (λ n clean none some. end-found suite.seal_of suite.opened law self.key self.key_bytes payload (delivered suite.opened self.key 0 payload)
-    (rest_of suite.opened self.key self.failed self.held self.at self.chunk.items self.last self.number (read.rest self.inner)) _
+    rest _
     (All-drop (λ x. x < 2 ^ 8) (place - self.taken) content.bytes bytes)
     (delivered-bytes suite.opened self.key short (opens_bytes suite.seal_of suite.opened law self.key self.key_bytes) 0 (place - self.taken) content bytes) refl
-    (λ well. (stream_stands suite.opened self.key short self.failed self.held self.at self.chunk.items self.last self.number self.taken place content (read.rest self.inner)
-    bytes self.offset self.in_chunk self.start (self.sound told) (g.met.R.Read.stands self.inner (and-left _ _ told) (and-right _ _ told)) well).within)
-    ((self.sound told).front c.if-self.false) (clean none some))
+    (λ well. (stands well).within)
+    (front-either self.sought (delivered suite.opened self.key 0 payload) rest (65536 * self.number + self.at)
+    (λ is. (self.sound told).front is c.if-self.false) (λ is. (stands (unsought is)).reaches)) (clean none some))
     (c.read_on.ensures.reads.end told)
+
+pub returns-clause-by_itself : goal.returns-clause-by_itself
+returns-clause-by_itself g c = λ told good apart. c.read_on.ensures.by_itself told apart
+
+pub returns-clause-ended : goal.returns-clause-ended
+returns-clause-ended g c = λ told.
+    IfOk-weaker c.read_on.result _ _ (λ n is none some. is none) (c.read_on.ensures.ended told)
+
+pub returns-clause-refused : goal.returns-clause-refused
+returns-clause-refused g c = λ told good. c.read_on.ensures.refused told

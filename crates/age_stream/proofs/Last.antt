@@ -1,0 +1,97 @@
+-- The last chunk of a payload, opened by a seek to the end.
+use Rattle.std.specs.Prelude.{◌≡◌, ℕ, ◌+◌, ◌-◌, ◌*◌, ◌^◌, ◌<◌, ◌≤◌, Option, Some, None, Bool, true, List, [], length, take, drop}
+use Rattle.std.proofs.Common.{refl, sym, ap, ◌∙◌, inl, inr, arith, length-append, length-take, length-drop}
+use Rattle.std.proofs.lemmas.List.{drop_all, nil_from_length}
+use Rattle.std.proofs.lemmas.List.Elements.{All-drop, All-take}
+use Rattle.std.proofs.lemmas.Bool.{cases_lt, true≢false}
+use Rattle.age_error.specs.Bytes.{AreBytes}
+use Rattle.age_io.specs.Stretch.{Stretch, from_place, stretch-ext}
+use Rattle.age_io.specs.Reading.{EndsEarly}
+use Rattle.age_stream.specs.Payload.{nonce}
+use Rattle.age_stream.specs.Opening.{Shorter}
+use Rattle.age_stream.specs.Reading.{text_at, IsHeld, IsPast, IsInside, IsLastChunk}
+use Rattle.age_stream.proofs.Holding.{TookText, front_of}
+use Rattle.age_stream.proofs.Judged.{judged-short}
+
+-- what was read is the whole last chunk
+pub record IsLastText (payload after : Stretch) (number : ℕ) (text : List ℕ) : Type 0 where
+  pub is : text_at number payload ≡ text
+  pub long : length text + 65552 * number ≡ length payload.bytes
+  pub most : length text ≤ 65552
+  pub none : after.bytes ≡ []
+  pub same_end : after.ends_well ≡ payload.ends_well
+  pub ended : length text < 65552 → payload.ends_well ≡ true
+
+pub last-text : (payload rest after : Stretch) (number : ℕ) (text : List ℕ) → rest ≡ from_place (65552 * number) payload → IsLastChunk (length payload.bytes) number →
+    TookText rest after text → IsLastText payload after number text
+last-text payload rest after number text stood last took =
+    let came = took.came in
+    let here : rest.bytes ≡ drop (65552 * number) payload.bytes = ap (λ s. s.bytes) stood in
+    let well : rest.ends_well ≡ payload.ends_well = ap (λ s. s.ends_well) stood in
+    let long : length text + length after.bytes ≡ length payload.bytes - 65552 * number =
+    sym (length-append text after.bytes) ∙ sym (ap length came.bytes) ∙ ap length here ∙ length-drop (65552 * number) payload.bytes in
+    let gone : length after.bytes ≡ 0 = elim (cases_lt (length text) 65552) [
+      | inl less ↦ ap length (took.ended less).bytes
+      | inr full ↦ omega (arith, long, last.fits, full)
+    ] in
+    record {
+      is = ap (take 65552) (sym here) ∙ front_of rest after text took;
+      long = omega (arith, long, gone, last.enough);
+      most = took.most;
+      none = nil_from_length after.bytes gone;
+      same_end = came.end ∙ well;
+      ended = λ less. sym (came.end ∙ well) ∙ (took.ended less).ends_well;
+    }
+
+pub last-past : (payload after : Stretch) (number taken : ℕ) (text : List ℕ) → IsLastText payload after number text → IsLastChunk (length payload.bytes) number →
+    taken ≡ 65552 * number + length text → IsPast payload number true taken after
+last-past payload after number taken text t last took =
+    let over : drop (65552 * number + 65552) payload.bytes ≡ [] = drop_all (65552 * number + 65552) payload.bytes last.fits in
+    record {
+      stood = λ middle. absurd (true≢false middle);
+      past = drop_all taken payload.bytes (omega (arith, took, t.long)) ∙ sym over;
+      ahead = stretch-ext after (from_place (65552 * number + 65552) payload) (t.none ∙ sym over) t.same_end;
+    }
+
+-- a reader that was put into a payload that ends well meets no bad end
+pub no-bad-end : (payload rest : Stretch) (number wanted : ℕ) → rest ≡ from_place (65552 * number) payload → payload.ends_well ≡ true → EndsEarly wanted rest → ⊥
+no-bad-end payload rest number wanted stood well early = true≢false (sym (ap (λ s. s.ends_well) stood ∙ well) ∙ early.badly)
+
+module _ (opened : List ℕ → List ℕ → List ℕ → Option (List ℕ)) (key : List ℕ) where
+  -- a full chunk isn't judged as a middle one, a short one is only ever the last
+  pub last-held : (payload after : Stretch) (number at : ℕ) (text plain : List ℕ) → IsLastText payload after number text → IsLastChunk (length payload.bytes) number →
+      number < 2 ^ 44 → length plain + 16 ≡ length text → at ≡ length plain → opened key (nonce number true) text ≡ Some plain → IsHeld opened key payload number true at plain
+  last-held payload after number at text plain t last few longer given is = record {
+    opens = rw t.is is;
+    judged = λ apart. elim (cases_lt (length text) 65552) [
+      | inl less ↦ rw t.is (judged-short opened key number text plain less (omega (arith, longer)) (λ some. omega (arith, last.more some, t.long, longer)) few is)
+      | inr full ↦ absurd (apart (record { is_last = refl; none = last.fits; full = omega (arith, full, t.most, longer, given) }))
+    ];
+    whole = λ less. let few_bytes : length text < 65552 = rw t.is at less in (t.ended few_bytes, refl);
+    some = omega (arith, last.enough);
+  }
+
+  pub last-none : (payload after : Stretch) (number : ℕ) (text : List ℕ) → IsLastText payload after number text →
+      opened key (nonce number true) text ≡ None → opened key (nonce number true) (text_at number payload) ≡ None
+  last-none payload after number text t is = rw t.is is
+
+  module _ (law : Shorter opened key) where
+    -- how long the text of the chunk that is held is
+    text-held : (payload : Stretch) (number at : ℕ) (last : Bool) (chunk : List ℕ) → AreBytes payload.bytes → IsHeld opened key payload number last at chunk →
+        length chunk + 16 ≡ length (text_at number payload)
+    text-held payload number at last chunk bytes held = law number last (text_at number payload) chunk
+        (All-take (λ x. x < 2 ^ 8) 65552 (drop (65552 * number) payload.bytes) (All-drop (λ x. x < 2 ^ 8) (65552 * number) payload.bytes bytes)) held.opens
+
+    -- the length of the last chunk of a payload
+    pub held-length : (payload : Stretch) (number at : ℕ) (last : Bool) (chunk : List ℕ) → AreBytes payload.bytes → IsHeld opened key payload number last at chunk →
+        length payload.bytes ≤ 65552 * number + 65552 → length chunk + 16 + 65552 * number ≡ length payload.bytes
+    held-length payload number at last chunk bytes held fits =
+        omega (arith, text-held payload number at last chunk bytes held, length-take 65552 (drop (65552 * number) payload.bytes), length-drop (65552 * number) payload.bytes, held.some)
+
+    -- a place in the chunk that is held is in the payload
+    pub inside-held : (payload : Stretch) (number at new_at : ℕ) (last : Bool) (chunk : List ℕ) → AreBytes payload.bytes → IsHeld opened key payload number last at chunk →
+        new_at ≤ length chunk → IsInside (length payload.bytes) number new_at
+    inside-held payload number at new_at last chunk bytes held within = record {
+      front = omega (arith, held.some);
+      inside = λ some. omega (arith, text-held payload number at last chunk bytes held, within, length-take 65552 (drop (65552 * number) payload.bytes), length-drop (65552 * number) payload.bytes);
+    }

@@ -1,0 +1,154 @@
+use Rattle.std.proofs.Common.{◌≡◌, ◌≤◌, ◌+◌, ◌∙◌, arith, length, take, sym, ap, IsTrue, ◌&&◌, refl, length-take-le, Some, None, true}
+use Rattle.std.proofs.lemmas.Bool.{true≢false}
+use Rattle.age_io.proofs.Delivering.{refilled}
+use Rattle.age_stream.specs.Payload.{nonce}
+use Rattle.age_stream.specs.Reading.{payload_at}
+use Rattle.age_stream.specs.ReadingLaws.{and-left}
+use Rattle.age_stream.proofs.Holding.{TookText, took-text, payload-read}
+use Rattle.age_stream.proofs.Last.{last-text, last-none}
+use Rattle.age_stream.proofs.Moving.{sound-moved, sound-last}
+use Rattle.age_stream.proofs.reader.StreamReader.open_last.Goals as goal
+
+pub invariant_of-self : goal.invariant_of-self
+invariant_of-self g c =
+    let self = c.args.self.now in
+    let read = g.R.Read in
+    let after = c.fill-answer.new.reader in
+    let before : IsTrue (read.tells after && read.steady after) → IsTrue (read.tells self.inner && read.steady self.inner) =
+    λ told. rw (c.in-Err.ensures.tells, c.in-Err.ensures.steady) at told in
+    let size : length c.fill-answer.new.buf ≡ 65552 = omega (arith, c.fill-answer.auto.buf, c.deref_mut.ensures.len, self.room, self.sealed.ok.0) in
+    let filled = refilled self.sealed.items c.fill-answer.new.buf self.sealed.len self.sealed.ok.0 (omega (arith, size, self.room)) in
+    record {
+      key_bytes = self.key_bytes;
+      room = omega (arith, c.fill-answer.auto.buf, c.deref_mut.ensures.len, self.room, self.sealed.ok.0, ap length filled, size);
+      offset = self.offset;
+      limit = self.limit;
+      in_chunk = self.in_chunk;
+      small = self.small;
+      more = self.more;
+      full = self.full;
+      count_fits = self.count_fits;
+      unspent = λ good. absurd (true≢false (sym c.requires.failed ∙ good));
+      sound = λ told.
+          let t = and-left (read.tells self.inner) (read.steady self.inner) (before told) in
+          let fits = (self.sound (before told)).fits in
+          let moved = c.in-Err.ensures.moves t in
+          let same = payload-read (read.content self.inner) (read.content after) (read.place self.inner) (read.place after) self.taken c.saturating_add-self.result c.fill-answer.new.filled
+          (c.in-Err.ensures.content t) moved (g.met.R.Read.place_fits after (and-left _ _ told)) c.saturating_add-self.ensures fits in
+          sound-moved g.S.Suite.opened self.key self.failed self.held self.at self.chunk.items self.last self.sought self.number self.taken
+          (read.place self.inner) (read.content self.inner) (read.rest self.inner) (self.sound (before told)) self.failed self.sought
+          c.saturating_add-self.result (read.place after) (read.content after) (read.rest after) c.requires.failed same.1 (omega (arith, same.0, moved, fits));
+    }
+
+pub invariant_of-self-in-Ok-None : goal.invariant_of-self-in-Ok-None
+invariant_of-self-in-Ok-None g c =
+    let self = c.args.self.now in
+    let read = g.R.Read in
+    let after = c.fill-answer.new.reader in
+    let before : IsTrue (read.tells after && read.steady after) → IsTrue (read.tells self.inner && read.steady self.inner) =
+    λ told. rw (c.in-Ok.ensures.tells, c.in-Ok.ensures.steady) at told in
+    let size : length c.fill-answer.new.buf ≡ 65552 = omega (arith, c.fill-answer.auto.buf, c.deref_mut.ensures.len, self.room, self.sealed.ok.0) in
+    let filled = refilled self.sealed.items c.fill-answer.new.buf self.sealed.len self.sealed.ok.0 (omega (arith, size, self.room)) in
+    record {
+      key_bytes = self.key_bytes;
+      room = omega (arith, c.fill-answer.auto.buf, c.deref_mut.ensures.len, self.room, self.sealed.ok.0, ap length filled, size);
+      offset = self.offset;
+      limit = self.limit;
+      in_chunk = self.in_chunk;
+      small = self.small;
+      more = self.more;
+      full = self.full;
+      count_fits = omega (arith, self.count_fits, c.open_as.ensures.opens);
+      unspent = λ good. absurd (true≢false (sym c.requires.failed ∙ good));
+      sound = λ told.
+          let t = and-left (read.tells self.inner) (read.steady self.inner) (before told) in
+          let fits = (self.sound (before told)).fits in
+          let moved = c.in-Ok.ensures.moves t in
+          let same = payload-read (read.content self.inner) (read.content after) (read.place self.inner) (read.place after) self.taken c.saturating_add-self.result c.fill-answer.new.filled
+          (c.in-Ok.ensures.content t) moved (g.met.R.Read.place_fits after (and-left _ _ told)) c.saturating_add-self.ensures fits in
+          sound-moved g.S.Suite.opened self.key self.failed self.held self.at self.chunk.items self.last self.sought self.number self.taken
+          (read.place self.inner) (read.content self.inner) (read.rest self.inner) (self.sound (before told)) self.failed self.sought
+          c.saturating_add-self.result (read.place after) (read.content after) (read.rest after) c.requires.failed same.1 (omega (arith, same.0, moved, fits));
+    }
+
+pub returns-in-Ok-None-clause-cause : goal.returns-in-Ok-None-clause-cause
+returns-in-Ok-None-clause-cause g c = λ told well memory quiet.
+    let self = c.args.self.now in
+    let read = g.R.Read in
+    let after = c.fill-answer.new.reader in
+    let text = take c.fill-answer.new.filled c.fill-answer.new.buf in
+    let size : length c.fill-answer.new.buf ≡ 65552 = omega (arith, c.fill-answer.auto.buf, c.deref_mut.ensures.len, self.room, self.sealed.ok.0) in
+    let filled = refilled self.sealed.items c.fill-answer.new.buf self.sealed.len self.sealed.ok.0 (omega (arith, size, self.room)) in
+    let t = and-left (read.tells self.inner) (read.steady self.inner) told in
+    let payload = payload_at (read.place self.inner) self.taken (read.content self.inner) in
+    let took : TookText (read.rest self.inner) (read.rest after) text =
+    took-text c.fill-answer.new.buf c.fill-answer.new.filled _ _ size c.in-Ok.ensures.count (c.in-Ok.ensures.bytes t) (c.in-Ok.ensures.end t) in
+    let whole = last-text payload (read.rest self.inner) (read.rest after) c.args.number text (c.requires.stands told).1 (c.requires.last told) took in
+    let none : g.S.Suite.opened self.key (nonce c.args.number true) text ≡ None = sym (rw (c.deref.ensures.value, filled, c.in-Ok-None.field-0-is) at c.in-Ok-None.ensures.opened) in
+    (refl, last-none g.S.Suite.opened self.key payload (read.rest after) c.args.number text whole none)
+
+pub returns-in-Ok-Some-clause-payload : goal.returns-in-Ok-Some-clause-payload
+returns-in-Ok-Some-clause-payload g c = λ told.
+    let self = c.args.self.now in
+    let read = g.R.Read in
+    let after = c.fill-answer.new.reader in
+    let t = and-left (read.tells self.inner) (read.steady self.inner) told in
+    (payload-read (read.content self.inner) (read.content after) (read.place self.inner) (read.place after) self.taken c.saturating_add-self.result c.fill-answer.new.filled
+    (c.in-Ok.ensures.content t) (c.in-Ok.ensures.moves t) (g.met.R.Read.place_fits after (c.in-Ok.ensures.tells ∙ t)) c.saturating_add-self.ensures (self.sound told).fits).1
+
+pub returns-in-Ok-Some-clause-arrives : goal.returns-in-Ok-Some-clause-arrives
+returns-in-Ok-Some-clause-arrives g c = λ told.
+    let self = c.args.self.now in
+    let read = g.R.Read in
+    let after = c.fill-answer.new.reader in
+    let text = take c.fill-answer.new.filled c.fill-answer.new.buf in
+    let size : length c.fill-answer.new.buf ≡ 65552 = omega (arith, c.fill-answer.auto.buf, c.deref_mut.ensures.len, self.room, self.sealed.ok.0) in
+    let filled = refilled self.sealed.items c.fill-answer.new.buf self.sealed.len self.sealed.ok.0 (omega (arith, size, self.room)) in
+    let t = and-left (read.tells self.inner) (read.steady self.inner) told in
+    let payload = payload_at (read.place self.inner) self.taken (read.content self.inner) in
+    let took : TookText (read.rest self.inner) (read.rest after) text =
+    took-text c.fill-answer.new.buf c.fill-answer.new.filled _ _ size c.in-Ok.ensures.count (c.in-Ok.ensures.bytes t) (c.in-Ok.ensures.end t) in
+    let whole = last-text payload (read.rest self.inner) (read.rest after) c.args.number text (c.requires.stands told).1 (c.requires.last told) took in
+    let longer : length c.in-Ok-Some.chunk.items + 16 ≡ length text = rw (c.deref.ensures.value, filled, c.in-Ok-Some.field-0-is) at c.in-Ok-Some.ensures.length in
+    omega (arith, whole.long, longer, c.len-self.ensures, c.in-Ok-Some.chunk.ok.0, (c.requires.last told).enough)
+
+pub invariant_of-self-in-Ok-Some : goal.invariant_of-self-in-Ok-Some
+invariant_of-self-in-Ok-Some g c =
+    let self = c.args.self.now in
+    let read = g.R.Read in
+    let after = c.fill-answer.new.reader in
+    let before : IsTrue (read.tells after && read.steady after) → IsTrue (read.tells self.inner && read.steady self.inner) =
+    λ told. rw (c.in-Ok.ensures.tells, c.in-Ok.ensures.steady) at told in
+    let text = take c.fill-answer.new.filled c.fill-answer.new.buf in
+    let size : length c.fill-answer.new.buf ≡ 65552 = omega (arith, c.fill-answer.auto.buf, c.deref_mut.ensures.len, self.room, self.sealed.ok.0) in
+    let filled = refilled self.sealed.items c.fill-answer.new.buf self.sealed.len self.sealed.ok.0 (omega (arith, size, self.room)) in
+    let long : length text ≡ c.fill-answer.new.filled = length-take-le c.fill-answer.new.filled c.fill-answer.new.buf c.in-Ok.ensures.count in
+    let plain = c.in-Ok-Some.chunk in
+    let longer : length plain.items + 16 ≡ length text = rw (c.deref.ensures.value, filled, c.in-Ok-Some.field-0-is) at c.in-Ok-Some.ensures.length in
+    let some : Some plain.items ≡ g.S.Suite.opened self.key (nonce c.args.number true) text = rw (c.deref.ensures.value, filled, c.in-Ok-Some.field-0-is) at c.in-Ok-Some.ensures.opened in
+    let there : c.len-self.result ≡ length plain.items = omega (arith, c.len-self.ensures, plain.ok.0) in
+    let short : length plain.items ≤ 65536 = omega (arith, longer, long, c.in-Ok.ensures.count, size) in
+    let payload = payload_at (read.place self.inner) self.taken (read.content self.inner) in
+    record {
+      key_bytes = self.key_bytes;
+      room = omega (arith, c.fill-answer.auto.buf, c.deref_mut.ensures.len, self.room, self.sealed.ok.0, ap length filled, size);
+      offset = omega (arith, short, there);
+      limit = omega (arith, c.requires.limit);
+      in_chunk = λ _. omega (arith, there);
+      small = λ _. short;
+      more = λ _. c.requires.limit;
+      full = λ _ middle. absurd (true≢false middle);
+      count_fits = omega (arith, self.count_fits, c.open_as.ensures.opens);
+      unspent = λ _ _. c.in-Ok.ensures.unspent (omega (arith, self.room));
+      sound = λ told.
+          let b = before told in
+          let t = and-left (read.tells self.inner) (read.steady self.inner) b in
+          let took : TookText (read.rest self.inner) (read.rest after) text =
+          took-text c.fill-answer.new.buf c.fill-answer.new.filled _ _ size c.in-Ok.ensures.count (c.in-Ok.ensures.bytes t) (c.in-Ok.ensures.end t) in
+          let whole = last-text payload (read.rest self.inner) (read.rest after) c.args.number text (c.requires.stands b).1 (c.requires.last b) took in
+          sound-last g.S.Suite.opened self.key self.failed self.held self.at self.chunk.items self.last self.sought self.number self.taken
+          (read.place self.inner) (read.content self.inner) (read.rest self.inner) (self.sound b)
+          c.saturating_add-self.result (read.place after) c.fill-answer.new.filled (read.content after) (read.rest after) c.args.number c.len-self.result text plain.items
+          (c.in-Ok.ensures.content t) (c.in-Ok.ensures.moves t) (g.met.R.Read.place_fits after (and-left _ _ told)) c.saturating_add-self.ensures
+          c.requires.sought (c.requires.stands b).0 long whole (c.requires.last b) c.requires.limit longer there (sym some);
+    }

@@ -1,0 +1,41 @@
+use Rattle.std.proofs.Common.{◌≡◌, arith, ◌∙◌, ◌-◌, ◌+◌, length, take, subst, length-take-le}
+use Rattle.age_stream.specs.Answering.{StandAt}
+use Rattle.age_stream.specs.Reader.{payload_of, place_of}
+use Rattle.age_stream.proofs.Standing.{stand-given, stand-joined}
+use Rattle.std.proofs.lemmas.Grind.{common_steps}
+use Rattle.age_io.proofs.Delivering.{Delivers-joined, take-filled}
+use Rattle.age_stream.proofs.reader.StreamReader.read_full.Goals as goal
+
+pub reads-preserved : goal.reads-preserved
+reads-preserved g c =
+    let before = c.reads.invariant in
+    let read = c.in-Ok.ensures in
+    let got = read.reads in
+    record {
+      same_tells = got.same_tells ∙ before.same_tells;
+      same_steady = got.same_steady ∙ before.same_steady;
+      no_fewer_faults = omega (arith, before.no_fewer_faults, got.no_fewer_faults);
+      within = grind (arith, common_steps);
+      good = read.good;
+      same_key = read.key ∙ before.same_key;
+      same_content = λ told. got.same_content (before.same_tells ∙ told) ∙ before.same_content told;
+      same_payload = λ told. read.payload (before.same_tells ∙ told) ∙ before.same_payload told;
+      moved = omega (arith, before.moved, read.placed);
+      so_far = λ told.
+          let k = length c.reads.buf - c.reads.filled in
+          let filled = take-filled c.reads.filled k c.in-Ok.n c.reads.buf c.read_on.new.buf before.within got.count in
+          rw filled (Delivers-joined _ _ _ _ _ (before.so_far told) (got.bytes (before.same_tells ∙ told)));
+      spared = omega (arith, before.spared, read.spared);
+      stored = λ told.
+          let k = length c.reads.buf - c.reads.filled in
+          let filled = take-filled c.reads.filled k c.in-Ok.n c.reads.buf c.read_on.new.buf before.within got.count in
+          let long : length (take c.reads.filled c.reads.buf) ≡ c.reads.filled = length-take-le c.reads.filled c.reads.buf before.within in
+          let there : place_of c.reads.self ≡ place_of c.args.self.now + length (take c.reads.filled c.reads.buf) = omega (arith, before.moved, long) in
+          let given = stand-given g.S.Suite.seal_of c.reads.self.key (payload_of c.reads.self) (place_of c.reads.self) _ _ (read.gives (before.same_tells ∙ told) (omega (arith, c.if-n-eq0.false))) in
+          rw filled (stand-joined g.S.Suite.seal_of c.args.self.now.key (payload_of c.args.self.now).bytes (place_of c.args.self.now) (take c.reads.filled c.reads.buf) (take c.in-Ok.n c.read_on.new.buf)
+          (before.stored told)
+          (subst (λ p. StandAt g.S.Suite.seal_of c.args.self.now.key (payload_of c.args.self.now).bytes p (take c.in-Ok.n c.read_on.new.buf)) there
+          (subst (λ p. StandAt g.S.Suite.seal_of c.args.self.now.key p.bytes (place_of c.reads.self) (take c.in-Ok.n c.read_on.new.buf)) (before.same_payload told)
+          (subst (λ k. StandAt g.S.Suite.seal_of k (payload_of c.reads.self).bytes (place_of c.reads.self) (take c.in-Ok.n c.read_on.new.buf)) before.same_key given))));
+      counted = omega (arith, before.counted, read.counts);
+    }

@@ -1,0 +1,28 @@
+use Rattle.std.proofs.Common.{◌≡◌, ◌≤◌, ◌-◌, ◌+◌, ◌*◌, false, IsTrue, length, take}
+use Rattle.age_io.specs.Reading.{Delivers}
+use Rattle.age_stream.specs.Reader.{tells_of, steady_of, content_of, plain_rest_of, payload_of, place_of}
+use Rattle.age_stream.specs.Answering.{StandAt}
+use Rattle.age_stream.specs.Reading.{spare}
+use Rattle.age_stream.proofs.reader.StreamReader.read_full.Given as goal
+
+abbrev pub invariant-reads : goal.invariant-reads
+invariant-reads g l =
+    let read = g.R.Read in
+    record {
+      same_tells : tells_of l.self ≡ tells_of l.fn.self;
+      same_steady : steady_of l.self ≡ steady_of l.fn.self;
+      no_fewer_faults : read.faults l.fn.self.inner ≤ read.faults l.self.inner;
+      within : l.filled ≤ length l.buf;
+      good : l.self.failed ≡ false;
+      same_key : l.self.key ≡ l.fn.self.key;
+      same_content : IsTrue (tells_of l.fn.self) → content_of l.self ≡ content_of l.fn.self;
+      same_payload : IsTrue (tells_of l.fn.self) → payload_of l.self ≡ payload_of l.fn.self;
+      moved : 65536 * l.self.number + l.self.at ≡ 65536 * l.fn.self.number + l.fn.self.at + l.filled;
+      so_far : IsTrue (tells_of l.fn.self) → Delivers (take l.filled l.buf) (plain_rest_of l.fn.self) (plain_rest_of l.self);
+      spared : l.self.opens + spare l.self.held l.self.last + l.fn.self.number ≤ l.fn.self.opens + 2 + l.self.number;
+      stored : IsTrue (tells_of l.fn.self) → StandAt g.S.Suite.seal_of l.fn.self.key (payload_of l.fn.self).bytes (place_of l.fn.self) (take l.filled l.buf);
+      counted : l.fn.self.opens ≤ l.self.opens;
+    }
+
+abbrev pub decreases-reads : goal.decreases-reads
+decreases-reads g l = length l.buf - l.filled

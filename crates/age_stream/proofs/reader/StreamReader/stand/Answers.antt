@@ -1,0 +1,71 @@
+use Rattle.age_error.specs.declared.io.Error.TheVariants.{OutOfMemory}
+use Rattle.age_io.specs.Cursor.{IsRefusal}
+use Rattle.std.proofs.Common.{◌≢◌, ◌≡◌, ◌-◌, ◌+◌, ◌∙◌, arith, length, sym, subst, length-drop, IsTrue, ◌&&◌}
+use Rattle.std.proofs.lemmas.Bool.{true≢false}
+use Rattle.age_stream.specs.Reading.{payload_at}
+use Rattle.age_stream.specs.ReadingLaws.{and-left, and-right}
+use Rattle.age_stream.proofs.Inner.{start-at, same-payload, refused-start}
+use Rattle.age_stream.proofs.Moving.{sound-moved}
+use Rattle.age_stream.proofs.reader.StreamReader.stand.Goals as goal
+
+pub invariant_of-self-in-Ok : goal.invariant_of-self-in-Ok
+invariant_of-self-in-Ok g c =
+    let self = c.args.self.now in
+    let read = g.R.Read in
+    let seek = c.in-Ok.ensures.seeks in
+    let after = c.seek_retrying.new.reader in
+    let before : IsTrue (read.tells after && read.steady after) → IsTrue (read.tells self.inner && read.steady self.inner) =
+    λ told. rw (seek.same_tells, seek.same_steady) at told in
+    let taken : (told : IsTrue (read.tells self.inner && read.steady self.inner)) → c.args.place + (read.place self.inner - self.taken) ≡ read.place after = λ told.
+    let t = and-left (read.tells self.inner) (read.steady self.inner) told in
+    let s = and-right (read.tells self.inner) (read.steady self.inner) told in
+    let target = start-at _ (read.place self.inner) (length (read.content self.inner).bytes) c.in-Ok.field-0 (seek.moves t s).0 in
+    omega (
+      arith,
+      seek.arrives t,
+      target,
+      c.saturating_add.ensures,
+      c.requires.start told,
+      c.requires.within told,
+      length-drop (read.place self.inner - self.taken) (read.content self.inner).bytes,
+      g.met.R.Read.short self.inner t,
+      g.met.R.Read.place_fits self.inner t,
+    ) in
+    let same : (told : IsTrue (read.tells self.inner && read.steady self.inner)) →
+    payload_at (read.place after) c.args.place (read.content after) ≡ payload_at (read.place self.inner) self.taken (read.content self.inner) = λ told.
+    same-payload (read.content self.inner) (read.content after) (read.place self.inner) (read.place after) self.taken c.args.place
+    (seek.same_content (and-left (read.tells self.inner) (read.steady self.inner) told)) (omega (arith, taken told)) in
+    record {
+      key_bytes = self.key_bytes;
+      room = self.room;
+      offset = self.offset;
+      limit = self.limit;
+      in_chunk = self.in_chunk;
+      small = self.small;
+      more = self.more;
+      full = self.full;
+      count_fits = self.count_fits;
+      unspent = λ good. absurd (true≢false (sym c.requires.failed ∙ good));
+      sound = λ told. sound-moved g.S.Suite.opened self.key self.failed self.held self.at self.chunk.items self.last self.sought self.number self.taken
+          (read.place self.inner) (read.content self.inner) (read.rest self.inner) (self.sound (before told)) self.failed self.sought
+          c.args.place (read.place after) (read.content after) (read.rest after) c.requires.failed (same (before told)) (omega (arith, taken (before told)));
+    }
+
+pub returns-in-Err-clause-cause : goal.returns-in-Err-clause-cause
+returns-in-Err-clause-cause g c = λ told well memory quiet.
+    let self = c.args.self.now in
+    let read = g.R.Read in
+    let t = and-left (read.tells self.inner) (read.steady self.inner) told in
+    let seek = c.in-Err.ensures.seeks in
+    let want : c.in-Err.e ≢ OutOfMemory = λ is. memory (c.lost.ensures.same (λ refusal. subst IsRefusal is refusal) ∙ is) in
+    let refusal = seek.cause t well want quiet in
+    refused-start _ (read.place self.inner) (length (read.content self.inner).bytes) c.in-Err.e
+    (omega (
+      arith,
+      c.saturating_add.ensures,
+      c.requires.start told,
+      c.requires.within told,
+      length-drop (read.place self.inner - self.taken) (read.content self.inner).bytes,
+      (g.met.R.Read.stands self.inner t (and-right (read.tells self.inner) (read.steady self.inner) told)).within,
+    ))
+    (seek.refused t well refusal)

@@ -1,0 +1,554 @@
+use Rattle.std.proofs.Common.{rules, ◌≡◌, ◌<◌, ◌-◌, ◌+◌, ◌*◌, ◌^◌, ◌∙◌, arith, length, sym, subst, ap, IsTrue, ◌&&◌, refl, length-drop, true, Some, None, inr}
+use Rattle.std.proofs.lemmas.Bool.{true≢false}
+use Rattle.std.proofs.lemmas.List.Elements.{All-drop}
+use Rattle.age_io.specs.Reading.{IsQuiet}
+use Rattle.age_io.specs.Stretch.{from_place}
+use Rattle.age_stream.specs.Payload.{nonce, final_chunk, plain_len}
+use Rattle.age_stream.specs.Chunks.{delivered}
+use Rattle.age_stream.specs.Opening.{shorter}
+use Rattle.age_stream.specs.Reading.{payload_at, text_at}
+use Rattle.age_stream.specs.ReadingLaws.{and-left, and-right, taken-rest}
+use Rattle.age_stream.proofs.Ending.{err-well, ok-well, last-opens, sought-refuses, not-both, in_length-leads, is-end, not-end}
+use Rattle.age_stream.proofs.Judged.{ends_last, ends_badly}
+use Rattle.age_stream.proofs.Lengths.{plain_len_says}
+use Rattle.age_stream.proofs.Sound.{inner-well, rest-kept, same-steady, now-sound}
+use Rattle.age_stream.proofs.seeking.StreamReaderSeek.seek.Goals as goal
+
+pub enter_end-requires-clause-last : goal.enter_end-requires-clause-last
+enter_end-requires-clause-last g c = (plain_len_says c.in-Ok.size c.in-Ok-find.len c.in-Ok-find.ensures.plain).last
+
+pub enter_end-requires-clause-len : goal.enter_end-requires-clause-len
+enter_end-requires-clause-len g c = (plain_len_says c.in-Ok.size c.in-Ok-find.len c.in-Ok-find.ensures.plain).whole
+
+pub enter-requires-clause-before : goal.enter-requires-clause-before
+enter-requires-clause-before g c =
+    let p = plain_len_says c.in-Ok.size c.in-Ok-find.len c.in-Ok-find.ensures.plain in
+    omega (arith, p.whole, p.last.fits, p.last.enough, c.in-Ok-find.ensures.within, c.if-target-len.false)
+
+pub stand-requires-clause-within : goal.stand-requires-clause-within
+stand-requires-clause-within g c = λ told.
+    let self = c.args.self.now in
+    let read = g.R.Read in
+    let told_before : IsTrue (read.tells self.inner && read.steady self.inner) = rw (c.in-Ok.ensures.tells, c.in-Ok.ensures.steady) at told in
+    let t = and-left (read.tells self.inner) (read.steady self.inner) told_before in
+    let s = and-right (read.tells self.inner) (read.steady self.inner) told_before in
+    omega (
+      arith,
+      ap (λ p. length p.bytes) (c.in-Ok.ensures.payload told_before),
+      length-drop (read.place self.inner - self.taken) (read.content self.inner).bytes,
+      (self.sound told_before).fits,
+      (g.met.R.Read.stands self.inner t s).within,
+    )
+
+pub returns-in-Err-clause-seeks : goal.returns-in-Err-clause-seeks
+returns-in-Err-clause-seeks g c =
+    let self = c.args.self.now in
+    let read = g.R.Read in
+    let suite = g.S.Suite in
+    let place = 65536 * self.number + self.at in
+    let payload = payload_at (read.place self.inner) self.taken (read.content self.inner) in
+    let done = c.in-Err.ensures in
+    let content : IsTrue (read.tells self.inner && read.steady self.inner) →
+    delivered suite.opened c.look.new.self.key 0 (payload_at (read.place c.look.new.self.inner) c.look.new.self.taken (read.content c.look.new.self.inner)) ≡ delivered suite.opened self.key 0 payload = λ told.
+    ap (λ p. delivered suite.opened c.look.new.self.key 0 p) (done.payload told) ∙ ap (λ k. delivered suite.opened k 0 payload) (done.same.5) in
+    record {
+      same_tells = rw (done.tells, done.steady) refl;
+      same_steady = same-steady (read.tells self.inner) (read.steady self.inner) (delivered suite.opened self.key 0 payload).ends_well
+          (read.tells c.look.new.self.inner) (read.steady c.look.new.self.inner) (delivered suite.opened c.look.new.self.key 0 (payload_at (read.place c.look.new.self.inner) c.look.new.self.taken (read.content c.look.new.self.inner))).ends_well
+          (done.tells) (done.steady) (λ told. ap (λ d. d.ends_well) (content told));
+      no_fewer_faults = done.faults;
+      device = done.device;
+      unspent = tt;
+      same_content = content;
+      arrives = λ _. tt;
+      leads = λ _. tt;
+      stays = λ _. omega (arith, done.same.0, done.same.1);
+      interrupted = λ _ i. absurd (done.patient i);
+      moves = λ _ _. tt;
+      kept = λ _ _ _ r. absurd (done.refusal r);
+      refused = λ _ _ r. absurd (done.refusal r);
+      cause = λ told well memory quiet. absurd (done.cause told (inner-well suite.opened self.key payload well) memory quiet);
+    }
+
+pub returns-then-not-is_refusal-clause-seeks : goal.returns-then-not-is_refusal-clause-seeks
+returns-then-not-is_refusal-clause-seeks g c =
+    let self = c.args.self.now in
+    let read = g.R.Read in
+    let suite = g.S.Suite in
+    let place = 65536 * self.number + self.at in
+    let payload = payload_at (read.place self.inner) self.taken (read.content self.inner) in
+    let law = shorter suite.seal_of suite.opened g.met.S.Suite.cipher self.key self.key_bytes in
+    let are = λ (told : IsTrue (read.tells self.inner && read.steady self.inner)).
+    All-drop (λ x. x < 2 ^ 8) (read.place self.inner - self.taken) (read.content self.inner).bytes
+    (g.met.R.Read.are_bytes self.inner (and-left (read.tells self.inner) (read.steady self.inner) told)) in
+    let done = c.in-Ok.ensures in
+    let other = c.if-not-is_refusal.ensures.no refl in
+    let told_refusal : (told : IsTrue (read.tells self.inner && read.steady self.inner)) → (delivered suite.opened self.key 0 payload).ends_well ≡ true → ⊥ = λ told well.
+    let size : c.in-Ok.size ≡ length payload.bytes = (done.found told).2 in
+    let err = c.in-Err-find.ensures.err in
+    other (sought-refuses c.args.to place _ c.in-Err-find.e (err-well suite.opened self.key law payload (are told) well c.args.to place c.in-Err-find.e (rw size at err))) in
+    let content : IsTrue (read.tells self.inner && read.steady self.inner) →
+    delivered suite.opened c.look.new.self.key 0 (payload_at (read.place c.look.new.self.inner) c.look.new.self.taken (read.content c.look.new.self.inner)) ≡ delivered suite.opened self.key 0 payload = λ told.
+    ap (λ p. delivered suite.opened c.look.new.self.key 0 p) (done.payload told) ∙ ap (λ k. delivered suite.opened k 0 payload) (done.same.5) in
+    record {
+      same_tells = rw (done.tells, done.steady) refl;
+      same_steady = same-steady (read.tells self.inner) (read.steady self.inner) (delivered suite.opened self.key 0 payload).ends_well
+          (read.tells c.look.new.self.inner) (read.steady c.look.new.self.inner) (delivered suite.opened c.look.new.self.key 0 (payload_at (read.place c.look.new.self.inner) c.look.new.self.taken (read.content c.look.new.self.inner))).ends_well
+          (done.tells) (done.steady) (λ told. ap (λ d. d.ends_well) (content told));
+      no_fewer_faults = done.faults;
+      device = λ d. absurd (c.in-Err-find.ensures.not_device d);
+      unspent = tt;
+      same_content = content;
+      arrives = λ _. tt;
+      leads = λ _. tt;
+      stays = λ _. omega (arith, done.same.0, done.same.1);
+      interrupted = search rules;
+      moves = λ _ _. tt;
+      kept = λ _ _ _ r. absurd (other r);
+      refused = λ _ _ r. absurd (other r);
+      cause = λ told well memory quiet. absurd (told_refusal told well);
+    }
+
+pub returns-in-Err-stand-clause-seeks : goal.returns-in-Err-stand-clause-seeks
+returns-in-Err-stand-clause-seeks g c =
+    let self = c.args.self.now in
+    let read = g.R.Read in
+    let suite = g.S.Suite in
+    let place = 65536 * self.number + self.at in
+    let payload = payload_at (read.place self.inner) self.taken (read.content self.inner) in
+    let look = c.in-Ok.ensures in
+    let mid = c.look.new.self in
+    let later : IsTrue (read.tells self.inner && read.steady self.inner) → IsTrue (read.tells mid.inner && read.steady mid.inner) =
+    λ told. rw (look.tells, look.steady) told in
+    let done = c.in-Err-stand.ensures in
+    let key = done.same.5 ∙ look.same.5 in
+    let content : IsTrue (read.tells self.inner && read.steady self.inner) →
+    delivered suite.opened c.stand.new.self.key 0 (payload_at (read.place c.stand.new.self.inner) c.stand.new.self.taken (read.content c.stand.new.self.inner)) ≡ delivered suite.opened self.key 0 payload = λ told.
+    ap (λ p. delivered suite.opened c.stand.new.self.key 0 p) (done.payload (later told) ∙ look.payload told) ∙ ap (λ k. delivered suite.opened k 0 payload) (key) in
+    record {
+      same_tells = rw (done.tells, look.tells, done.steady, look.steady) refl;
+      same_steady = same-steady (read.tells self.inner) (read.steady self.inner) (delivered suite.opened self.key 0 payload).ends_well
+          (read.tells c.stand.new.self.inner) (read.steady c.stand.new.self.inner) (delivered suite.opened c.stand.new.self.key 0 (payload_at (read.place c.stand.new.self.inner) c.stand.new.self.taken (read.content c.stand.new.self.inner))).ends_well
+          (done.tells ∙ look.tells) (done.steady ∙ look.steady) (λ told. ap (λ d. d.ends_well) (content told));
+      no_fewer_faults = omega (arith, look.faults, done.faults);
+      device = λ d. omega (arith, look.faults, done.device d);
+      unspent = tt;
+      same_content = content;
+      arrives = λ _. tt;
+      leads = λ _. tt;
+      stays = λ _. omega (arith, look.same.0, look.same.1, done.same.0, done.same.1);
+      interrupted = λ _ i. absurd (done.patient i);
+      moves = λ _ _. tt;
+      kept = λ _ _ _ r. absurd (done.refusal r);
+      refused = λ _ _ r. absurd (done.refusal r);
+      cause = λ told well memory quiet.
+          let calm : IsQuiet (read.faults mid.inner) (read.faults c.stand.new.self.inner) =
+          record { same = omega (arith, look.faults, done.faults, quiet.same); below = quiet.below } in
+          let inner : IsTrue (payload_at (read.place mid.inner) mid.taken (read.content mid.inner)).ends_well =
+          ap (λ p. p.ends_well) (look.payload told) ∙ inner-well suite.opened self.key payload well in
+          absurd (done.cause (later told) inner memory calm);
+    }
+
+pub returns-in-Err-enter-clause-seeks : goal.returns-in-Err-enter-clause-seeks
+returns-in-Err-enter-clause-seeks g c =
+    let self = c.args.self.now in
+    let read = g.R.Read in
+    let suite = g.S.Suite in
+    let place = 65536 * self.number + self.at in
+    let payload = payload_at (read.place self.inner) self.taken (read.content self.inner) in
+    let look = c.in-Ok.ensures in
+    let mid = c.look.new.self in
+    let later : IsTrue (read.tells self.inner && read.steady self.inner) → IsTrue (read.tells mid.inner && read.steady mid.inner) =
+    λ told. rw (look.tells, look.steady) told in
+    let done = c.in-Err-enter.ensures in
+    let key = done.key ∙ look.same.5 in
+    let content : IsTrue (read.tells self.inner && read.steady self.inner) →
+    delivered suite.opened c.enter.new.self.key 0 (payload_at (read.place c.enter.new.self.inner) c.enter.new.self.taken (read.content c.enter.new.self.inner)) ≡ delivered suite.opened self.key 0 payload = λ told.
+    ap (λ p. delivered suite.opened c.enter.new.self.key 0 p) (done.payload (later told) ∙ look.payload told) ∙ ap (λ k. delivered suite.opened k 0 payload) (key) in
+    record {
+      same_tells = rw (done.tells, look.tells, done.steady, look.steady) refl;
+      same_steady = same-steady (read.tells self.inner) (read.steady self.inner) (delivered suite.opened self.key 0 payload).ends_well
+          (read.tells c.enter.new.self.inner) (read.steady c.enter.new.self.inner) (delivered suite.opened c.enter.new.self.key 0 (payload_at (read.place c.enter.new.self.inner) c.enter.new.self.taken (read.content c.enter.new.self.inner))).ends_well
+          (done.tells ∙ look.tells) (done.steady ∙ look.steady) (λ told. ap (λ d. d.ends_well) (content told));
+      no_fewer_faults = omega (arith, look.faults, done.faults);
+      device = λ d. omega (arith, look.faults, done.device d);
+      unspent = tt;
+      same_content = content;
+      arrives = λ _. tt;
+      leads = λ _. tt;
+      stays = λ _. omega (arith, look.same.0, look.same.1, done.stays.0, done.stays.1);
+      interrupted = λ _ i. absurd (done.patient i);
+      moves = λ _ _. tt;
+      kept = λ _ _ _ r. absurd (done.refusal r);
+      refused = λ _ _ r. absurd (done.refusal r);
+      cause = λ told well memory quiet.
+          let calm : IsQuiet (read.faults mid.inner) (read.faults c.enter.new.self.inner) =
+          record { same = omega (arith, look.faults, done.faults, quiet.same); below = quiet.below } in
+          let inner : IsTrue (payload_at (read.place mid.inner) mid.taken (read.content mid.inner)).ends_well =
+          ap (λ p. p.ends_well) (look.payload told) ∙ inner-well suite.opened self.key payload well in
+          absurd (done.cause (later told) inner memory calm);
+    }
+
+pub returns-in-Err-enter_end-clause-seeks : goal.returns-in-Err-enter_end-clause-seeks
+returns-in-Err-enter_end-clause-seeks g c =
+    let self = c.args.self.now in
+    let read = g.R.Read in
+    let suite = g.S.Suite in
+    let place = 65536 * self.number + self.at in
+    let payload = payload_at (read.place self.inner) self.taken (read.content self.inner) in
+    let look = c.in-Ok.ensures in
+    let mid = c.look.new.self in
+    let later : IsTrue (read.tells self.inner && read.steady self.inner) → IsTrue (read.tells mid.inner && read.steady mid.inner) =
+    λ told. rw (look.tells, look.steady) told in
+    let done = c.in-Err-enter_end.ensures in
+    let key = done.key ∙ look.same.5 in
+    let content : IsTrue (read.tells self.inner && read.steady self.inner) →
+    delivered suite.opened c.enter_end.new.self.key 0 (payload_at (read.place c.enter_end.new.self.inner) c.enter_end.new.self.taken (read.content c.enter_end.new.self.inner)) ≡ delivered suite.opened self.key 0 payload = λ told.
+    ap (λ p. delivered suite.opened c.enter_end.new.self.key 0 p) (done.payload (later told) ∙ look.payload told) ∙ ap (λ k. delivered suite.opened k 0 payload) (key) in
+    let law = shorter suite.seal_of suite.opened g.met.S.Suite.cipher self.key self.key_bytes in
+    let are = λ (told : IsTrue (read.tells self.inner && read.steady self.inner)).
+    All-drop (λ x. x < 2 ^ 8) (read.place self.inner - self.taken) (read.content self.inner).bytes
+    (g.met.R.Read.are_bytes self.inner (and-left (read.tells self.inner) (read.steady self.inner) told)) in
+    record {
+      same_tells = rw (done.tells, look.tells, done.steady, look.steady) refl;
+      same_steady = same-steady (read.tells self.inner) (read.steady self.inner) (delivered suite.opened self.key 0 payload).ends_well
+          (read.tells c.enter_end.new.self.inner) (read.steady c.enter_end.new.self.inner) (delivered suite.opened c.enter_end.new.self.key 0 (payload_at (read.place c.enter_end.new.self.inner) c.enter_end.new.self.taken (read.content c.enter_end.new.self.inner))).ends_well
+          (done.tells ∙ look.tells) (done.steady ∙ look.steady) (λ told. ap (λ d. d.ends_well) (content told));
+      no_fewer_faults = omega (arith, look.faults, done.faults);
+      device = λ d. omega (arith, look.faults, done.device d);
+      unspent = tt;
+      same_content = content;
+      arrives = λ _. tt;
+      leads = λ _. tt;
+      stays = λ _. omega (arith, look.same.0, look.same.1, done.stays.0, done.stays.1);
+      interrupted = λ _ i. absurd (done.patient i);
+      moves = λ _ _. tt;
+      kept = λ _ _ _ r. absurd (done.refusal r);
+      refused = λ _ _ r. absurd (done.refusal r);
+      cause = λ told well memory quiet.
+          let calm : IsQuiet (read.faults mid.inner) (read.faults c.enter_end.new.self.inner) =
+          record { same = omega (arith, look.faults, done.faults, quiet.same); below = quiet.below } in
+          let inner : IsTrue (payload_at (read.place mid.inner) mid.taken (read.content mid.inner)).ends_well =
+          ap (λ p. p.ends_well) (look.payload told) ∙ inner-well suite.opened self.key payload well in
+          let none = (done.cause (later told) inner memory calm).1 in
+          let same_key : mid.key ≡ self.key = look.same.5 in
+          let size : c.in-Ok.size ≡ length payload.bytes = (look.found told).2 in
+          let num = final_chunk c.in-Ok.size in
+          let moved = subst (λ p. suite.opened mid.key (nonce num true) (text_at num p) ≡ None) (look.payload told) none in
+          absurd (last-opens suite.opened self.key law payload (are told) well (rw (same_key, size) at moved));
+    }
+
+pub returns-in-Ok-enter-clause-seeks : goal.returns-in-Ok-enter-clause-seeks
+returns-in-Ok-enter-clause-seeks g c =
+    let self = c.args.self.now in
+    let read = g.R.Read in
+    let suite = g.S.Suite in
+    let place = 65536 * self.number + self.at in
+    let payload = payload_at (read.place self.inner) self.taken (read.content self.inner) in
+    let look = c.in-Ok.ensures in
+    let mid = c.look.new.self in
+    let later : IsTrue (read.tells self.inner && read.steady self.inner) → IsTrue (read.tells mid.inner && read.steady mid.inner) =
+    λ told. rw (look.tells, look.steady) told in
+    let law = shorter suite.seal_of suite.opened g.met.S.Suite.cipher self.key self.key_bytes in
+    let are = λ (told : IsTrue (read.tells self.inner && read.steady self.inner)).
+    All-drop (λ x. x < 2 ^ 8) (read.place self.inner - self.taken) (read.content self.inner).bytes
+    (g.met.R.Read.are_bytes self.inner (and-left (read.tells self.inner) (read.steady self.inner) told)) in
+    let done = c.in-Ok-enter.ensures in
+    let new = c.enter.new.self in
+    let key = done.key ∙ look.same.5 in
+    let law_new = shorter suite.seal_of suite.opened g.met.S.Suite.cipher new.key new.key_bytes in
+    let payload_new = payload_at (read.place new.inner) new.taken (read.content new.inner) in
+    let after : IsTrue (read.tells self.inner && read.steady self.inner) → IsTrue (read.tells new.inner && read.steady new.inner) =
+    λ told. rw (done.tells, done.steady) (later told) in
+    let content : IsTrue (read.tells self.inner && read.steady self.inner) →
+    delivered suite.opened new.key 0 (payload_at (read.place new.inner) new.taken (read.content new.inner)) ≡ delivered suite.opened self.key 0 payload = λ told.
+    ap (λ p. delivered suite.opened new.key 0 p) (done.payload (later told) ∙ look.payload told) ∙ ap (λ k. delivered suite.opened k 0 payload) (key) in
+    record {
+      same_tells = rw (done.tells, look.tells, done.steady, look.steady) refl;
+      same_steady = same-steady (read.tells self.inner) (read.steady self.inner) (delivered suite.opened self.key 0 payload).ends_well
+          (read.tells new.inner) (read.steady new.inner) (delivered suite.opened new.key 0 (payload_at (read.place new.inner) new.taken (read.content new.inner))).ends_well
+          (done.tells ∙ look.tells) (done.steady ∙ look.steady) (λ told. ap (λ d. d.ends_well) (content told));
+      no_fewer_faults = omega (arith, look.faults, done.faults);
+      device = tt;
+      unspent = done.unspent;
+      same_content = content;
+      arrives = λ told. done.arrives;
+      leads = λ told. in_length-leads (plain_len c.in-Ok.size) c.args.to place _ c.in-Ok-find.ensures.ok;
+      stays = λ _. tt;
+      interrupted = λ _. tt;
+      moves = λ told steady.
+          let well = and-right (read.tells self.inner && read.steady self.inner) _ steady in
+          let size : c.in-Ok.size ≡ length payload.bytes = (look.found told).2 in
+          let same = done.payload (later told) ∙ look.payload told in
+          let are_new = All-drop (λ x. x < 2 ^ 8) (read.place new.inner - new.taken) (read.content new.inner).bytes
+          (g.met.R.Read.are_bytes new.inner (and-left (read.tells new.inner) (read.steady new.inner) (after told))) in
+          let sound = now-sound suite.opened new.key law_new new.failed new.held new.at new.chunk.items new.last new.sought new.number new.taken (read.place new.inner) (read.content new.inner) (read.rest new.inner)
+          are_new (ap (λ d. d.ends_well) (content told) ∙ well) done.good new.in_chunk (new.sound (after told))
+          (λ shut. (done.rest (later told) ∙ ap (from_place new.taken) (sym (done.payload (later told))), omega (arith, done.more shut, size, ap (λ p. length p.bytes) same))) in (
+            ok-well suite.opened self.key law payload (are told) well c.args.to place _ (rw size at c.in-Ok-find.ensures.ok),
+            sound ∙ ap (λ d. from_place (65536 * new.number + new.at) d) (content told) ∙ ap (λ n. from_place n (delivered suite.opened self.key 0 payload)) (done.arrives),
+          );
+      kept = λ _ _ _. tt;
+      refused = λ _ _. tt;
+      cause = λ _ _. tt;
+    }
+
+pub returns-in-Ok-enter_end-clause-seeks : goal.returns-in-Ok-enter_end-clause-seeks
+returns-in-Ok-enter_end-clause-seeks g c =
+    let self = c.args.self.now in
+    let read = g.R.Read in
+    let suite = g.S.Suite in
+    let place = 65536 * self.number + self.at in
+    let payload = payload_at (read.place self.inner) self.taken (read.content self.inner) in
+    let look = c.in-Ok.ensures in
+    let mid = c.look.new.self in
+    let later : IsTrue (read.tells self.inner && read.steady self.inner) → IsTrue (read.tells mid.inner && read.steady mid.inner) =
+    λ told. rw (look.tells, look.steady) told in
+    let law = shorter suite.seal_of suite.opened g.met.S.Suite.cipher self.key self.key_bytes in
+    let are = λ (told : IsTrue (read.tells self.inner && read.steady self.inner)).
+    All-drop (λ x. x < 2 ^ 8) (read.place self.inner - self.taken) (read.content self.inner).bytes
+    (g.met.R.Read.are_bytes self.inner (and-left (read.tells self.inner) (read.steady self.inner) told)) in
+    let done = c.in-Ok-enter_end.ensures in
+    let new = c.enter_end.new.self in
+    let key = done.key ∙ look.same.5 in
+    let law_new = shorter suite.seal_of suite.opened g.met.S.Suite.cipher new.key new.key_bytes in
+    let payload_new = payload_at (read.place new.inner) new.taken (read.content new.inner) in
+    let after : IsTrue (read.tells self.inner && read.steady self.inner) → IsTrue (read.tells new.inner && read.steady new.inner) =
+    λ told. rw (done.tells, done.steady) (later told) in
+    let content : IsTrue (read.tells self.inner && read.steady self.inner) →
+    delivered suite.opened new.key 0 (payload_at (read.place new.inner) new.taken (read.content new.inner)) ≡ delivered suite.opened self.key 0 payload = λ told.
+    ap (λ p. delivered suite.opened new.key 0 p) (done.payload (later told) ∙ look.payload told) ∙ ap (λ k. delivered suite.opened k 0 payload) (key) in
+    record {
+      same_tells = rw (done.tells, look.tells, done.steady, look.steady) refl;
+      same_steady = same-steady (read.tells self.inner) (read.steady self.inner) (delivered suite.opened self.key 0 payload).ends_well
+          (read.tells new.inner) (read.steady new.inner) (delivered suite.opened new.key 0 (payload_at (read.place new.inner) new.taken (read.content new.inner))).ends_well
+          (done.tells ∙ look.tells) (done.steady ∙ look.steady) (λ told. ap (λ d. d.ends_well) (content told));
+      no_fewer_faults = omega (arith, look.faults, done.faults);
+      device = tt;
+      unspent = done.unspent;
+      same_content = content;
+      arrives = λ told. (done.arrives (later told) ∙ sym c.if-target-len.true);
+      leads = λ told. in_length-leads (plain_len c.in-Ok.size) c.args.to place _ c.in-Ok-find.ensures.ok;
+      stays = λ _. tt;
+      interrupted = λ _. tt;
+      moves = λ told steady.
+          let well = and-right (read.tells self.inner && read.steady self.inner) _ steady in
+          let size : c.in-Ok.size ≡ length payload.bytes = (look.found told).2 in
+          let same = done.payload (later told) ∙ look.payload told in
+          let are_new = All-drop (λ x. x < 2 ^ 8) (read.place new.inner - new.taken) (read.content new.inner).bytes
+          (g.met.R.Read.are_bytes new.inner (and-left (read.tells new.inner) (read.steady new.inner) (after told))) in
+          let sound = now-sound suite.opened new.key law_new new.failed new.held new.at new.chunk.items new.last new.sought new.number new.taken (read.place new.inner) (read.content new.inner) (read.rest new.inner)
+          are_new (ap (λ d. d.ends_well) (content told) ∙ well) done.good.0 new.in_chunk (new.sound (after told))
+          (λ shut. absurd (true≢false (sym done.good.1 ∙ shut))) in (
+            ok-well suite.opened self.key law payload (are told) well c.args.to place _ (rw size at c.in-Ok-find.ensures.ok),
+            sound ∙ ap (λ d. from_place (65536 * new.number + new.at) d) (content told) ∙ ap (λ n. from_place n (delivered suite.opened self.key 0 payload)) (done.arrives (later told) ∙ sym c.if-target-len.true),
+          );
+      kept = λ _ _ _. tt;
+      refused = λ _ _. tt;
+      cause = λ _ _. tt;
+    }
+
+pub returns-in-Ok-stand-clause-seeks : goal.returns-in-Ok-stand-clause-seeks
+returns-in-Ok-stand-clause-seeks g c =
+    let self = c.args.self.now in
+    let read = g.R.Read in
+    let suite = g.S.Suite in
+    let place = 65536 * self.number + self.at in
+    let payload = payload_at (read.place self.inner) self.taken (read.content self.inner) in
+    let look = c.in-Ok.ensures in
+    let mid = c.look.new.self in
+    let later : IsTrue (read.tells self.inner && read.steady self.inner) → IsTrue (read.tells mid.inner && read.steady mid.inner) =
+    λ told. rw (look.tells, look.steady) told in
+    let law = shorter suite.seal_of suite.opened g.met.S.Suite.cipher self.key self.key_bytes in
+    let are = λ (told : IsTrue (read.tells self.inner && read.steady self.inner)).
+    All-drop (λ x. x < 2 ^ 8) (read.place self.inner - self.taken) (read.content self.inner).bytes
+    (g.met.R.Read.are_bytes self.inner (and-left (read.tells self.inner) (read.steady self.inner) told)) in
+    let done = c.in-Ok-stand.ensures in
+    let new = c.stand.new.self in
+    let refusal = c.if-not-is_refusal.ensures.yes refl in
+    let content : IsTrue (read.tells self.inner && read.steady self.inner) →
+    delivered suite.opened new.key 0 (payload_at (read.place new.inner) new.taken (read.content new.inner)) ≡ delivered suite.opened self.key 0 payload = λ told.
+    ap (λ p. delivered suite.opened new.key 0 p) (done.payload (later told) ∙ look.payload told) ∙ ap (λ k. delivered suite.opened k 0 payload) (done.same.5 ∙ look.same.5) in
+    record {
+      same_tells = rw (done.tells, look.tells, done.steady, look.steady) refl;
+      same_steady = same-steady (read.tells self.inner) (read.steady self.inner) (delivered suite.opened self.key 0 payload).ends_well
+          (read.tells new.inner) (read.steady new.inner) (delivered suite.opened new.key 0 (payload_at (read.place new.inner) new.taken (read.content new.inner))).ends_well
+          (done.tells ∙ look.tells) (done.steady ∙ look.steady) (λ told. ap (λ d. d.ends_well) (content told));
+      no_fewer_faults = omega (arith, look.faults, done.faults);
+      device = λ d. absurd (c.in-Err-find.ensures.not_device d);
+      unspent = tt;
+      same_content = content;
+      arrives = λ _. tt;
+      leads = λ _. tt;
+      stays = λ _. omega (arith, look.same.0, look.same.1, done.same.0, done.same.1);
+      interrupted = λ _ i. absurd (not-both c.in-Err-find.e refusal i);
+      moves = λ _ _. tt;
+      kept = λ told steady sound r.
+          let well = and-right (read.tells self.inner && read.steady self.inner) _ steady in
+          let t = and-left (read.tells self.inner) (read.steady self.inner) told in
+          let s = and-right (read.tells self.inner) (read.steady self.inner) told in
+          let back = (done.stands (later told)).1 ∙ ap (from_place self.taken) (look.payload told) in
+          let kept = rest-kept suite.opened self.key self.failed self.held self.last self.at self.chunk.items self.number place self.taken
+          (delivered suite.opened self.key 0 payload) payload (read.rest self.inner) (read.rest new.inner) sound well
+          (taken-rest (read.content self.inner) (read.rest self.inner) (read.place self.inner) self.taken (g.met.R.Read.stands self.inner t s) (self.sound told).fits) back in
+          rw (done.same.0 ∙ look.same.0, done.same.1 ∙ look.same.1, done.same.2 ∙ look.same.2, done.same.3 ∙ look.same.3, done.same.4 ∙ look.same.4, done.same.5 ∙ look.same.5) kept;
+      refused = λ told well r.
+          let size : c.in-Ok.size ≡ length payload.bytes = (look.found told).2 in
+          err-well suite.opened self.key law payload (are told) well c.args.to place c.in-Err-find.e (rw size at c.in-Err-find.ensures.err);
+      cause = λ _ _ _ _. refusal;
+    }
+
+pub returns-in-Err-enter_end-clause-end : goal.returns-in-Err-enter_end-clause-end
+returns-in-Err-enter_end-clause-end g c =
+    λ told other.
+    let self = c.args.self.now in
+    let read = g.R.Read in
+    let suite = g.S.Suite in
+    let place = 65536 * self.number + self.at in
+    let payload = payload_at (read.place self.inner) self.taken (read.content self.inner) in
+    let look = c.in-Ok.ensures in
+    let mid = c.look.new.self in
+    let later : IsTrue (read.tells self.inner && read.steady self.inner) → IsTrue (read.tells mid.inner && read.steady mid.inner) =
+    λ told. rw (look.tells, look.steady) told in
+    let size : c.in-Ok.size ≡ length payload.bytes = (look.found told).2 in
+    absurd (other (is-end c.args.to place (length payload.bytes) c.in-Ok-find.target c.in-Ok-find.len (rw size at c.in-Ok-find.ensures.plain)
+    (sym c.is_below_start.ensures ∙ c.if-is_below_start.false) (rw size at c.in-Ok-find.ensures.ok) c.if-target-len.true))
+
+pub returns-in-Err-enter_end-clause-held : goal.returns-in-Err-enter_end-clause-held
+returns-in-Err-enter_end-clause-held g c =
+    λ told holds.
+    let self = c.args.self.now in
+    let read = g.R.Read in
+    let suite = g.S.Suite in
+    let place = 65536 * self.number + self.at in
+    let payload = payload_at (read.place self.inner) self.taken (read.content self.inner) in
+    let look = c.in-Ok.ensures in
+    let mid = c.look.new.self in
+    let later : IsTrue (read.tells self.inner && read.steady self.inner) → IsTrue (read.tells mid.inner && read.steady mid.inner) =
+    λ told. rw (look.tells, look.steady) told in
+    let size : c.in-Ok.size ≡ length payload.bytes = (look.found told).2 in
+    c.in-Err-enter_end.ensures.held (look.same.2 ∙ holds.0) (look.same.4 ∙ holds.1) (look.same.0 ∙ holds.2 ∙ sym (ap final_chunk size)) ∙ look.same.6
+
+pub returns-in-Ok-enter_end-clause-end : goal.returns-in-Ok-enter_end-clause-end
+returns-in-Ok-enter_end-clause-end g c =
+    λ told other.
+    let self = c.args.self.now in
+    let read = g.R.Read in
+    let suite = g.S.Suite in
+    let place = 65536 * self.number + self.at in
+    let payload = payload_at (read.place self.inner) self.taken (read.content self.inner) in
+    let look = c.in-Ok.ensures in
+    let mid = c.look.new.self in
+    let later : IsTrue (read.tells self.inner && read.steady self.inner) → IsTrue (read.tells mid.inner && read.steady mid.inner) =
+    λ told. rw (look.tells, look.steady) told in
+    let size : c.in-Ok.size ≡ length payload.bytes = (look.found told).2 in
+    absurd (other (is-end c.args.to place (length payload.bytes) c.in-Ok-find.target c.in-Ok-find.len (rw size at c.in-Ok-find.ensures.plain)
+    (sym c.is_below_start.ensures ∙ c.if-is_below_start.false) (rw size at c.in-Ok-find.ensures.ok) c.if-target-len.true))
+
+pub returns-in-Ok-enter_end-clause-held : goal.returns-in-Ok-enter_end-clause-held
+returns-in-Ok-enter_end-clause-held g c =
+    λ told holds.
+    let self = c.args.self.now in
+    let read = g.R.Read in
+    let suite = g.S.Suite in
+    let place = 65536 * self.number + self.at in
+    let payload = payload_at (read.place self.inner) self.taken (read.content self.inner) in
+    let look = c.in-Ok.ensures in
+    let mid = c.look.new.self in
+    let later : IsTrue (read.tells self.inner && read.steady self.inner) → IsTrue (read.tells mid.inner && read.steady mid.inner) =
+    λ told. rw (look.tells, look.steady) told in
+    let size : c.in-Ok.size ≡ length payload.bytes = (look.found told).2 in
+    c.in-Ok-enter_end.ensures.held (look.same.2 ∙ holds.0) (look.same.4 ∙ holds.1) (look.same.0 ∙ holds.2 ∙ sym (ap final_chunk size)) ∙ look.same.6
+
+pub returns-in-Ok-enter_end-clause-judges : goal.returns-in-Ok-enter_end-clause-judges
+returns-in-Ok-enter_end-clause-judges g c =
+    λ told other.
+    let self = c.args.self.now in
+    let read = g.R.Read in
+    let suite = g.S.Suite in
+    let place = 65536 * self.number + self.at in
+    let payload = payload_at (read.place self.inner) self.taken (read.content self.inner) in
+    let look = c.in-Ok.ensures in
+    let mid = c.look.new.self in
+    let later : IsTrue (read.tells self.inner && read.steady self.inner) → IsTrue (read.tells mid.inner && read.steady mid.inner) =
+    λ told. rw (look.tells, look.steady) told in
+    let size : c.in-Ok.size ≡ length payload.bytes = (look.found told).2 in
+    absurd (other (is-end c.args.to place (length payload.bytes) c.in-Ok-find.target c.in-Ok-find.len (rw size at c.in-Ok-find.ensures.plain)
+    (sym c.is_below_start.ensures ∙ c.if-is_below_start.false) (rw size at c.in-Ok-find.ensures.ok) c.if-target-len.true))
+
+pub returns-in-Ok-enter-clause-ends : goal.returns-in-Ok-enter-clause-ends
+returns-in-Ok-enter-clause-ends g c =
+    λ told end.
+    let self = c.args.self.now in
+    let read = g.R.Read in
+    let suite = g.S.Suite in
+    let place = 65536 * self.number + self.at in
+    let payload = payload_at (read.place self.inner) self.taken (read.content self.inner) in
+    let look = c.in-Ok.ensures in
+    let mid = c.look.new.self in
+    let later : IsTrue (read.tells self.inner && read.steady self.inner) → IsTrue (read.tells mid.inner && read.steady mid.inner) =
+    λ told. rw (look.tells, look.steady) told in
+    let size : c.in-Ok.size ≡ length payload.bytes = (look.found told).2 in
+    absurd (not-end c.args.to place (length payload.bytes) c.in-Ok-find.target c.in-Ok-find.len (rw size at c.in-Ok-find.ensures.plain)
+    (sym c.is_below_start.ensures ∙ c.if-is_below_start.false) (rw size at c.in-Ok-find.ensures.ok) (λ same. c.if-target-len.false same) end)
+
+pub returns-in-Ok-enter_end-clause-ends : goal.returns-in-Ok-enter_end-clause-ends
+returns-in-Ok-enter_end-clause-ends g c =
+    λ told end.
+    let self = c.args.self.now in
+    let read = g.R.Read in
+    let suite = g.S.Suite in
+    let place = 65536 * self.number + self.at in
+    let payload = payload_at (read.place self.inner) self.taken (read.content self.inner) in
+    let look = c.in-Ok.ensures in
+    let mid = c.look.new.self in
+    let later : IsTrue (read.tells self.inner && read.steady self.inner) → IsTrue (read.tells mid.inner && read.steady mid.inner) =
+    λ told. rw (look.tells, look.steady) told in
+    let law = shorter suite.seal_of suite.opened g.met.S.Suite.cipher self.key self.key_bytes in
+    let are = λ (told : IsTrue (read.tells self.inner && read.steady self.inner)).
+    All-drop (λ x. x < 2 ^ 8) (read.place self.inner - self.taken) (read.content self.inner).bytes
+    (g.met.R.Read.are_bytes self.inner (and-left (read.tells self.inner) (read.steady self.inner) told)) in
+    let size : c.in-Ok.size ≡ length payload.bytes = (look.found told).2 in
+    let done = c.in-Ok-enter_end.ensures in
+    let new = c.enter_end.new.self in
+    let after : IsTrue (read.tells new.inner && read.steady new.inner) = rw (done.tells, done.steady) (later told) in
+    let same = done.payload (later told) ∙ look.payload told in
+    let held = (new.sound after).is_held done.good.1 in
+    let opens = subst (λ p. suite.opened new.key (nonce new.number new.last) (text_at new.number p) ≡ Some new.chunk.items) same held.opens in
+    let number : new.number ≡ final_chunk (length payload.bytes) = done.good.3 ∙ ap final_chunk size in
+    ends_last suite.seal_of suite.opened g.met.S.Suite.cipher self.key self.key_bytes payload.bytes (are told) new.number new.chunk.items number
+    (rw (done.key ∙ look.same.5, done.good.2) at opens)
+
+pub returns-in-Err-enter_end-clause-bad : goal.returns-in-Err-enter_end-clause-bad
+returns-in-Err-enter_end-clause-bad g c =
+    λ told well memory quiet.
+    let self = c.args.self.now in
+    let read = g.R.Read in
+    let suite = g.S.Suite in
+    let place = 65536 * self.number + self.at in
+    let payload = payload_at (read.place self.inner) self.taken (read.content self.inner) in
+    let look = c.in-Ok.ensures in
+    let mid = c.look.new.self in
+    let later : IsTrue (read.tells self.inner && read.steady self.inner) → IsTrue (read.tells mid.inner && read.steady mid.inner) =
+    λ told. rw (look.tells, look.steady) told in
+    let law = shorter suite.seal_of suite.opened g.met.S.Suite.cipher self.key self.key_bytes in
+    let are = λ (told : IsTrue (read.tells self.inner && read.steady self.inner)).
+    All-drop (λ x. x < 2 ^ 8) (read.place self.inner - self.taken) (read.content self.inner).bytes
+    (g.met.R.Read.are_bytes self.inner (and-left (read.tells self.inner) (read.steady self.inner) told)) in
+    let size : c.in-Ok.size ≡ length payload.bytes = (look.found told).2 in
+    let done = c.in-Err-enter_end.ensures in
+    let calm : IsQuiet (read.faults mid.inner) (read.faults c.enter_end.new.self.inner) =
+    record { same = omega (arith, look.faults, done.faults, quiet.same); below = quiet.below } in
+    let inner : IsTrue (payload_at (read.place mid.inner) mid.taken (read.content mid.inner)).ends_well = ap (λ p. p.ends_well) (look.payload told) ∙ well in
+    let bad = done.cause (later told) inner memory calm in
+    let num = final_chunk c.in-Ok.size in
+    let moved = subst (λ p. suite.opened mid.key (nonce num true) (text_at num p) ≡ None) (look.payload told) bad.1 in
+    let same_key : mid.key ≡ self.key = look.same.5 in
+    inr (
+      bad.0,
+      record {
+        end = (is-end c.args.to place (length payload.bytes) c.in-Ok-find.target c.in-Ok-find.len (rw size at c.in-Ok-find.ensures.plain)
+            (sym c.is_below_start.ensures ∙ c.if-is_below_start.false) (rw size at c.in-Ok-find.ensures.ok) c.if-target-len.true);
+        bad = ends_badly suite.seal_of suite.opened g.met.S.Suite.cipher self.key self.key_bytes payload.bytes (are told) (rw (same_key, size) at moved);
+      },
+    )

@@ -1,0 +1,112 @@
+//! Random access to a payload.
+ghost use Rattle.std.specs.Prelude.{◌≡◌, ◌≢◌, ℕ, ◌+◌, ◌*◌, ◌/◌, ◌<◌, ◌≤◌, ◌⊎◌, ◌&&◌, Bool, false, true, IsTrue, List, length, take, drop, IfOk, IfErr, OnOk, OnErr, Ok, Err};
+ghost use Rattle.age_error.specs.Refusals.{IsDevice, IsInterruption};
+ghost use Rattle.age_error.specs.declared.io.Error.TheVariants.{OutOfMemory};
+ghost use Rattle.age_io.specs.Stretch.{IsCleanEnd};
+ghost use Rattle.age_io.specs.Reading.{IsQuiet, Delivers, EndsEarly};
+ghost use Rattle.age_io.specs.Cursor;
+ghost use Rattle.age_io.specs.Cursor.{IsRefusal};
+ghost use Rattle.age_stream.specs.Answering.{StandAt};
+ghost use Rattle.age_stream.specs.Targets.{sought_in};
+
+use crate::reader::StreamReader;
+use age_error::io::{Error, SeekFrom};
+use age_io::{Read, Seek};
+use age_suite::suite::Suite;
+
+impl<S: Suite, R: Read> StreamReader<S, R> {
+    ghost use Rattle.age_stream.specs.Reader.{payload_of, key_of, place_of};
+
+    // Reads until the buffer is full or the end. `filled` says how many bytes were read, also after a refusal.
+    fn read_full(&mut self, buf: &mut [u8], filled: &mut usize) -> Result<(), Error>
+        requires good { self.old.failed ≡ false }
+        ensures tells { let reader = ⟦<StreamReader<S, R> as Read>⟧ in reader.tells self.new ≡ reader.tells self.old }
+        ensures steady { let reader = ⟦<StreamReader<S, R> as Read>⟧ in reader.steady self.new ≡ reader.steady self.old }
+        ensures faults { let reader = ⟦<StreamReader<S, R> as Read>⟧ in reader.faults self.old ≤ reader.faults self.new }
+        ensures device { let reader = ⟦<StreamReader<S, R> as Read>⟧ in IfErr result (λ e. IsDevice e → reader.faults self.old < reader.faults self.new) }
+        ensures patient { IfErr result (λ e. IsInterruption e → ⊥) }
+        ensures count { filled.new ≤ length buf.new }
+        ensures content { let reader = ⟦<StreamReader<S, R> as Read>⟧ in IsTrue (reader.tells self.old) → reader.content self.new ≡ reader.content self.old }
+        ensures payload { IsTrue (⟦<StreamReader<S, R> as Read>⟧.tells self.old) → payload_of self.new ≡ payload_of self.old }
+        ensures key { key_of self.new ≡ key_of self.old }
+        ensures moves { 65536 * self.new.number + self.new.at ≡ 65536 * self.old.number + self.old.at + filled.new }
+        ensures bytes { let reader = ⟦<StreamReader<S, R> as Read>⟧ in IsTrue (reader.tells self.old) → OnOk result
+            (Delivers (take filled.new buf.new) (reader.rest self.old) (reader.rest self.new)) }
+        ensures stored { let reader = ⟦<StreamReader<S, R> as Read>⟧ in IsTrue (reader.tells self.old) → OnOk result
+            (StandAt S.seal_of (key_of self.old) (payload_of self.old).bytes (place_of self.old) (take filled.new buf.new)) }
+        ensures end { let reader = ⟦<StreamReader<S, R> as Read>⟧ in IsTrue (reader.tells self.old) → OnOk result
+            (filled.new < length buf.new → IsCleanEnd (reader.rest self.new)) }
+        ensures cause { let reader = ⟦<StreamReader<S, R> as Read>⟧ in IsTrue (reader.tells self.old) → IfErr result (λ e. e ≢ OutOfMemory →
+            IsQuiet (reader.faults self.old) (reader.faults self.new) → (reader.rest self.old).ends_well ≡ false) }
+        ensures good { OnOk result (self.new.failed ≡ false) }
+        ensures fails { OnErr result (self.new.failed ≡ true) }
+        ensures counts { self.old.opens ≤ self.new.opens }
+        ensures opens { self.new.opens ≤ self.old.opens + length buf.new / 65536 + 3 }
+    {
+        *filled = 0;
+        'reads: while *filled < buf.len() {
+            match self.read_on(&mut buf[*filled..]) {
+                Err(e) => return Err(e),
+                Ok(n) => {
+                    if n == 0 {
+                        return Ok(());
+                    }
+                    *filled += n;
+                }
+            }
+        }
+        Ok(())
+    }
+}
+
+impl<S: Suite, R: Seek> StreamReader<S, R> {
+    ghost use Rattle.age_stream.specs.Reader.{payload_of, key_of, place_of, HasFailed, opens_of};
+
+    /// Seeks, and then reads until the buffer is full or the end. It answers how many bytes it read, which are in front of
+    /// `buf`, and the reader stands after them.
+    ///
+    /// A refusal is that of the seek or of the read that met it, and so is the state after it: the reader has failed, but
+    /// where the seek refused with `BeforeStart` or `PastEnd`. What `buf` holds after a refusal isn't said.
+    pub fn read_at(&mut self, to: SeekFrom, buf: &mut [u8]) -> Result<usize, Error>
+        ensures tells { let reader = ⟦<StreamReader<S, R> as Read>⟧ in reader.tells self.new ≡ reader.tells self.old }
+        ensures steady { let reader = ⟦<StreamReader<S, R> as Read>⟧ in reader.steady self.new ≡ reader.steady self.old }
+        ensures faults { let reader = ⟦<StreamReader<S, R> as Read>⟧ in reader.faults self.old ≤ reader.faults self.new }
+        ensures device { let reader = ⟦<StreamReader<S, R> as Read>⟧ in IfErr result (λ e. IsDevice e → reader.faults self.old < reader.faults self.new) }
+        ensures patient { IfErr result (λ e. IsInterruption e → ⊥) }
+        ensures count { IfOk result (λ n. n ≤ length buf.new) }
+        ensures content { let reader = ⟦<StreamReader<S, R> as Read>⟧ in IsTrue (reader.tells self.old) → reader.content self.new ≡ reader.content self.old }
+        ensures payload { IsTrue (⟦<StreamReader<S, R> as Read>⟧.tells self.old) → payload_of self.new ≡ payload_of self.old }
+        ensures key { key_of self.new ≡ key_of self.old }
+
+        // It reads from where the seek leads, whatever the chunks are. On a plaintext that ends well it is a cursor's seek and
+        // read.
+        ensures order { IsTrue (⟦<StreamReader<S, R> as Read>⟧.tells self.old) → IfOk result (λ n.
+            (start : ℕ) × (sought_in to (place_of self.old) (length (payload_of self.old).bytes) ≡ Ok start) × (place_of self.new ≡ start + n)
+            × StandAt S.seal_of (key_of self.old) (payload_of self.old).bytes start (take n buf.new)) }
+        ensures cursor { let reader = ⟦<StreamReader<S, R> as Read>⟧ in IsTrue (reader.tells self.old) → IsTrue (reader.content self.old).ends_well →
+            IfOk result (λ n. (start : ℕ) × (Cursor.sought to (reader.place self.old) (length (reader.content self.old).bytes) ≡ Ok start)
+            × (take n buf.new ≡ take (length buf.new) (drop start (reader.content self.old).bytes))) }
+        ensures cause { let reader = ⟦<StreamReader<S, R> as Read>⟧ in IsTrue (reader.tells self.old) → IsTrue (reader.content self.old).ends_well →
+            IfErr result (λ e. e ≢ OutOfMemory → IsQuiet (reader.faults self.old) (reader.faults self.new) →
+            Cursor.sought to (reader.place self.old) (length (reader.content self.old).bytes) ≡ Err e) }
+
+        // Only a seek that refuses its target leaves the reader as it was.
+        ensures good { OnOk result (HasFailed self.new → ⊥) }
+        ensures fails { IfErr result (λ e. (IsRefusal e → ⊥) → HasFailed self.new) }
+
+        // How often it opens a chunk.
+        ensures counts { opens_of self.old ≤ opens_of self.new }
+        ensures opens { opens_of self.new ≤ opens_of self.old + length buf.new / 65536 + 4 }
+    {
+        match Seek::seek(self, to) {
+            Err(e) => Err(e),
+            Ok(_start) => {
+                let mut filled = 0;
+                match self.read_full(buf, &mut filled) {
+                    Err(e) => Err(e),
+                    Ok(()) => Ok(filled),
+                }
+            }
+        }
+    }
+}

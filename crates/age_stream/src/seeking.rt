@@ -1,0 +1,437 @@
+//! Seeking in a payload.
+ghost use Rattle.std.specs.Prelude.{◌≡◌, ◌≢◌, ℕ, ◌+◌, ◌-◌, ◌*◌, ◌/◌, ◌%◌, ◌^◌, ◌<◌, ◌≤◌, ◌⊎◌, ◌&&◌, Option, Some, None, Bool, true, false, IsTrue, List, length, take, drop, IfOk, IfErr, OnOk, OnErr, Ok, Err};
+ghost use Rattle.age_error.specs.Refusals.{IsDevice, IsInterruption};
+ghost use Rattle.age_error.specs.declared.io.Error.TheVariants.{OutOfMemory, BadEnd};
+ghost use Rattle.age_io.specs.Stretch.{Stretch, from_place};
+ghost use Rattle.age_io.specs.Reading.{IsQuiet, most_faults};
+ghost use Rattle.age_io.specs.Cursor.{Seeks, IsRefusal};
+ghost use Rattle.age_stream.specs.Payload;
+ghost use Rattle.age_stream.specs.Payload.{nonce, final_chunk, EndsAsLast};
+ghost use Rattle.age_stream.specs.Reading.{text_at, IsLastChunk};
+ghost use Rattle.age_stream.specs.Targets.{below_start, in_length, sought_in, IsToEnd, IsToBadEnd};
+
+use crate::reader::{SEALED_CHUNK, StreamReader, open_as};
+use crate::writer::{CHUNK, LONGEST_PLAINTEXT};
+use age_error::io::{Error, SeekFrom};
+use age_io::{Read, Seek, fill, place_at, seek_retrying, sought};
+use age_suite::suite::Suite;
+
+// The length of the plaintext of a payload of so many bytes, if there is one.
+#[tactic(auto, unfolding(crate::specs::Payload::plain_len))]
+fn plain_len(size: u64) -> Option<u64>
+    ensures { result ≡ Payload.plain_len size }
+{
+    let last = size.saturating_sub(1) / SEALED_CHUNK as u64;
+    let rest = size - SEALED_CHUNK as u64 * last;
+    if rest >= 16 && (last == 0 || rest > 16) {
+        Some(size - 16 * (last + 1))
+    } else {
+        None
+    }
+}
+
+// The refusal where the inner reader refuses a target inside its own content, or a read refuses as a seek does: the end
+// isn't where it was found.
+fn lost(error: Error) -> Error
+    ensures bad { IsRefusal error → result ≡ BadEnd }
+    ensures same { (IsRefusal error → ⊥) → result ≡ error }
+    ensures patient { IsInterruption result → IsInterruption error }
+    ensures device { IsDevice result → IsDevice error }
+    ensures refusal { IsRefusal result → ⊥ }
+    ensures memory { error ≢ OutOfMemory → result ≢ OutOfMemory }
+{
+    match error {
+        Error::BeforeStart | Error::PastEnd => Error::BadEnd,
+        other => other,
+    }
+}
+
+// Whether the target is reckoned from the place, and below 0.
+fn is_below_start(to: SeekFrom, place: u64) -> bool
+    requires { place < 2 ^ 63 }
+    ensures { result ≡ below_start to place }
+{
+    match to {
+        SeekFrom::Current(distance) => place_at(place, distance).is_none(),
+        SeekFrom::Start(_) | SeekFrom::End(_) => false,
+    }
+}
+
+// The target in a payload of so many bytes, and the length of its plaintext.
+#[tactic(auto, using(crate::proofs::Lengths::plain_len_says))]
+fn find(to: SeekFrom, place: u64, size: u64) -> Result<(u64, u64), Error>
+    requires { place < 2 ^ 63 }
+    ensures ok { IfOk result (λ found. in_length (Payload.plain_len size) to place ≡ Ok found.0) }
+    ensures err { IfErr result (λ e. in_length (Payload.plain_len size) to place ≡ Err e) }
+    ensures within { IfOk result (λ found. found.0 ≤ found.1) }
+    ensures plain { IfOk result (λ found. Payload.plain_len size ≡ Some found.1) }
+    ensures limit { IfOk result (λ found. found.1 ≤ 2 ^ 60) }
+    ensures not_device { IfErr result (λ e. IsDevice e → ⊥) }
+    ensures want { IfErr result (λ e. e ≢ OutOfMemory) }
+{
+    match plain_len(size) {
+        None => Err(Error::BadEnd),
+        Some(len) => {
+            if len > LONGEST_PLAINTEXT {
+                return Err(Error::TooLong);
+            }
+            match sought(to, place, len) {
+                Err(e) => Err(e),
+                Ok(target) => Ok((target, len)),
+            }
+        }
+    }
+}
+
+// Whether the target is outside of the plaintext.
+fn is_refusal(error: Error) -> bool
+    ensures yes { IsTrue result → IsRefusal error }
+    ensures no { result ≡ false → IsRefusal error → ⊥ }
+{
+    matches!(error, Error::BeforeStart | Error::PastEnd)
+}
+
+// Whether a chunk that is held so, with the place there in it, was found to be so by the verdict on it. A seek to the end
+// opens the last chunk as the last, and doesn't ask whether it opens as a middle one.
+fn is_judged(last: bool, at: usize) -> bool
+    ensures { IsTrue result → last ≡ true → at < 65536 }
+{
+    !last || at < CHUNK
+}
+
+impl<S: Suite, R: Seek> StreamReader<S, R> {
+    ghost use Rattle.age_stream.specs.Reader.{payload_of, key_of, IsAfterLast};
+
+    // Where the payload starts in the inner content, and how long it is. The inner reader goes to the end.
+    fn look(&mut self) -> Result<(u64, u64), Error>
+        requires failed { self.old.failed ≡ true }
+        ensures same { (self.new.number ≡ self.old.number) × (self.new.at ≡ self.old.at) × (self.new.held ≡ self.old.held)
+            × (self.new.chunk ≡ self.old.chunk) × (self.new.last ≡ self.old.last) × (self.new.key ≡ self.old.key)
+            × (self.new.opens ≡ self.old.opens) × (self.new.failed ≡ true) × (self.new.sought ≡ self.old.sought) }
+        ensures tells { R.tells self.new.inner ≡ R.tells self.old.inner }
+        ensures steady { R.steady self.new.inner ≡ R.steady self.old.inner }
+        ensures faults { R.faults self.old.inner ≤ R.faults self.new.inner }
+        ensures device { IfErr result (λ e. IsDevice e → R.faults self.old.inner < R.faults self.new.inner) }
+        ensures patient { IfErr result (λ e. IsInterruption e → ⊥) }
+        ensures refusal { IfErr result (λ e. IsRefusal e → ⊥) }
+        ensures payload { IsTrue (R.tells self.old.inner && R.steady self.old.inner) → payload_of self.new ≡ payload_of self.old }
+        ensures found { IsTrue (R.tells self.old.inner && R.steady self.old.inner) → IfOk result (λ found.
+            (found.0 ≡ R.place self.old.inner - self.old.taken) × (found.0 ≡ R.place self.new.inner - self.new.taken)
+            × (found.1 ≡ length (payload_of self.old).bytes)) }
+        ensures cause { IsTrue (R.tells self.old.inner && R.steady self.old.inner) → IsTrue (payload_of self.old).ends_well →
+            IfErr result (λ e. e ≢ OutOfMemory → IsQuiet (R.faults self.old.inner) (R.faults self.new.inner) → ⊥) }
+    {
+        match seek_retrying(&mut self.inner, SeekFrom::Current(0)) {
+            Err(e) => Err(lost(e)),
+            Ok(place) => {
+                let start = place.saturating_sub(self.taken);
+                match seek_retrying(&mut self.inner, SeekFrom::End(0)) {
+                    Err(e) => Err(lost(e)),
+                    Ok(end) => {
+                        let size = end.saturating_sub(start);
+                        self.taken = size;
+                        Ok((start, size))
+                    }
+                }
+            }
+        }
+    }
+
+    // Puts the inner reader at a place of the payload.
+    fn stand(&mut self, start: u64, place: u64) -> Result<(), Error>
+        requires failed { self.old.failed ≡ true }
+        requires start { IsTrue (R.tells self.old.inner && R.steady self.old.inner) → start ≡ R.place self.old.inner - self.old.taken }
+        requires within { IsTrue (R.tells self.old.inner && R.steady self.old.inner) → place ≤ length (payload_of self.old).bytes }
+        ensures same { (self.new.number ≡ self.old.number) × (self.new.at ≡ self.old.at) × (self.new.held ≡ self.old.held)
+            × (self.new.chunk ≡ self.old.chunk) × (self.new.last ≡ self.old.last) × (self.new.key ≡ self.old.key)
+            × (self.new.opens ≡ self.old.opens) × (self.new.failed ≡ true) × (self.new.sought ≡ self.old.sought) }
+        ensures tells { R.tells self.new.inner ≡ R.tells self.old.inner }
+        ensures steady { R.steady self.new.inner ≡ R.steady self.old.inner }
+        ensures faults { R.faults self.old.inner ≤ R.faults self.new.inner }
+        ensures device { IfErr result (λ e. IsDevice e → R.faults self.old.inner < R.faults self.new.inner) }
+        ensures patient { IfErr result (λ e. IsInterruption e → ⊥) }
+        ensures refusal { IfErr result (λ e. IsRefusal e → ⊥) }
+        ensures payload { IsTrue (R.tells self.old.inner && R.steady self.old.inner) → payload_of self.new ≡ payload_of self.old }
+        ensures unspent { OnOk result (R.faults self.new.inner < most_faults) }
+        ensures stands { IsTrue (R.tells self.old.inner && R.steady self.old.inner) → OnOk result ((self.new.taken ≡ place)
+            × (R.rest self.new.inner ≡ from_place place (payload_of self.old))) }
+        ensures start { IsTrue (R.tells self.old.inner && R.steady self.old.inner) → start ≡ R.place self.new.inner - self.new.taken }
+        ensures cause { IsTrue (R.tells self.old.inner && R.steady self.old.inner) → IsTrue (payload_of self.old).ends_well →
+            IfErr result (λ e. e ≢ OutOfMemory → IsQuiet (R.faults self.old.inner) (R.faults self.new.inner) → ⊥) }
+    {
+        match seek_retrying(
+            &mut self.inner,
+            SeekFrom::Start(start.saturating_add(place)),
+        ) {
+            Err(e) => Err(lost(e)),
+            Ok(_) => {
+                self.taken = place;
+                Ok(())
+            }
+        }
+    }
+
+    // Goes to a place before the end. A chunk that is held stays so where the place is in it, unless only a seek to the end
+    // may have found it to be the last.
+    fn enter(&mut self, start: u64, size: u64, place: u64) -> Result<(), Error>
+        requires failed { self.old.failed ≡ true }
+        requires sought { self.old.sought ≡ true }
+        requires limit { place < 2 ^ 60 }
+        requires start { IsTrue (R.tells self.old.inner && R.steady self.old.inner) → start ≡ R.place self.old.inner - self.old.taken }
+        requires size { IsTrue (R.tells self.old.inner && R.steady self.old.inner) → size ≡ length (payload_of self.old).bytes }
+        requires before { place + 16 * (place / 65536) + 16 < size }
+        ensures tells { R.tells self.new.inner ≡ R.tells self.old.inner }
+        ensures steady { R.steady self.new.inner ≡ R.steady self.old.inner }
+        ensures faults { R.faults self.old.inner ≤ R.faults self.new.inner }
+        ensures device { IfErr result (λ e. IsDevice e → R.faults self.old.inner < R.faults self.new.inner) }
+        ensures patient { IfErr result (λ e. IsInterruption e → ⊥) }
+        ensures refusal { IfErr result (λ e. IsRefusal e → ⊥) }
+        ensures key { self.new.key ≡ self.old.key }
+        ensures payload { IsTrue (R.tells self.old.inner && R.steady self.old.inner) → payload_of self.new ≡ payload_of self.old }
+        ensures sought { self.new.sought ≡ true }
+        ensures good { OnOk result (self.new.failed ≡ false) }
+        ensures fails { OnErr result (self.new.failed ≡ true) }
+        ensures arrives { OnOk result (65536 * self.new.number + self.new.at ≡ place) }
+        ensures stays { OnErr result ((self.new.number ≡ self.old.number) × (self.new.at ≡ self.old.at)) }
+        ensures before { OnOk result (IsAfterLast self.new → ⊥) }
+        ensures unspent { OnOk result (R.faults self.new.inner < most_faults) }
+        ensures rest { IsTrue (R.tells self.old.inner && R.steady self.old.inner) → OnOk result (R.rest self.new.inner ≡ from_place self.new.taken (payload_of self.old)) }
+        ensures more { OnOk result (self.new.held ≡ false → 65552 * self.new.number < size) }
+        ensures opens { self.new.opens ≡ self.old.opens }
+        ensures cause { IsTrue (R.tells self.old.inner && R.steady self.old.inner) → IsTrue (payload_of self.old).ends_well →
+            IfErr result (λ e. e ≢ OutOfMemory → IsQuiet (R.faults self.old.inner) (R.faults self.new.inner) → ⊥) }
+    {
+        let number = place / CHUNK as u64;
+        let at = (place % CHUNK as u64) as usize;
+        if self.held
+            && self.number == number
+            && at < self.chunk.len()
+            && is_judged(self.last, self.at)
+        {
+            let past = (SEALED_CHUNK as u64 * number + SEALED_CHUNK as u64).min(size);
+            match self.stand(start, past) {
+                Err(e) => Err(e),
+                Ok(()) => {
+                    self.at = at;
+                    self.failed = false;
+                    Ok(())
+                }
+            }
+        } else {
+            match self.stand(start, SEALED_CHUNK as u64 * number) {
+                Err(e) => Err(e),
+                Ok(()) => {
+                    self.number = number;
+                    self.at = at;
+                    self.held = false;
+                    self.failed = false;
+                    Ok(())
+                }
+            }
+        }
+    }
+
+    // Reads and opens the chunk before which the inner reader stands, as the last.
+    fn open_last(&mut self, number: u64) -> Result<(), Error>
+        requires failed { self.old.failed ≡ true }
+        requires sought { self.old.sought ≡ true }
+        requires limit { number < 2 ^ 44 }
+        requires stands { IsTrue (R.tells self.old.inner && R.steady self.old.inner) → (self.old.taken ≡ 65552 * number)
+            × (R.rest self.old.inner ≡ from_place (65552 * number) (payload_of self.old)) }
+        requires last { IsTrue (R.tells self.old.inner && R.steady self.old.inner) → IsLastChunk (length (payload_of self.old).bytes) number }
+        ensures tells { R.tells self.new.inner ≡ R.tells self.old.inner }
+        ensures steady { R.steady self.new.inner ≡ R.steady self.old.inner }
+        ensures faults { R.faults self.old.inner ≤ R.faults self.new.inner }
+        ensures device { IfErr result (λ e. IsDevice e → R.faults self.old.inner < R.faults self.new.inner) }
+        ensures patient { IfErr result (λ e. IsInterruption e → ⊥) }
+        ensures refusal { IfErr result (λ e. IsRefusal e → ⊥) }
+        ensures key { self.new.key ≡ self.old.key }
+        ensures payload { IsTrue (R.tells self.old.inner && R.steady self.old.inner) → payload_of self.new ≡ payload_of self.old }
+        ensures sought { self.new.sought ≡ true }
+        ensures good { OnOk result ((self.new.failed ≡ false) × (self.new.held ≡ true) × (self.new.last ≡ true) × (self.new.number ≡ number)) }
+        ensures fails { OnErr result (self.new.failed ≡ true) }
+        ensures arrives { IsTrue (R.tells self.old.inner && R.steady self.old.inner) → OnOk result (65536 * self.new.number + self.new.at ≡ length (payload_of self.old).bytes - 16 * (number + 1)) }
+        ensures stays { OnErr result ((self.new.number ≡ self.old.number) × (self.new.at ≡ self.old.at)) }
+        ensures unspent { OnOk result (R.faults self.new.inner < most_faults) }
+        ensures counts { self.old.opens ≤ self.new.opens }
+        ensures opens { self.new.opens ≤ self.old.opens + 1 }
+        ensures cause { IsTrue (R.tells self.old.inner && R.steady self.old.inner) → IsTrue (payload_of self.old).ends_well →
+            IfErr result (λ e. e ≢ OutOfMemory → IsQuiet (R.faults self.old.inner) (R.faults self.new.inner) →
+            (e ≡ BadEnd) × (S.opened self.old.key (nonce number true) (text_at number (payload_of self.old)) ≡ None)) }
+    {
+        let mut count = 0;
+        let answer = fill(&mut self.inner, &mut self.sealed, &mut count);
+        self.taken = self.taken.saturating_add(count as u64);
+        match answer {
+            Err(e) => Err(lost(e)),
+            Ok(()) => match open_as::<S>(
+                self.alloc,
+                &mut self.opens,
+                &self.key,
+                number,
+                true,
+                &self.sealed[..count],
+            ) {
+                Err(_) => Err(Error::OutOfMemory),
+                Ok(None) => Err(Error::BadEnd),
+                Ok(Some(chunk)) => {
+                    self.at = chunk.len();
+                    self.chunk = chunk;
+                    self.number = number;
+                    self.last = true;
+                    self.held = true;
+                    self.failed = false;
+                    Ok(())
+                }
+            },
+        }
+    }
+
+    // Goes to the end. The last chunk is opened as the last, unless it is held so.
+    fn enter_end(&mut self, start: u64, size: u64, len: u64) -> Result<(), Error>
+        requires failed { self.old.failed ≡ true }
+        requires sought { self.old.sought ≡ true }
+        requires start { IsTrue (R.tells self.old.inner && R.steady self.old.inner) → start ≡ R.place self.old.inner - self.old.taken }
+        requires size { IsTrue (R.tells self.old.inner && R.steady self.old.inner) → size ≡ length (payload_of self.old).bytes }
+        requires last { IsLastChunk size (final_chunk size) }
+        requires len { len + 16 * (final_chunk size + 1) ≡ size }
+        requires limit { len ≤ 2 ^ 60 }
+        ensures tells { R.tells self.new.inner ≡ R.tells self.old.inner }
+        ensures steady { R.steady self.new.inner ≡ R.steady self.old.inner }
+        ensures faults { R.faults self.old.inner ≤ R.faults self.new.inner }
+        ensures device { IfErr result (λ e. IsDevice e → R.faults self.old.inner < R.faults self.new.inner) }
+        ensures patient { IfErr result (λ e. IsInterruption e → ⊥) }
+        ensures refusal { IfErr result (λ e. IsRefusal e → ⊥) }
+        ensures key { self.new.key ≡ self.old.key }
+        ensures payload { IsTrue (R.tells self.old.inner && R.steady self.old.inner) → payload_of self.new ≡ payload_of self.old }
+        ensures sought { self.new.sought ≡ true }
+        ensures good { OnOk result ((self.new.failed ≡ false) × (self.new.held ≡ true) × (self.new.last ≡ true) × (self.new.number ≡ final_chunk size)) }
+        ensures fails { OnErr result (self.new.failed ≡ true) }
+        ensures arrives { IsTrue (R.tells self.old.inner && R.steady self.old.inner) → OnOk result (65536 * self.new.number + self.new.at ≡ len) }
+        ensures stays { OnErr result ((self.new.number ≡ self.old.number) × (self.new.at ≡ self.old.at)) }
+        ensures unspent { OnOk result (R.faults self.new.inner < most_faults) }
+        ensures counts { self.old.opens ≤ self.new.opens }
+        ensures opens { self.new.opens ≤ self.old.opens + 1 }
+        ensures held { self.old.held ≡ true → self.old.last ≡ true → self.old.number ≡ final_chunk size → self.new.opens ≡ self.old.opens }
+        ensures cause { IsTrue (R.tells self.old.inner && R.steady self.old.inner) → IsTrue (payload_of self.old).ends_well →
+            IfErr result (λ e. e ≢ OutOfMemory → IsQuiet (R.faults self.old.inner) (R.faults self.new.inner) →
+            (e ≡ BadEnd) × (S.opened self.old.key (nonce (final_chunk size) true) (text_at (final_chunk size) (payload_of self.old)) ≡ None)) }
+    {
+        let number = (size - 1) / SEALED_CHUNK as u64;
+        if self.held && self.last && self.number == number {
+            match self.stand(start, size) {
+                Err(e) => Err(e),
+                Ok(()) => {
+                    self.at = self.chunk.len();
+                    self.failed = false;
+                    Ok(())
+                }
+            }
+        } else {
+            match self.stand(start, SEALED_CHUNK as u64 * number) {
+                Err(e) => Err(e),
+                Ok(()) => self.open_last(number),
+            }
+        }
+    }
+}
+
+impl<S: Suite, R: Seek> Seek for StreamReader<S, R> {
+    ghost use Rattle.age_stream.specs.Reader.{payload_of, key_of, place_of, HasFailed, IsHolding, IsAfterLast, HoldsEnd, opens_of};
+
+    /// Moves to a target from 0 to the plaintext's length, counted in bytes of the plaintext, and answers the new place. A
+    /// success makes a failed reader good again.
+    ///
+    /// The plaintext's length is what the payload's own length gives, whatever its chunks are. A target before the end opens
+    /// nothing: the chunk there is opened, and judged by itself, when it is read. A target at the end opens the last chunk as
+    /// the last, unless it is held as such. The tests come in this order:
+    ///
+    /// - `BeforeStart`: the target is reckoned from the place, and below 0.
+    /// - `BadEnd`: the payload's length is that of no plaintext.
+    /// - `TooLong`: it is that of a plaintext of more than 2^60 bytes.
+    /// - `BeforeStart`: the target is reckoned from the end, and below 0. `PastEnd`: it is after the end.
+    /// - `BadEnd`: the target is the end, and the last chunk doesn't open as the last.
+    ///
+    /// Before and between them a refusal of the inner reader is answered as it is, but for one that says that a target inside
+    /// its own content is outside of it, which is `BadEnd`. Its interruptions are retried as by `seek_retrying` and `fill`.
+    /// `OutOfMemory` where the suite was refused memory for the last chunk's plaintext.
+    ///
+    /// After `BeforeStart` and `PastEnd` the place is as it was, and so is a failure. After any other refusal the reader has
+    /// failed, at the same place.
+    fn seek(&mut self, to: SeekFrom) -> Result<u64, Error>
+        ensures seeks { let reader = ⟦<StreamReader<S, R> as Read>⟧ in
+            Seeks reader.tells reader.steady reader.content reader.place reader.rest reader.faults self.old self.new to result }
+        ensures patient { IfErr result (λ e. IsInterruption e → ⊥) }
+        ensures payload { IsTrue (⟦<StreamReader<S, R> as Read>⟧.tells self.old) → payload_of self.new ≡ payload_of self.old }
+        ensures key { key_of self.new ≡ key_of self.old }
+
+        // By the order of the tests, and at the end by the last chunk.
+        ensures order { IsTrue (⟦<StreamReader<S, R> as Read>⟧.tells self.old) → IfOk result (λ n.
+            sought_in to (place_of self.old) (length (payload_of self.old).bytes) ≡ Ok n) }
+        ensures refused { IsTrue (⟦<StreamReader<S, R> as Read>⟧.tells self.old) → IfErr result (λ e. IsRefusal e →
+            sought_in to (place_of self.old) (length (payload_of self.old).bytes) ≡ Err e) }
+        ensures ends { IsTrue (⟦<StreamReader<S, R> as Read>⟧.tells self.old) → OnOk result
+            (IsToEnd (length (payload_of self.old).bytes) to (place_of self.old) → EndsAsLast S.seal_of (key_of self.old) (payload_of self.old).bytes) }
+        ensures bad { let reader = ⟦<StreamReader<S, R> as Read>⟧ in IsTrue (reader.tells self.old) → IsTrue (payload_of self.old).ends_well →
+            IfErr result (λ e. e ≢ OutOfMemory → IsQuiet (reader.faults self.old) (reader.faults self.new) →
+            (sought_in to (place_of self.old) (length (payload_of self.old).bytes) ≡ Err e)
+            ⊎ ((e ≡ BadEnd) × IsToBadEnd S.seal_of (key_of self.old) (payload_of self.old).bytes to (place_of self.old))) }
+
+        // A success clears a failure, a refusal leaves all as it was, and any other error fails.
+        ensures clears { OnOk result (HasFailed self.new → ⊥) }
+        ensures unmoved { IfErr result (λ e. IsRefusal e → (HasFailed self.new → HasFailed self.old) × (HasFailed self.old → HasFailed self.new)
+            × (place_of self.new ≡ place_of self.old) × (IsHolding self.old → IsHolding self.new) × (opens_of self.new ≡ opens_of self.old)) }
+        ensures fails { IfErr result (λ e. (IsRefusal e → ⊥) → HasFailed self.new) }
+
+        // The chunk at a place before the end will be judged by itself.
+        ensures judges { IsTrue (⟦<StreamReader<S, R> as Read>⟧.tells self.old) → OnOk result
+            ((IsToEnd (length (payload_of self.old).bytes) to (place_of self.old) → ⊥) → IsAfterLast self.new → ⊥) }
+
+        // How often it opens a chunk: only for a target at the end, once, and not where the last chunk is held as the last.
+        ensures counts { opens_of self.old ≤ opens_of self.new }
+        ensures opens { opens_of self.new ≤ opens_of self.old + 1 }
+        ensures end { IsTrue (⟦<StreamReader<S, R> as Read>⟧.tells self.old) →
+            (IsToEnd (length (payload_of self.old).bytes) to (place_of self.old) → ⊥) → opens_of self.new ≡ opens_of self.old }
+        ensures held { IsTrue (⟦<StreamReader<S, R> as Read>⟧.tells self.old) → HoldsEnd self.old → opens_of self.new ≡ opens_of self.old }
+    {
+        let place = CHUNK as u64 * self.number + self.at as u64;
+        if is_below_start(to, place) {
+            return Err(Error::BeforeStart);
+        }
+        let was_failed = self.failed;
+        let taken = self.taken;
+        // It stays so on each way out but a success and a refusal.
+        self.failed = true;
+        self.sought = true;
+        match self.look() {
+            Err(e) => Err(e),
+            Ok((start, size)) => match find(to, place, size) {
+                Err(e) => {
+                    if !is_refusal(e) {
+                        return Err(e);
+                    }
+                    match self.stand(start, taken) {
+                        Err(fault) => Err(fault),
+                        Ok(()) => {
+                            self.failed = was_failed;
+                            Err(e)
+                        }
+                    }
+                }
+                Ok((target, len)) => {
+                    if target == len {
+                        match self.enter_end(start, size, len) {
+                            Err(e) => Err(e),
+                            Ok(()) => Ok(target),
+                        }
+                    } else {
+                        match self.enter(start, size, target) {
+                            Err(e) => Err(e),
+                            Ok(()) => Ok(target),
+                        }
+                    }
+                }
+            },
+        }
+    }
+}
