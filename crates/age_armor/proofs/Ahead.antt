@@ -50,6 +50,12 @@ unfolding shown_ahead
 shown_small true bytes given filled most = omega arith
 shown_small false bytes given filled most = omega (arith, most, length-drop given (take filled bytes), length-take filled bytes)
 
+-- a failed reader shows nothing
+pub shown_gone : (failed : Bool) (bytes : List ℕ) (given filled n : ℕ) → failed ≡ true → n ≤ length (shown_ahead failed bytes given filled) → n ≡ 0
+unfolding shown_ahead
+shown_gone true bytes given filled n gone most = omega (arith, most)
+shown_gone false bytes given filled n gone most = absurd (true≢false (sym gone))
+
 pub gives_shown : (failed : Bool) (bytes : List ℕ) (given filled n : ℕ) (stage : Stage) (rest : Stretch) → n ≤ length (shown_ahead failed bytes given filled) →
     Delivers (take n (shown_ahead failed bytes given filled)) (rest_ahead failed bytes given filled stage rest) (rest_ahead failed bytes (given + n) filled stage rest)
 unfolding shown_ahead rest_ahead

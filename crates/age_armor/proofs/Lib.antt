@@ -12,9 +12,11 @@ pub mod WrittenLines
 pub mod Ending
 pub mod Ahead
 pub mod AheadLines
-pub mod Retrying
 pub mod Whole
 pub mod Testing
 pub mod Taking
 pub mod Staging
 pub mod ReaderSteps
+pub mod Walking
+pub mod OwnEndings
+pub mod Aiming

@@ -31,7 +31,7 @@ last_first : (line : List ℕ) → Lacks 10 line → 0 < length line → raw_lin
 last_first [] lacks some = absurd (omega arith)
 last_first (c ∷ line) lacks some = raw_lines_last c line lacks
 
-empty_nil : (line : List ℕ) → length line ≡ 0 → line ≡ []
+pub empty_nil : (line : List ℕ) → length line ≡ 0 → line ≡ []
 empty_nil [] e = refl
 empty_nil (c ∷ line) e = absurd (omega arith)
 

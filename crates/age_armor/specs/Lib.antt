@@ -15,4 +15,5 @@ pub mod Stages
 pub mod Ahead
 pub mod ReaderLaws
 pub mod Ending
+pub mod Seeking
 pub mod Reader

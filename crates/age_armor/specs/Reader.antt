@@ -6,6 +6,7 @@ use Rattle.age_io.specs.Stretch.{Stretch}
 use Rattle.age_armor.specs.declared.reader.ArmoredReader.{ArmoredReader}
 use Rattle.age_armor.specs.Delivered.{Outcome}
 use Rattle.age_armor.specs.Stages.{is_armored}
+use Rattle.age_armor.specs.Seeking.{text_outcome}
 use Rattle.age_armor.specs.Ahead.{outcome_ahead, rest_ahead, shown_ahead}
 use Rattle.age_armor.specs.DeliveredLaws.{content_of}
 
@@ -25,6 +26,10 @@ module _ {R : Type 0} {buf : buffered.Ghosts R} {read : readers.Ghosts R} where
   -- what the text still delivers, by the definition of armor, and how it ends
   abbrev pub outcome_of : ArmoredReader R buf read → Outcome
   outcome_of r = outcome_ahead r.bytes r.given r.filled r.stage (read.rest r.source.inner)
+
+  -- what the whole text delivers, and how it ends
+  abbrev pub text_outcome_of : ArmoredReader R buf read → Outcome
+  text_outcome_of r = text_outcome (read.content r.source.inner) (read.place r.source.inner - r.source.taken)
 
   -- ---- its members as a reader
 

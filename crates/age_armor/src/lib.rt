@@ -13,6 +13,9 @@ mod laws;
 mod reader;
 #[cfg(test)]
 mod reader_tests;
+#[cfg(test)]
+mod seek_tests;
+mod seeking;
 mod sending;
 mod showing;
 mod stages;

@@ -32,23 +32,24 @@ use std::alloc::Global;
 /// one call, each is taken from it only when it is asked for.
 #[derive(Drop)]
 pub struct ArmoredReader<R: BufRead> {
-    source: Counted<R>,
+    pub(crate) source: Counted<R>,
     decoder: Decoder,
-    stage: Stage,
+    pub(crate) stage: Stage,
     // The text of a line, where the inner reader doesn't show it in one piece.
     line: Vec<u8>,
     // The bytes from `given` to `filled` were read and not given yet.
-    bytes: [u8; 48],
-    given: usize,
-    filled: usize,
-    place: u64,
-    failed: bool,
+    pub(crate) bytes: [u8; 48],
+    pub(crate) given: usize,
+    pub(crate) filled: usize,
+    pub(crate) place: u64,
+    pub(crate) failed: bool,
     ghost room: { length bytes ≡ 48 },
     ghost order: { given ≤ filled },
     ghost within: { filled ≤ 48 },
     ghost fresh: { is_start stage ≡ true → given ≡ filled },
     ghost unspent: { failed ≡ false → is_start stage ≡ false → R.Read.faults source.inner < most_faults },
-    ghost counted: { IsTrue (R.Read.tells source.inner) → place + (filled - given) ≤ source.taken },
+    ghost counted: { IsTrue (R.Read.tells source.inner) → failed ≡ false → place + (filled - given) ≤ source.taken },
+    ghost fits: { IsTrue (R.Read.tells source.inner) → place < 2 ^ 63 },
     ghost inside: { IsTrue (R.Read.tells source.inner) → IsTrue (R.Read.steady source.inner) →
         place ≤ length (content_of (R.Read.content source.inner) (R.Read.place source.inner - source.taken)).bytes },
     ghost follows: { IsTrue (R.Read.tells source.inner) → IsTrue (R.Read.steady source.inner) →
@@ -87,7 +88,7 @@ impl<R: BufRead> Read for ArmoredReader<R> {
     ghost short = { λ r told. content_short (R.Read.content r.source.inner) (R.Read.place r.source.inner - r.source.taken)
         (R.Read.are_bytes r.source.inner told) (R.Read.short r.source.inner told) };
 
-    ghost place_fits = { λ r told. Prim.omega (arith, R.Read.place_fits r.source.inner told, r.counted told, r.source.behind told) };
+    ghost place_fits = { λ r told. r.fits told };
 
     /// Puts the next bytes in front of `buf`, and answers how many they are: of armor at most the rest of one line.
     ///
@@ -174,7 +175,7 @@ impl<R: BufRead> ArmoredReader<R> {
 
     // A read of a good reader into a buffer that isn't empty.
     #[tactic(auto, using(crate::proofs::Ahead::rest_failed, crate::proofs::Ahead::shown_small))]
-    fn read_on(&mut self, buf: &mut [u8]) -> Result<usize, Error>
+    pub(crate) fn read_on(&mut self, buf: &mut [u8]) -> Result<usize, Error>
         requires good { self.old.failed ≡ false }
         requires some { 0 < length buf.old }
         ensures reads { let reader = ⟦<ArmoredReader<R> as Read>⟧ in

@@ -9,9 +9,9 @@ use age_io::{BufRead, Bytes, Read, read_to_end, room_for};
 use std::alloc::Global;
 use std::test::Fail;
 
-const BEGIN: &[u8] = b"-----BEGIN AGE ENCRYPTED FILE-----\n";
+pub(crate) const BEGIN: &[u8] = b"-----BEGIN AGE ENCRYPTED FILE-----\n";
 
-const END: &[u8] = b"-----END AGE ENCRYPTED FILE-----\n";
+pub(crate) const END: &[u8] = b"-----END AGE ENCRYPTED FILE-----\n";
 
 // What a reader delivered, how it ended, and what it answered to a read after that.
 #[derive(Drop)]
@@ -94,7 +94,7 @@ fn delivers(alloc: Global, text: &[u8], bytes: &[u8], end: Option<Error>) -> Res
 }
 
 // These parts, one after another.
-fn joined(alloc: Global, parts: &[&[u8]]) -> Result<Vec<u8>, Error> {
+pub(crate) fn joined(alloc: Global, parts: &[&[u8]]) -> Result<Vec<u8>, Error> {
     let mut text = Vec::new(alloc);
     for part in parts {
         text.extend_from_slice(part)?;
@@ -103,7 +103,7 @@ fn joined(alloc: Global, parts: &[&[u8]]) -> Result<Vec<u8>, Error> {
 }
 
 // The armor of bytes, with this line ending.
-fn armored(alloc: Global, bytes: &[u8], feed: &[u8]) -> Result<Vec<u8>, Error> {
+pub(crate) fn armored(alloc: Global, bytes: &[u8], feed: &[u8]) -> Result<Vec<u8>, Error> {
     let mut text = Vec::new(alloc);
     text.extend_from_slice(b"-----BEGIN AGE ENCRYPTED FILE-----")?;
     text.extend_from_slice(feed)?;
@@ -117,7 +117,7 @@ fn armored(alloc: Global, bytes: &[u8], feed: &[u8]) -> Result<Vec<u8>, Error> {
 }
 
 // The byte at place i is i modulo 256.
-fn counting(alloc: Global, length: usize) -> Result<Vec<u8>, Error> {
+pub(crate) fn counting(alloc: Global, length: usize) -> Result<Vec<u8>, Error> {
     let mut bytes = Vec::new(alloc);
     for i in 0..length {
         bytes.push((i % 256) as u8)?;

@@ -16,6 +16,7 @@ ghost use Rattle.age_io.specs.Behind.{stands_behind, spent_behind};
 
 use crate::bufread::BufRead;
 use crate::seeking::Seek;
+use crate::targets::{is_refusal, unrefused};
 use crate::traits::Read;
 use crate::whole::{read_retrying, room_for, seek_retrying};
 use age_error::io::{Error, SeekFrom};
@@ -276,30 +277,6 @@ fn distance_back(count: usize) -> i64
     ensures { (place : ℕ) → count ≤ place → place_at place result ≡ Some (place - count) }
 {
     -(count as i64)
-}
-
-// Whether it says that the target is outside the content.
-fn is_refusal(error: Error) -> bool
-    ensures yes { IsTrue result → IsRefusal error }
-    ensures no { result ≡ false → IsRefusal error → ⊥ }
-{
-    match error {
-        Error::BeforeStart | Error::PastEnd => true,
-        _ => false,
-    }
-}
-
-// The error of a seek to bytes that were read: that they are outside the content is an answer of a broken reader alone.
-fn unrefused(error: Error) -> Error
-    ensures other { IsRefusal result → ⊥ }
-    ensures same { (IsRefusal error → ⊥) → result ≡ error }
-    ensures failed { IsRefusal error → result ≡ Failed }
-{
-    if is_refusal(error) {
-        Error::Failed
-    } else {
-        error
-    }
 }
 
 impl<R: Seek> Seek for BufReader<R> {

@@ -19,7 +19,7 @@ pub use memory::Bytes;
 pub use operations::{Answer, Op, run};
 pub use seeking::Seek;
 pub use standard::Std;
-pub use targets::{place_at, sought};
+pub use targets::{is_refusal, place_at, sought, unrefused};
 pub use traits::{Read, Write};
 pub use whole::{
     fill, flush_retrying, read_exact, read_retrying, read_to_end, room_for, seek_retrying,

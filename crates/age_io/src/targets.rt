@@ -1,6 +1,7 @@
 //! Where seeks lead.
-ghost use Rattle.std.specs.Prelude.{◌≡◌, ◌^◌, ◌<◌};
+ghost use Rattle.std.specs.Prelude.{◌≢◌, false, IsTrue, ◌≡◌, ◌^◌, ◌<◌};
 ghost use Rattle.age_io.specs.Cursor;
+ghost use Rattle.age_error.specs.declared.io.Error.TheVariants.{Failed};
 
 use age_error::io::{Error, SeekFrom};
 
@@ -33,5 +34,31 @@ pub fn place_at(base: u64, distance: i64) -> Option<u64>
         base.checked_sub(distance.unsigned_abs())
     } else {
         Some(base + distance as u64)
+    }
+}
+
+/// Whether an error says that the target of a seek is outside the content: `BeforeStart` or `PastEnd`.
+pub fn is_refusal(error: Error) -> bool
+    ensures yes { IsTrue result → Cursor.IsRefusal error }
+    ensures no { result ≡ false → Cursor.IsRefusal error → ⊥ }
+{
+    match error {
+        Error::BeforeStart | Error::PastEnd => true,
+        _ => false,
+    }
+}
+
+/// The error of a seek to bytes that were read before: that they are outside the content is an answer of a broken reader
+/// alone, and becomes `Failed`.
+pub fn unrefused(error: Error) -> Error
+    ensures other { Cursor.IsRefusal result → ⊥ }
+    ensures same { (Cursor.IsRefusal error → ⊥) → result ≡ error }
+    ensures failed { Cursor.IsRefusal error → result ≡ Failed }
+    ensures kept { result ≢ Failed → result ≡ error }
+{
+    if is_refusal(error) {
+        Error::Failed
+    } else {
+        error
     }
 }

@@ -17,7 +17,7 @@ use Rattle.age_stream.proofs.Lengths.{plain_len-last}
 use Rattle.age_stream.specs.Chunks.{chunk_of, delivered}
 use Rattle.age_stream.specs.FrontToEnd.{StopsAt}
 use Rattle.age_stream.specs.WellLaws.{accepted}
-use Rattle.age_stream.specs.Answering.{IsHeldAs, Gives, Refuses, RefusesItself, IsEnd, IsGoodEnd}
+use Rattle.age_stream.specs.Answering.{IsHeldAs, Gives, Refuses, RefusesItself, StopsNear, IsEnd, IsGoodEnd}
 use Rattle.age_stream.specs.Reading.{payload_at, text_at, IsFront, IsHeld, IsPast}
 use Rattle.age_stream.proofs.Payloads.{plain_len-payload, chunk-last}
 use Rattle.age_stream.proofs.Judged.{text_chunk, allowed-accepted, judged-middle, judged-last, judged-refused, judged-after_last, ends_last}
@@ -46,6 +46,16 @@ refuses-widened seal_of key sealed rest wanted place e r = record {
   from = r.from;
   to = omega (arith, r.to);
   why = elim r.why [ inl early ↦ inl early | inr stops ↦ inr stops.1 ];
+}
+
+-- what is refused over an inner reader that ends well is refused for its bytes
+pub refuses-near : (seal_of : Seal) (key : List ℕ) (sealed rest : Stretch) (wanted place : ℕ) (e : Error) → Refuses seal_of key sealed rest wanted place e → rest.ends_well ≡ true →
+    StopsNear seal_of key sealed.bytes place e
+refuses-near seal_of key sealed rest wanted place e r well = record {
+  number = r.number;
+  from = r.from;
+  to = r.to;
+  why = elim r.why [ inl early ↦ absurd (true≢false (sym well ∙ early.badly)) | inr stops ↦ stops ];
 }
 
 -- a reader that sought nothing, or whose content ends well, stands in the content

@@ -40,6 +40,13 @@ pub record Refuses (seal_of : Seal) (key : List ℕ) (sealed rest : Stretch) (wa
   pub to : place ≤ 65536 * number + 65536
   pub why : EndsEarly wanted rest ⊎ StopsAt seal_of key sealed.bytes number error
 
+-- A read at this place is refused since the chunk there, or one that ends there, or the bytes after it, say so.
+pub record StopsNear (seal_of : Seal) (key sealed : List ℕ) (place : ℕ) (error : Error) : Type 0 where
+  pub number : ℕ
+  pub from : 65536 * number ≤ place
+  pub to : place ≤ 65536 * number + 65536
+  pub why : StopsAt seal_of key sealed number error
+
 -- A read at this place is refused for the chunk at the place alone: the inner reader meets its own fault before it gave
 -- what was wanted of it, or the chunk says why. Bytes after a chunk are no reason.
 pub record RefusesItself (seal_of : Seal) (key : List ℕ) (sealed rest : Stretch) (wanted place : ℕ) (error : Error) : Type 0 where

@@ -1,5 +1,5 @@
 -- What a seek in a payload answers, by the order of its tests.
-use Rattle.std.specs.Prelude.{◌≡◌, ℕ, ◌^◌, Bool, true, false, nat_le, if◌then◌else◌, Option, Some, None, Result, Ok, Err, List, length}
+use Rattle.std.specs.Prelude.{◌≡◌, ℕ, ◌^◌, ◌⊎◌, Bool, true, false, nat_le, if◌then◌else◌, Option, Some, None, Result, Ok, Err, List, length}
 use Rattle.age_error.specs.declared.io.Error.{Error}
 use Rattle.age_error.specs.declared.io.Error.TheVariants.{BeforeStart, BadEnd, TooLong}
 use Rattle.age_io.specs.Cursor.{place_at, sought}
@@ -36,3 +36,8 @@ pub record IsToEnd (size : ℕ) (to : SeekFrom) (place : ℕ) : Type 0 where
 pub record IsToBadEnd (seal_of : Seal) (key sealed : List ℕ) (to : SeekFrom) (place : ℕ) : Type 0 where
   pub end : IsToEnd (length sealed) to place
   pub bad : EndsAsLast seal_of key sealed → ⊥
+
+-- a seek's refusal, where neither the device failed nor memory was refused: by the order of the tests, or for the last chunk
+abbrev pub IsRefusedTarget : Seal → List ℕ → List ℕ → SeekFrom → ℕ → Error → Type 0
+IsRefusedTarget seal_of key sealed to place e =
+    (sought_in to place (length sealed) ≡ Err e) ⊎ ((e ≡ BadEnd) × IsToBadEnd seal_of key sealed to place)

@@ -1,9 +1,9 @@
 //! The payload of a file of age-encryption.org/v1: the plaintext in sealed chunks (STREAM).
 #![tactic(auto)]
 
+mod access;
 pub mod laws;
 pub mod nonce;
-mod random;
 pub mod reader;
 mod seeking;
 pub mod whole;

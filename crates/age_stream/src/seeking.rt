@@ -8,7 +8,7 @@ ghost use Rattle.age_io.specs.Cursor.{Seeks, IsRefusal};
 ghost use Rattle.age_stream.specs.Payload;
 ghost use Rattle.age_stream.specs.Payload.{nonce, final_chunk, EndsAsLast};
 ghost use Rattle.age_stream.specs.Reading.{text_at, IsLastChunk};
-ghost use Rattle.age_stream.specs.Targets.{below_start, in_length, sought_in, IsToEnd, IsToBadEnd};
+ghost use Rattle.age_stream.specs.Targets.{below_start, in_length, sought_in, IsToEnd, IsRefusedTarget};
 
 use crate::reader::{SEALED_CHUNK, StreamReader, open_as};
 use crate::writer::{CHUNK, LONGEST_PLAINTEXT};
@@ -254,6 +254,8 @@ impl<S: Suite, R: Seek> StreamReader<S, R> {
         ensures stays { OnErr result ((self.new.number ≡ self.old.number) × (self.new.at ≡ self.old.at)) }
         ensures unspent { OnOk result (R.faults self.new.inner < most_faults) }
         ensures counts { self.old.opens ≤ self.new.opens }
+        ensures inner_end { IsTrue (R.tells self.old.inner && R.steady self.old.inner) → OnOk result
+            ((R.rest self.new.inner).ends_well ≡ (payload_of self.old).ends_well) }
         ensures opens { self.new.opens ≤ self.old.opens + 1 }
         ensures cause { IsTrue (R.tells self.old.inner && R.steady self.old.inner) → IsTrue (payload_of self.old).ends_well →
             IfErr result (λ e. e ≢ OutOfMemory → IsQuiet (R.faults self.old.inner) (R.faults self.new.inner) →
@@ -311,6 +313,8 @@ impl<S: Suite, R: Seek> StreamReader<S, R> {
         ensures stays { OnErr result ((self.new.number ≡ self.old.number) × (self.new.at ≡ self.old.at)) }
         ensures unspent { OnOk result (R.faults self.new.inner < most_faults) }
         ensures counts { self.old.opens ≤ self.new.opens }
+        ensures inner_end { IsTrue (R.tells self.old.inner && R.steady self.old.inner) → OnOk result
+            ((R.rest self.new.inner).ends_well ≡ (payload_of self.old).ends_well) }
         ensures opens { self.new.opens ≤ self.old.opens + 1 }
         ensures held { self.old.held ≡ true → self.old.last ≡ true → self.old.number ≡ final_chunk size → self.new.opens ≡ self.old.opens }
         ensures cause { IsTrue (R.tells self.old.inner && R.steady self.old.inner) → IsTrue (payload_of self.old).ends_well →
@@ -337,7 +341,7 @@ impl<S: Suite, R: Seek> StreamReader<S, R> {
 }
 
 impl<S: Suite, R: Seek> Seek for StreamReader<S, R> {
-    ghost use Rattle.age_stream.specs.Reader.{payload_of, key_of, place_of, HasFailed, IsHolding, IsAfterLast, HoldsEnd, opens_of};
+    ghost use Rattle.age_stream.specs.Reader.{payload_of, key_of, inner_rest_of, place_of, HasFailed, IsHolding, IsAfterLast, HoldsEnd, opens_of};
 
     /// Moves to a target from 0 to the plaintext's length, counted in bytes of the plaintext, and answers the new place. A
     /// success makes a failed reader good again.
@@ -374,8 +378,10 @@ impl<S: Suite, R: Seek> Seek for StreamReader<S, R> {
             (IsToEnd (length (payload_of self.old).bytes) to (place_of self.old) → EndsAsLast S.seal_of (key_of self.old) (payload_of self.old).bytes) }
         ensures bad { let reader = ⟦<StreamReader<S, R> as Read>⟧ in IsTrue (reader.tells self.old) → IsTrue (payload_of self.old).ends_well →
             IfErr result (λ e. e ≢ OutOfMemory → IsQuiet (reader.faults self.old) (reader.faults self.new) →
-            (sought_in to (place_of self.old) (length (payload_of self.old).bytes) ≡ Err e)
-            ⊎ ((e ≡ BadEnd) × IsToBadEnd S.seal_of (key_of self.old) (payload_of self.old).bytes to (place_of self.old))) }
+            IsRefusedTarget S.seal_of (key_of self.old) (payload_of self.old).bytes to (place_of self.old) e) }
+
+        ensures inner_end { IsTrue (⟦<StreamReader<S, R> as Read>⟧.tells self.old) → OnOk result
+            ((inner_rest_of self.new).ends_well ≡ (payload_of self.old).ends_well) }
 
         // A success clears a failure, a refusal leaves all as it was, and any other error fails.
         ensures clears { OnOk result (HasFailed self.new → ⊥) }

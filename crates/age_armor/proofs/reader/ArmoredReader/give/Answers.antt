@@ -22,7 +22,7 @@ invariant_of-self g c =
     let size : n ≡ length front = sym (length-take-le n (held before.bytes before.given before.filled) (rw (length-held before.bytes before.given before.filled all) fits)) in
     let d = gives_front before.failed before.bytes front before.given before.filled n before.stage (reader.rest before.source.inner) c.requires refl in
     let place : (IsTrue (reader.tells before.source.inner) → c.saturating_add-self.result ≡ before.place + n) = λ told.
-    omega (arith, c.saturating_add-self.ensures, before.counted told, before.source.behind told, g.met.R.Read.place_fits before.source.inner told, fits) in
+    omega (arith, c.saturating_add-self.ensures, before.counted told c.requires, before.source.behind told, g.met.R.Read.place_fits before.source.inner told, fits) in
     let stands : (IsTrue (reader.tells before.source.inner) → IsTrue (reader.steady before.source.inner) → StandsIn content c.saturating_add-self.result new) = λ told steady.
     rw (place told) (given_stands content rest new before.place n front size d
     (stands_by content rest before.place (before.inside told steady) (before.follows told steady))) in
@@ -32,7 +32,8 @@ invariant_of-self g c =
       within = before.within;
       fresh = λ start. omega (arith, before.fresh start, fits);
       unspent = before.unspent;
-      counted = λ told. omega (arith, before.counted told, place told, fits);
+      counted = λ told good. omega (arith, before.counted told c.requires, place told, fits);
+      fits = λ told. omega (arith, before.counted told c.requires, place told, fits, before.source.behind told, g.met.R.Read.place_fits before.source.inner told);
       inside = λ told steady. (stands told steady).within;
       follows = λ told steady some. stands_follows content new c.saturating_add-self.result (stands told steady) some;
     }
@@ -56,4 +57,4 @@ pub returns-clause-moves : goal.returns-clause-moves
 returns-clause-moves g c = λ told.
     let before = c.args.self.now in
     let fits : c.min-count.result ≤ before.filled - before.given = grind (arith, common_steps) in
-    omega (arith, c.saturating_add-self.ensures, before.counted told, before.source.behind told, g.met.R.Read.place_fits before.source.inner told, fits)
+    omega (arith, c.saturating_add-self.ensures, before.counted told c.requires, before.source.behind told, g.met.R.Read.place_fits before.source.inner told, fits)

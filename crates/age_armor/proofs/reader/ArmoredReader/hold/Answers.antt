@@ -42,7 +42,8 @@ invariant_of-self g c =
       within = now.fits;
       fresh = λ start. absurd (true≢false (sym start ∙ now.begun));
       unspent = λ good begun. now.kept.unspent;
-      counted = λ told. omega (arith, before.counted (told_before told), now.taken (told_before told));
+      counted = λ told good. omega (arith, before.counted (told_before told) c.requires, now.taken (told_before told));
+      fits = λ told. before.fits (told_before told);
       inside = λ told steady. (stands told steady).within;
       follows = λ told steady some. stands_follows other new before.place (stands told steady) some;
     }
@@ -64,7 +65,8 @@ invariant_of-self-in-Err g c =
       within = before.within;
       fresh = before.fresh;
       unspent = λ good. absurd (true≢false good);
-      counted = λ told. omega (arith, before.counted (told_before told), now.kept.more (told_before told));
+      counted = λ told good. absurd (true≢false good);
+      fits = λ told. before.fits (told_before told);
       inside = λ told steady. subst (λ s. before.place ≤ length s.bytes) (sym (same told)) (before.inside (told_before told) (steady_before steady));
       follows = λ told steady some. absurd (some (rest_failed before.bytes before.given before.filled before.stage (reader.rest source.inner)));
     }

@@ -1,4 +1,4 @@
-use Rattle.std.proofs.Common.{◌≡◌, ◌-◌, ◌≤◌, ◌∙◌, arith, refl, IsTrue, false}
+use Rattle.std.proofs.Common.{◌≡◌, ◌-◌, ◌^◌, ◌<◌, ◌≤◌, ◌∙◌, arith, refl, IsTrue, false}
 use Rattle.std.proofs.lemmas.Bool.{true≢false}
 use Rattle.age_io.specs.Reading.{StandsIn}
 use Rattle.age_armor.specs.declared.stages.Stage.TheVariants.{Start}
@@ -25,7 +25,8 @@ invariant_of-result-2 g c =
       within = let h : 0 ≤ 48 = omega arith in h;
       fresh = λ start. refl;
       unspent = λ good begun. absurd (true≢false begun);
-      counted = λ told. let h : 0 ≤ 0 = omega arith in h;
+      counted = λ told good. let h : 0 ≤ 0 = omega arith in h;
+      fits = λ told. let h : 0 < 2 ^ 63 = omega arith in h;
       inside = λ told steady. (stands told steady).within;
       follows = λ told steady some. stands_follows content rest 0 (stands told steady) some;
     }

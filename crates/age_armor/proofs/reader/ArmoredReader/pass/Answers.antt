@@ -24,7 +24,7 @@ invariant_of-self g c =
     let steady_before : (IsTrue (reader.steady source.inner) → IsTrue (reader.steady before.source.inner)) = λ steady. sym now.kept.same_steady ∙ steady in
     let same : (IsTrue (reader.tells source.inner) → other ≡ content) = λ told. rw (now.kept.same_content (told_before told), now.kept.origin (told_before told)) refl in
     let place : (IsTrue (reader.tells source.inner) → c.saturating_add-self.result ≡ before.place + n) = λ told.
-    omega (arith, c.saturating_add-self.ensures, before.counted (told_before told), now.taken (told_before told), source.behind told, g.met.R.Read.place_fits source.inner told) in
+    omega (arith, c.saturating_add-self.ensures, before.counted (told_before told) c.requires.good, now.taken (told_before told), source.behind told, g.met.R.Read.place_fits source.inner told) in
     let stands : (IsTrue (reader.tells source.inner) → IsTrue (reader.steady source.inner) → StandsIn other c.saturating_add-self.result new) = λ told steady.
     rw (place told, same told) (given_stands content rest new before.place n front size
     (pass_delivers before.failed before.bytes front before.given before.filled before.stage _ _ c.requires.good c.requires.binary all c.requires.given (now.bytes (told_before told)))
@@ -35,7 +35,8 @@ invariant_of-self g c =
       within = before.within;
       fresh = before.fresh;
       unspent = λ good begun. now.kept.unspent;
-      counted = λ told. omega (arith, before.counted (told_before told), place told, now.taken (told_before told));
+      counted = λ told good. omega (arith, before.counted (told_before told) c.requires.good, place told, now.taken (told_before told));
+      fits = λ told. omega (arith, before.counted (told_before told) c.requires.good, place told, now.taken (told_before told), source.behind told, g.met.R.Read.place_fits source.inner told);
       inside = λ told steady. (stands told steady).within;
       follows = λ told steady some. stands_follows other new c.saturating_add-self.result (stands told steady) some;
     }
@@ -85,7 +86,8 @@ invariant_of-self-in-Err g c =
       within = before.within;
       fresh = before.fresh;
       unspent = λ good. absurd (true≢false good);
-      counted = λ told. omega (arith, before.counted (told_before told), now.kept.more (told_before told));
+      counted = λ told good. absurd (true≢false good);
+      fits = λ told. before.fits (told_before told);
       inside = λ told steady. subst (λ s. before.place ≤ length s.bytes) (sym (same told)) (before.inside (told_before told) (steady_before steady));
       follows = λ told steady some. absurd (some (rest_failed before.bytes before.given before.filled before.stage (reader.rest source.inner)));
     }
@@ -110,4 +112,4 @@ returns-in-Ok-clause-moves g c = λ told.
     let before = c.args.self.now in
     let now = c.in-Ok.ensures in
     let told_now : IsTrue (g.R.Read.tells c.read.new.self.inner) = now.kept.same_tells ∙ told in
-    omega (arith, c.saturating_add-self.ensures, before.counted told, now.taken told, c.read.new.self.behind told_now, g.met.R.Read.place_fits c.read.new.self.inner told_now)
+    omega (arith, c.saturating_add-self.ensures, before.counted told c.requires.good, now.taken told, c.read.new.self.behind told_now, g.met.R.Read.place_fits c.read.new.self.inner told_now)

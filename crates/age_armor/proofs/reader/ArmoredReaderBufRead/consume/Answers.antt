@@ -1,8 +1,9 @@
-use Rattle.std.proofs.Common.{◌≡◌, ◌+◌, ◌-◌, ◌≤◌, arith, take, length, IsTrue, refl}
+use Rattle.std.proofs.Common.{inl, inr, ◌≡◌, ◌+◌, ◌-◌, ◌≤◌, arith, take, length, IsTrue, refl}
+use Rattle.std.proofs.lemmas.Bool.{cases_Bool}
 use Rattle.age_io.specs.Reading.{StandsIn}
 use Rattle.age_armor.specs.Ahead.{rest_ahead, shown_ahead}
 use Rattle.age_armor.specs.DeliveredLaws.{content_of, stands_by, stands_follows}
-use Rattle.age_armor.proofs.Ahead.{given_stands, gives_shown, shown_fits, length_shown, shown_further, ending_same}
+use Rattle.age_armor.proofs.Ahead.{given_stands, gives_shown, shown_fits, shown_gone, length_shown, shown_further, ending_same}
 use Rattle.age_armor.proofs.reader.ArmoredReaderBufRead.consume.Goals as goal
 
 pub overflow_add-self : goal.overflow_add-self
@@ -25,7 +26,7 @@ invariant_of-self g c =
     let size = length_shown before.failed before.bytes before.given before.filled n c.requires in
     let d = gives_shown before.failed before.bytes before.given before.filled n before.stage (reader.rest before.source.inner) c.requires in
     let place : (IsTrue (reader.tells before.source.inner) → c.saturating_add-self.result ≡ before.place + n) = λ told.
-    omega (arith, c.saturating_add-self.ensures, before.counted told, before.source.behind told, g.met.R.Read.place_fits before.source.inner told, fits) in
+    omega (arith, c.saturating_add-self.ensures, before.fits told, before.within, fits) in
     let stands : (IsTrue (reader.tells before.source.inner) → IsTrue (reader.steady before.source.inner) → StandsIn content c.saturating_add-self.result new) = λ told steady.
     rw (place told) (given_stands content rest new before.place n (take n (shown_ahead before.failed before.bytes before.given before.filled)) size d
     (stands_by content rest before.place (before.inside told steady) (before.follows told steady))) in
@@ -35,7 +36,11 @@ invariant_of-self g c =
       within = before.within;
       fresh = λ start. omega (arith, before.fresh start, fits);
       unspent = before.unspent;
-      counted = λ told. omega (arith, before.counted told, place told, fits);
+      counted = λ told good. omega (arith, before.counted told good, place told, fits);
+      fits = λ told. elim (cases_Bool before.failed) [
+        | inl gone ↦ omega (arith, before.fits told, place told, shown_gone before.failed before.bytes before.given before.filled n gone c.requires)
+        | inr good ↦ omega (arith, before.counted told good, place told, fits, before.source.behind told, g.met.R.Read.place_fits before.source.inner told)
+      ];
       inside = λ told steady. (stands told steady).within;
       follows = λ told steady some. stands_follows content new c.saturating_add-self.result (stands told steady) some;
     }
@@ -52,7 +57,7 @@ returns-clause-consumes g c =
       shows = shown_further before.failed before.bytes before.given before.filled c.args.amount;
       same_content = λ told. refl;
       bytes = λ told. gives_shown before.failed before.bytes before.given before.filled c.args.amount before.stage (g.R.Read.rest before.source.inner) c.requires;
-      moves = λ told. omega (arith, c.saturating_add-self.ensures, before.counted told, before.source.behind told, g.met.R.Read.place_fits before.source.inner told, fits);
+      moves = λ told. omega (arith, c.saturating_add-self.ensures, before.fits told, before.within, fits);
     }
 
 pub returns-clause-ending : goal.returns-clause-ending

@@ -66,3 +66,6 @@ invariant_of-self g c =
           law c.len-self.result (g.met.R.Read.are_bytes mid.inner (and-left (read.tells mid.inner) (read.steady mid.inner) told)) is_held (done.same.8 ∙ c.requires.sought) (omega (arith, there))
           (λ apart e. apart (record { is_last = e.is_last; none = e.none; full = omega (arith, e.full, there, small, in_chunk) })) past;
     }
+
+pub returns-in-Ok-clause-inner_end : goal.returns-in-Ok-clause-inner_end
+returns-in-Ok-clause-inner_end g c = λ told. ap (λ s. s.ends_well) (c.in-Ok.ensures.stands told).1

@@ -152,3 +152,9 @@ invariant_of-self-in-Ok-Some g c =
           (c.in-Ok.ensures.content t) (c.in-Ok.ensures.moves t) (g.met.R.Read.place_fits after (and-left _ _ told)) c.saturating_add-self.ensures
           c.requires.sought (c.requires.stands b).0 long whole (c.requires.last b) c.requires.limit longer there (sym some);
     }
+
+pub returns-in-Ok-Some-clause-inner_end : goal.returns-in-Ok-Some-clause-inner_end
+returns-in-Ok-Some-clause-inner_end g c = λ told.
+    let self = c.args.self.now in
+    let t = and-left (g.R.Read.tells self.inner) (g.R.Read.steady self.inner) told in
+    (c.in-Ok.ensures.bytes t).end ∙ ap (λ s. s.ends_well) (c.requires.stands told).1

@@ -1,5 +1,7 @@
-use Rattle.std.proofs.Common.{◌∙◌, sym, ap, IsTrue, take, length, length-take-le}
-use Rattle.age_stream.specs.Reader.{tells_of, content_of, steady_of}
+use Rattle.age_io.specs.Reading.{IsQuiet}
+use Rattle.age_stream.specs.Answering.{StopsNear, IsGoodEnd}
+use Rattle.std.proofs.Common.{◌∙◌, sym, ap, IsTrue, take, length, length-take-le, subst, inl, inr, arith}
+use Rattle.age_stream.specs.Reader.{tells_of, content_of, steady_of, payload_of, place_of}
 use Rattle.age_stream.specs.ReadingLaws.{both-true}
 use Rattle.age_stream.proofs.Answered.{read-through}
 use Rattle.age_stream.proofs.reader.StreamReader.read_at.Goals as goal
@@ -19,3 +21,27 @@ returns-in-Ok-read_full-clause-cursor g c = λ told well.
           (sym (ap (λ s. s.bytes) there.1) ∙ came.bytes)
           (length-take-le c.read_full.new.filled c.read_full.new.buf read.count) read.count (λ less. (read.end told_mid less).bytes),
     )
+
+pub returns-in-Err-clause-refused : goal.returns-in-Err-clause-refused
+returns-in-Err-clause-refused g c = λ told well memory quiet. inl (c.in-Err.ensures.bad told well memory quiet)
+
+pub returns-in-Err-read_full-clause-refused : goal.returns-in-Err-read_full-clause-refused
+returns-in-Err-read_full-clause-refused g c = λ told well memory quiet.
+    let self = c.args.self.now in
+    let mid = c.seek.new.self in
+    let seek = c.in-Ok.ensures in
+    let read = c.in-Err-read_full.ensures in
+    let calm : IsQuiet (g.R.Read.faults mid.inner) (g.R.Read.faults c.read_full.new.self.inner) =
+    record { same = omega (arith, seek.seeks.no_fewer_faults, read.faults, quiet.same); below = quiet.below } in
+    let near = read.refused (seek.seeks.same_tells ∙ told) memory calm (seek.inner_end told ∙ well) in
+    inr (subst (λ p. StopsNear g.S.Suite.seal_of self.key p.bytes (place_of c.read_full.new.self) c.in-Err-read_full.e) (seek.payload told)
+    (subst (λ k. StopsNear g.S.Suite.seal_of k (payload_of mid).bytes (place_of c.read_full.new.self) c.in-Err-read_full.e) seek.key near))
+
+pub returns-in-Ok-read_full-clause-ended : goal.returns-in-Ok-read_full-clause-ended
+returns-in-Ok-read_full-clause-ended g c = λ told less.
+    let self = c.args.self.now in
+    let mid = c.seek.new.self in
+    let seek = c.in-Ok.ensures in
+    let good = c.in-Ok-read_full.ensures.ended (seek.seeks.same_tells ∙ told) less in
+    subst (λ p. IsGoodEnd g.S.Suite.seal_of self.key p (place_of c.read_full.new.self)) (seek.payload told)
+    (subst (λ k. IsGoodEnd g.S.Suite.seal_of k (payload_of mid) (place_of c.read_full.new.self)) seek.key good)

@@ -1,6 +1,8 @@
 use Rattle.std.proofs.Common.{◌≡◌, arith, ◌∙◌, ◌-◌, ◌+◌, length, take, subst, length-take-le}
-use Rattle.age_stream.specs.Answering.{StandAt}
-use Rattle.age_stream.specs.Reader.{payload_of, place_of}
+use Rattle.age_stream.specs.Answering.{StandAt, StopsNear, IsGoodEnd}
+use Rattle.age_stream.specs.Reader.{payload_of, place_of, wanted_of}
+use Rattle.age_io.specs.Reading.{IsQuiet}
+use Rattle.age_stream.proofs.Answered.{refuses-near}
 use Rattle.age_stream.proofs.Standing.{stand-given, stand-joined}
 use Rattle.std.proofs.lemmas.Grind.{common_steps}
 use Rattle.age_io.proofs.Delivering.{Delivers-joined, take-filled}
@@ -37,5 +39,33 @@ reads-preserved g c =
           (subst (λ p. StandAt g.S.Suite.seal_of c.args.self.now.key (payload_of c.args.self.now).bytes p (take c.in-Ok.n c.read_on.new.buf)) there
           (subst (λ p. StandAt g.S.Suite.seal_of c.args.self.now.key p.bytes (place_of c.reads.self) (take c.in-Ok.n c.read_on.new.buf)) (before.same_payload told)
           (subst (λ k. StandAt g.S.Suite.seal_of k (payload_of c.reads.self).bytes (place_of c.reads.self) (take c.in-Ok.n c.read_on.new.buf)) before.same_key given))));
+      inner_end = λ told. read.inner_end (before.same_tells ∙ told) ∙ before.inner_end told;
       counted = omega (arith, before.counted, read.counts);
     }
+
+pub returns-then-n-eq0-clause-ended : goal.returns-then-n-eq0-clause-ended
+returns-then-n-eq0-clause-ended g c = λ told less.
+    let self = c.args.self.now in
+    let mid = c.reads.self in
+    let before = c.reads.invariant in
+    let read = c.in-Ok.ensures in
+    let good = read.ended (before.same_tells ∙ told) (omega (arith, c.if-n-eq0.true)) in
+    let there : place_of mid ≡ place_of c.read_on.new.self = omega (arith, read.placed, c.if-n-eq0.true) in
+    subst (λ n. IsGoodEnd g.S.Suite.seal_of self.key (payload_of self) n) there
+    (subst (λ p. IsGoodEnd g.S.Suite.seal_of self.key p (place_of mid)) (before.same_payload told)
+    (subst (λ k. IsGoodEnd g.S.Suite.seal_of k (payload_of mid) (place_of mid)) before.same_key good))
+
+pub returns-in-Err-clause-refused : goal.returns-in-Err-clause-refused
+returns-in-Err-clause-refused g c = λ told memory quiet well.
+    let self = c.args.self.now in
+    let mid = c.reads.self in
+    let before = c.reads.invariant in
+    let read = c.in-Err.ensures in
+    let calm : IsQuiet (g.R.Read.faults mid.inner) (g.R.Read.faults c.read_on.new.self.inner) =
+    record { same = omega (arith, before.no_fewer_faults, read.reads.no_fewer_faults, quiet.same); below = quiet.below } in
+    let near = refuses-near g.S.Suite.seal_of mid.key (payload_of mid) (g.R.Read.rest mid.inner) (wanted_of mid) (place_of mid) c.in-Err.e
+    (read.refused (before.same_tells ∙ told) memory calm) (before.inner_end told ∙ well) in
+    let there : place_of mid ≡ place_of c.read_on.new.self = omega (arith, read.stayed) in
+    subst (λ n. StopsNear g.S.Suite.seal_of self.key (payload_of self).bytes n c.in-Err.e) there
+    (subst (λ p. StopsNear g.S.Suite.seal_of self.key p.bytes (place_of mid) c.in-Err.e) (before.same_payload told)
+    (subst (λ k. StopsNear g.S.Suite.seal_of k (payload_of mid).bytes (place_of mid) c.in-Err.e) before.same_key near))

@@ -552,3 +552,17 @@ returns-in-Err-enter_end-clause-bad g c =
         bad = ends_badly suite.seal_of suite.opened g.met.S.Suite.cipher self.key self.key_bytes payload.bytes (are told) (rw (same_key, size) at moved);
       },
     )
+
+pub returns-in-Ok-enter-clause-inner_end : goal.returns-in-Ok-enter-clause-inner_end
+returns-in-Ok-enter-clause-inner_end g c = λ told.
+    let look = c.in-Ok.ensures in
+    let mid = c.look.new.self in
+    let later : IsTrue (g.R.Read.tells mid.inner && g.R.Read.steady mid.inner) = rw (look.tells, look.steady) told in
+    ap (λ s. s.ends_well) (c.in-Ok-enter.ensures.rest later) ∙ ap (λ p. p.ends_well) (look.payload told)
+
+pub returns-in-Ok-enter_end-clause-inner_end : goal.returns-in-Ok-enter_end-clause-inner_end
+returns-in-Ok-enter_end-clause-inner_end g c = λ told.
+    let look = c.in-Ok.ensures in
+    let mid = c.look.new.self in
+    let later : IsTrue (g.R.Read.tells mid.inner && g.R.Read.steady mid.inner) = rw (look.tells, look.steady) told in
+    c.in-Ok-enter_end.ensures.inner_end later ∙ ap (λ p. p.ends_well) (look.payload told)

@@ -6,8 +6,8 @@ ghost use Rattle.age_io.specs.Stretch.{IsCleanEnd};
 ghost use Rattle.age_io.specs.Reading.{IsQuiet, Delivers, EndsEarly};
 ghost use Rattle.age_io.specs.Cursor;
 ghost use Rattle.age_io.specs.Cursor.{IsRefusal};
-ghost use Rattle.age_stream.specs.Answering.{StandAt};
-ghost use Rattle.age_stream.specs.Targets.{sought_in};
+ghost use Rattle.age_stream.specs.Answering.{StandAt, StopsNear, IsGoodEnd};
+ghost use Rattle.age_stream.specs.Targets.{sought_in, IsRefusedTarget};
 
 use crate::reader::StreamReader;
 use age_error::io::{Error, SeekFrom};
@@ -36,8 +36,13 @@ impl<S: Suite, R: Read> StreamReader<S, R> {
             (StandAt S.seal_of (key_of self.old) (payload_of self.old).bytes (place_of self.old) (take filled.new buf.new)) }
         ensures end { let reader = ⟦<StreamReader<S, R> as Read>⟧ in IsTrue (reader.tells self.old) → OnOk result
             (filled.new < length buf.new → IsCleanEnd (reader.rest self.new)) }
+        ensures ended { let reader = ⟦<StreamReader<S, R> as Read>⟧ in IsTrue (reader.tells self.old) → OnOk result
+            (filled.new < length buf.new → IsGoodEnd S.seal_of (key_of self.old) (payload_of self.old) (place_of self.new)) }
         ensures cause { let reader = ⟦<StreamReader<S, R> as Read>⟧ in IsTrue (reader.tells self.old) → IfErr result (λ e. e ≢ OutOfMemory →
             IsQuiet (reader.faults self.old) (reader.faults self.new) → (reader.rest self.old).ends_well ≡ false) }
+        ensures refused { let reader = ⟦<StreamReader<S, R> as Read>⟧ in IsTrue (reader.tells self.old) → IfErr result (λ e. e ≢ OutOfMemory →
+            IsQuiet (reader.faults self.old) (reader.faults self.new) → (R.rest self.old.inner).ends_well ≡ true →
+            StopsNear S.seal_of (key_of self.old) (payload_of self.old).bytes (place_of self.new) e) }
         ensures good { OnOk result (self.new.failed ≡ false) }
         ensures fails { OnErr result (self.new.failed ≡ true) }
         ensures counts { self.old.opens ≤ self.new.opens }
@@ -63,10 +68,11 @@ impl<S: Suite, R: Seek> StreamReader<S, R> {
     ghost use Rattle.age_stream.specs.Reader.{payload_of, key_of, place_of, HasFailed, opens_of};
 
     /// Seeks, and then reads until the buffer is full or the end. It answers how many bytes it read, which are in front of
-    /// `buf`, and the reader stands after them.
+    /// `buf`, and the reader stands after them. They are fewer than the buffer takes only at the end.
     ///
     /// A refusal is that of the seek or of the read that met it, and so is the state after it: the reader has failed, but
-    /// where the seek refused with `BeforeStart` or `PastEnd`. What `buf` holds after a refusal isn't said.
+    /// where the seek refused with `BeforeStart` or `PastEnd`. What `buf` holds after a refusal isn't said. For n bytes it
+    /// opens at most n / 65,536 + 4 times.
     pub fn read_at(&mut self, to: SeekFrom, buf: &mut [u8]) -> Result<usize, Error>
         ensures tells { let reader = ⟦<StreamReader<S, R> as Read>⟧ in reader.tells self.new ≡ reader.tells self.old }
         ensures steady { let reader = ⟦<StreamReader<S, R> as Read>⟧ in reader.steady self.new ≡ reader.steady self.old }
@@ -89,6 +95,13 @@ impl<S: Suite, R: Seek> StreamReader<S, R> {
         ensures cause { let reader = ⟦<StreamReader<S, R> as Read>⟧ in IsTrue (reader.tells self.old) → IsTrue (reader.content self.old).ends_well →
             IfErr result (λ e. e ≢ OutOfMemory → IsQuiet (reader.faults self.old) (reader.faults self.new) →
             Cursor.sought to (reader.place self.old) (length (reader.content self.old).bytes) ≡ Err e) }
+
+        ensures ended { IsTrue (⟦<StreamReader<S, R> as Read>⟧.tells self.old) → IfOk result (λ n. n < length buf.new →
+            IsGoodEnd S.seal_of (key_of self.old) (payload_of self.old) (place_of self.new)) }
+        ensures refused { let reader = ⟦<StreamReader<S, R> as Read>⟧ in IsTrue (reader.tells self.old) → IsTrue (payload_of self.old).ends_well →
+            IfErr result (λ e. e ≢ OutOfMemory → IsQuiet (reader.faults self.old) (reader.faults self.new) →
+            IsRefusedTarget S.seal_of (key_of self.old) (payload_of self.old).bytes to (place_of self.old) e
+            ⊎ StopsNear S.seal_of (key_of self.old) (payload_of self.old).bytes (place_of self.new) e) }
 
         // Only a seek that refuses its target leaves the reader as it was.
         ensures good { OnOk result (HasFailed self.new → ⊥) }

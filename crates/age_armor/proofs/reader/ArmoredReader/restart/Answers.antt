@@ -1,0 +1,63 @@
+use Rattle.std.proofs.Common.{◌≡◌, ◌∙◌, ◌-◌, ◌^◌, ◌<◌, ◌≤◌, arith, length, sym, ap, subst, IsTrue, refl}
+use Rattle.std.proofs.lemmas.Bool.{true≢false}
+use Rattle.age_io.specs.Stretch.{from_place}
+use Rattle.age_armor.specs.DeliveredLaws.{content_of}
+use Rattle.age_armor.specs.Delivered.{delivered, stretch_of}
+use Rattle.age_armor.proofs.Ahead.{rest_failed, starts_rest, starts_outcome}
+use Rattle.age_armor.proofs.reader.ArmoredReader.restart.Goals as goal
+
+pub invariant_of-self : goal.invariant_of-self
+invariant_of-self g c =
+    let before = c.args.self.now in
+    let reader = g.R.Read in
+    let now = c.in-Err.ensures in
+    let source = c.rewind.new.self in
+    let content = content_of (reader.content before.source.inner) (reader.place before.source.inner - before.source.taken) in
+    let other = content_of (reader.content source.inner) (reader.place source.inner - source.taken) in
+    let told_before : (IsTrue (reader.tells source.inner) → IsTrue (reader.tells before.source.inner)) = λ told. sym now.goes.same_tells ∙ told in
+    let steady_before : (IsTrue (reader.steady source.inner) → IsTrue (reader.steady before.source.inner)) = λ steady. sym now.goes.same_steady ∙ steady in
+    let same : (IsTrue (reader.tells source.inner) → other ≡ content) = λ told. rw (now.goes.same_content (told_before told), now.origin (told_before told)) refl in
+    record {
+      room = before.room;
+      order = before.order;
+      within = before.within;
+      fresh = before.fresh;
+      unspent = λ good. absurd (true≢false good);
+      counted = λ told good. absurd (true≢false good);
+      fits = λ told. before.fits (told_before told);
+      inside = λ told steady. subst (λ s. before.place ≤ length s.bytes) (sym (same told)) (before.inside (told_before told) (steady_before steady));
+      follows = λ told steady some. absurd (some (rest_failed before.bytes before.given before.filled before.stage (reader.rest source.inner)));
+    }
+
+pub invariant_of-self-in-Ok : goal.invariant_of-self-in-Ok
+invariant_of-self-in-Ok g c =
+    let before = c.args.self.now in
+    let reader = g.R.Read in
+    let now = c.in-Ok.ensures in
+    let source = c.rewind.new.self in
+    let other = content_of (reader.content source.inner) (reader.place source.inner - source.taken) in
+    let told_before : (IsTrue (reader.tells source.inner) → IsTrue (reader.tells before.source.inner)) = λ told. sym now.goes.same_tells ∙ told in
+    let steady_before : (IsTrue (reader.steady source.inner) → IsTrue (reader.steady before.source.inner)) = λ steady. sym now.goes.same_steady ∙ steady in
+    record {
+      room = before.room;
+      order = let h : 0 ≤ 0 = omega arith in h;
+      within = let h : 0 ≤ 48 = omega arith in h;
+      fresh = λ start. refl;
+      unspent = λ good begun. absurd (true≢false begun);
+      counted = λ told good. let h : 0 ≤ source.taken = omega arith in h;
+      fits = λ told. let h : 0 < 2 ^ 63 = omega arith in h;
+      inside = λ told steady. let h : 0 ≤ length other.bytes = omega arith in h;
+      follows = λ told steady some.
+          rw (now.rest (told_before told) (steady_before steady), now.goes.same_content (told_before told), now.origin (told_before told))
+          (starts_rest before.bytes (from_place (reader.place before.source.inner - before.source.taken) (reader.content before.source.inner)));
+    }
+
+pub returns-in-Ok-clause-outcome : goal.returns-in-Ok-clause-outcome
+returns-in-Ok-clause-outcome g c = λ told steady.
+    starts_outcome c.args.self.now.bytes (g.R.Read.rest c.rewind.new.self.inner)
+    ∙ ap (λ s. delivered s.bytes s.ends_well) (c.in-Ok.ensures.rest told steady)
+
+pub returns-in-Ok-clause-rest : goal.returns-in-Ok-clause-rest
+returns-in-Ok-clause-rest g c = λ told steady.
+    starts_rest c.args.self.now.bytes (g.R.Read.rest c.rewind.new.self.inner)
+    ∙ ap (λ s. stretch_of (delivered s.bytes s.ends_well)) (c.in-Ok.ensures.rest told steady)

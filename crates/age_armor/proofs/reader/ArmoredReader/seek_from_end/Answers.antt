@@ -1,0 +1,47 @@
+use Rattle.std.proofs.Common.{◌≡◌, ◌∙◌, ◌-◌, Ok, Err, length, ap, subst, w64, to_z-of_z}
+use Rattle.age_error.specs.declared.io.SeekFrom.TheVariants.{End}
+use Rattle.age_io.specs.Cursor.{sought}
+use Rattle.age_armor.specs.Ahead.{rest_ahead}
+use Rattle.age_armor.specs.Reader.{armored_content}
+use Rattle.age_armor.specs.ReaderLaws.{well_inner}
+use Rattle.age_armor.proofs.Ahead.{rest_failed}
+use Rattle.age_armor.proofs.Aiming.{clean-unnamed, arrived, missed}
+use Rattle.age_armor.proofs.reader.ArmoredReader.seek_from_end.Goals as goal
+
+pub returns-in-Ok : goal.returns-in-Ok
+returns-in-Ok g c =
+    let now = c.in-Ok.ensures in
+    record {
+      text = arrived _ _ _ _ _ _ _ _ _ _ _ _ _ now.goes now.good
+          now.place (λ told. tt) (λ told steady.
+          let before = c.args.self.now in
+          let moved = now.exact told steady before.place in (
+            subst (λ d. sought (End d) before.place (length (armored_content before).bytes) ≡ Ok c.in-Ok.there) (to_z-of_z {w = w64} c.ranges.distance) moved.0,
+            moved.1,
+          ));
+    }
+
+pub returns-in-Err : goal.returns-in-Err
+returns-in-Err g c =
+    let reader = g.R.Read in
+    let before = c.args.self.now in
+    let now = c.in-Err.ensures in
+    record {
+      text = missed _ _ _ _ _ _ _ before c.go_from_end.new.self c.come_back.new.self _ _ _ c.in-Err.e c.come_back.result
+          (λ told well.
+          let inner = well_inner (reader.content before.source.inner) (reader.place before.source.inner - before.source.taken) well in
+          (g.met.R.Read.well before.source.inner told inner, inner, λ e. clean-unnamed _ e well))
+          (λ had. ap (λ f. rest_ahead f before.bytes before.given before.filled before.stage (reader.rest before.source.inner)) had
+          ∙ rest_failed before.bytes before.given before.filled before.stage (reader.rest before.source.inner))
+          (λ told well. g.met.R.Read.well before.source.inner told well)
+          (record {
+            goes = now.goes;
+            refused = λ told steady is.
+                let known = now.refused told steady before.place is in (
+                  known.0,
+                  subst (λ d. sought (End d) before.place (length (armored_content before).bytes) ≡ Err c.in-Err.e) (to_z-of_z {w = w64} c.ranges.distance) known.1,
+                );
+            named = λ told well own other quiet. (now.named told well own other quiet, tt);
+          })
+          c.come_back.ensures.back;
+    }

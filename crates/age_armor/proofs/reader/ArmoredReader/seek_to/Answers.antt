@@ -1,0 +1,41 @@
+use Rattle.std.proofs.Common.{◌∙◌, ◌-◌, Err, length, ap, sym}
+use Rattle.age_armor.specs.Ahead.{rest_ahead}
+use Rattle.age_armor.specs.Reader.{armored_content}
+use Rattle.age_armor.specs.ReaderLaws.{well_inner}
+use Rattle.age_armor.proofs.Ahead.{rest_failed}
+use Rattle.age_armor.proofs.Aiming.{clean-unnamed, moved-within, moved-past, arrived, missed}
+use Rattle.age_armor.proofs.reader.ArmoredReader.seek_to.Goals as goal
+
+pub returns-in-Ok : goal.returns-in-Ok
+returns-in-Ok g c =
+    let now = c.in-Ok.ensures in
+    record {
+      text = arrived _ _ _ _ _ _ _ _ _ _ _ _ _ now.goes now.good
+          (λ told. now.place told ∙ sym now.there) (λ told. now.there)
+          (λ told steady.
+          let within = now.within told steady in
+          (rw now.there (moved-within c.args.target (length (armored_content c.args.self.now).bytes) within.0), rw now.there within.1));
+    }
+
+pub returns-in-Err : goal.returns-in-Err
+returns-in-Err g c =
+    let reader = g.R.Read in
+    let before = c.args.self.now in
+    let now = c.in-Err.ensures in
+    record {
+      text = missed _ _ _ _ _ _ _ before c.go_to.new.self c.come_back.new.self _ _ _ c.in-Err.e c.come_back.result
+          (λ told well.
+          let inner = well_inner (reader.content before.source.inner) (reader.place before.source.inner - before.source.taken) well in
+          (g.met.R.Read.well before.source.inner told inner, inner, λ e. clean-unnamed _ e well))
+          (λ had. ap (λ f. rest_ahead f before.bytes before.given before.filled before.stage (reader.rest before.source.inner)) had
+          ∙ rest_failed before.bytes before.given before.filled before.stage (reader.rest before.source.inner))
+          (λ told well. g.met.R.Read.well before.source.inner told well)
+          (record {
+            goes = now.goes;
+            refused = λ told steady is.
+                let past = now.past told steady is in
+                (past.0, moved-past c.args.target (length (armored_content before).bytes) past.1 ∙ ap Err (sym past.2));
+            named = now.named;
+          })
+          c.come_back.ensures.back;
+    }

@@ -1,0 +1,95 @@
+use Rattle.std.proofs.Common.{rules, ◌≡◌, ◌∙◌, arith, take, length, length-take, length-take-le, sym}
+use Rattle.age_armor.proofs.Walking.{further, still_clean, ends_before}
+use Rattle.age_armor.proofs.reader.ArmoredReader.walk.Goals as goal
+
+pub returns-in-Err-clause-goes : goal.returns-in-Err-clause-goes
+returns-in-Err-clause-goes g c =
+    let loop = c.reads.invariant in
+    let reads = c.in-Err.ensures.reads in
+    record {
+      same_tells = reads.same_tells ∙ loop.same_tells;
+      same_steady = reads.same_steady ∙ loop.same_steady;
+      no_fewer_faults = omega (arith, loop.no_fewer_faults, reads.no_fewer_faults);
+      device = λ device. omega (arith, loop.no_fewer_faults, reads.device device);
+      unspent = tt;
+      patient = c.in-Err.ensures.patient;
+      same_content = λ told. reads.same_content (loop.same_tells ∙ told) ∙ loop.same_content told;
+    }
+
+pub returns-in-Err-clause-short : goal.returns-in-Err-clause-short
+returns-in-Err-clause-short g c = λ told steady stands other quiet.
+    let loop = c.reads.invariant in
+    let told_now = loop.same_tells ∙ told in
+    let reads = c.in-Err.ensures.reads in
+    let fault = reads.cause told_now other (record {
+      same = omega (arith, loop.no_fewer_faults, reads.no_fewer_faults, quiet.same);
+      below = quiet.below;
+    }) in
+    ends_before _ _ c.reads.self.place c.args.target (loop.rest told stands) fault
+    (omega (arith, loop.place told, c.reads-test.true))
+
+pub returns-in-Err-clause-named : goal.returns-in-Err-clause-named
+returns-in-Err-clause-named g c = λ told other quiet.
+    let loop = c.reads.invariant in
+    let reads = c.in-Err.ensures.reads in
+    rw (loop.ending told) at (c.in-Err.ensures.named (loop.same_tells ∙ told) other (record {
+      same = omega (arith, loop.no_fewer_faults, reads.no_fewer_faults, quiet.same);
+      below = quiet.below;
+    }))
+
+pub returns-in-Ok-eq0-clause-goes : goal.returns-in-Ok-eq0-clause-goes
+returns-in-Ok-eq0-clause-goes g c =
+    let loop = c.reads.invariant in
+    let reads = c.in-Ok-eq0.ensures.reads in
+    record {
+      same_tells = reads.same_tells ∙ loop.same_tells;
+      same_steady = reads.same_steady ∙ loop.same_steady;
+      no_fewer_faults = omega (arith, loop.no_fewer_faults, reads.no_fewer_faults);
+      device = tt;
+      unspent = reads.unspent (search rules);
+      patient = tt;
+      same_content = λ told. reads.same_content (loop.same_tells ∙ told) ∙ loop.same_content told;
+    }
+
+pub returns-in-Ok-eq0-clause-rest : goal.returns-in-Ok-eq0-clause-rest
+returns-in-Ok-eq0-clause-rest g c = λ told stands.
+    let loop = c.reads.invariant in
+    let told_now = loop.same_tells ∙ told in
+    let reads = c.in-Ok-eq0.ensures.reads in
+    let n = c.in-Ok-eq0.field-0 in
+    further _ _ _ c.reads.self.place _ n (take n c.read_on.new.buf) (loop.rest told stands)
+    (reads.bytes told_now) (sym (length-take-le n c.read_on.new.buf reads.count)) (reads.moves told_now)
+
+pub returns-in-Ok-eq0-clause-end : goal.returns-in-Ok-eq0-clause-end
+returns-in-Ok-eq0-clause-end g c = λ told none.
+    let loop = c.reads.invariant in
+    let told_now = loop.same_tells ∙ told in
+    let reads = c.in-Ok-eq0.ensures.reads in
+    let n = c.in-Ok-eq0.field-0 in
+    let size : length (take n c.read_on.new.buf) ≡ n = length-take-le n c.read_on.new.buf reads.count in (
+      still_clean _ _ (take n c.read_on.new.buf) (reads.end told_now (omega (arith, c.in-Ok-eq0.field-0-test)) (search rules)) (reads.bytes told_now)
+          (omega (arith, size, c.in-Ok-eq0.field-0-test)),
+      omega (arith, reads.moves told_now, loop.place told, c.reads-test.true, c.in-Ok-eq0.field-0-test),
+    )
+
+pub overflow_sub-left-in-Ok : goal.overflow_sub-left-in-Ok
+overflow_sub-left-in-Ok g c = omega (arith, c.in-Ok.ensures.reads.count, c.min-most.ensures, length-take c.min-most.result c.reads.room)
+
+pub reads-preserved : goal.reads-preserved
+reads-preserved g c =
+    let loop = c.reads.invariant in
+    let reads = c.in-Ok.ensures.reads in
+    let n = c.in-Ok.count in
+    record {
+      same_tells = reads.same_tells ∙ loop.same_tells;
+      same_steady = reads.same_steady ∙ loop.same_steady;
+      no_fewer_faults = omega (arith, loop.no_fewer_faults, reads.no_fewer_faults);
+      unspent = reads.unspent (search rules);
+      good = c.in-Ok.ensures.good;
+      same_content = λ told. reads.same_content (loop.same_tells ∙ told) ∙ loop.same_content told;
+      place = λ told. omega (arith, reads.moves (loop.same_tells ∙ told), loop.place told, reads.count, c.min-most.ensures, length-take c.min-most.result c.reads.room);
+      rest = λ told stands.
+          further _ _ _ c.reads.self.place _ n (take n c.read_on.new.buf) (loop.rest told stands)
+          (reads.bytes (loop.same_tells ∙ told)) (sym (length-take-le n c.read_on.new.buf reads.count)) (reads.moves (loop.same_tells ∙ told));
+      ending = λ told. c.in-Ok.ensures.ending (loop.same_tells ∙ told) ∙ loop.ending told;
+    }

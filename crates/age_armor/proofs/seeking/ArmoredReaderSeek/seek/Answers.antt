@@ -1,0 +1,41 @@
+use Rattle.std.proofs.Common.{rules, ◌≡◌, SFits, to_z, of_z, to_z-of_z, w64}
+use Rattle.age_armor.proofs.seeking.ArmoredReaderSeek.seek.Goals as goal
+
+pub returns-in-Start-clause-seeks : goal.returns-in-Start-clause-seeks
+returns-in-Start-clause-seeks g c = rw c.in-Start.is c.seek_to.ensures.text.seeks
+
+pub returns-in-Start-clause-named : goal.returns-in-Start-clause-named
+returns-in-Start-clause-named g c = rw c.in-Start.is c.seek_to.ensures.text.named
+
+pub returns-in-Start-clause-early : goal.returns-in-Start-clause-early
+returns-in-Start-clause-early g c = rw c.in-Start.is c.seek_to.ensures.text.early
+
+pub returns-in-End-clause-seeks : goal.returns-in-End-clause-seeks
+returns-in-End-clause-seeks g c =
+    let fits : SFits w64 c.in-End.distance = search rules in
+    let same : to_z w64 (of_z w64 c.in-End.distance) ≡ c.in-End.distance = to_z-of_z {w = w64} fits in
+    rw (c.in-End.is, ← same) c.seek_from_end.ensures.text.seeks
+
+pub returns-in-End-clause-named : goal.returns-in-End-clause-named
+returns-in-End-clause-named g c = rw c.in-End.is c.seek_from_end.ensures.text.named
+
+pub returns-in-End-clause-early : goal.returns-in-End-clause-early
+returns-in-End-clause-early g c = rw c.in-End.is c.seek_from_end.ensures.text.early
+
+pub returns-in-Current-clause-seeks : goal.returns-in-Current-clause-seeks
+returns-in-Current-clause-seeks g c =
+    let fits : SFits w64 c.in-Current.distance = search rules in
+    let same : to_z w64 (of_z w64 c.in-Current.distance) ≡ c.in-Current.distance = to_z-of_z {w = w64} fits in
+    rw (c.in-Current.is, ← same) c.seek_by.ensures.text.seeks
+
+pub returns-in-Current-clause-named : goal.returns-in-Current-clause-named
+returns-in-Current-clause-named g c =
+    let fits : SFits w64 c.in-Current.distance = search rules in
+    let same : to_z w64 (of_z w64 c.in-Current.distance) ≡ c.in-Current.distance = to_z-of_z {w = w64} fits in
+    rw (c.in-Current.is, ← same) c.seek_by.ensures.text.named
+
+pub returns-in-Current-clause-early : goal.returns-in-Current-clause-early
+returns-in-Current-clause-early g c =
+    let fits : SFits w64 c.in-Current.distance = search rules in
+    let same : to_z w64 (of_z w64 c.in-Current.distance) ≡ c.in-Current.distance = to_z-of_z {w = w64} fits in
+    rw (c.in-Current.is, ← same) c.seek_by.ensures.text.early

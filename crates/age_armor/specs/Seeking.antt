@@ -1,0 +1,82 @@
+-- What seeks in armor do.
+use Rattle.std.specs.Prelude.{◌≡◌, ◌≢◌, ℕ, ◌<◌, ◌≤◌, Bool, false, IsTrue, length, drop, Some, None, Result, Err, IfErr, OnOk, ⊤}
+use Rattle.age_io.specs.Stretch.{Stretch, nothing, from_place}
+use Rattle.age_io.specs.Reading.{IsQuiet, most_faults}
+use Rattle.age_io.specs.Cursor.{Seeks, IsRefusal, place_at, sought}
+use Rattle.age_error.specs.Refusals.{IsDevice, IsInterruption}
+use Rattle.age_error.specs.declared.io.Error.{Error}
+use Rattle.age_error.specs.declared.io.Error.TheVariants.{OutOfMemory, BeforeStart}
+use Rattle.age_error.specs.declared.io.SeekFrom.{SeekFrom}
+use Rattle.age_error.specs.declared.io.SeekFrom.TheVariants.{Start, End, Current}
+use Rattle.age_armor.specs.Delivered.{Outcome, Ending, delivered}
+use Rattle.age_armor.specs.Stages.{IsNamed}
+
+-- the reader is the same but for where it stands
+pub record Goes {S A : Type 0} (tells steady : S → Bool) (content : S → Stretch) (faults : S → ℕ) (old new : S) (result : Result A Error) : Type 0 where
+  -- of every reader
+  pub same_tells : tells new ≡ tells old
+  pub same_steady : steady new ≡ steady old
+  pub no_fewer_faults : faults old ≤ faults new
+  pub device : IfErr result (λ e. IsDevice e → faults old < faults new)
+  pub unspent : OnOk result (faults new < most_faults)
+  pub patient : IfErr result (λ e. IsInterruption e → ⊥)
+  -- of a reader that tells its bytes
+  pub same_content : IsTrue (tells old) → content new ≡ content old
+
+-- what a text delivers that begins here in the content of the reader that gives it, and how it ends
+abbrev pub text_outcome : Stretch → ℕ → Outcome
+text_outcome content origin = delivered (drop origin content.bytes) content.ends_well
+
+-- the target is known without the length and lies past this one, or it is counted from the end
+abbrev pub AsksPast : SeekFrom → ℕ → ℕ → Type 0
+AsksPast (Start n) place len = len < n
+AsksPast (End d) place len = ⊤
+AsksPast (Current d) place len = (n : ℕ) → place_at place d ≡ Some n → len < n
+
+-- the target is counted from the place and lies below 0
+abbrev pub IsEarly : SeekFrom → ℕ → Type 0
+IsEarly (Start n) place = ⊥
+IsEarly (End d) place = ⊥
+IsEarly (Current d) place = place_at place d ≡ None
+
+-- What a seek in a text does. The bool says whether the reader that gives the text ends well, the ending how the text does.
+pub record SeeksText {S : Type 0} (tells steady failed : S → Bool) (content : S → Stretch) (place : S → ℕ) (rest : S → Stretch) (faults : S → ℕ)
+    (old new : S) (to : SeekFrom) (ends_well : Bool) (ending : Ending) (result : Result ℕ Error) : Type 0 where
+  pub seeks : Seeks tells steady content place rest faults old new to result
+  pub patient : IfErr result (λ e. IsInterruption e → ⊥)
+  pub good : OnOk result (failed new ≡ false)
+  pub unmoved : IfErr result (λ e. IsRefusal e → failed new ≡ failed old)
+  pub fails : IfErr result (λ e. (IsRefusal e → ⊥) → IsTrue (failed new))
+  pub named : IsTrue (tells old) → IsTrue ends_well → IfErr result (λ e. (IsRefusal e → ⊥) → e ≢ OutOfMemory → IsQuiet (faults old) (faults new) →
+      IsNamed ending e × AsksPast to (place old) (length (content old).bytes))
+  pub early : IsTrue (tells old) → IsTrue (steady old) → (content old).ends_well ≡ false →
+      IfErr result (λ e. IsRefusal e → (e ≡ BeforeStart) × IsEarly to (place old))
+
+-- what a seek in a text says of its error, before the reader is brought back to where it stood
+pub record Misses {S : Type 0} (tells steady : S → Bool) (content : S → Stretch) (place : S → ℕ) (faults : S → ℕ)
+    (old new : S) (to : SeekFrom) (ends_well : Bool) (ending : Ending) (error : Error) : Type 0 where
+  pub goes : Goes {A = ℕ} tells steady content faults old new (Err error)
+  pub refused : IsTrue (tells old) → IsTrue (steady old) → IsRefusal error →
+      IsTrue (content old).ends_well × (sought to (place old) (length (content old).bytes) ≡ Err error)
+  pub named : IsTrue (tells old) → IsTrue ends_well → (IsRefusal error → ⊥) → error ≢ OutOfMemory → IsQuiet (faults old) (faults new) →
+      IsNamed ending error × AsksPast to (place old) (length (content old).bytes)
+
+-- A reader is brought back to this place after an error that refuses a seek. After any other, or where it had failed, it has failed.
+pub record ComesBack {S : Type 0} (tells steady failed : S → Bool) (content : S → Stretch) (place : S → ℕ) (rest : S → Stretch) (faults : S → ℕ)
+    (old new : S) (stood : ℕ) (had_failed : Bool) (error answer : Error) : Type 0 where
+  -- of every reader
+  pub same_tells : tells new ≡ tells old
+  pub same_steady : steady new ≡ steady old
+  pub no_fewer_faults : faults old ≤ faults new
+  pub device : (IsDevice error → ⊥) → IsDevice answer → faults old < faults new
+  pub patient : (IsInterruption error → ⊥) → IsInterruption answer → ⊥
+  pub fails : (IsRefusal answer → ⊥) → IsTrue (failed new)
+  pub unmoved : IsRefusal answer → IsRefusal error × (answer ≡ error) × (failed new ≡ had_failed)
+  pub other : (IsRefusal error → ⊥) → answer ≡ error
+  pub gone : IsTrue had_failed → rest new ≡ nothing
+  -- of a reader that tells its bytes
+  pub same_content : IsTrue (tells old) → content new ≡ content old
+  pub stays : IsTrue (tells old) → place new ≡ stood
+  pub back : IsTrue (tells old) → IsTrue (steady old) → had_failed ≡ false → IsRefusal answer → rest new ≡ from_place stood (content old)
+  pub cause : IsTrue (tells old) → IsTrue (content old).ends_well → IsRefusal error → answer ≢ OutOfMemory → IsQuiet (faults old) (faults new) →
+      IsRefusal answer

@@ -1,0 +1,350 @@
+//! Seeks in armor.
+ghost use Rattle.std.specs.Prelude.{◌≡◌, ◌≢◌, ℕ, ◌+◌, ◌-◌, ◌^◌, ◌≤◌, ◌<◌, Bool, true, false, IsTrue, List, [], length, Result, IfOk, IfErr, OnOk, OnErr, Ok, Err, Some, None, IfSome};
+ghost use Rattle.age_error.specs.Refusals.{IsDevice, IsInterruption};
+ghost use Rattle.age_error.specs.declared.io.Error.TheVariants.{OutOfMemory, BeforeStart, PastEnd};
+ghost use Rattle.age_error.specs.declared.io.SeekFrom.TheVariants.{Start, End, Current};
+ghost use Rattle.age_io.specs.Stretch.{Stretch, nothing, from_place, IsCleanEnd};
+ghost use Rattle.age_io.specs.Reading.{IsQuiet, most_faults};
+ghost use Rattle.age_io.specs.Cursor.{Seeks, IsRefusal, place_at as place_by, sought as sought_by};
+ghost use Rattle.age_armor.specs.Seeking.{Goes, AsksPast, IsEarly, SeeksText, ComesBack};
+ghost use Rattle.age_armor.specs.Stages.{IsNamed};
+
+use crate::counted::Counted;
+use crate::reader::ArmoredReader;
+use crate::stages::Stage;
+use age_error::io::{Error, SeekFrom};
+use age_io::{BufRead, Read, Seek, is_refusal, place_at, seek_retrying, unrefused};
+
+// So many bytes back, where that is a distance.
+fn distance_back(count: u64) -> Option<i64>
+    ensures some { count < 2 ^ 63 → IfSome result (λ d. (place : ℕ) → count ≤ place → place_by place d ≡ Some (place - count)) }
+    ensures none { result ≡ None → 2 ^ 63 ≤ count }
+{
+    if count > i64::MAX as u64 {
+        return None;
+    }
+    Some(-(count as i64))
+}
+
+// The target at this distance from the end. A length of 2^63 or more is `TooLong`.
+fn from_end(len: u64, distance: i64) -> Result<u64, Error>
+    ensures exact { len < 2 ^ 63 → (place : ℕ) → result ≡ sought_by (End distance) place len }
+    ensures other { IfErr result (λ e. IsDevice e → ⊥) }
+{
+    if len > i64::MAX as u64 {
+        return Err(Error::TooLong);
+    }
+    match place_at(len, distance) {
+        None => Err(Error::BeforeStart),
+        Some(target) => {
+            if target > len {
+                return Err(Error::PastEnd);
+            }
+            Ok(target)
+        }
+    }
+}
+
+impl<R: BufRead + Seek> Counted<R> {
+    /// Goes back to where nothing had been taken.
+    #[tactic(auto, using(crate::proofs::AheadLines::ahead_none))]
+    pub(crate) fn rewind(&mut self) -> Result<(), Error>
+        ensures goes { Goes R.Read.tells R.Read.steady R.Read.content R.Read.faults self.old.inner self.new.inner result }
+        ensures start { OnOk result (self.new.taken ≡ 0) }
+        ensures stays { OnErr result (self.new.taken ≡ self.old.taken) }
+        ensures origin { IsTrue (R.Read.tells self.old.inner) →
+            R.Read.place self.new.inner - self.new.taken ≡ R.Read.place self.old.inner - self.old.taken }
+        ensures rest { IsTrue (R.Read.tells self.old.inner) → IsTrue (R.Read.steady self.old.inner) → OnOk result
+            (R.Read.rest self.new.inner ≡ from_place (R.Read.place self.old.inner - self.old.taken) (R.Read.content self.old.inner)) }
+        ensures other { IfErr result (λ e. IsRefusal e → ⊥) }
+        ensures cause { IsTrue (R.Read.tells self.old.inner) → IsTrue (R.Read.content self.old.inner).ends_well →
+            IfErr result (λ e. e ≢ OutOfMemory → IsQuiet (R.Read.faults self.old.inner) (R.Read.faults self.new.inner) → ⊥) }
+    {
+        self.left = 0;
+        let Some(back) = distance_back(self.taken) else {
+            return Err(Error::TooLong);
+        };
+        match seek_retrying(&mut self.inner, SeekFrom::Current(back)) {
+            Ok(_place) => {
+                self.taken = 0;
+                Ok(())
+            }
+            Err(e) => Err(unrefused(e)),
+        }
+    }
+}
+
+impl<R: BufRead + Seek> ArmoredReader<R> {
+    ghost use Rattle.age_armor.specs.Reader.{inner_of, outcome_of, text_outcome_of, armored_content, armored_rest};
+
+    // Back to the front of the text.
+    fn restart(&mut self) -> Result<(), Error>
+        ensures goes { let reader = ⟦<ArmoredReader<R> as Read>⟧ in Goes reader.tells reader.steady reader.content reader.faults self.old self.new result }
+        ensures front { OnOk result (self.new.place ≡ 0) }
+        ensures stays { OnErr result (self.new.place ≡ self.old.place) }
+        ensures good { OnOk result (self.new.failed ≡ false) }
+        ensures fails { OnErr result (self.new.failed ≡ true) }
+        ensures outcome { IsTrue (R.Read.tells (inner_of self.old)) → IsTrue (R.Read.steady (inner_of self.old)) → OnOk result
+            (outcome_of self.new ≡ text_outcome_of self.old) }
+        ensures rest { IsTrue (R.Read.tells (inner_of self.old)) → IsTrue (R.Read.steady (inner_of self.old)) → OnOk result
+            (armored_rest self.new ≡ from_place 0 (armored_content self.old)) }
+        ensures other { IfErr result (λ e. IsRefusal e → ⊥) }
+        ensures cause { IsTrue (R.Read.tells (inner_of self.old)) → IsTrue (R.Read.content (inner_of self.old)).ends_well →
+            IfErr result (λ e. e ≢ OutOfMemory → IsQuiet (R.Read.faults (inner_of self.old)) (R.Read.faults (inner_of self.new)) → ⊥) }
+    {
+        match self.source.rewind() {
+            Err(e) => {
+                self.failed = true;
+                Err(e)
+            }
+            Ok(()) => {
+                self.stage = Stage::Start;
+                self.given = 0;
+                self.filled = 0;
+                self.place = 0;
+                self.failed = false;
+                Ok(())
+            }
+        }
+    }
+}
+
+impl<R: BufRead> ArmoredReader<R> {
+    ghost use Rattle.age_armor.specs.Reader.{inner_of, outcome_of, armored_content, armored_rest};
+
+    // Reads on to a place, or to a clean end before it, and tells whether it came to the place.
+    fn walk(&mut self, target: u64) -> Result<bool, Error>
+        requires good { self.old.failed ≡ false }
+        requires before { self.old.place ≤ target }
+        requires unspent { R.Read.faults (inner_of self.old) < most_faults }
+        ensures goes { let reader = ⟦<ArmoredReader<R> as Read>⟧ in Goes reader.tells reader.steady reader.content reader.faults self.old self.new result }
+        ensures good { OnOk result (self.new.failed ≡ false) }
+        ensures fails { OnErr result (self.new.failed ≡ true) }
+        ensures there { IsTrue (R.Read.tells (inner_of self.old)) → IfOk result (λ there. IsTrue there → self.new.place ≡ target) }
+        ensures rest { IsTrue (R.Read.tells (inner_of self.old)) → armored_rest self.old ≡ from_place self.old.place (armored_content self.old) →
+            OnOk result (armored_rest self.new ≡ from_place self.new.place (armored_content self.old)) }
+        ensures end { IsTrue (R.Read.tells (inner_of self.old)) → IfOk result (λ there. there ≡ false →
+            IsCleanEnd (armored_rest self.new) × (self.new.place < target)) }
+        ensures short { IsTrue (R.Read.tells (inner_of self.old)) → IsTrue (R.Read.steady (inner_of self.old)) →
+            armored_rest self.old ≡ from_place self.old.place (armored_content self.old) →
+            IfErr result (λ e. e ≢ OutOfMemory → IsQuiet (R.Read.faults (inner_of self.old)) (R.Read.faults (inner_of self.new)) →
+            ((armored_content self.old).ends_well ≡ false) × (length (armored_content self.old).bytes < target)) }
+        ensures named { IsTrue (R.Read.tells (inner_of self.old)) → IfErr result (λ e. e ≢ OutOfMemory →
+            IsQuiet (R.Read.faults (inner_of self.old)) (R.Read.faults (inner_of self.new)) → IsNamed (outcome_of self.old).ending e) }
+    {
+        let mut room = [0; 1024];
+        let mut left = target - self.place;
+        'reads: while left > 0 {
+            let most = left.min(room.len() as u64) as usize;
+            match self.read_on(&mut room[..most]) {
+                Err(e) => return Err(e),
+                Ok(0) => return Ok(false),
+                Ok(count) => left -= count as u64,
+            }
+        }
+        Ok(true)
+    }
+}
+
+impl<R: BufRead + Seek> ArmoredReader<R> {
+    ghost use Rattle.age_armor.specs.Reader.{inner_of, text_outcome_of, armored_content, armored_rest};
+
+    // Goes to a place from the front of the text.
+    fn go_to(&mut self, target: u64) -> Result<u64, Error>
+        ensures goes { let reader = ⟦<ArmoredReader<R> as Read>⟧ in Goes reader.tells reader.steady reader.content reader.faults self.old self.new result }
+        ensures there { IfOk result (λ n. n ≡ target) }
+        ensures place { IsTrue (R.Read.tells (inner_of self.old)) → OnOk result (self.new.place ≡ target) }
+        ensures good { OnOk result (self.new.failed ≡ false) }
+        ensures within { IsTrue (R.Read.tells (inner_of self.old)) → IsTrue (R.Read.steady (inner_of self.old)) → OnOk result
+            ((target ≤ length (armored_content self.old).bytes) × (armored_rest self.new ≡ from_place target (armored_content self.old))) }
+        ensures past { IsTrue (R.Read.tells (inner_of self.old)) → IsTrue (R.Read.steady (inner_of self.old)) → IfErr result (λ e. IsRefusal e →
+            IsTrue (armored_content self.old).ends_well × (length (armored_content self.old).bytes < target) × (e ≡ PastEnd)) }
+        ensures named { IsTrue (R.Read.tells (inner_of self.old)) → IsTrue (R.Read.content (inner_of self.old)).ends_well →
+            IfErr result (λ e. (IsRefusal e → ⊥) → e ≢ OutOfMemory → IsQuiet (R.Read.faults (inner_of self.old)) (R.Read.faults (inner_of self.new)) →
+            IsNamed (text_outcome_of self.old).ending e × (length (armored_content self.old).bytes < target)) }
+    {
+        match self.restart() {
+            Err(e) => return Err(e),
+            Ok(()) => {}
+        }
+        match self.walk(target) {
+            Err(e) => Err(unrefused(e)),
+            Ok(there) => {
+                if there {
+                    Ok(target)
+                } else {
+                    Err(Error::PastEnd)
+                }
+            }
+        }
+    }
+
+    // Goes to a place counted from the end, once the whole text was read.
+    fn go_from_end(&mut self, distance: i64) -> Result<u64, Error>
+        ensures goes { let reader = ⟦<ArmoredReader<R> as Read>⟧ in Goes reader.tells reader.steady reader.content reader.faults self.old self.new result }
+        ensures place { IsTrue (R.Read.tells (inner_of self.old)) → IfOk result (λ n. self.new.place ≡ n) }
+        ensures good { OnOk result (self.new.failed ≡ false) }
+        ensures exact { IsTrue (R.Read.tells (inner_of self.old)) → IsTrue (R.Read.steady (inner_of self.old)) → (place : ℕ) → IfOk result (λ n.
+            (sought_by (End distance) place (length (armored_content self.old).bytes) ≡ Ok n) × (armored_rest self.new ≡ from_place n (armored_content self.old))) }
+        ensures refused { IsTrue (R.Read.tells (inner_of self.old)) → IsTrue (R.Read.steady (inner_of self.old)) → (place : ℕ) → IfErr result (λ e. IsRefusal e →
+            IsTrue (armored_content self.old).ends_well × (sought_by (End distance) place (length (armored_content self.old).bytes) ≡ Err e)) }
+        ensures named { IsTrue (R.Read.tells (inner_of self.old)) → IsTrue (R.Read.content (inner_of self.old)).ends_well →
+            IfErr result (λ e. (IsRefusal e → ⊥) → e ≢ OutOfMemory → IsQuiet (R.Read.faults (inner_of self.old)) (R.Read.faults (inner_of self.new)) →
+            IsNamed (text_outcome_of self.old).ending e) }
+    {
+        match self.restart() {
+            Err(e) => return Err(e),
+            Ok(()) => {}
+        }
+        match self.walk(u64::MAX) {
+            Err(e) => return Err(unrefused(e)),
+            Ok(there) => {
+                if there {
+                    return Err(Error::TooLong);
+                }
+            }
+        }
+        let len = self.place;
+        match from_end(len, distance) {
+            Err(e) => Err(e),
+            Ok(target) => self.go_to(target),
+        }
+    }
+}
+
+impl<R: BufRead> ArmoredReader<R> {
+    ghost use Rattle.age_armor.specs.Reader.{inner_of, has_failed, armored_content, armored_rest};
+
+    // A reader that has failed, at this place of the content.
+    #[tactic(auto, using(crate::proofs::Ahead::rest_failed))]
+    fn fail_at(&mut self, place: u64)
+        requires fits { IsTrue (R.Read.tells (inner_of self.old)) → place < 2 ^ 63 }
+        requires inside { IsTrue (R.Read.tells (inner_of self.old)) → IsTrue (R.Read.steady (inner_of self.old)) → place ≤ length (armored_content self.old).bytes }
+        ensures source { self.new.source ≡ self.old.source }
+        ensures failed { self.new.failed ≡ true }
+        ensures place { self.new.place ≡ place }
+        ensures rest { armored_rest self.new ≡ nothing }
+    {
+        self.place = place;
+        self.failed = true;
+    }
+}
+
+impl<R: BufRead + Seek> ArmoredReader<R> {
+    ghost use Rattle.age_armor.specs.Reader.{inner_of, has_failed, text_outcome_of, armored_content, place_of, armored_rest};
+
+    // Back to where it stood, once a seek was refused. After any other error it has failed there, and so has one that had
+    // failed before.
+    fn come_back(&mut self, place: u64, failed: bool, error: Error) -> Error
+        requires fits { IsTrue (R.Read.tells (inner_of self.old)) → place < 2 ^ 63 }
+        requires inside { IsTrue (R.Read.tells (inner_of self.old)) → IsTrue (R.Read.steady (inner_of self.old)) → place ≤ length (armored_content self.old).bytes }
+        ensures back { let reader = ⟦<ArmoredReader<R> as Read>⟧ in
+            ComesBack reader.tells reader.steady (λ r. has_failed r) reader.content reader.place reader.rest reader.faults self.old self.new place failed error result }
+    {
+        if failed {
+            self.fail_at(place);
+            return error;
+        }
+        if !is_refusal(error) {
+            self.fail_at(place);
+            return error;
+        }
+        match self.go_to(place) {
+            Ok(_there) => error,
+            Err(e) => {
+                self.fail_at(place);
+                unrefused(e)
+            }
+        }
+    }
+
+    // A seek to a place.
+    fn seek_to(&mut self, target: u64) -> Result<u64, Error>
+        ensures text { let reader = ⟦<ArmoredReader<R> as Read>⟧ in
+            SeeksText reader.tells reader.steady (λ r. has_failed r) reader.content reader.place reader.rest reader.faults self.old self.new (Start target)
+            (R.Read.content (inner_of self.old)).ends_well (text_outcome_of self.old).ending result }
+    {
+        let place = self.place;
+        let failed = self.failed;
+        match self.go_to(target) {
+            Ok(there) => Ok(there),
+            Err(e) => Err(self.come_back(place, failed, e)),
+        }
+    }
+
+    // A seek from the end.
+    fn seek_from_end(&mut self, distance: i64) -> Result<u64, Error>
+        ensures text { let reader = ⟦<ArmoredReader<R> as Read>⟧ in
+            SeeksText reader.tells reader.steady (λ r. has_failed r) reader.content reader.place reader.rest reader.faults self.old self.new (End distance)
+            (R.Read.content (inner_of self.old)).ends_well (text_outcome_of self.old).ending result }
+    {
+        let place = self.place;
+        let failed = self.failed;
+        match self.go_from_end(distance) {
+            Ok(there) => Ok(there),
+            Err(e) => Err(self.come_back(place, failed, e)),
+        }
+    }
+
+    // A seek from the present place.
+    fn seek_by(&mut self, distance: i64) -> Result<u64, Error>
+        ensures text { let reader = ⟦<ArmoredReader<R> as Read>⟧ in
+            SeeksText reader.tells reader.steady (λ r. has_failed r) reader.content reader.place reader.rest reader.faults self.old self.new (Current distance)
+            (R.Read.content (inner_of self.old)).ends_well (text_outcome_of self.old).ending result }
+    {
+        if self.place > i64::MAX as u64 {
+            self.fail_at(self.place);
+            return Err(Error::TooLong);
+        }
+        match place_at(self.place, distance) {
+            None => Err(Error::BeforeStart),
+            Some(target) => self.seek_to(target),
+        }
+    }
+}
+
+impl<R: BufRead + Seek> Seek for ArmoredReader<R> {
+    ghost use Rattle.age_armor.specs.Reader.{inner_of, has_failed, text_outcome_of, armored_content, place_of, armored_rest};
+
+    /// Moves within what the text carries, and answers the new place in bytes from its front.
+    ///
+    /// The text is read from its front as far as the target asks, and to its end for `SeekFrom::End`. So a target that
+    /// stands before the first fault of the text is moved to, and makes a failed reader good again. A refusal is
+    ///
+    /// - `BeforeStart`: the target is below 0. For `SeekFrom::Current` nothing is read to find that out.
+    /// - `PastEnd`: the text carries bytes, and their count is below the target.
+    /// - the text's first fault, as `read` answers it, where it stands before the target, or where the target is counted
+    ///   from the end.
+    /// - that of the inner reader, where it refuses a read or a seek. Its interruptions are tried again up to 16 times in
+    ///   a row; after that the answer is `Device(Other)`.
+    /// - `OutOfMemory`: memory for a line's text was refused.
+    /// - `TooLong` and `Failed`: the inner reader doesn't tell its bytes, and has more than a content may have or refuses
+    ///   to go back to its own.
+    ///
+    /// Every refusal leaves the place. After `BeforeStart` and `PastEnd` the reader stands there as before; one that had
+    /// failed stays so. After any other it has failed.
+    fn seek(&mut self, to: SeekFrom) -> Result<u64, Error>
+        ensures seeks { let reader = ⟦<ArmoredReader<R> as Read>⟧ in
+            Seeks reader.tells reader.steady reader.content reader.place reader.rest reader.faults self.old self.new to result }
+        ensures patient { IfErr result (λ e. IsInterruption e → ⊥) }
+        ensures good { OnOk result (has_failed self.new ≡ false) }
+        ensures unmoved { IfErr result (λ e. IsRefusal e → has_failed self.new ≡ has_failed self.old) }
+        ensures fails { IfErr result (λ e. (IsRefusal e → ⊥) → IsTrue (has_failed self.new)) }
+
+        // An error that is no refusal of a seek, and that neither the device nor memory made, is that of the text's end. It comes
+        // only where the target asks for more than the bytes before that end.
+        ensures named { IsTrue (R.Read.tells (inner_of self.old)) → IsTrue (R.Read.content (inner_of self.old)).ends_well →
+            IfErr result (λ e. (IsRefusal e → ⊥) → e ≢ OutOfMemory → IsQuiet (R.Read.faults (inner_of self.old)) (R.Read.faults (inner_of self.new)) →
+            IsNamed (text_outcome_of self.old).ending e × AsksPast to (place_of self.old) (length (armored_content self.old).bytes)) }
+
+        // Of a text that ends in a fault the only such refusal is that of a target that is counted from the place.
+        ensures early { IsTrue (R.Read.tells (inner_of self.old)) → IsTrue (R.Read.steady (inner_of self.old)) → (armored_content self.old).ends_well ≡ false →
+            IfErr result (λ e. IsRefusal e → (e ≡ BeforeStart) × IsEarly to (place_of self.old)) }
+    {
+        match to {
+            SeekFrom::Start(target) => self.seek_to(target),
+            SeekFrom::End(distance) => self.seek_from_end(distance),
+            SeekFrom::Current(distance) => self.seek_by(distance),
+        }
+    }
+}
