@@ -27,6 +27,7 @@ UNKNOWN = "unknown format"
 EARLY = "input ended early"
 NO_KEYS = "no matching keys"
 NO_RANDOM = "random bytes ran out"
+PAST_END = "cannot seek past the end"
 BASE64 = "invalid base64 in armor"
 BEGIN_MARKER = "invalid armor begin marker"
 NOT_UTF8 = "stream did not contain valid UTF-8"
@@ -250,6 +251,25 @@ def damaged_armor(runs):
         in_armor(runs, f"{size} bytes in armor: a space after the end marker", plain, text[:-1] + b" \n", NOT_WRAPPED)
 
 
+def parts(runs):
+    """Parts of a plaintext, from a file and from its armor."""
+    for size in [0, 36, 65536, 200000]:
+        plain = random.Random(4).randbytes(size)
+        whole = second.encrypted(DRAW, plain)
+        for form, given in [("bare", whole), ("armored", armor(whole)), ("armored with CRLF", armor(whole, b"\r\n"))]:
+            for place in {0, 5, 30, size // 2, max(size - 1, 0), size, 65535, 65536, size + 1, 2 ** 64 - 1}:
+                for count in [0, 1, 10, 70000, 2 ** 64 - 1]:
+                    name, words = f"at {place} {count} of {size} bytes, {form}", ["at", "bench", str(place), str(count)]
+                    if place > size:
+                        runs.refuses(name, words, given, b"", PAST_END)
+                    else:
+                        runs.answers(name, words, given, plain[place:place + count])
+    plain = b"This is a test message. For testing."
+    whole = second.encrypted(DRAW, plain)
+    runs.answers("at 005 03", ["at", "bench", "005", "03"], whole, b"is ")
+    runs.refuses("at of a changed payload", ["at", "bench", "5", "3"], whole[:-1] + bytes([whole[-1] ^ 1]), b"", BAD_CHUNK)
+
+
 def command_lines(runs):
     key = KEY.hex()
     lines = [[], ["--help"], ["seal"], ["open"], ["seal", key[:-1]], ["open", key + "0"], ["seal", key, "x"],
@@ -257,7 +277,9 @@ def command_lines(runs):
              ["encrypt", "bench", "0g"], ["encrypt", "other", "00"], ["encrypt", "bench", "00", "x"], ["encrypt", "bench", "00", ""],
              ["encrypt", "bench", "00", "Armor"], ["encrypt", "bench", "00", "armor", "armor"], ["encrypt", "bench", "armor"],
              ["encrypt", "other", "00", "armor"], ["encrypt", "bench", "0", "armor"], ["decrypt", "bench", "armor"], ["decrypt"],
-             ["decrypt", "other"], ["decrypt", "bench", "x"], ["keygen", "00" * 32], [b"seal", b"\xff" * 64]]
+             ["decrypt", "other"], ["decrypt", "bench", "x"], ["at", "bench", "1"], ["at", "other", "1", "1"], ["at", "bench", "1", "1", "1"],
+             ["at", "bench", "", "1"], ["at", "bench", "1", ""], ["at", "bench", "+1", "1"], ["at", "bench", "1", "-1"],
+             ["at", "bench", " 1", "1"], ["at", "bench", "1", str(2 ** 64)], ["at", "bench", "0x1", "1"], ["keygen", "00" * 32], [b"seal", b"\xff" * 64]]
     for words in lines:
         got = runs.run(words, b"abc")
         runs.judge(f"wrong command line {words}", got[:3] == (2, b"", USAGE), got)
@@ -320,6 +342,7 @@ def main():
         files(runs)
         armored_files(runs)
         damaged_armor(runs)
+        parts(runs)
         command_lines(runs)
     print(f"{runs.passed} passed, {runs.failed} failed")
     sys.exit(1 if runs.failed else 0)

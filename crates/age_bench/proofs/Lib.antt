@@ -7,3 +7,6 @@ pub mod Unwrapped
 pub mod Wrapped
 pub mod OneFile
 pub mod BothForms
+pub mod PartCopied
+pub mod Numbers
+pub mod Parts

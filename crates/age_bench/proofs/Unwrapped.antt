@@ -1,16 +1,16 @@
 -- What the one bench identity answers.
-use Rattle.std.specs.Prelude.{◌≡◌, ◌≢◌, ℕ, Bool, true, false, List, [], ◌∷◌, length, nat_eq, bytes_eq, codes, if◌then◌else◌, Option, Some, None, Ok, Err, refl}
+use Rattle.std.specs.Prelude.{◌≡◌, ◌≢◌, ℕ, Bool, true, false, List, [], ◌∷◌, ◌++◌, All, length, nat_eq, bytes_eq, codes, if◌then◌else◌, Option, Some, None, Ok, Err, refl}
 use Rattle.std.specs.Option.{option_or}
 use Rattle.std.proofs.Common.{◌∙◌, sym, ap, inl, inr}
 use Rattle.std.proofs.lemmas.Bool.{eqb-true, false≢true}
 use Rattle.std.proofs.lemmas.List.{nil_from_length}
-use Rattle.std.proofs.lemmas.List.Elements.{All-nil, All-cons}
+use Rattle.std.proofs.lemmas.List.Elements.{All-nil, All-cons, All-head, All-tail}
 use Rattle.std.proofs.lemmas.Option.{none-some}
 use Rattle.std.proofs.lemmas.Slice.Eq.{bytes_eq-Decides}
 use Rattle.age_error.specs.DecryptErrors.{InvalidHeader}
 use Rattle.age_format.specs.Stanza.{StanzaValue}
 use Rattle.age_format.specs.Unwrapping.{UnwrapAnswer, FirstOf, Then, Unwraps}
-use Rattle.age_protocol.specs.Answering.{Decides}
+use Rattle.age_protocol.specs.Answering.{Decides, FirstThatAnswers}
 use Rattle.age_bench.specs.Recipient.{bench_stanza, bench_unwrapped, HoldsBenchKey}
 
 -- ---- one who answers to each stanza by itself
@@ -103,3 +103,33 @@ holds_more s stanzas key (Some a) is later h =
 pub holds : (stanzas : List StanzaValue) (key : List ℕ) → Some (Ok key) ≡ first_answer bench_unwrapped stanzas → HoldsBenchKey key stanzas
 holds [] key h = absurd (none-some _ (sym h))
 holds (s ∷ stanzas) key h = holds_more s stanzas key (bench_unwrapped s) refl (λ later. holds stanzas key later) h
+
+-- ---- the other way
+
+not_bench : (tag args body : Bool) (bytes : List ℕ) → tag ≢ true
+    → ◌≡◌ {A = UnwrapAnswer} (if tag then (if args then (if body then Some (Ok bytes) else Some (Err InvalidHeader)) else Some (Err InvalidHeader)) else None) None
+not_bench true args body bytes other = absurd (other refl)
+not_bench false args body bytes other = refl
+
+held_after : (passed later : List StanzaValue) (key : List ℕ) → All (λ s. s.tag ≢ codes "bench") passed → length key ≡ 16
+    → first_answer bench_unwrapped (passed ++ bench_stanza key ∷ later) ≡ Some (Ok key)
+held_after [] later key others sixteen = rw sixteen refl
+held_after (p ∷ passed) later key others sixteen =
+    let other : p.tag ≢ codes "bench" = All-head (λ s. s.tag ≢ codes "bench") p passed others in
+    let over : bench_unwrapped p ≡ None =
+    not_bench (bytes_eq p.tag (codes "bench")) (nat_eq (length p.args) 0) (nat_eq (length p.body) 16) p.body
+    (λ same. other ((bytes_eq-Decides p.tag (codes "bench")).0 same)) in
+    ap (λ first. option_or first (first_answer bench_unwrapped (passed ++ bench_stanza key ∷ later))) over
+    ∙ held_after passed later key (All-tail (λ s. s.tag ≢ codes "bench") p passed others) sixteen
+
+-- the file key of the first bench stanza is the first answer
+pub held_answer : (stanzas : List StanzaValue) (key : List ℕ) → HoldsBenchKey key stanzas → first_answer bench_unwrapped stanzas ≡ Some (Ok key)
+held_answer stanzas key holds = ap (first_answer bench_unwrapped) holds.all ∙ held_after holds.passed holds.later key holds.others holds.sixteen
+
+-- of a list of one
+pub first_of_one : {S X A : Type 0} (f : X → Option A) (asks : S → List X → Option A → S → Type 0)
+    → ((before : S) (xs : List X) (answer : Option A) (after : S) → asks before xs answer after → answer ≡ first_answer f xs)
+    → (one : S) (xs : List X) (answer : Option A) (after : List S) → FirstThatAnswers (λ s. Unwraps asks s xs) (one ∷ []) answer after → answer ≡ first_answer f xs
+first_of_one f asks all one xs None [] h = absurd h
+first_of_one f asks all one xs None (next ∷ after) h = either_way f asks all one xs None next h.0
+first_of_one f asks all one xs (Some a) after h = any_decides f asks all (one ∷ []) xs a after h

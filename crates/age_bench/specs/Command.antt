@@ -1,6 +1,7 @@
 -- What the words of a command line ask for. A word is a list of bytes.
 use Rattle.std.specs.Prelude.{ℕ, ◌+◌, ◌-◌, ◌*◌, ◌&&◌, List, [], ◌∷◌, length, nat_eq, nat_le, bytes_eq, codes, if◌then◌else◌, Option, Some, None, option_map}
 use Rattle.std.specs.Option.{option_and_then}
+use Rattle.age_bench.specs.Decimal.{number_of}
 use Rattle.age_armor.specs.declared.format.Format.{Format}
 use Rattle.age_armor.specs.declared.format.Format.TheVariants.{Binary, AsciiArmor}
 use Rattle.age_bench.specs.declared.command.To.{To}
@@ -16,12 +17,14 @@ pub data CommandValue : Type 0 where
   Open : List ℕ → CommandValue
   Encrypt : To → List ℕ → Format → CommandValue
   Decrypt : With → CommandValue
+  At : With → ℕ → ℕ → CommandValue
 
 abbrev pub command_value : Command → CommandValue
 command_value (command.Seal key) = Seal key
 command_value (command.Open key) = Open key
 command_value (command.Encrypt to draw format) = Encrypt to draw.items format
 command_value (command.Decrypt with_) = Decrypt with_
+command_value (command.At with_ place count) = At with_ place count
 
 -- the value of a hexadecimal digit: '0' to '9', 'a' to 'f' or 'A' to 'F'
 abbrev pub digit_of : ℕ → Option ℕ
@@ -75,10 +78,19 @@ format_of [] = Some Binary
 format_of (word ∷ []) = if bytes_eq word (codes "armor") then Some AsciiArmor else None
 format_of (word ∷ other ∷ words) = None
 
--- `encrypt TO DRAW` and `encrypt TO DRAW armor`
+-- `at WITH PLACE COUNT`, where these words come after PLACE
+abbrev pub at_of : List ℕ → List ℕ → List (List ℕ) → Option CommandValue
+at_of with_ place [] = None
+at_of with_ place (count ∷ []) =
+    option_and_then (λ w. option_and_then (λ p. option_map (λ c. At w p c) (number_of count)) (number_of place)) (with_of with_)
+at_of with_ place (count ∷ other ∷ words) = None
+
+-- `at WITH PLACE COUNT`, `encrypt TO DRAW` and `encrypt TO DRAW armor`
 abbrev pub many_words : List (List ℕ) → Option CommandValue
-many_words (name ∷ to ∷ draw ∷ more) =
-    if bytes_eq name (codes "encrypt") then option_and_then (encrypt_of to draw) (format_of more) else None
+many_words (name ∷ second ∷ third ∷ more) =
+    if bytes_eq name (codes "at") then at_of second third more
+    else if bytes_eq name (codes "encrypt") then option_and_then (encrypt_of second third) (format_of more)
+    else None
 many_words words = None
 
 abbrev pub parsed : List (List ℕ) → Option CommandValue

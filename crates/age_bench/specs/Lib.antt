@@ -5,3 +5,5 @@ pub mod Copying
 pub mod Recipient
 pub mod Errors
 pub mod FileLaws
+pub mod Decimal
+pub mod Parts

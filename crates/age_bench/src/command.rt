@@ -1,8 +1,9 @@
 //! What the words of a command line ask for.
 
 ghost use Rattle.std.specs.Prelude.{◌≡◌, ◌<◌, map, string_bytes, vec_items, IfOk, IfSome, option_map};
-ghost use Rattle.age_bench.specs.Command.{bytes_of, byte_of, command_value, digit_of, encrypt_of, format_of, key_of, many_words, named, parsed, to_of, two_words, with_of};
+ghost use Rattle.age_bench.specs.Command.{at_of, bytes_of, byte_of, command_value, digit_of, encrypt_of, format_of, key_of, many_words, named, parsed, to_of, two_words, with_of};
 
+use crate::number::parse_number;
 use age::armor::Format;
 use std::alloc::{AllocError, Global};
 
@@ -40,6 +41,12 @@ pub enum Command {
     /// Write the plaintext of the file that the input is or carries, decrypted with an identity.
     Decrypt {
         with: With,
+    },
+    /// Write so many bytes of that plaintext from a place on, or fewer at its end.
+    At {
+        with: With,
+        place: u64,
+        count: u64,
     },
 }
 
@@ -171,28 +178,47 @@ fn parse_encrypt(
     Ok(draw.map(|draw| Command::Encrypt { to, draw, format }))
 }
 
+// `at WITH PLACE COUNT`.
+fn parse_at(with: &str, place: &str, more: &[String]) -> Option<Command>
+    ensures { option_map command_value result ≡ at_of with.now place.now (map string_bytes more.now) }
+{
+    let Some((count, rest)) = more.split_first() else {
+        return None;
+    };
+    if !rest.is_empty() {
+        return None;
+    }
+    let with = parse_with(with)?;
+    let place = parse_number(place.as_bytes())?;
+    let count = parse_number(count.as_str().as_bytes())?;
+    Some(Command::At { with, place, count })
+}
+
 // A command of three words or more.
 #[tactic(auto, using(crate::proofs::Words::few_of_many))]
 fn parse_many(alloc: Global, words: &[String]) -> Result<Option<Command>, AllocError>
     ensures { IfOk result (λ found. option_map command_value found ≡ many_words (map string_bytes words.now)) }
 {
-    let [name, to, draw, more @ ..] = words else {
+    let [name, second, third, more @ ..] = words else {
         return Ok(None);
     };
+    if name.as_str() == "at" {
+        return Ok(parse_at(second.as_str(), third.as_str(), more));
+    }
     if name.as_str() != "encrypt" {
         return Ok(None);
     }
     let Some(format) = parse_format(more) else {
         return Ok(None);
     };
-    parse_encrypt(alloc, to.as_str(), draw.as_str(), format)
+    parse_encrypt(alloc, second.as_str(), third.as_str(), format)
 }
 
-/// What the words after the program's name ask for: `seal KEY`, `open KEY`, `encrypt TO DRAW`, `encrypt TO DRAW armor` or
-/// `decrypt WITH`.
+/// What the words after the program's name ask for: `seal KEY`, `open KEY`, `encrypt TO DRAW`, `encrypt TO DRAW armor`,
+/// `decrypt WITH` or `at WITH PLACE COUNT`.
 ///
 /// KEY is 64 hexadecimal digits of either case, two a byte, the high digit first, and DRAW so any number of bytes; TO
-/// and WITH are `bench`. `Ok(None)` says that they are no command line of this program. `AllocError` where memory for the
+/// and WITH are `bench`; PLACE and COUNT are one or more decimal digits, leading zeros among them, of at most 2^64 - 1. `Ok(None)` says that they are no command line of this program. `AllocError` where memory for the
 /// bytes of KEY or DRAW is refused.
 #[tactic(auto, using(crate::proofs::Words::few_of_two, crate::proofs::Words::many_of_two))]
 pub fn parse(alloc: Global, words: &[String]) -> Result<Option<Command>, AllocError>

@@ -1,5 +1,5 @@
 //! Copying what a reader still has to a writer.
-ghost use Rattle.std.specs.Prelude.{◌≡◌, ◌≢◌, ℕ, ◌<◌, ◌≤◌, ◌⊎◌, false, IsTrue, List, ◌++◌, OnOk, OnErr, IfErr};
+ghost use Rattle.std.specs.Prelude.{◌≡◌, ◌≢◌, ℕ, ◌<◌, ◌≤◌, ◌⊎◌, false, IsTrue, List, ◌++◌, length, take, OnOk, OnErr, IfErr};
 ghost use Rattle.age_error.specs.Refusals.{IsDevice};
 ghost use Rattle.age_error.specs.declared.io.Error.TheVariants.{TooLong};
 ghost use Rattle.age_io.specs.Reading.{IsQuiet};
@@ -43,4 +43,43 @@ pub fn copy_all<R: Read, W: Write>(
         write_all(writer, &room[..count])?;
     }
     Err(Error::TooLong)
+}
+
+/// Appends to `writer` the next `count` bytes that `reader` has, or fewer at its end, piece by piece, in memory of one
+/// piece whatever the count. A success says that all of them were appended, and where they are fewer than `count` that
+/// the input ended well; after a refusal a beginning of them was. No byte after them is asked for.
+///
+/// `OutOfMemory` comes before the first piece, where memory of one is refused. Any other refusal is that of the reader
+/// or of the writer. Interruptions are tried again up to 16 times in a row.
+pub fn copy_some<R: Read, W: Write>(
+    alloc: Global,
+    reader: &mut R,
+    writer: &mut W,
+    count: u64,
+) -> Result<(), Error>
+    ensures tells { W.tells writer.new ≡ W.tells writer.old }
+    ensures part { IsTrue (R.tells reader.old) → IsTrue (W.tells writer.old) → OnOk result
+        (W.appended writer.old (take count (R.rest reader.old).bytes) writer.new
+        × (length (R.rest reader.old).bytes < count → IsTrue (R.rest reader.old).ends_well)) }
+    ensures front { IsTrue (R.tells reader.old) → IsTrue (W.tells writer.old) →
+        AppendsFront W.appended (take count (R.rest reader.old).bytes) writer.old writer.new }
+    // Why it refuses, as far as a writer says why it does.
+    ensures device { IfErr result (λ e. IsDevice e →
+        (R.faults reader.old < R.faults reader.new) ⊎ (W.faults writer.old < W.faults writer.new)) }
+    ensures too_long { IsTrue (R.tells reader.old) → IsTrue (R.rest reader.old).ends_well → W.limited writer.old ≡ false →
+        IsQuiet (R.faults reader.old) (R.faults reader.new) → IfErr result (λ e. e ≢ TooLong) }
+{
+    let mut piece = room_for(alloc, PIECE)?;
+    let mut left = count;
+    'pieces: while left > 0 {
+        let wanted = left.min(piece.len() as u64) as usize;
+        let part = &mut piece[..wanted];
+        let got = read_retrying(reader, part)?;
+        if got == 0 {
+            return Ok(());
+        }
+        write_all(writer, &part[..got])?;
+        left -= got as u64;
+    }
+    Ok(())
 }

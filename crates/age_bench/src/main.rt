@@ -28,6 +28,10 @@ mod io_seek_tests;
 mod laws;
 #[cfg(test)]
 mod long_error_texts;
+mod number;
+mod part;
+#[cfg(test)]
+mod part_tests;
 mod payload;
 mod recipient;
 #[cfg(test)]
@@ -53,6 +57,7 @@ mod whole_file_tests;
 use crate::command::{Command, parse};
 use crate::error::CommandError;
 use crate::file::{decrypt_with, encrypt_to};
+use crate::part::at_with;
 use crate::payload::{open_all, seal_all};
 use age::draw::Draw;
 use age::io::{Error, Std};
@@ -102,6 +107,9 @@ fn run(rt: &HostRuntime, command: Command) -> Result<(), CommandError> {
             encrypt_to(rt.alloc(), to, draw, format, &mut input, &mut output)
         }
         Command::Decrypt { with } => decrypt_with(rt.alloc(), with, &mut input, &mut output),
+        Command::At { with, place, count } => {
+            at_with(rt.alloc(), with, place, count, &mut input, &mut output)
+        }
     }
 }
 

@@ -1,0 +1,49 @@
+use Rattle.std.proofs.Common.{◌≡◌, ◌-◌, ◌≤◌, ◌∙◌, arith, length, take, length-take-le}
+use Rattle.std.proofs.lemmas.Grind.{common_steps}
+use Rattle.age_bench.proofs.PartCopied.{part-front, part-refused, part-more}
+use Rattle.age_bench.proofs.copying.copy_some.Goals as goal
+
+pub returns-in_err-got-clause-front : goal.returns-in_err-got-clause-front
+returns-in_err-got-clause-front g c = λ reader_told writer_told.
+    let read = g.R.Read in
+    part-front g.W.Write.appended g.met.W.Write.joins c.args.count c.pieces.left (read.rest c.args.reader.now) (read.rest c.pieces.reader)
+    c.args.writer.now c.pieces.writer (c.pieces.invariant.copied reader_told writer_told)
+
+pub returns-in_err-write_all-clause-front : goal.returns-in_err-write_all-clause-front
+returns-in_err-write_all-clause-front g c = λ reader_told writer_told.
+    let read = g.R.Read in
+    let before = c.pieces.invariant in
+    let reads = c.in_ok-got.ensures.reads in
+    let got = c.in_ok-got.got in
+    let bytes = take got c.read_retrying.new.buf in
+    let size : length bytes ≡ got = length-take-le got c.read_retrying.new.buf reads.count in
+    let fits : got ≤ c.pieces.left = grind (arith, common_steps, reads.count) in
+    let refused = c.in_err-write_all.ensures.writes.refuses (before.writer_tells ∙ writer_told) in
+    part-refused g.W.Write.appended g.met.W.Write.joins c.args.count c.pieces.left (c.pieces.left - got) (read.rest c.args.reader.now) (read.rest c.pieces.reader)
+    (read.rest c.read_retrying.new.reader) c.args.writer.now c.pieces.writer c.write_all.new.writer bytes refused.0
+    (before.copied reader_told writer_told) (omega (arith, size, fits)) (reads.bytes (before.reader_tells ∙ reader_told)) refused.2
+
+pub pieces-preserved : goal.pieces-preserved
+pieces-preserved g c =
+    let read = g.R.Read in
+    let before = c.pieces.invariant in
+    let reads = c.in_ok-got.ensures.reads in
+    let writes = c.in_ok-write_all.ensures.writes in
+    let got = c.in_ok-got.got in
+    let bytes = take got c.read_retrying.new.buf in
+    let size : length bytes ≡ got = length-take-le got c.read_retrying.new.buf reads.count in
+    let fits : got ≤ c.pieces.left = grind (arith, common_steps, reads.count) in
+    record {
+      reader_tells = reads.same_tells ∙ before.reader_tells;
+      writer_tells = writes.same_tells ∙ before.writer_tells;
+      limited = writes.same_limited ∙ before.limited;
+      reader_faults = omega (arith, before.reader_faults, reads.no_fewer_faults);
+      writer_faults = omega (arith, before.writer_faults, writes.no_fewer_faults);
+      ends = λ reader_told. (reads.bytes (before.reader_tells ∙ reader_told)).end ∙ before.ends reader_told;
+      room = grind (arith, common_steps, before.room);
+      copied = λ reader_told writer_told.
+          part-more g.W.Write.appended g.met.W.Write.joins c.args.count c.pieces.left (c.pieces.left - got) (read.rest c.args.reader.now) (read.rest c.pieces.reader)
+          (read.rest c.read_retrying.new.reader) c.args.writer.now c.pieces.writer c.write_all.new.writer bytes
+          (before.copied reader_told writer_told) (omega (arith, size, fits)) (reads.bytes (before.reader_tells ∙ reader_told))
+          (writes.takes (before.writer_tells ∙ writer_told));
+    }

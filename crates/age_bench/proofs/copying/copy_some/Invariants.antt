@@ -1,0 +1,22 @@
+use Rattle.std.proofs.Common.{◌≡◌, ◌<◌, ◌≤◌, IsTrue, length}
+use Rattle.age_bench.proofs.PartCopied.{IsPartCopied}
+use Rattle.age_bench.proofs.copying.copy_some.Given as goal
+
+abbrev pub invariant-pieces : goal.invariant-pieces
+invariant-pieces g l =
+    let reader = g.R.Read in
+    let writer = g.W.Write in
+    record {
+      reader_tells : reader.tells l.reader ≡ reader.tells l.fn.reader;
+      writer_tells : writer.tells l.writer ≡ writer.tells l.fn.writer;
+      limited : writer.limited l.writer ≡ writer.limited l.fn.writer;
+      reader_faults : reader.faults l.fn.reader ≤ reader.faults l.reader;
+      writer_faults : writer.faults l.fn.writer ≤ writer.faults l.writer;
+      ends : IsTrue (reader.tells l.fn.reader) → (reader.rest l.reader).ends_well ≡ (reader.rest l.fn.reader).ends_well;
+      room : 0 < length l.piece.items;
+      copied : IsTrue (reader.tells l.fn.reader) → IsTrue (writer.tells l.fn.writer) →
+          IsPartCopied writer.appended l.count l.left (reader.rest l.fn.reader) (reader.rest l.reader) l.fn.writer l.writer;
+    }
+
+abbrev pub decreases-pieces : goal.decreases-pieces
+decreases-pieces g l = l.left

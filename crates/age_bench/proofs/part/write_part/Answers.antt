@@ -1,0 +1,48 @@
+use Rattle.std.proofs.Common.{◌∙◌, refl, ap, subst, IsTrue, List, ℕ, length, take, drop}
+use Rattle.std.proofs.lemmas.Result.{on_ok_weaker}
+use Rattle.age_stream.specs.Reader.{tells_of, content_of, steady_of}
+use Rattle.age_stream.specs.ReadingLaws.{both-true}
+use Rattle.age_bench.proofs.PartCopied.{none-copied}
+use Rattle.age_bench.proofs.Parts.{refused_past, never_past, start_within}
+use Rattle.age_bench.specs.Copying.{AppendsFront}
+use Rattle.age_bench.proofs.part.write_part.Goals as goal
+
+pub returns-in-Err-clause-front : goal.returns-in-Err-clause-front
+returns-in-Err-clause-front g c = λ told writer_told well. none-copied g.W.Write.appended _ c.args.writer.now (g.met.W.Write.appends_nothing c.args.writer.now)
+
+pub returns-in-Err-clause-past_end : goal.returns-in-Err-clause-past_end
+returns-in-Err-clause-past_end g c = λ told well past.
+    let stream = c.args.stream.now in
+    let seeks = c.in-Err.ensures.seeks in
+    (refl, λ other quiet. refused_past c.args.place (length (content_of stream).bytes) c.in-Err.e past (seeks.refused told well (seeks.cause told well other quiet)))
+
+pub returns-in-Ok-clause-part : goal.returns-in-Ok-clause-part
+returns-in-Ok-clause-part g c = λ told writer_told well.
+    let stream = c.args.stream.now in
+    let bytes = (content_of stream).bytes in
+    let seeks = c.in-Ok.ensures.seeks in
+    let steady : IsTrue (steady_of stream) = both-true (tells_of stream) (content_of stream).ends_well told well in
+    let there = seeks.moves told steady in
+    let rest = ap (λ s. s.bytes) there.1 ∙ ap (λ n. drop n bytes) (seeks.leads told) in
+    let within = start_within c.args.place (length bytes) c.in-Ok._start (seeks.leads told) there.0 in
+    on_ok_weaker c.copy_some.result
+    (λ done. (within, subst (λ (l : List ℕ). g.W.Write.appended c.args.writer.now (take c.args.count l) c.copy_some.new.writer) rest done.0))
+    (c.copy_some.ensures.part (seeks.same_tells ∙ told) writer_told)
+
+pub returns-in-Ok-clause-front : goal.returns-in-Ok-clause-front
+returns-in-Ok-clause-front g c = λ told writer_told well.
+    let stream = c.args.stream.now in
+    let bytes = (content_of stream).bytes in
+    let seeks = c.in-Ok.ensures.seeks in
+    let steady : IsTrue (steady_of stream) = both-true (tells_of stream) (content_of stream).ends_well told well in
+    let there = seeks.moves told steady in
+    let rest = ap (λ s. s.bytes) there.1 ∙ ap (λ n. drop n bytes) (seeks.leads told) in
+    subst (λ (l : List ℕ). AppendsFront g.W.Write.appended (take c.args.count l) c.args.writer.now c.copy_some.new.writer) rest
+    (c.copy_some.ensures.front (seeks.same_tells ∙ told) writer_told)
+
+pub returns-in-Ok-clause-past_end : goal.returns-in-Ok-clause-past_end
+returns-in-Ok-clause-past_end g c = λ told well past.
+    let stream = c.args.stream.now in
+    let seeks = c.in-Ok.ensures.seeks in
+    let steady : IsTrue (steady_of stream) = both-true (tells_of stream) (content_of stream).ends_well told well in
+    absurd (never_past c.args.place (length (content_of stream).bytes) c.in-Ok._start past (seeks.moves told steady).0)

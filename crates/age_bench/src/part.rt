@@ -1,0 +1,167 @@
+//! The command on a part of a file's plaintext.
+ghost use Rattle.std.specs.Prelude.{◌≡◌, ◌≢◌, ◌⊎◌, ℕ, ◌<◌, ◌≤◌, ◌&&◌, ⊤, IsTrue, List, length, take, drop, Ok, IfOk, IfErr, OnOk, MatchResult};
+ghost use Rattle.age_error.specs.Refusals.{IsDevice};
+ghost use Rattle.age_error.specs.declared.io.Error.TheVariants.{PastEnd, OutOfMemory};
+ghost use Rattle.age_error.specs.declared.io.SeekFrom.TheVariants.{Start};
+ghost use Rattle.age_io.specs.Reading.{IsQuiet};
+ghost use Rattle.age_stream.specs.Targets.{sought_in};
+ghost use Rattle.age_stream.specs.Reader.{payload_of};
+ghost use Rattle.age_bench.specs.Copying.{AppendsFront};
+ghost use Rattle.age_bench.specs.Errors.{IsDecryptError};
+ghost use Rattle.age_bench.specs.Parts.{AppendsPart, FirstAnswer, IsFileFor, IsFileForBench};
+ghost use Rattle.age_armor.specs.Armor.{Carries};
+
+use crate::command::With;
+use crate::copying::copy_some;
+use crate::error::CommandError;
+use crate::recipient::BenchIdentity;
+use crate::suite::BenchSuite;
+use age::armor::ArmoredReader;
+use age::io::{Bytes, Error, Read, Seek, SeekFrom, Write, read_to_end};
+use age::stream::StreamReader;
+use age::{Decryptor, Identity};
+use age_protocol::laws::{front_is_accepted, front_reads_back};
+use std::alloc::Global;
+
+/// Seeks to `place`, in bytes from the start of the plaintext, and appends the `count` bytes that stand there to `writer`,
+/// or fewer at the end.
+///
+/// Where the content ends well, a success says that the place is in it, and that exactly these bytes were appended; after
+/// a refusal a beginning of them was. A place after the end is `PastEnd`, and nothing is appended then. The other refusals
+/// of the seek are those of `StreamReader::seek`, and those after it those of `copy_some`.
+pub fn write_part<R: Seek, W: Write>(
+    alloc: Global,
+    stream: &mut StreamReader<BenchSuite, R>,
+    place: u64,
+    count: u64,
+    writer: &mut W,
+) -> Result<(), Error>
+    ensures tells { W.tells writer.new ≡ W.tells writer.old }
+    ensures order { let reader = ⟦<StreamReader<BenchSuite, R> as Read>⟧ in IsTrue (reader.tells stream.old) → OnOk result
+        (sought_in (Start place) (reader.place stream.old) (length (payload_of stream.old).bytes) ≡ Ok place) }
+    // Over a content that ends well.
+    ensures part { let reader = ⟦<StreamReader<BenchSuite, R> as Read>⟧ in IsTrue (reader.tells stream.old) → IsTrue (W.tells writer.old) →
+        IsTrue (reader.content stream.old).ends_well → OnOk result ((place ≤ length (reader.content stream.old).bytes)
+        × W.appended writer.old (take count (drop place (reader.content stream.old).bytes)) writer.new) }
+    ensures front { let reader = ⟦<StreamReader<BenchSuite, R> as Read>⟧ in IsTrue (reader.tells stream.old) → IsTrue (W.tells writer.old) →
+        IsTrue (reader.content stream.old).ends_well →
+        AppendsFront W.appended (take count (drop place (reader.content stream.old).bytes)) writer.old writer.new }
+    ensures past_end { let reader = ⟦<StreamReader<BenchSuite, R> as Read>⟧ in IsTrue (reader.tells stream.old) →
+        IsTrue (reader.content stream.old).ends_well → length (reader.content stream.old).bytes < place →
+        (writer.new ≡ writer.old) × MatchResult result (λ done. ⊥)
+        (λ e. e ≢ OutOfMemory → IsQuiet (reader.faults stream.old) (reader.faults stream.new) → e ≡ PastEnd) }
+    // Why it refuses, as far as a writer says why it does.
+    ensures device { let reader = ⟦<StreamReader<BenchSuite, R> as Read>⟧ in IfErr result (λ e. IsDevice e →
+        (reader.faults stream.old < reader.faults stream.new) ⊎ (W.faults writer.old < W.faults writer.new)) }
+{
+    match stream.seek(SeekFrom::Start(place)) {
+        Err(e) => Err(e),
+        Ok(_start) => copy_some(alloc, stream, writer, count),
+    }
+}
+
+// `write_part` of the file that a text gives, decrypted by one of the identities.
+fn at_text<T: Seek + Drop, W: Write>(
+    alloc: Global,
+    identities: &mut [Box<dyn Identity>],
+    place: u64,
+    count: u64,
+    text: T,
+    writer: &mut W,
+) -> Result<(), CommandError>
+    ensures cursor { IsTrue (T.tells text && T.steady text) → IsTrue (W.tells writer.old) → IsTrue (T.rest text).ends_well → (plain : List ℕ) →
+        IsFileFor (FirstAnswer ⟦<Box<dyn Identity> as Identity>⟧.unwraps identities.old) plain (T.rest text).bytes →
+        AppendsPart W.appended ((t : T) → T.faults t ≡ 0) place count plain writer.old writer.new result }
+    ensures refused { IfErr result (λ e. IsDecryptError e → writer.new ≡ writer.old) }
+{
+    front_reads_back();
+    front_is_accepted::<T>();
+    match Decryptor::<BenchSuite, T>::new(alloc, text) {
+        Err(e) => Err(CommandError::Decrypt(e)),
+        Ok(decryptor) => match decryptor.decrypt(alloc, identities) {
+            Err(e) => Err(CommandError::Decrypt(e)),
+            Ok(stream) => {
+                let mut stream = stream;
+                match write_part(alloc, &mut stream, place, count, writer) {
+                    Err(e) => Err(CommandError::Io(e)),
+                    Ok(()) => Ok(()),
+                }
+            }
+        },
+    }
+}
+
+/// Reads a file, bare or armored, to its end into memory, and appends the `count` bytes of its plaintext from `place` on, or
+/// fewer at the end, to `writer`. One of the identities decrypts it.
+///
+/// The seek is by the length of the payload, and only the chunks that hold the bytes are opened. A place after the end of the
+/// plaintext is `PastEnd`. After a refusal a beginning of the bytes was appended, and after one of the header nothing. The
+/// refusals are those of `read_to_end`, of `decrypt_all` for the header, and of `write_part`.
+pub fn at<R: Read, W: Write>(
+    alloc: Global,
+    identities: &mut [Box<dyn Identity>],
+    place: u64,
+    count: u64,
+    reader: &mut R,
+    writer: &mut W,
+) -> Result<(), CommandError>
+    ensures cursor { IsTrue (R.tells reader.old) → IsTrue (W.tells writer.old) → IsTrue (R.rest reader.old).ends_well → (file plain : List ℕ) →
+        Carries (R.rest reader.old).bytes file →
+        IsFileFor (FirstAnswer ⟦<Box<dyn Identity> as Identity>⟧.unwraps identities.old) plain file →
+        AppendsPart W.appended (IsQuiet (R.faults reader.old) (R.faults reader.new)) place count plain writer.old writer.new result }
+    ensures refused { IfErr result (λ e. IsDecryptError e → writer.new ≡ writer.old) }
+{
+    let mut input = Vec::new(alloc);
+    match read_to_end(alloc, reader, &mut input) {
+        Err(e) => Err(CommandError::Io(e)),
+        Ok(_) => at_bytes(alloc, identities, place, count, &input, writer),
+    }
+}
+
+// The same of a file that stands in memory.
+fn at_bytes<W: Write>(
+    alloc: Global,
+    identities: &mut [Box<dyn Identity>],
+    place: u64,
+    count: u64,
+    input: &[u8],
+    writer: &mut W,
+) -> Result<(), CommandError>
+    ensures cursor { IsTrue (W.tells writer.old) → (file plain : List ℕ) → Carries input.now file →
+        IsFileFor (FirstAnswer ⟦<Box<dyn Identity> as Identity>⟧.unwraps identities.old) plain file →
+        AppendsPart W.appended ⊤ place count plain writer.old writer.new result }
+    ensures refused { IfErr result (λ e. IsDecryptError e → writer.new ≡ writer.old) }
+{
+    match ArmoredReader::new_buffered(alloc, Bytes::new(input)) {
+        Err(e) => Err(CommandError::Io(e)),
+        Ok(text) => at_text(alloc, identities, place, count, text, writer),
+    }
+}
+
+/// `at` with the identity that a word of the command line names.
+///
+/// It refuses as `at` does, and then the same was appended.
+pub fn at_with<R: Read, W: Write>(
+    alloc: Global,
+    with: With,
+    place: u64,
+    count: u64,
+    reader: &mut R,
+    writer: &mut W,
+) -> Result<(), CommandError>
+    ensures cursor { IsTrue (R.tells reader.old) → IsTrue (W.tells writer.old) → IsTrue (R.rest reader.old).ends_well → (file plain : List ℕ) →
+        Carries (R.rest reader.old).bytes file → IsFileForBench plain file →
+        AppendsPart W.appended (IsQuiet (R.faults reader.old) (R.faults reader.new)) place count plain writer.old writer.new result }
+    ensures refused { IfErr result (λ e. IsDecryptError e → writer.new ≡ writer.old) }
+{
+    let mut identities: Vec<Box<dyn Identity>> = Vec::new(alloc);
+    match with {
+        With::Bench => match Box::new(alloc, BenchIdentity) {
+            Err(_) => Err(CommandError::Io(Error::OutOfMemory)),
+            Ok(one) => match identities.push(one) {
+                Err(_) => Err(CommandError::Io(Error::OutOfMemory)),
+                Ok(()) => at(alloc, &mut identities, place, count, reader, writer),
+            },
+        },
+    }
+}
