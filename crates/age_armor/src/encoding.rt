@@ -17,7 +17,8 @@ pub(crate) const COLUMNS: usize = 64;
 /// How many bytes the text of a full line has: its columns and LF.
 pub(crate) const LINE_TEXT: usize = 65;
 
-/// Writes the base64 of armor. It is made once, and kept with its tables; clauses see nothing of it.
+/// Writes the base64 of armor. It is made once, and kept with its tables. Each writes the same, as its invariant says, so
+/// it has one value, and clauses don't see the tables.
 #[derive(Drop)]
 pub(crate) struct ColumnEncoder {
     engine: GeneralPurpose,
