@@ -13,7 +13,7 @@ gate=$(grep -E '^[0-9]+ passed, [0-9]+ failed$' "$log/gate" | tail -n 1)
 
 echo "The program with failing memory, reads and writes, and on damaged payloads:"
 if ./agebench seal "$(printf '00%.0s' {1..32})" </dev/null >/dev/null; then
-    python3 faults/run.py crates/age_bench/out/age_bench 2>&1 | tee "$log/faults" || status=1
+    python3 faults/run.py crates/agebench/out/agebench 2>&1 | tee "$log/faults" || status=1
 fi
 faults=$(grep -E '^[0-9]+ passed, [0-9]+ failed$' "$log/faults" 2>/dev/null | tail -n 1)
 [ -n "$faults" ] || { faults='0 passed, 1 failed'; status=1; }

@@ -9,7 +9,7 @@ top=$(cd "$(dirname "$0")/.." && pwd)
 key=$(printf '00%.0s' {1..32})
 draw=$key
 "$top/agebench" seal "$key" </dev/null >/dev/null
-program=$top/crates/age_bench/out/age_bench
+program=$top/crates/agebench/out/agebench
 folder=$(mktemp -d -p "${TMPDIR:-/dev/shm}")
 trap 'rm -rf "$folder"' EXIT
 head -c "$((size * 1048576))" /dev/urandom >"$folder/plain"

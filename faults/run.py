@@ -299,6 +299,24 @@ def devices(runs, words, given):
     runs.judge("a closed pipe", got[:3] == (1, b"", f"agebench: {DEVICE}\n"), got)
 
 
+def seek_memory(runs):
+    """A seek to the last of eleven chunks and a read there make fewer than ten requests for memory.
+
+    So the answers are the same where the tenth is refused, and `out of memory` where the first is. A reader that opened
+    the chunks before its place, whatever it counts, would make more.
+    """
+    here = os.path.dirname(os.path.abspath(__file__))
+    crate = os.path.join(os.path.dirname(here), "crates", "seek_memory")
+    plain = bytes(i % 251 for i in range(10 * PIECE + 1))
+    answers = f"0 opened, at {10 * PIECE}, 1 read: {plain[-1]}, 1 opened"
+    for number, want in [(1, "seek_memory: out of memory"), (10, answers)]:
+        done = subprocess.run(["rt", "try", "--fail-alloc", str(number)], cwd=crate, input=payload(plain),
+                              capture_output=True, timeout=900)
+        lines = done.stdout.decode().splitlines() + done.stderr.decode().splitlines()
+        runs.judge(f"a seek and a read, request {number} for memory refused", want in lines,
+                   (done.returncode, done.stdout, done.stderr.decode(), False))
+
+
 def main():
     program = os.path.abspath(sys.argv[1])
     here = os.path.dirname(os.path.abspath(__file__))
@@ -344,6 +362,7 @@ def main():
         damaged_armor(runs)
         parts(runs)
         command_lines(runs)
+        seek_memory(runs)
     print(f"{runs.passed} passed, {runs.failed} failed")
     sys.exit(1 if runs.failed else 0)
 

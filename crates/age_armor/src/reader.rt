@@ -1,5 +1,5 @@
 //! Reading armor.
-ghost use Rattle.std.specs.Prelude.{◌≡◌, ◌≢◌, ℕ, ◌+◌, ◌-◌, ◌^◌, ◌≤◌, ◌<◌, Bool, true, false, IsTrue, List, [], ◌++◌, length, take, drop, min, IfOk, IfErr, OnOk, OnErr, Ok, Err};
+ghost use Rattle.std.specs.Prelude.{◌≡◌, ◌≢◌, ℕ, ◌+◌, ◌-◌, ◌^◌, ◌≤◌, ◌<◌, Bool, true, false, IsTrue, List, [], ◌++◌, length, take, drop, min, IfOk, IfErr, OnOk, OnErr, IsOk, Ok, Err};
 ghost use Rattle.std.proofs.Common.{arith};
 ghost use Rattle.age_error.specs.Bytes.{AreBytes};
 ghost use Rattle.age_error.specs.Refusals.{IsDevice, IsInterruption};
@@ -113,9 +113,11 @@ impl<R: BufRead> Read for ArmoredReader<R> {
         ensures ending { let reader = ⟦<ArmoredReader<R> as Read>⟧ in KeepsEnding (reader.tells self.old) (has_failed self.old)
             (reader.faults self.old) (reader.faults self.new) (outcome_of self.old).ending (outcome_of self.new).ending result }
 
-        // It gives what is held of a line, or of the next one.
+        // It gives what is held of a line, or of the next one. In armor nothing else of the buffer changes.
         ensures held { 0 < length (shown_of self.old) → IfOk result (λ n. n ≤ length (shown_of self.old)) }
         ensures line { IsTrue (has_armor self.new) → IfOk result (λ n. n + length (shown_of self.new) ≤ 48) }
+        ensures beyond { IsTrue (has_armor self.new) → IfOk result (λ n. drop n buf.new ≡ drop n buf.old) }
+        ensures untouched { IsTrue (has_armor self.new) → OnErr result (buf.new ≡ buf.old) }
 
         ensures failed { IsTrue (has_failed self.old) → (result ≡ Err Failed) × (self.new ≡ self.old) }
         ensures empty { has_failed self.old ≡ false → length buf.old ≡ 0 → (result ≡ Ok 0) × (self.new ≡ self.old) }
@@ -135,7 +137,7 @@ impl<R: BufRead> ArmoredReader<R> {
 
     /// A reader of what the text carries that begins where `inner` stands.
     ///
-    /// It reads nothing yet and takes no memory.
+    /// It reads nothing yet, takes no memory and never refuses.
     pub fn new_buffered(alloc: Global, inner: R) -> Result<ArmoredReader<R>, Error>
     where
         R: Drop,
@@ -152,6 +154,7 @@ impl<R: BufRead> ArmoredReader<R> {
             IsTrue (R.Read.rest inner).ends_well × (AreBytes (R.Read.rest inner).bytes → Carries (R.Read.rest inner).bytes (armored_rest r).bytes)) }
         ensures honest { (bytes : List ℕ) → IsTrue (R.Read.rest inner).ends_well → Carries (R.Read.rest inner).bytes bytes →
             IfOk result (λ r. armored_rest r ≡ whole bytes) }
+        ensures ok { IsOk result }
         ensures memory { IfErr result (λ e. e ≡ OutOfMemory) }
     {
         Ok(ArmoredReader {
@@ -186,6 +189,8 @@ impl<R: BufRead> ArmoredReader<R> {
         ensures ending { IsTrue (R.Read.tells self.old.source.inner) → OnOk result ((outcome_of self.new).ending ≡ (outcome_of self.old).ending) }
         ensures held { 0 < length (shown_of self.old) → IfOk result (λ n. n ≤ length (shown_of self.old)) }
         ensures line { IsTrue (has_armor self.new) → IfOk result (λ n. n + length (shown_of self.new) ≤ 48) }
+        ensures beyond { IsTrue (has_armor self.new) → IfOk result (λ n. drop n buf.new ≡ drop n buf.old) }
+        ensures untouched { IsTrue (has_armor self.new) → OnErr result (buf.new ≡ buf.old) }
         ensures fails { OnErr result (self.new.failed ≡ true) }
         ensures good { OnOk result (self.new.failed ≡ false) }
     {
@@ -320,6 +325,7 @@ impl<R: BufRead> ArmoredReader<R> {
         ensures fresh { self.new.failed ≡ false }
         ensures shown { shown_of self.new ≡ drop result (shown_of self.old) }
         ensures bytes { Delivers (take result buf.new) (armored_rest self.old) (armored_rest self.new) }
+        ensures beyond { drop result buf.new ≡ drop result buf.old }
         ensures ending { (outcome_of self.new).ending ≡ (outcome_of self.old).ending }
         ensures moves { IsTrue (R.Read.tells self.old.source.inner) → self.new.place ≡ self.old.place + result }
     {

@@ -19,6 +19,7 @@ use age_io::{BufRead, Read, Seek, is_refusal, place_at, seek_retrying, unrefused
 fn distance_back(count: u64) -> Option<i64>
     ensures some { count < 2 ^ 63 → IfSome result (λ d. (place : ℕ) → count ≤ place → place_by place d ≡ Some (place - count)) }
     ensures none { result ≡ None → 2 ^ 63 ≤ count }
+    ensures far { 2 ^ 63 ≤ count → result ≡ None }
 {
     if count > i64::MAX as u64 {
         return None;
@@ -291,6 +292,8 @@ impl<R: BufRead + Seek> ArmoredReader<R> {
         ensures text { let reader = ⟦<ArmoredReader<R> as Read>⟧ in
             SeeksText reader.tells reader.steady (λ r. has_failed r) reader.content reader.place reader.rest reader.faults self.old self.new (Current distance)
             (R.Read.content (inner_of self.old)).ends_well (text_outcome_of self.old).ending result }
+        ensures at_once { IsTrue (R.Read.tells (inner_of self.old)) → IsEarly (Current distance) (place_of self.old) →
+            (result ≡ Err BeforeStart) × (self.new ≡ self.old) }
     {
         if self.place > i64::MAX as u64 {
             self.fail_at(self.place);
@@ -340,6 +343,10 @@ impl<R: BufRead + Seek> Seek for ArmoredReader<R> {
         // Of a text that ends in a fault the only such refusal is that of a target that is counted from the place.
         ensures early { IsTrue (R.Read.tells (inner_of self.old)) → IsTrue (R.Read.steady (inner_of self.old)) → (armored_content self.old).ends_well ≡ false →
             IfErr result (λ e. IsRefusal e → (e ≡ BeforeStart) × IsEarly to (place_of self.old)) }
+
+        // A target that is counted from the place and lies below 0 is refused at once: nothing is read, and nothing changes.
+        ensures at_once { IsTrue (R.Read.tells (inner_of self.old)) → IsEarly to (place_of self.old) →
+            (result ≡ Err BeforeStart) × (self.new ≡ self.old) }
     {
         match to {
             SeekFrom::Start(target) => self.seek_to(target),

@@ -1,6 +1,4 @@
-pub mod Hex
 pub mod Steps
-pub mod Words
 pub mod Copied
 pub mod Decrypted
 pub mod Unwrapped
@@ -8,5 +6,5 @@ pub mod Wrapped
 pub mod OneFile
 pub mod BothForms
 pub mod PartCopied
-pub mod Numbers
+pub mod Opened
 pub mod Parts

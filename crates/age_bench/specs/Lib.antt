@@ -1,9 +1,7 @@
 pub mod Bench
-pub mod Command
 pub mod Laws
 pub mod Copying
 pub mod Recipient
 pub mod Errors
 pub mod FileLaws
-pub mod Decimal
 pub mod Parts

@@ -35,6 +35,12 @@ IsPastEnd (Io e) = (e ≡ io.PastEnd) ⊎ (e ≡ io.OutOfMemory)
 IsPastEnd (Encrypt e) = ⊥
 IsPastEnd (Decrypt e) = decrypt_refusal e ≡ OutOfMemory
 
+-- memory was refused
+abbrev pub IsWant : CommandError → Type 0
+IsWant (Io e) = e ≡ io.OutOfMemory
+IsWant (Encrypt e) = ⊥
+IsWant (Decrypt e) = decrypt_refusal e ≡ OutOfMemory
+
 -- Of a plaintext the bytes from a place on were appended, so many or fewer at the end; after a refusal a beginning of them.
 -- Where the device doesn't fail, a place after the end is refused as such.
 pub record AppendsPart {W T : Type 0} (appended : W → List ℕ → W → Type 0) (Quiet : Type 0) (place count : ℕ) (plain : List ℕ)

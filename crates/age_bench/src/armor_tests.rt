@@ -1,7 +1,7 @@
 //! Armor through the library: what is written, what is read back, and each fault of a text. The expected texts are those
 //! of Python's base64 between the two markers.
 
-use crate::fixtures::{digest, plaintext};
+use crate::fixtures::{armored, digest, plaintext};
 use age::armor::{ArmoredReadError, ArmoredReader, ArmoredWriter, Format};
 use age::io::{BufReader, Bytes, Error, Read, Write, read_to_end, write_all};
 use std::alloc::Global;
@@ -14,13 +14,6 @@ const ALPHABET: [u8; 48] = [
     0x55, 0x97, 0x61, 0x96, 0x9b, 0x71, 0xd7, 0x9f, 0x82, 0x18, 0xa3, 0x92, 0x59, 0xa7, 0xa2, 0x9a,
     0xab, 0xb2, 0xdb, 0xaf, 0xc3, 0x1c, 0xb3, 0xd3, 0x5d, 0xb7, 0xe3, 0x9e, 0xbb, 0xf3, 0xdf, 0xbf,
 ];
-
-// The armor of these bytes, written in one piece.
-fn armored(alloc: Global, bytes: &[u8]) -> Result<Vec<u8>, Error> {
-    let mut writer = ArmoredWriter::wrap_output(alloc, Vec::new(alloc), Format::AsciiArmor)?;
-    write_all(&mut writer, bytes)?;
-    writer.finish()
-}
 
 // What a text carries.
 fn carried(alloc: Global, text: &[u8]) -> Result<Vec<u8>, Error> {

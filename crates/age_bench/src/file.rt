@@ -13,9 +13,9 @@ ghost use Rattle.age_error.specs.EncryptErrors.{encrypt_refusal, OutOfMemory};
 ghost use Rattle.age_bench.specs.Errors.{IsEncryptError, IsDecryptError, EncryptsUnless, DecryptsUnless, RefusesText, RefusesKey};
 ghost use Rattle.age_bench.specs.Recipient.{bench_grease, bench_file, HoldsBenchKey};
 
-use crate::command::{To, With};
 use crate::copying::copy_all;
 use crate::error::CommandError;
+use crate::names::{To, With};
 use crate::recipient::{BenchIdentity, BenchRecipient};
 use crate::suite::BenchSuite;
 use age::armor::{ArmoredReader, ArmoredWriter, Format};

@@ -1,8 +1,8 @@
 //! Whole files to `bench`. The expected bytes are those of Python, from the format's own words.
 
-use crate::command::{To, With};
 use crate::file::{decrypt_all, decrypt_with, encrypt_all, encrypt_to};
 use crate::fixtures::{MESSAGE, SEALED, empty_stanza, message_file, zeros};
+use crate::names::{To, With};
 use crate::recipient::{BenchIdentity, BenchRecipient};
 use crate::suite::BenchSuite;
 use age::armor::Format;

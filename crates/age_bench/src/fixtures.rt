@@ -1,9 +1,12 @@
 //! What tests share.
 
+use age::armor::{ArmoredWriter, Format};
 use age::draw::Draw;
 use age::format::Stanza;
+use age::io::{Error, write_all};
 use age::mac::hmac;
 use std::alloc::{AllocError, Global};
+use std::test::Fail;
 
 /// The payload key: the bytes 0, 1, .., 31.
 pub const KEY: [u8; 32] = [
@@ -67,4 +70,39 @@ pub fn zeros(alloc: Global, count: usize) -> Result<Draw, AllocError> {
 pub fn empty_stanza(alloc: Global, tag: &str) -> Result<Option<Stanza>, AllocError> {
     let tag = String::from_str(alloc, tag)?;
     Ok(Stanza::new(tag, Vec::new(alloc), Vec::new(alloc)))
+}
+
+/// The armor of some bytes, written in one piece.
+pub fn armored(alloc: Global, bytes: &[u8]) -> Result<Vec<u8>, Error> {
+    let mut writer = ArmoredWriter::wrap_output(alloc, Vec::new(alloc), Format::AsciiArmor)?;
+    write_all(&mut writer, bytes)?;
+    writer.finish()
+}
+
+/// A text with CRLF in place of LF after its first line or not, after its second or not, and so on in turn, and three
+/// spaces after it.
+pub fn with_endings(alloc: Global, text: &[u8], crlf: [bool; 2]) -> Result<Vec<u8>, AllocError> {
+    let mut changed = Vec::new(alloc);
+    let [mut this, mut next] = crlf;
+    for byte in text {
+        if *byte == b'\n' {
+            if this {
+                changed.push(b'\r')?;
+            }
+            (this, next) = (next, this);
+        }
+        changed.push(*byte)?;
+    }
+    changed.extend_from_slice(b"   ")?;
+    Ok(changed)
+}
+
+/// Texts that carry some bytes: their armor with LF, with CRLF and with both, and white space after it.
+pub fn armored_texts(alloc: Global, bytes: &[u8]) -> Result<Vec<Vec<u8>>, Fail> {
+    let text = armored(alloc, bytes)?;
+    let mut texts = Vec::new(alloc);
+    for crlf in [[false, false], [true, true], [true, false]] {
+        texts.push(with_endings(alloc, &text, crlf)?)?;
+    }
+    Ok(texts)
 }

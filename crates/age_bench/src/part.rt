@@ -11,16 +11,16 @@ ghost use Rattle.age_bench.specs.Errors.{IsDecryptError};
 ghost use Rattle.age_bench.specs.Parts.{AppendsPart, FirstAnswer, IsFileFor, IsFileForBench};
 ghost use Rattle.age_armor.specs.Armor.{Carries};
 
-use crate::command::With;
 use crate::copying::copy_some;
 use crate::error::CommandError;
+use crate::names::With;
+use crate::opening::open_file;
 use crate::recipient::BenchIdentity;
 use crate::suite::BenchSuite;
+use age::Identity;
 use age::armor::ArmoredReader;
 use age::io::{Bytes, Error, Read, Seek, SeekFrom, Write, read_to_end};
 use age::stream::StreamReader;
-use age::{Decryptor, Identity};
-use age_protocol::laws::{front_is_accepted, front_reads_back};
 use std::alloc::Global;
 
 /// Seeks to `place`, in bytes from the start of the plaintext, and appends the `count` bytes that stand there to `writer`,
@@ -74,20 +74,13 @@ fn at_text<T: Seek + Drop, W: Write>(
         AppendsPart W.appended ((t : T) → T.faults t ≡ 0) place count plain writer.old writer.new result }
     ensures refused { IfErr result (λ e. IsDecryptError e → writer.new ≡ writer.old) }
 {
-    front_reads_back();
-    front_is_accepted::<T>();
-    match Decryptor::<BenchSuite, T>::new(alloc, text) {
-        Err(e) => Err(CommandError::Decrypt(e)),
-        Ok(decryptor) => match decryptor.decrypt(alloc, identities) {
-            Err(e) => Err(CommandError::Decrypt(e)),
-            Ok(stream) => {
-                let mut stream = stream;
-                match write_part(alloc, &mut stream, place, count, writer) {
-                    Err(e) => Err(CommandError::Io(e)),
-                    Ok(()) => Ok(()),
-                }
-            }
-        },
+    let mut stream = match open_file(alloc, identities, text) {
+        Err(e) => return Err(CommandError::Decrypt(e)),
+        Ok(stream) => stream,
+    };
+    match write_part(alloc, &mut stream, place, count, writer) {
+        Err(e) => Err(CommandError::Io(e)),
+        Ok(()) => Ok(()),
     }
 }
 

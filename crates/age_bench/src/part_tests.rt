@@ -1,8 +1,8 @@
 //! Parts of a file's plaintext, and the words that ask for them.
 
-use crate::command::{Command, To, With, parse};
 use crate::file::encrypt_to;
 use crate::fixtures::{MESSAGE, plaintext, zeros};
+use crate::names::{To, With};
 use crate::part::at_with;
 use age::armor::Format;
 use age::io::Bytes;
@@ -124,53 +124,4 @@ fn a_bad_chunk_is_met_where_it_stands(rt: HostRuntime) -> Result<(), Fail> {
     assert!(rt; Some(part.as_slice()) == plain.get(65_530..65_536));
     let last = plain.get(131_072..131_080).ok_or("no bytes")?;
     is_given(&rt, alloc, &file, 131_072, 8, Ok(last))
-}
-
-// What `at bench` and these two words ask for.
-fn asked(alloc: Global, place: &str, count: &str) -> Result<Option<(u64, u64)>, AllocError> {
-    let mut words = Vec::new(alloc);
-    for word in ["at", "bench", place, count] {
-        words.push(String::from_str(alloc, word)?)?;
-    }
-    Ok(match parse(alloc, &words)? {
-        Some(
-            Command::At {
-                with: With::Bench,
-                place,
-                count,
-            },
-        ) => Some((place, count)),
-        _ => None,
-    })
-}
-
-#[test]
-fn places_and_counts_are_decimal(rt: HostRuntime) -> Result<(), Fail> {
-    let alloc = rt.alloc();
-    for (word, expected) in [
-        ("0", Some(0)),
-        ("7", Some(7)),
-        ("10", Some(10)),
-        ("0000000000000000000000000123", Some(123)),
-        ("18446744073709551615", Some(u64::MAX)),
-        ("18446744073709551616", None),
-        ("18446744073709551620", None),
-        ("99999999999999999999", None),
-        ("340282366920938463463374607431768211456", None),
-        ("", None),
-        ("+1", None),
-        ("-1", None),
-        (" 1", None),
-        ("1 ", None),
-        ("1_000", None),
-        ("0x1", None),
-        ("1a", None),
-        ("\u{663}", None),
-    ] {
-        let as_place = asked(alloc, word, "2")?;
-        assert_eq!(rt; as_place, expected.map(|place| (place, 2)), "at {word}");
-        let as_count = asked(alloc, "3", word)?;
-        assert_eq!(rt; as_count, expected.map(|count| (3, count)), "at {word}");
-    }
-    Ok(())
 }

@@ -1,7 +1,8 @@
 //! Seeks in payloads, and how often they open chunks.
 
-use crate::fixtures::{KEY, part, plaintext};
+use crate::fixtures::{KEY, armored, armored_texts, part, plaintext, with_endings};
 use crate::suite::BenchSuite;
+use age::armor::ArmoredReader;
 use age::io::{Answer, BufReader, Bytes, Error, Op, Read, Seek, SeekFrom, read_to_end, run};
 use age::stream::StreamReader;
 use age::suite::Suite;
@@ -94,10 +95,13 @@ fn seeks_move_a_cursor(rt: HostRuntime) -> Result<(), Fail> {
     let mut reader = Reader::with_payload_key(alloc, KEY, Bytes::new(&payload))?;
     moves_a_cursor(&rt, &mut reader);
     let buffered = BufReader::new(alloc, Bytes::new(&payload))?;
-    let mut reader = StreamReader::<BenchSuite, BufReader<Bytes>>::with_payload_key(
-        alloc, KEY, buffered,
-    )?;
+    let mut reader = StreamReader::<BenchSuite, _>::with_payload_key(alloc, KEY, buffered)?;
     moves_a_cursor(&rt, &mut reader);
+    for text in &armored_texts(alloc, &payload)? {
+        let armored = ArmoredReader::new(alloc, Bytes::new(text))?;
+        let mut reader = StreamReader::<BenchSuite, _>::with_payload_key(alloc, KEY, armored)?;
+        moves_a_cursor(&rt, &mut reader);
+    }
     Ok(())
 }
 
@@ -156,29 +160,64 @@ fn a_list_of_seeks_and_reads(rt: HostRuntime) -> Result<(), Fail> {
     Ok(())
 }
 
+// A payload of 131,072 bytes of plaintext without its second chunk.
+fn lacks_its_end<R: Seek + Drop>(
+    rt: &impl Abort,
+    alloc: Global,
+    inner: R,
+    first: &[u8],
+) -> Result<(), Fail> {
+    let mut reader = StreamReader::<BenchSuite, R>::with_payload_key(alloc, KEY, inner)?;
+    gives(rt, alloc, &mut reader, first, Error::Truncated)?;
+    assert_eq!(rt; reader.seek(SeekFrom::End(0)), Err(Error::BadEnd));
+    stays_failed(rt, &mut reader);
+    assert_eq!(rt; reader.seek(SeekFrom::Start(0)), Ok(0));
+    gives(rt, alloc, &mut reader, first, Error::Truncated)
+}
+
 #[test]
 fn a_payload_cut_between_chunks(rt: HostRuntime) -> Result<(), Fail> {
     let alloc = rt.alloc();
     let plain = plaintext(alloc, 131_072)?;
     let payload = seal_whole::<BenchSuite>(alloc, &KEY, &plain)?;
-    let mut reader = Reader::with_payload_key(alloc, KEY, Bytes::new(part(&payload, 0, 65_552)))?;
-    gives(
-        &rt,
-        alloc,
-        &mut reader,
-        part(&plain, 0, 65_536),
-        Error::Truncated,
-    )?;
-    assert_eq!(rt; reader.seek(SeekFrom::End(0)), Err(Error::BadEnd));
-    stays_failed(&rt, &mut reader);
-    assert_eq!(rt; reader.seek(SeekFrom::Start(0)), Ok(0));
-    gives(
-        &rt,
-        alloc,
-        &mut reader,
-        part(&plain, 0, 65_536),
-        Error::Truncated,
-    )
+    let first = part(&plain, 0, 65_536);
+    let cut = part(&payload, 0, 65_552);
+    lacks_its_end(&rt, alloc, Bytes::new(cut), first)?;
+    lacks_its_end(&rt, alloc, BufReader::new(alloc, Bytes::new(cut))?, first)?;
+    for text in &armored_texts(alloc, cut)? {
+        let armored = ArmoredReader::new(alloc, Bytes::new(text))?;
+        lacks_its_end(&rt, alloc, armored, first)?;
+    }
+    Ok(())
+}
+
+// A payload whose last chunk is empty though there is one before it: a seek that needs its length.
+fn has_no_length<R: Seek + Drop>(
+    rt: &impl Abort,
+    alloc: Global,
+    inner: R,
+    to: SeekFrom,
+) -> Result<(), Fail> {
+    let mut reader = StreamReader::<BenchSuite, R>::with_payload_key(alloc, KEY, inner)?;
+    assert_eq!(rt; reader.seek(SeekFrom::Current(-1)), Err(Error::BeforeStart));
+    reads(rt, &mut reader, 0);
+    assert_eq!(rt; reader.seek(to), Err(Error::BadEnd));
+    stays_failed(rt, &mut reader);
+    // A target below 0 is told from the place alone.
+    assert_eq!(rt; reader.seek(SeekFrom::Current(-2)), Err(Error::BeforeStart));
+    stays_failed(rt, &mut reader);
+    Ok(())
+}
+
+// The same, read from the front.
+fn has_an_empty_end<R: Seek + Drop>(
+    rt: &impl Abort,
+    alloc: Global,
+    inner: R,
+    plain: &[u8],
+) -> Result<(), Fail> {
+    let mut reader = StreamReader::<BenchSuite, R>::with_payload_key(alloc, KEY, inner)?;
+    gives(rt, alloc, &mut reader, plain, Error::LastChunkEmpty)
 }
 
 #[test]
@@ -188,49 +227,87 @@ fn an_empty_last_chunk_after_a_full_one(rt: HostRuntime) -> Result<(), Fail> {
     let mut payload = BenchSuite::seal(alloc, &KEY, &FIRST_AS_MIDDLE, &plain)?;
     payload.extend_from_slice(&BenchSuite::seal(alloc, &KEY, &SECOND_AS_LAST, &[])?)?;
     assert_eq!(rt; payload.len(), 65_568);
+    let texts = armored_texts(alloc, &payload)?;
     for to in [
         SeekFrom::End(0),
         SeekFrom::Start(0),
         SeekFrom::Start(u64::MAX),
         SeekFrom::End(-70_000),
     ] {
-        let mut reader = Reader::with_payload_key(alloc, KEY, Bytes::new(&payload))?;
-        assert_eq!(rt; reader.seek(SeekFrom::Current(-1)), Err(Error::BeforeStart));
-        reads(&rt, &mut reader, 0);
-        assert_eq!(rt; reader.seek(to), Err(Error::BadEnd));
-        stays_failed(&rt, &mut reader);
-        // A target below 0 is told from the place alone.
-        assert_eq!(rt; reader.seek(SeekFrom::Current(-2)), Err(Error::BeforeStart));
-        stays_failed(&rt, &mut reader);
+        has_no_length(&rt, alloc, Bytes::new(&payload), to)?;
+        for text in &texts {
+            let armored = ArmoredReader::new(alloc, Bytes::new(text))?;
+            has_no_length(&rt, alloc, armored, to)?;
+        }
     }
-    let mut reader = Reader::with_payload_key(alloc, KEY, Bytes::new(&payload))?;
-    gives(&rt, alloc, &mut reader, &plain, Error::LastChunkEmpty)
+    has_an_empty_end(&rt, alloc, Bytes::new(&payload), &plain)?;
+    for text in &texts {
+        has_an_empty_end(
+            &rt,
+            alloc,
+            ArmoredReader::new(alloc, Bytes::new(text))?,
+            &plain,
+        )?;
+    }
+    Ok(())
 }
 
 // A full chunk sealed as the last, and a second sealed as the last after it.
-#[test]
-fn bytes_after_the_last_chunk(rt: HostRuntime) -> Result<(), Fail> {
-    let alloc = rt.alloc();
-    let plain = plaintext(alloc, 65_536)?;
-    let mut payload = BenchSuite::seal(alloc, &KEY, &FIRST_AS_LAST, &plain)?;
-    payload.extend_from_slice(&BenchSuite::seal(alloc, &KEY, &SECOND_AS_LAST, &[25])?)?;
-    let mut reader = Reader::with_payload_key(alloc, KEY, Bytes::new(&payload))?;
-    gives(&rt, alloc, &mut reader, &plain, Error::AfterLast)?;
+fn has_two_last_chunks<R: Seek + Drop>(
+    rt: &impl Abort,
+    alloc: Global,
+    inner: R,
+    plain: &[u8],
+) -> Result<(), Fail> {
+    let mut reader = StreamReader::<BenchSuite, R>::with_payload_key(alloc, KEY, inner)?;
+    gives(rt, alloc, &mut reader, plain, Error::AfterLast)?;
     // Reads that come through a part of it find the same.
     assert_eq!(rt; reader.seek(SeekFrom::Start(65_535)), Ok(65_535));
     gives(
-        &rt,
+        rt,
         alloc,
         &mut reader,
-        part(&plain, 65_535, 65_536),
+        part(plain, 65_535, 65_536),
         Error::AfterLast,
     )?;
     // Right after a seek the chunk at the place is judged by itself.
     assert_eq!(rt; reader.seek(SeekFrom::Start(65_536)), Ok(65_536));
-    reads(&rt, &mut reader, 65_536);
-    ends(&rt, &mut reader);
+    reads(rt, &mut reader, 65_536);
+    ends(rt, &mut reader);
     assert_eq!(rt; reader.seek(SeekFrom::End(0)), Ok(65_537));
-    ends(&rt, &mut reader);
+    ends(rt, &mut reader);
+    Ok(())
+}
+
+// A full chunk sealed as the last, and a byte after it.
+fn has_a_byte_after<R: Seek + Drop>(
+    rt: &impl Abort,
+    alloc: Global,
+    inner: R,
+    plain: &[u8],
+) -> Result<(), Fail> {
+    let mut reader = StreamReader::<BenchSuite, R>::with_payload_key(alloc, KEY, inner)?;
+    gives(rt, alloc, &mut reader, plain, Error::AfterLast)
+}
+
+#[test]
+fn bytes_after_the_last_chunk(rt: HostRuntime) -> Result<(), Fail> {
+    let alloc = rt.alloc();
+    let plain = plaintext(alloc, 65_536)?;
+    let mut one = BenchSuite::seal(alloc, &KEY, &FIRST_AS_LAST, &plain)?;
+    let mut two = Vec::from_slice(alloc, &one)?;
+    two.extend_from_slice(&BenchSuite::seal(alloc, &KEY, &SECOND_AS_LAST, &[25])?)?;
+    one.push(0)?;
+    has_two_last_chunks(&rt, alloc, Bytes::new(&two), &plain)?;
+    for text in &armored_texts(alloc, &two)? {
+        let armored = ArmoredReader::new(alloc, Bytes::new(text))?;
+        has_two_last_chunks(&rt, alloc, armored, &plain)?;
+    }
+    has_a_byte_after(&rt, alloc, Bytes::new(&one), &plain)?;
+    for text in &armored_texts(alloc, &one)? {
+        let armored = ArmoredReader::new(alloc, Bytes::new(text))?;
+        has_a_byte_after(&rt, alloc, armored, &plain)?;
+    }
     Ok(())
 }
 
@@ -262,16 +339,17 @@ fn a_good_chunk_after_a_bad_one(rt: HostRuntime) -> Result<(), Fail> {
     Ok(())
 }
 
-#[test]
-fn seeks_open_nothing_but_at_the_end(rt: HostRuntime) -> Result<(), Fail> {
-    let alloc = rt.alloc();
-    let payload = seal_whole::<BenchSuite>(alloc, &KEY, &plaintext(alloc, 655_361)?)?;
-    assert_eq!(rt; payload.len(), 655_537);
-    let mut reader = Reader::with_payload_key(alloc, KEY, Bytes::new(&payload))?;
+// Seeks in a payload of 655,361 bytes of plaintext.
+fn opens_nothing_but_at_the_end<R: Seek + Drop>(
+    rt: &impl Abort,
+    alloc: Global,
+    inner: R,
+) -> Result<(), Fail> {
+    let mut reader = StreamReader::<BenchSuite, R>::with_payload_key(alloc, KEY, inner)?;
     assert_eq!(rt; reader.opens(), 0);
     assert_eq!(rt; reader.seek(SeekFrom::Start(655_360)), Ok(655_360));
     assert_eq!(rt; reader.opens(), 0);
-    reads(&rt, &mut reader, 655_360);
+    reads(rt, &mut reader, 655_360);
     assert_eq!(rt; reader.opens(), 1);
     assert_eq!(rt; reader.seek(SeekFrom::End(0)), Ok(655_361));
     assert_eq!(rt; reader.opens(), 1);
@@ -279,6 +357,23 @@ fn seeks_open_nothing_but_at_the_end(rt: HostRuntime) -> Result<(), Fail> {
     assert_eq!(rt; reader.seek(SeekFrom::End(0)), Ok(655_361));
     assert_eq!(rt; reader.opens(), 2);
     Ok(())
+}
+
+#[test]
+fn seeks_open_nothing_but_at_the_end(rt: HostRuntime) -> Result<(), Fail> {
+    let alloc = rt.alloc();
+    let payload = seal_whole::<BenchSuite>(alloc, &KEY, &plaintext(alloc, 655_361)?)?;
+    assert_eq!(rt; payload.len(), 655_537);
+    opens_nothing_but_at_the_end(&rt, alloc, Bytes::new(&payload))?;
+    opens_nothing_but_at_the_end(&rt, alloc, BufReader::new(alloc, Bytes::new(&payload))?)
+}
+
+#[test]
+fn seeks_in_armor_open_nothing_but_at_the_end(rt: HostRuntime) -> Result<(), Fail> {
+    let alloc = rt.alloc();
+    let payload = seal_whole::<BenchSuite>(alloc, &KEY, &plaintext(alloc, 655_361)?)?;
+    let text = with_endings(alloc, &armored(alloc, &payload)?, [true, false])?;
+    opens_nothing_but_at_the_end(&rt, alloc, ArmoredReader::new(alloc, Bytes::new(&text))?)
 }
 
 // The reads of a full chunk one byte at a time, after a seek to its front.

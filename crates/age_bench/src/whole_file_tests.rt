@@ -1,9 +1,9 @@
 //! Whole files to `bench` in one call, bare and armored. The expected texts are those of Python, from the format's own words.
 
-use crate::command::{To, With};
 use crate::error::CommandError;
 use crate::file::{decrypt_with, encrypt_to};
 use crate::fixtures::{MESSAGE, empty_stanza, message_file, zeros};
+use crate::names::{To, With};
 use crate::recipient::{BenchIdentity, BenchRecipient};
 use crate::suite::BenchSuite;
 use age::armor::Format;

@@ -146,6 +146,7 @@ opens back seal_of start rest start_place place h nonce file_key stanzas plain f
     }) in (
       stanzas_are,
       mac_is ∙ file.right ∙ ap (λ f. header_mac file_key f) (sym covered_is),
+      nonce_is,
       left ∙ ap (λ n. payload seal_of (payload_key file_key n) plain) (sym nonce_is),
       end,
     )

@@ -8,3 +8,4 @@ pub mod OneFile
 pub mod WholeFiles
 pub mod Carried
 pub mod Opened
+pub mod Reached

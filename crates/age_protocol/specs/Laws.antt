@@ -1,7 +1,9 @@
 -- The laws of files.
-use Rattle.std.specs.Prelude.{◌≡◌, ℕ, Bool, List, IsTrue}
+use Rattle.std.specs.Prelude.{◌≡◌, ℕ, ◌^◌, ◌≤◌, ◌&&◌, Bool, List, length, IsTrue}
 use Rattle.age_error.specs.Bytes.{AreBytes}
 use Rattle.age_error.specs.DecryptErrors.{DecryptRefusal, OutOfMemory}
+use Rattle.age_suite.specs.declared.suite.Suite.{Ghosts as SuiteGhosts}
+use Rattle.age_io.specs.declared.traits.Read.{Ghosts}
 use Rattle.age_io.specs.Stretch.{Stretch}
 use Rattle.age_io.specs.Reading.{IsQuiet}
 use Rattle.age_armor.specs.Armor.{Carries}
@@ -9,9 +11,11 @@ use Rattle.age_format.specs.Stanza.{StanzaValue}
 use Rattle.age_format.specs.Header.{covered}
 use Rattle.age_format.specs.HeaderV1.{HeaderValue, header_mac}
 use Rattle.age_format.specs.Unwrapping.{UnwrapAnswer}
-use Rattle.age_stream.specs.Payload.{Seal, payload}
+use Rattle.age_stream.specs.Payload.{Seal, payload, LastIsNoMiddle}
+use Rattle.age_stream.specs.declared.reader.StreamReader.{StreamReader}
 use Rattle.age_protocol.specs.File.{BeginsAsFile, IsFileOf, payload_key}
 use Rattle.age_protocol.specs.Decrypting.{ReadsFront, RefusesFront}
+use Rattle.age_protocol.specs.OpeningFile.{OpensFile, StandsBefore}
 use Rattle.age_protocol.specs.WholeFiles.{CarriesFileFor, Decrypts, Refuses}
 
 -- what a decryptor reads from bytes that begin as a file: the header, the nonce, and no byte of what follows
@@ -30,9 +34,17 @@ RefusesNoFile {R} tells steady content place rest faults =
 -- where a file is read, the header's MAC is right under its file key, and the payload of its plaintext is left
 abbrev pub FileOpens : Seal → Type 0
 FileOpens seal_of = (start rest : Stretch) (start_place place : ℕ) (h : HeaderValue) (nonce file_key : List ℕ) (stanzas : List StanzaValue) (plain : List ℕ)
-    → ReadsFront start rest start_place place h nonce → IsFileOf seal_of file_key stanzas plain start.bytes
-    → (h.stanzas ≡ stanzas) × (h.mac ≡ header_mac file_key h.covered)
+    → ReadsFront start rest start_place place h nonce → (file : IsFileOf seal_of file_key stanzas plain start.bytes)
+    → (h.stanzas ≡ stanzas) × (h.mac ≡ header_mac file_key h.covered) × (nonce ≡ file.nonce)
     × (rest.bytes ≡ payload seal_of (payload_key file_key nonce) plain) × (rest.ends_well ≡ start.ends_well)
+
+-- and the reader that is given under that file key stands before the plaintext
+abbrev pub FileIsContent : {S R : Type 0} → SuiteGhosts S → Ghosts R → Type 0
+FileIsContent {S} {R} suite read = (start : Stretch) (start_place : ℕ) (h : HeaderValue) (nonce file_key : List ℕ) (stanzas : List StanzaValue)
+    (plain : List ℕ) (input : R) (r : StreamReader S R suite read)
+    → ReadsFront start (read.rest input) start_place (read.place input) h nonce → (file : IsFileOf suite.seal_of file_key stanzas plain start.bytes)
+    → AreBytes plain → length plain ≤ 2 ^ 60 → LastIsNoMiddle suite.seal_of (payload_key file_key file.nonce) plain
+    → IsTrue start.ends_well → IsTrue (read.tells input && read.steady input) → OpensFile file_key h nonce input r → StandsBefore plain r
 
 -- the bytes of a file tell its stanzas
 abbrev pub OneHeader : Seal → Type 0

@@ -43,6 +43,13 @@ module _ {S R : Type 0} {suite : SuiteGhosts S} {read : Ghosts R} where
         → ReadsFront start (read.rest input) start_place (read.place input) h nonce → plain_rest_of r ≡ whole plain
         → IsTrue start.ends_well × IsFileOf suite.seal_of file_key h.stanzas plain start.bytes
 
+  -- It reads this plaintext, of which nothing was read yet.
+  pub record StandsBefore (plain : List ℕ) (r : StreamReader S R suite read) : Type 0 where
+    pub good : HasFailed r → ⊥
+    pub content : content_of r ≡ whole plain
+    pub place : place_of r ≡ 0
+    pub rest : plain_rest_of r ≡ whole plain
+
   -- Of the file key, or the refusal, by the identity that decides: a refusal is the answer. With a file key the answer is
   -- `InvalidMac` exactly where the header's MAC is wrong under it, else the reader, unless memory was refused.
   abbrev pub Decrypts : Result (List ℕ) DecryptRefusal → HeaderValue → List ℕ → R → Result (StreamReader S R suite read) DecryptError → Type 0

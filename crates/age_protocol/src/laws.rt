@@ -3,7 +3,7 @@ ghost use Rattle.std.specs.Prelude.{◌↔◌, IsTrue, List, ℕ};
 ghost use Rattle.std.specs.List.{Contains};
 ghost use Rattle.age_error.specs.Labels.{labels_of};
 ghost use Rattle.age_protocol.specs.Labels.{same_labels};
-ghost use Rattle.age_protocol.specs.Laws.{ReadsBack, RefusesNoFile, FileOpens, OneHeader, OnePlain, CarriesItself, GivesBack, RefusesNone};
+ghost use Rattle.age_protocol.specs.Laws.{ReadsBack, RefusesNoFile, FileOpens, FileIsContent, OneHeader, OnePlain, CarriesItself, GivesBack, RefusesNone};
 
 use age_armor::{carried_is_delivered, carried_is_unique};
 use age_format::{Identity, header_text_reads_back, verdict_is_unique};
@@ -29,11 +29,16 @@ pub fn front_is_accepted<R: Read>()
     verdict_is_unique();
 }
 
-/// Where the bytes are a file of a plaintext under a file key, a decryptor's header has the right MAC under that file key,
-/// and the payload of the plaintext, under its payload key, is what is left. So `Decryptor::decrypt` with that file key is no
-/// `InvalidMac`, and its reader delivers the plaintext as the law of payloads says.
-pub fn file_opens<S: Suite>()
-    ensures { FileOpens S.seal_of }
+/// Where the bytes are a file of a plaintext under a file key:
+///
+/// - `payload`: a decryptor's header has the right MAC under that file key, and the payload of the plaintext, under its payload
+///   key, is what is left. So `Decryptor::decrypt` with that file key is no `InvalidMac`.
+/// - `content`: the reader that it gives has the plaintext as its content, and stands before it, where the file is all that
+///   there is. So `run` on it answers reads and seeks as a cursor on the plaintext. The suite must not open a full last
+///   chunk under the nonce of one in the middle.
+pub fn file_opens<S: Suite, R: Read>()
+    ensures payload { FileOpens S.seal_of }
+    ensures content { FileIsContent ⟦<S as Suite>⟧ ⟦<R as Read>⟧ }
 {
     front_reads_back();
 }

@@ -7,7 +7,8 @@ use Rattle.age_bench.specs.Recipient.{bench_unwrapped}
 use Rattle.age_bench.specs.Parts.{FirstAnswer, IsFileFor, IsFileForBench}
 use Rattle.age_error.specs.declared.io.Error.TheVariants.{OutOfMemory}
 use Rattle.age_bench.proofs.Parts.{memory_before}
-use Rattle.age_bench.proofs.Unwrapped.{first_answer, first_of_one, held_answer, in_order, either_way}
+use Rattle.age_bench.proofs.Opened.{for_bench}
+use Rattle.age_bench.proofs.Unwrapped.{first_answer, in_order, either_way}
 use Rattle.age_bench.proofs.part.at_with.OwnLists.{own-1}
 use Rattle.age_bench.proofs.part.at_with.Goals as goal
 
@@ -28,17 +29,8 @@ is_bench (inr none) before stanzas answer after h = absurd none
 
 -- so the one in a list of one answers the file key
 for_identities : (one : Boxed) (plain text : List ℕ) → IsFileForBench plain text → IsFileFor (FirstAnswer unwraps (one ∷ [])) plain text
-for_identities one plain text for = record {
-  file_key = for.file_key;
-  stanzas = for.stanzas;
-  is_file = for.is_file;
-  bytes = for.bytes;
-  within = for.within;
-  last = for.last;
-  right = λ answer asked. inl (
-      first_of_one bench_unwrapped unwraps (λ identity all own then changes. is_bench identity.vtable identity.value all own changes.0 changes.2)
-      one for.stanzas answer asked.0 asked.1 ∙ held_answer for.stanzas for.file_key for.holds);
-}
+for_identities one plain text for =
+    for_bench unwraps one plain text (λ identity all own then changes. is_bench identity.vtable identity.value all own changes.0 changes.2) for
 
 pub returns-in-Err-clause-cursor : goal.returns-in-Err-clause-cursor
 returns-in-Err-clause-cursor g c = λ reader_told writer_told well file plain carries for.

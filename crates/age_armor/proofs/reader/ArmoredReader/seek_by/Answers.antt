@@ -1,4 +1,4 @@
-use Rattle.std.proofs.Common.{◌≡◌, ◌<◌, ◌^◌, Some, None, arith, ap, sym, subst, w64, to_z-of_z}
+use Rattle.std.proofs.Common.{◌≡◌, ◌∙◌, ◌<◌, ◌^◌, Some, None, arith, ap, sym, subst, w64, to_z-of_z, refl}
 use Rattle.age_io.specs.Cursor.{place_at}
 use Rattle.age_armor.proofs.Aiming.{too-long, too-early, counted-on}
 use Rattle.age_armor.proofs.reader.ArmoredReader.seek_by.Goals as goal
@@ -12,6 +12,7 @@ returns-then-self g c =
       text = too-long _ _ _ _ _ _ _ before c.fail_at.new.self _ _ _
           (ap (λ s. reader.tells s.inner) now.source) (ap (λ s. reader.steady s.inner) now.source) (ap (λ s. reader.faults s.inner) now.source)
           now.failed (λ told. let fits : before.place < 2 ^ 63 = before.fits told in omega (arith, fits, c.if-self.true));
+      at_once = λ told early. let fits : before.place < 2 ^ 63 = before.fits told in absurd (omega (arith, fits, c.if-self.true));
     }
 
 pub returns-in-None : goal.returns-in-None
@@ -19,11 +20,17 @@ returns-in-None g c =
     let before = c.args.self.now in
     let none : place_at before.place c.args.distance ≡ None =
     subst (λ d. place_at before.place d ≡ None) (to_z-of_z {w = w64} c.ranges.distance) (sym c.in-None.ensures) in
-    record { text = too-early _ _ _ _ _ _ _ before c.args.distance _ _ none }
+    record {
+      text = too-early _ _ _ _ _ _ _ before c.args.distance _ _ none;
+      at_once = λ told early. (refl, refl);
+    }
 
 pub returns-in-Some : goal.returns-in-Some
 returns-in-Some g c =
     let before = c.args.self.now in
     let some : place_at before.place c.args.distance ≡ Some c.in-Some.target =
     subst (λ d. place_at before.place d ≡ Some c.in-Some.target) (to_z-of_z {w = w64} c.ranges.distance) (sym c.in-Some.ensures) in
-    record { text = counted-on _ _ _ _ _ _ _ before c.seek_to.new.self c.args.distance c.in-Some.target _ _ c.seek_to.result some c.seek_to.ensures.text }
+    record {
+      text = counted-on _ _ _ _ _ _ _ before c.seek_to.new.self c.args.distance c.in-Some.target _ _ c.seek_to.result some c.seek_to.ensures.text;
+      at_once = λ told early. absurd (cc (sym early ∙ some));
+    }

@@ -39,3 +39,15 @@ returns-in-Current-clause-early g c =
     let fits : SFits w64 c.in-Current.distance = search rules in
     let same : to_z w64 (of_z w64 c.in-Current.distance) ≡ c.in-Current.distance = to_z-of_z {w = w64} fits in
     rw (c.in-Current.is, ← same) c.seek_by.ensures.text.early
+
+pub returns-in-Start-clause-at_once : goal.returns-in-Start-clause-at_once
+returns-in-Start-clause-at_once g c = λ told early. absurd (rw c.in-Start.is at early)
+
+pub returns-in-End-clause-at_once : goal.returns-in-End-clause-at_once
+returns-in-End-clause-at_once g c = λ told early. absurd (rw c.in-End.is at early)
+
+pub returns-in-Current-clause-at_once : goal.returns-in-Current-clause-at_once
+returns-in-Current-clause-at_once g c =
+    let fits : SFits w64 c.in-Current.distance = search rules in
+    let same : to_z w64 (of_z w64 c.in-Current.distance) ≡ c.in-Current.distance = to_z-of_z {w = w64} fits in
+    rw (c.in-Current.is, ← same) c.seek_by.ensures.at_once

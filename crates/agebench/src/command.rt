@@ -1,25 +1,12 @@
 //! What the words of a command line ask for.
 
 ghost use Rattle.std.specs.Prelude.{◌≡◌, ◌<◌, map, string_bytes, vec_items, IfOk, IfSome, option_map};
-ghost use Rattle.age_bench.specs.Command.{at_of, bytes_of, byte_of, command_value, digit_of, encrypt_of, format_of, key_of, many_words, named, parsed, to_of, two_words, with_of};
+ghost use Rattle.agebench.specs.Command.{at_of, bytes_of, byte_of, command_value, digit_of, encrypt_of, format_of, key_of, many_words, named, parsed, to_of, two_words, with_of};
 
 use crate::number::parse_number;
 use age::armor::Format;
+use age_bench::names::{To, With};
 use std::alloc::{AllocError, Global};
-
-/// To whom the program encrypts.
-#[derive(Clone, Copy, Debug, PartialEq, Eq)]
-pub enum To {
-    /// The recipient of the bench suite.
-    Bench,
-}
-
-/// With what the program decrypts.
-#[derive(Clone, Copy, Debug, PartialEq, Eq)]
-pub enum With {
-    /// The identity of the bench suite.
-    Bench,
-}
 
 /// What the program is to do with its standard input.
 #[derive(Drop)]

@@ -1,66 +1,18 @@
-//! The program `agebench`: the library over the bench suite, by which it is tried and measured.
+//! The program `agebench`: the library over the bench suite, on standard input and output.
 #![tactic(auto)]
 
-#[cfg(test)]
-mod armor_tests;
-#[cfg(test)]
-mod buffered_tests;
 mod command;
 #[cfg(test)]
 mod command_tests;
-mod copying;
-mod error;
-#[cfg(test)]
-mod error_texts;
-#[cfg(test)]
-mod fakes;
-#[cfg(test)]
-mod fault_tests;
-mod file;
-#[cfg(test)]
-mod file_tests;
-#[cfg(test)]
-mod fixtures;
-#[cfg(test)]
-mod header_tests;
-#[cfg(test)]
-mod io_seek_tests;
-mod laws;
-#[cfg(test)]
-mod long_error_texts;
 mod number;
-mod part;
-#[cfg(test)]
-mod part_tests;
-mod payload;
-mod recipient;
-#[cfg(test)]
-mod recipient_tests;
-#[cfg(test)]
-mod refusal_tests;
-#[cfg(test)]
-mod scripted;
-#[cfg(test)]
-mod seek_tests;
-#[cfg(test)]
-mod standard_tests;
-#[cfg(test)]
-mod stream_tests;
-mod suite;
-#[cfg(test)]
-mod tests;
-#[cfg(test)]
-mod vast_tests;
-#[cfg(test)]
-mod whole_file_tests;
 
 use crate::command::{Command, parse};
-use crate::error::CommandError;
-use crate::file::{decrypt_with, encrypt_to};
-use crate::part::at_with;
-use crate::payload::{open_all, seal_all};
 use age::draw::Draw;
 use age::io::{Error, Std};
+use age_bench::error::CommandError;
+use age_bench::file::{decrypt_with, encrypt_to};
+use age_bench::part::at_with;
+use age_bench::payload::{open_all, seal_all};
 use std::process::ExitCode;
 use std::{env, io};
 

@@ -1,7 +1,7 @@
 use Rattle.std.proofs.Common.{◌≡◌, ◌*◌, drop}
-use Rattle.age_bench.specs.Command.{bytes_of}
-use Rattle.age_bench.proofs.Hex.{prepended}
-use Rattle.age_bench.proofs.command.parse_bytes.Given as goal
+use Rattle.agebench.specs.Command.{bytes_of}
+use Rattle.agebench.proofs.Hex.{prepended}
+use Rattle.agebench.proofs.command.parse_bytes.Given as goal
 
 -- the text writes the bytes so far, and then what the rest of it writes
 abbrev pub invariant-loop-i : goal.invariant-loop-i

@@ -1,0 +1,65 @@
+-- Files opened by the identities that they are for.
+use Rattle.std.specs.Prelude.{◌≡◌, ◌⊎◌, ℕ, List, [], ◌∷◌, Result, Some, Ok, Err, MatchResult}
+use Rattle.std.proofs.Common.{◌∙◌, sym, subst, inl, inr, arith}
+use Rattle.age_error.specs.DecryptErrors.{OutOfMemory, decrypt_refusal}
+use Rattle.age_error.specs.declared.decrypt.DecryptError.{DecryptError}
+use Rattle.age_suite.specs.declared.suite.Suite.{Ghosts as SuiteGhosts}
+use Rattle.age_io.specs.declared.traits.Read.{Ghosts}
+use Rattle.age_io.specs.Reading.{IsQuiet}
+use Rattle.age_format.specs.Stanza.{StanzaValue}
+use Rattle.age_format.specs.HeaderV1.{HeaderValue, header_mac}
+use Rattle.age_format.specs.Unwrapping.{UnwrapAnswer, Unwraps}
+use Rattle.age_stream.specs.Payload.{Seal, payload}
+use Rattle.age_stream.specs.declared.reader.StreamReader.{StreamReader}
+use Rattle.age_protocol.specs.Answering.{FirstThatAnswers, decided}
+use Rattle.age_protocol.specs.File.{BeginsAsFile, IsFileOf, payload_key}
+use Rattle.age_protocol.specs.OpeningFile.{Decrypts, OpensFile, StandsBefore}
+use Rattle.age_bench.proofs.Unwrapped.{first_answer, first_of_one, held_answer}
+use Rattle.age_bench.specs.Parts.{FirstAnswer, IsFileFor, IsFileForBench}
+use Rattle.age_bench.specs.Recipient.{bench_unwrapped}
+
+-- a device that never fails
+pub never_fails : {T : Type 0} (faults : T → ℕ) (a b : T) → ((t : T) → faults t ≡ 0) → IsQuiet (faults a) (faults b)
+never_fails faults a b none = record { same = none b ∙ sym (none a); below = omega (arith, none b) }
+
+-- a file begins as one
+pub begins : (seal_of : Seal) (file_key : List ℕ) (stanzas : List StanzaValue) (plain text : List ℕ) (f : IsFileOf seal_of file_key stanzas plain text)
+    → BeginsAsFile f.header stanzas f.mac f.nonce (payload seal_of (payload_key file_key f.nonce) plain) text
+begins seal_of file_key stanzas plain text f = record { text = f.text; rule = f.rule; sixteen = f.sixteen; whole = f.whole }
+
+module _ {S R : Type 0} {suite : SuiteGhosts S} {read : Ghosts R} (Never : Type 0) (h : HeaderValue) (nonce file_key plain : List ℕ) (input : R)
+    (right : h.mac ≡ header_mac file_key h.covered)
+    (stands : (r : StreamReader S R suite read) → OpensFile file_key h nonce input r → StandsBefore plain r) where
+  under_key : (result : Result (StreamReader S R suite read) DecryptError) → Decrypts (Ok file_key) h nonce input result
+      → MatchResult result (λ r. StandsBefore plain r) (λ e. Never → decrypt_refusal e ≡ OutOfMemory)
+  under_key (Ok r) (inl wrong) = absurd wrong.1
+  under_key (Ok r) (inr opened) = stands r opened.1
+  under_key (Err e) (inl wrong) = absurd (wrong.0 right)
+  under_key (Err e) (inr opened) = λ never. opened.1
+
+  under_want : (result : Result (StreamReader S R suite read) DecryptError) → Decrypts (Err OutOfMemory) h nonce input result
+      → MatchResult result (λ r. StandsBefore plain r) (λ e. Never → decrypt_refusal e ≡ OutOfMemory)
+  under_want (Ok r) d = absurd d
+  under_want (Err e) d = λ never. d
+
+  -- what decryption comes to where the file key, or want of memory, was answered
+  pub opened_or_want : (answer : UnwrapAnswer) (result : Result (StreamReader S R suite read) DecryptError)
+      → (answer ≡ Some (Ok file_key)) ⊎ (answer ≡ Some (Err OutOfMemory)) → Decrypts (decided answer) h nonce input result
+      → MatchResult result (λ r. StandsBefore plain r) (λ e. Never → decrypt_refusal e ≡ OutOfMemory)
+  opened_or_want answer result (inl is) d = under_key result (rw is at d)
+  opened_or_want answer result (inr is) d = under_want result (rw is at d)
+
+-- an identity that answers as the bench identity opens the files for it
+pub for_bench : {B : Type 0} (unwraps : B → List StanzaValue → UnwrapAnswer → B → Type 0) (one : B) (plain text : List ℕ)
+    → ((identity : B) (stanzas : List StanzaValue) (answer : UnwrapAnswer) (after : B) → unwraps identity stanzas answer after
+    → answer ≡ first_answer bench_unwrapped stanzas)
+    → IsFileForBench plain text → IsFileFor (FirstAnswer unwraps (one ∷ [])) plain text
+for_bench unwraps one plain text as_bench for = record {
+  file_key = for.file_key;
+  stanzas = for.stanzas;
+  is_file = for.is_file;
+  bytes = for.bytes;
+  within = for.within;
+  last = for.last;
+  right = λ answer asked. inl (first_of_one bench_unwrapped unwraps as_bench one for.stanzas answer asked.0 asked.1 ∙ held_answer for.stanzas for.file_key for.holds);
+}
