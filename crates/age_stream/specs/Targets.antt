@@ -1,11 +1,12 @@
 -- What a seek in a payload answers, by the order of its tests.
-use Rattle.std.specs.Prelude.{◌≡◌, ℕ, ◌^◌, ◌⊎◌, Bool, true, false, nat_le, if◌then◌else◌, Option, Some, None, Result, Ok, Err, List, length}
+use Rattle.std.specs.Prelude.{◌≡◌, ℕ, ◌+◌, ◌^◌, ◌<◌, ◌≤◌, ◌⊎◌, Bool, true, false, nat_le, if◌then◌else◌, Option, Some, None, Result, Ok, Err, List, length}
 use Rattle.age_error.specs.declared.io.Error.{Error}
 use Rattle.age_error.specs.declared.io.Error.TheVariants.{BeforeStart, BadEnd, TooLong}
 use Rattle.age_io.specs.Cursor.{place_at, sought}
 use Rattle.age_error.specs.declared.io.SeekFrom.{SeekFrom}
 use Rattle.age_error.specs.declared.io.SeekFrom.TheVariants.{Current}
 use Rattle.age_stream.specs.Payload.{Seal, EndsAsLast, plain_len}
+use Rattle.age_stream.specs.Answering.{StopsNear}
 
 abbrev pub is_none : Option ℕ → Bool
 is_none None = true
@@ -41,3 +42,12 @@ pub record IsToBadEnd (seal_of : Seal) (key sealed : List ℕ) (to : SeekFrom) (
 abbrev pub IsRefusedTarget : Seal → List ℕ → List ℕ → SeekFrom → ℕ → Error → Type 0
 IsRefusedTarget seal_of key sealed to place e =
     (sought_in to place (length sealed) ≡ Err e) ⊎ ((e ≡ BadEnd) × IsToBadEnd seal_of key sealed to place)
+
+-- A read into room for so many bytes, from where a seek leads, stops before the room is full: at this place, since the chunk
+-- there, or one that ends there, or the bytes after it, say so.
+pub record StopsWithin (seal_of : Seal) (key sealed : List ℕ) (to : SeekFrom) (old room new : ℕ) (error : Error) : Type 0 where
+  pub start : ℕ
+  pub leads : sought_in to old (length sealed) ≡ Ok start
+  pub from : start ≤ new
+  pub short : new < start + room
+  pub stops : StopsNear seal_of key sealed new error

@@ -7,7 +7,7 @@ ghost use Rattle.age_io.specs.Reading.{IsQuiet, Delivers, EndsEarly};
 ghost use Rattle.age_io.specs.Cursor;
 ghost use Rattle.age_io.specs.Cursor.{IsRefusal};
 ghost use Rattle.age_stream.specs.Answering.{StandAt, StopsNear, IsGoodEnd};
-ghost use Rattle.age_stream.specs.Targets.{sought_in, IsRefusedTarget};
+ghost use Rattle.age_stream.specs.Targets.{sought_in, IsRefusedTarget, StopsWithin};
 
 use crate::reader::StreamReader;
 use age_error::io::{Error, SeekFrom};
@@ -45,6 +45,7 @@ impl<S: Suite, R: Read> StreamReader<S, R> {
             StopsNear S.seal_of (key_of self.old) (payload_of self.old).bytes (place_of self.new) e) }
         ensures good { OnOk result (self.new.failed ≡ false) }
         ensures fails { OnErr result (self.new.failed ≡ true) }
+        ensures short { OnErr result (filled.new < length buf.new) }
         ensures counts { self.old.opens ≤ self.new.opens }
         ensures opens { self.new.opens ≤ self.old.opens + length buf.new / 65536 + 3 }
     {
@@ -65,7 +66,7 @@ impl<S: Suite, R: Read> StreamReader<S, R> {
 }
 
 impl<S: Suite, R: Seek> StreamReader<S, R> {
-    ghost use Rattle.age_stream.specs.Reader.{payload_of, key_of, place_of, HasFailed, opens_of};
+    ghost use Rattle.age_stream.specs.Reader.{payload_of, key_of, place_of, HasFailed, IsHolding, opens_of};
 
     /// Seeks, and then reads until the buffer is full or the end. It answers how many bytes it read, which are in front of
     /// `buf`, and the reader stands after them. They are fewer than the buffer takes only at the end.
@@ -101,9 +102,13 @@ impl<S: Suite, R: Seek> StreamReader<S, R> {
         ensures refused { let reader = ⟦<StreamReader<S, R> as Read>⟧ in IsTrue (reader.tells self.old) → IsTrue (payload_of self.old).ends_well →
             IfErr result (λ e. e ≢ OutOfMemory → IsQuiet (reader.faults self.old) (reader.faults self.new) →
             IsRefusedTarget S.seal_of (key_of self.old) (payload_of self.old).bytes to (place_of self.old) e
-            ⊎ StopsNear S.seal_of (key_of self.old) (payload_of self.old).bytes (place_of self.new) e) }
+            ⊎ StopsWithin S.seal_of (key_of self.old) (payload_of self.old).bytes to (place_of self.old) (length buf.new) (place_of self.new) e) }
 
         // Only a seek that refuses its target leaves the reader as it was.
+        ensures unmoved { IsTrue (⟦<StreamReader<S, R> as Read>⟧.tells self.old) → IfErr result (λ e. IsRefusal e →
+            sought_in to (place_of self.old) (length (payload_of self.old).bytes) ≡ Err e →
+            (HasFailed self.new → HasFailed self.old) × (HasFailed self.old → HasFailed self.new) × (place_of self.new ≡ place_of self.old)
+            × (IsHolding self.old → IsHolding self.new) × (opens_of self.new ≡ opens_of self.old)) }
         ensures good { OnOk result (HasFailed self.new → ⊥) }
         ensures fails { IfErr result (λ e. (IsRefusal e → ⊥) → HasFailed self.new) }
 

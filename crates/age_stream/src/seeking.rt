@@ -1,7 +1,7 @@
 //! Seeking in a payload.
 ghost use Rattle.std.specs.Prelude.{◌≡◌, ◌≢◌, ℕ, ◌+◌, ◌-◌, ◌*◌, ◌/◌, ◌%◌, ◌^◌, ◌<◌, ◌≤◌, ◌⊎◌, ◌&&◌, Option, Some, None, Bool, true, false, IsTrue, List, length, take, drop, IfOk, IfErr, OnOk, OnErr, Ok, Err};
 ghost use Rattle.age_error.specs.Refusals.{IsDevice, IsInterruption};
-ghost use Rattle.age_error.specs.declared.io.Error.TheVariants.{OutOfMemory, BadEnd};
+ghost use Rattle.age_error.specs.declared.io.Error.TheVariants.{OutOfMemory, BadEnd, BeforeStart};
 ghost use Rattle.age_io.specs.Stretch.{Stretch, from_place};
 ghost use Rattle.age_io.specs.Reading.{IsQuiet, most_faults};
 ghost use Rattle.age_io.specs.Cursor.{Seeks, IsRefusal};
@@ -13,7 +13,7 @@ ghost use Rattle.age_stream.specs.Targets.{below_start, in_length, sought_in, Is
 use crate::reader::{SEALED_CHUNK, StreamReader, open_as};
 use crate::writer::{CHUNK, LONGEST_PLAINTEXT};
 use age_error::io::{Error, SeekFrom};
-use age_io::{Read, Seek, fill, place_at, seek_retrying, sought};
+use age_io::{Read, Seek, fill, is_refusal, place_at, seek_retrying, sought};
 use age_suite::suite::Suite;
 
 // The length of the plaintext of a payload of so many bytes, if there is one.
@@ -81,14 +81,6 @@ fn find(to: SeekFrom, place: u64, size: u64) -> Result<(u64, u64), Error>
             }
         }
     }
-}
-
-// Whether the target is outside of the plaintext.
-fn is_refusal(error: Error) -> bool
-    ensures yes { IsTrue result → IsRefusal error }
-    ensures no { result ≡ false → IsRefusal error → ⊥ }
-{
-    matches!(error, Error::BeforeStart | Error::PastEnd)
 }
 
 // Whether a chunk that is held so, with the place there in it, was found to be so by the verdict on it. A seek to the end
@@ -341,7 +333,7 @@ impl<S: Suite, R: Seek> StreamReader<S, R> {
 }
 
 impl<S: Suite, R: Seek> Seek for StreamReader<S, R> {
-    ghost use Rattle.age_stream.specs.Reader.{payload_of, key_of, inner_rest_of, place_of, HasFailed, IsHolding, IsAfterLast, HoldsEnd, opens_of};
+    ghost use Rattle.age_stream.specs.Reader.{payload_of, key_of, inner_rest_of, wanted_of, place_of, HasFailed, IsHolding, IsAfterLast, HoldsEnd, opens_of};
 
     /// Moves to a target from 0 to the plaintext's length, counted in bytes of the plaintext, and answers the new place. A
     /// success makes a failed reader good again.
@@ -386,7 +378,10 @@ impl<S: Suite, R: Seek> Seek for StreamReader<S, R> {
         // A success clears a failure, a refusal leaves all as it was, and any other error fails.
         ensures clears { OnOk result (HasFailed self.new → ⊥) }
         ensures unmoved { IfErr result (λ e. IsRefusal e → (HasFailed self.new → HasFailed self.old) × (HasFailed self.old → HasFailed self.new)
-            × (place_of self.new ≡ place_of self.old) × (IsHolding self.old → IsHolding self.new) × (opens_of self.new ≡ opens_of self.old)) }
+            × (place_of self.new ≡ place_of self.old) × (IsHolding self.old → IsHolding self.new) × (IsAfterLast self.old → IsAfterLast self.new)
+            × (wanted_of self.new ≡ wanted_of self.old) × (opens_of self.new ≡ opens_of self.old)) }
+        // The first test asks the inner reader nothing.
+        ensures first { IsTrue (below_start to (place_of self.old)) → (result ≡ Err BeforeStart) × (self.new ≡ self.old) }
         ensures fails { IfErr result (λ e. (IsRefusal e → ⊥) → HasFailed self.new) }
 
         // The chunk at a place before the end will be judged by itself.

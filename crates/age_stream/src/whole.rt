@@ -1,6 +1,7 @@
 //! A payload sealed and opened whole, in memory: the plain program that holds the definition against worked values.
-ghost use Rattle.std.specs.Prelude.{◌≡◌, ℕ, List, ◌*◌, ◌^◌, ◌<◌, ◌≤◌, length, IfOk, IfErr};
+ghost use Rattle.std.specs.Prelude.{◌≡◌, ℕ, List, ◌+◌, ◌*◌, ◌/◌, ◌^◌, ◌<◌, ◌≤◌, length, IfOk, IfErr};
 ghost use Rattle.age_stream.specs.Payload.{payload, chunk, HeldAsMiddle};
+ghost use Rattle.age_suite.specs.Suite.{one_more};
 ghost use Rattle.age_stream.specs.FrontToEnd.{IsRefusal, IsOpenedTo};
 
 use crate::nonce::nonce_of;
@@ -69,6 +70,7 @@ fn open_last<S: Suite>(
     ensures ok { IfOk result (λ plain. sealed.now ≡ payload S.seal_of key.now plain.items) }
     ensures limit { IfOk result (λ plain. length plain.items ≤ 2 ^ 60) }
     ensures err { IfErr result (λ error. IsRefusal S.seal_of key.now sealed.now error) }
+    ensures opens { opens.new ≡ one_more opens.old }
 {
     let left = sealed.len() - i * CHUNK;
     match S::open(
@@ -116,6 +118,8 @@ pub fn open_whole<S: Suite>(
     ensures ok { IfOk result (λ plain. sealed.now ≡ payload S.seal_of key.now plain.items) }
     ensures limit { IfOk result (λ plain. length plain.items ≤ 2 ^ 60) }
     ensures err { IfErr result (λ error. IsRefusal S.seal_of key.now sealed.now error) }
+    ensures counts { opens.old < 2 ^ 64 → opens.old ≤ opens.new }
+    ensures opens { opens.new ≤ opens.old + length sealed.now / 65552 + 1 }
 {
     let mut out = Vec::new(alloc);
     let full = sealed.len() / CHUNK;

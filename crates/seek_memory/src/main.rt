@@ -2,6 +2,8 @@
 //! probe of the memory that this takes. Nothing before the reader is made asks for memory.
 #![tactic(auto)]
 
+ghost use Rattle.std.specs.Prelude.{◌<◌, ◌^◌};
+
 use age::io::{Bytes, Error, Read, Seek, SeekFrom, Std, read_exact};
 use age::stream::StreamReader;
 use age_bench::suite::BenchSuite;
@@ -17,7 +19,9 @@ const SEALED: usize = 655_537;
 const PLACE: u64 = 655_360;
 
 // What the reader answers: the chunks opened when it is new, the place, how many bytes came, the byte, the chunks opened then.
-fn answers<const LENGTH: usize>(rt: &HostRuntime) -> Result<(u64, u64, usize, u8, u64), Error> {
+fn answers<const LENGTH: usize>(rt: &HostRuntime) -> Result<(u64, u64, usize, u8, u64), Error>
+    requires fits { LENGTH < 2 ^ 63 }
+{
     let mut sealed = [0; LENGTH];
     read_exact(&mut Std::new(rt.reader()), &mut sealed)?;
     let mut stream = StreamReader::<BenchSuite, _>::with_payload_key(

@@ -1,11 +1,9 @@
-use Rattle.std.proofs.Common.{◌∙◌, ap, subst}
 use Rattle.age_error.specs.DecryptErrors.{decrypt_refusal}
-use Rattle.age_format.specs.contracts.identity.BoxDynIdentityIdentity.TheImpl as boxed
 use Rattle.age_stream.specs.ReadingLaws.{and-left}
 use Rattle.age_protocol.specs.Decryptor.{header_of, nonce_of, input_of}
 use Rattle.age_bench.specs.Bench.{bench_seal}
 use Rattle.age_bench.proofs.Decrypted.{both_told}
-use Rattle.age_bench.proofs.Opened.{never_fails, begins, asked_for, opened_or_want}
+use Rattle.age_bench.proofs.Opened.{never_fails, begins, opened_or_want}
 use Rattle.age_bench.proofs.opening.open_file.Goals as goal
 
 pub returns-in-Err-clause-plaintext : goal.returns-in-Err-clause-plaintext

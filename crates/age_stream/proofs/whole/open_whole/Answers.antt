@@ -44,6 +44,10 @@ loop-i-preserved g c =
       opened = rw (out, c.deref.ensures.value) (opened_more g.S.Suite.seal_of g.S.Suite.opened g.met.S.Suite.cipher c.args.key.now key c.args.sealed.now bytes
           c.loop-i.i c.loop-i.out.items c.in-Some.piece.items c.loop-i.invariant.opened (omega arith) some);
       reach = omega arith;
+      counted = λ fits.
+          let before = c.loop-i.invariant.counted fits in
+          (omega (arith, before.0, before.1, c.in_ok-open.ensures.counted), omega (arith, before.1, c.in_ok-open.ensures.counted));
+      most = omega (arith, c.loop-i.invariant.most, c.in_ok-open.ensures.counted);
     }
 
 pub returns-then-sealed-full-clause-err : goal.returns-then-sealed-full-clause-err

@@ -1,6 +1,6 @@
 use Rattle.age_io.specs.Reading.{IsQuiet}
 use Rattle.age_stream.specs.Answering.{StopsNear, IsGoodEnd}
-use Rattle.std.proofs.Common.{◌∙◌, sym, ap, IsTrue, take, length, length-take-le, subst, inl, inr, arith}
+use Rattle.std.proofs.Common.{◌≡◌, ◌∙◌, sym, ap, IsTrue, take, length, length-take-le, subst, inl, inr, arith}
 use Rattle.age_stream.specs.Reader.{tells_of, content_of, steady_of, payload_of, place_of}
 use Rattle.age_stream.specs.ReadingLaws.{both-true}
 use Rattle.age_stream.proofs.Answered.{read-through}
@@ -34,8 +34,16 @@ returns-in-Err-read_full-clause-refused g c = λ told well memory quiet.
     let calm : IsQuiet (g.R.Read.faults mid.inner) (g.R.Read.faults c.read_full.new.self.inner) =
     record { same = omega (arith, seek.seeks.no_fewer_faults, read.faults, quiet.same); below = quiet.below } in
     let near = read.refused (seek.seeks.same_tells ∙ told) memory calm (seek.inner_end told ∙ well) in
-    inr (subst (λ p. StopsNear g.S.Suite.seal_of self.key p.bytes (place_of c.read_full.new.self) c.in-Err-read_full.e) (seek.payload told)
-    (subst (λ k. StopsNear g.S.Suite.seal_of k (payload_of mid).bytes (place_of c.read_full.new.self) c.in-Err-read_full.e) seek.key near))
+    let stops = subst (λ p. StopsNear g.S.Suite.seal_of self.key p.bytes (place_of c.read_full.new.self) c.in-Err-read_full.e) (seek.payload told)
+    (subst (λ k. StopsNear g.S.Suite.seal_of k (payload_of mid).bytes (place_of c.read_full.new.self) c.in-Err-read_full.e) seek.key near) in
+    let there : place_of mid ≡ c.in-Ok._start = seek.seeks.arrives told in
+    inr (record {
+      start = c.in-Ok._start;
+      leads = seek.order told;
+      from = omega (arith, there, read.moves);
+      short = omega (arith, there, read.moves, read.short);
+      stops = stops;
+    })
 
 pub returns-in-Ok-read_full-clause-ended : goal.returns-in-Ok-read_full-clause-ended
 returns-in-Ok-read_full-clause-ended g c = λ told less.
