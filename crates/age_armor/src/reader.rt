@@ -59,7 +59,7 @@ pub struct ArmoredReader<R: BufRead> {
 }
 
 impl<R: BufRead> Read for ArmoredReader<R> {
-    ghost use Rattle.age_armor.specs.Reader.{inner_of, has_failed, has_armor, outcome_of, armored_content, place_of, armored_rest, shown_of};
+    ghost use Rattle.age_armor.specs.Reader.{inner_of, has_failed, has_armor, outcome_of, text_outcome_of, armored_content, place_of, armored_rest, shown_of};
 
     ghost tells = { λ r. R.Read.tells (inner_of r) };
 
@@ -112,6 +112,7 @@ impl<R: BufRead> Read for ArmoredReader<R> {
         ensures good { FailsForGood (has_failed self.old) (has_failed self.new) result }
         ensures ending { let reader = ⟦<ArmoredReader<R> as Read>⟧ in KeepsEnding (reader.tells self.old) (has_failed self.old)
             (reader.faults self.old) (reader.faults self.new) (outcome_of self.old).ending (outcome_of self.new).ending result }
+        ensures whole { IsTrue (R.Read.tells (inner_of self.old)) → text_outcome_of self.new ≡ text_outcome_of self.old }
 
         // It gives what is held of a line, or of the next one. In armor nothing else of the buffer changes.
         ensures held { 0 < length (shown_of self.old) → IfOk result (λ n. n ≤ length (shown_of self.old)) }
@@ -133,7 +134,7 @@ impl<R: BufRead> Read for ArmoredReader<R> {
 }
 
 impl<R: BufRead> ArmoredReader<R> {
-    ghost use Rattle.age_armor.specs.Reader.{inner_of, has_failed, has_armor, outcome_of, armored_content, place_of, armored_rest, shown_of};
+    ghost use Rattle.age_armor.specs.Reader.{inner_of, has_failed, has_armor, outcome_of, text_outcome_of, armored_content, place_of, armored_rest, shown_of};
 
     /// A reader of what the text carries that begins where `inner` stands.
     ///
@@ -187,6 +188,7 @@ impl<R: BufRead> ArmoredReader<R> {
         ensures named { IsTrue (R.Read.tells self.old.source.inner) → IfErr result (λ e. e ≢ OutOfMemory →
             IsQuiet (R.Read.faults self.old.source.inner) (R.Read.faults self.new.source.inner) → IsNamed (outcome_of self.old).ending e) }
         ensures ending { IsTrue (R.Read.tells self.old.source.inner) → OnOk result ((outcome_of self.new).ending ≡ (outcome_of self.old).ending) }
+        ensures whole { IsTrue (R.Read.tells self.old.source.inner) → text_outcome_of self.new ≡ text_outcome_of self.old }
         ensures held { 0 < length (shown_of self.old) → IfOk result (λ n. n ≤ length (shown_of self.old)) }
         ensures line { IsTrue (has_armor self.new) → IfOk result (λ n. n + length (shown_of self.new) ≤ 48) }
         ensures beyond { IsTrue (has_armor self.new) → IfOk result (λ n. drop n buf.new ≡ drop n buf.old) }
@@ -227,6 +229,7 @@ impl<R: BufRead> ArmoredReader<R> {
         ensures unspent { OnOk result (R.Read.faults self.new.source.inner < most_faults) }
         ensures patient { IfErr result (λ e. IsInterruption e → ⊥) }
         ensures content { IsTrue (R.Read.tells self.old.source.inner) → armored_content self.new ≡ armored_content self.old }
+        ensures whole { IsTrue (R.Read.tells self.old.source.inner) → text_outcome_of self.new ≡ text_outcome_of self.old }
         ensures count { IfOk result (λ n. n ≤ length buf.new) }
         ensures bytes { IsTrue (R.Read.tells self.old.source.inner) → IfOk result (λ n.
             Delivers (take n buf.new) (armored_rest self.old) (armored_rest self.new)) }
@@ -277,6 +280,7 @@ impl<R: BufRead> ArmoredReader<R> {
         ensures unspent { OnOk result (R.Read.faults self.new.source.inner < most_faults) }
         ensures patient { IfErr result (λ e. IsInterruption e → ⊥) }
         ensures content { IsTrue (R.Read.tells self.old.source.inner) → armored_content self.new ≡ armored_content self.old }
+        ensures whole { IsTrue (R.Read.tells self.old.source.inner) → text_outcome_of self.new ≡ text_outcome_of self.old }
         ensures place { self.new.place ≡ self.old.place }
         ensures fresh { OnOk result (self.new.failed ≡ false) }
         ensures rest { IsTrue (R.Read.tells self.old.source.inner) → OnOk result (armored_rest self.new ≡ armored_rest self.old) }
@@ -348,13 +352,14 @@ impl<R: BufRead> ArmoredReader<R> {
 }
 
 impl<R: BufRead> BufRead for ArmoredReader<R> {
-    ghost use Rattle.age_armor.specs.Reader.{inner_of, has_failed, outcome_of, shown_of};
+    ghost use Rattle.age_armor.specs.Reader.{inner_of, has_failed, outcome_of, text_outcome_of, shown_of};
 
     ghost shown = { shown_of };
 
     ghost besides = { λ old new result. FailsForGood (has_failed old) (has_failed new) result
         × KeepsEnding (R.Read.tells (inner_of old)) (has_failed old) (R.Read.faults (inner_of old)) (R.Read.faults (inner_of new))
-        (outcome_of old).ending (outcome_of new).ending result };
+        (outcome_of old).ending (outcome_of new).ending result
+        × (IsTrue (R.Read.tells (inner_of old)) → text_outcome_of new ≡ text_outcome_of old) };
 
     /// Shows what is held of a line, or the next line's bytes where nothing is held.
     ///
@@ -377,6 +382,7 @@ impl<R: BufRead> BufRead for ArmoredReader<R> {
             Consumes reader.tells reader.steady reader.content reader.place reader.rest reader.faults (λ r. shown_of r) self.old self.new amount }
         ensures failed { has_failed self.new ≡ has_failed self.old }
         ensures ending { (outcome_of self.new).ending ≡ (outcome_of self.old).ending }
+        ensures whole { text_outcome_of self.new ≡ text_outcome_of self.old }
     {
         self.given += amount;
         self.place = self.place.saturating_add(amount as u64);

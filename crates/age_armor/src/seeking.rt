@@ -82,6 +82,7 @@ impl<R: BufRead + Seek> ArmoredReader<R> {
     fn restart(&mut self) -> Result<(), Error>
         ensures goes { let reader = ⟦<ArmoredReader<R> as Read>⟧ in Goes reader.tells reader.steady reader.content reader.faults self.old self.new result }
         ensures front { OnOk result (self.new.place ≡ 0) }
+        ensures whole { IsTrue (R.Read.tells (inner_of self.old)) → text_outcome_of self.new ≡ text_outcome_of self.old }
         ensures stays { OnErr result (self.new.place ≡ self.old.place) }
         ensures good { OnOk result (self.new.failed ≡ false) }
         ensures fails { OnErr result (self.new.failed ≡ true) }
@@ -111,7 +112,7 @@ impl<R: BufRead + Seek> ArmoredReader<R> {
 }
 
 impl<R: BufRead> ArmoredReader<R> {
-    ghost use Rattle.age_armor.specs.Reader.{inner_of, outcome_of, armored_content, armored_rest};
+    ghost use Rattle.age_armor.specs.Reader.{inner_of, outcome_of, text_outcome_of, armored_content, armored_rest};
 
     // Reads on to a place, or to a clean end before it, and tells whether it came to the place.
     fn walk(&mut self, target: u64) -> Result<bool, Error>
@@ -132,6 +133,8 @@ impl<R: BufRead> ArmoredReader<R> {
             ((armored_content self.old).ends_well ≡ false) × (length (armored_content self.old).bytes < target)) }
         ensures named { IsTrue (R.Read.tells (inner_of self.old)) → IfErr result (λ e. e ≢ OutOfMemory →
             IsQuiet (R.Read.faults (inner_of self.old)) (R.Read.faults (inner_of self.new)) → IsNamed (outcome_of self.old).ending e) }
+        ensures ending { IsTrue (R.Read.tells (inner_of self.old)) → OnOk result ((outcome_of self.new).ending ≡ (outcome_of self.old).ending) }
+        ensures whole { IsTrue (R.Read.tells (inner_of self.old)) → text_outcome_of self.new ≡ text_outcome_of self.old }
     {
         let mut room = [0; 1024];
         let mut left = target - self.place;
@@ -148,7 +151,7 @@ impl<R: BufRead> ArmoredReader<R> {
 }
 
 impl<R: BufRead + Seek> ArmoredReader<R> {
-    ghost use Rattle.age_armor.specs.Reader.{inner_of, text_outcome_of, armored_content, armored_rest};
+    ghost use Rattle.age_armor.specs.Reader.{inner_of, outcome_of, text_outcome_of, armored_content, armored_rest};
 
     // Goes to a place from the front of the text.
     fn go_to(&mut self, target: u64) -> Result<u64, Error>
@@ -163,6 +166,9 @@ impl<R: BufRead + Seek> ArmoredReader<R> {
         ensures named { IsTrue (R.Read.tells (inner_of self.old)) → IsTrue (R.Read.content (inner_of self.old)).ends_well →
             IfErr result (λ e. (IsRefusal e → ⊥) → e ≢ OutOfMemory → IsQuiet (R.Read.faults (inner_of self.old)) (R.Read.faults (inner_of self.new)) →
             IsNamed (text_outcome_of self.old).ending e × (length (armored_content self.old).bytes < target)) }
+        ensures whole { IsTrue (R.Read.tells (inner_of self.old)) → text_outcome_of self.new ≡ text_outcome_of self.old }
+        ensures ending { IsTrue (R.Read.tells (inner_of self.old)) → IsTrue (R.Read.steady (inner_of self.old)) → OnOk result
+            ((outcome_of self.new).ending ≡ (text_outcome_of self.old).ending) }
     {
         match self.restart() {
             Err(e) => return Err(e),
@@ -192,6 +198,9 @@ impl<R: BufRead + Seek> ArmoredReader<R> {
         ensures named { IsTrue (R.Read.tells (inner_of self.old)) → IsTrue (R.Read.content (inner_of self.old)).ends_well →
             IfErr result (λ e. (IsRefusal e → ⊥) → e ≢ OutOfMemory → IsQuiet (R.Read.faults (inner_of self.old)) (R.Read.faults (inner_of self.new)) →
             IsNamed (text_outcome_of self.old).ending e) }
+        ensures whole { IsTrue (R.Read.tells (inner_of self.old)) → text_outcome_of self.new ≡ text_outcome_of self.old }
+        ensures ending { IsTrue (R.Read.tells (inner_of self.old)) → IsTrue (R.Read.steady (inner_of self.old)) → OnOk result
+            ((outcome_of self.new).ending ≡ (text_outcome_of self.old).ending) }
     {
         match self.restart() {
             Err(e) => return Err(e),
@@ -232,7 +241,7 @@ impl<R: BufRead> ArmoredReader<R> {
 }
 
 impl<R: BufRead + Seek> ArmoredReader<R> {
-    ghost use Rattle.age_armor.specs.Reader.{inner_of, has_failed, text_outcome_of, armored_content, place_of, armored_rest};
+    ghost use Rattle.age_armor.specs.Reader.{inner_of, has_failed, outcome_of, text_outcome_of, armored_content, place_of, armored_rest};
 
     // Back to where it stood, once a seek was refused. After any other error it has failed there, and so has one that had
     // failed before.
@@ -241,6 +250,9 @@ impl<R: BufRead + Seek> ArmoredReader<R> {
         requires inside { IsTrue (R.Read.tells (inner_of self.old)) → IsTrue (R.Read.steady (inner_of self.old)) → place ≤ length (armored_content self.old).bytes }
         ensures back { let reader = ⟦<ArmoredReader<R> as Read>⟧ in
             ComesBack reader.tells reader.steady (λ r. has_failed r) reader.content reader.place reader.rest reader.faults self.old self.new place failed error result }
+        ensures whole { IsTrue (R.Read.tells (inner_of self.old)) → text_outcome_of self.new ≡ text_outcome_of self.old }
+        ensures ending { IsTrue (R.Read.tells (inner_of self.old)) → IsTrue (R.Read.steady (inner_of self.old)) → has_failed self.new ≡ false →
+            (outcome_of self.new).ending ≡ (text_outcome_of self.old).ending }
     {
         if failed {
             self.fail_at(place);
@@ -264,6 +276,9 @@ impl<R: BufRead + Seek> ArmoredReader<R> {
         ensures text { let reader = ⟦<ArmoredReader<R> as Read>⟧ in
             SeeksText reader.tells reader.steady (λ r. has_failed r) reader.content reader.place reader.rest reader.faults self.old self.new (Start target)
             (R.Read.content (inner_of self.old)).ends_well (text_outcome_of self.old).ending result }
+        ensures whole { IsTrue (R.Read.tells (inner_of self.old)) → text_outcome_of self.new ≡ text_outcome_of self.old }
+        ensures ending { IsTrue (R.Read.tells (inner_of self.old)) → IsTrue (R.Read.steady (inner_of self.old)) → has_failed self.new ≡ false →
+            (outcome_of self.new).ending ≡ (text_outcome_of self.old).ending }
     {
         let place = self.place;
         let failed = self.failed;
@@ -278,6 +293,9 @@ impl<R: BufRead + Seek> ArmoredReader<R> {
         ensures text { let reader = ⟦<ArmoredReader<R> as Read>⟧ in
             SeeksText reader.tells reader.steady (λ r. has_failed r) reader.content reader.place reader.rest reader.faults self.old self.new (End distance)
             (R.Read.content (inner_of self.old)).ends_well (text_outcome_of self.old).ending result }
+        ensures whole { IsTrue (R.Read.tells (inner_of self.old)) → text_outcome_of self.new ≡ text_outcome_of self.old }
+        ensures ending { IsTrue (R.Read.tells (inner_of self.old)) → IsTrue (R.Read.steady (inner_of self.old)) → has_failed self.new ≡ false →
+            (outcome_of self.new).ending ≡ (text_outcome_of self.old).ending }
     {
         let place = self.place;
         let failed = self.failed;
@@ -292,6 +310,10 @@ impl<R: BufRead + Seek> ArmoredReader<R> {
         ensures text { let reader = ⟦<ArmoredReader<R> as Read>⟧ in
             SeeksText reader.tells reader.steady (λ r. has_failed r) reader.content reader.place reader.rest reader.faults self.old self.new (Current distance)
             (R.Read.content (inner_of self.old)).ends_well (text_outcome_of self.old).ending result }
+        ensures whole { IsTrue (R.Read.tells (inner_of self.old)) → text_outcome_of self.new ≡ text_outcome_of self.old }
+        ensures ending { IsTrue (R.Read.tells (inner_of self.old)) → IsTrue (R.Read.steady (inner_of self.old)) →
+            (IsEarly (Current distance) (place_of self.old) → ⊥) → has_failed self.new ≡ false →
+            (outcome_of self.new).ending ≡ (text_outcome_of self.old).ending }
         ensures at_once { IsTrue (R.Read.tells (inner_of self.old)) → IsEarly (Current distance) (place_of self.old) →
             (result ≡ Err BeforeStart) × (self.new ≡ self.old) }
     {
@@ -307,7 +329,7 @@ impl<R: BufRead + Seek> ArmoredReader<R> {
 }
 
 impl<R: BufRead + Seek> Seek for ArmoredReader<R> {
-    ghost use Rattle.age_armor.specs.Reader.{inner_of, has_failed, text_outcome_of, armored_content, place_of, armored_rest};
+    ghost use Rattle.age_armor.specs.Reader.{inner_of, has_failed, outcome_of, text_outcome_of, armored_content, place_of, armored_rest};
 
     /// Moves within what the text carries, and answers the new place in bytes from its front.
     ///
@@ -339,6 +361,12 @@ impl<R: BufRead + Seek> Seek for ArmoredReader<R> {
         ensures named { IsTrue (R.Read.tells (inner_of self.old)) → IsTrue (R.Read.content (inner_of self.old)).ends_well →
             IfErr result (λ e. (IsRefusal e → ⊥) → e ≢ OutOfMemory → IsQuiet (R.Read.faults (inner_of self.old)) (R.Read.faults (inner_of self.new)) →
             IsNamed (text_outcome_of self.old).ending e × AsksPast to (place_of self.old) (length (armored_content self.old).bytes)) }
+
+        // How the text ends stays the same, and a reader that hasn't failed comes to that end, unless nothing was looked for.
+        ensures whole { IsTrue (R.Read.tells (inner_of self.old)) → text_outcome_of self.new ≡ text_outcome_of self.old }
+        ensures ending { IsTrue (R.Read.tells (inner_of self.old)) → IsTrue (R.Read.steady (inner_of self.old)) →
+            (IsEarly to (place_of self.old) → ⊥) → has_failed self.new ≡ false →
+            (outcome_of self.new).ending ≡ (text_outcome_of self.old).ending }
 
         // Of a text that ends in a fault the only such refusal is that of a target that is counted from the place.
         ensures early { IsTrue (R.Read.tells (inner_of self.old)) → IsTrue (R.Read.steady (inner_of self.old)) → (armored_content self.old).ends_well ≡ false →

@@ -1,5 +1,5 @@
 use Rattle.std.proofs.Common.{◌≡◌, ◌≢◌, ◌∙◌, ◌-◌, ◌<◌, ◌≤◌, ◌^◌, Ok, Err, arith, to_z-of_z, w64, length, ap, subst, sym, IsTrue}
-use Rattle.std.proofs.lemmas.Result.{IfErr-weaker}
+use Rattle.std.proofs.lemmas.Result.{IfErr-weaker, on_ok_weaker}
 use Rattle.age_error.specs.declared.io.Error.TheVariants.{OutOfMemory}
 use Rattle.age_error.specs.declared.io.SeekFrom.TheVariants.{End}
 use Rattle.age_io.specs.Cursor.{sought, target}
@@ -193,3 +193,26 @@ returns-in-Ok-from_end-clause-named g c = λ told well.
     let beyond = (named own other quiet_after).1 in
     absurd (omega (arith, beyond, most, within)))
     (c.go_to.ensures.named told_new well_new)
+
+pub returns-in-Err-walk-clause-whole : goal.returns-in-Err-walk-clause-whole
+returns-in-Err-walk-clause-whole g c = λ told. c.in-Err-walk.ensures.whole (c.in-Ok.ensures.goes.same_tells ∙ told) ∙ c.in-Ok.ensures.whole told
+
+pub returns-then-there-clause-whole : goal.returns-then-there-clause-whole
+returns-then-there-clause-whole g c = λ told. c.in-Ok-walk.ensures.whole (c.in-Ok.ensures.goes.same_tells ∙ told) ∙ c.in-Ok.ensures.whole told
+
+pub returns-in-Err-from_end-clause-whole : goal.returns-in-Err-from_end-clause-whole
+returns-in-Err-from_end-clause-whole g c = λ told. c.in-Ok-walk.ensures.whole (c.in-Ok.ensures.goes.same_tells ∙ told) ∙ c.in-Ok.ensures.whole told
+
+pub returns-in-Ok-from_end-clause-whole : goal.returns-in-Ok-from_end-clause-whole
+returns-in-Ok-from_end-clause-whole g c = λ told.
+    let told_middle = c.in-Ok.ensures.goes.same_tells ∙ told in
+    c.go_to.ensures.whole (c.in-Ok-walk.ensures.goes.same_tells ∙ told_middle) ∙ c.in-Ok-walk.ensures.whole told_middle ∙ c.in-Ok.ensures.whole told
+
+pub returns-in-Ok-from_end-clause-ending : goal.returns-in-Ok-from_end-clause-ending
+returns-in-Ok-from_end-clause-ending g c = λ told steady.
+    let first = c.in-Ok.ensures in
+    let last = c.in-Ok-walk.ensures in
+    let told_middle = first.goes.same_tells ∙ told in
+    let steady_middle = first.goes.same_steady ∙ steady in
+    on_ok_weaker c.go_to.result (λ is. is ∙ ap (λ o. o.ending) (last.whole told_middle ∙ first.whole told))
+    (c.go_to.ensures.ending (last.goes.same_tells ∙ told_middle) (last.goes.same_steady ∙ steady_middle))

@@ -97,3 +97,16 @@ returns-else-there-clause-past g c = λ told steady refusal.
 
 pub returns-else-there-clause-named : goal.returns-else-there-clause-named
 returns-else-there-clause-named g c = λ told well own. absurd (own tt)
+
+pub returns-in-Err-walk-clause-whole : goal.returns-in-Err-walk-clause-whole
+returns-in-Err-walk-clause-whole g c = λ told. c.in-Err-walk.ensures.whole (c.in-Ok.ensures.goes.same_tells ∙ told) ∙ c.in-Ok.ensures.whole told
+
+pub returns-then-there-clause-whole : goal.returns-then-there-clause-whole
+returns-then-there-clause-whole g c = λ told. c.in-Ok-walk.ensures.whole (c.in-Ok.ensures.goes.same_tells ∙ told) ∙ c.in-Ok.ensures.whole told
+
+pub returns-else-there-clause-whole : goal.returns-else-there-clause-whole
+returns-else-there-clause-whole g c = λ told. c.in-Ok-walk.ensures.whole (c.in-Ok.ensures.goes.same_tells ∙ told) ∙ c.in-Ok.ensures.whole told
+
+pub returns-then-there-clause-ending : goal.returns-then-there-clause-ending
+returns-then-there-clause-ending g c = λ told steady.
+    c.in-Ok-walk.ensures.ending (c.in-Ok.ensures.goes.same_tells ∙ told) ∙ ap (λ o. o.ending) (c.in-Ok.ensures.outcome told steady)

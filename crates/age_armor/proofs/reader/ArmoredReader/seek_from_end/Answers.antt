@@ -19,6 +19,8 @@ returns-in-Ok g c =
             subst (λ d. sought (End d) before.place (length (armored_content before).bytes) ≡ Ok c.in-Ok.there) (to_z-of_z {w = w64} c.ranges.distance) moved.0,
             moved.1,
           ));
+      whole = now.whole;
+      ending = λ told steady good. now.ending told steady;
     }
 
 pub returns-in-Err : goal.returns-in-Err
@@ -44,4 +46,7 @@ returns-in-Err g c =
             named = λ told well own other quiet. (now.named told well own other quiet, tt);
           })
           c.come_back.ensures.back;
+      whole = λ told. c.come_back.ensures.whole (now.goes.same_tells ∙ told) ∙ now.whole told;
+      ending = λ told steady good.
+          c.come_back.ensures.ending (now.goes.same_tells ∙ told) (now.goes.same_steady ∙ steady) good ∙ ap (λ o. o.ending) (now.whole told);
     }

@@ -15,6 +15,8 @@ returns-in-Ok g c =
           (λ told steady.
           let within = now.within told steady in
           (rw now.there (moved-within c.args.target (length (armored_content c.args.self.now).bytes) within.0), rw now.there within.1));
+      whole = now.whole;
+      ending = λ told steady good. now.ending told steady;
     }
 
 pub returns-in-Err : goal.returns-in-Err
@@ -38,4 +40,7 @@ returns-in-Err g c =
             named = now.named;
           })
           c.come_back.ensures.back;
+      whole = λ told. c.come_back.ensures.whole (now.goes.same_tells ∙ told) ∙ now.whole told;
+      ending = λ told steady good.
+          c.come_back.ensures.ending (now.goes.same_tells ∙ told) (now.goes.same_steady ∙ steady) good ∙ ap (λ o. o.ending) (now.whole told);
     }

@@ -28,6 +28,7 @@ returns-then-self g c =
               same = λ told. tt;
               named = λ told good. absurd (true≢false (sym c.if-self.true ∙ good));
             },
+            λ told. refl,
           );
           same_content = λ told. refl;
           stays = λ told. refl;
@@ -65,6 +66,7 @@ returns-in-Err g c =
               same = λ told. tt;
               named = λ told good. now.named told;
             },
+            now.whole,
           );
           same_content = now.content;
           stays = λ told. now.place;
@@ -102,6 +104,7 @@ returns-in-Ok g c =
               same = now.ending;
               named = λ told good. tt;
             },
+            now.whole,
           );
           same_content = now.content;
           stays = λ told. now.place;

@@ -51,3 +51,15 @@ returns-in-Current-clause-at_once g c =
     let fits : SFits w64 c.in-Current.distance = search rules in
     let same : to_z w64 (of_z w64 c.in-Current.distance) ≡ c.in-Current.distance = to_z-of_z {w = w64} fits in
     rw (c.in-Current.is, ← same) c.seek_by.ensures.at_once
+
+pub returns-in-Start-clause-ending : goal.returns-in-Start-clause-ending
+returns-in-Start-clause-ending g c = λ told steady later good. c.seek_to.ensures.ending told steady good
+
+pub returns-in-End-clause-ending : goal.returns-in-End-clause-ending
+returns-in-End-clause-ending g c = λ told steady later good. c.seek_from_end.ensures.ending told steady good
+
+pub returns-in-Current-clause-ending : goal.returns-in-Current-clause-ending
+returns-in-Current-clause-ending g c =
+    let fits : SFits w64 c.in-Current.distance = search rules in
+    let same : to_z w64 (of_z w64 c.in-Current.distance) ≡ c.in-Current.distance = to_z-of_z {w = w64} fits in
+    rw (c.in-Current.is, ← same) c.seek_by.ensures.ending
