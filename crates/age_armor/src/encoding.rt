@@ -17,8 +17,8 @@ pub(crate) const COLUMNS: usize = 64;
 /// How many bytes the text of a full line has: its columns and LF.
 pub(crate) const LINE_TEXT: usize = 65;
 
-/// Writes the base64 of armor. It is made once, and kept with its tables. Each writes the same, as its invariant says, so
-/// it has one value, and clauses don't see the tables.
+/// Writes the base64 of armor. It is made once, and kept with its tables. Its value is the symbols that it writes with, so
+/// that clauses don't see the tables.
 #[derive(Drop)]
 pub(crate) struct ColumnEncoder {
     engine: GeneralPurpose,
@@ -27,11 +27,11 @@ pub(crate) struct ColumnEncoder {
 impl Model for ColumnEncoder {
     ghost use Rattle.std.specs.Prelude.{◌≡◌, List, ℕ};
     ghost use Rattle.base64.specs.GeneralPurpose.{encode_of};
-    ghost use Rattle.age_base64.specs.Base64.{padded_columns};
+    ghost use Rattle.age_base64.specs.Base64.{padded_columns, symbols};
 
-    ghost Value = { Unit {0} };
+    ghost Value = { List ℕ };
 
-    ghost view = { λ _. tt };
+    ghost view = { λ _. symbols };
 
     ghost invariant = { λ e. (bytes : List ℕ) → encode_of e.engine bytes ≡ padded_columns bytes };
 }

@@ -6,8 +6,8 @@ use Rattle.age_error.specs.DecryptErrors.{DecryptRefusal, decrypt_refusal}
 use Rattle.age_io.specs.Stretch.{Stretch}
 use Rattle.age_armor.specs.Delivered.{delivered, stretch_of}
 use Rattle.age_format.specs.ReadingHeader.{RefusesHeader}
-use Rattle.age_protocol.specs.Decrypting.{RefusesFront, LacksNonce, BreaksRule}
-use Rattle.age_bench.specs.Errors.{RefusesKey, RefusesText}
+use Rattle.age_protocol.specs.Decrypting.{ReadsFront, RefusesFront, LacksNonce, BreaksRule}
+use Rattle.age_bench.specs.Errors.{RefusesKey, RefusesText, BeginsText}
 use Rattle.age_format.specs.HeaderV1.{HeaderValue}
 use Rattle.age_suite.specs.declared.suite.Suite.{Ghosts as SuiteGhosts}
 use Rattle.age_io.specs.declared.traits.Read.{Ghosts}
@@ -56,3 +56,21 @@ refuses_text tells steady content place rest faults r_tells r_rest r_faults text
       subst (λ (n : ℕ). Causes n (faults last) delivers (rest last) 0 (place last) e) old_faults by_place in
       subst (λ (n : ℕ). Causes (r_faults reader) n delivers (rest last) 0 (place last) e) new_faults by_faults;
 }
+
+-- and so is the header that was read
+pub begins_text : {R : Type 0} (r_tells : R → Bool) (r_rest : R → Stretch) (reader : R) (h : HeaderValue) (nonce : List ℕ)
+    (tells : Bool) (start left : Stretch) (start_place place : ℕ) → tells ≡ r_tells reader → start_place ≡ 0
+    → start ≡ stretch_of (delivered (r_rest reader).bytes (r_rest reader).ends_well)
+    → (IsTrue tells → ReadsFront start left start_place place h nonce) → BeginsText r_tells r_rest reader h nonce left
+begins_text r_tells r_rest reader h nonce tells start left start_place place told at_front is front = record {
+  place = place;
+  front = λ tells_text.
+      let by_place : ReadsFront start left 0 place h nonce =
+      subst (λ (p : ℕ). ReadsFront start left p place h nonce) at_front (front (told ∙ tells_text)) in
+      subst (λ (s : Stretch). ReadsFront s left 0 place h nonce) is by_place;
+}
+
+-- what follows from each cause follows
+pub by_cause : {A B C : Type 0} → (A → C) → (B → C) → A ⊎ B → C
+by_cause f g (inl a) = f a
+by_cause f g (inr b) = g b

@@ -8,3 +8,4 @@ pub mod BothForms
 pub mod PartCopied
 pub mod Opened
 pub mod Parts
+pub mod Standing

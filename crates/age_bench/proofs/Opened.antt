@@ -1,5 +1,5 @@
 -- Files opened by the identities that they are for.
-use Rattle.std.specs.Prelude.{◌≡◌, ◌⊎◌, ℕ, List, [], ◌∷◌, Result, Some, Ok, Err, MatchResult}
+use Rattle.std.specs.Prelude.{◌≡◌, ◌⊎◌, ℕ, List, [], ◌∷◌, Result, Some, Ok, Err, IfOk, MatchResult}
 use Rattle.std.proofs.Common.{◌∙◌, sym, subst, inl, inr, arith}
 use Rattle.age_error.specs.DecryptErrors.{OutOfMemory, decrypt_refusal}
 use Rattle.age_error.specs.declared.decrypt.DecryptError.{DecryptError}
@@ -14,9 +14,10 @@ use Rattle.age_stream.specs.declared.reader.StreamReader.{StreamReader}
 use Rattle.age_protocol.specs.Answering.{FirstThatAnswers, decided}
 use Rattle.age_protocol.specs.File.{BeginsAsFile, IsFileOf, payload_key}
 use Rattle.age_protocol.specs.OpeningFile.{Decrypts, OpensFile, StandsBefore}
-use Rattle.age_bench.proofs.Unwrapped.{first_answer, first_of_one, held_answer}
+use Rattle.age_bench.proofs.Unwrapped.{BenchUnwraps, key_answered}
+use Rattle.age_protocol.proofs.Opened.{decided_key}
+use Rattle.age_bench.specs.Opened.{Asks, IsOpened}
 use Rattle.age_bench.specs.Parts.{FirstAnswer, IsFileFor, IsFileForBench}
-use Rattle.age_bench.specs.Recipient.{bench_unwrapped}
 
 -- a device that never fails
 pub never_fails : {T : Type 0} (faults : T → ℕ) (a b : T) → ((t : T) → faults t ≡ 0) → IsQuiet (faults a) (faults b)
@@ -49,17 +50,25 @@ module _ {S R : Type 0} {suite : SuiteGhosts S} {read : Ghosts R} (Never : Type 
   opened_or_want answer result (inl is) d = under_key result (rw is at d)
   opened_or_want answer result (inr is) d = under_want result (rw is at d)
 
--- an identity that answers as the bench identity opens the files for it
-pub for_bench : {B : Type 0} (unwraps : B → List StanzaValue → UnwrapAnswer → B → Type 0) (one : B) (plain text : List ℕ)
-    → ((identity : B) (stanzas : List StanzaValue) (answer : UnwrapAnswer) (after : B) → unwraps identity stanzas answer after
-    → answer ≡ first_answer bench_unwrapped stanzas)
-    → IsFileForBench plain text → IsFileFor (FirstAnswer unwraps (one ∷ [])) plain text
-for_bench unwraps one plain text as_bench for = record {
+module _ {I S T : Type 0} {suite : SuiteGhosts S} {read : Ghosts T} (unwraps : I → List StanzaValue → UnwrapAnswer → I → Type 0)
+    (old new : List I) (text : T) (h : HeaderValue) (nonce : List ℕ) (input : T) where
+  -- what comes of it once the identities were asked
+  pub asked : (answer : UnwrapAnswer) (result : Result (StreamReader S T suite read) DecryptError)
+      → Asks unwraps read.tells read.steady read.content read.place read.rest read.faults old new text h nonce input answer
+      → Decrypts (decided answer) h nonce input result → IfOk result (λ stream. IsOpened unwraps old new text stream)
+  asked answer (Ok stream) asks d =
+      let (key, is, opens) = decided_key answer h nonce input stream d in
+      record { h = h; nonce = nonce; input = input; file_key = key; asks = rw is at asks; opens = opens }
+  asked answer (Err e) asks d = tt
+
+-- the bench identity opens the files for it
+pub for_bench : {S : Type 0} (one : S) (plain text : List ℕ) → IsFileForBench plain text → IsFileFor (FirstAnswer BenchUnwraps (one ∷ [])) plain text
+for_bench one plain text for = record {
   file_key = for.file_key;
   stanzas = for.stanzas;
   is_file = for.is_file;
   bytes = for.bytes;
   within = for.within;
   last = for.last;
-  right = λ answer asked. inl (first_of_one bench_unwrapped unwraps as_bench one for.stanzas answer asked.0 asked.1 ∙ held_answer for.stanzas for.file_key for.holds);
+  right = λ answer asked. inl (key_answered one for.stanzas for.file_key answer asked.0 for.holds asked.1);
 }

@@ -31,6 +31,7 @@ module _ {W T : Type 0} (appended : W → List ℕ → W → Type 0) (Quiet : Ty
   refused_before w e none why = record {
     part = tt;
     front = record { front = []; after = take count (drop place plain); joined = refl; out = none };
+    opened = why;
     past_end = λ quiet past. (refl, why quiet);
   }
 
@@ -45,6 +46,7 @@ module _ {W T : Type 0} (appended : W → List ℕ → W → Type 0) (Quiet : Ty
       record {
         part = rw bytes at part;
         front = rw bytes at front;
+        opened = λ quiet. tt;
         past_end = λ quiet beyond. absurd ((rw bytes at past) beyond).1;
       }
 
@@ -57,6 +59,7 @@ module _ {W T : Type 0} (appended : W → List ℕ → W → Type 0) (Quiet : Ty
       record {
         part = tt;
         front = rw bytes at front;
+        opened = λ quiet. tt;
         past_end = λ quiet beyond.
             let both = (rw bytes at past) beyond in
             (both.0, past_or_memory e (λ other. both.1 other (still quiet)) (memory_or_not e));
@@ -91,6 +94,7 @@ module _ {W T : Type 0} (appended : W → List ℕ → W → Type 0) (place coun
   memory_before Quiet w e none why = record {
     part = tt;
     front = record { front = []; after = take count (drop place plain); joined = refl; out = none };
+    opened = λ quiet. tt;
     past_end = λ quiet past. (refl, inr (why quiet));
   }
 
@@ -100,6 +104,7 @@ module _ {W T : Type 0} (appended : W → List ℕ → W → Type 0) (place coun
   quiet_by Quiet Calm old new result by done = record {
     part = done.part;
     front = done.front;
+    opened = λ calm. done.opened (by calm);
     past_end = λ calm past. done.past_end (by calm) past;
   }
 

@@ -133,3 +133,24 @@ pub first_of_one : {S X A : Type 0} (f : X → Option A) (asks : S → List X �
 first_of_one f asks all one xs None [] h = absurd h
 first_of_one f asks all one xs None (next ∷ after) h = either_way f asks all one xs None next h.0
 first_of_one f asks all one xs (Some a) after h = any_decides f asks all (one ∷ []) xs a after h
+
+-- ---- the bench identity itself, which goes stanza by stanza
+
+module _ {S : Type 0} where
+  abbrev pub BenchUnwraps : S → List StanzaValue → UnwrapAnswer → S → Type 0
+  BenchUnwraps = FirstOf (λ before stanza answer after. (answer ≡ bench_unwrapped stanza) × (after ≡ before))
+
+  by_stanza : (before : S) (stanzas : List StanzaValue) (answer : UnwrapAnswer) (after : S) → BenchUnwraps before stanzas answer after
+      → answer ≡ first_answer bench_unwrapped stanzas
+  by_stanza = in_order bench_unwrapped _ (λ s x a t asked. asked.0)
+
+  -- the file key that it decides on stands in the first bench stanza
+  pub key_given : (before : List S) (stanzas : List StanzaValue) (key : List ℕ) (after : List S)
+      → Decides (λ identity answer next. Unwraps BenchUnwraps identity stanzas answer next) before (Ok key) after → HoldsBenchKey key stanzas
+  key_given before stanzas key after decides = holds stanzas key (any_decides bench_unwrapped BenchUnwraps by_stanza before stanzas (Ok key) after decides)
+
+  -- and it answers the file key that stands there
+  pub key_answered : (one : S) (stanzas : List StanzaValue) (key : List ℕ) (answer : UnwrapAnswer) (after : List S) → HoldsBenchKey key stanzas
+      → FirstThatAnswers (λ identity own next. Unwraps BenchUnwraps identity stanzas own next) (one ∷ []) answer after → answer ≡ Some (Ok key)
+  key_answered one stanzas key answer after held asked =
+      first_of_one bench_unwrapped BenchUnwraps by_stanza one stanzas answer after asked ∙ held_answer stanzas key held

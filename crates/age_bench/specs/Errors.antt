@@ -6,7 +6,7 @@ use Rattle.age_io.specs.Stretch.{Stretch}
 use Rattle.age_armor.specs.Delivered.{delivered, stretch_of}
 use Rattle.age_format.specs.HeaderV1.{HeaderValue, header_mac}
 use Rattle.age_format.specs.ReadingHeader.{RefusesHeader}
-use Rattle.age_protocol.specs.Decrypting.{LacksNonce, BreaksRule}
+use Rattle.age_protocol.specs.Decrypting.{ReadsFront, LacksNonce, BreaksRule}
 use Rattle.age_bench.specs.declared.error.CommandError.{CommandError}
 use Rattle.age_bench.specs.declared.error.CommandError.TheVariants.{Encrypt, Decrypt}
 
@@ -42,6 +42,12 @@ pub record RefusesText {R : Type 0} (tells : R → Bool) (rest : R → Stretch) 
       → RefusesHeader (faults old) (faults last) text left 0 place e
       ⊎ LacksNonce (faults old) (faults last) text left 0 place e
       ⊎ BreaksRule text left 0 place e
+
+-- What a text delivers begins with this header and this nonce, and this is left after them.
+pub record BeginsText {R : Type 0} (tells : R → Bool) (rest : R → Stretch) (old : R) (h : HeaderValue) (nonce : List ℕ) (left : Stretch) : Type 0 where
+  pub place : ℕ
+  -- of a reader that tells its bytes
+  pub front : IsTrue (tells old) → ReadsFront (stretch_of (delivered (rest old).bytes (rest old).ends_well)) left 0 place h nonce
 
 -- after the identity that decides has answered: its own refusal, or the header's MAC is wrong under its file key, or memory was refused
 abbrev pub RefusesKey : Result (List ℕ) DecryptRefusal → HeaderValue → DecryptRefusal → Type 0

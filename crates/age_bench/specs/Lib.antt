@@ -5,3 +5,4 @@ pub mod Recipient
 pub mod Errors
 pub mod FileLaws
 pub mod Parts
+pub mod Opened

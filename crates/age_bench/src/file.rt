@@ -1,28 +1,34 @@
 //! The commands on whole files.
 ghost use Rattle.std.specs.Prelude.{◌≡◌, ◌≤◌, ℕ, length, IsTrue, ◌&&◌, List, Some, Ok, Err, ◌⊎◌, IfOk, OnOk, IfErr};
 ghost use Rattle.age_protocol.specs.Encrypting.{Prepared, Prepares};
-ghost use Rattle.age_protocol.specs.File.{file_text, IsFileOf};
+ghost use Rattle.age_protocol.specs.File.{file_text, IsFileOf, payload_key};
 ghost use Rattle.age_protocol.specs.Answering.{FirstThatAnswers, decided};
 ghost use Rattle.age_armor.specs.Armor.{Carries};
 ghost use Rattle.age_armor.specs.Writing.{text_of};
-ghost use Rattle.age_format.specs.HeaderV1.{HeaderValue};
+ghost use Rattle.age_format.specs.HeaderV1.{HeaderValue, header_mac};
 ghost use Rattle.age_format.specs.Stanza.{StanzaValue};
 ghost use Rattle.age_format.specs.Unwrapping.{UnwrapAnswer, Unwraps};
-ghost use Rattle.age_bench.specs.Bench.{bench_seal};
+ghost use Rattle.age_io.specs.Stretch.{Stretch};
+ghost use Rattle.age_stream.specs.Chunks.{delivered};
+ghost use Rattle.age_bench.specs.Bench.{bench_seal, bench_opened};
+ghost use Rattle.age_bench.specs.Copying.{AppendsFront};
 ghost use Rattle.age_error.specs.EncryptErrors.{encrypt_refusal, OutOfMemory};
-ghost use Rattle.age_bench.specs.Errors.{IsEncryptError, IsDecryptError, EncryptsUnless, DecryptsUnless, RefusesText, RefusesKey};
+ghost use Rattle.age_error.specs.DecryptErrors as decrypt;
+ghost use Rattle.age_bench.specs.Errors.{IsEncryptError, IsDecryptError, EncryptsUnless, DecryptsUnless, RefusesText, BeginsText, RefusesKey};
+ghost use Rattle.age_bench.specs.Parts.{FirstAnswer, IsFileFor, IsFileForBench};
 ghost use Rattle.age_bench.specs.Recipient.{bench_grease, bench_file, HoldsBenchKey};
 
 use crate::copying::copy_all;
 use crate::error::CommandError;
 use crate::names::{To, With};
+use crate::opening::open_file;
 use crate::recipient::{BenchIdentity, BenchRecipient};
 use crate::suite::BenchSuite;
 use age::armor::{ArmoredReader, ArmoredWriter, Format};
 use age::draw::Draw;
 use age::format::{Grease, Stanza};
 use age::io::{Read, Write};
-use age::{DecryptError, Decryptor, EncryptError, Encryptor, Identity, Recipient};
+use age::{EncryptError, Encryptor, Identity, Recipient};
 use age_io::flush_retrying;
 use std::alloc::Global;
 
@@ -98,15 +104,15 @@ fn write_file<R: Read, W: Write + Drop>(
 /// A success says that the input carried a file of exactly what was appended, under the file key of the first identity
 /// that answered. After a refusal of the header, or of the armor before its end, nothing was appended; after a later one a
 /// beginning of what the good chunks open to. Fewer than 36 bytes are `UnexpectedEof`, whatever they are.
-pub fn decrypt_all<R: Read, W: Write>(
+pub fn decrypt_all<I: Identity, R: Read, W: Write>(
     alloc: Global,
-    identities: &mut [Box<dyn Identity>],
+    identities: &mut [I],
     reader: &mut R,
     writer: &mut W,
 ) -> Result<(), CommandError>
     ensures file { IsTrue (R.tells reader.old && R.steady reader.old) → IsTrue (W.tells writer.old) → OnOk result
         ((file_key : List ℕ) × (stanzas : List StanzaValue) × (plain : List ℕ) × (bytes : List ℕ)
-        × FirstThatAnswers (λ identity answer after. Unwraps ⟦<Box<dyn Identity> as Identity>⟧.unwraps identity stanzas answer after)
+        × FirstThatAnswers (λ identity answer after. Unwraps I.unwraps identity stanzas answer after)
         identities.old (Some (Ok file_key)) identities.new
         × IsTrue (R.rest reader.old).ends_well
         × Carries (R.rest reader.old).bytes bytes
@@ -115,14 +121,31 @@ pub fn decrypt_all<R: Read, W: Write>(
     ensures refused { IfErr result (λ e. IsDecryptError e → writer.new ≡ writer.old) }
     ensures why { IfErr result (λ e. DecryptsUnless (λ refusal.
         ((last : R) × RefusesText R.tells R.rest R.faults reader.old last refusal)
-        ⊎ ((h : HeaderValue) × (answer : UnwrapAnswer)
-        × FirstThatAnswers (λ identity answer after. Unwraps ⟦<Box<dyn Identity> as Identity>⟧.unwraps identity h.stanzas answer after)
+        ⊎ ((h : HeaderValue) × (nonce : List ℕ) × (left : Stretch) × (answer : UnwrapAnswer)
+        × BeginsText R.tells R.rest reader.old h nonce left
+        × FirstThatAnswers (λ identity answer after. Unwraps I.unwraps identity h.stanzas answer after)
         identities.old answer identities.new
         × RefusesKey (decided answer) h refusal)) e) }
+    // Whatever it answers, nothing was appended before the MAC was found to be right, and then a beginning of what the good
+    // chunks open to.
+    ensures front { IsTrue (R.tells reader.old && R.steady reader.old) → IsTrue (W.tells writer.old) → (writer.new ≡ writer.old)
+        ⊎ ((file_key : List ℕ) × (h : HeaderValue) × (nonce : List ℕ) × (left : Stretch)
+        × BeginsText R.tells R.rest reader.old h nonce left
+        × FirstThatAnswers (λ identity answer after. Unwraps I.unwraps identity h.stanzas answer after)
+        identities.old (Some (Ok file_key)) identities.new
+        × (h.mac ≡ header_mac file_key h.covered)
+        × AppendsFront W.appended (delivered bench_opened (payload_key file_key nonce) 0 left).bytes writer.old writer.new) }
+    // A file for the identities is opened unless memory is refused, where the device never fails; and whatever happens, what is
+    // appended is a beginning of its plaintext.
+    ensures honest { IsTrue (R.tells reader.old && R.steady reader.old) → IsTrue (R.rest reader.old).ends_well → ((r : R) → R.faults r ≡ 0) →
+        (file plain : List ℕ) → Carries (R.rest reader.old).bytes file → IsFileFor (FirstAnswer I.unwraps identities.old) plain file →
+        IfErr result (DecryptsUnless (λ refusal. refusal ≡ decrypt.OutOfMemory)) }
+    ensures plaintext { IsTrue (R.tells reader.old && R.steady reader.old) → IsTrue (R.rest reader.old).ends_well → IsTrue (W.tells writer.old) →
+        (file plain : List ℕ) → Carries (R.rest reader.old).bytes file → IsFileFor (FirstAnswer I.unwraps identities.old) plain file →
+        AppendsFront W.appended plain writer.old writer.new }
 {
     let text = ArmoredReader::new(alloc, reader)?;
-    let decryptor = Decryptor::<BenchSuite, _>::new(alloc, text)?;
-    let mut stream = decryptor.decrypt(alloc, identities)?;
+    let mut stream = open_file(alloc, identities, text)?;
     copy_all(alloc, &mut stream, writer)?;
     Ok(())
 }
@@ -172,12 +195,19 @@ pub fn decrypt_with<R: Read, W: Write>(
         × IsFileOf bench_seal file_key stanzas plain bytes
         × W.appended writer.old plain writer.new) }
     ensures refused { IfErr result (λ e. IsDecryptError e → writer.new ≡ writer.old) }
+    ensures front { IsTrue (R.tells reader.old && R.steady reader.old) → IsTrue (W.tells writer.old) → (writer.new ≡ writer.old)
+        ⊎ ((file_key : List ℕ) × (h : HeaderValue) × (nonce : List ℕ) × (left : Stretch)
+        × BeginsText R.tells R.rest reader.old h nonce left
+        × HoldsBenchKey file_key h.stanzas
+        × (h.mac ≡ header_mac file_key h.covered)
+        × AppendsFront W.appended (delivered bench_opened (payload_key file_key nonce) 0 left).bytes writer.old writer.new) }
+    ensures honest { IsTrue (R.tells reader.old && R.steady reader.old) → IsTrue (R.rest reader.old).ends_well → ((r : R) → R.faults r ≡ 0) →
+        (file plain : List ℕ) → Carries (R.rest reader.old).bytes file → IsFileForBench plain file →
+        IfErr result (DecryptsUnless (λ refusal. refusal ≡ decrypt.OutOfMemory)) }
+    ensures plaintext { IsTrue (R.tells reader.old && R.steady reader.old) → IsTrue (R.rest reader.old).ends_well → IsTrue (W.tells writer.old) →
+        (file plain : List ℕ) → Carries (R.rest reader.old).bytes file → IsFileForBench plain file → AppendsFront W.appended plain writer.old writer.new }
 {
-    let mut identities: Vec<Box<dyn Identity>> = Vec::new(alloc);
     match with {
-        With::Bench => identities
-            .push(Box::new(alloc, BenchIdentity).map_err(DecryptError::from)?)
-            .map_err(DecryptError::from)?,
+        With::Bench => decrypt_all(alloc, &mut [BenchIdentity], reader, writer),
     }
-    decrypt_all(alloc, &mut identities, reader, writer)
 }

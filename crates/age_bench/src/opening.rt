@@ -1,9 +1,10 @@
 //! Files opened, and reads and seeks on their plaintext.
-ghost use Rattle.std.specs.Prelude.{◌≡◌, ◌&&◌, ℕ, ◌≤◌, IsTrue, List, All, map, IfOk, MatchResult};
+ghost use Rattle.std.specs.Prelude.{◌≡◌, ◌&&◌, ℕ, ◌≤◌, IsTrue, List, All, map, IfOk, IfErr, MatchResult};
 ghost use Rattle.age_error.specs.DecryptErrors.{OutOfMemory, decrypt_refusal};
 ghost use Rattle.age_io.specs.Replies.{seen, replies, IsNoWant};
 ghost use Rattle.age_armor.specs.Armor.{Carries};
 ghost use Rattle.age_protocol.specs.OpeningFile.{StandsBefore};
+ghost use Rattle.age_bench.specs.Opened.{IsOpened, IsNotOpened};
 ghost use Rattle.age_bench.specs.Parts.{FirstAnswer, IsFileFor, IsFileForBench, IsWant};
 
 use crate::error::CommandError;
@@ -21,16 +22,21 @@ use std::alloc::Global;
 ///
 /// Where the text ends well and is a file for the identities, the reader stands before the file's plaintext, and it is refused
 /// only for want of memory or after a fault of the device. So `run` on it answers reads and seeks as a cursor on the
-/// plaintext. It refuses as `Decryptor::new` and `Decryptor::decrypt` do.
-pub fn open_file<T: Read + Drop>(
+/// plaintext. It refuses as `Decryptor::new`, and then no identity was asked, and as `Decryptor::decrypt`; the text is gone then.
+pub fn open_file<I: Identity, T: Read + Drop>(
     alloc: Global,
-    identities: &mut [Box<dyn Identity>],
+    identities: &mut [I],
     text: T,
 ) -> Result<StreamReader<BenchSuite, T>, DecryptError>
     ensures tells { let reader = ⟦<StreamReader<BenchSuite, T> as Read>⟧ in IfOk result (λ stream. reader.tells stream ≡ (T.tells text && T.steady text)) }
     ensures faults { let reader = ⟦<StreamReader<BenchSuite, T> as Read>⟧ in IfOk result (λ stream. T.faults text ≤ reader.faults stream) }
+    // Of any text.
+    ensures opened { IfOk result (λ stream. IsOpened I.unwraps identities.old identities.new text stream) }
+    ensures refused { IfErr result (λ e.
+        IsNotOpened I.unwraps T.tells T.steady T.content T.place T.rest T.faults identities.old identities.new text (decrypt_refusal e)) }
+    // Of a file for the identities.
     ensures plaintext { IsTrue (T.tells text && T.steady text) → IsTrue (T.rest text).ends_well → (plain : List ℕ) →
-        IsFileFor (FirstAnswer ⟦<Box<dyn Identity> as Identity>⟧.unwraps identities.old) plain (T.rest text).bytes →
+        IsFileFor (FirstAnswer I.unwraps identities.old) plain (T.rest text).bytes →
         MatchResult result (λ stream. StandsBefore plain stream) (λ e. ((t : T) → T.faults t ≡ 0) → decrypt_refusal e ≡ OutOfMemory) }
 {
     front_is_accepted::<T>();
@@ -53,15 +59,8 @@ pub fn open_with<T: Read + Drop>(
         IsFileForBench plain (T.rest text).bytes →
         MatchResult result (λ stream. StandsBefore plain stream) (λ e. ((t : T) → T.faults t ≡ 0) → decrypt_refusal e ≡ OutOfMemory) }
 {
-    let mut identities: Vec<Box<dyn Identity>> = Vec::new(alloc);
     match with {
-        With::Bench => match Box::new(alloc, BenchIdentity) {
-            Err(_) => Err(DecryptError::OutOfMemory),
-            Ok(one) => match identities.push(one) {
-                Err(_) => Err(DecryptError::OutOfMemory),
-                Ok(()) => open_file(alloc, &mut identities, text),
-            },
-        },
+        With::Bench => open_file(alloc, &mut [BenchIdentity], text),
     }
 }
 

@@ -1,15 +1,20 @@
 //! The command on a part of a file's plaintext.
-ghost use Rattle.std.specs.Prelude.{◌≡◌, ◌≢◌, ◌⊎◌, ℕ, ◌<◌, ◌≤◌, ◌&&◌, ⊤, IsTrue, List, length, take, drop, Ok, IfOk, IfErr, OnOk, MatchResult};
+ghost use Rattle.std.specs.Prelude.{◌≡◌, ◌≢◌, ◌⊎◌, ℕ, ◌<◌, ◌≤◌, ◌&&◌, true, ⊤, IsTrue, List, length, take, drop, Some, Ok, IfOk, IfErr, OnOk, MatchResult};
 ghost use Rattle.age_error.specs.Refusals.{IsDevice};
 ghost use Rattle.age_error.specs.declared.io.Error.TheVariants.{PastEnd, OutOfMemory};
 ghost use Rattle.age_error.specs.declared.io.SeekFrom.TheVariants.{Start};
 ghost use Rattle.age_io.specs.Reading.{IsQuiet};
 ghost use Rattle.age_stream.specs.Targets.{sought_in};
-ghost use Rattle.age_stream.specs.Reader.{payload_of};
-ghost use Rattle.age_bench.specs.Copying.{AppendsFront};
-ghost use Rattle.age_bench.specs.Errors.{IsDecryptError};
-ghost use Rattle.age_bench.specs.Parts.{AppendsPart, FirstAnswer, IsFileFor, IsFileForBench};
+ghost use Rattle.age_stream.specs.Reader.{payload_of, key_of};
+ghost use Rattle.age_io.specs.Stretch.{from_place};
+ghost use Rattle.age_format.specs.Unwrapping.{Unwraps};
+ghost use Rattle.age_protocol.specs.Answering.{FirstThatAnswers};
+ghost use Rattle.age_bench.specs.Copying.{AppendsFront, AppendsSome};
+ghost use Rattle.age_bench.specs.Errors.{IsDecryptError, BeginsText};
+ghost use Rattle.age_bench.specs.Parts.{AppendsPart, AppendsOf, StandsAt, IsPartAt, Begins, FirstAnswer, IsFileFor, IsFileForBench};
 ghost use Rattle.age_armor.specs.Armor.{Carries};
+ghost use Rattle.age_armor.specs.Delivered.{delivered, stretch_of};
+ghost use Rattle.age_bench.specs.Recipient.{HoldsBenchKey};
 
 use crate::copying::copy_some;
 use crate::error::CommandError;
@@ -21,6 +26,7 @@ use age::Identity;
 use age::armor::ArmoredReader;
 use age::io::{Bytes, Error, Read, Seek, SeekFrom, Write, read_to_end};
 use age::stream::StreamReader;
+use age_stream::laws::reader_law;
 use std::alloc::Global;
 
 /// Seeks to `place`, in bytes from the start of the plaintext, and appends the `count` bytes that stand there to `writer`,
@@ -50,28 +56,44 @@ pub fn write_part<R: Seek, W: Write>(
         IsTrue (reader.content stream.old).ends_well → length (reader.content stream.old).bytes < place →
         (writer.new ≡ writer.old) × MatchResult result (λ done. ⊥)
         (λ e. e ≢ OutOfMemory → IsQuiet (reader.faults stream.old) (reader.faults stream.new) → e ≡ PastEnd) }
+    // On any payload: whatever it answers, what is appended stands in the plaintext from the place on, and where it succeeds no byte
+    // of it is missing.
+    ensures standing { let reader = ⟦<StreamReader<BenchSuite, R> as Read>⟧ in IsTrue (reader.tells stream.old) → IsTrue (W.tells writer.old) →
+        AppendsSome W.appended count (StandsAt place (key_of stream.old) (payload_of stream.old)) writer.old writer.new }
+    ensures given { let reader = ⟦<StreamReader<BenchSuite, R> as Read>⟧ in IsTrue (reader.tells stream.old) → IsTrue (W.tells writer.old) → OnOk result
+        (AppendsSome W.appended count (IsPartAt place count (key_of stream.old) (payload_of stream.old)) writer.old writer.new) }
     // Why it refuses, as far as a writer says why it does.
     ensures device { let reader = ⟦<StreamReader<BenchSuite, R> as Read>⟧ in IfErr result (λ e. IsDevice e →
         (reader.faults stream.old < reader.faults stream.new) ⊎ (W.faults writer.old < W.faults writer.new)) }
 {
     match stream.seek(SeekFrom::Start(place)) {
         Err(e) => Err(e),
-        Ok(_start) => copy_some(alloc, stream, writer, count),
+        Ok(_start) => {
+            reader_law(stream);
+            copy_some(alloc, stream, writer, count)
+        }
     }
 }
 
 // `write_part` of the file that a text gives, decrypted by one of the identities.
-fn at_text<T: Seek + Drop, W: Write>(
+fn at_text<I: Identity, T: Seek + Drop, W: Write>(
     alloc: Global,
-    identities: &mut [Box<dyn Identity>],
+    identities: &mut [I],
     place: u64,
     count: u64,
     text: T,
     writer: &mut W,
 ) -> Result<(), CommandError>
     ensures cursor { IsTrue (T.tells text && T.steady text) → IsTrue (W.tells writer.old) → IsTrue (T.rest text).ends_well → (plain : List ℕ) →
-        IsFileFor (FirstAnswer ⟦<Box<dyn Identity> as Identity>⟧.unwraps identities.old) plain (T.rest text).bytes →
+        IsFileFor (FirstAnswer I.unwraps identities.old) plain (T.rest text).bytes →
         AppendsPart W.appended ((t : T) → T.faults t ≡ 0) place count plain writer.old writer.new result }
+    ensures standing { T.rest text ≡ from_place (T.place text) (T.content text) → IsTrue (T.tells text && T.steady text) → IsTrue (W.tells writer.old) →
+        (writer.new ≡ writer.old) ⊎ AppendsOf (Begins (T.rest text) (T.place text))
+        (λ file_key stanzas. FirstThatAnswers (λ identity answer after. Unwraps I.unwraps identity stanzas answer after) identities.old (Some (Ok file_key)) identities.new)
+        W.appended count (StandsAt place) writer.old writer.new }
+    ensures given { T.rest text ≡ from_place (T.place text) (T.content text) → IsTrue (T.tells text && T.steady text) → IsTrue (W.tells writer.old) → OnOk result (AppendsOf (Begins (T.rest text) (T.place text))
+        (λ file_key stanzas. FirstThatAnswers (λ identity answer after. Unwraps I.unwraps identity stanzas answer after) identities.old (Some (Ok file_key)) identities.new)
+        W.appended count (IsPartAt place count) writer.old writer.new) }
     ensures refused { IfErr result (λ e. IsDecryptError e → writer.new ≡ writer.old) }
 {
     let mut stream = match open_file(alloc, identities, text) {
@@ -90,9 +112,9 @@ fn at_text<T: Seek + Drop, W: Write>(
 /// The seek is by the length of the payload, and only the chunks that hold the bytes are opened. A place after the end of the
 /// plaintext is `PastEnd`. After a refusal a beginning of the bytes was appended, and after one of the header nothing. The
 /// refusals are those of `read_to_end`, of `decrypt_all` for the header, and of `write_part`.
-pub fn at<R: Read, W: Write>(
+pub fn at<I: Identity, R: Read, W: Write>(
     alloc: Global,
-    identities: &mut [Box<dyn Identity>],
+    identities: &mut [I],
     place: u64,
     count: u64,
     reader: &mut R,
@@ -100,8 +122,17 @@ pub fn at<R: Read, W: Write>(
 ) -> Result<(), CommandError>
     ensures cursor { IsTrue (R.tells reader.old) → IsTrue (W.tells writer.old) → IsTrue (R.rest reader.old).ends_well → (file plain : List ℕ) →
         Carries (R.rest reader.old).bytes file →
-        IsFileFor (FirstAnswer ⟦<Box<dyn Identity> as Identity>⟧.unwraps identities.old) plain file →
+        IsFileFor (FirstAnswer I.unwraps identities.old) plain file →
         AppendsPart W.appended (IsQuiet (R.faults reader.old) (R.faults reader.new)) place count plain writer.old writer.new result }
+    // On any input: whatever it answers, nothing was appended before the MAC was found to be right, and then what stands in the
+    // plaintext from the place on; and where it succeeds no byte of it is missing.
+    ensures standing { IsTrue (R.tells reader.old) → IsTrue (W.tells writer.old) → (writer.new ≡ writer.old)
+        ⊎ AppendsOf (BeginsText R.tells R.rest reader.old)
+        (λ file_key stanzas. FirstThatAnswers (λ identity answer after. Unwraps I.unwraps identity stanzas answer after) identities.old (Some (Ok file_key)) identities.new)
+        W.appended count (StandsAt place) writer.old writer.new }
+    ensures given { IsTrue (R.tells reader.old) → IsTrue (W.tells writer.old) → OnOk result (AppendsOf (BeginsText R.tells R.rest reader.old)
+        (λ file_key stanzas. FirstThatAnswers (λ identity answer after. Unwraps I.unwraps identity stanzas answer after) identities.old (Some (Ok file_key)) identities.new)
+        W.appended count (IsPartAt place count) writer.old writer.new) }
     ensures refused { IfErr result (λ e. IsDecryptError e → writer.new ≡ writer.old) }
 {
     let mut input = Vec::new(alloc);
@@ -112,17 +143,23 @@ pub fn at<R: Read, W: Write>(
 }
 
 // The same of a file that stands in memory.
-fn at_bytes<W: Write>(
+fn at_bytes<I: Identity, W: Write>(
     alloc: Global,
-    identities: &mut [Box<dyn Identity>],
+    identities: &mut [I],
     place: u64,
     count: u64,
     input: &[u8],
     writer: &mut W,
 ) -> Result<(), CommandError>
     ensures cursor { IsTrue (W.tells writer.old) → (file plain : List ℕ) → Carries input.now file →
-        IsFileFor (FirstAnswer ⟦<Box<dyn Identity> as Identity>⟧.unwraps identities.old) plain file →
+        IsFileFor (FirstAnswer I.unwraps identities.old) plain file →
         AppendsPart W.appended ⊤ place count plain writer.old writer.new result }
+    ensures standing { IsTrue (W.tells writer.old) → (writer.new ≡ writer.old) ⊎ AppendsOf (Begins (stretch_of (delivered input.now true)) 0)
+        (λ file_key stanzas. FirstThatAnswers (λ identity answer after. Unwraps I.unwraps identity stanzas answer after) identities.old (Some (Ok file_key)) identities.new)
+        W.appended count (StandsAt place) writer.old writer.new }
+    ensures given { IsTrue (W.tells writer.old) → OnOk result (AppendsOf (Begins (stretch_of (delivered input.now true)) 0)
+        (λ file_key stanzas. FirstThatAnswers (λ identity answer after. Unwraps I.unwraps identity stanzas answer after) identities.old (Some (Ok file_key)) identities.new)
+        W.appended count (IsPartAt place count) writer.old writer.new) }
     ensures refused { IfErr result (λ e. IsDecryptError e → writer.new ≡ writer.old) }
 {
     match ArmoredReader::new_buffered(alloc, Bytes::new(input)) {
@@ -145,16 +182,13 @@ pub fn at_with<R: Read, W: Write>(
     ensures cursor { IsTrue (R.tells reader.old) → IsTrue (W.tells writer.old) → IsTrue (R.rest reader.old).ends_well → (file plain : List ℕ) →
         Carries (R.rest reader.old).bytes file → IsFileForBench plain file →
         AppendsPart W.appended (IsQuiet (R.faults reader.old) (R.faults reader.new)) place count plain writer.old writer.new result }
+    ensures standing { IsTrue (R.tells reader.old) → IsTrue (W.tells writer.old) → (writer.new ≡ writer.old)
+        ⊎ AppendsOf (BeginsText R.tells R.rest reader.old) HoldsBenchKey W.appended count (StandsAt place) writer.old writer.new }
+    ensures given { IsTrue (R.tells reader.old) → IsTrue (W.tells writer.old) → OnOk result
+        (AppendsOf (BeginsText R.tells R.rest reader.old) HoldsBenchKey W.appended count (IsPartAt place count) writer.old writer.new) }
     ensures refused { IfErr result (λ e. IsDecryptError e → writer.new ≡ writer.old) }
 {
-    let mut identities: Vec<Box<dyn Identity>> = Vec::new(alloc);
     match with {
-        With::Bench => match Box::new(alloc, BenchIdentity) {
-            Err(_) => Err(CommandError::Io(Error::OutOfMemory)),
-            Ok(one) => match identities.push(one) {
-                Err(_) => Err(CommandError::Io(Error::OutOfMemory)),
-                Ok(()) => at(alloc, &mut identities, place, count, reader, writer),
-            },
-        },
+        With::Bench => at(alloc, &mut [BenchIdentity], place, count, reader, writer),
     }
 }

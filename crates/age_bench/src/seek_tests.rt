@@ -209,15 +209,16 @@ fn has_no_length<R: Seek + Drop>(
     Ok(())
 }
 
-// The same, read from the front.
-fn has_an_empty_end<R: Seek + Drop>(
+// Read from the front a payload gives these bytes, and then a refusal.
+fn is_read_up_to<R: Seek + Drop>(
     rt: &impl Abort,
     alloc: Global,
     inner: R,
     plain: &[u8],
+    error: Error,
 ) -> Result<(), Fail> {
     let mut reader = StreamReader::<BenchSuite, R>::with_payload_key(alloc, KEY, inner)?;
-    gives(rt, alloc, &mut reader, plain, Error::LastChunkEmpty)
+    gives(rt, alloc, &mut reader, plain, error)
 }
 
 #[test]
@@ -240,14 +241,16 @@ fn an_empty_last_chunk_after_a_full_one(rt: HostRuntime) -> Result<(), Fail> {
             has_no_length(&rt, alloc, armored, to)?;
         }
     }
-    has_an_empty_end(&rt, alloc, Bytes::new(&payload), &plain)?;
+    is_read_up_to(
+        &rt,
+        alloc,
+        Bytes::new(&payload),
+        &plain,
+        Error::LastChunkEmpty,
+    )?;
     for text in &texts {
-        has_an_empty_end(
-            &rt,
-            alloc,
-            ArmoredReader::new(alloc, Bytes::new(text))?,
-            &plain,
-        )?;
+        let armored = ArmoredReader::new(alloc, Bytes::new(text))?;
+        is_read_up_to(&rt, alloc, armored, &plain, Error::LastChunkEmpty)?;
     }
     Ok(())
 }
@@ -279,17 +282,6 @@ fn has_two_last_chunks<R: Seek + Drop>(
     Ok(())
 }
 
-// A full chunk sealed as the last, and a byte after it.
-fn has_a_byte_after<R: Seek + Drop>(
-    rt: &impl Abort,
-    alloc: Global,
-    inner: R,
-    plain: &[u8],
-) -> Result<(), Fail> {
-    let mut reader = StreamReader::<BenchSuite, R>::with_payload_key(alloc, KEY, inner)?;
-    gives(rt, alloc, &mut reader, plain, Error::AfterLast)
-}
-
 #[test]
 fn bytes_after_the_last_chunk(rt: HostRuntime) -> Result<(), Fail> {
     let alloc = rt.alloc();
@@ -303,10 +295,10 @@ fn bytes_after_the_last_chunk(rt: HostRuntime) -> Result<(), Fail> {
         let armored = ArmoredReader::new(alloc, Bytes::new(text))?;
         has_two_last_chunks(&rt, alloc, armored, &plain)?;
     }
-    has_a_byte_after(&rt, alloc, Bytes::new(&one), &plain)?;
+    is_read_up_to(&rt, alloc, Bytes::new(&one), &plain, Error::AfterLast)?;
     for text in &armored_texts(alloc, &one)? {
         let armored = ArmoredReader::new(alloc, Bytes::new(text))?;
-        has_a_byte_after(&rt, alloc, armored, &plain)?;
+        is_read_up_to(&rt, alloc, armored, &plain, Error::AfterLast)?;
     }
     Ok(())
 }

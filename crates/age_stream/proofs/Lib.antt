@@ -15,3 +15,4 @@ pub mod Moving
 pub mod Sound
 pub mod Ending
 pub mod Standing
+pub mod Remaining

@@ -9,7 +9,7 @@ use Rattle.age_stream.specs.Payload.{Seal, nonce, chunk}
 use Rattle.age_stream.specs.Answering.{IsHeldAs, Gives, IsByteAt, StandAt}
 
 module _ (seal_of : Seal) (key : List ℕ) where
-  held-seal : (last : Bool) (sealed plain : List ℕ) (i : ℕ) → IsHeldAs last seal_of key sealed i plain →
+  pub held-seal : (last : Bool) (sealed plain : List ℕ) (i : ℕ) → IsHeldAs last seal_of key sealed i plain →
       AreBytes plain × (chunk i sealed ≡ seal_of key (nonce i last) plain) × (length (chunk i sealed) < 65552 → last ≡ true)
   held-seal true sealed plain i held = (held.bytes, held.is_seal, λ _. refl)
   held-seal false sealed plain i held = (held.bytes, held.is_seal, λ less. absurd (omega (arith, less, held.full)))

@@ -211,7 +211,7 @@ module _ (opened : List ℕ → List ℕ → List ℕ → Option (List ℕ)) (ke
           more = λ later. elim (cases_lt 0 (length plain)) [ inl some ↦ omega (arith, short, all, none) | inr empty ↦ absurd (omega (arith, a.first (omega arith), none)) ];
         }
 
-    well-length-by : (count number : ℕ) (s : Stretch) → AreBytes s.bytes → length s.bytes ≤ 65552 * count + 65552 → (delivered opened key number s).ends_well ≡ true →
+    pub well-length-by : (count number : ℕ) (s : Stretch) → AreBytes s.bytes → length s.bytes ≤ 65552 * count + 65552 → (delivered opened key number s).ends_well ≡ true →
         HasLength number (length s.bytes) (length (delivered opened key number s).bytes)
     well-length-by zero number s bytes few well = single-length number s bytes (omega arith) well
     well-length-by (suc count) number s bytes few well = elim (cases_lt 65552 (length s.bytes)) [

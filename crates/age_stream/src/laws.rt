@@ -1,10 +1,13 @@
 //! What is true of payloads, for proofs alone: the functions here do nothing, and their contracts are the laws.
-ghost use Rattle.std.specs.Prelude.{List, ℕ};
+ghost use Rattle.std.specs.Prelude.{◌≡◌, ◌+◌, List, ℕ, IsTrue, true, length};
+ghost use Rattle.age_stream.specs.Answering.{StandAt, IsGoodEnd};
+ghost use Rattle.age_stream.specs.Reader.{key_of, payload_of};
 ghost use Rattle.age_stream.specs.Writing.{IsGood, HasSent};
 ghost use Rattle.age_stream.specs.Laws.{ArePieces, PayloadLength, PlainLength, OnePlaintext, MiddleChunks, LastChunk, NotRefused, OpensToPayload, PayloadOpens, CutPayload, NothingAfterLast};
 
+use crate::reader::StreamReader;
 use crate::writer::StreamWriter;
-use age_io::Write;
+use age_io::{Read, Write};
 use age_suite::suite::Suite;
 
 /// The pieces of every plaintext, joined, are the plaintext: those before the last have 65,536 bytes, the last has no more,
@@ -56,4 +59,19 @@ pub fn writer_law<S: Suite, W: Write>(writer: &StreamWriter<S, W>)
     ensures { IsGood writer.now → HasSent S.seal_of W.appended ⟦<StreamWriter<S, W> as Write>⟧.appended writer.now }
 {
     let _writer = writer;
+}
+
+/// What is true of any reader, whatever was sought and however bad the payload is.
+///
+/// - `stands`: what it can still deliver stands in the plaintext from its place on. The chunk at each byte's place is the seal of
+///   bytes under its own nonce, and the byte is the one at its place among them.
+/// - `end`: where that ends well, so does the payload: its length is that of the payload of so many bytes, and its last chunk is a seal
+///   as the last.
+pub fn reader_law<S: Suite, R: Read>(reader: &StreamReader<S, R>)
+    ensures stands { let reading = ⟦<StreamReader<S, R> as Read>⟧ in IsTrue (reading.tells reader.now) →
+        StandAt S.seal_of (key_of reader.now) (payload_of reader.now).bytes (reading.place reader.now) (reading.rest reader.now).bytes }
+    ensures end { let reading = ⟦<StreamReader<S, R> as Read>⟧ in IsTrue (reading.tells reader.now) → (reading.rest reader.now).ends_well ≡ true →
+        IsGoodEnd S.seal_of (key_of reader.now) (payload_of reader.now) (reading.place reader.now + length (reading.rest reader.now).bytes) }
+{
+    let _reader = reader;
 }

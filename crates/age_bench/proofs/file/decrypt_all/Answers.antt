@@ -1,44 +1,103 @@
-use Rattle.std.proofs.Common.{◌∙◌, refl, inl, inr}
-use Rattle.age_io.specs.Stretch.{whole, stretch-ext}
+use Rattle.std.proofs.Common.{◌≡◌, ◌∙◌, ap, sym, refl, subst, List, ℕ, inl, inr}
+use Rattle.age_io.specs.Stretch.{Stretch, whole, stretch-ext}
 use Rattle.age_io.specs.Buffered as buffered
-use Rattle.age_armor.specs.Reader.{inner_of}
+use Rattle.age_armor.specs.Reader.{inner_of, armored_rest}
 use Rattle.age_stream.specs.ReadingLaws.{and-left, and-right}
 use Rattle.age_stream.proofs.Answered.{rest-bytes}
 use Rattle.age_protocol.proofs.Fronts.{of_error}
-use Rattle.age_protocol.proofs.Opened.{decided_key}
-use Rattle.age_bench.proofs.Decrypted.{refused_key, both_told, refuses_text}
+use Rattle.age_bench.proofs.Decrypted.{both_told, refuses_text, begins_text, by_cause}
+use Rattle.age_bench.proofs.PartCopied.{none-copied}
+use Rattle.age_bench.proofs.Parts.{file_for}
+use Rattle.age_bench.specs.Copying.{AppendsFront}
 use Rattle.age_bench.proofs.file.decrypt_all.Goals as goal
 
 pub returns-clause-file : goal.returns-clause-file
 returns-clause-file g c = λ reader_told writer_told.
     let text = c.in_ok-text.ensures in
-    let made = c.in_ok-decryptor.ensures in
-    let (answer, first, decrypts) = c.in_ok-stream.ensures in
-    let (key, is, opens) = decided_key answer _ _ _ _ decrypts in
+    let made = c.in_ok-stream.ensures.opened in
     let text_told = both_told _ _ _ _ text.tells text.steady reader_told in
-    let told = both_told _ _ _ _ made.keeps.same_tells made.keeps.same_steady text_told in
-    let copied = c.in_ok-copy_all.ensures.all (opens.reader.tells ∙ told) writer_told in
-    let file = opens.file told _ _ _ (made.front (and-left _ _ text_told)) (stretch-ext _ (whole _) refl copied.0) in
+    let told = both_told _ _ _ _ made.asks.same_tells made.asks.same_steady text_told in
+    let copied = c.in_ok-copy_all.ensures.all (made.opens.reader.tells ∙ told) writer_told in
+    let file = made.opens.file told _ _ _ (made.asks.front (and-left _ _ text_told)) (stretch-ext _ (whole _) refl copied.0) in
     let tells = and-left _ _ reader_told in
     let reader = c.args.reader.now in
     let bytes = rest-bytes (g.R.Read.content reader) (g.R.Read.rest reader) (g.R.Read.place reader)
     (g.met.R.Read.stands reader tells (and-right _ _ reader_told)) (g.met.R.Read.are_bytes reader tells) in
     let carried = text.carries tells file.0 in
-    (key, _, _, _, (rw is at first), carried.0, carried.1 bytes, file.1, copied.1)
-
-pub returns-in_err-decryptor-clause-why : goal.returns-in_err-decryptor-clause-why
-returns-in_err-decryptor-clause-why g c =
-    let text = c.in_ok-text.ensures in
-    let (last, refuses) = c.in_err-decryptor.ensures.refused in
-    let r_last = (buffered.inner_of (inner_of last)).now in
-    of_error _ _ _ c.from_residual-in_err-decryptor.ensures.1
-    (inl (
-      r_last,
-      refuses_text _ _ _ _ _ _ g.R.Read.tells g.R.Read.rest g.R.Read.faults _ last c.args.reader.now r_last _
-          text.tells text.faults refl text.place text.rest refuses,
-    ))
+    (made.file_key, _, _, _, made.asks.first, carried.0, carried.1 bytes, file.1, copied.1)
 
 pub returns-in_err-stream-clause-why : goal.returns-in_err-stream-clause-why
 returns-in_err-stream-clause-why g c =
-    let (answer, first, decrypts) = c.in_err-stream.ensures in
-    of_error _ _ _ c.from_residual-in_err-stream.ensures.1 (inr (_, answer, first, refused_key _ _ _ _ _ decrypts))
+    let text = c.in_ok-text.ensures in
+    of_error _ _ _ c.from_residual-in_err-stream.ensures.1
+    (by_cause
+    (λ front.
+    let last = front.1.0 in
+    let r_last = (buffered.inner_of (inner_of last)).now in
+    inl (
+      r_last,
+      refuses_text _ _ _ _ _ _ g.R.Read.tells g.R.Read.rest g.R.Read.faults _ last c.args.reader.now r_last _
+          text.tells text.faults refl text.place text.rest front.1.1,
+    ))
+    (λ asked.
+    let (h, nonce, input, answer, asks, why) = asked in
+    inr (h, nonce, _, answer, begins_text g.R.Read.tells g.R.Read.rest c.args.reader.now h nonce _ _ _ _ _ text.tells text.place text.rest asks.front, asks.first, why))
+    c.in_err-stream.ensures.refused)
+
+pub returns-in_err-stream-clause-honest : goal.returns-in_err-stream-clause-honest
+returns-in_err-stream-clause-honest g c = λ told well never file plain carries for.
+    let text = c.in_ok-text.ensures in
+    let rest : armored_rest c.in_ok-text.text ≡ whole file = text.honest file well carries in
+    of_error _ _ _ c.from_residual-in_err-stream.ensures.1
+    (c.in_err-stream.ensures.plaintext (both_told _ _ _ _ text.tells text.steady told) (ap (λ s. s.ends_well) rest) plain
+    (file_for _ plain file (armored_rest c.in_ok-text.text).bytes (sym (ap (λ s. s.bytes) rest)) for) (λ t. never t.source.inner.inner.now))
+
+pub returns-in_err-copy_all-clause-front : goal.returns-in_err-copy_all-clause-front
+returns-in_err-copy_all-clause-front g c = λ reader_told writer_told.
+    let text = c.in_ok-text.ensures in
+    let made = c.in_ok-stream.ensures.opened in
+    let asks = made.asks in
+    let text_told = both_told _ _ _ _ text.tells text.steady reader_told in
+    let told = both_told _ _ _ _ asks.same_tells asks.same_steady text_told in
+    let copied = rw made.opens.reader.rest at (c.in_err-copy_all.ensures.front (made.opens.reader.tells ∙ told) writer_told) in
+    let begins = begins_text g.R.Read.tells g.R.Read.rest c.args.reader.now made.h made.nonce _ _ _ _ _ text.tells text.place text.rest asks.front in
+    inr (made.file_key, made.h, made.nonce, _, begins, asks.first, made.opens.right, copied)
+
+pub returns-clause-front : goal.returns-clause-front
+returns-clause-front g c = λ reader_told writer_told.
+    let text = c.in_ok-text.ensures in
+    let made = c.in_ok-stream.ensures.opened in
+    let asks = made.asks in
+    let text_told = both_told _ _ _ _ text.tells text.steady reader_told in
+    let told = both_told _ _ _ _ asks.same_tells asks.same_steady text_told in
+    let copied = rw made.opens.reader.rest at (c.in_ok-copy_all.ensures.front (made.opens.reader.tells ∙ told) writer_told) in
+    let begins = begins_text g.R.Read.tells g.R.Read.rest c.args.reader.now made.h made.nonce _ _ _ _ _ text.tells text.place text.rest asks.front in
+    inr (made.file_key, made.h, made.nonce, _, begins, asks.first, made.opens.right, copied)
+
+pub returns-in_err-text-clause-plaintext : goal.returns-in_err-text-clause-plaintext
+returns-in_err-text-clause-plaintext g c = λ told well writer_told file plain carries for.
+    none-copied g.W.Write.appended _ c.args.writer.now (g.met.W.Write.appends_nothing c.args.writer.now)
+
+pub returns-in_err-stream-clause-plaintext : goal.returns-in_err-stream-clause-plaintext
+returns-in_err-stream-clause-plaintext g c = λ told well writer_told file plain carries for.
+    none-copied g.W.Write.appended _ c.args.writer.now (g.met.W.Write.appends_nothing c.args.writer.now)
+
+pub returns-in_err-copy_all-clause-plaintext : goal.returns-in_err-copy_all-clause-plaintext
+returns-in_err-copy_all-clause-plaintext g c = λ told well writer_told file plain carries for.
+    let text = c.in_ok-text.ensures in
+    let rest : armored_rest c.in_ok-text.text ≡ whole file = text.honest file well carries in
+    let text_told = both_told _ _ _ _ text.tells text.steady told in
+    let stands = c.in_ok-stream.ensures.plaintext text_told (ap (λ s. s.ends_well) rest) plain
+    (file_for _ plain file (armored_rest c.in_ok-text.text).bytes (sym (ap (λ s. s.bytes) rest)) for) in
+    subst (λ (s : Stretch). AppendsFront g.W.Write.appended s.bytes c.args.writer.now c.copy_all.new.writer) stands.rest
+    (c.in_err-copy_all.ensures.front (c.in_ok-stream.ensures.tells ∙ text_told) writer_told)
+
+pub returns-clause-plaintext : goal.returns-clause-plaintext
+returns-clause-plaintext g c = λ told well writer_told file plain carries for.
+    let text = c.in_ok-text.ensures in
+    let rest : armored_rest c.in_ok-text.text ≡ whole file = text.honest file well carries in
+    let text_told = both_told _ _ _ _ text.tells text.steady told in
+    let stands = c.in_ok-stream.ensures.plaintext text_told (ap (λ s. s.ends_well) rest) plain
+    (file_for _ plain file (armored_rest c.in_ok-text.text).bytes (sym (ap (λ s. s.bytes) rest)) for) in
+    subst (λ (s : Stretch). AppendsFront g.W.Write.appended s.bytes c.args.writer.now c.copy_all.new.writer) stands.rest
+    (c.in_ok-copy_all.ensures.front (c.in_ok-stream.ensures.tells ∙ text_told) writer_told)

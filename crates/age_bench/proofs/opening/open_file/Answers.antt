@@ -1,9 +1,11 @@
+use Rattle.std.proofs.Common.{refl, inl, inr}
+use Rattle.std.proofs.lemmas.Result.{IfErr-weaker}
 use Rattle.age_error.specs.DecryptErrors.{decrypt_refusal}
 use Rattle.age_stream.specs.ReadingLaws.{and-left}
 use Rattle.age_protocol.specs.Decryptor.{header_of, nonce_of, input_of}
 use Rattle.age_bench.specs.Bench.{bench_seal}
-use Rattle.age_bench.proofs.Decrypted.{both_told}
-use Rattle.age_bench.proofs.Opened.{never_fails, begins, opened_or_want}
+use Rattle.age_bench.proofs.Decrypted.{both_told, refused_key}
+use Rattle.age_bench.proofs.Opened.{never_fails, begins, opened_or_want, asked}
 use Rattle.age_bench.proofs.opening.open_file.Goals as goal
 
 pub returns-in-Err-clause-plaintext : goal.returns-in-Err-clause-plaintext
@@ -32,3 +34,27 @@ returns-in-Ok-clause-plaintext g c = λ told well plain for.
     (λ r opened. c.file_opens.ensures.content (g.T.Read.rest text) (g.T.Read.place text) h nonce for.file_key for.stanzas plain input r front for.is_file
     for.bytes for.within for.last well input_told opened)
     answer c.decrypt.result asked decrypts
+
+pub returns-in-Err-clause-refused : goal.returns-in-Err-clause-refused
+returns-in-Err-clause-refused g c = inl (refl, c.in-Err.ensures.refused)
+
+pub returns-in-Ok-clause-opened : goal.returns-in-Ok-clause-opened
+returns-in-Ok-clause-opened g c =
+    let made = c.in-Ok.ensures in
+    let (answer, first, decrypts) = c.decrypt.ensures in
+    asked g.I.Identity.unwraps _ _ c.args.text _ _ _ answer c.decrypt.result
+    (record { same_tells = made.keeps.same_tells; same_steady = made.keeps.same_steady; same_content = made.keeps.same_content; front = made.front; first = first }) decrypts
+
+pub returns-in-Ok-clause-refused : goal.returns-in-Ok-clause-refused
+returns-in-Ok-clause-refused g c =
+    let made = c.in-Ok.ensures in
+    let (answer, first, decrypts) = c.decrypt.ensures in
+    IfErr-weaker c.decrypt.result _ _ (λ e why. inr (
+      _,
+      _,
+      _,
+      answer,
+      record { same_tells = made.keeps.same_tells; same_steady = made.keeps.same_steady; same_content = made.keeps.same_content; front = made.front; first = first },
+      why,
+    ))
+    (refused_key _ _ _ _ _ decrypts)

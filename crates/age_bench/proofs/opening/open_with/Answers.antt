@@ -1,37 +1,6 @@
-use Rattle.std.proofs.Common.{◌≡◌, ◌∙◌, ℕ, List, [], ◌∷◌, inl, inr, refl, rules, Global}
-use Rattle.std.specs.declared.dyn_box.DynBox.{DynBox}
-use Rattle.age_format.specs.Stanza.{StanzaValue}
-use Rattle.age_format.specs.Boxed.{Changes}
-use Rattle.age_format.specs.Unwrapping.{UnwrapAnswer, Unwraps}
-use Rattle.age_bench.specs.Recipient.{bench_unwrapped}
-use Rattle.age_bench.specs.Parts.{FirstAnswer, IsFileFor, IsFileForBench}
 use Rattle.age_bench.proofs.Opened.{for_bench}
-use Rattle.age_bench.proofs.Unwrapped.{first_answer, in_order, either_way}
-use Rattle.age_bench.proofs.opening.open_with.OwnLists.{own-1}
 use Rattle.age_bench.proofs.opening.open_with.Goals as goal
 
--- an identity in a box that is made here
-abbrev Boxed : Type 0
-Boxed = DynBox own-1.I Global (λ i. (own-1.entry i).0.Denot)
-
-abbrev unwraps : Boxed → List StanzaValue → UnwrapAnswer → Boxed → Type 0
-unwraps identity stanzas answer after =
-    Changes identity (λ before then. Unwraps (own-1.entry identity.vtable).1.unwraps before stanzas answer then) after
-
--- is the bench identity
-is_bench : (i : own-1.I) (before : (own-1.entry i).0.Denot) (stanzas : List StanzaValue) (answer : UnwrapAnswer) (after : (own-1.entry i).0.Denot)
-    → Unwraps (own-1.entry i).1.unwraps before stanzas answer after → answer ≡ first_answer bench_unwrapped stanzas
-is_bench (inl bench) before stanzas answer after h =
-    either_way bench_unwrapped _ (in_order bench_unwrapped _ (λ s x a t asked. asked.0)) before stanzas answer after h
-is_bench (inr none) before stanzas answer after h = absurd none
-
--- so the one in a list of one answers the file key
-for_identities : (one : Boxed) (plain text : List ℕ) → IsFileForBench plain text → IsFileFor (FirstAnswer unwraps (one ∷ [])) plain text
-for_identities one plain text for =
-    for_bench unwraps one plain text (λ identity all own then changes. is_bench identity.vtable identity.value all own changes.0 changes.2) for
-
-pub returns-in-Ok-push-clause-plaintext : goal.returns-in-Ok-push-clause-plaintext
-returns-in-Ok-push-clause-plaintext g c = λ told well plain for.
-    let box = c.into_dyn_box.result in
-    let one : c.deref_mut.result.now ≡ box ∷ [] = search rules in
-    c.open_file.ensures.plaintext told well plain (rw one (for_identities box plain (g.T.Read.rest c.args.text).bytes for))
+pub returns-clause-plaintext : goal.returns-clause-plaintext
+returns-clause-plaintext g c = λ told well plain for.
+    c.open_file.ensures.plaintext told well plain (for_bench _ plain (g.T.Read.rest c.args.text).bytes for)

@@ -1,6 +1,11 @@
-use Rattle.std.proofs.Common.{◌≡◌, ◌∙◌, sym, ap, subst, List, ◌++◌, ℕ}
+use Rattle.std.proofs.Common.{◌≡◌, ◌∙◌, sym, ap, subst, true, List, ◌++◌, ℕ}
+use Rattle.std.proofs.lemmas.Result.{on_ok_weaker}
 use Rattle.age_armor.specs.Armor.{Carries}
+use Rattle.age_armor.specs.Delivered.{delivered, stretch_of}
+use Rattle.age_bench.specs.Errors.{BeginsText}
+use Rattle.age_bench.specs.Parts.{Begins, StandsAt, IsPartAt}
 use Rattle.age_bench.proofs.Parts.{memory_before, memory_only, quiet_by}
+use Rattle.age_bench.proofs.Standing.{begun, begun-or, begins-read}
 use Rattle.age_bench.proofs.part.at.Goals as goal
 
 pub returns-in-Err-clause-cursor : goal.returns-in-Err-clause-cursor
@@ -14,3 +19,25 @@ returns-clause-cursor g c = λ reader_told writer_told well file plain carries f
     c.deref.ensures.value ∙ c.in-Ok.ensures.bytes reader_told ∙ ap (λ (l : List ℕ). l ++ (g.R.Read.rest c.args.reader.now).bytes) c.new-input.ensures.items in
     quiet_by g.W.Write.appended c.args.place c.args.count plain _ _ c.args.writer.now c.at_bytes.new.writer c.at_bytes.result (λ quiet. tt)
     (c.at_bytes.ensures.cursor writer_told file plain (subst (λ (l : List ℕ). Carries l file) (sym bytes) carries) for)
+
+pub returns-clause-standing : goal.returns-clause-standing
+returns-clause-standing g c = λ reader_told writer_told.
+    let rest = g.R.Read.rest c.args.reader.now in
+    let input = c.deref.result.now in
+    let bytes : input ≡ rest.bytes =
+    c.deref.ensures.value ∙ c.in-Ok.ensures.bytes reader_told ∙ ap (λ (l : List ℕ). l ++ rest.bytes) c.new-input.ensures.items in
+    let so = begins-read g.R.Read.tells g.R.Read.rest c.args.reader.now input bytes (c.in-Ok.ensures.end reader_told) in
+    begun-or (Begins (stretch_of (delivered input true)) 0) (BeginsText g.R.Read.tells g.R.Read.rest c.args.reader.now) _ _ g.W.Write.appended c.args.count (StandsAt c.args.place) c.args.writer.now
+    c.at_bytes.new.writer so (λ key stanzas by. by) (c.at_bytes.ensures.standing writer_told)
+
+pub returns-clause-given : goal.returns-clause-given
+returns-clause-given g c = λ reader_told writer_told.
+    let rest = g.R.Read.rest c.args.reader.now in
+    let input = c.deref.result.now in
+    let bytes : input ≡ rest.bytes =
+    c.deref.ensures.value ∙ c.in-Ok.ensures.bytes reader_told ∙ ap (λ (l : List ℕ). l ++ rest.bytes) c.new-input.ensures.items in
+    let so = begins-read g.R.Read.tells g.R.Read.rest c.args.reader.now input bytes (c.in-Ok.ensures.end reader_told) in
+    on_ok_weaker c.at_bytes.result
+    (begun (Begins (stretch_of (delivered input true)) 0) (BeginsText g.R.Read.tells g.R.Read.rest c.args.reader.now) _ _ g.W.Write.appended c.args.count (IsPartAt c.args.place c.args.count)
+    c.args.writer.now c.at_bytes.new.writer so (λ key stanzas by. by))
+    (c.at_bytes.ensures.given writer_told)

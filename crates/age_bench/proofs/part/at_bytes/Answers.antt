@@ -1,8 +1,12 @@
-use Rattle.std.proofs.Common.{◌≡◌, refl, sym, ap, subst, List, ℕ}
+use Rattle.std.proofs.Common.{◌≡◌, ◌∙◌, refl, sym, ap, subst, true, List, ℕ}
+use Rattle.std.proofs.lemmas.Result.{on_ok_weaker}
 use Rattle.age_io.specs.Stretch.{whole}
 use Rattle.age_armor.specs.Armor.{Carries}
-use Rattle.age_armor.specs.Reader.{armored_rest}
+use Rattle.age_armor.specs.Delivered.{delivered, stretch_of}
+use Rattle.age_armor.specs.Reader.{armored_rest, armored_content, place_of}
+use Rattle.age_bench.specs.Parts.{Begins, StandsAt, IsPartAt}
 use Rattle.age_bench.proofs.Parts.{memory_before, quiet_by, file_for}
+use Rattle.age_bench.proofs.Standing.{begun, begun-or, same-content, fresh-text, begins-same}
 use Rattle.age_bench.proofs.part.at_bytes.Goals as goal
 
 pub returns-in-Err-clause-cursor : goal.returns-in-Err-clause-cursor
@@ -18,3 +22,30 @@ returns-in-Ok-clause-cursor g c = λ writer_told file plain carries for.
     quiet_by g.W.Write.appended c.args.place c.args.count plain _ _ c.args.writer.now c.at_text.new.writer c.at_text.result (λ u t. refl)
     (c.at_text.ensures.cursor refl writer_told (ap (λ s. s.ends_well) rest) plain
     (file_for _ plain file (armored_rest text).bytes (sym (ap (λ s. s.bytes) rest)) for))
+
+pub returns-in-Ok-clause-standing : goal.returns-in-Ok-clause-standing
+returns-in-Ok-clause-standing g c = λ writer_told.
+    let text = c.in-Ok.text in
+    let made = c.in-Ok.ensures in
+    let input = c.args.input.now in
+    let rest : armored_rest text ≡ stretch_of (delivered input true) = made.rest ∙ ap (λ s. stretch_of (delivered s.bytes s.ends_well)) c.new.ensures.rest in
+    let content : armored_content text ≡ stretch_of (delivered input true) =
+    made.content ∙ same-content _ (whole input) _ 0 c.new.ensures.content c.new.ensures.place in
+    let fresh = fresh-text (armored_rest text) (armored_content text) (stretch_of (delivered input true)) (place_of text) rest content made.place in
+    begun-or (Begins (armored_rest text) (place_of text)) (Begins (stretch_of (delivered input true)) 0) _ _ g.W.Write.appended c.args.count (StandsAt c.args.place) c.args.writer.now c.at_text.new.writer
+    (begins-same (armored_rest text) (stretch_of (delivered input true)) (place_of text) rest made.place) (λ key stanzas by. by)
+    (c.at_text.ensures.standing fresh refl writer_told)
+
+pub returns-in-Ok-clause-given : goal.returns-in-Ok-clause-given
+returns-in-Ok-clause-given g c = λ writer_told.
+    let text = c.in-Ok.text in
+    let made = c.in-Ok.ensures in
+    let input = c.args.input.now in
+    let rest : armored_rest text ≡ stretch_of (delivered input true) = made.rest ∙ ap (λ s. stretch_of (delivered s.bytes s.ends_well)) c.new.ensures.rest in
+    let content : armored_content text ≡ stretch_of (delivered input true) =
+    made.content ∙ same-content _ (whole input) _ 0 c.new.ensures.content c.new.ensures.place in
+    let fresh = fresh-text (armored_rest text) (armored_content text) (stretch_of (delivered input true)) (place_of text) rest content made.place in
+    on_ok_weaker c.at_text.result
+    (begun (Begins (armored_rest text) (place_of text)) (Begins (stretch_of (delivered input true)) 0) _ _ g.W.Write.appended c.args.count (IsPartAt c.args.place c.args.count) c.args.writer.now c.at_text.new.writer
+    (begins-same (armored_rest text) (stretch_of (delivered input true)) (place_of text) rest made.place) (λ key stanzas by. by))
+    (c.at_text.ensures.given fresh refl writer_told)

@@ -1,8 +1,9 @@
 use Rattle.std.proofs.Common.{◌∙◌, refl, ap, subst, IsTrue, List, ℕ, length, take, drop}
 use Rattle.std.proofs.lemmas.Result.{on_ok_weaker}
-use Rattle.age_stream.specs.Reader.{tells_of, content_of, steady_of}
+use Rattle.age_stream.specs.Reader.{tells_of, content_of, steady_of, key_of, payload_of}
 use Rattle.age_stream.specs.ReadingLaws.{both-true}
 use Rattle.age_bench.proofs.PartCopied.{none-copied}
+use Rattle.age_bench.proofs.Standing.{standing, standing-none, stand-moved, good-moved, given}
 use Rattle.age_bench.proofs.Parts.{refused_past, never_past, start_within}
 use Rattle.age_bench.specs.Copying.{AppendsFront}
 use Rattle.age_bench.proofs.part.write_part.Goals as goal
@@ -46,3 +47,31 @@ returns-in-Ok-clause-past_end g c = λ told well past.
     let seeks = c.in-Ok.ensures.seeks in
     let steady : IsTrue (steady_of stream) = both-true (tells_of stream) (content_of stream).ends_well told well in
     absurd (never_past c.args.place (length (content_of stream).bytes) c.in-Ok._start past (seeks.moves told steady).0)
+
+pub returns-in-Err-clause-standing : goal.returns-in-Err-clause-standing
+returns-in-Err-clause-standing g c = λ told writer_told.
+    standing-none g.W.Write.appended c.args.count c.args.place _ (payload_of c.args.stream.now) c.args.writer.now (g.met.W.Write.appends_nothing c.args.writer.now)
+
+pub returns-in-Ok-clause-standing : goal.returns-in-Ok-clause-standing
+returns-in-Ok-clause-standing g c = λ told writer_told.
+    let stream = c.args.stream.now in
+    let seek = c.in-Ok.ensures in
+    let new_told = seek.seeks.same_tells ∙ told in
+    let there = seek.seeks.arrives told ∙ seek.seeks.leads told in
+    standing g.W.Write.appended c.args.count c.args.place (key_of stream) (payload_of stream) _ c.args.writer.now c.copy_some.new.writer
+    (stand-moved (key_of stream) _ (payload_of stream).bytes _ c.args.place _ _ seek.key (ap (λ s. s.bytes) (seek.payload told)) there (c.reader_law.ensures.stands new_told))
+    (c.copy_some.ensures.front new_told writer_told)
+
+pub returns-in-Ok-clause-given : goal.returns-in-Ok-clause-given
+returns-in-Ok-clause-given g c = λ told writer_told.
+    let stream = c.args.stream.now in
+    let seek = c.in-Ok.ensures in
+    let new_told = seek.seeks.same_tells ∙ told in
+    let there = seek.seeks.arrives told ∙ seek.seeks.leads told in
+    let law = c.reader_law.ensures in
+    on_ok_weaker c.copy_some.result
+    (λ done.
+    given g.W.Write.appended c.args.count c.args.place (key_of stream) (payload_of stream) _ c.args.writer.now c.copy_some.new.writer
+    (stand-moved (key_of stream) _ (payload_of stream).bytes _ c.args.place _ _ seek.key (ap (λ s. s.bytes) (seek.payload told)) there (law.stands new_told))
+    (λ well. good-moved (key_of stream) _ (payload_of stream) _ c.args.place _ _ seek.key (seek.payload told) there (law.end new_told well)) done)
+    (c.copy_some.ensures.part new_told writer_told)

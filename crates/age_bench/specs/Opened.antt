@@ -1,0 +1,41 @@
+-- What opening the file of a text comes to, whatever the text is.
+use Rattle.std.specs.Prelude.{◌≡◌, ◌⊎◌, ℕ, Bool, IsTrue, List, Some, Ok}
+use Rattle.age_error.specs.DecryptErrors.{DecryptRefusal}
+use Rattle.age_suite.specs.declared.suite.Suite.{Ghosts as SuiteGhosts}
+use Rattle.age_io.specs.Stretch.{Stretch}
+use Rattle.age_io.specs.declared.traits.Read.{Ghosts}
+use Rattle.age_format.specs.HeaderV1.{HeaderValue}
+use Rattle.age_format.specs.Stanza.{StanzaValue}
+use Rattle.age_format.specs.Unwrapping.{UnwrapAnswer, Unwraps}
+use Rattle.age_stream.specs.declared.reader.StreamReader.{StreamReader}
+use Rattle.age_protocol.specs.Answering.{FirstThatAnswers, decided}
+use Rattle.age_protocol.specs.Decrypting.{ReadsFront, RefusesFront}
+use Rattle.age_protocol.specs.OpeningFile.{OpensFile}
+use Rattle.age_bench.specs.Errors.{RefusesKey}
+
+module _ {I T : Type 0} (unwraps : I → List StanzaValue → UnwrapAnswer → I → Type 0)
+    (tells steady : T → Bool) (content : T → Stretch) (place : T → ℕ) (rest : T → Stretch) (faults : T → ℕ) where
+  -- A header and a nonce were read from the front of the text, no byte more, and the first identity that answers to its stanzas
+  -- answers this.
+  pub record Asks (old new : List I) (text : T) (h : HeaderValue) (nonce : List ℕ) (input : T) (answer : UnwrapAnswer) : Type 0 where
+    pub same_tells : tells input ≡ tells text
+    pub same_steady : steady input ≡ steady text
+    pub same_content : IsTrue (tells text) → content input ≡ content text
+    pub front : IsTrue (tells text) → ReadsFront (rest text) (rest input) (place text) (place input) h nonce
+    pub first : FirstThatAnswers (λ identity own next. Unwraps unwraps identity h.stanzas own next) old answer new
+
+  -- No file begins the text, and no identity was asked; or the identities, the MAC or the reader's memory are why.
+  abbrev pub IsNotOpened : List I → List I → T → DecryptRefusal → Type 0
+  IsNotOpened old new text e = ((new ≡ old) × ((last : T) × RefusesFront tells steady content place rest faults text last e))
+      ⊎ ((h : HeaderValue) × (nonce : List ℕ) × (input : T) × (answer : UnwrapAnswer)
+      × Asks old new text h nonce input answer × RefusesKey (decided answer) h e)
+
+-- The first identity that answers gave the file key, under which the MAC is right, and this is the reader of the payload.
+pub record IsOpened {I S T : Type 0} {suite : SuiteGhosts S} {read : Ghosts T} (unwraps : I → List StanzaValue → UnwrapAnswer → I → Type 0)
+    (old new : List I) (text : T) (stream : StreamReader S T suite read) : Type 0 where
+  pub h : HeaderValue
+  pub nonce : List ℕ
+  pub input : T
+  pub file_key : List ℕ
+  pub asks : Asks unwraps read.tells read.steady read.content read.place read.rest read.faults old new text h nonce input (Some (Ok file_key))
+  pub opens : OpensFile file_key h nonce input stream
