@@ -1,20 +1,28 @@
 -- What is appended of a payload stands in its plaintext, however bad the payload is.
-use Rattle.std.specs.Prelude.{◌≡◌, ◌⊎◌, ℕ, ◌+◌, ◌<◌, ◌≤◌, Bool, true, IsTrue, List, [], ◌++◌, length, take, drop}
+use Rattle.std.specs.Prelude.{◌≡◌, ◌⊎◌, ℕ, ◌+◌, ◌<◌, ◌≤◌, ◌&&◌, Bool, true, IsTrue, List, [], ◌++◌, length, take, drop, Some, Ok}
 use Rattle.std.proofs.Common.{◌∙◌, refl, sym, ap, subst, inl, inr, arith, length-append, length-take, take-append-drop}
 use Rattle.std.proofs.lemmas.List.{drop-drop, drop_at}
+use Rattle.age_suite.specs.declared.suite.Suite.{Ghosts as SuiteGhosts}
+use Rattle.age_io.specs.declared.traits.Read.{Ghosts}
 use Rattle.age_io.specs.Stretch.{Stretch, from_place, stretch-ext}
 use Rattle.age_io.specs.Reading.{Delivers}
 use Rattle.age_armor.specs.Delivered.{delivered, stretch_of}
 use Rattle.age_armor.specs.DeliveredLaws.{content_of}
 use Rattle.age_format.specs.HeaderV1.{HeaderValue}
 use Rattle.age_format.specs.Stanza.{StanzaValue}
+use Rattle.age_format.specs.Unwrapping.{UnwrapAnswer, Unwraps}
 use Rattle.age_protocol.specs.Decrypting.{ReadsFront}
+use Rattle.age_protocol.specs.Answering.{FirstThatAnswers}
 use Rattle.age_stream.specs.Answering.{StandAt, IsGoodEnd}
+use Rattle.age_stream.specs.Reader.{key_of, payload_of}
+use Rattle.age_stream.specs.ReadingLaws.{and-left}
+use Rattle.age_stream.specs.declared.reader.StreamReader.{StreamReader}
 use Rattle.age_stream.proofs.Standing.{stand-none}
 use Rattle.age_stream.proofs.Remaining.{stand-front}
 use Rattle.age_bench.specs.Bench.{bench_seal}
 use Rattle.age_bench.specs.Errors.{BeginsText}
 use Rattle.age_bench.specs.Copying.{AppendsFront, AppendsSome}
+use Rattle.age_bench.specs.Opened.{IsOpened}
 use Rattle.age_bench.specs.Parts.{AppendsOf, StandsAt, IsPartAt, Begins}
 
 -- the same with other names
@@ -69,7 +77,7 @@ module _ {W : Type 0} (appended : W → List ℕ → W → Type 0) (count place 
       }
 
 -- the same of equal things
-pub some-same : {W A : Type 0} (appended : W → List ℕ → W → Type 0) (count : ℕ) (Holds : List ℕ → A → List ℕ → Type 0) (key key' : List ℕ) (a b : A) (old new : W)
+some-same : {W A : Type 0} (appended : W → List ℕ → W → Type 0) (count : ℕ) (Holds : List ℕ → A → List ℕ → Type 0) (key key' : List ℕ) (a b : A) (old new : W)
     → key ≡ key' → a ≡ b → AppendsSome appended count (Holds key a) old new → AppendsSome appended count (Holds key' b) old new
 some-same appended count Holds key key' a b old new p q some =
     subst (λ x. AppendsSome appended count (Holds key' x) old new) q (subst (λ (l : List ℕ). AppendsSome appended count (Holds l a) old new) p some)
@@ -79,13 +87,40 @@ pub same-content : (a b : Stretch) (n m : ℕ) → a ≡ b → n ≡ m → conte
 same-content a b n m p q = rw (p, q) refl
 
 -- what is left of a text after its front is what its content has there
-pub left-is : (content rest left : Stretch) (start place : ℕ) (front : List ℕ) → rest ≡ from_place start content → Delivers front rest left
+left-is : (content rest left : Stretch) (start place : ℕ) (front : List ℕ) → rest ≡ from_place start content → Delivers front rest left
     → place ≡ start + length front → from_place place content ≡ left
 left-is content rest left start place front is delivers moved =
     stretch-ext (from_place place content) left
     (ap (λ n. drop n content.bytes) moved ∙ sym (drop-drop (length front) start content.bytes)
     ∙ ap (λ l. drop (length front) l) (sym (ap (λ s. s.bytes) is) ∙ delivers.bytes) ∙ drop_at front left.bytes (length front) refl)
     (sym (delivers.end ∙ ap (λ s. s.ends_well) is))
+
+-- of the payload of a file that was opened in a text of which nothing was read yet
+module _ {I S T W : Type 0} {suite : SuiteGhosts S} {read : Ghosts T} (unwraps : I → List StanzaValue → UnwrapAnswer → I → Type 0)
+    (old new : List I) (text : T) (stream : StreamReader S T suite read) (appended : W → List ℕ → W → Type 0) (count : ℕ)
+    (Holds : List ℕ → Stretch → List ℕ → Type 0) (before after : W) where
+  pub opened-part : read.rest text ≡ from_place (read.place text) (read.content text) → IsTrue (read.tells text && read.steady text)
+      → IsOpened unwraps old new text stream → AppendsSome appended count (Holds (key_of stream) (payload_of stream)) before after
+      → AppendsOf (Begins (read.rest text) (read.place text))
+      (λ file_key stanzas. FirstThatAnswers (λ identity answer next. Unwraps unwraps identity stanzas answer next) old (Some (Ok file_key)) new)
+      appended count Holds before after
+  opened-part fresh told made some =
+      let tells = and-left (read.tells text) (read.steady text) told in
+      let input = made.input in
+      let front = made.asks.front tells in
+      record {
+        file_key = made.file_key;
+        h = made.h;
+        nonce = made.nonce;
+        left = read.rest input;
+        text = (_, front);
+        key = made.asks.first;
+        right = made.opens.right;
+        part = some-same appended count Holds (key_of stream) _ (payload_of stream) (read.rest input) before after made.opens.reader.same_key
+            (made.opens.reader.sealed ∙ ap (λ (s : Stretch). from_place (read.place input) s) (made.asks.same_content tells)
+            ∙ left-is (read.content text) (read.rest text) (read.rest input) (read.place text) (read.place input) _ fresh front.took.delivered front.took.moved)
+            some;
+      }
 
 -- the text may be said to begin in another way, and the file key to be given in another
 module _ {W : Type 0} (begins other : HeaderValue → List ℕ → Stretch → Type 0) (gives by : List ℕ → List StanzaValue → Type 0)

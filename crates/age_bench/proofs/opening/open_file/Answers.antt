@@ -28,7 +28,7 @@ returns-in-Ok-clause-plaintext g c = λ told well plain for.
     let (stanzas_are, right, nonce_is, left, end) =
     c.file_opens.ensures.payload (g.T.Read.rest text) (g.T.Read.rest input) (g.T.Read.place text) (g.T.Read.place input) h nonce for.file_key for.stanzas plain
     front for.is_file in
-    let asked = for.right answer (_, rw stanzas_are at first) in
+    let asked = for.right answer (c.decrypt.new.identities, rw stanzas_are at first) in
     let input_told = both_told _ _ _ _ made.keeps.same_tells made.keeps.same_steady told in
     opened_or_want _ h nonce for.file_key plain input right
     (λ r opened. c.file_opens.ensures.content (g.T.Read.rest text) (g.T.Read.place text) h nonce for.file_key for.stanzas plain input r front for.is_file

@@ -1,10 +1,8 @@
 use Rattle.std.proofs.Common.{◌∙◌, ap, inr}
-use Rattle.age_io.specs.Stretch.{Stretch, from_place}
 use Rattle.age_bench.specs.Parts.{StandsAt, IsPartAt}
 use Rattle.age_stream.specs.Reader.{content_of}
-use Rattle.age_stream.specs.ReadingLaws.{and-left}
 use Rattle.age_bench.proofs.Opened.{never_fails}
-use Rattle.age_bench.proofs.Standing.{left-is, some-same}
+use Rattle.age_bench.proofs.Standing.{opened-part}
 use Rattle.age_bench.proofs.Parts.{refused_before, part_done, part_refused}
 use Rattle.age_bench.proofs.part.at_text.Goals as goal
 
@@ -35,57 +33,18 @@ returns-clause-cursor g c = λ text_told writer_told well plain for.
 
 pub returns-in-Err-write_part-clause-standing : goal.returns-in-Err-write_part-clause-standing
 returns-in-Err-write_part-clause-standing g c = λ fresh text_told writer_told.
-    let text = c.args.text in
-    let made = c.in-Ok.ensures.opened in
-    let front = made.asks.front (and-left _ _ text_told) in
-    let sealed = made.opens.reader.sealed ∙ ap (λ (s : Stretch). from_place (g.T.Read.place made.input) s) (made.asks.same_content (and-left _ _ text_told))
-    ∙ left-is (g.T.Read.content text) (g.T.Read.rest text) (g.T.Read.rest made.input) (g.T.Read.place text) (g.T.Read.place made.input) _ fresh front.took.delivered front.took.moved in
-    inr (record {
-      file_key = made.file_key;
-      h = made.h;
-      nonce = made.nonce;
-      left = g.T.Read.rest made.input;
-      text = (_, front);
-      key = made.asks.first;
-      right = made.opens.right;
-      part = some-same g.W.Write.appended c.args.count (StandsAt c.args.place) _ _ _ _ c.args.writer.now c.write_part.new.writer made.opens.reader.same_key sealed
-          (c.write_part.ensures.standing (c.in-Ok.ensures.tells ∙ text_told) writer_told);
-    })
+    let made = c.in-Ok.ensures in
+    inr (opened-part _ _ _ c.args.text c.in-Ok.stream g.W.Write.appended c.args.count (StandsAt c.args.place) c.args.writer.now c.write_part.new.writer fresh text_told made.opened
+    (c.write_part.ensures.standing (made.tells ∙ text_told) writer_told))
 
 pub returns-clause-standing : goal.returns-clause-standing
 returns-clause-standing g c = λ fresh text_told writer_told.
-    let text = c.args.text in
-    let made = c.in-Ok.ensures.opened in
-    let front = made.asks.front (and-left _ _ text_told) in
-    let sealed = made.opens.reader.sealed ∙ ap (λ (s : Stretch). from_place (g.T.Read.place made.input) s) (made.asks.same_content (and-left _ _ text_told))
-    ∙ left-is (g.T.Read.content text) (g.T.Read.rest text) (g.T.Read.rest made.input) (g.T.Read.place text) (g.T.Read.place made.input) _ fresh front.took.delivered front.took.moved in
-    inr (record {
-      file_key = made.file_key;
-      h = made.h;
-      nonce = made.nonce;
-      left = g.T.Read.rest made.input;
-      text = (_, front);
-      key = made.asks.first;
-      right = made.opens.right;
-      part = some-same g.W.Write.appended c.args.count (StandsAt c.args.place) _ _ _ _ c.args.writer.now c.write_part.new.writer made.opens.reader.same_key sealed
-          (c.write_part.ensures.standing (c.in-Ok.ensures.tells ∙ text_told) writer_told);
-    })
+    let made = c.in-Ok.ensures in
+    inr (opened-part _ _ _ c.args.text c.in-Ok.stream g.W.Write.appended c.args.count (StandsAt c.args.place) c.args.writer.now c.write_part.new.writer fresh text_told made.opened
+    (c.write_part.ensures.standing (made.tells ∙ text_told) writer_told))
 
 pub returns-clause-given : goal.returns-clause-given
 returns-clause-given g c = λ fresh text_told writer_told.
-    let text = c.args.text in
-    let made = c.in-Ok.ensures.opened in
-    let front = made.asks.front (and-left _ _ text_told) in
-    let sealed = made.opens.reader.sealed ∙ ap (λ (s : Stretch). from_place (g.T.Read.place made.input) s) (made.asks.same_content (and-left _ _ text_told))
-    ∙ left-is (g.T.Read.content text) (g.T.Read.rest text) (g.T.Read.rest made.input) (g.T.Read.place text) (g.T.Read.place made.input) _ fresh front.took.delivered front.took.moved in
-    record {
-      file_key = made.file_key;
-      h = made.h;
-      nonce = made.nonce;
-      left = g.T.Read.rest made.input;
-      text = (_, front);
-      key = made.asks.first;
-      right = made.opens.right;
-      part = some-same g.W.Write.appended c.args.count (IsPartAt c.args.place c.args.count) _ _ _ _ c.args.writer.now c.write_part.new.writer made.opens.reader.same_key sealed
-          (c.in-Ok-write_part.ensures.given (c.in-Ok.ensures.tells ∙ text_told) writer_told);
-    }
+    let made = c.in-Ok.ensures in
+    opened-part _ _ _ c.args.text c.in-Ok.stream g.W.Write.appended c.args.count (IsPartAt c.args.place c.args.count) c.args.writer.now c.write_part.new.writer fresh text_told made.opened
+    (c.in-Ok-write_part.ensures.given (made.tells ∙ text_told) writer_told)
