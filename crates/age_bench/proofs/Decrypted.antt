@@ -7,7 +7,9 @@ use Rattle.age_io.specs.Stretch.{Stretch}
 use Rattle.age_armor.specs.Delivered.{delivered, stretch_of}
 use Rattle.age_format.specs.ReadingHeader.{RefusesHeader}
 use Rattle.age_protocol.specs.Decrypting.{ReadsFront, RefusesFront, LacksNonce, BreaksRule}
-use Rattle.age_bench.specs.Errors.{RefusesKey, RefusesText, BeginsText}
+use Rattle.age_bench.specs.Errors.{DecryptsUnless, RefusesKey, RefusesText, BeginsText}
+use Rattle.age_bench.specs.declared.error.CommandError.{CommandError}
+use Rattle.age_bench.specs.declared.error.CommandError.TheVariants.{Io, Encrypt, Decrypt}
 use Rattle.age_format.specs.HeaderV1.{HeaderValue}
 use Rattle.age_suite.specs.declared.suite.Suite.{Ghosts as SuiteGhosts}
 use Rattle.age_io.specs.declared.traits.Read.{Ghosts}
@@ -74,3 +76,9 @@ begins_text r_tells r_rest reader h nonce tells start left start_place place tol
 pub by_cause : {A B C : Type 0} → (A → C) → (B → C) → A ⊎ B → C
 by_cause f g (inl a) = f a
 by_cause f g (inr b) = g b
+
+-- a refusal of decryption says what follows from what it says
+pub decrypts_weaker : (P Q : DecryptRefusal → Type 0) → ((refusal : DecryptRefusal) → P refusal → Q refusal) → (e : CommandError) → DecryptsUnless P e → DecryptsUnless Q e
+decrypts_weaker P Q f (Decrypt e) d = f (decrypt_refusal e) d
+decrypts_weaker P Q f (Io e) d = tt
+decrypts_weaker P Q f (Encrypt e) d = tt

@@ -1,6 +1,6 @@
 -- Files opened by the identities that they are for.
 use Rattle.std.specs.Prelude.{◌≡◌, ◌⊎◌, ℕ, List, [], ◌∷◌, Result, Some, Ok, Err, IfOk, MatchResult}
-use Rattle.std.proofs.Common.{◌∙◌, sym, subst, inl, inr, arith}
+use Rattle.std.proofs.Common.{◌∙◌, sym, inl, inr, arith}
 use Rattle.age_error.specs.DecryptErrors.{OutOfMemory, decrypt_refusal}
 use Rattle.age_error.specs.declared.decrypt.DecryptError.{DecryptError}
 use Rattle.age_suite.specs.declared.suite.Suite.{Ghosts as SuiteGhosts}
@@ -8,10 +8,10 @@ use Rattle.age_io.specs.declared.traits.Read.{Ghosts}
 use Rattle.age_io.specs.Reading.{IsQuiet}
 use Rattle.age_format.specs.Stanza.{StanzaValue}
 use Rattle.age_format.specs.HeaderV1.{HeaderValue, header_mac}
-use Rattle.age_format.specs.Unwrapping.{UnwrapAnswer, Unwraps}
+use Rattle.age_format.specs.Unwrapping.{UnwrapAnswer}
 use Rattle.age_stream.specs.Payload.{Seal, payload}
 use Rattle.age_stream.specs.declared.reader.StreamReader.{StreamReader}
-use Rattle.age_protocol.specs.Answering.{FirstThatAnswers, decided}
+use Rattle.age_protocol.specs.Answering.{decided}
 use Rattle.age_protocol.specs.File.{BeginsAsFile, IsFileOf, payload_key}
 use Rattle.age_protocol.specs.OpeningFile.{Decrypts, OpensFile, StandsBefore}
 use Rattle.age_bench.proofs.Unwrapped.{BenchUnwraps, key_answered}

@@ -1,5 +1,5 @@
 -- What is appended of a payload stands in its plaintext, however bad the payload is.
-use Rattle.std.specs.Prelude.{◌≡◌, ◌⊎◌, ℕ, ◌+◌, ◌<◌, ◌≤◌, ◌&&◌, Bool, true, IsTrue, List, [], ◌++◌, length, take, drop, Some, Ok}
+use Rattle.std.specs.Prelude.{◌≡◌, ◌⊎◌, ℕ, ◌+◌, ◌<◌, ◌&&◌, Bool, true, IsTrue, List, [], length, take, drop, Some, Ok}
 use Rattle.std.proofs.Common.{◌∙◌, refl, sym, ap, subst, inl, inr, arith, length-append, length-take, take-append-drop}
 use Rattle.std.proofs.lemmas.List.{drop-drop, drop_at}
 use Rattle.age_suite.specs.declared.suite.Suite.{Ghosts as SuiteGhosts}

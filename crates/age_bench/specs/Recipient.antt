@@ -1,5 +1,6 @@
 -- What the bench recipient and the bench identity answer.
-use Rattle.std.specs.Prelude.{◌≡◌, ◌≢◌, ℕ, List, [], ◌∷◌, ◌++◌, Some, None, Ok, Err, if◌then◌else◌, length, take, drop, nat_eq, bytes_eq, codes, All}
+use Rattle.std.specs.Prelude.{◌≡◌, ◌≢◌, ℕ, List, [], ◌∷◌, ◌++◌, Option, Some, None, Ok, Err, if◌then◌else◌, length, take, drop, nat_eq, bytes_eq, codes, All}
+use Rattle.std.specs.Option.{option_or}
 use Rattle.age_error.specs.DecryptErrors.{InvalidHeader}
 use Rattle.age_format.specs.Stanza.{StanzaValue}
 use Rattle.age_format.specs.Wrapping.{Wrapped}
@@ -23,6 +24,15 @@ bench_unwrapped stanza =
     (if nat_eq (length stanza.body) 16 then Some (Ok stanza.body) else Some (Err InvalidHeader))
     else Some (Err InvalidHeader))
     else None
+
+-- the first answer that isn't None
+abbrev pub first_answer : {X A : Type 0} → (X → Option A) → List X → Option A
+first_answer f [] = None
+first_answer f (x ∷ xs) = option_or (f x) (first_answer f xs)
+
+-- what the bench identity answers to the stanzas of a header
+abbrev pub bench_answer : List StanzaValue → UnwrapAnswer
+bench_answer stanzas = first_answer bench_unwrapped stanzas
 
 -- the stanza that each file of the program has besides those of its recipients
 abbrev pub bench_grease : StanzaValue

@@ -16,7 +16,7 @@ ghost use Rattle.age_error.specs.EncryptErrors.{encrypt_refusal, OutOfMemory};
 ghost use Rattle.age_error.specs.DecryptErrors as decrypt;
 ghost use Rattle.age_bench.specs.Errors.{IsEncryptError, IsDecryptError, EncryptsUnless, DecryptsUnless, RefusesText, BeginsText, RefusesKey};
 ghost use Rattle.age_bench.specs.Parts.{FirstAnswer, IsFileFor, IsFileForBench};
-ghost use Rattle.age_bench.specs.Recipient.{bench_grease, bench_file, HoldsBenchKey};
+ghost use Rattle.age_bench.specs.Recipient.{bench_grease, bench_file, bench_answer, HoldsBenchKey};
 
 use crate::copying::copy_all;
 use crate::error::CommandError;
@@ -103,7 +103,8 @@ fn write_file<R: Read, W: Write + Drop>(
 ///
 /// A success says that the input carried a file of exactly what was appended, under the file key of the first identity
 /// that answered. After a refusal of the header, or of the armor before its end, nothing was appended; after a later one a
-/// beginning of what the good chunks open to. Fewer than 36 bytes are `UnexpectedEof`, whatever they are.
+/// beginning of what the good chunks open to. The refusals are `Decrypt` of `open_file`, and `Io` of `ArmoredReader::new`, by
+/// which fewer than 36 bytes are `UnexpectedEof`, whatever they are, and of `copy_all`.
 pub fn decrypt_all<I: Identity, R: Read, W: Write>(
     alloc: Global,
     identities: &mut [I],
@@ -195,6 +196,11 @@ pub fn decrypt_with<R: Read, W: Write>(
         × IsFileOf bench_seal file_key stanzas plain bytes
         × W.appended writer.old plain writer.new) }
     ensures refused { IfErr result (λ e. IsDecryptError e → writer.new ≡ writer.old) }
+    ensures why { IfErr result (λ e. DecryptsUnless (λ refusal.
+        ((last : R) × RefusesText R.tells R.rest R.faults reader.old last refusal)
+        ⊎ ((h : HeaderValue) × (nonce : List ℕ) × (left : Stretch)
+        × BeginsText R.tells R.rest reader.old h nonce left
+        × RefusesKey (decided (bench_answer h.stanzas)) h refusal)) e) }
     ensures front { IsTrue (R.tells reader.old && R.steady reader.old) → IsTrue (W.tells writer.old) → (writer.new ≡ writer.old)
         ⊎ ((file_key : List ℕ) × (h : HeaderValue) × (nonce : List ℕ) × (left : Stretch)
         × BeginsText R.tells R.rest reader.old h nonce left

@@ -1,5 +1,5 @@
 //! The command on a part of a file's plaintext.
-ghost use Rattle.std.specs.Prelude.{◌≡◌, ◌≢◌, ◌⊎◌, ℕ, ◌<◌, ◌≤◌, ◌&&◌, true, ⊤, IsTrue, List, length, take, drop, Some, Ok, IfOk, IfErr, OnOk, MatchResult};
+ghost use Rattle.std.specs.Prelude.{◌≡◌, ◌≢◌, ◌⊎◌, ℕ, ◌<◌, ◌≤◌, ◌&&◌, true, ⊤, IsTrue, List, length, take, drop, Some, Ok, IfErr, OnOk, MatchResult};
 ghost use Rattle.age_error.specs.Refusals.{IsDevice};
 ghost use Rattle.age_error.specs.declared.io.Error.TheVariants.{PastEnd, OutOfMemory};
 ghost use Rattle.age_error.specs.declared.io.SeekFrom.TheVariants.{Start};

@@ -1,5 +1,5 @@
 -- What reads can still deliver stands in the plaintext, also where the payload is bad.
-use Rattle.std.specs.Prelude.{◌≡◌, ◌⊎◌, ℕ, ◌+◌, ◌-◌, ◌*◌, ◌/◌, ◌<◌, ◌≤◌, Option, Some, Ok, Err, Result, Bool, ◌&&◌, true, false, cond, List, [], ◌∷◌, ◌++◌, length, take, drop, min}
+use Rattle.std.specs.Prelude.{◌≡◌, ◌⊎◌, ℕ, ◌+◌, ◌-◌, ◌*◌, ◌/◌, ◌<◌, ◌≤◌, Option, Some, Ok, Err, Result, Bool, ◌&&◌, true, false, cond, List, [], ◌∷◌, ◌++◌, length, take, drop}
 use Rattle.std.proofs.Common.{zero, suc, get_or, refl, sym, ap, subst, ◌∙◌, inl, inr, arith, length-append, length-drop, length-take}
 use Rattle.std.proofs.Math.Seq.{drop-nil}
 use Rattle.std.proofs.lemmas.Bool.{cases_lt, true≢false}
@@ -12,10 +12,10 @@ use Rattle.age_io.specs.Stretch.{Stretch, nothing, from_place}
 use Rattle.age_io.specs.Reading.{StandsIn}
 use Rattle.age_stream.specs.Payload.{Seal, chunk}
 use Rattle.age_stream.specs.Opening.{shorter}
-use Rattle.age_stream.specs.Chunks.{Chunk, is_empty, chunk_of, after_chunk, after_last, delivers, delivered, prepend}
+use Rattle.age_stream.specs.Chunks.{Chunk, is_empty, chunk_of, after_chunk, after_last, delivers, delivered}
 use Rattle.age_stream.specs.WellLaws.{accepted, delivered-nothing, well-length-by}
 use Rattle.age_stream.specs.Reading.{payload_at, text_at, behind, rest_of, IsHeld, IsPast, IsBefore, IsSound}
-use Rattle.age_stream.specs.ReadingLaws.{taken-rest, at_full_end}
+use Rattle.age_stream.specs.ReadingLaws.{taken-rest}
 use Rattle.age_stream.specs.Answering.{IsHeldAs, IsByteAt, StandAt, IsGoodEnd}
 use Rattle.age_stream.proofs.Judged.{judged-middle, judged-last, ends_last}
 use Rattle.age_stream.proofs.Lengths.{plain_len-last}

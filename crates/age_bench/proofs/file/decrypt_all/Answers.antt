@@ -1,4 +1,4 @@
-use Rattle.std.proofs.Common.{◌≡◌, ◌∙◌, ap, sym, refl, subst, List, ℕ, inl, inr}
+use Rattle.std.proofs.Common.{◌≡◌, ◌∙◌, ap, sym, refl, subst, inl, inr}
 use Rattle.age_io.specs.Stretch.{Stretch, whole, stretch-ext}
 use Rattle.age_io.specs.Buffered as buffered
 use Rattle.age_armor.specs.Reader.{inner_of, armored_rest}

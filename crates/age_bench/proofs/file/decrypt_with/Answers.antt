@@ -1,8 +1,9 @@
 use Rattle.std.proofs.Common.{inl, inr}
-use Rattle.std.proofs.lemmas.Result.{on_ok_weaker}
-use Rattle.age_bench.proofs.Decrypted.{by_cause}
+use Rattle.std.proofs.lemmas.Result.{on_ok_weaker, IfErr-weaker}
+use Rattle.age_bench.specs.Errors.{RefusesText, BeginsText}
+use Rattle.age_bench.proofs.Decrypted.{by_cause, decrypts_weaker}
 use Rattle.age_bench.proofs.Opened.{for_bench}
-use Rattle.age_bench.proofs.Unwrapped.{key_given}
+use Rattle.age_bench.proofs.Unwrapped.{key_given, one_refuses}
 use Rattle.age_bench.proofs.file.decrypt_with.Goals as goal
 
 pub returns-clause-file : goal.returns-clause-file
@@ -27,3 +28,11 @@ returns-clause-front g c = λ reader_told writer_told.
     let (key, h, nonce, left, begins, decides, right, appended) = opened in
     inr (key, h, nonce, left, begins, key_given _ h.stanzas key _ decides, right, appended))
     (c.decrypt_all.ensures.front reader_told writer_told)
+
+pub returns-clause-why : goal.returns-clause-why
+returns-clause-why g c =
+    let reader = c.args.reader.now in
+    IfErr-weaker c.decrypt_all.result _ _
+    (decrypts_weaker _ _ (one_refuses (λ refusal. (last : g.row.R.Denot) × RefusesText g.R.Read.tells g.R.Read.rest g.R.Read.faults reader last refusal)
+    (BeginsText g.R.Read.tells g.R.Read.rest reader) (record {}) c.decrypt_all.new.identities))
+    c.decrypt_all.ensures.why
