@@ -1,7 +1,7 @@
 use Rattle.std.proofs.Common.{◌≡◌, ◌<◌, ◌^◌, length}
 use Rattle.std.specs.Option.{option_and_then}
-use Rattle.agebench.specs.Decimal.{digits_after, digits_number, within_64}
-use Rattle.agebench.proofs.number.parse_digits.Given as goal
+use Rattle.agebench_command.specs.Decimal.{digits_after, digits_number, within_64}
+use Rattle.agebench_command.proofs.number.parse_digits.Given as goal
 
 -- what the text writes is what the rest of it writes after the number so far
 abbrev pub invariant-digits : goal.invariant-digits

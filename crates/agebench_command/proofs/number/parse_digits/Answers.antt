@@ -1,9 +1,9 @@
 use Rattle.std.proofs.Common.{rules, ◌≡◌, ◌∙◌, sym, ap, List, ℕ, None}
 use Rattle.std.specs.Option.{option_and_then}
 use Rattle.std.proofs.lemmas.List.{nil_from_length}
-use Rattle.agebench.specs.Decimal.{decimal_digit, digits_after, digits_number, within_64}
-use Rattle.agebench.proofs.Numbers.{no_number, digit_more, digits_done}
-use Rattle.agebench.proofs.number.parse_digits.Goals as goal
+use Rattle.agebench_command.specs.Decimal.{decimal_digit, digits_after, digits_number, within_64}
+use Rattle.agebench_command.proofs.Numbers.{no_number, digit_more, digits_done}
+use Rattle.agebench_command.proofs.number.parse_digits.Goals as goal
 
 pub returns-in_err-number : goal.returns-in_err-number
 returns-in_err-number c =

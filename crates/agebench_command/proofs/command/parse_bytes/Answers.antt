@@ -1,6 +1,6 @@
 use Rattle.std.proofs.Common.{◌≡◌, ◌+◌, ◌*◌, sym, arith}
-use Rattle.agebench.proofs.Hex.{odd, byte_more, text_done}
-use Rattle.agebench.proofs.command.parse_bytes.Goals as goal
+use Rattle.agebench_command.proofs.Hex.{odd, byte_more, text_done}
+use Rattle.agebench_command.proofs.command.parse_bytes.Goals as goal
 
 pub returns-then-text-ne0 : goal.returns-then-text-ne0
 returns-then-text-ne0 c = sym (odd c.args.text.now c.if-text-ne0.true)

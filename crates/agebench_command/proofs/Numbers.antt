@@ -3,7 +3,7 @@ use Rattle.std.specs.Prelude.{◌≡◌, ℕ, ◌+◌, ◌*◌, ◌^◌, ◌<◌
 use Rattle.std.specs.Option.{option_and_then}
 use Rattle.std.proofs.Common.{arith, ap}
 use Rattle.std.proofs.lemmas.Bool.Decides.{nat_tests}
-use Rattle.agebench.specs.Decimal.{decimal_digit, digits_after, within_64}
+use Rattle.agebench_command.specs.Decimal.{decimal_digit, digits_after, within_64}
 
 chosen : (b : Bool) (k m : ℕ) → ◌≡◌ {A = Option ℕ} (if b then Some k else None) (Some m) → k ≡ m
 chosen true k m is = Prim.cc

@@ -1,7 +1,7 @@
 -- How many words ask for something.
 use Rattle.std.specs.Prelude.{◌≡◌, ℕ, ◌<◌, List, [], ◌∷◌, length, map, None, refl}
 use Rattle.std.proofs.Common.{arith}
-use Rattle.agebench.specs.Command.{parsed, many_words}
+use Rattle.agebench_command.specs.Command.{parsed, many_words}
 
 module _ {Word : Type 0} (bytes : Word → List ℕ) where
   -- what isn't two words is three or more, if anything

@@ -1,7 +1,7 @@
 use Rattle.std.proofs.Common.{◌≡◌, ◌*◌, drop}
-use Rattle.agebench.specs.Command.{bytes_of}
-use Rattle.agebench.proofs.Hex.{prepended}
-use Rattle.agebench.proofs.command.parse_bytes.Given as goal
+use Rattle.agebench_command.specs.Command.{bytes_of}
+use Rattle.agebench_command.proofs.Hex.{prepended}
+use Rattle.agebench_command.proofs.command.parse_bytes.Given as goal
 
 -- the text writes the bytes so far, and then what the rest of it writes
 abbrev pub invariant-loop-i : goal.invariant-loop-i

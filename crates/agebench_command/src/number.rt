@@ -1,7 +1,7 @@
 //! Decimal numbers in the words of a command line.
 ghost use Rattle.std.specs.Prelude.{◌≡◌, ◌+◌, ◌*◌, ◌^◌, ◌<◌, IfSome};
 ghost use Rattle.std.specs.Option.{option_and_then};
-ghost use Rattle.agebench.specs.Decimal.{decimal_digit, digits_number, number_of, within_64};
+ghost use Rattle.agebench_command.specs.Decimal.{decimal_digit, digits_number, number_of, within_64};
 
 // The value of a decimal digit.
 fn decimal_value(digit: u8) -> Option<u64>

@@ -1,7 +1,7 @@
 //! What the words of a command line ask for.
 
 ghost use Rattle.std.specs.Prelude.{◌≡◌, ◌<◌, map, string_bytes, vec_items, IfOk, IfSome, option_map};
-ghost use Rattle.agebench.specs.Command.{at_of, bytes_of, byte_of, command_value, digit_of, encrypt_of, format_of, key_of, many_words, named, parsed, to_of, two_words, with_of};
+ghost use Rattle.agebench_command.specs.Command.{at_of, bytes_of, byte_of, command_value, digit_of, encrypt_of, format_of, key_of, many_words, named, parsed, to_of, two_words, with_of};
 
 use crate::number::parse_number;
 use age::armor::Format;

@@ -6,7 +6,7 @@ use Rattle.std.proofs.Math.ListN.{drop_of_length-le}
 use Rattle.std.proofs.lemmas.List.{drop_more, append_assoc, append-nil}
 use Rattle.std.proofs.lemmas.Option.{none-some, same_Some}
 use Rattle.std.proofs.lemmas.Bool.Decides.{nat_tests}
-use Rattle.agebench.specs.Command.{byte_of, bytes_of, key_of}
+use Rattle.agebench_command.specs.Command.{byte_of, bytes_of, key_of}
 
 -- what a text writes, after bytes that are known
 abbrev pub prepended : List ℕ → Option (List ℕ) → Option (List ℕ)
