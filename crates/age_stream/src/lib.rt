@@ -6,6 +6,5 @@ pub mod laws;
 pub mod nonce;
 pub mod reader;
 mod seeking;
-pub mod whole;
 pub mod writer;
 mod writing;
