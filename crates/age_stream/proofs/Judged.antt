@@ -10,7 +10,7 @@ use Rattle.age_error.specs.declared.io.Error.TheVariants.{Truncated, BadChunk, A
 use Rattle.age_io.specs.Stretch.{Stretch, whole, from_place, stretch-ext}
 use Rattle.age_suite.specs.Suite.{IsCipher}
 use Rattle.age_stream.specs.Payload.{Seal, nonce, cut, chunk, final_chunk, EndsAsLast, HeldAsMiddle, HeldAsLast}
-use Rattle.age_stream.specs.Opening.{nonce-bytes}
+use Rattle.age_stream.specs.OpeningLaws.{nonce-bytes}
 use Rattle.age_stream.specs.Chunks.{Chunk, is_empty, allowed, allowed_if, opened_as, chunk_of}
 use Rattle.age_stream.specs.WellLaws.{Accepted, accepted}
 use Rattle.age_stream.specs.Reading.{text_at}

@@ -11,7 +11,7 @@ use Rattle.age_suite.specs.Suite.{IsCipher}
 use Rattle.age_io.specs.Stretch.{Stretch, nothing, from_place}
 use Rattle.age_io.specs.Reading.{StandsIn}
 use Rattle.age_stream.specs.Payload.{Seal, chunk}
-use Rattle.age_stream.specs.Opening.{shorter}
+use Rattle.age_stream.specs.OpeningLaws.{shorter}
 use Rattle.age_stream.specs.Chunks.{Chunk, is_empty, chunk_of, after_chunk, after_last, delivers, delivered}
 use Rattle.age_stream.specs.WellLaws.{accepted, delivered-nothing, well-length-by}
 use Rattle.age_stream.specs.Reading.{payload_at, text_at, behind, rest_of, IsHeld, IsPast, IsBefore, IsSound}

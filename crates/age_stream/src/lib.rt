@@ -6,6 +6,7 @@ pub mod laws;
 pub mod nonce;
 pub mod reader;
 mod seeking;
+pub mod sizes;
 pub mod whole;
 pub mod writer;
 mod writing;
