@@ -1,11 +1,18 @@
 #!/usr/bin/env bash
 # The whole gate: every proof from nothing, the edits that must be refused, the tests and the program's stored run, and
-# then the program on damaged input, with failing memory, reads and writes. The last line counts all of them.
+# then that program on damaged input, with failing memory, reads and writes. Each line begins with the minutes and seconds
+# since the start; the last line counts all of them.
 set -uo pipefail
 cd "$(dirname "$0")"
 log=$(mktemp -d)
 trap 'rm -rf "$log"' EXIT
 status=0
+
+stamped() {
+    while IFS= read -r line; do
+        printf '%3d:%02d %s\n' $((SECONDS / 60)) $((SECONDS % 60)) "$line"
+    done
+}
 
 # `rt ci` passes over a line of an edit that is none of these three, and would try less than the edit says.
 if grep -rnvE --include='*.edit' '^(file: |old: |new:)' crates; then
@@ -14,13 +21,15 @@ if grep -rnvE --include='*.edit' '^(file: |old: |new:)' crates; then
     exit 1
 fi
 
-rt ci 2>&1 | tee "$log/gate" || status=1
+rt ci 2>&1 | tee "$log/gate" | stamped || status=1
 gate=$(grep -E '^[0-9]+ passed, [0-9]+ failed$' "$log/gate" | tail -n 1)
 [ -n "$gate" ] || { gate='0 passed, 1 failed'; status=1; }
 
+# (the program that the gate built just now: it sets aside what stood there before)
+program=crates/agebench/out/agebench
 echo "The program with failing memory, reads and writes, and on damaged payloads:"
-if ./agebench seal "$(printf '00%.0s' {1..32})" </dev/null >/dev/null; then
-    python3 faults/run.py crates/agebench/out/agebench 2>&1 | tee "$log/faults" || status=1
+if [ -x "$program" ]; then
+    python3 faults/run.py "$program" 2>&1 | tee "$log/faults" | stamped || status=1
 fi
 faults=$(grep -E '^[0-9]+ passed, [0-9]+ failed$' "$log/faults" 2>/dev/null | tail -n 1)
 [ -n "$faults" ] || { faults='0 passed, 1 failed'; status=1; }
@@ -32,5 +41,6 @@ failed=$((gate_failed + faults_failed))
 [ "$status" -eq 0 ] || [ "$failed" -gt 0 ] || failed=1
 echo "gate: $gate"
 echo "faults: $faults"
+echo "$((SECONDS / 60)) minutes on $(nproc) processors"
 echo "$((gate_passed + faults_passed)) passed, $failed failed"
 exit "$status"

@@ -1,29 +1,88 @@
+-- the types that the definitions speak of, and what traits say of theirs
+pub mod Types
+pub mod Members
+-- variants, by the enum that has them
+pub use Rattle.age_error.specs.declared.io.Error.TheVariants as ErrorVariants
+pub use Rattle.age_error.specs.declared.io.ErrorKind.TheVariants as ErrorKindVariants
+pub use Rattle.age_error.specs.declared.io.ArmoredReadError.TheVariants as ArmoredReadErrorVariants
+pub use Rattle.age_error.specs.declared.io.SeekFrom.TheVariants as SeekFromVariants
+pub use Rattle.age_error.specs.declared.suite.ScryptError.TheVariants as ScryptErrorVariants
+pub use Rattle.age_error.specs.declared.encrypt.EncryptError.TheVariants as EncryptErrorVariants
+pub use Rattle.age_error.specs.declared.decrypt.DecryptError.TheVariants as DecryptErrorVariants
+pub use Rattle.age_error.specs.declared.resolve.ResolveError.TheVariants as ResolveErrorVariants
+pub use Rattle.age_io.specs.declared.operations.Op.TheVariants as OpVariants
+pub use Rattle.age_io.specs.declared.operations.Answer.TheVariants as AnswerVariants
+pub use Rattle.age_armor.specs.declared.format.Format.TheVariants as FormatVariants
+-- bytes, and what refusals say: age_error
 pub use Rattle.age_error.specs.Bytes
-pub use Rattle.age_error.specs.DecryptErrors
-pub use Rattle.age_error.specs.EncryptErrors
 pub use Rattle.age_error.specs.Refusals
-pub use Rattle.age_suite.specs.Draw
-pub use Rattle.age_suite.specs.Mac
+pub use Rattle.age_error.specs.Messages
+pub use Rattle.age_error.specs.LongMessages
+pub use Rattle.age_error.specs.Labels
+pub use Rattle.age_error.specs.EncryptErrors
+pub use Rattle.age_error.specs.DecryptErrors
+pub use Rattle.age_error.specs.ResolveErrors
+-- primitives: age_suite
 pub use Rattle.age_suite.specs.Suite
-pub use Rattle.age_io.specs.Cursor
-pub use Rattle.age_io.specs.Reading
-pub use Rattle.age_io.specs.Replies
+pub use Rattle.age_suite.specs.Mac
+pub use Rattle.age_suite.specs.Draw
+-- readers and writers: age_io
 pub use Rattle.age_io.specs.Stretch
+pub use Rattle.age_io.specs.Reading
+pub use Rattle.age_io.specs.Filling
+pub use Rattle.age_io.specs.Failing
 pub use Rattle.age_io.specs.Writing
+pub use Rattle.age_io.specs.Cursor
+pub use Rattle.age_io.specs.Replies
+pub use Rattle.age_io.specs.Slices
+pub use Rattle.age_io.specs.Buffering
+pub use Rattle.age_io.specs.Buffered
+pub use Rattle.age_io.specs.Standard
+pub use Rattle.age_io.specs.StandardFaults
+-- base64: age_base64
+pub use Rattle.age_base64.specs.Base64
+pub use Rattle.age_base64.specs.Lines
+-- armor: age_armor
 pub use Rattle.age_armor.specs.Armor
-pub use Rattle.age_armor.specs.Delivered
+pub use Rattle.age_armor.specs.FullLines as ArmorFullLines
 pub use Rattle.age_armor.specs.LineVerdict
+pub use Rattle.age_armor.specs.FirstFault
+pub use Rattle.age_armor.specs.Delivered
+pub use Rattle.age_armor.specs.DeliveredLaws as ArmorDeliveredLaws
+pub use Rattle.age_armor.specs.Stages as ArmorStages
+pub use Rattle.age_armor.specs.Ending as ArmorEnding
+pub use Rattle.age_armor.specs.Reader as ArmorReader
+pub use Rattle.age_armor.specs.Seeking as ArmorSeeking
 pub use Rattle.age_armor.specs.Writing as ArmorWriting
+-- payloads: age_stream
+pub use Rattle.age_stream.specs.Payload
+pub use Rattle.age_stream.specs.Chunks
+pub use Rattle.age_stream.specs.FrontToEnd
+pub use Rattle.age_stream.specs.Answering as StreamAnswering
+pub use Rattle.age_stream.specs.Targets as StreamTargets
+pub use Rattle.age_stream.specs.Reader as StreamReader
+pub use Rattle.age_stream.specs.ReadingLaws as StreamReadingLaws
+pub use Rattle.age_stream.specs.Writing as StreamWriting
+pub use Rattle.age_stream.specs.Laws as StreamLaws
+-- headers: age_format
+pub use Rattle.age_format.specs.Bytes as FormatBytes
+pub use Rattle.age_format.specs.Stanza
 pub use Rattle.age_format.specs.Header
+pub use Rattle.age_format.specs.Verdict
 pub use Rattle.age_format.specs.HeaderV1
 pub use Rattle.age_format.specs.ReadingHeader
-pub use Rattle.age_format.specs.Stanza
-pub use Rattle.age_format.specs.Unwrapping
-pub use Rattle.age_format.specs.Verdict
 pub use Rattle.age_format.specs.Wrapping
-pub use Rattle.age_protocol.specs.Answering
-pub use Rattle.age_protocol.specs.Decrypting
+pub use Rattle.age_format.specs.Unwrapping
+pub use Rattle.age_format.specs.Boxed
+-- files: age_protocol
+pub use Rattle.age_protocol.specs.Labels as RecipientLabels
 pub use Rattle.age_protocol.specs.Encrypting
+pub use Rattle.age_protocol.specs.Answers
+pub use Rattle.age_protocol.specs.Starting
 pub use Rattle.age_protocol.specs.File
+pub use Rattle.age_protocol.specs.Decryptor
+pub use Rattle.age_protocol.specs.Decrypting
+pub use Rattle.age_protocol.specs.Answering
 pub use Rattle.age_protocol.specs.OpeningFile
-pub use Rattle.age_stream.specs.Payload
+pub use Rattle.age_protocol.specs.WholeFiles
+pub use Rattle.age_protocol.specs.Laws as FileLaws

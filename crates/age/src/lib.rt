@@ -1,6 +1,8 @@
 //! Encrypted files of the format age-encryption.org/v1, proved.
 //!
-//! This crate only passes on what the crates below it have, under the paths that a user names.
+//! This crate only passes on what the crates below it have, under the paths that a user names. So a crate that names `age`
+//! alone has all that a contract here speaks of: the definitions stand under `Rattle.age.specs`, and what is true of them is
+//! cited by calling the functions of the modules `laws`, which do nothing.
 #![tactic(auto)]
 
 pub use age_error::decrypt::DecryptError;
@@ -10,24 +12,48 @@ pub use age_protocol::decryptor::Decryptor;
 pub use age_protocol::encryptor::Encryptor;
 pub use age_protocol::simple::{decrypt, encrypt, encrypt_and_armor};
 
+/// What is true of files, for proofs alone.
+pub mod laws {
+    pub use age_protocol::laws::{
+        carried_files, file_opens, files_carry_themselves, front_is_accepted, front_reads_back,
+        labels_are_sets, one_plaintext,
+    };
+}
+
 /// Readers, writers and their refusals.
 pub mod io {
     pub use age_error::io::{Error, ErrorKind, SeekFrom};
     pub use age_io::{
-        Answer, BufRead, BufReader, Bytes, Op, Read, Seek, Std, Write, read_exact, read_to_end,
-        run, write_all,
+        Answer, BufRead, BufReader, Bytes, Op, Read, Seek, Std, Write, fill, flush_retrying,
+        is_outside, place_at, read_exact, read_retrying, read_to_end, room_for, run, seek_retrying,
+        sought, unrefused, write_all, write_retrying,
     };
+
+    /// What is true of a cursor on a list, for proofs alone.
+    pub mod laws {
+        pub use age_io::cursor_laws;
+    }
 }
 
 /// The primitives that a user hands in, with their laws.
 pub mod suite {
     pub use age_error::suite::ScryptError;
     pub use age_suite::suite::{Opens, Suite};
+
+    /// What is true of bytes, for proofs alone.
+    pub mod laws {
+        pub use age_error::bytes::{known_array, known_bytes};
+    }
 }
 
 /// Message authentication and the derivation of keys.
 pub mod mac {
     pub use age_suite::mac::{HmacWriter, hkdf, hmac};
+
+    /// What is true of MACs and derived keys, for proofs alone.
+    pub mod laws {
+        pub use age_suite::mac::mac_laws;
+    }
 }
 
 /// Random bytes that are handed in.
@@ -42,13 +68,29 @@ pub mod secrecy {
 
 /// Stanzas and headers.
 pub mod format {
-    pub use age_format::{Grease, HeaderV1, Stanza};
+    pub use age_format::{Grease, HeaderV1, Stanza, is_string};
+
+    /// What is true of stanzas and headers, for proofs alone.
+    pub mod laws {
+        pub use age_format::{
+            canonical_text_is_text, canonical_text_reads_back, covered_front,
+            equal_stanzas_are_same, header_text_reads_back, header_text_tells, verdict_is_unique,
+        };
+    }
 }
 
 /// The ASCII form of a file.
 pub mod armor {
     pub use age_armor::{ArmoredReader, ArmoredWriter, Format};
     pub use age_error::io::ArmoredReadError;
+
+    /// What is true of texts in armor, for proofs alone.
+    pub mod laws {
+        pub use age_armor::{
+            armor_is_carrying, armor_is_text, armor_length, carried_is_delivered,
+            carried_is_unique, delivered_is_carried, first_fault_is_unique, verdict_is_unique,
+        };
+    }
 }
 
 /// What a plugin's name is refused with.
@@ -58,6 +100,15 @@ pub mod plugin {
 
 /// The payload of a file: the plaintext in sealed chunks.
 pub mod stream {
+    pub use age_stream::nonce::nonce_of;
     pub use age_stream::reader::StreamReader;
-    pub use age_stream::writer::StreamWriter;
+    pub use age_stream::sizes::{CHUNK, LONGEST_PLAINTEXT, MOST_CHUNKS, PIECE};
+    pub use age_stream::writer::{ChunkRoom, StreamWriter};
+
+    /// What is true of payloads, of their readers and of their writers, for proofs alone.
+    pub mod laws {
+        pub use age_stream::laws::{
+            delivery_laws, payload_laws, piece_law, reader_law, writer_law,
+        };
+    }
 }

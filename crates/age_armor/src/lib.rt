@@ -3,25 +3,17 @@
 
 mod counted;
 mod decoding;
-#[cfg(test)]
-mod definition_tests;
 mod encoding;
 mod format;
 mod gathering;
 mod judging;
 mod laws;
 mod reader;
-#[cfg(test)]
-mod reader_tests;
-#[cfg(test)]
-mod seek_tests;
 mod seeking;
 mod sending;
 mod showing;
 mod stages;
 mod writer;
-#[cfg(test)]
-mod writer_tests;
 mod writing;
 
 pub use format::Format;

@@ -5,19 +5,19 @@ use Rattle.std.proofs.Common.{ap, arith, inr, length-append, length-drop, subst}
 use Rattle.std.proofs.lemmas.Bool.{and_parts, ltb-true}
 use Rattle.std.proofs.lemmas.List.{length-take-le}
 use Rattle.std.proofs.lemmas.List.Elements.{All-nil, All-cons, All-append, All-take, All-drop}
-use Rattle.age_error.specs.Bytes.{AreBytes}
-use Rattle.age_base64.specs.Base64.{columns}
-use Rattle.age_base64.specs.Lines.{line, pieces_and_rest}
-use Rattle.age_base64.proofs.Columns.{IsSymbol, columns_symbols}
-use Rattle.age_armor.specs.Armor.{armor, begin_marker, Carries}
-use Rattle.age_armor.specs.declared.format.Format.TheVariants.{Binary, AsciiArmor}
-use Rattle.age_armor.specs.Writing.{text_of}
-use Rattle.age_format.specs.Stanza.{StanzaValue, stanza_text, first_line, body_text}
-use Rattle.age_format.specs.Header.{version_line, mac_line, covered_text, header_text}
-use Rattle.age_format.specs.HeaderV1.{header_mac}
-use Rattle.age_stream.specs.Payload.{payload}
-use Rattle.age_stream.specs.Laws.{PayloadLength}
-use Rattle.age_protocol.specs.File.{file_front, file_text, payload_key, IsFileOf}
+use Rattle.age.specs.Bytes.{AreBytes}
+use Rattle.age.specs.Base64.{columns}
+use Rattle.age.specs.Lines.{line, pieces_and_rest}
+use Rattle.age.proofs.Columns.{IsSymbol, columns_symbols}
+use Rattle.age.specs.Armor.{armor, begin_marker, Carries}
+use Rattle.age.specs.FormatVariants.{Binary, AsciiArmor}
+use Rattle.age.specs.ArmorWriting.{text_of}
+use Rattle.age.specs.Stanza.{StanzaValue, stanza_text, first_line, body_text}
+use Rattle.age.specs.Header.{version_line, mac_line, covered_text, header_text}
+use Rattle.age.specs.HeaderV1.{header_mac}
+use Rattle.age.specs.Payload.{payload}
+use Rattle.age.specs.StreamLaws.{PayloadLength}
+use Rattle.age.specs.File.{file_front, file_text, payload_key, IsFileOf}
 use Rattle.age_bench.specs.Bench.{bench_seal}
 use Rattle.age_bench.specs.Recipient.{bench_stanza, bench_grease, bench_file}
 use Rattle.age_bench.specs.FileLaws.{IsCarried, GivesBack}

@@ -1,22 +1,21 @@
 -- What a refusal says of the identities and of the text.
 use Rattle.std.specs.Prelude.{◌≡◌, ◌⊎◌, ◌≤◌, ◌<◌, ℕ, Bool, ◌&&◌, IsTrue, List, Result, Ok, Err, IfErr}
 use Rattle.std.proofs.Common.{◌∙◌, inl, inr, subst}
-use Rattle.age_error.specs.declared.decrypt.DecryptError.{DecryptError}
-use Rattle.age_error.specs.DecryptErrors.{DecryptRefusal, decrypt_refusal}
-use Rattle.age_io.specs.Stretch.{Stretch}
-use Rattle.age_armor.specs.Delivered.{delivered, stretch_of}
-use Rattle.age_format.specs.ReadingHeader.{RefusesHeader}
-use Rattle.age_protocol.specs.Decrypting.{ReadsFront, RefusesFront, LacksNonce, BreaksRule}
+use Rattle.age.specs.Types.{DecryptError}
+use Rattle.age.specs.DecryptErrors.{DecryptRefusal, decrypt_refusal}
+use Rattle.age.specs.Stretch.{Stretch}
+use Rattle.age.specs.Delivered.{delivered, stretch_of}
+use Rattle.age.specs.ReadingHeader.{RefusesHeader}
+use Rattle.age.specs.Decrypting.{ReadsFront, RefusesFront, LacksNonce, BreaksRule}
 use Rattle.age_bench.specs.Errors.{DecryptsUnless, RefusesKey, RefusesText, BeginsText}
 use Rattle.age_bench.specs.declared.error.CommandError.{CommandError}
 use Rattle.age_bench.specs.declared.error.CommandError.TheVariants.{Io, Encrypt, Decrypt}
-use Rattle.age_format.specs.HeaderV1.{HeaderValue}
-use Rattle.age_suite.specs.declared.suite.Suite.{Ghosts as SuiteGhosts}
-use Rattle.age_io.specs.declared.traits.Read.{Ghosts}
-use Rattle.age_stream.specs.declared.reader.StreamReader.{StreamReader}
-use Rattle.age_protocol.specs.OpeningFile.{Decrypts}
+use Rattle.age.specs.HeaderV1.{HeaderValue}
+use Rattle.age.specs.Members.{SuiteMembers, ReadMembers}
+use Rattle.age.specs.Types.{StreamReader}
+use Rattle.age.specs.OpeningFile.{Decrypts}
 
-module _ {S R : Type 0} {suite : SuiteGhosts S} {read : Ghosts R} where
+module _ {S R : Type 0} {suite : SuiteMembers S} {read : ReadMembers R} where
   -- a refusal after an identity has decided has its cause
   pub refused_key : (key : Result (List ℕ) DecryptRefusal) (h : HeaderValue) (nonce : List ℕ) (input : R)
       (result : Result (StreamReader S R suite read) DecryptError) → Decrypts key h nonce input result

@@ -3,19 +3,19 @@ use Rattle.std.specs.Prelude.{◌≡◌, ◌≢◌, ◌<◌, ◌≤◌, ◌^◌,
 use Rattle.std.proofs.Common.{◌∙◌, sym, ap, subst, arith, inl, length-drop}
 use Rattle.std.proofs.lemmas.List.{drop_at, take_at, length-take-le}
 use Rattle.std.proofs.lemmas.List.Elements.{All-nil, All-append, All-head, All-take, All-drop}
-use Rattle.age_error.specs.Bytes.{AreBytes, AreBytesOf}
-use Rattle.age_suite.specs.Mac.{hmac_of}
-use Rattle.age_suite.proofs.Digests.{hmac_of-bytes, hkdf_of-bytes}
-use Rattle.age_format.specs.Stanza.{StanzaValue, IsStanza}
-use Rattle.age_format.specs.Header.{IsHeader, IsHeaderText, covered, covered_text, header_text}
-use Rattle.age_format.specs.HeaderV1.{HeaderValue, header_mac}
-use Rattle.age_format.proofs.Strings.{string_tested}
-use Rattle.age_stream.specs.Payload.{piece, nonce, middle_seals, last_piece, payload}
-use Rattle.age_stream.specs.Laws.{ArePieces, PayloadLength, OnePlaintext, joined}
-use Rattle.age_protocol.specs.File.{IsFileOf, IsReady, payload_key}
-use Rattle.age_protocol.proofs.Accepted.{ReadsAlone, HasOneVerdict}
-use Rattle.age_protocol.proofs.Files.{is_file}
-use Rattle.age_protocol.proofs.OneFile.{one_header, same_payload}
+use Rattle.age.specs.Bytes.{AreBytes, AreBytesOf}
+use Rattle.age.specs.Mac.{hmac_of}
+use Rattle.age.proofs.Digests.{hmac_of-bytes, hkdf_of-bytes}
+use Rattle.age.specs.Stanza.{StanzaValue, IsStanza}
+use Rattle.age.specs.Header.{IsHeader, IsHeaderText, covered, covered_text, header_text}
+use Rattle.age.specs.HeaderV1.{HeaderValue, header_mac}
+use Rattle.age.proofs.Strings.{string_tested}
+use Rattle.age.specs.Payload.{piece, nonce, middle_seals, last_piece, payload}
+use Rattle.age.specs.StreamLaws.{ArePieces, PayloadLength, OnePlaintext, joined}
+use Rattle.age.specs.File.{IsFileOf, IsReady, payload_key}
+use Rattle.age.proofs.Accepted.{ReadsAlone, HasOneVerdict}
+use Rattle.age.proofs.Files.{is_file}
+use Rattle.age.proofs.OneFile.{one_header, same_payload}
 use Rattle.age_bench.specs.Bench.{bench_seal, masked, tag_of}
 use Rattle.age_bench.specs.Recipient.{bench_stanza, bench_grease, bench_file, HoldsBenchKey}
 use Rattle.age_bench.specs.Laws.{masked_twice, masked-bytes}

@@ -1,21 +1,20 @@
 -- Files opened by the identities that they are for.
 use Rattle.std.specs.Prelude.{◌≡◌, ◌⊎◌, ℕ, List, [], ◌∷◌, Result, Some, Ok, Err, IfOk, MatchResult}
 use Rattle.std.proofs.Common.{◌∙◌, sym, inl, inr, arith}
-use Rattle.age_error.specs.DecryptErrors.{OutOfMemory, decrypt_refusal}
-use Rattle.age_error.specs.declared.decrypt.DecryptError.{DecryptError}
-use Rattle.age_suite.specs.declared.suite.Suite.{Ghosts as SuiteGhosts}
-use Rattle.age_io.specs.declared.traits.Read.{Ghosts}
-use Rattle.age_io.specs.Reading.{IsQuiet}
-use Rattle.age_format.specs.Stanza.{StanzaValue}
-use Rattle.age_format.specs.HeaderV1.{HeaderValue, header_mac}
-use Rattle.age_format.specs.Unwrapping.{UnwrapAnswer}
-use Rattle.age_stream.specs.Payload.{Seal, payload}
-use Rattle.age_stream.specs.declared.reader.StreamReader.{StreamReader}
-use Rattle.age_protocol.specs.Answering.{decided}
-use Rattle.age_protocol.specs.File.{BeginsAsFile, IsFileOf, payload_key}
-use Rattle.age_protocol.specs.OpeningFile.{Decrypts, OpensFile, StandsBefore}
+use Rattle.age.specs.DecryptErrors.{OutOfMemory, decrypt_refusal}
+use Rattle.age.specs.Types.{DecryptError}
+use Rattle.age.specs.Members.{SuiteMembers, ReadMembers}
+use Rattle.age.specs.Reading.{IsQuiet}
+use Rattle.age.specs.Stanza.{StanzaValue}
+use Rattle.age.specs.HeaderV1.{HeaderValue, header_mac}
+use Rattle.age.specs.Unwrapping.{UnwrapAnswer}
+use Rattle.age.specs.Payload.{Seal, payload}
+use Rattle.age.specs.Types.{StreamReader}
+use Rattle.age.specs.Answering.{decided}
+use Rattle.age.specs.File.{BeginsAsFile, IsFileOf, payload_key}
+use Rattle.age.specs.OpeningFile.{Decrypts, OpensFile, StandsBefore}
 use Rattle.age_bench.proofs.Unwrapped.{BenchUnwraps, key_answered}
-use Rattle.age_protocol.proofs.Opened.{decided_key}
+use Rattle.age.proofs.Opened.{decided_key}
 use Rattle.age_bench.specs.Opened.{Asks, IsOpened}
 use Rattle.age_bench.specs.Parts.{FirstAnswer, IsFileFor, IsFileForBench}
 
@@ -28,7 +27,7 @@ pub begins : (seal_of : Seal) (file_key : List ℕ) (stanzas : List StanzaValue)
     → BeginsAsFile f.header stanzas f.mac f.nonce (payload seal_of (payload_key file_key f.nonce) plain) text
 begins seal_of file_key stanzas plain text f = record { text = f.text; rule = f.rule; sixteen = f.sixteen; whole = f.whole }
 
-module _ {S R : Type 0} {suite : SuiteGhosts S} {read : Ghosts R} (Never : Type 0) (h : HeaderValue) (nonce file_key plain : List ℕ) (input : R)
+module _ {S R : Type 0} {suite : SuiteMembers S} {read : ReadMembers R} (Never : Type 0) (h : HeaderValue) (nonce file_key plain : List ℕ) (input : R)
     (right : h.mac ≡ header_mac file_key h.covered)
     (stands : (r : StreamReader S R suite read) → OpensFile file_key h nonce input r → StandsBefore plain r) where
   under_key : (result : Result (StreamReader S R suite read) DecryptError) → Decrypts (Ok file_key) h nonce input result
@@ -50,7 +49,7 @@ module _ {S R : Type 0} {suite : SuiteGhosts S} {read : Ghosts R} (Never : Type 
   opened_or_want answer result (inl is) d = under_key result (rw is at d)
   opened_or_want answer result (inr is) d = under_want result (rw is at d)
 
-module _ {I S T : Type 0} {suite : SuiteGhosts S} {read : Ghosts T} (unwraps : I → List StanzaValue → UnwrapAnswer → I → Type 0)
+module _ {I S T : Type 0} {suite : SuiteMembers S} {read : ReadMembers T} (unwraps : I → List StanzaValue → UnwrapAnswer → I → Type 0)
     (old new : List I) (text : T) (h : HeaderValue) (nonce : List ℕ) (input : T) where
   -- what comes of it once the identities were asked
   pub asked : (answer : UnwrapAnswer) (result : Result (StreamReader S T suite read) DecryptError)

@@ -1,17 +1,17 @@
 -- A part of a file's plaintext.
 use Rattle.std.specs.Prelude.{◌≡◌, ◌≢◌, ◌⊎◌, ℕ, ◌≤◌, ◌<◌, Bool, true, false, List, [], length, take, drop, IsTrue, Result, Some, Ok, Err, refl}
 use Rattle.std.proofs.Common.{◌∙◌, sym, ap, subst, inl, inr, arith}
-use Rattle.age_error.specs.DecryptErrors.{OutOfMemory, decrypt_refusal}
-use Rattle.age_error.specs.declared.decrypt.DecryptError.{DecryptError}
-use Rattle.age_error.specs.declared.io.Error.{Error}
-use Rattle.age_error.specs.declared.io.Error.TheVariants as io
-use Rattle.age_io.specs.Stretch.{Stretch, whole}
-use Rattle.age_io.specs.Reading.{IsQuiet}
-use Rattle.age_io.specs.Cursor.{moved_to}
+use Rattle.age.specs.DecryptErrors.{OutOfMemory, decrypt_refusal}
+use Rattle.age.specs.Types.{DecryptError}
+use Rattle.age.specs.Types.{Error}
+use Rattle.age.specs.ErrorVariants as io
+use Rattle.age.specs.Stretch.{Stretch, whole}
+use Rattle.age.specs.Reading.{IsQuiet}
+use Rattle.age.specs.Cursor.{moved_to}
 use Rattle.std.proofs.lemmas.Bool.Decides.{nat_tests}
-use Rattle.age_format.specs.Stanza.{StanzaValue}
-use Rattle.age_format.specs.Unwrapping.{UnwrapAnswer}
-use Rattle.age_protocol.proofs.Accepted.{memory_or_not}
+use Rattle.age.specs.Stanza.{StanzaValue}
+use Rattle.age.specs.Unwrapping.{UnwrapAnswer}
+use Rattle.age.proofs.Accepted.{memory_or_not}
 use Rattle.age_bench.specs.Copying.{AppendsFront}
 use Rattle.age_bench.specs.Parts.{AppendsPart, IsFileFor, IsPastEnd}
 use Rattle.age_bench.specs.declared.error.CommandError.{CommandError}

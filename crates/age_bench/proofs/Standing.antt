@@ -2,23 +2,22 @@
 use Rattle.std.specs.Prelude.{◌≡◌, ◌⊎◌, ℕ, ◌+◌, ◌<◌, ◌&&◌, Bool, true, IsTrue, List, [], length, take, drop, Some, Ok}
 use Rattle.std.proofs.Common.{◌∙◌, refl, sym, ap, subst, inl, inr, arith, length-append, length-take, take-append-drop}
 use Rattle.std.proofs.lemmas.List.{drop-drop, drop_at}
-use Rattle.age_suite.specs.declared.suite.Suite.{Ghosts as SuiteGhosts}
-use Rattle.age_io.specs.declared.traits.Read.{Ghosts}
-use Rattle.age_io.specs.Stretch.{Stretch, from_place, stretch-ext}
-use Rattle.age_io.specs.Reading.{Delivers}
-use Rattle.age_armor.specs.Delivered.{delivered, stretch_of}
-use Rattle.age_armor.specs.DeliveredLaws.{content_of}
-use Rattle.age_format.specs.HeaderV1.{HeaderValue}
-use Rattle.age_format.specs.Stanza.{StanzaValue}
-use Rattle.age_format.specs.Unwrapping.{UnwrapAnswer, Unwraps}
-use Rattle.age_protocol.specs.Decrypting.{ReadsFront}
-use Rattle.age_protocol.specs.Answering.{FirstThatAnswers}
-use Rattle.age_stream.specs.Answering.{StandAt, IsGoodEnd}
-use Rattle.age_stream.specs.Reader.{key_of, payload_of}
-use Rattle.age_stream.specs.ReadingLaws.{and-left}
-use Rattle.age_stream.specs.declared.reader.StreamReader.{StreamReader}
-use Rattle.age_stream.proofs.Standing.{stand-none}
-use Rattle.age_stream.proofs.Remaining.{stand-front}
+use Rattle.age.specs.Members.{SuiteMembers, ReadMembers}
+use Rattle.age.specs.Stretch.{Stretch, from_place, stretch-ext}
+use Rattle.age.specs.Reading.{Delivers}
+use Rattle.age.specs.Delivered.{delivered, stretch_of}
+use Rattle.age.specs.ArmorDeliveredLaws.{content_of}
+use Rattle.age.specs.HeaderV1.{HeaderValue}
+use Rattle.age.specs.Stanza.{StanzaValue}
+use Rattle.age.specs.Unwrapping.{UnwrapAnswer, Unwraps}
+use Rattle.age.specs.Decrypting.{ReadsFront}
+use Rattle.age.specs.Answering.{FirstThatAnswers}
+use Rattle.age.specs.StreamAnswering.{StandAt, IsGoodEnd}
+use Rattle.age.specs.StreamReader.{key_of, payload_of}
+use Rattle.age.specs.StreamReadingLaws.{and-left}
+use Rattle.age.specs.Types.{StreamReader}
+use Rattle.age.proofs.StreamStanding.{stand-none}
+use Rattle.age.proofs.StreamRemaining.{stand-front}
 use Rattle.age_bench.specs.Bench.{bench_seal}
 use Rattle.age_bench.specs.Errors.{BeginsText}
 use Rattle.age_bench.specs.Copying.{AppendsFront, AppendsSome}
@@ -96,7 +95,7 @@ left-is content rest left start place front is delivers moved =
     (sym (delivers.end ∙ ap (λ s. s.ends_well) is))
 
 -- of the payload of a file that was opened in a text of which nothing was read yet
-module _ {I S T W : Type 0} {suite : SuiteGhosts S} {read : Ghosts T} (unwraps : I → List StanzaValue → UnwrapAnswer → I → Type 0)
+module _ {I S T W : Type 0} {suite : SuiteMembers S} {read : ReadMembers T} (unwraps : I → List StanzaValue → UnwrapAnswer → I → Type 0)
     (old new : List I) (text : T) (stream : StreamReader S T suite read) (appended : W → List ℕ → W → Type 0) (count : ℕ)
     (Holds : List ℕ → Stretch → List ℕ → Type 0) (before after : W) where
   pub opened-part : read.rest text ≡ from_place (read.place text) (read.content text) → IsTrue (read.tells text && read.steady text)

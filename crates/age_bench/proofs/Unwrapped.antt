@@ -7,12 +7,12 @@ use Rattle.std.proofs.lemmas.List.{nil_from_length}
 use Rattle.std.proofs.lemmas.List.Elements.{All-nil, All-cons, All-head, All-tail}
 use Rattle.std.proofs.lemmas.Option.{none-some}
 use Rattle.std.proofs.lemmas.Slice.Eq.{bytes_eq-Decides}
-use Rattle.age_error.specs.DecryptErrors.{DecryptRefusal, InvalidHeader}
-use Rattle.age_io.specs.Stretch.{Stretch}
-use Rattle.age_format.specs.HeaderV1.{HeaderValue}
-use Rattle.age_format.specs.Stanza.{StanzaValue}
-use Rattle.age_format.specs.Unwrapping.{UnwrapAnswer, FirstOf, Then, Unwraps}
-use Rattle.age_protocol.specs.Answering.{Decides, FirstThatAnswers, decided}
+use Rattle.age.specs.DecryptErrors.{DecryptRefusal, InvalidHeader}
+use Rattle.age.specs.Stretch.{Stretch}
+use Rattle.age.specs.HeaderV1.{HeaderValue}
+use Rattle.age.specs.Stanza.{StanzaValue}
+use Rattle.age.specs.Unwrapping.{UnwrapAnswer, FirstOf, Then, Unwraps}
+use Rattle.age.specs.Answering.{Decides, FirstThatAnswers, decided}
 use Rattle.age_bench.specs.Errors.{RefusesKey}
 use Rattle.age_bench.specs.Recipient.{bench_stanza, bench_unwrapped, first_answer, bench_answer, HoldsBenchKey}
 

@@ -2,11 +2,11 @@
 use Rattle.std.specs.Prelude.{◌≡◌, ◌⊎◌, ◌≤◌, ℕ, Bool, true, false, List, [], ◌∷◌, length, take, drop, nat_le, Some, None, Result, Ok, Err, if◌then◌else◌, MatchOption, refl}
 use Rattle.std.proofs.Common.{arith, inl, inr, length-drop}
 use Rattle.std.proofs.lemmas.Bool.{leb-true}
-use Rattle.age_error.specs.EncryptErrors.{EncryptRefusal, OutOfMemory, ShortRandom}
-use Rattle.age_format.specs.Wrapping.{WrapAnswer}
-use Rattle.age_protocol.specs.Labels.{Gathered, nothing_yet, judged}
-use Rattle.age_protocol.specs.Encrypting.{Ends, UnlessNoMemory, After, WithDrawn, Prepared, PreparesNonce, PreparesRest, PreparesWith, Prepares}
-use Rattle.age_protocol.specs.File.{file_text}
+use Rattle.age.specs.EncryptErrors.{EncryptRefusal, OutOfMemory, ShortRandom}
+use Rattle.age.specs.Wrapping.{WrapAnswer}
+use Rattle.age.specs.RecipientLabels.{Gathered, nothing_yet, judged}
+use Rattle.age.specs.Encrypting.{Ends, UnlessNoMemory, After, WithDrawn, Prepared, PreparesNonce, PreparesRest, PreparesWith, Prepares}
+use Rattle.age.specs.File.{file_text}
 use Rattle.age_bench.specs.Bench.{bench_seal}
 use Rattle.age_bench.specs.Recipient.{bench_stanza, bench_wrapped, bench_grease, bench_file}
 

@@ -1,12 +1,12 @@
 -- What a command was about when it refused, and why.
 use Rattle.std.specs.Prelude.{◌≡◌, ◌≢◌, ◌⊎◌, ◌≤◌, ◌<◌, ℕ, Bool, IsTrue, List, Result, Ok, Err}
-use Rattle.age_error.specs.DecryptErrors.{DecryptRefusal, IsDeviceRefusal, decrypt_refusal, InvalidMac, OutOfMemory}
-use Rattle.age_error.specs.EncryptErrors.{EncryptRefusal, encrypt_refusal}
-use Rattle.age_io.specs.Stretch.{Stretch}
-use Rattle.age_armor.specs.Delivered.{delivered, stretch_of}
-use Rattle.age_format.specs.HeaderV1.{HeaderValue, header_mac}
-use Rattle.age_format.specs.ReadingHeader.{RefusesHeader}
-use Rattle.age_protocol.specs.Decrypting.{ReadsFront, LacksNonce, BreaksRule}
+use Rattle.age.specs.DecryptErrors.{DecryptRefusal, IsDeviceRefusal, decrypt_refusal, InvalidMac, OutOfMemory}
+use Rattle.age.specs.EncryptErrors.{EncryptRefusal, encrypt_refusal}
+use Rattle.age.specs.Stretch.{Stretch}
+use Rattle.age.specs.Delivered.{delivered, stretch_of}
+use Rattle.age.specs.HeaderV1.{HeaderValue, header_mac}
+use Rattle.age.specs.ReadingHeader.{RefusesHeader}
+use Rattle.age.specs.Decrypting.{ReadsFront, LacksNonce, BreaksRule}
 use Rattle.age_bench.specs.declared.error.CommandError.{CommandError}
 use Rattle.age_bench.specs.declared.error.CommandError.TheVariants.{Encrypt, Decrypt}
 

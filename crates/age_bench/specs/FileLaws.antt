@@ -1,11 +1,11 @@
 -- What is true of the files of the bench recipient.
 use Rattle.std.specs.Prelude.{◌≡◌, ◌≤◌, ℕ, List, [], ◌∷◌, length, take}
-use Rattle.age_error.specs.Bytes.{AreBytes}
-use Rattle.age_armor.specs.Armor.{Carries}
-use Rattle.age_armor.specs.declared.format.Format.{Format}
-use Rattle.age_armor.specs.Writing.{text_of}
-use Rattle.age_format.specs.Stanza.{StanzaValue}
-use Rattle.age_protocol.specs.File.{IsFileOf}
+use Rattle.age.specs.Bytes.{AreBytes}
+use Rattle.age.specs.Armor.{Carries}
+use Rattle.age.specs.Types.{Format}
+use Rattle.age.specs.ArmorWriting.{text_of}
+use Rattle.age.specs.Stanza.{StanzaValue}
+use Rattle.age.specs.File.{IsFileOf}
 use Rattle.age_bench.specs.Bench.{bench_seal}
 use Rattle.age_bench.specs.Recipient.{bench_stanza, bench_grease, bench_file, HoldsBenchKey}
 

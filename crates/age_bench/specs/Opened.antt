@@ -1,16 +1,15 @@
 -- What opening the file of a text comes to, whatever the text is.
 use Rattle.std.specs.Prelude.{◌≡◌, ◌⊎◌, ℕ, Bool, IsTrue, List, Some, Ok}
-use Rattle.age_error.specs.DecryptErrors.{DecryptRefusal}
-use Rattle.age_suite.specs.declared.suite.Suite.{Ghosts as SuiteGhosts}
-use Rattle.age_io.specs.Stretch.{Stretch}
-use Rattle.age_io.specs.declared.traits.Read.{Ghosts}
-use Rattle.age_format.specs.HeaderV1.{HeaderValue}
-use Rattle.age_format.specs.Stanza.{StanzaValue}
-use Rattle.age_format.specs.Unwrapping.{UnwrapAnswer, Unwraps}
-use Rattle.age_stream.specs.declared.reader.StreamReader.{StreamReader}
-use Rattle.age_protocol.specs.Answering.{FirstThatAnswers, decided}
-use Rattle.age_protocol.specs.Decrypting.{ReadsFront, RefusesFront}
-use Rattle.age_protocol.specs.OpeningFile.{OpensFile}
+use Rattle.age.specs.DecryptErrors.{DecryptRefusal}
+use Rattle.age.specs.Members.{SuiteMembers, ReadMembers}
+use Rattle.age.specs.Stretch.{Stretch}
+use Rattle.age.specs.HeaderV1.{HeaderValue}
+use Rattle.age.specs.Stanza.{StanzaValue}
+use Rattle.age.specs.Unwrapping.{UnwrapAnswer, Unwraps}
+use Rattle.age.specs.Types.{StreamReader}
+use Rattle.age.specs.Answering.{FirstThatAnswers, decided}
+use Rattle.age.specs.Decrypting.{ReadsFront, RefusesFront}
+use Rattle.age.specs.OpeningFile.{OpensFile}
 use Rattle.age_bench.specs.Errors.{RefusesKey}
 
 module _ {I T : Type 0} (unwraps : I → List StanzaValue → UnwrapAnswer → I → Type 0)
@@ -31,7 +30,7 @@ module _ {I T : Type 0} (unwraps : I → List StanzaValue → UnwrapAnswer → I
       × Asks old new text h nonce input answer × RefusesKey (decided answer) h e)
 
 -- The first identity that answers gave the file key, under which the MAC is right, and this is the reader of the payload.
-pub record IsOpened {I S T : Type 0} {suite : SuiteGhosts S} {read : Ghosts T} (unwraps : I → List StanzaValue → UnwrapAnswer → I → Type 0)
+pub record IsOpened {I S T : Type 0} {suite : SuiteMembers S} {read : ReadMembers T} (unwraps : I → List StanzaValue → UnwrapAnswer → I → Type 0)
     (old new : List I) (text : T) (stream : StreamReader S T suite read) : Type 0 where
   pub h : HeaderValue
   pub nonce : List ℕ

@@ -1,17 +1,17 @@
 -- A part of a file's plaintext.
 use Rattle.std.specs.Prelude.{◌≡◌, ◌⊎◌, ℕ, ◌+◌, ◌^◌, ◌≤◌, ◌<◌, List, length, take, drop, Result, Some, Ok, Err, OnOk, IfErr, MatchResult}
-use Rattle.age_error.specs.Bytes.{AreBytes}
-use Rattle.age_error.specs.DecryptErrors.{OutOfMemory, decrypt_refusal}
-use Rattle.age_error.specs.declared.io.Error.TheVariants as io
-use Rattle.age_format.specs.Stanza.{StanzaValue}
-use Rattle.age_format.specs.Unwrapping.{UnwrapAnswer, Unwraps}
-use Rattle.age_format.specs.HeaderV1.{HeaderValue, header_mac}
-use Rattle.age_io.specs.Stretch.{Stretch}
-use Rattle.age_stream.specs.Payload.{LastIsNoMiddle}
-use Rattle.age_stream.specs.Answering.{StandAt, IsGoodEnd}
-use Rattle.age_protocol.specs.Decrypting.{ReadsFront}
-use Rattle.age_protocol.specs.Answering.{FirstThatAnswers}
-use Rattle.age_protocol.specs.File.{IsFileOf, payload_key}
+use Rattle.age.specs.Bytes.{AreBytes}
+use Rattle.age.specs.DecryptErrors.{OutOfMemory, decrypt_refusal}
+use Rattle.age.specs.ErrorVariants as io
+use Rattle.age.specs.Stanza.{StanzaValue}
+use Rattle.age.specs.Unwrapping.{UnwrapAnswer, Unwraps}
+use Rattle.age.specs.HeaderV1.{HeaderValue, header_mac}
+use Rattle.age.specs.Stretch.{Stretch}
+use Rattle.age.specs.Payload.{LastIsNoMiddle}
+use Rattle.age.specs.StreamAnswering.{StandAt, IsGoodEnd}
+use Rattle.age.specs.Decrypting.{ReadsFront}
+use Rattle.age.specs.Answering.{FirstThatAnswers}
+use Rattle.age.specs.File.{IsFileOf, payload_key}
 use Rattle.age_bench.specs.Bench.{bench_seal}
 use Rattle.age_bench.specs.Copying.{AppendsFront, AppendsSome}
 use Rattle.age_bench.specs.Errors.{DecryptsUnless}

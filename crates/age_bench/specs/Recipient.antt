@@ -1,11 +1,11 @@
 -- What the bench recipient and the bench identity answer.
 use Rattle.std.specs.Prelude.{◌≡◌, ◌≢◌, ℕ, List, [], ◌∷◌, ◌++◌, Option, Some, None, Ok, Err, if◌then◌else◌, length, take, drop, nat_eq, bytes_eq, codes, All}
 use Rattle.std.specs.Option.{option_or}
-use Rattle.age_error.specs.DecryptErrors.{InvalidHeader}
-use Rattle.age_format.specs.Stanza.{StanzaValue}
-use Rattle.age_format.specs.Wrapping.{Wrapped}
-use Rattle.age_format.specs.Unwrapping.{UnwrapAnswer}
-use Rattle.age_protocol.specs.File.{file_text}
+use Rattle.age.specs.DecryptErrors.{InvalidHeader}
+use Rattle.age.specs.Stanza.{StanzaValue}
+use Rattle.age.specs.Wrapping.{Wrapped}
+use Rattle.age.specs.Unwrapping.{UnwrapAnswer}
+use Rattle.age.specs.File.{file_text}
 use Rattle.age_bench.specs.Bench.{bench_seal}
 
 -- the stanza whose body is the file key

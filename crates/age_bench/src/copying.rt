@@ -1,12 +1,11 @@
 //! Copying what a reader still has to a writer.
 ghost use Rattle.std.specs.Prelude.{◌≡◌, ◌≢◌, ℕ, ◌<◌, ◌≤◌, ◌⊎◌, false, IsTrue, List, ◌++◌, length, take, OnOk, OnErr, IfErr};
-ghost use Rattle.age_error.specs.Refusals.{IsDevice};
-ghost use Rattle.age_error.specs.declared.io.Error.TheVariants.{TooLong};
-ghost use Rattle.age_io.specs.Reading.{IsQuiet};
+ghost use Rattle.age.specs.Refusals.{IsDevice};
+ghost use Rattle.age.specs.ErrorVariants.{TooLong};
+ghost use Rattle.age.specs.Reading.{IsQuiet};
 ghost use Rattle.age_bench.specs.Copying.{AppendsFront};
 
-use age::io::{Error, Read, Write, write_all};
-use age_io::{read_retrying, room_for};
+use age::io::{Error, Read, Write, read_retrying, room_for, write_all};
 use std::alloc::Global;
 
 // How many bytes are read at once: several chunks, so that most are sealed straight from what was read.

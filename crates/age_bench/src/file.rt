@@ -1,19 +1,19 @@
 //! The commands on whole files.
 ghost use Rattle.std.specs.Prelude.{◌≡◌, ◌≤◌, ℕ, length, IsTrue, ◌&&◌, List, Some, Ok, Err, ◌⊎◌, IfOk, OnOk, IfErr};
-ghost use Rattle.age_protocol.specs.Encrypting.{Prepared, Prepares};
-ghost use Rattle.age_protocol.specs.File.{file_text, IsFileOf, payload_key};
-ghost use Rattle.age_protocol.specs.Answering.{FirstThatAnswers, decided};
-ghost use Rattle.age_armor.specs.Armor.{Carries};
-ghost use Rattle.age_armor.specs.Writing.{text_of};
-ghost use Rattle.age_format.specs.HeaderV1.{HeaderValue, header_mac};
-ghost use Rattle.age_format.specs.Stanza.{StanzaValue};
-ghost use Rattle.age_format.specs.Unwrapping.{UnwrapAnswer, Unwraps};
-ghost use Rattle.age_io.specs.Stretch.{Stretch};
-ghost use Rattle.age_stream.specs.Chunks.{delivered};
+ghost use Rattle.age.specs.Encrypting.{Prepared, Prepares};
+ghost use Rattle.age.specs.File.{file_text, IsFileOf, payload_key};
+ghost use Rattle.age.specs.Answering.{FirstThatAnswers, decided};
+ghost use Rattle.age.specs.Armor.{Carries};
+ghost use Rattle.age.specs.ArmorWriting.{text_of};
+ghost use Rattle.age.specs.HeaderV1.{HeaderValue, header_mac};
+ghost use Rattle.age.specs.Stanza.{StanzaValue};
+ghost use Rattle.age.specs.Unwrapping.{UnwrapAnswer, Unwraps};
+ghost use Rattle.age.specs.Stretch.{Stretch};
+ghost use Rattle.age.specs.Chunks.{delivered};
 ghost use Rattle.age_bench.specs.Bench.{bench_seal, bench_opened};
 ghost use Rattle.age_bench.specs.Copying.{AppendsFront};
-ghost use Rattle.age_error.specs.EncryptErrors.{encrypt_refusal, OutOfMemory};
-ghost use Rattle.age_error.specs.DecryptErrors as decrypt;
+ghost use Rattle.age.specs.EncryptErrors.{encrypt_refusal, OutOfMemory};
+ghost use Rattle.age.specs.DecryptErrors as decrypt;
 ghost use Rattle.age_bench.specs.Errors.{IsEncryptError, IsDecryptError, EncryptsUnless, DecryptsUnless, RefusesText, BeginsText, RefusesKey};
 ghost use Rattle.age_bench.specs.Parts.{FirstAnswer, IsFileFor, IsFileForBench};
 ghost use Rattle.age_bench.specs.Recipient.{bench_grease, bench_file, bench_answer, HoldsBenchKey};
@@ -27,9 +27,8 @@ use crate::suite::BenchSuite;
 use age::armor::{ArmoredReader, ArmoredWriter, Format};
 use age::draw::Draw;
 use age::format::{Grease, Stanza};
-use age::io::{Read, Write};
+use age::io::{Read, Write, flush_retrying};
 use age::{EncryptError, Encryptor, Identity, Recipient};
-use age_io::flush_retrying;
 use std::alloc::Global;
 
 // The stanza that each file has besides those of its recipients: the tag `agebench-grease`, no arguments and no body.

@@ -3,11 +3,11 @@
 ghost use Rattle.age_bench.specs.FileLaws.{IsBenchFile, IsCarried, GivesBack};
 
 use crate::suite::BenchSuite;
-use age_armor::{armor_is_carrying, carried_is_unique};
-use age_format::{
+use age::armor::laws::{armor_is_carrying, carried_is_unique};
+use age::format::laws::{
     canonical_text_is_text, canonical_text_reads_back, header_text_reads_back, verdict_is_unique,
 };
-use age_stream::laws::{payload_laws, piece_law};
+use age::stream::laws::{payload_laws, piece_law};
 
 /// What is true of the file that `encrypt_to` appends.
 ///

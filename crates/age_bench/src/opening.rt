@@ -1,9 +1,9 @@
 //! Files opened, and reads and seeks on their plaintext.
 ghost use Rattle.std.specs.Prelude.{◌≡◌, ◌&&◌, ℕ, ◌≤◌, IsTrue, List, All, map, IfOk, IfErr, MatchResult};
-ghost use Rattle.age_error.specs.DecryptErrors.{OutOfMemory, decrypt_refusal};
-ghost use Rattle.age_io.specs.Replies.{seen, replies, IsNoWant};
-ghost use Rattle.age_armor.specs.Armor.{Carries};
-ghost use Rattle.age_protocol.specs.OpeningFile.{StandsBefore};
+ghost use Rattle.age.specs.DecryptErrors.{OutOfMemory, decrypt_refusal};
+ghost use Rattle.age.specs.Replies.{seen, replies, IsNoWant};
+ghost use Rattle.age.specs.Armor.{Carries};
+ghost use Rattle.age.specs.OpeningFile.{StandsBefore};
 ghost use Rattle.age_bench.specs.Opened.{IsOpened, IsNotOpened};
 ghost use Rattle.age_bench.specs.Parts.{FirstAnswer, IsFileFor, IsFileForBench, IsWant};
 
@@ -13,9 +13,9 @@ use crate::recipient::BenchIdentity;
 use crate::suite::BenchSuite;
 use age::armor::ArmoredReader;
 use age::io::{Answer, Error, Op, Read, Seek, run};
+use age::laws::{file_opens, front_is_accepted};
 use age::stream::StreamReader;
 use age::{DecryptError, Decryptor, Identity};
-use age_protocol::laws::{file_opens, front_is_accepted};
 use std::alloc::Global;
 
 /// Opens the bare file that `bytes` gives, which one of the identities decrypts: the reader of its plaintext.

@@ -1,19 +1,19 @@
 //! The command on a part of a file's plaintext.
 ghost use Rattle.std.specs.Prelude.{◌≡◌, ◌≢◌, ◌⊎◌, ℕ, ◌<◌, ◌≤◌, ◌&&◌, true, ⊤, IsTrue, List, length, take, drop, Some, Ok, IfErr, OnOk, MatchResult};
-ghost use Rattle.age_error.specs.Refusals.{IsDevice};
-ghost use Rattle.age_error.specs.declared.io.Error.TheVariants.{PastEnd, OutOfMemory};
-ghost use Rattle.age_error.specs.declared.io.SeekFrom.TheVariants.{Start};
-ghost use Rattle.age_io.specs.Reading.{IsQuiet};
-ghost use Rattle.age_stream.specs.Targets.{sought_in};
-ghost use Rattle.age_stream.specs.Reader.{payload_of, key_of};
-ghost use Rattle.age_io.specs.Stretch.{from_place};
-ghost use Rattle.age_format.specs.Unwrapping.{Unwraps};
-ghost use Rattle.age_protocol.specs.Answering.{FirstThatAnswers};
+ghost use Rattle.age.specs.Refusals.{IsDevice};
+ghost use Rattle.age.specs.ErrorVariants.{PastEnd, OutOfMemory};
+ghost use Rattle.age.specs.SeekFromVariants.{Start};
+ghost use Rattle.age.specs.Reading.{IsQuiet};
+ghost use Rattle.age.specs.StreamTargets.{sought_in};
+ghost use Rattle.age.specs.StreamReader.{payload_of, key_of};
+ghost use Rattle.age.specs.Stretch.{from_place};
+ghost use Rattle.age.specs.Unwrapping.{Unwraps};
+ghost use Rattle.age.specs.Answering.{FirstThatAnswers};
 ghost use Rattle.age_bench.specs.Copying.{AppendsFront, AppendsSome};
 ghost use Rattle.age_bench.specs.Errors.{IsDecryptError, BeginsText};
 ghost use Rattle.age_bench.specs.Parts.{AppendsPart, AppendsOf, StandsAt, IsPartAt, Begins, FirstAnswer, IsFileFor, IsFileForBench};
-ghost use Rattle.age_armor.specs.Armor.{Carries};
-ghost use Rattle.age_armor.specs.Delivered.{delivered, stretch_of};
+ghost use Rattle.age.specs.Armor.{Carries};
+ghost use Rattle.age.specs.Delivered.{delivered, stretch_of};
 ghost use Rattle.age_bench.specs.Recipient.{HoldsBenchKey};
 
 use crate::copying::copy_some;
@@ -26,7 +26,7 @@ use age::Identity;
 use age::armor::ArmoredReader;
 use age::io::{Bytes, Error, Read, Seek, SeekFrom, Write, read_to_end};
 use age::stream::StreamReader;
-use age_stream::laws::reader_law;
+use age::stream::laws::reader_law;
 use std::alloc::Global;
 
 /// Seeks to `place`, in bytes from the start of the plaintext, and appends the `count` bytes that stand there to `writer`,

@@ -1,17 +1,16 @@
 //! The commands on payloads under a given key.
 ghost use Rattle.std.specs.Prelude.{◌≡◌, ℕ, IsTrue, ◌&&◌, List, IfOk, OnOk};
-ghost use Rattle.age_io.specs.Stretch.{whole};
-ghost use Rattle.age_stream.specs.Payload.{payload};
-ghost use Rattle.age_stream.specs.Chunks.{delivered};
+ghost use Rattle.age.specs.Stretch.{whole};
+ghost use Rattle.age.specs.Payload.{payload};
+ghost use Rattle.age.specs.Chunks.{delivered};
 ghost use Rattle.age_bench.specs.Bench.{bench_seal, bench_opened};
 ghost use Rattle.age_bench.specs.Copying.{AppendsFront};
 
 use crate::copying::copy_all;
 use crate::error::CommandError;
 use crate::suite::BenchSuite;
-use age::io::{Error, Read, Write};
+use age::io::{Error, Read, Write, flush_retrying};
 use age::stream::{StreamReader, StreamWriter};
-use age_io::flush_retrying;
 use std::alloc::Global;
 
 /// Reads what `reader` still has, and appends its payload under `key` to `writer`, which is flushed.

@@ -5,9 +5,8 @@ ghost use Rattle.std.specs.Prelude.{◌≡◌, ◌≤◌, ◌*◌, ◌++◌, Lis
 ghost use Rattle.age_bench.specs.Bench.{masked, tag_of, bench_seal, bench_opened, bench_shared, bench_public, bench_stretch, bench_accepts};
 ghost use Rattle.age_bench.specs.Laws.{bench_cipher, bench_agreement, bench_stretching};
 
-use age_error::suite::ScryptError;
-use age_suite::mac::{HmacWriter, hmac};
-use age_suite::suite::{Opens, Suite};
+use age::mac::{HmacWriter, hmac};
+use age::suite::{Opens, ScryptError, Suite};
 use std::alloc::{AllocError, Global};
 
 const TAG: usize = 16;

@@ -7,6 +7,5 @@ pub mod nonce;
 pub mod reader;
 mod seeking;
 pub mod sizes;
-pub mod whole;
 pub mod writer;
 mod writing;

@@ -1,18 +1,13 @@
 //! The program `agebench`: the library over the bench suite, on standard input and output.
 #![tactic(auto)]
 
-mod command;
-#[cfg(test)]
-mod command_tests;
-mod number;
-
-use crate::command::{Command, parse};
 use age::draw::Draw;
 use age::io::{Error, Std};
 use age_bench::error::CommandError;
 use age_bench::file::{decrypt_with, encrypt_to};
 use age_bench::part::at_with;
 use age_bench::payload::{open_all, seal_all};
+use agebench_command::command::{Command, parse};
 use std::process::ExitCode;
 use std::{env, io};
 

@@ -1,6 +1,6 @@
 use Rattle.std.proofs.Common.{rules, ◌≡◌, ◌∙◌, arith, length, take}
-use Rattle.age_io.proofs.Delivering.{refilled}
-use Rattle.age_io.specs.Reading.{IsQuiet}
+use Rattle.age.proofs.Delivering.{refilled}
+use Rattle.age.specs.Reading.{IsQuiet}
 use Rattle.age_bench.proofs.Copied.{front-more, copied-more, well-is-no-fault}
 use Rattle.age_bench.proofs.copying.copy_all.Goals as goal
 

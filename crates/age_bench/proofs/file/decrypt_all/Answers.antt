@@ -1,10 +1,10 @@
 use Rattle.std.proofs.Common.{◌≡◌, ◌∙◌, ap, sym, refl, subst, inl, inr}
-use Rattle.age_io.specs.Stretch.{Stretch, whole, stretch-ext}
-use Rattle.age_io.specs.Buffered as buffered
-use Rattle.age_armor.specs.Reader.{inner_of, armored_rest}
-use Rattle.age_stream.specs.ReadingLaws.{and-left, and-right}
-use Rattle.age_stream.proofs.Answered.{rest-bytes}
-use Rattle.age_protocol.proofs.Fronts.{of_error}
+use Rattle.age.specs.Stretch.{Stretch, whole, stretch-ext}
+use Rattle.age.specs.Buffered as buffered
+use Rattle.age.specs.ArmorReader.{inner_of, armored_rest}
+use Rattle.age.specs.StreamReadingLaws.{and-left, and-right}
+use Rattle.age.proofs.StreamAnswered.{rest-bytes}
+use Rattle.age.proofs.Fronts.{of_error}
 use Rattle.age_bench.proofs.Decrypted.{both_told, refuses_text, begins_text, by_cause}
 use Rattle.age_bench.proofs.PartCopied.{none-copied}
 use Rattle.age_bench.proofs.Parts.{file_for}

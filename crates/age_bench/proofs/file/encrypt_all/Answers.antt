@@ -1,5 +1,5 @@
 use Rattle.std.proofs.Common.{inr, rules}
-use Rattle.age_protocol.proofs.Fronts.{of_error}
+use Rattle.age.proofs.Fronts.{of_error}
 use Rattle.age_bench.proofs.file.encrypt_all.Goals as goal
 
 pub returns-clause-file : goal.returns-clause-file

@@ -2,8 +2,8 @@ use Rattle.std.proofs.Common.{◌≡◌, ℕ, List, [], ◌∷◌, inl, inr, rul
 use Rattle.std.proofs.lemmas.Result.{on_ok_weaker}
 use Rattle.std.specs.Bool.{IsTrue}
 use Rattle.std.specs.declared.dyn_box.DynBox.{DynBox}
-use Rattle.age_format.specs.Wrapping.{WrapAnswer}
-use Rattle.age_armor.specs.Writing.{text_of}
+use Rattle.age.specs.Wrapping.{WrapAnswer}
+use Rattle.age.specs.ArmorWriting.{text_of}
 use Rattle.age_bench.proofs.Wrapped.{BenchAnswers, bench_filed}
 use Rattle.age_bench.proofs.file.encrypt_to.OwnLists.{own-1}
 use Rattle.age_bench.proofs.file.encrypt_to.Goals as goal

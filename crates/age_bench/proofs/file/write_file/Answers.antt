@@ -1,7 +1,7 @@
 use Rattle.std.proofs.Common.{◌≡◌, ◌∙◌, [], true, Ok, ap}
 use Rattle.std.proofs.lemmas.List.{append-nil}
-use Rattle.age_armor.specs.Writing.{inner_of, text_of}
-use Rattle.age_protocol.specs.File.{file_text}
+use Rattle.age.specs.ArmorWriting.{inner_of, text_of}
+use Rattle.age.specs.File.{file_text}
 use Rattle.age_bench.specs.Bench.{bench_seal}
 use Rattle.age_bench.proofs.file.write_file.Goals as goal
 

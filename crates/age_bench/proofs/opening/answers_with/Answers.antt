@@ -1,8 +1,8 @@
 use Rattle.std.proofs.Common.{◌≡◌, ◌∙◌, sym, ap, subst, List, ℕ}
-use Rattle.age_io.specs.Stretch.{Stretch, whole, from_place}
-use Rattle.age_io.specs.Replies.{replies}
-use Rattle.age_armor.specs.Reader.{armored_rest}
-use Rattle.age_stream.specs.Reader.{content_of, place_of, plain_rest_of}
+use Rattle.age.specs.Stretch.{Stretch, whole, from_place}
+use Rattle.age.specs.Replies.{replies}
+use Rattle.age.specs.ArmorReader.{armored_rest}
+use Rattle.age.specs.StreamReader.{content_of, place_of, plain_rest_of}
 use Rattle.age_bench.specs.Parts.{IsFileForBench}
 use Rattle.age_bench.proofs.Decrypted.{both_told}
 use Rattle.age_bench.proofs.Opened.{never_fails}

@@ -1,8 +1,8 @@
 use Rattle.std.proofs.Common.{refl, inl, inr}
 use Rattle.std.proofs.lemmas.Result.{IfErr-weaker}
-use Rattle.age_error.specs.DecryptErrors.{decrypt_refusal}
-use Rattle.age_stream.specs.ReadingLaws.{and-left}
-use Rattle.age_protocol.specs.Decryptor.{header_of, nonce_of, input_of}
+use Rattle.age.specs.DecryptErrors.{decrypt_refusal}
+use Rattle.age.specs.StreamReadingLaws.{and-left}
+use Rattle.age.specs.Decryptor.{header_of, nonce_of, input_of}
 use Rattle.age_bench.specs.Bench.{bench_seal}
 use Rattle.age_bench.proofs.Decrypted.{both_told, refused_key}
 use Rattle.age_bench.proofs.Opened.{never_fails, begins, opened_or_want, asked}

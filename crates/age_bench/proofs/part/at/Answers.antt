@@ -1,7 +1,7 @@
 use Rattle.std.proofs.Common.{◌≡◌, ◌∙◌, sym, ap, subst, true, List, ◌++◌, ℕ}
 use Rattle.std.proofs.lemmas.Result.{on_ok_weaker}
-use Rattle.age_armor.specs.Armor.{Carries}
-use Rattle.age_armor.specs.Delivered.{delivered, stretch_of}
+use Rattle.age.specs.Armor.{Carries}
+use Rattle.age.specs.Delivered.{delivered, stretch_of}
 use Rattle.age_bench.specs.Errors.{BeginsText}
 use Rattle.age_bench.specs.Parts.{Begins, StandsAt, IsPartAt}
 use Rattle.age_bench.proofs.Parts.{memory_before, memory_only, quiet_by}

@@ -1,6 +1,6 @@
 use Rattle.std.proofs.Common.{◌∙◌, ap, inr}
 use Rattle.age_bench.specs.Parts.{StandsAt, IsPartAt}
-use Rattle.age_stream.specs.Reader.{content_of}
+use Rattle.age.specs.StreamReader.{content_of}
 use Rattle.age_bench.proofs.Opened.{never_fails}
 use Rattle.age_bench.proofs.Standing.{opened-part}
 use Rattle.age_bench.proofs.Parts.{refused_before, part_done, part_refused}

@@ -1,9 +1,9 @@
 use Rattle.std.proofs.Common.{◌≡◌, ◌∙◌, refl, sym, ap, subst, true, List, ℕ}
 use Rattle.std.proofs.lemmas.Result.{on_ok_weaker}
-use Rattle.age_io.specs.Stretch.{whole}
-use Rattle.age_armor.specs.Armor.{Carries}
-use Rattle.age_armor.specs.Delivered.{delivered, stretch_of}
-use Rattle.age_armor.specs.Reader.{armored_rest, armored_content, place_of}
+use Rattle.age.specs.Stretch.{whole}
+use Rattle.age.specs.Armor.{Carries}
+use Rattle.age.specs.Delivered.{delivered, stretch_of}
+use Rattle.age.specs.ArmorReader.{armored_rest, armored_content, place_of}
 use Rattle.age_bench.specs.Parts.{Begins, StandsAt, IsPartAt}
 use Rattle.age_bench.proofs.Parts.{memory_before, quiet_by, file_for}
 use Rattle.age_bench.proofs.Standing.{begun, begun-or, same-content, fresh-text, begins-same}

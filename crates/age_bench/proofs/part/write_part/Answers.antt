@@ -1,7 +1,7 @@
 use Rattle.std.proofs.Common.{◌∙◌, refl, ap, subst, IsTrue, List, ℕ, length, take, drop}
 use Rattle.std.proofs.lemmas.Result.{on_ok_weaker}
-use Rattle.age_stream.specs.Reader.{tells_of, content_of, steady_of, key_of, payload_of}
-use Rattle.age_stream.specs.ReadingLaws.{both-true}
+use Rattle.age.specs.StreamReader.{tells_of, content_of, steady_of, key_of, payload_of}
+use Rattle.age.specs.StreamReadingLaws.{both-true}
 use Rattle.age_bench.proofs.PartCopied.{none-copied}
 use Rattle.age_bench.proofs.Standing.{standing, standing-none, stand-moved, good-moved, given}
 use Rattle.age_bench.proofs.Parts.{refused_past, never_past, start_within}

@@ -1,6 +1,6 @@
 use Rattle.std.proofs.Common.{◌∙◌, refl}
-use Rattle.age_io.specs.Stretch.{whole, stretch-ext}
-use Rattle.age_stream.specs.Chunks.{delivered}
+use Rattle.age.specs.Stretch.{whole, stretch-ext}
+use Rattle.age.specs.Chunks.{delivered}
 use Rattle.age_bench.specs.Bench.{bench_opened}
 use Rattle.age_bench.proofs.payload.open_all.Goals as goal
 

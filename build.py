@@ -1,0 +1,165 @@
+#!/usr/bin/env python3
+"""Proves and builds agebench, with the libraries below it side by side, where something has changed since the last time.
+
+Says on standard error which crates it proves and how many are left, and nothing where there is nothing to do. Each crate
+is proved by `rt lib` over what earlier runs have kept, as soon as those that it uses are there, the one with the longest
+chain above it first; processors that no crate waits for go to that one. `rt` locks a crate and all below it, so each is
+proved in a folder of its own, with the libraries below it beside it. Exit status 3 where a crate isn't proved.
+"""
+import hashlib
+import os
+import re
+import shutil
+import signal
+import subprocess
+import sys
+import tempfile
+import time
+
+TOP = os.path.dirname(os.path.abspath(__file__))
+PROGRAM = "agebench"
+STAMP = f"{TOP}/crates/{PROGRAM}/out/built_from"
+# What a check takes at most, in GB, by a job.
+MEMORY = 3.0
+
+
+def crates():
+    """The crates below the program and itself, with those of the repository that each uses."""
+    with open(f"{TOP}/crates.txt", encoding="utf-8") as file:
+        lines = [line.partition("#")[0].partition(":") for line in file]
+    uses = {name.split()[0]: words.split() for name, _, words in lines if name.strip()}
+    found, left = {}, [PROGRAM]
+    while left:
+        name = left.pop()
+        if name not in found:
+            found[name] = [it for it in uses[name] if it in uses]
+            left += found[name]
+    return found
+
+
+def sources(name):
+    for at, folders, files in os.walk(f"{TOP}/crates/{name}"):
+        folders[:] = sorted(it for it in folders if it not in ("out", "must-fail"))
+        yield from (os.path.join(at, it) for it in sorted(files))
+
+
+def built_from(names):
+    """A digest of all that the program is made of."""
+    digest = hashlib.sha256(subprocess.run(["rt", "version"], capture_output=True, check=True).stdout)
+    for path in [f"{TOP}/crates.txt", *(it for name in sorted(names) for it in sources(name))]:
+        with open(path, "rb") as file:
+            text = file.read()
+        digest.update(f"{os.path.relpath(path, TOP)} {len(text)}\n".encode() + text)
+    return digest.hexdigest()
+
+
+def free_memory():
+    with open("/proc/meminfo", encoding="utf-8") as file:
+        return int(re.search(r"MemAvailable:\s+(\d+)", file.read())[1]) / 1e6
+
+
+def chain(name, above, weight):
+    """The lines that can be proved only one after another from this crate on."""
+    return weight[name] + max((chain(it, above, weight) for it in above[name]), default=0)
+
+
+def link(source, target):
+    try:
+        os.link(source, target)
+    except OSError:
+        shutil.copy2(source, target)
+
+
+def below(name, uses):
+    return {it for used in uses[name] for it in {used, *below(used, uses)}}
+
+
+class Run:
+    """A crate that is proved in a folder of its own."""
+
+    def __init__(self, name, uses, jobs):
+        self.name, self.jobs = name, jobs
+        self.room = tempfile.mkdtemp(prefix="agebench-")
+        libraries = below(name, uses)
+        with open(f"{TOP}/crates.txt", encoding="utf-8") as file:
+            lines = [line for line in file if line.partition(":")[0].strip() in {name, *libraries}]
+        with open(f"{self.room}/crates.txt", "w", encoding="utf-8") as file:
+            file.writelines(lines)
+        kept = shutil.ignore_patterns("incremental", "must-fail")
+        for it in libraries:
+            shutil.copytree(f"{TOP}/crates/{it}", f"{self.room}/crates/{it}", ignore=kept, copy_function=link)
+        folder = f"{self.room}/crates/{name}"
+        shutil.copytree(f"{TOP}/crates/{name}", folder, copy_function=link)
+        words = ["rt", "lib", "--jobs", str(jobs)]
+        if name == PROGRAM:
+            words = ["rt", "run", "--jobs", str(jobs), "--", "seal", "00" * 32]
+        self.log = f"{self.room}/log"
+        with open(self.log, "wb") as log:
+            self.process = subprocess.Popen(words, cwd=folder, stdin=subprocess.DEVNULL, stdout=log, stderr=log,
+                                            start_new_session=True)
+
+    def keep(self):
+        """Puts what was built into its place."""
+        out = f"{TOP}/crates/{self.name}/out"
+        shutil.rmtree(out, ignore_errors=True)
+        shutil.move(f"{self.room}/crates/{self.name}/out", out)
+
+    def said(self):
+        with open(self.log, encoding="utf-8", errors="replace") as log:
+            return log.read()
+
+    def close(self):
+        if self.process.poll() is None:
+            os.killpg(self.process.pid, signal.SIGKILL)
+            self.process.wait()
+        shutil.rmtree(self.room, ignore_errors=True)
+
+
+def build(uses):
+    above = {name: [it for it in uses if name in uses[it]] for name in uses}
+    weight = {name: sum(open(it, "rb").read().count(b"\n") for it in sources(name)) for name in uses}
+    order = sorted(uses, key=lambda name: -chain(name, above, weight))
+    lanes = max(1, min(len(os.sched_getaffinity(0)), int(free_memory() / MEMORY)))
+    done, running, began = set(), [], time.monotonic()
+    print(f"{PROGRAM}: proving {len(uses)} crates on {lanes} processors", file=sys.stderr)
+    try:
+        while len(done) < len(uses):
+            begun = done | {it.name for it in running}
+            ready = [it for it in order if it not in begun and done.issuperset(uses[it])]
+            idle = lanes - sum(it.jobs for it in running)
+            for name in ready[:max(idle, 0)]:
+                # (a job too many costs less than a processor that waits for the longest; more than four gain nothing)
+                jobs = min(4, -(-lanes // (len(ready) + len(running))))
+                idle -= jobs
+                running.append(Run(name, uses, jobs))
+            time.sleep(0.2)
+            for run in [it for it in running if it.process.poll() is not None]:
+                if run.process.returncode != 0:
+                    print(run.said() + f"{PROGRAM}: {run.name} could not be proved", file=sys.stderr)
+                    sys.exit(3)
+                run.keep()
+                run.close()
+                running.remove(run)
+                done.add(run.name)
+                took = (time.monotonic() - began) / 60
+                print(f"{PROGRAM}: {took:4.1f} min: {run.name} is proved, {len(uses) - len(done)} left", file=sys.stderr)
+    finally:
+        for run in running:
+            run.close()
+
+
+def main():
+    uses = crates()
+    digest = built_from(uses)
+    try:
+        with open(STAMP, encoding="utf-8") as file:
+            if file.read() == digest and os.path.exists(f"{TOP}/crates/{PROGRAM}/out/{PROGRAM}"):
+                return
+    except OSError:
+        pass
+    build(uses)
+    with open(STAMP, "w", encoding="utf-8") as file:
+        file.write(digest)
+
+
+main()

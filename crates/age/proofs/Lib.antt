@@ -1,0 +1,13 @@
+-- lemmas on the definitions that are passed on, layer by layer
+pub use Rattle.age_suite.proofs.Digests
+pub use Rattle.age_io.proofs.Delivering
+pub use Rattle.age_base64.proofs.Columns
+pub use Rattle.age_stream.proofs.Standing as StreamStanding
+pub use Rattle.age_stream.proofs.Remaining as StreamRemaining
+pub use Rattle.age_stream.proofs.Answered as StreamAnswered
+pub use Rattle.age_format.proofs.Strings
+pub use Rattle.age_protocol.proofs.Fronts
+pub use Rattle.age_protocol.proofs.Accepted
+pub use Rattle.age_protocol.proofs.Opened
+pub use Rattle.age_protocol.proofs.OneFile
+pub use Rattle.age_protocol.proofs.Files

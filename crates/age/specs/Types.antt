@@ -1,0 +1,21 @@
+-- The types that definitions speak of.
+pub use Rattle.age_error.specs.declared.io.Error.{Error}
+pub use Rattle.age_error.specs.declared.io.ErrorKind.{ErrorKind}
+pub use Rattle.age_error.specs.declared.io.ArmoredReadError.{ArmoredReadError}
+pub use Rattle.age_error.specs.declared.io.SeekFrom.{SeekFrom}
+pub use Rattle.age_error.specs.declared.suite.ScryptError.{ScryptError}
+pub use Rattle.age_error.specs.declared.encrypt.EncryptError.{EncryptError}
+pub use Rattle.age_error.specs.declared.decrypt.DecryptError.{DecryptError}
+pub use Rattle.age_error.specs.declared.resolve.ResolveError.{ResolveError}
+pub use Rattle.age_suite.specs.declared.mac.HmacWriter.{HmacWriter}
+pub use Rattle.age_io.specs.declared.memory.Bytes.{Bytes}
+pub use Rattle.age_io.specs.declared.buffered.BufReader.{BufReader}
+pub use Rattle.age_io.specs.declared.standard.Std.{Std}
+pub use Rattle.age_io.specs.declared.operations.Op.{Op}
+pub use Rattle.age_io.specs.declared.operations.Answer.{Answer}
+pub use Rattle.age_armor.specs.declared.format.Format.{Format}
+pub use Rattle.age_armor.specs.declared.reader.ArmoredReader.{ArmoredReader}
+pub use Rattle.age_armor.specs.declared.writer.ArmoredWriter.{ArmoredWriter}
+pub use Rattle.age_stream.specs.declared.reader.StreamReader.{StreamReader}
+pub use Rattle.age_stream.specs.declared.writer.StreamWriter.{StreamWriter}
+pub use Rattle.age_protocol.specs.declared.decryptor.Decryptor.{Decryptor}

@@ -1,0 +1,146 @@
+//! Seeks in armor.
+
+use crate::reader_tests::{BEGIN, END, armored, counting, joined};
+use age_armor::ArmoredReader;
+use age_error::io::{ArmoredReadError, Error, SeekFrom};
+use age_io::{Answer, BufRead, Bytes, Op, Read, Seek, run};
+use std::alloc::Global;
+use std::test::Fail;
+
+const GARBAGE: Error = Error::Armor(ArmoredReadError::TrailingGarbage);
+
+// What is expected of an operation.
+#[derive(Clone, Copy)]
+enum Expected {
+    // A seek comes to this place.
+    Place(u64),
+    // A read gives so many of the counting bytes, from this one on.
+    Front(usize, usize),
+    // It refuses, before a byte came.
+    Refusal(Error),
+}
+
+// Whether it is these bytes of the whole.
+fn is_part(bytes: &[u8], whole: &[u8], from: usize, count: usize) -> bool {
+    match whole.get(from..) {
+        None => false,
+        Some(rest) => match rest.get(..count) {
+            None => false,
+            Some(part) => part == bytes,
+        },
+    }
+}
+
+fn is_expected(answer: &Answer, expected: Expected, whole: &[u8]) -> bool {
+    match answer {
+        Answer::At(place) => match expected {
+            Expected::Place(wanted) => *place == wanted,
+            _ => false,
+        },
+        Answer::Bytes(bytes) => match expected {
+            Expected::Front(from, count) => is_part(bytes.as_slice(), whole, from, count),
+            _ => false,
+        },
+        Answer::Fault { got, error } => match expected {
+            Expected::Refusal(wanted) => got.is_empty() && *error == wanted,
+            _ => false,
+        },
+    }
+}
+
+// Whether the reader answers the operations so.
+fn answers<R: Seek>(
+    alloc: Global,
+    reader: &mut R,
+    whole: &[u8],
+    steps: &[(Op, Expected)],
+) -> Result<bool, Error> {
+    for step in steps {
+        let (op, expected) = *step;
+        let got = run(alloc, reader, &[op])?;
+        let [answer] = got.as_slice() else {
+            return Ok(false);
+        };
+        if !is_expected(answer, expected, whole) {
+            return Ok(false);
+        }
+    }
+    Ok(true)
+}
+
+// Whether readers of the text, over `Bytes` and over a buffer, answer the operations so.
+fn both_answer(
+    alloc: Global,
+    text: &[u8],
+    whole: &[u8],
+    steps: &[(Op, Expected)],
+) -> Result<bool, Error> {
+    let mut bare = ArmoredReader::new_buffered(alloc, Bytes::new(text))?;
+    if !answers(alloc, &mut bare, whole, steps)? {
+        return Ok(false);
+    }
+    let mut buffered = ArmoredReader::new(alloc, Bytes::new(text))?;
+    answers(alloc, &mut buffered, whole, steps)
+}
+
+// Seeks and reads in 10,000 bytes.
+const SEEKS: [(Op, Expected); 9] = [
+    (Op::Seek(SeekFrom::Start(5)), Expected::Place(5)),
+    (Op::Read(100), Expected::Front(5, 100)),
+    (Op::Seek(SeekFrom::Current(500)), Expected::Place(605)),
+    (Op::Read(100), Expected::Front(605, 100)),
+    (Op::Seek(SeekFrom::End(-1337)), Expected::Place(8663)),
+    (Op::Read(100), Expected::Front(8663, 100)),
+    (Op::Seek(SeekFrom::Start(5)), Expected::Place(5)),
+    (
+        Op::Seek(SeekFrom::Start(10_001)),
+        Expected::Refusal(Error::PastEnd),
+    ),
+    (Op::Read(1), Expected::Front(5, 1)),
+];
+
+#[test]
+fn seeks_lead_to_their_targets(rt: HostRuntime) -> Result<(), Fail> {
+    let alloc = rt.alloc();
+    let data = counting(alloc, 10_000)?;
+    let text = armored(alloc, &data, b"\n")?;
+    assert_eq!(rt; text.len(), 13_613);
+    assert!(rt; both_answer(alloc, &text, &data, &SEEKS)?);
+    let mut spaced = armored(alloc, &data, b"\r\n")?;
+    spaced.extend_from_slice(b"   ")?;
+    assert!(rt; both_answer(alloc, &spaced, &data, &SEEKS)?);
+    assert!(rt; both_answer(alloc, &data, &data, &SEEKS)?);
+    Ok(())
+}
+
+#[test]
+fn space_after_the_end_marker_is_no_part_of_the_content(rt: HostRuntime) -> Result<(), Fail> {
+    let alloc = rt.alloc();
+    let text = joined(alloc, &[BEGIN, b"YQ==\n", END, b"   "])?;
+    let steps = [(Op::Seek(SeekFrom::End(0)), Expected::Place(1))];
+    assert!(rt; both_answer(alloc, &text, b"a", &steps)?);
+    Ok(())
+}
+
+#[test]
+fn seeks_past_the_good_bytes_are_the_fault_behind_them(rt: HostRuntime) -> Result<(), Fail> {
+    let alloc = rt.alloc();
+    let text = joined(alloc, &[BEGIN, b"YQ==\n", END, b"xxx"])?;
+    let steps = [
+        (Op::Seek(SeekFrom::End(0)), Expected::Refusal(GARBAGE)),
+        (Op::Read(1), Expected::Refusal(Error::Failed)),
+        (Op::Seek(SeekFrom::Start(2)), Expected::Refusal(GARBAGE)),
+        (Op::Read(1), Expected::Refusal(Error::Failed)),
+        (Op::Seek(SeekFrom::Start(1)), Expected::Place(1)),
+        (Op::Seek(SeekFrom::Start(0)), Expected::Place(0)),
+        (Op::Read(1), Expected::Front(0, 1)),
+        (Op::Read(1), Expected::Refusal(GARBAGE)),
+        (
+            Op::Seek(SeekFrom::Current(-2)),
+            Expected::Refusal(Error::BeforeStart),
+        ),
+        (Op::Read(1), Expected::Refusal(Error::Failed)),
+    ];
+    assert!(rt; both_answer(alloc, &text, b"a", &steps)?);
+    Ok(())
+}

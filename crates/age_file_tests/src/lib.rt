@@ -1,0 +1,9 @@
+//! Tests of whole files.
+#![tactic(auto)]
+
+#[cfg(test)]
+mod file_tests;
+#[cfg(test)]
+mod recipient_tests;
+#[cfg(test)]
+mod whole_file_tests;

@@ -1,0 +1,276 @@
+//! Headers: what is read and how much of the input is taken, what refuses, and what is written.
+
+use age::format::{Grease, HeaderV1, Stanza};
+use age::io::{Bytes, Error, read_to_end};
+use age::secrecy::FileKey;
+use age::{DecryptError, Decryptor};
+use age_bench::suite::BenchSuite;
+use std::alloc::{AllocError, Global};
+use std::process::Abort;
+use std::test::Fail;
+
+const NO_KEY: [u8; 16] = [0; 16];
+
+// A header of two stanzas, whose MAC is that of the file key zero.
+const TEXT: &[u8] =
+    b"age-encryption.org/v1\n-> bench\nAAAAAAAAAAAAAAAAAAAAAA\n-> x-grease\n\n--- V7seaDdC75BAsSxvbcxwXtSW8y5Dt7T/GP+foqDPt34\n";
+
+// A text of the format, with its own alphabet of tags.
+fn text_of(alloc: Global, tag: &str) -> Result<String, AllocError> {
+    String::from_str(alloc, tag)
+}
+
+// A stanza of a tag, at most one argument, and a body.
+fn stanza_of(alloc: Global, tag: &str, arg: &str, body: &[u8]) -> Result<Stanza, Fail> {
+    let mut args = Vec::new(alloc);
+    if !arg.is_empty() {
+        args.push(text_of(alloc, arg)?)?;
+    }
+    match Stanza::new(text_of(alloc, tag)?, args, Vec::from_slice(alloc, body)?) {
+        Some(stanza) => Ok(stanza),
+        None => Err(Fail::from("no stanza")),
+    }
+}
+
+// Reading a header from this text is refused with that text, after so many bytes.
+fn is_refused(
+    rt: &impl Abort,
+    alloc: Global,
+    text: &[u8],
+    taken: usize,
+    expected: &str,
+) -> Result<(), Fail> {
+    let mut input = Bytes::new(text);
+    match HeaderV1::read(alloc, &mut input) {
+        Ok(_) => return Err(Fail::from("read")),
+        Err(error) => assert_eq!(rt; error.to_string(alloc)?.as_str(), expected),
+    }
+    let mut rest = Vec::new(alloc);
+    read_to_end(alloc, &mut input, &mut rest)?;
+    assert_eq!(rt; text.len() - rest.len(), taken);
+    Ok(())
+}
+
+#[test]
+fn first_lines_are_judged_at_their_ends(rt: HostRuntime) -> Result<(), Fail> {
+    let alloc = rt.alloc();
+    for (text, taken, expected) in [
+        (b"".as_slice(), 0, "input ended early"),
+        (b"age-encryption.org/v1", 21, "input ended early"),
+        (b"age-encryption.org/v2", 21, "input ended early"),
+        (b"age-encryption.org/v2\nmore", 22, "unknown format"),
+        (b"age-encryption.org/v11\n", 23, "unknown format"),
+        (b"age-encryption.org/\n", 20, "invalid header"),
+        (b"age-encryption.org/ v1\n", 23, "invalid header"),
+        (b"age-encryption.org/v1\r\n", 22, "invalid header"),
+        (b"age-encryption.org/v1\x7f\n", 22, "invalid header"),
+        (b"hello", 1, "invalid header"),
+        (b"agf", 3, "invalid header"),
+    ] {
+        is_refused(&rt, alloc, text, taken, expected)?;
+    }
+    Ok(())
+}
+
+// What follows the line of the version.
+fn is_refused_after_version(
+    rt: &impl Abort,
+    alloc: Global,
+    lines: &[u8],
+    taken: usize,
+    expected: &str,
+) -> Result<(), Fail> {
+    let mut text = Vec::from_slice(alloc, b"age-encryption.org/v1\n")?;
+    text.extend_from_slice(lines)?;
+    is_refused(rt, alloc, &text, taken.saturating_add(22), expected)
+}
+
+#[test]
+fn lines_are_judged_at_their_ends(rt: HostRuntime) -> Result<(), Fail> {
+    let alloc = rt.alloc();
+    for (lines, taken, expected) in [
+        (b"--- \n".as_slice(), 5, "invalid header"),
+        (b"-> \n", 4, "invalid header"),
+        (b"->\n", 3, "invalid header"),
+        (b"-> a  b\n", 8, "invalid header"),
+        (b"-> a \n", 6, "invalid header"),
+        (b"-> a\x80\n", 5, "invalid header"),
+        (b"-> a\nYQ\n--- ", 12, "input ended early"),
+        (b"-> a\nYR\n", 8, "invalid header"),
+        (b"-> a\nYQ==\n", 10, "invalid header"),
+        (b"-> a\nY\n", 7, "invalid header"),
+        (b"-> a\n--- ", 9, "input ended early"),
+        (b"-> a\n-> b\n\n", 10, "invalid header"),
+        (b"-> a\n\nYQ\n", 9, "invalid header"),
+        (b"-> a\n\n\n", 7, "invalid header"),
+        (b"-> a\n\n--- AA\n", 13, "invalid header"),
+        (b"-> a\n\n---", 9, "input ended early"),
+        (
+            b"-> a\nAAAAAAAAAAAAAAAAAAAAAAAAAAAAAAAAAAAAAAAAAAAAAAAAAAAAAAAAAAAAA\n",
+            67,
+            "invalid header",
+        ),
+        (
+            b"-> a\nAAAAAAAAAAAAAAAAAAAAAAAAAAAAAAAAAAAAAAAAAAAAAAAAAAAAAAAAAAAAAAAA\n--- \n",
+            75,
+            "invalid header",
+        ),
+        (
+            b"-> a\nAAAAAAAAAAAAAAAAAAAAAAAAAAAAAAAAAAAAAAAAAAAAAAAAAAAAAAAAAAAAAAAAAA\n",
+            72,
+            "invalid header",
+        ),
+        (
+            b"-> a\n\n--- AAAAAAAAAAAAAAAAAAAAAAAAAAAAAAAAAAAAAAAAAA\n",
+            53,
+            "invalid header",
+        ),
+        (
+            b"-> a\n\n--- AAAAAAAAAAAAAAAAAAAAAAAAAAAAAAAAAAAAAAAAAAB\n",
+            54,
+            "invalid header",
+        ),
+    ] {
+        is_refused_after_version(&rt, alloc, lines, taken, expected)?;
+    }
+    Ok(())
+}
+
+// A header is read from the front of this text, of so many bytes, and has so many stanzas; it is written the same.
+fn is_read(
+    rt: &impl Abort,
+    alloc: Global,
+    text: &[u8],
+    size: usize,
+    stanzas: usize,
+) -> Result<HeaderV1, Fail> {
+    let mut input = Bytes::new(text);
+    let header = HeaderV1::read(alloc, &mut input)?;
+    let mut rest = Vec::new(alloc);
+    read_to_end(alloc, &mut input, &mut rest)?;
+    assert_eq!(rt; text.len() - rest.len(), size);
+    assert_eq!(rt; header.stanzas().len(), stanzas);
+    let mut written = Vec::new(alloc);
+    header.write(alloc, &mut written)?;
+    assert!(rt; written.as_slice() == &text[..size]);
+    Ok(header)
+}
+
+#[test]
+fn a_header_is_read_and_no_byte_after_it(rt: HostRuntime) -> Result<(), Fail> {
+    let alloc = rt.alloc();
+    let mut text = Vec::from_slice(alloc, TEXT)?;
+    text.extend_from_slice(b"more")?;
+    let header = is_read(&rt, alloc, &text, 115, 2)?;
+    assert!(rt; header.verify_mac(&FileKey::new(NO_KEY)));
+    assert!(rt; !header.verify_mac(&FileKey::new([1; 16])));
+    assert_eq!(rt; &header.mac()[..4], [0x57, 0xbb, 0x1e, 0x68].as_slice());
+    let [first, second] = header.stanzas() else {
+        return Err(Fail::from("not two stanzas"));
+    };
+    assert!(rt; *first == stanza_of(alloc, "bench", "", &NO_KEY)?);
+    assert!(rt; *second == stanza_of(alloc, "x-grease", "", &[])?);
+    assert_eq!(rt; header.into_stanzas().len(), 2);
+    Ok(())
+}
+
+// Bodies of one byte less than a line, of a line, of one byte more and of two lines.
+#[test]
+fn headers_are_made_and_read_back(rt: HostRuntime) -> Result<(), Fail> {
+    let alloc = rt.alloc();
+    for (length, size) in [
+        (0, 87),
+        (47, 150),
+        (48, 152),
+        (49, 154),
+        (96, 217),
+        (100, 223),
+    ] {
+        let body = vec![in alloc; 7; length]?;
+        let mut stanzas = Vec::new(alloc);
+        stanzas.push(stanza_of(alloc, "tag", "argument", &body)?)?;
+        let key = FileKey::new([9; 16]);
+        let header = HeaderV1::new(alloc, stanzas, &key)?;
+        assert!(rt; header.verify_mac(&key));
+        let mut text = Vec::new(alloc);
+        header.write(alloc, &mut text)?;
+        let again = is_read(&rt, alloc, &text, size, 1)?;
+        assert!(rt; again.verify_mac(&key));
+        assert_eq!(rt; again.mac(), header.mac());
+        assert!(rt; again.stanzas() == header.stanzas());
+    }
+    Ok(())
+}
+
+#[test]
+fn a_header_of_10_000_stanzas_is_read(rt: HostRuntime) -> Result<(), Fail> {
+    let alloc = rt.alloc();
+    let mut stanzas = Vec::new(alloc);
+    for _ in 0..9_999 {
+        stanzas.push(stanza_of(alloc, "x", "", &[])?)?;
+    }
+    stanzas.push(stanza_of(alloc, "y", "", &[])?)?;
+    let header = HeaderV1::new(alloc, stanzas, &FileKey::new(NO_KEY))?;
+    let mut text = Vec::new(alloc);
+    header.write(alloc, &mut text)?;
+    is_read(&rt, alloc, &text, 60_070, 10_000)?;
+    Ok(())
+}
+
+#[test]
+fn stanzas_have_strings(rt: HostRuntime) -> Result<(), Fail> {
+    let alloc = rt.alloc();
+    for (tag, arg, good) in [
+        ("a", "b", true),
+        ("!", "~", true),
+        ("", "b", false),
+        ("a b", "b", false),
+        ("a", "b\n", false),
+        ("a", "\u{e9}", false),
+        ("a\u{7f}", "b", false),
+    ] {
+        let mut args = Vec::new(alloc);
+        args.push(text_of(alloc, arg)?)?;
+        let stanza = Stanza::new(text_of(alloc, tag)?, args, Vec::new(alloc));
+        assert_eq!(rt; stanza.is_some(), good);
+    }
+    let no_arg = Stanza::new(text_of(alloc, "a")?, Vec::new(alloc), Vec::new(alloc));
+    assert!(rt; no_arg.is_some());
+    Ok(())
+}
+
+#[test]
+fn stanzas_are_cloned_and_compared(rt: HostRuntime) -> Result<(), Fail> {
+    let alloc = rt.alloc();
+    let stanza = stanza_of(alloc, "tag", "argument", b"body")?;
+    let copy = stanza.clone()?;
+    assert!(rt; copy == stanza);
+    assert_eq!(rt; copy.tag(), "tag");
+    assert_eq!(rt; copy.args().len(), 1);
+    assert_eq!(rt; copy.args()[0].as_str(), "argument");
+    assert_eq!(rt; copy.body(), b"body".as_slice());
+    assert!(rt; stanza != stanza_of(alloc, "tog", "argument", b"body")?);
+    assert!(rt; stanza != stanza_of(alloc, "tag", "", b"body")?);
+    assert!(rt; stanza != stanza_of(alloc, "tag", "argument", b"bod")?);
+    let text = format!(in alloc; "{stanza:?}")?;
+    assert_eq!(rt;
+        text.as_str(),
+        "Stanza { tag: \"tag\", args: [\"argument\"], body: [98, 111, 100, 121] }"
+    );
+    Ok(())
+}
+
+#[test]
+fn grease_has_its_tag(rt: HostRuntime) -> Result<(), Fail> {
+    let alloc = rt.alloc();
+    for (tag, good) in [
+        ("x-grease", true),
+        ("-grease", true),
+        ("grease", false),
+        ("x-greased", false),
+    ] {
+        let grease = Grease::new(stanza_of(alloc, tag, "", &[])?);
+        assert_eq!(rt; grease.is_some(), good);
+    }
+    Ok(())
+}

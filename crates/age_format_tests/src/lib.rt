@@ -1,0 +1,5 @@
+//! Tests of `age_format`: headers.
+#![tactic(auto)]
+
+#[cfg(test)]
+mod header_tests;

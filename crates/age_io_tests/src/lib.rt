@@ -1,0 +1,9 @@
+//! Tests of `age_io`: readers and writers in memory and of std, with a buffer, and seeks.
+#![tactic(auto)]
+
+#[cfg(test)]
+mod buffered_tests;
+#[cfg(test)]
+mod io_seek_tests;
+#[cfg(test)]
+mod standard_tests;

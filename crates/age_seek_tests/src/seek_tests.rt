@@ -1,0 +1,432 @@
+//! Seeks in payloads, and how often they open chunks.
+
+use age::armor::ArmoredReader;
+use age::io::{Answer, BufReader, Bytes, Error, Op, Read, Seek, SeekFrom, read_to_end, run};
+use age::stream::StreamReader;
+use age::suite::Suite;
+use age_bench::suite::BenchSuite;
+use age_try::fixtures::{KEY, armored, armored_texts, part, plaintext, with_endings};
+use age_try::whole::seal_whole;
+use std::alloc::Global;
+use std::process::Abort;
+use std::test::Fail;
+
+const FIRST_AS_MIDDLE: [u8; 12] = [0, 0, 0, 0, 0, 0, 0, 0, 0, 0, 0, 0];
+
+const FIRST_AS_LAST: [u8; 12] = [0, 0, 0, 0, 0, 0, 0, 0, 0, 0, 0, 1];
+
+const SECOND_AS_LAST: [u8; 12] = [0, 0, 0, 0, 0, 0, 0, 0, 0, 0, 1, 1];
+
+type Reader<'a> = StreamReader<BenchSuite, Bytes<'a>>;
+
+// A read of one byte, which is there.
+fn reads<R: Read>(rt: &impl Abort, reader: &mut StreamReader<BenchSuite, R>, place: usize) {
+    let mut byte = [255];
+    assert_eq!(rt; reader.read(&mut byte), Ok(1), "at {place}");
+    assert_eq!(rt; byte, [(place % 251) as u8], "at {place}");
+}
+
+// The clean end.
+fn ends<R: Read>(rt: &impl Abort, reader: &mut StreamReader<BenchSuite, R>) {
+    assert_eq!(rt; reader.read(&mut [0]), Ok(0));
+}
+
+// A reader that has failed.
+fn stays_failed<R: Read>(rt: &impl Abort, reader: &mut StreamReader<BenchSuite, R>) {
+    for _read in 0..2 {
+        assert_eq!(rt; reader.read(&mut [0]), Err(Error::Failed));
+    }
+}
+
+// What is left gives these bytes and no clean end.
+fn gives<R: Read>(
+    rt: &impl Abort,
+    alloc: Global,
+    reader: &mut StreamReader<BenchSuite, R>,
+    expected: &[u8],
+    error: Error,
+) -> Result<(), Fail> {
+    let mut read = Vec::new(alloc);
+    assert_eq!(rt; read_to_end(alloc, reader, &mut read), Err(error));
+    assert!(rt; read.as_slice() == expected);
+    stays_failed(rt, reader);
+    Ok(())
+}
+
+// Seeks in a payload of 102,400 bytes of plaintext, and a read after each.
+fn moves_a_cursor<R: Seek>(rt: &impl Abort, reader: &mut StreamReader<BenchSuite, R>) {
+    assert_eq!(rt; reader.seek(SeekFrom::Start(102_401)), Err(Error::PastEnd));
+    reads(rt, reader, 0);
+    assert_eq!(rt; reader.seek(SeekFrom::Start(0)), Ok(0));
+    assert_eq!(rt; reader.seek(SeekFrom::Current(-1)), Err(Error::BeforeStart));
+    reads(rt, reader, 0);
+    assert_eq!(rt; reader.seek(SeekFrom::Start(10)), Ok(10));
+    assert_eq!(rt;
+        reader.seek(SeekFrom::Current(i64::MAX)),
+        Err(Error::PastEnd)
+    );
+    reads(rt, reader, 10);
+    assert_eq!(rt;
+        reader.seek(SeekFrom::End(-102_401)),
+        Err(Error::BeforeStart)
+    );
+    assert_eq!(rt;
+        reader.seek(SeekFrom::Current(i64::MIN)),
+        Err(Error::BeforeStart)
+    );
+    reads(rt, reader, 11);
+    assert_eq!(rt; reader.seek(SeekFrom::End(0)), Ok(102_400));
+    ends(rt, reader);
+    assert_eq!(rt; reader.seek(SeekFrom::Start(102_400)), Ok(102_400));
+    ends(rt, reader);
+    assert_eq!(rt; reader.seek(SeekFrom::Start(65_536)), Ok(65_536));
+    assert_eq!(rt; reader.read(&mut []), Ok(0));
+    reads(rt, reader, 65_536);
+    assert_eq!(rt; reader.seek(SeekFrom::End(-1)), Ok(102_399));
+    reads(rt, reader, 102_399);
+    ends(rt, reader);
+}
+
+#[test]
+fn seeks_move_a_cursor(rt: HostRuntime) -> Result<(), Fail> {
+    let alloc = rt.alloc();
+    let payload = seal_whole::<BenchSuite>(alloc, &KEY, &plaintext(alloc, 102_400)?)?;
+    assert_eq!(rt; payload.len(), 102_432);
+    let mut reader = Reader::with_payload_key(alloc, KEY, Bytes::new(&payload))?;
+    moves_a_cursor(&rt, &mut reader);
+    let buffered = BufReader::new(alloc, Bytes::new(&payload))?;
+    let mut reader = StreamReader::<BenchSuite, _>::with_payload_key(alloc, KEY, buffered)?;
+    moves_a_cursor(&rt, &mut reader);
+    for text in &armored_texts(alloc, &payload)? {
+        let armored = ArmoredReader::new(alloc, Bytes::new(text))?;
+        let mut reader = StreamReader::<BenchSuite, _>::with_payload_key(alloc, KEY, armored)?;
+        moves_a_cursor(&rt, &mut reader);
+    }
+    Ok(())
+}
+
+// The answers of a list of reads and seeks.
+#[test]
+fn a_list_of_seeks_and_reads(rt: HostRuntime) -> Result<(), Fail> {
+    let alloc = rt.alloc();
+    let plain = plaintext(alloc, 200_000)?;
+    let payload = seal_whole::<BenchSuite>(alloc, &KEY, &plain)?;
+    let mut reader = Reader::with_payload_key(alloc, KEY, Bytes::new(&payload))?;
+    let ops = [
+        Op::Read(100),
+        Op::Seek(SeekFrom::Current(65_436)),
+        Op::Read(70_000),
+        Op::Seek(SeekFrom::End(-200_001)),
+        Op::Seek(SeekFrom::End(-5)),
+        Op::Read(6),
+        Op::Seek(SeekFrom::Start(200_000)),
+        Op::Read(1),
+        Op::Seek(SeekFrom::Start(u64::MAX)),
+        Op::Seek(SeekFrom::Current(-200_000)),
+        Op::Read(3),
+    ];
+    let answers = run(alloc, &mut reader, &ops)?;
+    let [a, b, c, d, e, f, g, h, i, j, k] = answers.as_slice() else {
+        return Err(Fail::from("another count of answers"));
+    };
+    for (answer, from, count) in [
+        (a, 0, 100),
+        (c, 65_536, 70_000),
+        (f, 199_995, 5),
+        (h, 200_000, 0),
+        (k, 0, 3),
+    ] {
+        let Answer::Bytes(bytes) = answer else {
+            return Err(Fail::from("no bytes"));
+        };
+        assert!(rt;
+            bytes.as_slice() == part(&plain, from, from.saturating_add(count)),
+            "from {from}"
+        );
+    }
+    for (answer, place) in [(b, 65_536), (e, 199_995), (g, 200_000), (j, 0)] {
+        let Answer::At(at) = answer else {
+            return Err(Fail::from("no place"));
+        };
+        assert_eq!(rt; *at, place);
+    }
+    for (answer, refusal) in [(d, Error::BeforeStart), (i, Error::PastEnd)] {
+        let Answer::Fault { got, error } = answer else {
+            return Err(Fail::from("no refusal"));
+        };
+        assert!(rt; got.is_empty());
+        assert_eq!(rt; *error, refusal);
+    }
+    Ok(())
+}
+
+// A payload of 131,072 bytes of plaintext without its second chunk.
+fn lacks_its_end<R: Seek + Drop>(
+    rt: &impl Abort,
+    alloc: Global,
+    inner: R,
+    first: &[u8],
+) -> Result<(), Fail> {
+    let mut reader = StreamReader::<BenchSuite, R>::with_payload_key(alloc, KEY, inner)?;
+    gives(rt, alloc, &mut reader, first, Error::Truncated)?;
+    assert_eq!(rt; reader.seek(SeekFrom::End(0)), Err(Error::BadEnd));
+    stays_failed(rt, &mut reader);
+    assert_eq!(rt; reader.seek(SeekFrom::Start(0)), Ok(0));
+    gives(rt, alloc, &mut reader, first, Error::Truncated)
+}
+
+#[test]
+fn a_payload_cut_between_chunks(rt: HostRuntime) -> Result<(), Fail> {
+    let alloc = rt.alloc();
+    let plain = plaintext(alloc, 131_072)?;
+    let payload = seal_whole::<BenchSuite>(alloc, &KEY, &plain)?;
+    let first = part(&plain, 0, 65_536);
+    let cut = part(&payload, 0, 65_552);
+    lacks_its_end(&rt, alloc, Bytes::new(cut), first)?;
+    lacks_its_end(&rt, alloc, BufReader::new(alloc, Bytes::new(cut))?, first)?;
+    for text in &armored_texts(alloc, cut)? {
+        let armored = ArmoredReader::new(alloc, Bytes::new(text))?;
+        lacks_its_end(&rt, alloc, armored, first)?;
+    }
+    Ok(())
+}
+
+// A payload whose last chunk is empty though there is one before it: a seek that needs its length.
+fn has_no_length<R: Seek + Drop>(
+    rt: &impl Abort,
+    alloc: Global,
+    inner: R,
+    to: SeekFrom,
+) -> Result<(), Fail> {
+    let mut reader = StreamReader::<BenchSuite, R>::with_payload_key(alloc, KEY, inner)?;
+    assert_eq!(rt; reader.seek(SeekFrom::Current(-1)), Err(Error::BeforeStart));
+    reads(rt, &mut reader, 0);
+    assert_eq!(rt; reader.seek(to), Err(Error::BadEnd));
+    stays_failed(rt, &mut reader);
+    // A target below 0 is told from the place alone.
+    assert_eq!(rt; reader.seek(SeekFrom::Current(-2)), Err(Error::BeforeStart));
+    stays_failed(rt, &mut reader);
+    Ok(())
+}
+
+// Read from the front a payload gives these bytes, and then a refusal.
+fn is_read_up_to<R: Seek + Drop>(
+    rt: &impl Abort,
+    alloc: Global,
+    inner: R,
+    plain: &[u8],
+    error: Error,
+) -> Result<(), Fail> {
+    let mut reader = StreamReader::<BenchSuite, R>::with_payload_key(alloc, KEY, inner)?;
+    gives(rt, alloc, &mut reader, plain, error)
+}
+
+#[test]
+fn an_empty_last_chunk_after_a_full_one(rt: HostRuntime) -> Result<(), Fail> {
+    let alloc = rt.alloc();
+    let plain = plaintext(alloc, 65_536)?;
+    let mut payload = BenchSuite::seal(alloc, &KEY, &FIRST_AS_MIDDLE, &plain)?;
+    payload.extend_from_slice(&BenchSuite::seal(alloc, &KEY, &SECOND_AS_LAST, &[])?)?;
+    assert_eq!(rt; payload.len(), 65_568);
+    let texts = armored_texts(alloc, &payload)?;
+    for to in [
+        SeekFrom::End(0),
+        SeekFrom::Start(0),
+        SeekFrom::Start(u64::MAX),
+        SeekFrom::End(-70_000),
+    ] {
+        has_no_length(&rt, alloc, Bytes::new(&payload), to)?;
+        for text in &texts {
+            let armored = ArmoredReader::new(alloc, Bytes::new(text))?;
+            has_no_length(&rt, alloc, armored, to)?;
+        }
+    }
+    is_read_up_to(
+        &rt,
+        alloc,
+        Bytes::new(&payload),
+        &plain,
+        Error::LastChunkEmpty,
+    )?;
+    for text in &texts {
+        let armored = ArmoredReader::new(alloc, Bytes::new(text))?;
+        is_read_up_to(&rt, alloc, armored, &plain, Error::LastChunkEmpty)?;
+    }
+    Ok(())
+}
+
+// A full chunk sealed as the last, and a second sealed as the last after it.
+fn has_two_last_chunks<R: Seek + Drop>(
+    rt: &impl Abort,
+    alloc: Global,
+    inner: R,
+    plain: &[u8],
+) -> Result<(), Fail> {
+    let mut reader = StreamReader::<BenchSuite, R>::with_payload_key(alloc, KEY, inner)?;
+    gives(rt, alloc, &mut reader, plain, Error::AfterLast)?;
+    // Reads that come through a part of it find the same.
+    assert_eq!(rt; reader.seek(SeekFrom::Start(65_535)), Ok(65_535));
+    gives(
+        rt,
+        alloc,
+        &mut reader,
+        part(plain, 65_535, 65_536),
+        Error::AfterLast,
+    )?;
+    // Right after a seek the chunk at the place is judged by itself.
+    assert_eq!(rt; reader.seek(SeekFrom::Start(65_536)), Ok(65_536));
+    reads(rt, &mut reader, 65_536);
+    ends(rt, &mut reader);
+    assert_eq!(rt; reader.seek(SeekFrom::End(0)), Ok(65_537));
+    ends(rt, &mut reader);
+    Ok(())
+}
+
+#[test]
+fn bytes_after_the_last_chunk(rt: HostRuntime) -> Result<(), Fail> {
+    let alloc = rt.alloc();
+    let plain = plaintext(alloc, 65_536)?;
+    let mut one = BenchSuite::seal(alloc, &KEY, &FIRST_AS_LAST, &plain)?;
+    let mut two = Vec::from_slice(alloc, &one)?;
+    two.extend_from_slice(&BenchSuite::seal(alloc, &KEY, &SECOND_AS_LAST, &[25])?)?;
+    one.push(0)?;
+    has_two_last_chunks(&rt, alloc, Bytes::new(&two), &plain)?;
+    for text in &armored_texts(alloc, &two)? {
+        let armored = ArmoredReader::new(alloc, Bytes::new(text))?;
+        has_two_last_chunks(&rt, alloc, armored, &plain)?;
+    }
+    is_read_up_to(&rt, alloc, Bytes::new(&one), &plain, Error::AfterLast)?;
+    for text in &armored_texts(alloc, &one)? {
+        let armored = ArmoredReader::new(alloc, Bytes::new(text))?;
+        is_read_up_to(&rt, alloc, armored, &plain, Error::AfterLast)?;
+    }
+    Ok(())
+}
+
+// A bad chunk is passed over by a seek, and good chunks after it are read.
+#[test]
+fn a_good_chunk_after_a_bad_one(rt: HostRuntime) -> Result<(), Fail> {
+    let alloc = rt.alloc();
+    let plain = plaintext(alloc, 200_000)?;
+    let mut payload = seal_whole::<BenchSuite>(alloc, &KEY, &plain)?;
+    for byte in payload.iter_mut().skip(70_000).take(1) {
+        *byte ^= 1;
+    }
+    let mut reader = Reader::with_payload_key(alloc, KEY, Bytes::new(&payload))?;
+    gives(
+        &rt,
+        alloc,
+        &mut reader,
+        part(&plain, 0, 65_536),
+        Error::BadChunk,
+    )?;
+    assert_eq!(rt; reader.seek(SeekFrom::Start(131_072)), Ok(131_072));
+    let mut read = Vec::new(alloc);
+    assert_eq!(rt; read_to_end(alloc, &mut reader, &mut read), Ok(68_928));
+    assert!(rt; read.as_slice() == part(&plain, 131_072, 200_000));
+    assert_eq!(rt; reader.seek(SeekFrom::Start(100_000)), Ok(100_000));
+    gives(&rt, alloc, &mut reader, &[], Error::BadChunk)?;
+    assert_eq!(rt; reader.seek(SeekFrom::Start(5)), Ok(5));
+    reads(&rt, &mut reader, 5);
+    Ok(())
+}
+
+// Seeks in a payload of 655,361 bytes of plaintext.
+fn opens_nothing_but_at_the_end<R: Seek + Drop>(
+    rt: &impl Abort,
+    alloc: Global,
+    inner: R,
+) -> Result<(), Fail> {
+    let mut reader = StreamReader::<BenchSuite, R>::with_payload_key(alloc, KEY, inner)?;
+    assert_eq!(rt; reader.opens(), 0);
+    assert_eq!(rt; reader.seek(SeekFrom::Start(655_360)), Ok(655_360));
+    assert_eq!(rt; reader.opens(), 0);
+    reads(rt, &mut reader, 655_360);
+    assert_eq!(rt; reader.opens(), 1);
+    assert_eq!(rt; reader.seek(SeekFrom::End(0)), Ok(655_361));
+    assert_eq!(rt; reader.opens(), 1);
+    assert_eq!(rt; reader.seek(SeekFrom::Start(3)), Ok(3));
+    assert_eq!(rt; reader.seek(SeekFrom::End(0)), Ok(655_361));
+    assert_eq!(rt; reader.opens(), 2);
+    Ok(())
+}
+
+#[test]
+fn seeks_open_nothing_but_at_the_end(rt: HostRuntime) -> Result<(), Fail> {
+    let alloc = rt.alloc();
+    let payload = seal_whole::<BenchSuite>(alloc, &KEY, &plaintext(alloc, 655_361)?)?;
+    assert_eq!(rt; payload.len(), 655_537);
+    opens_nothing_but_at_the_end(&rt, alloc, Bytes::new(&payload))?;
+    opens_nothing_but_at_the_end(&rt, alloc, BufReader::new(alloc, Bytes::new(&payload))?)
+}
+
+#[test]
+fn seeks_in_armor_open_nothing_but_at_the_end(rt: HostRuntime) -> Result<(), Fail> {
+    let alloc = rt.alloc();
+    let payload = seal_whole::<BenchSuite>(alloc, &KEY, &plaintext(alloc, 655_361)?)?;
+    let text = with_endings(alloc, &armored(alloc, &payload)?, [true, false])?;
+    opens_nothing_but_at_the_end(&rt, alloc, ArmoredReader::new(alloc, Bytes::new(&text))?)
+}
+
+// The reads of a full chunk one byte at a time, after a seek to its front.
+fn read_bytes(rt: &impl Abort, reader: &mut Reader, count: usize) {
+    for place in 0..count {
+        reads(rt, reader, place);
+    }
+}
+
+#[test]
+fn a_chunk_is_kept_while_it_is_read(rt: HostRuntime) -> Result<(), Fail> {
+    let alloc = rt.alloc();
+    let payload = seal_whole::<BenchSuite>(alloc, &KEY, &plaintext(alloc, 65_536)?)?;
+    let mut reader = Reader::with_payload_key(alloc, KEY, Bytes::new(&payload))?;
+    reads(&rt, &mut reader, 0);
+    // As a middle chunk first, then as the last.
+    assert_eq!(rt; reader.opens(), 2);
+    assert_eq!(rt; reader.seek(SeekFrom::Start(0)), Ok(0));
+    read_bytes(&rt, &mut reader, 65_536);
+    assert!(rt; reader.opens() <= 7);
+    Ok(())
+}
+
+// A seek, and then reads until the buffer is full or the end comes.
+#[test]
+fn reads_at_a_place(rt: HostRuntime) -> Result<(), Fail> {
+    let alloc = rt.alloc();
+    let plain = plaintext(alloc, 200_000)?;
+    let payload = seal_whole::<BenchSuite>(alloc, &KEY, &plain)?;
+    let mut reader = Reader::with_payload_key(alloc, KEY, Bytes::new(&payload))?;
+    for (place, length, count, opens) in [
+        (0, 1, 1, 1),
+        (65_530, 10, 10, 1),
+        (60_000, 140_000, 140_000, 4),
+        (199_990, 100, 10, 0),
+        (200_000, 5, 0, 0),
+    ] {
+        let before = reader.opens();
+        let mut room = vec![in alloc; 0; length]?;
+        assert_eq!(rt;
+            reader.read_at(SeekFrom::Start(place), &mut room),
+            Ok(count),
+            "at {place}"
+        );
+        assert!(rt;
+            reader.opens().saturating_sub(before) <= opens,
+            "at {place}"
+        );
+        for (i, byte) in room.iter().take(count).enumerate() {
+            assert_eq!(rt; *byte, ((place as usize).wrapping_add(i) % 251) as u8);
+        }
+    }
+    assert_eq!(rt;
+        reader.read_at(SeekFrom::Start(200_001), &mut [0]),
+        Err(Error::PastEnd)
+    );
+    assert_eq!(rt;
+        reader.read_at(SeekFrom::End(-200_001), &mut [0]),
+        Err(Error::BeforeStart)
+    );
+    assert_eq!(rt; reader.read_at(SeekFrom::End(-1), &mut []), Ok(0));
+    reads(&rt, &mut reader, 199_999);
+    Ok(())
+}

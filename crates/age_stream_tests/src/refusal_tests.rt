@@ -1,0 +1,170 @@
+//! What a reader of payloads answers, read by read, and how often it opens chunks.
+
+use age::io::{Bytes, Error, Read};
+use age::stream::StreamReader;
+use age::suite::Suite;
+use age_bench::suite::BenchSuite;
+use age_try::fixtures::{KEY, plaintext};
+use age_try::whole::seal_whole;
+use std::alloc::Global;
+use std::process::Abort;
+use std::test::Fail;
+
+const FIRST_AS_MIDDLE: [u8; 12] = [0, 0, 0, 0, 0, 0, 0, 0, 0, 0, 0, 0];
+
+const FIRST_AS_LAST: [u8; 12] = [0, 0, 0, 0, 0, 0, 0, 0, 0, 0, 0, 1];
+
+const SECOND_AS_LAST: [u8; 12] = [0, 0, 0, 0, 0, 0, 0, 0, 0, 0, 1, 1];
+
+const READ: usize = 70_000;
+
+// Four reads of 70,000 bytes answer this, and open so many chunks in all.
+fn answers(
+    rt: &impl Abort,
+    alloc: Global,
+    payload: &[u8],
+    expected: [Result<usize, Error>; 4],
+    opens: u64,
+) -> Result<(), Fail> {
+    let bytes = Bytes::new(payload);
+    let mut reader = StreamReader::<BenchSuite, Bytes>::with_payload_key(alloc, KEY, bytes)?;
+    assert_eq!(rt; reader.opens(), 0);
+    let mut room = vec![in alloc; 0; READ]?;
+    for i in 0..4 {
+        assert_eq!(rt; reader.read(&mut room), expected[i], "at read {i}");
+    }
+    assert_eq!(rt; reader.opens(), opens);
+    Ok(())
+}
+
+#[test]
+fn whole_payloads_end_cleanly(rt: HostRuntime) -> Result<(), Fail> {
+    let alloc = rt.alloc();
+    for (length, first, second, opens) in [
+        (0, 0, 0, 1),
+        (1, 1, 0, 1),
+        (65_536, 65_536, 0, 2),
+        (65_537, 65_536, 1, 2),
+        (131_072, 65_536, 65_536, 3),
+    ] {
+        let payload = seal_whole::<BenchSuite>(alloc, &KEY, &plaintext(alloc, length)?)?;
+        let expected = [Ok(first), Ok(second), Ok(0), Ok(0)];
+        answers(&rt, alloc, &payload, expected, opens)?;
+    }
+    Ok(())
+}
+
+// A refusal in the second chunk, after which the reader stays failed.
+#[test]
+fn cut_and_changed_payloads_are_refused(rt: HostRuntime) -> Result<(), Fail> {
+    let alloc = rt.alloc();
+    let mut payload = seal_whole::<BenchSuite>(alloc, &KEY, &plaintext(alloc, 131_072)?)?;
+    assert_eq!(rt; payload.len(), 131_104);
+    for (length, error, opens) in [
+        (65_552, Error::Truncated, 1),
+        (65_553, Error::BadChunk, 2),
+        (131_103, Error::BadChunk, 2),
+    ] {
+        let expected = [
+            Ok(65_536),
+            Err(error),
+            Err(Error::Failed),
+            Err(Error::Failed),
+        ];
+        answers(&rt, alloc, &payload[..length], expected, opens)?;
+    }
+    payload[70_000] ^= 1;
+    let expected = [
+        Ok(65_536),
+        Err(Error::BadChunk),
+        Err(Error::Failed),
+        Err(Error::Failed),
+    ];
+    answers(&rt, alloc, &payload, expected, 3)
+}
+
+// What is no payload from its first chunk on.
+#[test]
+fn what_is_no_chunk_is_refused(rt: HostRuntime) -> Result<(), Fail> {
+    let alloc = rt.alloc();
+    for (length, error, opens) in [
+        (0, Error::Truncated, 0),
+        (1, Error::BadChunk, 1),
+        (15, Error::BadChunk, 1),
+        (16, Error::BadChunk, 1),
+        (65_552, Error::BadChunk, 2),
+        (65_553, Error::BadChunk, 2),
+    ] {
+        let nonsense = plaintext(alloc, length)?;
+        let expected = [
+            Err(error),
+            Err(Error::Failed),
+            Err(Error::Failed),
+            Err(Error::Failed),
+        ];
+        answers(&rt, alloc, &nonsense, expected, opens)?;
+    }
+    Ok(())
+}
+
+#[test]
+fn an_empty_chunk_after_others_is_refused(rt: HostRuntime) -> Result<(), Fail> {
+    let alloc = rt.alloc();
+    let plain = plaintext(alloc, 65_536)?;
+    let mut payload = BenchSuite::seal(alloc, &KEY, &FIRST_AS_MIDDLE, &plain)?;
+    payload.extend_from_slice(&BenchSuite::seal(alloc, &KEY, &SECOND_AS_LAST, &[])?)?;
+    assert_eq!(rt; payload.len(), 65_568);
+    let expected = [
+        Ok(65_536),
+        Err(Error::LastChunkEmpty),
+        Err(Error::Failed),
+        Err(Error::Failed),
+    ];
+    answers(&rt, alloc, &payload, expected, 2)
+}
+
+#[test]
+fn bytes_after_the_last_chunk_are_refused(rt: HostRuntime) -> Result<(), Fail> {
+    let alloc = rt.alloc();
+    let plain = plaintext(alloc, 65_536)?;
+    let mut payload = BenchSuite::seal(alloc, &KEY, &FIRST_AS_LAST, &plain)?;
+    payload.push(0)?;
+    assert_eq!(rt; payload.len(), 65_553);
+    let expected = [
+        Ok(65_536),
+        Err(Error::AfterLast),
+        Err(Error::Failed),
+        Err(Error::Failed),
+    ];
+    answers(&rt, alloc, &payload, expected, 2)
+}
+
+// Eight reads of 8,192 bytes give one chunk's plaintext, and open that chunk at the first of them alone.
+fn opens_once(
+    rt: &impl Abort,
+    reader: &mut StreamReader<BenchSuite, Bytes>,
+    room: &mut [u8; 8_192],
+    opens: u64,
+) {
+    for _read in 0..8u8 {
+        assert_eq!(rt; reader.read(room), Ok(8_192));
+        assert_eq!(rt; reader.opens(), opens);
+    }
+}
+
+// The second chunk is full and the last, and so it is tried as a middle chunk first.
+#[test]
+fn a_chunk_that_is_held_is_not_opened_again(rt: HostRuntime) -> Result<(), Fail> {
+    let alloc = rt.alloc();
+    let payload = seal_whole::<BenchSuite>(alloc, &KEY, &plaintext(alloc, 131_072)?)?;
+    let bytes = Bytes::new(&payload);
+    let mut reader = StreamReader::<BenchSuite, Bytes>::with_payload_key(alloc, KEY, bytes)?;
+    assert_eq!(rt; reader.read(&mut []), Ok(0));
+    assert_eq!(rt; reader.opens(), 0);
+    let mut room = [0; 8_192];
+    opens_once(&rt, &mut reader, &mut room, 1);
+    opens_once(&rt, &mut reader, &mut room, 3);
+    assert_eq!(rt; reader.read(&mut room), Ok(0));
+    assert_eq!(rt; reader.opens(), 3);
+    Ok(())
+}

@@ -1,0 +1,87 @@
+//! Payloads as streams. The digests are those of HMAC in Python.
+
+ghost use Rattle.std.specs.Prelude.{◌<◌};
+
+use age::io::{Bytes, Error, Read, Write, read_exact, read_to_end};
+use age::stream::{StreamReader, StreamWriter};
+use age::suite::{Opens, Suite};
+use age_bench::suite::BenchSuite;
+use age_try::fixtures::{KEY, digest, plaintext};
+use age_try::whole::{open_whole, seal_whole};
+use std::alloc::Global;
+use std::test::Fail;
+
+// The payload of a plaintext that is written in pieces of this length, with a flush after each.
+fn written(alloc: Global, plain: &[u8], piece: usize) -> Result<Vec<u8>, Error>
+    requires { 0 < piece }
+{
+    let mut writer = StreamWriter::<BenchSuite, Vec<u8>>::with_payload_key(
+        alloc,
+        KEY,
+        Vec::new(alloc),
+    )?;
+    for part in plain.chunks(piece) {
+        writer.write(part)?;
+        writer.flush()?;
+    }
+    writer.finish()
+}
+
+#[test]
+fn payloads_are_written_and_read_back(rt: HostRuntime) -> Result<(), Fail> {
+    let alloc = rt.alloc();
+    for (length, payload_length, expected) in [
+        (0, 16, 0xc0f8_88c4_1d88_92ff),
+        (1, 17, 0x9fe2_f53e_8a77_2f10),
+        (65_536, 65_552, 0x1293_37fd_c421_275c),
+        (65_537, 65_569, 0x4c19_c88a_fe40_61bc),
+    ] {
+        let plain = plaintext(alloc, length)?;
+        let payload = written(alloc, &plain, 1 << 20)?;
+        assert_eq!(rt; payload.len(), payload_length);
+        assert_eq!(rt; digest(&payload), expected, "of {length} bytes");
+        assert!(rt;
+            seal_whole::<BenchSuite>(alloc, &KEY, &plain)?.as_slice() == payload.as_slice()
+        );
+        let opened = open_whole::<BenchSuite>(alloc, &mut Opens::new(), &KEY, &payload)?;
+        assert!(rt; opened.as_slice() == plain.as_slice(), "of {length} bytes");
+
+        let bytes = Bytes::new(&payload);
+        let mut reader = StreamReader::<BenchSuite, Bytes>::with_payload_key(alloc, KEY, bytes)?;
+        let mut read = Vec::new(alloc);
+        assert_eq!(rt; read_to_end(alloc, &mut reader, &mut read)?, length);
+        assert!(rt; read.as_slice() == plain.as_slice(), "of {length} bytes");
+        assert_eq!(rt; reader.read(&mut [0]), Ok(0));
+    }
+    Ok(())
+}
+
+// The last chunk of a plaintext of 65,537 bytes has number 1.
+#[test]
+fn a_last_chunk_opens_under_its_nonce(rt: HostRuntime) -> Result<(), Fail> {
+    let alloc = rt.alloc();
+    let plain = plaintext(alloc, 65_537)?;
+    let payload = written(alloc, &plain, 65_537)?;
+    assert_eq!(rt; payload.len(), 65_569);
+    let nonce = [0, 0, 0, 0, 0, 0, 0, 0, 0, 0, 1, 1];
+    let last = BenchSuite::open(alloc, &mut Opens::new(), &KEY, &nonce, &payload[65_552..])?;
+    // 65,536 is 25 more than a multiple of 251.
+    assert_eq!(rt; last.ok_or("refused")?.as_slice(), [25].as_slice());
+    Ok(())
+}
+
+#[test]
+fn how_a_plaintext_is_cut_into_writes_is_not_seen(rt: HostRuntime) -> Result<(), Fail> {
+    let alloc = rt.alloc();
+    let plain = plaintext(alloc, 131_072)?;
+    for piece in [1, 65_535, 65_536, 131_072] {
+        let payload = written(alloc, &plain, piece)?;
+        assert_eq!(rt; payload.len(), 131_104);
+        assert_eq!(rt;
+            digest(&payload),
+            0x5f42_35d1_0738_d687,
+            "in pieces of {piece}"
+        );
+    }
+    Ok(())
+}

@@ -1,0 +1,218 @@
+//! What the words of a command line ask for.
+
+ghost use Rattle.std.specs.Prelude.{◌≡◌, ◌<◌, map, string_bytes, vec_items, IfOk, IfSome, option_map};
+ghost use Rattle.agebench_command.specs.Command.{at_of, bytes_of, byte_of, command_value, digit_of, encrypt_of, format_of, key_of, many_words, named, parsed, to_of, two_words, with_of};
+
+use crate::number::parse_number;
+use age::armor::Format;
+use age_bench::names::{To, With};
+use std::alloc::{AllocError, Global};
+
+/// What the program is to do with its standard input.
+#[derive(Drop)]
+pub enum Command {
+    /// Write the payload of the input under the key.
+    Seal {
+        key: [u8; 32],
+    },
+    /// Write the plaintext of the payload that the input is under the key.
+    Open {
+        key: [u8; 32],
+    },
+    /// Write the input encrypted to a recipient, with these random bytes, in this form.
+    Encrypt {
+        to: To,
+        draw: Vec<u8>,
+        format: Format,
+    },
+    /// Write the plaintext of the file that the input is or carries, decrypted with an identity.
+    Decrypt {
+        with: With,
+    },
+    /// Write so many bytes of that plaintext from a place on, or fewer at its end.
+    At {
+        with: With,
+        place: u64,
+        count: u64,
+    },
+}
+
+// The value of a hexadecimal digit of either case.
+fn digit_value(digit: u8) -> Option<u8>
+    ensures value { result ≡ digit_of digit }
+    ensures small { IfSome result (λ value. value < 16) }
+{
+    match digit {
+        b'0'..=b'9' => Some(digit - b'0'),
+        b'a'..=b'f' => Some(digit - b'a' + 10),
+        b'A'..=b'F' => Some(digit - b'A' + 10),
+        _ => None,
+    }
+}
+
+// The byte that two hexadecimal digits write.
+fn byte_value(high: u8, low: u8) -> Option<u8>
+    ensures { result ≡ byte_of high low }
+{
+    Some(16 * digit_value(high)? + digit_value(low)?)
+}
+
+// The bytes that a text of hexadecimal digits writes, two digits a byte.
+fn parse_bytes(alloc: Global, text: &[u8]) -> Result<Option<Vec<u8>>, AllocError>
+    ensures { IfOk result (λ found. option_map vec_items found ≡ bytes_of text.now) }
+{
+    if text.len() % 2 != 0 {
+        return Ok(None);
+    }
+    let mut bytes = Vec::with_capacity(alloc, text.len() / 2)?;
+    for i in 0..text.len() / 2 {
+        let Some(byte) = byte_value(text[2 * i], text[2 * i + 1]) else {
+            return Ok(None);
+        };
+        bytes.push(byte)?;
+    }
+    Ok(Some(bytes))
+}
+
+// The key that 64 hexadecimal digits write.
+#[tactic(auto, using(crate::proofs::Hex::key_found, crate::proofs::Hex::no_key))]
+fn parse_key(alloc: Global, text: &str) -> Result<Option<[u8; 32]>, AllocError>
+    ensures { IfOk result (λ found. found ≡ key_of text.now) }
+{
+    if text.len() != 64 {
+        return Ok(None);
+    }
+    let Some(bytes) = parse_bytes(alloc, text.as_bytes())? else {
+        return Ok(None);
+    };
+    match <[u8; 32]>::try_from(bytes.as_slice()) {
+        Ok(key) => Ok(Some(key)),
+        Err(_) => Ok(None),
+    }
+}
+
+// The recipient that a word names.
+fn parse_to(word: &str) -> Option<To>
+    ensures { result ≡ to_of word.now }
+{
+    match word {
+        "bench" => Some(To::Bench),
+        _ => None,
+    }
+}
+
+// The identity that a word names.
+fn parse_with(word: &str) -> Option<With>
+    ensures { result ≡ with_of word.now }
+{
+    match word {
+        "bench" => Some(With::Bench),
+        _ => None,
+    }
+}
+
+// The command of this name with this key.
+fn named(name: &str, key: [u8; 32]) -> Option<Command>
+    ensures { option_map command_value result ≡ named name.now key }
+{
+    match name {
+        "seal" => Some(Command::Seal { key }),
+        "open" => Some(Command::Open { key }),
+        _ => None,
+    }
+}
+
+// `decrypt WITH`, `seal KEY` and `open KEY`.
+fn parse_two(alloc: Global, name: &str, word: &str) -> Result<Option<Command>, AllocError>
+    ensures { IfOk result (λ found. option_map command_value found ≡ two_words name.now word.now) }
+{
+    if name == "decrypt" {
+        return Ok(parse_with(word).map(|with| Command::Decrypt { with }));
+    }
+    match parse_key(alloc, word)? {
+        Some(key) => Ok(named(name, key)),
+        None => Ok(None),
+    }
+}
+
+// The form that the words after DRAW ask for: none of them for the bytes themselves, `armor` for armor.
+fn parse_format(words: &[String]) -> Option<Format>
+    ensures { result ≡ format_of (map string_bytes words.now) }
+{
+    let Some((word, more)) = words.split_first() else {
+        return Some(Format::Binary);
+    };
+    if more.is_empty() && word.as_str() == "armor" {
+        Some(Format::AsciiArmor)
+    } else {
+        None
+    }
+}
+
+// `encrypt TO DRAW` and `encrypt TO DRAW armor`.
+fn parse_encrypt(
+    alloc: Global,
+    to: &str,
+    draw: &str,
+    format: Format,
+) -> Result<Option<Command>, AllocError>
+    ensures { IfOk result (λ found. option_map command_value found ≡ encrypt_of to.now draw.now format) }
+{
+    let Some(to) = parse_to(to) else {
+        return Ok(None);
+    };
+    let draw = parse_bytes(alloc, draw.as_bytes())?;
+    Ok(draw.map(|draw| Command::Encrypt { to, draw, format }))
+}
+
+// `at WITH PLACE COUNT`.
+fn parse_at(with: &str, place: &str, more: &[String]) -> Option<Command>
+    ensures { option_map command_value result ≡ at_of with.now place.now (map string_bytes more.now) }
+{
+    let Some((count, rest)) = more.split_first() else {
+        return None;
+    };
+    if !rest.is_empty() {
+        return None;
+    }
+    let with = parse_with(with)?;
+    let place = parse_number(place.as_bytes())?;
+    let count = parse_number(count.as_str().as_bytes())?;
+    Some(Command::At { with, place, count })
+}
+
+// A command of three words or more.
+#[tactic(auto, using(crate::proofs::Words::few_of_many))]
+fn parse_many(alloc: Global, words: &[String]) -> Result<Option<Command>, AllocError>
+    ensures { IfOk result (λ found. option_map command_value found ≡ many_words (map string_bytes words.now)) }
+{
+    let [name, second, third, more @ ..] = words else {
+        return Ok(None);
+    };
+    if name.as_str() == "at" {
+        return Ok(parse_at(second.as_str(), third.as_str(), more));
+    }
+    if name.as_str() != "encrypt" {
+        return Ok(None);
+    }
+    let Some(format) = parse_format(more) else {
+        return Ok(None);
+    };
+    parse_encrypt(alloc, second.as_str(), third.as_str(), format)
+}
+
+/// What the words after the program's name ask for: `seal KEY`, `open KEY`, `encrypt TO DRAW`, `encrypt TO DRAW armor`,
+/// `decrypt WITH` or `at WITH PLACE COUNT`.
+///
+/// KEY is 64 hexadecimal digits of either case, two a byte, the high digit first, and DRAW so any number of bytes; TO
+/// and WITH are `bench`; PLACE and COUNT are one or more decimal digits, leading zeros among them, of at most 2^64 - 1. `Ok(None)` says that they are no command line of this program. `AllocError` where memory for the
+/// bytes of KEY or DRAW is refused.
+#[tactic(auto, using(crate::proofs::Words::few_of_two, crate::proofs::Words::many_of_two))]
+pub fn parse(alloc: Global, words: &[String]) -> Result<Option<Command>, AllocError>
+    ensures { IfOk result (λ found. option_map command_value found ≡ parsed (map string_bytes words.now)) }
+{
+    let [name, word] = words else {
+        return parse_many(alloc, words);
+    };
+    parse_two(alloc, name.as_str(), word.as_str())
+}

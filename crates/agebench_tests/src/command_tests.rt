@@ -1,0 +1,171 @@
+//! What command lines ask for.
+
+use age::armor::Format;
+use age_bench::names::{To, With};
+use agebench_command::command::{Command, parse};
+use std::alloc::{AllocError, Global};
+use std::process::Abort;
+use std::test::Fail;
+
+// The bytes 0, 1, .., 31.
+const KEY: [u8; 32] = [
+    0, 1, 2, 3, 4, 5, 6, 7, 8, 9, 10, 11, 12, 13, 14, 15, 16, 17, 18, 19, 20, 21, 22, 23, 24, 25,
+    26, 27, 28, 29, 30, 31,
+];
+
+// What a command line, split at its spaces, asks for.
+fn parsed(alloc: Global, line: &str) -> Result<Option<Command>, AllocError> {
+    let mut words = Vec::new(alloc);
+    for word in line.split_whitespace() {
+        words.push(String::from_str(alloc, word)?)?;
+    }
+    parse(alloc, &words)
+}
+
+// Whether a command encrypts to `bench` with these random bytes, in armor or not.
+fn encrypts(command: Option<Command>, random: &[u8], in_armor: bool) -> bool {
+    let Some(Command::Encrypt { to, draw, format }) = command else {
+        return false;
+    };
+    let armor = match format {
+        Format::Binary => false,
+        Format::AsciiArmor => true,
+    };
+    to == To::Bench && draw.as_slice() == random && armor == in_armor
+}
+
+// An empty word is no random bytes at all.
+#[test]
+fn no_random_bytes_are_parsed(rt: HostRuntime) -> Result<(), Fail> {
+    let alloc = rt.alloc();
+    let mut words = Vec::new(alloc);
+    for word in ["encrypt", "bench", ""] {
+        words.push(String::from_str(alloc, word)?)?;
+    }
+    assert!(rt; encrypts(parse(alloc, &words)?, &[], false));
+    words.push(String::from_str(alloc, "armor")?)?;
+    assert!(rt; encrypts(parse(alloc, &words)?, &[], true));
+    Ok(())
+}
+
+// The key of a command that seals, or of one that opens.
+fn key_of(command: Option<Command>, to_seal: bool) -> Option<[u8; 32]> {
+    match command {
+        Some(Command::Seal { key }) if to_seal => Some(key),
+        Some(Command::Open { key }) if !to_seal => Some(key),
+        _ => None,
+    }
+}
+
+#[test]
+fn commands_are_parsed(rt: HostRuntime) -> Result<(), Fail> {
+    let alloc = rt.alloc();
+    let lower = "000102030405060708090a0b0c0d0e0f101112131415161718191a1b1c1d1e1f";
+    let upper = "000102030405060708090A0B0C0D0E0F101112131415161718191A1B1C1D1E1F";
+    for text in [lower, upper] {
+        let seal = format!(in alloc; "seal {text}")?;
+        assert_eq!(rt; key_of(parsed(alloc, &seal)?, true), Some(KEY));
+        let open = format!(in alloc; "open {text}")?;
+        assert_eq!(rt; key_of(parsed(alloc, &open)?, false), Some(KEY));
+    }
+    for (line, in_armor) in [
+        ("encrypt bench 0AbC", false),
+        ("encrypt bench 0AbC armor", true),
+    ] {
+        assert!(rt;
+            encrypts(parsed(alloc, line)?, &[0x0a, 0xbc], in_armor),
+            "at {line}"
+        );
+    }
+    match parsed(alloc, "decrypt bench")? {
+        Some(Command::Decrypt { with }) => assert_eq!(rt; with, With::Bench),
+        _ => return Err(Fail::from("another command")),
+    }
+    Ok(())
+}
+
+#[test]
+fn wrong_command_lines_are_refused(rt: HostRuntime) -> Result<(), Fail> {
+    let alloc = rt.alloc();
+    for line in [
+        "",
+        "seal",
+        "open",
+        "seal 000102030405060708090a0b0c0d0e0f101112131415161718191a1b1c1d1e1",
+        "seal 000102030405060708090a0b0c0d0e0f101112131415161718191a1b1c1d1e1f0",
+        "seal 000102030405060708090a0b0c0d0e0f101112131415161718191a1b1c1d1e1g",
+        "open 000102030405060708090a0b0c0d0e0f101112131415161718191a1b1c1d1e/f",
+        "open 000102030405060708090a0b0c0d0e0f101112131415161718191a1b1c1d1e\u{e9}",
+        "seal 000102030405060708090a0b0c0d0e0f101112131415161718191a1b1c1d1e1f 0",
+        "Seal 000102030405060708090a0b0c0d0e0f101112131415161718191a1b1c1d1e1f",
+        "mend 000102030405060708090a0b0c0d0e0f101112131415161718191a1b1c1d1e1f",
+        "000102030405060708090a0b0c0d0e0f101112131415161718191a1b1c1d1e1f seal",
+        "encrypt bench",
+        "encrypt bench 0",
+        "encrypt bench 0g",
+        "encrypt other 00",
+        "encrypt bench armor",
+        "encrypt bench 0 armor",
+        "encrypt other 00 armor",
+        "encrypt bench 00 Armor",
+        "encrypt bench 00 binary",
+        "encrypt bench 00 armor armor",
+        "decrypt",
+        "decrypt other",
+        "decrypt bench 00",
+        "decrypt bench armor",
+        "at bench",
+    ] {
+        assert!(rt; parsed(alloc, line)?.is_none(), "at {line}");
+    }
+    Ok(())
+}
+
+// What `at bench` and these two words ask for.
+fn asked(alloc: Global, place: &str, count: &str) -> Result<Option<(u64, u64)>, AllocError> {
+    let mut words = Vec::new(alloc);
+    for word in ["at", "bench", place, count] {
+        words.push(String::from_str(alloc, word)?)?;
+    }
+    Ok(match parse(alloc, &words)? {
+        Some(
+            Command::At {
+                with: With::Bench,
+                place,
+                count,
+            },
+        ) => Some((place, count)),
+        _ => None,
+    })
+}
+
+#[test]
+fn places_and_counts_are_decimal(rt: HostRuntime) -> Result<(), Fail> {
+    let alloc = rt.alloc();
+    for (word, expected) in [
+        ("0", Some(0)),
+        ("7", Some(7)),
+        ("10", Some(10)),
+        ("0000000000000000000000000123", Some(123)),
+        ("18446744073709551615", Some(u64::MAX)),
+        ("18446744073709551616", None),
+        ("18446744073709551620", None),
+        ("99999999999999999999", None),
+        ("340282366920938463463374607431768211456", None),
+        ("", None),
+        ("+1", None),
+        ("-1", None),
+        (" 1", None),
+        ("1 ", None),
+        ("1_000", None),
+        ("0x1", None),
+        ("1a", None),
+        ("\u{663}", None),
+    ] {
+        let as_place = asked(alloc, word, "2")?;
+        assert_eq!(rt; as_place, expected.map(|place| (place, 2)), "at {word}");
+        let as_count = asked(alloc, "3", word)?;
+        assert_eq!(rt; as_count, expected.map(|count| (3, count)), "at {word}");
+    }
+    Ok(())
+}
