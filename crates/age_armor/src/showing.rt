@@ -42,7 +42,7 @@ pub(crate) fn look<B: BufRead>(reader: &mut B) -> Result<bool, Error>
     ensures some { IsTrue (B.Read.tells reader.old) → IfOk result (λ is. is ≡ false → 0 < length (B.Read.rest reader.old).bytes) }
     ensures end { IsTrue (B.Read.tells reader.old) → IfOk result (λ is. IsTrue is → IsCleanEnd (B.Read.rest reader.old)) }
 {
-    retried!(look_once(reader))
+    retried!(_try, look_once(reader))
 }
 
 fn show_once<B: BufRead>(
@@ -73,7 +73,7 @@ pub(crate) fn show_lines<B: BufRead>(
     ensures ahead { IfOk result (λ n. IsAhead ahead.new 0 n (B.shown reader.new)) }
     ensures size { length ahead.new ≡ 768 }
 {
-    retried!(show_once(reader, decoder, ahead))
+    retried!(_try, show_once(reader, decoder, ahead))
 }
 
 // Where the first LF stands.
@@ -129,5 +129,5 @@ pub(crate) fn take_run<B: BufRead>(reader: &mut B, line: &mut Vec<u8>) -> Result
     ensures moves { IsTrue (B.Read.tells reader.old) → OnOk result
         (B.Read.place reader.new + length line.old.items ≡ B.Read.place reader.old + length line.new.items) }
 {
-    retried!(run_once(reader, line))
+    retried!(_try, run_once(reader, line))
 }

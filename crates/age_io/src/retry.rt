@@ -21,11 +21,11 @@ pub fn is_interruption<T>(answer: &Result<T, Error>) -> bool
 }
 
 /// Makes a call again after an interruption, up to 16 times in a row; after that its value is `Err(Device(Other))`. Any other
-/// answer of the call is returned from the function that it stands in.
+/// answer of the call is returned from the function that it stands in. The name is that of the number of the try, for proofs.
 #[macro_export]
 macro_rules! retried {
-    ($call:expr) => {{
-        for _try in 0..17u8 {
+    ($number:ident, $call:expr) => {{
+        for $number in 0..17u8 {
             let answer = $call;
             if !$crate::is_interruption(&answer) {
                 return answer;
@@ -44,7 +44,7 @@ pub fn read_retrying<R: Read>(reader: &mut R, buf: &mut [u8]) -> Result<usize, E
     ensures reads { Reads R.tells R.steady R.content R.place R.rest R.faults reader.old reader.new buf.new result }
     ensures patient { IfErr result (λ e. IsInterruption e → ⊥) }
 {
-    retried!(reader.read(buf))
+    retried!(_try, reader.read(buf))
 }
 
 /// One seek that is tried again after an interruption, up to 16 times in a row; after that it answers `Device(Other)`.
@@ -55,7 +55,7 @@ pub fn seek_retrying<R: Seek>(reader: &mut R, to: SeekFrom) -> Result<u64, Error
     ensures seeks { Seeks R.tells R.steady R.content R.place R.rest R.faults reader.old reader.new to result }
     ensures patient { IfErr result (λ e. IsInterruption e → ⊥) }
 {
-    retried!(reader.seek(to))
+    retried!(_try, reader.seek(to))
 }
 
 /// One write that is tried again after an interruption, up to 16 times in a row; after that it answers `Device(Other)`.
@@ -66,7 +66,7 @@ pub fn write_retrying<W: Write>(writer: &mut W, bytes: &[u8]) -> Result<usize, E
     ensures writes { Writes W.tells W.limited W.faults W.appended writer.old writer.new bytes.now result }
     ensures patient { IfErr result (λ e. IsInterruption e → ⊥) }
 {
-    retried!(writer.write(bytes))
+    retried!(_try, writer.write(bytes))
 }
 
 /// One flush that is tried again after an interruption, up to 16 times in a row; after that it answers `Device(Other)`.
@@ -76,5 +76,5 @@ pub fn flush_retrying<W: Write>(writer: &mut W) -> Result<(), Error>
     ensures flushes { Flushes W.tells W.limited W.faults W.appended writer.old writer.new result }
     ensures patient { IfErr result (λ e. IsInterruption e → ⊥) }
 {
-    retried!(writer.flush())
+    retried!(_try, writer.flush())
 }
