@@ -1,6 +1,6 @@
 -- What a `StreamReader`'s steps answer, in the words of the definition.
 use Rattle.std.specs.Prelude.{◌≡◌, ℕ, ◌+◌, ◌-◌, ◌*◌, ◌^◌, ◌<◌, ◌≤◌, ◌⊎◌, Option, Some, Ok, Err, Bool, true, false, List, [], ◌++◌, length, take, drop, min}
-use Rattle.std.proofs.Common.{refl, sym, ap, ◌∙◌, inl, inr, arith, length-append, length-take, length-drop, length-take-le}
+use Rattle.std.proofs.Common.{refl, sym, ap, subst, ◌∙◌, inl, inr, arith, length-append, length-drop, length-take-le}
 use Rattle.std.proofs.lemmas.List.{append-nil, take_all, take_at}
 use Rattle.std.proofs.lemmas.List.Elements.{All-drop, All-take, All-nil}
 use Rattle.std.proofs.lemmas.Bool.{cases_lt, true≢false}
@@ -13,6 +13,7 @@ use Rattle.age_io.specs.Reading.{StandsIn, Delivers}
 use Rattle.age_stream.specs.Payload.{Seal, nonce}
 use Rattle.age_stream.specs.OpeningLaws.{shorter}
 use Rattle.age_stream.specs.ReadingLaws.{at_full_end}
+use Rattle.age_stream.proofs.Sizes.{length-text, no-more, plain-whole, last-by_length, last-place}
 use Rattle.age_stream.proofs.Lengths.{plain_len-last}
 use Rattle.age_stream.specs.Chunks.{chunk_of, delivered}
 use Rattle.age_stream.specs.FrontToEnd.{StopsAt}
@@ -91,7 +92,7 @@ module _ (seal_of : Seal) (opened : List ℕ → List ℕ → List ℕ → Optio
         small = small;
         held = held_as last payload.bytes plain number b judged;
         allowed = allowed-accepted opened key number (text_at number payload) plain last (accepted opened key number (text_at number payload) plain last judged);
-        judged = λ less. (held.whole (rw (text_chunk number payload) less)).0;
+        judged = λ less. (held.whole (subst (λ (xs : List ℕ). length xs < 65552) (sym (text_chunk number payload)) less)).0;
         exact = long;
         are = is ∙ ap (λ n. take n (drop at plain)) (sym long);
       }
@@ -103,7 +104,7 @@ module _ (seal_of : Seal) (opened : List ℕ → List ℕ → List ℕ → Optio
   refuses-chunk content rest after place taken number text e bytes stands fits stood within took bad =
       let payload = payload_at place taken content in
       let b : AreBytes payload.bytes = All-drop (λ x. x < 2 ^ 8) (place - taken) content.bytes bytes in
-      judged-refused seal_of opened law key k payload.bytes b number e within (rw (text-read content rest after place taken number text stands fits stood took) bad)
+      judged-refused seal_of opened law key k payload.bytes b number e within (ap (chunk_of opened key number) (text-read content rest after place taken number text stands fits stood took) ∙ bad)
 
   -- a byte comes after the last chunk
   pub refuses-after : (payload rest after : Stretch) (number taken : ℕ) (last : Bool) (at : ℕ) (plain text : List ℕ) → AreBytes payload.bytes → IsHeld opened key payload number last at plain → last ≡ true →
@@ -139,9 +140,6 @@ module _ (seal_of : Seal) (opened : List ℕ → List ℕ → List ℕ → Optio
       let text = text_at number payload in
       let are : AreBytes text = All-take (λ x. x < 2 ^ 8) 65552 (drop (65552 * number) payload.bytes) (All-drop (λ x. x < 2 ^ 8) (65552 * number) payload.bytes b) in
       let opens : opened key (nonce number true) text ≡ Some plain = rw end at held.opens in
-      let short = shorter seal_of opened law key k number true text plain are opens in
-      let long = length-take 65552 (drop (65552 * number) payload.bytes) in
-      let left = length-drop (65552 * number) payload.bytes in
       let none : length payload.bytes - (65552 * number + 65552) ≡ 0 =
       sym (length-drop (65552 * number + 65552) payload.bytes) ∙ sym (ap (λ s. length s.bytes) past.ahead) ∙ ap length clean.bytes in
       let some : 0 < number → 0 < length plain = λ later. elim (at_full_end last number at (length payload.bytes)) [
@@ -151,13 +149,11 @@ module _ (seal_of : Seal) (opened : List ℕ → List ℕ → List ℕ → Optio
         ]
         | inr full ↦ omega (arith, given, full.full)
       ] in
-      let whole : length plain + 16 + 65552 * number ≡ length payload.bytes = omega (arith, short, long, left, none, held.some) in
-      let by_length = plain_len-last (length payload.bytes) number (record {
-        fits = omega (arith, none);
-        enough = omega (arith, whole);
-        more = λ later. omega (arith, whole, some later);
-      }) in
-      let place : length payload.bytes - 16 * (number + 1) ≡ 65536 * number + at = omega (arith, whole, given) in
+      let few = no-more (length payload.bytes) (65552 * number + 65552) none in
+      let whole = plain-whole number (length text) (length plain) (length payload.bytes) (shorter seal_of opened law key k number true text plain are opens)
+      (length-text 65552 (65552 * number) payload.bytes) few held.some in
+      let by_length = plain_len-last (length payload.bytes) number (last-by_length number (length plain) (length payload.bytes) whole few some) in
+      let place = last-place number (length plain) (length payload.bytes) whole ∙ ap (λ n. 65536 * number + n) (sym given) in
       record {
         ends_well = sym (ap (λ s. s.ends_well) past.ahead) ∙ clean.ends_well;
         length_is = by_length.1 ∙ ap (λ n. Some n) place;

@@ -1,6 +1,6 @@
 -- Where seeks in a payload lead.
 use Rattle.std.specs.Prelude.{◌≡◌, ℕ, ◌+◌, ◌-◌, ◌*◌, ◌^◌, ◌<◌, ◌≤◌, nat_le, if◌then◌else◌, Option, Some, None, Result, Ok, Err, Bool, true, false, List, length, drop}
-use Rattle.std.proofs.Common.{sym, ap, ◌∙◌, inl, inr, arith, length-drop, length-take, zero-add}
+use Rattle.std.proofs.Common.{sym, ap, ◌∙◌, inl, inr, arith, length-drop, zero-add}
 use Rattle.std.proofs.lemmas.List.Elements.{All-drop, All-take}
 use Rattle.std.proofs.lemmas.Bool.{cases_lt, le-leb}
 use Rattle.age_error.specs.Bytes.{AreBytes}
@@ -18,6 +18,7 @@ use Rattle.age_stream.specs.WellLaws.{well-single, well-length, onward, accepted
 use Rattle.age_stream.specs.Reading.{text_at}
 use Rattle.age_stream.specs.Targets.{in_length, below_start, IsToEnd}
 use Rattle.age_stream.proofs.Inner.{moved-by}
+use Rattle.age_stream.proofs.Sizes.{length-text, few-final, some-final, plain-whole, plain-most, last-limit}
 use Rattle.age_stream.proofs.Lengths.{plain_len-last}
 
 ok-by : (b : Bool) (r : Result ℕ Error) (n : ℕ) → (if b then r else Err TooLong) ≡ Ok n → r ≡ Ok n
@@ -126,12 +127,11 @@ module _ (opened : List ℕ → List ℕ → List ℕ → Option (List ℕ)) (ke
       let text = text_at number payload in
       let are : AreBytes text = All-take (λ x. x < 2 ^ 8) 65552 (drop (65552 * number) payload.bytes) (All-drop (λ x. x < 2 ^ 8) (65552 * number) payload.bytes bytes) in
       let short = law number true text one.0 are one.1 in
-      let t = length-take 65552 (drop (65552 * number) payload.bytes) in
-      let d = length-drop (65552 * number) payload.bytes in
-      elim (cases_lt 0 (length one.0)) [
-        | inl some ↦ omega (arith, h.less, h.enough, one.3 some, short, t, d)
-        | inr none ↦ omega (arith, h.less, h.enough, one.2 (omega (arith, none)), short, t, d)
-      ]
+      let long = length-text 65552 (65552 * number) payload.bytes in
+      let len = length payload.bytes in
+      let whole = plain-whole number (length text) (length one.0) len short long (few-final len) (some-final len number h.enough) in
+      last-limit number (length one.0) len whole (length (delivered opened key 0 payload).bytes) h.less
+      (plain-most number (length text) (length one.0) len short long) one.2 one.3
 
   -- what is sought in the payload is sought in the plaintext
   pub ok-well : (to : SeekFrom) (place n : ℕ) → in_length (plain_len (length payload.bytes)) to place ≡ Ok n → sought to place (length (delivered opened key 0 payload).bytes) ≡ Ok n

@@ -1,6 +1,6 @@
 -- What a `StreamReader`'s steps do to what it keeps and to what reads can still deliver.
 use Rattle.std.specs.Prelude.{◌≡◌, ℕ, ◌+◌, ◌-◌, ◌*◌, ◌^◌, ◌<◌, ◌≤◌, Option, Ok, Err, Bool, true, false, List, [], ◌∷◌, ◌++◌, length, take, drop, min}
-use Rattle.std.proofs.Common.{refl, sym, ap, subst, ◌∙◌, inl, inr, arith, length-append, length-take, length-drop, add-one, length-take-le}
+use Rattle.std.proofs.Common.{refl, sym, ap, subst, ◌∙◌, inl, inr, arith, length-append, length-drop, add-one, length-take-le}
 use Rattle.std.proofs.lemmas.List.{append-nil, take-append-drop, drop-drop, drop_all, take_all, append_assoc, drop_at, take_at, nil_from_length, drop-append-le}
 use Rattle.std.proofs.lemmas.List.Elements.{All-drop, All-take}
 use Rattle.std.proofs.lemmas.Bool.{cases_lt, true≢false}
@@ -8,12 +8,14 @@ use Rattle.age_error.specs.Bytes.{AreBytes}
 use Rattle.age_error.specs.declared.io.Error.{Error}
 use Rattle.age_io.specs.Stretch.{Stretch, nothing, from_place, stretch-ext, IsCleanEnd, IsFault}
 use Rattle.age_io.specs.Reading.{StandsIn, Delivers, EndsEarly}
+use Rattle.age_stream.specs.Payload.{nonce}
 use Rattle.age_stream.specs.OpeningLaws.{Shorter}
 use Rattle.age_stream.specs.Chunks.{chunk_of, prepend, after_last, delivered}
 use Rattle.age_stream.specs.ChunkLaws.{delivered-chunk, delivered-refused, delivered-cut}
 use Rattle.age_stream.specs.WellLaws.{accepted, delivered-nothing}
 use Rattle.age_stream.specs.Reading.{payload_at, text_at, behind, rest_of, spare, IsFront, IsHeld, IsPast, IsBefore, IsInside, IsSound}
 use Rattle.age_stream.specs.ReadingLaws.{taken-rest}
+use Rattle.age_stream.proofs.Sizes.{length-text, plain-inside}
 
 -- ---- lists
 
@@ -266,9 +268,9 @@ module _ (opened : List ℕ → List ℕ → List ℕ → Option (List ℕ)) (ke
       sym (length-append text after.bytes) ∙ sym (ap length came.bytes) ∙ ap length here ∙ length-drop (65552 * number) payload.bytes in
       let well : rest.ends_well ≡ payload.ends_well = ap (λ s. s.ends_well) inner in (
         record {
-          opens = rw is_text a.opens;
-          judged = λ _. rw is_text ok;
-          whole = λ less. let few : length text < 65552 = rw is_text at less in (sym well ∙ sym came.end ∙ (ended few).ends_well, short few);
+          opens = ap (opened key (nonce number last)) is_text ∙ a.opens;
+          judged = λ _. ap (chunk_of opened key number) is_text ∙ ok;
+          whole = λ less. let few = subst (λ (xs : List ℕ). length xs < 65552) is_text less in (sym well ∙ sym came.end ∙ (ended few).ends_well, short few);
           some = omega (arith, a.some, long);
         },
         record {
@@ -359,7 +361,7 @@ module _ (opened : List ℕ → List ℕ → List ℕ → Option (List ℕ)) (ke
           fits = sound.fits;
           inside = record {
             front = sound.inside.front;
-            inside = λ some. omega (arith, short, within, length-take 65552 (drop (65552 * number) payload.bytes), length-drop (65552 * number) payload.bytes);
+            inside = λ some. plain-inside number (length text) (length chunk) (length payload.bytes) short (length-text 65552 (65552 * number) payload.bytes) was.some (at + count) within;
           };
           before = λ _ shut. absurd (true≢false (sym is_held ∙ shut));
           is_held = λ _. record {

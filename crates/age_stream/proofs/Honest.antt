@@ -1,5 +1,5 @@
 -- The payload of a plaintext delivers it, and then a clean end.
-use Rattle.std.proofs.Common.{◌≡◌, ℕ, zero, suc, ◌+◌, ◌*◌, ◌<◌, ◌≤◌, ◌^◌, true, false, List, [], ◌++◌, length, take, drop, Option, Ok, refl, sym, ap, ◌∙◌, arith, length-take, length-drop, take-append-drop, zero-add}
+use Rattle.std.proofs.Common.{◌≡◌, ℕ, zero, suc, ◌+◌, ◌*◌, ◌<◌, ◌≤◌, ◌^◌, true, false, List, [], ◌++◌, length, take, drop, Option, Ok, refl, sym, ap, ◌∙◌, arith, length-drop, take-append-drop, zero-add}
 use Rattle.std.proofs.lemmas.List.{append-nil, drop-drop, drop_all}
 use Rattle.age_error.specs.Bytes.{AreBytes, AreBytesOf}
 use Rattle.age_io.specs.Stretch.{Stretch, whole, from_place, stretch-ext}
@@ -9,6 +9,7 @@ use Rattle.age_stream.specs.Chunks.{chunk_of, prepend, delivered}
 use Rattle.age_stream.specs.ChunkLaws.{delivered-chunk}
 use Rattle.age_stream.specs.Reading.{text_at}
 use Rattle.age_stream.specs.FrontToEnd.{IsAllowed}
+use Rattle.age_stream.proofs.Sizes.{full-text, text-most, not-short, few-left}
 use Rattle.age_stream.proofs.Cuts.{cut_rest}
 use Rattle.age_stream.proofs.Payloads.{held-middle, held-last, payload-bytes, length-payload, length-full_piece, length-last_piece}
 use Rattle.age_stream.proofs.Judged.{next_place, held-judged_middle, held-judged_last}
@@ -33,8 +34,9 @@ module _ (seal_of : Seal) (opened : List ℕ → List ℕ → List ℕ → Optio
       let text = take 65552 rest in
       let more = drop 65552 rest in
       let all : text ++ more ≡ rest = take-append-drop 65552 rest in
-      let size : length text ≡ 65552 = omega (arith, length-take 65552 rest, length-drop (65552 * number) s.bytes) in
-      let is_so = delivered-chunk opened key number text more s.ends_well plain false (omega arith) (λ short. absurd (omega arith)) (λ short. absurd (omega arith)) is in
+      let size = full-text 65552 (65552 * number) s.bytes full in
+      let is_so = delivered-chunk opened key number text more s.ends_well plain false (text-most 65552 rest) (λ short. absurd (not-short (length text) size short))
+      (λ short. absurd (not-short (length text) size short)) is in
       rw all at is_so ∙ ap (λ d. prepend plain (delivered opened key (suc number) d)) (next_place number s)
 
   -- the last chunk, and a clean end
@@ -46,8 +48,8 @@ module _ (seal_of : Seal) (opened : List ℕ → List ℕ → List ℕ → Optio
       let text = take 65552 rest in
       let more = drop 65552 rest in
       let all : text ++ more ≡ rest = take-append-drop 65552 rest in
-      let none : more ≡ [] = drop_all 65552 rest (omega (arith, length-drop (65552 * number) sealed)) in
-      let is_so = delivered-chunk opened key number text more true plain true (omega (arith, length-take 65552 rest)) (λ short. (none, refl)) (λ short. refl) is in
+      let none : more ≡ [] = drop_all 65552 rest (few-left (length rest) (length sealed) (65552 * number) (length-drop (65552 * number) sealed) few) in
+      let is_so = delivered-chunk opened key number text more true plain true (text-most 65552 rest) (λ short. (none, refl)) (λ short. refl) is in
       rw all at is_so ∙ rw (none, append-nil) refl
 
   module _ (plain : List ℕ) (b : AreBytes plain) (most : length plain ≤ 2 ^ 60) (apart : LastIsNoMiddle seal_of key plain) where

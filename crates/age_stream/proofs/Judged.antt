@@ -1,6 +1,6 @@
 -- What the verdict on a chunk says in the words of the definition.
 use Rattle.std.specs.Prelude.{nat_lt, cond, option_map}
-use Rattle.std.proofs.Common.{◌≡◌, ℕ, suc, ◌+◌, ◌*◌, ◌<◌, ◌≤◌, ◌^◌, ◌⊎◌, inl, inr, Bool, true, false, List, [], ◌∷◌, length, drop, Option, Some, None, Result, Ok, Err, refl, sym, ap, ◌∙◌, arith, length-take, length-drop}
+use Rattle.std.proofs.Common.{◌≡◌, ℕ, suc, ◌+◌, ◌*◌, ◌<◌, ◌≤◌, ◌^◌, ◌⊎◌, inl, inr, Bool, true, false, List, [], ◌∷◌, length, drop, Option, Some, None, Result, Ok, Err, refl, sym, ap, ◌∙◌, arith}
 use Rattle.std.proofs.lemmas.List.{nil_from_length, drop-drop}
 use Rattle.std.proofs.lemmas.Bool.{cases_lt, lt-ltb, ltb-true, ltb-false, true≢false}
 use Rattle.std.proofs.lemmas.Bool.Decides.{eqb_tells}
@@ -15,6 +15,7 @@ use Rattle.age_stream.specs.Chunks.{Chunk, is_empty, allowed, allowed_if, opened
 use Rattle.age_stream.specs.WellLaws.{Accepted, accepted}
 use Rattle.age_stream.specs.Reading.{text_at}
 use Rattle.age_stream.specs.FrontToEnd.{IsAllowed, StopsAt}
+use Rattle.age_stream.proofs.Sizes.{full-within, some-within, none-past, is-none, is-full, is-sealed}
 use Rattle.age_stream.proofs.FrontToEnd.{chunk-bytes, not_middle, held_middle, held_last, is_bad, middle_plain-size}
 
 -- a reader's text of a chunk is the definition's
@@ -125,13 +126,6 @@ module _ (seal_of : Seal) (opened : List ℕ → List ℕ → List ℕ → Optio
   abbrev text_of : ℕ → List ℕ
   text_of number = text_at number (whole sealed)
 
-  -- the text stands in the payload, or is empty
-  length-text : (number : ℕ) → 65552 * number + length (text_of number) ≤ length sealed ⊎ (length (text_of number) ≡ 0)
-  length-text number = elim (cases_lt (length sealed) (65552 * number)) [
-    | inl past ↦ inr (omega (arith, length-take 65552 (drop (65552 * number) sealed), length-drop (65552 * number) sealed))
-    | inr within ↦ inl (omega (arith, length-take 65552 (drop (65552 * number) sealed), length-drop (65552 * number) sealed))
-  ]
-
   -- what a reader's text opens to, the chunk does
   pub opens_chunk : (number : ℕ) (last : Bool) (o : Option (List ℕ)) → opened key (nonce number last) (text_of number) ≡ o →
       opened key (nonce number last) (chunk number sealed) ≡ o
@@ -140,7 +134,7 @@ module _ (seal_of : Seal) (opened : List ℕ → List ℕ → List ℕ → Optio
   -- what opens as a middle chunk is held as one
   middle-held : (number : ℕ) (plain : List ℕ) → length (text_of number) ≡ 65552 → opened key (nonce number false) (text_of number) ≡ Some plain →
       HeldAsMiddle seal_of key sealed number plain
-  middle-held number plain full is = held_middle seal_of opened law key k sealed b number plain (omega (arith, length-text number)) (opens_chunk number false (Some plain) is)
+  middle-held number plain full is = held_middle seal_of opened law key k sealed b number plain (full-within 65552 (65552 * number) sealed (omega arith) full) (opens_chunk number false (Some plain) is)
 
   -- what is short, or doesn't open as a middle chunk, isn't held as one
   middle-none : (number : ℕ) → 0 < length (text_of number) → (length (text_of number) ≡ 65552 → opened key (nonce number false) (text_of number) ≡ None) →
@@ -196,13 +190,13 @@ module _ (seal_of : Seal) (opened : List ℕ → List ℕ → List ℕ → Optio
     | inl some ↦ elim (judged_by opened key number (text_of number) some) [
       | inl middle ↦ refused-middle number middle.0 e (middle-held number middle.0 middle.1 middle.2) (sym middle.3 ∙ is)
       | inr by ↦
-          refused-last number (opened key (nonce number true) (text_of number)) e (omega (arith, length-text number))
+          refused-last number (opened key (nonce number true) (text_of number)) e (some-within 65552 (65552 * number) sealed some)
           (opens_chunk number true _ refl) (middle-none number some by.0) (sym by.1 ∙ is)
     ]
     | inr none ↦
-        let empty : text_of number ≡ [] = nil_from_length (text_of number) (omega arith) in
+        let empty : text_of number ≡ [] = nil_from_length (text_of number) (is-none (length (text_of number)) none) in
         let at_end : e ≡ Truncated = (let h : chunk_of opened key number [] ≡ Err e = rw empty at is in cc (chunk_of-none opened key number, h)) in
-        rw at_end (omega (arith, length-take 65552 (drop (65552 * number) sealed), length-drop (65552 * number) sealed))
+        rw at_end (none-past 65552 (65552 * number) sealed (omega arith) none within)
   ]
 
   -- bytes follow a chunk that is accepted as the last
@@ -223,9 +217,10 @@ module _ (seal_of : Seal) (opened : List ℕ → List ℕ → List ℕ → Optio
   pub held-judged_middle : (number : ℕ) (plain : List ℕ) → HeldAsMiddle seal_of key sealed number plain → IsAllowed number plain →
       chunk_of opened key number (text_of number) ≡ Ok (plain, false)
   held-judged_middle number plain held allowed_so =
-      let full : length (text_of number) ≡ 65552 = ap length (text_chunk number (whole sealed)) ∙ held.full in
+      let same_length = ap length (text_chunk number (whole sealed)) in
+      let full : length (text_of number) ≡ 65552 = same_length ∙ held.full in
       let opens = opens_held number false plain held.bytes held.is_seal in
-      elim (judged_by opened key number (text_of number) (omega arith)) [
+      elim (judged_by opened key number (text_of number) (is-full (length (text_of number)) (length (chunk number sealed)) same_length held.full)) [
         | inl middle ↦
             let same : middle.0 ≡ plain = cc (sym middle.2 ∙ opens) in
             middle.3 ∙ rw same (allowed-ok number plain false allowed_so)
@@ -238,7 +233,9 @@ module _ (seal_of : Seal) (opened : List ℕ → List ℕ → List ℕ → Optio
   held-judged_last number plain held allowed_so =
       let opens = opens_held number true plain held.bytes held.is_seal in
       let size = (law.seal_is_longer key (nonce number true) plain k (nonce-bytes number true) held.bytes).len in
-      let some : 0 < length (text_of number) = omega (arith, ap length (text_chunk number (whole sealed)), ap length held.is_seal) in
+      let some : 0 < length (text_of number) =
+      is-sealed (length (text_of number)) (length (chunk number sealed)) (length (seal_of key (nonce number true) plain)) (length plain)
+      (ap length (text_chunk number (whole sealed))) (ap length held.is_seal) size in
       elim (judged_by opened key number (text_of number) some) [
         | inl middle ↦ absurd (held.not_middle middle.0 (middle-held number middle.0 middle.1 middle.2))
         | inr by ↦ by.1 ∙ rw opens (allowed-ok number plain true allowed_so)

@@ -1,6 +1,6 @@
 -- The last chunk of a payload, opened by a seek to the end.
 use Rattle.std.specs.Prelude.{◌≡◌, ℕ, ◌+◌, ◌-◌, ◌*◌, ◌^◌, ◌<◌, ◌≤◌, Option, Some, None, Bool, true, List, [], length, take, drop}
-use Rattle.std.proofs.Common.{refl, sym, ap, ◌∙◌, inl, inr, arith, length-append, length-take, length-drop}
+use Rattle.std.proofs.Common.{refl, sym, ap, subst, ◌∙◌, inl, inr, arith, length-append, length-drop}
 use Rattle.std.proofs.lemmas.List.{drop_all, nil_from_length}
 use Rattle.std.proofs.lemmas.List.Elements.{All-drop, All-take}
 use Rattle.std.proofs.lemmas.Bool.{cases_lt, true≢false}
@@ -10,6 +10,8 @@ use Rattle.age_io.specs.Reading.{EndsEarly}
 use Rattle.age_stream.specs.Payload.{nonce}
 use Rattle.age_stream.specs.OpeningLaws.{Shorter}
 use Rattle.age_stream.specs.Reading.{text_at, IsHeld, IsPast, IsInside, IsLastChunk}
+use Rattle.age_stream.specs.Chunks.{chunk_of}
+use Rattle.age_stream.proofs.Sizes.{length-text, plain-whole, plain-inside}
 use Rattle.age_stream.proofs.Holding.{TookText, front_of}
 use Rattle.age_stream.proofs.Judged.{judged-short}
 
@@ -62,18 +64,18 @@ module _ (opened : List ℕ → List ℕ → List ℕ → Option (List ℕ)) (ke
   pub last-held : (payload after : Stretch) (number at : ℕ) (text plain : List ℕ) → IsLastText payload after number text → IsLastChunk (length payload.bytes) number →
       number < 2 ^ 44 → length plain + 16 ≡ length text → at ≡ length plain → opened key (nonce number true) text ≡ Some plain → IsHeld opened key payload number true at plain
   last-held payload after number at text plain t last few longer given is = record {
-    opens = rw t.is is;
+    opens = ap (opened key (nonce number true)) t.is ∙ is;
     judged = λ apart. elim (cases_lt (length text) 65552) [
-      | inl less ↦ rw t.is (judged-short opened key number text plain less (omega (arith, longer)) (λ some. omega (arith, last.more some, t.long, longer)) few is)
+      | inl less ↦ ap (chunk_of opened key number) t.is ∙ judged-short opened key number text plain less (omega (arith, longer)) (λ some. omega (arith, last.more some, t.long, longer)) few is
       | inr full ↦ absurd (apart (record { is_last = refl; none = last.fits; full = omega (arith, full, t.most, longer, given) }))
     ];
-    whole = λ less. let few_bytes : length text < 65552 = rw t.is at less in (t.ended few_bytes, refl);
+    whole = λ less. (t.ended (subst (λ (xs : List ℕ). length xs < 65552) t.is less), refl);
     some = omega (arith, last.enough);
   }
 
   pub last-none : (payload after : Stretch) (number : ℕ) (text : List ℕ) → IsLastText payload after number text →
       opened key (nonce number true) text ≡ None → opened key (nonce number true) (text_at number payload) ≡ None
-  last-none payload after number text t is = rw t.is is
+  last-none payload after number text t is = ap (opened key (nonce number true)) t.is ∙ is
 
   module _ (law : Shorter opened key) where
     -- how long the text of the chunk that is held is
@@ -86,12 +88,14 @@ module _ (opened : List ℕ → List ℕ → List ℕ → Option (List ℕ)) (ke
     pub held-length : (payload : Stretch) (number at : ℕ) (last : Bool) (chunk : List ℕ) → AreBytes payload.bytes → IsHeld opened key payload number last at chunk →
         length payload.bytes ≤ 65552 * number + 65552 → length chunk + 16 + 65552 * number ≡ length payload.bytes
     held-length payload number at last chunk bytes held fits =
-        omega (arith, text-held payload number at last chunk bytes held, length-take 65552 (drop (65552 * number) payload.bytes), length-drop (65552 * number) payload.bytes, held.some)
+        plain-whole number (length (text_at number payload)) (length chunk) (length payload.bytes) (text-held payload number at last chunk bytes held)
+        (length-text 65552 (65552 * number) payload.bytes) fits held.some
 
     -- a place in the chunk that is held is in the payload
     pub inside-held : (payload : Stretch) (number at new_at : ℕ) (last : Bool) (chunk : List ℕ) → AreBytes payload.bytes → IsHeld opened key payload number last at chunk →
         new_at ≤ length chunk → IsInside (length payload.bytes) number new_at
     inside-held payload number at new_at last chunk bytes held within = record {
       front = omega (arith, held.some);
-      inside = λ some. omega (arith, text-held payload number at last chunk bytes held, within, length-take 65552 (drop (65552 * number) payload.bytes), length-drop (65552 * number) payload.bytes);
+      inside = λ some. plain-inside number (length (text_at number payload)) (length chunk) (length payload.bytes) (text-held payload number at last chunk bytes held)
+          (length-text 65552 (65552 * number) payload.bytes) held.some new_at within;
     }

@@ -1,3 +1,4 @@
+pub mod Sizes
 pub mod Cuts
 pub mod Payloads
 pub mod FrontToEnd

@@ -1,6 +1,6 @@
 -- What reads can still deliver stands in the plaintext, also where the payload is bad.
 use Rattle.std.specs.Prelude.{◌≡◌, ◌⊎◌, ℕ, ◌+◌, ◌-◌, ◌*◌, ◌/◌, ◌<◌, ◌≤◌, Option, Some, Ok, Err, Result, Bool, ◌&&◌, true, false, cond, List, [], ◌∷◌, ◌++◌, length, take, drop}
-use Rattle.std.proofs.Common.{zero, suc, get_or, refl, sym, ap, subst, ◌∙◌, inl, inr, arith, length-append, length-drop, length-take}
+use Rattle.std.proofs.Common.{zero, suc, get_or, refl, sym, ap, subst, ◌∙◌, inl, inr, arith, length-append, length-drop}
 use Rattle.std.proofs.Math.Seq.{drop-nil}
 use Rattle.std.proofs.lemmas.Bool.{cases_lt, true≢false}
 use Rattle.std.proofs.lemmas.List.{append-nil, take_all, drop-drop, get_or-drop, get_or_append_left, nil_from_length}
@@ -18,6 +18,7 @@ use Rattle.age_stream.specs.Reading.{payload_at, text_at, behind, rest_of, IsHel
 use Rattle.age_stream.specs.ReadingLaws.{taken-rest}
 use Rattle.age_stream.specs.Answering.{IsHeldAs, IsByteAt, StandAt, IsGoodEnd}
 use Rattle.age_stream.proofs.Judged.{judged-middle, judged-last, ends_last}
+use Rattle.age_stream.proofs.Sizes.{length-text, some-within, below-most, plain-most, plain-full, plain-whole, last-by_length, last-place}
 use Rattle.age_stream.proofs.Lengths.{plain_len-last}
 use Rattle.age_stream.proofs.Answered.{good-end}
 use Rattle.age_stream.proofs.Holding.{rest_failed, rest-held, rest-open}
@@ -41,16 +42,16 @@ module _ (seal_of : Seal) (opened : List ℕ → List ℕ → List ℕ → Optio
       let a = accepted opened key number (text_of number) plain last is in
       let less = shorter seal_of opened law key k number last (text_of number) plain
       (All-take (λ x. x < 256) 65552 (drop (65552 * number) sealed) (All-drop (λ x. x < 256) (65552 * number) sealed b)) a.opens in
-      let most : length plain ≤ 65536 = omega (arith, less, length-take 65552 (drop (65552 * number) sealed)) in (
+      let most = plain-most number (length (text_of number)) (length plain) (length sealed) less (length-text 65552 (65552 * number) sealed) in (
         most,
-        λ middle. omega (arith, less, a.full middle),
+        λ middle. plain-full number (length (text_of number)) (length plain) (length sealed) less (a.full middle),
         λ i within. record {
           number = number;
           at = i;
           last = last;
           plain = plain;
           stands = refl;
-          under = omega (arith, within, most);
+          under = below-most i (length plain) 65536 within most;
           within = within;
           bytes = seal.0;
           is_seal = seal.1;
@@ -186,21 +187,15 @@ module _ (seal_of : Seal) (opened : List ℕ → List ℕ → List ℕ → Optio
   last-good number plain is few well =
       let text = text_at number payload in
       let a = accepted opened key number text plain true is in
-      let short = shorter seal_of opened law key k number true text plain
-      (All-take (λ x. x < 256) 65552 (drop (65552 * number) payload.bytes) (All-drop (λ x. x < 256) (65552 * number) payload.bytes b)) a.opens in
-      let long = length-take 65552 (drop (65552 * number) payload.bytes) in
-      let left = length-drop (65552 * number) payload.bytes in
       let some : 0 < number → 0 < length plain = λ later. elim (cases_lt 0 (length plain)) [
         | inl byte ↦ byte
         | inr empty ↦ absurd (omega (arith, later, a.first (omega (arith, empty))))
       ] in
-      let whole : length plain + 16 + 65552 * number ≡ length payload.bytes = omega (arith, short, long, left, few, a.some) in
-      let by_length = plain_len-last (length payload.bytes) number (record {
-        fits = few;
-        enough = omega (arith, whole);
-        more = λ later. omega (arith, whole, some later);
-      }) in
-      let place : length payload.bytes - 16 * (number + 1) ≡ 65536 * number + length plain = omega (arith, whole) in
+      let are : AreBytes text = All-take (λ x. x < 256) 65552 (drop (65552 * number) payload.bytes) (All-drop (λ x. x < 256) (65552 * number) payload.bytes b) in
+      let whole = plain-whole number (length text) (length plain) (length payload.bytes) (shorter seal_of opened law key k number true text plain are a.opens)
+      (length-text 65552 (65552 * number) payload.bytes) few (some-within 65552 (65552 * number) payload.bytes a.some) in
+      let by_length = plain_len-last (length payload.bytes) number (last-by_length number (length plain) (length payload.bytes) whole few some) in
+      let place = last-place number (length plain) (length payload.bytes) whole in
       record {
         ends_well = well;
         length_is = by_length.1 ∙ ap (λ n. Some n) place;

@@ -235,7 +235,9 @@ returns-in-Err-enter_end-clause-seeks g c =
           let size : c.in-Ok.size ≡ length payload.bytes = (look.found told).2 in
           let num = final_chunk c.in-Ok.size in
           let moved = subst (λ p. suite.opened mid.key (nonce num true) (text_at num p) ≡ None) (look.payload told) none in
-          absurd (last-opens suite.opened self.key law payload (are told) well (rw (same_key, size) at moved));
+          let same = subst (λ k. suite.opened k (nonce num true) (text_at num payload) ≡ None) same_key moved in
+          absurd (last-opens suite.opened self.key law payload (are told) well
+          (subst (λ n. suite.opened self.key (nonce (final_chunk n) true) (text_at (final_chunk n) payload) ≡ None) size same));
     }
 
 pub returns-in-Ok-enter-clause-seeks : goal.returns-in-Ok-enter-clause-seeks
@@ -517,7 +519,8 @@ returns-in-Ok-enter_end-clause-ends g c =
     let opens = subst (λ p. suite.opened new.key (nonce new.number new.last) (text_at new.number p) ≡ Some new.chunk.items) same held.opens in
     let number : new.number ≡ final_chunk (length payload.bytes) = done.good.3 ∙ ap final_chunk size in
     ends_last suite.seal_of suite.opened g.met.S.Suite.cipher self.key self.key_bytes payload.bytes (are told) new.number new.chunk.items number
-    (rw (done.key ∙ look.same.5, done.good.2) at opens)
+    (subst (λ k. suite.opened k (nonce new.number true) (text_at new.number payload) ≡ Some new.chunk.items) (done.key ∙ look.same.5)
+    (subst (λ b. suite.opened new.key (nonce new.number b) (text_at new.number payload) ≡ Some new.chunk.items) done.good.2 opens))
 
 pub returns-in-Err-enter_end-clause-bad : goal.returns-in-Err-enter_end-clause-bad
 returns-in-Err-enter_end-clause-bad g c =
@@ -543,13 +546,14 @@ returns-in-Err-enter_end-clause-bad g c =
     let bad = done.cause (later told) inner memory calm in
     let num = final_chunk c.in-Ok.size in
     let moved = subst (λ p. suite.opened mid.key (nonce num true) (text_at num p) ≡ None) (look.payload told) bad.1 in
-    let same_key : mid.key ≡ self.key = look.same.5 in
+    let same = subst (λ k. suite.opened k (nonce num true) (text_at num payload) ≡ None) look.same.5 moved in
     inr (
       bad.0,
       record {
         end = (is-end c.args.to place (length payload.bytes) c.in-Ok-find.target c.in-Ok-find.len (rw size at c.in-Ok-find.ensures.plain)
             (sym c.is_below_start.ensures ∙ c.if-is_below_start.false) (rw size at c.in-Ok-find.ensures.ok) c.if-target-len.true);
-        bad = ends_badly suite.seal_of suite.opened g.met.S.Suite.cipher self.key self.key_bytes payload.bytes (are told) (rw (same_key, size) at moved);
+        bad = ends_badly suite.seal_of suite.opened g.met.S.Suite.cipher self.key self.key_bytes payload.bytes (are told)
+            (subst (λ n. suite.opened self.key (nonce (final_chunk n) true) (text_at (final_chunk n) payload) ≡ None) size same);
       },
     )
 
