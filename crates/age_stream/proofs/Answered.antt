@@ -13,7 +13,7 @@ use Rattle.age_io.specs.Reading.{StandsIn, Delivers}
 use Rattle.age_stream.specs.Payload.{Seal, nonce}
 use Rattle.age_stream.specs.OpeningLaws.{shorter}
 use Rattle.age_stream.specs.ReadingLaws.{at_full_end}
-use Rattle.age_stream.proofs.Lengths.{length-text, no-more, plain-whole, last-by_length, last-place}
+use Rattle.age_stream.proofs.TextLengths.{length-text, no-more, plain-whole, last-by_length, last-place}
 use Rattle.age_stream.proofs.Lengths.{plain_len-last}
 use Rattle.age_stream.specs.Chunks.{chunk_of, delivered}
 use Rattle.age_stream.specs.FrontToEnd.{StopsAt}

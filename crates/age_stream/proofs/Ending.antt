@@ -18,7 +18,7 @@ use Rattle.age_stream.specs.WellLaws.{well-single, well-length, onward, accepted
 use Rattle.age_stream.specs.Reading.{text_at}
 use Rattle.age_stream.specs.Targets.{in_length, below_start, IsToEnd}
 use Rattle.age_stream.proofs.Inner.{moved-by}
-use Rattle.age_stream.proofs.Lengths.{length-text, few-final, some-final, plain-whole, plain-most, last-limit}
+use Rattle.age_stream.proofs.TextLengths.{length-text, few-final, some-final, plain-whole, plain-most, last-limit}
 use Rattle.age_stream.proofs.Lengths.{plain_len-last}
 
 ok-by : (b : Bool) (r : Result ℕ Error) (n : ℕ) → (if b then r else Err TooLong) ≡ Ok n → r ≡ Ok n

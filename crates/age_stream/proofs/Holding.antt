@@ -15,7 +15,7 @@ use Rattle.age_stream.specs.ChunkLaws.{delivered-chunk, delivered-refused, deliv
 use Rattle.age_stream.specs.WellLaws.{accepted, delivered-nothing}
 use Rattle.age_stream.specs.Reading.{payload_at, text_at, behind, rest_of, spare, IsFront, IsHeld, IsPast, IsBefore, IsInside, IsSound}
 use Rattle.age_stream.specs.ReadingLaws.{taken-rest}
-use Rattle.age_stream.proofs.Lengths.{length-text, plain-inside}
+use Rattle.age_stream.proofs.TextLengths.{length-text, plain-inside}
 
 -- ---- lists
 

@@ -15,7 +15,7 @@ use Rattle.age_stream.specs.Chunks.{Chunk, is_empty, allowed, allowed_if, opened
 use Rattle.age_stream.specs.WellLaws.{Accepted, accepted}
 use Rattle.age_stream.specs.Reading.{text_at}
 use Rattle.age_stream.specs.FrontToEnd.{IsAllowed, StopsAt}
-use Rattle.age_stream.proofs.Lengths.{full-within, some-within, none-past, is-none, is-full, is-sealed}
+use Rattle.age_stream.proofs.TextLengths.{full-within, some-within, none-past, is-none, is-full, is-sealed}
 use Rattle.age_stream.proofs.FrontToEnd.{chunk-bytes, not_middle, held_middle, held_last, is_bad, middle_plain-size}
 
 -- a reader's text of a chunk is the definition's

@@ -18,7 +18,7 @@ use Rattle.age_stream.specs.Reading.{payload_at, text_at, behind, rest_of, IsHel
 use Rattle.age_stream.specs.ReadingLaws.{taken-rest}
 use Rattle.age_stream.specs.Answering.{IsHeldAs, IsByteAt, StandAt, IsGoodEnd}
 use Rattle.age_stream.proofs.Judged.{judged-middle, judged-last, ends_last}
-use Rattle.age_stream.proofs.Lengths.{length-text, some-within, below-most, plain-most, plain-full, plain-whole, last-by_length, last-place}
+use Rattle.age_stream.proofs.TextLengths.{length-text, some-within, below-most, plain-most, plain-full, plain-whole, last-by_length, last-place}
 use Rattle.age_stream.proofs.Lengths.{plain_len-last}
 use Rattle.age_stream.proofs.Answered.{good-end}
 use Rattle.age_stream.proofs.Holding.{rest_failed, rest-held, rest-open}
