@@ -13,7 +13,7 @@ returns-in-Err-open_file-clause-plaintext g c = λ told well file plain carries 
     (subst (λ (l : List ℕ). IsFileFor g.S.Suite.seal_of (FirstAnswer g.I.Identity.unwraps c.args.identities.now) plain l) (sym (ap (λ s. s.bytes) rest)) for)
     (λ t. never t.source.inner.inner)
 
-pub returns-in-Ok-open_file-clause-plaintext : goal.returns-clause-plaintext
+pub returns-in-Ok-open_file-clause-plaintext : goal.returns-in-Ok-open_file-clause-plaintext
 returns-in-Ok-open_file-clause-plaintext g c = λ told well file plain carries for.
     let made = c.in-Ok.ensures in
     let rest : armored_rest c.in-Ok.text ≡ whole file = made.honest file well carries in

@@ -30,7 +30,7 @@ returns g c = λ fits.
     let opened : IsFileOf seal_of key h.stanzas back text = subst (λ bytes. IsFileOf seal_of key h.stanzas back bytes) is given.1 in
     let same_stanzas = c.one_plaintext.ensures.header prepared.file_key key prepared.stanzas h.stanzas plain back text written opened in
     let same_key : key ≡ prepared.file_key =
-    fits c.args.draw.old _ prepared key _ c.in_ok-encryptor.ensures (rw (is_key, ← same_stanzas) at first) in
+    fits c.args.draw.now _ prepared key _ c.in_ok-encryptor.ensures (rw (is_key, ← same_stanzas) at first) in
     let plain_bytes : AreBytes plain = search rules in
     let back_bytes : AreBytes back = search rules in
     c.one_plaintext.ensures.plaintext prepared.file_key h.stanzas prepared.stanzas back plain text back_bytes plain_bytes (rw same_key at opened) written
