@@ -1,4 +1,4 @@
-use Rattle.std.proofs.Common.{rules, ◌≡◌, ◌∙◌, refl, sym, ap, subst, Ok}
+use Rattle.std.proofs.Common.{rules, ◌≡◌, ◌∙◌, refl, sym, ap, subst, Ok, List, ℕ}
 use Rattle.age.specs.Bytes.{AreBytes}
 use Rattle.age.specs.Stretch.{whole, stretch-ext}
 use Rattle.age.specs.Decryptor.{header_of}
@@ -29,8 +29,10 @@ returns g c = λ fits.
     let given = opens.file refl (whole c.in_ok-file.file.items) 0 back front all in
     let opened : IsFileOf seal_of key h.stanzas back text = subst (λ bytes. IsFileOf seal_of key h.stanzas back bytes) is given.1 in
     let same_stanzas = c.one_plaintext.ensures.header prepared.file_key key prepared.stanzas h.stanzas plain back text written opened in
+    let asked = rw (← same_stanzas) at first in
     let same_key : key ≡ prepared.file_key =
-    fits c.args.draw.now _ prepared key _ c.in_ok-encryptor.ensures (rw (is_key, ← same_stanzas) at first) in
+    fits c.args.draw.now _ prepared key _ c.in_ok-encryptor.ensures (rw is_key at asked) in
     let plain_bytes : AreBytes plain = search rules in
     let back_bytes : AreBytes back = search rules in
-    c.one_plaintext.ensures.plaintext prepared.file_key h.stanzas prepared.stanzas back plain text back_bytes plain_bytes (rw same_key at opened) written
+    c.one_plaintext.ensures.plaintext prepared.file_key h.stanzas prepared.stanzas back plain text back_bytes plain_bytes
+    (subst (λ (k : List ℕ). IsFileOf seal_of k h.stanzas back text) same_key opened) written
