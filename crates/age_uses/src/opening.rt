@@ -15,24 +15,24 @@ use age::suite::Suite;
 use age::{DecryptError, Decryptor, Identity};
 use std::alloc::Global;
 
-/// Opens the bare file that `text` gives from where it stands: the reader of its plaintext, by one of the identities.
+/// Opens the bare file that `bytes` gives from where it stands: the reader of its plaintext, by one of the identities.
 ///
-/// Where the text ends well and is a file for the identities, the reader stands before the file's plaintext, and it is refused for
+/// Where what they give ends well and is a file for the identities, the reader stands before the file's plaintext, and it is refused for
 /// want of memory alone, or after a fault of the device. It refuses as `Decryptor::new`, and then no identity was asked, and as
-/// `Decryptor::decrypt`; the text is gone then.
+/// `Decryptor::decrypt`; they are gone then.
 pub fn open_file<S: Suite, I: Identity, T: Read + Drop>(
     alloc: Global,
     identities: &mut [I],
-    text: T,
+    bytes: T,
 ) -> Result<StreamReader<S, T>, DecryptError>
-    ensures tells { IfOk result (λ stream. ⟦<StreamReader<S, T> as Read>⟧.tells stream ≡ (T.tells text && T.steady text)) }
-    ensures plaintext { IsTrue (T.tells text && T.steady text) → IsTrue (T.rest text).ends_well → (plain : List ℕ) →
-        IsFileFor S.seal_of (FirstAnswer I.unwraps identities.old) plain (T.rest text).bytes →
+    ensures tells { IfOk result (λ stream. ⟦<StreamReader<S, T> as Read>⟧.tells stream ≡ (T.tells bytes && T.steady bytes)) }
+    ensures plaintext { IsTrue (T.tells bytes && T.steady bytes) → IsTrue (T.rest bytes).ends_well → (plain : List ℕ) →
+        IsFileFor S.seal_of (FirstAnswer I.unwraps identities.old) plain (T.rest bytes).bytes →
         MatchResult result (λ stream. StandsBefore plain stream) (λ e. ((t : T) → T.faults t ≡ 0) → decrypt_refusal e ≡ OutOfMemory) }
 {
     front_is_accepted::<T>();
     file_opens::<S, T>();
-    match Decryptor::<S, T>::new(alloc, text) {
+    match Decryptor::<S, T>::new(alloc, bytes) {
         Err(error) => Err(error),
         Ok(decryptor) => decryptor.decrypt(alloc, identities),
     }
@@ -54,11 +54,11 @@ pub fn open<S: Suite, I: Identity, R: Read + Drop>(
         Carries (R.rest reader).bytes file → IsFileFor S.seal_of (FirstAnswer I.unwraps identities.old) plain file →
         MatchResult result (λ stream. StandsBefore plain stream) (λ e. ((r : R) → R.faults r ≡ 0) → IsWant e) }
 {
-    let text = match ArmoredReader::new(alloc, reader) {
+    let bytes = match ArmoredReader::new(alloc, reader) {
         Err(error) => return Err(Error::Io(error)),
-        Ok(text) => text,
+        Ok(bytes) => bytes,
     };
-    match open_file::<S, I, ArmoredReader<BufReader<R>>>(alloc, identities, text) {
+    match open_file::<S, I, ArmoredReader<BufReader<R>>>(alloc, identities, bytes) {
         Err(error) => Err(Error::Decrypt(error)),
         Ok(stream) => Ok(stream),
     }
