@@ -16,6 +16,11 @@ stamped() {
 
 # Before the long part: `rt ci` passes over a line of an edit that it doesn't know, and would try less than the edit says.
 edits/run.sh --apply || exit 1
+if ! diff <(sed -n '/^```rust$/,/^```$/p' README.md | sed '1d;$d') <(grep -v '^//[!/]' crates/age_uses/src/there_and_back.rt); then
+    echo "README's example isn't that of age_uses"
+    echo "0 passed, 1 failed"
+    exit 1
+fi
 
 rt ci 2>&1 | tee "$log/gate" | stamped || status=1
 gate=$(grep -E '^[0-9]+ passed, [0-9]+ failed$' "$log/gate" | tail -n 1)

@@ -1,5 +1,4 @@
 -- lemmas on the definitions that are passed on, layer by layer
-pub use Rattle.age_suite.proofs.Digests
 pub use Rattle.age_io.proofs.Delivering
 pub use Rattle.age_base64.proofs.Columns
 pub use Rattle.age_stream.proofs.Standing as StreamStanding

@@ -25,6 +25,7 @@ pub use Rattle.age_error.specs.ResolveErrors
 -- primitives: age_suite
 pub use Rattle.age_suite.specs.Suite
 pub use Rattle.age_suite.specs.Mac
+pub use Rattle.age_suite.proofs.Digests
 pub use Rattle.age_suite.specs.Draw
 -- readers and writers: age_io
 pub use Rattle.age_io.specs.Stretch

@@ -25,7 +25,7 @@ pub mod io {
     pub use age_error::io::{Error, ErrorKind, SeekFrom};
     pub use age_io::{
         Answer, BufRead, BufReader, Bytes, Op, Read, Seek, Std, Write, fill, flush_retrying,
-        is_refusal, place_at, read_exact, read_retrying, read_to_end, room_for, run, seek_retrying,
+        is_outside, place_at, read_exact, read_retrying, read_to_end, room_for, run, seek_retrying,
         sought, unrefused, write_all, write_retrying,
     };
 
@@ -42,7 +42,7 @@ pub mod suite {
 
     /// What is true of bytes, for proofs alone.
     pub mod laws {
-        pub use age_suite::suite::{known_array, known_bytes};
+        pub use age_error::bytes::{known_array, known_bytes};
     }
 }
 
@@ -101,9 +101,9 @@ pub mod plugin {
 /// The payload of a file: the plaintext in sealed chunks.
 pub mod stream {
     pub use age_stream::nonce::nonce_of;
-    pub use age_stream::reader::{MOST_CHUNKS, SEALED_CHUNK, StreamReader};
-    pub use age_stream::whole::{open_whole, seal_whole};
-    pub use age_stream::writer::{CHUNK, ChunkRoom, LONGEST_PLAINTEXT, StreamWriter};
+    pub use age_stream::reader::StreamReader;
+    pub use age_stream::sizes::{CHUNK, LONGEST_PLAINTEXT, MOST_CHUNKS, PIECE};
+    pub use age_stream::writer::{ChunkRoom, StreamWriter};
 
     /// What is true of payloads, of their readers and of their writers, for proofs alone.
     pub mod laws {

@@ -4,7 +4,7 @@ use Rattle.std.proofs.lemmas.Bool.{true≢false}
 use Rattle.std.proofs.lemmas.List.{drop_all, drop-drop, drop-take, take-append-drop, drop_at, nil_from_length}
 use Rattle.age_io.specs.Stretch.{Stretch, nothing, from_place, stretch-ext, IsCleanEnd, IsFault}
 use Rattle.age_io.specs.Filling.{IsFront}
-use Rattle.age_io.specs.Behind.{held-empty}
+use Rattle.age_io.specs.BehindLaws.{held-empty}
 use Rattle.age_io.proofs.Holding.{length-held}
 use Rattle.age_error.specs.declared.io.Error.{Error}
 use Rattle.age_io.specs.Reading.{Delivers, StandsIn}

@@ -9,7 +9,7 @@ use Rattle.age_error.specs.declared.io.SeekFrom.{SeekFrom}
 use Rattle.age_error.specs.declared.io.SeekFrom.TheVariants.{Start, Current}
 use Rattle.age_io.specs.Stretch.{Stretch, nothing, from_place}
 use Rattle.age_io.specs.Reading.{IsQuiet}
-use Rattle.age_io.specs.Cursor.{IsRefusal, MayLead, moved_to, place_at, sought}
+use Rattle.age_io.specs.Cursor.{IsOutside, MayLead, moved_to, place_at, sought}
 use Rattle.age_armor.specs.Delivered.{Ending, Clean, Refused, InnerFault, is_clean}
 use Rattle.age_armor.specs.Stages.{IsNamed}
 use Rattle.age_armor.specs.Seeking.{Goes, SeeksText, Misses, ComesBack}
@@ -44,9 +44,9 @@ branch-refusal : (c : Bool) (m : ℕ) (e : Error) → (if c then Ok m else Err P
 branch-refusal true m e is = absurd (cc is)
 branch-refusal false m e is = cc is
 
-pub moved-refusal : (o : Option ℕ) (len : ℕ) (e : Error) → moved_to o len ≡ Err e → IsRefusal e
-moved-refusal None len e is = let same : BeforeStart ≡ e = cc is in subst IsRefusal same tt
-moved-refusal (Some m) len e is = subst IsRefusal (branch-refusal (nat_le m len) m e is) tt
+pub moved-refusal : (o : Option ℕ) (len : ℕ) (e : Error) → moved_to o len ≡ Err e → IsOutside e
+moved-refusal None len e is = let same : BeforeStart ≡ e = cc is in subst IsOutside same tt
+moved-refusal (Some m) len e is = subst IsOutside (branch-refusal (nat_le m len) m e is) tt
 
 pub arrives : (r : Result ℕ Error) (place target : ℕ) → IfOk r (λ n. n ≡ target) → OnOk r (place ≡ target) → IfOk r (λ n. place ≡ n)
 arrives (Ok n) place target there at = at ∙ sym there
@@ -60,17 +60,17 @@ arrives-within P (Err e) o len target rest content other moved same there at = t
 
 -- ---- errors
 
-pub refusal_or_not : (e : Error) → IsRefusal e ⊎ (IsRefusal e → ⊥)
+pub refusal_or_not : (e : Error) → IsOutside e ⊎ (IsOutside e → ⊥)
 refusal_or_not BeforeStart = inl tt
 refusal_or_not PastEnd = inl tt
 refusal_or_not _ = inr (λ is. is)
 
-pub refusal-device : (e : Error) → IsRefusal e → IsDevice e → ⊥
+pub refusal-device : (e : Error) → IsOutside e → IsDevice e → ⊥
 refusal-device BeforeStart is device = device
 refusal-device PastEnd is device = device
 refusal-device _ is device = is
 
-pub refusal-interruption : (e : Error) → IsRefusal e → IsInterruption e → ⊥
+pub refusal-interruption : (e : Error) → IsOutside e → IsInterruption e → ⊥
 refusal-interruption BeforeStart is interruption = interruption
 refusal-interruption PastEnd is interruption = interruption
 refusal-interruption _ is interruption = is
@@ -221,7 +221,7 @@ module _ {S : Type 0} (tells steady failed : S → Bool) (content : S → Stretc
   }
 
   pub failed-now : (old new : S) (stood : ℕ) (had : Bool) (error : Error) → tells new ≡ tells old → steady new ≡ steady old → faults new ≡ faults old →
-      content new ≡ content old → place new ≡ stood → failed new ≡ true → rest new ≡ nothing → (IsRefusal error → ⊥) →
+      content new ≡ content old → place new ≡ stood → failed new ≡ true → rest new ≡ nothing → (IsOutside error → ⊥) →
       ComesBack tells steady failed content place rest faults old new stood had error error
   failed-now old new stood had error same_tells same_steady same_faults same_content stands fails gone not = record {
     same_tells = same_tells;
@@ -241,7 +241,7 @@ module _ {S : Type 0} (tells steady failed : S → Bool) (content : S → Stretc
 
   pub came : (old new : S) (stood : ℕ) (had : Bool) (error : Error) (n : ℕ) → Goes tells steady content faults old new (Ok n) → failed new ≡ false →
       (IsTrue (tells old) → place new ≡ stood) → (IsTrue (tells old) → IsTrue (steady old) → rest new ≡ from_place stood (content old)) →
-      had ≡ false → IsRefusal error → ComesBack tells steady failed content place rest faults old new stood had error error
+      had ≡ false → IsOutside error → ComesBack tells steady failed content place rest faults old new stood had error error
   came old new stood had error n goes good stands back good_before is = record {
     same_tells = goes.same_tells;
     same_steady = goes.same_steady;
@@ -260,8 +260,8 @@ module _ {S : Type 0} (tells steady failed : S → Bool) (content : S → Stretc
 
   pub lost : (old middle new : S) (stood : ℕ) (had : Bool) (error e answer : Error) → Goes {A = ℕ} tells steady content faults old middle (Err e) →
       tells new ≡ tells middle → steady new ≡ steady middle → faults new ≡ faults middle → content new ≡ content middle →
-      place new ≡ stood → failed new ≡ true → rest new ≡ nothing → IsRefusal error →
-      (IsRefusal answer → ⊥) → ((IsRefusal e → ⊥) → answer ≡ e) → (answer ≢ Failed → answer ≡ e) →
+      place new ≡ stood → failed new ≡ true → rest new ≡ nothing → IsOutside error →
+      (IsOutside answer → ⊥) → ((IsOutside e → ⊥) → answer ≡ e) → (answer ≢ Failed → answer ≡ e) →
       (IsTrue (tells old) → IsTrue (content old).ends_well → answer ≢ OutOfMemory → IsQuiet (faults old) (faults middle) → ⊥) →
       ComesBack tells steady failed content place rest faults old new stood had error answer
   lost old middle new stood had error e answer goes same_tells same_steady same_faults same_content stands fails gone is own same kept never =

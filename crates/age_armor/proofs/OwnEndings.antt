@@ -3,7 +3,7 @@ use Rattle.std.proofs.Common.{◌≡◌, ◌∙◌, ℕ, Bool, true, false, ◌|
 use Rattle.std.proofs.lemmas.Bool.{cases_Bool}
 use Rattle.std.specs.List.{concat, starts_with}
 use Rattle.age_error.specs.declared.io.Error.{Error}
-use Rattle.age_io.specs.Cursor.{IsRefusal}
+use Rattle.age_io.specs.Cursor.{IsOutside}
 use Rattle.age_armor.specs.Armor.{begin_marker}
 use Rattle.age_armor.specs.LineVerdict.{LineVerdict, Refuses, Ends, Holds, verdict, is_short, line_columns, last_is}
 use Rattle.age_armor.specs.Delivered.{Outcome, Ending, Clean, Refused, InnerFault, at_end, is_space, trailing, after_line, section, raw_lines, after_marker, delivered}
@@ -11,7 +11,7 @@ use Rattle.age_armor.specs.Stages.{IsNamed}
 
 abbrev IsOwn : Ending → Type 0
 IsOwn Clean = Unit {0}
-IsOwn (Refused e) = IsRefusal e → ⊥
+IsOwn (Refused e) = IsOutside e → ⊥
 IsOwn InnerFault = Unit {0}
 
 own_end : (ends_well : Bool) (e : Ending) → IsOwn e → IsOwn (at_end ends_well e)
@@ -49,12 +49,12 @@ own_delivered text w =
     if_own (nat_lt (length text) 36) _ _ (own_end w _ (λ r. r))
     (if_own (starts_with nat_eq text begin_marker) _ _ (own_marker (drop 34 text) w) (own_end w Clean tt))
 
-named_otherwise : (ending : Ending) (e other : Error) → IsOwn ending → IsNamed ending e → ((IsRefusal e → ⊥) → other ≡ e) → IsNamed ending other
+named_otherwise : (ending : Ending) (e other : Error) → IsOwn ending → IsNamed ending e → ((IsOutside e → ⊥) → other ≡ e) → IsNamed ending other
 named_otherwise Clean e other own named same = named
 named_otherwise (Refused f) e other own named same = same (λ r. own (rw named at r)) ∙ named
 named_otherwise InnerFault e other own named same = tt
 
 -- where an error that isn't such a refusal stays as it is, it names the end as before
-pub still_named : (text : List ℕ) (w : Bool) (e other : Error) → IsNamed (delivered text w).ending e → ((IsRefusal e → ⊥) → other ≡ e) →
+pub still_named : (text : List ℕ) (w : Bool) (e other : Error) → IsNamed (delivered text w).ending e → ((IsOutside e → ⊥) → other ≡ e) →
     IsNamed (delivered text w).ending other
 still_named text w e other named same = named_otherwise (delivered text w).ending e other (own_delivered text w) named same

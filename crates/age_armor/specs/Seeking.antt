@@ -2,7 +2,7 @@
 use Rattle.std.specs.Prelude.{◌≡◌, ◌≢◌, ℕ, ◌<◌, ◌≤◌, Bool, false, IsTrue, length, drop, Some, None, Result, Err, IfErr, OnOk, ⊤}
 use Rattle.age_io.specs.Stretch.{Stretch, nothing, from_place}
 use Rattle.age_io.specs.Reading.{IsQuiet, most_faults}
-use Rattle.age_io.specs.Cursor.{Seeks, IsRefusal, place_at, sought}
+use Rattle.age_io.specs.Cursor.{Seeks, IsOutside, place_at, sought}
 use Rattle.age_error.specs.Refusals.{IsDevice, IsInterruption}
 use Rattle.age_error.specs.declared.io.Error.{Error}
 use Rattle.age_error.specs.declared.io.Error.TheVariants.{OutOfMemory, BeforeStart}
@@ -45,20 +45,20 @@ pub record SeeksText {S : Type 0} (tells steady failed : S → Bool) (content : 
   pub seeks : Seeks tells steady content place rest faults old new to result
   pub patient : IfErr result (λ e. IsInterruption e → ⊥)
   pub good : OnOk result (failed new ≡ false)
-  pub unmoved : IfErr result (λ e. IsRefusal e → failed new ≡ failed old)
-  pub fails : IfErr result (λ e. (IsRefusal e → ⊥) → IsTrue (failed new))
-  pub named : IsTrue (tells old) → IsTrue ends_well → IfErr result (λ e. (IsRefusal e → ⊥) → e ≢ OutOfMemory → IsQuiet (faults old) (faults new) →
+  pub unmoved : IfErr result (λ e. IsOutside e → failed new ≡ failed old)
+  pub fails : IfErr result (λ e. (IsOutside e → ⊥) → IsTrue (failed new))
+  pub named : IsTrue (tells old) → IsTrue ends_well → IfErr result (λ e. (IsOutside e → ⊥) → e ≢ OutOfMemory → IsQuiet (faults old) (faults new) →
       IsNamed ending e × AsksPast to (place old) (length (content old).bytes))
   pub early : IsTrue (tells old) → IsTrue (steady old) → (content old).ends_well ≡ false →
-      IfErr result (λ e. IsRefusal e → (e ≡ BeforeStart) × IsEarly to (place old))
+      IfErr result (λ e. IsOutside e → (e ≡ BeforeStart) × IsEarly to (place old))
 
 -- what a seek in a text says of its error, before the reader is brought back to where it stood
 pub record Misses {S : Type 0} (tells steady : S → Bool) (content : S → Stretch) (place : S → ℕ) (faults : S → ℕ)
     (old new : S) (to : SeekFrom) (ends_well : Bool) (ending : Ending) (error : Error) : Type 0 where
   pub goes : Goes {A = ℕ} tells steady content faults old new (Err error)
-  pub refused : IsTrue (tells old) → IsTrue (steady old) → IsRefusal error →
+  pub refused : IsTrue (tells old) → IsTrue (steady old) → IsOutside error →
       IsTrue (content old).ends_well × (sought to (place old) (length (content old).bytes) ≡ Err error)
-  pub named : IsTrue (tells old) → IsTrue ends_well → (IsRefusal error → ⊥) → error ≢ OutOfMemory → IsQuiet (faults old) (faults new) →
+  pub named : IsTrue (tells old) → IsTrue ends_well → (IsOutside error → ⊥) → error ≢ OutOfMemory → IsQuiet (faults old) (faults new) →
       IsNamed ending error × AsksPast to (place old) (length (content old).bytes)
 
 -- A reader is brought back to this place after an error that refuses a seek. After any other, or where it had failed, it has failed.
@@ -70,13 +70,13 @@ pub record ComesBack {S : Type 0} (tells steady failed : S → Bool) (content : 
   pub no_fewer_faults : faults old ≤ faults new
   pub device : (IsDevice error → ⊥) → IsDevice answer → faults old < faults new
   pub patient : (IsInterruption error → ⊥) → IsInterruption answer → ⊥
-  pub fails : (IsRefusal answer → ⊥) → IsTrue (failed new)
-  pub unmoved : IsRefusal answer → IsRefusal error × (answer ≡ error) × (failed new ≡ had_failed)
-  pub other : (IsRefusal error → ⊥) → answer ≡ error
+  pub fails : (IsOutside answer → ⊥) → IsTrue (failed new)
+  pub unmoved : IsOutside answer → IsOutside error × (answer ≡ error) × (failed new ≡ had_failed)
+  pub other : (IsOutside error → ⊥) → answer ≡ error
   pub gone : IsTrue had_failed → rest new ≡ nothing
   -- of a reader that tells its bytes
   pub same_content : IsTrue (tells old) → content new ≡ content old
   pub stays : IsTrue (tells old) → place new ≡ stood
-  pub back : IsTrue (tells old) → IsTrue (steady old) → had_failed ≡ false → IsRefusal answer → rest new ≡ from_place stood (content old)
-  pub cause : IsTrue (tells old) → IsTrue (content old).ends_well → IsRefusal error → answer ≢ OutOfMemory → IsQuiet (faults old) (faults new) →
-      IsRefusal answer
+  pub back : IsTrue (tells old) → IsTrue (steady old) → had_failed ≡ false → IsOutside answer → rest new ≡ from_place stood (content old)
+  pub cause : IsTrue (tells old) → IsTrue (content old).ends_well → IsOutside error → answer ≢ OutOfMemory → IsQuiet (faults old) (faults new) →
+      IsOutside answer

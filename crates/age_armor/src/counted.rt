@@ -8,9 +8,10 @@ ghost use Rattle.std.specs.List.{list_all};
 ghost use Rattle.age_armor.specs.Delivered.{is_space as is_white};
 ghost use Rattle.age_armor.specs.Showing.{IsAhead};
 
-use crate::decoding::{Decoder, known_bytes};
+use crate::decoding::Decoder;
 use crate::encoding::{LINE, LINE_TEXT};
 use crate::showing::{Run, look, show_lines, take_run};
+use age_error::bytes::known_bytes;
 use age_error::io::{ArmoredReadError, Error};
 use age_io::{BufRead, fill, read_retrying};
 

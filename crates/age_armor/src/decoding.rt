@@ -1,10 +1,10 @@
 //! Decoding the columns of a line.
 ghost use Rattle.std.specs.Prelude.{◌≡◌, ◌*◌, ◌≤◌, IsTrue, Some, None, take, length, MatchOption};
-ghost use Rattle.age_error.specs.Bytes.{AreBytes};
 ghost use Rattle.age_armor.specs.LineVerdict.{decoded};
 ghost use Rattle.age_armor.specs.Decoder.{DecodesArmor, RefusesNoArmor};
 
 use age_base64::armor_engine;
+use age_error::bytes::known_bytes;
 use base64::engine::general_purpose::GeneralPurpose;
 
 /// The engine of armor's base64. It is made once, since making it fills its tables.
@@ -14,11 +14,6 @@ pub(crate) struct Decoder {
     ghost decodes: { DecodesArmor engine },
     ghost takes: { RefusesNoArmor engine },
 }
-
-// What a slice of bytes holds is numbers below 256: a fact for proofs alone, which costs nothing.
-pub(crate) fn known_bytes(bytes: &[u8])
-    ensures { AreBytes bytes.now }
-{}
 
 impl Decoder {
     pub(crate) fn new() -> Decoder {

@@ -5,7 +5,7 @@ ghost use Rattle.age_error.specs.declared.io.Error.TheVariants.{OutOfMemory, Bef
 ghost use Rattle.age_error.specs.declared.io.SeekFrom.TheVariants.{Start, End, Current};
 ghost use Rattle.age_io.specs.Stretch.{Stretch, nothing, from_place, IsCleanEnd};
 ghost use Rattle.age_io.specs.Reading.{IsQuiet, most_faults};
-ghost use Rattle.age_io.specs.Cursor.{Seeks, IsRefusal, place_at as place_by, sought as sought_by};
+ghost use Rattle.age_io.specs.Cursor.{Seeks, IsOutside, place_at as place_by, sought as sought_by};
 ghost use Rattle.age_armor.specs.Seeking.{Goes, AsksPast, IsEarly, SeeksText, ComesBack};
 ghost use Rattle.age_armor.specs.Stages.{IsNamed};
 
@@ -13,19 +13,7 @@ use crate::counted::Counted;
 use crate::reader::ArmoredReader;
 use crate::stages::Stage;
 use age_error::io::{Error, SeekFrom};
-use age_io::{BufRead, Read, Seek, is_refusal, place_at, seek_retrying, unrefused};
-
-// So many bytes back, where that is a distance.
-fn distance_back(count: u64) -> Option<i64>
-    ensures some { count < 2 ^ 63 → IfSome result (λ d. (place : ℕ) → count ≤ place → place_by place d ≡ Some (place - count)) }
-    ensures none { result ≡ None → 2 ^ 63 ≤ count }
-    ensures far { 2 ^ 63 ≤ count → result ≡ None }
-{
-    if count > i64::MAX as u64 {
-        return None;
-    }
-    Some(-(count as i64))
-}
+use age_io::{BufRead, Read, Seek, distance_back, is_outside, place_at, seek_retrying, unrefused};
 
 // The target at this distance from the end. A length of 2^63 or more is `TooLong`.
 fn from_end(len: u64, distance: i64) -> Result<u64, Error>
@@ -57,14 +45,15 @@ impl<R: BufRead + Seek> Counted<R> {
             R.Read.place self.new.inner - self.new.taken ≡ R.Read.place self.old.inner - self.old.taken }
         ensures rest { IsTrue (R.Read.tells self.old.inner) → IsTrue (R.Read.steady self.old.inner) → OnOk result
             (R.Read.rest self.new.inner ≡ from_place (R.Read.place self.old.inner - self.old.taken) (R.Read.content self.old.inner)) }
-        ensures other { IfErr result (λ e. IsRefusal e → ⊥) }
+        ensures other { IfErr result (λ e. IsOutside e → ⊥) }
         ensures cause { IsTrue (R.Read.tells self.old.inner) → IsTrue (R.Read.content self.old.inner).ends_well →
             IfErr result (λ e. e ≢ OutOfMemory → IsQuiet (R.Read.faults self.old.inner) (R.Read.faults self.new.inner) → ⊥) }
     {
         self.left = 0;
-        let Some(back) = distance_back(self.taken) else {
+        if self.taken > i64::MAX as u64 {
             return Err(Error::TooLong);
-        };
+        }
+        let back = distance_back(self.taken);
         match seek_retrying(&mut self.inner, SeekFrom::Current(back)) {
             Ok(_place) => {
                 self.taken = 0;
@@ -90,7 +79,7 @@ impl<R: BufRead + Seek> ArmoredReader<R> {
             (outcome_of self.new ≡ text_outcome_of self.old) }
         ensures rest { IsTrue (R.Read.tells (inner_of self.old)) → IsTrue (R.Read.steady (inner_of self.old)) → OnOk result
             (armored_rest self.new ≡ from_place 0 (armored_content self.old)) }
-        ensures other { IfErr result (λ e. IsRefusal e → ⊥) }
+        ensures other { IfErr result (λ e. IsOutside e → ⊥) }
         ensures cause { IsTrue (R.Read.tells (inner_of self.old)) → IsTrue (R.Read.content (inner_of self.old)).ends_well →
             IfErr result (λ e. e ≢ OutOfMemory → IsQuiet (R.Read.faults (inner_of self.old)) (R.Read.faults (inner_of self.new)) → ⊥) }
     {
@@ -161,10 +150,10 @@ impl<R: BufRead + Seek> ArmoredReader<R> {
         ensures good { OnOk result (self.new.failed ≡ false) }
         ensures within { IsTrue (R.Read.tells (inner_of self.old)) → IsTrue (R.Read.steady (inner_of self.old)) → OnOk result
             ((target ≤ length (armored_content self.old).bytes) × (armored_rest self.new ≡ from_place target (armored_content self.old))) }
-        ensures past { IsTrue (R.Read.tells (inner_of self.old)) → IsTrue (R.Read.steady (inner_of self.old)) → IfErr result (λ e. IsRefusal e →
+        ensures past { IsTrue (R.Read.tells (inner_of self.old)) → IsTrue (R.Read.steady (inner_of self.old)) → IfErr result (λ e. IsOutside e →
             IsTrue (armored_content self.old).ends_well × (length (armored_content self.old).bytes < target) × (e ≡ PastEnd)) }
         ensures named { IsTrue (R.Read.tells (inner_of self.old)) → IsTrue (R.Read.content (inner_of self.old)).ends_well →
-            IfErr result (λ e. (IsRefusal e → ⊥) → e ≢ OutOfMemory → IsQuiet (R.Read.faults (inner_of self.old)) (R.Read.faults (inner_of self.new)) →
+            IfErr result (λ e. (IsOutside e → ⊥) → e ≢ OutOfMemory → IsQuiet (R.Read.faults (inner_of self.old)) (R.Read.faults (inner_of self.new)) →
             IsNamed (text_outcome_of self.old).ending e × (length (armored_content self.old).bytes < target)) }
         ensures whole { IsTrue (R.Read.tells (inner_of self.old)) → text_outcome_of self.new ≡ text_outcome_of self.old }
         ensures ending { IsTrue (R.Read.tells (inner_of self.old)) → IsTrue (R.Read.steady (inner_of self.old)) → OnOk result
@@ -193,10 +182,10 @@ impl<R: BufRead + Seek> ArmoredReader<R> {
         ensures good { OnOk result (self.new.failed ≡ false) }
         ensures exact { IsTrue (R.Read.tells (inner_of self.old)) → IsTrue (R.Read.steady (inner_of self.old)) → (place : ℕ) → IfOk result (λ n.
             (sought_by (End distance) place (length (armored_content self.old).bytes) ≡ Ok n) × (armored_rest self.new ≡ from_place n (armored_content self.old))) }
-        ensures refused { IsTrue (R.Read.tells (inner_of self.old)) → IsTrue (R.Read.steady (inner_of self.old)) → (place : ℕ) → IfErr result (λ e. IsRefusal e →
+        ensures refused { IsTrue (R.Read.tells (inner_of self.old)) → IsTrue (R.Read.steady (inner_of self.old)) → (place : ℕ) → IfErr result (λ e. IsOutside e →
             IsTrue (armored_content self.old).ends_well × (sought_by (End distance) place (length (armored_content self.old).bytes) ≡ Err e)) }
         ensures named { IsTrue (R.Read.tells (inner_of self.old)) → IsTrue (R.Read.content (inner_of self.old)).ends_well →
-            IfErr result (λ e. (IsRefusal e → ⊥) → e ≢ OutOfMemory → IsQuiet (R.Read.faults (inner_of self.old)) (R.Read.faults (inner_of self.new)) →
+            IfErr result (λ e. (IsOutside e → ⊥) → e ≢ OutOfMemory → IsQuiet (R.Read.faults (inner_of self.old)) (R.Read.faults (inner_of self.new)) →
             IsNamed (text_outcome_of self.old).ending e) }
         ensures whole { IsTrue (R.Read.tells (inner_of self.old)) → text_outcome_of self.new ≡ text_outcome_of self.old }
         ensures ending { IsTrue (R.Read.tells (inner_of self.old)) → IsTrue (R.Read.steady (inner_of self.old)) → OnOk result
@@ -258,7 +247,7 @@ impl<R: BufRead + Seek> ArmoredReader<R> {
             self.fail_at(place);
             return error;
         }
-        if !is_refusal(error) {
+        if !is_outside(error) {
             self.fail_at(place);
             return error;
         }
@@ -353,13 +342,13 @@ impl<R: BufRead + Seek> Seek for ArmoredReader<R> {
             Seeks reader.tells reader.steady reader.content reader.place reader.rest reader.faults self.old self.new to result }
         ensures patient { IfErr result (λ e. IsInterruption e → ⊥) }
         ensures good { OnOk result (has_failed self.new ≡ false) }
-        ensures unmoved { IfErr result (λ e. IsRefusal e → has_failed self.new ≡ has_failed self.old) }
-        ensures fails { IfErr result (λ e. (IsRefusal e → ⊥) → IsTrue (has_failed self.new)) }
+        ensures unmoved { IfErr result (λ e. IsOutside e → has_failed self.new ≡ has_failed self.old) }
+        ensures fails { IfErr result (λ e. (IsOutside e → ⊥) → IsTrue (has_failed self.new)) }
 
         // An error that is no refusal of a seek, and that neither the device nor memory made, is that of the text's end. It comes
         // only where the target asks for more than the bytes before that end.
         ensures named { IsTrue (R.Read.tells (inner_of self.old)) → IsTrue (R.Read.content (inner_of self.old)).ends_well →
-            IfErr result (λ e. (IsRefusal e → ⊥) → e ≢ OutOfMemory → IsQuiet (R.Read.faults (inner_of self.old)) (R.Read.faults (inner_of self.new)) →
+            IfErr result (λ e. (IsOutside e → ⊥) → e ≢ OutOfMemory → IsQuiet (R.Read.faults (inner_of self.old)) (R.Read.faults (inner_of self.new)) →
             IsNamed (text_outcome_of self.old).ending e × AsksPast to (place_of self.old) (length (armored_content self.old).bytes)) }
 
         // How the text ends stays the same, and a reader that hasn't failed comes to that end, unless nothing was looked for.
@@ -370,7 +359,7 @@ impl<R: BufRead + Seek> Seek for ArmoredReader<R> {
 
         // Of a text that ends in a fault the only such refusal is that of a target that is counted from the place.
         ensures early { IsTrue (R.Read.tells (inner_of self.old)) → IsTrue (R.Read.steady (inner_of self.old)) → (armored_content self.old).ends_well ≡ false →
-            IfErr result (λ e. IsRefusal e → (e ≡ BeforeStart) × IsEarly to (place_of self.old)) }
+            IfErr result (λ e. IsOutside e → (e ≡ BeforeStart) × IsEarly to (place_of self.old)) }
 
         // A target that is counted from the place and lies below 0 is refused at once: nothing is read, and nothing changes.
         ensures at_once { IsTrue (R.Read.tells (inner_of self.old)) → IsEarly to (place_of self.old) →

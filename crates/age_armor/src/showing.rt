@@ -1,5 +1,5 @@
 //! What is done with the bytes that a reader shows. Each call is tried again after an interruption, up to 16 times.
-ghost use Rattle.std.specs.Prelude.{◌≡◌, ◌≢◌, ℕ, ◌+◌, ◌≤◌, ◌<◌, Bool, true, false, IsTrue, List, [], ◌∷◌, ◌++◌, length, take, drop, vec_len, MatchOption, IfOk, IfErr, OnOk, OnErr, IsErrAnd};
+ghost use Rattle.std.specs.Prelude.{◌≡◌, ◌≢◌, ℕ, ◌+◌, ◌≤◌, ◌<◌, Bool, true, false, IsTrue, List, [], ◌∷◌, ◌++◌, length, take, drop, vec_len, MatchOption, IfOk, IfErr, OnOk, OnErr};
 ghost use Rattle.age_error.specs.Refusals.{IsInterruption};
 ghost use Rattle.age_io.specs.Stretch.{IsCleanEnd};
 ghost use Rattle.age_base64.specs.Lines.{Lacks};
@@ -9,7 +9,7 @@ ghost use Rattle.age_armor.specs.declared.showing.Run.TheVariants.{Open as open_
 use crate::decoding::Decoder;
 use crate::gathering::decode_ahead;
 use age_error::io::{Error, ErrorKind};
-use age_io::BufRead;
+use age_io::{BufRead, retried};
 
 /// What was taken of a line.
 #[derive(Clone, Copy)]
@@ -20,17 +20,6 @@ pub(crate) enum Run {
     Open,
     /// All of it up to its LF.
     Ended,
-}
-
-// Whether the device was interrupted, so that the call may be made again.
-fn is_interruption<T>(answer: &Result<T, Error>) -> bool
-    ensures yes { IsTrue result → IsErrAnd answer.now IsInterruption }
-    ensures no { result ≡ false → IfErr answer.now (λ e. IsInterruption e → ⊥) }
-{
-    match answer {
-        Err(Error::Device(ErrorKind::Interrupted)) => true,
-        _ => false,
-    }
 }
 
 fn look_once<B: BufRead>(reader: &mut B) -> Result<bool, Error>
@@ -53,13 +42,7 @@ pub(crate) fn look<B: BufRead>(reader: &mut B) -> Result<bool, Error>
     ensures some { IsTrue (B.Read.tells reader.old) → IfOk result (λ is. is ≡ false → 0 < length (B.Read.rest reader.old).bytes) }
     ensures end { IsTrue (B.Read.tells reader.old) → IfOk result (λ is. IsTrue is → IsCleanEnd (B.Read.rest reader.old)) }
 {
-    for _try in 0..17u8 {
-        let answer = look_once(reader);
-        if !is_interruption(&answer) {
-            return answer;
-        }
-    }
-    Err(Error::Device(ErrorKind::Other))
+    retried!(_try, look_once(reader))
 }
 
 fn show_once<B: BufRead>(
@@ -90,13 +73,7 @@ pub(crate) fn show_lines<B: BufRead>(
     ensures ahead { IfOk result (λ n. IsAhead ahead.new 0 n (B.shown reader.new)) }
     ensures size { length ahead.new ≡ 768 }
 {
-    for _try in 0..17u8 {
-        let answer = show_once(reader, decoder, ahead);
-        if !is_interruption(&answer) {
-            return answer;
-        }
-    }
-    Err(Error::Device(ErrorKind::Other))
+    retried!(_try, show_once(reader, decoder, ahead))
 }
 
 // Where the first LF stands.
@@ -152,11 +129,5 @@ pub(crate) fn take_run<B: BufRead>(reader: &mut B, line: &mut Vec<u8>) -> Result
     ensures moves { IsTrue (B.Read.tells reader.old) → OnOk result
         (B.Read.place reader.new + length line.old.items ≡ B.Read.place reader.old + length line.new.items) }
 {
-    for _try in 0..17u8 {
-        let answer = run_once(reader, line);
-        if !is_interruption(&answer) {
-            return answer;
-        }
-    }
-    Err(Error::Device(ErrorKind::Other))
+    retried!(_try, run_once(reader, line))
 }

@@ -5,7 +5,7 @@ use Rattle.std.proofs.lemmas.List.{drop_at, take_at, length-take-le}
 use Rattle.std.proofs.lemmas.List.Elements.{All-nil, All-append, All-head, All-take, All-drop}
 use Rattle.age.specs.Bytes.{AreBytes, AreBytesOf}
 use Rattle.age.specs.Mac.{hmac_of}
-use Rattle.age.proofs.Digests.{hmac_of-bytes, hkdf_of-bytes}
+use Rattle.age.specs.Digests.{hmac_of-bytes, hkdf_of-bytes}
 use Rattle.age.specs.Stanza.{StanzaValue, IsStanza}
 use Rattle.age.specs.Header.{IsHeader, IsHeaderText, covered, covered_text, header_text}
 use Rattle.age.specs.HeaderV1.{HeaderValue, header_mac}

@@ -11,7 +11,7 @@ use Rattle.std.specs.Int.Bits.{xor_self, xor_zero_r, xor_assoc}
 use Rattle.age.specs.Bytes.{AreBytes, AreBytesOf}
 use Rattle.age.specs.Suite.{IsCipher, IsAgreement, IsStretching}
 use Rattle.age.specs.Mac.{hmac_of}
-use Rattle.age.proofs.Digests.{hmac_of-bytes}
+use Rattle.age.specs.Digests.{hmac_of-bytes}
 use Rattle.age_bench.specs.Bench.{masked_from, masked, tag_of, bench_seal, unsealed, is_tagged, bench_opened, bench_public, bench_shared, bench_stretch, bench_accepts}
 
 -- ---- the mask

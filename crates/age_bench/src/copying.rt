@@ -9,7 +9,7 @@ use age::io::{Error, Read, Write, read_retrying, room_for, write_all};
 use std::alloc::Global;
 
 // How many bytes are read at once: several chunks, so that most are sealed straight from what was read.
-const PIECE: usize = 262_144;
+const ROOM: usize = 262_144;
 
 /// Appends to `writer` what `reader` still has, piece by piece, in memory of one piece. A success says that the
 /// input ended well and all of it was appended; after a refusal a beginning of it was.
@@ -33,7 +33,7 @@ pub fn copy_all<R: Read, W: Write>(
     ensures too_long { IsTrue (R.tells reader.old) → IsTrue (R.rest reader.old).ends_well → W.limited writer.old ≡ false →
         IsQuiet (R.faults reader.old) (R.faults reader.new) → IfErr result (λ e. e ≢ TooLong) }
 {
-    let mut room = room_for(alloc, PIECE)?;
+    let mut room = room_for(alloc, ROOM)?;
     for _piece in 0..u64::MAX {
         let count = read_retrying(reader, &mut room)?;
         if count == 0 {
@@ -68,7 +68,7 @@ pub fn copy_some<R: Read, W: Write>(
     ensures too_long { IsTrue (R.tells reader.old) → IsTrue (R.rest reader.old).ends_well → W.limited writer.old ≡ false →
         IsQuiet (R.faults reader.old) (R.faults reader.new) → IfErr result (λ e. e ≢ TooLong) }
 {
-    let mut piece = room_for(alloc, PIECE)?;
+    let mut piece = room_for(alloc, ROOM)?;
     let mut left = count;
     'pieces: while left > 0 {
         let wanted = left.min(piece.len() as u64) as usize;

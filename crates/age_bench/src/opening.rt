@@ -18,30 +18,30 @@ use age::stream::StreamReader;
 use age::{DecryptError, Decryptor, Identity};
 use std::alloc::Global;
 
-/// Opens the bare file that `text` gives, which one of the identities decrypts: the reader of its plaintext.
+/// Opens the bare file that `bytes` gives, which one of the identities decrypts: the reader of its plaintext.
 ///
-/// Where the text ends well and is a file for the identities, the reader stands before the file's plaintext, and it is refused
+/// Where what they give ends well and is a file for the identities, the reader stands before the file's plaintext, and it is refused
 /// only for want of memory or after a fault of the device. So `run` on it answers reads and seeks as a cursor on the
-/// plaintext. It refuses as `Decryptor::new`, and then no identity was asked, and as `Decryptor::decrypt`; the text is gone then.
+/// plaintext. It refuses as `Decryptor::new`, and then no identity was asked, and as `Decryptor::decrypt`; they are gone then.
 pub fn open_file<I: Identity, T: Read + Drop>(
     alloc: Global,
     identities: &mut [I],
-    text: T,
+    bytes: T,
 ) -> Result<StreamReader<BenchSuite, T>, DecryptError>
-    ensures tells { let reader = ⟦<StreamReader<BenchSuite, T> as Read>⟧ in IfOk result (λ stream. reader.tells stream ≡ (T.tells text && T.steady text)) }
-    ensures faults { let reader = ⟦<StreamReader<BenchSuite, T> as Read>⟧ in IfOk result (λ stream. T.faults text ≤ reader.faults stream) }
-    // Of any text.
-    ensures opened { IfOk result (λ stream. IsOpened I.unwraps identities.old identities.new text stream) }
+    ensures tells { let reader = ⟦<StreamReader<BenchSuite, T> as Read>⟧ in IfOk result (λ stream. reader.tells stream ≡ (T.tells bytes && T.steady bytes)) }
+    ensures faults { let reader = ⟦<StreamReader<BenchSuite, T> as Read>⟧ in IfOk result (λ stream. T.faults bytes ≤ reader.faults stream) }
+    // Of any bytes.
+    ensures opened { IfOk result (λ stream. IsOpened I.unwraps identities.old identities.new bytes stream) }
     ensures refused { IfErr result (λ e.
-        IsNotOpened I.unwraps T.tells T.steady T.content T.place T.rest T.faults identities.old identities.new text (decrypt_refusal e)) }
+        IsNotOpened I.unwraps T.tells T.steady T.content T.place T.rest T.faults identities.old identities.new bytes (decrypt_refusal e)) }
     // Of a file for the identities.
-    ensures plaintext { IsTrue (T.tells text && T.steady text) → IsTrue (T.rest text).ends_well → (plain : List ℕ) →
-        IsFileFor (FirstAnswer I.unwraps identities.old) plain (T.rest text).bytes →
+    ensures plaintext { IsTrue (T.tells bytes && T.steady bytes) → IsTrue (T.rest bytes).ends_well → (plain : List ℕ) →
+        IsFileFor (FirstAnswer I.unwraps identities.old) plain (T.rest bytes).bytes →
         MatchResult result (λ stream. StandsBefore plain stream) (λ e. ((t : T) → T.faults t ≡ 0) → decrypt_refusal e ≡ OutOfMemory) }
 {
     front_is_accepted::<T>();
     file_opens::<BenchSuite, T>();
-    match Decryptor::<BenchSuite, T>::new(alloc, text) {
+    match Decryptor::<BenchSuite, T>::new(alloc, bytes) {
         Err(error) => Err(error),
         Ok(decryptor) => decryptor.decrypt(alloc, identities),
     }
@@ -51,16 +51,16 @@ pub fn open_file<I: Identity, T: Read + Drop>(
 pub fn open_with<T: Read + Drop>(
     alloc: Global,
     with: With,
-    text: T,
+    bytes: T,
 ) -> Result<StreamReader<BenchSuite, T>, DecryptError>
-    ensures tells { let reader = ⟦<StreamReader<BenchSuite, T> as Read>⟧ in IfOk result (λ stream. reader.tells stream ≡ (T.tells text && T.steady text)) }
-    ensures faults { let reader = ⟦<StreamReader<BenchSuite, T> as Read>⟧ in IfOk result (λ stream. T.faults text ≤ reader.faults stream) }
-    ensures plaintext { IsTrue (T.tells text && T.steady text) → IsTrue (T.rest text).ends_well → (plain : List ℕ) →
-        IsFileForBench plain (T.rest text).bytes →
+    ensures tells { let reader = ⟦<StreamReader<BenchSuite, T> as Read>⟧ in IfOk result (λ stream. reader.tells stream ≡ (T.tells bytes && T.steady bytes)) }
+    ensures faults { let reader = ⟦<StreamReader<BenchSuite, T> as Read>⟧ in IfOk result (λ stream. T.faults bytes ≤ reader.faults stream) }
+    ensures plaintext { IsTrue (T.tells bytes && T.steady bytes) → IsTrue (T.rest bytes).ends_well → (plain : List ℕ) →
+        IsFileForBench plain (T.rest bytes).bytes →
         MatchResult result (λ stream. StandsBefore plain stream) (λ e. ((t : T) → T.faults t ≡ 0) → decrypt_refusal e ≡ OutOfMemory) }
 {
     match with {
-        With::Bench => open_file(alloc, &mut [BenchIdentity], text),
+        With::Bench => open_file(alloc, &mut [BenchIdentity], bytes),
     }
 }
 
@@ -81,11 +81,11 @@ pub fn answers_with<R: Seek + Drop>(
         (file plain : List ℕ) → Carries (R.rest reader).bytes file → IsFileForBench plain file →
         MatchResult result (λ answers. All IsNoWant answers.items → map seen answers.items ≡ replies ops.now plain 0) IsWant }
 {
-    let text = match ArmoredReader::new(alloc, reader) {
+    let bytes = match ArmoredReader::new(alloc, reader) {
         Err(error) => return Err(CommandError::Io(error)),
-        Ok(text) => text,
+        Ok(bytes) => bytes,
     };
-    let mut stream = match open_with(alloc, with, text) {
+    let mut stream = match open_with(alloc, with, bytes) {
         Err(error) => return Err(CommandError::Decrypt(error)),
         Ok(stream) => stream,
     };

@@ -75,28 +75,28 @@ pub fn write_part<R: Seek, W: Write>(
     }
 }
 
-// `write_part` of the file that a text gives, decrypted by one of the identities.
-fn at_text<I: Identity, T: Seek + Drop, W: Write>(
+// `write_part` of the bare file that `bytes` gives, decrypted by one of the identities.
+fn at_bytes<I: Identity, T: Seek + Drop, W: Write>(
     alloc: Global,
     identities: &mut [I],
     place: u64,
     count: u64,
-    text: T,
+    bytes: T,
     writer: &mut W,
 ) -> Result<(), CommandError>
-    ensures cursor { IsTrue (T.tells text && T.steady text) → IsTrue (W.tells writer.old) → IsTrue (T.rest text).ends_well → (plain : List ℕ) →
-        IsFileFor (FirstAnswer I.unwraps identities.old) plain (T.rest text).bytes →
+    ensures cursor { IsTrue (T.tells bytes && T.steady bytes) → IsTrue (W.tells writer.old) → IsTrue (T.rest bytes).ends_well → (plain : List ℕ) →
+        IsFileFor (FirstAnswer I.unwraps identities.old) plain (T.rest bytes).bytes →
         AppendsPart W.appended ((t : T) → T.faults t ≡ 0) place count plain writer.old writer.new result }
-    ensures standing { T.rest text ≡ from_place (T.place text) (T.content text) → IsTrue (T.tells text && T.steady text) → IsTrue (W.tells writer.old) →
-        (writer.new ≡ writer.old) ⊎ AppendsOf (Begins (T.rest text) (T.place text))
+    ensures standing { T.rest bytes ≡ from_place (T.place bytes) (T.content bytes) → IsTrue (T.tells bytes && T.steady bytes) → IsTrue (W.tells writer.old) →
+        (writer.new ≡ writer.old) ⊎ AppendsOf (Begins (T.rest bytes) (T.place bytes))
         (λ file_key stanzas. FirstThatAnswers (λ identity answer after. Unwraps I.unwraps identity stanzas answer after) identities.old (Some (Ok file_key)) identities.new)
         W.appended count (StandsAt place) writer.old writer.new }
-    ensures given { T.rest text ≡ from_place (T.place text) (T.content text) → IsTrue (T.tells text && T.steady text) → IsTrue (W.tells writer.old) → OnOk result (AppendsOf (Begins (T.rest text) (T.place text))
+    ensures given { T.rest bytes ≡ from_place (T.place bytes) (T.content bytes) → IsTrue (T.tells bytes && T.steady bytes) → IsTrue (W.tells writer.old) → OnOk result (AppendsOf (Begins (T.rest bytes) (T.place bytes))
         (λ file_key stanzas. FirstThatAnswers (λ identity answer after. Unwraps I.unwraps identity stanzas answer after) identities.old (Some (Ok file_key)) identities.new)
         W.appended count (IsPartAt place count) writer.old writer.new) }
     ensures refused { IfErr result (λ e. IsDecryptError e → writer.new ≡ writer.old) }
 {
-    let mut stream = match open_file(alloc, identities, text) {
+    let mut stream = match open_file(alloc, identities, bytes) {
         Err(e) => return Err(CommandError::Decrypt(e)),
         Ok(stream) => stream,
     };
@@ -135,36 +135,36 @@ pub fn at<I: Identity, R: Read, W: Write>(
         W.appended count (IsPartAt place count) writer.old writer.new) }
     ensures refused { IfErr result (λ e. IsDecryptError e → writer.new ≡ writer.old) }
 {
-    let mut input = Vec::new(alloc);
-    match read_to_end(alloc, reader, &mut input) {
+    let mut text = Vec::new(alloc);
+    match read_to_end(alloc, reader, &mut text) {
         Err(e) => Err(CommandError::Io(e)),
-        Ok(_) => at_bytes(alloc, identities, place, count, &input, writer),
+        Ok(_) => at_text(alloc, identities, place, count, &text, writer),
     }
 }
 
-// The same of a file that stands in memory.
-fn at_bytes<I: Identity, W: Write>(
+// The same of a file, bare or armored, whose text stands in memory.
+fn at_text<I: Identity, W: Write>(
     alloc: Global,
     identities: &mut [I],
     place: u64,
     count: u64,
-    input: &[u8],
+    text: &[u8],
     writer: &mut W,
 ) -> Result<(), CommandError>
-    ensures cursor { IsTrue (W.tells writer.old) → (file plain : List ℕ) → Carries input.now file →
+    ensures cursor { IsTrue (W.tells writer.old) → (file plain : List ℕ) → Carries text.now file →
         IsFileFor (FirstAnswer I.unwraps identities.old) plain file →
         AppendsPart W.appended ⊤ place count plain writer.old writer.new result }
-    ensures standing { IsTrue (W.tells writer.old) → (writer.new ≡ writer.old) ⊎ AppendsOf (Begins (stretch_of (delivered input.now true)) 0)
+    ensures standing { IsTrue (W.tells writer.old) → (writer.new ≡ writer.old) ⊎ AppendsOf (Begins (stretch_of (delivered text.now true)) 0)
         (λ file_key stanzas. FirstThatAnswers (λ identity answer after. Unwraps I.unwraps identity stanzas answer after) identities.old (Some (Ok file_key)) identities.new)
         W.appended count (StandsAt place) writer.old writer.new }
-    ensures given { IsTrue (W.tells writer.old) → OnOk result (AppendsOf (Begins (stretch_of (delivered input.now true)) 0)
+    ensures given { IsTrue (W.tells writer.old) → OnOk result (AppendsOf (Begins (stretch_of (delivered text.now true)) 0)
         (λ file_key stanzas. FirstThatAnswers (λ identity answer after. Unwraps I.unwraps identity stanzas answer after) identities.old (Some (Ok file_key)) identities.new)
         W.appended count (IsPartAt place count) writer.old writer.new) }
     ensures refused { IfErr result (λ e. IsDecryptError e → writer.new ≡ writer.old) }
 {
-    match ArmoredReader::new_buffered(alloc, Bytes::new(input)) {
+    match ArmoredReader::new_buffered(alloc, Bytes::new(text)) {
         Err(e) => Err(CommandError::Io(e)),
-        Ok(text) => at_text(alloc, identities, place, count, text, writer),
+        Ok(bytes) => at_bytes(alloc, identities, place, count, bytes, writer),
     }
 }
 

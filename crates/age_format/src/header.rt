@@ -19,11 +19,11 @@ use crate::bytewise::{HeaderReader, Step};
 use crate::stanza::Stanza;
 use crate::write::push_columns;
 use age_base64::header_engine;
+use age_error::bytes::{known_array, known_bytes};
 use age_error::{DecryptError, io};
 use age_io::{Read, Write, read_retrying, write_all};
 use age_suite::mac::{HmacWriter, hkdf, hmac};
 use age_suite::secrecy::FileKey;
-use age_suite::suite::{known_array, known_bytes};
 use std::alloc::{AllocError, Global};
 use std::marker::Model;
 

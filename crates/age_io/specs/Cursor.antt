@@ -35,10 +35,10 @@ MayLead (End d) place new = ⊤
 MayLead (Current d) place new = place_at place d ≡ Some new
 
 -- an error that says that the target is outside the content
-abbrev pub IsRefusal : Error → Type 0
-IsRefusal BeforeStart = Unit {0}
-IsRefusal PastEnd = Unit {0}
-IsRefusal _ = ⊥
+abbrev pub IsOutside : Error → Type 0
+IsOutside BeforeStart = Unit {0}
+IsOutside PastEnd = Unit {0}
+IsOutside _ = ⊥
 
 -- What a seek does: a target from 0 to the length is moved to, any other is refused and moves nothing.
 pub record Seeks {S : Type 0} (tells steady : S → Bool) (content : S → Stretch) (place : S → ℕ) (rest : S → Stretch) (faults : S → ℕ)
@@ -59,9 +59,9 @@ pub record Seeks {S : Type 0} (tells steady : S → Bool) (content : S → Stret
   pub moves : IsTrue (tells old) → IsTrue (steady old) →
       IfOk result (λ n. (sought to (place old) (length (content old).bytes) ≡ Ok n) × (rest new ≡ from_place n (content old)))
   pub kept : IsTrue (tells old) → IsTrue (steady old) → rest old ≡ from_place (place old) (content old) →
-      IfErr result (λ e. IsRefusal e → rest new ≡ rest old)
+      IfErr result (λ e. IsOutside e → rest new ≡ rest old)
   -- on a content that ends well
   pub refused : IsTrue (tells old) → IsTrue (content old).ends_well →
-      IfErr result (λ e. IsRefusal e → sought to (place old) (length (content old).bytes) ≡ Err e)
+      IfErr result (λ e. IsOutside e → sought to (place old) (length (content old).bytes) ≡ Err e)
   pub cause : IsTrue (tells old) → IsTrue (content old).ends_well →
-      IfErr result (λ e. e ≢ OutOfMemory → IsQuiet (faults old) (faults new) → IsRefusal e)
+      IfErr result (λ e. e ≢ OutOfMemory → IsQuiet (faults old) (faults new) → IsOutside e)

@@ -7,7 +7,7 @@ pub mod StandardFaults
 pub mod Filling
 pub mod Buffering
 pub mod Buffered
-pub mod Behind
+pub mod BehindLaws
 pub mod Failing
 pub mod Cursor
 pub mod Replies

@@ -10,15 +10,16 @@ ghost use Rattle.age_io.specs.Stretch.{IsCleanEnd, IsFault, from_place};
 ghost use Rattle.age_io.specs.Reading.{Reads, IsQuiet, Delivers, most_faults};
 ghost use Rattle.age_io.specs.Failing.{FailsForGood};
 ghost use Rattle.age_io.specs.Filling.{IsFront, Fills, Consumes};
-ghost use Rattle.age_io.specs.Cursor.{Seeks, IsRefusal, place_at};
+ghost use Rattle.age_io.specs.Cursor.{Seeks, IsOutside, place_at};
 ghost use Rattle.age_io.specs.Buffering.{held, rest_behind};
-ghost use Rattle.age_io.specs.Behind.{stands_behind, spent_behind};
+ghost use Rattle.age_io.specs.BehindLaws.{stands_behind, spent_behind};
 
 use crate::bufread::BufRead;
+use crate::retry::{read_retrying, seek_retrying};
 use crate::seeking::Seek;
-use crate::targets::{is_refusal, unrefused};
+use crate::targets::{distance_back, is_outside, unrefused};
 use crate::traits::Read;
-use crate::whole::{read_retrying, room_for, seek_retrying};
+use crate::whole::room_for;
 use age_error::io::{Error, SeekFrom};
 use std::alloc::Global;
 
@@ -243,7 +244,7 @@ impl<R: Seek> BufReader<R> {
         ensures empty { OnOk result (self.new.given ≡ self.new.filled) }
         ensures same { OnOk result (self.new.failed ≡ self.old.failed) }
         ensures fails { OnErr result (self.new.failed ≡ true) }
-        ensures other { IfErr result (λ e. IsRefusal e → ⊥) }
+        ensures other { IfErr result (λ e. IsOutside e → ⊥) }
         ensures patient { IfErr result (λ e. IsInterruption e → ⊥) }
         ensures content { IsTrue (R.tells self.old.inner) → R.content self.new.inner ≡ R.content self.old.inner }
         ensures place { IsTrue (R.tells self.old.inner) → place_of self.new ≡ place_of self.old }
@@ -256,7 +257,7 @@ impl<R: Seek> BufReader<R> {
         if self.given == self.filled {
             return Ok(());
         }
-        let back = distance_back(self.filled - self.given);
+        let back = distance_back((self.filled - self.given) as u64);
         match seek_retrying(&mut self.inner, SeekFrom::Current(back)) {
             Ok(_place) => {
                 self.given = 0;
@@ -269,14 +270,6 @@ impl<R: Seek> BufReader<R> {
             }
         }
     }
-}
-
-// So many bytes back.
-fn distance_back(count: usize) -> i64
-    requires { count < 2 ^ 63 }
-    ensures { (place : ℕ) → count ≤ place → place_at place result ≡ Some (place - count) }
-{
-    -(count as i64)
 }
 
 impl<R: Seek> Seek for BufReader<R> {
@@ -292,8 +285,8 @@ impl<R: Seek> Seek for BufReader<R> {
             Seeks reader.tells reader.steady reader.content reader.place reader.rest reader.faults self.old self.new to result }
         ensures patient { IfErr result (λ e. IsInterruption e → ⊥) }
         ensures good { OnOk result (has_failed self.new ≡ false) }
-        ensures unmoved { IfErr result (λ e. IsRefusal e → has_failed self.new ≡ has_failed self.old) }
-        ensures fails { IfErr result (λ e. (IsRefusal e → ⊥) → IsTrue (has_failed self.new)) }
+        ensures unmoved { IfErr result (λ e. IsOutside e → has_failed self.new ≡ has_failed self.old) }
+        ensures fails { IfErr result (λ e. (IsOutside e → ⊥) → IsTrue (has_failed self.new)) }
     {
         self.put_back()?;
         match seek_retrying(&mut self.inner, to) {
@@ -302,7 +295,7 @@ impl<R: Seek> Seek for BufReader<R> {
                 Ok(place)
             }
             Err(e) => {
-                self.failed = self.failed || !is_refusal(e);
+                self.failed = self.failed || !is_outside(e);
                 Err(e)
             }
         }

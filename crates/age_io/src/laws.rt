@@ -1,6 +1,6 @@
 //! Laws of the cursor on a list, for proofs alone: the function here does nothing, and its contract is the laws.
 ghost use Rattle.std.specs.Prelude.{◌≡◌, ℕ, ◌+◌, ◌≤◌, ◌<◌, ◌++◌, [], ◌∷◌, List, length, take, drop, Ok, Err, IfErr, pos, negsuc};
-ghost use Rattle.age_io.specs.Cursor.{sought, IsRefusal};
+ghost use Rattle.age_io.specs.Cursor.{sought, IsOutside};
 ghost use Rattle.age_io.specs.Replies.{replies, place_after_all, at, gave};
 
 use crate::operations::Op;
@@ -22,7 +22,7 @@ pub fn cursor_laws()
     ensures past { (n place len : ℕ) → len < n → sought (SeekFrom.Start n) place len ≡ Err Error.PastEnd }
     ensures before { (k place len : ℕ) → place ≤ k → sought (SeekFrom.Current (negsuc k)) place len ≡ Err Error.BeforeStart }
     ensures within { (to : SeekFrom) (place len n : ℕ) → sought to place len ≡ Ok n → n ≤ len }
-    ensures refused { (to : SeekFrom) (place len : ℕ) → IfErr (sought to place len) IsRefusal }
+    ensures refused { (to : SeekFrom) (place len : ℕ) → IfErr (sought to place len) IsOutside }
     ensures stays { (ops : List Op) (content : List ℕ) (place : ℕ) → place ≤ length content →
         place_after_all ops content place ≤ length content }
     ensures parts { (first second : List Op) (content : List ℕ) (place : ℕ) → replies (first ++ second) content place

@@ -6,6 +6,7 @@ mod bufread;
 mod laws;
 mod memory;
 mod operations;
+mod retry;
 mod seeking;
 mod standard;
 mod targets;
@@ -17,11 +18,9 @@ pub use bufread::BufRead;
 pub use laws::cursor_laws;
 pub use memory::Bytes;
 pub use operations::{Answer, Op, run};
+pub use retry::{flush_retrying, is_interruption, read_retrying, seek_retrying, write_retrying};
 pub use seeking::Seek;
 pub use standard::Std;
-pub use targets::{is_refusal, place_at, sought, unrefused};
+pub use targets::{distance_back, is_outside, place_at, sought, unrefused};
 pub use traits::{Read, Write};
-pub use whole::{
-    fill, flush_retrying, read_exact, read_retrying, read_to_end, room_for, seek_retrying,
-    write_all, write_retrying,
-};
+pub use whole::{fill, read_exact, read_to_end, room_for, write_all};

@@ -1,5 +1,5 @@
 //! Where seeks lead.
-ghost use Rattle.std.specs.Prelude.{◌≢◌, false, IsTrue, ◌≡◌, ◌^◌, ◌<◌};
+ghost use Rattle.std.specs.Prelude.{◌≡◌, ◌≢◌, ℕ, ◌-◌, ◌^◌, ◌≤◌, ◌<◌, false, IsTrue, Some};
 ghost use Rattle.age_io.specs.Cursor;
 ghost use Rattle.age_error.specs.declared.io.Error.TheVariants.{Failed};
 
@@ -37,10 +37,18 @@ pub fn place_at(base: u64, distance: i64) -> Option<u64>
     }
 }
 
+/// The distance to a place so many bytes back.
+pub fn distance_back(count: u64) -> i64
+    requires { count < 2 ^ 63 }
+    ensures { (place : ℕ) → count ≤ place → Cursor.place_at place result ≡ Some (place - count) }
+{
+    -(count as i64)
+}
+
 /// Whether an error says that the target of a seek is outside the content: `BeforeStart` or `PastEnd`.
-pub fn is_refusal(error: Error) -> bool
-    ensures yes { IsTrue result → Cursor.IsRefusal error }
-    ensures no { result ≡ false → Cursor.IsRefusal error → ⊥ }
+pub fn is_outside(error: Error) -> bool
+    ensures yes { IsTrue result → Cursor.IsOutside error }
+    ensures no { result ≡ false → Cursor.IsOutside error → ⊥ }
 {
     match error {
         Error::BeforeStart | Error::PastEnd => true,
@@ -51,12 +59,12 @@ pub fn is_refusal(error: Error) -> bool
 /// The error of a seek to bytes that were read before: that they are outside the content is an answer of a broken reader
 /// alone, and becomes `Failed`.
 pub fn unrefused(error: Error) -> Error
-    ensures other { Cursor.IsRefusal result → ⊥ }
-    ensures same { (Cursor.IsRefusal error → ⊥) → result ≡ error }
-    ensures failed { Cursor.IsRefusal error → result ≡ Failed }
+    ensures other { Cursor.IsOutside result → ⊥ }
+    ensures same { (Cursor.IsOutside error → ⊥) → result ≡ error }
+    ensures failed { Cursor.IsOutside error → result ≡ Failed }
     ensures kept { result ≢ Failed → result ≡ error }
 {
-    if is_refusal(error) {
+    if is_outside(error) {
         Error::Failed
     } else {
         error

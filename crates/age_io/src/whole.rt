@@ -1,95 +1,15 @@
 //! Reads and writes that go on until all is done.
-ghost use Rattle.std.specs.Prelude.{◌≡◌, ◌≢◌, ℕ, ◌+◌, ◌^◌, ◌≤◌, ◌<◌, Bool, IsTrue, List, [], ◌++◌, length, take, vec_len, All, false, IfOk, OnOk, IfErr, OnErr, IsErrAnd, Ok, Err};
+ghost use Rattle.std.specs.Prelude.{◌≡◌, ◌≢◌, ℕ, ◌+◌, ◌^◌, ◌≤◌, ◌<◌, Bool, IsTrue, List, [], ◌++◌, length, take, vec_len, All, false, IfOk, OnOk, IfErr, OnErr, Ok, Err};
 ghost use Rattle.age_error.specs.Refusals.{IsDevice, IsInterruption};
 ghost use Rattle.age_error.specs.declared.io.Error.TheVariants.{OutOfMemory, UnexpectedEof};
 ghost use Rattle.age_io.specs.Stretch.{Stretch, IsCleanEnd, IsFault, from_place};
-ghost use Rattle.age_io.specs.Reading.{Reads, IsQuiet, Delivers, StaysOrFails, TookSome, IsShort, Appended, EndsEarly, Gave, most_faults};
-ghost use Rattle.age_io.specs.Cursor.{Seeks};
-ghost use Rattle.age_io.specs.Writing.{Writes, Flushes, WritesAll};
+ghost use Rattle.age_io.specs.Reading.{IsQuiet, Delivers, StaysOrFails, TookSome, IsShort, Appended, EndsEarly, Gave, most_faults};
+ghost use Rattle.age_io.specs.Writing.{WritesAll};
 
-use crate::seeking::Seek;
+use crate::retry::{read_retrying, write_retrying};
 use crate::traits::{Read, Write};
-use age_error::io::{Error, ErrorKind, SeekFrom};
+use age_error::io::Error;
 use std::alloc::Global;
-
-// Whether the device was interrupted, so that the call may be made again.
-fn is_interruption<T>(answer: &Result<T, Error>) -> bool
-    ensures yes { IsTrue result → IsErrAnd answer.now IsInterruption }
-    ensures no { result ≡ false → IfErr answer.now (λ e. IsInterruption e → ⊥) }
-{
-    match answer {
-        Err(Error::Device(ErrorKind::Interrupted)) => true,
-        _ => false,
-    }
-}
-
-/// One read that is tried again after an interruption, up to 16 times in a row; after that it answers `Device(Other)`.
-///
-/// Otherwise the answer is the last read's, with its bytes in front of `buf` and their count, and so are its errors
-/// and the reader's state after them. It is never `Device(Interrupted)`.
-pub fn read_retrying<R: Read>(reader: &mut R, buf: &mut [u8]) -> Result<usize, Error>
-    requires { 0 < length buf.old }
-    ensures reads { Reads R.tells R.steady R.content R.place R.rest R.faults reader.old reader.new buf.new result }
-    ensures patient { IfErr result (λ e. IsInterruption e → ⊥) }
-{
-    for _try in 0..17u8 {
-        let answer = reader.read(buf);
-        if !is_interruption(&answer) {
-            return answer;
-        }
-    }
-    Err(Error::Device(ErrorKind::Other))
-}
-
-/// One seek that is tried again after an interruption, up to 16 times in a row; after that it answers `Device(Other)`.
-///
-/// Otherwise the answer is the last seek's, and so are its refusals and the reader's state after them. It is never
-/// `Device(Interrupted)`.
-pub fn seek_retrying<R: Seek>(reader: &mut R, to: SeekFrom) -> Result<u64, Error>
-    ensures seeks { Seeks R.tells R.steady R.content R.place R.rest R.faults reader.old reader.new to result }
-    ensures patient { IfErr result (λ e. IsInterruption e → ⊥) }
-{
-    for _try in 0..17u8 {
-        let answer = reader.seek(to);
-        if !is_interruption(&answer) {
-            return answer;
-        }
-    }
-    Err(Error::Device(ErrorKind::Other))
-}
-
-/// One write that is tried again after an interruption, up to 16 times in a row; after that it answers `Device(Other)`.
-///
-/// Otherwise the answer is the last write's: how many bytes it took, from the front. After a refusal nothing was
-/// appended. It is never `Device(Interrupted)`.
-pub fn write_retrying<W: Write>(writer: &mut W, bytes: &[u8]) -> Result<usize, Error>
-    ensures writes { Writes W.tells W.limited W.faults W.appended writer.old writer.new bytes.now result }
-    ensures patient { IfErr result (λ e. IsInterruption e → ⊥) }
-{
-    for _try in 0..17u8 {
-        let answer = writer.write(bytes);
-        if !is_interruption(&answer) {
-            return answer;
-        }
-    }
-    Err(Error::Device(ErrorKind::Other))
-}
-
-/// One flush that is tried again after an interruption, up to 16 times in a row; after that it answers `Device(Other)`.
-///
-/// Otherwise the answer is the last flush's. It appends nothing, and is never `Device(Interrupted)`.
-pub fn flush_retrying<W: Write>(writer: &mut W) -> Result<(), Error>
-    ensures flushes { Flushes W.tells W.limited W.faults W.appended writer.old writer.new result }
-    ensures patient { IfErr result (λ e. IsInterruption e → ⊥) }
-{
-    for _try in 0..17u8 {
-        let answer = writer.flush();
-        if !is_interruption(&answer) {
-            return answer;
-        }
-    }
-    Err(Error::Device(ErrorKind::Other))
-}
 
 /// Fills the buffer, or as much of it as comes before a clean end. `filled` says how many bytes, also after a refusal.
 ///
@@ -158,7 +78,7 @@ pub fn read_exact<R: Read>(reader: &mut R, buf: &mut [u8]) -> Result<(), Error>
 }
 
 // How many bytes `read_to_end` asks for at once.
-const PIECE: usize = 65_536;
+const ROOM: usize = 65_536;
 
 /// Appends the whole rest and answers its length in bytes. A success says that the rest ended well, and the reader
 /// stands at its end.
@@ -189,7 +109,7 @@ pub fn read_to_end<R: Read>(
     ensures cause { IsTrue (R.tells reader.old) → IfErr result (λ e. e ≢ OutOfMemory →
         IsQuiet (R.faults reader.old) (R.faults reader.new) → (R.rest reader.old).ends_well ≡ false) }
 {
-    let mut room = room_for(alloc, PIECE)?;
+    let mut room = room_for(alloc, ROOM)?;
     let start = buf.len();
     'reads: loop {
         buf.reserve(room.len())?;

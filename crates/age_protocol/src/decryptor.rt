@@ -12,11 +12,12 @@ ghost use Rattle.age_protocol.specs.OpeningFile.{Decrypts};
 use crate::answering::{file_key_by_one, file_key_of};
 use crate::keys::payload_key_of;
 use age_error::DecryptError;
+use age_error::bytes::known_array;
 use age_format::{HeaderV1, Identity};
 use age_io::{Read, read_exact};
 use age_stream::reader::StreamReader;
 use age_suite::secrecy::FileKey;
-use age_suite::suite::{Suite, known_array};
+use age_suite::suite::Suite;
 use std::alloc::Global;
 use std::marker::PhantomData;
 

@@ -12,6 +12,7 @@ ghost use Rattle.age_protocol.specs.Starting.{Starts, WritesFile, GivesUp};
 
 use crate::encrypting::prepare;
 use crate::keys::payload_key_of;
+use age_error::bytes::{known_array, known_bytes};
 use age_error::{EncryptError, io};
 use age_format::{
     Grease, HeaderV1, Recipient, Stanza, canonical_text_is_text, canonical_text_reads_back,
@@ -22,7 +23,7 @@ use age_stream::writer::{ChunkRoom, StreamWriter};
 use age_suite::draw::Draw;
 use age_suite::mac::mac_laws;
 use age_suite::secrecy::FileKey;
-use age_suite::suite::{Suite, known_array, known_bytes};
+use age_suite::suite::Suite;
 use std::alloc::Global;
 use std::marker::{Model, PhantomData};
 

@@ -14,11 +14,12 @@ use crate::decryptor::Decryptor;
 use crate::encryptor::Encryptor;
 use crate::laws::{carried_files, files_carry_themselves};
 use age_armor::{ArmoredReader, ArmoredWriter, Format, armor_is_carrying, armor_is_text};
+use age_error::bytes::known_bytes;
 use age_error::{DecryptError, EncryptError, io};
 use age_format::{Grease, Identity, Recipient};
 use age_io::{Bytes, Write, read_to_end};
 use age_suite::draw::Draw;
-use age_suite::suite::{Suite, known_bytes};
+use age_suite::suite::Suite;
 use std::alloc::Global;
 
 // Writes the whole file of a plaintext to an output, and hands that back.

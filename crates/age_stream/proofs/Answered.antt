@@ -11,9 +11,9 @@ use Rattle.age_suite.specs.Suite.{IsCipher}
 use Rattle.age_io.specs.Stretch.{Stretch, nothing, whole, from_place, stretch-ext, IsCleanEnd}
 use Rattle.age_io.specs.Reading.{StandsIn, Delivers}
 use Rattle.age_stream.specs.Payload.{Seal, nonce}
-use Rattle.age_stream.specs.Opening.{shorter}
+use Rattle.age_stream.specs.OpeningLaws.{shorter}
 use Rattle.age_stream.specs.ReadingLaws.{at_full_end}
-use Rattle.age_stream.proofs.Sizes.{length-text, no-more, plain-whole, last-by_length, last-place}
+use Rattle.age_stream.proofs.TextLengths.{length-text, no-more, plain-whole, last-by_length, last-place}
 use Rattle.age_stream.proofs.Lengths.{plain_len-last}
 use Rattle.age_stream.specs.Chunks.{chunk_of, delivered}
 use Rattle.age_stream.specs.FrontToEnd.{StopsAt}

@@ -8,17 +8,17 @@ use Rattle.age_error.specs.Refusals.{IsInterruption}
 use Rattle.age_error.specs.declared.io.Error.{Error}
 use Rattle.age_error.specs.declared.io.Error.TheVariants.{TooLong, PastEnd, BeforeStart}
 use Rattle.age_io.specs.Stretch.{Stretch, from_place}
-use Rattle.age_io.specs.Cursor.{sought, moved_to, target, place_at, MayLead, IsRefusal}
+use Rattle.age_io.specs.Cursor.{sought, moved_to, target, place_at, MayLead, IsOutside}
 use Rattle.age_error.specs.declared.io.SeekFrom.{SeekFrom}
 use Rattle.age_error.specs.declared.io.SeekFrom.TheVariants.{Start, End, Current}
 use Rattle.age_stream.specs.Payload.{final_chunk, plain_len, nonce}
-use Rattle.age_stream.specs.Opening.{Shorter}
+use Rattle.age_stream.specs.OpeningLaws.{Shorter}
 use Rattle.age_stream.specs.Chunks.{delivered}
 use Rattle.age_stream.specs.WellLaws.{well-single, well-length, onward, accepted}
 use Rattle.age_stream.specs.Reading.{text_at}
 use Rattle.age_stream.specs.Targets.{in_length, below_start, IsToEnd}
 use Rattle.age_stream.proofs.Inner.{moved-by}
-use Rattle.age_stream.proofs.Sizes.{length-text, few-final, some-final, plain-whole, plain-most, last-limit}
+use Rattle.age_stream.proofs.TextLengths.{length-text, few-final, some-final, plain-whole, plain-most, last-limit}
 use Rattle.age_stream.proofs.Lengths.{plain_len-last}
 
 ok-by : (b : Bool) (r : Result ℕ Error) (n : ℕ) → (if b then r else Err TooLong) ≡ Ok n → r ≡ Ok n
@@ -33,22 +33,22 @@ abbrev error_of : Result ℕ Error → Error
 error_of (Ok n) = TooLong
 error_of (Err e) = e
 
-is-refusal : (a e : Error) → IsRefusal a → a ≡ e → IsRefusal e
+is-refusal : (a e : Error) → IsOutside a → a ≡ e → IsOutside e
 is-refusal a e r same = rw (← same) r
 
-refuses-by : (b : Bool) (n : ℕ) (e : Error) → ◌≡◌ {A = Result ℕ Error} (if b then Ok n else Err PastEnd) (Err e) → IsRefusal e
+refuses-by : (b : Bool) (n : ℕ) (e : Error) → ◌≡◌ {A = Result ℕ Error} (if b then Ok n else Err PastEnd) (Err e) → IsOutside e
 refuses-by true n e is = cc
 refuses-by false n e is = is-refusal PastEnd e tt (ap error_of is)
 
-refuses-to : (o : Option ℕ) (len : ℕ) (e : Error) → moved_to o len ≡ Err e → IsRefusal e
+refuses-to : (o : Option ℕ) (len : ℕ) (e : Error) → moved_to o len ≡ Err e → IsOutside e
 refuses-to None len e is = is-refusal BeforeStart e tt (ap error_of is)
 refuses-to (Some n) len e is = refuses-by (nat_le n len) n e is
 
 -- a cursor refuses targets outside of its content alone
-pub sought-refuses : (to : SeekFrom) (place len : ℕ) (e : Error) → sought to place len ≡ Err e → IsRefusal e
+pub sought-refuses : (to : SeekFrom) (place len : ℕ) (e : Error) → sought to place len ≡ Err e → IsOutside e
 sought-refuses to place len e is = refuses-to (target to place len) len e is
 
-pub not-both : (e : Error) → IsRefusal e → IsInterruption e → ⊥
+pub not-both : (e : Error) → IsOutside e → IsInterruption e → ⊥
 not-both BeforeStart r i = i
 not-both PastEnd r i = i
 not-both _ r i = absurd r

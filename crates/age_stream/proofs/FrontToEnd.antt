@@ -8,9 +8,9 @@ use Rattle.age_error.specs.declared.io.Error.{Error}
 use Rattle.age_error.specs.declared.io.Error.TheVariants.{OutOfMemory}
 use Rattle.age_error.specs.Bytes.{AreBytes, AreBytesOf}
 use Rattle.age_suite.specs.Suite.{IsCipher}
-use Rattle.age_stream.specs.Opening.{nonce-bytes}
+use Rattle.age_stream.specs.OpeningLaws.{nonce-bytes}
 use Rattle.age_stream.specs.Payload.{Seal, piece, last_piece, nonce, middle_seals, payload, chunk, HeldAsMiddle, HeldAsLast, IsBad}
-use Rattle.age_stream.specs.FrontToEnd.{IsAllowed, StopsAt, IsOpenedTo, IsRefusal}
+use Rattle.age_stream.specs.FrontToEnd.{IsAllowed, StopsAt, IsOpenedTo, IsOutside}
 use Rattle.age_stream.proofs.Payloads.{piece-bytes, length-seal, middle_seals-front, chunk-middle}
 use Rattle.age_stream.proofs.Cuts.{cut-bytes, length-cut, cut_more, cut_end, cut_rest}
 
@@ -140,7 +140,7 @@ module _ (seal_of : Seal) (opened : List ℕ → List ℕ → List ℕ → Optio
 
   -- a read stops at chunk i
   pub refused_at : (i : ℕ) (out : List ℕ) (error : Error) → IsOpenedTo seal_of key sealed i out → i ≤ 2 ^ 44
-      → StopsAt seal_of key sealed i error → IsRefusal seal_of key sealed error
+      → StopsAt seal_of key sealed i error → IsOutside seal_of key sealed error
   refused_at i out error was reach why = record { place = i; before = held_before i out was; reach = reach; stops = why }
 
   -- a last chunk with no byte
@@ -149,7 +149,7 @@ module _ (seal_of : Seal) (opened : List ℕ → List ℕ → List ℕ → Optio
 
 -- memory was refused
 pub refused_memory : (seal_of : Seal) (key sealed : List ℕ) {T : Type 0} (r : Result T Error)
-    → IsErr r × IsErrAnd r (λ e. e ≡ OutOfMemory) → IfErr r (IsRefusal seal_of key sealed)
+    → IsErr r × IsErrAnd r (λ e. e ≡ OutOfMemory) → IfErr r (IsOutside seal_of key sealed)
 refused_memory seal_of key sealed (Ok x) h = tt
 refused_memory seal_of key sealed (Err e) h = record {
   place = 0;

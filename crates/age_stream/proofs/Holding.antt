@@ -9,13 +9,13 @@ use Rattle.age_error.specs.declared.io.Error.{Error}
 use Rattle.age_io.specs.Stretch.{Stretch, nothing, from_place, stretch-ext, IsCleanEnd, IsFault}
 use Rattle.age_io.specs.Reading.{StandsIn, Delivers, EndsEarly}
 use Rattle.age_stream.specs.Payload.{nonce}
-use Rattle.age_stream.specs.Opening.{Shorter}
+use Rattle.age_stream.specs.OpeningLaws.{Shorter}
 use Rattle.age_stream.specs.Chunks.{chunk_of, prepend, after_last, delivered}
 use Rattle.age_stream.specs.ChunkLaws.{delivered-chunk, delivered-refused, delivered-cut}
 use Rattle.age_stream.specs.WellLaws.{accepted, delivered-nothing}
 use Rattle.age_stream.specs.Reading.{payload_at, text_at, behind, rest_of, spare, IsFront, IsHeld, IsPast, IsBefore, IsInside, IsSound}
 use Rattle.age_stream.specs.ReadingLaws.{taken-rest}
-use Rattle.age_stream.proofs.Sizes.{length-text, plain-inside}
+use Rattle.age_stream.proofs.TextLengths.{length-text, plain-inside}
 
 -- ---- lists
 

@@ -5,11 +5,11 @@ use Rattle.age_error.specs.Bytes.{AreBytes, AreBytesOf}
 use Rattle.age_io.specs.Stretch.{Stretch, whole, from_place, stretch-ext}
 use Rattle.age_suite.specs.Suite.{IsCipher}
 use Rattle.age_stream.specs.Payload.{Seal, cut, piece, last_piece, payload, LastIsNoMiddle}
-use Rattle.age_stream.specs.Chunks.{chunk_of, prepend, delivered}
+use Rattle.age_stream.specs.Chunks.{chunk_of, prepend, after_last, delivered}
 use Rattle.age_stream.specs.ChunkLaws.{delivered-chunk}
 use Rattle.age_stream.specs.Reading.{text_at}
 use Rattle.age_stream.specs.FrontToEnd.{IsAllowed}
-use Rattle.age_stream.proofs.Sizes.{full-text, text-most, not-short, few-left}
+use Rattle.age_stream.proofs.TextLengths.{full-text, text-most, not-short, few-left}
 use Rattle.age_stream.proofs.Cuts.{cut_rest}
 use Rattle.age_stream.proofs.Payloads.{held-middle, held-last, payload-bytes, length-payload, length-full_piece, length-last_piece}
 use Rattle.age_stream.proofs.Judged.{next_place, held-judged_middle, held-judged_last}
@@ -37,7 +37,8 @@ module _ (seal_of : Seal) (opened : List ℕ → List ℕ → List ℕ → Optio
       let size = full-text 65552 (65552 * number) s.bytes full in
       let is_so = delivered-chunk opened key number text more s.ends_well plain false (text-most 65552 rest) (λ short. absurd (not-short (length text) size short))
       (λ short. absurd (not-short (length text) size short)) is in
-      rw all at is_so ∙ ap (λ d. prepend plain (delivered opened key (suc number) d)) (next_place number s)
+      sym (ap (λ (xs : List ℕ). delivered opened key number (record { bytes = xs; ends_well = s.ends_well })) all) ∙ is_so
+      ∙ ap (λ d. prepend plain (delivered opened key (suc number) d)) (next_place number s)
 
   -- the last chunk, and a clean end
   last-delivered : (number : ℕ) (sealed plain : List ℕ) → length sealed ≤ 65552 * number + 65552 →
@@ -50,7 +51,8 @@ module _ (seal_of : Seal) (opened : List ℕ → List ℕ → List ℕ → Optio
       let all : text ++ more ≡ rest = take-append-drop 65552 rest in
       let none : more ≡ [] = drop_all 65552 rest (few-left (length rest) (length sealed) (65552 * number) (length-drop (65552 * number) sealed) few) in
       let is_so = delivered-chunk opened key number text more true plain true (text-most 65552 rest) (λ short. (none, refl)) (λ short. refl) is in
-      rw all at is_so ∙ rw (none, append-nil) refl
+      sym (ap (λ (xs : List ℕ). delivered opened key number (whole xs)) all) ∙ is_so
+      ∙ ap (λ (xs : List ℕ). prepend plain (after_last xs true)) none ∙ stretch-ext (prepend plain (after_last [] true)) (whole plain) (append-nil plain) refl
 
   module _ (plain : List ℕ) (b : AreBytes plain) (most : length plain ≤ 2 ^ 60) (apart : LastIsNoMiddle seal_of key plain) where
     abbrev sealed : List ℕ

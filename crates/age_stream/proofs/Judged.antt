@@ -10,12 +10,12 @@ use Rattle.age_error.specs.declared.io.Error.TheVariants.{Truncated, BadChunk, A
 use Rattle.age_io.specs.Stretch.{Stretch, whole, from_place, stretch-ext}
 use Rattle.age_suite.specs.Suite.{IsCipher}
 use Rattle.age_stream.specs.Payload.{Seal, nonce, cut, chunk, final_chunk, EndsAsLast, HeldAsMiddle, HeldAsLast}
-use Rattle.age_stream.specs.Opening.{nonce-bytes}
+use Rattle.age_stream.specs.OpeningLaws.{nonce-bytes}
 use Rattle.age_stream.specs.Chunks.{Chunk, is_empty, allowed, allowed_if, opened_as, chunk_of}
 use Rattle.age_stream.specs.WellLaws.{Accepted, accepted}
 use Rattle.age_stream.specs.Reading.{text_at}
 use Rattle.age_stream.specs.FrontToEnd.{IsAllowed, StopsAt}
-use Rattle.age_stream.proofs.Sizes.{full-within, some-within, none-past, is-none, is-full, is-sealed}
+use Rattle.age_stream.proofs.TextLengths.{full-within, some-within, none-past, is-none, is-full, is-sealed}
 use Rattle.age_stream.proofs.FrontToEnd.{chunk-bytes, not_middle, held_middle, held_last, is_bad, middle_plain-size}
 
 -- a reader's text of a chunk is the definition's
@@ -33,6 +33,16 @@ next_place number payload =
 some_byte : (text : List ℕ) → 0 < length text → is_empty text ≡ false
 some_byte [] some = absurd (omega arith)
 some_byte (x ∷ xs) some = refl
+
+-- the terms alone: `cc` beside a text computes it
+err-same : (a b : Error) → ◌≡◌ {A = Result Chunk Error} (Err a) (Err b) → a ≡ b
+err-same a b is = cc
+
+some-same : (a b : List ℕ) → ◌≡◌ {A = Option (List ℕ)} (Some a) (Some b) → a ≡ b
+some-same a b is = cc
+
+none-apart : (a : List ℕ) → ◌≡◌ {A = Option (List ℕ)} None (Some a) → ⊥
+none-apart a is = cc
 
 -- ---- a chunk by itself
 
@@ -195,7 +205,7 @@ module _ (seal_of : Seal) (opened : List ℕ → List ℕ → List ℕ → Optio
     ]
     | inr none ↦
         let empty : text_of number ≡ [] = nil_from_length (text_of number) (is-none (length (text_of number)) none) in
-        let at_end : e ≡ Truncated = (let h : chunk_of opened key number [] ≡ Err e = rw empty at is in cc (chunk_of-none opened key number, h)) in
+        let at_end = err-same e Truncated (sym is ∙ ap (chunk_of opened key number) empty ∙ chunk_of-none opened key number) in
         rw at_end (none-past 65552 (65552 * number) sealed (omega arith) none within)
   ]
 
@@ -222,9 +232,9 @@ module _ (seal_of : Seal) (opened : List ℕ → List ℕ → List ℕ → Optio
       let opens = opens_held number false plain held.bytes held.is_seal in
       elim (judged_by opened key number (text_of number) (is-full (length (text_of number)) (length (chunk number sealed)) same_length held.full)) [
         | inl middle ↦
-            let same : middle.0 ≡ plain = cc (sym middle.2 ∙ opens) in
-            middle.3 ∙ rw same (allowed-ok number plain false allowed_so)
-        | inr by ↦ cc (sym (by.0 full) ∙ opens)
+            let same = some-same middle.0 plain (sym middle.2 ∙ opens) in
+            middle.3 ∙ ap (λ (p : List ℕ). allowed number (p, false)) same ∙ allowed-ok number plain false allowed_so
+        | inr by ↦ absurd (none-apart plain (sym (by.0 full) ∙ opens))
       ]
 
   -- a chunk that is held as last, and not refused by itself, is accepted so
@@ -238,7 +248,7 @@ module _ (seal_of : Seal) (opened : List ℕ → List ℕ → List ℕ → Optio
       (ap length (text_chunk number (whole sealed))) (ap length held.is_seal) size in
       elim (judged_by opened key number (text_of number) some) [
         | inl middle ↦ absurd (held.not_middle middle.0 (middle-held number middle.0 middle.1 middle.2))
-        | inr by ↦ by.1 ∙ rw opens (allowed-ok number plain true allowed_so)
+        | inr by ↦ by.1 ∙ ap (λ (o : Option (List ℕ)). allowed_if number (option_map {U = Chunk} (λ p. (p, true)) o)) opens ∙ allowed-ok number plain true allowed_so
       ]
 
   -- what opens as the last at the end is the last chunk
@@ -249,4 +259,4 @@ module _ (seal_of : Seal) (opened : List ℕ → List ℕ → List ℕ → Optio
 
   -- what doesn't open as the last at the end isn't the seal of any bytes as the last
   pub ends_badly : opened key (nonce (final_chunk (length sealed)) true) (text_of (final_chunk (length sealed))) ≡ None → EndsAsLast seal_of key sealed → ⊥
-  ends_badly none ends = cc (none, opens_held (final_chunk (length sealed)) true ends.plain ends.bytes ends.is_seal)
+  ends_badly none ends = none-apart ends.plain (sym none ∙ opens_held (final_chunk (length sealed)) true ends.plain ends.bytes ends.is_seal)

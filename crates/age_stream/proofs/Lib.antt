@@ -1,4 +1,4 @@
-pub mod Sizes
+pub mod TextLengths
 pub mod Cuts
 pub mod Payloads
 pub mod FrontToEnd

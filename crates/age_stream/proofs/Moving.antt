@@ -6,7 +6,7 @@ use Rattle.std.proofs.lemmas.List.Elements.{All-drop}
 use Rattle.age_error.specs.Bytes.{AreBytes}
 use Rattle.age_io.specs.Stretch.{Stretch, from_place, stretch-ext}
 use Rattle.age_stream.specs.Payload.{nonce}
-use Rattle.age_stream.specs.Opening.{Shorter}
+use Rattle.age_stream.specs.OpeningLaws.{Shorter}
 use Rattle.age_stream.specs.Reading.{payload_at, IsAtFullEnd, IsBefore, IsHeld, IsInside, IsLastChunk, IsPast, IsSound}
 use Rattle.age_stream.proofs.Holding.{payload-read}
 use Rattle.age_stream.proofs.Last.{IsLastText, inside-held, last-held, last-past}

@@ -3,7 +3,7 @@ use Rattle.std.specs.Prelude.{◌≡◌, ℕ, ◌+◌, Option, Some, None, Resul
 use Rattle.std.proofs.Common.{sym}
 use Rattle.age_error.specs.Bytes.{AreBytes}
 use Rattle.age_stream.specs.Payload.{nonce}
-use Rattle.age_stream.specs.Opening.{Shorter}
+use Rattle.age_stream.specs.OpeningLaws.{Shorter}
 
 module _ (opened : List ℕ → List ℕ → List ℕ → Option (List ℕ)) (key : List ℕ) (law : Shorter opened key) where
   lengths-option : {V : Type 0} (items : V → List ℕ) (number : ℕ) (last : Bool) (text : List ℕ) → AreBytes text → (o : Option V) →

@@ -8,8 +8,8 @@ use Rattle.age_stream.proofs.Cuts.{cut-bytes, length-cut, cut-front, cut_at, cut
 use Rattle.age_stream.specs.Laws.{joined, ArePieces}
 use Rattle.age_error.specs.Bytes.{AreBytes, AreBytesOf}
 use Rattle.age_suite.specs.Suite.{IsCipher}
-use Rattle.age_stream.specs.Opening.{nonce-bytes}
-use Rattle.age_stream.specs.FrontToEnd.{StopsAt, IsRefusal}
+use Rattle.age_stream.specs.OpeningLaws.{nonce-bytes}
+use Rattle.age_stream.specs.FrontToEnd.{StopsAt, IsOutside}
 use Rattle.age_error.specs.declared.io.Error.{Error}
 use Rattle.age_error.specs.declared.io.Error.TheVariants.{Truncated, BadChunk, AfterLast, LastChunkEmpty, TooLong, OutOfMemory, Device, UnexpectedEof, WriteZero, BeforeStart, PastEnd, BadEnd, LimitExceeded, Armor, NotIdentity, Failed}
 use Rattle.age_stream.specs.Payload.{Seal, IsBad, piece, last_piece, nonce, middle_seals, payload, chunk, HeldAsMiddle, HeldAsLast, LastIsNoMiddle, plain_len}
@@ -240,6 +240,6 @@ module _ (seal_of : Seal) (opened : List ℕ → List ℕ → List ℕ → Optio
   stops plain b apart n Failed le why = absurd why
 
   pub not_refused : (plain : List ℕ) → AreBytes plain → LastIsNoMiddle seal_of key plain → (error : Error)
-      → IsRefusal seal_of key (payload seal_of key plain) error → (error ≡ OutOfMemory) ⊎ ((error ≡ TooLong) × (2 ^ 60 < length plain))
+      → IsOutside seal_of key (payload seal_of key plain) error → (error ≡ OutOfMemory) ⊎ ((error ≡ TooLong) × (2 ^ 60 < length plain))
   not_refused plain b apart error refusal =
       stops plain b apart refusal.place error (not_past plain b apart refusal.place refusal.before) refusal.stops

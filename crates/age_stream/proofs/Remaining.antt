@@ -11,14 +11,14 @@ use Rattle.age_suite.specs.Suite.{IsCipher}
 use Rattle.age_io.specs.Stretch.{Stretch, nothing, from_place}
 use Rattle.age_io.specs.Reading.{StandsIn}
 use Rattle.age_stream.specs.Payload.{Seal, chunk}
-use Rattle.age_stream.specs.Opening.{shorter}
+use Rattle.age_stream.specs.OpeningLaws.{shorter}
 use Rattle.age_stream.specs.Chunks.{Chunk, is_empty, chunk_of, after_chunk, after_last, delivers, delivered}
 use Rattle.age_stream.specs.WellLaws.{accepted, delivered-nothing, well-length-by}
 use Rattle.age_stream.specs.Reading.{payload_at, text_at, behind, rest_of, IsHeld, IsPast, IsBefore, IsSound}
 use Rattle.age_stream.specs.ReadingLaws.{taken-rest}
 use Rattle.age_stream.specs.Answering.{IsHeldAs, IsByteAt, StandAt, IsGoodEnd}
 use Rattle.age_stream.proofs.Judged.{judged-middle, judged-last, ends_last}
-use Rattle.age_stream.proofs.Sizes.{length-text, some-within, below-most, plain-most, plain-full, plain-whole, last-by_length, last-place}
+use Rattle.age_stream.proofs.TextLengths.{length-text, some-within, below-most, plain-most, plain-full, plain-whole, last-by_length, last-place}
 use Rattle.age_stream.proofs.Lengths.{plain_len-last}
 use Rattle.age_stream.proofs.Answered.{good-end}
 use Rattle.age_stream.proofs.Holding.{rest_failed, rest-held, rest-open}

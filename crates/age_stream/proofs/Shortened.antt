@@ -10,7 +10,7 @@ use Rattle.age_stream.specs.Payload.{Seal, piece, last_piece, payload, chunk, He
 use Rattle.age_stream.specs.Chunks.{prepend, delivered}
 use Rattle.age_stream.specs.WellLaws.{delivered-none}
 use Rattle.age_stream.specs.FrontToEnd.{IsAllowed}
-use Rattle.age_stream.specs.Opening.{shorter, opens_bytes}
+use Rattle.age_stream.specs.OpeningLaws.{shorter, opens_bytes}
 use Rattle.age_stream.specs.SizeLaws.{delivered-bytes}
 use Rattle.age_stream.proofs.Cuts.{cut-take}
 use Rattle.age_stream.proofs.Payloads.{held-middle, payload-bytes, length-payload, length-full_piece, length-last_piece}

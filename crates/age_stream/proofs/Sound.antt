@@ -5,7 +5,7 @@ use Rattle.std.proofs.lemmas.List.{drop-drop, drop-append-le}
 use Rattle.std.proofs.lemmas.Bool.{cases_lt, true≢false}
 use Rattle.age_error.specs.Bytes.{AreBytes}
 use Rattle.age_io.specs.Stretch.{Stretch, nothing, from_place, stretch-ext}
-use Rattle.age_stream.specs.Opening.{Shorter}
+use Rattle.age_stream.specs.OpeningLaws.{Shorter}
 use Rattle.age_stream.specs.Chunks.{delivered}
 use Rattle.age_stream.specs.WellLaws.{well-middle, well-single, delivered-nothing}
 use Rattle.age_stream.specs.Reading.{payload_at, behind, rest_of, IsSound}

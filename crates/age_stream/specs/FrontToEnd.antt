@@ -31,7 +31,7 @@ StopsAt seal_of key sealed i OutOfMemory = ⊤
 StopsAt seal_of key sealed i other = ⊥
 
 -- the refusal of a payload that is read from front to end
-pub record IsRefusal (seal_of : Seal) (key sealed : List ℕ) (error : Error) : Type 0 where
+pub record IsOutside (seal_of : Seal) (key sealed : List ℕ) (error : Error) : Type 0 where
   -- the chunk at which the read stops
   pub place : ℕ
   -- the chunks before it are held as middle, and none of them is too far

@@ -4,7 +4,7 @@ use Rattle.age_error.specs.Bytes.{AreBytes, AreBytesOf}
 use Rattle.age_stream.specs.Payload.{Seal, piece, last_piece, payload, HeldAsMiddle, HeldAsLast, LastIsNoMiddle, plain_len}
 use Rattle.age_io.specs.Stretch.{Stretch, whole}
 use Rattle.age_stream.specs.Chunks.{delivered}
-use Rattle.age_stream.specs.FrontToEnd.{IsRefusal}
+use Rattle.age_stream.specs.FrontToEnd.{IsOutside}
 use Rattle.age_error.specs.declared.io.Error.{Error}
 use Rattle.age_error.specs.declared.io.Error.TheVariants.{OutOfMemory, TooLong}
 
@@ -49,7 +49,7 @@ LastChunk seal_of = (key plain : List ℕ) → AreBytesOf 32 key → AreBytes pl
 -- a payload that is read from front to end is refused for want of memory, or because its plaintext has more than 2 ^ 60 bytes
 abbrev pub NotRefused : Seal → Type 0
 NotRefused seal_of = (key plain : List ℕ) → AreBytesOf 32 key → AreBytes plain → LastIsNoMiddle seal_of key plain
-    → (error : Error) → IsRefusal seal_of key (payload seal_of key plain) error
+    → (error : Error) → IsOutside seal_of key (payload seal_of key plain) error
     → (error ≡ OutOfMemory) ⊎ ((error ≡ TooLong) × (2 ^ 60 < length plain))
 
 -- success means payload: what delivers a plaintext and then a clean end is the payload of that plaintext, and then a clean end

@@ -1,7 +1,7 @@
 pub mod Payload
 pub mod FrontToEnd
 pub mod Laws
-pub mod Opening
+pub mod OpeningLaws
 pub mod Chunks
 pub mod ChunkLaws
 pub mod WellLaws

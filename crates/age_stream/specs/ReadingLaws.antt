@@ -9,7 +9,7 @@ use Rattle.age_error.specs.Bytes.{AreBytes}
 use Rattle.age_io.specs.Stretch.{Stretch, nothing, from_place, stretch-ext}
 use Rattle.age_io.specs.Reading.{StandsIn}
 use Rattle.age_stream.specs.Payload.{nonce}
-use Rattle.age_stream.specs.Opening.{Shorter}
+use Rattle.age_stream.specs.OpeningLaws.{Shorter}
 use Rattle.age_stream.specs.Chunks.{chunk_of, prepend, delivered}
 use Rattle.age_stream.specs.ChunkLaws.{delivered-chunk}
 use Rattle.age_stream.specs.WellLaws.{accepted, onward, well-length, well-single, delivered-nothing, delivered-none}

@@ -5,7 +5,7 @@ use Rattle.std.proofs.lemmas.List.Elements.{All-drop, All-take, All-append, All-
 use Rattle.age_error.specs.Bytes.{AreBytes}
 use Rattle.age_io.specs.Stretch.{Stretch, nothing, from_place}
 use Rattle.age_error.specs.declared.io.Error.{Error}
-use Rattle.age_stream.specs.Opening.{Shorter, OpensBytes}
+use Rattle.age_stream.specs.OpeningLaws.{Shorter, OpensBytes}
 use Rattle.age_stream.specs.Chunks.{Chunk, chunk_of, after_last, after_chunk, delivers, delivered}
 use Rattle.age_stream.specs.WellLaws.{accepted}
 

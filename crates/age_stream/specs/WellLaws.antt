@@ -9,7 +9,7 @@ use Rattle.age_io.specs.Stretch.{Stretch, nothing, from_place, stretch-ext}
 use Rattle.age_error.specs.declared.io.Error.{Error}
 use Rattle.age_error.specs.declared.io.Error.TheVariants.{LastChunkEmpty, TooLong}
 use Rattle.age_stream.specs.Payload.{nonce}
-use Rattle.age_stream.specs.Opening.{Shorter}
+use Rattle.age_stream.specs.OpeningLaws.{Shorter}
 use Rattle.age_stream.specs.Chunks.{Chunk, is_empty, allowed_if, or_else, opened_chunk, chunk_of, prepend, after_last, after_chunk, delivers, delivered}
 use Rattle.age_stream.specs.ChunkLaws.{delivered-full, delivered-short}
 

@@ -5,7 +5,7 @@ ghost use Rattle.age_error.specs.declared.io.Error.TheVariants.{OutOfMemory};
 ghost use Rattle.age_io.specs.Stretch.{IsCleanEnd};
 ghost use Rattle.age_io.specs.Reading.{IsQuiet, Delivers, EndsEarly};
 ghost use Rattle.age_io.specs.Cursor;
-ghost use Rattle.age_io.specs.Cursor.{IsRefusal};
+ghost use Rattle.age_io.specs.Cursor.{IsOutside};
 ghost use Rattle.age_stream.specs.Answering.{StandAt, StopsNear, IsGoodEnd};
 ghost use Rattle.age_stream.specs.Targets.{sought_in, IsRefusedTarget, StopsWithin};
 
@@ -105,12 +105,12 @@ impl<S: Suite, R: Seek> StreamReader<S, R> {
             ⊎ StopsWithin S.seal_of (key_of self.old) (payload_of self.old).bytes to (place_of self.old) (length buf.new) (place_of self.new) e) }
 
         // Only a seek that refuses its target leaves the reader as it was.
-        ensures unmoved { IsTrue (⟦<StreamReader<S, R> as Read>⟧.tells self.old) → IfErr result (λ e. IsRefusal e →
+        ensures unmoved { IsTrue (⟦<StreamReader<S, R> as Read>⟧.tells self.old) → IfErr result (λ e. IsOutside e →
             sought_in to (place_of self.old) (length (payload_of self.old).bytes) ≡ Err e →
             (HasFailed self.new → HasFailed self.old) × (HasFailed self.old → HasFailed self.new) × (place_of self.new ≡ place_of self.old)
             × (IsHolding self.old → IsHolding self.new) × (opens_of self.new ≡ opens_of self.old)) }
         ensures good { OnOk result (HasFailed self.new → ⊥) }
-        ensures fails { IfErr result (λ e. (IsRefusal e → ⊥) → HasFailed self.new) }
+        ensures fails { IfErr result (λ e. (IsOutside e → ⊥) → HasFailed self.new) }
 
         // How often it opens a chunk.
         ensures counts { opens_of self.old ≤ opens_of self.new }

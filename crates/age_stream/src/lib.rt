@@ -6,5 +6,6 @@ pub mod laws;
 pub mod nonce;
 pub mod reader;
 mod seeking;
+pub mod sizes;
 pub mod writer;
 mod writing;

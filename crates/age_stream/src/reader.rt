@@ -12,21 +12,17 @@ ghost use Rattle.age_stream.specs.Chunks.{allowed, chunk_of, delivered};
 ghost use Rattle.age_stream.specs.Reading.{payload_at, spare, IsSound};
 ghost use Rattle.age_suite.specs.Suite.{one_more};
 ghost use Rattle.age_stream.specs.ReadingLaws.{and-left, and-right, both-true, stream_stands, stream_spent};
-ghost use Rattle.age_stream.specs.Opening.{shorter, opens_bytes};
+ghost use Rattle.age_stream.specs.OpeningLaws.{shorter, opens_bytes};
 ghost use Rattle.age_stream.specs.SizeLaws.{delivered-bytes, delivered-short};
 
 use crate::nonce::nonce_of;
+use crate::sizes::{CHUNK, MOST_CHUNKS};
+use age_error::bytes::{known_array, known_bytes};
 use age_error::io::Error;
 use age_io::{Read, fill, room_for};
-use age_suite::suite::{Opens, Suite, known_array, known_bytes};
+use age_suite::suite::{Opens, Suite};
 use std::alloc::{AllocError, Global};
 use std::marker::PhantomData;
-
-/// How many bytes a full sealed chunk has.
-pub const SEALED_CHUNK: usize = 65_552;
-
-/// How many chunks the longest plaintext has, of 2^60 bytes.
-pub const MOST_CHUNKS: u64 = 1 << 44;
 
 /// Reads a payload from an inner reader, and gives its plaintext by `Read`.
 ///
@@ -214,7 +210,7 @@ impl<S: Suite, R: Read> StreamReader<S, R> {
         ensures memory { IfErr result (λ e. e ≡ OutOfMemory) }
     {
         known_array(&key);
-        let sealed = room_for(alloc, SEALED_CHUNK)?;
+        let sealed = room_for(alloc, CHUNK)?;
         Ok(StreamReader {
             alloc,
             key,
@@ -564,7 +560,7 @@ fn open_chunk<S: Suite>(
     if sealed.is_empty() {
         return Err(Error::Truncated);
     }
-    if sealed.len() == SEALED_CHUNK {
+    if sealed.len() == CHUNK {
         if let Some(plain) = open_as::<S>(alloc, opens, key, number, false, sealed)? {
             return allow(number, plain, false);
         }

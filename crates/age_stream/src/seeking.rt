@@ -4,16 +4,16 @@ ghost use Rattle.age_error.specs.Refusals.{IsDevice, IsInterruption};
 ghost use Rattle.age_error.specs.declared.io.Error.TheVariants.{OutOfMemory, BadEnd, BeforeStart};
 ghost use Rattle.age_io.specs.Stretch.{Stretch, from_place};
 ghost use Rattle.age_io.specs.Reading.{IsQuiet, most_faults};
-ghost use Rattle.age_io.specs.Cursor.{Seeks, IsRefusal};
+ghost use Rattle.age_io.specs.Cursor.{Seeks, IsOutside};
 ghost use Rattle.age_stream.specs.Payload;
 ghost use Rattle.age_stream.specs.Payload.{nonce, final_chunk, EndsAsLast};
 ghost use Rattle.age_stream.specs.Reading.{text_at, IsLastChunk};
 ghost use Rattle.age_stream.specs.Targets.{below_start, in_length, sought_in, IsToEnd, IsRefusedTarget};
 
-use crate::reader::{SEALED_CHUNK, StreamReader, open_as};
-use crate::writer::{CHUNK, LONGEST_PLAINTEXT};
+use crate::reader::{StreamReader, open_as};
+use crate::sizes::{CHUNK, LONGEST_PLAINTEXT, PIECE};
 use age_error::io::{Error, SeekFrom};
-use age_io::{Read, Seek, fill, is_refusal, place_at, seek_retrying, sought};
+use age_io::{Read, Seek, fill, is_outside, place_at, seek_retrying, sought};
 use age_suite::suite::Suite;
 
 // The length of the plaintext of a payload of so many bytes, if there is one.
@@ -21,8 +21,8 @@ use age_suite::suite::Suite;
 fn plain_len(size: u64) -> Option<u64>
     ensures { result ≡ Payload.plain_len size }
 {
-    let last = size.saturating_sub(1) / SEALED_CHUNK as u64;
-    let rest = size - SEALED_CHUNK as u64 * last;
+    let last = size.saturating_sub(1) / CHUNK as u64;
+    let rest = size - CHUNK as u64 * last;
     if rest >= 16 && (last == 0 || rest > 16) {
         Some(size - 16 * (last + 1))
     } else {
@@ -33,11 +33,11 @@ fn plain_len(size: u64) -> Option<u64>
 // The refusal where the inner reader refuses a target inside its own content, or a read refuses as a seek does: the end
 // isn't where it was found.
 fn lost(error: Error) -> Error
-    ensures bad { IsRefusal error → result ≡ BadEnd }
-    ensures same { (IsRefusal error → ⊥) → result ≡ error }
+    ensures bad { IsOutside error → result ≡ BadEnd }
+    ensures same { (IsOutside error → ⊥) → result ≡ error }
     ensures patient { IsInterruption result → IsInterruption error }
     ensures device { IsDevice result → IsDevice error }
-    ensures refusal { IsRefusal result → ⊥ }
+    ensures refusal { IsOutside result → ⊥ }
     ensures memory { error ≢ OutOfMemory → result ≢ OutOfMemory }
 {
     match error {
@@ -88,7 +88,7 @@ fn find(to: SeekFrom, place: u64, size: u64) -> Result<(u64, u64), Error>
 fn is_judged(last: bool, at: usize) -> bool
     ensures { IsTrue result → last ≡ true → at < 65536 }
 {
-    !last || at < CHUNK
+    !last || at < PIECE
 }
 
 impl<S: Suite, R: Seek> StreamReader<S, R> {
@@ -105,7 +105,7 @@ impl<S: Suite, R: Seek> StreamReader<S, R> {
         ensures faults { R.faults self.old.inner ≤ R.faults self.new.inner }
         ensures device { IfErr result (λ e. IsDevice e → R.faults self.old.inner < R.faults self.new.inner) }
         ensures patient { IfErr result (λ e. IsInterruption e → ⊥) }
-        ensures refusal { IfErr result (λ e. IsRefusal e → ⊥) }
+        ensures refusal { IfErr result (λ e. IsOutside e → ⊥) }
         ensures payload { IsTrue (R.tells self.old.inner && R.steady self.old.inner) → payload_of self.new ≡ payload_of self.old }
         ensures found { IsTrue (R.tells self.old.inner && R.steady self.old.inner) → IfOk result (λ found.
             (found.0 ≡ R.place self.old.inner - self.old.taken) × (found.0 ≡ R.place self.new.inner - self.new.taken)
@@ -142,7 +142,7 @@ impl<S: Suite, R: Seek> StreamReader<S, R> {
         ensures faults { R.faults self.old.inner ≤ R.faults self.new.inner }
         ensures device { IfErr result (λ e. IsDevice e → R.faults self.old.inner < R.faults self.new.inner) }
         ensures patient { IfErr result (λ e. IsInterruption e → ⊥) }
-        ensures refusal { IfErr result (λ e. IsRefusal e → ⊥) }
+        ensures refusal { IfErr result (λ e. IsOutside e → ⊥) }
         ensures payload { IsTrue (R.tells self.old.inner && R.steady self.old.inner) → payload_of self.new ≡ payload_of self.old }
         ensures unspent { OnOk result (R.faults self.new.inner < most_faults) }
         ensures stands { IsTrue (R.tells self.old.inner && R.steady self.old.inner) → OnOk result ((self.new.taken ≡ place)
@@ -177,7 +177,7 @@ impl<S: Suite, R: Seek> StreamReader<S, R> {
         ensures faults { R.faults self.old.inner ≤ R.faults self.new.inner }
         ensures device { IfErr result (λ e. IsDevice e → R.faults self.old.inner < R.faults self.new.inner) }
         ensures patient { IfErr result (λ e. IsInterruption e → ⊥) }
-        ensures refusal { IfErr result (λ e. IsRefusal e → ⊥) }
+        ensures refusal { IfErr result (λ e. IsOutside e → ⊥) }
         ensures key { self.new.key ≡ self.old.key }
         ensures payload { IsTrue (R.tells self.old.inner && R.steady self.old.inner) → payload_of self.new ≡ payload_of self.old }
         ensures sought { self.new.sought ≡ true }
@@ -193,14 +193,14 @@ impl<S: Suite, R: Seek> StreamReader<S, R> {
         ensures cause { IsTrue (R.tells self.old.inner && R.steady self.old.inner) → IsTrue (payload_of self.old).ends_well →
             IfErr result (λ e. e ≢ OutOfMemory → IsQuiet (R.faults self.old.inner) (R.faults self.new.inner) → ⊥) }
     {
-        let number = place / CHUNK as u64;
-        let at = (place % CHUNK as u64) as usize;
+        let number = place / PIECE as u64;
+        let at = (place % PIECE as u64) as usize;
         if self.held
             && self.number == number
             && at < self.chunk.len()
             && is_judged(self.last, self.at)
         {
-            let past = (SEALED_CHUNK as u64 * number + SEALED_CHUNK as u64).min(size);
+            let past = (CHUNK as u64 * number + CHUNK as u64).min(size);
             match self.stand(start, past) {
                 Err(e) => Err(e),
                 Ok(()) => {
@@ -210,7 +210,7 @@ impl<S: Suite, R: Seek> StreamReader<S, R> {
                 }
             }
         } else {
-            match self.stand(start, SEALED_CHUNK as u64 * number) {
+            match self.stand(start, CHUNK as u64 * number) {
                 Err(e) => Err(e),
                 Ok(()) => {
                     self.number = number;
@@ -236,7 +236,7 @@ impl<S: Suite, R: Seek> StreamReader<S, R> {
         ensures faults { R.faults self.old.inner ≤ R.faults self.new.inner }
         ensures device { IfErr result (λ e. IsDevice e → R.faults self.old.inner < R.faults self.new.inner) }
         ensures patient { IfErr result (λ e. IsInterruption e → ⊥) }
-        ensures refusal { IfErr result (λ e. IsRefusal e → ⊥) }
+        ensures refusal { IfErr result (λ e. IsOutside e → ⊥) }
         ensures key { self.new.key ≡ self.old.key }
         ensures payload { IsTrue (R.tells self.old.inner && R.steady self.old.inner) → payload_of self.new ≡ payload_of self.old }
         ensures sought { self.new.sought ≡ true }
@@ -295,7 +295,7 @@ impl<S: Suite, R: Seek> StreamReader<S, R> {
         ensures faults { R.faults self.old.inner ≤ R.faults self.new.inner }
         ensures device { IfErr result (λ e. IsDevice e → R.faults self.old.inner < R.faults self.new.inner) }
         ensures patient { IfErr result (λ e. IsInterruption e → ⊥) }
-        ensures refusal { IfErr result (λ e. IsRefusal e → ⊥) }
+        ensures refusal { IfErr result (λ e. IsOutside e → ⊥) }
         ensures key { self.new.key ≡ self.old.key }
         ensures payload { IsTrue (R.tells self.old.inner && R.steady self.old.inner) → payload_of self.new ≡ payload_of self.old }
         ensures sought { self.new.sought ≡ true }
@@ -313,7 +313,7 @@ impl<S: Suite, R: Seek> StreamReader<S, R> {
             IfErr result (λ e. e ≢ OutOfMemory → IsQuiet (R.faults self.old.inner) (R.faults self.new.inner) →
             (e ≡ BadEnd) × (S.opened self.old.key (nonce (final_chunk size) true) (text_at (final_chunk size) (payload_of self.old)) ≡ None)) }
     {
-        let number = (size - 1) / SEALED_CHUNK as u64;
+        let number = (size - 1) / CHUNK as u64;
         if self.held && self.last && self.number == number {
             match self.stand(start, size) {
                 Err(e) => Err(e),
@@ -324,7 +324,7 @@ impl<S: Suite, R: Seek> StreamReader<S, R> {
                 }
             }
         } else {
-            match self.stand(start, SEALED_CHUNK as u64 * number) {
+            match self.stand(start, CHUNK as u64 * number) {
                 Err(e) => Err(e),
                 Ok(()) => self.open_last(number),
             }
@@ -364,7 +364,7 @@ impl<S: Suite, R: Seek> Seek for StreamReader<S, R> {
         // By the order of the tests, and at the end by the last chunk.
         ensures order { IsTrue (⟦<StreamReader<S, R> as Read>⟧.tells self.old) → IfOk result (λ n.
             sought_in to (place_of self.old) (length (payload_of self.old).bytes) ≡ Ok n) }
-        ensures refused { IsTrue (⟦<StreamReader<S, R> as Read>⟧.tells self.old) → IfErr result (λ e. IsRefusal e →
+        ensures refused { IsTrue (⟦<StreamReader<S, R> as Read>⟧.tells self.old) → IfErr result (λ e. IsOutside e →
             sought_in to (place_of self.old) (length (payload_of self.old).bytes) ≡ Err e) }
         ensures ends { IsTrue (⟦<StreamReader<S, R> as Read>⟧.tells self.old) → OnOk result
             (IsToEnd (length (payload_of self.old).bytes) to (place_of self.old) → EndsAsLast S.seal_of (key_of self.old) (payload_of self.old).bytes) }
@@ -377,12 +377,12 @@ impl<S: Suite, R: Seek> Seek for StreamReader<S, R> {
 
         // A success clears a failure, a refusal leaves all as it was, and any other error fails.
         ensures clears { OnOk result (HasFailed self.new → ⊥) }
-        ensures unmoved { IfErr result (λ e. IsRefusal e → (HasFailed self.new → HasFailed self.old) × (HasFailed self.old → HasFailed self.new)
+        ensures unmoved { IfErr result (λ e. IsOutside e → (HasFailed self.new → HasFailed self.old) × (HasFailed self.old → HasFailed self.new)
             × (place_of self.new ≡ place_of self.old) × (IsHolding self.old → IsHolding self.new) × (IsAfterLast self.old → IsAfterLast self.new)
             × (wanted_of self.new ≡ wanted_of self.old) × (opens_of self.new ≡ opens_of self.old)) }
         // The first test asks the inner reader nothing.
         ensures first { IsTrue (below_start to (place_of self.old)) → (result ≡ Err BeforeStart) × (self.new ≡ self.old) }
-        ensures fails { IfErr result (λ e. (IsRefusal e → ⊥) → HasFailed self.new) }
+        ensures fails { IfErr result (λ e. (IsOutside e → ⊥) → HasFailed self.new) }
 
         // The chunk at a place before the end will be judged by itself.
         ensures judges { IsTrue (⟦<StreamReader<S, R> as Read>⟧.tells self.old) → OnOk result
@@ -395,7 +395,7 @@ impl<S: Suite, R: Seek> Seek for StreamReader<S, R> {
             (IsToEnd (length (payload_of self.old).bytes) to (place_of self.old) → ⊥) → opens_of self.new ≡ opens_of self.old }
         ensures held { IsTrue (⟦<StreamReader<S, R> as Read>⟧.tells self.old) → HoldsEnd self.old → opens_of self.new ≡ opens_of self.old }
     {
-        let place = CHUNK as u64 * self.number + self.at as u64;
+        let place = PIECE as u64 * self.number + self.at as u64;
         if is_below_start(to, place) {
             return Err(Error::BeforeStart);
         }
@@ -408,7 +408,7 @@ impl<S: Suite, R: Seek> Seek for StreamReader<S, R> {
             Err(e) => Err(e),
             Ok((start, size)) => match find(to, place, size) {
                 Err(e) => {
-                    if !is_refusal(e) {
+                    if !is_outside(e) {
                         return Err(e);
                     }
                     match self.stand(start, taken) {

@@ -5,17 +5,12 @@ ghost use Rattle.age_io.specs.Writing.{WritesAll};
 ghost use Rattle.age_stream.specs.Payload.{nonce};
 
 use crate::nonce::nonce_of;
+use crate::sizes::PIECE;
 use age_error::io::Error;
 use age_io::{Write, write_all};
 use age_suite::suite::Suite;
 use std::alloc::Global;
 use std::marker::PhantomData;
-
-/// How many bytes of plaintext a full chunk has.
-pub const CHUNK: usize = 65_536;
-
-/// How many bytes the longest plaintext has.
-pub const LONGEST_PLAINTEXT: u64 = 1 << 60;
 
 /// Memory for the chunk that a `StreamWriter` holds, for one who writes to the inner writer before and wants to be sure
 /// of the memory first.
@@ -32,7 +27,7 @@ impl ChunkRoom {
     pub fn new(alloc: Global) -> Result<ChunkRoom, Error>
         ensures { IfErr result (λ e. e ≡ OutOfMemory) }
     {
-        let held = Vec::with_capacity(alloc, CHUNK)?;
+        let held = Vec::with_capacity(alloc, PIECE)?;
         Ok(ChunkRoom { alloc, held })
     }
 }
@@ -107,7 +102,7 @@ impl<S: Suite, W: Write> StreamWriter<S, W> {
         ensures failed { self.new.failed ≡ self.old.failed }
         ensures inner { KeepsInner W.tells W.limited W.faults self.old.inner self.new.inner result }
     {
-        if self.held.len() < CHUNK {
+        if self.held.len() < PIECE {
             return Ok(());
         }
         write_chunk::<S, W>(
@@ -176,7 +171,7 @@ impl<S: Suite, W: Write> StreamWriter<S, W> {
         ensures inner { KeepsInner W.tells W.limited W.faults self.old.inner self.new.inner result }
     {
         self.make_room()?;
-        let count = bytes.len().min(CHUNK - self.held.len());
+        let count = bytes.len().min(PIECE - self.held.len());
         if self.held.is_empty() && count < bytes.len() {
             self.send_piece(&bytes[..count])?;
             return Ok(count);

@@ -3,7 +3,8 @@ ghost use Rattle.std.specs.Prelude.{◌≡◌, ◌≢◌, ℕ, ◌+◌, ◌^◌,
 ghost use Rattle.age_error.specs.declared.io.Error.TheVariants.{Failed, TooLong};
 ghost use Rattle.age_io.specs.Writing.{Writes, Flushes};
 
-use crate::writer::{CHUNK, LONGEST_PLAINTEXT, StreamWriter};
+use crate::sizes::{LONGEST_PLAINTEXT, PIECE};
+use crate::writer::StreamWriter;
 use age_error::io::Error;
 use age_io::{Write, flush_retrying};
 use age_suite::suite::Suite;
@@ -52,7 +53,7 @@ impl<S: Suite, W: Write> Write for StreamWriter<S, W> {
         if self.failed {
             return Err(Error::Failed);
         }
-        let taken = self.sealed * CHUNK as u64 + self.held.len() as u64;
+        let taken = self.sealed * PIECE as u64 + self.held.len() as u64;
         if bytes.len() as u64 > LONGEST_PLAINTEXT - taken {
             return Err(Error::TooLong);
         }

@@ -2,7 +2,7 @@
 ghost use Rattle.std.specs.Prelude.{◌≡◌, ℕ, List, ◌+◌, ◌*◌, ◌/◌, ◌^◌, ◌<◌, ◌≤◌, length, IfOk, IfErr};
 ghost use Rattle.age_stream.specs.Payload.{payload, chunk, HeldAsMiddle};
 ghost use Rattle.age_suite.specs.Suite.{one_more};
-ghost use Rattle.age_stream.specs.FrontToEnd.{IsRefusal, IsOpenedTo};
+ghost use Rattle.age_stream.specs.FrontToEnd.{IsOutside, IsOpenedTo};
 
 use age_error::io;
 use age_stream::nonce::nonce_of;
@@ -69,7 +69,7 @@ fn open_last<S: Suite>(
     requires not_middle { (other : List ℕ) → HeldAsMiddle S.seal_of key.now sealed.now i other → ⊥ }
     ensures ok { IfOk result (λ plain. sealed.now ≡ payload S.seal_of key.now plain.items) }
     ensures limit { IfOk result (λ plain. length plain.items ≤ 2 ^ 60) }
-    ensures err { IfErr result (λ error. IsRefusal S.seal_of key.now sealed.now error) }
+    ensures err { IfErr result (λ error. IsOutside S.seal_of key.now sealed.now error) }
     ensures opens { opens.new ≡ one_more opens.old }
 {
     let left = sealed.len() - i * CHUNK;
@@ -117,7 +117,7 @@ pub fn open_whole<S: Suite>(
 ) -> Result<Vec<u8>, io::Error>
     ensures ok { IfOk result (λ plain. sealed.now ≡ payload S.seal_of key.now plain.items) }
     ensures limit { IfOk result (λ plain. length plain.items ≤ 2 ^ 60) }
-    ensures err { IfErr result (λ error. IsRefusal S.seal_of key.now sealed.now error) }
+    ensures err { IfErr result (λ error. IsOutside S.seal_of key.now sealed.now error) }
     ensures counts { opens.old < 2 ^ 64 → opens.old ≤ opens.new }
     ensures opens { opens.new ≤ opens.old + length sealed.now / 65552 + 1 }
 {

@@ -1,8 +1,8 @@
 use Rattle.std.proofs.Common.{◌≡◌, ◌≤◌, ◌<◌, IsTrue, length}
 use Rattle.age_armor.proofs.showing.show_lines.Given as goal
 
-abbrev pub invariant-loop-try : goal.invariant-loop-try
-invariant-loop-try g l =
+abbrev pub invariant-loop-of-retried : goal.invariant-loop-of-retried
+invariant-loop-of-retried g l =
     let reader = g.B.Read in
     record {
       size : length l.ahead ≡ 768;

@@ -1,8 +1,8 @@
 use Rattle.std.proofs.Common.{◌≡◌, ◌≤◌, ◌<◌, IsTrue}
 use Rattle.age_armor.proofs.showing.take_run.Given as goal
 
-abbrev pub invariant-loop-try : goal.invariant-loop-try
-invariant-loop-try g l =
+abbrev pub invariant-loop-of-retried : goal.invariant-loop-of-retried
+invariant-loop-of-retried g l =
     let reader = g.B.Read in
     record {
       same_tells : reader.tells l.reader ≡ reader.tells l.fn.reader;

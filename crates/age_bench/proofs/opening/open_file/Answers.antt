@@ -10,14 +10,14 @@ use Rattle.age_bench.proofs.opening.open_file.Goals as goal
 
 pub returns-in-Err-clause-plaintext : goal.returns-in-Err-clause-plaintext
 returns-in-Err-clause-plaintext g c = λ told well plain for still.
-    let text = c.args.text in
+    let bytes = c.args.bytes in
     let (last, refuses) = c.in-Err.ensures.refused in
-    c.front_is_accepted.ensures text last (decrypt_refusal c.in-Err.error) _ _ _ _ _ refuses (and-left _ _ told)
-    (never_fails g.T.Read.faults text last still) (begins bench_seal for.file_key for.stanzas plain (g.T.Read.rest text).bytes for.is_file)
+    c.front_is_accepted.ensures bytes last (decrypt_refusal c.in-Err.error) _ _ _ _ _ refuses (and-left _ _ told)
+    (never_fails g.T.Read.faults bytes last still) (begins bench_seal for.file_key for.stanzas plain (g.T.Read.rest bytes).bytes for.is_file)
 
 pub returns-in-Ok-clause-plaintext : goal.returns-in-Ok-clause-plaintext
 returns-in-Ok-clause-plaintext g c = λ told well plain for.
-    let text = c.args.text in
+    let bytes = c.args.bytes in
     let decryptor = c.in-Ok.decryptor in
     let input = input_of decryptor in
     let h = header_of decryptor in
@@ -26,12 +26,12 @@ returns-in-Ok-clause-plaintext g c = λ told well plain for.
     let front = made.front (and-left _ _ told) in
     let (answer, first, decrypts) = c.decrypt.ensures in
     let (stanzas_are, right, nonce_is, left, end) =
-    c.file_opens.ensures.payload (g.T.Read.rest text) (g.T.Read.rest input) (g.T.Read.place text) (g.T.Read.place input) h nonce for.file_key for.stanzas plain
+    c.file_opens.ensures.payload (g.T.Read.rest bytes) (g.T.Read.rest input) (g.T.Read.place bytes) (g.T.Read.place input) h nonce for.file_key for.stanzas plain
     front for.is_file in
     let asked = for.right answer (c.decrypt.new.identities, rw stanzas_are at first) in
     let input_told = both_told _ _ _ _ made.keeps.same_tells made.keeps.same_steady told in
     opened_or_want _ h nonce for.file_key plain input right
-    (λ r opened. c.file_opens.ensures.content (g.T.Read.rest text) (g.T.Read.place text) h nonce for.file_key for.stanzas plain input r front for.is_file
+    (λ r opened. c.file_opens.ensures.content (g.T.Read.rest bytes) (g.T.Read.place bytes) h nonce for.file_key for.stanzas plain input r front for.is_file
     for.bytes for.within for.last well input_told opened)
     answer c.decrypt.result asked decrypts
 
@@ -42,7 +42,7 @@ pub returns-in-Ok-clause-opened : goal.returns-in-Ok-clause-opened
 returns-in-Ok-clause-opened g c =
     let made = c.in-Ok.ensures in
     let (answer, first, decrypts) = c.decrypt.ensures in
-    asked g.I.Identity.unwraps _ _ c.args.text _ _ _ answer c.decrypt.result
+    asked g.I.Identity.unwraps _ _ c.args.bytes _ _ _ answer c.decrypt.result
     (record { same_tells = made.keeps.same_tells; same_steady = made.keeps.same_steady; same_content = made.keeps.same_content; front = made.front; first = first }) decrypts
 
 pub returns-in-Ok-clause-refused : goal.returns-in-Ok-clause-refused

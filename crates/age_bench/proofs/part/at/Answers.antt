@@ -16,28 +16,28 @@ returns-in-Err-clause-cursor g c = λ reader_told writer_told well file plain ca
 pub returns-clause-cursor : goal.returns-clause-cursor
 returns-clause-cursor g c = λ reader_told writer_told well file plain carries for.
     let bytes : c.deref.result.now ≡ (g.R.Read.rest c.args.reader.now).bytes =
-    c.deref.ensures.value ∙ c.in-Ok.ensures.bytes reader_told ∙ ap (λ (l : List ℕ). l ++ (g.R.Read.rest c.args.reader.now).bytes) c.new-input.ensures.items in
-    quiet_by g.W.Write.appended c.args.place c.args.count plain _ _ c.args.writer.now c.at_bytes.new.writer c.at_bytes.result (λ quiet. tt)
-    (c.at_bytes.ensures.cursor writer_told file plain (subst (λ (l : List ℕ). Carries l file) (sym bytes) carries) for)
+    c.deref.ensures.value ∙ c.in-Ok.ensures.bytes reader_told ∙ ap (λ (l : List ℕ). l ++ (g.R.Read.rest c.args.reader.now).bytes) c.new-text.ensures.items in
+    quiet_by g.W.Write.appended c.args.place c.args.count plain _ _ c.args.writer.now c.at_text.new.writer c.at_text.result (λ quiet. tt)
+    (c.at_text.ensures.cursor writer_told file plain (subst (λ (l : List ℕ). Carries l file) (sym bytes) carries) for)
 
 pub returns-clause-standing : goal.returns-clause-standing
 returns-clause-standing g c = λ reader_told writer_told.
     let rest = g.R.Read.rest c.args.reader.now in
-    let input = c.deref.result.now in
-    let bytes : input ≡ rest.bytes =
-    c.deref.ensures.value ∙ c.in-Ok.ensures.bytes reader_told ∙ ap (λ (l : List ℕ). l ++ rest.bytes) c.new-input.ensures.items in
-    let so = begins-read g.R.Read.tells g.R.Read.rest c.args.reader.now input bytes (c.in-Ok.ensures.end reader_told) in
-    begun-or (Begins (stretch_of (delivered input true)) 0) (BeginsText g.R.Read.tells g.R.Read.rest c.args.reader.now) _ _ g.W.Write.appended c.args.count (StandsAt c.args.place) c.args.writer.now
-    c.at_bytes.new.writer so (λ key stanzas by. by) (c.at_bytes.ensures.standing writer_told)
+    let text = c.deref.result.now in
+    let bytes : text ≡ rest.bytes =
+    c.deref.ensures.value ∙ c.in-Ok.ensures.bytes reader_told ∙ ap (λ (l : List ℕ). l ++ rest.bytes) c.new-text.ensures.items in
+    let so = begins-read g.R.Read.tells g.R.Read.rest c.args.reader.now text bytes (c.in-Ok.ensures.end reader_told) in
+    begun-or (Begins (stretch_of (delivered text true)) 0) (BeginsText g.R.Read.tells g.R.Read.rest c.args.reader.now) _ _ g.W.Write.appended c.args.count (StandsAt c.args.place) c.args.writer.now
+    c.at_text.new.writer so (λ key stanzas by. by) (c.at_text.ensures.standing writer_told)
 
 pub returns-clause-given : goal.returns-clause-given
 returns-clause-given g c = λ reader_told writer_told.
     let rest = g.R.Read.rest c.args.reader.now in
-    let input = c.deref.result.now in
-    let bytes : input ≡ rest.bytes =
-    c.deref.ensures.value ∙ c.in-Ok.ensures.bytes reader_told ∙ ap (λ (l : List ℕ). l ++ rest.bytes) c.new-input.ensures.items in
-    let so = begins-read g.R.Read.tells g.R.Read.rest c.args.reader.now input bytes (c.in-Ok.ensures.end reader_told) in
-    on_ok_weaker c.at_bytes.result
-    (begun (Begins (stretch_of (delivered input true)) 0) (BeginsText g.R.Read.tells g.R.Read.rest c.args.reader.now) _ _ g.W.Write.appended c.args.count (IsPartAt c.args.place c.args.count)
-    c.args.writer.now c.at_bytes.new.writer so (λ key stanzas by. by))
-    (c.at_bytes.ensures.given writer_told)
+    let text = c.deref.result.now in
+    let bytes : text ≡ rest.bytes =
+    c.deref.ensures.value ∙ c.in-Ok.ensures.bytes reader_told ∙ ap (λ (l : List ℕ). l ++ rest.bytes) c.new-text.ensures.items in
+    let so = begins-read g.R.Read.tells g.R.Read.rest c.args.reader.now text bytes (c.in-Ok.ensures.end reader_told) in
+    on_ok_weaker c.at_text.result
+    (begun (Begins (stretch_of (delivered text true)) 0) (BeginsText g.R.Read.tells g.R.Read.rest c.args.reader.now) _ _ g.W.Write.appended c.args.count (IsPartAt c.args.place c.args.count)
+    c.args.writer.now c.at_text.new.writer so (λ key stanzas by. by))
+    (c.at_text.ensures.given writer_told)

@@ -1,51 +1,50 @@
-use Rattle.std.proofs.Common.{◌≡◌, ◌∙◌, refl, sym, ap, subst, true, List, ℕ}
-use Rattle.std.proofs.lemmas.Result.{on_ok_weaker}
-use Rattle.age.specs.Stretch.{whole}
-use Rattle.age.specs.Armor.{Carries}
-use Rattle.age.specs.Delivered.{delivered, stretch_of}
-use Rattle.age.specs.ArmorReader.{armored_rest, armored_content, place_of}
-use Rattle.age_bench.specs.Parts.{Begins, StandsAt, IsPartAt}
-use Rattle.age_bench.proofs.Parts.{memory_before, quiet_by, file_for}
-use Rattle.age_bench.proofs.Standing.{begun, begun-or, same-content, fresh-text, begins-same}
+use Rattle.std.proofs.Common.{◌∙◌, ap, inr}
+use Rattle.age_bench.specs.Parts.{StandsAt, IsPartAt}
+use Rattle.age.specs.StreamReader.{content_of}
+use Rattle.age_bench.proofs.Opened.{never_fails}
+use Rattle.age_bench.proofs.Standing.{opened-part}
+use Rattle.age_bench.proofs.Parts.{refused_before, part_done, part_refused}
 use Rattle.age_bench.proofs.part.at_bytes.Goals as goal
 
 pub returns-in-Err-clause-cursor : goal.returns-in-Err-clause-cursor
-returns-in-Err-clause-cursor g c = λ writer_told file plain carries for.
-    memory_before g.W.Write.appended c.args.place c.args.count plain _ c.args.writer.now c.in-Err.e (g.met.W.Write.appends_nothing c.args.writer.now)
-    (λ quiet. c.in-Err.ensures.memory)
+returns-in-Err-clause-cursor g c = λ bytes_told writer_told well plain for.
+    refused_before g.W.Write.appended _ c.args.place c.args.count plain c.args.writer.now c.in-Err.e (g.met.W.Write.appends_nothing c.args.writer.now)
+    (c.in-Err.ensures.plaintext bytes_told well plain for)
 
-pub returns-in-Ok-clause-cursor : goal.returns-in-Ok-clause-cursor
-returns-in-Ok-clause-cursor g c = λ writer_told file plain carries for.
-    let text = c.in-Ok.text in
-    let rest : armored_rest text ≡ whole file =
-    c.in-Ok.ensures.honest file (ap (λ s. s.ends_well) c.new.ensures.rest) (subst (λ (l : List ℕ). Carries l file) (sym (ap (λ s. s.bytes) c.new.ensures.rest)) carries) in
-    quiet_by g.W.Write.appended c.args.place c.args.count plain _ _ c.args.writer.now c.at_text.new.writer c.at_text.result (λ u t. refl)
-    (c.at_text.ensures.cursor refl writer_told (ap (λ s. s.ends_well) rest) plain
-    (file_for _ plain file (armored_rest text).bytes (sym (ap (λ s. s.bytes) rest)) for))
+pub returns-in-Err-write_part-clause-cursor : goal.returns-in-Err-write_part-clause-cursor
+returns-in-Err-write_part-clause-cursor g c = λ bytes_told writer_told well plain for.
+    let stream = c.in-Ok.stream in
+    let stands = c.in-Ok.ensures.plaintext bytes_told well plain for in
+    let told = c.in-Ok.ensures.tells ∙ bytes_told in
+    let ends_well = ap (λ s. s.ends_well) stands.content in
+    let writes = c.in-Err-write_part.ensures in
+    part_refused g.W.Write.appended _ c.args.place c.args.count plain (content_of stream) _ _ c.args.writer.now c.write_part.new.writer c.in-Err-write_part.e stands.content
+    (λ still. never_fails g.T.Read.faults _ _ still) (writes.front told writer_told ends_well) (λ past. writes.past_end told ends_well past)
 
-pub returns-in-Ok-clause-standing : goal.returns-in-Ok-clause-standing
-returns-in-Ok-clause-standing g c = λ writer_told.
-    let text = c.in-Ok.text in
+pub returns-clause-cursor : goal.returns-clause-cursor
+returns-clause-cursor g c = λ bytes_told writer_told well plain for.
+    let stream = c.in-Ok.stream in
+    let stands = c.in-Ok.ensures.plaintext bytes_told well plain for in
+    let told = c.in-Ok.ensures.tells ∙ bytes_told in
+    let ends_well = ap (λ s. s.ends_well) stands.content in
+    let writes = c.in-Ok-write_part.ensures in
+    part_done g.W.Write.appended _ c.args.place c.args.count plain (content_of stream) c.args.writer.now c.write_part.new.writer _ stands.content
+    (writes.part told writer_told ends_well) (writes.front told writer_told ends_well) (λ past. writes.past_end told ends_well past)
+
+pub returns-in-Err-write_part-clause-standing : goal.returns-in-Err-write_part-clause-standing
+returns-in-Err-write_part-clause-standing g c = λ fresh bytes_told writer_told.
     let made = c.in-Ok.ensures in
-    let input = c.args.input.now in
-    let rest : armored_rest text ≡ stretch_of (delivered input true) = made.rest ∙ ap (λ s. stretch_of (delivered s.bytes s.ends_well)) c.new.ensures.rest in
-    let content : armored_content text ≡ stretch_of (delivered input true) =
-    made.content ∙ same-content _ (whole input) _ 0 c.new.ensures.content c.new.ensures.place in
-    let fresh = fresh-text (armored_rest text) (armored_content text) (stretch_of (delivered input true)) (place_of text) rest content made.place in
-    begun-or (Begins (armored_rest text) (place_of text)) (Begins (stretch_of (delivered input true)) 0) _ _ g.W.Write.appended c.args.count (StandsAt c.args.place) c.args.writer.now c.at_text.new.writer
-    (begins-same (armored_rest text) (stretch_of (delivered input true)) (place_of text) rest made.place) (λ key stanzas by. by)
-    (c.at_text.ensures.standing fresh refl writer_told)
+    inr (opened-part _ _ _ c.args.bytes c.in-Ok.stream g.W.Write.appended c.args.count (StandsAt c.args.place) c.args.writer.now c.write_part.new.writer fresh bytes_told made.opened
+    (c.write_part.ensures.standing (made.tells ∙ bytes_told) writer_told))
 
-pub returns-in-Ok-clause-given : goal.returns-in-Ok-clause-given
-returns-in-Ok-clause-given g c = λ writer_told.
-    let text = c.in-Ok.text in
+pub returns-clause-standing : goal.returns-clause-standing
+returns-clause-standing g c = λ fresh bytes_told writer_told.
     let made = c.in-Ok.ensures in
-    let input = c.args.input.now in
-    let rest : armored_rest text ≡ stretch_of (delivered input true) = made.rest ∙ ap (λ s. stretch_of (delivered s.bytes s.ends_well)) c.new.ensures.rest in
-    let content : armored_content text ≡ stretch_of (delivered input true) =
-    made.content ∙ same-content _ (whole input) _ 0 c.new.ensures.content c.new.ensures.place in
-    let fresh = fresh-text (armored_rest text) (armored_content text) (stretch_of (delivered input true)) (place_of text) rest content made.place in
-    on_ok_weaker c.at_text.result
-    (begun (Begins (armored_rest text) (place_of text)) (Begins (stretch_of (delivered input true)) 0) _ _ g.W.Write.appended c.args.count (IsPartAt c.args.place c.args.count) c.args.writer.now c.at_text.new.writer
-    (begins-same (armored_rest text) (stretch_of (delivered input true)) (place_of text) rest made.place) (λ key stanzas by. by))
-    (c.at_text.ensures.given fresh refl writer_told)
+    inr (opened-part _ _ _ c.args.bytes c.in-Ok.stream g.W.Write.appended c.args.count (StandsAt c.args.place) c.args.writer.now c.write_part.new.writer fresh bytes_told made.opened
+    (c.write_part.ensures.standing (made.tells ∙ bytes_told) writer_told))
+
+pub returns-clause-given : goal.returns-clause-given
+returns-clause-given g c = λ fresh bytes_told writer_told.
+    let made = c.in-Ok.ensures in
+    opened-part _ _ _ c.args.bytes c.in-Ok.stream g.W.Write.appended c.args.count (IsPartAt c.args.place c.args.count) c.args.writer.now c.write_part.new.writer fresh bytes_told made.opened
+    (c.in-Ok-write_part.ensures.given (made.tells ∙ bytes_told) writer_told)

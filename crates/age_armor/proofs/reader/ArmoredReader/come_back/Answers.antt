@@ -19,15 +19,15 @@ returns-then-failed g c =
       ending = λ told steady good. absurd (true≢false (sym now.failed ∙ good));
     }
 
-pub returns-then-not-is_refusal : goal.returns-then-not-is_refusal
-returns-then-not-is_refusal g c =
+pub returns-then-not-is_outside : goal.returns-then-not-is_outside
+returns-then-not-is_outside g c =
     let reader = g.R.Read in
-    let now = c.fail_at-then-not-is_refusal.ensures in
+    let now = c.fail_at-then-not-is_outside.ensures in
     record {
       back = failed-now _ _ _ _ _ _ _ _ _ _ _ _
           (ap (λ s. reader.tells s.inner) now.source) (ap (λ s. reader.steady s.inner) now.source) (ap (λ s. reader.faults s.inner) now.source)
           (ap (λ s. content_of (reader.content s.inner) (reader.place s.inner - s.taken)) now.source) now.place now.failed now.rest
-          (c.is_refusal.ensures.no c.if-not-is_refusal.true);
+          (c.is_outside.ensures.no c.if-not-is_outside.true);
       whole = λ told. ap (λ s. text_outcome (reader.content s.inner) (reader.place s.inner - s.taken)) now.source;
       ending = λ told steady good. absurd (true≢false (sym now.failed ∙ good));
     }
@@ -46,7 +46,7 @@ returns-in-Ok g c =
     let now = c.in-Ok.ensures in
     record {
       back = came _ _ _ _ _ _ _ _ _ _ _ _ _ now.goes now.good now.place (λ told steady. (now.within told steady).1) c.if-failed.false
-          (c.is_refusal.ensures.yes c.if-not-is_refusal.false);
+          (c.is_outside.ensures.yes c.if-not-is_outside.false);
       whole = now.whole;
       ending = λ told steady good. now.ending told steady;
     }
@@ -62,7 +62,7 @@ returns-in-Err g c =
       back = lost _ _ _ _ _ _ _ before c.go_to.new.self c.fail_at-in-Err.new.self _ _ _ c.in-Err.e c.unrefused.result missed.goes
           (ap (λ s. reader.tells s.inner) now.source) (ap (λ s. reader.steady s.inner) now.source) (ap (λ s. reader.faults s.inner) now.source)
           (ap (λ s. content_of (reader.content s.inner) (reader.place s.inner - s.taken)) now.source) now.place now.failed now.rest
-          (c.is_refusal.ensures.yes c.if-not-is_refusal.false) made.other made.same made.kept
+          (c.is_outside.ensures.yes c.if-not-is_outside.false) made.other made.same made.kept
           (λ told well other quiet.
           let inner = well_inner (reader.content before.source.inner) (reader.place before.source.inner - before.source.taken) well in
           let steady = g.met.R.Read.well before.source.inner told inner in

@@ -2,7 +2,7 @@ use Rattle.std.proofs.Common.{◌≡◌, ◌∙◌, ap, arith, ◌≤◌, ◌<�
 use Rattle.std.proofs.lemmas.List.Elements.{All-drop}
 use Rattle.std.specs.Prelude.{min}
 use Rattle.age_stream.specs.Reading.{payload_at}
-use Rattle.age_stream.specs.Opening.{shorter}
+use Rattle.age_stream.specs.OpeningLaws.{shorter}
 use Rattle.age_stream.specs.ReadingLaws.{and-left}
 use Rattle.age_stream.proofs.Answered.{gives-held}
 use Rattle.age_stream.proofs.Holding.{sound-given, gives, copied}

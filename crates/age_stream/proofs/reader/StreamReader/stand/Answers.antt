@@ -1,5 +1,5 @@
 use Rattle.age_error.specs.declared.io.Error.TheVariants.{OutOfMemory}
-use Rattle.age_io.specs.Cursor.{IsRefusal}
+use Rattle.age_io.specs.Cursor.{IsOutside}
 use Rattle.std.proofs.Common.{◌≢◌, ◌≡◌, ◌-◌, ◌+◌, ◌∙◌, arith, length, sym, subst, length-drop, IsTrue, ◌&&◌}
 use Rattle.std.proofs.lemmas.Bool.{true≢false}
 use Rattle.age_stream.specs.Reading.{payload_at}
@@ -57,7 +57,7 @@ returns-in-Err-clause-cause g c = λ told well memory quiet.
     let read = g.R.Read in
     let t = and-left (read.tells self.inner) (read.steady self.inner) told in
     let seek = c.in-Err.ensures.seeks in
-    let want : c.in-Err.e ≢ OutOfMemory = λ is. memory (c.lost.ensures.same (λ refusal. subst IsRefusal is refusal) ∙ is) in
+    let want : c.in-Err.e ≢ OutOfMemory = λ is. memory (c.lost.ensures.same (λ refusal. subst IsOutside is refusal) ∙ is) in
     let refusal = seek.cause t well want quiet in
     refused-start _ (read.place self.inner) (length (read.content self.inner).bytes) c.in-Err.e
     (omega (

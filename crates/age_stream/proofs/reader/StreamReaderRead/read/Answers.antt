@@ -3,7 +3,7 @@ use Rattle.std.proofs.lemmas.List.Elements.{All-drop}
 use Rattle.std.proofs.lemmas.Result.{IfOk-weaker}
 use Rattle.age_stream.specs.Reading.{payload_at, rest_of}
 use Rattle.age_stream.specs.Chunks.{delivered}
-use Rattle.age_stream.specs.Opening.{shorter, opens_bytes}
+use Rattle.age_stream.specs.OpeningLaws.{shorter, opens_bytes}
 use Rattle.age_stream.specs.SizeLaws.{delivered-bytes}
 use Rattle.age_stream.specs.ReadingLaws.{and-left, and-right, stream_stands}
 use Rattle.age_stream.proofs.Answered.{end-found, front-either}

@@ -5,7 +5,7 @@ use Rattle.age_io.specs.Reading.{IsQuiet}
 use Rattle.age_io.specs.Stretch.{from_place}
 use Rattle.age_stream.specs.Payload.{nonce, final_chunk, plain_len}
 use Rattle.age_stream.specs.Chunks.{delivered}
-use Rattle.age_stream.specs.Opening.{shorter}
+use Rattle.age_stream.specs.OpeningLaws.{shorter}
 use Rattle.age_stream.specs.Reading.{payload_at, text_at}
 use Rattle.age_stream.specs.ReadingLaws.{and-left, and-right, taken-rest}
 use Rattle.age_stream.proofs.Ending.{err-well, ok-well, last-opens, sought-refuses, not-both, in_length-leads, is-end, not-end}
@@ -70,8 +70,8 @@ returns-in-Err-clause-seeks g c =
       cause = λ told well memory quiet. absurd (done.cause told (inner-well suite.opened self.key payload well) memory quiet);
     }
 
-pub returns-then-not-is_refusal-clause-seeks : goal.returns-then-not-is_refusal-clause-seeks
-returns-then-not-is_refusal-clause-seeks g c =
+pub returns-then-not-is_outside-clause-seeks : goal.returns-then-not-is_outside-clause-seeks
+returns-then-not-is_outside-clause-seeks g c =
     let self = c.args.self.now in
     let read = g.R.Read in
     let suite = g.S.Suite in
@@ -82,7 +82,7 @@ returns-then-not-is_refusal-clause-seeks g c =
     All-drop (λ x. x < 2 ^ 8) (read.place self.inner - self.taken) (read.content self.inner).bytes
     (g.met.R.Read.are_bytes self.inner (and-left (read.tells self.inner) (read.steady self.inner) told)) in
     let done = c.in-Ok.ensures in
-    let other = c.if-not-is_refusal.ensures.no refl in
+    let other = c.if-not-is_outside.ensures.no refl in
     let told_refusal : (told : IsTrue (read.tells self.inner && read.steady self.inner)) → (delivered suite.opened self.key 0 payload).ends_well ≡ true → ⊥ = λ told well.
     let size : c.in-Ok.size ≡ length payload.bytes = (done.found told).2 in
     let err = c.in-Err-find.ensures.err in
@@ -367,7 +367,7 @@ returns-in-Ok-stand-clause-seeks g c =
     (g.met.R.Read.are_bytes self.inner (and-left (read.tells self.inner) (read.steady self.inner) told)) in
     let done = c.in-Ok-stand.ensures in
     let new = c.stand.new.self in
-    let refusal = c.if-not-is_refusal.ensures.yes refl in
+    let refusal = c.if-not-is_outside.ensures.yes refl in
     let content : IsTrue (read.tells self.inner && read.steady self.inner) →
     delivered suite.opened new.key 0 (payload_at (read.place new.inner) new.taken (read.content new.inner)) ≡ delivered suite.opened self.key 0 payload = λ told.
     ap (λ p. delivered suite.opened new.key 0 p) (done.payload (later told) ∙ look.payload told) ∙ ap (λ k. delivered suite.opened k 0 payload) (done.same.5 ∙ look.same.5) in

@@ -1,6 +1,6 @@
 use Rattle.std.proofs.Common.{◌<◌}
 use Rattle.age_io.proofs.Appending.{Untouched}
-use Rattle.age_io.proofs.whole.flush_retrying.Given as goal
+use Rattle.age_io.proofs.retry.flush_retrying.Given as goal
 
 abbrev pub invariant-loop-try : goal.invariant-loop-try
 invariant-loop-try g l =

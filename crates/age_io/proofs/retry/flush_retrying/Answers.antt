@@ -1,7 +1,7 @@
 use Rattle.std.proofs.Common.{arith, ◌<◌}
 use Rattle.age_io.proofs.Appending.{flushes-later, untouched-more}
 use Rattle.age_io.proofs.Retrying.{rose-by}
-use Rattle.age_io.proofs.whole.flush_retrying.Goals as goal
+use Rattle.age_io.proofs.retry.flush_retrying.Goals as goal
 
 pub returns-then-not-is_interruption-clause-flushes : goal.returns-then-not-is_interruption-clause-flushes
 returns-then-not-is_interruption-clause-flushes g c = let w = g.W.Write in

@@ -1,7 +1,7 @@
 use Rattle.std.proofs.Common.{arith, ◌<◌}
 use Rattle.age_io.proofs.Appending.{writes-later, untouched-more}
 use Rattle.age_io.proofs.Retrying.{rose-by, refused-by}
-use Rattle.age_io.proofs.whole.write_retrying.Goals as goal
+use Rattle.age_io.proofs.retry.write_retrying.Goals as goal
 
 pub returns-then-not-is_interruption-clause-writes : goal.returns-then-not-is_interruption-clause-writes
 returns-then-not-is_interruption-clause-writes g c = let w = g.W.Write in

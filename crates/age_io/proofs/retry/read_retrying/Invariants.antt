@@ -1,5 +1,5 @@
 use Rattle.age_io.proofs.Retrying.{Interrupted}
-use Rattle.age_io.proofs.whole.seek_retrying.Given as goal
+use Rattle.age_io.proofs.retry.read_retrying.Given as goal
 
 abbrev pub invariant-loop-try : goal.invariant-loop-try
 invariant-loop-try g l =

@@ -1,0 +1,80 @@
+//! Calls that are made again after an interruption.
+ghost use Rattle.std.specs.Prelude.{◌≡◌, ◌<◌, IsTrue, length, false, IfErr, IsErrAnd};
+ghost use Rattle.age_error.specs.Refusals.{IsInterruption};
+ghost use Rattle.age_io.specs.Cursor.{Seeks};
+ghost use Rattle.age_io.specs.Reading.{Reads};
+ghost use Rattle.age_io.specs.Writing.{Writes, Flushes};
+
+use crate::seeking::Seek;
+use crate::traits::{Read, Write};
+use age_error::io::{Error, ErrorKind, SeekFrom};
+
+/// Whether the device was interrupted, so that the call may be made again.
+pub fn is_interruption<T>(answer: &Result<T, Error>) -> bool
+    ensures yes { IsTrue result → IsErrAnd answer.now IsInterruption }
+    ensures no { result ≡ false → IfErr answer.now (λ e. IsInterruption e → ⊥) }
+{
+    match answer {
+        Err(Error::Device(ErrorKind::Interrupted)) => true,
+        _ => false,
+    }
+}
+
+/// Makes a call again after an interruption, up to 16 times in a row; after that its value is `Err(Device(Other))`. Any other
+/// answer of the call is returned from the function that it stands in. The name is that of the number of the try, for proofs.
+#[macro_export]
+macro_rules! retried {
+    ($number:ident, $call:expr) => {{
+        for $number in 0..17u8 {
+            let answer = $call;
+            if !$crate::is_interruption(&answer) {
+                return answer;
+            }
+        }
+        Err(Error::Device(ErrorKind::Other))
+    }};
+}
+
+/// One read that is tried again after an interruption, up to 16 times in a row; after that it answers `Device(Other)`.
+///
+/// Otherwise the answer is the last read's, with its bytes in front of `buf` and their count, and so are its errors
+/// and the reader's state after them. It is never `Device(Interrupted)`.
+pub fn read_retrying<R: Read>(reader: &mut R, buf: &mut [u8]) -> Result<usize, Error>
+    requires { 0 < length buf.old }
+    ensures reads { Reads R.tells R.steady R.content R.place R.rest R.faults reader.old reader.new buf.new result }
+    ensures patient { IfErr result (λ e. IsInterruption e → ⊥) }
+{
+    retried!(_try, reader.read(buf))
+}
+
+/// One seek that is tried again after an interruption, up to 16 times in a row; after that it answers `Device(Other)`.
+///
+/// Otherwise the answer is the last seek's, and so are its refusals and the reader's state after them. It is never
+/// `Device(Interrupted)`.
+pub fn seek_retrying<R: Seek>(reader: &mut R, to: SeekFrom) -> Result<u64, Error>
+    ensures seeks { Seeks R.tells R.steady R.content R.place R.rest R.faults reader.old reader.new to result }
+    ensures patient { IfErr result (λ e. IsInterruption e → ⊥) }
+{
+    retried!(_try, reader.seek(to))
+}
+
+/// One write that is tried again after an interruption, up to 16 times in a row; after that it answers `Device(Other)`.
+///
+/// Otherwise the answer is the last write's: how many bytes it took, from the front. After a refusal nothing was
+/// appended. It is never `Device(Interrupted)`.
+pub fn write_retrying<W: Write>(writer: &mut W, bytes: &[u8]) -> Result<usize, Error>
+    ensures writes { Writes W.tells W.limited W.faults W.appended writer.old writer.new bytes.now result }
+    ensures patient { IfErr result (λ e. IsInterruption e → ⊥) }
+{
+    retried!(_try, writer.write(bytes))
+}
+
+/// One flush that is tried again after an interruption, up to 16 times in a row; after that it answers `Device(Other)`.
+///
+/// Otherwise the answer is the last flush's. It appends nothing, and is never `Device(Interrupted)`.
+pub fn flush_retrying<W: Write>(writer: &mut W) -> Result<(), Error>
+    ensures flushes { Flushes W.tells W.limited W.faults W.appended writer.old writer.new result }
+    ensures patient { IfErr result (λ e. IsInterruption e → ⊥) }
+{
+    retried!(_try, writer.flush())
+}

@@ -1,0 +1,51 @@
+use Rattle.std.proofs.Common.{rules, ◌≡◌, ◌∙◌, arith, length, take}
+use Rattle.age.proofs.Delivering.{refilled}
+use Rattle.age.specs.Reading.{IsQuiet}
+use Rattle.age_uses.proofs.Copied.{front-more, copied-more, well-is-no-fault}
+use Rattle.age_uses.proofs.copying.copy_all.Goals as goal
+
+pub returns-in_err-write_all-clause-front : goal.returns-in_err-write_all-clause-front
+returns-in_err-write_all-clause-front g c = λ reader_told writer_told.
+    let read = g.R.Read in
+    let before = c.loop-piece.invariant in
+    let room = c.loop-piece.room in
+    let size : length c.read_retrying.new.buf ≡ length room.items = omega (arith, c.read_retrying.auto.buf, c.deref_mut.ensures.len, room.ok.0) in
+    let filled = refilled room.items c.read_retrying.new.buf room.len room.ok.0 size in
+    let refused = rw (c.deref.ensures.value, filled) at (c.in_err-write_all.ensures.writes.refuses (before.writer_tells ∙ writer_told)) in
+    front-more g.W.Write.appended g.met.W.Write.joins (read.rest c.args.reader.now) (read.rest c.loop-piece.reader) (read.rest c.read_retrying.new.reader)
+    c.args.writer.now c.loop-piece.writer c.write_all.new.writer (take c.in_ok-count.count c.read_retrying.new.buf) refused.0
+    (before.copied reader_told writer_told) (c.in_ok-count.ensures.reads.bytes (before.reader_tells ∙ reader_told)) refused.2
+
+pub returns-in_err-count-clause-too_long : goal.returns-in_err-count-clause-too_long
+returns-in_err-count-clause-too_long g c = λ reader_told well unlimited quiet.
+    let before = c.loop-piece.invariant in
+    let reads = c.in_err-count.ensures.reads in
+    let cause = reads.cause (before.reader_tells ∙ reader_told) in
+    let still : IsQuiet (g.R.Read.faults c.loop-piece.reader) (g.R.Read.faults c.read_retrying.new.reader) =
+    record { same = omega (arith, quiet.same, before.reader_faults, reads.no_fewer_faults); below = quiet.below } in
+    let ends = before.ends reader_told ∙ well in
+    let refused = well-is-no-fault c.in_err-count.field-0.0 _ _ _ cause still ends in
+    search rules
+
+pub loop-piece-preserved : goal.loop-piece-preserved
+loop-piece-preserved g c =
+    let read = g.R.Read in
+    let before = c.loop-piece.invariant in
+    let room = c.loop-piece.room in
+    let size : length c.read_retrying.new.buf ≡ length room.items = omega (arith, c.read_retrying.auto.buf, c.deref_mut.ensures.len, room.ok.0) in
+    let filled = refilled room.items c.read_retrying.new.buf room.len room.ok.0 size in
+    record {
+      reader_tells = c.in_ok-count.ensures.reads.same_tells ∙ before.reader_tells;
+      writer_tells = c.in_ok-write_all.ensures.writes.same_tells ∙ before.writer_tells;
+      limited = c.in_ok-write_all.ensures.writes.same_limited ∙ before.limited;
+      reader_faults = omega (arith, before.reader_faults, c.in_ok-count.ensures.reads.no_fewer_faults);
+      writer_faults = omega (arith, before.writer_faults, c.in_ok-write_all.ensures.writes.no_fewer_faults);
+      pieces = λ reader_told. omega (arith, before.pieces reader_told, c.in_ok-count.ensures.reads.moves (before.reader_tells ∙ reader_told), c.if-count-eq0.false);
+      ends = λ reader_told. (c.in_ok-count.ensures.reads.bytes (before.reader_tells ∙ reader_told)).end ∙ before.ends reader_told;
+      room = rw filled (omega (arith, size, before.room));
+      copied = λ reader_told writer_told.
+          copied-more g.W.Write.appended g.met.W.Write.joins (read.rest c.args.reader.now) (read.rest c.loop-piece.reader) (read.rest c.read_retrying.new.reader)
+          c.args.writer.now c.loop-piece.writer c.write_all.new.writer (take c.in_ok-count.count c.read_retrying.new.buf)
+          (before.copied reader_told writer_told) (c.in_ok-count.ensures.reads.bytes (before.reader_tells ∙ reader_told))
+          (rw (c.deref.ensures.value, filled) at (c.in_ok-write_all.ensures.writes.takes (before.writer_tells ∙ writer_told)));
+    }

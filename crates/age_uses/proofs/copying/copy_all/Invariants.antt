@@ -1,0 +1,20 @@
+use Rattle.std.proofs.Common.{◌≡◌, ◌<◌, ◌≤◌, IsTrue, length}
+use Rattle.age_uses.proofs.Copied.{IsCopied}
+use Rattle.age_uses.proofs.copying.copy_all.Given as goal
+
+abbrev pub invariant-loop-piece : goal.invariant-loop-piece
+invariant-loop-piece g l =
+    let reader = g.R.Read in
+    let writer = g.W.Write in
+    record {
+      reader_tells : reader.tells l.reader ≡ reader.tells l.fn.reader;
+      writer_tells : writer.tells l.writer ≡ writer.tells l.fn.writer;
+      limited : writer.limited l.writer ≡ writer.limited l.fn.writer;
+      reader_faults : reader.faults l.fn.reader ≤ reader.faults l.reader;
+      writer_faults : writer.faults l.fn.writer ≤ writer.faults l.writer;
+      pieces : IsTrue (reader.tells l.fn.reader) → l._piece ≤ reader.place l.reader;
+      ends : IsTrue (reader.tells l.fn.reader) → (reader.rest l.reader).ends_well ≡ (reader.rest l.fn.reader).ends_well;
+      room : 0 < length l.room.items;
+      copied : IsTrue (reader.tells l.fn.reader) → IsTrue (writer.tells l.fn.writer) →
+          IsCopied writer.appended (reader.rest l.fn.reader) (reader.rest l.reader) l.fn.writer l.writer;
+    }

@@ -1,0 +1,26 @@
+use Rattle.std.proofs.Common.{◌≡◌, ◌∙◌, [], true, Ok, ap}
+use Rattle.std.proofs.lemmas.List.{append-nil}
+use Rattle.age.specs.ArmorWriting.{inner_of, text_of}
+use Rattle.age.specs.File.{file_text}
+use Rattle.age_uses.proofs.streams.write_file.Goals as goal
+
+pub returns : goal.returns
+returns g c = λ reader_told writer_told.
+    let made = c.in_ok-armored.ensures in
+    let armor_told = made.same_tells ∙ writer_told in
+    let started = c.in_ok-stream.ensures in
+    let told : g.W.Write.tells (inner_of c.in_ok-stream.stream.inner) ≡ true =
+    ap (λ a. g.W.Write.tells (inner_of a)) started.starts.made.same_inner ∙ (started.starts.same_tells ∙ armor_told) in
+    let copied = c.in_ok-copy_all.ensures in
+    let all = copied.all reader_told told in
+    let sealed = c.in_ok-finished.ensures in
+    let file = c.args.encryptor in
+    let text = file_text g.S.Suite.seal_of file.file_key file.stanzas file.nonce (g.R.Read.rest c.args.reader.now).bytes in
+    let filed = started.file armor_told _ _ (Ok c.in_ok-finished.finished) all.1 (sealed.ok (copied.tells ∙ told)) in
+    let done = c.in_ok-out.ensures in
+    let sealed_told = sealed.same_tells ∙ copied.tells ∙ told in
+    let written : g.W.Write.appended c.args.writer (text_of c.args.format text) c.in_ok-out.out =
+    done.ok sealed_told _ _ text _ (made.made writer_told) filed in
+    let flushed = c.in_ok-flush_retrying.ensures.flushes in
+    let nothing : g.W.Write.appended c.in_ok-out.out [] c.flush_retrying.new.writer = flushed.nothing (done.same_tells ∙ sealed_told) in
+    (all.0, rw append-nil at (g.met.W.Write.joins _ _ _ (text_of c.args.format text) [] written nothing))

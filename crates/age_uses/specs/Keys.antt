@@ -1,0 +1,16 @@
+-- Recipients and identities that belong together.
+use Rattle.std.specs.Prelude.{◌≡◌, ℕ, List, Some, Ok}
+use Rattle.age.specs.Stanza.{StanzaValue}
+use Rattle.age.specs.Wrapping.{WrapAnswer}
+use Rattle.age.specs.Unwrapping.{UnwrapAnswer, Unwraps}
+use Rattle.age.specs.Encrypting.{Prepared, Prepares}
+use Rattle.age.specs.Answering.{FirstThatAnswers}
+
+-- To the stanzas that the recipients answer, whatever is drawn, the identities give no other file key than the one that was wrapped.
+abbrev pub GiveKeysBack : {R I : Type 0} → (R → List ℕ → List ℕ → WrapAnswer → List ℕ → Type 0)
+    → (I → List StanzaValue → UnwrapAnswer → I → Type 0) → List R → StanzaValue → List I → Type 0
+GiveKeysBack {R} {I} wraps unwraps recipients grease identities =
+    (draws left : List ℕ) (file : Prepared) (file_key : List ℕ) (after : List I)
+    → Prepares wraps recipients (Some grease) draws (Ok file) left
+    → FirstThatAnswers (λ identity answer next. Unwraps unwraps identity file.stanzas answer next) identities (Some (Ok file_key)) after
+    → file_key ≡ file.file_key

@@ -1,0 +1,5 @@
+pub mod Keys
+pub mod Files
+pub mod Refusals
+pub mod Copying
+pub mod Own

@@ -1,0 +1,23 @@
+-- What a recipient and an identity of one's own answer.
+use Rattle.std.specs.Prelude.{ℕ, List, [], ◌∷◌, Some, None, Ok, Err, if◌then◌else◌, length, nat_eq, bytes_eq, codes}
+use Rattle.age.specs.DecryptErrors.{InvalidHeader}
+use Rattle.age.specs.Stanza.{StanzaValue}
+use Rattle.age.specs.Wrapping.{Wrapped}
+use Rattle.age.specs.Unwrapping.{UnwrapAnswer}
+
+-- the stanza whose body is the file key
+abbrev pub own_stanza : List ℕ → StanzaValue
+own_stanza file_key = record { tag = codes "own"; args = []; body = file_key }
+
+-- one stanza, and no labels
+abbrev pub own_wrapped : List ℕ → Wrapped
+own_wrapped file_key = record { stanzas = own_stanza file_key ∷ []; labels = [] }
+
+-- a stanza with another tag is passed over; one with an argument, or a body not of 16 bytes, is refused
+abbrev pub own_unwrapped : StanzaValue → UnwrapAnswer
+own_unwrapped stanza =
+    if bytes_eq stanza.tag (codes "own") then
+    (if nat_eq (length stanza.args) 0 then
+    (if nat_eq (length stanza.body) 16 then Some (Ok stanza.body) else Some (Err InvalidHeader))
+    else Some (Err InvalidHeader))
+    else None

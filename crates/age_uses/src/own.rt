@@ -1,0 +1,73 @@
+//! A recipient and an identity of one's own. They hide nothing: the file key stands in the header as it is.
+ghost use Rattle.std.specs.Prelude.{◌≡◌, ◌⊎◌, Ok, Err};
+ghost use Rattle.std.specs.Result.{result_map_both};
+ghost use Rattle.age.specs.EncryptErrors.{encrypt_refusal};
+ghost use Rattle.age.specs.EncryptErrors.{OutOfMemory as out_of_memory};
+ghost use Rattle.age.specs.Unwrapping.{FirstOf};
+ghost use Rattle.age.specs.Encrypting.{IsOrNoMemory, Ends};
+ghost use Rattle.age_uses.specs.Own.{own_stanza, own_wrapped, own_unwrapped};
+
+use age::draw::Draw;
+use age::format::Stanza;
+use age::secrecy::FileKey;
+use age::{DecryptError, EncryptError, Identity, Recipient};
+use std::alloc::Global;
+use std::collections::BTreeSet;
+
+/// Wraps a file key as the body of one stanza with the tag `own` and no arguments. It has no labels and draws nothing.
+#[derive(Drop)]
+pub struct OwnRecipient;
+
+// The stanza whose body is the file key.
+fn stanza_of(alloc: Global, file_key: &FileKey) -> Result<Stanza, EncryptError>
+    ensures { IsOrNoMemory (Ok (own_stanza file_key.now)) (result_map_both (λ s. s) (λ e. encrypt_refusal e) result) }
+{
+    let tag = String::from_str(alloc, "own")?;
+    let body = Vec::from_slice(alloc, file_key.expose_secret())?;
+    match Stanza::new(tag, Vec::new(alloc), body) {
+        Some(stanza) => Ok(stanza),
+        None => unreachable!(),
+    }
+}
+
+impl Recipient for OwnRecipient {
+    ghost wraps = { λ _ file_key draws answer left. Ends (Ok (own_wrapped file_key)) draws answer left ⊎ Ends (Err out_of_memory) draws answer left };
+
+    fn wrap_file_key(
+        &self,
+        alloc: Global,
+        file_key: &FileKey,
+        _draw: &mut Draw,
+    ) -> Result<(Vec<Stanza>, BTreeSet<String>), EncryptError> {
+        let mut stanzas = Vec::new(alloc);
+        stanzas.push(stanza_of(alloc, file_key)?)?;
+        Ok((stanzas, BTreeSet::new(alloc)))
+    }
+}
+
+/// Unwraps what an `OwnRecipient` wrapped: of a stanza with the tag `own` the body.
+///
+/// A stanza with another tag is passed over. An argument, or a body of other than 16 bytes, is `InvalidHeader`.
+#[derive(Drop)]
+pub struct OwnIdentity;
+
+impl Identity for OwnIdentity {
+    ghost unwraps = { FirstOf (λ before stanza answer after. (answer ≡ own_unwrapped stanza) × (after ≡ before)) };
+
+    fn unwrap_stanza(
+        &mut self,
+        _alloc: Global,
+        stanza: &Stanza,
+    ) -> Option<Result<FileKey, DecryptError>> {
+        if stanza.tag() != "own" {
+            return None;
+        }
+        if !stanza.args().is_empty() {
+            return Some(Err(DecryptError::InvalidHeader));
+        }
+        match <[u8; 16]>::try_from(stanza.body()) {
+            Ok(bytes) => Some(Ok(FileKey::new(bytes))),
+            Err(_) => Some(Err(DecryptError::InvalidHeader)),
+        }
+    }
+}

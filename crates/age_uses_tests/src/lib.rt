@@ -1,0 +1,13 @@
+//! The uses of `age` run over the insecure bench suite. The texts that are expected come from a second implementation.
+#![tactic(auto)]
+
+#[cfg(test)]
+mod fixtures;
+#[cfg(test)]
+mod own_tests;
+#[cfg(test)]
+mod parts_tests;
+#[cfg(test)]
+mod streams_tests;
+#[cfg(test)]
+mod there_and_back_tests;

@@ -1,0 +1,52 @@
+//! The message encrypted and decrypted as a stream.
+
+use crate::fixtures::{ARMORED, MESSAGE, done, grease, message_file};
+use age::armor::Format;
+use age::draw::Draw;
+use age::io::Bytes;
+use age_bench::recipient::{BenchIdentity, BenchRecipient};
+use age_bench::suite::BenchSuite;
+use age_uses::streams::{decrypt_stream, encrypt_stream};
+use std::alloc::Global;
+use std::test::Fail;
+
+// The message's file in one of the forms, where each random byte is 0.
+fn encrypted(alloc: Global, format: Format) -> Result<Vec<u8>, Fail> {
+    let mut draw = Draw::new(vec![in alloc; 0; 32]?);
+    let mut input = Bytes::new(MESSAGE);
+    done(encrypt_stream::<BenchSuite, BenchRecipient, Bytes, Vec<u8>>(
+        alloc,
+        &[BenchRecipient],
+        &mut draw,
+        grease(alloc)?,
+        format,
+        &mut input,
+        Vec::new(alloc),
+    ))
+}
+
+#[test]
+fn the_message_is_encrypted(rt: HostRuntime) -> Result<(), Fail> {
+    let alloc = rt.alloc();
+    let file = message_file(alloc)?;
+    assert!(rt; encrypted(alloc, Format::Binary)?.as_slice() == file.as_slice());
+    assert!(rt; encrypted(alloc, Format::AsciiArmor)?.as_slice() == ARMORED);
+    Ok(())
+}
+
+#[test]
+fn the_message_is_decrypted(rt: HostRuntime) -> Result<(), Fail> {
+    let alloc = rt.alloc();
+    let file = message_file(alloc)?;
+    for text in [file.as_slice(), ARMORED] {
+        let mut plain = Vec::new(alloc);
+        done(decrypt_stream::<BenchSuite, BenchIdentity, Bytes, Vec<u8>>(
+            alloc,
+            &mut [BenchIdentity],
+            Bytes::new(text),
+            &mut plain,
+        ))?;
+        assert_eq!(rt; plain.as_slice(), MESSAGE);
+    }
+    Ok(())
+}
