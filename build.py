@@ -3,8 +3,8 @@
 
 Says on standard error which crates it proves and how many are left, and nothing where there is nothing to do. Each crate
 is proved by `rt lib` over what earlier runs have kept, as soon as those that it uses are there, the one with the longest
-chain above it first; processors that no crate waits for go to that one. `rt` locks a crate and all below it, so each is
-proved in a folder of its own, with the libraries below it beside it. Exit status 3 where a crate isn't proved.
+chain above it first, by as many jobs as there are processors, four at most. `rt` locks a crate and all below it, so each
+is proved in a folder of its own, with the libraries below it beside it. Exit status 3 where a crate isn't proved.
 """
 import hashlib
 import os
@@ -19,8 +19,8 @@ import time
 TOP = os.path.dirname(os.path.abspath(__file__))
 PROGRAM = "agebench"
 STAMP = f"{TOP}/crates/{PROGRAM}/out/built_from"
-# What a check takes at most, in GB, by a job.
-MEMORY = 3.0
+# What a job of a check takes, in GB.
+MEMORY = 1.5
 
 
 def crates():
@@ -119,19 +119,20 @@ def build(uses):
     above = {name: [it for it in uses if name in uses[it]] for name in uses}
     weight = {name: sum(open(it, "rb").read().count(b"\n") for it in sources(name)) for name in uses}
     order = sorted(uses, key=lambda name: -chain(name, above, weight))
+    # (more processes than processors cost little, and a processor that waits for the longest crate much)
     lanes = max(1, min(len(os.sched_getaffinity(0)), int(free_memory() / MEMORY)))
+    most = min(4, lanes)
+    room = max(lanes, int(free_memory() / MEMORY))
     done, running, began = set(), [], time.monotonic()
     print(f"{PROGRAM}: proving {len(uses)} crates on {lanes} processors", file=sys.stderr)
     try:
         while len(done) < len(uses):
             begun = done | {it.name for it in running}
             ready = [it for it in order if it not in begun and done.issuperset(uses[it])]
-            idle = lanes - sum(it.jobs for it in running)
-            for name in ready[:max(idle, 0)]:
-                # (a job too many costs less than a processor that waits for the longest; more than four gain nothing)
-                jobs = min(4, -(-lanes // (len(ready) + len(running))))
-                idle -= jobs
-                running.append(Run(name, uses, jobs))
+            for name in ready[:max(lanes - len(running), 0)]:
+                if running and sum(it.jobs for it in running) + most > room:
+                    break
+                running.append(Run(name, uses, most))
             time.sleep(0.2)
             for run in [it for it in running if it.process.poll() is not None]:
                 if run.process.returncode != 0:
