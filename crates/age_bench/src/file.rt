@@ -20,7 +20,6 @@ ghost use Rattle.age_bench.specs.Recipient.{bench_grease, bench_file, bench_answ
 
 use crate::copying::copy_all;
 use crate::error::CommandError;
-use crate::names::{To, With};
 use crate::opening::open_file;
 use crate::recipient::{BenchIdentity, BenchRecipient};
 use crate::suite::BenchSuite;
@@ -29,6 +28,7 @@ use age::draw::Draw;
 use age::format::{Grease, Stanza};
 use age::io::{Read, Write, flush_retrying};
 use age::{EncryptError, Encryptor, Identity, Recipient};
+use agebench_command::names::{To, With};
 use std::alloc::Global;
 
 // The stanza that each file has besides those of its recipients: the tag `agebench-grease`, no arguments and no body.

@@ -6,7 +6,6 @@ mod copying;
 pub mod error;
 pub mod file;
 pub mod laws;
-pub mod names;
 pub mod opening;
 pub mod part;
 pub mod payload;

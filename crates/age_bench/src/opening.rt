@@ -8,7 +8,6 @@ ghost use Rattle.age_bench.specs.Opened.{IsOpened, IsNotOpened};
 ghost use Rattle.age_bench.specs.Parts.{FirstAnswer, IsFileFor, IsFileForBench, IsWant};
 
 use crate::error::CommandError;
-use crate::names::With;
 use crate::recipient::BenchIdentity;
 use crate::suite::BenchSuite;
 use age::armor::ArmoredReader;
@@ -16,6 +15,7 @@ use age::io::{Answer, Error, Op, Read, Seek, run};
 use age::laws::{file_opens, front_is_accepted};
 use age::stream::StreamReader;
 use age::{DecryptError, Decryptor, Identity};
+use agebench_command::names::With;
 use std::alloc::Global;
 
 /// Opens the bare file that `bytes` gives, which one of the identities decrypts: the reader of its plaintext.

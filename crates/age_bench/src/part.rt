@@ -18,7 +18,6 @@ ghost use Rattle.age_bench.specs.Recipient.{HoldsBenchKey};
 
 use crate::copying::copy_some;
 use crate::error::CommandError;
-use crate::names::With;
 use crate::opening::open_file;
 use crate::recipient::BenchIdentity;
 use crate::suite::BenchSuite;
@@ -27,6 +26,7 @@ use age::armor::ArmoredReader;
 use age::io::{Bytes, Error, Read, Seek, SeekFrom, Write, read_to_end};
 use age::stream::StreamReader;
 use age::stream::laws::reader_law;
+use agebench_command::names::With;
 use std::alloc::Global;
 
 /// Seeks to `place`, in bytes from the start of the plaintext, and appends the `count` bytes that stand there to `writer`,

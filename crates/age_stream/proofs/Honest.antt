@@ -9,7 +9,8 @@ use Rattle.age_stream.specs.Chunks.{chunk_of, prepend, after_last, delivered}
 use Rattle.age_stream.specs.ChunkLaws.{delivered-chunk}
 use Rattle.age_stream.specs.Reading.{text_at}
 use Rattle.age_stream.specs.FrontToEnd.{IsAllowed}
-use Rattle.age_stream.proofs.TextLengths.{full-text, text-most, not-short, few-left}
+use Rattle.age_stream.specs.TextLaws.{text-most}
+use Rattle.age_stream.proofs.TextLengths.{full-text, not-short, few-left}
 use Rattle.age_stream.proofs.Cuts.{cut_rest}
 use Rattle.age_stream.proofs.Payloads.{held-middle, held-last, payload-bytes, length-payload, length-full_piece, length-last_piece}
 use Rattle.age_stream.proofs.Judged.{next_place, held-judged_middle, held-judged_last}

@@ -23,9 +23,6 @@ module _ (size front : ℕ) (xs : List ℕ) where
   pub none-past : 0 < size → length (take size (drop front xs)) ≤ 0 → front ≤ length xs → length xs ≡ front
   none-past some none within = omega (arith, length-text)
 
-pub text-most : (size : ℕ) (xs : List ℕ) → length (take size xs) ≤ size
-text-most size xs = omega (arith, length-take size xs)
-
 pub not-short : (n : ℕ) → n ≡ 65552 → n < 65552 → ⊥
 not-short n full less = absurd (omega (arith, full, less))
 

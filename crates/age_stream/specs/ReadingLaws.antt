@@ -12,6 +12,7 @@ use Rattle.age_stream.specs.Payload.{nonce}
 use Rattle.age_stream.specs.OpeningLaws.{Shorter}
 use Rattle.age_stream.specs.Chunks.{chunk_of, prepend, delivered}
 use Rattle.age_stream.specs.ChunkLaws.{delivered-chunk}
+use Rattle.age_stream.specs.TextLaws.{text-most, text-all, text-left}
 use Rattle.age_stream.specs.WellLaws.{accepted, onward, well-length, well-single, delivered-nothing, delivered-none}
 use Rattle.age_stream.specs.Reading.{payload_at, text_at, behind, rest_of, IsAtFullEnd, IsHeld, IsInside, IsSound}
 
@@ -72,7 +73,7 @@ module _ (opened : List ℕ → List ℕ → List ℕ → Option (List ℕ)) (ke
       elim (at_full_end last number at (length payload.bytes)) [
         | inl apart ↦ held.judged apart
         | inr end ↦
-            let one = well-single opened key number here here_well (omega (arith, end.none, length-drop (65552 * number) payload.bytes)) in
+            let one = well-single opened key number here here_well (text-left 65552 (65552 * number) payload.bytes end.none) in
             let a = accepted opened key number text one.0 true one.1 in
             let opens : opened key (nonce number true) text ≡ Some chunk = rw end.is_last at held.opens in
             let same : one.0 ≡ chunk = cc (sym a.opens ∙ opens) in
@@ -91,8 +92,8 @@ module _ (opened : List ℕ → List ℕ → List ℕ → Option (List ℕ)) (ke
       let all : text ++ more ≡ here.bytes = take-append-drop 65552 here.bytes in
       let next : from_place 65552 here ≡ rest = stretch-ext _ _ (drop-drop 65552 (65552 * number) payload.bytes) refl ∙ sym ahead in
       let short : length text < 65552 → (more ≡ []) × (payload.ends_well ≡ true) =
-      λ less. (drop_all 65552 here.bytes (omega (arith, length-take 65552 here.bytes)), (held.whole less).0) in
-      let chunked = rw all at (delivered-chunk opened key number text more payload.ends_well chunk last (omega (arith, length-take 65552 here.bytes))
+      λ less. (drop_all 65552 here.bytes (text-all 65552 here.bytes less), (held.whole less).0) in
+      let chunked = rw all at (delivered-chunk opened key number text more payload.ends_well chunk last (text-most 65552 here.bytes)
       short (λ less. (held.whole less).1) (well-judged number last at chunk payload bytes well held)) in
       let moved : prepend chunk (behind opened key last number (from_place 65552 here)) ≡ delivered opened key number here = rw add-one (sym chunked) in
       rw (← next) (moved ∙ on)

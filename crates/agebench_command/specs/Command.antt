@@ -1,13 +1,13 @@
 -- What the words of a command line ask for. A word is a list of bytes.
 use Rattle.std.specs.Prelude.{ℕ, ◌+◌, ◌-◌, ◌*◌, ◌&&◌, List, [], ◌∷◌, length, nat_eq, nat_le, bytes_eq, codes, if◌then◌else◌, Option, Some, None, option_map}
 use Rattle.std.specs.Option.{option_and_then}
-use Rattle.age.specs.Types.{Format}
-use Rattle.age.specs.FormatVariants.{Binary, AsciiArmor}
+use Rattle.age_armor.specs.declared.format.Format.{Format}
+use Rattle.age_armor.specs.declared.format.Format.TheVariants.{Binary, AsciiArmor}
 use Rattle.agebench_command.specs.Decimal.{number_of}
-use Rattle.age_bench.specs.declared.names.To.{To}
-use Rattle.age_bench.specs.declared.names.To.TheVariants as to
-use Rattle.age_bench.specs.declared.names.With.{With}
-use Rattle.age_bench.specs.declared.names.With.TheVariants as with_
+use Rattle.agebench_command.specs.declared.names.To.{To}
+use Rattle.agebench_command.specs.declared.names.To.TheVariants as to
+use Rattle.agebench_command.specs.declared.names.With.{With}
+use Rattle.agebench_command.specs.declared.names.With.TheVariants as with_
 use Rattle.agebench_command.specs.declared.command.Command.{Command}
 use Rattle.agebench_command.specs.declared.command.Command.TheVariants as command
 

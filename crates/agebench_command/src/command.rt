@@ -3,9 +3,9 @@
 ghost use Rattle.std.specs.Prelude.{◌≡◌, ◌<◌, map, string_bytes, vec_items, IfOk, IfSome, option_map};
 ghost use Rattle.agebench_command.specs.Command.{at_of, bytes_of, byte_of, command_value, digit_of, encrypt_of, format_of, key_of, many_words, named, parsed, to_of, two_words, with_of};
 
+use crate::names::{To, With};
 use crate::number::parse_number;
-use age::armor::Format;
-use age_bench::names::{To, With};
+use age_armor::Format;
 use std::alloc::{AllocError, Global};
 
 /// What the program is to do with its standard input.

@@ -2,4 +2,5 @@
 #![tactic(auto)]
 
 pub mod command;
+pub mod names;
 mod number;

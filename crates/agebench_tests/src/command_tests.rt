@@ -1,8 +1,8 @@
 //! What command lines ask for.
 
 use age::armor::Format;
-use age_bench::names::{To, With};
 use agebench_command::command::{Command, parse};
+use agebench_command::names::{To, With};
 use std::alloc::{AllocError, Global};
 use std::process::Abort;
 use std::test::Fail;
