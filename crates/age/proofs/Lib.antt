@@ -1,5 +1,7 @@
 -- lemmas on the definitions that are passed on, layer by layer
 pub use Rattle.age_io.proofs.Delivering
+pub use Rattle.age_io.proofs.Copied
+pub use Rattle.age_io.proofs.PartCopied
 pub use Rattle.age_base64.proofs.Columns
 pub use Rattle.age_stream.proofs.Standing as StreamStanding
 pub use Rattle.age_stream.proofs.Remaining as StreamRemaining

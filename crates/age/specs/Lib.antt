@@ -33,6 +33,7 @@ pub use Rattle.age_io.specs.Reading
 pub use Rattle.age_io.specs.Filling
 pub use Rattle.age_io.specs.Failing
 pub use Rattle.age_io.specs.Writing
+pub use Rattle.age_io.specs.Copying
 pub use Rattle.age_io.specs.Cursor
 pub use Rattle.age_io.specs.Replies
 pub use Rattle.age_io.specs.Slices

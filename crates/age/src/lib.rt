@@ -24,9 +24,9 @@ pub mod laws {
 pub mod io {
     pub use age_error::io::{Error, ErrorKind, SeekFrom};
     pub use age_io::{
-        Answer, BufRead, BufReader, Bytes, Op, Read, Seek, Std, Write, fill, flush_retrying,
-        is_outside, place_at, read_exact, read_retrying, read_to_end, room_for, run, seek_retrying,
-        sought, unrefused, write_all, write_retrying,
+        Answer, BufRead, BufReader, Bytes, Op, Read, Seek, Std, Write, copy_all, copy_some, fill,
+        flush_retrying, is_outside, place_at, read_exact, read_retrying, read_to_end, room_for,
+        run, seek_retrying, sought, unrefused, write_all, write_retrying,
     };
 
     /// What is true of a cursor on a list, for proofs alone.

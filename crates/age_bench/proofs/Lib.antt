@@ -1,11 +1,9 @@
 pub mod Steps
-pub mod Copied
 pub mod Decrypted
 pub mod Unwrapped
 pub mod Wrapped
 pub mod OneFile
 pub mod BothForms
-pub mod PartCopied
 pub mod Opened
 pub mod Parts
 pub mod Standing

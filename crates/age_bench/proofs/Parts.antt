@@ -12,7 +12,7 @@ use Rattle.std.proofs.lemmas.Bool.Decides.{nat_tests}
 use Rattle.age.specs.Stanza.{StanzaValue}
 use Rattle.age.specs.Unwrapping.{UnwrapAnswer}
 use Rattle.age.proofs.Accepted.{memory_or_not}
-use Rattle.age_bench.specs.Copying.{AppendsFront}
+use Rattle.age.specs.Copying.{AppendsFront}
 use Rattle.age_bench.specs.Parts.{AppendsPart, IsFileFor, IsPastEnd}
 use Rattle.age_bench.specs.declared.error.CommandError.{CommandError}
 use Rattle.age_bench.specs.declared.error.CommandError.TheVariants.{Io, Decrypt}

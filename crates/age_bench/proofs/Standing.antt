@@ -20,7 +20,7 @@ use Rattle.age.proofs.StreamStanding.{stand-none}
 use Rattle.age.proofs.StreamRemaining.{stand-front}
 use Rattle.age_bench.specs.Bench.{bench_seal}
 use Rattle.age_bench.specs.Errors.{BeginsText}
-use Rattle.age_bench.specs.Copying.{AppendsFront, AppendsSome}
+use Rattle.age.specs.Copying.{AppendsFront, AppendsSome}
 use Rattle.age_bench.specs.Opened.{IsOpened}
 use Rattle.age_bench.specs.Parts.{AppendsOf, StandsAt, IsPartAt, Begins}
 

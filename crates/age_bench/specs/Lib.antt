@@ -1,6 +1,5 @@
 pub mod Bench
 pub mod Laws
-pub mod Copying
 pub mod Recipient
 pub mod Errors
 pub mod FileLaws

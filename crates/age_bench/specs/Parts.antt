@@ -13,7 +13,7 @@ use Rattle.age.specs.Decrypting.{ReadsFront}
 use Rattle.age.specs.Answering.{FirstThatAnswers}
 use Rattle.age.specs.File.{IsFileOf, payload_key}
 use Rattle.age_bench.specs.Bench.{bench_seal}
-use Rattle.age_bench.specs.Copying.{AppendsFront, AppendsSome}
+use Rattle.age.specs.Copying.{AppendsFront, AppendsSome}
 use Rattle.age_bench.specs.Errors.{DecryptsUnless}
 use Rattle.age_bench.specs.Recipient.{HoldsBenchKey}
 use Rattle.age_bench.specs.declared.error.CommandError.{CommandError}

@@ -4,12 +4,11 @@ ghost use Rattle.age.specs.Stretch.{whole};
 ghost use Rattle.age.specs.Payload.{payload};
 ghost use Rattle.age.specs.Chunks.{delivered};
 ghost use Rattle.age_bench.specs.Bench.{bench_seal, bench_opened};
-ghost use Rattle.age_bench.specs.Copying.{AppendsFront};
+ghost use Rattle.age.specs.Copying.{AppendsFront};
 
-use crate::copying::copy_all;
 use crate::error::CommandError;
 use crate::suite::BenchSuite;
-use age::io::{Error, Read, Write, flush_retrying};
+use age::io::{Error, Read, Write, copy_all, flush_retrying};
 use age::stream::{StreamReader, StreamWriter};
 use std::alloc::Global;
 

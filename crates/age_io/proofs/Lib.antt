@@ -5,3 +5,5 @@ pub mod Holding
 pub mod Reaching
 pub mod Replying
 pub mod Moving
+pub mod Copied
+pub mod PartCopied

@@ -3,6 +3,7 @@
 
 mod buffered;
 mod bufread;
+mod copying;
 mod laws;
 mod memory;
 mod operations;
@@ -15,6 +16,7 @@ mod whole;
 
 pub use buffered::BufReader;
 pub use bufread::BufRead;
+pub use copying::{copy_all, copy_some};
 pub use laws::cursor_laws;
 pub use memory::Bytes;
 pub use operations::{Answer, Op, run};

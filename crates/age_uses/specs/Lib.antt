@@ -1,5 +1,4 @@
 pub mod Keys
 pub mod Files
 pub mod Refusals
-pub mod Copying
 pub mod Own

@@ -4,16 +4,15 @@ ghost use Rattle.age.specs.Armor.{Carries};
 ghost use Rattle.age.specs.ArmorWriting.{text_of};
 ghost use Rattle.age.specs.Encrypting.{Prepared, Prepares};
 ghost use Rattle.age.specs.File.{file_text};
-ghost use Rattle.age_uses.specs.Copying.{AppendsFront};
+ghost use Rattle.age.specs.Copying.{AppendsFront};
 ghost use Rattle.age_uses.specs.Files.{FirstAnswer, IsFileFor};
 
-use crate::copying::copy_all;
 use crate::error::Error;
 use crate::opening::open;
 use age::armor::{ArmoredWriter, Format};
 use age::draw::Draw;
 use age::format::Grease;
-use age::io::{Read, Write, flush_retrying};
+use age::io::{Read, Write, copy_all, flush_retrying};
 use age::suite::Suite;
 use age::{Encryptor, Identity, Recipient};
 use std::alloc::Global;

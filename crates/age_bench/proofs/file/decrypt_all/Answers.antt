@@ -6,9 +6,9 @@ use Rattle.age.specs.StreamReadingLaws.{and-left, and-right}
 use Rattle.age.proofs.StreamAnswered.{rest-bytes}
 use Rattle.age.proofs.Fronts.{of_error}
 use Rattle.age_bench.proofs.Decrypted.{both_told, refuses_text, begins_text, by_cause}
-use Rattle.age_bench.proofs.PartCopied.{none-copied}
+use Rattle.age.proofs.PartCopied.{none-copied}
 use Rattle.age_bench.proofs.Parts.{file_for}
-use Rattle.age_bench.specs.Copying.{AppendsFront}
+use Rattle.age.specs.Copying.{AppendsFront}
 use Rattle.age_bench.proofs.file.decrypt_all.Goals as goal
 
 pub returns-clause-file : goal.returns-clause-file

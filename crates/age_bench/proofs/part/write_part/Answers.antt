@@ -2,10 +2,10 @@ use Rattle.std.proofs.Common.{◌∙◌, refl, ap, subst, IsTrue, List, ℕ, len
 use Rattle.std.proofs.lemmas.Result.{on_ok_weaker}
 use Rattle.age.specs.StreamReader.{tells_of, content_of, steady_of, key_of, payload_of}
 use Rattle.age.specs.StreamReadingLaws.{both-true}
-use Rattle.age_bench.proofs.PartCopied.{none-copied}
+use Rattle.age.proofs.PartCopied.{none-copied}
 use Rattle.age_bench.proofs.Standing.{standing, standing-none, stand-moved, good-moved, given}
 use Rattle.age_bench.proofs.Parts.{refused_past, never_past, start_within}
-use Rattle.age_bench.specs.Copying.{AppendsFront}
+use Rattle.age.specs.Copying.{AppendsFront}
 use Rattle.age_bench.proofs.part.write_part.Goals as goal
 
 pub returns-in-Err-clause-front : goal.returns-in-Err-clause-front

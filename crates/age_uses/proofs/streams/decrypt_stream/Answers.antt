@@ -1,5 +1,5 @@
 use Rattle.std.proofs.Common.{◌∙◌, ap, subst, refl, List, ℕ, []}
-use Rattle.age_uses.specs.Copying.{AppendsFront}
+use Rattle.age.specs.Copying.{AppendsFront}
 use Rattle.age_uses.proofs.streams.decrypt_stream.Goals as goal
 
 pub returns-in-Err-clause-front : goal.returns-in-Err-clause-front

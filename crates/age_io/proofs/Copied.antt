@@ -1,12 +1,12 @@
 -- Copying piece by piece.
 use Rattle.std.specs.Prelude.{◌≡◌, ◌≢◌, ℕ, false, IsTrue, List, [], ◌++◌, take, drop}
 use Rattle.std.proofs.Common.{refl, sym, ap, subst, ◌∙◌, append_assoc, append-nil, take-append-drop}
-use Rattle.age.specs.Types.{Error}
-use Rattle.age.specs.ErrorVariants.{OutOfMemory}
-use Rattle.age.specs.Stretch.{Stretch, IsCleanEnd, IsFault}
-use Rattle.age.specs.Reading.{Delivers, IsQuiet}
-use Rattle.age.proofs.Delivering.{Delivers-joined}
-use Rattle.age_uses.specs.Copying.{AppendsFront}
+use Rattle.age_error.specs.declared.io.Error.{Error}
+use Rattle.age_error.specs.declared.io.Error.TheVariants.{OutOfMemory}
+use Rattle.age_io.specs.Stretch.{Stretch, IsCleanEnd, IsFault}
+use Rattle.age_io.specs.Reading.{Delivers, IsQuiet}
+use Rattle.age_io.proofs.Delivering.{Delivers-joined}
+use Rattle.age_io.specs.Copying.{AppendsFront}
 
 -- what the reader delivered so far was appended
 pub record IsCopied {W : Type 0} (appended : W → List ℕ → W → Type 0) (old new : Stretch) (before after : W) : Type 0 where

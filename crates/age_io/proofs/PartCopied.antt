@@ -2,10 +2,10 @@
 use Rattle.std.specs.Prelude.{◌≡◌, ℕ, ◌+◌, ◌<◌, IsTrue, List, [], ◌++◌, length, take, drop}
 use Rattle.std.proofs.Common.{arith, refl, sym, ap, subst, ◌∙◌, append_assoc, append-nil, take-append-drop, length-append}
 use lib.Seq.{take-append-add, take-nil}
-use Rattle.age.specs.Stretch.{Stretch, IsCleanEnd}
-use Rattle.age.specs.Reading.{Delivers}
-use Rattle.age.proofs.Delivering.{Delivers-joined}
-use Rattle.age_bench.specs.Copying.{AppendsFront}
+use Rattle.age_io.specs.Stretch.{Stretch, IsCleanEnd}
+use Rattle.age_io.specs.Reading.{Delivers}
+use Rattle.age_io.proofs.Delivering.{Delivers-joined}
+use Rattle.age_io.specs.Copying.{AppendsFront}
 
 -- what the reader delivered so far was appended, and so many bytes of the count are left
 pub record IsPartCopied {W : Type 0} (appended : W → List ℕ → W → Type 0) (count left : ℕ) (old new : Stretch) (before after : W) : Type 0 where

@@ -1,6 +1,6 @@
 use Rattle.std.proofs.Common.{◌≡◌, ◌<◌, ◌≤◌, IsTrue, length}
-use Rattle.age_bench.proofs.PartCopied.{IsPartCopied}
-use Rattle.age_bench.proofs.copying.copy_some.Given as goal
+use Rattle.age_io.proofs.PartCopied.{IsPartCopied}
+use Rattle.age_io.proofs.copying.copy_some.Given as goal
 
 abbrev pub invariant-pieces : goal.invariant-pieces
 invariant-pieces g l =

@@ -1,6 +1,6 @@
 use Rattle.std.proofs.Common.{◌≡◌, ◌<◌, ◌≤◌, IsTrue, length}
-use Rattle.age_bench.proofs.Copied.{IsCopied}
-use Rattle.age_bench.proofs.copying.copy_all.Given as goal
+use Rattle.age_io.proofs.Copied.{IsCopied}
+use Rattle.age_io.proofs.copying.copy_all.Given as goal
 
 abbrev pub invariant-loop-piece : goal.invariant-loop-piece
 invariant-loop-piece g l =

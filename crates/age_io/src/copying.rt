@@ -1,11 +1,14 @@
 //! Copying what a reader still has to a writer.
 ghost use Rattle.std.specs.Prelude.{◌≡◌, ◌≢◌, ℕ, ◌<◌, ◌≤◌, ◌⊎◌, false, IsTrue, List, ◌++◌, length, take, OnOk, OnErr, IfErr};
-ghost use Rattle.age.specs.Refusals.{IsDevice};
-ghost use Rattle.age.specs.ErrorVariants.{TooLong};
-ghost use Rattle.age.specs.Reading.{IsQuiet};
-ghost use Rattle.age_bench.specs.Copying.{AppendsFront};
+ghost use Rattle.age_error.specs.Refusals.{IsDevice};
+ghost use Rattle.age_error.specs.declared.io.Error.TheVariants.{TooLong};
+ghost use Rattle.age_io.specs.Reading.{IsQuiet};
+ghost use Rattle.age_io.specs.Copying.{AppendsFront};
 
-use age::io::{Error, Read, Write, read_retrying, room_for, write_all};
+use crate::retry::read_retrying;
+use crate::traits::{Read, Write};
+use crate::whole::{room_for, write_all};
+use age_error::io::Error;
 use std::alloc::Global;
 
 // How many bytes are read at once: several chunks, so that most are sealed straight from what was read.

@@ -1,8 +1,8 @@
 use Rattle.std.proofs.Common.{rules, ◌≡◌, ◌∙◌, arith, length, take}
-use Rattle.age.proofs.Delivering.{refilled}
-use Rattle.age.specs.Reading.{IsQuiet}
-use Rattle.age_bench.proofs.Copied.{front-more, copied-more, well-is-no-fault}
-use Rattle.age_bench.proofs.copying.copy_all.Goals as goal
+use Rattle.age_io.proofs.Delivering.{refilled}
+use Rattle.age_io.specs.Reading.{IsQuiet}
+use Rattle.age_io.proofs.Copied.{front-more, copied-more, well-is-no-fault}
+use Rattle.age_io.proofs.copying.copy_all.Goals as goal
 
 pub returns-in_err-write_all-clause-front : goal.returns-in_err-write_all-clause-front
 returns-in_err-write_all-clause-front g c = λ reader_told writer_told.

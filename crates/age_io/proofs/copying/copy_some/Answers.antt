@@ -1,7 +1,7 @@
 use Rattle.std.proofs.Common.{◌≡◌, ◌-◌, ◌≤◌, ◌∙◌, arith, length, take, length-take-le}
 use Rattle.std.proofs.lemmas.Grind.{common_steps}
-use Rattle.age_bench.proofs.PartCopied.{part-front, part-refused, part-more}
-use Rattle.age_bench.proofs.copying.copy_some.Goals as goal
+use Rattle.age_io.proofs.PartCopied.{part-front, part-refused, part-more}
+use Rattle.age_io.proofs.copying.copy_some.Goals as goal
 
 pub returns-in_err-got-clause-front : goal.returns-in_err-got-clause-front
 returns-in_err-got-clause-front g c = λ reader_told writer_told.
