@@ -9,3 +9,7 @@ pub mod WholeFiles
 pub mod Carried
 pub mod Opened
 pub mod Reached
+pub mod Decrypted
+pub mod OpenedFor
+pub mod Parts
+pub mod Standing

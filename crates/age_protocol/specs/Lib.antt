@@ -9,4 +9,8 @@ pub mod Decrypting
 pub mod Decryptor
 pub mod OpeningFile
 pub mod WholeFiles
+pub mod FileErrors
+pub mod Texts
+pub mod Opened
+pub mod Parts
 pub mod Laws

@@ -5,10 +5,14 @@ mod answering;
 pub mod decryptor;
 mod encrypting;
 pub mod encryptor;
+pub mod error;
 mod gathering;
 mod keys;
 pub mod laws;
+pub mod opening;
+pub mod part;
 pub mod simple;
+pub mod whole;
 
 pub use decryptor::Decryptor;
 pub use encryptor::Encryptor;

@@ -1,21 +1,23 @@
 -- A part of a file's plaintext.
 use Rattle.std.specs.Prelude.{◌≡◌, ◌≢◌, ◌⊎◌, ℕ, ◌≤◌, ◌<◌, Bool, true, false, List, [], length, take, drop, IsTrue, Result, Some, Ok, Err, refl}
 use Rattle.std.proofs.Common.{◌∙◌, sym, ap, subst, inl, inr, arith}
-use Rattle.age.specs.DecryptErrors.{OutOfMemory, decrypt_refusal}
-use Rattle.age.specs.Types.{DecryptError}
-use Rattle.age.specs.Types.{Error}
-use Rattle.age.specs.ErrorVariants as io
-use Rattle.age.specs.Stretch.{Stretch, whole}
-use Rattle.age.specs.Reading.{IsQuiet}
-use Rattle.age.specs.Cursor.{moved_to}
+use Rattle.age_error.specs.DecryptErrors.{OutOfMemory, decrypt_refusal}
+use Rattle.age_error.specs.declared.decrypt.DecryptError.{DecryptError}
+use Rattle.age_error.specs.declared.io.Error.{Error}
+use Rattle.age_error.specs.declared.io.Error.TheVariants as io
+use Rattle.age_io.specs.Stretch.{Stretch, whole}
+use Rattle.age_io.specs.Reading.{IsQuiet}
+use Rattle.age_io.specs.Cursor.{moved_to}
 use Rattle.std.proofs.lemmas.Bool.Decides.{nat_tests}
-use Rattle.age.specs.Stanza.{StanzaValue}
-use Rattle.age.specs.Unwrapping.{UnwrapAnswer}
-use Rattle.age.proofs.Accepted.{memory_or_not}
-use Rattle.age.specs.Copying.{AppendsFront}
-use Rattle.age_bench.specs.Parts.{AppendsPart, IsFileFor, IsPastEnd}
-use Rattle.age_bench.specs.declared.error.CommandError.{CommandError}
-use Rattle.age_bench.specs.declared.error.CommandError.TheVariants.{Io, Decrypt}
+use Rattle.age_format.specs.Stanza.{StanzaValue}
+use Rattle.age_format.specs.Unwrapping.{UnwrapAnswer}
+use Rattle.age_protocol.proofs.Accepted.{memory_or_not}
+use Rattle.age_io.specs.Copying.{AppendsFront}
+use Rattle.age_stream.specs.Payload.{Seal}
+use Rattle.age_protocol.specs.Parts.{AppendsPart, IsFileFor}
+use Rattle.age_protocol.specs.FileErrors.{IsPastEnd}
+use Rattle.age_protocol.specs.declared.error.FileError.{FileError}
+use Rattle.age_protocol.specs.declared.error.FileError.TheVariants.{Io, Decrypt}
 
 -- ---- what is appended
 
@@ -98,7 +100,7 @@ module _ {W T : Type 0} (appended : W → List ℕ → W → Type 0) (place coun
   }
 
   -- another reason why the device doesn't fail
-  pub quiet_by : (Quiet Calm : Type 0) (old new : W) (result : Result T CommandError) → (Calm → Quiet)
+  pub quiet_by : (Quiet Calm : Type 0) (old new : W) (result : Result T FileError) → (Calm → Quiet)
       → AppendsPart appended Quiet place count plain old new result → AppendsPart appended Calm place count plain old new result
   quiet_by Quiet Calm old new result by done = record {
     part = done.part;
@@ -117,5 +119,5 @@ want_alone e well is cause (inr other) =
 pub memory_only : (e : Error) (Quiet : Type 0) (well : Bool) → IsTrue well → (e ≢ io.OutOfMemory → Quiet → well ≡ false) → Quiet → e ≡ io.OutOfMemory
 memory_only e Quiet well is cause quiet = want_alone e well is (λ other. cause other quiet) (memory_or_not e)
 
-pub file_for : (answers : List StanzaValue → UnwrapAnswer → Type 0) (plain text other : List ℕ) → text ≡ other → IsFileFor answers plain text → IsFileFor answers plain other
-file_for answers plain text other is for = subst (λ (l : List ℕ). IsFileFor answers plain l) is for
+pub file_for : (seal_of : Seal) (answers : List StanzaValue → UnwrapAnswer → Type 0) (plain text other : List ℕ) → text ≡ other → IsFileFor seal_of answers plain text → IsFileFor seal_of answers plain other
+file_for seal_of answers plain text other is for = subst (λ (l : List ℕ). IsFileFor seal_of answers plain l) is for

@@ -1,19 +1,21 @@
 -- What a refusal says of the identities and of the text.
 use Rattle.std.specs.Prelude.{◌≡◌, ◌⊎◌, ◌≤◌, ◌<◌, ℕ, Bool, ◌&&◌, IsTrue, List, Result, Ok, Err, IfErr}
 use Rattle.std.proofs.Common.{◌∙◌, inl, inr, subst}
-use Rattle.age.specs.Types.{DecryptError}
-use Rattle.age.specs.DecryptErrors.{DecryptRefusal, decrypt_refusal}
-use Rattle.age.specs.Stretch.{Stretch}
-use Rattle.age.specs.Delivered.{delivered, stretch_of}
-use Rattle.age.specs.ReadingHeader.{RefusesHeader}
-use Rattle.age.specs.Decrypting.{ReadsFront, RefusesFront, LacksNonce, BreaksRule}
-use Rattle.age_bench.specs.Errors.{DecryptsUnless, RefusesKey, RefusesText, BeginsText}
-use Rattle.age_bench.specs.declared.error.CommandError.{CommandError}
-use Rattle.age_bench.specs.declared.error.CommandError.TheVariants.{Io, Encrypt, Decrypt}
-use Rattle.age.specs.HeaderV1.{HeaderValue}
-use Rattle.age.specs.Members.{SuiteMembers, ReadMembers}
-use Rattle.age.specs.Types.{StreamReader}
-use Rattle.age.specs.OpeningFile.{Decrypts}
+use Rattle.age_error.specs.declared.decrypt.DecryptError.{DecryptError}
+use Rattle.age_error.specs.DecryptErrors.{DecryptRefusal, decrypt_refusal}
+use Rattle.age_io.specs.Stretch.{Stretch}
+use Rattle.age_armor.specs.Delivered.{delivered, stretch_of}
+use Rattle.age_format.specs.ReadingHeader.{RefusesHeader}
+use Rattle.age_protocol.specs.Decrypting.{ReadsFront, RefusesFront, LacksNonce, BreaksRule}
+use Rattle.age_protocol.specs.FileErrors.{DecryptsUnless}
+use Rattle.age_protocol.specs.Texts.{RefusesKey, RefusesText, BeginsText}
+use Rattle.age_protocol.specs.declared.error.FileError.{FileError}
+use Rattle.age_protocol.specs.declared.error.FileError.TheVariants.{Io, Encrypt, Decrypt}
+use Rattle.age_format.specs.HeaderV1.{HeaderValue}
+use Rattle.age_suite.specs.declared.suite.Suite.{Ghosts as SuiteMembers}
+use Rattle.age_io.specs.declared.traits.Read.{Ghosts as ReadMembers}
+use Rattle.age_stream.specs.declared.reader.StreamReader.{StreamReader}
+use Rattle.age_protocol.specs.OpeningFile.{Decrypts}
 
 module _ {S R : Type 0} {suite : SuiteMembers S} {read : ReadMembers R} where
   -- a refusal after an identity has decided has its cause
@@ -77,7 +79,7 @@ by_cause f g (inl a) = f a
 by_cause f g (inr b) = g b
 
 -- a refusal of decryption says what follows from what it says
-pub decrypts_weaker : (P Q : DecryptRefusal → Type 0) → ((refusal : DecryptRefusal) → P refusal → Q refusal) → (e : CommandError) → DecryptsUnless P e → DecryptsUnless Q e
+pub decrypts_weaker : (P Q : DecryptRefusal → Type 0) → ((refusal : DecryptRefusal) → P refusal → Q refusal) → (e : FileError) → DecryptsUnless P e → DecryptsUnless Q e
 decrypts_weaker P Q f (Decrypt e) d = f (decrypt_refusal e) d
 decrypts_weaker P Q f (Io e) d = tt
 decrypts_weaker P Q f (Encrypt e) d = tt

@@ -1,19 +1,18 @@
 use Rattle.std.proofs.Common.{refl, inl, inr}
 use Rattle.std.proofs.lemmas.Result.{IfErr-weaker}
-use Rattle.age.specs.DecryptErrors.{decrypt_refusal}
-use Rattle.age.specs.StreamReadingLaws.{and-left}
-use Rattle.age.specs.Decryptor.{header_of, nonce_of, input_of}
-use Rattle.age_bench.specs.Bench.{bench_seal}
-use Rattle.age_bench.proofs.Decrypted.{both_told, refused_key}
-use Rattle.age_bench.proofs.Opened.{never_fails, begins, opened_or_want, asked}
-use Rattle.age_bench.proofs.opening.open_file.Goals as goal
+use Rattle.age_error.specs.DecryptErrors.{decrypt_refusal}
+use Rattle.age_stream.specs.ReadingLaws.{and-left}
+use Rattle.age_protocol.specs.Decryptor.{header_of, nonce_of, input_of}
+use Rattle.age_protocol.proofs.Decrypted.{both_told, refused_key}
+use Rattle.age_protocol.proofs.OpenedFor.{never_fails, begins, opened_or_want, asked}
+use Rattle.age_protocol.proofs.opening.open_file.Goals as goal
 
 pub returns-in-Err-clause-plaintext : goal.returns-in-Err-clause-plaintext
 returns-in-Err-clause-plaintext g c = λ told well plain for still.
     let bytes = c.args.bytes in
     let (last, refuses) = c.in-Err.ensures.refused in
     c.front_is_accepted.ensures bytes last (decrypt_refusal c.in-Err.error) _ _ _ _ _ refuses (and-left _ _ told)
-    (never_fails g.T.Read.faults bytes last still) (begins bench_seal for.file_key for.stanzas plain (g.T.Read.rest bytes).bytes for.is_file)
+    (never_fails g.T.Read.faults bytes last still) (begins g.S.Suite.seal_of for.file_key for.stanzas plain (g.T.Read.rest bytes).bytes for.is_file)
 
 pub returns-in-Ok-clause-plaintext : goal.returns-in-Ok-clause-plaintext
 returns-in-Ok-clause-plaintext g c = λ told well plain for.

@@ -1,12 +1,12 @@
 use Rattle.std.proofs.Common.{◌∙◌, refl, ap, subst, IsTrue, List, ℕ, length, take, drop}
 use Rattle.std.proofs.lemmas.Result.{on_ok_weaker}
-use Rattle.age.specs.StreamReader.{tells_of, content_of, steady_of, key_of, payload_of}
-use Rattle.age.specs.StreamReadingLaws.{both-true}
-use Rattle.age.proofs.PartCopied.{none-copied}
-use Rattle.age_bench.proofs.Standing.{standing, standing-none, stand-moved, good-moved, given}
-use Rattle.age_bench.proofs.Parts.{refused_past, never_past, start_within}
-use Rattle.age.specs.Copying.{AppendsFront}
-use Rattle.age_bench.proofs.part.write_part.Goals as goal
+use Rattle.age_stream.specs.Reader.{tells_of, content_of, steady_of, key_of, payload_of}
+use Rattle.age_stream.specs.ReadingLaws.{both-true}
+use Rattle.age_io.proofs.PartCopied.{none-copied}
+use Rattle.age_protocol.proofs.Standing.{standing, standing-none, stand-moved, good-moved, given}
+use Rattle.age_protocol.proofs.Parts.{refused_past, never_past, start_within}
+use Rattle.age_io.specs.Copying.{AppendsFront}
+use Rattle.age_protocol.proofs.part.write_part.Goals as goal
 
 pub returns-in-Err-clause-front : goal.returns-in-Err-clause-front
 returns-in-Err-clause-front g c = λ told writer_told well. none-copied g.W.Write.appended _ c.args.writer.now (g.met.W.Write.appends_nothing c.args.writer.now)
@@ -50,7 +50,7 @@ returns-in-Ok-clause-past_end g c = λ told well past.
 
 pub returns-in-Err-clause-standing : goal.returns-in-Err-clause-standing
 returns-in-Err-clause-standing g c = λ told writer_told.
-    standing-none g.W.Write.appended c.args.count c.args.place _ (payload_of c.args.stream.now) c.args.writer.now (g.met.W.Write.appends_nothing c.args.writer.now)
+    standing-none g.S.Suite.seal_of g.W.Write.appended c.args.count c.args.place _ (payload_of c.args.stream.now) c.args.writer.now (g.met.W.Write.appends_nothing c.args.writer.now)
 
 pub returns-in-Ok-clause-standing : goal.returns-in-Ok-clause-standing
 returns-in-Ok-clause-standing g c = λ told writer_told.
@@ -58,8 +58,8 @@ returns-in-Ok-clause-standing g c = λ told writer_told.
     let seek = c.in-Ok.ensures in
     let new_told = seek.seeks.same_tells ∙ told in
     let there = seek.seeks.arrives told ∙ seek.seeks.leads told in
-    standing g.W.Write.appended c.args.count c.args.place (key_of stream) (payload_of stream) _ c.args.writer.now c.copy_some.new.writer
-    (stand-moved (key_of stream) _ (payload_of stream).bytes _ c.args.place _ _ seek.key (ap (λ s. s.bytes) (seek.payload told)) there (c.reader_law.ensures.stands new_told))
+    standing g.S.Suite.seal_of g.W.Write.appended c.args.count c.args.place (key_of stream) (payload_of stream) _ c.args.writer.now c.copy_some.new.writer
+    (stand-moved g.S.Suite.seal_of (key_of stream) _ (payload_of stream).bytes _ c.args.place _ _ seek.key (ap (λ s. s.bytes) (seek.payload told)) there (c.reader_law.ensures.stands new_told))
     (c.copy_some.ensures.front new_told writer_told)
 
 pub returns-in-Ok-clause-given : goal.returns-in-Ok-clause-given
@@ -71,7 +71,7 @@ returns-in-Ok-clause-given g c = λ told writer_told.
     let law = c.reader_law.ensures in
     on_ok_weaker c.copy_some.result
     (λ done.
-    given g.W.Write.appended c.args.count c.args.place (key_of stream) (payload_of stream) _ c.args.writer.now c.copy_some.new.writer
-    (stand-moved (key_of stream) _ (payload_of stream).bytes _ c.args.place _ _ seek.key (ap (λ s. s.bytes) (seek.payload told)) there (law.stands new_told))
-    (λ well. good-moved (key_of stream) _ (payload_of stream) _ c.args.place _ _ seek.key (seek.payload told) there (law.end new_told well)) done)
+    given g.S.Suite.seal_of g.W.Write.appended c.args.count c.args.place (key_of stream) (payload_of stream) _ c.args.writer.now c.copy_some.new.writer
+    (stand-moved g.S.Suite.seal_of (key_of stream) _ (payload_of stream).bytes _ c.args.place _ _ seek.key (ap (λ s. s.bytes) (seek.payload told)) there (law.stands new_told))
+    (λ well. good-moved g.S.Suite.seal_of (key_of stream) _ (payload_of stream) _ c.args.place _ _ seek.key (seek.payload told) there (law.end new_told well)) done)
     (c.copy_some.ensures.part new_told writer_told)

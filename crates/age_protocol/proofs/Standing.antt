@@ -2,65 +2,66 @@
 use Rattle.std.specs.Prelude.{◌≡◌, ◌⊎◌, ℕ, ◌+◌, ◌<◌, ◌&&◌, Bool, true, IsTrue, List, [], length, take, drop, Some, Ok}
 use Rattle.std.proofs.Common.{◌∙◌, refl, sym, ap, subst, inl, inr, arith, length-append, length-take, take-append-drop}
 use Rattle.std.proofs.lemmas.List.{drop-drop, drop_at}
-use Rattle.age.specs.Members.{SuiteMembers, ReadMembers}
-use Rattle.age.specs.Stretch.{Stretch, from_place, stretch-ext}
-use Rattle.age.specs.Reading.{Delivers}
-use Rattle.age.specs.Delivered.{delivered, stretch_of}
-use Rattle.age.specs.ArmorDeliveredLaws.{content_of}
-use Rattle.age.specs.HeaderV1.{HeaderValue}
-use Rattle.age.specs.Stanza.{StanzaValue}
-use Rattle.age.specs.Unwrapping.{UnwrapAnswer, Unwraps}
-use Rattle.age.specs.Decrypting.{ReadsFront}
-use Rattle.age.specs.Answering.{FirstThatAnswers}
-use Rattle.age.specs.StreamAnswering.{StandAt, IsGoodEnd}
-use Rattle.age.specs.StreamReader.{key_of, payload_of}
-use Rattle.age.specs.StreamReadingLaws.{and-left}
-use Rattle.age.specs.Types.{StreamReader}
-use Rattle.age.proofs.StreamStanding.{stand-none}
-use Rattle.age.proofs.StreamRemaining.{stand-front}
-use Rattle.age_bench.specs.Bench.{bench_seal}
-use Rattle.age_bench.specs.Errors.{BeginsText}
-use Rattle.age.specs.Copying.{AppendsFront, AppendsSome}
-use Rattle.age_bench.specs.Opened.{IsOpened}
-use Rattle.age_bench.specs.Parts.{AppendsOf, StandsAt, IsPartAt, Begins}
+use Rattle.age_suite.specs.declared.suite.Suite.{Ghosts as SuiteMembers}
+use Rattle.age_io.specs.declared.traits.Read.{Ghosts as ReadMembers}
+use Rattle.age_io.specs.Stretch.{Stretch, from_place, stretch-ext}
+use Rattle.age_io.specs.Reading.{Delivers}
+use Rattle.age_armor.specs.Delivered.{delivered, stretch_of}
+use Rattle.age_armor.specs.DeliveredLaws.{content_of}
+use Rattle.age_format.specs.HeaderV1.{HeaderValue}
+use Rattle.age_format.specs.Stanza.{StanzaValue}
+use Rattle.age_format.specs.Unwrapping.{UnwrapAnswer, Unwraps}
+use Rattle.age_protocol.specs.Decrypting.{ReadsFront}
+use Rattle.age_protocol.specs.Answering.{FirstThatAnswers}
+use Rattle.age_stream.specs.Answering.{StandAt, IsGoodEnd}
+use Rattle.age_stream.specs.Reader.{key_of, payload_of}
+use Rattle.age_stream.specs.ReadingLaws.{and-left}
+use Rattle.age_stream.specs.declared.reader.StreamReader.{StreamReader}
+use Rattle.age_stream.proofs.Standing.{stand-none}
+use Rattle.age_stream.proofs.Remaining.{stand-front}
+use Rattle.age_stream.specs.Payload.{Seal}
+use Rattle.age_protocol.specs.Texts.{BeginsText, Begins}
+use Rattle.age_io.specs.Copying.{AppendsFront, AppendsSome}
+use Rattle.age_protocol.specs.Opened.{IsOpened}
+use Rattle.age_protocol.specs.Parts.{AppendsOf, StandsAt, IsPartAt}
 
 -- the same with other names
-pub stand-moved : (key key' sealed sealed' : List ℕ) (place place' : ℕ) (bytes : List ℕ) → key' ≡ key → sealed' ≡ sealed → place' ≡ place
-    → StandAt bench_seal key' sealed' place' bytes → StandAt bench_seal key sealed place bytes
-stand-moved key key' sealed sealed' place place' bytes p q r stands =
-    subst (λ (n : ℕ). StandAt bench_seal key sealed n bytes) r
-    (subst (λ (l : List ℕ). StandAt bench_seal key l place' bytes) q (subst (λ (l : List ℕ). StandAt bench_seal l sealed' place' bytes) p stands))
+pub stand-moved : (seal_of : Seal) (key key' sealed sealed' : List ℕ) (place place' : ℕ) (bytes : List ℕ) → key' ≡ key → sealed' ≡ sealed → place' ≡ place
+    → StandAt seal_of key' sealed' place' bytes → StandAt seal_of key sealed place bytes
+stand-moved seal_of key key' sealed sealed' place place' bytes p q r stands =
+    subst (λ (n : ℕ). StandAt seal_of key sealed n bytes) r
+    (subst (λ (l : List ℕ). StandAt seal_of key l place' bytes) q (subst (λ (l : List ℕ). StandAt seal_of l sealed' place' bytes) p stands))
 
-pub good-moved : (key key' : List ℕ) (sealed sealed' : Stretch) (place place' n : ℕ) → key' ≡ key → sealed' ≡ sealed → place' ≡ place
-    → IsGoodEnd bench_seal key' sealed' (place' + n) → IsGoodEnd bench_seal key sealed (place + n)
-good-moved key key' sealed sealed' place place' n p q r good =
-    subst (λ (m : ℕ). IsGoodEnd bench_seal key sealed (m + n)) r
-    (subst (λ (s : Stretch). IsGoodEnd bench_seal key s (place' + n)) q (subst (λ (l : List ℕ). IsGoodEnd bench_seal l sealed' (place' + n)) p good))
+pub good-moved : (seal_of : Seal) (key key' : List ℕ) (sealed sealed' : Stretch) (place place' n : ℕ) → key' ≡ key → sealed' ≡ sealed → place' ≡ place
+    → IsGoodEnd seal_of key' sealed' (place' + n) → IsGoodEnd seal_of key sealed (place + n)
+good-moved seal_of key key' sealed sealed' place place' n p q r good =
+    subst (λ (m : ℕ). IsGoodEnd seal_of key sealed (m + n)) r
+    (subst (λ (s : Stretch). IsGoodEnd seal_of key s (place' + n)) q (subst (λ (l : List ℕ). IsGoodEnd seal_of l sealed' (place' + n)) p good))
 
-module _ {W : Type 0} (appended : W → List ℕ → W → Type 0) (count place : ℕ) (key : List ℕ) (sealed : Stretch) where
-  first-stand : (rest : List ℕ) → StandAt bench_seal key sealed.bytes place rest → StandAt bench_seal key sealed.bytes place (take count rest)
+module _ {W : Type 0} (seal_of : Seal) (appended : W → List ℕ → W → Type 0) (count place : ℕ) (key : List ℕ) (sealed : Stretch) where
+  first-stand : (rest : List ℕ) → StandAt seal_of key sealed.bytes place rest → StandAt seal_of key sealed.bytes place (take count rest)
   first-stand rest stands =
-      stand-front bench_seal key sealed.bytes place (take count rest) (drop count rest)
-      (subst (λ (l : List ℕ). StandAt bench_seal key sealed.bytes place l) (sym (take-append-drop count rest)) stands)
+      stand-front seal_of key sealed.bytes place (take count rest) (drop count rest)
+      (subst (λ (l : List ℕ). StandAt seal_of key sealed.bytes place l) (sym (take-append-drop count rest)) stands)
 
   -- of what a reader has left
-  pub standing : (rest : List ℕ) (old new : W) → StandAt bench_seal key sealed.bytes place rest → AppendsFront appended (take count rest) old new
-      → AppendsSome appended count (StandsAt place key sealed) old new
+  pub standing : (rest : List ℕ) (old new : W) → StandAt seal_of key sealed.bytes place rest → AppendsFront appended (take count rest) old new
+      → AppendsSome appended count (StandsAt seal_of place key sealed) old new
   standing rest old new stands front = record {
     out = front.front;
     most = omega (arith, ap length front.joined, length-append front.front front.after, length-take count rest);
-    holds = stand-front bench_seal key sealed.bytes place front.front front.after
-        (subst (λ (l : List ℕ). StandAt bench_seal key sealed.bytes place l) front.joined (first-stand rest stands));
+    holds = stand-front seal_of key sealed.bytes place front.front front.after
+        (subst (λ (l : List ℕ). StandAt seal_of key sealed.bytes place l) front.joined (first-stand rest stands));
     done = front.out;
   }
 
-  pub standing-none : (w : W) → appended w [] w → AppendsSome appended count (StandsAt place key sealed) w w
-  standing-none w none = record { out = []; most = omega arith; holds = stand-none bench_seal key sealed.bytes place; done = none }
+  pub standing-none : (w : W) → appended w [] w → AppendsSome appended count (StandsAt seal_of place key sealed) w w
+  standing-none w none = record { out = []; most = omega arith; holds = stand-none seal_of key sealed.bytes place; done = none }
 
   -- and where nothing is missing
-  pub given : (rest : Stretch) (old new : W) → StandAt bench_seal key sealed.bytes place rest.bytes
-      → (rest.ends_well ≡ true → IsGoodEnd bench_seal key sealed (place + length rest.bytes))
-      → appended old (take count rest.bytes) new × (length rest.bytes < count → IsTrue rest.ends_well) → AppendsSome appended count (IsPartAt place count key sealed) old new
+  pub given : (rest : Stretch) (old new : W) → StandAt seal_of key sealed.bytes place rest.bytes
+      → (rest.ends_well ≡ true → IsGoodEnd seal_of key sealed (place + length rest.bytes))
+      → appended old (take count rest.bytes) new × (length rest.bytes < count → IsTrue rest.ends_well) → AppendsSome appended count (IsPartAt seal_of place count key sealed) old new
   given rest old new stands good done =
       let long = length-take count rest.bytes in
       record {
@@ -70,7 +71,7 @@ module _ {W : Type 0} (appended : W → List ℕ → W → Type 0) (count place 
           first-stand rest.bytes stands,
           λ less.
               let same : length rest.bytes ≡ length (take count rest.bytes) = omega (arith, long, less) in
-              subst (λ (n : ℕ). IsGoodEnd bench_seal key sealed (place + n)) same (good (done.1 (omega (arith, long, less)))),
+              subst (λ (n : ℕ). IsGoodEnd seal_of key sealed (place + n)) same (good (done.1 (omega (arith, long, less)))),
         );
         done = done.0;
       }

@@ -1,9 +1,8 @@
 use Rattle.std.proofs.Common.{◌≡◌, ◌∙◌, [], true, Ok, ap}
 use Rattle.std.proofs.lemmas.List.{append-nil}
-use Rattle.age.specs.ArmorWriting.{inner_of, text_of}
-use Rattle.age.specs.File.{file_text}
-use Rattle.age_bench.specs.Bench.{bench_seal}
-use Rattle.age_bench.proofs.file.write_file.Goals as goal
+use Rattle.age_armor.specs.Writing.{inner_of, text_of}
+use Rattle.age_protocol.specs.File.{file_text}
+use Rattle.age_protocol.proofs.whole.write_file.Goals as goal
 
 pub returns-clause-file : goal.returns-clause-file
 returns-clause-file g c = λ reader_told writer_told.
@@ -16,7 +15,7 @@ returns-clause-file g c = λ reader_told writer_told.
     let all = copied.all reader_told told in
     let sealed = c.in_ok-finished.ensures in
     let file = c.args.encryptor in
-    let text = file_text bench_seal file.file_key file.stanzas file.nonce (g.R.Read.rest c.args.reader.now).bytes in
+    let text = file_text g.S.Suite.seal_of file.file_key file.stanzas file.nonce (g.R.Read.rest c.args.reader.now).bytes in
     let filed = started.file armor_told _ _ (Ok c.in_ok-finished.finished) all.1 (sealed.ok (copied.tells ∙ told)) in
     let done = c.in_ok-out.ensures in
     let sealed_told = sealed.same_tells ∙ copied.tells ∙ told in

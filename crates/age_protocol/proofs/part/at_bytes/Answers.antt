@@ -1,10 +1,10 @@
 use Rattle.std.proofs.Common.{◌∙◌, ap, inr}
-use Rattle.age_bench.specs.Parts.{StandsAt, IsPartAt}
-use Rattle.age.specs.StreamReader.{content_of}
-use Rattle.age_bench.proofs.Opened.{never_fails}
-use Rattle.age_bench.proofs.Standing.{opened-part}
-use Rattle.age_bench.proofs.Parts.{refused_before, part_done, part_refused}
-use Rattle.age_bench.proofs.part.at_bytes.Goals as goal
+use Rattle.age_protocol.specs.Parts.{StandsAt, IsPartAt}
+use Rattle.age_stream.specs.Reader.{content_of}
+use Rattle.age_protocol.proofs.OpenedFor.{never_fails}
+use Rattle.age_protocol.proofs.Standing.{opened-part}
+use Rattle.age_protocol.proofs.Parts.{refused_before, part_done, part_refused}
+use Rattle.age_protocol.proofs.part.at_bytes.Goals as goal
 
 pub returns-in-Err-clause-cursor : goal.returns-in-Err-clause-cursor
 returns-in-Err-clause-cursor g c = λ bytes_told writer_told well plain for.
@@ -34,17 +34,17 @@ returns-clause-cursor g c = λ bytes_told writer_told well plain for.
 pub returns-in-Err-write_part-clause-standing : goal.returns-in-Err-write_part-clause-standing
 returns-in-Err-write_part-clause-standing g c = λ fresh bytes_told writer_told.
     let made = c.in-Ok.ensures in
-    inr (opened-part _ _ _ c.args.bytes c.in-Ok.stream g.W.Write.appended c.args.count (StandsAt c.args.place) c.args.writer.now c.write_part.new.writer fresh bytes_told made.opened
+    inr (opened-part _ _ _ c.args.bytes c.in-Ok.stream g.W.Write.appended c.args.count (StandsAt g.S.Suite.seal_of c.args.place) c.args.writer.now c.write_part.new.writer fresh bytes_told made.opened
     (c.write_part.ensures.standing (made.tells ∙ bytes_told) writer_told))
 
 pub returns-clause-standing : goal.returns-clause-standing
 returns-clause-standing g c = λ fresh bytes_told writer_told.
     let made = c.in-Ok.ensures in
-    inr (opened-part _ _ _ c.args.bytes c.in-Ok.stream g.W.Write.appended c.args.count (StandsAt c.args.place) c.args.writer.now c.write_part.new.writer fresh bytes_told made.opened
+    inr (opened-part _ _ _ c.args.bytes c.in-Ok.stream g.W.Write.appended c.args.count (StandsAt g.S.Suite.seal_of c.args.place) c.args.writer.now c.write_part.new.writer fresh bytes_told made.opened
     (c.write_part.ensures.standing (made.tells ∙ bytes_told) writer_told))
 
 pub returns-clause-given : goal.returns-clause-given
 returns-clause-given g c = λ fresh bytes_told writer_told.
     let made = c.in-Ok.ensures in
-    opened-part _ _ _ c.args.bytes c.in-Ok.stream g.W.Write.appended c.args.count (IsPartAt c.args.place c.args.count) c.args.writer.now c.write_part.new.writer fresh bytes_told made.opened
+    opened-part _ _ _ c.args.bytes c.in-Ok.stream g.W.Write.appended c.args.count (IsPartAt g.S.Suite.seal_of c.args.place c.args.count) c.args.writer.now c.write_part.new.writer fresh bytes_told made.opened
     (c.in-Ok-write_part.ensures.given (made.tells ∙ bytes_told) writer_told)

@@ -1,15 +1,15 @@
 use Rattle.std.proofs.Common.{◌≡◌, ◌∙◌, ap, sym, refl, subst, inl, inr}
-use Rattle.age.specs.Stretch.{Stretch, whole, stretch-ext}
-use Rattle.age.specs.Buffered as buffered
-use Rattle.age.specs.ArmorReader.{inner_of, armored_rest}
-use Rattle.age.specs.StreamReadingLaws.{and-left, and-right}
-use Rattle.age.proofs.StreamAnswered.{rest-bytes}
-use Rattle.age.proofs.Fronts.{of_error}
-use Rattle.age_bench.proofs.Decrypted.{both_told, refuses_text, begins_text, by_cause}
-use Rattle.age.proofs.PartCopied.{none-copied}
-use Rattle.age_bench.proofs.Parts.{file_for}
-use Rattle.age.specs.Copying.{AppendsFront}
-use Rattle.age_bench.proofs.file.decrypt_all.Goals as goal
+use Rattle.age_io.specs.Stretch.{Stretch, whole, stretch-ext}
+use Rattle.age_io.specs.Buffered as buffered
+use Rattle.age_armor.specs.Reader.{inner_of, armored_rest}
+use Rattle.age_stream.specs.ReadingLaws.{and-left, and-right}
+use Rattle.age_stream.proofs.Answered.{rest-bytes}
+use Rattle.age_protocol.proofs.Fronts.{of_error}
+use Rattle.age_protocol.proofs.Decrypted.{both_told, refuses_text, begins_text, by_cause}
+use Rattle.age_io.proofs.PartCopied.{none-copied}
+use Rattle.age_protocol.proofs.Parts.{file_for}
+use Rattle.age_io.specs.Copying.{AppendsFront}
+use Rattle.age_protocol.proofs.whole.decrypt_all.Goals as goal
 
 pub returns-clause-file : goal.returns-clause-file
 returns-clause-file g c = λ reader_told writer_told.
@@ -50,7 +50,7 @@ returns-in_err-stream-clause-honest g c = λ told well never file plain carries 
     let rest : armored_rest c.in_ok-text.text ≡ whole file = text.honest file well carries in
     of_error _ _ _ c.from_residual-in_err-stream.ensures.1
     (c.in_err-stream.ensures.plaintext (both_told _ _ _ _ text.tells text.steady told) (ap (λ s. s.ends_well) rest) plain
-    (file_for _ plain file (armored_rest c.in_ok-text.text).bytes (sym (ap (λ s. s.bytes) rest)) for) (λ t. never t.source.inner.inner.now))
+    (file_for g.S.Suite.seal_of _ plain file (armored_rest c.in_ok-text.text).bytes (sym (ap (λ s. s.bytes) rest)) for) (λ t. never t.source.inner.inner.now))
 
 pub returns-in_err-copy_all-clause-front : goal.returns-in_err-copy_all-clause-front
 returns-in_err-copy_all-clause-front g c = λ reader_told writer_told.
@@ -88,7 +88,7 @@ returns-in_err-copy_all-clause-plaintext g c = λ told well writer_told file pla
     let rest : armored_rest c.in_ok-text.text ≡ whole file = text.honest file well carries in
     let text_told = both_told _ _ _ _ text.tells text.steady told in
     let stands = c.in_ok-stream.ensures.plaintext text_told (ap (λ s. s.ends_well) rest) plain
-    (file_for _ plain file (armored_rest c.in_ok-text.text).bytes (sym (ap (λ s. s.bytes) rest)) for) in
+    (file_for g.S.Suite.seal_of _ plain file (armored_rest c.in_ok-text.text).bytes (sym (ap (λ s. s.bytes) rest)) for) in
     subst (λ (s : Stretch). AppendsFront g.W.Write.appended s.bytes c.args.writer.now c.copy_all.new.writer) stands.rest
     (c.in_err-copy_all.ensures.front (c.in_ok-stream.ensures.tells ∙ text_told) writer_told)
 
@@ -98,6 +98,6 @@ returns-clause-plaintext g c = λ told well writer_told file plain carries for.
     let rest : armored_rest c.in_ok-text.text ≡ whole file = text.honest file well carries in
     let text_told = both_told _ _ _ _ text.tells text.steady told in
     let stands = c.in_ok-stream.ensures.plaintext text_told (ap (λ s. s.ends_well) rest) plain
-    (file_for _ plain file (armored_rest c.in_ok-text.text).bytes (sym (ap (λ s. s.bytes) rest)) for) in
+    (file_for g.S.Suite.seal_of _ plain file (armored_rest c.in_ok-text.text).bytes (sym (ap (λ s. s.bytes) rest)) for) in
     subst (λ (s : Stretch). AppendsFront g.W.Write.appended s.bytes c.args.writer.now c.copy_all.new.writer) stands.rest
     (c.in_ok-copy_all.ensures.front (c.in_ok-stream.ensures.tells ∙ text_told) writer_told)

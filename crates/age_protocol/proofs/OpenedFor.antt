@@ -1,22 +1,21 @@
 -- Files opened by the identities that they are for.
 use Rattle.std.specs.Prelude.{◌≡◌, ◌⊎◌, ℕ, List, [], ◌∷◌, Result, Some, Ok, Err, IfOk, MatchResult}
 use Rattle.std.proofs.Common.{◌∙◌, sym, inl, inr, arith}
-use Rattle.age.specs.DecryptErrors.{OutOfMemory, decrypt_refusal}
-use Rattle.age.specs.Types.{DecryptError}
-use Rattle.age.specs.Members.{SuiteMembers, ReadMembers}
-use Rattle.age.specs.Reading.{IsQuiet}
-use Rattle.age.specs.Stanza.{StanzaValue}
-use Rattle.age.specs.HeaderV1.{HeaderValue, header_mac}
-use Rattle.age.specs.Unwrapping.{UnwrapAnswer}
-use Rattle.age.specs.Payload.{Seal, payload}
-use Rattle.age.specs.Types.{StreamReader}
-use Rattle.age.specs.Answering.{decided}
-use Rattle.age.specs.File.{BeginsAsFile, IsFileOf, payload_key}
-use Rattle.age.specs.OpeningFile.{Decrypts, OpensFile, StandsBefore}
-use Rattle.age_bench.proofs.Unwrapped.{BenchUnwraps, key_answered}
-use Rattle.age.proofs.Opened.{decided_key}
-use Rattle.age_bench.specs.Opened.{Asks, IsOpened}
-use Rattle.age_bench.specs.Parts.{FirstAnswer, IsFileFor, IsFileForBench}
+use Rattle.age_error.specs.DecryptErrors.{OutOfMemory, decrypt_refusal}
+use Rattle.age_error.specs.declared.decrypt.DecryptError.{DecryptError}
+use Rattle.age_suite.specs.declared.suite.Suite.{Ghosts as SuiteMembers}
+use Rattle.age_io.specs.declared.traits.Read.{Ghosts as ReadMembers}
+use Rattle.age_io.specs.Reading.{IsQuiet}
+use Rattle.age_format.specs.Stanza.{StanzaValue}
+use Rattle.age_format.specs.HeaderV1.{HeaderValue, header_mac}
+use Rattle.age_format.specs.Unwrapping.{UnwrapAnswer}
+use Rattle.age_stream.specs.Payload.{Seal, payload}
+use Rattle.age_stream.specs.declared.reader.StreamReader.{StreamReader}
+use Rattle.age_protocol.specs.Answering.{decided}
+use Rattle.age_protocol.specs.File.{BeginsAsFile, IsFileOf, payload_key}
+use Rattle.age_protocol.specs.OpeningFile.{Decrypts, OpensFile, StandsBefore}
+use Rattle.age_protocol.proofs.Opened.{decided_key}
+use Rattle.age_protocol.specs.Opened.{Asks, IsOpened}
 
 -- a device that never fails
 pub never_fails : {T : Type 0} (faults : T → ℕ) (a b : T) → ((t : T) → faults t ≡ 0) → IsQuiet (faults a) (faults b)
@@ -59,15 +58,3 @@ module _ {I S T : Type 0} {suite : SuiteMembers S} {read : ReadMembers T} (unwra
       let (key, is, opens) = decided_key answer h nonce input stream d in
       record { h = h; nonce = nonce; input = input; file_key = key; asks = rw is at asks; opens = opens }
   asked answer (Err e) asks d = tt
-
--- the bench identity opens the files for it
-pub for_bench : {S : Type 0} (one : S) (plain text : List ℕ) → IsFileForBench plain text → IsFileFor (FirstAnswer BenchUnwraps (one ∷ [])) plain text
-for_bench one plain text for = record {
-  file_key = for.file_key;
-  stanzas = for.stanzas;
-  is_file = for.is_file;
-  bytes = for.bytes;
-  within = for.within;
-  last = for.last;
-  right = λ answer asked. inl (key_answered one for.stanzas for.file_key answer asked.0 for.holds asked.1);
-}

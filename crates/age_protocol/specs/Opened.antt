@@ -1,16 +1,17 @@
 -- What opening the file of a text comes to, whatever the text is.
 use Rattle.std.specs.Prelude.{◌≡◌, ◌⊎◌, ℕ, Bool, IsTrue, List, Some, Ok}
-use Rattle.age.specs.DecryptErrors.{DecryptRefusal}
-use Rattle.age.specs.Members.{SuiteMembers, ReadMembers}
-use Rattle.age.specs.Stretch.{Stretch}
-use Rattle.age.specs.HeaderV1.{HeaderValue}
-use Rattle.age.specs.Stanza.{StanzaValue}
-use Rattle.age.specs.Unwrapping.{UnwrapAnswer, Unwraps}
-use Rattle.age.specs.Types.{StreamReader}
-use Rattle.age.specs.Answering.{FirstThatAnswers, decided}
-use Rattle.age.specs.Decrypting.{ReadsFront, RefusesFront}
-use Rattle.age.specs.OpeningFile.{OpensFile}
-use Rattle.age_bench.specs.Errors.{RefusesKey}
+use Rattle.age_error.specs.DecryptErrors.{DecryptRefusal}
+use Rattle.age_suite.specs.declared.suite.Suite.{Ghosts as SuiteMembers}
+use Rattle.age_io.specs.declared.traits.Read.{Ghosts as ReadMembers}
+use Rattle.age_io.specs.Stretch.{Stretch}
+use Rattle.age_format.specs.HeaderV1.{HeaderValue}
+use Rattle.age_format.specs.Stanza.{StanzaValue}
+use Rattle.age_format.specs.Unwrapping.{UnwrapAnswer, Unwraps}
+use Rattle.age_stream.specs.declared.reader.StreamReader.{StreamReader}
+use Rattle.age_protocol.specs.Answering.{FirstThatAnswers, decided}
+use Rattle.age_protocol.specs.Decrypting.{ReadsFront, RefusesFront}
+use Rattle.age_protocol.specs.OpeningFile.{OpensFile}
+use Rattle.age_protocol.specs.Texts.{RefusesKey}
 
 module _ {I T : Type 0} (unwraps : I → List StanzaValue → UnwrapAnswer → I → Type 0)
     (tells steady : T → Bool) (content : T → Stretch) (place : T → ℕ) (rest : T → Stretch) (faults : T → ℕ) where

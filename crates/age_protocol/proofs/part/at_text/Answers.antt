@@ -1,13 +1,14 @@
 use Rattle.std.proofs.Common.{◌≡◌, ◌∙◌, refl, sym, ap, subst, true, List, ℕ}
 use Rattle.std.proofs.lemmas.Result.{on_ok_weaker}
-use Rattle.age.specs.Stretch.{whole}
-use Rattle.age.specs.Armor.{Carries}
-use Rattle.age.specs.Delivered.{delivered, stretch_of}
-use Rattle.age.specs.ArmorReader.{armored_rest, armored_content, place_of}
-use Rattle.age_bench.specs.Parts.{Begins, StandsAt, IsPartAt}
-use Rattle.age_bench.proofs.Parts.{memory_before, quiet_by, file_for}
-use Rattle.age_bench.proofs.Standing.{begun, begun-or, same-content, fresh-text, begins-same}
-use Rattle.age_bench.proofs.part.at_text.Goals as goal
+use Rattle.age_io.specs.Stretch.{whole}
+use Rattle.age_armor.specs.Armor.{Carries}
+use Rattle.age_armor.specs.Delivered.{delivered, stretch_of}
+use Rattle.age_armor.specs.Reader.{armored_rest, armored_content, place_of}
+use Rattle.age_protocol.specs.Texts.{Begins}
+use Rattle.age_protocol.specs.Parts.{StandsAt, IsPartAt}
+use Rattle.age_protocol.proofs.Parts.{memory_before, quiet_by, file_for}
+use Rattle.age_protocol.proofs.Standing.{begun, begun-or, same-content, fresh-text, begins-same}
+use Rattle.age_protocol.proofs.part.at_text.Goals as goal
 
 pub returns-in-Err-clause-cursor : goal.returns-in-Err-clause-cursor
 returns-in-Err-clause-cursor g c = λ writer_told file plain carries for.
@@ -21,7 +22,7 @@ returns-in-Ok-clause-cursor g c = λ writer_told file plain carries for.
     c.in-Ok.ensures.honest file (ap (λ s. s.ends_well) c.new.ensures.rest) (subst (λ (l : List ℕ). Carries l file) (sym (ap (λ s. s.bytes) c.new.ensures.rest)) carries) in
     quiet_by g.W.Write.appended c.args.place c.args.count plain _ _ c.args.writer.now c.at_bytes.new.writer c.at_bytes.result (λ u t. refl)
     (c.at_bytes.ensures.cursor refl writer_told (ap (λ s. s.ends_well) rest) plain
-    (file_for _ plain file (armored_rest bytes).bytes (sym (ap (λ s. s.bytes) rest)) for))
+    (file_for g.S.Suite.seal_of _ plain file (armored_rest bytes).bytes (sym (ap (λ s. s.bytes) rest)) for))
 
 pub returns-in-Ok-clause-standing : goal.returns-in-Ok-clause-standing
 returns-in-Ok-clause-standing g c = λ writer_told.
@@ -32,7 +33,7 @@ returns-in-Ok-clause-standing g c = λ writer_told.
     let content : armored_content bytes ≡ stretch_of (delivered text true) =
     made.content ∙ same-content _ (whole text) _ 0 c.new.ensures.content c.new.ensures.place in
     let fresh = fresh-text (armored_rest bytes) (armored_content bytes) (stretch_of (delivered text true)) (place_of bytes) rest content made.place in
-    begun-or (Begins (armored_rest bytes) (place_of bytes)) (Begins (stretch_of (delivered text true)) 0) _ _ g.W.Write.appended c.args.count (StandsAt c.args.place) c.args.writer.now c.at_bytes.new.writer
+    begun-or (Begins (armored_rest bytes) (place_of bytes)) (Begins (stretch_of (delivered text true)) 0) _ _ g.W.Write.appended c.args.count (StandsAt g.S.Suite.seal_of c.args.place) c.args.writer.now c.at_bytes.new.writer
     (begins-same (armored_rest bytes) (stretch_of (delivered text true)) (place_of bytes) rest made.place) (λ key stanzas by. by)
     (c.at_bytes.ensures.standing fresh refl writer_told)
 
@@ -46,6 +47,6 @@ returns-in-Ok-clause-given g c = λ writer_told.
     made.content ∙ same-content _ (whole text) _ 0 c.new.ensures.content c.new.ensures.place in
     let fresh = fresh-text (armored_rest bytes) (armored_content bytes) (stretch_of (delivered text true)) (place_of bytes) rest content made.place in
     on_ok_weaker c.at_bytes.result
-    (begun (Begins (armored_rest bytes) (place_of bytes)) (Begins (stretch_of (delivered text true)) 0) _ _ g.W.Write.appended c.args.count (IsPartAt c.args.place c.args.count) c.args.writer.now c.at_bytes.new.writer
+    (begun (Begins (armored_rest bytes) (place_of bytes)) (Begins (stretch_of (delivered text true)) 0) _ _ g.W.Write.appended c.args.count (IsPartAt g.S.Suite.seal_of c.args.place c.args.count) c.args.writer.now c.at_bytes.new.writer
     (begins-same (armored_rest bytes) (stretch_of (delivered text true)) (place_of bytes) rest made.place) (λ key stanzas by. by))
     (c.at_bytes.ensures.given fresh refl writer_told)

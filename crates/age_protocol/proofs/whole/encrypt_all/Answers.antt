@@ -1,0 +1,12 @@
+use Rattle.std.proofs.Common.{rules}
+use Rattle.age_protocol.proofs.Fronts.{of_error}
+use Rattle.age_protocol.proofs.whole.encrypt_all.Goals as goal
+
+pub returns-clause-file : goal.returns-clause-file
+returns-clause-file g c = λ reader_told writer_told.
+    let done = c.in_ok-_out.ensures.file reader_told writer_told in
+    (c.in_ok-encryptor.encryptor, c.in_ok-encryptor.ensures, done.0, search rules)
+
+pub returns-in_err-encryptor-clause-why : goal.returns-in_err-encryptor-clause-why
+returns-in_err-encryptor-clause-why g c =
+    of_error _ _ _ c.from_residual.ensures.1 c.in_err-encryptor.ensures

@@ -1,0 +1,39 @@
+-- What a call on a whole file was about when it refused.
+use Rattle.std.specs.Prelude.{◌≡◌, ◌⊎◌}
+use Rattle.age_error.specs.DecryptErrors.{DecryptRefusal, decrypt_refusal, OutOfMemory}
+use Rattle.age_error.specs.EncryptErrors.{EncryptRefusal, encrypt_refusal}
+use Rattle.age_error.specs.declared.io.Error.TheVariants as io
+use Rattle.age_protocol.specs.declared.error.FileError.{FileError}
+use Rattle.age_protocol.specs.declared.error.FileError.TheVariants.{Io, Encrypt, Decrypt}
+
+-- the recipients, the random bytes or the header's memory
+abbrev pub IsEncryptError : FileError → Type 0
+IsEncryptError (Encrypt e) = Unit {0}
+IsEncryptError other = ⊥
+
+-- the header or the identities
+abbrev pub IsDecryptError : FileError → Type 0
+IsDecryptError (Decrypt e) = Unit {0}
+IsDecryptError other = ⊥
+
+-- an error of encryption is one of these refusals
+abbrev pub EncryptsUnless : (EncryptRefusal → Type 0) → FileError → Type 0
+EncryptsUnless IsCause (Encrypt e) = IsCause (encrypt_refusal e)
+EncryptsUnless IsCause other = Unit {0}
+
+-- an error of decryption is one of these refusals
+abbrev pub DecryptsUnless : (DecryptRefusal → Type 0) → FileError → Type 0
+DecryptsUnless IsCause (Decrypt e) = IsCause (decrypt_refusal e)
+DecryptsUnless IsCause other = Unit {0}
+
+-- the target is past the end, or memory was refused
+abbrev pub IsPastEnd : FileError → Type 0
+IsPastEnd (Io e) = (e ≡ io.PastEnd) ⊎ (e ≡ io.OutOfMemory)
+IsPastEnd (Encrypt e) = ⊥
+IsPastEnd (Decrypt e) = decrypt_refusal e ≡ OutOfMemory
+
+-- memory was refused
+abbrev pub IsWant : FileError → Type 0
+IsWant (Io e) = e ≡ io.OutOfMemory
+IsWant (Encrypt e) = ⊥
+IsWant (Decrypt e) = decrypt_refusal e ≡ OutOfMemory

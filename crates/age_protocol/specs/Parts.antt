@@ -1,0 +1,62 @@
+-- Files for the identities that open them, and parts of their plaintexts.
+use Rattle.std.specs.Prelude.{◌≡◌, ◌⊎◌, ℕ, ◌+◌, ◌^◌, ◌≤◌, ◌<◌, List, length, take, drop, Result, Some, Ok, Err, OnOk, IfErr, MatchResult}
+use Rattle.age_error.specs.Bytes.{AreBytes}
+use Rattle.age_error.specs.DecryptErrors.{OutOfMemory}
+use Rattle.age_io.specs.Stretch.{Stretch}
+use Rattle.age_io.specs.Copying.{AppendsFront, AppendsSome}
+use Rattle.age_format.specs.Stanza.{StanzaValue}
+use Rattle.age_format.specs.Unwrapping.{UnwrapAnswer, Unwraps}
+use Rattle.age_format.specs.HeaderV1.{HeaderValue, header_mac}
+use Rattle.age_stream.specs.Payload.{Seal, LastIsNoMiddle}
+use Rattle.age_stream.specs.Answering.{StandAt, IsGoodEnd}
+use Rattle.age_protocol.specs.Answering.{FirstThatAnswers}
+use Rattle.age_protocol.specs.File.{IsFileOf, payload_key}
+use Rattle.age_protocol.specs.FileErrors.{DecryptsUnless, IsPastEnd}
+use Rattle.age_protocol.specs.declared.error.FileError.{FileError}
+
+-- what the first of the identities that answers may answer to these stanzas
+abbrev pub FirstAnswer : {I : Type 0} → (I → List StanzaValue → UnwrapAnswer → I → Type 0) → List I → List StanzaValue → UnwrapAnswer → Type 0
+FirstAnswer {I} unwraps identities stanzas answer =
+    (after : List I) × FirstThatAnswers (λ identity own then. Unwraps unwraps identity stanzas own then) identities answer after
+
+-- The bytes are a file of the plaintext, under the file key that is answered to its stanzas unless memory is refused. A full last
+-- chunk must not open as one in the middle, which the suites of age-encryption.org/v1 keep apart.
+pub record IsFileFor (seal_of : Seal) (answers : List StanzaValue → UnwrapAnswer → Type 0) (plain text : List ℕ) : Type 0 where
+  pub file_key : List ℕ
+  pub stanzas : List StanzaValue
+  pub is_file : IsFileOf seal_of file_key stanzas plain text
+  pub bytes : AreBytes plain
+  pub within : length plain ≤ 2 ^ 60
+  pub last : LastIsNoMiddle seal_of (payload_key file_key is_file.nonce) plain
+  pub right : (answer : UnwrapAnswer) → answers stanzas answer → (answer ≡ Some (Ok file_key)) ⊎ (answer ≡ Some (Err OutOfMemory))
+
+-- under this key these bytes stand in the plaintext of a payload from a place on, whatever its other chunks are
+abbrev pub StandsAt : Seal → ℕ → List ℕ → Stretch → List ℕ → Type 0
+StandsAt seal_of place key sealed out = StandAt seal_of key sealed.bytes place out
+
+-- and they are so many, or fewer up to an end where the payload's own length puts it and where its last chunk is one
+abbrev pub IsPartAt : Seal → ℕ → ℕ → List ℕ → Stretch → List ℕ → Type 0
+IsPartAt seal_of place count key sealed out =
+    StandsAt seal_of place key sealed out × (length out < count → IsGoodEnd seal_of key sealed (place + length out))
+
+-- The text begins with a header whose MAC is right under the file key that is given to its stanzas, and of the payload after it
+-- some bytes were appended.
+pub record AppendsOf {W : Type 0} (begins : HeaderValue → List ℕ → Stretch → Type 0) (gives : List ℕ → List StanzaValue → Type 0)
+    (appended : W → List ℕ → W → Type 0) (count : ℕ) (Holds : List ℕ → Stretch → List ℕ → Type 0) (old new : W) : Type 0 where
+  pub file_key : List ℕ
+  pub h : HeaderValue
+  pub nonce : List ℕ
+  pub left : Stretch
+  pub text : begins h nonce left
+  pub key : gives file_key h.stanzas
+  pub right : h.mac ≡ header_mac file_key h.covered
+  pub part : AppendsSome appended count (Holds (payload_key file_key nonce) left) old new
+
+-- Of a plaintext the bytes from a place on were appended, so many or fewer at the end; after a refusal a beginning of them.
+-- Where the device doesn't fail, the file is opened unless memory is refused, and a place after the end is refused as such.
+pub record AppendsPart {W T : Type 0} (appended : W → List ℕ → W → Type 0) (Quiet : Type 0) (place count : ℕ) (plain : List ℕ)
+    (old new : W) (result : Result T FileError) : Type 0 where
+  pub part : OnOk result ((place ≤ length plain) × appended old (take count (drop place plain)) new)
+  pub front : AppendsFront appended (take count (drop place plain)) old new
+  pub opened : Quiet → IfErr result (DecryptsUnless (λ refusal. refusal ≡ OutOfMemory))
+  pub past_end : Quiet → length plain < place → (new ≡ old) × MatchResult result (λ done. ⊥) IsPastEnd

@@ -1,0 +1,106 @@
+//! Files opened, and reads and seeks on their plaintext.
+ghost use Rattle.std.specs.Prelude.{◌≡◌, ◌&&◌, ℕ, ◌≤◌, IsTrue, List, All, map, IfOk, IfErr, MatchResult};
+ghost use Rattle.age_error.specs.DecryptErrors.{OutOfMemory, decrypt_refusal};
+ghost use Rattle.age_io.specs.Replies.{seen, replies, IsNoWant};
+ghost use Rattle.age_armor.specs.Armor.{Carries};
+ghost use Rattle.age_protocol.specs.OpeningFile.{StandsBefore};
+ghost use Rattle.age_protocol.specs.Opened.{IsOpened, IsNotOpened};
+ghost use Rattle.age_protocol.specs.FileErrors.{IsWant};
+ghost use Rattle.age_protocol.specs.Parts.{FirstAnswer, IsFileFor};
+
+use crate::decryptor::Decryptor;
+use crate::error::FileError;
+use crate::laws::{file_opens, front_is_accepted};
+use age_armor::ArmoredReader;
+use age_error::DecryptError;
+use age_error::io::Error;
+use age_format::Identity;
+use age_io::{Answer, BufReader, Op, Read, Seek, run};
+use age_stream::reader::StreamReader;
+use age_suite::suite::Suite;
+use std::alloc::Global;
+
+/// Opens the bare file that `bytes` gives from where it stands, which one of the identities decrypts: the reader of its plaintext.
+///
+/// Where what they give ends well and is a file for the identities, the reader stands before the file's plaintext, and it is refused
+/// only for want of memory or after a fault of the device. So `run` on it answers reads and seeks as a cursor on the
+/// plaintext. It refuses as `Decryptor::new`, and then no identity was asked, and as `Decryptor::decrypt`; they are gone then.
+/// Over an `ArmoredReader` it opens a file in armor too.
+pub fn open_file<S: Suite, I: Identity, T: Read + Drop>(
+    alloc: Global,
+    identities: &mut [I],
+    bytes: T,
+) -> Result<StreamReader<S, T>, DecryptError>
+    ensures tells { let reader = ⟦<StreamReader<S, T> as Read>⟧ in IfOk result (λ stream. reader.tells stream ≡ (T.tells bytes && T.steady bytes)) }
+    ensures faults { let reader = ⟦<StreamReader<S, T> as Read>⟧ in IfOk result (λ stream. T.faults bytes ≤ reader.faults stream) }
+    // Of any bytes.
+    ensures opened { IfOk result (λ stream. IsOpened I.unwraps identities.old identities.new bytes stream) }
+    ensures refused { IfErr result (λ e.
+        IsNotOpened I.unwraps T.tells T.steady T.content T.place T.rest T.faults identities.old identities.new bytes (decrypt_refusal e)) }
+    // Of a file for the identities.
+    ensures plaintext { IsTrue (T.tells bytes && T.steady bytes) → IsTrue (T.rest bytes).ends_well → (plain : List ℕ) →
+        IsFileFor S.seal_of (FirstAnswer I.unwraps identities.old) plain (T.rest bytes).bytes →
+        MatchResult result (λ stream. StandsBefore plain stream) (λ e. ((t : T) → T.faults t ≡ 0) → decrypt_refusal e ≡ OutOfMemory) }
+{
+    front_is_accepted::<T>();
+    file_opens::<S, T>();
+    match Decryptor::<S, T>::new(alloc, bytes) {
+        Err(error) => Err(error),
+        Ok(decryptor) => decryptor.decrypt(alloc, identities),
+    }
+}
+
+/// Opens the file that `reader` gives from where it stands, bare or in armor, which one of the identities decrypts: the reader
+/// of its plaintext.
+///
+/// Where what the reader still has ends well and carries a file for the identities, the answer stands before the file's
+/// plaintext, and it is refused for want of memory alone, or after a fault of the device. It refuses with `Io` as
+/// `ArmoredReader::new`, by which fewer than 36 bytes are `UnexpectedEof`, whatever they are, and with `Decrypt` as `open_file`;
+/// the reader is gone then.
+pub fn open_text<S: Suite, I: Identity, R: Read + Drop>(
+    alloc: Global,
+    identities: &mut [I],
+    reader: R,
+) -> Result<StreamReader<S, ArmoredReader<BufReader<R>>>, FileError>
+    ensures tells { let opened = ⟦<StreamReader<S, ArmoredReader<BufReader<R>>> as Read>⟧ in
+        IfOk result (λ stream. opened.tells stream ≡ (R.tells reader && R.steady reader)) }
+    ensures plaintext { IsTrue (R.tells reader && R.steady reader) → IsTrue (R.rest reader).ends_well → (file plain : List ℕ) →
+        Carries (R.rest reader).bytes file → IsFileFor S.seal_of (FirstAnswer I.unwraps identities.old) plain file →
+        MatchResult result (λ stream. StandsBefore plain stream) (λ e. ((r : R) → R.faults r ≡ 0) → IsWant e) }
+{
+    let bytes = match ArmoredReader::new(alloc, reader) {
+        Err(error) => return Err(FileError::Io(error)),
+        Ok(bytes) => bytes,
+    };
+    match open_file::<S, I, ArmoredReader<BufReader<R>>>(alloc, identities, bytes) {
+        Err(error) => Err(FileError::Decrypt(error)),
+        Ok(stream) => Ok(stream),
+    }
+}
+
+/// Does each read and seek in turn on the plaintext of the file, bare or in armor, that `reader` gives from where it stands, and
+/// answers what came of each. One of the identities decrypts the file.
+///
+/// The reads and seeks go through three layers: `StreamReader` over `ArmoredReader` over `BufReader`. Where what the reader
+/// still has ends well and carries a file for the identities, and its device never fails, the answers are those of a cursor on
+/// the plaintext, as long as none of them is `OutOfMemory`, and nothing but want of memory is refused. It refuses as
+/// `open_text` does, and with `Io(OutOfMemory)` where the list of answers or the bytes in it couldn't grow.
+pub fn answers<S: Suite, I: Identity, R: Seek + Drop>(
+    alloc: Global,
+    identities: &mut [I],
+    ops: &[Op],
+    reader: R,
+) -> Result<Vec<Answer>, FileError>
+    ensures cursor { IsTrue (R.tells reader && R.steady reader) → IsTrue (R.rest reader).ends_well → ((r : R) → R.faults r ≡ 0) →
+        (file plain : List ℕ) → Carries (R.rest reader).bytes file → IsFileFor S.seal_of (FirstAnswer I.unwraps identities.old) plain file →
+        MatchResult result (λ answers. All IsNoWant answers.items → map seen answers.items ≡ replies ops.now plain 0) IsWant }
+{
+    let mut stream = match open_text::<S, I, R>(alloc, identities, reader) {
+        Err(error) => return Err(error),
+        Ok(stream) => stream,
+    };
+    match run(alloc, &mut stream, ops) {
+        Err(_) => Err(FileError::Io(Error::OutOfMemory)),
+        Ok(answers) => Ok(answers),
+    }
+}
