@@ -13,6 +13,7 @@ pub use Rattle.age_error.specs.declared.resolve.ResolveError.TheVariants as Reso
 pub use Rattle.age_io.specs.declared.operations.Op.TheVariants as OpVariants
 pub use Rattle.age_io.specs.declared.operations.Answer.TheVariants as AnswerVariants
 pub use Rattle.age_armor.specs.declared.format.Format.TheVariants as FormatVariants
+pub use Rattle.age_protocol.specs.declared.error.FileError.TheVariants as FileErrorVariants
 -- bytes, and what refusals say: age_error
 pub use Rattle.age_error.specs.Bytes
 pub use Rattle.age_error.specs.Refusals
@@ -87,4 +88,8 @@ pub use Rattle.age_protocol.specs.Decrypting
 pub use Rattle.age_protocol.specs.Answering
 pub use Rattle.age_protocol.specs.OpeningFile
 pub use Rattle.age_protocol.specs.WholeFiles
+pub use Rattle.age_protocol.specs.FileErrors
+pub use Rattle.age_protocol.specs.Texts
+pub use Rattle.age_protocol.specs.Opened
+pub use Rattle.age_protocol.specs.Parts
 pub use Rattle.age_protocol.specs.Laws as FileLaws

@@ -18,4 +18,5 @@ pub use Rattle.age_armor.specs.declared.reader.ArmoredReader.{ArmoredReader}
 pub use Rattle.age_armor.specs.declared.writer.ArmoredWriter.{ArmoredWriter}
 pub use Rattle.age_stream.specs.declared.reader.StreamReader.{StreamReader}
 pub use Rattle.age_stream.specs.declared.writer.StreamWriter.{StreamWriter}
+pub use Rattle.age_protocol.specs.declared.error.FileError.{FileError}
 pub use Rattle.age_protocol.specs.declared.decryptor.Decryptor.{Decryptor}

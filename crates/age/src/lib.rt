@@ -20,6 +20,14 @@ pub mod laws {
     };
 }
 
+/// Whole files from readers to writers in flat memory, files opened for reads and seeks, and parts of their plaintexts.
+pub mod streaming {
+    pub use age_protocol::error::FileError;
+    pub use age_protocol::opening::{answers, open_file, open_text};
+    pub use age_protocol::part::{at, write_part};
+    pub use age_protocol::whole::{decrypt_all, encrypt_all};
+}
+
 /// Readers, writers and their refusals.
 pub mod io {
     pub use age_error::io::{Error, ErrorKind, SeekFrom};

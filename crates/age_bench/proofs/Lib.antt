@@ -1,9 +1,6 @@
 pub mod Steps
-pub mod Decrypted
 pub mod Unwrapped
 pub mod Wrapped
 pub mod OneFile
 pub mod BothForms
 pub mod Opened
-pub mod Parts
-pub mod Standing

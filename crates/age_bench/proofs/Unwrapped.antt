@@ -13,7 +13,7 @@ use Rattle.age.specs.HeaderV1.{HeaderValue}
 use Rattle.age.specs.Stanza.{StanzaValue}
 use Rattle.age.specs.Unwrapping.{UnwrapAnswer, FirstOf, Then, Unwraps}
 use Rattle.age.specs.Answering.{Decides, FirstThatAnswers, decided}
-use Rattle.age_bench.specs.Errors.{RefusesKey}
+use Rattle.age.specs.Texts.{RefusesKey}
 use Rattle.age_bench.specs.Recipient.{bench_stanza, bench_unwrapped, first_answer, bench_answer, HoldsBenchKey}
 
 -- ---- one who answers to each stanza by itself

@@ -1,8 +1,11 @@
 -- What a file comes to that is encrypted to the one bench recipient.
-use Rattle.std.specs.Prelude.{◌≡◌, ◌⊎◌, ◌≤◌, ℕ, Bool, true, false, List, [], ◌∷◌, length, take, drop, nat_le, Some, None, Result, Ok, Err, if◌then◌else◌, MatchOption, refl}
-use Rattle.std.proofs.Common.{arith, inl, inr, length-drop}
-use Rattle.std.proofs.lemmas.Bool.{leb-true}
-use Rattle.age.specs.EncryptErrors.{EncryptRefusal, OutOfMemory, ShortRandom}
+use Rattle.std.specs.Prelude.{◌≡◌, ◌⊎◌, ◌≤◌, ◌<◌, ℕ, Bool, true, false, List, [], ◌∷◌, length, take, drop, nat_le, Some, None, Result, Ok, Err, if◌then◌else◌, MatchOption, refl}
+use Rattle.std.proofs.Common.{◌∙◌, sym, arith, inl, inr, length-drop}
+use Rattle.std.proofs.lemmas.Bool.{leb-true, leb-false}
+use Rattle.age.specs.EncryptErrors.{EncryptRefusal, OutOfMemory, ShortRandom, encrypt_refusal}
+use Rattle.age.specs.FileErrors.{EncryptsUnless}
+use Rattle.age.specs.FileErrorVariants.{Io, Encrypt, Decrypt}
+use Rattle.age.specs.Types.{FileError}
 use Rattle.age.specs.Wrapping.{WrapAnswer}
 use Rattle.age.specs.RecipientLabels.{Gathered, nothing_yet, judged}
 use Rattle.age.specs.Encrypting.{Ends, UnlessNoMemory, After, WithDrawn, Prepared, PreparesNonce, PreparesRest, PreparesWith, Prepares}
@@ -33,6 +36,39 @@ drawn : {A : Type 0} (n : ℕ) (goes_on : List ℕ → List ℕ → Result A Enc
 drawn n goes_on draws x left h =
     let (enough, rest) = drawn_by n goes_on draws x left (nat_le n (length draws)) h in
     (leb-true n (length draws) enough, rest)
+
+Err-inj : {A : Type 0} {x y : EncryptRefusal} → ◌≡◌ {A = Result A EncryptRefusal} (Err x) (Err y) → x ≡ y
+Err-inj same = Prim.cc
+
+-- want of memory, or fewer random bytes than this
+abbrev pub LacksRandom : ℕ → List ℕ → EncryptRefusal → Type 0
+LacksRandom n draws e = (e ≡ OutOfMemory) ⊎ ((e ≡ ShortRandom) × (length draws < n))
+
+-- after a value a refusal is want of memory, or comes later
+later : {A P : Type 0} (draws : List ℕ) (e : EncryptRefusal) (left : List ℕ) → UnlessNoMemory {A = A} P draws (Err e) left → P ⊎ (e ≡ OutOfMemory)
+later draws e left (inl h) = inl h
+later draws e left (inr h) = inr (Err-inj h.0)
+
+short_by : {A : Type 0} (n : ℕ) (goes_on : List ℕ → List ℕ → Result A EncryptRefusal → List ℕ → Type 0) (draws : List ℕ) (e : EncryptRefusal) (left : List ℕ) (enough : Bool)
+    → MatchOption (if enough then Some (take n draws) else None) (Ends {A = A} (Err ShortRandom) draws (Err e) left)
+    (λ bytes. goes_on bytes (if enough then drop n draws else draws) (Err e) left)
+    → ((enough ≡ false) × (e ≡ ShortRandom)) ⊎ goes_on (take n draws) (drop n draws) (Err e) left
+short_by n goes_on draws e left true h = inr h
+short_by n goes_on draws e left false h = inl (refl, Err-inj h.0)
+
+-- a refusal is want of random bytes, or comes after they were taken
+short : {A : Type 0} (n : ℕ) (goes_on : List ℕ → List ℕ → Result A EncryptRefusal → List ℕ → Type 0) (draws : List ℕ) (e : EncryptRefusal) (left : List ℕ)
+    → WithDrawn n goes_on draws (Err e) left → ((e ≡ ShortRandom) × (length draws < n)) ⊎ goes_on (take n draws) (drop n draws) (Err e) left
+short n goes_on draws e left h = elim (short_by n goes_on draws e left (nat_le n (length draws)) h) [
+  | inl few ↦ inl (few.1, leb-false n (length draws) few.0)
+  | inr rest ↦ inr rest
+]
+
+-- a refusal of encryption says what follows from what it says
+pub encrypts_weaker : (P Q : EncryptRefusal → Type 0) → ((refusal : EncryptRefusal) → P refusal → Q refusal) → (e : FileError) → EncryptsUnless P e → EncryptsUnless Q e
+encrypts_weaker P Q f (Encrypt e) d = f (encrypt_refusal e) d
+encrypts_weaker P Q f (Io e) d = tt
+encrypts_weaker P Q f (Decrypt e) d = tt
 
 -- the stanza of the file key, and no labels
 abbrev gathered_by : List ℕ → Gathered
@@ -66,6 +102,32 @@ judged_one file_key draws answer between gathered left (inr is) h =
     let ended : After (judged nothing_yet (Err OutOfMemory)) (λ more. Ends (Ok more)) between (Ok gathered) left = rw is.0 at h in
     no_refusal gathered OutOfMemory ended.0
 
+nonce_refused : (file_key draws : List ℕ) (e : EncryptRefusal) (left : List ℕ) → PreparesNonce file_key (bench_stanza file_key ∷ bench_grease ∷ []) draws (Err e) left
+    → LacksRandom 16 draws e
+nonce_refused file_key draws e left h =
+    let goes_on : List ℕ → List ℕ → Result Prepared EncryptRefusal → List ℕ → Type 0 =
+    λ nonce draws outcome left. UnlessNoMemory (Ends (Ok (prepared_by file_key nonce)) draws outcome left) draws outcome left in
+    elim (short 16 goes_on draws e left h) [
+      | inl few ↦ inr few
+      | inr rest ↦ elim (later {A = Prepared} {P = Ends (Ok (prepared_by file_key (take 16 draws))) (drop 16 draws) (Err e) left} (drop 16 draws) e left rest) [
+        | inl made ↦ no_refusal (prepared_by file_key (take 16 draws)) e (sym made.0)
+        | inr memory ↦ inl memory
+      ]
+    ]
+
+-- the one recipient refuses for want of memory alone
+judged_refused : (file_key draws : List ℕ) (answer : WrapAnswer) (between : List ℕ) (e : EncryptRefusal) (left : List ℕ) → BenchAnswers file_key draws answer between
+    → After (judged nothing_yet answer) (λ more. Ends (Ok more)) between (Err e) left → e ≡ OutOfMemory
+judged_refused file_key draws answer between e left (inl is) h =
+    let ended : After (judged nothing_yet (Ok (bench_wrapped file_key))) (λ more. Ends (Ok more)) draws (Err e) left = rw (is.0, is.1) at h in
+    elim (later {A = Gathered} {P = Ends (Ok (gathered_by file_key)) draws (Err e) left} draws e left ended) [
+      | inl made ↦ no_refusal (gathered_by file_key) e (sym made.0)
+      | inr memory ↦ memory
+    ]
+judged_refused file_key draws answer between e left (inr is) h =
+    let ended : After (judged nothing_yet (Err OutOfMemory)) (λ more. Ends (Ok more)) between (Err e) left = rw is.0 at h in
+    Err-inj ended.0
+
 module _ {R : Type 0} (wraps : R → List ℕ → List ℕ → WrapAnswer → List ℕ → Type 0) (r : R)
     (is_bench : (file_key draws : List ℕ) (answer : WrapAnswer) (left : List ℕ) → wraps r file_key draws answer left → BenchAnswers file_key draws answer left) where
   prepared_with : (file_key draws : List ℕ) (file : Prepared) (left : List ℕ) → PreparesWith wraps (r ∷ []) (Some bench_grease) file_key draws (Ok file) left
@@ -93,3 +155,27 @@ module _ {R : Type 0} (wraps : R → List ℕ → List ℕ → WrapAnswer → Li
   bench_filed draws plain Well Appended (file, left, prepares, well, appended) =
       let (long, is) = prepared draws file left prepares in
       (long, well, rw is at appended)
+
+  refused_with : (file_key draws : List ℕ) (e : EncryptRefusal) (left : List ℕ) → PreparesWith wraps (r ∷ []) (Some bench_grease) file_key draws (Err e) left
+      → LacksRandom 16 draws e
+  refused_with file_key draws e left (Err own, between, wrapped, rest) =
+      let (answer, after, answers, judged) = wrapped in
+      inl (Err-inj rest.0 ∙ judged_refused file_key draws answer after own between (is_bench file_key draws answer after answers) judged)
+  refused_with file_key draws e left (Ok gathered, between, wrapped, rest) =
+      let (answer, after, answers, judged) = wrapped in
+      let (one, same) = judged_one file_key draws answer after gathered between (is_bench file_key draws answer after answers) judged in
+      let rest_of_one : PreparesRest file_key (Some bench_grease) (gathered_by file_key) draws (Err e) left = rw (one, same) at rest in
+      elim (later {A = Prepared} {P = PreparesNonce file_key (bench_stanza file_key ∷ bench_grease ∷ []) draws (Err e) left} draws e left rest_of_one) [
+        | inl nonce ↦ nonce_refused file_key draws e left nonce
+        | inr memory ↦ inl memory
+      ]
+
+  -- and it is refused for want of memory, or of 32 random bytes
+  pub refused : (draws : List ℕ) (e : EncryptRefusal) (left : List ℕ) → Prepares wraps (r ∷ []) (Some bench_grease) draws (Err e) left → LacksRandom 32 draws e
+  refused draws e left h = elim (short 16 (PreparesWith wraps (r ∷ []) (Some bench_grease)) draws e left h) [
+    | inl few ↦ inr (few.0, omega (arith, few.1))
+    | inr rest ↦ elim (refused_with (take 16 draws) (drop 16 draws) e left rest) [
+      | inl memory ↦ inl memory
+      | inr few ↦ inr (few.0, omega (arith, few.1, length-drop 16 draws))
+    ]
+  ]

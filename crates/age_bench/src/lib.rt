@@ -2,7 +2,6 @@
 //! the commands of the program `agebench` as functions over readers and writers.
 #![tactic(auto)]
 
-pub mod error;
 pub mod file;
 pub mod laws;
 pub mod opening;

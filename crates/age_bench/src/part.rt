@@ -1,171 +1,19 @@
 //! The command on a part of a file's plaintext.
-ghost use Rattle.std.specs.Prelude.{◌≡◌, ◌≢◌, ◌⊎◌, ℕ, ◌<◌, ◌≤◌, ◌&&◌, true, ⊤, IsTrue, List, length, take, drop, Some, Ok, IfErr, OnOk, MatchResult};
-ghost use Rattle.age.specs.Refusals.{IsDevice};
-ghost use Rattle.age.specs.ErrorVariants.{PastEnd, OutOfMemory};
-ghost use Rattle.age.specs.SeekFromVariants.{Start};
+ghost use Rattle.std.specs.Prelude.{◌≡◌, ◌⊎◌, ℕ, ◌≤◌, IsTrue, List, IfErr, OnOk};
 ghost use Rattle.age.specs.Reading.{IsQuiet};
-ghost use Rattle.age.specs.StreamTargets.{sought_in};
-ghost use Rattle.age.specs.StreamReader.{payload_of, key_of};
-ghost use Rattle.age.specs.Stretch.{from_place};
-ghost use Rattle.age.specs.Unwrapping.{Unwraps};
-ghost use Rattle.age.specs.Answering.{FirstThatAnswers};
-ghost use Rattle.age.specs.Copying.{AppendsFront, AppendsSome};
-ghost use Rattle.age_bench.specs.Errors.{IsDecryptError, BeginsText};
-ghost use Rattle.age_bench.specs.Parts.{AppendsPart, AppendsOf, StandsAt, IsPartAt, Begins, FirstAnswer, IsFileFor, IsFileForBench};
 ghost use Rattle.age.specs.Armor.{Carries};
-ghost use Rattle.age.specs.Delivered.{delivered, stretch_of};
+ghost use Rattle.age.specs.FileErrors.{IsDecryptError};
+ghost use Rattle.age.specs.Texts.{BeginsText};
+ghost use Rattle.age.specs.Parts.{AppendsPart, AppendsOf};
+ghost use Rattle.age_bench.specs.Files.{StandsAt, IsPartAt, IsFileForBench};
 ghost use Rattle.age_bench.specs.Recipient.{HoldsBenchKey};
 
-use crate::error::CommandError;
-use crate::opening::open_file;
 use crate::recipient::BenchIdentity;
 use crate::suite::BenchSuite;
-use age::Identity;
-use age::armor::ArmoredReader;
-use age::io::{Bytes, Error, Read, Seek, SeekFrom, Write, copy_some, read_to_end};
-use age::stream::StreamReader;
-use age::stream::laws::reader_law;
+use age::io::{Read, Write};
+use age::streaming::{FileError, at};
 use agebench_command::names::With;
 use std::alloc::Global;
-
-/// Seeks to `place`, in bytes from the start of the plaintext, and appends the `count` bytes that stand there to `writer`,
-/// or fewer at the end.
-///
-/// Where the content ends well, a success says that the place is in it, and that exactly these bytes were appended; after
-/// a refusal a beginning of them was. A place after the end is `PastEnd`, and nothing is appended then. The other refusals
-/// of the seek are those of `StreamReader::seek`, and those after it those of `copy_some`.
-pub fn write_part<R: Seek, W: Write>(
-    alloc: Global,
-    stream: &mut StreamReader<BenchSuite, R>,
-    place: u64,
-    count: u64,
-    writer: &mut W,
-) -> Result<(), Error>
-    ensures tells { W.tells writer.new ≡ W.tells writer.old }
-    ensures order { let reader = ⟦<StreamReader<BenchSuite, R> as Read>⟧ in IsTrue (reader.tells stream.old) → OnOk result
-        (sought_in (Start place) (reader.place stream.old) (length (payload_of stream.old).bytes) ≡ Ok place) }
-    // Over a content that ends well.
-    ensures part { let reader = ⟦<StreamReader<BenchSuite, R> as Read>⟧ in IsTrue (reader.tells stream.old) → IsTrue (W.tells writer.old) →
-        IsTrue (reader.content stream.old).ends_well → OnOk result ((place ≤ length (reader.content stream.old).bytes)
-        × W.appended writer.old (take count (drop place (reader.content stream.old).bytes)) writer.new) }
-    ensures front { let reader = ⟦<StreamReader<BenchSuite, R> as Read>⟧ in IsTrue (reader.tells stream.old) → IsTrue (W.tells writer.old) →
-        IsTrue (reader.content stream.old).ends_well →
-        AppendsFront W.appended (take count (drop place (reader.content stream.old).bytes)) writer.old writer.new }
-    ensures past_end { let reader = ⟦<StreamReader<BenchSuite, R> as Read>⟧ in IsTrue (reader.tells stream.old) →
-        IsTrue (reader.content stream.old).ends_well → length (reader.content stream.old).bytes < place →
-        (writer.new ≡ writer.old) × MatchResult result (λ done. ⊥)
-        (λ e. e ≢ OutOfMemory → IsQuiet (reader.faults stream.old) (reader.faults stream.new) → e ≡ PastEnd) }
-    // On any payload: whatever it answers, what is appended stands in the plaintext from the place on, and where it succeeds no byte
-    // of it is missing.
-    ensures standing { let reader = ⟦<StreamReader<BenchSuite, R> as Read>⟧ in IsTrue (reader.tells stream.old) → IsTrue (W.tells writer.old) →
-        AppendsSome W.appended count (StandsAt place (key_of stream.old) (payload_of stream.old)) writer.old writer.new }
-    ensures given { let reader = ⟦<StreamReader<BenchSuite, R> as Read>⟧ in IsTrue (reader.tells stream.old) → IsTrue (W.tells writer.old) → OnOk result
-        (AppendsSome W.appended count (IsPartAt place count (key_of stream.old) (payload_of stream.old)) writer.old writer.new) }
-    // Why it refuses, as far as a writer says why it does.
-    ensures device { let reader = ⟦<StreamReader<BenchSuite, R> as Read>⟧ in IfErr result (λ e. IsDevice e →
-        (reader.faults stream.old < reader.faults stream.new) ⊎ (W.faults writer.old < W.faults writer.new)) }
-{
-    match stream.seek(SeekFrom::Start(place)) {
-        Err(e) => Err(e),
-        Ok(_start) => {
-            reader_law(stream);
-            copy_some(alloc, stream, writer, count)
-        }
-    }
-}
-
-// `write_part` of the bare file that `bytes` gives, decrypted by one of the identities.
-fn at_bytes<I: Identity, T: Seek + Drop, W: Write>(
-    alloc: Global,
-    identities: &mut [I],
-    place: u64,
-    count: u64,
-    bytes: T,
-    writer: &mut W,
-) -> Result<(), CommandError>
-    ensures cursor { IsTrue (T.tells bytes && T.steady bytes) → IsTrue (W.tells writer.old) → IsTrue (T.rest bytes).ends_well → (plain : List ℕ) →
-        IsFileFor (FirstAnswer I.unwraps identities.old) plain (T.rest bytes).bytes →
-        AppendsPart W.appended ((t : T) → T.faults t ≡ 0) place count plain writer.old writer.new result }
-    ensures standing { T.rest bytes ≡ from_place (T.place bytes) (T.content bytes) → IsTrue (T.tells bytes && T.steady bytes) → IsTrue (W.tells writer.old) →
-        (writer.new ≡ writer.old) ⊎ AppendsOf (Begins (T.rest bytes) (T.place bytes))
-        (λ file_key stanzas. FirstThatAnswers (λ identity answer after. Unwraps I.unwraps identity stanzas answer after) identities.old (Some (Ok file_key)) identities.new)
-        W.appended count (StandsAt place) writer.old writer.new }
-    ensures given { T.rest bytes ≡ from_place (T.place bytes) (T.content bytes) → IsTrue (T.tells bytes && T.steady bytes) → IsTrue (W.tells writer.old) → OnOk result (AppendsOf (Begins (T.rest bytes) (T.place bytes))
-        (λ file_key stanzas. FirstThatAnswers (λ identity answer after. Unwraps I.unwraps identity stanzas answer after) identities.old (Some (Ok file_key)) identities.new)
-        W.appended count (IsPartAt place count) writer.old writer.new) }
-    ensures refused { IfErr result (λ e. IsDecryptError e → writer.new ≡ writer.old) }
-{
-    let mut stream = match open_file(alloc, identities, bytes) {
-        Err(e) => return Err(CommandError::Decrypt(e)),
-        Ok(stream) => stream,
-    };
-    match write_part(alloc, &mut stream, place, count, writer) {
-        Err(e) => Err(CommandError::Io(e)),
-        Ok(()) => Ok(()),
-    }
-}
-
-/// Reads a file, bare or armored, to its end into memory, and appends the `count` bytes of its plaintext from `place` on, or
-/// fewer at the end, to `writer`. One of the identities decrypts it.
-///
-/// The seek is by the length of the payload, and only the chunks that hold the bytes are opened. A place after the end of the
-/// plaintext is `PastEnd`. After a refusal a beginning of the bytes was appended, and after one of the header nothing. The
-/// refusals are those of `read_to_end`, of `decrypt_all` for the header, and of `write_part`.
-pub fn at<I: Identity, R: Read, W: Write>(
-    alloc: Global,
-    identities: &mut [I],
-    place: u64,
-    count: u64,
-    reader: &mut R,
-    writer: &mut W,
-) -> Result<(), CommandError>
-    ensures cursor { IsTrue (R.tells reader.old) → IsTrue (W.tells writer.old) → IsTrue (R.rest reader.old).ends_well → (file plain : List ℕ) →
-        Carries (R.rest reader.old).bytes file →
-        IsFileFor (FirstAnswer I.unwraps identities.old) plain file →
-        AppendsPart W.appended (IsQuiet (R.faults reader.old) (R.faults reader.new)) place count plain writer.old writer.new result }
-    // On any input: whatever it answers, nothing was appended before the MAC was found to be right, and then what stands in the
-    // plaintext from the place on; and where it succeeds no byte of it is missing.
-    ensures standing { IsTrue (R.tells reader.old) → IsTrue (W.tells writer.old) → (writer.new ≡ writer.old)
-        ⊎ AppendsOf (BeginsText R.tells R.rest reader.old)
-        (λ file_key stanzas. FirstThatAnswers (λ identity answer after. Unwraps I.unwraps identity stanzas answer after) identities.old (Some (Ok file_key)) identities.new)
-        W.appended count (StandsAt place) writer.old writer.new }
-    ensures given { IsTrue (R.tells reader.old) → IsTrue (W.tells writer.old) → OnOk result (AppendsOf (BeginsText R.tells R.rest reader.old)
-        (λ file_key stanzas. FirstThatAnswers (λ identity answer after. Unwraps I.unwraps identity stanzas answer after) identities.old (Some (Ok file_key)) identities.new)
-        W.appended count (IsPartAt place count) writer.old writer.new) }
-    ensures refused { IfErr result (λ e. IsDecryptError e → writer.new ≡ writer.old) }
-{
-    let mut text = Vec::new(alloc);
-    match read_to_end(alloc, reader, &mut text) {
-        Err(e) => Err(CommandError::Io(e)),
-        Ok(_) => at_text(alloc, identities, place, count, &text, writer),
-    }
-}
-
-// The same of a file, bare or armored, whose text stands in memory.
-fn at_text<I: Identity, W: Write>(
-    alloc: Global,
-    identities: &mut [I],
-    place: u64,
-    count: u64,
-    text: &[u8],
-    writer: &mut W,
-) -> Result<(), CommandError>
-    ensures cursor { IsTrue (W.tells writer.old) → (file plain : List ℕ) → Carries text.now file →
-        IsFileFor (FirstAnswer I.unwraps identities.old) plain file →
-        AppendsPart W.appended ⊤ place count plain writer.old writer.new result }
-    ensures standing { IsTrue (W.tells writer.old) → (writer.new ≡ writer.old) ⊎ AppendsOf (Begins (stretch_of (delivered text.now true)) 0)
-        (λ file_key stanzas. FirstThatAnswers (λ identity answer after. Unwraps I.unwraps identity stanzas answer after) identities.old (Some (Ok file_key)) identities.new)
-        W.appended count (StandsAt place) writer.old writer.new }
-    ensures given { IsTrue (W.tells writer.old) → OnOk result (AppendsOf (Begins (stretch_of (delivered text.now true)) 0)
-        (λ file_key stanzas. FirstThatAnswers (λ identity answer after. Unwraps I.unwraps identity stanzas answer after) identities.old (Some (Ok file_key)) identities.new)
-        W.appended count (IsPartAt place count) writer.old writer.new) }
-    ensures refused { IfErr result (λ e. IsDecryptError e → writer.new ≡ writer.old) }
-{
-    match ArmoredReader::new_buffered(alloc, Bytes::new(text)) {
-        Err(e) => Err(CommandError::Io(e)),
-        Ok(bytes) => at_bytes(alloc, identities, place, count, bytes, writer),
-    }
-}
 
 /// `at` with the identity that a word of the command line names.
 ///
@@ -177,7 +25,7 @@ pub fn at_with<R: Read, W: Write>(
     count: u64,
     reader: &mut R,
     writer: &mut W,
-) -> Result<(), CommandError>
+) -> Result<(), FileError>
     ensures cursor { IsTrue (R.tells reader.old) → IsTrue (W.tells writer.old) → IsTrue (R.rest reader.old).ends_well → (file plain : List ℕ) →
         Carries (R.rest reader.old).bytes file → IsFileForBench plain file →
         AppendsPart W.appended (IsQuiet (R.faults reader.old) (R.faults reader.new)) place count plain writer.old writer.new result }
@@ -188,6 +36,13 @@ pub fn at_with<R: Read, W: Write>(
     ensures refused { IfErr result (λ e. IsDecryptError e → writer.new ≡ writer.old) }
 {
     match with {
-        With::Bench => at(alloc, &mut [BenchIdentity], place, count, reader, writer),
+        With::Bench => at::<BenchSuite, BenchIdentity, R, W>(
+            alloc,
+            &mut [BenchIdentity],
+            place,
+            count,
+            reader,
+            writer,
+        ),
     }
 }

@@ -6,10 +6,10 @@ ghost use Rattle.age.specs.Chunks.{delivered};
 ghost use Rattle.age_bench.specs.Bench.{bench_seal, bench_opened};
 ghost use Rattle.age.specs.Copying.{AppendsFront};
 
-use crate::error::CommandError;
 use crate::suite::BenchSuite;
 use age::io::{Error, Read, Write, copy_all, flush_retrying};
 use age::stream::{StreamReader, StreamWriter};
+use age::streaming::FileError;
 use std::alloc::Global;
 
 /// Reads what `reader` still has, and appends its payload under `key` to `writer`, which is flushed.
@@ -21,7 +21,7 @@ pub fn seal_all<R: Read, W: Write>(
     key: [u8; 32],
     reader: &mut R,
     writer: &mut W,
-) -> Result<(), CommandError>
+) -> Result<(), FileError>
     ensures { IsTrue (R.tells reader.old) → IsTrue (W.tells writer.old) → OnOk result
         (IsTrue (R.rest reader.old).ends_well
         × W.appended writer.old (payload bench_seal key (R.rest reader.old).bytes) writer.new) }
@@ -56,7 +56,7 @@ pub fn open_all<R: Read, W: Write>(
     key: [u8; 32],
     reader: &mut R,
     writer: &mut W,
-) -> Result<(), CommandError>
+) -> Result<(), FileError>
     ensures opened { IsTrue (R.tells reader.old && R.steady reader.old) → IsTrue (W.tells writer.old) → OnOk result
         ((plain : List ℕ) × (R.rest reader.old ≡ whole (payload bench_seal key plain)) × W.appended writer.old plain writer.new) }
     ensures front { IsTrue (R.tells reader.old && R.steady reader.old) → IsTrue (W.tells writer.old) →

@@ -162,6 +162,8 @@ fn at_text<S: Suite, I: Identity, W: Write>(
 {
     match ArmoredReader::new_buffered(alloc, Bytes::new(text)) {
         Err(e) => Err(FileError::Io(e)),
-        Ok(bytes) => at_bytes::<S, I, ArmoredReader<Bytes>, W>(alloc, identities, place, count, bytes, writer),
+        Ok(bytes) => at_bytes::<S, I, ArmoredReader<Bytes>, W>(
+            alloc, identities, place, count, bytes, writer,
+        ),
     }
 }

@@ -1,7 +1,7 @@
 use Rattle.std.proofs.Common.{inl, inr}
 use Rattle.std.proofs.lemmas.Result.{on_ok_weaker, IfErr-weaker}
-use Rattle.age_bench.specs.Errors.{RefusesText, BeginsText}
-use Rattle.age_bench.proofs.Decrypted.{by_cause, decrypts_weaker}
+use Rattle.age.specs.Texts.{RefusesText, BeginsText}
+use Rattle.age.proofs.Decrypted.{by_cause, decrypts_weaker}
 use Rattle.age_bench.proofs.Opened.{for_bench}
 use Rattle.age_bench.proofs.Unwrapped.{key_given, one_refuses}
 use Rattle.age_bench.proofs.file.decrypt_with.Goals as goal

@@ -1,9 +1,9 @@
 use Rattle.std.proofs.lemmas.Result.{on_ok_weaker}
-use Rattle.age_bench.specs.Parts.{StandsAt, IsPartAt}
-use Rattle.age_bench.specs.Errors.{BeginsText}
+use Rattle.age_bench.specs.Files.{StandsAt, IsPartAt}
+use Rattle.age.specs.Texts.{BeginsText}
 use Rattle.age_bench.specs.Recipient.{HoldsBenchKey}
 use Rattle.age_bench.proofs.Opened.{for_bench}
-use Rattle.age_bench.proofs.Standing.{begun, begun-or}
+use Rattle.age.proofs.Standing.{begun, begun-or}
 use Rattle.age_bench.proofs.Unwrapped.{key_given}
 use Rattle.age_bench.proofs.part.at_with.Goals as goal
 
