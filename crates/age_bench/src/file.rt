@@ -113,11 +113,9 @@ pub fn decrypt_with<R: Read, W: Write>(
         (file plain : List ℕ) → Carries (R.rest reader.old).bytes file → IsFileForBench plain file → AppendsFront W.appended plain writer.old writer.new }
 {
     match with {
-        With::Bench => decrypt_all::<BenchSuite, BenchIdentity, R, W>(
-            alloc,
-            &mut [BenchIdentity],
-            reader,
-            writer,
-        ),
+        With::Bench => {
+            let identities = &mut [BenchIdentity];
+            decrypt_all::<BenchSuite, BenchIdentity, R, W>(alloc, identities, reader, writer)
+        }
     }
 }

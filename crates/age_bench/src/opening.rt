@@ -29,11 +29,10 @@ pub fn open_with<T: Read + Drop>(
         MatchResult result (λ stream. StandsBefore plain stream) (λ e. ((t : T) → T.faults t ≡ 0) → decrypt_refusal e ≡ OutOfMemory) }
 {
     match with {
-        With::Bench => open_file::<BenchSuite, BenchIdentity, T>(
-            alloc,
-            &mut [BenchIdentity],
-            bytes,
-        ),
+        With::Bench => {
+            let identities = &mut [BenchIdentity];
+            open_file::<BenchSuite, BenchIdentity, T>(alloc, identities, bytes)
+        }
     }
 }
 
@@ -55,11 +54,9 @@ pub fn answers_with<R: Seek + Drop>(
         MatchResult result (λ answers. All IsNoWant answers.items → map seen answers.items ≡ replies ops.now plain 0) IsWant }
 {
     match with {
-        With::Bench => answers::<BenchSuite, BenchIdentity, R>(
-            alloc,
-            &mut [BenchIdentity],
-            ops,
-            reader,
-        ),
+        With::Bench => {
+            let identities = &mut [BenchIdentity];
+            answers::<BenchSuite, BenchIdentity, R>(alloc, identities, ops, reader)
+        }
     }
 }

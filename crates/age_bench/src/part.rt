@@ -36,13 +36,9 @@ pub fn at_with<R: Read, W: Write>(
     ensures refused { IfErr result (λ e. IsDecryptError e → writer.new ≡ writer.old) }
 {
     match with {
-        With::Bench => at::<BenchSuite, BenchIdentity, R, W>(
-            alloc,
-            &mut [BenchIdentity],
-            place,
-            count,
-            reader,
-            writer,
-        ),
+        With::Bench => {
+            let identities = &mut [BenchIdentity];
+            at::<BenchSuite, BenchIdentity, R, W>(alloc, identities, place, count, reader, writer)
+        }
     }
 }

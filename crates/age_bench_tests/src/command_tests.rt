@@ -1,7 +1,7 @@
 //! What the commands write, and their refusals. The sealed bytes are those of HMAC in Python.
 
 use age::io::{Bytes, Error, ErrorKind};
-use age_bench::error::CommandError;
+use age::streaming::FileError;
 use age_bench::payload::{open_all, seal_all};
 use age_bench::suite::BenchSuite;
 use age_try::fixtures::{KEY, plaintext};
@@ -121,12 +121,9 @@ fn a_refusal_of_a_command_has_its_text(rt: HostRuntime) -> Result<(), Fail> {
         ),
         (Error::OutOfMemory, "out of memory"),
     ] {
+        assert_eq!(rt; FileError::Io(error).to_string(rt.alloc())?.as_str(), text);
         assert_eq!(rt;
-            CommandError::Io(error).to_string(rt.alloc())?.as_str(),
-            text
-        );
-        assert_eq!(rt;
-            CommandError::from(error).to_string(rt.alloc())?.as_str(),
+            FileError::from(error).to_string(rt.alloc())?.as_str(),
             text
         );
     }

@@ -3,8 +3,9 @@
 use age::armor::Format;
 use age::format::Grease;
 use age::io::{Bytes, read_to_end, write_all};
+use age::streaming::{decrypt_all, encrypt_all};
 use age::{Decryptor, Encryptor, Identity, Recipient};
-use age_bench::file::{decrypt_all, decrypt_with, encrypt_all, encrypt_to};
+use age_bench::file::{decrypt_with, encrypt_to};
 use age_bench::recipient::{BenchIdentity, BenchRecipient};
 use age_bench::suite::BenchSuite;
 use age_try::fixtures::{MESSAGE, SEALED, empty_stanza, message_file, zeros};
@@ -61,13 +62,17 @@ fn encrypts(
 ) -> Result<(), Fail> {
     let mut recipients: Vec<Box<dyn Recipient>> = Vec::new(alloc);
     recipients.push(Box::new(alloc, BenchRecipient)?)?;
-    let draw = zeros(alloc, random)?;
+    let Some(grease) = empty_stanza(alloc, "agebench-grease")?.and_then(Grease::new) else {
+        return Err(Fail::from("no grease"));
+    };
+    let mut draw = zeros(alloc, random)?;
     let mut file = Vec::new(alloc);
     let mut input = Bytes::new(plain);
-    match encrypt_all(
+    match encrypt_all::<BenchSuite, Box<dyn Recipient>, Bytes, Vec<u8>>(
         alloc,
         &recipients,
-        draw,
+        &mut draw,
+        grease,
         Format::Binary,
         &mut input,
         &mut file,
@@ -125,7 +130,12 @@ fn is_refused(rt: &impl Abort, alloc: Global, file: &[u8], expected: &str) -> Re
     let mut identities: Vec<Box<dyn Identity>> = Vec::new(alloc);
     identities.push(Box::new(alloc, BenchIdentity)?)?;
     let mut plain = Vec::new(alloc);
-    match decrypt_all(alloc, &mut identities, &mut Bytes::new(file), &mut plain) {
+    match decrypt_all::<BenchSuite, Box<dyn Identity>, Bytes, Vec<u8>>(
+        alloc,
+        &mut identities,
+        &mut Bytes::new(file),
+        &mut plain,
+    ) {
         Ok(()) => return Err(Fail::from("decrypted")),
         Err(error) => assert_eq!(rt; error.to_string(alloc)?.as_str(), expected),
     }

@@ -3,8 +3,8 @@
 use age::armor::Format;
 use age::format::Grease;
 use age::io::{Bytes, Error, read_to_end};
+use age::streaming::FileError;
 use age::{DecryptError, Decryptor, decrypt, encrypt, encrypt_and_armor};
-use age_bench::error::CommandError;
 use age_bench::file::{decrypt_with, encrypt_to};
 use age_bench::recipient::{BenchIdentity, BenchRecipient};
 use age_bench::suite::BenchSuite;
@@ -136,7 +136,7 @@ fn fewer_than_36_bytes_end_early(rt: HostRuntime) -> Result<(), Fail> {
         is_refused(&rt, alloc, file, "input ended early")?;
         let mut plain = Vec::new(alloc);
         match decrypt_with(alloc, With::Bench, &mut Bytes::new(file), &mut plain) {
-            Err(CommandError::Decrypt(DecryptError::Io(error))) => {
+            Err(FileError::Decrypt(DecryptError::Io(error))) => {
                 assert_eq!(rt; error, Error::UnexpectedEof);
             }
             _ => return Err(Fail::from("another answer")),

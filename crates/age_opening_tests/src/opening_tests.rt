@@ -3,7 +3,7 @@
 use age::DecryptError;
 use age::armor::Format;
 use age::io::{Answer, Bytes, Error, Op, SeekFrom, run};
-use age_bench::error::CommandError;
+use age::streaming::FileError;
 use age_bench::file::encrypt_to;
 use age_bench::opening::answers_with;
 use age_try::fixtures::{armored_texts, message_file, plaintext, zeros};
@@ -93,7 +93,7 @@ fn what_is_no_file_for_the_identity_is_refused(rt: HostRuntime) -> Result<(), Fa
         (other.as_slice(), DecryptError::NoMatchingKeys),
     ] {
         match answers_with(alloc, With::Bench, &OPS, Bytes::new(text)) {
-            Err(CommandError::Decrypt(error)) => {
+            Err(FileError::Decrypt(error)) => {
                 assert_eq!(rt; error.to_string(alloc)?, expected.to_string(alloc)?);
             }
             _ => return Err(Fail::from("another answer")),

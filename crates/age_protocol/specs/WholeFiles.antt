@@ -1,5 +1,5 @@
 -- What the calls on whole files answer.
-use Rattle.std.specs.Prelude.{◌≡◌, ◌≢◌, ◌⊎◌, ℕ, ◌^◌, ◌<◌, ◌≤◌, true, List, length, Some, Result, Ok, Err, MatchResult}
+use Rattle.std.specs.Prelude.{◌≡◌, ◌≢◌, ◌⊎◌, ℕ, ◌^◌, ◌<◌, ◌≤◌, true, List, length, IsTrue, Some, Result, Ok, Err, MatchResult}
 use Rattle.age_error.specs.Bytes.{AreBytes}
 use Rattle.age_error.specs.Refusals.{IsDevice}
 use Rattle.age_error.specs.DecryptErrors.{DecryptRefusal, InvalidMac, OutOfMemory, decrypt_refusal, decrypt_of_io, IsDeviceRefusal}
@@ -7,7 +7,9 @@ use Rattle.age_error.specs.EncryptErrors.{EncryptRefusal, encrypt_refusal, encry
 use Rattle.age_error.specs.declared.io.Error.{Error}
 use Rattle.age_error.specs.declared.io.Error.TheVariants as io
 use Rattle.age_io.specs.Stretch.{Stretch, whole}
+use Rattle.age_armor.specs.declared.format.Format.{Format}
 use Rattle.age_armor.specs.Armor.{Carries}
+use Rattle.age_armor.specs.Writing.{text_of}
 use Rattle.age_armor.specs.Delivered.{delivered, stretch_of}
 use Rattle.age_format.specs.Stanza.{StanzaValue}
 use Rattle.age_format.specs.HeaderV1.{HeaderValue, header_mac}
@@ -34,6 +36,14 @@ pub record IsWritten (seal_of : Seal) (form : List ℕ → List ℕ) (plain : Li
   pub text : written ≡ form (file_text seal_of file.file_key file.stanzas file.nonce plain)
   pub carries : Carries written (file_text seal_of file.file_key file.stanzas file.nonce plain)
   pub is_file : IsFileOf seal_of file.file_key file.stanzas plain (file_text seal_of file.file_key file.stanzas file.nonce plain)
+
+-- Between two states of a writer the file of all that was left of an input was appended, in this form, and the input ended well.
+-- By the definition that decryptors are proved by it is a file, and the text in either form carries it.
+pub record AppendsFile {W : Type 0} (seal_of : Seal) (appended : W → List ℕ → W → Type 0) (format : Format) (file : Prepared) (input : Stretch) (old new : W) : Type 0 where
+  pub ended : IsTrue input.ends_well
+  pub is_file : IsFileOf seal_of file.file_key file.stanzas input.bytes (file_text seal_of file.file_key file.stanzas file.nonce input.bytes)
+  pub carries : let text = file_text seal_of file.file_key file.stanzas file.nonce input.bytes in AreBytes input.bytes → Carries (text_of format text) text
+  pub out : appended old (text_of format (file_text seal_of file.file_key file.stanzas file.nonce input.bytes)) new
 
 -- What an encryption answers once the recipient has: the recipient's refusal, or the file that its answer makes.
 abbrev pub Encrypts : Seal → (List ℕ → List ℕ) → List ℕ → Result Prepared EncryptRefusal → Result (List ℕ) EncryptRefusal → Type 0

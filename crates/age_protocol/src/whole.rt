@@ -4,22 +4,23 @@ ghost use Rattle.age_error.specs.DecryptErrors.{OutOfMemory};
 ghost use Rattle.age_io.specs.Stretch.{Stretch};
 ghost use Rattle.age_io.specs.Copying.{AppendsFront};
 ghost use Rattle.age_armor.specs.Armor.{Carries};
-ghost use Rattle.age_armor.specs.Writing.{text_of};
 ghost use Rattle.age_format.specs.HeaderV1.{HeaderValue, header_mac};
 ghost use Rattle.age_format.specs.Stanza.{StanzaValue};
 ghost use Rattle.age_format.specs.Unwrapping.{UnwrapAnswer, Unwraps};
 ghost use Rattle.age_stream.specs.Chunks.{delivered};
 ghost use Rattle.age_protocol.specs.Encrypting.{Prepared, Prepares};
-ghost use Rattle.age_protocol.specs.File.{file_text, IsFileOf, payload_key};
+ghost use Rattle.age_protocol.specs.File.{IsFileOf, payload_key};
 ghost use Rattle.age_protocol.specs.Answering.{FirstThatAnswers, decided};
+ghost use Rattle.age_protocol.specs.WholeFiles.{AppendsFile};
 ghost use Rattle.age_protocol.specs.FileErrors.{IsEncryptError, IsDecryptError, EncryptsUnless, DecryptsUnless};
 ghost use Rattle.age_protocol.specs.Texts.{RefusesText, BeginsText, RefusesKey};
 ghost use Rattle.age_protocol.specs.Parts.{FirstAnswer, IsFileFor};
 
 use crate::encryptor::Encryptor;
 use crate::error::FileError;
+use crate::laws::files_carry_themselves;
 use crate::opening::open_file;
-use age_armor::{ArmoredReader, ArmoredWriter, Format};
+use age_armor::{ArmoredReader, ArmoredWriter, Format, armor_is_carrying};
 use age_format::{Grease, Identity, Recipient};
 use age_io::{BufReader, Read, Write, copy_all, flush_retrying};
 use age_suite::draw::Draw;
@@ -46,8 +47,7 @@ pub fn encrypt_all<S: Suite, T: Recipient, R: Read, W: Write>(
     ensures file { IsTrue (R.tells reader.old) → IsTrue (W.tells writer.old) → OnOk result
         ((file : Prepared)
         × Prepares T.wraps recipients.now (Some grease) draw.old (Ok file) draw.new
-        × IsTrue (R.rest reader.old).ends_well
-        × W.appended writer.old (text_of format (file_text S.seal_of file.file_key file.stanzas file.nonce (R.rest reader.old).bytes)) writer.new) }
+        × AppendsFile S.seal_of W.appended format file (R.rest reader.old) writer.old writer.new) }
     ensures refused { IfErr result (λ e. IsEncryptError e → (reader.new ≡ reader.old) × (writer.new ≡ writer.old)) }
     ensures why { IfErr result (EncryptsUnless (λ refusal. Prepares T.wraps recipients.now (Some grease) draw.old (Err refusal) draw.new)) }
 {
@@ -64,10 +64,12 @@ fn write_file<S: Suite, R: Read, W: Write + Drop>(
     reader: &mut R,
     writer: W,
 ) -> Result<W, FileError>
-    ensures file { IsTrue (R.tells reader.old) → IsTrue (W.tells writer) → IfOk result (λ out. IsTrue (R.rest reader.old).ends_well
-        × W.appended writer (text_of format (file_text S.seal_of encryptor.file_key encryptor.stanzas encryptor.nonce (R.rest reader.old).bytes)) out) }
+    ensures file { IsTrue (R.tells reader.old) → IsTrue (W.tells writer) →
+        IfOk result (AppendsFile S.seal_of W.appended format encryptor (R.rest reader.old) writer) }
     ensures later { IfErr result (λ e. IsEncryptError e → ⊥) }
 {
+    files_carry_themselves::<S>();
+    armor_is_carrying();
     let armored = ArmoredWriter::wrap_output(alloc, writer, format)?;
     let mut stream = encryptor.wrap_output(alloc, armored)?;
     copy_all(alloc, reader, &mut stream)?;

@@ -1,4 +1,2 @@
 pub mod Keys
-pub mod Files
-pub mod Refusals
 pub mod Own

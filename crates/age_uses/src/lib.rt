@@ -1,8 +1,6 @@
 //! Uses of `age`, each proved from what `age` says in public: what a caller writes over any suite, and what it is worth.
 #![tactic(auto)]
 
-pub mod error;
-pub mod opening;
 pub mod own;
 pub mod parts;
 pub mod streams;

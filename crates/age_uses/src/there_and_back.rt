@@ -2,11 +2,11 @@
 ghost use Rattle.std.specs.Prelude.{◌≡◌, IfOk, Some};
 ghost use Rattle.age_uses.specs.Keys.{GiveKeysBack};
 
-use crate::error::Error;
 use age::draw::Draw;
 use age::format::Grease;
 use age::io::{Bytes, read_to_end, write_all};
 use age::laws::one_plaintext;
+use age::streaming::FileError;
 use age::suite::Suite;
 use age::suite::laws::known_bytes;
 use age::{Decryptor, Encryptor, Identity, Recipient};
@@ -25,7 +25,7 @@ pub fn there_and_back<S: Suite>(
     draw: &mut Draw,
     grease: Grease,
     plain: &[u8],
-) -> Result<Vec<u8>, Error>
+) -> Result<Vec<u8>, FileError>
     ensures { GiveKeysBack ⟦<Box<dyn Recipient> as Recipient>⟧.wraps ⟦<Box<dyn Identity> as Identity>⟧.unwraps
         recipients.now grease identities.old → IfOk result (λ back. back.items ≡ plain.now) }
 {

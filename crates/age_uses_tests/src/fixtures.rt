@@ -1,7 +1,7 @@
 //! What the tests share.
 
 use age::format::{Grease, Stanza};
-use age_uses::error::Error;
+use age::streaming::FileError;
 use std::alloc::{AllocError, Global};
 use std::test::Fail;
 
@@ -42,8 +42,8 @@ fn file_after(alloc: Global, header: &[u8]) -> Result<Vec<u8>, AllocError> {
     Ok(file)
 }
 
-/// A use's answer, where it isn't refused.
-pub fn done<T>(answer: Result<T, Error>) -> Result<T, Fail> {
+/// An answer, where it isn't refused.
+pub fn done<T>(answer: Result<T, FileError>) -> Result<T, Fail> {
     match answer {
         Ok(value) => Ok(value),
         Err(_) => Err(Fail::from("refused")),

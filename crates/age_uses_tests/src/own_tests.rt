@@ -5,10 +5,9 @@ use age::DecryptError;
 use age::armor::Format;
 use age::draw::Draw;
 use age::io::Bytes;
+use age::streaming::{FileError, decrypt_all, encrypt_all};
 use age_bench::suite::BenchSuite;
-use age_uses::error::Error;
 use age_uses::own::{OwnIdentity, OwnRecipient};
-use age_uses::streams::{decrypt_stream, encrypt_stream};
 use std::alloc::Global;
 use std::test::Fail;
 
@@ -17,25 +16,26 @@ fn the_message_is_encrypted_to_own(rt: HostRuntime) -> Result<(), Fail> {
     let alloc = rt.alloc();
     let mut draw = Draw::new(vec![in alloc; 0; 32]?);
     let mut input = Bytes::new(MESSAGE);
-    let file = done(encrypt_stream::<BenchSuite, OwnRecipient, Bytes, Vec<u8>>(
+    let mut file = Vec::new(alloc);
+    done(encrypt_all::<BenchSuite, OwnRecipient, Bytes, Vec<u8>>(
         alloc,
         &[OwnRecipient],
         &mut draw,
         grease(alloc)?,
         Format::Binary,
         &mut input,
-        Vec::new(alloc),
+        &mut file,
     ))?;
     let expected = own_file(alloc)?;
     assert!(rt; file.as_slice() == expected.as_slice());
     Ok(())
 }
 
-fn decrypted(alloc: Global, file: &[u8], plain: &mut Vec<u8>) -> Result<(), Error> {
-    decrypt_stream::<BenchSuite, OwnIdentity, Bytes, Vec<u8>>(
+fn decrypted(alloc: Global, file: &[u8], plain: &mut Vec<u8>) -> Result<(), FileError> {
+    decrypt_all::<BenchSuite, OwnIdentity, Bytes, Vec<u8>>(
         alloc,
         &mut [OwnIdentity],
-        Bytes::new(file),
+        &mut Bytes::new(file),
         plain,
     )
 }
@@ -50,7 +50,7 @@ fn the_message_is_decrypted_by_own_alone(rt: HostRuntime) -> Result<(), Fail> {
     let mut none = Vec::new(alloc);
     let other = message_file(alloc)?;
     match decrypted(alloc, &other, &mut none) {
-        Err(Error::Decrypt(error)) => {
+        Err(FileError::Decrypt(error)) => {
             let expected = DecryptError::NoMatchingKeys.to_string(alloc)?;
             assert_eq!(rt; error.to_string(alloc)?.as_str(), expected.as_str());
         }

@@ -2,14 +2,14 @@
 
 use crate::fixtures::{ARMORED, MESSAGE, done, message_file};
 use age::io::{Answer, Bytes, Error, Op, SeekFrom};
+use age::streaming::{FileError, answers};
 use age_bench::recipient::BenchIdentity;
 use age_bench::suite::BenchSuite;
-use age_uses::error::Error as UseError;
-use age_uses::parts::{answers_of, part_of};
+use age_uses::parts::part_of;
 use std::alloc::Global;
 use std::test::Fail;
 
-fn part(alloc: Global, place: u64, count: usize, text: &[u8]) -> Result<Vec<u8>, UseError> {
+fn part(alloc: Global, place: u64, count: usize, text: &[u8]) -> Result<Vec<u8>, FileError> {
     part_of::<BenchSuite, BenchIdentity, Bytes>(
         alloc,
         &mut [BenchIdentity],
@@ -35,7 +35,7 @@ fn parts_of_the_message_are_read(rt: HostRuntime) -> Result<(), Fail> {
         );
         assert_eq!(rt; done(part(alloc, 36, 1, text))?.len(), 0);
         match part(alloc, 37, 1, text) {
-            Err(UseError::Io(error)) => assert_eq!(rt; error, Error::PastEnd),
+            Err(FileError::Io(error)) => assert_eq!(rt; error, Error::PastEnd),
             _ => return Err(Fail::from("another answer")),
         }
     }
@@ -70,13 +70,13 @@ fn reads_and_seeks_are_answered(rt: HostRuntime) -> Result<(), Fail> {
         Op::Seek(SeekFrom::Start(37)),
     ];
     for text in [file.as_slice(), ARMORED] {
-        let answers = done(answers_of::<BenchSuite, BenchIdentity, Bytes>(
+        let answered = done(answers::<BenchSuite, BenchIdentity, Bytes>(
             alloc,
             &mut [BenchIdentity],
             &ops,
             Bytes::new(text),
         ))?;
-        let [first, second, third, fourth, fifth] = answers.as_slice() else {
+        let [first, second, third, fourth, fifth] = answered.as_slice() else {
             return Err(Fail::from("not five answers"));
         };
         assert!(rt;

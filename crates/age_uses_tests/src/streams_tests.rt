@@ -4,9 +4,9 @@ use crate::fixtures::{ARMORED, MESSAGE, done, grease, message_file};
 use age::armor::Format;
 use age::draw::Draw;
 use age::io::Bytes;
+use age::streaming::{decrypt_all, encrypt_all};
 use age_bench::recipient::{BenchIdentity, BenchRecipient};
 use age_bench::suite::BenchSuite;
-use age_uses::streams::{decrypt_stream, encrypt_stream};
 use std::alloc::Global;
 use std::test::Fail;
 
@@ -14,15 +14,17 @@ use std::test::Fail;
 fn encrypted(alloc: Global, format: Format) -> Result<Vec<u8>, Fail> {
     let mut draw = Draw::new(vec![in alloc; 0; 32]?);
     let mut input = Bytes::new(MESSAGE);
-    done(encrypt_stream::<BenchSuite, BenchRecipient, Bytes, Vec<u8>>(
+    let mut file = Vec::new(alloc);
+    done(encrypt_all::<BenchSuite, BenchRecipient, Bytes, Vec<u8>>(
         alloc,
         &[BenchRecipient],
         &mut draw,
         grease(alloc)?,
         format,
         &mut input,
-        Vec::new(alloc),
-    ))
+        &mut file,
+    ))?;
+    Ok(file)
 }
 
 #[test]
@@ -40,10 +42,10 @@ fn the_message_is_decrypted(rt: HostRuntime) -> Result<(), Fail> {
     let file = message_file(alloc)?;
     for text in [file.as_slice(), ARMORED] {
         let mut plain = Vec::new(alloc);
-        done(decrypt_stream::<BenchSuite, BenchIdentity, Bytes, Vec<u8>>(
+        done(decrypt_all::<BenchSuite, BenchIdentity, Bytes, Vec<u8>>(
             alloc,
             &mut [BenchIdentity],
-            Bytes::new(text),
+            &mut Bytes::new(text),
             &mut plain,
         ))?;
         assert_eq!(rt; plain.as_slice(), MESSAGE);

@@ -2,10 +2,10 @@
 
 use crate::fixtures::{MESSAGE, done, grease};
 use age::draw::Draw;
+use age::streaming::FileError;
 use age::{DecryptError, Identity, Recipient};
 use age_bench::recipient::{BenchIdentity, BenchRecipient};
 use age_bench::suite::BenchSuite;
-use age_uses::error::Error;
 use age_uses::there_and_back::there_and_back;
 use std::test::Fail;
 
@@ -44,7 +44,7 @@ fn without_an_identity_nothing_comes_back(rt: HostRuntime) -> Result<(), Fail> {
         grease(alloc)?,
         MESSAGE,
     ) {
-        Err(Error::Decrypt(error)) => {
+        Err(FileError::Decrypt(error)) => {
             let expected = DecryptError::NoMatchingKeys.to_string(alloc)?;
             assert_eq!(rt; error.to_string(alloc)?.as_str(), expected.as_str());
         }

@@ -3,7 +3,7 @@
 
 use age::draw::Draw;
 use age::io::{Error, Std};
-use age_bench::error::CommandError;
+use age::streaming::FileError;
 use age_bench::file::{decrypt_with, encrypt_to};
 use age_bench::part::at_with;
 use age_bench::payload::{open_all, seal_all};
@@ -15,11 +15,11 @@ const USAGE: &str =
     "usage: agebench seal|open KEY, encrypt TO DRAW [armor], decrypt WITH, at WITH PLACE COUNT, keygen DRAW";
 
 // The words after the program's name, or `None` where one is no text.
-fn arguments(rt: &HostRuntime) -> Result<Option<Vec<String>>, CommandError> {
+fn arguments(rt: &HostRuntime) -> Result<Option<Vec<String>>, FileError> {
     let all = match env::args(rt) {
         Ok(all) => all,
         Err(error) if error.kind() == io::ErrorKind::OutOfMemory => {
-            return Err(CommandError::Io(Error::OutOfMemory));
+            return Err(FileError::Io(Error::OutOfMemory));
         }
         Err(_) => return Ok(None),
     };
@@ -27,23 +27,21 @@ fn arguments(rt: &HostRuntime) -> Result<Option<Vec<String>>, CommandError> {
     for word in all.skip(1) {
         words
             .push(word)
-            .map_err(|_| CommandError::Io(Error::OutOfMemory))?;
+            .map_err(|_| FileError::Io(Error::OutOfMemory))?;
     }
     Ok(Some(words))
 }
 
 // What the words ask for, or `None` where they are no command line.
-fn asked(rt: &HostRuntime) -> Result<Option<Command>, CommandError> {
+fn asked(rt: &HostRuntime) -> Result<Option<Command>, FileError> {
     match arguments(rt)? {
-        Some(words) => {
-            parse(rt.alloc(), &words).map_err(|_| CommandError::Io(Error::OutOfMemory))
-        }
+        Some(words) => { parse(rt.alloc(), &words).map_err(|_| FileError::Io(Error::OutOfMemory)) }
         None => Ok(None),
     }
 }
 
 // Runs a command from standard input to standard output.
-fn run(rt: &HostRuntime, command: Command) -> Result<(), CommandError> {
+fn run(rt: &HostRuntime, command: Command) -> Result<(), FileError> {
     let mut input = Std::new(rt.reader());
     let mut output = Std::new(io::writer(rt));
     match command {

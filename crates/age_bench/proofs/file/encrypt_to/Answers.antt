@@ -14,10 +14,10 @@ returns-clause-file g c = λ reader_told writer_told.
     let rest = g.R.Read.rest c.args.reader.now in
     on_ok_weaker c.encrypt_all.result
     (λ done.
-    let (file, prepares, well, appended) = done in
+    let (file, prepares, made) = done in
     bench_filed {R = ⊤} (λ one. BenchAnswers) tt (λ file_key draws answer left h. h) c.args.draw rest.bytes (IsTrue rest.ends_well)
     (λ text. g.W.Write.appended c.args.writer.now (text_of c.args.format text) c.encrypt_all.new.writer)
-    (file, _, rw c.in_ok-grease.ensures.value at prepares, well, appended))
+    (file, _, rw c.in_ok-grease.ensures.value at prepares, made.ended, made.out))
     (c.encrypt_all.ensures.file reader_told writer_told)
 
 pub returns-clause-why : goal.returns-clause-why

@@ -1,8 +1,17 @@
-use Rattle.std.proofs.Common.{◌≡◌, ◌∙◌, [], true, Ok, ap}
+use Rattle.std.proofs.Common.{◌≡◌, ◌∙◌, ℕ, List, [], true, Ok, ap}
+use Rattle.age_error.specs.Bytes.{AreBytes}
+use Rattle.age_armor.specs.Armor.{armor, Carries}
+use Rattle.age_armor.specs.declared.format.Format.{Format}
+use Rattle.age_armor.specs.declared.format.Format.TheVariants.{Binary, AsciiArmor}
 use Rattle.std.proofs.lemmas.List.{append-nil}
 use Rattle.age_armor.specs.Writing.{inner_of, text_of}
 use Rattle.age_protocol.specs.File.{file_text}
 use Rattle.age_protocol.proofs.whole.write_file.Goals as goal
+
+-- either form of the text carries it
+carried_by : (format : Format) (text : List ℕ) → AreBytes text → (AreBytes text → Carries text text) → (AreBytes text → Carries (armor text) text) → Carries (text_of format text) text
+carried_by Binary text bytes itself armored = itself bytes
+carried_by AsciiArmor text bytes itself armored = armored bytes
 
 pub returns-clause-file : goal.returns-clause-file
 returns-clause-file g c = λ reader_told writer_told.
@@ -23,4 +32,10 @@ returns-clause-file g c = λ reader_told writer_told.
     done.ok sealed_told _ _ text _ (made.made writer_told) filed in
     let flushed = c.in_ok-flush_retrying.ensures.flushes in
     let nothing : g.W.Write.appended c.in_ok-out.out [] c.flush_retrying.new.writer = flushed.nothing (done.same_tells ∙ sealed_told) in
-    (all.0, rw append-nil at (g.met.W.Write.joins _ _ _ (text_of c.args.format text) [] written nothing))
+    record {
+      ended = all.0;
+      is_file = started.is_file (g.R.Read.rest c.args.reader.now).bytes;
+      carries = λ bytes. carried_by c.args.format text (started.bytes (g.R.Read.rest c.args.reader.now).bytes bytes)
+          (λ are. c.files_carry_themselves.ensures _ _ _ text are (started.is_file (g.R.Read.rest c.args.reader.now).bytes)) (λ are. c.armor_is_carrying.ensures.itself text are);
+      out = rw append-nil at (g.met.W.Write.joins _ _ _ (text_of c.args.format text) [] written nothing);
+    }
