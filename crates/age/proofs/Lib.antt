@@ -13,4 +13,5 @@ pub use Rattle.age_protocol.proofs.Opened
 pub use Rattle.age_protocol.proofs.OneFile
 pub use Rattle.age_protocol.proofs.Files
 pub use Rattle.age_protocol.proofs.Decrypted
+pub use Rattle.age_protocol.proofs.OpenedFor
 pub use Rattle.age_protocol.proofs.Standing

@@ -1,7 +1,9 @@
-use Rattle.std.proofs.Common.{◌≡◌, ◌∙◌, ap, inl, arith, length}
+use Rattle.std.proofs.Common.{◌≡◌, ◌∙◌, ap, inl, inr, arith, length}
+use Rattle.age.specs.FileErrorVariants.{Io}
+use Rattle.age.proofs.Decrypted.{by_cause}
 use Rattle.age.specs.StreamReader.{content_of, place_of}
 use Rattle.age.proofs.Delivering.{refilled}
-use Rattle.age_uses.proofs.Opened.{never_fails}
+use Rattle.age.proofs.OpenedFor.{never_fails}
 use Rattle.age_uses.proofs.Places.{part_is, refusal_is}
 use Rattle.age_uses.proofs.parts.part_of.Goals as goal
 
@@ -12,9 +14,10 @@ pub returns-in-Err-read_at : goal.returns-in-Err-read_at
 returns-in-Err-read_at g c = λ told well never file plain carries for.
     let stream = c.in-Ok.stream in
     let stands = c.in-Ok.ensures.plaintext told well file plain carries for in
-    refusal_is c.in-Err-read_at.error c.args.place (place_of stream) (content_of stream) plain stands.place stands.content
+    by_cause inl (λ past. inr (ap Io past.0, past.1))
+    (refusal_is c.in-Err-read_at.error c.args.place (place_of stream) (content_of stream) plain stands.place stands.content
     (λ other. c.in-Err-read_at.ensures.cause (c.in-Ok.ensures.tells ∙ told) (ap (λ s. s.ends_well) stands.content) other
-    (never_fails (λ s. g.R.Read.faults s.inner.source.inner.inner) stream c.read_at.new.self (λ t. never t.inner.source.inner.inner)))
+    (never_fails (λ s. g.R.Read.faults s.inner.source.inner.inner) stream c.read_at.new.self (λ t. never t.inner.source.inner.inner))))
 
 pub returns : goal.returns
 returns g c = λ told well never file plain carries for.
