@@ -135,6 +135,7 @@ impl<R: BufRead> Read for ArmoredReader<R> {
 
 impl<R: BufRead> ArmoredReader<R> {
     ghost use Rattle.age_armor.specs.Reader.{inner_of, has_failed, has_armor, outcome_of, text_outcome_of, armored_content, place_of, armored_rest, shown_of};
+    ghost use Rattle.age_armor.specs.Seeking.{text_outcome};
 
     /// A reader of what the text carries that begins where `inner` stands.
     ///
@@ -148,6 +149,7 @@ impl<R: BufRead> ArmoredReader<R> {
         ensures place { IfOk result (λ r. place_of r ≡ 0) }
         ensures content { IfOk result (λ r. armored_content r ≡ content_of (R.Read.content inner) (R.Read.place inner)) }
         ensures outcome { IfOk result (λ r. outcome_of r ≡ delivered (R.Read.rest inner).bytes (R.Read.rest inner).ends_well) }
+        ensures text { IfOk result (λ r. text_outcome_of r ≡ text_outcome (R.Read.content inner) (R.Read.place inner)) }
         ensures rest { IfOk result (λ r. armored_rest r ≡ stretch_of (delivered (R.Read.rest inner).bytes (R.Read.rest inner).ends_well)) }
 
         // What it delivers to a clean end is what the inner reader's rest carries, and the other way.
@@ -390,7 +392,8 @@ impl<R: BufRead> BufRead for ArmoredReader<R> {
 }
 
 impl<R: Read> ArmoredReader<BufReader<R>> {
-    ghost use Rattle.age_armor.specs.Reader.{has_failed, outcome_of, armored_content, place_of, armored_rest, shown_of};
+    ghost use Rattle.age_armor.specs.Reader.{has_failed, outcome_of, text_outcome_of, armored_content, place_of, armored_rest, shown_of};
+    ghost use Rattle.age_armor.specs.Seeking.{text_outcome};
 
     /// A reader of what the text carries that begins where `inner` stands, over a buffer of its own.
     ///
@@ -406,6 +409,7 @@ impl<R: Read> ArmoredReader<BufReader<R>> {
         ensures place { IfOk result (λ r. place_of r ≡ 0) }
         ensures content { IfOk result (λ r. armored_content r ≡ content_of (R.content inner) (R.place inner)) }
         ensures outcome { IfOk result (λ r. outcome_of r ≡ delivered (R.rest inner).bytes (R.rest inner).ends_well) }
+        ensures text { IfOk result (λ r. text_outcome_of r ≡ text_outcome (R.content inner) (R.place inner)) }
         ensures rest { IfOk result (λ r. armored_rest r ≡ stretch_of (delivered (R.rest inner).bytes (R.rest inner).ends_well)) }
         ensures carries { IsTrue (R.tells inner) → IfOk result (λ r. IsTrue (armored_rest r).ends_well →
             IsTrue (R.rest inner).ends_well × (AreBytes (R.rest inner).bytes → Carries (R.rest inner).bytes (armored_rest r).bytes)) }

@@ -6,7 +6,7 @@ ghost use Rattle.age_error.specs.declared.io.SeekFrom.TheVariants.{Start, End, C
 ghost use Rattle.age_io.specs.Stretch.{Stretch, nothing, from_place, IsCleanEnd};
 ghost use Rattle.age_io.specs.Reading.{IsQuiet, most_faults};
 ghost use Rattle.age_io.specs.Cursor.{Seeks, IsOutside, place_at as place_by, sought as sought_by};
-ghost use Rattle.age_armor.specs.Seeking.{Goes, AsksPast, IsEarly, SeeksText, ComesBack};
+ghost use Rattle.age_armor.specs.Seeking.{Goes, AsksPast, IsEarly, IsFromEnd, SeeksText, ComesBack};
 ghost use Rattle.age_armor.specs.Stages.{IsNamed};
 
 use crate::counted::Counted;
@@ -178,6 +178,8 @@ impl<R: BufRead + Seek> ArmoredReader<R> {
     // Goes to a place counted from the end, once the whole text was read.
     fn go_from_end(&mut self, distance: i64) -> Result<u64, Error>
         ensures goes { let reader = ⟦<ArmoredReader<R> as Read>⟧ in Goes reader.tells reader.steady reader.content reader.faults self.old self.new result }
+        ensures well { IsTrue (R.Read.tells (inner_of self.old)) → IsTrue (R.Read.steady (inner_of self.old)) →
+            OnOk result (IsTrue (armored_content self.old).ends_well) }
         ensures place { IsTrue (R.Read.tells (inner_of self.old)) → IfOk result (λ n. self.new.place ≡ n) }
         ensures good { OnOk result (self.new.failed ≡ false) }
         ensures exact { IsTrue (R.Read.tells (inner_of self.old)) → IsTrue (R.Read.steady (inner_of self.old)) → (place : ℕ) → IfOk result (λ n.
@@ -282,6 +284,8 @@ impl<R: BufRead + Seek> ArmoredReader<R> {
         ensures text { let reader = ⟦<ArmoredReader<R> as Read>⟧ in
             SeeksText reader.tells reader.steady (λ r. has_failed r) reader.content reader.place reader.rest reader.faults self.old self.new (End distance)
             (R.Read.content (inner_of self.old)).ends_well (text_outcome_of self.old).ending result }
+        ensures well { IsTrue (R.Read.tells (inner_of self.old)) → IsTrue (R.Read.steady (inner_of self.old)) →
+            OnOk result (IsTrue (armored_content self.old).ends_well) }
         ensures whole { IsTrue (R.Read.tells (inner_of self.old)) → text_outcome_of self.new ≡ text_outcome_of self.old }
         ensures ending { IsTrue (R.Read.tells (inner_of self.old)) → IsTrue (R.Read.steady (inner_of self.old)) → has_failed self.new ≡ false →
             (outcome_of self.new).ending ≡ (text_outcome_of self.old).ending }
@@ -350,6 +354,10 @@ impl<R: BufRead + Seek> Seek for ArmoredReader<R> {
         ensures named { IsTrue (R.Read.tells (inner_of self.old)) → IsTrue (R.Read.content (inner_of self.old)).ends_well →
             IfErr result (λ e. (IsOutside e → ⊥) → e ≢ OutOfMemory → IsQuiet (R.Read.faults (inner_of self.old)) (R.Read.faults (inner_of self.new)) →
             IsNamed (text_outcome_of self.old).ending e × AsksPast to (place_of self.old) (length (armored_content self.old).bytes)) }
+
+        // A target counted from the end is come to only where the text carries bytes: of a bad one the length isn't known.
+        ensures well { IsTrue (R.Read.tells (inner_of self.old)) → IsTrue (R.Read.steady (inner_of self.old)) → IsFromEnd to →
+            OnOk result (IsTrue (armored_content self.old).ends_well) }
 
         // How the text ends stays the same, and a reader that hasn't failed comes to that end, unless nothing was looked for.
         ensures whole { IsTrue (R.Read.tells (inner_of self.old)) → text_outcome_of self.new ≡ text_outcome_of self.old }

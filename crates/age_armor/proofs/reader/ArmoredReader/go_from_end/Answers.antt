@@ -216,3 +216,23 @@ returns-in-Ok-from_end-clause-ending g c = λ told steady.
     let steady_middle = first.goes.same_steady ∙ steady in
     on_ok_weaker c.go_to.result (λ is. is ∙ ap (λ o. o.ending) (last.whole told_middle ∙ first.whole told))
     (c.go_to.ensures.ending (last.goes.same_tells ∙ told_middle) (last.goes.same_steady ∙ steady_middle))
+
+pub returns-in-Ok-from_end-clause-well : goal.returns-in-Ok-from_end-clause-well
+returns-in-Ok-from_end-clause-well g c = λ told steady.
+    let before = c.args.self.now in
+    let middle = c.restart.new.self in
+    let new = c.walk.new.self in
+    let first = c.in-Ok.ensures in
+    let last = c.in-Ok-walk.ensures in
+    let told_middle = first.goes.same_tells ∙ told in
+    let steady_middle = first.goes.same_steady ∙ steady in
+    let told_new = last.goes.same_tells ∙ told_middle in
+    let steady_new = last.goes.same_steady ∙ steady_middle in
+    let same : armored_content middle ≡ armored_content before = first.goes.same_content told in
+    let all : armored_content new ≡ armored_content before = last.goes.same_content told_middle ∙ same in
+    let stands : armored_rest middle ≡ from_place middle.place (armored_content middle) = rw (first.front, same) (first.rest told steady) in
+    let within : new.place ≤ length (armored_content new).bytes = new.inside told_new steady_new in
+    let within_before : new.place ≤ length (armored_content before).bytes = subst (λ s. new.place ≤ length s.bytes) all within in
+    let end = last.end told_middle c.if-there.false in
+    let at = ends_at (armored_content before) (armored_rest new) new.place (last.rest told_middle stands ∙ ap (from_place new.place) same) end.0 within_before in
+    on_ok_weaker c.go_to.result (λ is. at.0) (c.go_to.ensures.within told_new steady_new)

@@ -19,6 +19,7 @@ returns-in-Ok g c =
             subst (λ d. sought (End d) before.place (length (armored_content before).bytes) ≡ Ok c.in-Ok.there) (to_z-of_z {w = w64} c.ranges.distance) moved.0,
             moved.1,
           ));
+      well = now.well;
       whole = now.whole;
       ending = λ told steady good. now.ending told steady;
     }
@@ -46,6 +47,7 @@ returns-in-Err g c =
             named = λ told well own other quiet. (now.named told well own other quiet, tt);
           })
           c.come_back.ensures.back;
+      well = λ told steady. tt;
       whole = λ told. c.come_back.ensures.whole (now.goes.same_tells ∙ told) ∙ now.whole told;
       ending = λ told steady good.
           c.come_back.ensures.ending (now.goes.same_tells ∙ told) (now.goes.same_steady ∙ steady) good ∙ ap (λ o. o.ending) (now.whole told);

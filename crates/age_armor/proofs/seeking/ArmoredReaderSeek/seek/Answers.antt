@@ -63,3 +63,12 @@ returns-in-Current-clause-ending g c =
     let fits : SFits w64 c.in-Current.distance = search rules in
     let same : to_z w64 (of_z w64 c.in-Current.distance) ≡ c.in-Current.distance = to_z-of_z {w = w64} fits in
     rw (c.in-Current.is, ← same) c.seek_by.ensures.ending
+
+pub returns-in-Start-clause-well : goal.returns-in-Start-clause-well
+returns-in-Start-clause-well g c = λ told steady asked. absurd (rw c.in-Start.is at asked)
+
+pub returns-in-End-clause-well : goal.returns-in-End-clause-well
+returns-in-End-clause-well g c = λ told steady asked. c.seek_from_end.ensures.well told steady
+
+pub returns-in-Current-clause-well : goal.returns-in-Current-clause-well
+returns-in-Current-clause-well g c = λ told steady asked. absurd (rw c.in-Current.is at asked)
