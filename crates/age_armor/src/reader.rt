@@ -9,8 +9,8 @@ ghost use Rattle.age_io.specs.Reading.{Reads, IsQuiet, Delivers, most_faults};
 ghost use Rattle.age_io.specs.Filling.{IsFront, Consumes};
 ghost use Rattle.age_io.specs.Failing.{FailsForGood};
 ghost use Rattle.age_armor.specs.Armor.{Carries};
-ghost use Rattle.age_armor.specs.Delivered.{stretch_of, delivered};
-ghost use Rattle.age_armor.specs.Stages.{is_start, is_ended, IsNamed};
+ghost use Rattle.age_armor.specs.Delivered.{stretch_of, delivered, begins_armor};
+ghost use Rattle.age_armor.specs.Stages.{is_start, is_armored, is_ended, IsNamed};
 ghost use Rattle.age_armor.specs.Ending.{KeepsEnding};
 ghost use Rattle.age_armor.specs.declared.stages.Stage.TheVariants.{Binary};
 ghost use Rattle.age_armor.specs.Ahead.{outcome_ahead, rest_ahead, shown_ahead};
@@ -47,6 +47,9 @@ pub struct ArmoredReader<R: BufRead> {
     ghost order: { given ≤ filled },
     ghost within: { filled ≤ 48 },
     ghost fresh: { is_start stage ≡ true → given ≡ filled },
+    ghost untaken: { failed ≡ false → is_start stage ≡ true → source.taken ≡ 0 },
+    ghost form: { IsTrue (R.Read.tells source.inner) → IsTrue (R.Read.steady source.inner) → is_start stage ≡ false →
+        is_armored stage ≡ begins_armor (from_place (R.Read.place source.inner - source.taken) (R.Read.content source.inner)).bytes },
     ghost unspent: { failed ≡ false → is_start stage ≡ false → R.Read.faults source.inner < most_faults },
     ghost counted: { IsTrue (R.Read.tells source.inner) → failed ≡ false → place + (filled - given) ≤ source.taken },
     ghost fits: { IsTrue (R.Read.tells source.inner) → place < 2 ^ 63 },
@@ -59,7 +62,7 @@ pub struct ArmoredReader<R: BufRead> {
 }
 
 impl<R: BufRead> Read for ArmoredReader<R> {
-    ghost use Rattle.age_armor.specs.Reader.{inner_of, has_failed, has_armor, outcome_of, text_outcome_of, armored_content, place_of, armored_rest, shown_of};
+    ghost use Rattle.age_armor.specs.Reader.{inner_of, has_failed, has_armor, text_of, outcome_of, text_outcome_of, armored_content, place_of, armored_rest, shown_of};
 
     ghost tells = { λ r. R.Read.tells (inner_of r) };
 
@@ -102,7 +105,8 @@ impl<R: BufRead> Read for ArmoredReader<R> {
     /// - `OutOfMemory`: memory for a line's text was refused.
     /// - `Failed`: it refused before.
     ///
-    /// After a refusal the reader has failed, and stays so. The place is as it was.
+    /// After a refusal the reader has failed, and stays so. The place is as it was, and so is the buffer where the text begins
+    /// as armor does.
     #[tactic(auto, using(crate::proofs::Ahead::rest_failed, crate::proofs::Ahead::shown_small))]
     fn read(&mut self, buf: &mut [u8]) -> Result<usize, Error>
         ensures reads { let reader = ⟦<ArmoredReader<R> as Read>⟧ in
@@ -113,12 +117,20 @@ impl<R: BufRead> Read for ArmoredReader<R> {
         ensures ending { let reader = ⟦<ArmoredReader<R> as Read>⟧ in KeepsEnding (reader.tells self.old) (has_failed self.old)
             (reader.faults self.old) (reader.faults self.new) (outcome_of self.old).ending (outcome_of self.new).ending result }
         ensures whole { IsTrue (R.Read.tells (inner_of self.old)) → text_outcome_of self.new ≡ text_outcome_of self.old }
+        ensures same_text { IsTrue (R.Read.tells (inner_of self.old)) → text_of self.new ≡ text_of self.old }
 
         // It gives what is held of a line, or of the next one. In armor nothing else of the buffer changes.
         ensures held { 0 < length (shown_of self.old) → IfOk result (λ n. n ≤ length (shown_of self.old)) }
         ensures line { IsTrue (has_armor self.new) → IfOk result (λ n. n + length (shown_of self.new) ≤ 48) }
         ensures beyond { IsTrue (has_armor self.new) → IfOk result (λ n. drop n buf.new ≡ drop n buf.old) }
         ensures untouched { IsTrue (has_armor self.new) → OnErr result (buf.new ≡ buf.old) }
+
+        // Whether it has armor is what the text says: a read that isn't empty has found it out, and where the text begins as armor
+        // does a refusal leaves the buffer, also that of the first line.
+        ensures form { 0 < length buf.old → IsTrue (R.Read.tells (inner_of self.old)) → IsTrue (R.Read.steady (inner_of self.old)) →
+            OnOk result (has_armor self.new ≡ begins_armor (text_of self.old).bytes) }
+        ensures spared { IsTrue (R.Read.tells (inner_of self.old)) → IsTrue (R.Read.steady (inner_of self.old)) →
+            IsTrue (begins_armor (text_of self.old).bytes) → OnErr result (buf.new ≡ buf.old) }
 
         ensures failed { IsTrue (has_failed self.old) → (result ≡ Err Failed) × (self.new ≡ self.old) }
         ensures empty { has_failed self.old ≡ false → length buf.old ≡ 0 → (result ≡ Ok 0) × (self.new ≡ self.old) }
@@ -134,7 +146,7 @@ impl<R: BufRead> Read for ArmoredReader<R> {
 }
 
 impl<R: BufRead> ArmoredReader<R> {
-    ghost use Rattle.age_armor.specs.Reader.{inner_of, has_failed, has_armor, outcome_of, text_outcome_of, armored_content, place_of, armored_rest, shown_of};
+    ghost use Rattle.age_armor.specs.Reader.{inner_of, has_failed, has_armor, text_of, outcome_of, text_outcome_of, armored_content, place_of, armored_rest, shown_of};
     ghost use Rattle.age_armor.specs.Seeking.{text_outcome};
 
     /// A reader of what the text carries that begins where `inner` stands.
@@ -149,7 +161,9 @@ impl<R: BufRead> ArmoredReader<R> {
         ensures place { IfOk result (λ r. place_of r ≡ 0) }
         ensures content { IfOk result (λ r. armored_content r ≡ content_of (R.Read.content inner) (R.Read.place inner)) }
         ensures outcome { IfOk result (λ r. outcome_of r ≡ delivered (R.Read.rest inner).bytes (R.Read.rest inner).ends_well) }
-        ensures text { IfOk result (λ r. text_outcome_of r ≡ text_outcome (R.Read.content inner) (R.Read.place inner)) }
+        ensures text { IfOk result (λ r. text_of r ≡ from_place (R.Read.place inner) (R.Read.content inner)) }
+        ensures whole { IfOk result (λ r. text_outcome_of r ≡ text_outcome (R.Read.content inner) (R.Read.place inner)) }
+        ensures form { IfOk result (λ r. has_armor r ≡ false) }
         ensures rest { IfOk result (λ r. armored_rest r ≡ stretch_of (delivered (R.Read.rest inner).bytes (R.Read.rest inner).ends_well)) }
 
         // What it delivers to a clean end is what the inner reader's rest carries, and the other way.
@@ -190,11 +204,15 @@ impl<R: BufRead> ArmoredReader<R> {
         ensures named { IsTrue (R.Read.tells self.old.source.inner) → IfErr result (λ e. e ≢ OutOfMemory →
             IsQuiet (R.Read.faults self.old.source.inner) (R.Read.faults self.new.source.inner) → IsNamed (outcome_of self.old).ending e) }
         ensures ending { IsTrue (R.Read.tells self.old.source.inner) → OnOk result ((outcome_of self.new).ending ≡ (outcome_of self.old).ending) }
-        ensures whole { IsTrue (R.Read.tells self.old.source.inner) → text_outcome_of self.new ≡ text_outcome_of self.old }
+        ensures same_text { IsTrue (R.Read.tells self.old.source.inner) → text_of self.new ≡ text_of self.old }
         ensures held { 0 < length (shown_of self.old) → IfOk result (λ n. n ≤ length (shown_of self.old)) }
         ensures line { IsTrue (has_armor self.new) → IfOk result (λ n. n + length (shown_of self.new) ≤ 48) }
         ensures beyond { IsTrue (has_armor self.new) → IfOk result (λ n. drop n buf.new ≡ drop n buf.old) }
         ensures untouched { IsTrue (has_armor self.new) → OnErr result (buf.new ≡ buf.old) }
+        ensures form { IsTrue (R.Read.tells self.old.source.inner) → IsTrue (R.Read.steady self.old.source.inner) →
+            OnOk result (has_armor self.new ≡ begins_armor (text_of self.old).bytes) }
+        ensures spared { IsTrue (R.Read.tells self.old.source.inner) → IsTrue (R.Read.steady self.old.source.inner) →
+            IsTrue (begins_armor (text_of self.old).bytes) → OnErr result (buf.new ≡ buf.old) }
         ensures fails { OnErr result (self.new.failed ≡ true) }
         ensures good { OnOk result (self.new.failed ≡ false) }
     {
@@ -231,7 +249,7 @@ impl<R: BufRead> ArmoredReader<R> {
         ensures unspent { OnOk result (R.Read.faults self.new.source.inner < most_faults) }
         ensures patient { IfErr result (λ e. IsInterruption e → ⊥) }
         ensures content { IsTrue (R.Read.tells self.old.source.inner) → armored_content self.new ≡ armored_content self.old }
-        ensures whole { IsTrue (R.Read.tells self.old.source.inner) → text_outcome_of self.new ≡ text_outcome_of self.old }
+        ensures same_text { IsTrue (R.Read.tells self.old.source.inner) → text_of self.new ≡ text_of self.old }
         ensures count { IfOk result (λ n. n ≤ length buf.new) }
         ensures bytes { IsTrue (R.Read.tells self.old.source.inner) → IfOk result (λ n.
             Delivers (take n buf.new) (armored_rest self.old) (armored_rest self.new)) }
@@ -246,6 +264,7 @@ impl<R: BufRead> ArmoredReader<R> {
         ensures ending { IsTrue (R.Read.tells self.old.source.inner) → OnOk result ((outcome_of self.new).ending ≡ (outcome_of self.old).ending) }
         ensures shown { shown_of self.old ≡ [] }
         ensures binary { has_armor self.new ≡ false }
+        ensures stage { self.new.stage ≡ Binary }
         ensures fails { OnErr result (self.new.failed ≡ true) }
         ensures good { OnOk result (self.new.failed ≡ false) }
     {
@@ -282,7 +301,7 @@ impl<R: BufRead> ArmoredReader<R> {
         ensures unspent { OnOk result (R.Read.faults self.new.source.inner < most_faults) }
         ensures patient { IfErr result (λ e. IsInterruption e → ⊥) }
         ensures content { IsTrue (R.Read.tells self.old.source.inner) → armored_content self.new ≡ armored_content self.old }
-        ensures whole { IsTrue (R.Read.tells self.old.source.inner) → text_outcome_of self.new ≡ text_outcome_of self.old }
+        ensures same_text { IsTrue (R.Read.tells self.old.source.inner) → text_of self.new ≡ text_of self.old }
         ensures place { self.new.place ≡ self.old.place }
         ensures fresh { OnOk result (self.new.failed ≡ false) }
         ensures rest { IsTrue (R.Read.tells self.old.source.inner) → OnOk result (armored_rest self.new ≡ armored_rest self.old) }
@@ -290,6 +309,7 @@ impl<R: BufRead> ArmoredReader<R> {
             (self.new.given ≡ self.new.filled → IsCleanEnd (armored_rest self.old)) }
         ensures ending { IsTrue (R.Read.tells self.old.source.inner) → OnOk result ((outcome_of self.new).ending ≡ (outcome_of self.old).ending) }
         ensures same { 0 < length (shown_of self.old) → (result ≡ Ok tt) × (shown_of self.new ≡ shown_of self.old) }
+        ensures begun { OnOk result (is_start self.new.stage ≡ false) }
         ensures failed { OnErr result (self.new.failed ≡ true) }
         ensures cause { IsTrue (R.Read.tells self.old.source.inner) → IfErr result (λ e. e ≢ OutOfMemory →
             IsQuiet (R.Read.faults self.old.source.inner) (R.Read.faults self.new.source.inner) → IsFault (armored_rest self.old)) }
@@ -354,14 +374,16 @@ impl<R: BufRead> ArmoredReader<R> {
 }
 
 impl<R: BufRead> BufRead for ArmoredReader<R> {
-    ghost use Rattle.age_armor.specs.Reader.{inner_of, has_failed, outcome_of, text_outcome_of, shown_of};
+    ghost use Rattle.age_armor.specs.Reader.{inner_of, has_failed, has_armor, text_of, outcome_of, text_outcome_of, shown_of};
 
     ghost shown = { shown_of };
 
     ghost besides = { λ old new result. FailsForGood (has_failed old) (has_failed new) result
         × KeepsEnding (R.Read.tells (inner_of old)) (has_failed old) (R.Read.faults (inner_of old)) (R.Read.faults (inner_of new))
         (outcome_of old).ending (outcome_of new).ending result
-        × (IsTrue (R.Read.tells (inner_of old)) → text_outcome_of new ≡ text_outcome_of old) };
+        × (IsTrue (R.Read.tells (inner_of old)) → text_outcome_of new ≡ text_outcome_of old)
+        × (IsTrue (R.Read.tells (inner_of old)) → text_of new ≡ text_of old)
+        × (IsTrue (R.Read.tells (inner_of old)) → IsTrue (R.Read.steady (inner_of old)) → OnOk result (has_armor new ≡ begins_armor (text_of old).bytes)) };
 
     /// Shows what is held of a line, or the next line's bytes where nothing is held.
     ///
@@ -377,7 +399,7 @@ impl<R: BufRead> BufRead for ArmoredReader<R> {
         }
     }
 
-    /// Takes bytes of what was shown. It neither fails nor makes good again, and how the text ends stays the same.
+    /// Takes bytes of what was shown. It neither fails nor makes good again, and what was found of the text stays the same.
     fn consume(&mut self, amount: usize)
         requires { amount ≤ length (shown_of self.old) }
         ensures consumes { let reader = ⟦<ArmoredReader<R> as Read>⟧ in
@@ -385,6 +407,8 @@ impl<R: BufRead> BufRead for ArmoredReader<R> {
         ensures failed { has_failed self.new ≡ has_failed self.old }
         ensures ending { (outcome_of self.new).ending ≡ (outcome_of self.old).ending }
         ensures whole { text_outcome_of self.new ≡ text_outcome_of self.old }
+        ensures same_text { text_of self.new ≡ text_of self.old }
+        ensures form { has_armor self.new ≡ has_armor self.old }
     {
         self.given += amount;
         self.place = self.place.saturating_add(amount as u64);
@@ -392,7 +416,7 @@ impl<R: BufRead> BufRead for ArmoredReader<R> {
 }
 
 impl<R: Read> ArmoredReader<BufReader<R>> {
-    ghost use Rattle.age_armor.specs.Reader.{has_failed, outcome_of, text_outcome_of, armored_content, place_of, armored_rest, shown_of};
+    ghost use Rattle.age_armor.specs.Reader.{has_failed, has_armor, text_of, outcome_of, text_outcome_of, armored_content, place_of, armored_rest, shown_of};
     ghost use Rattle.age_armor.specs.Seeking.{text_outcome};
 
     /// A reader of what the text carries that begins where `inner` stands, over a buffer of its own.
@@ -409,7 +433,9 @@ impl<R: Read> ArmoredReader<BufReader<R>> {
         ensures place { IfOk result (λ r. place_of r ≡ 0) }
         ensures content { IfOk result (λ r. armored_content r ≡ content_of (R.content inner) (R.place inner)) }
         ensures outcome { IfOk result (λ r. outcome_of r ≡ delivered (R.rest inner).bytes (R.rest inner).ends_well) }
-        ensures text { IfOk result (λ r. text_outcome_of r ≡ text_outcome (R.content inner) (R.place inner)) }
+        ensures text { IfOk result (λ r. text_of r ≡ from_place (R.place inner) (R.content inner)) }
+        ensures whole { IfOk result (λ r. text_outcome_of r ≡ text_outcome (R.content inner) (R.place inner)) }
+        ensures form { IfOk result (λ r. has_armor r ≡ false) }
         ensures rest { IfOk result (λ r. armored_rest r ≡ stretch_of (delivered (R.rest inner).bytes (R.rest inner).ends_well)) }
         ensures carries { IsTrue (R.tells inner) → IfOk result (λ r. IsTrue (armored_rest r).ends_well →
             IsTrue (R.rest inner).ends_well × (AreBytes (R.rest inner).bytes → Carries (R.rest inner).bytes (armored_rest r).bytes)) }

@@ -5,6 +5,7 @@ use Rattle.age_error.specs.declared.io.SeekFrom.TheVariants.{End}
 use Rattle.age_io.specs.Cursor.{sought, target}
 use Rattle.age_io.specs.Stretch.{from_place}
 use Rattle.age_io.specs.Reading.{IsQuiet}
+use Rattle.age_armor.specs.Delivered.{delivered}
 use Rattle.age_armor.specs.ReaderLaws.{well_inner}
 use Rattle.age_armor.specs.Stages.{IsNamed}
 use Rattle.age_armor.specs.Reader.{armored_content, armored_rest}
@@ -194,19 +195,19 @@ returns-in-Ok-from_end-clause-named g c = λ told well.
     absurd (omega (arith, beyond, most, within)))
     (c.go_to.ensures.named told_new well_new)
 
-pub returns-in-Err-walk-clause-whole : goal.returns-in-Err-walk-clause-whole
-returns-in-Err-walk-clause-whole g c = λ told. c.in-Err-walk.ensures.whole (c.in-Ok.ensures.goes.same_tells ∙ told) ∙ c.in-Ok.ensures.whole told
+pub returns-in-Err-walk-clause-same_text : goal.returns-in-Err-walk-clause-same_text
+returns-in-Err-walk-clause-same_text g c = λ told. c.in-Err-walk.ensures.same_text (c.in-Ok.ensures.goes.same_tells ∙ told) ∙ c.in-Ok.ensures.same_text told
 
-pub returns-then-there-clause-whole : goal.returns-then-there-clause-whole
-returns-then-there-clause-whole g c = λ told. c.in-Ok-walk.ensures.whole (c.in-Ok.ensures.goes.same_tells ∙ told) ∙ c.in-Ok.ensures.whole told
+pub returns-then-there-clause-same_text : goal.returns-then-there-clause-same_text
+returns-then-there-clause-same_text g c = λ told. c.in-Ok-walk.ensures.same_text (c.in-Ok.ensures.goes.same_tells ∙ told) ∙ c.in-Ok.ensures.same_text told
 
-pub returns-in-Err-from_end-clause-whole : goal.returns-in-Err-from_end-clause-whole
-returns-in-Err-from_end-clause-whole g c = λ told. c.in-Ok-walk.ensures.whole (c.in-Ok.ensures.goes.same_tells ∙ told) ∙ c.in-Ok.ensures.whole told
+pub returns-in-Err-from_end-clause-same_text : goal.returns-in-Err-from_end-clause-same_text
+returns-in-Err-from_end-clause-same_text g c = λ told. c.in-Ok-walk.ensures.same_text (c.in-Ok.ensures.goes.same_tells ∙ told) ∙ c.in-Ok.ensures.same_text told
 
-pub returns-in-Ok-from_end-clause-whole : goal.returns-in-Ok-from_end-clause-whole
-returns-in-Ok-from_end-clause-whole g c = λ told.
+pub returns-in-Ok-from_end-clause-same_text : goal.returns-in-Ok-from_end-clause-same_text
+returns-in-Ok-from_end-clause-same_text g c = λ told.
     let told_middle = c.in-Ok.ensures.goes.same_tells ∙ told in
-    c.go_to.ensures.whole (c.in-Ok-walk.ensures.goes.same_tells ∙ told_middle) ∙ c.in-Ok-walk.ensures.whole told_middle ∙ c.in-Ok.ensures.whole told
+    c.go_to.ensures.same_text (c.in-Ok-walk.ensures.goes.same_tells ∙ told_middle) ∙ c.in-Ok-walk.ensures.same_text told_middle ∙ c.in-Ok.ensures.same_text told
 
 pub returns-in-Ok-from_end-clause-ending : goal.returns-in-Ok-from_end-clause-ending
 returns-in-Ok-from_end-clause-ending g c = λ told steady.
@@ -214,7 +215,7 @@ returns-in-Ok-from_end-clause-ending g c = λ told steady.
     let last = c.in-Ok-walk.ensures in
     let told_middle = first.goes.same_tells ∙ told in
     let steady_middle = first.goes.same_steady ∙ steady in
-    on_ok_weaker c.go_to.result (λ is. is ∙ ap (λ o. o.ending) (last.whole told_middle ∙ first.whole told))
+    on_ok_weaker c.go_to.result (λ is. is ∙ ap (λ t. (delivered t.bytes t.ends_well).ending) (last.same_text told_middle ∙ first.same_text told))
     (c.go_to.ensures.ending (last.goes.same_tells ∙ told_middle) (last.goes.same_steady ∙ steady_middle))
 
 pub returns-in-Ok-from_end-clause-well : goal.returns-in-Ok-from_end-clause-well
