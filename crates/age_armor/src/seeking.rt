@@ -175,7 +175,7 @@ impl<R: BufRead + Seek> ArmoredReader<R> {
         }
     }
 
-    // Goes to a place counted from the end, once the whole text was read.
+    // Goes to a place counted from the end, once the whole text was read. At the end itself it stands then already.
     fn go_from_end(&mut self, distance: i64) -> Result<u64, Error>
         ensures goes { let reader = ⟦<ArmoredReader<R> as Read>⟧ in Goes reader.tells reader.steady reader.content reader.faults self.old self.new result }
         ensures well { IsTrue (R.Read.tells (inner_of self.old)) → IsTrue (R.Read.steady (inner_of self.old)) →
@@ -208,7 +208,12 @@ impl<R: BufRead + Seek> ArmoredReader<R> {
         let len = self.place;
         match from_end(len, distance) {
             Err(e) => Err(e),
-            Ok(target) => self.go_to(target),
+            Ok(target) => {
+                if target == len {
+                    return Ok(target);
+                }
+                self.go_to(target)
+            }
         }
     }
 }
