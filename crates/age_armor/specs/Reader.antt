@@ -27,7 +27,11 @@ module _ {R : Type 0} {buf : buffered.Ghosts R} {read : readers.Ghosts R} where
   abbrev pub outcome_of : ArmoredReader R buf read → Outcome
   outcome_of r = outcome_ahead r.bytes r.given r.filled r.stage (read.rest r.source.inner)
 
-  -- the text: what stands in the content of the reader that gives it, from where that one stood when this reader was made
+  -- how many bytes of the text were taken from the reader that gives it
+  abbrev pub taken_of : ArmoredReader R buf read → ℕ
+  taken_of r = r.source.taken
+
+  -- the text: what stands in the content of that reader from where it stood when this one was made
   abbrev pub text_of : ArmoredReader R buf read → Stretch
   text_of r = from_place (read.place r.source.inner - r.source.taken) (read.content r.source.inner)
 

@@ -1,11 +1,11 @@
 //! Reading armor.
-ghost use Rattle.std.specs.Prelude.{◌≡◌, ◌≢◌, ℕ, ◌+◌, ◌-◌, ◌^◌, ◌≤◌, ◌<◌, Bool, true, false, IsTrue, List, [], ◌++◌, length, take, drop, min, IfOk, IfErr, OnOk, OnErr, IsOk, Ok, Err};
+ghost use Rattle.std.specs.Prelude.{◌≡◌, ◌≢◌, ℕ, ◌+◌, ◌-◌, ◌^◌, ◌≤◌, ◌<◌, Bool, true, false, IsTrue, List, [], ◌++◌, length, take, drop, min, IfOk, IfErr, OnOk, OnErr, IsOk, Ok, Err, Some, codes};
 ghost use Rattle.std.proofs.Common.{arith};
 ghost use Rattle.age_error.specs.Bytes.{AreBytes};
 ghost use Rattle.age_error.specs.Refusals.{IsDevice, IsInterruption};
 ghost use Rattle.age_error.specs.declared.io.Error.TheVariants.{OutOfMemory, Failed};
 ghost use Rattle.age_io.specs.Stretch.{Stretch, nothing, whole, from_place, IsCleanEnd, IsFault};
-ghost use Rattle.age_io.specs.Reading.{Reads, IsQuiet, Delivers, most_faults};
+ghost use Rattle.age_io.specs.Reading.{Reads, IsQuiet, Delivers, StandsIn, most_faults};
 ghost use Rattle.age_io.specs.Filling.{IsFront, Consumes};
 ghost use Rattle.age_io.specs.Failing.{FailsForGood};
 ghost use Rattle.age_armor.specs.Armor.{Carries};
@@ -23,6 +23,7 @@ use crate::stages::{Stage, advance};
 use age_error::io::Error;
 use age_io::{BufRead, BufReader, Read};
 use std::alloc::Global;
+use std::fmt;
 
 /// Reads what a text carries: the data of an armored text, and a binary text unchanged (age-encryption.org/v1, section
 /// "ASCII armor").
@@ -146,7 +147,7 @@ impl<R: BufRead> Read for ArmoredReader<R> {
 }
 
 impl<R: BufRead> ArmoredReader<R> {
-    ghost use Rattle.age_armor.specs.Reader.{inner_of, has_failed, has_armor, text_of, outcome_of, text_outcome_of, armored_content, place_of, armored_rest, shown_of};
+    ghost use Rattle.age_armor.specs.Reader.{inner_of, has_failed, has_armor, taken_of, text_of, outcome_of, text_outcome_of, armored_content, place_of, armored_rest, shown_of};
     ghost use Rattle.age_armor.specs.Seeking.{text_outcome};
 
     /// A reader of what the text carries that begins where `inner` stands.
@@ -191,6 +192,22 @@ impl<R: BufRead> ArmoredReader<R> {
             place: 0,
             failed: false,
         })
+    }
+
+    /// Hands back the inner reader where it stands: in the text, behind all that was taken for what was given and for what is
+    /// held. It never refuses.
+    ///
+    /// What is held and wasn't given is lost with this reader. Of a binary text the inner reader has the rest behind what is
+    /// held; of armor it may stand further on, since markers and lines are taken before their bytes are given.
+    pub fn into_inner(self) -> R
+        ensures inner { result ≡ inner_of self }
+        ensures stands { IsTrue (R.Read.tells (inner_of self)) → IsTrue (R.Read.steady (inner_of self)) →
+            StandsIn (text_of self) (taken_of self) (R.Read.rest result) }
+        ensures behind { IsTrue (R.Read.tells (inner_of self)) → has_failed self ≡ false → place_of self + length (shown_of self) ≤ taken_of self }
+        ensures binary { has_failed self ≡ false → has_armor self ≡ false → 0 < taken_of self →
+            Delivers (shown_of self) (armored_rest self) (R.Read.rest result) }
+    {
+        self.source.inner
     }
 
     // A read of a good reader into a buffer that isn't empty.
@@ -370,6 +387,15 @@ impl<R: BufRead> ArmoredReader<R> {
         ensures none { length result.now ≡ 0 → self.now.given ≡ self.now.filled }
     {
         &self.bytes[self.given..self.filled]
+    }
+}
+
+impl<R: BufRead> fmt::Debug for ArmoredReader<R> {
+    // No byte of the text and of what it carries.
+    ghost debug_output = { λ _. Some (codes "ArmoredReader { .. }") };
+
+    fn fmt<W: fmt::Write>(&self, f: &mut fmt::Formatter<W>) -> fmt::Result {
+        f.write_str("ArmoredReader { .. }")
     }
 }
 
