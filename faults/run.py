@@ -206,13 +206,18 @@ def armored_files(runs):
 
 
 def in_armor(runs, name, plain, given, text):
-    """What an armored file of a plaintext answers that was damaged: the chunks before the fault, and its text."""
+    """What an armored file of a plaintext answers that was damaged: the chunks before the fault, and its text.
+
+    A part of it, before the fault or behind it, is refused with that text too, since its place is sought from the length.
+    """
     carried, fault = second.carried(given)
     agrees = fault == text and second.encrypted(DRAW, plain).startswith(carried)
     runs.judge(f"{name}: the second implementation", agrees, (fault, carried, "", False))
     front = len(second.encrypted(DRAW, b"")) - 16
     good = max(len(carried) - front, 0) // (PIECE + 16)
     runs.refuses(name, ["decrypt", "bench"], given, plain[:PIECE * good], text)
+    for place in [0, len(plain) - 1, len(plain) + 1]:
+        runs.refuses(f"{name}: at {place} 10", ["at", "bench", str(place), "10"], given, b"", text)
 
 
 def damaged_armor(runs):

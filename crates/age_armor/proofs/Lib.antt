@@ -20,3 +20,4 @@ pub mod ReaderSteps
 pub mod Walking
 pub mod OwnEndings
 pub mod Aiming
+pub mod Forms

@@ -18,7 +18,7 @@ use Rattle.age_armor.specs.LineVerdict.{Refuses, Ends, Holds, verdict, is_short,
 use Rattle.age_armor.specs.Delivered.{Outcome, Ending, Clean, Refused, InnerFault, ends, at_end, raw_lines, section, trailing, after_line, after_marker, delivered}
 use Rattle.age_armor.specs.Counting.{TakesLine, IsFew, IsCutShort}
 use Rattle.age_armor.specs.Showing.{TakesFull}
-use Rattle.age_armor.specs.Stages.{Advances, Stops, IsNamed}
+use Rattle.age_armor.specs.Stages.{Advances, Stops, FindsForm, IsNamed}
 use Rattle.age_armor.proofs.RawLines.{raw_lines_ended, columns_lf, last_is_end, full_not_short}
 use Rattle.age_armor.specs.DeliveredLaws.{length_line_columns, concat_raw}
 use Rattle.age_armor.proofs.Verdicts.{one_verdict}
@@ -62,6 +62,14 @@ begins_same : (front : List ℕ) (old mid : Stretch) → length front ≡ 35 →
 begins_same front old mid size d =
     let same : take 34 old.bytes ≡ take 34 front = ap (take 34) d.bytes ∙ take-append-le 34 front mid.bytes (omega (arith, size)) in
     rw same refl
+
+-- the front tells which of the two forms it is
+pub finds_form : (front : List ℕ) (old mid : Stretch) (armored : Bool) → length front ≡ 35 → Delivers front old mid → 0 < length mid.bytes →
+    starts_with nat_eq front begin_marker ≡ armored → FindsForm armored old.bytes
+finds_form front old mid armored size d some is = record {
+  some = omega (arith, some, ap length d.bytes ∙ length-append front mid.bytes);
+  same = sym (begins_same front old mid size d ∙ is);
+}
 
 outcome-same : (x y : List ℕ) (v w : Bool) → x ≡ y → v ≡ w → Path Outcome (record { bytes = x; ending = at_end v Clean }) (record { bytes = y; ending = at_end w Clean })
 outcome-same x y v w p q =

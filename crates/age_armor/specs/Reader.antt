@@ -2,7 +2,7 @@
 use Rattle.std.specs.Prelude.{ℕ, ◌-◌, Bool, List}
 use Rattle.age_io.specs.declared.traits.Read as readers
 use Rattle.age_io.specs.declared.bufread.BufRead as buffered
-use Rattle.age_io.specs.Stretch.{Stretch}
+use Rattle.age_io.specs.Stretch.{Stretch, from_place}
 use Rattle.age_armor.specs.declared.reader.ArmoredReader.{ArmoredReader}
 use Rattle.age_armor.specs.Delivered.{Outcome}
 use Rattle.age_armor.specs.Stages.{is_armored}
@@ -26,6 +26,14 @@ module _ {R : Type 0} {buf : buffered.Ghosts R} {read : readers.Ghosts R} where
   -- what the text still delivers, by the definition of armor, and how it ends
   abbrev pub outcome_of : ArmoredReader R buf read → Outcome
   outcome_of r = outcome_ahead r.bytes r.given r.filled r.stage (read.rest r.source.inner)
+
+  -- how many bytes of the text were taken from the reader that gives it
+  abbrev pub taken_of : ArmoredReader R buf read → ℕ
+  taken_of r = r.source.taken
+
+  -- the text: what stands in the content of that reader from where it stood when this one was made
+  abbrev pub text_of : ArmoredReader R buf read → Stretch
+  text_of r = from_place (read.place r.source.inner - r.source.taken) (read.content r.source.inner)
 
   -- what the whole text delivers, and how it ends
   abbrev pub text_outcome_of : ArmoredReader R buf read → Outcome

@@ -39,6 +39,12 @@ IsEarly (Start n) place = ⊥
 IsEarly (End d) place = ⊥
 IsEarly (Current d) place = place_at place d ≡ None
 
+-- the target is counted from the end
+abbrev pub IsFromEnd : SeekFrom → Type 0
+IsFromEnd (Start n) = ⊥
+IsFromEnd (End d) = ⊤
+IsFromEnd (Current d) = ⊥
+
 -- What a seek in a text does. The bool says whether the reader that gives the text ends well, the ending how the text does.
 pub record SeeksText {S : Type 0} (tells steady failed : S → Bool) (content : S → Stretch) (place : S → ℕ) (rest : S → Stretch) (faults : S → ℕ)
     (old new : S) (to : SeekFrom) (ends_well : Bool) (ending : Ending) (result : Result ℕ Error) : Type 0 where

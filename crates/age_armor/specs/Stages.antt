@@ -1,11 +1,11 @@
 -- What a reader of armor has before it, by what it has found so far.
-use Rattle.std.specs.Prelude.{◌≡◌, ℕ, ◌<◌, Bool, true, false, List, []}
+use Rattle.std.specs.Prelude.{◌≡◌, ℕ, ◌<◌, Bool, true, false, List, [], length}
 use Rattle.age_io.specs.Stretch.{Stretch}
 use Rattle.age_error.specs.declared.io.Error.{Error}
 use Rattle.age_armor.specs.declared.stages.Stage.{Stage}
 use Rattle.age_armor.specs.declared.stages.Piece.{Piece}
 use Rattle.age_armor.specs.declared.stages.Stage.TheVariants.{Start, Binary, Lines, Ended}
-use Rattle.age_armor.specs.Delivered.{Outcome, Ending, Clean, Refused, InnerFault, ends, prepend, at_end, raw_lines, section, delivered}
+use Rattle.age_armor.specs.Delivered.{Outcome, Ending, Clean, Refused, InnerFault, ends, prepend, at_end, raw_lines, section, delivered, begins_armor}
 
 -- what the rest of the inner reader delivers
 abbrev pub ahead : Stage → Stretch → Outcome
@@ -44,6 +44,11 @@ IsNamed InnerFault e = Unit {0}
 pub record Stops (before : Outcome) (e : Error) : Type 0 where
   pub nothing : before.bytes ≡ []
   pub named : IsNamed before.ending e
+
+-- the text has bytes, and it was found out whether it begins as armor does
+pub record FindsForm (armored : Bool) (text : List ℕ) : Type 0 where
+  pub some : 0 < length text
+  pub same : armored ≡ begins_armor text
 
 -- a binary text that begins with so many bytes, or lines that are still to be read
 abbrev pub IsAfterDetection : Stage → ℕ → Type 0

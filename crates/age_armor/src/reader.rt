@@ -1,16 +1,16 @@
 //! Reading armor.
-ghost use Rattle.std.specs.Prelude.{◌≡◌, ◌≢◌, ℕ, ◌+◌, ◌-◌, ◌^◌, ◌≤◌, ◌<◌, Bool, true, false, IsTrue, List, [], ◌++◌, length, take, drop, min, IfOk, IfErr, OnOk, OnErr, IsOk, Ok, Err};
+ghost use Rattle.std.specs.Prelude.{◌≡◌, ◌≢◌, ℕ, ◌+◌, ◌-◌, ◌^◌, ◌≤◌, ◌<◌, Bool, true, false, IsTrue, List, [], ◌++◌, length, take, drop, min, IfOk, IfErr, OnOk, OnErr, IsOk, Ok, Err, Some, codes};
 ghost use Rattle.std.proofs.Common.{arith};
 ghost use Rattle.age_error.specs.Bytes.{AreBytes};
 ghost use Rattle.age_error.specs.Refusals.{IsDevice, IsInterruption};
 ghost use Rattle.age_error.specs.declared.io.Error.TheVariants.{OutOfMemory, Failed};
 ghost use Rattle.age_io.specs.Stretch.{Stretch, nothing, whole, from_place, IsCleanEnd, IsFault};
-ghost use Rattle.age_io.specs.Reading.{Reads, IsQuiet, Delivers, most_faults};
+ghost use Rattle.age_io.specs.Reading.{Reads, IsQuiet, Delivers, StandsIn, most_faults};
 ghost use Rattle.age_io.specs.Filling.{IsFront, Consumes};
 ghost use Rattle.age_io.specs.Failing.{FailsForGood};
 ghost use Rattle.age_armor.specs.Armor.{Carries};
-ghost use Rattle.age_armor.specs.Delivered.{stretch_of, delivered};
-ghost use Rattle.age_armor.specs.Stages.{is_start, is_ended, IsNamed};
+ghost use Rattle.age_armor.specs.Delivered.{stretch_of, delivered, begins_armor};
+ghost use Rattle.age_armor.specs.Stages.{is_start, is_armored, is_ended, IsNamed};
 ghost use Rattle.age_armor.specs.Ending.{KeepsEnding};
 ghost use Rattle.age_armor.specs.declared.stages.Stage.TheVariants.{Binary};
 ghost use Rattle.age_armor.specs.Ahead.{outcome_ahead, rest_ahead, shown_ahead};
@@ -23,6 +23,7 @@ use crate::stages::{Stage, advance};
 use age_error::io::Error;
 use age_io::{BufRead, BufReader, Read};
 use std::alloc::Global;
+use std::fmt;
 
 /// Reads what a text carries: the data of an armored text, and a binary text unchanged (age-encryption.org/v1, section
 /// "ASCII armor").
@@ -47,6 +48,9 @@ pub struct ArmoredReader<R: BufRead> {
     ghost order: { given ≤ filled },
     ghost within: { filled ≤ 48 },
     ghost fresh: { is_start stage ≡ true → given ≡ filled },
+    ghost untaken: { failed ≡ false → is_start stage ≡ true → source.taken ≡ 0 },
+    ghost form: { IsTrue (R.Read.tells source.inner) → IsTrue (R.Read.steady source.inner) → is_start stage ≡ false →
+        is_armored stage ≡ begins_armor (from_place (R.Read.place source.inner - source.taken) (R.Read.content source.inner)).bytes },
     ghost unspent: { failed ≡ false → is_start stage ≡ false → R.Read.faults source.inner < most_faults },
     ghost counted: { IsTrue (R.Read.tells source.inner) → failed ≡ false → place + (filled - given) ≤ source.taken },
     ghost fits: { IsTrue (R.Read.tells source.inner) → place < 2 ^ 63 },
@@ -59,7 +63,7 @@ pub struct ArmoredReader<R: BufRead> {
 }
 
 impl<R: BufRead> Read for ArmoredReader<R> {
-    ghost use Rattle.age_armor.specs.Reader.{inner_of, has_failed, has_armor, outcome_of, text_outcome_of, armored_content, place_of, armored_rest, shown_of};
+    ghost use Rattle.age_armor.specs.Reader.{inner_of, has_failed, has_armor, text_of, outcome_of, text_outcome_of, armored_content, place_of, armored_rest, shown_of};
 
     ghost tells = { λ r. R.Read.tells (inner_of r) };
 
@@ -102,7 +106,8 @@ impl<R: BufRead> Read for ArmoredReader<R> {
     /// - `OutOfMemory`: memory for a line's text was refused.
     /// - `Failed`: it refused before.
     ///
-    /// After a refusal the reader has failed, and stays so. The place is as it was.
+    /// After a refusal the reader has failed, and stays so. The place is as it was, and so is the buffer where the text begins
+    /// as armor does.
     #[tactic(auto, using(crate::proofs::Ahead::rest_failed, crate::proofs::Ahead::shown_small))]
     fn read(&mut self, buf: &mut [u8]) -> Result<usize, Error>
         ensures reads { let reader = ⟦<ArmoredReader<R> as Read>⟧ in
@@ -113,12 +118,20 @@ impl<R: BufRead> Read for ArmoredReader<R> {
         ensures ending { let reader = ⟦<ArmoredReader<R> as Read>⟧ in KeepsEnding (reader.tells self.old) (has_failed self.old)
             (reader.faults self.old) (reader.faults self.new) (outcome_of self.old).ending (outcome_of self.new).ending result }
         ensures whole { IsTrue (R.Read.tells (inner_of self.old)) → text_outcome_of self.new ≡ text_outcome_of self.old }
+        ensures same_text { IsTrue (R.Read.tells (inner_of self.old)) → text_of self.new ≡ text_of self.old }
 
         // It gives what is held of a line, or of the next one. In armor nothing else of the buffer changes.
         ensures held { 0 < length (shown_of self.old) → IfOk result (λ n. n ≤ length (shown_of self.old)) }
         ensures line { IsTrue (has_armor self.new) → IfOk result (λ n. n + length (shown_of self.new) ≤ 48) }
         ensures beyond { IsTrue (has_armor self.new) → IfOk result (λ n. drop n buf.new ≡ drop n buf.old) }
         ensures untouched { IsTrue (has_armor self.new) → OnErr result (buf.new ≡ buf.old) }
+
+        // Whether it has armor is what the text says: a read that isn't empty has found it out, and where the text begins as armor
+        // does a refusal leaves the buffer, also that of the first line.
+        ensures form { 0 < length buf.old → IsTrue (R.Read.tells (inner_of self.old)) → IsTrue (R.Read.steady (inner_of self.old)) →
+            OnOk result (has_armor self.new ≡ begins_armor (text_of self.old).bytes) }
+        ensures spared { IsTrue (R.Read.tells (inner_of self.old)) → IsTrue (R.Read.steady (inner_of self.old)) →
+            IsTrue (begins_armor (text_of self.old).bytes) → OnErr result (buf.new ≡ buf.old) }
 
         ensures failed { IsTrue (has_failed self.old) → (result ≡ Err Failed) × (self.new ≡ self.old) }
         ensures empty { has_failed self.old ≡ false → length buf.old ≡ 0 → (result ≡ Ok 0) × (self.new ≡ self.old) }
@@ -134,7 +147,8 @@ impl<R: BufRead> Read for ArmoredReader<R> {
 }
 
 impl<R: BufRead> ArmoredReader<R> {
-    ghost use Rattle.age_armor.specs.Reader.{inner_of, has_failed, has_armor, outcome_of, text_outcome_of, armored_content, place_of, armored_rest, shown_of};
+    ghost use Rattle.age_armor.specs.Reader.{inner_of, has_failed, has_armor, taken_of, text_of, outcome_of, text_outcome_of, armored_content, place_of, armored_rest, shown_of};
+    ghost use Rattle.age_armor.specs.Seeking.{text_outcome};
 
     /// A reader of what the text carries that begins where `inner` stands.
     ///
@@ -148,6 +162,9 @@ impl<R: BufRead> ArmoredReader<R> {
         ensures place { IfOk result (λ r. place_of r ≡ 0) }
         ensures content { IfOk result (λ r. armored_content r ≡ content_of (R.Read.content inner) (R.Read.place inner)) }
         ensures outcome { IfOk result (λ r. outcome_of r ≡ delivered (R.Read.rest inner).bytes (R.Read.rest inner).ends_well) }
+        ensures text { IfOk result (λ r. text_of r ≡ from_place (R.Read.place inner) (R.Read.content inner)) }
+        ensures whole { IfOk result (λ r. text_outcome_of r ≡ text_outcome (R.Read.content inner) (R.Read.place inner)) }
+        ensures form { IfOk result (λ r. has_armor r ≡ false) }
         ensures rest { IfOk result (λ r. armored_rest r ≡ stretch_of (delivered (R.Read.rest inner).bytes (R.Read.rest inner).ends_well)) }
 
         // What it delivers to a clean end is what the inner reader's rest carries, and the other way.
@@ -177,6 +194,22 @@ impl<R: BufRead> ArmoredReader<R> {
         })
     }
 
+    /// Hands back the inner reader where it stands: in the text, behind all that was taken for what was given and for what is
+    /// held. It never refuses.
+    ///
+    /// What is held and wasn't given is lost with this reader. Of a binary text the inner reader has the rest behind what is
+    /// held; of armor it may stand further on, since markers and lines are taken before their bytes are given.
+    pub fn into_inner(self) -> R
+        ensures inner { result ≡ inner_of self }
+        ensures stands { IsTrue (R.Read.tells (inner_of self)) → IsTrue (R.Read.steady (inner_of self)) →
+            StandsIn (text_of self) (taken_of self) (R.Read.rest result) }
+        ensures behind { IsTrue (R.Read.tells (inner_of self)) → has_failed self ≡ false → place_of self + length (shown_of self) ≤ taken_of self }
+        ensures binary { has_failed self ≡ false → has_armor self ≡ false → 0 < taken_of self →
+            Delivers (shown_of self) (armored_rest self) (R.Read.rest result) }
+    {
+        self.source.inner
+    }
+
     // A read of a good reader into a buffer that isn't empty.
     #[tactic(auto, using(crate::proofs::Ahead::rest_failed, crate::proofs::Ahead::shown_small))]
     pub(crate) fn read_on(&mut self, buf: &mut [u8]) -> Result<usize, Error>
@@ -188,11 +221,15 @@ impl<R: BufRead> ArmoredReader<R> {
         ensures named { IsTrue (R.Read.tells self.old.source.inner) → IfErr result (λ e. e ≢ OutOfMemory →
             IsQuiet (R.Read.faults self.old.source.inner) (R.Read.faults self.new.source.inner) → IsNamed (outcome_of self.old).ending e) }
         ensures ending { IsTrue (R.Read.tells self.old.source.inner) → OnOk result ((outcome_of self.new).ending ≡ (outcome_of self.old).ending) }
-        ensures whole { IsTrue (R.Read.tells self.old.source.inner) → text_outcome_of self.new ≡ text_outcome_of self.old }
+        ensures same_text { IsTrue (R.Read.tells self.old.source.inner) → text_of self.new ≡ text_of self.old }
         ensures held { 0 < length (shown_of self.old) → IfOk result (λ n. n ≤ length (shown_of self.old)) }
         ensures line { IsTrue (has_armor self.new) → IfOk result (λ n. n + length (shown_of self.new) ≤ 48) }
         ensures beyond { IsTrue (has_armor self.new) → IfOk result (λ n. drop n buf.new ≡ drop n buf.old) }
         ensures untouched { IsTrue (has_armor self.new) → OnErr result (buf.new ≡ buf.old) }
+        ensures form { IsTrue (R.Read.tells self.old.source.inner) → IsTrue (R.Read.steady self.old.source.inner) →
+            OnOk result (has_armor self.new ≡ begins_armor (text_of self.old).bytes) }
+        ensures spared { IsTrue (R.Read.tells self.old.source.inner) → IsTrue (R.Read.steady self.old.source.inner) →
+            IsTrue (begins_armor (text_of self.old).bytes) → OnErr result (buf.new ≡ buf.old) }
         ensures fails { OnErr result (self.new.failed ≡ true) }
         ensures good { OnOk result (self.new.failed ≡ false) }
     {
@@ -229,7 +266,7 @@ impl<R: BufRead> ArmoredReader<R> {
         ensures unspent { OnOk result (R.Read.faults self.new.source.inner < most_faults) }
         ensures patient { IfErr result (λ e. IsInterruption e → ⊥) }
         ensures content { IsTrue (R.Read.tells self.old.source.inner) → armored_content self.new ≡ armored_content self.old }
-        ensures whole { IsTrue (R.Read.tells self.old.source.inner) → text_outcome_of self.new ≡ text_outcome_of self.old }
+        ensures same_text { IsTrue (R.Read.tells self.old.source.inner) → text_of self.new ≡ text_of self.old }
         ensures count { IfOk result (λ n. n ≤ length buf.new) }
         ensures bytes { IsTrue (R.Read.tells self.old.source.inner) → IfOk result (λ n.
             Delivers (take n buf.new) (armored_rest self.old) (armored_rest self.new)) }
@@ -244,6 +281,7 @@ impl<R: BufRead> ArmoredReader<R> {
         ensures ending { IsTrue (R.Read.tells self.old.source.inner) → OnOk result ((outcome_of self.new).ending ≡ (outcome_of self.old).ending) }
         ensures shown { shown_of self.old ≡ [] }
         ensures binary { has_armor self.new ≡ false }
+        ensures stage { self.new.stage ≡ Binary }
         ensures fails { OnErr result (self.new.failed ≡ true) }
         ensures good { OnOk result (self.new.failed ≡ false) }
     {
@@ -280,7 +318,7 @@ impl<R: BufRead> ArmoredReader<R> {
         ensures unspent { OnOk result (R.Read.faults self.new.source.inner < most_faults) }
         ensures patient { IfErr result (λ e. IsInterruption e → ⊥) }
         ensures content { IsTrue (R.Read.tells self.old.source.inner) → armored_content self.new ≡ armored_content self.old }
-        ensures whole { IsTrue (R.Read.tells self.old.source.inner) → text_outcome_of self.new ≡ text_outcome_of self.old }
+        ensures same_text { IsTrue (R.Read.tells self.old.source.inner) → text_of self.new ≡ text_of self.old }
         ensures place { self.new.place ≡ self.old.place }
         ensures fresh { OnOk result (self.new.failed ≡ false) }
         ensures rest { IsTrue (R.Read.tells self.old.source.inner) → OnOk result (armored_rest self.new ≡ armored_rest self.old) }
@@ -288,6 +326,7 @@ impl<R: BufRead> ArmoredReader<R> {
             (self.new.given ≡ self.new.filled → IsCleanEnd (armored_rest self.old)) }
         ensures ending { IsTrue (R.Read.tells self.old.source.inner) → OnOk result ((outcome_of self.new).ending ≡ (outcome_of self.old).ending) }
         ensures same { 0 < length (shown_of self.old) → (result ≡ Ok tt) × (shown_of self.new ≡ shown_of self.old) }
+        ensures begun { OnOk result (is_start self.new.stage ≡ false) }
         ensures failed { OnErr result (self.new.failed ≡ true) }
         ensures cause { IsTrue (R.Read.tells self.old.source.inner) → IfErr result (λ e. e ≢ OutOfMemory →
             IsQuiet (R.Read.faults self.old.source.inner) (R.Read.faults self.new.source.inner) → IsFault (armored_rest self.old)) }
@@ -351,15 +390,26 @@ impl<R: BufRead> ArmoredReader<R> {
     }
 }
 
+impl<R: BufRead> fmt::Debug for ArmoredReader<R> {
+    // No byte of the text and of what it carries.
+    ghost debug_output = { λ _. Some (codes "ArmoredReader { .. }") };
+
+    fn fmt<W: fmt::Write>(&self, f: &mut fmt::Formatter<W>) -> fmt::Result {
+        f.write_str("ArmoredReader { .. }")
+    }
+}
+
 impl<R: BufRead> BufRead for ArmoredReader<R> {
-    ghost use Rattle.age_armor.specs.Reader.{inner_of, has_failed, outcome_of, text_outcome_of, shown_of};
+    ghost use Rattle.age_armor.specs.Reader.{inner_of, has_failed, has_armor, text_of, outcome_of, text_outcome_of, shown_of};
 
     ghost shown = { shown_of };
 
     ghost besides = { λ old new result. FailsForGood (has_failed old) (has_failed new) result
         × KeepsEnding (R.Read.tells (inner_of old)) (has_failed old) (R.Read.faults (inner_of old)) (R.Read.faults (inner_of new))
         (outcome_of old).ending (outcome_of new).ending result
-        × (IsTrue (R.Read.tells (inner_of old)) → text_outcome_of new ≡ text_outcome_of old) };
+        × (IsTrue (R.Read.tells (inner_of old)) → text_outcome_of new ≡ text_outcome_of old)
+        × (IsTrue (R.Read.tells (inner_of old)) → text_of new ≡ text_of old)
+        × (IsTrue (R.Read.tells (inner_of old)) → IsTrue (R.Read.steady (inner_of old)) → OnOk result (has_armor new ≡ begins_armor (text_of old).bytes)) };
 
     /// Shows what is held of a line, or the next line's bytes where nothing is held.
     ///
@@ -375,7 +425,7 @@ impl<R: BufRead> BufRead for ArmoredReader<R> {
         }
     }
 
-    /// Takes bytes of what was shown. It neither fails nor makes good again, and how the text ends stays the same.
+    /// Takes bytes of what was shown. It neither fails nor makes good again, and what was found of the text stays the same.
     fn consume(&mut self, amount: usize)
         requires { amount ≤ length (shown_of self.old) }
         ensures consumes { let reader = ⟦<ArmoredReader<R> as Read>⟧ in
@@ -383,6 +433,8 @@ impl<R: BufRead> BufRead for ArmoredReader<R> {
         ensures failed { has_failed self.new ≡ has_failed self.old }
         ensures ending { (outcome_of self.new).ending ≡ (outcome_of self.old).ending }
         ensures whole { text_outcome_of self.new ≡ text_outcome_of self.old }
+        ensures same_text { text_of self.new ≡ text_of self.old }
+        ensures form { has_armor self.new ≡ has_armor self.old }
     {
         self.given += amount;
         self.place = self.place.saturating_add(amount as u64);
@@ -390,7 +442,8 @@ impl<R: BufRead> BufRead for ArmoredReader<R> {
 }
 
 impl<R: Read> ArmoredReader<BufReader<R>> {
-    ghost use Rattle.age_armor.specs.Reader.{has_failed, outcome_of, armored_content, place_of, armored_rest, shown_of};
+    ghost use Rattle.age_armor.specs.Reader.{has_failed, has_armor, text_of, outcome_of, text_outcome_of, armored_content, place_of, armored_rest, shown_of};
+    ghost use Rattle.age_armor.specs.Seeking.{text_outcome};
 
     /// A reader of what the text carries that begins where `inner` stands, over a buffer of its own.
     ///
@@ -406,6 +459,9 @@ impl<R: Read> ArmoredReader<BufReader<R>> {
         ensures place { IfOk result (λ r. place_of r ≡ 0) }
         ensures content { IfOk result (λ r. armored_content r ≡ content_of (R.content inner) (R.place inner)) }
         ensures outcome { IfOk result (λ r. outcome_of r ≡ delivered (R.rest inner).bytes (R.rest inner).ends_well) }
+        ensures text { IfOk result (λ r. text_of r ≡ from_place (R.place inner) (R.content inner)) }
+        ensures whole { IfOk result (λ r. text_outcome_of r ≡ text_outcome (R.content inner) (R.place inner)) }
+        ensures form { IfOk result (λ r. has_armor r ≡ false) }
         ensures rest { IfOk result (λ r. armored_rest r ≡ stretch_of (delivered (R.rest inner).bytes (R.rest inner).ends_well)) }
         ensures carries { IsTrue (R.tells inner) → IfOk result (λ r. IsTrue (armored_rest r).ends_well →
             IsTrue (R.rest inner).ends_well × (AreBytes (R.rest inner).bytes → Carries (R.rest inner).bytes (armored_rest r).bytes)) }

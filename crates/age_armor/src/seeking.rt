@@ -6,7 +6,7 @@ ghost use Rattle.age_error.specs.declared.io.SeekFrom.TheVariants.{Start, End, C
 ghost use Rattle.age_io.specs.Stretch.{Stretch, nothing, from_place, IsCleanEnd};
 ghost use Rattle.age_io.specs.Reading.{IsQuiet, most_faults};
 ghost use Rattle.age_io.specs.Cursor.{Seeks, IsOutside, place_at as place_by, sought as sought_by};
-ghost use Rattle.age_armor.specs.Seeking.{Goes, AsksPast, IsEarly, SeeksText, ComesBack};
+ghost use Rattle.age_armor.specs.Seeking.{Goes, AsksPast, IsEarly, IsFromEnd, SeeksText, ComesBack};
 ghost use Rattle.age_armor.specs.Stages.{IsNamed};
 
 use crate::counted::Counted;
@@ -65,13 +65,13 @@ impl<R: BufRead + Seek> Counted<R> {
 }
 
 impl<R: BufRead + Seek> ArmoredReader<R> {
-    ghost use Rattle.age_armor.specs.Reader.{inner_of, outcome_of, text_outcome_of, armored_content, armored_rest};
+    ghost use Rattle.age_armor.specs.Reader.{inner_of, text_of, outcome_of, text_outcome_of, armored_content, armored_rest};
 
     // Back to the front of the text.
     fn restart(&mut self) -> Result<(), Error>
         ensures goes { let reader = ⟦<ArmoredReader<R> as Read>⟧ in Goes reader.tells reader.steady reader.content reader.faults self.old self.new result }
         ensures front { OnOk result (self.new.place ≡ 0) }
-        ensures whole { IsTrue (R.Read.tells (inner_of self.old)) → text_outcome_of self.new ≡ text_outcome_of self.old }
+        ensures same_text { IsTrue (R.Read.tells (inner_of self.old)) → text_of self.new ≡ text_of self.old }
         ensures stays { OnErr result (self.new.place ≡ self.old.place) }
         ensures good { OnOk result (self.new.failed ≡ false) }
         ensures fails { OnErr result (self.new.failed ≡ true) }
@@ -101,7 +101,7 @@ impl<R: BufRead + Seek> ArmoredReader<R> {
 }
 
 impl<R: BufRead> ArmoredReader<R> {
-    ghost use Rattle.age_armor.specs.Reader.{inner_of, outcome_of, text_outcome_of, armored_content, armored_rest};
+    ghost use Rattle.age_armor.specs.Reader.{inner_of, text_of, outcome_of, text_outcome_of, armored_content, armored_rest};
 
     // Reads on to a place, or to a clean end before it, and tells whether it came to the place.
     fn walk(&mut self, target: u64) -> Result<bool, Error>
@@ -123,7 +123,7 @@ impl<R: BufRead> ArmoredReader<R> {
         ensures named { IsTrue (R.Read.tells (inner_of self.old)) → IfErr result (λ e. e ≢ OutOfMemory →
             IsQuiet (R.Read.faults (inner_of self.old)) (R.Read.faults (inner_of self.new)) → IsNamed (outcome_of self.old).ending e) }
         ensures ending { IsTrue (R.Read.tells (inner_of self.old)) → OnOk result ((outcome_of self.new).ending ≡ (outcome_of self.old).ending) }
-        ensures whole { IsTrue (R.Read.tells (inner_of self.old)) → text_outcome_of self.new ≡ text_outcome_of self.old }
+        ensures same_text { IsTrue (R.Read.tells (inner_of self.old)) → text_of self.new ≡ text_of self.old }
     {
         let mut room = [0; 1024];
         let mut left = target - self.place;
@@ -140,7 +140,7 @@ impl<R: BufRead> ArmoredReader<R> {
 }
 
 impl<R: BufRead + Seek> ArmoredReader<R> {
-    ghost use Rattle.age_armor.specs.Reader.{inner_of, outcome_of, text_outcome_of, armored_content, armored_rest};
+    ghost use Rattle.age_armor.specs.Reader.{inner_of, text_of, outcome_of, text_outcome_of, armored_content, armored_rest};
 
     // Goes to a place from the front of the text.
     fn go_to(&mut self, target: u64) -> Result<u64, Error>
@@ -155,7 +155,7 @@ impl<R: BufRead + Seek> ArmoredReader<R> {
         ensures named { IsTrue (R.Read.tells (inner_of self.old)) → IsTrue (R.Read.content (inner_of self.old)).ends_well →
             IfErr result (λ e. (IsOutside e → ⊥) → e ≢ OutOfMemory → IsQuiet (R.Read.faults (inner_of self.old)) (R.Read.faults (inner_of self.new)) →
             IsNamed (text_outcome_of self.old).ending e × (length (armored_content self.old).bytes < target)) }
-        ensures whole { IsTrue (R.Read.tells (inner_of self.old)) → text_outcome_of self.new ≡ text_outcome_of self.old }
+        ensures same_text { IsTrue (R.Read.tells (inner_of self.old)) → text_of self.new ≡ text_of self.old }
         ensures ending { IsTrue (R.Read.tells (inner_of self.old)) → IsTrue (R.Read.steady (inner_of self.old)) → OnOk result
             ((outcome_of self.new).ending ≡ (text_outcome_of self.old).ending) }
     {
@@ -175,9 +175,11 @@ impl<R: BufRead + Seek> ArmoredReader<R> {
         }
     }
 
-    // Goes to a place counted from the end, once the whole text was read.
+    // Goes to a place counted from the end, once the whole text was read. At the end itself it stands then already.
     fn go_from_end(&mut self, distance: i64) -> Result<u64, Error>
         ensures goes { let reader = ⟦<ArmoredReader<R> as Read>⟧ in Goes reader.tells reader.steady reader.content reader.faults self.old self.new result }
+        ensures well { IsTrue (R.Read.tells (inner_of self.old)) → IsTrue (R.Read.steady (inner_of self.old)) →
+            OnOk result (IsTrue (armored_content self.old).ends_well) }
         ensures place { IsTrue (R.Read.tells (inner_of self.old)) → IfOk result (λ n. self.new.place ≡ n) }
         ensures good { OnOk result (self.new.failed ≡ false) }
         ensures exact { IsTrue (R.Read.tells (inner_of self.old)) → IsTrue (R.Read.steady (inner_of self.old)) → (place : ℕ) → IfOk result (λ n.
@@ -187,7 +189,7 @@ impl<R: BufRead + Seek> ArmoredReader<R> {
         ensures named { IsTrue (R.Read.tells (inner_of self.old)) → IsTrue (R.Read.content (inner_of self.old)).ends_well →
             IfErr result (λ e. (IsOutside e → ⊥) → e ≢ OutOfMemory → IsQuiet (R.Read.faults (inner_of self.old)) (R.Read.faults (inner_of self.new)) →
             IsNamed (text_outcome_of self.old).ending e) }
-        ensures whole { IsTrue (R.Read.tells (inner_of self.old)) → text_outcome_of self.new ≡ text_outcome_of self.old }
+        ensures same_text { IsTrue (R.Read.tells (inner_of self.old)) → text_of self.new ≡ text_of self.old }
         ensures ending { IsTrue (R.Read.tells (inner_of self.old)) → IsTrue (R.Read.steady (inner_of self.old)) → OnOk result
             ((outcome_of self.new).ending ≡ (text_outcome_of self.old).ending) }
     {
@@ -206,7 +208,12 @@ impl<R: BufRead + Seek> ArmoredReader<R> {
         let len = self.place;
         match from_end(len, distance) {
             Err(e) => Err(e),
-            Ok(target) => self.go_to(target),
+            Ok(target) => {
+                if target == len {
+                    return Ok(target);
+                }
+                self.go_to(target)
+            }
         }
     }
 }
@@ -230,7 +237,7 @@ impl<R: BufRead> ArmoredReader<R> {
 }
 
 impl<R: BufRead + Seek> ArmoredReader<R> {
-    ghost use Rattle.age_armor.specs.Reader.{inner_of, has_failed, outcome_of, text_outcome_of, armored_content, place_of, armored_rest};
+    ghost use Rattle.age_armor.specs.Reader.{inner_of, has_failed, text_of, outcome_of, text_outcome_of, armored_content, place_of, armored_rest};
 
     // Back to where it stood, once a seek was refused. After any other error it has failed there, and so has one that had
     // failed before.
@@ -239,7 +246,7 @@ impl<R: BufRead + Seek> ArmoredReader<R> {
         requires inside { IsTrue (R.Read.tells (inner_of self.old)) → IsTrue (R.Read.steady (inner_of self.old)) → place ≤ length (armored_content self.old).bytes }
         ensures back { let reader = ⟦<ArmoredReader<R> as Read>⟧ in
             ComesBack reader.tells reader.steady (λ r. has_failed r) reader.content reader.place reader.rest reader.faults self.old self.new place failed error result }
-        ensures whole { IsTrue (R.Read.tells (inner_of self.old)) → text_outcome_of self.new ≡ text_outcome_of self.old }
+        ensures same_text { IsTrue (R.Read.tells (inner_of self.old)) → text_of self.new ≡ text_of self.old }
         ensures ending { IsTrue (R.Read.tells (inner_of self.old)) → IsTrue (R.Read.steady (inner_of self.old)) → has_failed self.new ≡ false →
             (outcome_of self.new).ending ≡ (text_outcome_of self.old).ending }
     {
@@ -265,7 +272,7 @@ impl<R: BufRead + Seek> ArmoredReader<R> {
         ensures text { let reader = ⟦<ArmoredReader<R> as Read>⟧ in
             SeeksText reader.tells reader.steady (λ r. has_failed r) reader.content reader.place reader.rest reader.faults self.old self.new (Start target)
             (R.Read.content (inner_of self.old)).ends_well (text_outcome_of self.old).ending result }
-        ensures whole { IsTrue (R.Read.tells (inner_of self.old)) → text_outcome_of self.new ≡ text_outcome_of self.old }
+        ensures same_text { IsTrue (R.Read.tells (inner_of self.old)) → text_of self.new ≡ text_of self.old }
         ensures ending { IsTrue (R.Read.tells (inner_of self.old)) → IsTrue (R.Read.steady (inner_of self.old)) → has_failed self.new ≡ false →
             (outcome_of self.new).ending ≡ (text_outcome_of self.old).ending }
     {
@@ -282,7 +289,9 @@ impl<R: BufRead + Seek> ArmoredReader<R> {
         ensures text { let reader = ⟦<ArmoredReader<R> as Read>⟧ in
             SeeksText reader.tells reader.steady (λ r. has_failed r) reader.content reader.place reader.rest reader.faults self.old self.new (End distance)
             (R.Read.content (inner_of self.old)).ends_well (text_outcome_of self.old).ending result }
-        ensures whole { IsTrue (R.Read.tells (inner_of self.old)) → text_outcome_of self.new ≡ text_outcome_of self.old }
+        ensures well { IsTrue (R.Read.tells (inner_of self.old)) → IsTrue (R.Read.steady (inner_of self.old)) →
+            OnOk result (IsTrue (armored_content self.old).ends_well) }
+        ensures same_text { IsTrue (R.Read.tells (inner_of self.old)) → text_of self.new ≡ text_of self.old }
         ensures ending { IsTrue (R.Read.tells (inner_of self.old)) → IsTrue (R.Read.steady (inner_of self.old)) → has_failed self.new ≡ false →
             (outcome_of self.new).ending ≡ (text_outcome_of self.old).ending }
     {
@@ -299,7 +308,7 @@ impl<R: BufRead + Seek> ArmoredReader<R> {
         ensures text { let reader = ⟦<ArmoredReader<R> as Read>⟧ in
             SeeksText reader.tells reader.steady (λ r. has_failed r) reader.content reader.place reader.rest reader.faults self.old self.new (Current distance)
             (R.Read.content (inner_of self.old)).ends_well (text_outcome_of self.old).ending result }
-        ensures whole { IsTrue (R.Read.tells (inner_of self.old)) → text_outcome_of self.new ≡ text_outcome_of self.old }
+        ensures same_text { IsTrue (R.Read.tells (inner_of self.old)) → text_of self.new ≡ text_of self.old }
         ensures ending { IsTrue (R.Read.tells (inner_of self.old)) → IsTrue (R.Read.steady (inner_of self.old)) →
             (IsEarly (Current distance) (place_of self.old) → ⊥) → has_failed self.new ≡ false →
             (outcome_of self.new).ending ≡ (text_outcome_of self.old).ending }
@@ -318,7 +327,7 @@ impl<R: BufRead + Seek> ArmoredReader<R> {
 }
 
 impl<R: BufRead + Seek> Seek for ArmoredReader<R> {
-    ghost use Rattle.age_armor.specs.Reader.{inner_of, has_failed, outcome_of, text_outcome_of, armored_content, place_of, armored_rest};
+    ghost use Rattle.age_armor.specs.Reader.{inner_of, has_failed, text_of, outcome_of, text_outcome_of, armored_content, place_of, armored_rest};
 
     /// Moves within what the text carries, and answers the new place in bytes from its front.
     ///
@@ -351,8 +360,13 @@ impl<R: BufRead + Seek> Seek for ArmoredReader<R> {
             IfErr result (λ e. (IsOutside e → ⊥) → e ≢ OutOfMemory → IsQuiet (R.Read.faults (inner_of self.old)) (R.Read.faults (inner_of self.new)) →
             IsNamed (text_outcome_of self.old).ending e × AsksPast to (place_of self.old) (length (armored_content self.old).bytes)) }
 
+        // A target counted from the end is come to only where the text carries bytes: of a bad one the length isn't known.
+        ensures well { IsTrue (R.Read.tells (inner_of self.old)) → IsTrue (R.Read.steady (inner_of self.old)) → IsFromEnd to →
+            OnOk result (IsTrue (armored_content self.old).ends_well) }
+
         // How the text ends stays the same, and a reader that hasn't failed comes to that end, unless nothing was looked for.
         ensures whole { IsTrue (R.Read.tells (inner_of self.old)) → text_outcome_of self.new ≡ text_outcome_of self.old }
+        ensures same_text { IsTrue (R.Read.tells (inner_of self.old)) → text_of self.new ≡ text_of self.old }
         ensures ending { IsTrue (R.Read.tells (inner_of self.old)) → IsTrue (R.Read.steady (inner_of self.old)) →
             (IsEarly to (place_of self.old) → ⊥) → has_failed self.new ≡ false →
             (outcome_of self.new).ending ≡ (text_outcome_of self.old).ending }

@@ -32,7 +32,7 @@ pub(crate) struct Piece {
     pub(crate) next: Stage,
 }
 
-ghost use Rattle.age_armor.specs.Stages.{ahead, Advances, Stops, IsFound, is_start, is_ended};
+ghost use Rattle.age_armor.specs.Stages.{ahead, Advances, Stops, IsFound, FindsForm, is_start, is_armored, is_ended};
 ghost use Rattle.age_armor.specs.declared.stages.Stage.TheVariants.{Start, Binary};
 
 /// Reads the first 35 bytes and looks at the next; takes the begin marker's line, where it stands there.
@@ -43,6 +43,7 @@ fn detect<R: BufRead>(source: &mut Counted<R>, bytes: &mut [u8; 48]) -> Result<P
     ensures bytes { IsTrue (R.Read.tells source.old.inner) → IfOk result (λ piece.
         Advances (delivered (R.Read.rest source.old.inner).bytes (R.Read.rest source.old.inner).ends_well) (take piece.count bytes.new) (ahead piece.next (R.Read.rest source.new.inner))) }
     ensures found { IfOk result (λ piece. IsFound piece) }
+    ensures form { IsTrue (R.Read.tells source.old.inner) → IfOk result (λ piece. FindsForm (is_armored piece.next) (R.Read.rest source.old.inner).bytes) }
     ensures cause { IsTrue (R.Read.tells source.old.inner) → IfErr result (λ e. e ≢ OutOfMemory → IsQuiet (R.Read.faults source.old.inner) (R.Read.faults source.new.inner) →
         Stops (delivered (R.Read.rest source.old.inner).bytes (R.Read.rest source.old.inner).ends_well) e) }
 {
@@ -70,6 +71,8 @@ fn after_front<R: BufRead>(
     ensures kept { Kept R.Read.tells R.Read.steady R.Read.content R.Read.place R.Read.faults source.old.inner source.old.taken source.new.inner source.new.taken result }
     ensures fits { IfOk result (λ piece. piece.count ≤ 35) }
     ensures found { IfOk result (λ piece. IsFound piece) }
+    ensures form { IsTrue (R.Read.tells source.old.inner) → (all : Stretch) → Delivers front.now all (R.Read.rest source.old.inner) →
+        0 < length (R.Read.rest source.old.inner).bytes → IfOk result (λ piece. FindsForm (is_armored piece.next) all.bytes) }
     ensures bytes { IsTrue (R.Read.tells source.old.inner) → (all : Stretch) → Delivers front.now all (R.Read.rest source.old.inner) →
         0 < length (R.Read.rest source.old.inner).bytes → IfOk result (λ piece.
         Advances (delivered all.bytes all.ends_well) (take piece.count bytes.new) (ahead piece.next (R.Read.rest source.new.inner))) }
@@ -120,6 +123,7 @@ fn next_line<R: BufRead>(
     ensures kept { Kept R.Read.tells R.Read.steady R.Read.content R.Read.place R.Read.faults source.old.inner source.old.taken source.new.inner source.new.taken result }
     ensures fits { IfOk result (λ piece. piece.count ≤ 48) }
     ensures begun { IfOk result (λ piece. is_start piece.next ≡ false) }
+    ensures lines { IfOk result (λ piece. is_armored piece.next ≡ true) }
     ensures taken { IsTrue (R.Read.tells source.old.inner) → IfOk result (λ piece. source.old.taken + piece.count ≤ source.new.taken) }
     ensures bytes { IsTrue (R.Read.tells source.old.inner) → IfOk result (λ piece.
         Advances (section after_short (raw_lines (R.Read.rest source.old.inner).bytes) (R.Read.rest source.old.inner).ends_well) (take piece.count bytes.new) (ahead piece.next (R.Read.rest source.new.inner))) }
@@ -155,6 +159,7 @@ fn any_line<R: BufRead>(
     ensures kept { Kept R.Read.tells R.Read.steady R.Read.content R.Read.place R.Read.faults source.old.inner source.old.taken source.new.inner source.new.taken result }
     ensures fits { IfOk result (λ piece. piece.count ≤ 48) }
     ensures begun { IfOk result (λ piece. is_start piece.next ≡ false) }
+    ensures lines { IfOk result (λ piece. is_armored piece.next ≡ true) }
     ensures taken { IsTrue (R.Read.tells source.old.inner) → IfOk result (λ piece. source.old.taken + piece.count ≤ source.new.taken) }
     ensures bytes { IsTrue (R.Read.tells source.old.inner) → IfOk result (λ piece.
         Advances (section after_short (raw_lines (R.Read.rest source.old.inner).bytes) (R.Read.rest source.old.inner).ends_well) (take piece.count bytes.new) (ahead piece.next (R.Read.rest source.new.inner))) }
@@ -196,6 +201,7 @@ fn first<R: BufRead>(
     ensures kept { Kept R.Read.tells R.Read.steady R.Read.content R.Read.place R.Read.faults source.old.inner source.old.taken source.new.inner source.new.taken result }
     ensures fits { IfOk result (λ piece. piece.count ≤ 48) }
     ensures begun { IfOk result (λ piece. is_start piece.next ≡ false) }
+    ensures form { IsTrue (R.Read.tells source.old.inner) → IfOk result (λ piece. FindsForm (is_armored piece.next) (R.Read.rest source.old.inner).bytes) }
     ensures taken { IsTrue (R.Read.tells source.old.inner) → IfOk result (λ piece. source.old.taken + piece.count ≤ source.new.taken) }
     ensures bytes { IsTrue (R.Read.tells source.old.inner) → IfOk result (λ piece.
         Advances (ahead Start (R.Read.rest source.old.inner)) (take piece.count bytes.new) (ahead piece.next (R.Read.rest source.new.inner))) }
@@ -218,6 +224,7 @@ fn next_bytes<R: BufRead>(source: &mut Counted<R>, bytes: &mut [u8; 48]) -> Resu
     ensures kept { Kept R.Read.tells R.Read.steady R.Read.content R.Read.place R.Read.faults source.old.inner source.old.taken source.new.inner source.new.taken result }
     ensures fits { IfOk result (λ piece. piece.count ≤ 48) }
     ensures begun { IfOk result (λ piece. is_start piece.next ≡ false) }
+    ensures binary { IfOk result (λ piece. is_armored piece.next ≡ false) }
     ensures taken { IsTrue (R.Read.tells source.old.inner) → IfOk result (λ piece. source.old.taken + piece.count ≤ source.new.taken) }
     ensures bytes { IsTrue (R.Read.tells source.old.inner) → IfOk result (λ piece.
         Advances (ahead Binary (R.Read.rest source.old.inner)) (take piece.count bytes.new) (ahead piece.next (R.Read.rest source.new.inner))) }
@@ -248,6 +255,9 @@ pub(crate) fn advance<R: BufRead>(
     ensures kept { Kept R.Read.tells R.Read.steady R.Read.content R.Read.place R.Read.faults source.old.inner source.old.taken source.new.inner source.new.taken result }
     ensures fits { IfOk result (λ piece. piece.count ≤ 48) }
     ensures begun { IfOk result (λ piece. is_start piece.next ≡ false) }
+    ensures form { IsTrue (R.Read.tells source.old.inner) → is_start stage ≡ true →
+        IfOk result (λ piece. FindsForm (is_armored piece.next) (R.Read.rest source.old.inner).bytes) }
+    ensures kept_form { is_start stage ≡ false → IfOk result (λ piece. is_armored piece.next ≡ is_armored stage) }
     ensures taken { IsTrue (R.Read.tells source.old.inner) → IfOk result (λ piece. source.old.taken + piece.count ≤ source.new.taken) }
     ensures bytes { IsTrue (R.Read.tells source.old.inner) → IfOk result (λ piece.
         Advances (ahead stage (R.Read.rest source.old.inner)) (take piece.count bytes.new) (ahead piece.next (R.Read.rest source.new.inner))) }

@@ -1,5 +1,5 @@
 //! Writing armor.
-ghost use Rattle.std.specs.Prelude.{◌≡◌, ◌≢◌, ℕ, ◌+◌, ◌*◌, ◌<◌, ◌≤◌, Bool, true, false, IsTrue, List, [], ◌++◌, length, take, IfOk, IfErr, OnOk, OnErr, IsOk, IsOkAnd, Ok, Err, vec_len, vec_capacity};
+ghost use Rattle.std.specs.Prelude.{◌≡◌, ◌≢◌, ℕ, ◌+◌, ◌*◌, ◌<◌, ◌≤◌, Bool, true, false, IsTrue, List, [], ◌++◌, length, take, IfOk, IfErr, OnOk, OnErr, IsOk, IsOkAnd, Ok, Err, Some, codes, vec_len, vec_capacity};
 ghost use Rattle.age_error.specs.Refusals.{IsInterruption};
 ghost use Rattle.age_error.specs.declared.io.Error.TheVariants.{Failed, TooLong};
 
@@ -9,6 +9,7 @@ use crate::sending::{write_begin, write_end, write_lines};
 use age_error::io::Error;
 use age_io::{Write, room_for};
 use std::alloc::Global;
+use std::fmt;
 
 // How many full lines go out in one write at most.
 const LINES: usize = 1024;
@@ -222,6 +223,15 @@ impl<W: Write + Drop> ArmoredWriter<W> {
         }
         write_end(&mut inner, &encoder, &held)?;
         Ok(inner)
+    }
+}
+
+impl<W> fmt::Debug for ArmoredWriter<W> {
+    // No byte of what it has taken.
+    ghost debug_output = { λ _. Some (codes "ArmoredWriter { .. }") };
+
+    fn fmt<F: fmt::Write>(&self, f: &mut fmt::Formatter<F>) -> fmt::Result {
+        f.write_str("ArmoredWriter { .. }")
     }
 }
 

@@ -4,7 +4,7 @@ use Rattle.std.specs.List.{starts_with}
 use Rattle.std.proofs.lemmas.Grind.{common_steps}
 use Rattle.std.proofs.lemmas.List.{take_at}
 use Rattle.age_armor.specs.Armor.{begin_marker}
-use Rattle.age_armor.proofs.Staging.{detects_binary, detects_lf, detects_crlf, detects_bad, detects_bad_next, advances_none, one_of}
+use Rattle.age_armor.proofs.Staging.{finds_form, detects_binary, detects_lf, detects_crlf, detects_bad, detects_bad_next, advances_none, one_of}
 use Rattle.age_armor.proofs.stages.after_front.Goals as goal
 
 pub returns-then-not-starts_with-clause-bytes : goal.returns-then-not-starts_with-clause-bytes
@@ -55,3 +55,18 @@ returns-clause-bytes g c = λ told all d some.
     let lf : slice_index next 0 ≡ 10 = grind (arith, common_steps) in
     advances_none _ _ _ refl (detects_crlf front all (g.R.Read.rest c.args.source.now.inner) (g.R.Read.rest c.take_front.new.self.inner)
     c.told-front d some marker cr (rw lf at took))
+
+pub returns-then-not-starts_with-clause-form : goal.returns-then-not-starts_with-clause-form
+returns-then-not-starts_with-clause-form g c = λ told all d some.
+    let other : starts_with nat_eq c.args.front.now begin_marker ≡ false = sym c.starts_with.ensures.value ∙ c.if-not-starts_with.true in
+    finds_form c.args.front.now all (g.R.Read.rest c.args.source.now.inner) false c.told-front d some other
+
+pub returns-then-last-eq10-clause-form : goal.returns-then-last-eq10-clause-form
+returns-then-last-eq10-clause-form g c = λ told all d some.
+    let marker : starts_with nat_eq c.args.front.now begin_marker ≡ true = sym c.starts_with.ensures.value ∙ c.if-not-starts_with.false in
+    finds_form c.args.front.now all (g.R.Read.rest c.args.source.now.inner) true c.told-front d some marker
+
+pub returns-clause-form : goal.returns-clause-form
+returns-clause-form g c = λ told all d some.
+    let marker : starts_with nat_eq c.args.front.now begin_marker ≡ true = sym c.starts_with.ensures.value ∙ c.if-not-starts_with.false in
+    finds_form c.args.front.now all (g.R.Read.rest c.args.source.now.inner) true c.told-front d some marker

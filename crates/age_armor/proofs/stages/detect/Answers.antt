@@ -40,3 +40,13 @@ returns-clause-cause g c = λ told.
     IfErr-weaker c.after_front.result _ _ (λ e h other quiet. h other
     (quiet_after _ _ _ (omega (arith, got.kept.no_fewer_faults, now.kept.no_fewer_faults)) last.kept.no_fewer_faults quiet))
     (last.cause (now.kept.same_tells ∙ mid) (g.R.Read.rest c.args.source.now.inner) d some)
+
+pub returns-clause-form : goal.returns-clause-form
+returns-clause-form g c = λ told.
+    let got = c.in-Ok-true.ensures in
+    let now = c.in-Ok-false-is_at_end.ensures in
+    let mid = got.kept.same_tells ∙ told in
+    let same = now.same mid in
+    let d : Delivers c.take_front.new.front (g.R.Read.rest c.args.source.now.inner) (g.R.Read.rest c.is_at_end.new.self.inner) = rw same (got.bytes told c.in-Ok-true.field-0-test) in
+    let some : 0 < length (g.R.Read.rest c.is_at_end.new.self.inner).bytes = rw same (now.some mid c.in-Ok-false-is_at_end.field-0-test) in
+    c.after_front.ensures.form (now.kept.same_tells ∙ mid) (g.R.Read.rest c.args.source.now.inner) d some

@@ -1,9 +1,9 @@
 use Rattle.std.proofs.Common.{◌∙◌, ◌-◌, ◌<◌, ◌≤◌, length, arith, ap, sym, subst, inl, inr}
 use Rattle.std.proofs.lemmas.Bool.{true≢false}
+use Rattle.age_io.specs.Stretch.{from_place}
 use Rattle.age_armor.specs.DeliveredLaws.{content_of}
 use Rattle.age_armor.specs.Reader.{armored_content}
 use Rattle.age_armor.specs.ReaderLaws.{well_inner}
-use Rattle.age_armor.specs.Seeking.{text_outcome}
 use Rattle.age_armor.proofs.Aiming.{refusal_or_not, failed-before, failed-now, came, lost}
 use Rattle.age_armor.proofs.reader.ArmoredReader.come_back.Goals as goal
 
@@ -15,7 +15,7 @@ returns-then-failed g c =
       back = failed-before _ _ _ _ _ _ _ _ _ _ _ _
           (ap (λ s. reader.tells s.inner) now.source) (ap (λ s. reader.steady s.inner) now.source) (ap (λ s. reader.faults s.inner) now.source)
           (ap (λ s. content_of (reader.content s.inner) (reader.place s.inner - s.taken)) now.source) now.place now.failed now.rest c.if-failed.true;
-      whole = λ told. ap (λ s. text_outcome (reader.content s.inner) (reader.place s.inner - s.taken)) now.source;
+      same_text = λ told. ap (λ s. from_place (reader.place s.inner - s.taken) (reader.content s.inner)) now.source;
       ending = λ told steady good. absurd (true≢false (sym now.failed ∙ good));
     }
 
@@ -28,7 +28,7 @@ returns-then-not-is_outside g c =
           (ap (λ s. reader.tells s.inner) now.source) (ap (λ s. reader.steady s.inner) now.source) (ap (λ s. reader.faults s.inner) now.source)
           (ap (λ s. content_of (reader.content s.inner) (reader.place s.inner - s.taken)) now.source) now.place now.failed now.rest
           (c.is_outside.ensures.no c.if-not-is_outside.true);
-      whole = λ told. ap (λ s. text_outcome (reader.content s.inner) (reader.place s.inner - s.taken)) now.source;
+      same_text = λ told. ap (λ s. from_place (reader.place s.inner - s.taken) (reader.content s.inner)) now.source;
       ending = λ told steady good. absurd (true≢false (sym now.failed ∙ good));
     }
 
@@ -47,7 +47,7 @@ returns-in-Ok g c =
     record {
       back = came _ _ _ _ _ _ _ _ _ _ _ _ _ now.goes now.good now.place (λ told steady. (now.within told steady).1) c.if-failed.false
           (c.is_outside.ensures.yes c.if-not-is_outside.false);
-      whole = now.whole;
+      same_text = now.same_text;
       ending = λ told steady good. now.ending told steady;
     }
 
@@ -73,6 +73,6 @@ returns-in-Err g c =
                 let beyond : length (armored_content before).bytes < c.args.place = (missed.named told inner not (λ memory. other (made.same not ∙ memory)) quiet).1 in
                 absurd (omega (arith, beyond, within))
           ]);
-      whole = λ told. ap (λ s. text_outcome (reader.content s.inner) (reader.place s.inner - s.taken)) now.source ∙ missed.whole told;
+      same_text = λ told. ap (λ s. from_place (reader.place s.inner - s.taken) (reader.content s.inner)) now.source ∙ missed.same_text told;
       ending = λ told steady good. absurd (true≢false (sym now.failed ∙ good));
     }

@@ -31,6 +31,8 @@ invariant_of-self g c =
       order = let h : before.given + n ≤ before.filled = omega (arith, before.order, fits) in h;
       within = before.within;
       fresh = λ start. omega (arith, before.fresh start, fits);
+      untaken = before.untaken;
+      form = before.form;
       unspent = before.unspent;
       counted = λ told good. omega (arith, before.counted told c.requires, place told, fits);
       fits = λ told. omega (arith, before.counted told c.requires, place told, fits, before.source.behind told, g.met.R.Read.place_fits before.source.inner told);

@@ -5,6 +5,7 @@ use Rattle.age_error.specs.declared.io.SeekFrom.TheVariants.{End}
 use Rattle.age_io.specs.Cursor.{sought, target}
 use Rattle.age_io.specs.Stretch.{from_place}
 use Rattle.age_io.specs.Reading.{IsQuiet}
+use Rattle.age_armor.specs.Delivered.{delivered}
 use Rattle.age_armor.specs.ReaderLaws.{well_inner}
 use Rattle.age_armor.specs.Stages.{IsNamed}
 use Rattle.age_armor.specs.Reader.{armored_content, armored_rest}
@@ -95,8 +96,8 @@ returns-in-Err-from_end-clause-named g c = λ told well own other quiet.
     subst (λ d. sought (End d) 0 new.place ≡ Err c.in-Err-from_end.e) (to_z-of_z {w = w64} c.ranges.distance) (sym (c.from_end.ensures.exact fits 0) ∙ c.in-Err-from_end.is) in
     absurd (own (moved-refusal (target (End c.args.distance) 0 new.place) new.place c.in-Err-from_end.e answer))
 
-pub returns-in-Ok-from_end-clause-goes : goal.returns-in-Ok-from_end-clause-goes
-returns-in-Ok-from_end-clause-goes g c =
+pub returns-else-target-len-clause-goes : goal.returns-else-target-len-clause-goes
+returns-else-target-len-clause-goes g c =
     let first = c.in-Ok.ensures.goes in
     let last = c.in-Ok-walk.ensures.goes in
     goes-later _ _ _ _ c.args.self.now c.walk.new.self c.go_to.new.self c.go_to.result
@@ -105,13 +106,13 @@ returns-in-Ok-from_end-clause-goes g c =
     (λ told. last.same_content (first.same_tells ∙ told) ∙ first.same_content told)
     c.go_to.ensures.goes
 
-pub returns-in-Ok-from_end-clause-place : goal.returns-in-Ok-from_end-clause-place
-returns-in-Ok-from_end-clause-place g c = λ told.
+pub returns-else-target-len-clause-place : goal.returns-else-target-len-clause-place
+returns-else-target-len-clause-place g c = λ told.
     let told_new = c.in-Ok-walk.ensures.goes.same_tells ∙ c.in-Ok.ensures.goes.same_tells ∙ told in
     arrives c.go_to.result c.go_to.new.self.place c.in-Ok-from_end.target c.go_to.ensures.there (c.go_to.ensures.place told_new)
 
-pub returns-in-Ok-from_end-clause-exact : goal.returns-in-Ok-from_end-clause-exact
-returns-in-Ok-from_end-clause-exact g c = λ told steady place.
+pub returns-else-target-len-clause-exact : goal.returns-else-target-len-clause-exact
+returns-else-target-len-clause-exact g c = λ told steady place.
     let before = c.args.self.now in
     let middle = c.restart.new.self in
     let new = c.walk.new.self in
@@ -136,8 +137,8 @@ returns-in-Ok-from_end-clause-exact g c = λ told steady place.
     arrives-within _ c.go_to.result (target (End c.args.distance) place (length (armored_content before).bytes)) (length (armored_content before).bytes) c.in-Ok-from_end.target
     (armored_rest c.go_to.new.self) (armored_content before) (armored_content new) moved all c.go_to.ensures.there (c.go_to.ensures.within told_new steady_new)
 
-pub returns-in-Ok-from_end-clause-refused : goal.returns-in-Ok-from_end-clause-refused
-returns-in-Ok-from_end-clause-refused g c = λ told steady place.
+pub returns-else-target-len-clause-refused : goal.returns-else-target-len-clause-refused
+returns-else-target-len-clause-refused g c = λ told steady place.
     let before = c.args.self.now in
     let middle = c.restart.new.self in
     let new = c.walk.new.self in
@@ -160,8 +161,8 @@ returns-in-Ok-from_end-clause-refused g c = λ told steady place.
     let most : c.in-Ok-from_end.target ≤ new.place = within-moved (target (End c.args.distance) place new.place) c.in-Ok-from_end.target new.place answer in
     IfErr-weaker c.go_to.result _ _ (λ e past refusal. let beyond = (past refusal).1 in absurd (omega (arith, beyond, most, within))) (c.go_to.ensures.past told_new steady_new)
 
-pub returns-in-Ok-from_end-clause-named : goal.returns-in-Ok-from_end-clause-named
-returns-in-Ok-from_end-clause-named g c = λ told well.
+pub returns-else-target-len-clause-named : goal.returns-else-target-len-clause-named
+returns-else-target-len-clause-named g c = λ told well.
     let steady = g.met.R.Read.well c.args.self.now.source.inner told well in
     let before = c.args.self.now in
     let middle = c.restart.new.self in
@@ -194,25 +195,99 @@ returns-in-Ok-from_end-clause-named g c = λ told well.
     absurd (omega (arith, beyond, most, within)))
     (c.go_to.ensures.named told_new well_new)
 
-pub returns-in-Err-walk-clause-whole : goal.returns-in-Err-walk-clause-whole
-returns-in-Err-walk-clause-whole g c = λ told. c.in-Err-walk.ensures.whole (c.in-Ok.ensures.goes.same_tells ∙ told) ∙ c.in-Ok.ensures.whole told
+pub returns-in-Err-walk-clause-same_text : goal.returns-in-Err-walk-clause-same_text
+returns-in-Err-walk-clause-same_text g c = λ told. c.in-Err-walk.ensures.same_text (c.in-Ok.ensures.goes.same_tells ∙ told) ∙ c.in-Ok.ensures.same_text told
 
-pub returns-then-there-clause-whole : goal.returns-then-there-clause-whole
-returns-then-there-clause-whole g c = λ told. c.in-Ok-walk.ensures.whole (c.in-Ok.ensures.goes.same_tells ∙ told) ∙ c.in-Ok.ensures.whole told
+pub returns-then-there-clause-same_text : goal.returns-then-there-clause-same_text
+returns-then-there-clause-same_text g c = λ told. c.in-Ok-walk.ensures.same_text (c.in-Ok.ensures.goes.same_tells ∙ told) ∙ c.in-Ok.ensures.same_text told
 
-pub returns-in-Err-from_end-clause-whole : goal.returns-in-Err-from_end-clause-whole
-returns-in-Err-from_end-clause-whole g c = λ told. c.in-Ok-walk.ensures.whole (c.in-Ok.ensures.goes.same_tells ∙ told) ∙ c.in-Ok.ensures.whole told
+pub returns-in-Err-from_end-clause-same_text : goal.returns-in-Err-from_end-clause-same_text
+returns-in-Err-from_end-clause-same_text g c = λ told. c.in-Ok-walk.ensures.same_text (c.in-Ok.ensures.goes.same_tells ∙ told) ∙ c.in-Ok.ensures.same_text told
 
-pub returns-in-Ok-from_end-clause-whole : goal.returns-in-Ok-from_end-clause-whole
-returns-in-Ok-from_end-clause-whole g c = λ told.
+pub returns-else-target-len-clause-same_text : goal.returns-else-target-len-clause-same_text
+returns-else-target-len-clause-same_text g c = λ told.
     let told_middle = c.in-Ok.ensures.goes.same_tells ∙ told in
-    c.go_to.ensures.whole (c.in-Ok-walk.ensures.goes.same_tells ∙ told_middle) ∙ c.in-Ok-walk.ensures.whole told_middle ∙ c.in-Ok.ensures.whole told
+    c.go_to.ensures.same_text (c.in-Ok-walk.ensures.goes.same_tells ∙ told_middle) ∙ c.in-Ok-walk.ensures.same_text told_middle ∙ c.in-Ok.ensures.same_text told
 
-pub returns-in-Ok-from_end-clause-ending : goal.returns-in-Ok-from_end-clause-ending
-returns-in-Ok-from_end-clause-ending g c = λ told steady.
+pub returns-else-target-len-clause-ending : goal.returns-else-target-len-clause-ending
+returns-else-target-len-clause-ending g c = λ told steady.
     let first = c.in-Ok.ensures in
     let last = c.in-Ok-walk.ensures in
     let told_middle = first.goes.same_tells ∙ told in
     let steady_middle = first.goes.same_steady ∙ steady in
-    on_ok_weaker c.go_to.result (λ is. is ∙ ap (λ o. o.ending) (last.whole told_middle ∙ first.whole told))
+    on_ok_weaker c.go_to.result (λ is. is ∙ ap (λ t. (delivered t.bytes t.ends_well).ending) (last.same_text told_middle ∙ first.same_text told))
     (c.go_to.ensures.ending (last.goes.same_tells ∙ told_middle) (last.goes.same_steady ∙ steady_middle))
+
+pub returns-else-target-len-clause-well : goal.returns-else-target-len-clause-well
+returns-else-target-len-clause-well g c = λ told steady.
+    let before = c.args.self.now in
+    let middle = c.restart.new.self in
+    let new = c.walk.new.self in
+    let first = c.in-Ok.ensures in
+    let last = c.in-Ok-walk.ensures in
+    let told_middle = first.goes.same_tells ∙ told in
+    let steady_middle = first.goes.same_steady ∙ steady in
+    let told_new = last.goes.same_tells ∙ told_middle in
+    let steady_new = last.goes.same_steady ∙ steady_middle in
+    let same : armored_content middle ≡ armored_content before = first.goes.same_content told in
+    let all : armored_content new ≡ armored_content before = last.goes.same_content told_middle ∙ same in
+    let stands : armored_rest middle ≡ from_place middle.place (armored_content middle) = rw (first.front, same) (first.rest told steady) in
+    let within : new.place ≤ length (armored_content new).bytes = new.inside told_new steady_new in
+    let within_before : new.place ≤ length (armored_content before).bytes = subst (λ s. new.place ≤ length s.bytes) all within in
+    let end = last.end told_middle c.if-there.false in
+    let at = ends_at (armored_content before) (armored_rest new) new.place (last.rest told_middle stands ∙ ap (from_place new.place) same) end.0 within_before in
+    on_ok_weaker c.go_to.result (λ is. at.0) (c.go_to.ensures.within told_new steady_new)
+
+pub returns-then-target-len-clause-exact : goal.returns-then-target-len-clause-exact
+returns-then-target-len-clause-exact g c = λ told steady place.
+    let before = c.args.self.now in
+    let middle = c.restart.new.self in
+    let new = c.walk.new.self in
+    let first = c.in-Ok.ensures in
+    let last = c.in-Ok-walk.ensures in
+    let told_middle = first.goes.same_tells ∙ told in
+    let steady_middle = first.goes.same_steady ∙ steady in
+    let told_new = last.goes.same_tells ∙ told_middle in
+    let steady_new = last.goes.same_steady ∙ steady_middle in
+    let same : armored_content middle ≡ armored_content before = first.goes.same_content told in
+    let all : armored_content new ≡ armored_content before = last.goes.same_content told_middle ∙ same in
+    let stands : armored_rest middle ≡ from_place middle.place (armored_content middle) = rw (first.front, same) (first.rest told steady) in
+    let within : new.place ≤ length (armored_content new).bytes = new.inside told_new steady_new in
+    let within_before : new.place ≤ length (armored_content before).bytes = subst (λ s. new.place ≤ length s.bytes) all within in
+    let end = last.end told_middle c.if-there.false in
+    let here : armored_rest new ≡ from_place new.place (armored_content before) = last.rest told_middle stands ∙ ap (from_place new.place) same in
+    let at = ends_at (armored_content before) (armored_rest new) new.place here end.0 within_before in
+    let fits : new.place < 2 ^ 63 = new.fits told_new in
+    let answer : sought (End c.args.distance) place new.place ≡ Ok c.in-Ok-from_end.target =
+    subst (λ d. sought (End d) place new.place ≡ Ok c.in-Ok-from_end.target) (to_z-of_z {w = w64} c.ranges.distance) (sym (c.from_end.ensures.exact fits place) ∙ c.in-Ok-from_end.is) in
+    let moved : sought (End c.args.distance) place (length (armored_content before).bytes) ≡ Ok c.in-Ok-from_end.target =
+    subst (λ n. sought (End c.args.distance) place n ≡ Ok c.in-Ok-from_end.target) at.1 answer in
+    (moved, subst (λ n. armored_rest new ≡ from_place n (armored_content before)) (sym c.if-target-len.true) here)
+
+pub returns-then-target-len-clause-well : goal.returns-then-target-len-clause-well
+returns-then-target-len-clause-well g c = λ told steady.
+    let before = c.args.self.now in
+    let middle = c.restart.new.self in
+    let new = c.walk.new.self in
+    let first = c.in-Ok.ensures in
+    let last = c.in-Ok-walk.ensures in
+    let told_middle = first.goes.same_tells ∙ told in
+    let steady_middle = first.goes.same_steady ∙ steady in
+    let told_new = last.goes.same_tells ∙ told_middle in
+    let steady_new = last.goes.same_steady ∙ steady_middle in
+    let same : armored_content middle ≡ armored_content before = first.goes.same_content told in
+    let all : armored_content new ≡ armored_content before = last.goes.same_content told_middle ∙ same in
+    let stands : armored_rest middle ≡ from_place middle.place (armored_content middle) = rw (first.front, same) (first.rest told steady) in
+    let within : new.place ≤ length (armored_content new).bytes = new.inside told_new steady_new in
+    let within_before : new.place ≤ length (armored_content before).bytes = subst (λ s. new.place ≤ length s.bytes) all within in
+    let end = last.end told_middle c.if-there.false in
+    let at = ends_at (armored_content before) (armored_rest new) new.place (last.rest told_middle stands ∙ ap (from_place new.place) same) end.0 within_before in
+    at.0
+
+pub returns-then-target-len-clause-ending : goal.returns-then-target-len-clause-ending
+returns-then-target-len-clause-ending g c = λ told steady.
+    c.in-Ok-walk.ensures.ending (c.in-Ok.ensures.goes.same_tells ∙ told) ∙ ap (λ o. o.ending) (c.in-Ok.ensures.outcome told steady)
+
+pub returns-then-target-len-clause-same_text : goal.returns-then-target-len-clause-same_text
+returns-then-target-len-clause-same_text g c = λ told.
+    c.in-Ok-walk.ensures.same_text (c.in-Ok.ensures.goes.same_tells ∙ told) ∙ c.in-Ok.ensures.same_text told

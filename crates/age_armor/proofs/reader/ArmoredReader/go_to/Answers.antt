@@ -98,14 +98,14 @@ returns-else-there-clause-past g c = λ told steady refusal.
 pub returns-else-there-clause-named : goal.returns-else-there-clause-named
 returns-else-there-clause-named g c = λ told well own. absurd (own tt)
 
-pub returns-in-Err-walk-clause-whole : goal.returns-in-Err-walk-clause-whole
-returns-in-Err-walk-clause-whole g c = λ told. c.in-Err-walk.ensures.whole (c.in-Ok.ensures.goes.same_tells ∙ told) ∙ c.in-Ok.ensures.whole told
+pub returns-in-Err-walk-clause-same_text : goal.returns-in-Err-walk-clause-same_text
+returns-in-Err-walk-clause-same_text g c = λ told. c.in-Err-walk.ensures.same_text (c.in-Ok.ensures.goes.same_tells ∙ told) ∙ c.in-Ok.ensures.same_text told
 
-pub returns-then-there-clause-whole : goal.returns-then-there-clause-whole
-returns-then-there-clause-whole g c = λ told. c.in-Ok-walk.ensures.whole (c.in-Ok.ensures.goes.same_tells ∙ told) ∙ c.in-Ok.ensures.whole told
+pub returns-then-there-clause-same_text : goal.returns-then-there-clause-same_text
+returns-then-there-clause-same_text g c = λ told. c.in-Ok-walk.ensures.same_text (c.in-Ok.ensures.goes.same_tells ∙ told) ∙ c.in-Ok.ensures.same_text told
 
-pub returns-else-there-clause-whole : goal.returns-else-there-clause-whole
-returns-else-there-clause-whole g c = λ told. c.in-Ok-walk.ensures.whole (c.in-Ok.ensures.goes.same_tells ∙ told) ∙ c.in-Ok.ensures.whole told
+pub returns-else-there-clause-same_text : goal.returns-else-there-clause-same_text
+returns-else-there-clause-same_text g c = λ told. c.in-Ok-walk.ensures.same_text (c.in-Ok.ensures.goes.same_tells ∙ told) ∙ c.in-Ok.ensures.same_text told
 
 pub returns-then-there-clause-ending : goal.returns-then-there-clause-ending
 returns-then-there-clause-ending g c = λ told steady.

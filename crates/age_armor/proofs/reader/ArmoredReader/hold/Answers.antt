@@ -4,6 +4,9 @@ use Rattle.age_io.specs.Reading.{StandsIn}
 use Rattle.age_armor.specs.Ahead.{rest_ahead, shown_ahead}
 use Rattle.age_armor.specs.DeliveredLaws.{content_of, stands_by, stands_follows}
 use Rattle.age_armor.proofs.Ahead.{kept_stands, rest_failed, hold_rest, hold_ending, hold_end, hold_fault, hold_named, ended_clean, shown_none}
+use Rattle.age_io.specs.Stretch.{from_place}
+use Rattle.age_armor.specs.Stages.{is_armored}
+use Rattle.age_armor.proofs.Forms.{form_held, form_kept}
 use Rattle.age_armor.proofs.reader.ArmoredReader.hold.Goals as goal
 
 pub returns-then-is_ready-clause-end : goal.returns-then-is_ready-clause-end
@@ -30,6 +33,9 @@ invariant_of-self g c =
     let told_before : (IsTrue (reader.tells source.inner) → IsTrue (reader.tells before.source.inner)) = λ told. sym now.kept.same_tells ∙ told in
     let steady_before : (IsTrue (reader.steady source.inner) → IsTrue (reader.steady before.source.inner)) = λ steady. sym now.kept.same_steady ∙ steady in
     let same : (IsTrue (reader.tells source.inner) → other ≡ content) = λ told. rw (now.kept.same_content (told_before told), now.kept.origin (told_before told)) refl in
+    let text : (IsTrue (reader.tells source.inner) → from_place (reader.place source.inner - source.taken) (reader.content source.inner)
+    ≡ from_place (reader.place before.source.inner - before.source.taken) (reader.content before.source.inner)) = λ told.
+    rw (now.kept.same_content (told_before told), now.kept.origin (told_before told)) refl in
     let kept : (IsTrue (reader.tells source.inner) → new ≡ rest) = λ told.
     hold_rest before.failed before.bytes bytes before.given before.filled piece.count before.stage piece.next (reader.rest before.source.inner) (reader.rest source.inner)
     c.requires all empty (now.bytes (told_before told)) in
@@ -41,6 +47,11 @@ invariant_of-self g c =
       order = let h : 0 ≤ piece.count = omega arith in h;
       within = now.fits;
       fresh = λ start. absurd (true≢false (sym start ∙ now.begun));
+      untaken = λ good start. absurd (true≢false (sym start ∙ now.begun));
+      form = λ told steady begun.
+          form_held (reader.content before.source.inner) (reader.rest before.source.inner) _ (reader.place before.source.inner) before.source.taken before.stage piece.next
+          (g.met.R.Read.stands before.source.inner (told_before told) (steady_before steady)) (before.untaken c.requires)
+          (now.form (told_before told)) now.kept_form (before.form (told_before told) (steady_before steady)) (text told);
       unspent = λ good begun. now.kept.unspent;
       counted = λ told good. omega (arith, before.counted (told_before told) c.requires, now.taken (told_before told));
       fits = λ told. before.fits (told_before told);
@@ -59,11 +70,16 @@ invariant_of-self-in-Err g c =
     let told_before : (IsTrue (reader.tells source.inner) → IsTrue (reader.tells before.source.inner)) = λ told. sym now.kept.same_tells ∙ told in
     let steady_before : (IsTrue (reader.steady source.inner) → IsTrue (reader.steady before.source.inner)) = λ steady. sym now.kept.same_steady ∙ steady in
     let same : (IsTrue (reader.tells source.inner) → other ≡ content) = λ told. rw (now.kept.same_content (told_before told), now.kept.origin (told_before told)) refl in
+    let text : (IsTrue (reader.tells source.inner) → from_place (reader.place source.inner - source.taken) (reader.content source.inner)
+    ≡ from_place (reader.place before.source.inner - before.source.taken) (reader.content before.source.inner)) = λ told.
+    rw (now.kept.same_content (told_before told), now.kept.origin (told_before told)) refl in
     record {
       room = before.room;
       order = before.order;
       within = before.within;
       fresh = before.fresh;
+      untaken = λ good. absurd (true≢false good);
+      form = λ told steady begun. form_kept (is_armored before.stage) _ _ (before.form (told_before told) (steady_before steady) begun) (text told);
       unspent = λ good. absurd (true≢false good);
       counted = λ told good. absurd (true≢false good);
       fits = λ told. before.fits (told_before told);

@@ -24,6 +24,8 @@ invariant_of-result-2 g c =
       order = let h : 0 ≤ 0 = omega arith in h;
       within = let h : 0 ≤ 48 = omega arith in h;
       fresh = λ start. refl;
+      untaken = λ good start. refl;
+      form = λ told steady begun. absurd (true≢false begun);
       unspent = λ good begun. absurd (true≢false begun);
       counted = λ told good. let h : 0 ≤ 0 = omega arith in h;
       fits = λ told. let h : 0 < 2 ^ 63 = omega arith in h;

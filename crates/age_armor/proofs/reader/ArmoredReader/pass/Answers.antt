@@ -1,9 +1,12 @@
-use Rattle.std.proofs.Common.{◌≡◌, ◌∙◌, ◌+◌, ◌-◌, ◌≤◌, arith, take, length, length-take-le, sym, subst, IsTrue, refl}
+use Rattle.std.proofs.Common.{◌≡◌, ◌∙◌, ◌+◌, ◌-◌, ◌≤◌, arith, take, length, length-take-le, sym, ap, subst, IsTrue, refl}
 use Rattle.std.proofs.lemmas.Bool.{true≢false}
 use Rattle.age_io.specs.Reading.{StandsIn}
 use Rattle.age_armor.specs.Ahead.{rest_ahead}
 use Rattle.age_armor.specs.DeliveredLaws.{content_of, stands_by, stands_follows}
 use Rattle.age_armor.proofs.Ahead.{given_stands, rest_failed, pass_delivers, pass_end, pass_fault, pass_named, pass_ending, shown_none}
+use Rattle.age_io.specs.Stretch.{from_place}
+use Rattle.age_armor.specs.Stages.{is_start, is_armored}
+use Rattle.age_armor.proofs.Forms.{form_kept}
 use Rattle.age_armor.proofs.reader.ArmoredReader.pass.Goals as goal
 
 pub invariant_of-self : goal.invariant_of-self
@@ -23,6 +26,9 @@ invariant_of-self g c =
     let told_before : (IsTrue (reader.tells source.inner) → IsTrue (reader.tells before.source.inner)) = λ told. sym now.kept.same_tells ∙ told in
     let steady_before : (IsTrue (reader.steady source.inner) → IsTrue (reader.steady before.source.inner)) = λ steady. sym now.kept.same_steady ∙ steady in
     let same : (IsTrue (reader.tells source.inner) → other ≡ content) = λ told. rw (now.kept.same_content (told_before told), now.kept.origin (told_before told)) refl in
+    let text : (IsTrue (reader.tells source.inner) → from_place (reader.place source.inner - source.taken) (reader.content source.inner)
+    ≡ from_place (reader.place before.source.inner - before.source.taken) (reader.content before.source.inner)) = λ told.
+    rw (now.kept.same_content (told_before told), now.kept.origin (told_before told)) refl in
     let place : (IsTrue (reader.tells source.inner) → c.saturating_add-self.result ≡ before.place + n) = λ told.
     omega (arith, c.saturating_add-self.ensures, before.counted (told_before told) c.requires.good, now.taken (told_before told), source.behind told, g.met.R.Read.place_fits source.inner told) in
     let stands : (IsTrue (reader.tells source.inner) → IsTrue (reader.steady source.inner) → StandsIn other c.saturating_add-self.result new) = λ told steady.
@@ -34,6 +40,8 @@ invariant_of-self g c =
       order = before.order;
       within = before.within;
       fresh = before.fresh;
+      untaken = λ good start. absurd (true≢false (sym start ∙ ap is_start c.requires.binary));
+      form = λ told steady begun. form_kept (is_armored before.stage) _ _ (before.form (told_before told) (steady_before steady) begun) (text told);
       unspent = λ good begun. now.kept.unspent;
       counted = λ told good. omega (arith, before.counted (told_before told) c.requires.good, place told, now.taken (told_before told));
       fits = λ told. omega (arith, before.counted (told_before told) c.requires.good, place told, now.taken (told_before told), source.behind told, g.met.R.Read.place_fits source.inner told);
@@ -80,11 +88,16 @@ invariant_of-self-in-Err g c =
     let told_before : (IsTrue (reader.tells source.inner) → IsTrue (reader.tells before.source.inner)) = λ told. sym now.kept.same_tells ∙ told in
     let steady_before : (IsTrue (reader.steady source.inner) → IsTrue (reader.steady before.source.inner)) = λ steady. sym now.kept.same_steady ∙ steady in
     let same : (IsTrue (reader.tells source.inner) → other ≡ content) = λ told. rw (now.kept.same_content (told_before told), now.kept.origin (told_before told)) refl in
+    let text : (IsTrue (reader.tells source.inner) → from_place (reader.place source.inner - source.taken) (reader.content source.inner)
+    ≡ from_place (reader.place before.source.inner - before.source.taken) (reader.content before.source.inner)) = λ told.
+    rw (now.kept.same_content (told_before told), now.kept.origin (told_before told)) refl in
     record {
       room = before.room;
       order = before.order;
       within = before.within;
       fresh = before.fresh;
+      untaken = λ good. absurd (true≢false good);
+      form = λ told steady begun. form_kept (is_armored before.stage) _ _ (before.form (told_before told) (steady_before steady) begun) (text told);
       unspent = λ good. absurd (true≢false good);
       counted = λ told good. absurd (true≢false good);
       fits = λ told. before.fits (told_before told);

@@ -1,9 +1,13 @@
-use Rattle.std.proofs.Common.{◌≡◌, ◌∙◌, ◌-◌, ◌≤◌, arith, length, take, length-drop, ap, subst, inr}
+use Rattle.std.proofs.Common.{◌≡◌, ◌∙◌, ◌-◌, ◌≤◌, arith, length, take, length-drop, ap, sym, subst, inr}
 use Rattle.age_io.specs.Reading.{Delivers}
 use Rattle.age_armor.specs.Ahead.{rest_ahead, shown_ahead}
 use Rattle.age_armor.specs.DeliveredLaws.{content_of}
 use Rattle.age_armor.proofs.Ahead.{rest_gone, length_held, shown_small}
 use Rattle.age_armor.proofs.ReaderSteps.{unspent_ok, ends_ok, left_err, patient_err}
+use Rattle.age_armor.specs.Stages.{is_start, is_armored}
+use Rattle.age_armor.proofs.Forms.{form_kept, binary_form}
+use Rattle.std.proofs.lemmas.Result.{on_ok_weaker}
+use Rattle.age_armor.specs.Reader.{text_of}
 use Rattle.age_armor.proofs.reader.ArmoredReader.read_on.Goals as goal
 
 pub returns-then-is_passing-clause-reads : goal.returns-then-is_passing-clause-reads
@@ -97,3 +101,23 @@ returns-in-Ok-clause-line g c = λ armored.
     let cut = length-drop c.give.result shown in
     let left = ap length c.give.ensures.shown in
     omega (arith, c.give.ensures.count, size, small, cut, left)
+
+pub returns-then-is_passing-clause-form : goal.returns-then-is_passing-clause-form
+returns-then-is_passing-clause-form g c = λ told steady.
+    let now = c.pass.ensures in
+    let after = c.pass.new.self in
+    let is = form_kept (is_armored after.stage) (text_of after) (text_of c.args.self.now) (after.form (now.tells ∙ told) (now.steady ∙ steady) (ap is_start now.stage)) (sym (now.same_text told)) in
+    on_ok_weaker c.pass.result (λ good. is) now.good
+
+pub returns-then-is_passing-clause-spared : goal.returns-then-is_passing-clause-spared
+returns-then-is_passing-clause-spared g c = λ told steady armor.
+    let before = c.args.self.now in
+    let binary = (c.is_passing.ensures c.if-is_passing.true).0 in
+    binary_form before.stage (text_of before) binary (before.form told steady (ap is_start binary)) armor
+
+pub returns-in-Ok-clause-form : goal.returns-in-Ok-clause-form
+returns-in-Ok-clause-form g c = λ told steady.
+    let now = c.in-Ok.ensures in
+    let held = c.hold.new.self in
+    let after = c.give.new.self in
+    ap is_armored c.give.ensures.stage ∙ form_kept (is_armored held.stage) (text_of held) (text_of c.args.self.now) (held.form (now.tells ∙ told) (now.steady ∙ steady) now.begun) (sym (now.same_text told))

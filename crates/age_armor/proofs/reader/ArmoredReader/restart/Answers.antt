@@ -4,6 +4,8 @@ use Rattle.age_io.specs.Stretch.{from_place}
 use Rattle.age_armor.specs.DeliveredLaws.{content_of}
 use Rattle.age_armor.specs.Delivered.{delivered, stretch_of}
 use Rattle.age_armor.proofs.Ahead.{rest_failed, starts_rest, starts_outcome}
+use Rattle.age_armor.specs.Stages.{is_armored}
+use Rattle.age_armor.proofs.Forms.{form_kept}
 use Rattle.age_armor.proofs.reader.ArmoredReader.restart.Goals as goal
 
 pub invariant_of-self : goal.invariant_of-self
@@ -17,11 +19,16 @@ invariant_of-self g c =
     let told_before : (IsTrue (reader.tells source.inner) → IsTrue (reader.tells before.source.inner)) = λ told. sym now.goes.same_tells ∙ told in
     let steady_before : (IsTrue (reader.steady source.inner) → IsTrue (reader.steady before.source.inner)) = λ steady. sym now.goes.same_steady ∙ steady in
     let same : (IsTrue (reader.tells source.inner) → other ≡ content) = λ told. rw (now.goes.same_content (told_before told), now.origin (told_before told)) refl in
+    let text : (IsTrue (reader.tells source.inner) → from_place (reader.place source.inner - source.taken) (reader.content source.inner)
+    ≡ from_place (reader.place before.source.inner - before.source.taken) (reader.content before.source.inner)) = λ told.
+    rw (now.goes.same_content (told_before told), now.origin (told_before told)) refl in
     record {
       room = before.room;
       order = before.order;
       within = before.within;
       fresh = before.fresh;
+      untaken = λ good. absurd (true≢false good);
+      form = λ told steady begun. form_kept (is_armored before.stage) _ _ (before.form (told_before told) (steady_before steady) begun) (text told);
       unspent = λ good. absurd (true≢false good);
       counted = λ told good. absurd (true≢false good);
       fits = λ told. before.fits (told_before told);
@@ -43,6 +50,8 @@ invariant_of-self-in-Ok g c =
       order = let h : 0 ≤ 0 = omega arith in h;
       within = let h : 0 ≤ 48 = omega arith in h;
       fresh = λ start. refl;
+      untaken = λ good start. now.start;
+      form = λ told steady begun. absurd (true≢false begun);
       unspent = λ good begun. absurd (true≢false begun);
       counted = λ told good. let h : 0 ≤ source.taken = omega arith in h;
       fits = λ told. let h : 0 < 2 ^ 63 = omega arith in h;

@@ -1,7 +1,7 @@
 use Rattle.std.proofs.Common.{◌≡◌, ◌∙◌, ◌-◌, ◌<◌, ◌^◌, Some, None, arith, ap, sym, subst, w64, to_z-of_z, refl}
 use Rattle.std.proofs.lemmas.Bool.{true≢false}
 use Rattle.age_io.specs.Cursor.{place_at}
-use Rattle.age_armor.specs.Seeking.{text_outcome}
+use Rattle.age_io.specs.Stretch.{from_place}
 use Rattle.age_armor.proofs.Aiming.{too-long, too-early, counted-on}
 use Rattle.age_armor.proofs.reader.ArmoredReader.seek_by.Goals as goal
 
@@ -15,7 +15,7 @@ returns-then-self g c =
           (ap (λ s. reader.tells s.inner) now.source) (ap (λ s. reader.steady s.inner) now.source) (ap (λ s. reader.faults s.inner) now.source)
           now.failed (λ told. let fits : before.place < 2 ^ 63 = before.fits told in omega (arith, fits, c.if-self.true));
       at_once = λ told early. let fits : before.place < 2 ^ 63 = before.fits told in absurd (omega (arith, fits, c.if-self.true));
-      whole = λ told. ap (λ s. text_outcome (reader.content s.inner) (reader.place s.inner - s.taken)) now.source;
+      same_text = λ told. ap (λ s. from_place (reader.place s.inner - s.taken) (reader.content s.inner)) now.source;
       ending = λ told steady later good. absurd (true≢false (sym now.failed ∙ good));
     }
 
@@ -27,7 +27,7 @@ returns-in-None g c =
     record {
       text = too-early _ _ _ _ _ _ _ before c.args.distance _ _ none;
       at_once = λ told early. (refl, refl);
-      whole = λ told. refl;
+      same_text = λ told. refl;
       ending = λ told steady later good. absurd (later none);
     }
 
@@ -39,6 +39,6 @@ returns-in-Some g c =
     record {
       text = counted-on _ _ _ _ _ _ _ before c.seek_to.new.self c.args.distance c.in-Some.target _ _ c.seek_to.result some c.seek_to.ensures.text;
       at_once = λ told early. absurd (cc (sym early ∙ some));
-      whole = c.seek_to.ensures.whole;
+      same_text = c.seek_to.ensures.same_text;
       ending = λ told steady later good. c.seek_to.ensures.ending told steady good;
     }

@@ -1,6 +1,7 @@
 use Rattle.std.proofs.Common.{◌≡◌, ◌∙◌, ◌-◌, Ok, Err, length, ap, subst, w64, to_z-of_z}
 use Rattle.age_error.specs.declared.io.SeekFrom.TheVariants.{End}
 use Rattle.age_io.specs.Cursor.{sought}
+use Rattle.age_armor.specs.Delivered.{delivered}
 use Rattle.age_armor.specs.Ahead.{rest_ahead}
 use Rattle.age_armor.specs.Reader.{armored_content}
 use Rattle.age_armor.specs.ReaderLaws.{well_inner}
@@ -19,7 +20,8 @@ returns-in-Ok g c =
             subst (λ d. sought (End d) before.place (length (armored_content before).bytes) ≡ Ok c.in-Ok.there) (to_z-of_z {w = w64} c.ranges.distance) moved.0,
             moved.1,
           ));
-      whole = now.whole;
+      well = now.well;
+      same_text = now.same_text;
       ending = λ told steady good. now.ending told steady;
     }
 
@@ -46,7 +48,8 @@ returns-in-Err g c =
             named = λ told well own other quiet. (now.named told well own other quiet, tt);
           })
           c.come_back.ensures.back;
-      whole = λ told. c.come_back.ensures.whole (now.goes.same_tells ∙ told) ∙ now.whole told;
+      well = λ told steady. tt;
+      same_text = λ told. c.come_back.ensures.same_text (now.goes.same_tells ∙ told) ∙ now.same_text told;
       ending = λ told steady good.
-          c.come_back.ensures.ending (now.goes.same_tells ∙ told) (now.goes.same_steady ∙ steady) good ∙ ap (λ o. o.ending) (now.whole told);
+          c.come_back.ensures.ending (now.goes.same_tells ∙ told) (now.goes.same_steady ∙ steady) good ∙ ap (λ t. (delivered t.bytes t.ends_well).ending) (now.same_text told);
     }

@@ -1,4 +1,5 @@
 use Rattle.std.proofs.Common.{◌∙◌, ◌-◌, Err, length, ap, sym}
+use Rattle.age_armor.specs.Delivered.{delivered}
 use Rattle.age_armor.specs.Ahead.{rest_ahead}
 use Rattle.age_armor.specs.Reader.{armored_content}
 use Rattle.age_armor.specs.ReaderLaws.{well_inner}
@@ -15,7 +16,7 @@ returns-in-Ok g c =
           (λ told steady.
           let within = now.within told steady in
           (rw now.there (moved-within c.args.target (length (armored_content c.args.self.now).bytes) within.0), rw now.there within.1));
-      whole = now.whole;
+      same_text = now.same_text;
       ending = λ told steady good. now.ending told steady;
     }
 
@@ -40,7 +41,7 @@ returns-in-Err g c =
             named = now.named;
           })
           c.come_back.ensures.back;
-      whole = λ told. c.come_back.ensures.whole (now.goes.same_tells ∙ told) ∙ now.whole told;
+      same_text = λ told. c.come_back.ensures.same_text (now.goes.same_tells ∙ told) ∙ now.same_text told;
       ending = λ told steady good.
-          c.come_back.ensures.ending (now.goes.same_tells ∙ told) (now.goes.same_steady ∙ steady) good ∙ ap (λ o. o.ending) (now.whole told);
+          c.come_back.ensures.ending (now.goes.same_tells ∙ told) (now.goes.same_steady ∙ steady) good ∙ ap (λ t. (delivered t.bytes t.ends_well).ending) (now.same_text told);
     }

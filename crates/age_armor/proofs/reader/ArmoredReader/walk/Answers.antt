@@ -92,14 +92,14 @@ reads-preserved g c =
           further _ _ _ c.reads.self.place _ n (take n c.read_on.new.buf) (loop.rest told stands)
           (reads.bytes (loop.same_tells ∙ told)) (sym (length-take-le n c.read_on.new.buf reads.count)) (reads.moves (loop.same_tells ∙ told));
       ending = λ told. c.in-Ok.ensures.ending (loop.same_tells ∙ told) ∙ loop.ending told;
-      whole = λ told. c.in-Ok.ensures.whole (loop.same_tells ∙ told) ∙ loop.whole told;
+      same_text = λ told. c.in-Ok.ensures.same_text (loop.same_tells ∙ told) ∙ loop.same_text told;
     }
 
-pub returns-in-Err-clause-whole : goal.returns-in-Err-clause-whole
-returns-in-Err-clause-whole g c = λ told. c.in-Err.ensures.whole (c.reads.invariant.same_tells ∙ told) ∙ c.reads.invariant.whole told
+pub returns-in-Err-clause-same_text : goal.returns-in-Err-clause-same_text
+returns-in-Err-clause-same_text g c = λ told. c.in-Err.ensures.same_text (c.reads.invariant.same_tells ∙ told) ∙ c.reads.invariant.same_text told
 
-pub returns-in-Ok-eq0-clause-whole : goal.returns-in-Ok-eq0-clause-whole
-returns-in-Ok-eq0-clause-whole g c = λ told. c.in-Ok-eq0.ensures.whole (c.reads.invariant.same_tells ∙ told) ∙ c.reads.invariant.whole told
+pub returns-in-Ok-eq0-clause-same_text : goal.returns-in-Ok-eq0-clause-same_text
+returns-in-Ok-eq0-clause-same_text g c = λ told. c.in-Ok-eq0.ensures.same_text (c.reads.invariant.same_tells ∙ told) ∙ c.reads.invariant.same_text told
 
 pub returns-in-Ok-eq0-clause-ending : goal.returns-in-Ok-eq0-clause-ending
 returns-in-Ok-eq0-clause-ending g c = λ told. c.in-Ok-eq0.ensures.ending (c.reads.invariant.same_tells ∙ told) ∙ c.reads.invariant.ending told

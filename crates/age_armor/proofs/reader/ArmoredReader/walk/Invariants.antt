@@ -1,7 +1,7 @@
 use Rattle.std.proofs.Common.{◌≡◌, ◌+◌, ◌≤◌, ◌<◌, IsTrue, false}
 use Rattle.age_io.specs.Stretch.{from_place}
 use Rattle.age_io.specs.Reading.{most_faults}
-use Rattle.age_armor.specs.Reader.{outcome_of, text_outcome_of, armored_content, armored_rest}
+use Rattle.age_armor.specs.Reader.{outcome_of, text_of, armored_content, armored_rest}
 use Rattle.age_armor.proofs.reader.ArmoredReader.walk.Given as goal
 
 abbrev pub invariant-reads : goal.invariant-reads
@@ -19,7 +19,7 @@ invariant-reads g l =
           armored_rest l.fn.self ≡ from_place l.fn.self.place (armored_content l.fn.self) →
           armored_rest l.self ≡ from_place l.self.place (armored_content l.fn.self);
       ending : IsTrue (reader.tells l.fn.self.source.inner) → (outcome_of l.self).ending ≡ (outcome_of l.fn.self).ending;
-      whole : IsTrue (reader.tells l.fn.self.source.inner) → text_outcome_of l.self ≡ text_outcome_of l.fn.self;
+      same_text : IsTrue (reader.tells l.fn.self.source.inner) → text_of l.self ≡ text_of l.fn.self;
     }
 
 abbrev pub decreases-reads : goal.decreases-reads

@@ -1,7 +1,11 @@
-use Rattle.std.proofs.Common.{◌∙◌, arith, refl, sym, subst, inl, inr}
+use Rattle.std.proofs.Common.{◌∙◌, arith, refl, ap, sym, subst, inl, inr}
 use Rattle.std.proofs.lemmas.Bool.{true≢false}
 use Rattle.age_io.specs.Filling.{IsFront}
 use Rattle.age_armor.proofs.Ahead.{fault_gone, rest_gone}
+use Rattle.age_armor.specs.Delivered.{delivered}
+use Rattle.age_armor.specs.Stages.{is_armored}
+use Rattle.age_armor.specs.Reader.{text_of}
+use Rattle.age_armor.proofs.Forms.{form_kept}
 use Rattle.age_armor.proofs.reader.ArmoredReaderBufRead.fill_buf.Goals as goal
 
 pub returns-then-self : goal.returns-then-self
@@ -29,6 +33,8 @@ returns-then-self g c =
               named = λ told good. absurd (true≢false (sym c.if-self.true ∙ good));
             },
             λ told. refl,
+            λ told. refl,
+            λ told steady. tt,
           );
           same_content = λ told. refl;
           stays = λ told. refl;
@@ -66,7 +72,9 @@ returns-in-Err g c =
               same = λ told. tt;
               named = λ told good. now.named told;
             },
-            now.whole,
+            λ told. ap (λ t. delivered t.bytes t.ends_well) (now.same_text told),
+            now.same_text,
+            λ told steady. tt,
           );
           same_content = now.content;
           stays = λ told. now.place;
@@ -82,6 +90,7 @@ returns-in-Err g c =
 pub returns-in-Ok : goal.returns-in-Ok
 returns-in-Ok g c =
     let now = c.in-Ok.ensures in
+    let after = c.hold.new.self in
     let held = c.as_held.ensures in (
       (
         refl,
@@ -104,7 +113,11 @@ returns-in-Ok g c =
               same = now.ending;
               named = λ told good. tt;
             },
-            now.whole,
+            λ told. ap (λ t. delivered t.bytes t.ends_well) (now.same_text told),
+            now.same_text,
+            λ told steady.
+                form_kept (is_armored after.stage) (text_of after) (text_of c.args.self.now)
+                (after.form (now.tells ∙ told) (now.steady ∙ steady) now.begun) (sym (now.same_text told)),
           );
           same_content = now.content;
           stays = λ told. now.place;

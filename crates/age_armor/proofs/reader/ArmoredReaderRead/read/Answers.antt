@@ -1,6 +1,7 @@
-use Rattle.std.proofs.Common.{◌≡◌, ◌∙◌, arith, refl, sym, inl, length}
+use Rattle.std.proofs.Common.{◌≡◌, ◌∙◌, arith, refl, ap, sym, inl, length}
 use Rattle.std.proofs.lemmas.Bool.{true≢false, eqb-true}
 use Rattle.age_armor.proofs.Ahead.{fault_gone, shown_small}
+use Rattle.age_armor.specs.Delivered.{delivered}
 use Rattle.age_armor.proofs.reader.ArmoredReaderRead.read.Goals as goal
 
 pub returns-then-self-clause-reads : goal.returns-then-self-clause-reads
@@ -62,3 +63,6 @@ returns-clause-ending g c = record {
   same = c.read_on.ensures.ending;
   named = λ told good. c.read_on.ensures.named told;
 }
+
+pub returns-clause-whole : goal.returns-clause-whole
+returns-clause-whole g c = λ told. ap (λ t. delivered t.bytes t.ends_well) (c.read_on.ensures.same_text told)

@@ -1,4 +1,5 @@
-use Rattle.std.proofs.Common.{rules, ◌≡◌, SFits, to_z, of_z, to_z-of_z, w64}
+use Rattle.std.proofs.Common.{rules, ◌≡◌, SFits, to_z, of_z, to_z-of_z, w64, ap}
+use Rattle.age_armor.specs.Delivered.{delivered}
 use Rattle.age_armor.proofs.seeking.ArmoredReaderSeek.seek.Goals as goal
 
 pub returns-in-Start-clause-seeks : goal.returns-in-Start-clause-seeks
@@ -63,3 +64,21 @@ returns-in-Current-clause-ending g c =
     let fits : SFits w64 c.in-Current.distance = search rules in
     let same : to_z w64 (of_z w64 c.in-Current.distance) ≡ c.in-Current.distance = to_z-of_z {w = w64} fits in
     rw (c.in-Current.is, ← same) c.seek_by.ensures.ending
+
+pub returns-in-Start-clause-well : goal.returns-in-Start-clause-well
+returns-in-Start-clause-well g c = λ told steady asked. absurd (rw c.in-Start.is at asked)
+
+pub returns-in-End-clause-well : goal.returns-in-End-clause-well
+returns-in-End-clause-well g c = λ told steady asked. c.seek_from_end.ensures.well told steady
+
+pub returns-in-Current-clause-well : goal.returns-in-Current-clause-well
+returns-in-Current-clause-well g c = λ told steady asked. absurd (rw c.in-Current.is at asked)
+
+pub returns-in-Start-clause-whole : goal.returns-in-Start-clause-whole
+returns-in-Start-clause-whole g c = λ told. ap (λ t. delivered t.bytes t.ends_well) (c.seek_to.ensures.same_text told)
+
+pub returns-in-End-clause-whole : goal.returns-in-End-clause-whole
+returns-in-End-clause-whole g c = λ told. ap (λ t. delivered t.bytes t.ends_well) (c.seek_from_end.ensures.same_text told)
+
+pub returns-in-Current-clause-whole : goal.returns-in-Current-clause-whole
+returns-in-Current-clause-whole g c = λ told. ap (λ t. delivered t.bytes t.ends_well) (c.seek_by.ensures.same_text told)

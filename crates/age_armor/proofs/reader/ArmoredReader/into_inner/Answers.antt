@@ -1,0 +1,22 @@
+use Rattle.std.proofs.Common.{◌≤◌, arith, length}
+use Rattle.age_armor.proofs.Ahead.{length_held}
+use Rattle.age_armor.proofs.Forms.{stands_in_text, binary_left}
+use Rattle.age_armor.proofs.reader.ArmoredReader.into_inner.Goals as goal
+
+pub returns-clause-stands : goal.returns-clause-stands
+returns-clause-stands g c = λ told steady.
+    let reader = g.R.Read in
+    let source = c.args.self.source in
+    stands_in_text (reader.content source.inner) (reader.rest source.inner) (reader.place source.inner) source.taken (source.behind told)
+    (g.met.R.Read.stands source.inner told steady)
+
+pub returns-clause-behind : goal.returns-clause-behind
+returns-clause-behind g c = λ told good.
+    let self = c.args.self in
+    let all : self.filled ≤ length self.bytes = omega (arith, self.within, self.room) in
+    omega (arith, length_held self.failed self.bytes self.given self.filled all good, self.counted told good)
+
+pub returns-clause-binary : goal.returns-clause-binary
+returns-clause-binary g c = λ good plain some.
+    let self = c.args.self in
+    binary_left self.failed self.bytes self.given self.filled self.source.taken self.stage (g.R.Read.rest self.source.inner) good (self.untaken good) plain some
