@@ -183,7 +183,7 @@ impl<S: Suite, R: Read> Read for StreamReader<S, R> {
 }
 
 impl<S: Suite, R: Read> StreamReader<S, R> {
-    ghost use Rattle.age_stream.specs.Reader.{payload_of, key_of, inner_rest_of, wanted_of, HasFailed, HasSought, IsHolding, IsAfterLast, opens_of};
+    ghost use Rattle.age_stream.specs.Reader.{payload_of, key_of, inner_of, inner_rest_of, wanted_of, HasFailed, HasSought, IsHolding, IsAfterLast, opens_of};
 
     /// A reader of the payload that begins where `inner` stands, under the payload key of 32 bytes. It stands before the
     /// first byte of the plaintext.
@@ -239,6 +239,30 @@ impl<S: Suite, R: Read> StreamReader<S, R> {
         ensures { result ≡ opens_of self.now }
     {
         self.opens.count()
+    }
+
+    /// Hands back the inner reader as it stands: after the bytes that reads took of it, or where a seek put it. It may be
+    /// further than the place, by what is left of the chunk that is held, which is gone. Nothing is read.
+    pub fn into_inner(self) -> R
+        ensures inner { result ≡ inner_of self }
+    {
+        let StreamReader {
+            alloc: _,
+            key: _,
+            inner: reader,
+            sealed: _,
+            number: _,
+            at: _,
+            held: _,
+            chunk: _,
+            last: _,
+            taken: _,
+            failed: _,
+            sought: _,
+            opens: _,
+            suite: _,
+        } = self;
+        reader
     }
 
     // A read of a good reader into a buffer that isn't empty.

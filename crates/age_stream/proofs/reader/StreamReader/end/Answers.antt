@@ -149,6 +149,3 @@ returns-in-Err-clause-after_last g c = λ told memory quiet.
     let size : length c.fill-answer.new.buf ≡ 1 = c.fill-answer.auto.buf in
     let early : EndsEarly 1 (g.R.Read.rest self.inner) = rw size at (c.in-Err.ensures.cause (and-left _ _ told) memory quiet) in
     inl early
-
-pub returns-then-count-gt0-clause-after_last : goal.returns-then-count-gt0-clause-after_last
-returns-then-count-gt0-clause-after_last g c = λ told memory quiet. inr refl
