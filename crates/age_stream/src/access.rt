@@ -7,7 +7,7 @@ ghost use Rattle.age_io.specs.Reading.{IsQuiet, Delivers, EndsEarly};
 ghost use Rattle.age_io.specs.Cursor;
 ghost use Rattle.age_io.specs.Cursor.{IsOutside};
 ghost use Rattle.age_stream.specs.Answering.{StandAt, StopsNear, IsGoodEnd};
-ghost use Rattle.age_stream.specs.Targets.{sought_in, IsRefusedTarget, StopsWithin};
+ghost use Rattle.age_stream.specs.Targets.{below_start, sought_in, IsRefusedTarget, StopsWithin};
 
 use crate::reader::StreamReader;
 use age_error::io::{Error, SeekFrom};
@@ -68,7 +68,7 @@ impl<S: Suite, R: Read> StreamReader<S, R> {
 }
 
 impl<S: Suite, R: Seek> StreamReader<S, R> {
-    ghost use Rattle.age_stream.specs.Reader.{payload_of, key_of, inner_rest_of, place_of, HasFailed, IsHolding, opens_of};
+    ghost use Rattle.age_stream.specs.Reader.{payload_of, key_of, inner_of, inner_rest_of, place_of, HasFailed, IsHolding, opens_of};
 
     /// Seeks, and then reads until the buffer is full or the end. It answers how many bytes it read, which are in front of
     /// `buf`, and the reader stands after them. They are fewer than the buffer takes only at the end.
@@ -117,6 +117,12 @@ impl<S: Suite, R: Seek> StreamReader<S, R> {
             sought_in to (place_of self.old) (length (payload_of self.old).bytes) ≡ Err e →
             (HasFailed self.new → HasFailed self.old) × (HasFailed self.old → HasFailed self.new) × (place_of self.new ≡ place_of self.old)
             × (IsHolding self.old → IsHolding self.new) × (opens_of self.new ≡ opens_of self.old)) }
+        ensures inner_place { IsTrue (⟦<StreamReader<S, R> as Read>⟧.tells self.old) → IfErr result (λ e. IsOutside e →
+            sought_in to (place_of self.old) (length (payload_of self.old).bytes) ≡ Err e →
+            R.place (inner_of self.new) ≡ R.place (inner_of self.old)) }
+        ensures inner_rest { IsTrue (⟦<StreamReader<S, R> as Read>⟧.tells self.old) → IfErr result (λ e. IsOutside e →
+            sought_in to (place_of self.old) (length (payload_of self.old).bytes) ≡ Err e → (IsTrue (below_start to (place_of self.old)) → ⊥) →
+            inner_rest_of self.new ≡ from_place (R.place (inner_of self.old)) (R.content (inner_of self.old))) }
         ensures good { OnOk result (HasFailed self.new → ⊥) }
         ensures fails { IfErr result (λ e. (IsOutside e → ⊥) → HasFailed self.new) }
 

@@ -352,8 +352,9 @@ impl<S: Suite, R: Seek> Seek for StreamReader<S, R> {
     /// its own content is outside of it, which is `BadEnd`. Its interruptions are retried as by `seek_retrying` and `fill`.
     /// `OutOfMemory` where the suite was refused memory for the last chunk's plaintext.
     ///
-    /// After `BeforeStart` and `PastEnd` the place is as it was, and so is a failure. After any other refusal the reader has
-    /// failed, at the same place.
+    /// After `BeforeStart` and `PastEnd` the place is as it was, and so is a failure, and the inner reader stands where it
+    /// stood. After any other refusal the reader has failed, at the same place. The payload's front is reckoned from where
+    /// the inner reader stands, so a later seek is exact only over an inner reader whose refusals leave it where it was.
     fn seek(&mut self, to: SeekFrom) -> Result<u64, Error>
         ensures seeks { let reader = ⟦<StreamReader<S, R> as Read>⟧ in
             Seeks reader.tells reader.steady reader.content reader.place reader.rest reader.faults self.old self.new to result }
