@@ -2,6 +2,8 @@
 #![tactic(auto)]
 
 #[cfg(test)]
+mod device_tests;
+#[cfg(test)]
 mod seek_tests;
 #[cfg(test)]
 mod vast_tests;

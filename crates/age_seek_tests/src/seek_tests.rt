@@ -19,8 +19,8 @@ const SECOND_AS_LAST: [u8; 12] = [0, 0, 0, 0, 0, 0, 0, 0, 0, 0, 1, 1];
 
 type Reader<'a> = StreamReader<BenchSuite, Bytes<'a>>;
 
-// A read of one byte, which is there.
-fn reads<R: Read>(rt: &impl Abort, reader: &mut StreamReader<BenchSuite, R>, place: usize) {
+/// A read of one byte, which is there.
+pub fn reads<R: Read>(rt: &impl Abort, reader: &mut StreamReader<BenchSuite, R>, place: usize) {
     let mut byte = [255];
     assert_eq!(rt; reader.read(&mut byte), Ok(1), "at {place}");
     assert_eq!(rt; byte, [(place % 251) as u8], "at {place}");
@@ -31,8 +31,8 @@ fn ends<R: Read>(rt: &impl Abort, reader: &mut StreamReader<BenchSuite, R>) {
     assert_eq!(rt; reader.read(&mut [0]), Ok(0));
 }
 
-// A reader that has failed.
-fn stays_failed<R: Read>(rt: &impl Abort, reader: &mut StreamReader<BenchSuite, R>) {
+/// A reader that has failed.
+pub fn stays_failed<R: Read>(rt: &impl Abort, reader: &mut StreamReader<BenchSuite, R>) {
     for _read in 0..2 {
         assert_eq!(rt; reader.read(&mut [0]), Err(Error::Failed));
     }
@@ -428,5 +428,31 @@ fn reads_at_a_place(rt: HostRuntime) -> Result<(), Fail> {
     );
     assert_eq!(rt; reader.read_at(SeekFrom::End(-1), &mut []), Ok(0));
     reads(&rt, &mut reader, 199_999);
+    Ok(())
+}
+
+// The second starts from where the first ended, and a read from where the second ended.
+#[test]
+fn reads_at_two_places_in_a_row(rt: HostRuntime) -> Result<(), Fail> {
+    let alloc = rt.alloc();
+    let plain = plaintext(alloc, 102_400)?;
+    let payload = seal_whole::<BenchSuite>(alloc, &KEY, &plain)?;
+    let mut reader = Reader::with_payload_key(alloc, KEY, Bytes::new(&payload))?;
+    let mut room = [0; 10];
+    for (to, start) in [
+        (SeekFrom::Start(65_530), 65_530),
+        (SeekFrom::Current(-5), 65_535),
+        (SeekFrom::End(-36_860), 65_540),
+        (SeekFrom::Current(0), 65_550),
+    ] {
+        assert_eq!(rt; reader.read_at(to, &mut room), Ok(10), "from {start}");
+        assert!(rt;
+            room.as_slice() == part(&plain, start, start.saturating_add(10)),
+            "from {start}"
+        );
+    }
+    let mut rest = Vec::new(alloc);
+    assert_eq!(rt; read_to_end(alloc, &mut reader, &mut rest), Ok(36_840));
+    assert!(rt; rest.as_slice() == part(&plain, 65_560, 102_400));
     Ok(())
 }

@@ -1,5 +1,6 @@
 -- What a caller sees of a `StreamReader`, and what it means as a reader.
-use Rattle.std.specs.Prelude.{◌≡◌, ℕ, ◌+◌, ◌*◌, ◌<◌, ◌&&◌, Bool, true, cond, List, length}
+use Rattle.std.specs.Prelude.{◌≡◌, ℕ, ◌+◌, ◌*◌, ◌<◌, ◌&&◌, Bool, true, cond, List, ◌++◌, length, codes}
+use Rattle.std.specs.Fmt.{decimal}
 use Rattle.age_suite.specs.declared.suite.Suite.{Ghosts as SuiteGhosts}
 use Rattle.age_io.specs.declared.traits.Read.{Ghosts}
 use Rattle.age_io.specs.Stretch.{Stretch}
@@ -15,6 +16,10 @@ module _ {S R : Type 0} {suite : SuiteGhosts S} {read : Ghosts R} where
 
   abbrev pub key_of : StreamReader S R suite read → List ℕ
   key_of r = r.key
+
+  -- the reader that the payload comes from
+  abbrev pub inner_of : StreamReader S R suite read → R
+  inner_of r = r.inner
 
   -- what the inner reader can still deliver
   abbrev pub inner_rest_of : StreamReader S R suite read → Stretch
@@ -66,6 +71,10 @@ module _ {S R : Type 0} {suite : SuiteGhosts S} {read : Ghosts R} where
   -- how many bytes of the plaintext stand before the place
   abbrev pub place_of : StreamReader S R suite read → ℕ
   place_of r = 65536 * r.number + r.at
+
+  -- what `{:?}` prints of it
+  abbrev pub debug_reader : StreamReader S R suite read → List ℕ
+  debug_reader r = codes "StreamReader { place: " ++ decimal (place_of r) ++ codes ", .. }"
 
   -- the plaintext that its reads can still deliver
   abbrev pub plain_rest_of : StreamReader S R suite read → Stretch

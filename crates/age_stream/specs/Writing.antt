@@ -1,5 +1,6 @@
 -- What a `StreamWriter` has taken, and what it sent to its inner writer.
-use Rattle.std.specs.Prelude.{◌≡◌, ◌≢◌, ℕ, zero, suc, ◌+◌, ◌*◌, ◌≤◌, ◌<◌, ◌⊎◌, Bool, true, false, List, [], ◌++◌, length, take, drop, vec_len, Result, IfOk, IfErr}
+use Rattle.std.specs.Prelude.{◌≡◌, ◌≢◌, ℕ, zero, suc, ◌+◌, ◌*◌, ◌≤◌, ◌<◌, ◌⊎◌, Bool, true, false, List, [], ◌++◌, length, take, drop, vec_len, Result, IfOk, IfErr, codes}
+use Rattle.std.specs.Fmt.{decimal}
 use Rattle.age_error.specs.Refusals.{IsDevice}
 use Rattle.age_error.specs.declared.io.Error.{Error}
 use Rattle.age_error.specs.declared.io.Error.TheVariants.{TooLong}
@@ -27,6 +28,10 @@ inner_of writer = writer.inner
 -- how many bytes of plaintext were taken in all
 abbrev pub taken_len : {S W : Type 0} → StreamWriter S W → ℕ
 taken_len writer = 65536 * writer.sealed + vec_len writer.held
+
+-- what `{:?}` prints of it
+abbrev pub debug_writer : {S W : Type 0} → StreamWriter S W → List ℕ
+debug_writer writer = codes "StreamWriter { taken: " ++ decimal (taken_len writer) ++ codes ", .. }"
 
 -- how many of them are held, since their chunk isn't sealed yet
 abbrev pub held_len : {S W : Type 0} → StreamWriter S W → ℕ

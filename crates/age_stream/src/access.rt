@@ -2,12 +2,12 @@
 ghost use Rattle.std.specs.Prelude.{◌≡◌, ◌≢◌, ℕ, ◌+◌, ◌*◌, ◌/◌, ◌<◌, ◌≤◌, ◌⊎◌, ◌&&◌, Bool, false, true, IsTrue, List, length, take, drop, IfOk, IfErr, OnOk, OnErr, Ok, Err};
 ghost use Rattle.age_error.specs.Refusals.{IsDevice, IsInterruption};
 ghost use Rattle.age_error.specs.declared.io.Error.TheVariants.{OutOfMemory};
-ghost use Rattle.age_io.specs.Stretch.{IsCleanEnd};
+ghost use Rattle.age_io.specs.Stretch.{IsCleanEnd, from_place};
 ghost use Rattle.age_io.specs.Reading.{IsQuiet, Delivers, EndsEarly};
 ghost use Rattle.age_io.specs.Cursor;
 ghost use Rattle.age_io.specs.Cursor.{IsOutside};
 ghost use Rattle.age_stream.specs.Answering.{StandAt, StopsNear, IsGoodEnd};
-ghost use Rattle.age_stream.specs.Targets.{sought_in, IsRefusedTarget, StopsWithin};
+ghost use Rattle.age_stream.specs.Targets.{below_start, sought_in, IsRefusedTarget, StopsWithin};
 
 use crate::reader::StreamReader;
 use age_error::io::{Error, SeekFrom};
@@ -43,6 +43,8 @@ impl<S: Suite, R: Read> StreamReader<S, R> {
         ensures refused { let reader = ⟦<StreamReader<S, R> as Read>⟧ in IsTrue (reader.tells self.old) → IfErr result (λ e. e ≢ OutOfMemory →
             IsQuiet (reader.faults self.old) (reader.faults self.new) → (R.rest self.old.inner).ends_well ≡ true →
             StopsNear S.seal_of (key_of self.old) (payload_of self.old).bytes (place_of self.new) e) }
+        ensures inner_end { IsTrue (⟦<StreamReader<S, R> as Read>⟧.tells self.old) → OnOk result
+            ((R.rest self.new.inner).ends_well ≡ (R.rest self.old.inner).ends_well) }
         ensures good { OnOk result (self.new.failed ≡ false) }
         ensures fails { OnErr result (self.new.failed ≡ true) }
         ensures short { OnErr result (filled.new < length buf.new) }
@@ -66,7 +68,7 @@ impl<S: Suite, R: Read> StreamReader<S, R> {
 }
 
 impl<S: Suite, R: Seek> StreamReader<S, R> {
-    ghost use Rattle.age_stream.specs.Reader.{payload_of, key_of, place_of, HasFailed, IsHolding, opens_of};
+    ghost use Rattle.age_stream.specs.Reader.{payload_of, key_of, inner_of, inner_rest_of, place_of, HasFailed, IsHolding, opens_of};
 
     /// Seeks, and then reads until the buffer is full or the end. It answers how many bytes it read, which are in front of
     /// `buf`, and the reader stands after them. They are fewer than the buffer takes only at the end.
@@ -97,6 +99,12 @@ impl<S: Suite, R: Seek> StreamReader<S, R> {
             IfErr result (λ e. e ≢ OutOfMemory → IsQuiet (reader.faults self.old) (reader.faults self.new) →
             Cursor.sought to (reader.place self.old) (length (reader.content self.old).bytes) ≡ Err e) }
 
+        // What is left for the next call.
+        ensures rest { let reader = ⟦<StreamReader<S, R> as Read>⟧ in IsTrue (reader.tells self.old) → IsTrue (reader.content self.old).ends_well →
+            OnOk result (reader.rest self.new ≡ from_place (reader.place self.new) (reader.content self.old)) }
+        ensures inner_end { IsTrue (⟦<StreamReader<S, R> as Read>⟧.tells self.old) → OnOk result
+            ((inner_rest_of self.new).ends_well ≡ (payload_of self.old).ends_well) }
+
         ensures ended { IsTrue (⟦<StreamReader<S, R> as Read>⟧.tells self.old) → IfOk result (λ n. n < length buf.new →
             IsGoodEnd S.seal_of (key_of self.old) (payload_of self.old) (place_of self.new)) }
         ensures refused { let reader = ⟦<StreamReader<S, R> as Read>⟧ in IsTrue (reader.tells self.old) → IsTrue (payload_of self.old).ends_well →
@@ -109,6 +117,12 @@ impl<S: Suite, R: Seek> StreamReader<S, R> {
             sought_in to (place_of self.old) (length (payload_of self.old).bytes) ≡ Err e →
             (HasFailed self.new → HasFailed self.old) × (HasFailed self.old → HasFailed self.new) × (place_of self.new ≡ place_of self.old)
             × (IsHolding self.old → IsHolding self.new) × (opens_of self.new ≡ opens_of self.old)) }
+        ensures inner_place { IsTrue (⟦<StreamReader<S, R> as Read>⟧.tells self.old) → IfErr result (λ e. IsOutside e →
+            sought_in to (place_of self.old) (length (payload_of self.old).bytes) ≡ Err e →
+            R.place (inner_of self.new) ≡ R.place (inner_of self.old)) }
+        ensures inner_rest { IsTrue (⟦<StreamReader<S, R> as Read>⟧.tells self.old) → IfErr result (λ e. IsOutside e →
+            sought_in to (place_of self.old) (length (payload_of self.old).bytes) ≡ Err e → (IsTrue (below_start to (place_of self.old)) → ⊥) →
+            inner_rest_of self.new ≡ from_place (R.place (inner_of self.old)) (R.content (inner_of self.old))) }
         ensures good { OnOk result (HasFailed self.new → ⊥) }
         ensures fails { IfErr result (λ e. (IsOutside e → ⊥) → HasFailed self.new) }
 

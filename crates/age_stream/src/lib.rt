@@ -2,6 +2,7 @@
 #![tactic(auto)]
 
 mod access;
+mod debug;
 pub mod laws;
 pub mod nonce;
 pub mod reader;

@@ -5,7 +5,7 @@ ghost use Rattle.age_error.specs.Bytes.{AreBytes, AreBytesOf};
 ghost use Rattle.age_error.specs.Refusals.{IsDevice, IsInterruption};
 ghost use Rattle.age_error.specs.declared.io.Error.TheVariants.{OutOfMemory, Failed, AfterLast};
 ghost use Rattle.age_io.specs.Stretch.{Stretch, nothing, whole, from_place, IsCleanEnd, IsFault};
-ghost use Rattle.age_io.specs.Reading.{Reads, IsQuiet, Delivers, most_faults};
+ghost use Rattle.age_io.specs.Reading.{Reads, IsQuiet, Delivers, EndsEarly, most_faults};
 ghost use Rattle.age_stream.specs.Payload.{nonce, payload, LastIsNoMiddle};
 ghost use Rattle.age_stream.specs.Answering.{Gives, Refuses, RefusesItself, IsEnd, IsGoodEnd};
 ghost use Rattle.age_stream.specs.Chunks.{allowed, chunk_of, delivered};
@@ -144,6 +144,10 @@ impl<S: Suite, R: Read> Read for StreamReader<S, R> {
         ensures by_itself { let reader = ⟦<StreamReader<S, R> as Read>⟧ in IsTrue (reader.tells self.old) → (HasFailed self.old → ⊥) → (IsAfterLast self.old → ⊥) →
             IfErr result (λ e. e ≢ OutOfMemory → IsQuiet (reader.faults self.old) (reader.faults self.new) →
             RefusesItself S.seal_of (key_of self.old) (payload_of self.old) (inner_rest_of self.old) (wanted_of self.old) (reader.place self.old) e) }
+        // Bytes after the last chunk are never judged as a chunk.
+        ensures after_last { let reader = ⟦<StreamReader<S, R> as Read>⟧ in IsTrue (reader.tells self.old) → (HasFailed self.old → ⊥) → IsAfterLast self.old →
+            IfErr result (λ e. e ≢ OutOfMemory → IsQuiet (reader.faults self.old) (reader.faults self.new) →
+            EndsEarly 1 (inner_rest_of self.old) ⊎ (e ≡ AfterLast)) }
         ensures finished { let reader = ⟦<StreamReader<S, R> as Read>⟧ in IsTrue (reader.tells self.old) → (HasSought self.old → IsTrue (reader.content self.old).ends_well) →
             IfOk result (λ n. n ≡ 0 → 0 < length buf.new →
             IsEnd S.seal_of (key_of self.old) (payload_of self.old) (reader.place self.old) (reader.content self.old).bytes) }
@@ -165,6 +169,7 @@ impl<S: Suite, R: Read> Read for StreamReader<S, R> {
         ensures counts { opens_of self.old ≤ opens_of self.new }
         ensures opens { opens_of self.new ≤ opens_of self.old + 2 }
         ensures held { IsHolding self.old → opens_of self.new ≡ opens_of self.old }
+        ensures at_end { IsAfterLast self.old → opens_of self.new ≡ opens_of self.old }
         ensures opened { (IsHolding self.old → ⊥) → IfOk result (λ n. 0 < n → one_more (opens_of self.old) ≤ opens_of self.new) }
     {
         if self.failed {
@@ -178,7 +183,7 @@ impl<S: Suite, R: Read> Read for StreamReader<S, R> {
 }
 
 impl<S: Suite, R: Read> StreamReader<S, R> {
-    ghost use Rattle.age_stream.specs.Reader.{payload_of, key_of, inner_rest_of, wanted_of, HasFailed, HasSought, IsHolding, IsAfterLast, opens_of};
+    ghost use Rattle.age_stream.specs.Reader.{payload_of, key_of, inner_of, inner_rest_of, wanted_of, HasFailed, HasSought, IsHolding, IsAfterLast, opens_of};
 
     /// A reader of the payload that begins where `inner` stands, under the payload key of 32 bytes. It stands before the
     /// first byte of the plaintext.
@@ -236,6 +241,30 @@ impl<S: Suite, R: Read> StreamReader<S, R> {
         self.opens.count()
     }
 
+    /// Hands back the inner reader as it stands: after the bytes that reads took of it, or where a seek put it. It may be
+    /// further than the place, by what is left of the chunk that is held, which is gone. Nothing is read.
+    pub fn into_inner(self) -> R
+        ensures inner { result ≡ inner_of self }
+    {
+        let StreamReader {
+            alloc: _,
+            key: _,
+            inner: reader,
+            sealed: _,
+            number: _,
+            at: _,
+            held: _,
+            chunk: _,
+            last: _,
+            taken: _,
+            failed: _,
+            sought: _,
+            opens: _,
+            suite: _,
+        } = self;
+        reader
+    }
+
     // A read of a good reader into a buffer that isn't empty.
     #[tactic(auto, using(crate::proofs::Holding::rest_failed, crate::proofs::Holding::fault_failed))]
     pub(crate) fn read_on(&mut self, buf: &mut [u8]) -> Result<usize, Error>
@@ -254,6 +283,9 @@ impl<S: Suite, R: Read> StreamReader<S, R> {
         ensures by_itself { let reader = ⟦<StreamReader<S, R> as Read>⟧ in IsTrue (reader.tells self.old) → (IsAfterLast self.old → ⊥) →
             IfErr result (λ e. e ≢ OutOfMemory → IsQuiet (R.faults self.old.inner) (R.faults self.new.inner) →
             RefusesItself S.seal_of self.old.key (payload_of self.old) (R.rest self.old.inner) (wanted_of self.old) (reader.place self.old) e) }
+        ensures after_last { IsTrue (⟦<StreamReader<S, R> as Read>⟧.tells self.old) → IsAfterLast self.old →
+            IfErr result (λ e. e ≢ OutOfMemory → IsQuiet (R.faults self.old.inner) (R.faults self.new.inner) →
+            EndsEarly 1 (R.rest self.old.inner) ⊎ (e ≡ AfterLast)) }
         ensures ended { let reader = ⟦<StreamReader<S, R> as Read>⟧ in IsTrue (reader.tells self.old) → IfOk result (λ n. n ≡ 0 →
             IsGoodEnd S.seal_of self.old.key (payload_of self.old) (reader.place self.old)) }
         ensures sought { self.new.sought ≡ self.old.sought }
@@ -266,6 +298,7 @@ impl<S: Suite, R: Read> StreamReader<S, R> {
         ensures counts { self.old.opens ≤ self.new.opens }
         ensures opens { self.new.opens ≤ self.old.opens + 2 }
         ensures held { IsHolding self.old → self.new.opens ≡ self.old.opens }
+        ensures at_end { IsAfterLast self.old → self.new.opens ≡ self.old.opens }
         ensures opened { (IsHolding self.old → ⊥) → IfOk result (λ n. 0 < n → one_more self.old.opens ≤ self.new.opens) }
         ensures placed { IfOk result (λ n. 65536 * self.new.number + self.new.at ≡ 65536 * self.old.number + self.old.at + n) }
         ensures stayed { OnErr result (65536 * self.new.number + self.new.at ≡ 65536 * self.old.number + self.old.at) }
@@ -379,6 +412,8 @@ impl<S: Suite, R: Read> StreamReader<S, R> {
         ensures refused { let reader = ⟦<StreamReader<S, R> as Read>⟧ in IsTrue (reader.tells self.old) → IfErr result (λ e. e ≢ OutOfMemory →
             IsQuiet (R.faults self.old.inner) (R.faults self.new.inner) →
             Refuses S.seal_of self.old.key (payload_of self.old) (R.rest self.old.inner) (wanted_of self.old) (reader.place self.old) e) }
+        ensures after_last { IsTrue (⟦<StreamReader<S, R> as Read>⟧.tells self.old) → IfErr result (λ e. e ≢ OutOfMemory →
+            IsQuiet (R.faults self.old.inner) (R.faults self.new.inner) → EndsEarly 1 (R.rest self.old.inner) ⊎ (e ≡ AfterLast)) }
         ensures inner_end { IsTrue (⟦<StreamReader<S, R> as Read>⟧.tells self.old) → OnOk result
             ((R.rest self.new.inner).ends_well ≡ (R.rest self.old.inner).ends_well) }
         ensures same { (self.new.number ≡ self.old.number) × (self.new.held ≡ self.old.held) × (self.new.last ≡ self.old.last) }

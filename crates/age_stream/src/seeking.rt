@@ -333,7 +333,7 @@ impl<S: Suite, R: Seek> StreamReader<S, R> {
 }
 
 impl<S: Suite, R: Seek> Seek for StreamReader<S, R> {
-    ghost use Rattle.age_stream.specs.Reader.{payload_of, key_of, inner_rest_of, wanted_of, place_of, HasFailed, IsHolding, IsAfterLast, HoldsEnd, opens_of};
+    ghost use Rattle.age_stream.specs.Reader.{payload_of, key_of, inner_of, inner_rest_of, wanted_of, place_of, HasFailed, IsHolding, IsAfterLast, HoldsEnd, opens_of};
 
     /// Moves to a target from 0 to the plaintext's length, counted in bytes of the plaintext, and answers the new place. A
     /// success makes a failed reader good again.
@@ -352,8 +352,9 @@ impl<S: Suite, R: Seek> Seek for StreamReader<S, R> {
     /// its own content is outside of it, which is `BadEnd`. Its interruptions are retried as by `seek_retrying` and `fill`.
     /// `OutOfMemory` where the suite was refused memory for the last chunk's plaintext.
     ///
-    /// After `BeforeStart` and `PastEnd` the place is as it was, and so is a failure. After any other refusal the reader has
-    /// failed, at the same place.
+    /// After `BeforeStart` and `PastEnd` the place is as it was, and so is a failure, and the inner reader stands where it
+    /// stood. After any other refusal the reader has failed, at the same place. The payload's front is reckoned from where
+    /// the inner reader stands, so a later seek is exact only over an inner reader whose refusals leave it where it was.
     fn seek(&mut self, to: SeekFrom) -> Result<u64, Error>
         ensures seeks { let reader = ⟦<StreamReader<S, R> as Read>⟧ in
             Seeks reader.tells reader.steady reader.content reader.place reader.rest reader.faults self.old self.new to result }
@@ -374,6 +375,12 @@ impl<S: Suite, R: Seek> Seek for StreamReader<S, R> {
 
         ensures inner_end { IsTrue (⟦<StreamReader<S, R> as Read>⟧.tells self.old) → OnOk result
             ((inner_rest_of self.new).ends_well ≡ (payload_of self.old).ends_well) }
+
+        // A refused target leaves the inner reader where it stood, before what its content has there, also where it had failed.
+        ensures inner_place { IsTrue (⟦<StreamReader<S, R> as Read>⟧.tells self.old) → IfErr result (λ e. IsOutside e →
+            R.place (inner_of self.new) ≡ R.place (inner_of self.old)) }
+        ensures inner_rest { IsTrue (⟦<StreamReader<S, R> as Read>⟧.tells self.old) → (IsTrue (below_start to (place_of self.old)) → ⊥) →
+            IfErr result (λ e. IsOutside e → inner_rest_of self.new ≡ from_place (R.place (inner_of self.old)) (R.content (inner_of self.old))) }
 
         // A success clears a failure, a refusal leaves all as it was, and any other error fails.
         ensures clears { OnOk result (HasFailed self.new → ⊥) }

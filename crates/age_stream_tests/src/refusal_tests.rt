@@ -139,6 +139,33 @@ fn bytes_after_the_last_chunk_are_refused(rt: HostRuntime) -> Result<(), Fail> {
     answers(&rt, alloc, &payload, expected, 2)
 }
 
+// Whatever follows a full chunk that opened as the last is not opened: not what opens as the next chunk, nor what doesn't.
+#[test]
+fn bytes_after_the_last_chunk_are_not_opened(rt: HostRuntime) -> Result<(), Fail> {
+    let alloc = rt.alloc();
+    let plain = plaintext(alloc, 65_536)?;
+    let first = BenchSuite::seal(alloc, &KEY, &FIRST_AS_LAST, &plain)?;
+    for after in [
+        BenchSuite::seal(alloc, &KEY, &SECOND_AS_LAST, &plain)?,
+        BenchSuite::seal(alloc, &KEY, &SECOND_AS_LAST, &[25])?,
+        plaintext(alloc, 65_552)?,
+        plaintext(alloc, 15)?,
+    ] {
+        let mut payload = Vec::from_slice(alloc, &first)?;
+        payload.extend_from_slice(&after)?;
+        let bytes = Bytes::new(&payload);
+        let mut reader = StreamReader::<BenchSuite, Bytes>::with_payload_key(alloc, KEY, bytes)?;
+        let mut room = vec![in alloc; 0; READ]?;
+        assert_eq!(rt; reader.read(&mut room), Ok(65_536));
+        assert_eq!(rt; reader.opens(), 2);
+        for refusal in [Error::AfterLast, Error::Failed] {
+            assert_eq!(rt; reader.read(&mut room), Err(refusal));
+            assert_eq!(rt; reader.opens(), 2);
+        }
+    }
+    Ok(())
+}
+
 // Eight reads of 8,192 bytes give one chunk's plaintext, and open that chunk at the first of them alone.
 fn opens_once(
     rt: &impl Abort,

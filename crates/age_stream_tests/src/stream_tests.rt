@@ -85,3 +85,43 @@ fn how_a_plaintext_is_cut_into_writes_is_not_seen(rt: HostRuntime) -> Result<(),
     }
     Ok(())
 }
+
+// It has read the first chunk whole for one byte of it.
+#[test]
+fn the_inner_reader_is_handed_back_as_it_stands(rt: HostRuntime) -> Result<(), Fail> {
+    let alloc = rt.alloc();
+    let payload = written(alloc, &plaintext(alloc, 65_537)?, 65_537)?;
+    for (reads, left) in [(0, 65_569), (1, 17)] {
+        let bytes = Bytes::new(&payload);
+        let mut reader = StreamReader::<BenchSuite, Bytes>::with_payload_key(alloc, KEY, bytes)?;
+        for _read in 0..reads {
+            assert_eq!(rt; reader.read(&mut [0]), Ok(1));
+        }
+        let mut inner = reader.into_inner();
+        let mut rest = Vec::new(alloc);
+        assert_eq!(rt; read_to_end(alloc, &mut inner, &mut rest)?, left);
+        assert!(rt; payload.ends_with(&rest));
+    }
+    Ok(())
+}
+
+#[test]
+fn debug_prints_how_far_they_are(rt: HostRuntime) -> Result<(), Fail> {
+    let alloc = rt.alloc();
+    let plain = plaintext(alloc, 65_537)?;
+    let out = Vec::new(alloc);
+    let mut writer = StreamWriter::<BenchSuite, Vec<u8>>::with_payload_key(alloc, KEY, out)?;
+    let text = format!(in alloc; "{writer:?}")?;
+    assert_eq!(rt; text.as_str(), "StreamWriter { taken: 0, .. }");
+    writer.write(&plain)?;
+    let text = format!(in alloc; "{writer:?}")?;
+    assert_eq!(rt; text.as_str(), "StreamWriter { taken: 65537, .. }");
+    let payload = writer.finish()?;
+    let bytes = Bytes::new(&payload);
+    let mut reader = StreamReader::<BenchSuite, Bytes>::with_payload_key(alloc, KEY, bytes)?;
+    let mut read = Vec::new(alloc);
+    read_to_end(alloc, &mut reader, &mut read)?;
+    let text = format!(in alloc; "{reader:?}")?;
+    assert_eq!(rt; text.as_str(), "StreamReader { place: 65537, .. }");
+    Ok(())
+}

@@ -1,7 +1,7 @@
 //! Readers and writers of std that fail on purpose. `Std` makes readers and writers of this port of them.
 
 use std::io;
-use std::io::{ErrorKind, Read, Write};
+use std::io::{ErrorKind, Read, Seek, SeekFrom, Write};
 
 /// What a call on a device does.
 #[derive(Clone, Copy)]
@@ -64,5 +64,40 @@ impl<'a> Write for Sink<'a> {
     fn flush(&mut self) -> io::Result<()> {
         self.script.next()?;
         Ok(())
+    }
+}
+
+/// Gives bytes from its place on, and seeks in them, as its script says. A seek is a step too, and moves as far as it asks.
+#[derive(Drop)]
+pub struct Disk<'a> {
+    pub script: Script<'a>,
+    pub bytes: &'a [u8],
+    pub place: u64,
+}
+
+impl<'a> Read for Disk<'a> {
+    fn read(&mut self, buf: &mut [u8]) -> io::Result<usize> {
+        let most = self.script.next()?.min(buf.len());
+        let start = (self.place as usize).min(self.bytes.len());
+        let mut rest = &self.bytes[start..];
+        let count = rest.read(&mut buf[..most])?;
+        self.place = self.place.saturating_add(count as u64);
+        Ok(count)
+    }
+}
+
+impl<'a> Seek for Disk<'a> {
+    fn seek(&mut self, to: SeekFrom) -> io::Result<u64> {
+        self.script.next()?;
+        let target = match to {
+            SeekFrom::Start(place) => Some(place),
+            SeekFrom::End(distance) => (self.bytes.len() as u64).checked_add_signed(distance),
+            SeekFrom::Current(distance) => self.place.checked_add_signed(distance),
+        };
+        let Some(target) = target else {
+            return Err(io::Error::from(ErrorKind::InvalidInput));
+        };
+        self.place = target;
+        Ok(target)
     }
 }

@@ -142,3 +142,10 @@ returns-else-count-gt0-clause-ended g c = λ told.
     (All-drop (λ x. x < 2 ^ 8) (read.place self.inner - self.taken) content.bytes (g.met.R.Read.are_bytes self.inner t))
     (sound.is_held c.requires.held) c.requires.last (sound.is_past c.requires.good c.requires.held) c.requires.given
     (record { bytes = ap (λ s. s.bytes) (sym same) ∙ clean.bytes; ends_well = ap (λ s. s.ends_well) (sym same) ∙ clean.ends_well })
+
+pub returns-in-Err-clause-after_last : goal.returns-in-Err-clause-after_last
+returns-in-Err-clause-after_last g c = λ told memory quiet.
+    let self = c.args.self.now in
+    let size : length c.fill-answer.new.buf ≡ 1 = c.fill-answer.auto.buf in
+    let early : EndsEarly 1 (g.R.Read.rest self.inner) = rw size at (c.in-Err.ensures.cause (and-left _ _ told) memory quiet) in
+    inl early

@@ -1,7 +1,9 @@
-use Rattle.age_io.specs.Reading.{IsQuiet}
+use Rattle.age_io.specs.Reading.{IsQuiet, Delivers}
+use Rattle.age_io.specs.Stretch.{from_place}
+use Rattle.age_io.proofs.Reaching.{delivered-at}
 use Rattle.age_stream.specs.Answering.{StopsNear, IsGoodEnd}
-use Rattle.std.proofs.Common.{◌≡◌, ◌∙◌, sym, ap, IsTrue, take, length, length-take-le, subst, inl, inr, arith}
-use Rattle.age_stream.specs.Reader.{tells_of, content_of, steady_of, payload_of, place_of}
+use Rattle.std.proofs.Common.{◌≡◌, ◌∙◌, ◌+◌, sym, ap, IsTrue, take, length, length-take-le, subst, inl, inr, arith}
+use Rattle.age_stream.specs.Reader.{tells_of, content_of, steady_of, payload_of, place_of, plain_rest_of}
 use Rattle.age_stream.specs.ReadingLaws.{both-true}
 use Rattle.age_stream.proofs.Answered.{read-through}
 use Rattle.age_stream.proofs.reader.StreamReader.read_at.Goals as goal
@@ -53,3 +55,24 @@ returns-in-Ok-read_full-clause-ended g c = λ told less.
     let good = c.in-Ok-read_full.ensures.ended (seek.seeks.same_tells ∙ told) less in
     subst (λ p. IsGoodEnd g.S.Suite.seal_of self.key p (place_of c.read_full.new.self)) (seek.payload told)
     (subst (λ k. IsGoodEnd g.S.Suite.seal_of k (payload_of mid) (place_of c.read_full.new.self)) seek.key good)
+
+pub returns-in-Ok-read_full-clause-rest : goal.returns-in-Ok-read_full-clause-rest
+returns-in-Ok-read_full-clause-rest g c = λ told well.
+    let self = c.args.self.now in
+    let seeks = c.in-Ok.ensures.seeks in
+    let read = c.in-Ok-read_full.ensures in
+    let steady : IsTrue (steady_of self) = both-true (tells_of self) (content_of self).ends_well told well in
+    let there = seeks.moves told steady in
+    let told_mid = seeks.same_tells ∙ told in
+    let front = take c.read_full.new.filled c.read_full.new.buf in
+    let came : Delivers front (from_place c.in-Ok._start (content_of self)) (plain_rest_of c.read_full.new.self) =
+    subst (λ s. Delivers front s (plain_rest_of c.read_full.new.self)) there.1 (read.bytes told_mid) in
+    let long = length-take-le c.read_full.new.filled c.read_full.new.buf read.count in
+    let place : c.in-Ok._start + length front ≡ place_of c.read_full.new.self = omega (arith, seeks.arrives told, read.moves, long) in
+    (delivered-at (content_of self) (plain_rest_of c.read_full.new.self) c.in-Ok._start front came).1
+    ∙ ap (λ p. from_place p (content_of self)) place
+
+pub returns-in-Ok-read_full-clause-inner_end : goal.returns-in-Ok-read_full-clause-inner_end
+returns-in-Ok-read_full-clause-inner_end g c = λ told.
+    let seek = c.in-Ok.ensures in
+    c.in-Ok-read_full.ensures.inner_end (seek.seeks.same_tells ∙ told) ∙ seek.inner_end told

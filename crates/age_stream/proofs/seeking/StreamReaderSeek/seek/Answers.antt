@@ -9,6 +9,7 @@ use Rattle.age_stream.specs.OpeningLaws.{shorter}
 use Rattle.age_stream.specs.Reading.{payload_at, text_at}
 use Rattle.age_stream.specs.ReadingLaws.{and-left, and-right, taken-rest}
 use Rattle.age_stream.proofs.Ending.{err-well, ok-well, last-opens, sought-refuses, not-both, in_length-leads, is-end, not-end}
+use Rattle.age_stream.proofs.Inner.{payload-place}
 use Rattle.age_stream.proofs.Judged.{ends_last, ends_badly}
 use Rattle.age_stream.proofs.Lengths.{plain_len_says}
 use Rattle.age_stream.proofs.Sound.{inner-well, rest-kept, same-steady, now-sound}
@@ -570,3 +571,28 @@ returns-in-Ok-enter_end-clause-inner_end g c = λ told.
     let mid = c.look.new.self in
     let later : IsTrue (g.R.Read.tells mid.inner && g.R.Read.steady mid.inner) = rw (look.tells, look.steady) told in
     c.in-Ok-enter_end.ensures.inner_end later ∙ ap (λ p. p.ends_well) (look.payload told)
+
+pub returns-in-Ok-stand-clause-inner_place : goal.returns-in-Ok-stand-clause-inner_place
+returns-in-Ok-stand-clause-inner_place g c = λ told refusal.
+    let self = c.args.self.now in
+    let read = g.R.Read in
+    let look = c.in-Ok.ensures in
+    let mid = c.look.new.self in
+    let done = c.in-Ok-stand.ensures in
+    let new = c.stand.new.self in
+    let later : IsTrue (read.tells mid.inner && read.steady mid.inner) = rw (look.tells, look.steady) told in
+    let after : IsTrue (read.tells new.inner && read.steady new.inner) = rw (done.tells, done.steady) later in
+    omega (arith, done.start later, (done.stands later).0, (look.found told).0, (self.sound told).fits, (new.sound after).fits)
+
+pub returns-in-Ok-stand-clause-inner_rest : goal.returns-in-Ok-stand-clause-inner_rest
+returns-in-Ok-stand-clause-inner_rest g c = λ told asked refusal.
+    let self = c.args.self.now in
+    let read = g.R.Read in
+    let look = c.in-Ok.ensures in
+    let mid = c.look.new.self in
+    let later : IsTrue (read.tells mid.inner && read.steady mid.inner) = rw (look.tells, look.steady) told in
+    let place = read.place self.inner in
+    let back : place - self.taken + self.taken ≡ place = omega (arith, (self.sound told).fits) in
+    (c.in-Ok-stand.ensures.stands later).1 ∙ ap (from_place self.taken) (look.payload told)
+    ∙ sym (payload-place (read.content self.inner) (place - self.taken) place self.taken refl self.taken)
+    ∙ ap (λ n. from_place n (read.content self.inner)) back

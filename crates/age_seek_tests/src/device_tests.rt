@@ -1,0 +1,144 @@
+//! Seeks over a device that fails in one of their steps: the answer, the state after it, and what seeks and reads give then.
+
+use crate::seek_tests::{reads, stays_failed};
+use age::io::{Error, ErrorKind, Read, Seek, SeekFrom, Std};
+use age::stream::StreamReader;
+use age_bench::suite::BenchSuite;
+use age_try::fakes::{Disk, Script, Step};
+use age_try::fixtures::{KEY, plaintext};
+use age_try::whole::seal_whole;
+use std::alloc::Global;
+use std::io;
+use std::process::Abort;
+use std::test::Fail;
+
+type Reader<'a> = StreamReader<BenchSuite, Std<Disk<'a>>>;
+
+const ALL: usize = usize::MAX;
+
+const DONE: Step = Step::Move(ALL);
+
+const GONE: Step = Step::Fail(io::ErrorKind::PermissionDenied);
+
+const FAULT: Error = Error::Device(ErrorKind::PermissionDenied);
+
+// After its first read the device does so many calls, fails at the next, and does what comes then.
+fn steps_before_a_fault(calls: usize) -> [Step; 13] {
+    let mut steps = [DONE; 13];
+    if let Some(step) = steps.get_mut(calls.saturating_add(1)) {
+        *step = GONE;
+    }
+    steps
+}
+
+// A reader that has given the first byte of its plaintext, and opened the first chunk for it.
+fn after_a_byte<'a>(
+    rt: &impl Abort,
+    alloc: Global,
+    steps: &'a [Step],
+    payload: &'a [u8],
+) -> Result<Reader<'a>, Fail> {
+    let disk = Disk {
+        script: Script { steps, most: ALL },
+        bytes: payload,
+        place: 0,
+    };
+    let mut reader = Reader::with_payload_key(alloc, KEY, Std::new(disk))?;
+    reads(rt, &mut reader, 0);
+    assert_eq!(rt; reader.opens(), 1);
+    Ok(reader)
+}
+
+// The seek meets the fault: the reader has failed at its place, and opened nothing.
+fn is_refused(
+    rt: &impl Abort,
+    alloc: Global,
+    reader: &mut Reader<'_>,
+    to: SeekFrom,
+) -> Result<(), Fail> {
+    assert_eq!(rt; reader.seek(to), Err(FAULT));
+    stays_failed(rt, reader);
+    assert_eq!(rt; reader.seek(SeekFrom::Current(-2)), Err(Error::BeforeStart));
+    stays_failed(rt, reader);
+    let text = format!(in alloc; "{reader:?}")?;
+    assert_eq!(rt; text.as_str(), "StreamReader { place: 1, .. }");
+    assert_eq!(rt; reader.opens(), 1);
+    Ok(())
+}
+
+// A seek asks the device nine times: for its place, its end, and a new place, each by three calls. To the end of the
+// plaintext it reads the last chunk by two more, and opens it.
+#[test]
+fn a_seek_meets_a_fault_in_each_of_its_steps(rt: HostRuntime) -> Result<(), Fail> {
+    let alloc = rt.alloc();
+    let payload = seal_whole::<BenchSuite>(alloc, &KEY, &plaintext(alloc, 102_400)?)?;
+    for (to, calls) in [
+        (SeekFrom::Start(70_000), 9),
+        (SeekFrom::Start(102_401), 9),
+        (SeekFrom::End(0), 11),
+    ] {
+        for done in 0..calls {
+            let steps = steps_before_a_fault(done);
+            let mut reader = after_a_byte(&rt, alloc, &steps, &payload)?;
+            is_refused(&rt, alloc, &mut reader, to)?;
+            // The chunk that is held is no worse for it.
+            assert_eq!(rt; reader.seek(SeekFrom::Start(5)), Ok(5), "after {done}");
+            reads(&rt, &mut reader, 5);
+            assert_eq!(rt; reader.opens(), 1);
+        }
+    }
+    Ok(())
+}
+
+// A seek after the fault goes where it should, but where the fault left the device at its end: the third call of those
+// for its place, and of those for its end.
+#[test]
+fn a_seek_after_a_fault_is_exact(rt: HostRuntime) -> Result<(), Fail> {
+    let alloc = rt.alloc();
+    let payload = seal_whole::<BenchSuite>(alloc, &KEY, &plaintext(alloc, 102_400)?)?;
+    for done in [0, 1, 3, 4, 6, 7, 8, 9, 10] {
+        let steps = steps_before_a_fault(done);
+        let mut reader = after_a_byte(&rt, alloc, &steps, &payload)?;
+        is_refused(&rt, alloc, &mut reader, SeekFrom::End(0))?;
+        assert_eq!(rt;
+            reader.seek(SeekFrom::Start(70_000)),
+            Ok(70_000),
+            "after {done}"
+        );
+        reads(&rt, &mut reader, 70_000);
+        assert_eq!(rt; reader.opens(), 2);
+        assert_eq!(rt; reader.seek(SeekFrom::End(0)), Ok(102_400));
+        assert_eq!(rt; reader.read(&mut [0]), Ok(0));
+        assert_eq!(rt; reader.opens(), 2);
+    }
+    Ok(())
+}
+
+// The seek is done before the fault, and the next call that asks the device meets it.
+#[test]
+fn a_seek_asks_no_more_than_its_steps(rt: HostRuntime) -> Result<(), Fail> {
+    let alloc = rt.alloc();
+    let payload = seal_whole::<BenchSuite>(alloc, &KEY, &plaintext(alloc, 102_400)?)?;
+    for (to, calls, answer, next, opens) in [
+        (SeekFrom::Start(70_000), 9, Ok(70_000), Err(FAULT), 1),
+        (SeekFrom::Start(9), 9, Ok(9), Ok(1), 1),
+        (SeekFrom::Start(102_401), 9, Err(Error::PastEnd), Ok(1), 1),
+        (
+            SeekFrom::End(-102_401),
+            9,
+            Err(Error::BeforeStart),
+            Ok(1),
+            1,
+        ),
+        (SeekFrom::Current(-2), 0, Err(Error::BeforeStart), Ok(1), 1),
+        (SeekFrom::End(0), 11, Ok(102_400), Err(FAULT), 2),
+    ] {
+        let steps = steps_before_a_fault(calls);
+        let mut reader = after_a_byte(&rt, alloc, &steps, &payload)?;
+        assert_eq!(rt; reader.seek(to), answer);
+        assert_eq!(rt; reader.read(&mut [0]), next);
+        assert_eq!(rt; reader.opens(), opens);
+        assert_eq!(rt; reader.seek(SeekFrom::End(-1)).is_ok(), next.is_err());
+    }
+    Ok(())
+}
