@@ -1,7 +1,7 @@
 -- What reads and seeks in turn answer: a cursor over a list, and any reader.
 use Rattle.std.specs.Prelude.{◌≡◌, ◌≢◌, ℕ, ◌+◌, ◌≤◌, ◌<◌, Bool, IsTrue, List, [], ◌∷◌, length, take, drop, Result, Ok, Err}
 use Rattle.age_io.specs.Stretch.{Stretch, from_place, IsCleanEnd}
-use Rattle.age_io.specs.Reading.{Reads, Delivers}
+use Rattle.age_io.specs.Reading.{Reads, Gives}
 use Rattle.age_io.specs.Cursor.{sought, Seeks}
 use Rattle.age_error.specs.Refusals.{IsDevice}
 use Rattle.age_error.specs.declared.io.Error.{Error}
@@ -70,28 +70,17 @@ IsNoWant (Fault got error) = error ≢ OutOfMemory
 IsNoWant _ = Unit {0}
 
 module _ {S : Type 0} (tells steady : S → Bool) (content : S → Stretch) (place : S → ℕ) (rest : S → Stretch) (faults : S → ℕ) where
-  -- What several reads do that give these bytes in all.
-  pub record Gives (old new : S) (got : List ℕ) : Type 0 where
-    -- of every reader
-    pub same_tells : tells new ≡ tells old
-    pub same_steady : steady new ≡ steady old
-    pub no_fewer_faults : faults old ≤ faults new
-    -- of a reader that tells its bytes
-    pub same_content : IsTrue (tells old) → content new ≡ content old
-    pub bytes : IsTrue (tells old) → Delivers got (rest old) (rest new)
-    pub moves : IsTrue (tells old) → place new ≡ place old + length got
-
-  -- They were asked for so many bytes, and gave fewer at a clean end alone.
+  -- Reads were asked for so many bytes in all, and gave fewer at a clean end alone.
   pub record GivesUpTo (wanted : ℕ) (got : List ℕ) (old new : S) : Type 0 where
     pub most : length got ≤ wanted
-    pub gives : Gives old new got
+    pub gives : Gives tells steady content place rest faults old new got
     pub end : IsTrue (tells old) → length got < wanted → IsCleanEnd (rest new)
 
   -- They were asked for so many bytes, and gave fewer, since the next read refused with this error.
   pub record GivesThenRefuses (wanted : ℕ) (got : List ℕ) (e : Error) (old new : S) : Type 0 where
     pub fewer : length got < wanted
     pub between : S
-    pub gives : Gives old between got
+    pub gives : Gives tells steady content place rest faults old between got
     pub buf : List ℕ
     pub refuses : Reads tells steady content place rest faults between new buf (Err e)
 

@@ -1,6 +1,6 @@
 use Rattle.std.proofs.Common.{arith, ◌∙◌, ◌≡◌, ◌+◌, ◌++◌, take, length, vec_len}
 use Rattle.std.proofs.lemmas.Grind.{common_steps}
-use Rattle.age_io.proofs.InTurn.{gives-more}
+use Rattle.age_io.proofs.Delivering.{gives-more}
 use Rattle.age_io.proofs.Reaching.{Reached-more}
 use Rattle.age_io.proofs.operations.read_up_to.Goals as goal
 

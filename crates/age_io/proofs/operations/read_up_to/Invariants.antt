@@ -1,6 +1,6 @@
 use Rattle.std.proofs.Common.{◌≡◌, ◌≤◌, ◌-◌, IsTrue, vec_len}
 use Rattle.age_io.specs.Stretch.{from_place}
-use Rattle.age_io.specs.Replies.{Gives}
+use Rattle.age_io.specs.Reading.{Gives}
 use Rattle.age_io.proofs.Reaching.{Reached}
 use Rattle.age_io.proofs.operations.read_up_to.Given as goal
 
