@@ -1,5 +1,5 @@
 -- Reads and seeks in turn.
-use Rattle.std.proofs.Common.{ℕ, Bool, List, [], ◌∷◌, ◌++◌, take, Ok, refl, subst, ◌∙◌, arith, length-append, length-take-le}
+use Rattle.std.proofs.Common.{ℕ, Bool, List, [], ◌∷◌, ◌++◌, refl, subst}
 use Rattle.age_io.specs.Stretch.{Stretch}
 use Rattle.age_io.specs.Replies.{CameOf, CameOfAll}
 use Rattle.age_io.specs.declared.operations.Op.{Op}

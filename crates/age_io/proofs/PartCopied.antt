@@ -1,10 +1,11 @@
 -- Copying so many bytes, piece by piece.
 use Rattle.std.specs.Prelude.{◌≡◌, ℕ, ◌+◌, ◌≤◌, ◌<◌, Bool, IsTrue, List, [], ◌++◌, length, take, drop, Ok, Err}
-use Rattle.std.proofs.Common.{arith, refl, sym, ap, subst, ◌∙◌, append_assoc, append-nil, take-append-drop, length-append, inl}
+use Rattle.std.proofs.Common.{arith, refl, sym, ap, subst, ◌∙◌, append_assoc, append-nil, take-append-drop, length-append}
 use lib.Seq.{take-append-add, take-nil}
 use Rattle.age_error.specs.declared.io.Error.{Error}
 use Rattle.age_io.specs.Stretch.{Stretch, IsCleanEnd}
 use Rattle.age_io.specs.Reading.{Reads, Delivers, Gives}
+use Rattle.age_io.proofs.Copied.{left-by-read, left-by-write}
 use Rattle.age_io.proofs.Delivering.{gives-none, gives-more, gives-same}
 use Rattle.age_io.specs.Copying.{AppendsFront, CopiesFront}
 
@@ -42,21 +43,6 @@ module _ {S : Type 0} (tells steady : S → Bool) (content : S → Stretch) (pla
     budget = omega arith;
     gives = gives-none tells steady content place rest faults s;
     out = λ told. none;
-  }
-
-  -- nothing was read
-  pub part-unasked : (count : ℕ) (s : S) (w : W) → appended w [] w →
-      CopiesFront tells steady content place rest faults writer_tells appended count s s w w
-  part-unasked count s w none = record {
-    given = [];
-    fits = omega arith;
-    appends = λ told. record { front = []; after = []; joined = refl; out = none };
-    same_tells = refl;
-    same_steady = refl;
-    no_fewer_faults = omega arith;
-    same_content = λ told. refl;
-    gave = λ told. record { middle = rest s; delivered = record { bytes = refl; end = refl }; left = inl refl };
-    moves = λ told. omega arith;
   }
 
   -- at a clean end all that the count asks for was appended
@@ -112,22 +98,10 @@ module _ {S : Type 0} (tells steady : S → Bool) (content : S → Stretch) (pla
   -- where the reader is left by a read that refused
   pub part-unread : (count left : ℕ) (old between new : S) (before after : W) (buf : List ℕ) (e : Error) →
       IsPartCopied count left old between before after → Reads tells steady content place rest faults between new buf (Err e) →
-      CopiesFront tells steady content place rest faults writer_tells appended count old new before after
-  part-unread count left old between new before after buf e so_far r = record {
-    given = so_far.front;
-    fits = omega (arith, so_far.budget);
-    appends = λ told. record { front = so_far.front; after = []; joined = sym (append-nil so_far.front); out = so_far.out told };
-    same_tells = r.same_tells ∙ so_far.gives.same_tells;
-    same_steady = r.same_steady ∙ so_far.gives.same_steady;
-    no_fewer_faults = omega (arith, r.no_fewer_faults, so_far.gives.no_fewer_faults);
-    same_content = λ told. r.same_content (so_far.gives.same_tells ∙ told) ∙ so_far.gives.same_content told;
-    gave = λ told. record {
-      middle = rest between;
-      delivered = so_far.gives.bytes told;
-      left = r.left (so_far.gives.same_tells ∙ told);
-    };
-    moves = λ told. r.stays (so_far.gives.same_tells ∙ told) ∙ so_far.gives.moves told;
-  }
+      CopiesFront tells steady content place rest faults writer_tells appended (λ given. length given ≤ count) old new before after
+  part-unread count left old between new before after buf e so_far r =
+      left-by-read tells steady content place rest faults writer_tells appended (λ given. length given ≤ count)
+      so_far.front old between new before after buf e (omega (arith, so_far.budget)) so_far.gives so_far.out r
 
   module _ (joins : (a b c : W) (x y : List ℕ) → appended a x b → appended b y c → appended a (x ++ y) c) where
     pub part-more : (count left after_it : ℕ) (old between new : S) (before half after : W) (buf : List ℕ) (n : ℕ) →
@@ -164,29 +138,11 @@ module _ {S : Type 0} (tells steady : S → Bool) (content : S → Stretch) (pla
         IsPartCopied count left old between before half → left ≡ length (take n buf) + after_it →
         Reads tells steady content place rest faults between new buf (Ok n) →
         (IsTrue (writer_tells before) → (taken : ℕ) × (taken ≤ length (take n buf)) × appended half (take taken (take n buf)) after) →
-        CopiesFront tells steady content place rest faults writer_tells appended count old new before after
-    part-unwritten count left after_it old between new before half after buf n so_far size r out =
-        let more = gives-more tells steady content place rest faults old between new so_far.front buf n so_far.gives r in
-        let piece = take n buf in
-        record {
-          given = so_far.front ++ piece;
-          fits = omega (arith, so_far.budget, size, length-append so_far.front piece);
-          appends = λ told.
-              let taken = (out told).0 in
-              record {
-                front = so_far.front ++ take taken piece;
-                after = drop taken piece;
-                joined = ap (λ l. so_far.front ++ l) (sym (take-append-drop taken piece))
-                    ∙ sym (append_assoc so_far.front (take taken piece) (drop taken piece));
-                out = joins before half after so_far.front (take taken piece) (so_far.out told) (out told).2;
-              };
-          same_tells = more.same_tells;
-          same_steady = more.same_steady;
-          no_fewer_faults = more.no_fewer_faults;
-          same_content = more.same_content;
-          gave = λ told. record { middle = rest new; delivered = more.bytes told; left = inl refl };
-          moves = more.moves;
-        }
+        CopiesFront tells steady content place rest faults writer_tells appended (λ given. length given ≤ count) old new before after
+    part-unwritten count left after_it old between new before half after buf n so_far size r wrote =
+        left-by-write tells steady content place rest faults writer_tells appended (λ given. length given ≤ count) joins
+        so_far.front old between new before half after buf n (omega (arith, so_far.budget, size, length-append so_far.front (take n buf)))
+        so_far.gives so_far.out r wrote
 
 -- nothing was appended
 pub none-copied : {W : Type 0} (appended : W → List ℕ → W → Type 0) (whole : List ℕ) (w : W) → appended w [] w → AppendsFront appended whole w w

@@ -17,11 +17,11 @@ pub record AppendsSome {W : Type 0} (appended : W → List ℕ → W → Type 0)
   pub holds : Holds out
   pub done : appended old out new
 
--- A reader gave at most so many bytes, and stands after them, or has failed there. A beginning of them was appended to a writer.
+-- A reader gave bytes of which this holds, and stands after them, or has failed there. A beginning of them was appended to a writer.
 pub record CopiesFront {S : Type 0} (tells steady : S → Bool) (content : S → Stretch) (place : S → ℕ) (rest : S → Stretch) (faults : S → ℕ)
-    {W : Type 0} (writer_tells : W → Bool) (appended : W → List ℕ → W → Type 0) (most : ℕ) (old new : S) (before after : W) : Type 0 where
+    {W : Type 0} (writer_tells : W → Bool) (appended : W → List ℕ → W → Type 0) (Holds : List ℕ → Type 0) (old new : S) (before after : W) : Type 0 where
   pub given : List ℕ
-  pub fits : length given ≤ most
+  pub holds : Holds given
   -- to a writer that tells its bytes
   pub appends : IsTrue (writer_tells before) → AppendsFront appended given before after
   -- of every reader

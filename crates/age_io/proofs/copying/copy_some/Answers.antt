@@ -1,14 +1,15 @@
 use Rattle.std.proofs.Common.{◌≡◌, ◌-◌, ◌≤◌, ◌∙◌, arith, length, take, length-take-le}
 use Rattle.std.proofs.lemmas.Grind.{common_steps}
 use Rattle.age_io.proofs.Appending.{OnErr-of}
-use Rattle.age_io.proofs.PartCopied.{part-unasked, part-front, part-unread, part-refused, part-unwritten, part-more}
+use Rattle.age_io.proofs.Copied.{left-unasked}
+use Rattle.age_io.proofs.PartCopied.{part-front, part-unread, part-refused, part-unwritten, part-more}
 use Rattle.age_io.proofs.copying.copy_some.Goals as goal
 
 pub returns-in_err-piece-clause-left : goal.returns-in_err-piece-clause-left
 returns-in_err-piece-clause-left g c =
     let read = g.R.Read in
-    OnErr-of _ (part-unasked read.tells read.steady read.content read.place read.rest read.faults g.W.Write.tells g.W.Write.appended
-    c.args.count c.args.reader.now c.args.writer.now (g.met.W.Write.appends_nothing c.args.writer.now))
+    OnErr-of _ (left-unasked read.tells read.steady read.content read.place read.rest read.faults g.W.Write.tells g.W.Write.appended
+    (λ given. length given ≤ c.args.count) c.args.reader.now c.args.writer.now (omega arith) (g.met.W.Write.appends_nothing c.args.writer.now))
 
 pub returns-in_err-got-clause-front : goal.returns-in_err-got-clause-front
 returns-in_err-got-clause-front g c = λ reader_told writer_told.
