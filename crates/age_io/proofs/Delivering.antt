@@ -1,10 +1,10 @@
 -- Facts on what a reader delivers.
-use Rattle.std.proofs.Common.{◌≡◌, ℕ, ◌+◌, ◌≤◌, List, [], ◌++◌, length, take, drop, append_assoc, refl, sym, ◌∙◌, ap, drop_at, take_at, length-take-le, le_refl, append-nil, inl}
+use Rattle.std.proofs.Common.{◌≡◌, ℕ, ◌+◌, ◌≤◌, Bool, IsTrue, List, [], ◌++◌, length, take, drop, Ok, append_assoc, arith, refl, sym, ◌∙◌, ap, subst, drop_at, take_at, length-append, length-take-le, le_refl, append-nil, inl}
 use borrow.Rule.Slice.PartMut.{put_mid, post_of}
 use Rattle.std.proofs.lemmas.Slice.{take-put_mid_below}
 use lib.Seq.{take-add, take-append-le}
 use Rattle.age_io.specs.Stretch.{Stretch}
-use Rattle.age_io.specs.Reading.{Delivers, Appended}
+use Rattle.age_io.specs.Reading.{Reads, Delivers, Gives, Appended}
 
 -- what is delivered in turn is delivered joined
 pub Delivers-joined : (xs ys : List ℕ) (a b c : Stretch) → Delivers xs a b → Delivers ys b c → Delivers (xs ++ ys) a c
@@ -49,3 +49,40 @@ Appended-none s xs = record {
   delivered = record { bytes = refl; end = refl };
   left = inl refl;
 }
+
+module _ {S : Type 0} (tells steady : S → Bool) (content : S → Stretch) (place : S → ℕ) (rest : S → Stretch) (faults : S → ℕ) where
+  -- no read gave anything yet
+  pub gives-none : (s : S) → Gives tells steady content place rest faults s s []
+  gives-none s = record {
+    same_tells = refl;
+    same_steady = refl;
+    no_fewer_faults = omega arith;
+    same_content = λ told. refl;
+    bytes = λ told. record { bytes = refl; end = refl };
+    moves = λ told. omega arith;
+  }
+
+  -- a further read
+  pub gives-more : (old between new : S) (got buf : List ℕ) (n : ℕ) → Gives tells steady content place rest faults old between got →
+      Reads tells steady content place rest faults between new buf (Ok n) → Gives tells steady content place rest faults old new (got ++ take n buf)
+  gives-more old between new got buf n g r = record {
+    same_tells = r.same_tells ∙ g.same_tells;
+    same_steady = r.same_steady ∙ g.same_steady;
+    no_fewer_faults = omega (arith, g.no_fewer_faults, r.no_fewer_faults);
+    same_content = λ told. r.same_content (g.same_tells ∙ told) ∙ g.same_content told;
+    bytes = λ told. Delivers-joined got (take n buf) (rest old) (rest between) (rest new) (g.bytes told) (r.bytes (g.same_tells ∙ told));
+    moves = λ told.
+        omega (arith, g.moves told, r.moves (g.same_tells ∙ told), length-append got (take n buf), length-take-le n buf r.count);
+  }
+
+  -- a reader that tells its bytes gave these, by another name
+  pub gives-same : (old new : S) (got other : List ℕ) → (IsTrue (tells old) → got ≡ other) →
+      Gives tells steady content place rest faults old new got → Gives tells steady content place rest faults old new other
+  gives-same old new got other same g = record {
+    same_tells = g.same_tells;
+    same_steady = g.same_steady;
+    no_fewer_faults = g.no_fewer_faults;
+    same_content = g.same_content;
+    bytes = λ told. subst (λ l. Delivers l (rest old) (rest new)) (same told) (g.bytes told);
+    moves = λ told. g.moves told ∙ ap (λ l. place old + length l) (same told);
+  }

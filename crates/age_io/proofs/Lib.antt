@@ -4,6 +4,7 @@ pub mod Retrying
 pub mod Holding
 pub mod Reaching
 pub mod Replying
+pub mod InTurn
 pub mod Moving
 pub mod Copied
 pub mod PartCopied

@@ -1,5 +1,7 @@
--- What of a list was appended to a writer.
-use Rattle.std.specs.Prelude.{◌≡◌, ℕ, ◌≤◌, List, ◌++◌, length}
+-- What of a list was appended to a writer, and where the reader stands that it came from.
+use Rattle.std.specs.Prelude.{◌≡◌, ℕ, ◌+◌, ◌≤◌, Bool, IsTrue, List, ◌++◌, length}
+use Rattle.age_io.specs.Stretch.{Stretch}
+use Rattle.age_io.specs.Reading.{Gave}
 
 -- between two states of a writer a beginning of this list was appended
 pub record AppendsFront {W : Type 0} (appended : W → List ℕ → W → Type 0) (whole : List ℕ) (old new : W) : Type 0 where
@@ -14,3 +16,19 @@ pub record AppendsSome {W : Type 0} (appended : W → List ℕ → W → Type 0)
   pub most : length out ≤ count
   pub holds : Holds out
   pub done : appended old out new
+
+-- A reader gave bytes of which this holds, and stands after them, or has failed there. A beginning of them was appended to a writer.
+pub record CopiesFront {S : Type 0} (tells steady : S → Bool) (content : S → Stretch) (place : S → ℕ) (rest : S → Stretch) (faults : S → ℕ)
+    {W : Type 0} (writer_tells : W → Bool) (appended : W → List ℕ → W → Type 0) (Holds : List ℕ → Type 0) (old new : S) (before after : W) : Type 0 where
+  pub given : List ℕ
+  pub holds : Holds given
+  -- to a writer that tells its bytes
+  pub appends : IsTrue (writer_tells before) → AppendsFront appended given before after
+  -- of every reader
+  pub same_tells : tells new ≡ tells old
+  pub same_steady : steady new ≡ steady old
+  pub no_fewer_faults : faults old ≤ faults new
+  -- of a reader that tells its bytes
+  pub same_content : IsTrue (tells old) → content new ≡ content old
+  pub gave : IsTrue (tells old) → Gave given (rest old) (rest new)
+  pub moves : IsTrue (tells old) → place new ≡ place old + length given

@@ -48,6 +48,18 @@ pub record Reads {S : Type 0} (tells steady : S → Bool) (content : S → Stret
   pub interrupted : IsTrue (tells old) → IfErr result (λ e. IsInterruption e → rest new ≡ rest old)
   pub cause : IsTrue (tells old) → IfErr result (λ e. e ≢ OutOfMemory → IsQuiet (faults old) (faults new) → IsFault (rest old))
 
+-- What several reads do that give these bytes in all.
+pub record Gives {S : Type 0} (tells steady : S → Bool) (content : S → Stretch) (place : S → ℕ) (rest : S → Stretch) (faults : S → ℕ)
+    (old new : S) (got : List ℕ) : Type 0 where
+  -- of every reader
+  pub same_tells : tells new ≡ tells old
+  pub same_steady : steady new ≡ steady old
+  pub no_fewer_faults : faults old ≤ faults new
+  -- of a reader that tells its bytes
+  pub same_content : IsTrue (tells old) → content new ≡ content old
+  pub bytes : IsTrue (tells old) → Delivers got (rest old) (rest new)
+  pub moves : IsTrue (tells old) → place new ≡ place old + length got
+
 -- A reader gave these bytes, the beginning of the rest, and stands after them, or has failed there.
 pub record Gave (front : List ℕ) (old new : Stretch) : Type 0 where
   pub middle : Stretch

@@ -1,9 +1,9 @@
 //! Copying what a reader still has to a writer.
-ghost use Rattle.std.specs.Prelude.{◌≡◌, ◌≢◌, ℕ, ◌<◌, ◌≤◌, ◌⊎◌, false, IsTrue, List, ◌++◌, length, take, OnOk, OnErr, IfErr};
+ghost use Rattle.std.specs.Prelude.{◌≡◌, ◌≢◌, ℕ, ◌<◌, ◌≤◌, ◌⊎◌, false, IsTrue, List, ◌++◌, length, take, OnOk, OnErr, IfErr, ⊤};
 ghost use Rattle.age_error.specs.Refusals.{IsDevice};
 ghost use Rattle.age_error.specs.declared.io.Error.TheVariants.{TooLong};
-ghost use Rattle.age_io.specs.Reading.{IsQuiet};
-ghost use Rattle.age_io.specs.Copying.{AppendsFront};
+ghost use Rattle.age_io.specs.Reading.{IsQuiet, Gives};
+ghost use Rattle.age_io.specs.Copying.{AppendsFront, CopiesFront};
 
 use crate::retry::read_retrying;
 use crate::traits::{Read, Write};
@@ -15,7 +15,9 @@ use std::alloc::Global;
 const ROOM: usize = 262_144;
 
 /// Appends to `writer` what `reader` still has, piece by piece, in memory of one piece. A success says that the
-/// input ended well and all of it was appended; after a refusal a beginning of it was.
+/// input ended well and all of it was appended; the reader then stands at its end. After a refusal a beginning of it was
+/// appended, and the reader stands after the bytes that it gave, or has failed there: what was read and not written is
+/// lost.
 ///
 /// `OutOfMemory` comes before the first piece, where memory of one is refused. Any other refusal is that of the reader
 /// or of the writer, but for `TooLong` after 2^64 - 1 pieces, to which a reader that tells its bytes never comes.
@@ -30,6 +32,9 @@ pub fn copy_all<R: Read, W: Write>(
         (IsTrue (R.rest reader.old).ends_well × W.appended writer.old (R.rest reader.old).bytes writer.new) }
     ensures front { IsTrue (R.tells reader.old) → IsTrue (W.tells writer.old) →
         AppendsFront W.appended (R.rest reader.old).bytes writer.old writer.new }
+    ensures stands { OnOk result (Gives R.tells R.steady R.content R.place R.rest R.faults reader.old reader.new (R.rest reader.old).bytes) }
+    ensures left { OnErr result (CopiesFront R.tells R.steady R.content R.place R.rest R.faults W.tells W.appended
+        (λ _. ⊤) reader.old reader.new writer.old writer.new) }
     // Why it refuses, as far as a writer says why it does.
     ensures device { IfErr result (λ e. IsDevice e →
         (R.faults reader.old < R.faults reader.new) ⊎ (W.faults writer.old < W.faults writer.new)) }
@@ -49,7 +54,9 @@ pub fn copy_all<R: Read, W: Write>(
 
 /// Appends to `writer` the next `count` bytes that `reader` has, or fewer at its end, piece by piece, in memory of one
 /// piece whatever the count. A success says that all of them were appended, and where they are fewer than `count` that
-/// the input ended well; after a refusal a beginning of them was. No byte after them is asked for.
+/// the input ended well; the reader then stands after them. After a refusal a beginning of them was appended, and the
+/// reader stands after the bytes that it gave, at most `count`, or has failed there: what was read and not written is
+/// lost. No byte after the `count` bytes is asked for.
 ///
 /// `OutOfMemory` comes before the first piece, where memory of one is refused. Any other refusal is that of the reader
 /// or of the writer. Interruptions are tried again up to 16 times in a row.
@@ -65,6 +72,10 @@ pub fn copy_some<R: Read, W: Write>(
         × (length (R.rest reader.old).bytes < count → IsTrue (R.rest reader.old).ends_well)) }
     ensures front { IsTrue (R.tells reader.old) → IsTrue (W.tells writer.old) →
         AppendsFront W.appended (take count (R.rest reader.old).bytes) writer.old writer.new }
+    ensures stands { OnOk result (Gives R.tells R.steady R.content R.place R.rest R.faults reader.old reader.new
+        (take count (R.rest reader.old).bytes)) }
+    ensures left { OnErr result (CopiesFront R.tells R.steady R.content R.place R.rest R.faults W.tells W.appended
+        (λ given. length given ≤ count) reader.old reader.new writer.old writer.new) }
     // Why it refuses, as far as a writer says why it does.
     ensures device { IfErr result (λ e. IsDevice e →
         (R.faults reader.old < R.faults reader.new) ⊎ (W.faults writer.old < W.faults writer.new)) }

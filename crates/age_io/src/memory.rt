@@ -1,5 +1,5 @@
 //! Readers and writers in memory.
-ghost use Rattle.std.specs.Prelude.{◌≡◌, ℕ, ◌+◌, ◌^◌, ◌≤◌, ◌<◌, true, false, List, ◌++◌, length, take, drop, min, Ok, IfOk, IfErr, OnErr, vec_items, refl};
+ghost use Rattle.std.specs.Prelude.{◌≡◌, ℕ, ◌+◌, ◌^◌, ◌≤◌, ◌<◌, true, false, List, ◌++◌, length, take, drop, min, Ok, IfOk, IfErr, IsOk, OnErr, vec_items, refl};
 ghost use Rattle.std.proofs.Common.{inl, arith};
 ghost use Rattle.std.proofs.lemmas.Grind.{common_steps};
 ghost use Rattle.age_error.specs.Bytes.{AreBytes};
@@ -85,6 +85,8 @@ impl<'a> BufRead for Bytes<'a> {
     ghost use Rattle.age_io.specs.Slices.{bytes_of, place_of};
 
     ghost shown = { λ r. drop (place_of r) (bytes_of r) };
+
+    ghost besides = { λ _ _ result. IsOk result };
 
     /// Shows the whole rest. It never refuses.
     fn fill_buf(&mut self) -> Result<&[u8], Error> {

@@ -2,7 +2,7 @@
 ghost use Rattle.std.specs.Prelude.{◌≡◌, ◌≢◌, ℕ, ◌+◌, ◌-◌, ◌≤◌, ◌<◌, Bool, IsTrue, List, [], ◌∷◌, ◌++◌, length, take, drop, map, All, IfOk, vec_len};
 ghost use Rattle.age_io.specs.Stretch.{Stretch, from_place};
 ghost use Rattle.age_io.specs.Reading.{IsQuiet};
-ghost use Rattle.age_io.specs.Replies.{seen, replies, Replied, place_after_all, IsNoWant, IsDeviceFault};
+ghost use Rattle.age_io.specs.Replies.{seen, replies, Replied, place_after_all, IsNoWant, IsDeviceFault, CameOf, CameOfAll};
 
 use crate::seeking::Seek;
 use crate::traits::Read;
@@ -36,6 +36,10 @@ pub enum Answer {
 
 /// Does each read and seek in turn, also after one was refused, and answers what came of each.
 ///
+/// An answer says what the reader's own calls did, in the state in which the operation before it left the reader: a read's
+/// bytes are those that it gave, also before a refusal, and they are fewer than it asked for at a clean end alone; a refusal
+/// is that of the next call.
+///
 /// On a content that ends well, of which no byte is lost yet, the answers are those of a cursor on it, as long as no
 /// device fails and no answer is `OutOfMemory`; the reader then stands where the cursor does. Nothing is tried again.
 /// `AllocError` says that the list of answers or the bytes in it couldn't grow; the reader then stands after some of the
@@ -46,6 +50,8 @@ pub fn run<R: Seek>(alloc: Global, reader: &mut R, ops: &[Op]) -> Result<Vec<Ans
     ensures faults { R.faults reader.old ≤ R.faults reader.new }
     ensures content { IsTrue (R.tells reader.old) → R.content reader.new ≡ R.content reader.old }
     ensures count { IfOk result (λ answers. length answers.items ≡ length ops.now) }
+    ensures each { IfOk result (λ answers.
+        CameOfAll R.tells R.steady R.content R.place R.rest R.faults ops.now answers.items reader.old reader.new) }
     ensures device { R.faults reader.new ≡ R.faults reader.old →
         IfOk result (λ answers. All (λ a. IsDeviceFault a → ⊥) answers.items) }
     ensures cursor { IsTrue (R.tells reader.old) → IsTrue (R.content reader.old).ends_well →
@@ -74,6 +80,7 @@ fn answer_of<R: Seek>(alloc: Global, reader: &mut R, op: Op) -> Result<Answer, A
     ensures faults { R.faults reader.old ≤ R.faults reader.new }
     ensures device { R.faults reader.new ≡ R.faults reader.old → IfOk result (λ a. IsDeviceFault a → ⊥) }
     ensures content { IsTrue (R.tells reader.old) → R.content reader.new ≡ R.content reader.old }
+    ensures came { IfOk result (λ a. CameOf R.tells R.steady R.content R.place R.rest R.faults op a reader.old reader.new) }
     ensures reply { IsTrue (R.tells reader.old) → IsTrue (R.content reader.old).ends_well →
         R.rest reader.old ≡ from_place (R.place reader.old) (R.content reader.old) →
         IsQuiet (R.faults reader.old) (R.faults reader.new) →
@@ -99,6 +106,7 @@ fn read_up_to<R: Read>(alloc: Global, reader: &mut R, count: usize) -> Result<An
     ensures faults { R.faults reader.old ≤ R.faults reader.new }
     ensures device { R.faults reader.new ≡ R.faults reader.old → IfOk result (λ a. IsDeviceFault a → ⊥) }
     ensures content { IsTrue (R.tells reader.old) → R.content reader.new ≡ R.content reader.old }
+    ensures came { IfOk result (λ a. CameOf R.tells R.steady R.content R.place R.rest R.faults (Op.Read count) a reader.old reader.new) }
     ensures reply { IsTrue (R.tells reader.old) → IsTrue (R.content reader.old).ends_well →
         R.rest reader.old ≡ from_place (R.place reader.old) (R.content reader.old) →
         IsQuiet (R.faults reader.old) (R.faults reader.new) →

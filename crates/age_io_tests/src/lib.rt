@@ -6,4 +6,6 @@ mod buffered_tests;
 #[cfg(test)]
 mod io_seek_tests;
 #[cfg(test)]
+mod run_tests;
+#[cfg(test)]
 mod standard_tests;

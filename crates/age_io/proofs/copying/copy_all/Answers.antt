@@ -1,7 +1,9 @@
-use Rattle.std.proofs.Common.{rules, ◌≡◌, ◌∙◌, arith, length, take}
+use Rattle.std.proofs.Common.{rules, ◌≡◌, ◌∙◌, arith, length}
+use Rattle.std.specs.Prelude.{⊤}
+use Rattle.age_io.proofs.Appending.{OnErr-of}
 use Rattle.age_io.proofs.Delivering.{refilled}
 use Rattle.age_io.specs.Reading.{IsQuiet}
-use Rattle.age_io.proofs.Copied.{front-more, copied-more, well-is-no-fault}
+use Rattle.age_io.proofs.Copied.{front-more, copied-more, left-unasked, left-by-read, left-by-write, well-is-no-fault}
 use Rattle.age_io.proofs.copying.copy_all.Goals as goal
 
 pub returns-in_err-write_all-clause-front : goal.returns-in_err-write_all-clause-front
@@ -12,9 +14,35 @@ returns-in_err-write_all-clause-front g c = λ reader_told writer_told.
     let size : length c.read_retrying.new.buf ≡ length room.items = omega (arith, c.read_retrying.auto.buf, c.deref_mut.ensures.len, room.ok.0) in
     let filled = refilled room.items c.read_retrying.new.buf room.len room.ok.0 size in
     let refused = rw (c.deref.ensures.value, filled) at (c.in_err-write_all.ensures.writes.refuses (before.writer_tells ∙ writer_told)) in
-    front-more g.W.Write.appended g.met.W.Write.joins (read.rest c.args.reader.now) (read.rest c.loop-piece.reader) (read.rest c.read_retrying.new.reader)
-    c.args.writer.now c.loop-piece.writer c.write_all.new.writer (take c.in_ok-count.count c.read_retrying.new.buf) refused.0
-    (before.copied reader_told writer_told) (c.in_ok-count.ensures.reads.bytes (before.reader_tells ∙ reader_told)) refused.2
+    front-more read.tells read.steady read.content read.place read.rest read.faults g.W.Write.tells g.W.Write.appended g.met.W.Write.joins
+    c.args.reader.now c.loop-piece.reader c.read_retrying.new.reader c.args.writer.now c.loop-piece.writer c.write_all.new.writer
+    c.read_retrying.new.buf c.in_ok-count.count refused.0 before.copied c.in_ok-count.ensures.reads reader_told writer_told refused.2
+
+pub returns-in_err-write_all-clause-left : goal.returns-in_err-write_all-clause-left
+returns-in_err-write_all-clause-left g c =
+    let read = g.R.Read in
+    let before = c.loop-piece.invariant in
+    let room = c.loop-piece.room in
+    let size : length c.read_retrying.new.buf ≡ length room.items = omega (arith, c.read_retrying.auto.buf, c.deref_mut.ensures.len, room.ok.0) in
+    let filled = refilled room.items c.read_retrying.new.buf room.len room.ok.0 size in
+    OnErr-of _ (left-by-write read.tells read.steady read.content read.place read.rest read.faults g.W.Write.tells g.W.Write.appended (λ _. ⊤) g.met.W.Write.joins
+    before.copied.front c.args.reader.now c.loop-piece.reader c.read_retrying.new.reader c.args.writer.now c.loop-piece.writer c.write_all.new.writer
+    c.read_retrying.new.buf c.in_ok-count.count tt before.copied.gives before.copied.out c.in_ok-count.ensures.reads
+    (λ told. rw (c.deref.ensures.value, filled) at (c.in_err-write_all.ensures.writes.refuses (before.writer_tells ∙ told))))
+
+pub returns-in_err-count-clause-left : goal.returns-in_err-count-clause-left
+returns-in_err-count-clause-left g c =
+    let read = g.R.Read in
+    let before = c.loop-piece.invariant in
+    OnErr-of _ (left-by-read read.tells read.steady read.content read.place read.rest read.faults g.W.Write.tells g.W.Write.appended (λ _. ⊤)
+    before.copied.front c.args.reader.now c.loop-piece.reader c.read_retrying.new.reader c.args.writer.now c.loop-piece.writer
+    c.read_retrying.new.buf c.in_err-count.field-0.0 tt before.copied.gives before.copied.out c.in_err-count.ensures.reads)
+
+pub returns-in_err-room-clause-left : goal.returns-in_err-room-clause-left
+returns-in_err-room-clause-left g c =
+    let read = g.R.Read in
+    OnErr-of _ (left-unasked read.tells read.steady read.content read.place read.rest read.faults g.W.Write.tells g.W.Write.appended (λ _. ⊤)
+    c.args.reader.now c.args.writer.now tt (g.met.W.Write.appends_nothing c.args.writer.now))
 
 pub returns-in_err-count-clause-too_long : goal.returns-in_err-count-clause-too_long
 returns-in_err-count-clause-too_long g c = λ reader_told well unlimited quiet.
@@ -43,9 +71,9 @@ loop-piece-preserved g c =
       pieces = λ reader_told. omega (arith, before.pieces reader_told, c.in_ok-count.ensures.reads.moves (before.reader_tells ∙ reader_told), c.if-count-eq0.false);
       ends = λ reader_told. (c.in_ok-count.ensures.reads.bytes (before.reader_tells ∙ reader_told)).end ∙ before.ends reader_told;
       room = rw filled (omega (arith, size, before.room));
-      copied = λ reader_told writer_told.
-          copied-more g.W.Write.appended g.met.W.Write.joins (read.rest c.args.reader.now) (read.rest c.loop-piece.reader) (read.rest c.read_retrying.new.reader)
-          c.args.writer.now c.loop-piece.writer c.write_all.new.writer (take c.in_ok-count.count c.read_retrying.new.buf)
-          (before.copied reader_told writer_told) (c.in_ok-count.ensures.reads.bytes (before.reader_tells ∙ reader_told))
-          (rw (c.deref.ensures.value, filled) at (c.in_ok-write_all.ensures.writes.takes (before.writer_tells ∙ writer_told)));
+      copied =
+          copied-more read.tells read.steady read.content read.place read.rest read.faults g.W.Write.tells g.W.Write.appended g.met.W.Write.joins
+          c.args.reader.now c.loop-piece.reader c.read_retrying.new.reader c.args.writer.now c.loop-piece.writer c.write_all.new.writer
+          c.read_retrying.new.buf c.in_ok-count.count before.copied c.in_ok-count.ensures.reads
+          (λ told. rw (c.deref.ensures.value, filled) at (c.in_ok-write_all.ensures.writes.takes (before.writer_tells ∙ told)));
     }

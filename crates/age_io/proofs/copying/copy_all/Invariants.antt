@@ -15,6 +15,6 @@ invariant-loop-piece g l =
       pieces : IsTrue (reader.tells l.fn.reader) → l._piece ≤ reader.place l.reader;
       ends : IsTrue (reader.tells l.fn.reader) → (reader.rest l.reader).ends_well ≡ (reader.rest l.fn.reader).ends_well;
       room : 0 < length l.room.items;
-      copied : IsTrue (reader.tells l.fn.reader) → IsTrue (writer.tells l.fn.writer) →
-          IsCopied writer.appended (reader.rest l.fn.reader) (reader.rest l.reader) l.fn.writer l.writer;
+      copied : IsCopied reader.tells reader.steady reader.content reader.place reader.rest reader.faults writer.tells writer.appended
+          l.fn.reader l.reader l.fn.writer l.writer;
     }

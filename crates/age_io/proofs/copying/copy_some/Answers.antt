@@ -1,13 +1,28 @@
 use Rattle.std.proofs.Common.{◌≡◌, ◌-◌, ◌≤◌, ◌∙◌, arith, length, take, length-take-le}
 use Rattle.std.proofs.lemmas.Grind.{common_steps}
-use Rattle.age_io.proofs.PartCopied.{part-front, part-refused, part-more}
+use Rattle.age_io.proofs.Appending.{OnErr-of}
+use Rattle.age_io.proofs.Copied.{left-unasked}
+use Rattle.age_io.proofs.PartCopied.{part-front, part-unread, part-refused, part-unwritten, part-more}
 use Rattle.age_io.proofs.copying.copy_some.Goals as goal
+
+pub returns-in_err-piece-clause-left : goal.returns-in_err-piece-clause-left
+returns-in_err-piece-clause-left g c =
+    let read = g.R.Read in
+    OnErr-of _ (left-unasked read.tells read.steady read.content read.place read.rest read.faults g.W.Write.tells g.W.Write.appended
+    (λ given. length given ≤ c.args.count) c.args.reader.now c.args.writer.now (omega arith) (g.met.W.Write.appends_nothing c.args.writer.now))
 
 pub returns-in_err-got-clause-front : goal.returns-in_err-got-clause-front
 returns-in_err-got-clause-front g c = λ reader_told writer_told.
     let read = g.R.Read in
-    part-front g.W.Write.appended g.met.W.Write.joins c.args.count c.pieces.left (read.rest c.args.reader.now) (read.rest c.pieces.reader)
-    c.args.writer.now c.pieces.writer (c.pieces.invariant.copied reader_told writer_told)
+    part-front read.tells read.steady read.content read.place read.rest read.faults g.W.Write.tells g.W.Write.appended
+    c.args.count c.pieces.left c.args.reader.now c.pieces.reader c.args.writer.now c.pieces.writer c.pieces.invariant.copied reader_told writer_told
+
+pub returns-in_err-got-clause-left : goal.returns-in_err-got-clause-left
+returns-in_err-got-clause-left g c =
+    let read = g.R.Read in
+    OnErr-of _ (part-unread read.tells read.steady read.content read.place read.rest read.faults g.W.Write.tells g.W.Write.appended
+    c.args.count c.pieces.left c.args.reader.now c.pieces.reader c.read_retrying.new.reader c.args.writer.now c.pieces.writer
+    c.read_retrying.new.buf c.in_err-got.field-0.0 c.pieces.invariant.copied c.in_err-got.ensures.reads)
 
 pub returns-in_err-write_all-clause-front : goal.returns-in_err-write_all-clause-front
 returns-in_err-write_all-clause-front g c = λ reader_told writer_told.
@@ -19,9 +34,23 @@ returns-in_err-write_all-clause-front g c = λ reader_told writer_told.
     let size : length bytes ≡ got = length-take-le got c.read_retrying.new.buf reads.count in
     let fits : got ≤ c.pieces.left = grind (arith, common_steps, reads.count) in
     let refused = c.in_err-write_all.ensures.writes.refuses (before.writer_tells ∙ writer_told) in
-    part-refused g.W.Write.appended g.met.W.Write.joins c.args.count c.pieces.left (c.pieces.left - got) (read.rest c.args.reader.now) (read.rest c.pieces.reader)
-    (read.rest c.read_retrying.new.reader) c.args.writer.now c.pieces.writer c.write_all.new.writer bytes refused.0
-    (before.copied reader_told writer_told) (omega (arith, size, fits)) (reads.bytes (before.reader_tells ∙ reader_told)) refused.2
+    part-refused read.tells read.steady read.content read.place read.rest read.faults g.W.Write.tells g.W.Write.appended g.met.W.Write.joins
+    c.args.count c.pieces.left (c.pieces.left - got) c.args.reader.now c.pieces.reader c.read_retrying.new.reader
+    c.args.writer.now c.pieces.writer c.write_all.new.writer bytes refused.0
+    before.copied reader_told writer_told (omega (arith, size, fits)) (reads.bytes (before.reader_tells ∙ reader_told)) refused.2
+
+pub returns-in_err-write_all-clause-left : goal.returns-in_err-write_all-clause-left
+returns-in_err-write_all-clause-left g c =
+    let read = g.R.Read in
+    let before = c.pieces.invariant in
+    let reads = c.in_ok-got.ensures.reads in
+    let got = c.in_ok-got.got in
+    let size : length (take got c.read_retrying.new.buf) ≡ got = length-take-le got c.read_retrying.new.buf reads.count in
+    let fits : got ≤ c.pieces.left = grind (arith, common_steps, reads.count) in
+    OnErr-of _ (part-unwritten read.tells read.steady read.content read.place read.rest read.faults g.W.Write.tells g.W.Write.appended g.met.W.Write.joins
+    c.args.count c.pieces.left (c.pieces.left - got) c.args.reader.now c.pieces.reader c.read_retrying.new.reader
+    c.args.writer.now c.pieces.writer c.write_all.new.writer c.read_retrying.new.buf got
+    before.copied (omega (arith, size, fits)) reads (λ told. c.in_err-write_all.ensures.writes.refuses (before.writer_tells ∙ told)))
 
 pub pieces-preserved : goal.pieces-preserved
 pieces-preserved g c =
@@ -30,8 +59,7 @@ pieces-preserved g c =
     let reads = c.in_ok-got.ensures.reads in
     let writes = c.in_ok-write_all.ensures.writes in
     let got = c.in_ok-got.got in
-    let bytes = take got c.read_retrying.new.buf in
-    let size : length bytes ≡ got = length-take-le got c.read_retrying.new.buf reads.count in
+    let size : length (take got c.read_retrying.new.buf) ≡ got = length-take-le got c.read_retrying.new.buf reads.count in
     let fits : got ≤ c.pieces.left = grind (arith, common_steps, reads.count) in
     record {
       reader_tells = reads.same_tells ∙ before.reader_tells;
@@ -41,9 +69,9 @@ pieces-preserved g c =
       writer_faults = omega (arith, before.writer_faults, writes.no_fewer_faults);
       ends = λ reader_told. (reads.bytes (before.reader_tells ∙ reader_told)).end ∙ before.ends reader_told;
       room = grind (arith, common_steps, before.room);
-      copied = λ reader_told writer_told.
-          part-more g.W.Write.appended g.met.W.Write.joins c.args.count c.pieces.left (c.pieces.left - got) (read.rest c.args.reader.now) (read.rest c.pieces.reader)
-          (read.rest c.read_retrying.new.reader) c.args.writer.now c.pieces.writer c.write_all.new.writer bytes
-          (before.copied reader_told writer_told) (omega (arith, size, fits)) (reads.bytes (before.reader_tells ∙ reader_told))
-          (writes.takes (before.writer_tells ∙ writer_told));
+      copied =
+          part-more read.tells read.steady read.content read.place read.rest read.faults g.W.Write.tells g.W.Write.appended g.met.W.Write.joins
+          c.args.count c.pieces.left (c.pieces.left - got) c.args.reader.now c.pieces.reader c.read_retrying.new.reader
+          c.args.writer.now c.pieces.writer c.write_all.new.writer c.read_retrying.new.buf got
+          before.copied (omega (arith, size, fits)) reads (λ told. writes.takes (before.writer_tells ∙ told));
     }

@@ -14,8 +14,8 @@ invariant-pieces g l =
       writer_faults : writer.faults l.fn.writer ≤ writer.faults l.writer;
       ends : IsTrue (reader.tells l.fn.reader) → (reader.rest l.reader).ends_well ≡ (reader.rest l.fn.reader).ends_well;
       room : 0 < length l.piece.items;
-      copied : IsTrue (reader.tells l.fn.reader) → IsTrue (writer.tells l.fn.writer) →
-          IsPartCopied writer.appended l.count l.left (reader.rest l.fn.reader) (reader.rest l.reader) l.fn.writer l.writer;
+      copied : IsPartCopied reader.tells reader.steady reader.content reader.place reader.rest reader.faults writer.tells writer.appended
+          l.count l.left l.fn.reader l.reader l.fn.writer l.writer;
     }
 
 abbrev pub decreases-pieces : goal.decreases-pieces

@@ -1,5 +1,6 @@
 use Rattle.std.proofs.Common.{arith, ◌∙◌, ◌≡◌, ◌+◌, ◌++◌, take, length, vec_len}
 use Rattle.std.proofs.lemmas.Grind.{common_steps}
+use Rattle.age_io.proofs.Delivering.{gives-more}
 use Rattle.age_io.proofs.Reaching.{Reached-more}
 use Rattle.age_io.proofs.operations.read_up_to.Goals as goal
 
@@ -14,6 +15,9 @@ reads-preserved g c =
       no_fewer_faults = omega arith;
       same_content = λ told. got.same_content (c.reads.invariant.same_tells ∙ told) ∙ c.reads.invariant.same_content told;
       most = grind (arith, common_steps, longer);
+      gives =
+          rw grown (gives-more g.R.Read.tells g.R.Read.steady g.R.Read.content g.R.Read.place g.R.Read.rest g.R.Read.faults
+          c.args.reader.now c.reads.reader c.read.new.self c.reads.got.items c.read.new.buf c.in-Ok.more c.reads.invariant.gives got);
       so_far = λ told whole.
           let before = c.reads.invariant.same_tells ∙ told in
           let moved : g.R.Read.place c.read.new.self ≡ g.R.Read.place c.reads.reader + length (take c.in-Ok.more c.read.new.buf) =

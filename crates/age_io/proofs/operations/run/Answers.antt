@@ -1,11 +1,12 @@
-use Rattle.std.proofs.Common.{arith, ◌∙◌, ◌≡◌, ◌++◌, ◌∷◌, [], Some, get_or}
-use Rattle.std.proofs.lemmas.List.{drop_more}
+use Rattle.std.proofs.Common.{arith, ◌∙◌, ◌≡◌, ◌++◌, ◌∷◌, [], take, Some, get_or}
+use Rattle.std.proofs.lemmas.List.{drop_more, take_more}
 use Rattle.std.proofs.lemmas.List.Elements.{All-push, All-pop, All-same}
 use Rattle.age_io.specs.declared.operations.Op.TheVariants.{Read}
 use Rattle.std.proofs.lemmas.Grind.{common_steps}
 use Rattle.age_io.proofs.Replying.{Answered-more}
 use Rattle.age_io.specs.Reading.{IsQuiet}
 use Rattle.age_io.specs.Replies.{IsNoWant, IsDeviceFault}
+use Rattle.age_io.proofs.InTurn.{came-more}
 use Rattle.age_io.specs.declared.operations.Answer.{Answer}
 use Rattle.age_io.proofs.operations.run.Goals as goal
 
@@ -17,6 +18,14 @@ loop-op-preserved g c =
       same_steady = cc;
       same_content = grind (arith, common_steps);
       so_many = grind (arith, common_steps);
+      came =
+          let loop = c.loop-op in
+          let read = g.R.Read in
+          let a = c.in_ok-answer_of.field-0 in
+          let more = came-more read.tells read.steady read.content read.place read.rest read.faults
+          (take loop.op-index c.args.ops.now) loop.answers.items (get_or c.args.ops.now loop.op-index (Read 0)) a
+          c.args.reader.now loop.reader c.answer_of.new.reader loop.invariant.came c.in_ok-answer_of.ensures.came in
+          rw (c.in_ok-push.ensures.items, take_more c.args.ops.now loop.op-index (Read 0) (omega arith)) more;
       no_device = λ same.
           let loop = c.loop-op in
           let rose = c.in_ok-answer_of.ensures.faults in

@@ -1,7 +1,7 @@
-use Rattle.std.proofs.Common.{◌≡◌, ◌≤◌, IsTrue, vec_len, All, drop}
+use Rattle.std.proofs.Common.{◌≡◌, ◌≤◌, IsTrue, vec_len, All, take, drop}
 use Rattle.age_io.specs.Stretch.{from_place}
 use Rattle.age_io.specs.Reading.{IsQuiet}
-use Rattle.age_io.specs.Replies.{IsNoWant, IsDeviceFault}
+use Rattle.age_io.specs.Replies.{IsNoWant, IsDeviceFault, CameOfAll}
 use Rattle.age_io.proofs.Replying.{Answered}
 use Rattle.age_io.proofs.operations.run.Given as goal
 
@@ -14,6 +14,8 @@ invariant-loop-op g l =
       no_fewer_faults : reader.faults l.fn.reader ≤ reader.faults l.reader;
       same_content : IsTrue (reader.tells l.fn.reader) → reader.content l.reader ≡ reader.content l.fn.reader;
       so_many : vec_len l.answers ≡ l.op-index;
+      came : CameOfAll reader.tells reader.steady reader.content reader.place reader.rest reader.faults
+          (take l.op-index l.ops) l.answers.items l.fn.reader l.reader;
       no_device : reader.faults l.reader ≡ reader.faults l.fn.reader → All (λ a. IsDeviceFault a → ⊥) l.answers.items;
       told : IsTrue (reader.tells l.fn.reader) → IsTrue (reader.content l.fn.reader).ends_well →
           reader.rest l.fn.reader ≡ from_place (reader.place l.fn.reader) (reader.content l.fn.reader) →
