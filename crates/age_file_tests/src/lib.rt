@@ -2,7 +2,11 @@
 #![tactic(auto)]
 
 #[cfg(test)]
+mod both_suites_tests;
+#[cfg(test)]
 mod file_tests;
+#[cfg(test)]
+mod other_suite_tests;
 #[cfg(test)]
 mod recipient_tests;
 #[cfg(test)]

@@ -1,4 +1,4 @@
-//! The uses of `age` run over the insecure bench suite. The texts that are expected come from a second implementation.
+//! The uses of `age` run over the insecure bench suite, and some over a second one. The texts that are expected come from a second implementation.
 #![tactic(auto)]
 
 #[cfg(test)]
@@ -7,6 +7,8 @@ mod fixtures;
 mod own_tests;
 #[cfg(test)]
 mod parts_tests;
+#[cfg(test)]
+mod several_tests;
 #[cfg(test)]
 mod streams_tests;
 #[cfg(test)]

@@ -5,17 +5,20 @@ use age::armor::Format;
 use age::draw::Draw;
 use age::io::Bytes;
 use age::streaming::{decrypt_all, encrypt_all};
+use age::suite::Suite;
 use age_bench::recipient::{BenchIdentity, BenchRecipient};
 use age_bench::suite::BenchSuite;
+use age_try::other_suite::OtherSuite;
+use age_uses::parts::part_of;
 use std::alloc::Global;
 use std::test::Fail;
 
 // The message's file in one of the forms, where each random byte is 0.
-fn encrypted(alloc: Global, format: Format) -> Result<Vec<u8>, Fail> {
+fn encrypted<S: Suite>(alloc: Global, format: Format) -> Result<Vec<u8>, Fail> {
     let mut draw = Draw::new(vec![in alloc; 0; 32]?);
     let mut input = Bytes::new(MESSAGE);
     let mut file = Vec::new(alloc);
-    done(encrypt_all::<BenchSuite, BenchRecipient, Bytes, Vec<u8>>(
+    done(encrypt_all::<S, BenchRecipient, Bytes, Vec<u8>>(
         alloc,
         &[BenchRecipient],
         &mut draw,
@@ -31,8 +34,8 @@ fn encrypted(alloc: Global, format: Format) -> Result<Vec<u8>, Fail> {
 fn the_message_is_encrypted(rt: HostRuntime) -> Result<(), Fail> {
     let alloc = rt.alloc();
     let file = message_file(alloc)?;
-    assert!(rt; encrypted(alloc, Format::Binary)?.as_slice() == file.as_slice());
-    assert!(rt; encrypted(alloc, Format::AsciiArmor)?.as_slice() == ARMORED);
+    assert!(rt; encrypted::<BenchSuite>(alloc, Format::Binary)?.as_slice() == file.as_slice());
+    assert!(rt; encrypted::<BenchSuite>(alloc, Format::AsciiArmor)?.as_slice() == ARMORED);
     Ok(())
 }
 
@@ -49,6 +52,32 @@ fn the_message_is_decrypted(rt: HostRuntime) -> Result<(), Fail> {
             &mut plain,
         ))?;
         assert_eq!(rt; plain.as_slice(), MESSAGE);
+    }
+    Ok(())
+}
+
+// In either form, as a whole and a part of it.
+#[test]
+fn the_message_comes_back_over_the_other_suite(rt: HostRuntime) -> Result<(), Fail> {
+    let alloc = rt.alloc();
+    for format in [Format::Binary, Format::AsciiArmor] {
+        let text = encrypted::<OtherSuite>(alloc, format)?;
+        let mut plain = Vec::new(alloc);
+        done(decrypt_all::<OtherSuite, BenchIdentity, Bytes, Vec<u8>>(
+            alloc,
+            &mut [BenchIdentity],
+            &mut Bytes::new(&text),
+            &mut plain,
+        ))?;
+        assert_eq!(rt; plain.as_slice(), MESSAGE);
+        let part = done(part_of::<OtherSuite, BenchIdentity, Bytes>(
+            alloc,
+            &mut [BenchIdentity],
+            10,
+            4,
+            Bytes::new(&text),
+        ))?;
+        assert_eq!(rt; part.as_slice(), b"test".as_slice());
     }
     Ok(())
 }

@@ -1,0 +1,219 @@
+//! Whole files over both suites, which have nothing in common but the laws. The digests are those of Python.
+
+use age::format::Grease;
+use age::io::{Answer, Bytes, Error, Op, Read, SeekFrom, read_to_end, run, write_all};
+use age::stream::StreamReader;
+use age::suite::Suite;
+use age::{DecryptError, Decryptor, Encryptor};
+use age_bench::recipient::{BenchIdentity, BenchRecipient};
+use age_bench::suite::BenchSuite;
+use age_try::fixtures::{digest, empty_stanza, message_file, part, plaintext, zeros};
+use age_try::other_suite::OtherSuite;
+use std::alloc::Global;
+use std::process::Abort;
+use std::test::Fail;
+
+// The bytes of the header and the nonce of each file here.
+const FRONT: usize = 131;
+
+type Stream<'a, S> = StreamReader<S, Bytes<'a>>;
+
+// The file of a plaintext, written in pieces of 50,000 bytes, where each random byte is 0.
+fn file_of<S: Suite>(alloc: Global, plain: &[u8]) -> Result<Vec<u8>, Fail> {
+    let Some(grease) = empty_stanza(alloc, "x-grease")?.and_then(Grease::new) else {
+        return Err(Fail::from("no grease"));
+    };
+    let mut draw = zeros(alloc, 32)?;
+    let encryptor = Encryptor::<S>::with_recipients(alloc, &[BenchRecipient], &mut draw, grease)?;
+    let mut stream = encryptor.wrap_output(alloc, Vec::new(alloc))?;
+    for piece in plain.chunks(50_000) {
+        write_all(&mut stream, piece)?;
+    }
+    Ok(stream.finish()?)
+}
+
+// The reader of a file's plaintext.
+fn opened<'a, S: Suite>(alloc: Global, file: &'a [u8]) -> Result<Stream<'a, S>, DecryptError> {
+    let decryptor = Decryptor::<S, Bytes>::new(alloc, Bytes::new(file))?;
+    decryptor.decrypt_one(alloc, &mut BenchIdentity)
+}
+
+// A plaintext of so many bytes has the file with this digest, and comes back from it.
+fn comes_back<S: Suite>(
+    rt: &impl Abort,
+    alloc: Global,
+    length: usize,
+    expected: u64,
+) -> Result<(), Fail> {
+    let plain = plaintext(alloc, length)?;
+    let file = file_of::<S>(alloc, &plain)?;
+    assert_eq!(rt; digest(&file), expected, "of {length} bytes");
+    let mut stream = opened::<S>(alloc, &file)?;
+    let mut read = Vec::new(alloc);
+    assert_eq!(rt; read_to_end(alloc, &mut stream, &mut read), Ok(length));
+    assert!(rt; read.as_slice() == plain.as_slice(), "of {length} bytes");
+    assert_eq!(rt; stream.read(&mut [0]), Ok(0));
+    Ok(())
+}
+
+#[test]
+fn plaintexts_come_back(rt: HostRuntime) -> Result<(), Fail> {
+    let alloc = rt.alloc();
+    for (length, bench, other) in [
+        (0, 0x64e6_ad25_d330_798a, 0xef70_5cc2_adbf_2cd6),
+        (1, 0x89ef_7bbc_598e_8d2c, 0x345f_0d5e_314d_00a8),
+        (65_535, 0x24c2_99ae_6117_c5bb, 0xf54a_2717_bb8d_7191),
+        (65_536, 0x3bff_655d_2c0a_d45d, 0xf218_ef6c_8579_9f2f),
+        (65_537, 0xf6a5_9c0a_9699_2eb5, 0x85e2_b367_c5f1_62fa),
+        (131_072, 0x1e1c_6c9b_de14_9e64, 0xb4d7_f8fc_1c15_dcb9),
+    ] {
+        comes_back::<BenchSuite>(&rt, alloc, length, bench)?;
+        comes_back::<OtherSuite>(&rt, alloc, length, other)?;
+    }
+    Ok(())
+}
+
+// Whether two say the same.
+fn same(one: &Answer, other: &Answer) -> bool {
+    match (one, other) {
+        (Answer::Bytes(left), Answer::Bytes(right)) => left.as_slice() == right.as_slice(),
+        (Answer::At(left), Answer::At(right)) => left == right,
+        (
+            Answer::Fault {
+                got: left,
+                error: first,
+            },
+            Answer::Fault {
+                got: right,
+                error: second,
+            },
+        ) => left.as_slice() == right.as_slice() && first == second,
+        _ => false,
+    }
+}
+
+const OPS: [Op; 14] = [
+    Op::Read(100),
+    Op::Seek(SeekFrom::Current(65_436)),
+    Op::Read(70_000),
+    Op::Seek(SeekFrom::End(-131_074)),
+    Op::Read(1),
+    Op::Seek(SeekFrom::End(-5)),
+    Op::Read(6),
+    Op::Seek(SeekFrom::Start(131_074)),
+    Op::Seek(SeekFrom::Start(131_073)),
+    Op::Read(1),
+    Op::Seek(SeekFrom::Current(-65_538)),
+    Op::Read(2),
+    Op::Seek(SeekFrom::Start(65_536)),
+    Op::Read(65_537),
+];
+
+// Reads and seeks on a file's plaintext are answered as those on a plain cursor.
+fn moves_a_cursor<S: Suite>(rt: &impl Abort, alloc: Global) -> Result<(), Fail> {
+    let plain = plaintext(alloc, 131_073)?;
+    let file = file_of::<S>(alloc, &plain)?;
+    let mut stream = opened::<S>(alloc, &file)?;
+    let answers = run(alloc, &mut stream, &OPS)?;
+    let expected = run(alloc, &mut Bytes::new(&plain), &OPS)?;
+    assert_eq!(rt; answers.len(), OPS.len());
+    for (i, (answer, other)) in answers.iter().zip(expected.iter()).enumerate() {
+        assert!(rt; same(answer, other), "at {i}");
+    }
+    Ok(())
+}
+
+#[test]
+fn reads_and_seeks_move_a_cursor(rt: HostRuntime) -> Result<(), Fail> {
+    moves_a_cursor::<BenchSuite>(&rt, rt.alloc())?;
+    moves_a_cursor::<OtherSuite>(&rt, rt.alloc())
+}
+
+// A file with one bit changed at a place.
+fn changed(alloc: Global, file: &[u8], place: usize) -> Result<Vec<u8>, Fail> {
+    let mut copy = Vec::from_slice(alloc, file)?;
+    match copy.get_mut(place) {
+        Some(byte) => *byte ^= 2,
+        None => return Err(Fail::from("no such place")),
+    }
+    Ok(copy)
+}
+
+// What can't be opened for the identity, with this text.
+fn is_refused<S: Suite>(
+    rt: &impl Abort,
+    alloc: Global,
+    file: &[u8],
+    expected: &str,
+) -> Result<(), Fail> {
+    match opened::<S>(alloc, file) {
+        Ok(_) => return Err(Fail::from("opened")),
+        Err(error) => assert_eq!(rt; error.to_string(alloc)?.as_str(), expected),
+    }
+    Ok(())
+}
+
+// A file whose plaintext begins with these bytes, and then a chunk is bad.
+fn is_bad_after<S: Suite>(
+    rt: &impl Abort,
+    alloc: Global,
+    file: &[u8],
+    front: &[u8],
+) -> Result<(), Fail> {
+    let mut stream = opened::<S>(alloc, file)?;
+    let mut read = Vec::new(alloc);
+    assert_eq!(rt;
+        read_to_end(alloc, &mut stream, &mut read),
+        Err(Error::BadChunk)
+    );
+    assert!(rt; read.as_slice() == front);
+    assert_eq!(rt; stream.read(&mut [0]), Err(Error::Failed));
+    Ok(())
+}
+
+// A bit of the version, the stanza's tag, its body and the MAC; then of the nonce, and of the first, a middle and the last byte
+// of each of two chunks.
+fn no_changed_file_is_opened<S: Suite>(rt: &impl Abort, alloc: Global) -> Result<(), Fail> {
+    let plain = plaintext(alloc, 70_000)?;
+    let file = file_of::<S>(alloc, &plain)?;
+    for (place, expected) in [
+        (20, "unknown format"),
+        (25, "no matching keys"),
+        (31, "invalid header MAC"),
+        (71, "invalid header MAC"),
+    ] {
+        is_refused::<S>(rt, alloc, &changed(alloc, &file, place)?, expected)?;
+    }
+    for place in [115, 130, 131, 40_000, 65_682] {
+        is_bad_after::<S>(rt, alloc, &changed(alloc, &file, place)?, &[])?;
+    }
+    let first = part(&plain, 0, 65_536);
+    for place in [65_683, 68_000, 70_162] {
+        is_bad_after::<S>(rt, alloc, &changed(alloc, &file, place)?, first)?;
+    }
+    assert_eq!(rt; file.len(), 70_163);
+    Ok(())
+}
+
+#[test]
+fn changed_files_are_refused(rt: HostRuntime) -> Result<(), Fail> {
+    no_changed_file_is_opened::<BenchSuite>(&rt, rt.alloc())?;
+    no_changed_file_is_opened::<OtherSuite>(&rt, rt.alloc())
+}
+
+// The header doesn't hang on the suite, so it is opened; the first chunk is no seal of the other's.
+fn opens_no_chunk_of<S: Suite, T: Suite>(rt: &impl Abort, alloc: Global) -> Result<(), Fail> {
+    for length in [0, 36, 65_536, 65_537] {
+        let file = file_of::<T>(alloc, &plaintext(alloc, length)?)?;
+        let front = message_file(alloc, &[])?;
+        assert!(rt; part(&file, 0, FRONT) == part(&front, 0, FRONT));
+        is_bad_after::<S>(rt, alloc, &file, &[])?;
+    }
+    Ok(())
+}
+
+#[test]
+fn a_suite_opens_no_chunk_of_the_other(rt: HostRuntime) -> Result<(), Fail> {
+    opens_no_chunk_of::<BenchSuite, OtherSuite>(&rt, rt.alloc())?;
+    opens_no_chunk_of::<OtherSuite, BenchSuite>(&rt, rt.alloc())
+}
