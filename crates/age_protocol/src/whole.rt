@@ -1,5 +1,6 @@
 //! Whole files from a reader to a writer, in flat memory.
 ghost use Rattle.std.specs.Prelude.{◌≡◌, ◌≤◌, ℕ, IsTrue, ◌&&◌, List, Some, Ok, Err, ◌⊎◌, IfOk, OnOk, IfErr};
+ghost use Rattle.age_error.specs.Bytes.{AreBytes};
 ghost use Rattle.age_error.specs.DecryptErrors.{OutOfMemory};
 ghost use Rattle.age_io.specs.Stretch.{Stretch};
 ghost use Rattle.age_io.specs.Copying.{AppendsFront};
@@ -23,6 +24,7 @@ use crate::opening::open_file;
 use age_armor::{ArmoredReader, ArmoredWriter, Format, armor_is_carrying};
 use age_format::{Grease, Identity, Recipient};
 use age_io::{BufReader, Read, Write, copy_all, flush_retrying};
+use age_stream::laws::reader_law;
 use age_suite::draw::Draw;
 use age_suite::suite::Suite;
 use std::alloc::Global;
@@ -99,6 +101,7 @@ pub fn decrypt_all<S: Suite, I: Identity, R: Read, W: Write>(
         × IsTrue (R.rest reader.old).ends_well
         × Carries (R.rest reader.old).bytes bytes
         × IsFileOf S.seal_of file_key stanzas plain bytes
+        × AreBytes plain
         × W.appended writer.old plain writer.new) }
     ensures refused { IfErr result (λ e. IsDecryptError e → writer.new ≡ writer.old) }
     ensures why { IfErr result (λ e. DecryptsUnless (λ refusal.
@@ -128,6 +131,7 @@ pub fn decrypt_all<S: Suite, I: Identity, R: Read, W: Write>(
 {
     let text = ArmoredReader::new(alloc, reader)?;
     let mut stream = open_file::<S, I, ArmoredReader<BufReader<&mut R>>>(alloc, identities, text)?;
+    reader_law(&stream);
     copy_all(alloc, &mut stream, writer)?;
     Ok(())
 }

@@ -1,8 +1,9 @@
 -- What reads give stands in the plaintext.
-use Rattle.std.specs.Prelude.{◌≡◌, ℕ, ◌+◌, ◌-◌, ◌<◌, Bool, true, false, List, [], ◌++◌, length, drop}
+use Rattle.std.specs.Prelude.{◌≡◌, ℕ, ◌+◌, ◌-◌, ◌^◌, ◌<◌, Bool, true, false, List, [], ◌++◌, length, drop}
 use Rattle.std.proofs.Common.{get_or, refl, sym, ap, subst, ◌∙◌, inl, inr, arith, length-append}
 use Rattle.std.proofs.lemmas.Bool.{cases_lt}
 use Rattle.std.proofs.lemmas.List.{get_or-take, get_or-drop, get_or_append_left, get_or-append_right}
+use Rattle.std.proofs.lemmas.List.Elements.{All-from_get_or, All-get_or}
 use Rattle.age_error.specs.Bytes.{AreBytes}
 use Rattle.age_io.specs.Stretch.{Stretch}
 use Rattle.age_stream.specs.Payload.{Seal, nonce, chunk}
@@ -31,6 +32,12 @@ module _ (seal_of : Seal) (key : List ℕ) where
         short = seal.2;
         is = ap (λ xs. get_or xs i 0) gives.are ∙ get_or-take (length bytes) (drop gives.at gives.plain) i 0 within ∙ get_or-drop gives.at gives.plain i 0;
       }
+
+  -- what stands in a plaintext is bytes
+  pub stand-bytes : (sealed : List ℕ) (place : ℕ) (bytes : List ℕ) → StandAt seal_of key sealed place bytes → AreBytes bytes
+  stand-bytes sealed place bytes stands = All-from_get_or (λ x. x < 2 ^ 8) bytes 0 (λ i within.
+      let byte = stands i within in
+      subst (λ (x : ℕ). x < 2 ^ 8) (sym byte.is) (All-get_or (λ x. x < 2 ^ 8) byte.plain byte.at 0 byte.within byte.bytes))
 
   -- nothing stands anywhere
   pub stand-none : (sealed : List ℕ) (place : ℕ) → StandAt seal_of key sealed place []

@@ -9,7 +9,7 @@ use Rattle.age_bench.proofs.file.decrypt_with.Goals as goal
 pub returns-clause-file : goal.returns-clause-file
 returns-clause-file g c = λ reader_told writer_told.
     on_ok_weaker c.decrypt_all.result (λ done.
-    let (key, stanzas, plain, bytes, decides, well, carries, file, appended) = done in
+    let (key, stanzas, plain, bytes, decides, well, carries, file, plain_bytes, appended) = done in
     (key, stanzas, plain, bytes, key_given _ stanzas key _ decides, well, carries, file, appended))
     (c.decrypt_all.ensures.file reader_told writer_told)
 

@@ -4,6 +4,7 @@ use Rattle.age_io.specs.Buffered as buffered
 use Rattle.age_armor.specs.Reader.{inner_of, armored_rest}
 use Rattle.age_stream.specs.ReadingLaws.{and-left, and-right}
 use Rattle.age_stream.proofs.Answered.{rest-bytes}
+use Rattle.age_stream.proofs.Standing.{stand-bytes}
 use Rattle.age_protocol.proofs.Fronts.{of_error}
 use Rattle.age_protocol.proofs.Decrypted.{both_told, refuses_text, begins_text, by_cause}
 use Rattle.age_io.proofs.PartCopied.{none-copied}
@@ -24,7 +25,8 @@ returns-clause-file g c = λ reader_told writer_told.
     let bytes = rest-bytes (g.R.Read.content reader) (g.R.Read.rest reader) (g.R.Read.place reader)
     (g.met.R.Read.stands reader tells (and-right _ _ reader_told)) (g.met.R.Read.are_bytes reader tells) in
     let carried = text.carries tells file.0 in
-    (made.file_key, _, _, _, made.asks.first, carried.0, carried.1 bytes, file.1, copied.1)
+    let plain_bytes = stand-bytes g.S.Suite.seal_of _ _ _ _ (c.reader_law.ensures.stands (made.opens.reader.tells ∙ told)) in
+    (made.file_key, _, _, _, made.asks.first, carried.0, carried.1 bytes, file.1, plain_bytes, copied.1)
 
 pub returns-in_err-stream-clause-why : goal.returns-in_err-stream-clause-why
 returns-in_err-stream-clause-why g c =

@@ -1,0 +1,34 @@
+use Rattle.std.proofs.Common.{◌≡◌, ◌∙◌, sym, ap, subst, refl, List, ℕ}
+use Rattle.std.proofs.lemmas.Result.{on_ok_weaker}
+use Rattle.age.specs.Bytes.{AreBytes}
+use Rattle.age.specs.Armor.{Carries}
+use Rattle.age.specs.File.{file_text, IsFileOf}
+use Rattle.age.specs.ArmorWriting.{text_of}
+use Rattle.age.specs.StreamReadingLaws.{and-left, and-right}
+use Rattle.age.proofs.StreamAnswered.{rest-bytes}
+use Rattle.age_uses.proofs.streams.streamed_there_and_back.Goals as goal
+
+pub returns : goal.returns
+returns g c = λ fits reader_told writer_told.
+    let seal_of = g.S.Suite.seal_of in
+    let reader = c.args.reader.now in
+    let plain = (g.R.Read.rest reader).bytes in
+    let tells = and-left _ _ reader_told in
+    let plain_bytes : AreBytes plain = rest-bytes (g.R.Read.content reader) (g.R.Read.rest reader) (g.R.Read.place reader)
+    (g.met.R.Read.stands reader tells (and-right _ _ reader_told)) (g.met.R.Read.are_bytes reader tells) in
+    let (prepared, prepares, made) = c.in_ok.ensures.file tells refl in
+    let text = file_text seal_of prepared.file_key prepared.stanzas prepared.nonce plain in
+    let written : c.encrypt_all.new.writer.items ≡ text_of c.args.format text = rw c.new-file.ensures.items at made.out in
+    let input = c.new-2.ensures.rest ∙ ap _ (c.deref.ensures.value ∙ written) in
+    on_ok_weaker c.decrypt_all.result
+    (λ done.
+    let (key, stanzas, back, bytes, first, well, carries, is_file, back_bytes, appended) = done in
+    let carried : Carries (text_of c.args.format text) bytes = rw (ap (λ s. s.bytes) input) at carries in
+    let same : bytes ≡ text = c.carried_is_unique.ensures (text_of c.args.format text) bytes text carried (made.carries plain_bytes) in
+    let opened : IsFileOf seal_of key stanzas back text = subst (λ (l : List ℕ). IsFileOf seal_of key stanzas back l) same is_file in
+    let same_stanzas = c.one_plaintext.ensures.header prepared.file_key key prepared.stanzas stanzas plain back text made.is_file opened in
+    let same_key : key ≡ prepared.file_key = fits c.args.draw.now _ prepared key _ prepares (rw (← same_stanzas) at first) in
+    let is : back ≡ plain = c.one_plaintext.ensures.plaintext prepared.file_key stanzas prepared.stanzas back plain text back_bytes plain_bytes
+    (subst (λ (k : List ℕ). IsFileOf seal_of k stanzas back text) same_key opened) made.is_file in
+    subst (λ (l : List ℕ). g.W.Write.appended c.args.writer.now l c.decrypt_all.new.writer) is appended)
+    (c.decrypt_all.ensures.file refl writer_told)
