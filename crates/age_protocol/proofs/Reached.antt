@@ -35,6 +35,7 @@ module _ {S R : Type 0} (suite : SuiteGhosts S) (read : Ghosts R) where
       (stands input (and-left _ _ told) (and-right _ _ told)).reaches in
       record {
         good = reader.good;
+        unsought = reader.unsought;
         content = reader.content ∙ ap (λ s. delivered suite.opened key 0 s) whole_inner ∙ sym reader.rest ∙ here;
         place = reader.place;
         rest = here;

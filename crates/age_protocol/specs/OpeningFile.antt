@@ -9,7 +9,7 @@ use Rattle.age_io.specs.Stretch.{Stretch, whole, from_place}
 use Rattle.age_format.specs.HeaderV1.{HeaderValue, header_mac}
 use Rattle.age_stream.specs.Payload.{payload, LastIsNoMiddle}
 use Rattle.age_stream.specs.Chunks.{delivered}
-use Rattle.age_stream.specs.Reader.{payload_of, key_of, inner_rest_of, HasFailed, opens_of, tells_of, content_of, place_of, plain_rest_of, faults_of}
+use Rattle.age_stream.specs.Reader.{payload_of, key_of, inner_rest_of, HasFailed, HasSought, opens_of, tells_of, content_of, place_of, plain_rest_of, faults_of}
 use Rattle.age_stream.specs.declared.reader.StreamReader.{StreamReader}
 use Rattle.age_protocol.specs.File.{payload_key, IsFileOf}
 use Rattle.age_protocol.specs.Decrypting.{ReadsFront}
@@ -18,6 +18,7 @@ module _ {S R : Type 0} {suite : SuiteGhosts S} {read : Ghosts R} where
   -- The reader of the payload under this key that begins where the input stands. Nothing of it was read yet.
   pub record IsReaderOf (key : List ℕ) (input : R) (r : StreamReader S R suite read) : Type 0 where
     pub good : HasFailed r → ⊥
+    pub unsought : HasSought r → ⊥
     pub opens : opens_of r ≡ 0
     pub same_key : key_of r ≡ key
     pub sealed : payload_of r ≡ from_place (read.place input) (read.content input)
@@ -46,6 +47,7 @@ module _ {S R : Type 0} {suite : SuiteGhosts S} {read : Ghosts R} where
   -- It reads this plaintext, of which nothing was read yet.
   pub record StandsBefore (plain : List ℕ) (r : StreamReader S R suite read) : Type 0 where
     pub good : HasFailed r → ⊥
+    pub unsought : HasSought r → ⊥
     pub content : content_of r ≡ whole plain
     pub place : place_of r ≡ 0
     pub rest : plain_rest_of r ≡ whole plain

@@ -10,6 +10,7 @@ use age_bench::recipient::{BenchIdentity, BenchRecipient};
 use age_bench::suite::BenchSuite;
 use age_try::other_suite::OtherSuite;
 use age_uses::parts::part_of;
+use age_uses::streams::streamed_there_and_back;
 use std::alloc::Global;
 use std::test::Fail;
 
@@ -78,6 +79,28 @@ fn the_message_comes_back_over_the_other_suite(rt: HostRuntime) -> Result<(), Fa
             Bytes::new(&text),
         ))?;
         assert_eq!(rt; part.as_slice(), b"test".as_slice());
+    }
+    Ok(())
+}
+
+#[test]
+fn the_message_comes_back_in_one_call(rt: HostRuntime) -> Result<(), Fail> {
+    let alloc = rt.alloc();
+    for format in [Format::Binary, Format::AsciiArmor] {
+        let mut draw = Draw::new(vec![in alloc; 7; 33]?);
+        let mut plain = Vec::new(alloc);
+        done(streamed_there_and_back::<OtherSuite, BenchRecipient, BenchIdentity, Bytes, Vec<u8>>(
+            alloc,
+            &[BenchRecipient],
+            &mut [BenchIdentity],
+            &mut draw,
+            grease(alloc)?,
+            format,
+            &mut Bytes::new(MESSAGE),
+            &mut plain,
+        ))?;
+        assert_eq!(rt; plain.as_slice(), MESSAGE);
+        assert_eq!(rt; draw.left(), 1);
     }
     Ok(())
 }

@@ -1,6 +1,7 @@
 use Rattle.std.proofs.Common.{◌≡◌, ◌∙◌, sym, ap, subst, refl, List, ℕ}
 use Rattle.std.proofs.lemmas.Result.{on_ok_weaker}
 use Rattle.age.specs.Bytes.{AreBytes}
+use Rattle.age.specs.Stretch.{whole}
 use Rattle.age.specs.Armor.{Carries}
 use Rattle.age.specs.File.{file_text, IsFileOf}
 use Rattle.age.specs.ArmorWriting.{text_of}
@@ -16,10 +17,10 @@ returns g c = λ fits reader_told writer_told.
     let tells = and-left _ _ reader_told in
     let plain_bytes : AreBytes plain = rest-bytes (g.R.Read.content reader) (g.R.Read.rest reader) (g.R.Read.place reader)
     (g.met.R.Read.stands reader tells (and-right _ _ reader_told)) (g.met.R.Read.are_bytes reader tells) in
-    let (prepared, prepares, made) = c.in_ok.ensures.file tells refl in
+    let (prepared, prepares, made) = c.in_ok-encrypt_all.ensures.file tells refl in
     let text = file_text seal_of prepared.file_key prepared.stanzas prepared.nonce plain in
     let written : c.encrypt_all.new.writer.items ≡ text_of c.args.format text = rw c.new-file.ensures.items at made.out in
-    let input = c.new-2.ensures.rest ∙ ap _ (c.deref.ensures.value ∙ written) in
+    let input = c.new.ensures.rest ∙ ap whole (c.deref.ensures.value ∙ written) in
     on_ok_weaker c.decrypt_all.result
     (λ done.
     let (key, stanzas, back, bytes, first, well, carries, is_file, back_bytes, appended) = done in

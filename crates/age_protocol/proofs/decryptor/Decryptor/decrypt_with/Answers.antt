@@ -15,6 +15,7 @@ returns g c =
     let reader : IsReaderOf (payload_key file_key self.nonce) self.input c.in_ok-reader.reader =
     subst (λ key. IsReaderOf key self.input c.in_ok-reader.reader) c.payload_key_of-key.ensures (record {
       good = made.good;
+      unsought = made.unsought;
       opens = made.opens;
       same_key = made.key;
       sealed = made.payload;
