@@ -4,7 +4,11 @@
 #[cfg(test)]
 mod definition_tests;
 #[cfg(test)]
+mod fakes;
+#[cfg(test)]
 mod reader_tests;
+#[cfg(test)]
+mod retry_tests;
 #[cfg(test)]
 mod seek_tests;
 #[cfg(test)]

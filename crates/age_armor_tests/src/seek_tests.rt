@@ -144,3 +144,65 @@ fn seeks_past_the_good_bytes_are_the_fault_behind_them(rt: HostRuntime) -> Resul
     assert!(rt; both_answer(alloc, &text, b"a", &steps)?);
     Ok(())
 }
+
+// A text that begins with the begin marker and carries nothing: its lines after that, and its fault.
+const BAD_LINES: [(&[u8], ArmoredReadError); 8] = [
+    (
+        b"Y\xffQ=\n-----END AGE ENCRYPTED FILE-----\n",
+        ArmoredReadError::InvalidUtf8,
+    ),
+    (
+        b"Y\rQ=\n-----END AGE ENCRYPTED FILE-----\n",
+        ArmoredReadError::LineContainsCr,
+    ),
+    (
+        b"YWE=\nYQ=\n-----END AGE ENCRYPTED FILE-----\n",
+        ArmoredReadError::NotWrappedAt64Chars,
+    ),
+    (
+        b"YQ=\n-----END AGE ENCRYPTED FILE-----\n",
+        ArmoredReadError::MissingPadding,
+    ),
+    (
+        b"YR==\n-----END AGE ENCRYPTED FILE-----\n",
+        ArmoredReadError::Base64,
+    ),
+    (
+        b"YQ==\nAAAAAAAAAAAAAAAAAAAAAAAAAAAAAAAAAAAAAAAAAAAAAAAAAAAAAAAAAAAAAAAA\n-----END AGE ENCRYPTED FILE-----\n",
+        ArmoredReadError::ShortLineInMiddle,
+    ),
+    (b"YQ==\n", ArmoredReadError::NotWrappedAt64Chars),
+    (
+        b"YQ==\n-----END AGE ENCRYPTED FILE-----\nx",
+        ArmoredReadError::TrailingGarbage,
+    ),
+];
+
+// Seeks from the end are refused with this fault, and the reader has failed; one to the front makes it good again.
+fn ends_in(alloc: Global, text: &[u8], fault: Error) -> Result<bool, Error> {
+    let steps = [
+        (Op::Seek(SeekFrom::End(0)), Expected::Refusal(fault)),
+        (Op::Read(1), Expected::Refusal(Error::Failed)),
+        (Op::Seek(SeekFrom::End(-1)), Expected::Refusal(fault)),
+        (Op::Seek(SeekFrom::End(1)), Expected::Refusal(fault)),
+        (Op::Seek(SeekFrom::Start(0)), Expected::Place(0)),
+        (Op::Seek(SeekFrom::End(0)), Expected::Refusal(fault)),
+    ];
+    both_answer(alloc, text, b"", &steps)
+}
+
+#[test]
+fn seeks_from_the_end_of_bad_armor_are_its_fault(rt: HostRuntime) -> Result<(), Fail> {
+    let alloc = rt.alloc();
+    for (lines, fault) in BAD_LINES {
+        let text = joined(alloc, &[BEGIN, lines])?;
+        assert!(rt; ends_in(alloc, &text, Error::Armor(fault))?);
+    }
+    let marker = joined(alloc, &[b"-----BEGIN AGE ENCRYPTED FILE-----x\n", END])?;
+    let fault = Error::Armor(ArmoredReadError::InvalidBeginMarker);
+    assert!(rt; ends_in(alloc, &marker, fault)?);
+    for few in [b"".as_slice(), b"a", BEGIN, &[7; 35]] {
+        assert!(rt; ends_in(alloc, few, Error::UnexpectedEof)?);
+    }
+    Ok(())
+}
