@@ -241,8 +241,8 @@ impl<S: Suite, R: Read> StreamReader<S, R> {
         self.opens.count()
     }
 
-    /// Hands back the inner reader as it stands: after the bytes that reads took of it, or where a seek put it. It may be
-    /// further than the place, by what is left of the chunk that is held, which is gone. Nothing is read.
+    /// Hands back the inner reader as it stands: after the bytes that reads took of it, or where a seek put it. A chunk is
+    /// taken whole for its first byte, so what is left of the one that is held is gone. It reads nothing.
     pub fn into_inner(self) -> R
         ensures inner { result ≡ inner_of self }
     {
