@@ -22,6 +22,7 @@ use crate::traits::Read;
 use crate::whole::room_for;
 use age_error::io::{Error, SeekFrom};
 use std::alloc::Global;
+use std::fmt;
 
 // How many bytes it reads ahead at most.
 const ROOM: usize = 8_192;
@@ -131,6 +132,23 @@ impl<R: Read> BufReader<R> {
         })
     }
 
+    /// The inner reader. It stands after all that was read ahead, so the bytes that are held are lost: those that
+    /// `fill_buf` would show now.
+    pub fn into_inner(self) -> R
+        ensures inner { result ≡ inner_of self }
+        ensures lost { has_failed self ≡ false → Delivers (shown_of self) (rest_of self) (R.rest result) }
+        ensures moved { IsTrue (R.tells result) → has_failed self ≡ false → R.place result ≡ place_of self + length (shown_of self) }
+    {
+        let BufReader {
+            inner,
+            buffer: _,
+            given: _,
+            filled: _,
+            failed: _,
+        } = self;
+        inner
+    }
+
     // One read of the inner reader past the buffer, which holds nothing.
     fn read_past(&mut self, buf: &mut [u8]) -> Result<usize, Error>
         requires good { self.old.failed ≡ false }
@@ -202,6 +220,16 @@ impl<R: Read> BufReader<R> {
         buf[..count].copy_from_slice(&self.buffer[self.given..self.given + count]);
         self.given += count;
         count
+    }
+}
+
+/// How many bytes are held and whether it has failed, and no content.
+impl<R: Read> fmt::Debug for BufReader<R> {
+    fn fmt<W: fmt::Write>(&self, f: &mut fmt::Formatter<W>) -> fmt::Result {
+        f.debug_struct("BufReader")
+            .field("held", &(self.filled - self.given))
+            .field("failed", &self.failed)
+            .finish_non_exhaustive()
     }
 }
 

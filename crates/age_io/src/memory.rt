@@ -15,6 +15,7 @@ use crate::seeking::Seek;
 use crate::targets::sought;
 use crate::traits::{Read, Write};
 use age_error::io::{Error, SeekFrom};
+use std::fmt;
 
 /// Reads a slice of fewer than 2^63 bytes. It never refuses and takes no memory.
 #[derive(Drop)]
@@ -34,6 +35,23 @@ impl<'a> Bytes<'a> {
         ensures place { ⟦<Bytes<'a> as Read>⟧.place result ≡ 0 }
     {
         Bytes { bytes, place: 0 }
+    }
+
+    /// All bytes of the slice, also those that were read.
+    pub fn into_inner(self) -> &'a [u8]
+        ensures { ⟦<Bytes<'a> as Read>⟧.content self.entry ≡ whole result.now }
+    {
+        self.bytes
+    }
+}
+
+/// The place and the length, and no content.
+impl<'a> fmt::Debug for Bytes<'a> {
+    fn fmt<W: fmt::Write>(&self, f: &mut fmt::Formatter<W>) -> fmt::Result {
+        f.debug_struct("Bytes")
+            .field("place", &self.place)
+            .field("length", &self.bytes.len())
+            .finish_non_exhaustive()
     }
 }
 

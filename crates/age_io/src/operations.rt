@@ -19,7 +19,7 @@ pub enum Op {
 }
 
 /// What came of an `Op`.
-#[derive(Debug, Drop)]
+#[derive(Debug, Drop, PartialEq)]
 pub enum Answer {
     /// A read gave these bytes. Where they are fewer than it asked for, a clean end follows them.
     Bytes(Vec<u8>),

@@ -15,7 +15,7 @@ use crate::seeking::Seek;
 use crate::targets::sought;
 use crate::traits::{Read, Write};
 use age_error::io::{Error, ErrorKind, SeekFrom};
-use std::io;
+use std::{fmt, io};
 
 /// A reader or a writer of std. It doesn't tell its bytes, since nobody can know what a device gives.
 ///
@@ -40,6 +40,13 @@ impl<T> Std<T> {
         Std { inner, faults: 0 }
     }
 
+    /// The reader or writer of std.
+    pub fn into_inner(self) -> T
+        ensures { result ≡ inner_of self }
+    {
+        self.inner
+    }
+
     // Refuses where the count of faults is used up.
     fn unspent(&self) -> Result<(), Error>
         ensures unspent { OnOk result (self.now.faults < most_faults) }
@@ -60,6 +67,15 @@ impl<T> Std<T> {
     {
         self.faults += 1;
         Error::Device(kind_of(error.kind()))
+    }
+}
+
+/// How often the device has failed, and nothing of the device.
+impl<T> fmt::Debug for Std<T> {
+    fn fmt<W: fmt::Write>(&self, f: &mut fmt::Formatter<W>) -> fmt::Result {
+        f.debug_struct("Std")
+            .field("faults", &self.faults)
+            .finish_non_exhaustive()
     }
 }
 

@@ -9,3 +9,5 @@ mod io_seek_tests;
 mod run_tests;
 #[cfg(test)]
 mod standard_tests;
+#[cfg(test)]
+mod values_tests;
