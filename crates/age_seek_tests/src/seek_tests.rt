@@ -1,4 +1,4 @@
-//! Seeks in payloads, and how often they open chunks.
+//! Seeks in payloads, over both suites where a suite may matter, and how often they open chunks.
 
 use age::armor::ArmoredReader;
 use age::io::{Answer, BufReader, Bytes, Error, Op, Read, Seek, SeekFrom, read_to_end, run};
@@ -6,6 +6,7 @@ use age::stream::StreamReader;
 use age::suite::Suite;
 use age_bench::suite::BenchSuite;
 use age_try::fixtures::{KEY, armored, armored_texts, part, plaintext, with_endings};
+use age_try::other_suite::OtherSuite;
 use age_try::whole::seal_whole;
 use std::alloc::Global;
 use std::process::Abort;
@@ -19,30 +20,32 @@ const SECOND_AS_LAST: [u8; 12] = [0, 0, 0, 0, 0, 0, 0, 0, 0, 0, 1, 1];
 
 type Reader<'a> = StreamReader<BenchSuite, Bytes<'a>>;
 
+type OtherReader<'a> = StreamReader<OtherSuite, Bytes<'a>>;
+
 /// A read of one byte, which is there.
-pub fn reads<R: Read>(rt: &impl Abort, reader: &mut StreamReader<BenchSuite, R>, place: usize) {
+pub fn reads<S: Suite, R: Read>(rt: &impl Abort, reader: &mut StreamReader<S, R>, place: usize) {
     let mut byte = [255];
     assert_eq!(rt; reader.read(&mut byte), Ok(1), "at {place}");
     assert_eq!(rt; byte, [(place % 251) as u8], "at {place}");
 }
 
 // The clean end.
-fn ends<R: Read>(rt: &impl Abort, reader: &mut StreamReader<BenchSuite, R>) {
+fn ends<S: Suite, R: Read>(rt: &impl Abort, reader: &mut StreamReader<S, R>) {
     assert_eq!(rt; reader.read(&mut [0]), Ok(0));
 }
 
 /// A reader that has failed.
-pub fn stays_failed<R: Read>(rt: &impl Abort, reader: &mut StreamReader<BenchSuite, R>) {
+pub fn stays_failed<S: Suite, R: Read>(rt: &impl Abort, reader: &mut StreamReader<S, R>) {
     for _read in 0..2 {
         assert_eq!(rt; reader.read(&mut [0]), Err(Error::Failed));
     }
 }
 
 // What is left gives these bytes and no clean end.
-fn gives<R: Read>(
+fn gives<S: Suite, R: Read>(
     rt: &impl Abort,
     alloc: Global,
-    reader: &mut StreamReader<BenchSuite, R>,
+    reader: &mut StreamReader<S, R>,
     expected: &[u8],
     error: Error,
 ) -> Result<(), Fail> {
@@ -54,7 +57,7 @@ fn gives<R: Read>(
 }
 
 // Seeks in a payload of 102,400 bytes of plaintext, and a read after each.
-fn moves_a_cursor<R: Seek>(rt: &impl Abort, reader: &mut StreamReader<BenchSuite, R>) {
+fn moves_a_cursor<S: Suite, R: Seek>(rt: &impl Abort, reader: &mut StreamReader<S, R>) {
     assert_eq!(rt; reader.seek(SeekFrom::Start(102_401)), Err(Error::PastEnd));
     reads(rt, reader, 0);
     assert_eq!(rt; reader.seek(SeekFrom::Start(0)), Ok(0));
@@ -102,16 +105,18 @@ fn seeks_move_a_cursor(rt: HostRuntime) -> Result<(), Fail> {
         let mut reader = StreamReader::<BenchSuite, _>::with_payload_key(alloc, KEY, armored)?;
         moves_a_cursor(&rt, &mut reader);
     }
+    let other = seal_whole::<OtherSuite>(alloc, &KEY, &plaintext(alloc, 102_400)?)?;
+    let bytes = Bytes::new(&other);
+    moves_a_cursor(&rt, &mut OtherReader::with_payload_key(alloc, KEY, bytes)?);
     Ok(())
 }
 
-// The answers of a list of reads and seeks.
-#[test]
-fn a_list_of_seeks_and_reads(rt: HostRuntime) -> Result<(), Fail> {
-    let alloc = rt.alloc();
+// The answers of a list of reads and seeks in a payload of 200,000 bytes of plaintext.
+fn answers_a_list<S: Suite>(rt: &impl Abort, alloc: Global) -> Result<(), Fail> {
     let plain = plaintext(alloc, 200_000)?;
-    let payload = seal_whole::<BenchSuite>(alloc, &KEY, &plain)?;
-    let mut reader = Reader::with_payload_key(alloc, KEY, Bytes::new(&payload))?;
+    let payload = seal_whole::<S>(alloc, &KEY, &plain)?;
+    let bytes = Bytes::new(&payload);
+    let mut reader = StreamReader::<S, Bytes>::with_payload_key(alloc, KEY, bytes)?;
     let ops = [
         Op::Read(100),
         Op::Seek(SeekFrom::Current(65_436)),
@@ -160,14 +165,20 @@ fn a_list_of_seeks_and_reads(rt: HostRuntime) -> Result<(), Fail> {
     Ok(())
 }
 
+#[test]
+fn a_list_of_seeks_and_reads(rt: HostRuntime) -> Result<(), Fail> {
+    answers_a_list::<BenchSuite>(&rt, rt.alloc())?;
+    answers_a_list::<OtherSuite>(&rt, rt.alloc())
+}
+
 // A payload of 131,072 bytes of plaintext without its second chunk.
-fn lacks_its_end<R: Seek + Drop>(
+fn lacks_its_end<S: Suite, R: Seek + Drop>(
     rt: &impl Abort,
     alloc: Global,
     inner: R,
     first: &[u8],
 ) -> Result<(), Fail> {
-    let mut reader = StreamReader::<BenchSuite, R>::with_payload_key(alloc, KEY, inner)?;
+    let mut reader = StreamReader::<S, R>::with_payload_key(alloc, KEY, inner)?;
     gives(rt, alloc, &mut reader, first, Error::Truncated)?;
     assert_eq!(rt; reader.seek(SeekFrom::End(0)), Err(Error::BadEnd));
     stays_failed(rt, &mut reader);
@@ -182,23 +193,26 @@ fn a_payload_cut_between_chunks(rt: HostRuntime) -> Result<(), Fail> {
     let payload = seal_whole::<BenchSuite>(alloc, &KEY, &plain)?;
     let first = part(&plain, 0, 65_536);
     let cut = part(&payload, 0, 65_552);
-    lacks_its_end(&rt, alloc, Bytes::new(cut), first)?;
-    lacks_its_end(&rt, alloc, BufReader::new(alloc, Bytes::new(cut))?, first)?;
+    lacks_its_end::<BenchSuite, _>(&rt, alloc, Bytes::new(cut), first)?;
+    let buffered = BufReader::new(alloc, Bytes::new(cut))?;
+    lacks_its_end::<BenchSuite, _>(&rt, alloc, buffered, first)?;
     for text in &armored_texts(alloc, cut)? {
         let armored = ArmoredReader::new(alloc, Bytes::new(text))?;
-        lacks_its_end(&rt, alloc, armored, first)?;
+        lacks_its_end::<BenchSuite, _>(&rt, alloc, armored, first)?;
     }
-    Ok(())
+    let other = seal_whole::<OtherSuite>(alloc, &KEY, &plain)?;
+    let cut = part(&other, 0, 65_552);
+    lacks_its_end::<OtherSuite, _>(&rt, alloc, Bytes::new(cut), first)
 }
 
 // A payload whose last chunk is empty though there is one before it: a seek that needs its length.
-fn has_no_length<R: Seek + Drop>(
+fn has_no_length<S: Suite, R: Seek + Drop>(
     rt: &impl Abort,
     alloc: Global,
     inner: R,
     to: SeekFrom,
 ) -> Result<(), Fail> {
-    let mut reader = StreamReader::<BenchSuite, R>::with_payload_key(alloc, KEY, inner)?;
+    let mut reader = StreamReader::<S, R>::with_payload_key(alloc, KEY, inner)?;
     assert_eq!(rt; reader.seek(SeekFrom::Current(-1)), Err(Error::BeforeStart));
     reads(rt, &mut reader, 0);
     assert_eq!(rt; reader.seek(to), Err(Error::BadEnd));
@@ -228,6 +242,8 @@ fn an_empty_last_chunk_after_a_full_one(rt: HostRuntime) -> Result<(), Fail> {
     let mut payload = BenchSuite::seal(alloc, &KEY, &FIRST_AS_MIDDLE, &plain)?;
     payload.extend_from_slice(&BenchSuite::seal(alloc, &KEY, &SECOND_AS_LAST, &[])?)?;
     assert_eq!(rt; payload.len(), 65_568);
+    let mut other = OtherSuite::seal(alloc, &KEY, &FIRST_AS_MIDDLE, &plain)?;
+    other.extend_from_slice(&OtherSuite::seal(alloc, &KEY, &SECOND_AS_LAST, &[])?)?;
     let texts = armored_texts(alloc, &payload)?;
     for to in [
         SeekFrom::End(0),
@@ -235,10 +251,11 @@ fn an_empty_last_chunk_after_a_full_one(rt: HostRuntime) -> Result<(), Fail> {
         SeekFrom::Start(u64::MAX),
         SeekFrom::End(-70_000),
     ] {
-        has_no_length(&rt, alloc, Bytes::new(&payload), to)?;
+        has_no_length::<OtherSuite, _>(&rt, alloc, Bytes::new(&other), to)?;
+        has_no_length::<BenchSuite, _>(&rt, alloc, Bytes::new(&payload), to)?;
         for text in &texts {
             let armored = ArmoredReader::new(alloc, Bytes::new(text))?;
-            has_no_length(&rt, alloc, armored, to)?;
+            has_no_length::<BenchSuite, _>(&rt, alloc, armored, to)?;
         }
     }
     is_read_up_to(
@@ -256,13 +273,13 @@ fn an_empty_last_chunk_after_a_full_one(rt: HostRuntime) -> Result<(), Fail> {
 }
 
 // A full chunk sealed as the last, and a second sealed as the last after it.
-fn has_two_last_chunks<R: Seek + Drop>(
+fn has_two_last_chunks<S: Suite, R: Seek + Drop>(
     rt: &impl Abort,
     alloc: Global,
     inner: R,
     plain: &[u8],
 ) -> Result<(), Fail> {
-    let mut reader = StreamReader::<BenchSuite, R>::with_payload_key(alloc, KEY, inner)?;
+    let mut reader = StreamReader::<S, R>::with_payload_key(alloc, KEY, inner)?;
     gives(rt, alloc, &mut reader, plain, Error::AfterLast)?;
     // Reads that come through a part of it find the same.
     assert_eq!(rt; reader.seek(SeekFrom::Start(65_535)), Ok(65_535));
@@ -290,10 +307,13 @@ fn bytes_after_the_last_chunk(rt: HostRuntime) -> Result<(), Fail> {
     let mut two = Vec::from_slice(alloc, &one)?;
     two.extend_from_slice(&BenchSuite::seal(alloc, &KEY, &SECOND_AS_LAST, &[25])?)?;
     one.push(0)?;
-    has_two_last_chunks(&rt, alloc, Bytes::new(&two), &plain)?;
+    has_two_last_chunks::<BenchSuite, _>(&rt, alloc, Bytes::new(&two), &plain)?;
+    let mut other = OtherSuite::seal(alloc, &KEY, &FIRST_AS_LAST, &plain)?;
+    other.extend_from_slice(&OtherSuite::seal(alloc, &KEY, &SECOND_AS_LAST, &[25])?)?;
+    has_two_last_chunks::<OtherSuite, _>(&rt, alloc, Bytes::new(&other), &plain)?;
     for text in &armored_texts(alloc, &two)? {
         let armored = ArmoredReader::new(alloc, Bytes::new(text))?;
-        has_two_last_chunks(&rt, alloc, armored, &plain)?;
+        has_two_last_chunks::<BenchSuite, _>(&rt, alloc, armored, &plain)?;
     }
     is_read_up_to(&rt, alloc, Bytes::new(&one), &plain, Error::AfterLast)?;
     for text in &armored_texts(alloc, &one)? {
@@ -304,17 +324,16 @@ fn bytes_after_the_last_chunk(rt: HostRuntime) -> Result<(), Fail> {
 }
 
 // A bad chunk is passed over by a seek, and good chunks after it are read.
-#[test]
-fn a_good_chunk_after_a_bad_one(rt: HostRuntime) -> Result<(), Fail> {
-    let alloc = rt.alloc();
+fn passes_a_bad_chunk<S: Suite>(rt: &impl Abort, alloc: Global) -> Result<(), Fail> {
     let plain = plaintext(alloc, 200_000)?;
-    let mut payload = seal_whole::<BenchSuite>(alloc, &KEY, &plain)?;
+    let mut payload = seal_whole::<S>(alloc, &KEY, &plain)?;
     for byte in payload.iter_mut().skip(70_000).take(1) {
         *byte ^= 1;
     }
-    let mut reader = Reader::with_payload_key(alloc, KEY, Bytes::new(&payload))?;
+    let bytes = Bytes::new(&payload);
+    let mut reader = StreamReader::<S, Bytes>::with_payload_key(alloc, KEY, bytes)?;
     gives(
-        &rt,
+        rt,
         alloc,
         &mut reader,
         part(&plain, 0, 65_536),
@@ -325,19 +344,25 @@ fn a_good_chunk_after_a_bad_one(rt: HostRuntime) -> Result<(), Fail> {
     assert_eq!(rt; read_to_end(alloc, &mut reader, &mut read), Ok(68_928));
     assert!(rt; read.as_slice() == part(&plain, 131_072, 200_000));
     assert_eq!(rt; reader.seek(SeekFrom::Start(100_000)), Ok(100_000));
-    gives(&rt, alloc, &mut reader, &[], Error::BadChunk)?;
+    gives(rt, alloc, &mut reader, &[], Error::BadChunk)?;
     assert_eq!(rt; reader.seek(SeekFrom::Start(5)), Ok(5));
-    reads(&rt, &mut reader, 5);
+    reads(rt, &mut reader, 5);
     Ok(())
 }
 
+#[test]
+fn a_good_chunk_after_a_bad_one(rt: HostRuntime) -> Result<(), Fail> {
+    passes_a_bad_chunk::<BenchSuite>(&rt, rt.alloc())?;
+    passes_a_bad_chunk::<OtherSuite>(&rt, rt.alloc())
+}
+
 // Seeks in a payload of 655,361 bytes of plaintext.
-fn opens_nothing_but_at_the_end<R: Seek + Drop>(
+fn opens_nothing_but_at_the_end<S: Suite, R: Seek + Drop>(
     rt: &impl Abort,
     alloc: Global,
     inner: R,
 ) -> Result<(), Fail> {
-    let mut reader = StreamReader::<BenchSuite, R>::with_payload_key(alloc, KEY, inner)?;
+    let mut reader = StreamReader::<S, R>::with_payload_key(alloc, KEY, inner)?;
     assert_eq!(rt; reader.opens(), 0);
     assert_eq!(rt; reader.seek(SeekFrom::Start(655_360)), Ok(655_360));
     assert_eq!(rt; reader.opens(), 0);
@@ -356,8 +381,11 @@ fn seeks_open_nothing_but_at_the_end(rt: HostRuntime) -> Result<(), Fail> {
     let alloc = rt.alloc();
     let payload = seal_whole::<BenchSuite>(alloc, &KEY, &plaintext(alloc, 655_361)?)?;
     assert_eq!(rt; payload.len(), 655_537);
-    opens_nothing_but_at_the_end(&rt, alloc, Bytes::new(&payload))?;
-    opens_nothing_but_at_the_end(&rt, alloc, BufReader::new(alloc, Bytes::new(&payload))?)
+    opens_nothing_but_at_the_end::<BenchSuite, _>(&rt, alloc, Bytes::new(&payload))?;
+    let buffered = BufReader::new(alloc, Bytes::new(&payload))?;
+    opens_nothing_but_at_the_end::<BenchSuite, _>(&rt, alloc, buffered)?;
+    let other = seal_whole::<OtherSuite>(alloc, &KEY, &plaintext(alloc, 655_361)?)?;
+    opens_nothing_but_at_the_end::<OtherSuite, _>(&rt, alloc, Bytes::new(&other))
 }
 
 #[test]
@@ -365,7 +393,8 @@ fn seeks_in_armor_open_nothing_but_at_the_end(rt: HostRuntime) -> Result<(), Fai
     let alloc = rt.alloc();
     let payload = seal_whole::<BenchSuite>(alloc, &KEY, &plaintext(alloc, 655_361)?)?;
     let text = with_endings(alloc, &armored(alloc, &payload)?, [true, false])?;
-    opens_nothing_but_at_the_end(&rt, alloc, ArmoredReader::new(alloc, Bytes::new(&text))?)
+    let armored = ArmoredReader::new(alloc, Bytes::new(&text))?;
+    opens_nothing_but_at_the_end::<BenchSuite, _>(&rt, alloc, armored)
 }
 
 // The reads of a full chunk one byte at a time, after a seek to its front.
@@ -390,12 +419,11 @@ fn a_chunk_is_kept_while_it_is_read(rt: HostRuntime) -> Result<(), Fail> {
 }
 
 // A seek, and then reads until the buffer is full or the end comes.
-#[test]
-fn reads_at_a_place(rt: HostRuntime) -> Result<(), Fail> {
-    let alloc = rt.alloc();
+fn is_read_at_places<S: Suite>(rt: &impl Abort, alloc: Global) -> Result<(), Fail> {
     let plain = plaintext(alloc, 200_000)?;
-    let payload = seal_whole::<BenchSuite>(alloc, &KEY, &plain)?;
-    let mut reader = Reader::with_payload_key(alloc, KEY, Bytes::new(&payload))?;
+    let payload = seal_whole::<S>(alloc, &KEY, &plain)?;
+    let bytes = Bytes::new(&payload);
+    let mut reader = StreamReader::<S, Bytes>::with_payload_key(alloc, KEY, bytes)?;
     for (place, length, count, opens) in [
         (0, 1, 1, 1),
         (65_530, 10, 10, 1),
@@ -427,8 +455,14 @@ fn reads_at_a_place(rt: HostRuntime) -> Result<(), Fail> {
         Err(Error::BeforeStart)
     );
     assert_eq!(rt; reader.read_at(SeekFrom::End(-1), &mut []), Ok(0));
-    reads(&rt, &mut reader, 199_999);
+    reads(rt, &mut reader, 199_999);
     Ok(())
+}
+
+#[test]
+fn reads_at_a_place(rt: HostRuntime) -> Result<(), Fail> {
+    is_read_at_places::<BenchSuite>(&rt, rt.alloc())?;
+    is_read_at_places::<OtherSuite>(&rt, rt.alloc())
 }
 
 // The second starts from where the first ended, and a read from where the second ended.

@@ -1,10 +1,11 @@
-//! What a reader of payloads answers, read by read, and how often it opens chunks.
+//! What a reader of payloads answers over both suites, read by read, and how often it opens chunks.
 
 use age::io::{Bytes, Error, Read};
 use age::stream::StreamReader;
 use age::suite::Suite;
 use age_bench::suite::BenchSuite;
 use age_try::fixtures::{KEY, plaintext};
+use age_try::other_suite::OtherSuite;
 use age_try::whole::seal_whole;
 use std::alloc::Global;
 use std::process::Abort;
@@ -19,7 +20,7 @@ const SECOND_AS_LAST: [u8; 12] = [0, 0, 0, 0, 0, 0, 0, 0, 0, 0, 1, 1];
 const READ: usize = 70_000;
 
 // Four reads of 70,000 bytes answer this, and open so many chunks in all.
-fn answers(
+fn answers<S: Suite>(
     rt: &impl Abort,
     alloc: Global,
     payload: &[u8],
@@ -27,7 +28,7 @@ fn answers(
     opens: u64,
 ) -> Result<(), Fail> {
     let bytes = Bytes::new(payload);
-    let mut reader = StreamReader::<BenchSuite, Bytes>::with_payload_key(alloc, KEY, bytes)?;
+    let mut reader = StreamReader::<S, Bytes>::with_payload_key(alloc, KEY, bytes)?;
     assert_eq!(rt; reader.opens(), 0);
     let mut room = vec![in alloc; 0; READ]?;
     for i in 0..4 {
@@ -47,18 +48,19 @@ fn whole_payloads_end_cleanly(rt: HostRuntime) -> Result<(), Fail> {
         (65_537, 65_536, 1, 2),
         (131_072, 65_536, 65_536, 3),
     ] {
-        let payload = seal_whole::<BenchSuite>(alloc, &KEY, &plaintext(alloc, length)?)?;
+        let plain = plaintext(alloc, length)?;
         let expected = [Ok(first), Ok(second), Ok(0), Ok(0)];
-        answers(&rt, alloc, &payload, expected, opens)?;
+        let bench = seal_whole::<BenchSuite>(alloc, &KEY, &plain)?;
+        answers::<BenchSuite>(&rt, alloc, &bench, expected, opens)?;
+        let other = seal_whole::<OtherSuite>(alloc, &KEY, &plain)?;
+        answers::<OtherSuite>(&rt, alloc, &other, expected, opens)?;
     }
     Ok(())
 }
 
 // A refusal in the second chunk, after which the reader stays failed.
-#[test]
-fn cut_and_changed_payloads_are_refused(rt: HostRuntime) -> Result<(), Fail> {
-    let alloc = rt.alloc();
-    let mut payload = seal_whole::<BenchSuite>(alloc, &KEY, &plaintext(alloc, 131_072)?)?;
+fn refuses_the_second_chunk<S: Suite>(rt: &impl Abort, alloc: Global) -> Result<(), Fail> {
+    let mut payload = seal_whole::<S>(alloc, &KEY, &plaintext(alloc, 131_072)?)?;
     assert_eq!(rt; payload.len(), 131_104);
     for (length, error, opens) in [
         (65_552, Error::Truncated, 1),
@@ -71,7 +73,7 @@ fn cut_and_changed_payloads_are_refused(rt: HostRuntime) -> Result<(), Fail> {
             Err(Error::Failed),
             Err(Error::Failed),
         ];
-        answers(&rt, alloc, &payload[..length], expected, opens)?;
+        answers::<S>(rt, alloc, &payload[..length], expected, opens)?;
     }
     payload[70_000] ^= 1;
     let expected = [
@@ -80,7 +82,13 @@ fn cut_and_changed_payloads_are_refused(rt: HostRuntime) -> Result<(), Fail> {
         Err(Error::Failed),
         Err(Error::Failed),
     ];
-    answers(&rt, alloc, &payload, expected, 3)
+    answers::<S>(rt, alloc, &payload, expected, 3)
+}
+
+#[test]
+fn cut_and_changed_payloads_are_refused(rt: HostRuntime) -> Result<(), Fail> {
+    refuses_the_second_chunk::<BenchSuite>(&rt, rt.alloc())?;
+    refuses_the_second_chunk::<OtherSuite>(&rt, rt.alloc())
 }
 
 // What is no payload from its first chunk on.
@@ -102,17 +110,17 @@ fn what_is_no_chunk_is_refused(rt: HostRuntime) -> Result<(), Fail> {
             Err(Error::Failed),
             Err(Error::Failed),
         ];
-        answers(&rt, alloc, &nonsense, expected, opens)?;
+        answers::<BenchSuite>(&rt, alloc, &nonsense, expected, opens)?;
+        answers::<OtherSuite>(&rt, alloc, &nonsense, expected, opens)?;
     }
     Ok(())
 }
 
-#[test]
-fn an_empty_chunk_after_others_is_refused(rt: HostRuntime) -> Result<(), Fail> {
-    let alloc = rt.alloc();
+// An empty chunk as the last after a full one, and a byte after the last.
+fn refuses_wrong_ends<S: Suite>(rt: &impl Abort, alloc: Global) -> Result<(), Fail> {
     let plain = plaintext(alloc, 65_536)?;
-    let mut payload = BenchSuite::seal(alloc, &KEY, &FIRST_AS_MIDDLE, &plain)?;
-    payload.extend_from_slice(&BenchSuite::seal(alloc, &KEY, &SECOND_AS_LAST, &[])?)?;
+    let mut payload = S::seal(alloc, &KEY, &FIRST_AS_MIDDLE, &plain)?;
+    payload.extend_from_slice(&S::seal(alloc, &KEY, &SECOND_AS_LAST, &[])?)?;
     assert_eq!(rt; payload.len(), 65_568);
     let expected = [
         Ok(65_536),
@@ -120,14 +128,8 @@ fn an_empty_chunk_after_others_is_refused(rt: HostRuntime) -> Result<(), Fail> {
         Err(Error::Failed),
         Err(Error::Failed),
     ];
-    answers(&rt, alloc, &payload, expected, 2)
-}
-
-#[test]
-fn bytes_after_the_last_chunk_are_refused(rt: HostRuntime) -> Result<(), Fail> {
-    let alloc = rt.alloc();
-    let plain = plaintext(alloc, 65_536)?;
-    let mut payload = BenchSuite::seal(alloc, &KEY, &FIRST_AS_LAST, &plain)?;
+    answers::<S>(rt, alloc, &payload, expected, 2)?;
+    let mut payload = S::seal(alloc, &KEY, &FIRST_AS_LAST, &plain)?;
     payload.push(0)?;
     assert_eq!(rt; payload.len(), 65_553);
     let expected = [
@@ -136,7 +138,13 @@ fn bytes_after_the_last_chunk_are_refused(rt: HostRuntime) -> Result<(), Fail> {
         Err(Error::Failed),
         Err(Error::Failed),
     ];
-    answers(&rt, alloc, &payload, expected, 2)
+    answers::<S>(rt, alloc, &payload, expected, 2)
+}
+
+#[test]
+fn an_empty_last_chunk_and_bytes_after_it_are_refused(rt: HostRuntime) -> Result<(), Fail> {
+    refuses_wrong_ends::<BenchSuite>(&rt, rt.alloc())?;
+    refuses_wrong_ends::<OtherSuite>(&rt, rt.alloc())
 }
 
 // Whatever follows a full chunk that opened as the last is not opened: not what opens as the next chunk, nor what doesn't.

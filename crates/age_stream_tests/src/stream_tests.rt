@@ -1,4 +1,4 @@
-//! Payloads as streams. The digests are those of HMAC in Python.
+//! Payloads as streams, over both suites. The digests are those of HMAC in Python.
 
 ghost use Rattle.std.specs.Prelude.{◌<◌};
 
@@ -7,19 +7,17 @@ use age::stream::{StreamReader, StreamWriter};
 use age::suite::{Opens, Suite};
 use age_bench::suite::BenchSuite;
 use age_try::fixtures::{KEY, digest, plaintext};
+use age_try::other_suite::OtherSuite;
 use age_try::whole::{open_whole, seal_whole};
 use std::alloc::Global;
+use std::process::Abort;
 use std::test::Fail;
 
 // The payload of a plaintext that is written in pieces of this length, with a flush after each.
-fn written(alloc: Global, plain: &[u8], piece: usize) -> Result<Vec<u8>, Error>
+fn written<S: Suite>(alloc: Global, plain: &[u8], piece: usize) -> Result<Vec<u8>, Error>
     requires { 0 < piece }
 {
-    let mut writer = StreamWriter::<BenchSuite, Vec<u8>>::with_payload_key(
-        alloc,
-        KEY,
-        Vec::new(alloc),
-    )?;
+    let mut writer = StreamWriter::<S, Vec<u8>>::with_payload_key(alloc, KEY, Vec::new(alloc))?;
     for part in plain.chunks(piece) {
         writer.write(part)?;
         writer.flush()?;
@@ -27,31 +25,42 @@ fn written(alloc: Global, plain: &[u8], piece: usize) -> Result<Vec<u8>, Error>
     writer.finish()
 }
 
+// A plaintext of so many bytes has the payload with this digest, and is read back from it.
+fn is_written_and_read_back<S: Suite>(
+    rt: &impl Abort,
+    alloc: Global,
+    length: usize,
+    payload_length: usize,
+    expected: u64,
+) -> Result<(), Fail> {
+    let plain = plaintext(alloc, length)?;
+    let payload = written::<S>(alloc, &plain, 1 << 20)?;
+    assert_eq!(rt; payload.len(), payload_length);
+    assert_eq!(rt; digest(&payload), expected, "of {length} bytes");
+    assert!(rt; seal_whole::<S>(alloc, &KEY, &plain)?.as_slice() == payload.as_slice());
+    let opened = open_whole::<S>(alloc, &mut Opens::new(), &KEY, &payload)?;
+    assert!(rt; opened.as_slice() == plain.as_slice(), "of {length} bytes");
+
+    let bytes = Bytes::new(&payload);
+    let mut reader = StreamReader::<S, Bytes>::with_payload_key(alloc, KEY, bytes)?;
+    let mut read = Vec::new(alloc);
+    assert_eq!(rt; read_to_end(alloc, &mut reader, &mut read)?, length);
+    assert!(rt; read.as_slice() == plain.as_slice(), "of {length} bytes");
+    assert_eq!(rt; reader.read(&mut [0]), Ok(0));
+    Ok(())
+}
+
 #[test]
 fn payloads_are_written_and_read_back(rt: HostRuntime) -> Result<(), Fail> {
     let alloc = rt.alloc();
-    for (length, payload_length, expected) in [
-        (0, 16, 0xc0f8_88c4_1d88_92ff),
-        (1, 17, 0x9fe2_f53e_8a77_2f10),
-        (65_536, 65_552, 0x1293_37fd_c421_275c),
-        (65_537, 65_569, 0x4c19_c88a_fe40_61bc),
+    for (length, payload_length, bench, other) in [
+        (0, 16, 0xc0f8_88c4_1d88_92ff, 0xc384_0b7a_7e31_1f86),
+        (1, 17, 0x9fe2_f53e_8a77_2f10, 0x06b9_bc1a_5305_8867),
+        (65_536, 65_552, 0x1293_37fd_c421_275c, 0x97fb_5dd3_8219_cb1a),
+        (65_537, 65_569, 0x4c19_c88a_fe40_61bc, 0x47f5_f2cd_bc3e_981d),
     ] {
-        let plain = plaintext(alloc, length)?;
-        let payload = written(alloc, &plain, 1 << 20)?;
-        assert_eq!(rt; payload.len(), payload_length);
-        assert_eq!(rt; digest(&payload), expected, "of {length} bytes");
-        assert!(rt;
-            seal_whole::<BenchSuite>(alloc, &KEY, &plain)?.as_slice() == payload.as_slice()
-        );
-        let opened = open_whole::<BenchSuite>(alloc, &mut Opens::new(), &KEY, &payload)?;
-        assert!(rt; opened.as_slice() == plain.as_slice(), "of {length} bytes");
-
-        let bytes = Bytes::new(&payload);
-        let mut reader = StreamReader::<BenchSuite, Bytes>::with_payload_key(alloc, KEY, bytes)?;
-        let mut read = Vec::new(alloc);
-        assert_eq!(rt; read_to_end(alloc, &mut reader, &mut read)?, length);
-        assert!(rt; read.as_slice() == plain.as_slice(), "of {length} bytes");
-        assert_eq!(rt; reader.read(&mut [0]), Ok(0));
+        is_written_and_read_back::<BenchSuite>(&rt, alloc, length, payload_length, bench)?;
+        is_written_and_read_back::<OtherSuite>(&rt, alloc, length, payload_length, other)?;
     }
     Ok(())
 }
@@ -61,7 +70,7 @@ fn payloads_are_written_and_read_back(rt: HostRuntime) -> Result<(), Fail> {
 fn a_last_chunk_opens_under_its_nonce(rt: HostRuntime) -> Result<(), Fail> {
     let alloc = rt.alloc();
     let plain = plaintext(alloc, 65_537)?;
-    let payload = written(alloc, &plain, 65_537)?;
+    let payload = written::<BenchSuite>(alloc, &plain, 65_537)?;
     assert_eq!(rt; payload.len(), 65_569);
     let nonce = [0, 0, 0, 0, 0, 0, 0, 0, 0, 0, 1, 1];
     let last = BenchSuite::open(alloc, &mut Opens::new(), &KEY, &nonce, &payload[65_552..])?;
@@ -75,11 +84,17 @@ fn how_a_plaintext_is_cut_into_writes_is_not_seen(rt: HostRuntime) -> Result<(),
     let alloc = rt.alloc();
     let plain = plaintext(alloc, 131_072)?;
     for piece in [1, 65_535, 65_536, 131_072] {
-        let payload = written(alloc, &plain, piece)?;
-        assert_eq!(rt; payload.len(), 131_104);
+        let bench = written::<BenchSuite>(alloc, &plain, piece)?;
+        assert_eq!(rt; bench.len(), 131_104);
         assert_eq!(rt;
-            digest(&payload),
+            digest(&bench),
             0x5f42_35d1_0738_d687,
+            "in pieces of {piece}"
+        );
+        let other = written::<OtherSuite>(alloc, &plain, piece)?;
+        assert_eq!(rt;
+            digest(&other),
+            0x81c2_3405_d713_853f,
             "in pieces of {piece}"
         );
     }
