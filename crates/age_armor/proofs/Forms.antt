@@ -71,5 +71,6 @@ binary_left failed bytes given filled taken stage rest good none plain some =
 -- ---- a text that isn't armor
 
 -- a text that passes unchanged doesn't begin so
-pub binary_form : {X : Type 0} (stage : Stage) (text : Stretch) → stage ≡ Binary → is_armored stage ≡ begins_armor text.bytes → begins_armor text.bytes ≡ true → X
+pub binary_form : {X : Type 0} (stage : Stage) (text : Stretch) → stage ≡ Binary → is_armored stage ≡ begins_armor text.bytes →
+    begins_armor text.bytes ≡ true → X
 binary_form stage text binary is armor = absurd (true≢false (sym armor ∙ sym is ∙ ap is_armored binary))

@@ -2,10 +2,10 @@
 
 ghost use Rattle.std.specs.Prelude.{◌<◌};
 
-use age_armor::ArmoredReader;
+use age_armor::{ArmoredReader, ArmoredWriter, Format};
 use age_base64::armor_engine;
 use age_error::io::{ArmoredReadError, Error};
-use age_io::{BufRead, Bytes, Read, read_to_end, room_for};
+use age_io::{BufRead, Bytes, Read, Write, read_to_end, room_for};
 use std::alloc::Global;
 use std::test::Fail;
 
@@ -290,5 +290,54 @@ fn lines_are_read_across_the_ends_of_a_buffer(rt: HostRuntime) -> Result<(), Fai
     let mut read = Vec::new(alloc);
     assert_eq!(rt; read_to_end(alloc, &mut reader, &mut read)?, 20_000);
     assert!(rt; read.as_slice() == bytes.as_slice());
+    Ok(())
+}
+
+// What is left of the inner reader of a text, once a read gave so many bytes of it.
+fn left_after(alloc: Global, text: &[u8], size: usize, given: usize) -> Result<Vec<u8>, Error> {
+    let mut reader = ArmoredReader::new_buffered(alloc, Bytes::new(text))?;
+    let mut room = room_for(alloc, size)?;
+    let mut rest = Vec::new(alloc);
+    if reader.read(&mut room)? == given {
+        let mut inner = reader.into_inner();
+        read_to_end(alloc, &mut inner, &mut rest)?;
+    }
+    Ok(rest)
+}
+
+// Of a binary text it has what wasn't taken; of armor what follows the line that was asked for.
+#[test]
+fn the_inner_reader_is_handed_back_where_it_stands(rt: HostRuntime) -> Result<(), Fail> {
+    let alloc = rt.alloc();
+    let bytes = counting(alloc, 100)?;
+    let rest = left_after(alloc, &bytes, 60, 35)?;
+    assert!(rt;
+        bytes
+            .as_slice()
+            .strip_suffix(rest.as_slice())
+            .is_some_and(|front| front.len() == 35)
+    );
+    let text = joined(alloc, &[BEGIN, b"YQ==\n", END, b" "])?;
+    let rest = left_after(alloc, &text, 60, 1)?;
+    let end = joined(alloc, &[END, b" "])?;
+    assert!(rt; rest.as_slice() == end.as_slice());
+    Ok(())
+}
+
+#[test]
+fn no_text_of_a_reader_or_a_writer_shows_a_byte(rt: HostRuntime) -> Result<(), Fail> {
+    let alloc = rt.alloc();
+    let text = joined(alloc, &[BEGIN, b"YQ==\n", END])?;
+    let reader = ArmoredReader::new_buffered(alloc, Bytes::new(&text))?;
+    assert_eq!(rt;
+        format!(in alloc; "{reader:?}")?.as_str(),
+        "ArmoredReader { .. }"
+    );
+    let mut writer = ArmoredWriter::wrap_output(alloc, Vec::new(alloc), Format::AsciiArmor)?;
+    assert_eq!(rt; writer.write(b"a"), Ok(1));
+    assert_eq!(rt;
+        format!(in alloc; "{writer:?}")?.as_str(),
+        "ArmoredWriter { .. }"
+    );
     Ok(())
 }

@@ -49,7 +49,8 @@ invariant_of-self g c =
       fresh = λ start. absurd (true≢false (sym start ∙ now.begun));
       untaken = λ good start. absurd (true≢false (sym start ∙ now.begun));
       form = λ told steady begun.
-          form_held (reader.content before.source.inner) (reader.rest before.source.inner) _ (reader.place before.source.inner) before.source.taken before.stage piece.next
+          form_held (reader.content before.source.inner) (reader.rest before.source.inner) _
+          (reader.place before.source.inner) before.source.taken before.stage piece.next
           (g.met.R.Read.stands before.source.inner (told_before told) (steady_before steady)) (before.untaken c.requires)
           (now.form (told_before told)) now.kept_form (before.form (told_before told) (steady_before steady)) (text told);
       unspent = λ good begun. now.kept.unspent;

@@ -106,7 +106,8 @@ pub returns-then-is_passing-clause-form : goal.returns-then-is_passing-clause-fo
 returns-then-is_passing-clause-form g c = λ told steady.
     let now = c.pass.ensures in
     let after = c.pass.new.self in
-    let is = form_kept (is_armored after.stage) (text_of after) (text_of c.args.self.now) (after.form (now.tells ∙ told) (now.steady ∙ steady) (ap is_start now.stage)) (sym (now.same_text told)) in
+    let is = form_kept (is_armored after.stage) (text_of after) (text_of c.args.self.now)
+    (after.form (now.tells ∙ told) (now.steady ∙ steady) (ap is_start now.stage)) (sym (now.same_text told)) in
     on_ok_weaker c.pass.result (λ good. is) now.good
 
 pub returns-then-is_passing-clause-spared : goal.returns-then-is_passing-clause-spared
@@ -120,4 +121,5 @@ returns-in-Ok-clause-form g c = λ told steady.
     let now = c.in-Ok.ensures in
     let held = c.hold.new.self in
     let after = c.give.new.self in
-    ap is_armored c.give.ensures.stage ∙ form_kept (is_armored held.stage) (text_of held) (text_of c.args.self.now) (held.form (now.tells ∙ told) (now.steady ∙ steady) now.begun) (sym (now.same_text told))
+    ap is_armored c.give.ensures.stage ∙ form_kept (is_armored held.stage) (text_of held) (text_of c.args.self.now)
+    (held.form (now.tells ∙ told) (now.steady ∙ steady) now.begun) (sym (now.same_text told))

@@ -51,5 +51,6 @@ returns-in-Err g c =
       well = λ told steady. tt;
       same_text = λ told. c.come_back.ensures.same_text (now.goes.same_tells ∙ told) ∙ now.same_text told;
       ending = λ told steady good.
-          c.come_back.ensures.ending (now.goes.same_tells ∙ told) (now.goes.same_steady ∙ steady) good ∙ ap (λ t. (delivered t.bytes t.ends_well).ending) (now.same_text told);
+          c.come_back.ensures.ending (now.goes.same_tells ∙ told) (now.goes.same_steady ∙ steady) good
+          ∙ ap (λ t. (delivered t.bytes t.ends_well).ending) (now.same_text told);
     }
