@@ -4,7 +4,7 @@ use Rattle.std.proofs.Common.{arith, refl, sym, ap, subst, ◌∙◌, append_ass
 use Rattle.age_error.specs.declared.io.Error.{Error}
 use Rattle.age_error.specs.declared.io.Error.TheVariants.{OutOfMemory}
 use Rattle.age_io.specs.Stretch.{Stretch, IsCleanEnd, IsFault}
-use Rattle.age_io.specs.Reading.{Reads, Gives, IsQuiet}
+use Rattle.age_io.specs.Reading.{Reads, GivesInAll, IsQuiet}
 use Rattle.age_io.proofs.Delivering.{gives-none, gives-more, gives-same}
 use Rattle.age_io.specs.Copying.{AppendsFront, CopiesFront}
 
@@ -21,7 +21,7 @@ module _ {S : Type 0} (tells steady : S → Bool) (content : S → Stretch) (pla
   -- what the reader gave so far was appended
   pub record IsCopied (old new : S) (before after : W) : Type 0 where
     pub front : List ℕ
-    pub gives : Gives tells steady content place rest faults old new front
+    pub gives : GivesInAll tells steady content place rest faults old new front
     pub out : IsTrue (writer_tells before) → appended before front after
 
   pub copied-none : (s : S) (w : W) → appended w [] w → IsCopied s s w w
@@ -48,7 +48,7 @@ module _ {S : Type 0} (tells steady : S → Bool) (content : S → Stretch) (pla
   -- the reader stands at its end, once a read gave nothing
   pub copied-stands : (old between new : S) (before after : W) (buf : List ℕ) → IsCopied old between before after →
       Reads tells steady content place rest faults between new buf (Ok 0) → 0 < length buf →
-      Gives tells steady content place rest faults old new (rest old).bytes
+      GivesInAll tells steady content place rest faults old new (rest old).bytes
   copied-stands old between new before after buf so_far r some =
       gives-same tells steady content place rest faults old new (so_far.front ++ take 0 buf) (rest old).bytes
       (λ told. sym ((so_far.gives.bytes told).bytes
@@ -73,7 +73,7 @@ module _ {S : Type 0} (tells steady : S → Bool) (content : S → Stretch) (pla
 
     -- where it is left by a read that refused
     pub left-by-read : (front : List ℕ) (old between new : S) (before after : W) (buf : List ℕ) (e : Error) → Holds front →
-        Gives tells steady content place rest faults old between front → (IsTrue (writer_tells before) → appended before front after) →
+        GivesInAll tells steady content place rest faults old between front → (IsTrue (writer_tells before) → appended before front after) →
         Reads tells steady content place rest faults between new buf (Err e) →
         CopiesFront tells steady content place rest faults writer_tells appended Holds old new before after
     left-by-read front old between new before after buf e holds gives out r = record {
@@ -91,7 +91,7 @@ module _ {S : Type 0} (tells steady : S → Bool) (content : S → Stretch) (pla
     -- where it is left by a write that refused and took a beginning of a further piece
     pub left-by-write : (joins : (a b c : W) (x y : List ℕ) → appended a x b → appended b y c → appended a (x ++ y) c) →
         (front : List ℕ) (old between new : S) (before half after : W) (buf : List ℕ) (n : ℕ) → Holds (front ++ take n buf) →
-        Gives tells steady content place rest faults old between front → (IsTrue (writer_tells before) → appended before front half) →
+        GivesInAll tells steady content place rest faults old between front → (IsTrue (writer_tells before) → appended before front half) →
         Reads tells steady content place rest faults between new buf (Ok n) →
         (IsTrue (writer_tells before) → (taken : ℕ) × (taken ≤ length (take n buf)) × appended half (take taken (take n buf)) after) →
         CopiesFront tells steady content place rest faults writer_tells appended Holds old new before after

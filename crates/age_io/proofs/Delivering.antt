@@ -4,7 +4,7 @@ use borrow.Rule.Slice.PartMut.{put_mid, post_of}
 use Rattle.std.proofs.lemmas.Slice.{take-put_mid_below}
 use lib.Seq.{take-add, take-append-le}
 use Rattle.age_io.specs.Stretch.{Stretch}
-use Rattle.age_io.specs.Reading.{Reads, Delivers, Gives, Appended}
+use Rattle.age_io.specs.Reading.{Reads, Delivers, GivesInAll, Appended}
 
 -- what is delivered in turn is delivered joined
 pub Delivers-joined : (xs ys : List ℕ) (a b c : Stretch) → Delivers xs a b → Delivers ys b c → Delivers (xs ++ ys) a c
@@ -52,7 +52,7 @@ Appended-none s xs = record {
 
 module _ {S : Type 0} (tells steady : S → Bool) (content : S → Stretch) (place : S → ℕ) (rest : S → Stretch) (faults : S → ℕ) where
   -- no read gave anything yet
-  pub gives-none : (s : S) → Gives tells steady content place rest faults s s []
+  pub gives-none : (s : S) → GivesInAll tells steady content place rest faults s s []
   gives-none s = record {
     same_tells = refl;
     same_steady = refl;
@@ -63,8 +63,8 @@ module _ {S : Type 0} (tells steady : S → Bool) (content : S → Stretch) (pla
   }
 
   -- a further read
-  pub gives-more : (old between new : S) (got buf : List ℕ) (n : ℕ) → Gives tells steady content place rest faults old between got →
-      Reads tells steady content place rest faults between new buf (Ok n) → Gives tells steady content place rest faults old new (got ++ take n buf)
+  pub gives-more : (old between new : S) (got buf : List ℕ) (n : ℕ) → GivesInAll tells steady content place rest faults old between got →
+      Reads tells steady content place rest faults between new buf (Ok n) → GivesInAll tells steady content place rest faults old new (got ++ take n buf)
   gives-more old between new got buf n g r = record {
     same_tells = r.same_tells ∙ g.same_tells;
     same_steady = r.same_steady ∙ g.same_steady;
@@ -77,7 +77,7 @@ module _ {S : Type 0} (tells steady : S → Bool) (content : S → Stretch) (pla
 
   -- a reader that tells its bytes gave these, by another name
   pub gives-same : (old new : S) (got other : List ℕ) → (IsTrue (tells old) → got ≡ other) →
-      Gives tells steady content place rest faults old new got → Gives tells steady content place rest faults old new other
+      GivesInAll tells steady content place rest faults old new got → GivesInAll tells steady content place rest faults old new other
   gives-same old new got other same g = record {
     same_tells = g.same_tells;
     same_steady = g.same_steady;

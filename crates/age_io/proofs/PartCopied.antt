@@ -4,7 +4,7 @@ use Rattle.std.proofs.Common.{arith, refl, sym, ap, subst, ◌∙◌, append_ass
 use lib.Seq.{take-append-add, take-nil}
 use Rattle.age_error.specs.declared.io.Error.{Error}
 use Rattle.age_io.specs.Stretch.{Stretch, IsCleanEnd}
-use Rattle.age_io.specs.Reading.{Reads, Delivers, Gives}
+use Rattle.age_io.specs.Reading.{Reads, Delivers, GivesInAll}
 use Rattle.age_io.proofs.Copied.{left-by-read, left-by-write}
 use Rattle.age_io.proofs.Delivering.{gives-none, gives-more, gives-same}
 use Rattle.age_io.specs.Copying.{AppendsFront, CopiesFront}
@@ -34,7 +34,7 @@ module _ {S : Type 0} (tells steady : S → Bool) (content : S → Stretch) (pla
   pub record IsPartCopied (count left : ℕ) (old new : S) (before after : W) : Type 0 where
     pub front : List ℕ
     pub budget : count ≡ length front + left
-    pub gives : Gives tells steady content place rest faults old new front
+    pub gives : GivesInAll tells steady content place rest faults old new front
     pub out : IsTrue (writer_tells before) → appended before front after
 
   pub part-none : (count : ℕ) (s : S) (w : W) → appended w [] w → IsPartCopied count count s s w w
@@ -70,7 +70,7 @@ module _ {S : Type 0} (tells steady : S → Bool) (content : S → Stretch) (pla
   -- the reader stands behind what the count asks for, once a read gave nothing at a clean end
   pub part-stands : (count left : ℕ) (old between new : S) (before after : W) (buf : List ℕ) →
       IsPartCopied count left old between before after → Reads tells steady content place rest faults between new buf (Ok 0) → 0 < length buf →
-      Gives tells steady content place rest faults old new (take count (rest old).bytes)
+      GivesInAll tells steady content place rest faults old new (take count (rest old).bytes)
   part-stands count left old between new before after buf so_far r some =
       let all = gives-more tells steady content place rest faults old between new so_far.front buf 0 so_far.gives r in
       gives-same tells steady content place rest faults old new (so_far.front ++ take 0 buf) (take count (rest old).bytes)
@@ -80,7 +80,7 @@ module _ {S : Type 0} (tells steady : S → Bool) (content : S → Stretch) (pla
 
   -- and so it does where none of the count is left
   pub part-stands-full : (count left : ℕ) (old new : S) (before after : W) → IsPartCopied count left old new before after →
-      left ≡ 0 → Gives tells steady content place rest faults old new (take count (rest old).bytes)
+      left ≡ 0 → GivesInAll tells steady content place rest faults old new (take count (rest old).bytes)
   part-stands-full count left old new before after so_far none =
       gives-same tells steady content place rest faults old new so_far.front (take count (rest old).bytes)
       (λ told. sym (part_full count left (rest old) (rest new) so_far.front so_far.budget (so_far.gives.bytes told) none)) so_far.gives

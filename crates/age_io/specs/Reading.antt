@@ -49,7 +49,7 @@ pub record Reads {S : Type 0} (tells steady : S → Bool) (content : S → Stret
   pub cause : IsTrue (tells old) → IfErr result (λ e. e ≢ OutOfMemory → IsQuiet (faults old) (faults new) → IsFault (rest old))
 
 -- What several reads do that give these bytes in all.
-pub record Gives {S : Type 0} (tells steady : S → Bool) (content : S → Stretch) (place : S → ℕ) (rest : S → Stretch) (faults : S → ℕ)
+pub record GivesInAll {S : Type 0} (tells steady : S → Bool) (content : S → Stretch) (place : S → ℕ) (rest : S → Stretch) (faults : S → ℕ)
     (old new : S) (got : List ℕ) : Type 0 where
   -- of every reader
   pub same_tells : tells new ≡ tells old

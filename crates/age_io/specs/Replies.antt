@@ -1,7 +1,7 @@
 -- What reads and seeks in turn answer: a cursor over a list, and any reader.
 use Rattle.std.specs.Prelude.{◌≡◌, ◌≢◌, ℕ, ◌+◌, ◌≤◌, ◌<◌, Bool, IsTrue, List, [], ◌∷◌, length, take, drop, Result, Ok, Err}
 use Rattle.age_io.specs.Stretch.{Stretch, from_place, IsCleanEnd}
-use Rattle.age_io.specs.Reading.{Reads, Gives}
+use Rattle.age_io.specs.Reading.{Reads, GivesInAll}
 use Rattle.age_io.specs.Cursor.{sought, Seeks}
 use Rattle.age_error.specs.Refusals.{IsDevice}
 use Rattle.age_error.specs.declared.io.Error.{Error}
@@ -73,14 +73,14 @@ module _ {S : Type 0} (tells steady : S → Bool) (content : S → Stretch) (pla
   -- Reads were asked for so many bytes in all, and gave fewer at a clean end alone.
   pub record GivesUpTo (wanted : ℕ) (got : List ℕ) (old new : S) : Type 0 where
     pub most : length got ≤ wanted
-    pub gives : Gives tells steady content place rest faults old new got
+    pub gives : GivesInAll tells steady content place rest faults old new got
     pub end : IsTrue (tells old) → length got < wanted → IsCleanEnd (rest new)
 
   -- They were asked for so many bytes, and gave fewer, since the next read refused with this error.
   pub record GivesThenRefuses (wanted : ℕ) (got : List ℕ) (e : Error) (old new : S) : Type 0 where
     pub fewer : length got < wanted
     pub between : S
-    pub gives : Gives tells steady content place rest faults old between got
+    pub gives : GivesInAll tells steady content place rest faults old between got
     pub buf : List ℕ
     pub refuses : Reads tells steady content place rest faults between new buf (Err e)
 

@@ -2,7 +2,7 @@
 ghost use Rattle.std.specs.Prelude.{◌≡◌, ◌≢◌, ℕ, ◌<◌, ◌≤◌, ◌⊎◌, false, IsTrue, List, ◌++◌, length, take, OnOk, OnErr, IfErr, ⊤};
 ghost use Rattle.age_error.specs.Refusals.{IsDevice};
 ghost use Rattle.age_error.specs.declared.io.Error.TheVariants.{TooLong};
-ghost use Rattle.age_io.specs.Reading.{IsQuiet, Gives};
+ghost use Rattle.age_io.specs.Reading.{IsQuiet, GivesInAll};
 ghost use Rattle.age_io.specs.Copying.{AppendsFront, CopiesFront};
 
 use crate::retry::read_retrying;
@@ -32,7 +32,7 @@ pub fn copy_all<R: Read, W: Write>(
         (IsTrue (R.rest reader.old).ends_well × W.appended writer.old (R.rest reader.old).bytes writer.new) }
     ensures front { IsTrue (R.tells reader.old) → IsTrue (W.tells writer.old) →
         AppendsFront W.appended (R.rest reader.old).bytes writer.old writer.new }
-    ensures stands { OnOk result (Gives R.tells R.steady R.content R.place R.rest R.faults reader.old reader.new (R.rest reader.old).bytes) }
+    ensures stands { OnOk result (GivesInAll R.tells R.steady R.content R.place R.rest R.faults reader.old reader.new (R.rest reader.old).bytes) }
     ensures left { OnErr result (CopiesFront R.tells R.steady R.content R.place R.rest R.faults W.tells W.appended
         (λ _. ⊤) reader.old reader.new writer.old writer.new) }
     // Why it refuses, as far as a writer says why it does.
@@ -72,7 +72,7 @@ pub fn copy_some<R: Read, W: Write>(
         × (length (R.rest reader.old).bytes < count → IsTrue (R.rest reader.old).ends_well)) }
     ensures front { IsTrue (R.tells reader.old) → IsTrue (W.tells writer.old) →
         AppendsFront W.appended (take count (R.rest reader.old).bytes) writer.old writer.new }
-    ensures stands { OnOk result (Gives R.tells R.steady R.content R.place R.rest R.faults reader.old reader.new
+    ensures stands { OnOk result (GivesInAll R.tells R.steady R.content R.place R.rest R.faults reader.old reader.new
         (take count (R.rest reader.old).bytes)) }
     ensures left { OnErr result (CopiesFront R.tells R.steady R.content R.place R.rest R.faults W.tells W.appended
         (λ given. length given ≤ count) reader.old reader.new writer.old writer.new) }

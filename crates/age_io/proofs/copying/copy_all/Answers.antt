@@ -25,7 +25,8 @@ returns-in_err-write_all-clause-left g c =
     let room = c.loop-piece.room in
     let size : length c.read_retrying.new.buf ≡ length room.items = omega (arith, c.read_retrying.auto.buf, c.deref_mut.ensures.len, room.ok.0) in
     let filled = refilled room.items c.read_retrying.new.buf room.len room.ok.0 size in
-    OnErr-of _ (left-by-write read.tells read.steady read.content read.place read.rest read.faults g.W.Write.tells g.W.Write.appended (λ _. ⊤) g.met.W.Write.joins
+    OnErr-of _ (left-by-write read.tells read.steady read.content read.place read.rest read.faults g.W.Write.tells g.W.Write.appended
+    (λ _. ⊤) g.met.W.Write.joins
     before.copied.front c.args.reader.now c.loop-piece.reader c.read_retrying.new.reader c.args.writer.now c.loop-piece.writer c.write_all.new.writer
     c.read_retrying.new.buf c.in_ok-count.count tt before.copied.gives before.copied.out c.in_ok-count.ensures.reads
     (λ told. rw (c.deref.ensures.value, filled) at (c.in_err-write_all.ensures.writes.refuses (before.writer_tells ∙ told))))

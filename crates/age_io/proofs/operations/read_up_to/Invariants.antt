@@ -1,6 +1,6 @@
 use Rattle.std.proofs.Common.{◌≡◌, ◌≤◌, ◌-◌, IsTrue, vec_len}
 use Rattle.age_io.specs.Stretch.{from_place}
-use Rattle.age_io.specs.Reading.{Gives}
+use Rattle.age_io.specs.Reading.{GivesInAll}
 use Rattle.age_io.proofs.Reaching.{Reached}
 use Rattle.age_io.proofs.operations.read_up_to.Given as goal
 
@@ -13,7 +13,7 @@ invariant-reads g l =
       no_fewer_faults : reader.faults l.fn.reader ≤ reader.faults l.reader;
       same_content : IsTrue (reader.tells l.fn.reader) → reader.content l.reader ≡ reader.content l.fn.reader;
       most : vec_len l.got ≤ l.count;
-      gives : Gives reader.tells reader.steady reader.content reader.place reader.rest reader.faults l.fn.reader l.reader l.got.items;
+      gives : GivesInAll reader.tells reader.steady reader.content reader.place reader.rest reader.faults l.fn.reader l.reader l.got.items;
       so_far : IsTrue (reader.tells l.fn.reader) →
           reader.rest l.fn.reader ≡ from_place (reader.place l.fn.reader) (reader.content l.fn.reader) →
           Reached (reader.content l.fn.reader) (reader.place l.fn.reader) l.got.items (reader.place l.reader) (reader.rest l.reader);
