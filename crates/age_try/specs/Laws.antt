@@ -119,10 +119,13 @@ pub other_shared_alike : (a b : List ℕ) → AreBytesOf 32 a → AreBytesOf 32 
 other_shared_alike a b h k = alike a b
 
 pub other_public-bytes : (a : List ℕ) → AreBytesOf 32 a → AreBytesOf 32 (other_public a)
-other_public-bytes a h = record {
-  len = rw length-map h.len;
-  bytes = All-map (λ x. x < 2 ^ 8) (λ x. (x + 0x35) % 2 ^ 8) a (All-weaker (λ x. x < 2 ^ 8) (λ x. (x + 0x35) % 2 ^ 8 < 2 ^ 8) (λ x y. below (x + 0x35)) a h.bytes);
-}
+other_public-bytes a h =
+    let P : ℕ → Type 0 = λ x. x < 2 ^ 8 in
+    let f : ℕ → ℕ = λ x. (x + 0x35) % 2 ^ 8 in
+    record {
+      len = rw length-map h.len;
+      bytes = All-map P f a (All-weaker P (λ x. P (f x)) (λ x y. below (x + 0x35)) a h.bytes);
+    }
 
 shared-bytes : (a b : List ℕ) → AreBytes (other_shared a b)
 shared-bytes [] b = All-nil (λ x. x < 2 ^ 8)
