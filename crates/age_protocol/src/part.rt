@@ -1,5 +1,5 @@
 //! A part of a file's plaintext.
-ghost use Rattle.std.specs.Prelude.{◌≡◌, ◌≢◌, ◌⊎◌, ℕ, ◌<◌, ◌≤◌, ◌&&◌, true, ⊤, IsTrue, List, length, take, drop, Some, Ok, IfErr, OnOk, MatchResult};
+ghost use Rattle.std.specs.Prelude.{◌≡◌, ◌≢◌, ◌⊎◌, ℕ, ◌+◌, ◌<◌, ◌≤◌, ◌&&◌, true, ⊤, IsTrue, List, length, take, drop, Some, Ok, IfErr, OnOk, MatchResult};
 ghost use Rattle.age_error.specs.Refusals.{IsDevice};
 ghost use Rattle.age_error.specs.declared.io.Error.TheVariants.{PastEnd, OutOfMemory};
 ghost use Rattle.age_error.specs.declared.io.SeekFrom.TheVariants.{Start};
@@ -31,7 +31,7 @@ use std::alloc::Global;
 /// or fewer at the end.
 ///
 /// Where the content ends well, a success says that the place is in it, and that exactly these bytes were appended; after
-/// a refusal a beginning of them was. A place after the end is `PastEnd`, and nothing is appended then. The other refusals
+/// a refusal a beginning of them was. The reader then stands after them. A place after the end is `PastEnd`, and nothing is appended then. The other refusals
 /// of the seek are those of `StreamReader::seek`, and those after it those of `copy_some`.
 pub fn write_part<S: Suite, R: Seek, W: Write>(
     alloc: Global,
@@ -54,6 +54,10 @@ pub fn write_part<S: Suite, R: Seek, W: Write>(
         IsTrue (reader.content stream.old).ends_well → length (reader.content stream.old).bytes < place →
         (writer.new ≡ writer.old) × MatchResult result (λ done. ⊥)
         (λ e. e ≢ OutOfMemory → IsQuiet (reader.faults stream.old) (reader.faults stream.new) → e ≡ PastEnd) }
+    // So many bytes were taken from the reader as were appended.
+    ensures stands { let reader = ⟦<StreamReader<S, R> as Read>⟧ in IsTrue (reader.tells stream.old) → IsTrue (reader.content stream.old).ends_well →
+        OnOk result ((reader.place stream.new ≡ place + length (take count (drop place (reader.content stream.old).bytes)))
+        × (reader.rest stream.new ≡ from_place (reader.place stream.new) (reader.content stream.old))) }
     // On any payload: whatever it answers, what is appended stands in the plaintext from the place on, and where it succeeds no byte
     // of it is missing.
     ensures standing { let reader = ⟦<StreamReader<S, R> as Read>⟧ in IsTrue (reader.tells stream.old) → IsTrue (W.tells writer.old) →

@@ -116,8 +116,8 @@ fn what_is_no_chunk_is_refused(rt: HostRuntime) -> Result<(), Fail> {
     Ok(())
 }
 
-// An empty chunk as the last after a full one, and a byte after the last.
-fn refuses_wrong_ends<S: Suite>(rt: &impl Abort, alloc: Global) -> Result<(), Fail> {
+// An empty chunk as the last, after a full one.
+fn refuses_an_empty_last_chunk<S: Suite>(rt: &impl Abort, alloc: Global) -> Result<(), Fail> {
     let plain = plaintext(alloc, 65_536)?;
     let mut payload = S::seal(alloc, &KEY, &FIRST_AS_MIDDLE, &plain)?;
     payload.extend_from_slice(&S::seal(alloc, &KEY, &SECOND_AS_LAST, &[])?)?;
@@ -128,7 +128,18 @@ fn refuses_wrong_ends<S: Suite>(rt: &impl Abort, alloc: Global) -> Result<(), Fa
         Err(Error::Failed),
         Err(Error::Failed),
     ];
-    answers::<S>(rt, alloc, &payload, expected, 2)?;
+    answers::<S>(rt, alloc, &payload, expected, 2)
+}
+
+#[test]
+fn an_empty_chunk_after_others_is_refused(rt: HostRuntime) -> Result<(), Fail> {
+    refuses_an_empty_last_chunk::<BenchSuite>(&rt, rt.alloc())?;
+    refuses_an_empty_last_chunk::<OtherSuite>(&rt, rt.alloc())
+}
+
+// A byte after a full chunk that is the last.
+fn refuses_a_byte_after_the_last<S: Suite>(rt: &impl Abort, alloc: Global) -> Result<(), Fail> {
+    let plain = plaintext(alloc, 65_536)?;
     let mut payload = S::seal(alloc, &KEY, &FIRST_AS_LAST, &plain)?;
     payload.push(0)?;
     assert_eq!(rt; payload.len(), 65_553);
@@ -142,9 +153,9 @@ fn refuses_wrong_ends<S: Suite>(rt: &impl Abort, alloc: Global) -> Result<(), Fa
 }
 
 #[test]
-fn an_empty_last_chunk_and_bytes_after_it_are_refused(rt: HostRuntime) -> Result<(), Fail> {
-    refuses_wrong_ends::<BenchSuite>(&rt, rt.alloc())?;
-    refuses_wrong_ends::<OtherSuite>(&rt, rt.alloc())
+fn bytes_after_the_last_chunk_are_refused(rt: HostRuntime) -> Result<(), Fail> {
+    refuses_a_byte_after_the_last::<BenchSuite>(&rt, rt.alloc())?;
+    refuses_a_byte_after_the_last::<OtherSuite>(&rt, rt.alloc())
 }
 
 // Whatever follows a full chunk that opened as the last is not opened: not what opens as the next chunk, nor what doesn't.

@@ -105,7 +105,7 @@ fn how_a_plaintext_is_cut_into_writes_is_not_seen(rt: HostRuntime) -> Result<(),
 #[test]
 fn the_inner_reader_is_handed_back_as_it_stands(rt: HostRuntime) -> Result<(), Fail> {
     let alloc = rt.alloc();
-    let payload = written(alloc, &plaintext(alloc, 65_537)?, 65_537)?;
+    let payload = written::<BenchSuite>(alloc, &plaintext(alloc, 65_537)?, 65_537)?;
     for (reads, left) in [(0, 65_569), (1, 17)] {
         let bytes = Bytes::new(&payload);
         let mut reader = StreamReader::<BenchSuite, Bytes>::with_payload_key(alloc, KEY, bytes)?;

@@ -1,6 +1,9 @@
-use Rattle.std.proofs.Common.{◌∙◌, refl, ap, subst, IsTrue, List, ℕ, length, take, drop}
+use Rattle.std.proofs.Common.{◌≡◌, ◌∙◌, ◌+◌, refl, sym, ap, subst, IsTrue, List, ℕ, length, take, drop}
+use Rattle.age_io.specs.Stretch.{Stretch, from_place}
+use Rattle.age_io.specs.Reading.{Delivers}
+use Rattle.age_io.proofs.Reaching.{delivered-at}
 use Rattle.std.proofs.lemmas.Result.{on_ok_weaker}
-use Rattle.age_stream.specs.Reader.{tells_of, content_of, steady_of, key_of, payload_of}
+use Rattle.age_stream.specs.Reader.{tells_of, content_of, steady_of, place_of, plain_rest_of, key_of, payload_of}
 use Rattle.age_stream.specs.ReadingLaws.{both-true}
 use Rattle.age_io.proofs.PartCopied.{none-copied}
 use Rattle.age_protocol.proofs.Standing.{standing, standing-none, stand-moved, good-moved, given}
@@ -75,3 +78,24 @@ returns-in-Ok-clause-given g c = λ told writer_told.
     (stand-moved g.S.Suite.seal_of (key_of stream) _ (payload_of stream).bytes _ c.args.place _ _ seek.key (ap (λ s. s.bytes) (seek.payload told)) there (law.stands new_told))
     (λ well. good-moved g.S.Suite.seal_of (key_of stream) _ (payload_of stream) _ c.args.place _ _ seek.key (seek.payload told) there (law.end new_told well)) done)
     (c.copy_some.ensures.part new_told writer_told)
+
+pub returns-in-Ok-clause-stands : goal.returns-in-Ok-clause-stands
+returns-in-Ok-clause-stands g c = λ told well.
+    let stream = c.args.stream.now in
+    let content = content_of stream in
+    let seeks = c.in-Ok.ensures.seeks in
+    let new_told = seeks.same_tells ∙ told in
+    let steady : IsTrue (steady_of stream) = both-true (tells_of stream) content.ends_well told well in
+    let there = seeks.moves told steady in
+    let start = c.in-Ok._start in
+    let rest = ap (λ s. s.bytes) there.1 ∙ ap (λ n. drop n content.bytes) (seeks.leads told) in
+    let new = c.copy_some.new.reader in
+    on_ok_weaker c.copy_some.result
+    (λ gives.
+    let front = take c.args.count (plain_rest_of c.seek.new.self).bytes in
+    let came : Delivers front (from_place start content) (plain_rest_of new) = subst (λ (s : Stretch). Delivers front s (plain_rest_of new)) there.1 (gives.bytes new_told) in
+    let moved : place_of new ≡ start + length front = gives.moves new_told ∙ ap (λ (n : ℕ). n + length front) (seeks.arrives told) in (
+      moved ∙ ap (λ (n : ℕ). n + length front) (seeks.leads told) ∙ ap (λ (l : List ℕ). c.args.place + length (take c.args.count l)) rest,
+      (delivered-at content (plain_rest_of new) start front came).1 ∙ ap (λ (n : ℕ). from_place n content) (sym moved),
+    ))
+    c.copy_some.ensures.stands
