@@ -1,5 +1,5 @@
 -- What carries a file for an identity is decrypted to its plaintext, or refused for want of memory.
-use Rattle.std.proofs.Common.{◌≡◌, ◌∙◌, refl, sym, ap, subst, inl, inr, ℕ, true, List, Some, Ok, Err, arith}
+use Rattle.std.proofs.Common.{◌≡◌, ◌∙◌, refl, sym, ap, subst, inl, inr, ℕ, true, List, [], ◌∷◌, Some, Ok, Err, arith}
 use Rattle.age_error.specs.DecryptErrors.{DecryptRefusal, OutOfMemory, decrypt_refusal, decrypt_of_io}
 use Rattle.age_io.specs.Stretch.{whole, stretch-ext}
 use Rattle.age_armor.specs.Armor.{Carries}
@@ -10,8 +10,10 @@ use Rattle.age_format.specs.Unwrapping.{UnwrapAnswer, Unwraps}
 use Rattle.age_stream.specs.Payload.{Seal, payload, LastIsNoMiddle}
 use Rattle.age_protocol.specs.Answering.{decided}
 use Rattle.age_protocol.specs.File.{BeginsAsFile, IsFileOf, payload_key}
-use Rattle.age_protocol.specs.WholeFiles.{read_of, RefusesRest, RefusesAsked, CarriesFileFor, Refuses}
+use Rattle.age_protocol.specs.Parts.{FirstAnswer, IsFileFor}
+use Rattle.age_protocol.specs.WholeFiles.{read_of, RefusesRest, RefusesAsked, Refuses}
 use Rattle.age_protocol.specs.Laws.{OneHeader, OnePlain, GivesBack, RefusesNone}
+use Rattle.age_protocol.proofs.Alone.{alone_answers}
 use Rattle.age_protocol.proofs.Accepted.{ReadsAlone, HasOneVerdict, front_accepted, reads_back, memory_or_not}
 
 -- a text carries one list
@@ -30,27 +32,28 @@ no_key a e is = absurd (Prim.cc)
 
 module _ {I : Type 0} (seal_of : Seal) (unwraps : I → List StanzaValue → UnwrapAnswer → I → Type 0) where
   pub gives_back : CarriesOne → OneHeader seal_of → OnePlain seal_of → GivesBack seal_of unwraps
-  gives_back one_list one_header one_plain before after file plain given for is =
-      let same : is.carried ≡ for.carried = one_list file is.carried for.carried is.carries for.carries in
-      let got : IsFileOf seal_of is.file_key is.stanzas given for.carried = subst (λ x. IsFileOf seal_of is.file_key is.stanzas given x) same is.is_file in
-      let stanzas : is.stanzas ≡ for.stanzas = one_header is.file_key for.file_key is.stanzas for.stanzas given plain for.carried got for.is_file in
-      elim (for.right (Some (Ok is.file_key)) after (subst (λ s. Unwraps unwraps before s (Some (Ok is.file_key)) after) stanzas is.asked)) [
+  gives_back one_list one_header one_plain before after text file plain given carries for is =
+      let same : is.carried ≡ file = one_list text is.carried file is.carries carries in
+      let got : IsFileOf seal_of is.file_key is.stanzas given file = subst (λ x. IsFileOf seal_of is.file_key is.stanzas given x) same is.is_file in
+      let stanzas : is.stanzas ≡ for.stanzas = one_header is.file_key for.file_key is.stanzas for.stanzas given plain file got for.is_file in
+      elim (for.right (Some (Ok is.file_key)) (alone_answers unwraps before for.stanzas (Some (Ok is.file_key)) after
+      (subst (λ s. Unwraps unwraps before s (Some (Ok is.file_key)) after) stanzas is.asked))) [
         | inl answer ↦
             let key : is.file_key ≡ for.file_key = same_key is.file_key for.file_key answer in
-            one_plain for.file_key is.stanzas for.stanzas given plain for.carried is.bytes for.bytes
-            (subst (λ k. IsFileOf seal_of k is.stanzas given for.carried) key got) for.is_file
+            one_plain for.file_key is.stanzas for.stanzas given plain file is.bytes for.bytes
+            (subst (λ k. IsFileOf seal_of k is.stanzas given file) key got) for.is_file
         | inr none ↦ no_key is.file_key OutOfMemory none
       ]
 
-  module _ (alone : ReadsAlone) (one : HasOneVerdict) (before after : I) (file plain : List ℕ) (refusal : DecryptRefusal)
-      (for : CarriesFileFor seal_of unwraps before file plain) (start_is : read_of file ≡ whole for.carried) where
-    abbrev f : IsFileOf seal_of for.file_key for.stanzas plain for.carried
+  module _ (alone : ReadsAlone) (one : HasOneVerdict) (before after : I) (text file plain : List ℕ) (refusal : DecryptRefusal)
+      (for : IsFileFor seal_of (FirstAnswer unwraps (before ∷ [])) plain file) (start_is : read_of text ≡ whole file) where
+    abbrev f : IsFileOf seal_of for.file_key for.stanzas plain file
     f = for.is_file
 
     abbrev sealed : List ℕ
     sealed = payload seal_of (payload_key for.file_key f.nonce) plain
 
-    begins : BeginsAsFile f.header for.stanzas f.mac f.nonce sealed (read_of file).bytes
+    begins : BeginsAsFile f.header for.stanzas f.mac f.nonce sealed (read_of text).bytes
     begins = record {
       text = f.text;
       rule = f.rule;
@@ -58,17 +61,18 @@ module _ {I : Type 0} (seal_of : Seal) (unwraps : I → List StanzaValue → Unw
       whole = ap (λ s. s.bytes) start_is ∙ f.whole;
     }
 
-    asked_none : RefusesAsked seal_of unwraps before (read_of file) after refusal → refusal ≡ OutOfMemory
+    asked_none : RefusesAsked seal_of unwraps before (read_of text) after refusal → refusal ≡ OutOfMemory
     asked_none asked =
         let h = asked.h in
-        let (stanzas_are, mac_is, covered_is, nonce_is, left, end) = reads_back alone one (read_of file) asked.left 0 asked.place h asked.nonce
+        let (stanzas_are, mac_is, covered_is, nonce_is, left, end) = reads_back alone one (read_of text) asked.left 0 asked.place h asked.nonce
         f.header for.stanzas f.mac f.nonce sealed asked.front begins in
         let right : h.mac ≡ header_mac for.file_key h.covered = mac_is ∙ f.right ∙ ap (λ front. header_mac for.file_key front) (sym covered_is) in
         let key : payload_key for.file_key f.nonce ≡ payload_key for.file_key asked.nonce = ap (λ n. payload_key for.file_key n) (sym nonce_is) in
         let all : asked.left ≡ whole (payload seal_of (payload_key for.file_key asked.nonce) plain) =
         stretch-ext asked.left (whole (payload seal_of (payload_key for.file_key asked.nonce) plain))
         (left ∙ ap (λ k. payload seal_of k plain) key) (end ∙ ap (λ s. s.ends_well) start_is) in
-        elim (for.right asked.answer after (subst (λ s. Unwraps unwraps before s asked.answer after) stanzas_are asked.asked)) [
+        elim (for.right asked.answer (alone_answers unwraps before for.stanzas asked.answer after
+        (subst (λ s. Unwraps unwraps before s asked.answer after) stanzas_are asked.asked))) [
           | inl is ↦ elim (subst (λ a. RefusesRest seal_of (decided a) h asked.nonce asked.left refusal) is asked.why) [
             | inl wrong ↦ absurd (wrong.0 right)
             | inr refuses ↦ elim (memory_or_not refuses.1.error) [
@@ -79,15 +83,15 @@ module _ {I : Type 0} (seal_of : Seal) (unwraps : I → List StanzaValue → Unw
           | inr is ↦ subst (λ a. RefusesRest seal_of (decided a) h asked.nonce asked.left refusal) is asked.why
         ]
 
-    none : Refuses seal_of unwraps before file after refusal → refusal ≡ OutOfMemory
+    none : Refuses seal_of unwraps before text after refusal → refusal ≡ OutOfMemory
     none why = elim why [
       | inl (same, inl memory) ↦ memory
       | inl (same, inr lacks) ↦
-          front_accepted alone one f.header for.stanzas f.mac f.nonce sealed 0 0 (read_of file) lacks.left 0 lacks.place refusal begins
+          front_accepted alone one f.header for.stanzas f.mac f.nonce sealed 0 0 (read_of text) lacks.left 0 lacks.place refusal begins
           (record { same = refl; below = omega arith }) lacks.why
       | inr asked ↦ asked_none asked
     ]
 
   pub refuses_none : ReadsAlone → HasOneVerdict → DeliversCarried → RefusesNone seal_of unwraps
-  refuses_none alone one delivers before after file plain refusal for why =
-      none alone one before after file plain refusal for (ap stretch_of (delivers file for.carried for.carries)) why
+  refuses_none alone one delivers before after text file plain refusal carries for why =
+      none alone one before after text file plain refusal for (ap stretch_of (delivers text file carries)) why

@@ -13,3 +13,5 @@ pub mod Decrypted
 pub mod OpenedFor
 pub mod Parts
 pub mod Standing
+pub mod Alone
+pub mod Belonging

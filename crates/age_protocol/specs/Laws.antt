@@ -1,5 +1,5 @@
 -- The laws of files.
-use Rattle.std.specs.Prelude.{◌≡◌, ℕ, ◌^◌, ◌≤◌, ◌&&◌, Bool, List, length, IsTrue}
+use Rattle.std.specs.Prelude.{◌≡◌, ℕ, ◌^◌, ◌≤◌, ◌&&◌, Bool, List, [], ◌∷◌, length, IsTrue}
 use Rattle.age_error.specs.Bytes.{AreBytes}
 use Rattle.age_error.specs.DecryptErrors.{DecryptRefusal, OutOfMemory}
 use Rattle.age_suite.specs.declared.suite.Suite.{Ghosts as SuiteGhosts}
@@ -16,7 +16,8 @@ use Rattle.age_stream.specs.declared.reader.StreamReader.{StreamReader}
 use Rattle.age_protocol.specs.File.{BeginsAsFile, IsFileOf, payload_key}
 use Rattle.age_protocol.specs.Decrypting.{ReadsFront, RefusesFront}
 use Rattle.age_protocol.specs.OpeningFile.{OpensFile, StandsBefore}
-use Rattle.age_protocol.specs.WholeFiles.{CarriesFileFor, Decrypts, Refuses}
+use Rattle.age_protocol.specs.Parts.{FirstAnswer, IsFileFor}
+use Rattle.age_protocol.specs.WholeFiles.{Decrypts, Refuses}
 
 -- what a decryptor reads from bytes that begin as a file: the header, the nonce, and no byte of what follows
 abbrev pub ReadsBack : Type 0
@@ -64,10 +65,11 @@ CarriesItself seal_of = (file_key : List ℕ) (stanzas : List StanzaValue) (plai
 module _ {I : Type 0} (seal_of : Seal) (unwraps : I → List StanzaValue → UnwrapAnswer → I → Type 0) where
   -- what carries a file for the identity is decrypted to nothing but its plaintext
   abbrev pub GivesBack : Type 0
-  GivesBack = (before after : I) (file plain given : List ℕ)
-      → CarriesFileFor seal_of unwraps before file plain → Decrypts seal_of unwraps before file given after → given ≡ plain
+  GivesBack = (before after : I) (text file plain given : List ℕ) → Carries text file → IsFileFor seal_of (FirstAnswer unwraps (before ∷ [])) plain file
+      → Decrypts seal_of unwraps before text given after → given ≡ plain
 
   -- and refused for want of memory alone
   abbrev pub RefusesNone : Type 0
-  RefusesNone = (before after : I) (file plain : List ℕ) (refusal : DecryptRefusal)
-      → CarriesFileFor seal_of unwraps before file plain → Refuses seal_of unwraps before file after refusal → refusal ≡ OutOfMemory
+  RefusesNone = (before after : I) (text file plain : List ℕ) (refusal : DecryptRefusal) → Carries text file
+      → IsFileFor seal_of (FirstAnswer unwraps (before ∷ [])) plain file
+      → Refuses seal_of unwraps before text after refusal → refusal ≡ OutOfMemory

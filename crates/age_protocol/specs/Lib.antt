@@ -13,4 +13,6 @@ pub mod FileErrors
 pub mod Texts
 pub mod Opened
 pub mod Parts
+pub mod Belonging
+pub mod BelongingLaws
 pub mod Laws

@@ -106,16 +106,3 @@ module _ {I : Type 0} (seal_of : Seal) (unwraps : I → List StanzaValue → Unw
   Refuses before file after refusal =
       ((after ≡ before) × ((refusal ≡ OutOfMemory) ⊎ LacksFront (read_of file) refusal))
       ⊎ RefusesAsked before (read_of file) after refusal
-
-  -- The bytes carry a file of the plaintext whose file key the identity gets, unless it is refused memory.
-  pub record CarriesFileFor (identity : I) (file plain : List ℕ) : Type 0 where
-    pub carried : List ℕ
-    pub carries : Carries file carried
-    pub file_key : List ℕ
-    pub stanzas : List StanzaValue
-    pub is_file : IsFileOf seal_of file_key stanzas plain carried
-    pub bytes : AreBytes plain
-    pub within : length plain ≤ 2 ^ 60
-    pub last : LastIsNoMiddle seal_of (payload_key file_key is_file.nonce) plain
-    pub right : (answer : UnwrapAnswer) (after : I) → Unwraps unwraps identity stanzas answer after
-        → (answer ≡ Some (Ok file_key)) ⊎ (answer ≡ Some (Err OutOfMemory))

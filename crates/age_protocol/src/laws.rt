@@ -3,10 +3,11 @@ ghost use Rattle.std.specs.Prelude.{◌↔◌, IsTrue, List, ℕ};
 ghost use Rattle.std.specs.List.{Contains};
 ghost use Rattle.age_error.specs.Labels.{labels_of};
 ghost use Rattle.age_protocol.specs.Labels.{same_labels};
+ghost use Rattle.age_protocol.specs.Belonging.{HoldAnswers, AnyDecrypts};
 ghost use Rattle.age_protocol.specs.Laws.{ReadsBack, RefusesNoFile, FileOpens, FileIsContent, OneHeader, OnePlain, CarriesItself, GivesBack, RefusesNone};
 
 use age_armor::{carried_is_delivered, carried_is_unique};
-use age_format::{Identity, header_text_reads_back, verdict_is_unique};
+use age_format::{Identity, Recipient, header_text_reads_back, verdict_is_unique};
 use age_io::Read;
 use age_stream::laws::payload_laws;
 use age_suite::mac::mac_laws;
@@ -71,6 +72,17 @@ pub fn carried_files<S: Suite, I: Identity>()
     carried_is_delivered();
     one_plaintext::<S>();
 }
+
+/// Files for several recipients, and the identities that belong to one of them:
+///
+/// - `stanzas`: a file holds the stanzas that each recipient wrapped its file key in, in the recipients' order, and then the
+///   grease, which is left out beside a stanza of a passphrase.
+/// - `any`: it is a file for each identity that belongs to one of the recipients, where those before that one wrap in nothing but
+///   what is strange to the identity. So `decrypt` and `decrypt_all` with that identity alone give its plaintext.
+pub fn several_recipients<S: Suite, T: Recipient, I: Identity>()
+    ensures stanzas { HoldAnswers T.wraps }
+    ensures any { AnyDecrypts T.wraps I.unwraps S.seal_of }
+{}
 
 /// Labels are compared as sets: two sets are the same, by their texts in order, exactly where each has the labels of the
 /// other.

@@ -5,10 +5,11 @@ ghost use Rattle.age_error.specs.Bytes.{AreBytes};
 ghost use Rattle.age_error.specs.declared.io.Error.TheVariants.{TooLong};
 ghost use Rattle.age_error.specs.DecryptErrors.{decrypt_refusal, OutOfMemory};
 ghost use Rattle.age_error.specs.EncryptErrors.{EncryptRefusal, encrypt_refusal};
-ghost use Rattle.age_armor.specs.Armor.{armor};
+ghost use Rattle.age_armor.specs.Armor.{armor, Carries};
 ghost use Rattle.age_protocol.specs.Encrypting.{Prepared, Prepares};
 ghost use Rattle.age_protocol.specs.File.{file_text, IsFileOf};
-ghost use Rattle.age_protocol.specs.WholeFiles.{Encrypts, Decrypts, Refuses, CarriesFileFor};
+ghost use Rattle.age_protocol.specs.Parts.{FirstAnswer, IsFileFor};
+ghost use Rattle.age_protocol.specs.WholeFiles.{Encrypts, Decrypts, Refuses};
 
 use crate::decryptor::Decryptor;
 use crate::encryptor::Encryptor;
@@ -146,7 +147,7 @@ pub fn decrypt<S: Suite, I: Identity>(
     ensures success { IfOk result (λ plain. Decrypts S.seal_of I.unwraps identity.old file.now plain.items identity.new) }
     ensures refused { IfErr result (λ e. Refuses S.seal_of I.unwraps identity.old file.now identity.new (decrypt_refusal e)) }
     // A file whose file key the identity gets is refused for want of memory alone, and gives nothing but its plaintext.
-    ensures honest { (plain : List ℕ) → CarriesFileFor S.seal_of I.unwraps identity.old file.now plain →
+    ensures honest { (carried plain : List ℕ) → Carries file.now carried → IsFileFor S.seal_of (FirstAnswer I.unwraps (identity.old ∷ [])) plain carried →
         MatchResult result (λ given. given.items ≡ plain) (λ e. decrypt_refusal e ≡ OutOfMemory) }
 {
     carried_files::<S, I>();

@@ -1,0 +1,37 @@
+-- Of one identity the first that answers is itself.
+use Rattle.std.proofs.Common.{◌≡◌, ℕ, List, [], ◌∷◌, ◌++◌, Option, Some, None, refl, ap, subst, length, arith}
+use Rattle.age_format.specs.Stanza.{StanzaValue}
+use Rattle.age_format.specs.Unwrapping.{UnwrapAnswer, Unwraps}
+use Rattle.age_protocol.specs.Answering.{Decides, FirstThatAnswers}
+use Rattle.age_protocol.specs.Parts.{FirstAnswer}
+
+module _ {I A : Type 0} (asks : I → Option A → I → Type 0) (one : I) where
+  pub alone : (answer : Option A) (after : I) → asks one answer after → FirstThatAnswers asks (one ∷ []) answer (after ∷ [])
+  alone None after asked = (asked, tt)
+  alone (Some a) after asked = record {
+    passed = [];
+    passed_after = [];
+    decider = one;
+    decider_after = after;
+    later = [];
+    all_before = refl;
+    all_after = refl;
+    none = tt;
+    answers = asked;
+  }
+
+  decider_is : (passed : List I) (decider : I) (later : List I) → Path (List I) (one ∷ []) (passed ++ decider ∷ later) → decider ≡ one
+  decider_is [] decider later is = cc
+  decider_is (p ∷ []) decider later is = absurd (Prim.cc)
+  decider_is (p ∷ q ∷ passed) decider later is = absurd (Prim.cc)
+
+  pub alone_asked : (answer : Option A) (after : List I) → FirstThatAnswers asks (one ∷ []) answer after → (then : I) × asks one answer then
+  alone_asked None [] none = absurd none
+  alone_asked None (then ∷ rest) none = (then, none.0)
+  alone_asked (Some a) after decides =
+      (decides.decider_after, subst (λ i. asks i (Some a) decides.decider_after) (decider_is decides.passed decides.decider decides.later decides.all_before) decides.answers)
+
+pub alone_answers : {I : Type 0} (unwraps : I → List StanzaValue → UnwrapAnswer → I → Type 0) (one : I) (stanzas : List StanzaValue)
+    (answer : UnwrapAnswer) (after : I) → Unwraps unwraps one stanzas answer after → FirstAnswer unwraps (one ∷ []) stanzas answer
+alone_answers unwraps one stanzas answer after asked =
+    (after ∷ [], alone (λ identity own next. Unwraps unwraps identity stanzas own next) one answer after asked)

@@ -1,0 +1,68 @@
+-- Recipients, and the identities that belong to them.
+use Rattle.std.specs.Prelude.{◌≡◌, ◌⊎◌, ℕ, ◌^◌, ◌≤◌, Bool, true, false, List, [], ◌∷◌, ◌++◌, Option, None, Some, Ok, Err, All, IsTrue, length}
+use Rattle.std.specs.List.{AllZip}
+use Rattle.age_error.specs.Bytes.{AreBytes}
+use Rattle.age_error.specs.DecryptErrors.{OutOfMemory}
+use Rattle.age_format.specs.Stanza.{StanzaValue}
+use Rattle.age_format.specs.Wrapping.{WrapAnswer, Wrapped}
+use Rattle.age_format.specs.Unwrapping.{UnwrapAnswer, Unwraps}
+use Rattle.age_stream.specs.Payload.{Seal, LastIsNoMiddle}
+use Rattle.age_protocol.specs.Labels.{has_scrypt}
+use Rattle.age_protocol.specs.Encrypting.{Prepared, Prepares}
+use Rattle.age_protocol.specs.File.{IsFileOf, payload_key}
+use Rattle.age_protocol.specs.Parts.{FirstAnswer, IsFileFor}
+
+-- the stanzas of several answers, in their order
+abbrev pub stanzas_of : List Wrapped → List StanzaValue
+stanzas_of [] = []
+stanzas_of (answer ∷ answers) = answer.stanzas ++ stanzas_of answers
+
+-- the grease, where there is one and no stanza is one of a passphrase
+abbrev pub grease_beside : Bool → Option StanzaValue → List StanzaValue
+grease_beside true grease = []
+grease_beside false None = []
+grease_beside false (Some grease) = grease ∷ []
+
+module _ {R : Type 0} (wraps : R → List ℕ → List ℕ → WrapAnswer → List ℕ → Type 0) where
+  -- the recipient may wrap the file key so
+  abbrev pub MayWrap : List ℕ → R → Wrapped → Type 0
+  MayWrap file_key recipient wrapped = (draws : List ℕ) × (left : List ℕ) × wraps recipient file_key draws (Ok wrapped) left
+
+  -- A file's stanzas are those that the recipients wrapped its file key in, in their order, and then the grease.
+  pub record HoldsAnswers (recipients : List R) (grease : Option StanzaValue) (file : Prepared) : Type 0 where
+    pub sixteen : length file.file_key ≡ 16
+    pub answers : List Wrapped
+    pub each : AllZip (MayWrap file.file_key) recipients answers
+    pub in_order : file.stanzas ≡ stanzas_of answers ++ grease_beside (has_scrypt (stanzas_of answers)) grease
+
+  -- so it is, whatever was drawn
+  abbrev pub HoldAnswers : Type 0
+  HoldAnswers = (recipients : List R) (grease : Option StanzaValue) (draws left : List ℕ) (file : Prepared)
+      → Prepares wraps recipients grease draws (Ok file) left → HoldsAnswers recipients grease file
+
+  -- all stanzas that the recipient wraps a file key in are strange
+  abbrev pub WrapsStrange : (StanzaValue → Bool) → R → Type 0
+  WrapsStrange is_strange recipient =
+      (file_key : List ℕ) (wrapped : Wrapped) → length file_key ≡ 16 → MayWrap file_key recipient wrapped → All (λ s. IsTrue (is_strange s)) wrapped.stanzas
+
+  module _ {I : Type 0} (unwraps : I → List StanzaValue → UnwrapAnswer → I → Type 0) where
+    -- An identity belongs to a recipient: it answers the file key that the recipient wrapped, unless memory is refused, whatever
+    -- stands after the recipient's stanzas, and whatever strange ones stand before them.
+    abbrev pub BelongsTo : (StanzaValue → Bool) → R → I → Type 0
+    BelongsTo is_strange recipient identity =
+        (file_key : List ℕ) (wrapped : Wrapped) (before later : List StanzaValue) (answer : UnwrapAnswer) (after : I)
+        → length file_key ≡ 16 → MayWrap file_key recipient wrapped → All (λ s. IsTrue (is_strange s)) before
+        → Unwraps unwraps identity (before ++ (wrapped.stanzas ++ later)) answer after
+        → (answer ≡ Some (Ok file_key)) ⊎ (answer ≡ Some (Err OutOfMemory))
+
+    -- A file for several recipients is one for each identity that belongs to one of them, where the recipients before that one
+    -- wrap in nothing but what is strange to the identity.
+    abbrev pub AnyDecrypts : Seal → Type 0
+    AnyDecrypts seal_of =
+        (is_strange : StanzaValue → Bool) (front back : List R) (recipient : R) (identity : I)
+        (grease : Option StanzaValue) (draws left : List ℕ) (file : Prepared) (plain text : List ℕ)
+        → All (WrapsStrange is_strange) front → BelongsTo is_strange recipient identity
+        → Prepares wraps (front ++ recipient ∷ back) grease draws (Ok file) left
+        → (is_file : IsFileOf seal_of file.file_key file.stanzas plain text)
+        → AreBytes plain → length plain ≤ 2 ^ 60 → LastIsNoMiddle seal_of (payload_key file.file_key is_file.nonce) plain
+        → IsFileFor seal_of (FirstAnswer unwraps (identity ∷ [])) plain text
