@@ -92,4 +92,6 @@ pub use Rattle.age_protocol.specs.FileErrors
 pub use Rattle.age_protocol.specs.Texts
 pub use Rattle.age_protocol.specs.Opened
 pub use Rattle.age_protocol.specs.Parts
+pub use Rattle.age_protocol.specs.Belonging
+pub use Rattle.age_protocol.specs.BelongingLaws
 pub use Rattle.age_protocol.specs.Laws as FileLaws

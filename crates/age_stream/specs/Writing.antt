@@ -1,5 +1,5 @@
 -- What a `StreamWriter` has taken, and what it sent to its inner writer.
-use Rattle.std.specs.Prelude.{◌≡◌, ◌≢◌, ℕ, zero, suc, ◌+◌, ◌*◌, ◌≤◌, ◌<◌, ◌⊎◌, Bool, true, false, List, [], ◌++◌, length, take, drop, vec_len, Result, IfOk, IfErr, codes}
+use Rattle.std.specs.Prelude.{◌≡◌, ◌≢◌, ℕ, zero, suc, ◌+◌, ◌*◌, ◌^◌, ◌≤◌, ◌<◌, ◌⊎◌, Bool, true, false, List, [], ◌++◌, length, take, drop, vec_len, Result, IfOk, IfErr, OnOk, codes}
 use Rattle.std.specs.Fmt.{decimal}
 use Rattle.age_error.specs.Refusals.{IsDevice}
 use Rattle.age_error.specs.declared.io.Error.{Error}
@@ -87,6 +87,12 @@ abbrev pub Finishes : {S W : Type 0} → Seal → (W → List ℕ → W → Type
 Finishes {S} {W} seal_of inner_appended appended writer result =
     (start : StreamWriter S W) (key plain : List ℕ) (first : W) → WasMade key first start → appended start plain writer
     → IfOk result (inner_appended first (payload seal_of key plain))
+
+-- where a writer was made and took a plaintext since, a success says that the plaintext is within the limit
+abbrev pub StaysWithin : {S W : Type 0} → (StreamWriter S W → List ℕ → StreamWriter S W → Type 0) → StreamWriter S W → Result W Error → Type 0
+StaysWithin {S} {W} appended writer result =
+    (start : StreamWriter S W) (key plain : List ℕ) (first : W) → WasMade key first start → appended start plain writer
+    → OnOk result (length plain ≤ 2 ^ 60)
 
 -- where a writer was made over an inner writer that never answers `TooLong`, this isn't `TooLong` either
 abbrev pub StaysUnlimited : {S W : Type 0} → (W → Bool) → (StreamWriter S W → List ℕ → StreamWriter S W → Type 0)

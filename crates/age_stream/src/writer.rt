@@ -199,17 +199,18 @@ impl<S: Suite, W: Write> StreamWriter<S, W> {
 }
 
 impl<S: Suite, W: Write + Drop> StreamWriter<S, W> {
-    ghost use Rattle.age_stream.specs.Writing.{Finishes, IsFailed, StaysUnlimited, inner_of};
+    ghost use Rattle.age_stream.specs.Writing.{Finishes, IsFailed, StaysWithin, StaysUnlimited, inner_of};
 
     /// Seals what is held as the last chunk, writes it, and hands back the inner writer, which isn't flushed.
     ///
-    /// On success the inner writer was given the payload of the whole plaintext. Where the writer failed before
+    /// On success the inner writer was given the payload of the whole plaintext, which has at most 2^60 bytes. Where the writer failed before
     /// the answer is `Failed`. Else a refusal is that of the inner writer, `WriteZero` where that took no byte, or
     /// `OutOfMemory` where the suite was refused memory for the seal. After a refusal the payload is cut off, and
     /// the inner writer is gone.
     pub fn finish(self) -> Result<W, Error>
         ensures ok { let writer = ⟦<StreamWriter<S, W> as Write>⟧ in
             IsTrue (writer.tells self) → Finishes S.seal_of W.appended writer.appended self result }
+        ensures within { StaysWithin ⟦<StreamWriter<S, W> as Write>⟧.appended self result }
         ensures same_tells { IfOk result (λ inner. W.tells inner ≡ ⟦<StreamWriter<S, W> as Write>⟧.tells self) }
         ensures same_limited { IfOk result (λ inner. W.limited inner ≡ W.limited (inner_of self)) }
         ensures no_fewer_faults { IfOk result (λ inner. ⟦<StreamWriter<S, W> as Write>⟧.faults self ≤ W.faults inner) }
