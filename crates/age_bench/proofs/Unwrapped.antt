@@ -109,15 +109,22 @@ not_bench : (tag args body : Bool) (bytes : List ℕ) → tag ≢ true
 not_bench true args body bytes other = absurd (other refl)
 not_bench false args body bytes other = refl
 
+-- a stanza with another tag is passed over
+pub over_other : (s : StanzaValue) → s.tag ≢ codes "bench" → bench_unwrapped s ≡ None
+over_other s other =
+    not_bench (bytes_eq s.tag (codes "bench")) (nat_eq (length s.args) 0) (nat_eq (length s.body) 16) s.body
+    (λ same. other ((bytes_eq-Decides s.tag (codes "bench")).0 same))
+
+-- and of the stanza of a file key the file key is the answer
+pub of_own : (key : List ℕ) → length key ≡ 16 → bench_unwrapped (bench_stanza key) ≡ Some (Ok key)
+of_own key sixteen = rw sixteen refl
+
 held_after : (passed later : List StanzaValue) (key : List ℕ) → All (λ s. s.tag ≢ codes "bench") passed → length key ≡ 16
     → first_answer bench_unwrapped (passed ++ bench_stanza key ∷ later) ≡ Some (Ok key)
-held_after [] later key others sixteen = rw sixteen refl
+held_after [] later key others sixteen = ap (λ first. option_or first (first_answer bench_unwrapped later)) (of_own key sixteen)
 held_after (p ∷ passed) later key others sixteen =
     let other : p.tag ≢ codes "bench" = All-head (λ s. s.tag ≢ codes "bench") p passed others in
-    let over : bench_unwrapped p ≡ None =
-    not_bench (bytes_eq p.tag (codes "bench")) (nat_eq (length p.args) 0) (nat_eq (length p.body) 16) p.body
-    (λ same. other ((bytes_eq-Decides p.tag (codes "bench")).0 same)) in
-    ap (λ first. option_or first (first_answer bench_unwrapped (passed ++ bench_stanza key ∷ later))) over
+    ap (λ first. option_or first (first_answer bench_unwrapped (passed ++ bench_stanza key ∷ later))) (over_other p other)
     ∙ held_after passed later key (All-tail (λ s. s.tag ≢ codes "bench") p passed others) sixteen
 
 -- the file key of the first bench stanza is the first answer

@@ -68,7 +68,7 @@ short n goes_on draws e left h = elim (short_by n goes_on draws e left (nat_le n
 pub encrypts_weaker : (P Q : EncryptRefusal → Type 0) → ((refusal : EncryptRefusal) → P refusal → Q refusal) → (e : FileError) → EncryptsUnless P e → EncryptsUnless Q e
 encrypts_weaker P Q f (Encrypt e) d = f (encrypt_refusal e) d
 encrypts_weaker P Q f (Io e) d = tt
-encrypts_weaker P Q f (Decrypt e) d = tt
+encrypts_weaker P Q f (Decrypt e) d = d
 
 -- the stanza of the file key, and no labels
 abbrev gathered_by : List ℕ → Gathered

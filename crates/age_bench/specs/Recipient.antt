@@ -1,5 +1,5 @@
 -- What the bench recipient and the bench identity answer.
-use Rattle.std.specs.Prelude.{◌≡◌, ◌≢◌, ℕ, List, [], ◌∷◌, ◌++◌, Option, Some, None, Ok, Err, if◌then◌else◌, length, take, drop, nat_eq, bytes_eq, codes, All}
+use Rattle.std.specs.Prelude.{◌≡◌, ◌≢◌, ℕ, List, [], ◌∷◌, ◌++◌, Option, Some, None, Ok, Err, if◌then◌else◌, length, take, drop, nat_eq, bytes_eq, codes, All, Bool, not}
 use Rattle.std.specs.Option.{option_or}
 use Rattle.age.specs.DecryptErrors.{InvalidHeader}
 use Rattle.age.specs.Stanza.{StanzaValue}
@@ -24,6 +24,10 @@ bench_unwrapped stanza =
     (if nat_eq (length stanza.body) 16 then Some (Ok stanza.body) else Some (Err InvalidHeader))
     else Some (Err InvalidHeader))
     else None
+
+-- a stanza with another tag
+abbrev pub has_other_tag : StanzaValue → Bool
+has_other_tag stanza = not (bytes_eq stanza.tag (codes "bench"))
 
 -- the first answer that isn't None
 abbrev pub first_answer : {X A : Type 0} → (X → Option A) → List X → Option A

@@ -1,13 +1,17 @@
-//! What is true of the files of the bench recipient, for proofs alone: the function here does nothing, and its contract is
+//! What is true of the bench recipient and its files, for proofs alone: the functions here do nothing, and their contracts are
 //! the laws.
+ghost use Rattle.age.specs.Belonging.{BelongsTo};
 ghost use Rattle.age_bench.specs.FileLaws.{IsBenchFile, IsCarried, GivesBack};
+ghost use Rattle.age_bench.specs.Recipient.{has_other_tag};
 
+use crate::recipient::{BenchIdentity, BenchRecipient};
 use crate::suite::BenchSuite;
 use age::armor::laws::{armor_is_carrying, carried_is_unique};
 use age::format::laws::{
     canonical_text_is_text, canonical_text_reads_back, header_text_reads_back, verdict_is_unique,
 };
 use age::stream::laws::{payload_laws, piece_law};
+use age::{Identity, Recipient};
 
 /// What is true of the file that `encrypt_to` appends.
 ///
@@ -28,4 +32,14 @@ pub fn bench_file_laws()
     payload_laws::<BenchSuite>();
     armor_is_carrying();
     carried_is_unique();
+}
+
+/// The bench identity belongs to the bench recipient: it answers the file key that the recipient wrapped, whatever stands after
+/// the recipient's stanza, and whatever stanzas with another tag stand before it. So by `several_recipients` it decrypts each file
+/// that is for the bench recipient too, where no recipient before that one wraps in a stanza with the tag `bench`.
+pub fn bench_pair(recipient: &BenchRecipient, identity: &BenchIdentity)
+    ensures { BelongsTo ⟦<BenchRecipient as Recipient>⟧.wraps ⟦<BenchIdentity as Identity>⟧.unwraps has_other_tag recipient.now identity.now }
+{
+    let _recipient = recipient;
+    let _identity = identity;
 }

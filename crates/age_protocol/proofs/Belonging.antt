@@ -15,7 +15,7 @@ use Rattle.age_protocol.specs.Labels.{Labels, Gathered, nothing_yet, has_scrypt,
 use Rattle.age_protocol.specs.Encrypting.{Prepared, Prepares, PreparesWith, PreparesRest, PreparesNonce, WrapsInTurn, WithDrawn, UnlessNoMemory, Ends, Then, After}
 use Rattle.age_protocol.specs.File.{IsFileOf, payload_key}
 use Rattle.age_protocol.specs.Parts.{FirstAnswer, IsFileFor}
-use Rattle.age_protocol.specs.Belonging.{stanzas_of, grease_beside, MayWrap, HoldsAnswers, HoldAnswers, WrapsStrange, BelongsTo, AnyDecrypts}
+use Rattle.age_protocol.specs.Belonging.{stanzas_of, grease_beside, MayWrap, HoldsAnswers, HoldAnswers, WrapsStrange, AnyDecrypts}
 use Rattle.age_protocol.proofs.Alone.{alone_asked}
 
 no_outcome : {A X : Type 0} (x : A) (e : EncryptRefusal) → Path (Result A EncryptRefusal) (Ok x) (Err e) → X
@@ -172,10 +172,12 @@ module _ {R : Type 0} (wraps : R → List ℕ → List ℕ → WrapAnswer → Li
         )
 
   pub any_decrypts : {I : Type 0} (unwraps : I → List StanzaValue → UnwrapAnswer → I → Type 0) (seal_of : Seal) → AnyDecrypts wraps unwraps seal_of
-  any_decrypts unwraps seal_of is_strange front back recipient identity grease draws left file plain text strange belongs prepares is_file bytes within last =
-      let holds = hold_answers (front ++ recipient ∷ back) grease draws left file prepares in
+  any_decrypts unwraps seal_of recipients identity grease draws left file plain text one prepares is_file bytes within last =
+      let holds = hold_answers recipients grease draws left file prepares in
+      let each : AllZip (MayWrap wraps file.file_key) (one.front ++ one.recipient ∷ one.back) holds.answers =
+      subst (λ l. AllZip (MayWrap wraps file.file_key) l holds.answers) one.all holds.each in
       let (before, wrapped, later, wraps_so, passed, is) =
-      found unwraps is_strange file.file_key front recipient back holds.answers holds.sixteen holds.each strange in
+      found unwraps one.is_strange file.file_key one.front one.recipient one.back holds.answers holds.sixteen each one.strange in
       let rest : List StanzaValue = grease_beside (has_scrypt (stanzas_of holds.answers)) grease in
       let are : file.stanzas ≡ before ++ (wrapped.stanzas ++ (later ++ rest)) =
       holds.in_order ∙ ap (λ l. l ++ rest) is ∙ append_assoc before (wrapped.stanzas ++ later) rest
@@ -189,6 +191,6 @@ module _ {R : Type 0} (wraps : R → List ℕ → List ℕ → WrapAnswer → Li
         last = last;
         right = λ answer asked.
             let (after, own) = alone_asked (λ i a t. Unwraps unwraps i file.stanzas a t) identity answer asked.0 asked.1 in
-            belongs file.file_key wrapped before (later ++ rest) answer after holds.sixteen wraps_so passed
+            one.belongs file.file_key wrapped before (later ++ rest) answer after holds.sixteen wraps_so passed
             (subst (λ l. Unwraps unwraps identity l answer after) are own);
       }

@@ -82,4 +82,4 @@ by_cause f g (inr b) = g b
 pub decrypts_weaker : (P Q : DecryptRefusal → Type 0) → ((refusal : DecryptRefusal) → P refusal → Q refusal) → (e : FileError) → DecryptsUnless P e → DecryptsUnless Q e
 decrypts_weaker P Q f (Decrypt e) d = f (decrypt_refusal e) d
 decrypts_weaker P Q f (Io e) d = tt
-decrypts_weaker P Q f (Encrypt e) d = tt
+decrypts_weaker P Q f (Encrypt e) d = d

@@ -55,14 +55,21 @@ module _ {R : Type 0} (wraps : R → List ℕ → List ℕ → WrapAnswer → Li
         → Unwraps unwraps identity (before ++ (wrapped.stanzas ++ later)) answer after
         → (answer ≡ Some (Ok file_key)) ⊎ (answer ≡ Some (Err OutOfMemory))
 
-    -- A file for several recipients is one for each identity that belongs to one of them, where the recipients before that one
-    -- wrap in nothing but what is strange to the identity.
+    -- It belongs to one of several recipients, and what those before that one wrap is strange to it.
+    pub record BelongsToOne (recipients : List R) (identity : I) : Type 0 where
+      pub is_strange : StanzaValue → Bool
+      pub front : List R
+      pub recipient : R
+      pub back : List R
+      pub all : recipients ≡ front ++ recipient ∷ back
+      pub strange : All (WrapsStrange is_strange) front
+      pub belongs : BelongsTo is_strange recipient identity
+
+    -- A file for several recipients is one for each identity that belongs to one of them.
     abbrev pub AnyDecrypts : Seal → Type 0
     AnyDecrypts seal_of =
-        (is_strange : StanzaValue → Bool) (front back : List R) (recipient : R) (identity : I)
-        (grease : Option StanzaValue) (draws left : List ℕ) (file : Prepared) (plain text : List ℕ)
-        → All (WrapsStrange is_strange) front → BelongsTo is_strange recipient identity
-        → Prepares wraps (front ++ recipient ∷ back) grease draws (Ok file) left
+        (recipients : List R) (identity : I) (grease : Option StanzaValue) (draws left : List ℕ) (file : Prepared) (plain text : List ℕ)
+        → BelongsToOne recipients identity → Prepares wraps recipients grease draws (Ok file) left
         → (is_file : IsFileOf seal_of file.file_key file.stanzas plain text)
         → AreBytes plain → length plain ≤ 2 ^ 60 → LastIsNoMiddle seal_of (payload_key file.file_key is_file.nonce) plain
         → IsFileFor seal_of (FirstAnswer unwraps (identity ∷ [])) plain text

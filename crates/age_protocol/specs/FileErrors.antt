@@ -16,15 +16,22 @@ abbrev pub IsDecryptError : FileError → Type 0
 IsDecryptError (Decrypt e) = Unit {0}
 IsDecryptError other = ⊥
 
--- an error of encryption is one of these refusals
-abbrev pub EncryptsUnless : (EncryptRefusal → Type 0) → FileError → Type 0
-EncryptsUnless IsCause (Encrypt e) = IsCause (encrypt_refusal e)
-EncryptsUnless IsCause other = Unit {0}
+-- the reader or the writer
+abbrev pub IsIoError : FileError → Type 0
+IsIoError (Io e) = Unit {0}
+IsIoError other = ⊥
 
--- an error of decryption is one of these refusals
+-- an error of encryption is one of these refusals, and none is of decryption
+abbrev pub EncryptsUnless : (EncryptRefusal → Type 0) → FileError → Type 0
+EncryptsUnless IsCause (Io e) = Unit {0}
+EncryptsUnless IsCause (Encrypt e) = IsCause (encrypt_refusal e)
+EncryptsUnless IsCause (Decrypt e) = ⊥
+
+-- an error of decryption is one of these refusals, and none is of encryption
 abbrev pub DecryptsUnless : (DecryptRefusal → Type 0) → FileError → Type 0
+DecryptsUnless IsCause (Io e) = Unit {0}
+DecryptsUnless IsCause (Encrypt e) = ⊥
 DecryptsUnless IsCause (Decrypt e) = IsCause (decrypt_refusal e)
-DecryptsUnless IsCause other = Unit {0}
 
 -- the target is past the end, or memory was refused
 abbrev pub IsPastEnd : FileError → Type 0

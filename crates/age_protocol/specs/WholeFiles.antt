@@ -37,10 +37,12 @@ pub record IsWritten (seal_of : Seal) (form : List ℕ → List ℕ) (plain : Li
   pub carries : Carries written (file_text seal_of file.file_key file.stanzas file.nonce plain)
   pub is_file : IsFileOf seal_of file.file_key file.stanzas plain (file_text seal_of file.file_key file.stanzas file.nonce plain)
 
--- Between two states of a writer the file of all that was left of an input was appended, in this form, and the input ended well.
+-- Between two states of a writer the file of all that was left of an input was appended, in this form, and the input ended well,
+-- within the limit.
 -- By the definition that decryptors are proved by it is a file, and the text in either form carries it.
 pub record AppendsFile {W : Type 0} (seal_of : Seal) (appended : W → List ℕ → W → Type 0) (format : Format) (file : Prepared) (input : Stretch) (old new : W) : Type 0 where
   pub ended : IsTrue input.ends_well
+  pub within : length input.bytes ≤ 2 ^ 60
   pub is_file : IsFileOf seal_of file.file_key file.stanzas input.bytes (file_text seal_of file.file_key file.stanzas file.nonce input.bytes)
   pub carries : let text = file_text seal_of file.file_key file.stanzas file.nonce input.bytes in AreBytes input.bytes → Carries (text_of format text) text
   pub out : appended old (text_of format (file_text seal_of file.file_key file.stanzas file.nonce input.bytes)) new

@@ -13,7 +13,7 @@ ghost use Rattle.age_protocol.specs.Encrypting.{Prepared, Prepares};
 ghost use Rattle.age_protocol.specs.File.{IsFileOf, payload_key};
 ghost use Rattle.age_protocol.specs.Answering.{FirstThatAnswers, decided};
 ghost use Rattle.age_protocol.specs.WholeFiles.{AppendsFile};
-ghost use Rattle.age_protocol.specs.FileErrors.{IsEncryptError, IsDecryptError, EncryptsUnless, DecryptsUnless};
+ghost use Rattle.age_protocol.specs.FileErrors.{IsIoError, IsEncryptError, IsDecryptError, EncryptsUnless, DecryptsUnless};
 ghost use Rattle.age_protocol.specs.Texts.{RefusesText, BeginsText, RefusesKey};
 ghost use Rattle.age_protocol.specs.Parts.{FirstAnswer, IsFileFor};
 
@@ -68,7 +68,7 @@ fn write_file<S: Suite, R: Read, W: Write + Drop>(
 ) -> Result<W, FileError>
     ensures file { IsTrue (R.tells reader.old) → IsTrue (W.tells writer) →
         IfOk result (AppendsFile S.seal_of W.appended format encryptor (R.rest reader.old) writer) }
-    ensures later { IfErr result (λ e. IsEncryptError e → ⊥) }
+    ensures io { IfErr result IsIoError }
 {
     files_carry_themselves::<S>();
     armor_is_carrying();

@@ -1,5 +1,5 @@
 -- What a recipient and an identity of one's own answer.
-use Rattle.std.specs.Prelude.{ℕ, List, [], ◌∷◌, Some, None, Ok, Err, if◌then◌else◌, length, nat_eq, bytes_eq, codes}
+use Rattle.std.specs.Prelude.{ℕ, List, [], ◌∷◌, Some, None, Ok, Err, if◌then◌else◌, length, nat_eq, bytes_eq, codes, Bool, not}
 use Rattle.age.specs.DecryptErrors.{InvalidHeader}
 use Rattle.age.specs.Stanza.{StanzaValue}
 use Rattle.age.specs.Wrapping.{Wrapped}
@@ -21,3 +21,7 @@ own_unwrapped stanza =
     (if nat_eq (length stanza.body) 16 then Some (Ok stanza.body) else Some (Err InvalidHeader))
     else Some (Err InvalidHeader))
     else None
+
+-- a stanza with another tag
+abbrev pub has_other_tag : StanzaValue → Bool
+has_other_tag stanza = not (bytes_eq stanza.tag (codes "own"))

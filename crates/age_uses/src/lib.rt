@@ -3,5 +3,6 @@
 
 pub mod own;
 pub mod parts;
+pub mod several;
 pub mod streams;
 pub mod there_and_back;

@@ -5,7 +5,8 @@ ghost use Rattle.age.specs.EncryptErrors.{encrypt_refusal};
 ghost use Rattle.age.specs.EncryptErrors.{OutOfMemory as out_of_memory};
 ghost use Rattle.age.specs.Unwrapping.{FirstOf};
 ghost use Rattle.age.specs.Encrypting.{IsOrNoMemory, Ends};
-ghost use Rattle.age_uses.specs.Own.{own_stanza, own_wrapped, own_unwrapped};
+ghost use Rattle.age.specs.Belonging.{BelongsTo};
+ghost use Rattle.age_uses.specs.Own.{own_stanza, own_wrapped, own_unwrapped, has_other_tag};
 
 use age::draw::Draw;
 use age::format::Stanza;
@@ -70,4 +71,13 @@ impl Identity for OwnIdentity {
             Err(_) => Some(Err(DecryptError::InvalidHeader)),
         }
     }
+}
+
+/// The identity belongs to the recipient: it answers the file key that the recipient wrapped, whatever stands after the recipient's
+/// stanza, and whatever stanzas with another tag stand before it. For proofs alone: it does nothing.
+pub fn own_pair(recipient: &OwnRecipient, identity: &OwnIdentity)
+    ensures { BelongsTo ⟦<OwnRecipient as Recipient>⟧.wraps ⟦<OwnIdentity as Identity>⟧.unwraps has_other_tag recipient.now identity.now }
+{
+    let _recipient = recipient;
+    let _identity = identity;
 }

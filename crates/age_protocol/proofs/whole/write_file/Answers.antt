@@ -34,6 +34,7 @@ returns-clause-file g c = λ reader_told writer_told.
     let nothing : g.W.Write.appended c.in_ok-out.out [] c.flush_retrying.new.writer = flushed.nothing (done.same_tells ∙ sealed_told) in
     record {
       ended = all.0;
+      within = sealed.within _ _ _ _ started.starts.made all.1;
       is_file = started.is_file (g.R.Read.rest c.args.reader.now).bytes;
       carries = λ bytes. carried_by c.args.format text (started.bytes (g.R.Read.rest c.args.reader.now).bytes bytes)
           (λ are. c.files_carry_themselves.ensures _ _ _ text are (started.is_file (g.R.Read.rest c.args.reader.now).bytes)) (λ are. c.armor_is_carrying.ensures.itself text are);
