@@ -1,4 +1,4 @@
--- Words that are no command line, and those behind a name that is known.
+-- Too few words, and words behind a name that is known.
 use Rattle.std.specs.Prelude.{◌≡◌, ◌≢◌, ℕ, ◌-◌, ◌<◌, ◌≤◌, List, [], ◌∷◌, length, get_or, take, drop, map, bytes_eq, codes, Bool, true, false, not, None, refl}
 use Rattle.std.proofs.Common.{◌∙◌, arith, ap, sym, true≢false}
 use Rattle.std.proofs.lemmas.List.{take_all}
@@ -11,13 +11,6 @@ few bytes [] h other = refl
 few bytes (a ∷ []) h other = refl
 few bytes (a ∷ b ∷ []) h other = absurd (other refl)
 few bytes (a ∷ b ∷ c ∷ words) h other = absurd (omega arith)
-
--- three words or more behind a name of no command
-pub other_name : (name second third : List ℕ) (more : List (List ℕ)) → bytes_eq name (codes "at") ≡ false → bytes_eq name (codes "encrypt") ≡ false
-    → parsed (name ∷ second ∷ third ∷ more) ≡ None
-other_name name second third [] not_at not_encrypt = rw not_encrypt refl
-other_name name second third (fourth ∷ []) not_at not_encrypt = rw (not_encrypt, not_at) refl
-other_name name second third (fourth ∷ other ∷ more) not_at not_encrypt = refl
 
 pub not_not : (b : Bool) → false ≡ not b → true ≡ b
 not_not true named = refl

@@ -185,7 +185,7 @@ fn parse_at(with: &str, place: &str, more: &[String]) -> Option<Command>
 }
 
 // A command that hasn't two words.
-#[tactic(auto, using(crate::proofs::Words::few, crate::proofs::Words::other_name))]
+#[tactic(auto, using(crate::proofs::Words::few))]
 fn parse_many(alloc: Global, words: &[String]) -> Result<Option<Command>, AllocError>
     ensures { length words.now ≢ 2 → IfOk result (λ found. option_map command_value found ≡ parsed (map string_bytes words.now)) }
 {
