@@ -35,10 +35,12 @@ macro_rules! retried {
     }};
 }
 
-/// One read that is tried again after an interruption, up to 16 times in a row; after that it answers `Device(Other)`.
+/// A read that is tried again after an interruption, up to 16 times in a row; after that it answers `Device(Other)`. How
+/// often it is tried stands in no clause.
 ///
-/// Otherwise the answer is the last read's, with its bytes in front of `buf` and their count, and so are its errors
-/// and the reader's state after them. It is never `Device(Interrupted)`.
+/// All tries together do what one read may (`reads`): at `Ok(n)` the next n bytes stand in front of `buf`, and 0 is the
+/// clean end; after a refusal the reader stands where it stood and gives the same from there, or has failed. It is never
+/// `Device(Interrupted)` (`patient`).
 pub fn read_retrying<R: Read>(reader: &mut R, buf: &mut [u8]) -> Result<usize, Error>
     requires { 0 < length buf.old }
     ensures reads { Reads R.tells R.steady R.content R.place R.rest R.faults reader.old reader.new buf.new result }
@@ -47,10 +49,11 @@ pub fn read_retrying<R: Read>(reader: &mut R, buf: &mut [u8]) -> Result<usize, E
     retried!(_try, reader.read(buf))
 }
 
-/// One seek that is tried again after an interruption, up to 16 times in a row; after that it answers `Device(Other)`.
+/// A seek that is tried again after an interruption, up to 16 times in a row; after that it answers `Device(Other)`. How
+/// often it is tried stands in no clause.
 ///
-/// Otherwise the answer is the last seek's, and so are its refusals and the reader's state after them. It is never
-/// `Device(Interrupted)`.
+/// All tries together do what one seek may (`seeks`): at `Ok(n)` the reader stands at n, and after a refusal where it
+/// stood. It is never `Device(Interrupted)` (`patient`).
 pub fn seek_retrying<R: Seek>(reader: &mut R, to: SeekFrom) -> Result<u64, Error>
     ensures seeks { Seeks R.tells R.steady R.content R.place R.rest R.faults reader.old reader.new to result }
     ensures patient { IfErr result (λ e. IsInterruption e → ⊥) }
@@ -58,10 +61,11 @@ pub fn seek_retrying<R: Seek>(reader: &mut R, to: SeekFrom) -> Result<u64, Error
     retried!(_try, reader.seek(to))
 }
 
-/// One write that is tried again after an interruption, up to 16 times in a row; after that it answers `Device(Other)`.
+/// A write that is tried again after an interruption, up to 16 times in a row; after that it answers `Device(Other)`. How
+/// often it is tried stands in no clause.
 ///
-/// Otherwise the answer is the last write's: how many bytes it took, from the front. After a refusal nothing was
-/// appended. It is never `Device(Interrupted)`.
+/// All tries together do what one write may (`writes`): at `Ok(n)` the first n bytes were appended, and after a refusal
+/// nothing was. It is never `Device(Interrupted)` (`patient`).
 pub fn write_retrying<W: Write>(writer: &mut W, bytes: &[u8]) -> Result<usize, Error>
     ensures writes { Writes W.tells W.limited W.faults W.appended writer.old writer.new bytes.now result }
     ensures patient { IfErr result (λ e. IsInterruption e → ⊥) }
@@ -69,9 +73,11 @@ pub fn write_retrying<W: Write>(writer: &mut W, bytes: &[u8]) -> Result<usize, E
     retried!(_try, writer.write(bytes))
 }
 
-/// One flush that is tried again after an interruption, up to 16 times in a row; after that it answers `Device(Other)`.
+/// A flush that is tried again after an interruption, up to 16 times in a row; after that it answers `Device(Other)`. How
+/// often it is tried stands in no clause.
 ///
-/// Otherwise the answer is the last flush's. It appends nothing, and is never `Device(Interrupted)`.
+/// All tries together do what one flush may (`flushes`): they append nothing. It is never `Device(Interrupted)`
+/// (`patient`).
 pub fn flush_retrying<W: Write>(writer: &mut W) -> Result<(), Error>
     ensures flushes { Flushes W.tells W.limited W.faults W.appended writer.old writer.new result }
     ensures patient { IfErr result (λ e. IsInterruption e → ⊥) }

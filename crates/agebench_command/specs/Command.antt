@@ -56,43 +56,27 @@ to_of word = if bytes_eq word (codes "bench") then Some to.Bench else None
 abbrev pub with_of : List ℕ → Option With
 with_of word = if bytes_eq word (codes "bench") then Some with_.Bench else None
 
--- the command of this name with this key
-abbrev pub named : List ℕ → List ℕ → Option CommandValue
-named name key =
-    if bytes_eq name (codes "seal") then Some (Seal key)
-    else if bytes_eq name (codes "open") then Some (Open key)
-    else None
+-- `encrypt`, where TO and DRAW are such words
+abbrev pub encryption : Option To → Option (List ℕ) → Format → Option CommandValue
+encryption to draw format = option_and_then (λ t. option_map (λ bytes. Encrypt t bytes format) draw) to
 
--- `decrypt WITH`, `seal KEY` and `open KEY`
-abbrev pub two_words : List ℕ → List ℕ → Option CommandValue
-two_words name word =
-    if bytes_eq name (codes "decrypt") then option_map Decrypt (with_of word) else option_and_then (named name) (key_of word)
+-- `at`, where WITH, PLACE and COUNT are such words
+abbrev pub part : Option With → Option ℕ → Option ℕ → Option CommandValue
+part with_ place count = option_and_then (λ w. option_and_then (λ p. option_map (λ c. At w p c) count) place) with_
 
--- `encrypt TO DRAW`, in this form
-abbrev pub encrypt_of : List ℕ → List ℕ → Format → Option CommandValue
-encrypt_of to draw format = option_and_then (λ t. option_map (λ bytes. Encrypt t bytes format) (bytes_of draw)) (to_of to)
-
--- the form that the words after DRAW ask for: no words, or `armor`
-abbrev pub format_of : List (List ℕ) → Option Format
-format_of [] = Some Binary
-format_of (word ∷ []) = if bytes_eq word (codes "armor") then Some AsciiArmor else None
-format_of (word ∷ other ∷ words) = None
-
--- `at WITH PLACE COUNT`, where these words come after PLACE
-abbrev pub at_of : List ℕ → List ℕ → List (List ℕ) → Option CommandValue
-at_of with_ place [] = None
-at_of with_ place (count ∷ []) =
-    option_and_then (λ w. option_and_then (λ p. option_map (λ c. At w p c) (number_of count)) (number_of place)) (with_of with_)
-at_of with_ place (count ∷ other ∷ words) = None
-
--- `at WITH PLACE COUNT`, `encrypt TO DRAW` and `encrypt TO DRAW armor`
-abbrev pub many_words : List (List ℕ) → Option CommandValue
-many_words (name ∷ second ∷ third ∷ more) =
-    if bytes_eq name (codes "at") then at_of second third more
-    else if bytes_eq name (codes "encrypt") then option_and_then (encrypt_of second third) (format_of more)
-    else None
-many_words words = None
-
+-- The command lines, by how many words they have: `seal KEY`, `open KEY`, `decrypt WITH`, `encrypt TO DRAW`, `encrypt TO DRAW armor` and
+-- `at WITH PLACE COUNT`. All else is no command line.
 abbrev pub parsed : List (List ℕ) → Option CommandValue
-parsed (name ∷ word ∷ []) = two_words name word
-parsed words = many_words words
+parsed (name ∷ word ∷ []) =
+    if bytes_eq name (codes "seal") then option_map Seal (key_of word)
+    else if bytes_eq name (codes "open") then option_map Open (key_of word)
+    else if bytes_eq name (codes "decrypt") then option_map Decrypt (with_of word)
+    else None
+parsed (name ∷ to ∷ draw ∷ []) =
+    if bytes_eq name (codes "encrypt") then encryption (to_of to) (bytes_of draw) Binary
+    else None
+parsed (name ∷ second ∷ third ∷ fourth ∷ []) =
+    if bytes_eq name (codes "encrypt") && bytes_eq fourth (codes "armor") then encryption (to_of second) (bytes_of third) AsciiArmor
+    else if bytes_eq name (codes "at") then part (with_of second) (number_of third) (number_of fourth)
+    else None
+parsed words = None

@@ -1,7 +1,8 @@
 //! What the words of a command line ask for.
 
-ghost use Rattle.std.specs.Prelude.{◌≡◌, ◌<◌, map, string_bytes, vec_items, IfOk, IfSome, option_map};
-ghost use Rattle.agebench_command.specs.Command.{at_of, bytes_of, byte_of, command_value, digit_of, encrypt_of, format_of, key_of, many_words, named, parsed, to_of, two_words, with_of};
+ghost use Rattle.std.specs.Prelude.{◌≡◌, ◌≢◌, ◌<◌, ℕ, List, [], ◌∷◌, length, map, string_bytes, vec_items, bytes_eq, codes, if◌then◌else◌, Some, None, IfOk, IfSome, option_map};
+ghost use Rattle.std.specs.Option.{option_and_then};
+ghost use Rattle.agebench_command.specs.Command.{Seal, Open, bytes_of, byte_of, command_value, digit_of, encryption, key_of, parsed, to_of, with_of};
 
 use crate::names::{To, With};
 use crate::number::parse_number;
@@ -113,7 +114,8 @@ fn parse_with(word: &str) -> Option<With>
 
 // The command of this name with this key.
 fn named(name: &str, key: [u8; 32]) -> Option<Command>
-    ensures { option_map command_value result ≡ named name.now key }
+    ensures { option_map command_value result ≡ (if bytes_eq name.now (codes "seal") then Some (Seal key)
+        else if bytes_eq name.now (codes "open") then Some (Open key) else None) }
 {
     match name {
         "seal" => Some(Command::Seal { key }),
@@ -124,7 +126,7 @@ fn named(name: &str, key: [u8; 32]) -> Option<Command>
 
 // `decrypt WITH`, `seal KEY` and `open KEY`.
 fn parse_two(alloc: Global, name: &str, word: &str) -> Result<Option<Command>, AllocError>
-    ensures { IfOk result (λ found. option_map command_value found ≡ two_words name.now word.now) }
+    ensures { IfOk result (λ found. option_map command_value found ≡ parsed (name.now ∷ word.now ∷ [])) }
 {
     if name == "decrypt" {
         return Ok(parse_with(word).map(|with| Command::Decrypt { with }));
@@ -135,9 +137,10 @@ fn parse_two(alloc: Global, name: &str, word: &str) -> Result<Option<Command>, A
     }
 }
 
-// The form that the words after DRAW ask for: none of them for the bytes themselves, `armor` for armor.
+// The form that the words after `encrypt TO DRAW` ask for: none of them for the bytes themselves, `armor` for armor.
 fn parse_format(words: &[String]) -> Option<Format>
-    ensures { result ≡ format_of (map string_bytes words.now) }
+    ensures { (to draw : List ℕ) → parsed (codes "encrypt" ∷ to ∷ draw ∷ map string_bytes words.now)
+        ≡ option_and_then (encryption (to_of to) (bytes_of draw)) result }
 {
     let Some((word, more)) = words.split_first() else {
         return Some(Format::Binary);
@@ -156,7 +159,7 @@ fn parse_encrypt(
     draw: &str,
     format: Format,
 ) -> Result<Option<Command>, AllocError>
-    ensures { IfOk result (λ found. option_map command_value found ≡ encrypt_of to.now draw.now format) }
+    ensures { IfOk result (λ found. option_map command_value found ≡ encryption (to_of to.now) (bytes_of draw.now) format) }
 {
     let Some(to) = parse_to(to) else {
         return Ok(None);
@@ -167,7 +170,7 @@ fn parse_encrypt(
 
 // `at WITH PLACE COUNT`.
 fn parse_at(with: &str, place: &str, more: &[String]) -> Option<Command>
-    ensures { option_map command_value result ≡ at_of with.now place.now (map string_bytes more.now) }
+    ensures { option_map command_value result ≡ parsed (codes "at" ∷ with.now ∷ place.now ∷ map string_bytes more.now) }
 {
     let Some((count, rest)) = more.split_first() else {
         return None;
@@ -181,10 +184,10 @@ fn parse_at(with: &str, place: &str, more: &[String]) -> Option<Command>
     Some(Command::At { with, place, count })
 }
 
-// A command of three words or more.
-#[tactic(auto, using(crate::proofs::Words::few_of_many))]
+// A command that hasn't two words.
+#[tactic(auto, using(crate::proofs::Words::few))]
 fn parse_many(alloc: Global, words: &[String]) -> Result<Option<Command>, AllocError>
-    ensures { IfOk result (λ found. option_map command_value found ≡ many_words (map string_bytes words.now)) }
+    ensures { length words.now ≢ 2 → IfOk result (λ found. option_map command_value found ≡ parsed (map string_bytes words.now)) }
 {
     let [name, second, third, more @ ..] = words else {
         return Ok(None);
@@ -205,9 +208,9 @@ fn parse_many(alloc: Global, words: &[String]) -> Result<Option<Command>, AllocE
 /// `decrypt WITH` or `at WITH PLACE COUNT`.
 ///
 /// KEY is 64 hexadecimal digits of either case, two a byte, the high digit first, and DRAW so any number of bytes; TO
-/// and WITH are `bench`; PLACE and COUNT are one or more decimal digits, leading zeros among them, of at most 2^64 - 1. `Ok(None)` says that they are no command line of this program. `AllocError` where memory for the
-/// bytes of KEY or DRAW is refused.
-#[tactic(auto, using(crate::proofs::Words::few_of_two, crate::proofs::Words::many_of_two))]
+/// and WITH are `bench`; PLACE and COUNT are one or more decimal digits, leading zeros among them, of at most
+/// 2^64 - 1. `Ok(None)` says that they are no command line of this program. `AllocError` where memory for the bytes of KEY
+/// or DRAW is refused.
 pub fn parse(alloc: Global, words: &[String]) -> Result<Option<Command>, AllocError>
     ensures { IfOk result (λ found. option_map command_value found ≡ parsed (map string_bytes words.now)) }
 {
