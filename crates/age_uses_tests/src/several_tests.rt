@@ -1,6 +1,7 @@
 //! Files to recipients of two kinds, which each kind of identity decrypts alone, over both suites.
 
 use crate::fixtures::{MESSAGE, done, grease};
+use age::armor::Format;
 use age::draw::Draw;
 use age::io::{Bytes, read_to_end, write_all};
 use age::suite::Suite;
@@ -9,6 +10,7 @@ use age_bench::recipient::{BenchIdentity, BenchRecipient};
 use age_bench::suite::BenchSuite;
 use age_try::other_suite::OtherSuite;
 use age_uses::own::{OwnIdentity, OwnRecipient};
+use age_uses::several::opened_by_one;
 use age_uses::there_and_back::there_and_back;
 use std::alloc::Global;
 use std::process::Abort;
@@ -117,4 +119,40 @@ fn comes_back<S: Suite>(rt: &impl Abort, alloc: Global) -> Result<(), Fail> {
 fn the_message_comes_back_from_both_kinds(rt: HostRuntime) -> Result<(), Fail> {
     comes_back::<BenchSuite>(&rt, rt.alloc())?;
     comes_back::<OtherSuite>(&rt, rt.alloc())
+}
+
+// To these recipients in either form, and back by one identity.
+fn one_opens<S: Suite, I: Identity>(
+    rt: &impl Abort,
+    alloc: Global,
+    recipients: &[Box<dyn Recipient>],
+    mut identity: I,
+) -> Result<(), Fail> {
+    for format in [Format::Binary, Format::AsciiArmor] {
+        let mut draw = Draw::new(vec![in alloc; 7; 32]?);
+        let given = done(opened_by_one::<S, Box<dyn Recipient>, I>(
+            alloc,
+            recipients,
+            &mut identity,
+            &mut draw,
+            grease(alloc)?,
+            format,
+            MESSAGE,
+        ))?;
+        assert_eq!(rt; given.as_slice(), MESSAGE);
+    }
+    Ok(())
+}
+
+#[test]
+fn one_identity_opens_what_is_for_both_kinds(rt: HostRuntime) -> Result<(), Fail> {
+    let alloc = rt.alloc();
+    let mut recipients: Vec<Box<dyn Recipient>> = Vec::new(alloc);
+    recipients.push(Box::new(alloc, OwnRecipient)?)?;
+    recipients.push(Box::new(alloc, BenchRecipient)?)?;
+    recipients.push(Box::new(alloc, OwnRecipient)?)?;
+    one_opens::<BenchSuite, BenchIdentity>(&rt, alloc, &recipients, BenchIdentity)?;
+    one_opens::<BenchSuite, OwnIdentity>(&rt, alloc, &recipients, OwnIdentity)?;
+    one_opens::<OtherSuite, BenchIdentity>(&rt, alloc, &recipients, BenchIdentity)?;
+    one_opens::<OtherSuite, OwnIdentity>(&rt, alloc, &recipients, OwnIdentity)
 }
