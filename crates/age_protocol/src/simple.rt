@@ -71,8 +71,9 @@ fn write_armored<S: Suite>(
 /// Encrypts a plaintext to one recipient: the bytes of the whole file (age-encryption.org/v1).
 ///
 /// The random bytes are drawn as by `Encryptor::with_recipients`, and its refusals are those of this call: the recipient's
-/// own is answered as it is. After that `Io(TooLong)` comes only where the plaintext has more than 2^60 bytes, and
-/// `OutOfMemory` where memory is refused. After a refusal `draw` has lost what was taken before it.
+/// own is answered as it is. After that it refuses a plaintext of more than 2^60 bytes as `Io(TooLong)`, and no other one so;
+/// a refusal while the file is written is else want of memory, which tests show and no clause says. After a refusal `draw` has
+/// lost what was taken before it.
 pub fn encrypt<S: Suite, T: Recipient>(
     alloc: Global,
     recipient: &T,
@@ -136,7 +137,8 @@ fn open_file<S: Suite, I: Identity>(
 ///   are. `Io(Armor(..))` where the armor has a fault before the nonce ends.
 /// - the identity's own, `NoMatchingKeys` where it answers `None`, and `InvalidMac` where the header's MAC is wrong under
 ///   its file key.
-/// - `Io` of a fault of the payload, as `StreamReader::read` names it, or of the armor.
+/// - `Io` where what follows the nonce is no payload of a plaintext, or not to its end: a fault of the payload, or of the armor.
+///   By which name is no clause's: it is that of the reader that met it.
 ///
 /// `OutOfMemory` can come at each step. No plaintext is handed out with a refusal.
 pub fn decrypt<S: Suite, I: Identity>(
