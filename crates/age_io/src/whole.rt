@@ -1,5 +1,5 @@
 //! Reads and writes that go on until all is done.
-ghost use Rattle.std.specs.Prelude.{◌≡◌, ◌≢◌, ℕ, ◌+◌, ◌^◌, ◌≤◌, ◌<◌, Bool, IsTrue, List, [], ◌++◌, length, take, vec_len, All, false, IfOk, OnOk, IfErr, OnErr, Ok, Err};
+ghost use Rattle.std.specs.Prelude.{◌≡◌, ◌≢◌, ℕ, ◌+◌, ◌^◌, ◌≤◌, ◌<◌, Bool, IsTrue, List, [], ◌++◌, length, take, vec_len, vec_capacity, All, false, IfOk, OnOk, IfErr, OnErr, Ok, Err};
 ghost use Rattle.age_error.specs.Refusals.{IsDevice, IsInterruption};
 ghost use Rattle.age_error.specs.declared.io.Error.TheVariants.{OutOfMemory, UnexpectedEof};
 ghost use Rattle.age_io.specs.Stretch.{Stretch, IsCleanEnd, IsFault, from_place};
@@ -80,11 +80,27 @@ pub fn read_exact<R: Read>(reader: &mut R, buf: &mut [u8]) -> Result<(), Error>
 // How many bytes `read_to_end` asks for at once.
 const ROOM: usize = 65_536;
 
+// How many bytes, up to `most`, the list takes with the memory that it has. Only a full one asks for more, so the read that
+// finds the end takes none where there is room.
+fn spare(buf: &mut Vec<u8>, most: usize) -> Result<usize, Error>
+    ensures items { buf.new.items ≡ buf.old.items }
+    ensures fits { IfOk result (λ n. vec_len buf.new + n ≤ vec_capacity buf.new) }
+    ensures most { IfOk result (λ n. n ≤ most) }
+    ensures some { 0 < most → IfOk result (λ n. 0 < n) }
+    ensures memory { IfErr result (λ e. e ≡ OutOfMemory) }
+{
+    if buf.len() == buf.capacity() {
+        buf.reserve(most)?;
+    }
+    Ok(most.min(buf.capacity() - buf.len()))
+}
+
 /// Appends the whole rest and answers its length in bytes. A success says that the rest ended well, and the reader
 /// stands at its end.
 ///
 /// A refusal is that of the read that met it, or `OutOfMemory` where the list can't grow. What was delivered before it
-/// is appended, and no byte is lost. An interruption is tried again as in `read_retrying`.
+/// is appended, and no byte is lost: the list is asked to grow before a read, and only where it is full. An interruption is
+/// tried again as in `read_retrying`.
 pub fn read_to_end<R: Read>(
     alloc: Global,
     reader: &mut R,
@@ -112,12 +128,13 @@ pub fn read_to_end<R: Read>(
     let mut room = room_for(alloc, ROOM)?;
     let start = buf.len();
     'reads: loop {
-        buf.reserve(room.len())?;
-        let count = read_retrying(reader, &mut room)?;
+        let wanted = spare(buf, room.len())?;
+        let part = &mut room[..wanted];
+        let count = read_retrying(reader, part)?;
         if count == 0 {
             return Ok(buf.len() - start);
         }
-        buf.extend_from_slice(&room[..count])?;
+        buf.extend_from_slice(&part[..count])?;
     }
 }
 

@@ -1,6 +1,26 @@
 use Rattle.age_io.proofs.Appending.{OnErr-of}
-use Rattle.age_io.proofs.Delivering.{Appended-none}
+use Rattle.std.proofs.Common.{arith, ap, take, ◌++◌, ◌∙◌}
+use Rattle.std.proofs.lemmas.Grind.{common_steps}
+use Rattle.age_io.proofs.Delivering.{Appended-none, Grown-more}
 use Rattle.age_io.proofs.whole.read_to_end.Goals as goal
 
 pub returns-in_err-room-clause-err : goal.returns-in_err-room-clause-err
 returns-in_err-room-clause-err g c = λ told. OnErr-of c.from_residual.result (Appended-none (g.R.Read.rest c.args.reader.now) c.args.buf.now.items)
+
+pub reads-preserved : goal.reads-preserved
+reads-preserved g c =
+    let before = c.reads.invariant in
+    let reads = c.in_ok-count.ensures.reads in
+    let spare = c.in_ok-wanted.ensures in
+    let extended = c.in_ok-extend_from_slice.ensures in
+    record {
+      same_tells = reads.same_tells ∙ before.same_tells;
+      same_steady = reads.same_steady ∙ before.same_steady;
+      no_fewer_faults = omega (arith, before.no_fewer_faults, reads.no_fewer_faults);
+      same_content = λ told. reads.same_content (before.same_tells ∙ told) ∙ before.same_content told;
+      some_room = before.some_room;
+      start = before.start;
+      longer = grind (arith, common_steps, before.longer);
+      moved = λ told. grind (arith, common_steps, before.moved told, reads.moves (before.same_tells ∙ told));
+      so_far = λ told. Grown-more _ _ _ _ _ _ _ (before.so_far told) (reads.bytes (before.same_tells ∙ told)) (extended.items ∙ ap (λ l. l ++ take c.in_ok-count.count c.read_retrying.new.buf) spare.items);
+    }
