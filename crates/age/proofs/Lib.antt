@@ -13,5 +13,6 @@ pub use Rattle.age_protocol.proofs.Opened
 pub use Rattle.age_protocol.proofs.OneFile
 pub use Rattle.age_protocol.proofs.Files
 pub use Rattle.age_protocol.proofs.Decrypted
+pub use Rattle.age_protocol.proofs.DecryptingStreams
 pub use Rattle.age_protocol.proofs.OpenedFor
 pub use Rattle.age_protocol.proofs.Standing

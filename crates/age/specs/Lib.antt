@@ -90,6 +90,7 @@ pub use Rattle.age_protocol.specs.OpeningFile
 pub use Rattle.age_protocol.specs.WholeFiles
 pub use Rattle.age_protocol.specs.FileErrors
 pub use Rattle.age_protocol.specs.Texts
+pub use Rattle.age_protocol.specs.DecryptingStreams
 pub use Rattle.age_protocol.specs.Opened
 pub use Rattle.age_protocol.specs.Parts
 pub use Rattle.age_protocol.specs.Belonging

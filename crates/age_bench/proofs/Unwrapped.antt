@@ -1,19 +1,16 @@
 -- What the one bench identity answers.
-use Rattle.std.specs.Prelude.{◌≡◌, ◌≢◌, ◌⊎◌, ℕ, Bool, true, false, List, [], ◌∷◌, ◌++◌, All, length, nat_eq, bytes_eq, codes, if◌then◌else◌, Option, Some, None, Ok, Err, refl}
+use Rattle.std.specs.Prelude.{◌≡◌, ◌≢◌, ℕ, Bool, true, false, List, [], ◌∷◌, ◌++◌, All, length, nat_eq, bytes_eq, codes, if◌then◌else◌, Option, Some, None, Ok, Err, refl}
 use Rattle.std.specs.Option.{option_or}
-use Rattle.std.proofs.Common.{◌∙◌, sym, ap, subst, inl, inr}
+use Rattle.std.proofs.Common.{◌∙◌, sym, ap, inl, inr}
 use Rattle.std.proofs.lemmas.Bool.{eqb-true, false≢true}
 use Rattle.std.proofs.lemmas.List.{nil_from_length}
 use Rattle.std.proofs.lemmas.List.Elements.{All-nil, All-cons, All-head, All-tail}
 use Rattle.std.proofs.lemmas.Option.{none-some}
 use Rattle.std.proofs.lemmas.Slice.Eq.{bytes_eq-Decides}
-use Rattle.age.specs.DecryptErrors.{DecryptRefusal, InvalidHeader}
-use Rattle.age.specs.Stretch.{Stretch}
-use Rattle.age.specs.HeaderV1.{HeaderValue}
+use Rattle.age.specs.DecryptErrors.{InvalidHeader}
 use Rattle.age.specs.Stanza.{StanzaValue}
 use Rattle.age.specs.Unwrapping.{UnwrapAnswer, FirstOf, Then, Unwraps}
-use Rattle.age.specs.Answering.{Decides, FirstThatAnswers, decided}
-use Rattle.age.specs.Texts.{RefusesKey}
+use Rattle.age.specs.Answering.{Decides, FirstThatAnswers}
 use Rattle.age_bench.specs.Recipient.{bench_stanza, bench_unwrapped, first_answer, bench_answer, HoldsBenchKey}
 
 -- ---- one who answers to each stanza by itself
@@ -164,13 +161,3 @@ module _ {S : Type 0} where
   pub one_answers : (one : S) (stanzas : List StanzaValue) (answer : UnwrapAnswer) (after : List S)
       → FirstThatAnswers (λ identity own next. Unwraps BenchUnwraps identity stanzas own next) (one ∷ []) answer after → answer ≡ bench_answer stanzas
   one_answers = first_of_one bench_unwrapped BenchUnwraps by_stanza
-
-  -- and so is why it is refused by what was answered
-  pub one_refuses : (Text : DecryptRefusal → Type 0) (begins : HeaderValue → List ℕ → Stretch → Type 0) (one : S) (after : List S) (refusal : DecryptRefusal)
-      → Text refusal ⊎ ((h : HeaderValue) × (nonce : List ℕ) × (left : Stretch) × (answer : UnwrapAnswer) × begins h nonce left
-      × FirstThatAnswers (λ identity own next. Unwraps BenchUnwraps identity h.stanzas own next) (one ∷ []) answer after
-      × RefusesKey (decided answer) h refusal)
-      → Text refusal ⊎ ((h : HeaderValue) × (nonce : List ℕ) × (left : Stretch) × begins h nonce left × RefusesKey (decided (bench_answer h.stanzas)) h refusal)
-  one_refuses Text begins one after refusal (inl text) = inl text
-  one_refuses Text begins one after refusal (inr (h, nonce, left, answer, begun, first, why)) =
-      inr (h, nonce, left, begun, subst (λ (a : UnwrapAnswer). RefusesKey (decided a) h refusal) (one_answers one h.stanzas answer after first) why)

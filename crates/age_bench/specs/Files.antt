@@ -1,11 +1,9 @@
--- Files for the bench identity, and parts of their plaintexts.
+-- Files for the bench identity.
 use Rattle.std.specs.Prelude.{ℕ, ◌^◌, ◌≤◌, List, length}
 use Rattle.age.specs.Bytes.{AreBytes}
 use Rattle.age.specs.Stanza.{StanzaValue}
-use Rattle.age.specs.Stretch.{Stretch}
 use Rattle.age.specs.Payload.{LastIsNoMiddle}
 use Rattle.age.specs.File.{IsFileOf, payload_key}
-use Rattle.age.specs.Parts as parts
 use Rattle.age_bench.specs.Bench.{bench_seal}
 use Rattle.age_bench.specs.Recipient.{HoldsBenchKey}
 
@@ -18,10 +16,3 @@ pub record IsFileForBench (plain text : List ℕ) : Type 0 where
   pub within : length plain ≤ 2 ^ 60
   pub last : LastIsNoMiddle bench_seal (payload_key file_key is_file.nonce) plain
   pub holds : HoldsBenchKey file_key stanzas
-
--- parts of a payload of the bench suite
-abbrev pub StandsAt : ℕ → List ℕ → Stretch → List ℕ → Type 0
-StandsAt = parts.StandsAt bench_seal
-
-abbrev pub IsPartAt : ℕ → ℕ → List ℕ → Stretch → List ℕ → Type 0
-IsPartAt = parts.IsPartAt bench_seal

@@ -1,19 +1,9 @@
 //! The commands on whole files.
-ghost use Rattle.std.specs.Prelude.{◌≡◌, ◌<◌, ◌≤◌, ℕ, length, IsTrue, ◌&&◌, List, ◌⊎◌, IfOk, OnOk, IfErr};
-ghost use Rattle.age.specs.File.{IsFileOf, payload_key};
-ghost use Rattle.age.specs.Answering.{decided};
-ghost use Rattle.age.specs.Armor.{Carries};
+ghost use Rattle.std.specs.Prelude.{◌≡◌, ◌<◌, ◌≤◌, length, IsTrue, ◌⊎◌, IfOk, OnOk, IfErr};
 ghost use Rattle.age.specs.ArmorWriting.{text_of};
-ghost use Rattle.age.specs.HeaderV1.{HeaderValue, header_mac};
-ghost use Rattle.age.specs.Stanza.{StanzaValue};
-ghost use Rattle.age.specs.Stretch.{Stretch};
-ghost use Rattle.age.specs.Chunks.{delivered};
-ghost use Rattle.age_bench.specs.Bench.{bench_seal, bench_opened};
-ghost use Rattle.age.specs.Copying.{AppendsFront};
+ghost use Rattle.age.specs.DecryptingStreams.{DecryptsAll};
 ghost use Rattle.age.specs.EncryptErrors.{encrypt_refusal, OutOfMemory, ShortRandom};
-ghost use Rattle.age.specs.DecryptErrors as decrypt;
-ghost use Rattle.age.specs.FileErrors.{IsEncryptError, IsDecryptError, EncryptsUnless, DecryptsUnless};
-ghost use Rattle.age.specs.Texts.{RefusesText, BeginsText, RefusesKey};
+ghost use Rattle.age.specs.FileErrors.{IsEncryptError, EncryptsUnless};
 ghost use Rattle.age_bench.specs.Files.{IsFileForBench};
 ghost use Rattle.age_bench.specs.Recipient.{bench_grease, bench_file, bench_answer, HoldsBenchKey};
 
@@ -25,6 +15,7 @@ use age::draw::Draw;
 use age::format::{Grease, Stanza};
 use age::io::{Read, Write};
 use age::streaming::{FileError, decrypt_all, encrypt_all};
+use age::suite::Suite;
 use agebench_command::names::{To, With};
 use std::alloc::Global;
 
@@ -87,30 +78,8 @@ pub fn decrypt_with<R: Read, W: Write>(
     reader: &mut R,
     writer: &mut W,
 ) -> Result<(), FileError>
-    ensures file { IsTrue (R.tells reader.old && R.steady reader.old) → IsTrue (W.tells writer.old) → OnOk result
-        ((file_key : List ℕ) × (stanzas : List StanzaValue) × (plain : List ℕ) × (bytes : List ℕ)
-        × HoldsBenchKey file_key stanzas
-        × IsTrue (R.rest reader.old).ends_well
-        × Carries (R.rest reader.old).bytes bytes
-        × IsFileOf bench_seal file_key stanzas plain bytes
-        × W.appended writer.old plain writer.new) }
-    ensures refused { IfErr result (λ e. IsDecryptError e → writer.new ≡ writer.old) }
-    ensures why { IfErr result (λ e. DecryptsUnless (λ refusal.
-        ((last : R) × RefusesText R.tells R.rest R.faults reader.old last refusal)
-        ⊎ ((h : HeaderValue) × (nonce : List ℕ) × (left : Stretch)
-        × BeginsText R.tells R.rest reader.old h nonce left
-        × RefusesKey (decided (bench_answer h.stanzas)) h refusal)) e) }
-    ensures front { IsTrue (R.tells reader.old && R.steady reader.old) → IsTrue (W.tells writer.old) → (writer.new ≡ writer.old)
-        ⊎ ((file_key : List ℕ) × (h : HeaderValue) × (nonce : List ℕ) × (left : Stretch)
-        × BeginsText R.tells R.rest reader.old h nonce left
-        × HoldsBenchKey file_key h.stanzas
-        × (h.mac ≡ header_mac file_key h.covered)
-        × AppendsFront W.appended (delivered bench_opened (payload_key file_key nonce) 0 left).bytes writer.old writer.new) }
-    ensures honest { IsTrue (R.tells reader.old && R.steady reader.old) → IsTrue (R.rest reader.old).ends_well → ((r : R) → R.faults r ≡ 0) →
-        (file plain : List ℕ) → Carries (R.rest reader.old).bytes file → IsFileForBench plain file →
-        IfErr result (DecryptsUnless (λ refusal. refusal ≡ decrypt.OutOfMemory)) }
-    ensures plaintext { IsTrue (R.tells reader.old && R.steady reader.old) → IsTrue (R.rest reader.old).ends_well → IsTrue (W.tells writer.old) →
-        (file plain : List ℕ) → Carries (R.rest reader.old).bytes file → IsFileForBench plain file → AppendsFront W.appended plain writer.old writer.new }
+    ensures { DecryptsAll ⟦<BenchSuite as Suite>⟧ ⟦<R as Read>⟧ ⟦<W as Write>⟧ HoldsBenchKey
+        (λ stanzas answer. answer ≡ bench_answer stanzas) IsFileForBench reader.old writer.old writer.new result }
 {
     match with {
         With::Bench => {

@@ -111,8 +111,7 @@ module _ {R : Type 0} (wraps : R → List ℕ → List ℕ → WrapAnswer → Li
   in_turn file_key so_far (r ∷ rs) draws all left turn =
       let (wrapped, more, wraps_so, grown, next) =
       after_answer file_key so_far r turn.0 all (λ g. WrapsInTurn wraps file_key g rs) draws turn.1 left turn.2 turn.3 in
-      let (answers, each, is) = in_turn file_key more rs turn.1 all left next in
-      (
+      let (answers, each, is) = in_turn file_key more rs turn.1 all left next in (
         wrapped ∷ answers,
         (wraps_so, each),
         is ∙ ap (λ l. l ++ stanzas_of answers) grown ∙ append_assoc so_far.stanzas wrapped.stanzas (stanzas_of answers),
@@ -161,8 +160,7 @@ module _ {R : Type 0} (wraps : R → List ℕ → List ℕ → WrapAnswer → Li
     found file_key (r ∷ front) recipient back [] sixteen each strange = absurd each
     found file_key (r ∷ front) recipient back (a ∷ answers) sixteen each strange =
         let (before, wrapped, later, wraps_so, passed, is) =
-        found file_key front recipient back answers sixteen each.1 (All-tail (WrapsStrange wraps is_strange) r front strange) in
-        (
+        found file_key front recipient back answers sixteen each.1 (All-tail (WrapsStrange wraps is_strange) r front strange) in (
           a.stanzas ++ before,
           wrapped,
           later,

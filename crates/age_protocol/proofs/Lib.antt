@@ -10,6 +10,7 @@ pub mod Carried
 pub mod Opened
 pub mod Reached
 pub mod Decrypted
+pub mod DecryptingStreams
 pub mod OpenedFor
 pub mod Parts
 pub mod Standing

@@ -32,8 +32,7 @@ module _ {I : Type 0} (asks : I → StanzaValue → UnwrapAnswer → I → Type 
   singly before [] answer after h = h
   singly before (s ∷ stanzas) answer after h =
       let (first, between, one, next) = h in
-      let (own, then, asked, ended) = one in
-      (
+      let (own, then, asked, ended) = one in (
         first,
         between,
         one_asked before s own first then between asked ended,
@@ -78,8 +77,8 @@ module _ {I : Type 0} (asks : I → StanzaValue → UnwrapAnswer → I → Type 
           let (first, more, are, own) = opens file_key wrapped sixteen wraps_so in
           let of_own : (answer : UnwrapAnswer) (after : I) → FirstOf asks identity (wrapped.stanzas ++ later) answer after → IsKeyOrWant file_key answer =
           λ a t h.
-              let (one, between, says, next) = rw are at h in
-              first_is file_key (more ++ later) one a between t (own one between says) next in
+          let (one, between, says, next) = rw are at h in
+          first_is file_key (more ++ later) one a between t (own one between says) next in
           elim asked [
             | inl on_list ↦ passed file_key before (wrapped.stanzas ++ later) answer after strange of_own on_list
             | inr in_turn ↦

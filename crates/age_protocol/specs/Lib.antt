@@ -11,6 +11,7 @@ pub mod OpeningFile
 pub mod WholeFiles
 pub mod FileErrors
 pub mod Texts
+pub mod DecryptingStreams
 pub mod Opened
 pub mod Parts
 pub mod Belonging

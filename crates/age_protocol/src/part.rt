@@ -8,12 +8,11 @@ ghost use Rattle.age_io.specs.Reading.{IsQuiet};
 ghost use Rattle.age_io.specs.Copying.{AppendsFront, AppendsSome};
 ghost use Rattle.age_armor.specs.Armor.{Carries};
 ghost use Rattle.age_armor.specs.Delivered.{delivered, stretch_of};
-ghost use Rattle.age_format.specs.Unwrapping.{Unwraps};
 ghost use Rattle.age_stream.specs.Targets.{sought_in};
 ghost use Rattle.age_stream.specs.Reader.{payload_of, key_of};
-ghost use Rattle.age_protocol.specs.Answering.{FirstThatAnswers};
 ghost use Rattle.age_protocol.specs.FileErrors.{IsDecryptError};
-ghost use Rattle.age_protocol.specs.Texts.{BeginsText, Begins};
+ghost use Rattle.age_protocol.specs.DecryptingStreams.{DecryptsPart, GivesFirst};
+ghost use Rattle.age_protocol.specs.Texts.{Begins};
 ghost use Rattle.age_protocol.specs.Parts.{AppendsPart, AppendsOf, StandsAt, IsPartAt, FirstAnswer, IsFileFor};
 
 use crate::error::FileError;
@@ -91,10 +90,10 @@ fn at_bytes<S: Suite, I: Identity, T: Seek + Drop, W: Write>(
         AppendsPart W.appended ((t : T) → T.faults t ≡ 0) place count plain writer.old writer.new result }
     ensures standing { T.rest bytes ≡ from_place (T.place bytes) (T.content bytes) → IsTrue (T.tells bytes && T.steady bytes) → IsTrue (W.tells writer.old) →
         (writer.new ≡ writer.old) ⊎ AppendsOf (Begins (T.rest bytes) (T.place bytes))
-        (λ file_key stanzas. FirstThatAnswers (λ identity answer after. Unwraps I.unwraps identity stanzas answer after) identities.old (Some (Ok file_key)) identities.new)
+        (GivesFirst I.unwraps identities.old identities.new)
         W.appended count (StandsAt S.seal_of place) writer.old writer.new }
     ensures given { T.rest bytes ≡ from_place (T.place bytes) (T.content bytes) → IsTrue (T.tells bytes && T.steady bytes) → IsTrue (W.tells writer.old) → OnOk result (AppendsOf (Begins (T.rest bytes) (T.place bytes))
-        (λ file_key stanzas. FirstThatAnswers (λ identity answer after. Unwraps I.unwraps identity stanzas answer after) identities.old (Some (Ok file_key)) identities.new)
+        (GivesFirst I.unwraps identities.old identities.new)
         W.appended count (IsPartAt S.seal_of place count) writer.old writer.new) }
     ensures refused { IfErr result (λ e. IsDecryptError e → writer.new ≡ writer.old) }
 {
@@ -122,20 +121,8 @@ pub fn at<S: Suite, I: Identity, R: Read, W: Write>(
     reader: &mut R,
     writer: &mut W,
 ) -> Result<(), FileError>
-    ensures cursor { IsTrue (R.tells reader.old) → IsTrue (W.tells writer.old) → IsTrue (R.rest reader.old).ends_well → (file plain : List ℕ) →
-        Carries (R.rest reader.old).bytes file →
-        IsFileFor S.seal_of (FirstAnswer I.unwraps identities.old) plain file →
-        AppendsPart W.appended (IsQuiet (R.faults reader.old) (R.faults reader.new)) place count plain writer.old writer.new result }
-    // On any input: whatever it answers, nothing was appended before the MAC was found to be right, and then what stands in the
-    // plaintext from the place on; and where it succeeds no byte of it is missing.
-    ensures standing { IsTrue (R.tells reader.old) → IsTrue (W.tells writer.old) → (writer.new ≡ writer.old)
-        ⊎ AppendsOf (BeginsText R.tells R.rest reader.old)
-        (λ file_key stanzas. FirstThatAnswers (λ identity answer after. Unwraps I.unwraps identity stanzas answer after) identities.old (Some (Ok file_key)) identities.new)
-        W.appended count (StandsAt S.seal_of place) writer.old writer.new }
-    ensures given { IsTrue (R.tells reader.old) → IsTrue (W.tells writer.old) → OnOk result (AppendsOf (BeginsText R.tells R.rest reader.old)
-        (λ file_key stanzas. FirstThatAnswers (λ identity answer after. Unwraps I.unwraps identity stanzas answer after) identities.old (Some (Ok file_key)) identities.new)
-        W.appended count (IsPartAt S.seal_of place count) writer.old writer.new) }
-    ensures refused { IfErr result (λ e. IsDecryptError e → writer.new ≡ writer.old) }
+    ensures { DecryptsPart ⟦<S as Suite>⟧ ⟦<R as Read>⟧ ⟦<W as Write>⟧ (GivesFirst I.unwraps identities.old identities.new)
+        (IsFileFor S.seal_of (FirstAnswer I.unwraps identities.old)) place count reader.old reader.new writer.old writer.new result }
 {
     let mut text = Vec::new(alloc);
     match read_to_end(alloc, reader, &mut text) {
@@ -157,10 +144,10 @@ fn at_text<S: Suite, I: Identity, W: Write>(
         IsFileFor S.seal_of (FirstAnswer I.unwraps identities.old) plain file →
         AppendsPart W.appended ⊤ place count plain writer.old writer.new result }
     ensures standing { IsTrue (W.tells writer.old) → (writer.new ≡ writer.old) ⊎ AppendsOf (Begins (stretch_of (delivered text.now true)) 0)
-        (λ file_key stanzas. FirstThatAnswers (λ identity answer after. Unwraps I.unwraps identity stanzas answer after) identities.old (Some (Ok file_key)) identities.new)
+        (GivesFirst I.unwraps identities.old identities.new)
         W.appended count (StandsAt S.seal_of place) writer.old writer.new }
     ensures given { IsTrue (W.tells writer.old) → OnOk result (AppendsOf (Begins (stretch_of (delivered text.now true)) 0)
-        (λ file_key stanzas. FirstThatAnswers (λ identity answer after. Unwraps I.unwraps identity stanzas answer after) identities.old (Some (Ok file_key)) identities.new)
+        (GivesFirst I.unwraps identities.old identities.new)
         W.appended count (IsPartAt S.seal_of place count) writer.old writer.new) }
     ensures refused { IfErr result (λ e. IsDecryptError e → writer.new ≡ writer.old) }
 {

@@ -1,20 +1,9 @@
 //! Whole files from a reader to a writer, in flat memory.
-ghost use Rattle.std.specs.Prelude.{◌≡◌, ◌≤◌, ℕ, IsTrue, ◌&&◌, List, Some, Ok, Err, ◌⊎◌, IfOk, OnOk, IfErr};
-ghost use Rattle.age_error.specs.Bytes.{AreBytes};
-ghost use Rattle.age_error.specs.DecryptErrors.{OutOfMemory};
-ghost use Rattle.age_io.specs.Stretch.{Stretch};
-ghost use Rattle.age_io.specs.Copying.{AppendsFront};
-ghost use Rattle.age_armor.specs.Armor.{Carries};
-ghost use Rattle.age_format.specs.HeaderV1.{HeaderValue, header_mac};
-ghost use Rattle.age_format.specs.Stanza.{StanzaValue};
-ghost use Rattle.age_format.specs.Unwrapping.{UnwrapAnswer, Unwraps};
-ghost use Rattle.age_stream.specs.Chunks.{delivered};
+ghost use Rattle.std.specs.Prelude.{◌≡◌, IsTrue, Some, Ok, Err, IfOk, OnOk, IfErr};
 ghost use Rattle.age_protocol.specs.Encrypting.{Prepared, Prepares};
-ghost use Rattle.age_protocol.specs.File.{IsFileOf, payload_key};
-ghost use Rattle.age_protocol.specs.Answering.{FirstThatAnswers, decided};
 ghost use Rattle.age_protocol.specs.WholeFiles.{AppendsFile};
-ghost use Rattle.age_protocol.specs.FileErrors.{IsIoError, IsEncryptError, IsDecryptError, EncryptsUnless, DecryptsUnless};
-ghost use Rattle.age_protocol.specs.Texts.{RefusesText, BeginsText, RefusesKey};
+ghost use Rattle.age_protocol.specs.FileErrors.{IsIoError, IsEncryptError, EncryptsUnless};
+ghost use Rattle.age_protocol.specs.DecryptingStreams.{DecryptsAll, AnswersFirst, GivesFirst};
 ghost use Rattle.age_protocol.specs.Parts.{FirstAnswer, IsFileFor};
 
 use crate::encryptor::Encryptor;
@@ -94,40 +83,9 @@ pub fn decrypt_all<S: Suite, I: Identity, R: Read, W: Write>(
     reader: &mut R,
     writer: &mut W,
 ) -> Result<(), FileError>
-    ensures file { IsTrue (R.tells reader.old && R.steady reader.old) → IsTrue (W.tells writer.old) → OnOk result
-        ((file_key : List ℕ) × (stanzas : List StanzaValue) × (plain : List ℕ) × (bytes : List ℕ)
-        × FirstThatAnswers (λ identity answer after. Unwraps I.unwraps identity stanzas answer after)
-        identities.old (Some (Ok file_key)) identities.new
-        × IsTrue (R.rest reader.old).ends_well
-        × Carries (R.rest reader.old).bytes bytes
-        × IsFileOf S.seal_of file_key stanzas plain bytes
-        × AreBytes plain
-        × W.appended writer.old plain writer.new) }
-    ensures refused { IfErr result (λ e. IsDecryptError e → writer.new ≡ writer.old) }
-    ensures why { IfErr result (λ e. DecryptsUnless (λ refusal.
-        ((last : R) × RefusesText R.tells R.rest R.faults reader.old last refusal)
-        ⊎ ((h : HeaderValue) × (nonce : List ℕ) × (left : Stretch) × (answer : UnwrapAnswer)
-        × BeginsText R.tells R.rest reader.old h nonce left
-        × FirstThatAnswers (λ identity answer after. Unwraps I.unwraps identity h.stanzas answer after)
-        identities.old answer identities.new
-        × RefusesKey (decided answer) h refusal)) e) }
-    // Whatever it answers, nothing was appended before the MAC was found to be right, and then a beginning of what the good
-    // chunks open to.
-    ensures front { IsTrue (R.tells reader.old && R.steady reader.old) → IsTrue (W.tells writer.old) → (writer.new ≡ writer.old)
-        ⊎ ((file_key : List ℕ) × (h : HeaderValue) × (nonce : List ℕ) × (left : Stretch)
-        × BeginsText R.tells R.rest reader.old h nonce left
-        × FirstThatAnswers (λ identity answer after. Unwraps I.unwraps identity h.stanzas answer after)
-        identities.old (Some (Ok file_key)) identities.new
-        × (h.mac ≡ header_mac file_key h.covered)
-        × AppendsFront W.appended (delivered S.opened (payload_key file_key nonce) 0 left).bytes writer.old writer.new) }
-    // A file for the identities is opened unless memory is refused, where the device never fails; and whatever happens, what is
-    // appended is a beginning of its plaintext.
-    ensures honest { IsTrue (R.tells reader.old && R.steady reader.old) → IsTrue (R.rest reader.old).ends_well → ((r : R) → R.faults r ≡ 0) →
-        (file plain : List ℕ) → Carries (R.rest reader.old).bytes file → IsFileFor S.seal_of (FirstAnswer I.unwraps identities.old) plain file →
-        IfErr result (DecryptsUnless (λ refusal. refusal ≡ OutOfMemory)) }
-    ensures plaintext { IsTrue (R.tells reader.old && R.steady reader.old) → IsTrue (R.rest reader.old).ends_well → IsTrue (W.tells writer.old) →
-        (file plain : List ℕ) → Carries (R.rest reader.old).bytes file → IsFileFor S.seal_of (FirstAnswer I.unwraps identities.old) plain file →
-        AppendsFront W.appended plain writer.old writer.new }
+    ensures { DecryptsAll ⟦<S as Suite>⟧ ⟦<R as Read>⟧ ⟦<W as Write>⟧ (GivesFirst I.unwraps identities.old identities.new)
+        (AnswersFirst I.unwraps identities.old identities.new) (IsFileFor S.seal_of (FirstAnswer I.unwraps identities.old))
+        reader.old writer.old writer.new result }
 {
     let text = ArmoredReader::new(alloc, reader)?;
     let mut stream = open_file::<S, I, ArmoredReader<BufReader<&mut R>>>(alloc, identities, text)?;

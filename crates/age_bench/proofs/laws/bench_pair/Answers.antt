@@ -45,9 +45,9 @@ module _ {R I : Type 0} where
       by_stanza Asks Wraps has_other_tag recipient identity
       (λ s answer after strange asked. inl (asked.0 ∙ over_other s (other_tag s strange), asked.1))
       (λ file_key wrapped sixteen wraps_so.
-          let (draws, left, made) = wraps_so in
-          let is : wrapped ≡ bench_wrapped file_key = wraps_one file_key draws left wrapped made in
-          (bench_stanza file_key, [], ap (λ w. w.stanzas) is, λ answer after asked. inl (asked.0 ∙ of_own file_key sixteen)))
+      let (draws, left, made) = wraps_so in
+      let is : wrapped ≡ bench_wrapped file_key = wraps_one file_key draws left wrapped made in
+      (bench_stanza file_key, [], ap (λ w. w.stanzas) is, λ answer after asked. inl (asked.0 ∙ of_own file_key sixteen)))
 
 pub returns : goal.returns
 returns c = pair c.args.recipient.now c.args.identity.now

@@ -7,99 +7,115 @@ use Rattle.age_stream.proofs.Answered.{rest-bytes}
 use Rattle.age_stream.proofs.Standing.{stand-bytes}
 use Rattle.age_protocol.proofs.Fronts.{of_error}
 use Rattle.age_protocol.proofs.Decrypted.{both_told, refuses_text, begins_text, by_cause}
+use Rattle.age_protocol.proofs.DecryptingStreams.{none_done}
 use Rattle.age_io.proofs.PartCopied.{none-copied}
 use Rattle.age_protocol.proofs.Parts.{file_for}
 use Rattle.age_io.specs.Copying.{AppendsFront}
 use Rattle.age_protocol.proofs.whole.decrypt_all.Goals as goal
 
-pub returns-clause-file : goal.returns-clause-file
-returns-clause-file g c = λ reader_told writer_told.
-    let text = c.in_ok-text.ensures in
-    let made = c.in_ok-stream.ensures.opened in
-    let text_told = both_told _ _ _ _ text.tells text.steady reader_told in
-    let told = both_told _ _ _ _ made.asks.same_tells made.asks.same_steady text_told in
-    let copied = c.in_ok-copy_all.ensures.all (made.opens.reader.tells ∙ told) writer_told in
-    let file = made.opens.file told _ _ _ (made.asks.front (and-left _ _ text_told)) (stretch-ext _ (whole _) refl copied.0) in
-    let tells = and-left _ _ reader_told in
-    let reader = c.args.reader.now in
-    let bytes = rest-bytes (g.R.Read.content reader) (g.R.Read.rest reader) (g.R.Read.place reader)
-    (g.met.R.Read.stands reader tells (and-right _ _ reader_told)) (g.met.R.Read.are_bytes reader tells) in
-    let carried = text.carries tells file.0 in
-    let plain_bytes = stand-bytes g.S.Suite.seal_of _ _ _ _ (c.reader_law.ensures.stands (made.opens.reader.tells ∙ told)) in
-    (made.file_key, _, _, _, made.asks.first, carried.0, carried.1 bytes, file.1, plain_bytes, copied.1)
+pub returns-in_err-text : goal.returns-in_err-text
+returns-in_err-text g c =
+    let is = c.from_residual.ensures.1 in
+    record {
+      file = λ reader_told writer_told. none_done _ _ _ is;
+      refused = of_error _ _ _ is (λ none. refl);
+      why = of_error _ _ _ is tt;
+      front = λ reader_told writer_told. inl refl;
+      honest = λ told well never file plain carries for. of_error _ _ _ is tt;
+      plaintext = λ told well writer_told file plain carries for.
+          none-copied g.W.Write.appended _ c.args.writer.now (g.met.W.Write.appends_nothing c.args.writer.now);
+    }
 
-pub returns-in_err-stream-clause-why : goal.returns-in_err-stream-clause-why
-returns-in_err-stream-clause-why g c =
+pub returns-in_err-stream : goal.returns-in_err-stream
+returns-in_err-stream g c =
     let text = c.in_ok-text.ensures in
-    of_error _ _ _ c.from_residual-in_err-stream.ensures.1
-    (by_cause
-    (λ front.
-    let last = front.1.0 in
-    let r_last = (buffered.inner_of (inner_of last)).now in
-    inl (
-      r_last,
-      refuses_text _ _ _ _ _ _ g.R.Read.tells g.R.Read.rest g.R.Read.faults _ last c.args.reader.now r_last _
-          text.tells text.faults refl text.place text.rest front.1.1,
-    ))
-    (λ asked.
-    let (h, nonce, input, answer, asks, why) = asked in
-    inr (h, nonce, _, answer, begins_text g.R.Read.tells g.R.Read.rest c.args.reader.now h nonce _ _ _ _ _ text.tells text.place text.rest asks.front, asks.first, why))
-    c.in_err-stream.ensures.refused)
+    let is = c.from_residual-in_err-stream.ensures.1 in
+    record {
+      file = λ reader_told writer_told. none_done _ _ _ is;
+      refused = of_error _ _ _ is (λ decrypts. refl);
+      why =
+          of_error _ _ _ is
+          (by_cause
+          (λ front.
+          let last = front.1.0 in
+          let r_last = (buffered.inner_of (inner_of last)).now in
+          inl (
+            r_last,
+            refuses_text _ _ _ _ _ _ g.R.Read.tells g.R.Read.rest g.R.Read.faults _ last c.args.reader.now r_last _
+                text.tells text.faults refl text.place text.rest front.1.1,
+          ))
+          (λ asked.
+          let (h, nonce, input, answer, asks, why) = asked in
+          inr (h, nonce, _, answer, begins_text g.R.Read.tells g.R.Read.rest c.args.reader.now h nonce _ _ _ _ _ text.tells text.place text.rest asks.front, asks.first, why))
+          c.in_err-stream.ensures.refused);
+      front = λ reader_told writer_told. inl refl;
+      honest = λ told well never file plain carries for.
+          let rest : armored_rest c.in_ok-text.text ≡ whole file = text.honest file well carries in
+          of_error _ _ _ is
+          (c.in_err-stream.ensures.plaintext (both_told _ _ _ _ text.tells text.steady told) (ap (λ s. s.ends_well) rest) plain
+          (file_for g.S.Suite.seal_of _ plain file (armored_rest c.in_ok-text.text).bytes (sym (ap (λ s. s.bytes) rest)) for) (λ t. never t.source.inner.inner.now));
+      plaintext = λ told well writer_told file plain carries for.
+          none-copied g.W.Write.appended _ c.args.writer.now (g.met.W.Write.appends_nothing c.args.writer.now);
+    }
 
-pub returns-in_err-stream-clause-honest : goal.returns-in_err-stream-clause-honest
-returns-in_err-stream-clause-honest g c = λ told well never file plain carries for.
-    let text = c.in_ok-text.ensures in
-    let rest : armored_rest c.in_ok-text.text ≡ whole file = text.honest file well carries in
-    of_error _ _ _ c.from_residual-in_err-stream.ensures.1
-    (c.in_err-stream.ensures.plaintext (both_told _ _ _ _ text.tells text.steady told) (ap (λ s. s.ends_well) rest) plain
-    (file_for g.S.Suite.seal_of _ plain file (armored_rest c.in_ok-text.text).bytes (sym (ap (λ s. s.bytes) rest)) for) (λ t. never t.source.inner.inner.now))
-
-pub returns-in_err-copy_all-clause-front : goal.returns-in_err-copy_all-clause-front
-returns-in_err-copy_all-clause-front g c = λ reader_told writer_told.
-    let text = c.in_ok-text.ensures in
-    let made = c.in_ok-stream.ensures.opened in
-    let asks = made.asks in
-    let text_told = both_told _ _ _ _ text.tells text.steady reader_told in
-    let told = both_told _ _ _ _ asks.same_tells asks.same_steady text_told in
-    let copied = rw made.opens.reader.rest at (c.in_err-copy_all.ensures.front (made.opens.reader.tells ∙ told) writer_told) in
-    let begins = begins_text g.R.Read.tells g.R.Read.rest c.args.reader.now made.h made.nonce _ _ _ _ _ text.tells text.place text.rest asks.front in
-    inr (made.file_key, made.h, made.nonce, _, begins, asks.first, made.opens.right, copied)
-
-pub returns-clause-front : goal.returns-clause-front
-returns-clause-front g c = λ reader_told writer_told.
+pub returns-in_err-copy_all : goal.returns-in_err-copy_all
+returns-in_err-copy_all g c =
     let text = c.in_ok-text.ensures in
     let made = c.in_ok-stream.ensures.opened in
     let asks = made.asks in
-    let text_told = both_told _ _ _ _ text.tells text.steady reader_told in
-    let told = both_told _ _ _ _ asks.same_tells asks.same_steady text_told in
-    let copied = rw made.opens.reader.rest at (c.in_ok-copy_all.ensures.front (made.opens.reader.tells ∙ told) writer_told) in
-    let begins = begins_text g.R.Read.tells g.R.Read.rest c.args.reader.now made.h made.nonce _ _ _ _ _ text.tells text.place text.rest asks.front in
-    inr (made.file_key, made.h, made.nonce, _, begins, asks.first, made.opens.right, copied)
+    let is = c.from_residual-in_err-copy_all.ensures.1 in
+    record {
+      file = λ reader_told writer_told. none_done _ _ _ is;
+      refused = of_error _ _ _ is (λ none. absurd none);
+      why = of_error _ _ _ is tt;
+      front = λ reader_told writer_told.
+          let text_told = both_told _ _ _ _ text.tells text.steady reader_told in
+          let told = both_told _ _ _ _ asks.same_tells asks.same_steady text_told in
+          let copied = rw made.opens.reader.rest at (c.in_err-copy_all.ensures.front (made.opens.reader.tells ∙ told) writer_told) in
+          let begins = begins_text g.R.Read.tells g.R.Read.rest c.args.reader.now made.h made.nonce _ _ _ _ _ text.tells text.place text.rest asks.front in
+          inr (made.file_key, made.h, made.nonce, _, begins, asks.first, made.opens.right, copied);
+      honest = λ told well never file plain carries for. of_error _ _ _ is tt;
+      plaintext = λ told well writer_told file plain carries for.
+          let rest : armored_rest c.in_ok-text.text ≡ whole file = text.honest file well carries in
+          let text_told = both_told _ _ _ _ text.tells text.steady told in
+          let stands = c.in_ok-stream.ensures.plaintext text_told (ap (λ s. s.ends_well) rest) plain
+          (file_for g.S.Suite.seal_of _ plain file (armored_rest c.in_ok-text.text).bytes (sym (ap (λ s. s.bytes) rest)) for) in
+          subst (λ (s : Stretch). AppendsFront g.W.Write.appended s.bytes c.args.writer.now c.copy_all.new.writer) stands.rest
+          (c.in_err-copy_all.ensures.front (c.in_ok-stream.ensures.tells ∙ text_told) writer_told);
+    }
 
-pub returns-in_err-text-clause-plaintext : goal.returns-in_err-text-clause-plaintext
-returns-in_err-text-clause-plaintext g c = λ told well writer_told file plain carries for.
-    none-copied g.W.Write.appended _ c.args.writer.now (g.met.W.Write.appends_nothing c.args.writer.now)
-
-pub returns-in_err-stream-clause-plaintext : goal.returns-in_err-stream-clause-plaintext
-returns-in_err-stream-clause-plaintext g c = λ told well writer_told file plain carries for.
-    none-copied g.W.Write.appended _ c.args.writer.now (g.met.W.Write.appends_nothing c.args.writer.now)
-
-pub returns-in_err-copy_all-clause-plaintext : goal.returns-in_err-copy_all-clause-plaintext
-returns-in_err-copy_all-clause-plaintext g c = λ told well writer_told file plain carries for.
+pub returns : goal.returns
+returns g c =
     let text = c.in_ok-text.ensures in
-    let rest : armored_rest c.in_ok-text.text ≡ whole file = text.honest file well carries in
-    let text_told = both_told _ _ _ _ text.tells text.steady told in
-    let stands = c.in_ok-stream.ensures.plaintext text_told (ap (λ s. s.ends_well) rest) plain
-    (file_for g.S.Suite.seal_of _ plain file (armored_rest c.in_ok-text.text).bytes (sym (ap (λ s. s.bytes) rest)) for) in
-    subst (λ (s : Stretch). AppendsFront g.W.Write.appended s.bytes c.args.writer.now c.copy_all.new.writer) stands.rest
-    (c.in_err-copy_all.ensures.front (c.in_ok-stream.ensures.tells ∙ text_told) writer_told)
-
-pub returns-clause-plaintext : goal.returns-clause-plaintext
-returns-clause-plaintext g c = λ told well writer_told file plain carries for.
-    let text = c.in_ok-text.ensures in
-    let rest : armored_rest c.in_ok-text.text ≡ whole file = text.honest file well carries in
-    let text_told = both_told _ _ _ _ text.tells text.steady told in
-    let stands = c.in_ok-stream.ensures.plaintext text_told (ap (λ s. s.ends_well) rest) plain
-    (file_for g.S.Suite.seal_of _ plain file (armored_rest c.in_ok-text.text).bytes (sym (ap (λ s. s.bytes) rest)) for) in
-    subst (λ (s : Stretch). AppendsFront g.W.Write.appended s.bytes c.args.writer.now c.copy_all.new.writer) stands.rest
-    (c.in_ok-copy_all.ensures.front (c.in_ok-stream.ensures.tells ∙ text_told) writer_told)
+    let made = c.in_ok-stream.ensures.opened in
+    let asks = made.asks in
+    record {
+      file = λ reader_told writer_told.
+          let text_told = both_told _ _ _ _ text.tells text.steady reader_told in
+          let told = both_told _ _ _ _ asks.same_tells asks.same_steady text_told in
+          let copied = c.in_ok-copy_all.ensures.all (made.opens.reader.tells ∙ told) writer_told in
+          let file = made.opens.file told _ _ _ (asks.front (and-left _ _ text_told)) (stretch-ext _ (whole _) refl copied.0) in
+          let tells = and-left _ _ reader_told in
+          let reader = c.args.reader.now in
+          let bytes = rest-bytes (g.R.Read.content reader) (g.R.Read.rest reader) (g.R.Read.place reader)
+          (g.met.R.Read.stands reader tells (and-right _ _ reader_told)) (g.met.R.Read.are_bytes reader tells) in
+          let carried = text.carries tells file.0 in
+          let plain_bytes = stand-bytes g.S.Suite.seal_of _ _ _ _ (c.reader_law.ensures.stands (made.opens.reader.tells ∙ told)) in
+          (made.file_key, _, _, _, asks.first, carried.0, carried.1 bytes, file.1, plain_bytes, copied.1);
+      refused = tt;
+      why = tt;
+      front = λ reader_told writer_told.
+          let text_told = both_told _ _ _ _ text.tells text.steady reader_told in
+          let told = both_told _ _ _ _ asks.same_tells asks.same_steady text_told in
+          let copied = rw made.opens.reader.rest at (c.in_ok-copy_all.ensures.front (made.opens.reader.tells ∙ told) writer_told) in
+          let begins = begins_text g.R.Read.tells g.R.Read.rest c.args.reader.now made.h made.nonce _ _ _ _ _ text.tells text.place text.rest asks.front in
+          inr (made.file_key, made.h, made.nonce, _, begins, asks.first, made.opens.right, copied);
+      honest = λ told well never file plain carries for. tt;
+      plaintext = λ told well writer_told file plain carries for.
+          let rest : armored_rest c.in_ok-text.text ≡ whole file = text.honest file well carries in
+          let text_told = both_told _ _ _ _ text.tells text.steady told in
+          let stands = c.in_ok-stream.ensures.plaintext text_told (ap (λ s. s.ends_well) rest) plain
+          (file_for g.S.Suite.seal_of _ plain file (armored_rest c.in_ok-text.text).bytes (sym (ap (λ s. s.bytes) rest)) for) in
+          subst (λ (s : Stretch). AppendsFront g.W.Write.appended s.bytes c.args.writer.now c.copy_all.new.writer) stands.rest
+          (c.in_ok-copy_all.ensures.front (c.in_ok-stream.ensures.tells ∙ text_told) writer_told);
+    }

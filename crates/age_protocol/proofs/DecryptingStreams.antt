@@ -1,0 +1,85 @@
+-- One kind of identities as another.
+use Rattle.std.specs.Prelude.{◌≡◌, ◌⊎◌, ℕ, List, Result, Ok, Err, OnOk, IsErrAnd}
+use Rattle.std.proofs.Common.{inl, inr}
+use Rattle.std.proofs.lemmas.Result.{on_ok_weaker, IfErr-weaker}
+use Rattle.age_error.specs.DecryptErrors.{DecryptRefusal}
+use Rattle.age_suite.specs.declared.suite.Suite.{Ghosts as SuiteGhosts}
+use Rattle.age_io.specs.declared.traits.Read.{Ghosts as ReadGhosts}
+use Rattle.age_io.specs.declared.traits.Write.{Ghosts as WriteGhosts}
+use Rattle.age_io.specs.Stretch.{Stretch}
+use Rattle.age_format.specs.HeaderV1.{HeaderValue}
+use Rattle.age_format.specs.Stanza.{StanzaValue}
+use Rattle.age_format.specs.Unwrapping.{UnwrapAnswer}
+use Rattle.age_protocol.specs.Answering.{decided}
+use Rattle.age_protocol.specs.Texts.{RefusesText, BeginsText, RefusesKey}
+use Rattle.age_protocol.specs.DecryptingStreams.{DecryptsAll, DecryptsPart}
+use Rattle.age_protocol.specs.declared.error.FileError.{FileError}
+use Rattle.age_protocol.specs.Parts.{StandsAt, IsPartAt}
+use Rattle.age_protocol.proofs.Standing.{begun, begun-or}
+use Rattle.age_protocol.proofs.Decrypted.{by_cause, decrypts_weaker}
+
+-- after a refusal nothing is said of a success
+pub none_done : {T E : Type 0} (P : Type 0) (r : Result T E) (e : E) → IsErrAnd r (λ x. x ≡ e) → OnOk r P
+none_done P (Ok x) e is = absurd is
+none_done P (Err x) e is = tt
+
+-- the same cause of a refusal
+same_cause : (Text : DecryptRefusal → Type 0) (begins : HeaderValue → List ℕ → Stretch → Type 0) (answers own : List StanzaValue → UnwrapAnswer → Type 0)
+    → ((stanzas : List StanzaValue) (answer : UnwrapAnswer) → answers stanzas answer → own stanzas answer) → (refusal : DecryptRefusal)
+    → Text refusal ⊎ ((h : HeaderValue) × (nonce : List ℕ) × (left : Stretch) × (answer : UnwrapAnswer) × begins h nonce left
+    × answers h.stanzas answer × RefusesKey (decided answer) h refusal)
+    → Text refusal ⊎ ((h : HeaderValue) × (nonce : List ℕ) × (left : Stretch) × (answer : UnwrapAnswer) × begins h nonce left
+    × own h.stanzas answer × RefusesKey (decided answer) h refusal)
+same_cause Text begins answers own answered refusal (inl text) = inl text
+same_cause Text begins answers own answered refusal (inr (h, nonce, left, answer, begun, told, cause)) =
+    inr (h, nonce, left, answer, begun, answered h.stanzas answer told, cause)
+
+-- what is given, what is answered, and which files are theirs may be said in another way
+pub decrypts_all_as : {S R W T : Type 0} (suite : SuiteGhosts S) (read : ReadGhosts R) (write : WriteGhosts W)
+    (gives by : List ℕ → List StanzaValue → Type 0) (answers own : List StanzaValue → UnwrapAnswer → Type 0) (IsFor IsOwn : List ℕ → List ℕ → Type 0)
+    (input : R) (old new : W) (result : Result T FileError)
+    → ((key : List ℕ) (stanzas : List StanzaValue) → gives key stanzas → by key stanzas)
+    → ((stanzas : List StanzaValue) (answer : UnwrapAnswer) → answers stanzas answer → own stanzas answer)
+    → ((plain file : List ℕ) → IsOwn plain file → IsFor plain file)
+    → DecryptsAll suite read write gives answers IsFor input old new result → DecryptsAll suite read write by own IsOwn input old new result
+decrypts_all_as {S} {R} {W} {T} suite read write gives by answers own IsFor IsOwn input old new result given answered for all = record {
+  file = λ reader_told writer_told.
+      on_ok_weaker result (λ done.
+      let (key, stanzas, plain, bytes, gave, well, carries, file, plain_bytes, appended) = done in
+      (key, stanzas, plain, bytes, given key stanzas gave, well, carries, file, plain_bytes, appended))
+      (all.file reader_told writer_told);
+  refused = all.refused;
+  why =
+      IfErr-weaker result _ _
+      (decrypts_weaker _ _ (same_cause (λ refusal. (last : R) × RefusesText read.tells read.rest read.faults input last refusal)
+      (BeginsText read.tells read.rest input) answers own answered))
+      all.why;
+  front = λ reader_told writer_told.
+      by_cause inl
+      (λ opened.
+      let (key, h, nonce, left, begins, gave, right, appended) = opened in
+      inr (key, h, nonce, left, begins, given key h.stanzas gave, right, appended))
+      (all.front reader_told writer_told);
+  honest = λ told well never file plain carries own_file. all.honest told well never file plain carries (for plain file own_file);
+  plaintext = λ told well writer_told file plain carries own_file. all.plaintext told well writer_told file plain carries (for plain file own_file);
+}
+
+pub decrypts_part_as : {S R W T : Type 0} (suite : SuiteGhosts S) (read : ReadGhosts R) (write : WriteGhosts W)
+    (gives by : List ℕ → List StanzaValue → Type 0) (IsFor IsOwn : List ℕ → List ℕ → Type 0)
+    (place count : ℕ) (input last : R) (old new : W) (result : Result T FileError)
+    → ((key : List ℕ) (stanzas : List StanzaValue) → gives key stanzas → by key stanzas)
+    → ((plain file : List ℕ) → IsOwn plain file → IsFor plain file)
+    → DecryptsPart suite read write gives IsFor place count input last old new result
+    → DecryptsPart suite read write by IsOwn place count input last old new result
+decrypts_part_as suite read write gives by IsFor IsOwn place count input last old new result given_so for part = record {
+  cursor = λ reader_told writer_told well file plain carries own_file. part.cursor reader_told writer_told well file plain carries (for plain file own_file);
+  standing = λ reader_told writer_told.
+      begun-or (BeginsText read.tells read.rest input) (BeginsText read.tells read.rest input) gives by write.appended count (StandsAt suite.seal_of place) old new
+      (λ h nonce left begins. begins) given_so (part.standing reader_told writer_told);
+  given = λ reader_told writer_told.
+      on_ok_weaker result
+      (begun (BeginsText read.tells read.rest input) (BeginsText read.tells read.rest input) gives by write.appended count (IsPartAt suite.seal_of place count) old new
+      (λ h nonce left begins. begins) given_so)
+      (part.given reader_told writer_told);
+  refused = part.refused;
+}

@@ -1,0 +1,86 @@
+-- What decrypting from a reader to a writer comes to: of a whole file, and of a part of its plaintext.
+use Rattle.std.specs.Prelude.{◌≡◌, ◌⊎◌, ℕ, ◌&&◌, List, Some, Result, Ok, IsTrue, OnOk, IfErr}
+use Rattle.age_error.specs.Bytes.{AreBytes}
+use Rattle.age_error.specs.DecryptErrors.{OutOfMemory}
+use Rattle.age_suite.specs.declared.suite.Suite.{Ghosts as SuiteGhosts}
+use Rattle.age_io.specs.declared.traits.Read.{Ghosts as ReadGhosts}
+use Rattle.age_io.specs.declared.traits.Write.{Ghosts as WriteGhosts}
+use Rattle.age_io.specs.Stretch.{Stretch}
+use Rattle.age_io.specs.Reading.{IsQuiet}
+use Rattle.age_io.specs.Copying.{AppendsFront}
+use Rattle.age_armor.specs.Armor.{Carries}
+use Rattle.age_format.specs.HeaderV1.{HeaderValue, header_mac}
+use Rattle.age_format.specs.Stanza.{StanzaValue}
+use Rattle.age_format.specs.Unwrapping.{UnwrapAnswer, Unwraps}
+use Rattle.age_stream.specs.Chunks.{delivered}
+use Rattle.age_protocol.specs.Answering.{FirstThatAnswers, decided}
+use Rattle.age_protocol.specs.File.{IsFileOf, payload_key}
+use Rattle.age_protocol.specs.FileErrors.{IsDecryptError, DecryptsUnless}
+use Rattle.age_protocol.specs.Texts.{RefusesText, BeginsText, RefusesKey}
+use Rattle.age_protocol.specs.Parts.{AppendsPart, AppendsOf, StandsAt, IsPartAt}
+use Rattle.age_protocol.specs.declared.error.FileError.{FileError}
+
+-- what the first of the identities that answers answers to these stanzas
+abbrev pub AnswersFirst : {I : Type 0} → (I → List StanzaValue → UnwrapAnswer → I → Type 0) → List I → List I → List StanzaValue → UnwrapAnswer → Type 0
+AnswersFirst unwraps old new stanzas answer = FirstThatAnswers (λ identity own after. Unwraps unwraps identity stanzas own after) old answer new
+
+-- and the file key that it gives to them
+abbrev pub GivesFirst : {I : Type 0} → (I → List StanzaValue → UnwrapAnswer → I → Type 0) → List I → List I → List ℕ → List StanzaValue → Type 0
+GivesFirst unwraps old new file_key stanzas = AnswersFirst unwraps old new stanzas (Some (Ok file_key))
+
+-- A whole file. The identities are said by three things: the file key that they give to a header's stanzas (`gives`), what they
+-- answer to these (`answers`), and which bytes are a file of which plaintext for them (`IsFor`).
+pub record DecryptsAll {S R W T : Type 0} (suite : SuiteGhosts S) (read : ReadGhosts R) (write : WriteGhosts W)
+    (gives : List ℕ → List StanzaValue → Type 0) (answers : List StanzaValue → UnwrapAnswer → Type 0) (IsFor : List ℕ → List ℕ → Type 0)
+    (input : R) (old new : W) (result : Result T FileError) : Type 0 where
+  -- A success says that the input carried a file of exactly what was appended, under the file key that was given.
+  pub file : IsTrue (read.tells input && read.steady input) → IsTrue (write.tells old) → OnOk result
+      ((file_key : List ℕ) × (stanzas : List StanzaValue) × (plain : List ℕ) × (bytes : List ℕ)
+      × gives file_key stanzas
+      × IsTrue (read.rest input).ends_well
+      × Carries (read.rest input).bytes bytes
+      × IsFileOf suite.seal_of file_key stanzas plain bytes
+      × AreBytes plain
+      × write.appended old plain new)
+  -- After a refusal of the header or of the identities nothing was appended.
+  pub refused : IfErr result (λ e. IsDecryptError e → new ≡ old)
+  -- The cause of such a refusal.
+  pub why : IfErr result (λ e. DecryptsUnless (λ refusal.
+      ((last : R) × RefusesText read.tells read.rest read.faults input last refusal)
+      ⊎ ((h : HeaderValue) × (nonce : List ℕ) × (left : Stretch) × (answer : UnwrapAnswer)
+      × BeginsText read.tells read.rest input h nonce left
+      × answers h.stanzas answer
+      × RefusesKey (decided answer) h refusal)) e)
+  -- Whatever it answers, nothing was appended before the MAC was found to be right, and then a beginning of what the good
+  -- chunks open to.
+  pub front : IsTrue (read.tells input && read.steady input) → IsTrue (write.tells old) → (new ≡ old)
+      ⊎ ((file_key : List ℕ) × (h : HeaderValue) × (nonce : List ℕ) × (left : Stretch)
+      × BeginsText read.tells read.rest input h nonce left
+      × gives file_key h.stanzas
+      × (h.mac ≡ header_mac file_key h.covered)
+      × AppendsFront write.appended (delivered suite.opened (payload_key file_key nonce) 0 left).bytes old new)
+  -- A file for the identities is opened unless memory is refused, where the device never fails; and whatever happens, what is
+  -- appended is a beginning of its plaintext.
+  pub honest : IsTrue (read.tells input && read.steady input) → IsTrue (read.rest input).ends_well → ((r : R) → read.faults r ≡ 0)
+      → (file plain : List ℕ) → Carries (read.rest input).bytes file → IsFor plain file
+      → IfErr result (DecryptsUnless (λ refusal. refusal ≡ OutOfMemory))
+  pub plaintext : IsTrue (read.tells input && read.steady input) → IsTrue (read.rest input).ends_well → IsTrue (write.tells old)
+      → (file plain : List ℕ) → Carries (read.rest input).bytes file → IsFor plain file
+      → AppendsFront write.appended plain old new
+
+-- So many bytes of its plaintext from a place on. The identities are said in the same way.
+pub record DecryptsPart {S R W T : Type 0} (suite : SuiteGhosts S) (read : ReadGhosts R) (write : WriteGhosts W)
+    (gives : List ℕ → List StanzaValue → Type 0) (IsFor : List ℕ → List ℕ → Type 0)
+    (place count : ℕ) (input last : R) (old new : W) (result : Result T FileError) : Type 0 where
+  -- Of a file for the identities they are appended.
+  pub cursor : IsTrue (read.tells input) → IsTrue (write.tells old) → IsTrue (read.rest input).ends_well
+      → (file plain : List ℕ) → Carries (read.rest input).bytes file → IsFor plain file
+      → AppendsPart write.appended (IsQuiet (read.faults input) (read.faults last)) place count plain old new result
+  -- On any input: whatever it answers, nothing was appended before the MAC was found to be right, and then what stands in the
+  -- plaintext from the place on; and where it succeeds no byte of it is missing.
+  pub standing : IsTrue (read.tells input) → IsTrue (write.tells old) → (new ≡ old)
+      ⊎ AppendsOf (BeginsText read.tells read.rest input) gives write.appended count (StandsAt suite.seal_of place) old new
+  pub given : IsTrue (read.tells input) → IsTrue (write.tells old) → OnOk result
+      (AppendsOf (BeginsText read.tells read.rest input) gives write.appended count (IsPartAt suite.seal_of place count) old new)
+  -- After a refusal of the header or of the identities nothing was appended.
+  pub refused : IfErr result (λ e. IsDecryptError e → new ≡ old)
