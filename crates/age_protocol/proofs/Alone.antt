@@ -1,8 +1,8 @@
 -- Of one identity the first that answers is itself.
-use Rattle.std.proofs.Common.{◌≡◌, ℕ, List, [], ◌∷◌, ◌++◌, Option, Some, None, refl, ap, subst, length, arith}
+use Rattle.std.proofs.Common.{◌≡◌, List, [], ◌∷◌, ◌++◌, Option, Some, None, refl, subst}
 use Rattle.age_format.specs.Stanza.{StanzaValue}
 use Rattle.age_format.specs.Unwrapping.{UnwrapAnswer, Unwraps}
-use Rattle.age_protocol.specs.Answering.{Decides, FirstThatAnswers}
+use Rattle.age_protocol.specs.Answering.{FirstThatAnswers}
 use Rattle.age_protocol.specs.Parts.{FirstAnswer}
 
 module _ {I A : Type 0} (asks : I → Option A → I → Type 0) (one : I) where

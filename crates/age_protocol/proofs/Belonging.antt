@@ -1,20 +1,17 @@
 -- Files hold the answers of their recipients, and identities find them there.
-use Rattle.std.specs.Prelude.{◌≡◌, ◌⊎◌, ℕ, ◌^◌, ◌≤◌, Bool, true, false, List, [], ◌∷◌, ◌++◌, Option, None, Some, Result, Ok, Err, All, IsTrue, length, take, if◌then◌else◌, nat_eq, nat_le, refl, MatchOption}
+use Rattle.std.specs.Prelude.{◌≡◌, ℕ, ◌≤◌, Bool, true, false, List, [], ◌∷◌, ◌++◌, Option, None, Some, Result, Ok, Err, All, IsTrue, length, take, if◌then◌else◌, nat_eq, nat_le, refl, MatchOption}
 use Rattle.std.specs.List.{AllZip}
-use Rattle.std.proofs.Common.{◌∙◌, sym, ap, subst, inl, inr, arith, append_assoc, append-nil, leb-true}
+use Rattle.std.proofs.Common.{◌∙◌, sym, ap, subst, inl, inr, append_assoc, append-nil, leb-true}
 use Rattle.std.proofs.lemmas.List.{length-take-le}
-use Rattle.std.proofs.lemmas.List.Elements.{All-nil, All-cons, All-head, All-tail, All-append}
-use Rattle.age_error.specs.Bytes.{AreBytes}
+use Rattle.std.proofs.lemmas.List.Elements.{All-nil, All-head, All-tail, All-append}
 use Rattle.age_error.specs.EncryptErrors.{EncryptRefusal, ShortRandom, OutOfMemory}
 use Rattle.age_format.specs.Stanza.{StanzaValue}
 use Rattle.age_format.specs.Wrapping.{WrapAnswer, Wrapped}
 use Rattle.age_format.specs.Unwrapping.{UnwrapAnswer, Unwraps}
-use Rattle.age_stream.specs.Payload.{Seal, LastIsNoMiddle}
+use Rattle.age_stream.specs.Payload.{Seal}
 use Rattle.age_suite.specs.Draw.{taken, left_after}
 use Rattle.age_protocol.specs.Labels.{Labels, Gathered, nothing_yet, has_scrypt, agreed_labels, judged, with_labels, greased, closed}
-use Rattle.age_protocol.specs.Encrypting.{Prepared, Prepares, PreparesWith, PreparesRest, PreparesNonce, WrapsInTurn, WithDrawn, UnlessNoMemory, Ends, Then, After}
-use Rattle.age_protocol.specs.File.{IsFileOf, payload_key}
-use Rattle.age_protocol.specs.Parts.{FirstAnswer, IsFileFor}
+use Rattle.age_protocol.specs.Encrypting.{Prepared, PreparesWith, PreparesRest, PreparesNonce, WrapsInTurn, UnlessNoMemory, Ends, Then, After}
 use Rattle.age_protocol.specs.Belonging.{stanzas_of, grease_beside, MayWrap, HoldsAnswers, HoldAnswers, WrapsStrange, AnyDecrypts}
 use Rattle.age_protocol.proofs.Alone.{alone_asked}
 

@@ -1,5 +1,5 @@
 -- Files opened by the identities that they are for.
-use Rattle.std.specs.Prelude.{◌≡◌, ◌⊎◌, ℕ, List, [], ◌∷◌, Result, Some, Ok, Err, IfOk, MatchResult}
+use Rattle.std.specs.Prelude.{◌≡◌, ◌⊎◌, ℕ, List, Result, Some, Ok, Err, IfOk, MatchResult}
 use Rattle.std.proofs.Common.{◌∙◌, sym, inl, inr, arith}
 use Rattle.age_error.specs.DecryptErrors.{OutOfMemory, decrypt_refusal}
 use Rattle.age_error.specs.declared.decrypt.DecryptError.{DecryptError}

@@ -1,11 +1,11 @@
 -- Identities that go stanza by stanza: when they belong to a recipient.
-use Rattle.std.specs.Prelude.{◌≡◌, ◌⊎◌, ℕ, Bool, List, [], ◌∷◌, ◌++◌, None, Some, Ok, Err, All, IsTrue, length, refl}
-use Rattle.std.proofs.Common.{◌∙◌, subst, inl, inr}
+use Rattle.std.specs.Prelude.{◌≡◌, ◌⊎◌, ℕ, Bool, List, [], ◌∷◌, ◌++◌, None, Some, Ok, Err, All, IsTrue, length}
+use Rattle.std.proofs.Common.{subst, inl, inr}
 use Rattle.std.proofs.lemmas.List.Elements.{All-head, All-tail}
 use Rattle.age_error.specs.DecryptErrors.{OutOfMemory}
 use Rattle.age_format.specs.Stanza.{StanzaValue}
 use Rattle.age_format.specs.Wrapping.{WrapAnswer, Wrapped}
-use Rattle.age_format.specs.Unwrapping.{UnwrapAnswer, FirstOf, Then, Unwraps}
+use Rattle.age_format.specs.Unwrapping.{UnwrapAnswer, FirstOf, Then}
 use Rattle.age_protocol.specs.Belonging.{MayWrap, BelongsTo}
 
 -- the file key, or want of memory

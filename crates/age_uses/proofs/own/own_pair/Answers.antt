@@ -1,7 +1,7 @@
-use Rattle.std.specs.Prelude.{◌≡◌, ◌≢◌, ◌⊎◌, ℕ, Bool, true, false, not, List, [], ◌∷◌, Option, Some, None, Ok, Err, Result, IsTrue, length, bytes_eq, nat_eq, if◌then◌else◌, codes, refl}
+use Rattle.std.specs.Prelude.{◌≡◌, ◌≢◌, ◌⊎◌, ℕ, Bool, true, false, not, List, [], Some, None, Ok, Err, Result, IsTrue, length, bytes_eq, nat_eq, if◌then◌else◌, codes, refl}
 use Rattle.std.proofs.Common.{◌∙◌, ap, inl, inr}
 use Rattle.std.proofs.lemmas.Slice.Eq.{bytes_eq-Decides}
-use Rattle.age.specs.DecryptErrors.{DecryptRefusal, InvalidHeader}
+use Rattle.age.specs.DecryptErrors.{InvalidHeader}
 use Rattle.age.specs.EncryptErrors.{EncryptRefusal, OutOfMemory}
 use Rattle.age.specs.Stanza.{StanzaValue}
 use Rattle.age.specs.Wrapping.{Wrapped, WrapAnswer}

@@ -1,4 +1,4 @@
-use Rattle.std.proofs.Common.{◌≡◌, ◌∙◌, sym, ap, subst, refl, List, ℕ}
+use Rattle.std.proofs.Common.{◌≡◌, ◌∙◌, ap, subst, refl, List, ℕ}
 use Rattle.std.proofs.lemmas.Result.{on_ok_weaker}
 use Rattle.age.specs.Bytes.{AreBytes}
 use Rattle.age.specs.Stretch.{whole}
