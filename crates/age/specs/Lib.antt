@@ -34,6 +34,7 @@ pub use Rattle.age_io.specs.Reading
 pub use Rattle.age_io.specs.Filling
 pub use Rattle.age_io.specs.Failing
 pub use Rattle.age_io.specs.Writing
+pub use Rattle.age_io.specs.WritingLaws
 pub use Rattle.age_io.specs.Copying
 pub use Rattle.age_io.specs.Cursor
 pub use Rattle.age_io.specs.Replies
@@ -65,6 +66,7 @@ pub use Rattle.age_stream.specs.Answering as StreamAnswering
 pub use Rattle.age_stream.specs.Targets as StreamTargets
 pub use Rattle.age_stream.specs.Reader as StreamReader
 pub use Rattle.age_stream.specs.ReadingLaws as StreamReadingLaws
+pub use Rattle.age_stream.specs.Sending as StreamSending
 pub use Rattle.age_stream.specs.Writing as StreamWriting
 pub use Rattle.age_stream.specs.Laws as StreamLaws
 -- headers: age_format

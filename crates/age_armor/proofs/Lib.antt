@@ -21,3 +21,4 @@ pub mod Walking
 pub mod OwnEndings
 pub mod Aiming
 pub mod Forms
+pub mod Flushing

@@ -1,9 +1,9 @@
 -- What an `ArmoredWriter` has taken, and what it sent to its inner writer.
-use Rattle.std.specs.Prelude.{◌≡◌, ℕ, ◌*◌, ◌/◌, ◌≤◌, ◌<◌, ◌⊎◌, ◌≢◌, Bool, true, false, List, [], ◌++◌, length, drop, vec_len, Result, IfOk, IfErr}
+use Rattle.std.specs.Prelude.{◌≡◌, ℕ, ◌*◌, ◌/◌, ◌⊎◌, Bool, true, false, List, [], ◌++◌, length, drop, vec_len, Result, IfOk}
 use Rattle.age_base64.specs.Lines.{line}
-use Rattle.age_error.specs.Refusals.{IsDevice, IsInterruption}
 use Rattle.age_error.specs.declared.io.Error.{Error}
-use Rattle.age_error.specs.declared.io.Error.TheVariants.{TooLong}
+use Rattle.age_error.specs.declared.io.Error.TheVariants.{Failed}
+use Rattle.age_io.specs.Writing.{HandsOn}
 use Rattle.age_armor.specs.Armor.{armor, begin_marker}
 use Rattle.age_armor.specs.declared.format.Format.{Format}
 use Rattle.age_armor.specs.declared.format.Format.TheVariants.{Binary, AsciiArmor}
@@ -39,14 +39,16 @@ inner_of writer = writer.inner
 abbrev pub held_len : {W : Type 0} → ArmoredWriter W → ℕ
 held_len writer = vec_len writer.held
 
--- what writes do to an inner writer, whatever bytes they are; an interruption is none of their refusals
-pub record KeepsInner {W T : Type 0} (tells limited : W → Bool) (faults : W → ℕ) (old new : W) (result : Result T Error) : Type 0 where
-  pub same_tells : tells new ≡ tells old
-  pub same_limited : limited new ≡ limited old
-  pub no_fewer_faults : faults old ≤ faults new
-  pub device : IfErr result (λ e. IsDevice e → faults old < faults new)
-  pub unlimited : limited old ≡ false → IfErr result (λ e. e ≢ TooLong)
-  pub patient : IfErr result (λ e. IsInterruption e → ⊥)
+-- Why a writer that goes on refuses while it is given so many bytes: in armor as its inner writer does, whatever that is given and
+-- with its interruptions tried again, and in binary as its inner writer does.
+abbrev pub MayRefuse : {W : Type 0} → (W → ℕ → Error → Type 0) → Bool → W → ℕ → Error → Type 0
+MayRefuse refuses true inner n e = HandsOn refuses inner e
+MayRefuse refuses false inner n e = refuses inner n e
+
+-- why it refuses, which is `Failed` where it refused earlier
+abbrev pub Refused : {W : Type 0} → (W → ℕ → Error → Type 0) → ArmoredWriter W → ℕ → Error → Type 0
+Refused refuses writer n e = ((writer.failed ≡ true) × (e ≡ Failed))
+    ⊎ ((writer.failed ≡ false) × MayRefuse refuses writer.armored writer.inner n e)
 
 module _ {W : Type 0} (inner_appended : W → List ℕ → W → Type 0) where
   -- what goes out before the first byte is taken

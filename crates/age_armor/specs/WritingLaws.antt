@@ -1,12 +1,17 @@
--- The laws of `Appended`.
+-- The laws of `Appended` and of `Refused`.
 use Rattle.std.specs.Prelude.{◌≡◌, ℕ, ◌+◌, ◌*◌, ◌/◌, ◌%◌, ◌≤◌, ◌<◌, Bool, true, false, List, [], ◌++◌, length, drop}
 use Rattle.std.proofs.Common.{refl, sym, ap, ◌∙◌, inl, inr, arith, append_assoc, length-append, length-drop, subst}
 use Rattle.std.proofs.lemmas.Bool.{true≢false}
 use Rattle.std.proofs.lemmas.List.{append-nil, drop_all, drop-append-le, drop-drop}
+use Rattle.age_error.specs.declared.io.Error.{Error}
+use Rattle.age_error.specs.declared.io.Error.TheVariants.{Device}
+use Rattle.age_error.specs.declared.io.ErrorKind.TheVariants.{Interrupted}
+use Rattle.age_io.specs.Writing.{Narrows, Retried, HandsOn}
+use Rattle.age_io.specs.WritingLaws.{hands-on-patient}
 use Rattle.age_armor.specs.declared.writer.ArmoredWriter.{ArmoredWriter}
 use Rattle.age_armor.specs.FullLines.{full_lines}
 use Rattle.age_armor.specs.FullLineLaws.{full_lines-front, full_lines-both}
-use Rattle.age_armor.specs.Writing.{Took, Takes, Appended}
+use Rattle.age_armor.specs.Writing.{Took, Takes, Appended, MayRefuse, Refused}
 
 -- the lines of what is left and of what follows
 count-both : (t y : List ℕ) → length (t ++ y) / 48 ≡ length t / 48 + length (drop (48 * (length t / 48)) t ++ y) / 48
@@ -104,3 +109,59 @@ module _ {W : Type 0} (inner_appended : W → List ℕ → W → Type 0) where
           let none : length (a.held.items ++ []) / 48 ≡ 0 = rw append-nil (omega (arith, a.part, a.held.ok.0)) in
           record { held = rw (none, append-nil) held; sent = rw none same }
       takes false = same
+
+module _ {W : Type 0} (refuses : W → ℕ → Error → Type 0) where
+  -- what may be refused of fewer bytes may be of more
+  pub Refused-more : ((w : W) (m n : ℕ) (e : Error) → m ≤ n → refuses w m e → refuses w n e) →
+      (s : ArmoredWriter W) (m n : ℕ) (e : Error) → m ≤ n → Refused refuses s m e → Refused refuses s n e
+  Refused-more more s m n e fewer (inl failed) = inl failed
+  Refused-more more s m n e fewer (inr may) = inr (may.0, by_form s.armored may.1)
+    where
+      by_form : (f : Bool) → MayRefuse refuses f s.inner m e → MayRefuse refuses f s.inner n e
+      by_form true h = h
+      by_form false h = more s.inner m n e fewer h
+
+  -- of a writer that goes on
+  pub Refused-good : (s : ArmoredWriter W) (f : Bool) (n : ℕ) (e : Error) → s.failed ≡ false → s.armored ≡ f →
+      MayRefuse refuses f s.inner n e → Refused refuses s n e
+  Refused-good s f n e good form may = inr (good, subst (λ b. MayRefuse refuses b s.inner n e) (sym form) may)
+
+  pub Refused-may : (s : ArmoredWriter W) (f : Bool) (n : ℕ) (e : Error) → s.failed ≡ false → s.armored ≡ f → Refused refuses s n e →
+      MayRefuse refuses f s.inner n e
+  Refused-may s f n e good form (inl failed) = absurd (true≢false (sym failed.0 ∙ good))
+  Refused-may s f n e good form (inr may) = subst (λ b. MayRefuse refuses b s.inner n e) form may.1
+
+  -- in armor
+  pub Refused-armored : (a c : ArmoredWriter W) (n : ℕ) → a.failed ≡ false → c.failed ≡ false → a.armored ≡ true → c.armored ≡ true →
+      ((e : Error) → HandsOn refuses c.inner e → HandsOn refuses a.inner e) → Narrows (Refused refuses) a n c
+  Refused-armored a c n good good_after form form_after narrows more e h =
+      Refused-good a true (n + more) e good form (narrows e (Refused-may c true more e good_after form_after h))
+
+  -- in binary
+  pub Refused-binary : (a c : ArmoredWriter W) (n : ℕ) → a.failed ≡ false → c.failed ≡ false → a.armored ≡ false → c.armored ≡ false →
+      Narrows refuses a.inner n c.inner → Narrows (Refused refuses) a n c
+  Refused-binary a c n good good_after form form_after narrows more e h =
+      Refused-good a false (n + more) e good form (narrows more e (Refused-may c false more e good_after form_after h))
+
+  -- what the inner writer refuses whatever it is given, and what the writer of armor does
+  pub handed-back : (s : ArmoredWriter W) (e : Error) → s.failed ≡ false → HandsOn refuses s.inner e → HandsOn (Refused refuses) s e
+  handed-back s e good h = by_form s.armored refl
+    where
+      by_form : (f : Bool) → s.armored ≡ f → HandsOn (Refused refuses) s e
+      by_form true form = (0, inl (hands-on-patient refuses s.inner e h, Refused-good s true 0 e good form h))
+      by_form false form = elim h.1 [
+        | inl plain ↦ (h.0, inl (plain.0, Refused-good s false h.0 e good form plain.1))
+        | inr worn ↦ (h.0, inr (worn.0, Refused-good s false h.0 (Device Interrupted) good form worn.1))
+      ]
+
+  -- and the other way round, where it may refuse no more than another writer
+  pub handed-through : (f : Bool) (first : W) (s : ArmoredWriter W) →
+      ((n : ℕ) (e : Error) → Refused refuses s n e → MayRefuse refuses f first n e) → (e : Error) → HandsOn (Refused refuses) s e → HandsOn refuses first e
+  handed-through f first s may e h = by_form f (may h.0) h.1
+    where
+      by_form : (g : Bool) → ((d : Error) → Refused refuses s h.0 d → MayRefuse refuses g first h.0 d) → Retried (Refused refuses) s h.0 e →
+          HandsOn refuses first e
+      by_form true from (inl plain) = from e plain.1
+      by_form true from (inr worn) = absurd (hands-on-patient refuses first (Device Interrupted) (from (Device Interrupted) worn.1) tt)
+      by_form false from (inl plain) = (h.0, inl (plain.0, from e plain.1))
+      by_form false from (inr worn) = (h.0, inr (worn.0, from (Device Interrupted) worn.1))

@@ -3,9 +3,9 @@ ghost use Rattle.std.specs.Prelude.{◌≡◌, ℕ, ◌+◌, ◌*◌, ◌/◌, �
 ghost use Rattle.std.specs.List.{flat_map};
 ghost use Rattle.age_base64.specs.Lines.{line};
 ghost use Rattle.age_base64.specs.Base64.{padded_columns};
+ghost use Rattle.age_io.specs.Writing.{HandsOn, KeepsWriter};
 ghost use Rattle.age_armor.specs.Armor.{armor_lines, begin_marker, end_marker};
 ghost use Rattle.age_armor.specs.FullLines.{full_lines};
-ghost use Rattle.age_armor.specs.Writing.{KeepsInner};
 
 use crate::encoding::{COLUMNS, ColumnEncoder, LINE, LINE_TEXT, encode_lines};
 use age_error::io::Error;
@@ -13,7 +13,7 @@ use age_io::{Write, write_all};
 
 /// Writes the begin marker and LF.
 pub(crate) fn write_begin<W: Write>(inner: &mut W) -> Result<(), Error>
-    ensures keeps { KeepsInner W.tells W.limited W.faults inner.old inner.new result }
+    ensures keeps { KeepsWriter W.tells W.faults (HandsOn W.refuses) inner.old inner.new result }
     ensures sent { IsTrue (W.tells inner.old) → OnOk result (W.appended inner.old (line begin_marker) inner.new) }
 {
     write_all(inner, b"-----BEGIN AGE ENCRYPTED FILE-----\n")
@@ -31,7 +31,7 @@ pub(crate) fn write_lines<W: Write>(
     requires full { length bytes.now % 48 ≡ 0 }
     requires room { 64 * (length bytes.now / 48) ≤ length columns.old }
     requires text_room { 65 * (length bytes.now / 48) ≤ length text.old }
-    ensures keeps { KeepsInner W.tells W.limited W.faults inner.old inner.new result }
+    ensures keeps { KeepsWriter W.tells W.faults (HandsOn W.refuses) inner.old inner.new result }
     ensures sent { IsTrue (W.tells inner.old) →
         OnOk result (W.appended inner.old (full_lines (length bytes.now / 48) bytes.now) inner.new) }
 {
@@ -53,7 +53,7 @@ fn write_last_line<W: Write>(
     bytes: &[u8],
 ) -> Result<(), Error>
     requires { length bytes.now < 48 }
-    ensures keeps { KeepsInner W.tells W.limited W.faults inner.old inner.new result }
+    ensures keeps { KeepsWriter W.tells W.faults (HandsOn W.refuses) inner.old inner.new result }
     ensures sent { IsTrue (W.tells inner.old) → OnOk result (W.appended inner.old (line (padded_columns bytes.now)) inner.new) }
 {
     let mut text = [0u8; LINE_TEXT];
@@ -64,7 +64,7 @@ fn write_last_line<W: Write>(
 
 // Writes the end marker and LF.
 fn write_end_marker<W: Write>(inner: &mut W) -> Result<(), Error>
-    ensures keeps { KeepsInner W.tells W.limited W.faults inner.old inner.new result }
+    ensures keeps { KeepsWriter W.tells W.faults (HandsOn W.refuses) inner.old inner.new result }
     ensures sent { IsTrue (W.tells inner.old) → OnOk result (W.appended inner.old (line end_marker) inner.new) }
 {
     write_all(inner, b"-----END AGE ENCRYPTED FILE-----\n")
@@ -77,7 +77,7 @@ pub(crate) fn write_end<W: Write>(
     held: &[u8],
 ) -> Result<(), Error>
     requires { length held.now < 48 }
-    ensures keeps { KeepsInner W.tells W.limited W.faults inner.old inner.new result }
+    ensures keeps { KeepsWriter W.tells W.faults (HandsOn W.refuses) inner.old inner.new result }
     ensures sent { IsTrue (W.tells inner.old) → OnOk result
         (W.appended inner.old (flat_map line (armor_lines (padded_columns held.now)) ++ line end_marker) inner.new) }
 {

@@ -1,7 +1,9 @@
 //! Writing armor.
-ghost use Rattle.std.specs.Prelude.{◌≡◌, ◌≢◌, ℕ, ◌+◌, ◌*◌, ◌<◌, ◌≤◌, Bool, true, false, IsTrue, List, [], ◌++◌, length, take, IfOk, IfErr, OnOk, OnErr, IsOk, IsOkAnd, Ok, Err, Some, codes, vec_len, vec_capacity};
+ghost use Rattle.std.specs.Prelude.{◌≡◌, ℕ, ◌+◌, ◌*◌, ◌<◌, ◌≤◌, ◌⊎◌, Bool, true, false, IsTrue, List, [], ◌++◌, length, take, IfOk, IfErr, OnOk, OnErr, IsOk, IsOkAnd, Ok, Err, Some, codes, vec_len, vec_capacity};
 ghost use Rattle.age_error.specs.Refusals.{IsInterruption};
-ghost use Rattle.age_error.specs.declared.io.Error.TheVariants.{Failed, TooLong};
+ghost use Rattle.age_error.specs.declared.io.Error.{Error as IoError};
+ghost use Rattle.age_error.specs.declared.io.Error.TheVariants.{Failed, OutOfMemory};
+ghost use Rattle.age_io.specs.Writing.{HandsOn, KeepsWriter};
 
 use crate::encoding::{COLUMNS, ColumnEncoder, LINE, LINE_TEXT};
 use crate::format::Format;
@@ -38,7 +40,7 @@ pub struct ArmoredWriter<W> {
 }
 
 impl<W: Write> ArmoredWriter<W> {
-    ghost use Rattle.age_armor.specs.Writing.{WasMade, Took, KeepsInner, IsGood, is_armored, inner_of, held_len, in_armor};
+    ghost use Rattle.age_armor.specs.Writing.{WasMade, Took, MayRefuse, IsGood, is_armored, inner_of, held_len, in_armor};
 
     /// A writer that has taken nothing. The text begins where `inner` stands.
     ///
@@ -52,11 +54,13 @@ impl<W: Write> ArmoredWriter<W> {
         ensures made { IsTrue (W.tells inner) → IfOk result (WasMade W.appended format inner) }
         ensures empty { IfOk result (λ w. IsGood w × (held_len w ≡ 0) × (is_armored w ≡ in_armor format)) }
         ensures same_tells { IfOk result (λ w. ⟦<ArmoredWriter<W> as Write>⟧.tells w ≡ W.tells inner) }
-        ensures same_limited { IfOk result (λ w. ⟦<ArmoredWriter<W> as Write>⟧.limited w ≡ W.limited inner) }
         ensures no_fewer_faults { IfOk result (λ w. W.faults inner ≤ ⟦<ArmoredWriter<W> as Write>⟧.faults w) }
         ensures binary { in_armor format ≡ false → IsOk result }
-        ensures unlimited { W.limited inner ≡ false → IfErr result (λ e. e ≢ TooLong) }
+        ensures why { IfErr result (λ e. (e ≡ OutOfMemory) ⊎ HandsOn W.refuses inner e) }
         ensures patient { IfErr result (λ e. IsInterruption e → ⊥) }
+        // What it may refuse from here on is what `inner` might.
+        ensures narrows { IfOk result (λ w. (n : ℕ) (e : IoError) → ⟦<ArmoredWriter<W> as Write>⟧.refuses w n e →
+            MayRefuse W.refuses (in_armor format) inner n e) }
     {
         if let Format::Binary = format {
             return Ok(ArmoredWriter {
@@ -91,7 +95,7 @@ impl<W: Write> ArmoredWriter<W> {
         requires full { 48 ≤ length bytes.now }
         ensures count { IfOk result (λ n. (0 < n) × (n ≤ length bytes.now)) }
         ensures took { IsTrue (W.tells (inner_of self.old)) → IfOk result (λ n. Took W.appended self.old (take n bytes.now) self.new) }
-        ensures inner { KeepsInner W.tells W.limited W.faults (inner_of self.old) (inner_of self.new) result }
+        ensures inner { KeepsWriter W.tells W.faults (HandsOn W.refuses) (inner_of self.old) (inner_of self.new) result }
         ensures failed { self.new.failed ≡ self.old.failed }
         ensures same_form { is_armored self.new ≡ is_armored self.old }
     {
@@ -111,7 +115,7 @@ impl<W: Write> ArmoredWriter<W> {
         requires form { is_armored self.old ≡ true }
         requires fills { held_len self.old + length bytes.now ≡ 48 }
         ensures took { IsTrue (W.tells (inner_of self.old)) → OnOk result (Took W.appended self.old bytes.now self.new) }
-        ensures inner { KeepsInner W.tells W.limited W.faults (inner_of self.old) (inner_of self.new) result }
+        ensures inner { KeepsWriter W.tells W.faults (HandsOn W.refuses) (inner_of self.old) (inner_of self.new) result }
         ensures failed { self.new.failed ≡ self.old.failed }
         ensures same_form { is_armored self.new ≡ is_armored self.old }
     {
@@ -135,7 +139,7 @@ impl<W: Write> ArmoredWriter<W> {
         ensures held { held_len self.new ≡ held_len self.old + length bytes.now }
         ensures same_inner { inner_of self.new ≡ inner_of self.old }
         ensures took { IsTrue (W.tells (inner_of self.old)) → OnOk result (Took W.appended self.old bytes.now self.new) }
-        ensures inner { KeepsInner W.tells W.limited W.faults (inner_of self.old) (inner_of self.new) result }
+        ensures inner { KeepsWriter W.tells W.faults (HandsOn W.refuses) (inner_of self.old) (inner_of self.new) result }
         ensures failed { self.new.failed ≡ self.old.failed }
         ensures same_form { is_armored self.new ≡ is_armored self.old }
     {
@@ -151,7 +155,7 @@ impl<W: Write> ArmoredWriter<W> {
         ensures took { IsTrue (W.tells (inner_of self.old)) → IfOk result (λ n. Took W.appended self.old (take n bytes.now) self.new) }
         ensures roomy { held_len self.old + length bytes.now < 48 → IsOkAnd result (λ n.
             (held_len self.new ≡ held_len self.old + n) × (inner_of self.new ≡ inner_of self.old)) }
-        ensures inner { KeepsInner W.tells W.limited W.faults (inner_of self.old) (inner_of self.new) result }
+        ensures inner { KeepsWriter W.tells W.faults (HandsOn W.refuses) (inner_of self.old) (inner_of self.new) result }
         ensures failed { self.new.failed ≡ self.old.failed }
         ensures same_form { is_armored self.new ≡ is_armored self.old }
     {
@@ -173,7 +177,7 @@ impl<W: Write> ArmoredWriter<W> {
         ensures took { IsTrue (W.tells (inner_of self.old)) → OnOk result (Took W.appended self.old bytes.now self.new) }
         ensures roomy { held_len self.old + length bytes.now < 48 →
             IsOk result × (held_len self.new ≡ held_len self.old + length bytes.now) × (inner_of self.new ≡ inner_of self.old) }
-        ensures inner { KeepsInner W.tells W.limited W.faults (inner_of self.old) (inner_of self.new) result }
+        ensures inner { KeepsWriter W.tells W.faults (HandsOn W.refuses) (inner_of self.old) (inner_of self.new) result }
         ensures failed { self.new.failed ≡ self.old.failed }
         ensures same_form { is_armored self.new ≡ is_armored self.old }
     {
@@ -199,12 +203,12 @@ impl<W: Write + Drop> ArmoredWriter<W> {
         ensures ok { let writer = ⟦<ArmoredWriter<W> as Write>⟧ in
             IsTrue (writer.tells self) → Finishes W.appended writer.appended self result }
         ensures same_tells { IfOk result (λ inner. W.tells inner ≡ ⟦<ArmoredWriter<W> as Write>⟧.tells self) }
-        ensures same_limited { IfOk result (λ inner. W.limited inner ≡ ⟦<ArmoredWriter<W> as Write>⟧.limited self) }
         ensures no_fewer_faults { IfOk result (λ inner. ⟦<ArmoredWriter<W> as Write>⟧.faults self ≤ W.faults inner) }
         ensures failed { IsFailed self → result ≡ Err Failed }
         ensures binary { is_armored self ≡ false → result ≡ Ok (inner_of self) }
-        ensures unlimited { ⟦<ArmoredWriter<W> as Write>⟧.limited self ≡ false → IfErr result (λ e. e ≢ TooLong) }
+        ensures why { IfErr result (⟦<ArmoredWriter<W> as Write>⟧.refuses self 0) }
         ensures patient { IfErr result (λ e. IsInterruption e → ⊥) }
+        ensures narrows { IfOk result (λ inner. (e : IoError) → HandsOn W.refuses inner e → HandsOn W.refuses (inner_of self) e) }
     {
         let ArmoredWriter {
             mut inner,

@@ -2,7 +2,7 @@
 ghost use Rattle.std.specs.Prelude.{◌≡◌, ◌≢◌, ℕ, ◌+◌, ◌<◌, ◌≤◌, Bool, true, false, IsTrue, List, [], length, IfOk, IfErr, OnOk, OnErr, IsOk, Err};
 ghost use Rattle.age_error.specs.Refusals.{IsInterruption};
 ghost use Rattle.age_error.specs.declared.io.Error.TheVariants.{Failed};
-ghost use Rattle.age_io.specs.Writing.{Writes, Flushes};
+ghost use Rattle.age_io.specs.Writing.{Writes, Flushes, Retried};
 
 use crate::writer::ArmoredWriter;
 use age_error::io::Error;
@@ -10,18 +10,20 @@ use age_io::{Write, flush_retrying};
 
 /// What was appended are the bytes that were taken. Only `finish` makes the text that carries them whole.
 impl<W: Write> Write for ArmoredWriter<W> {
-    ghost use Rattle.age_armor.specs.Writing.{Appended, IsFailed, IsGood, inner_of, held_len, is_armored};
-    ghost use Rattle.age_armor.specs.WritingLaws.{Appended-nothing, Appended-both};
+    ghost use Rattle.age_armor.specs.Writing.{Appended, Refused, IsFailed, IsGood, inner_of, held_len, is_armored};
+    ghost use Rattle.age_armor.specs.WritingLaws.{Appended-nothing, Appended-both, Refused-more};
 
     ghost tells = { λ w. W.tells (inner_of w) };
 
-    ghost limited = { λ w. W.limited (inner_of w) };
-
     ghost faults = { λ w. W.faults (inner_of w) };
+
+    ghost refuses = { Refused W.refuses };
 
     ghost appended = { Appended W.appended };
 
     ghost faults_fit = { λ w. W.faults_fit w.inner };
+
+    ghost refuses_more = { Refused-more W.refuses W.refuses_more };
 
     ghost appends_nothing = { Appended-nothing W.appended W.appends_nothing };
 
@@ -34,7 +36,7 @@ impl<W: Write> Write for ArmoredWriter<W> {
     /// retried as by `write_all`. It takes no memory of its own. In binary it is the inner writer's `write`.
     fn write(&mut self, bytes: &[u8]) -> Result<usize, Error>
         ensures writes { let writer = ⟦<ArmoredWriter<W> as Write>⟧ in
-            Writes writer.tells writer.limited writer.faults writer.appended self.old self.new bytes.now result }
+            Writes writer.tells writer.faults writer.refuses writer.appended self.old self.new bytes.now result }
         ensures all { IsTrue (is_armored self.old) → IfOk result (λ n. n ≡ length bytes.now) }
         ensures good { OnOk result (IsGood self.old × IsGood self.new) }
         // A write that fills no line is never refused, and sends nothing.
@@ -44,7 +46,7 @@ impl<W: Write> Write for ArmoredWriter<W> {
         ensures failed { IsFailed self.old → (result ≡ Err Failed) × (self.new ≡ self.old) }
         ensures patient { IsTrue (is_armored self.old) → IfErr result (λ e. IsInterruption e → ⊥) }
         ensures binary { is_armored self.old ≡ false →
-            Writes W.tells W.limited W.faults W.appended (inner_of self.old) (inner_of self.new) bytes.now result }
+            Writes W.tells W.faults W.refuses W.appended (inner_of self.old) (inner_of self.new) bytes.now result }
         ensures same_form { is_armored self.new ≡ is_armored self.old }
     {
         if self.failed {
@@ -68,9 +70,11 @@ impl<W: Write> Write for ArmoredWriter<W> {
     /// of the inner writer are retried as by `flush_retrying`. In binary it is the inner writer's `flush`.
     fn flush(&mut self) -> Result<(), Error>
         ensures flushes { let writer = ⟦<ArmoredWriter<W> as Write>⟧ in
-            Flushes writer.tells writer.limited writer.faults writer.appended self.old self.new result }
-        ensures inner { IsGood self.old →
-            Flushes W.tells W.limited W.faults W.appended (inner_of self.old) (inner_of self.new) result }
+            Flushes writer.tells writer.faults writer.refuses writer.appended self.old self.new result }
+        ensures inner { IsTrue (is_armored self.old) → IsGood self.old →
+            Flushes W.tells W.faults (Retried W.refuses) W.appended (inner_of self.old) (inner_of self.new) result }
+        ensures binary { is_armored self.old ≡ false →
+            Flushes W.tells W.faults W.refuses W.appended (inner_of self.old) (inner_of self.new) result }
         ensures held { held_len self.new ≡ held_len self.old }
         ensures good { OnOk result (IsGood self.old × IsGood self.new) }
         ensures fails { IsTrue (is_armored self.old) → OnErr result (IsFailed self.new) }

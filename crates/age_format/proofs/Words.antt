@@ -1,5 +1,5 @@
 -- Words of a line: where they end.
-use Rattle.std.proofs.Common.{◌≡◌, ◌≢◌, ℕ, ◌<◌, List, [], ◌∷◌, ◌++◌, refl, sym, arith, subst}
+use Rattle.std.proofs.Common.{◌≡◌, ℕ, ◌<◌, List, [], ◌∷◌, ◌++◌, refl, sym, arith, subst}
 use Rattle.std.specs.List.{AllByRecursion, join_with_byte}
 use Rattle.age_base64.specs.Lines.{Lacks}
 use Rattle.age_base64.proofs.Lines.{split_at, Lacks-append, Lacks_right}

@@ -6,7 +6,7 @@ ghost use Rattle.age_error.specs.Refusals.{IsDevice, IsInterruption};
 ghost use Rattle.age_error.specs.declared.io.Error.TheVariants.{OutOfMemory};
 ghost use Rattle.age_error.specs.DecryptErrors.{decrypt_refusal, IsDeviceRefusal, IsInterruptedRefusal};
 ghost use Rattle.age_io.specs.Reading.{Delivers, IsQuiet, IsShort, StaysOrFails, most_faults};
-ghost use Rattle.age_io.specs.Writing.{WritesAll};
+ghost use Rattle.age_io.specs.Writing.{WritesAll, Retried, OrMemory};
 ghost use Rattle.age_suite.specs.Mac.{hkdf_of};
 ghost use Rattle.age_base64.specs.Lines.{line};
 ghost use Rattle.age_base64.specs.Base64.{columns};
@@ -203,7 +203,7 @@ impl HeaderV1 {
     /// Writes the canonical text. `OutOfMemory` comes before a byte is written, where memory for the text is refused. Any
     /// other refusal is that of the writer, and leaves a beginning of the text written.
     pub fn write<W: Write>(&self, alloc: Global, writer: &mut W) -> Result<(), io::Error>
-        ensures writes { WritesAll W.tells W.limited W.faults W.appended writer.old writer.new
+        ensures writes { WritesAll W.tells W.faults (OrMemory (Retried W.refuses)) W.appended writer.old writer.new
             (header_text self.now.stanzas self.now.mac) result }
         ensures patient { IfErr result (λ e. IsInterruption e → ⊥) }
     {

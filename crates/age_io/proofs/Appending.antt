@@ -1,10 +1,13 @@
 -- Facts on what a writer appended, by the laws of `Write`.
-use Rattle.std.proofs.Common.{◌≡◌, ℕ, ◌+◌, ◌≤◌, Bool, IsTrue, List, [], ◌++◌, take, drop, subst, ◌∙◌, arith, append-nil, OnErr, Result, Ok, Err}
+use Rattle.std.specs.Prelude.{IfErr}
+use Rattle.std.proofs.Common.{◌≡◌, ℕ, ◌+◌, ◌≤◌, Bool, IsTrue, List, [], ◌++◌, length, take, drop, subst, ◌∙◌, arith, append-nil, OnErr, Result, Ok, Err, inl}
 use Rattle.std.proofs.lemmas.Grind.{common_steps}
-use Rattle.std.proofs.lemmas.Result.{IfOk-weaker, IfErr-weaker, on_err_weaker}
 use Rattle.std.proofs.lemmas.List.{drop-take, take-append-drop, take-take}
+use Rattle.age_error.specs.Refusals.{IsInterruption}
 use Rattle.age_error.specs.declared.io.Error.{Error}
-use Rattle.age_io.specs.Writing.{Writes, Flushes}
+use Rattle.age_error.specs.declared.io.Error.TheVariants.{WriteZero}
+use Rattle.age_io.specs.Writing.{Narrows, Retried, Writes, Flushes}
+use Rattle.age_io.specs.WritingLaws.{narrows-now, narrows-both, retried-narrows}
 
 pub take-both : (xs : List ℕ) (at n : ℕ) → take at xs ++ take n (drop at xs) ≡ take (at + n) xs
 take-both xs at n = grind (arith, common_steps, drop-take at n xs, take-take at (at + n) xs, take-append-drop at (take (at + n) xs))
@@ -14,49 +17,98 @@ pub OnErr-of : {A E : Type 0} (r : Result A E) {P : Type 0} → P → OnErr r P
 OnErr-of (Ok x) h = tt
 OnErr-of (Err e) h = h
 
--- calls that were interrupted, so that nothing was appended
-pub record Untouched {S : Type 0} (tells limited : S → Bool) (faults : S → ℕ) (appended : S → List ℕ → S → Type 0) (old new : S) : Type 0 where
-  pub same_tells : tells new ≡ tells old
-  pub same_limited : limited new ≡ limited old
-  pub no_fewer_faults : faults old ≤ faults new
-  pub nothing : IsTrue (tells old) → appended old [] new
+-- After so much of what a writer was to be given it may refuse what the first state may of the whole.
+pub record HasLeft {S : Type 0} (refuses : S → ℕ → Error → Type 0) (old new : S) (whole left : ℕ) : Type 0 where
+  pub given : ℕ
+  pub joined : whole ≡ given + left
+  pub narrows : Narrows refuses old given new
 
-module _ {S : Type 0} (tells limited : S → Bool) (faults : S → ℕ) (appended : S → List ℕ → S → Type 0)
-    (joins : (a b c : S) (x y : List ℕ) → appended a x b → appended b y c → appended a (x ++ y) c) where
-  -- a write after them
-  pub writes-later : (old mid new : S) (bytes : List ℕ) (r : Result ℕ Error) → Untouched tells limited faults appended old mid →
-      Writes tells limited faults appended mid new bytes r → Writes tells limited faults appended old new bytes r
-  writes-later old mid new bytes r u w = record {
-    count = w.count;
-    same_tells = w.same_tells ∙ u.same_tells;
-    same_limited = w.same_limited ∙ u.same_limited;
-    no_fewer_faults = omega (arith, u.no_fewer_faults, w.no_fewer_faults);
-    device = IfErr-weaker r _ _ (λ e rose is. omega (arith, rose is, u.no_fewer_faults)) w.device;
-    unlimited = λ none. w.unlimited (u.same_limited ∙ none);
-    takes = λ told. IfOk-weaker r _ _ (λ n took. joins old mid new [] (take n bytes) (u.nothing told) took) (w.takes (u.same_tells ∙ told));
-    refuses = λ told. on_err_weaker r (λ none. joins old mid new [] [] (u.nothing told) none) (w.refuses (u.same_tells ∙ told));
+module _ {S : Type 0} (refuses : S → ℕ → Error → Type 0) where
+  pub left-fewer : (old mid new : S) (whole left n less : ℕ) → left ≡ n + less → HasLeft refuses old mid whole left →
+      Narrows refuses mid n new → HasLeft refuses old new whole less
+  left-fewer old mid new whole left n less size before more = record {
+    given = before.given + n;
+    joined = omega (arith, size, before.joined);
+    narrows = narrows-both refuses old mid new before.given n before.narrows more;
   }
 
-  -- a flush after them
-  pub flushes-later : {T : Type 0} (old mid new : S) (r : Result T Error) → Untouched tells limited faults appended old mid →
-      Flushes tells limited faults appended mid new r → Flushes tells limited faults appended old new r
-  flushes-later old mid new r u f = record {
+  pub left-refused : ((w : S) (m n : ℕ) (e : Error) → m ≤ n → refuses w m e → refuses w n e) →
+      (old mid : S) (whole left n : ℕ) (e : Error) → n ≤ left → HasLeft refuses old mid whole left → refuses mid n e → refuses old whole e
+  left-refused more old mid whole left n e fewer before h =
+      more old (before.given + n) whole e (omega (arith, before.joined, fewer)) (before.narrows n e h)
+
+-- calls that were interrupted, so that nothing was appended
+pub record Untouched {S : Type 0} (tells : S → Bool) (faults : S → ℕ) (refuses : S → ℕ → Error → Type 0) (appended : S → List ℕ → S → Type 0)
+    (old new : S) : Type 0 where
+  pub same_tells : tells new ≡ tells old
+  pub no_fewer_faults : faults old ≤ faults new
+  pub narrows : Narrows refuses old 0 new
+  pub nothing : IsTrue (tells old) → appended old [] new
+
+module _ {S : Type 0} (tells : S → Bool) (faults : S → ℕ) (refuses : S → ℕ → Error → Type 0) (appended : S → List ℕ → S → Type 0)
+    (joins : (a b c : S) (x y : List ℕ) → appended a x b → appended b y c → appended a (x ++ y) c) where
+  -- a write after them, which was not interrupted
+  pub writes-later : (old mid new : S) (bytes : List ℕ) (r : Result ℕ Error) → Untouched tells faults refuses appended old mid →
+      IfErr r (λ e. IsInterruption e → ⊥) →
+      Writes tells faults refuses appended mid new bytes r → Writes tells faults (Retried refuses) appended old new bytes r
+  writes-later old mid new bytes (Ok n) u patient w = record {
+    count = w.count;
+    same_tells = w.same_tells ∙ u.same_tells;
+    no_fewer_faults = omega (arith, u.no_fewer_faults, w.no_fewer_faults);
+    device = tt;
+    why = tt;
+    takes_none = λ none some. inl ((λ is. is), narrows-now refuses old mid u.narrows (length bytes) WriteZero (w.takes_none none some));
+    narrows = retried-narrows refuses old new n (λ more e h. narrows-now refuses old mid u.narrows (n + more) e (w.narrows more e h));
+    interrupted = tt;
+    takes_front = λ told. joins old mid new [] (take n bytes) (u.nothing told) (w.takes_front (u.same_tells ∙ told));
+    takes_nothing = λ told. tt;
+  }
+  writes-later old mid new bytes (Err e) u patient w = record {
+    count = tt;
+    same_tells = w.same_tells ∙ u.same_tells;
+    no_fewer_faults = omega (arith, u.no_fewer_faults, w.no_fewer_faults);
+    device = λ is. omega (arith, w.device is, u.no_fewer_faults);
+    why = inl (patient, narrows-now refuses old mid u.narrows (length bytes) e w.why);
+    takes_none = tt;
+    narrows = tt;
+    interrupted = λ is. absurd (patient is);
+    takes_front = λ told. tt;
+    takes_nothing = λ told. joins old mid new [] [] (u.nothing told) (w.takes_nothing (u.same_tells ∙ told));
+  }
+
+  -- a flush after them, which was not interrupted
+  pub flushes-later : {T : Type 0} (old mid new : S) (r : Result T Error) → Untouched tells faults refuses appended old mid →
+      IfErr r (λ e. IsInterruption e → ⊥) →
+      Flushes tells faults refuses appended mid new r → Flushes tells faults (Retried refuses) appended old new r
+  flushes-later old mid new (Ok x) u patient f = record {
     same_tells = f.same_tells ∙ u.same_tells;
-    same_limited = f.same_limited ∙ u.same_limited;
     no_fewer_faults = omega (arith, u.no_fewer_faults, f.no_fewer_faults);
-    device = IfErr-weaker r _ _ (λ e rose is. omega (arith, rose is, u.no_fewer_faults)) f.device;
+    device = tt;
     unspent = f.unspent;
-    unlimited = λ none. f.unlimited (u.same_limited ∙ none);
+    why = tt;
+    narrows = retried-narrows refuses old new 0 (λ more e h. u.narrows more e (narrows-now refuses mid new f.narrows more e h));
+    interrupted = tt;
+    nothing = λ told. joins old mid new [] [] (u.nothing told) (f.nothing (u.same_tells ∙ told));
+  }
+  flushes-later old mid new (Err e) u patient f = record {
+    same_tells = f.same_tells ∙ u.same_tells;
+    no_fewer_faults = omega (arith, u.no_fewer_faults, f.no_fewer_faults);
+    device = λ is. omega (arith, f.device is, u.no_fewer_faults);
+    unspent = tt;
+    why = inl (patient, narrows-now refuses old mid u.narrows 0 e f.why);
+    narrows = tt;
+    interrupted = λ is. absurd (patient is);
     nothing = λ told. joins old mid new [] [] (u.nothing told) (f.nothing (u.same_tells ∙ told));
   }
 
   -- another interrupted write or flush
-  pub untouched-more : (old mid new : S) → Untouched tells limited faults appended old mid → tells new ≡ tells mid → limited new ≡ limited mid →
-      faults mid ≤ faults new → (IsTrue (tells mid) → appended mid [] new) → Untouched tells limited faults appended old new
-  untouched-more old mid new u same_tells same_limited more none = record {
+  pub untouched-more : (old mid new : S) → Untouched tells faults refuses appended old mid → tells new ≡ tells mid →
+      faults mid ≤ faults new → Narrows refuses mid 0 new → (IsTrue (tells mid) → appended mid [] new) →
+      Untouched tells faults refuses appended old new
+  untouched-more old mid new u same_tells more narrows none = record {
     same_tells = same_tells ∙ u.same_tells;
-    same_limited = same_limited ∙ u.same_limited;
     no_fewer_faults = omega (arith, u.no_fewer_faults, more);
+    narrows = narrows-both refuses old mid new 0 0 u.narrows narrows;
     nothing = λ told. joins old mid new [] [] (u.nothing told) (none (u.same_tells ∙ told));
   }
 

@@ -5,6 +5,7 @@ use Rattle.age_io.specs.Stretch.{Stretch}
 use Rattle.age_error.specs.Refusals.{IsDevice, IsInterruption}
 use Rattle.age_error.specs.declared.io.Error.{Error}
 use Rattle.age_error.specs.declared.io.Error.TheVariants.{Device}
+use Rattle.age_error.specs.declared.io.ErrorKind.TheVariants.{Interrupted as interrupted}
 
 interruption-device : (e : Error) → IsInterruption e → IsDevice e
 interruption-device (Device kind) is = tt
@@ -14,6 +15,18 @@ interruption-device _ is = absurd is
 pub rose-by : {A P : Type 0} (r : Result A Error) → IsErrAnd r IsInterruption → IfErr r (λ e. IsDevice e → P) → P
 rose-by (Ok x) is rose = absurd is
 rose-by (Err e) is rose = rose (interruption-device e is)
+
+-- what is said of an interruption holds
+pub interrupted-by : {A P : Type 0} (r : Result A Error) → IsErrAnd r IsInterruption → IfErr r (λ e. IsInterruption e → P) → P
+interrupted-by (Ok x) is h = absurd is
+interrupted-by (Err e) is h = h is
+
+-- and so does the reason of it
+pub interruption-why : {A : Type 0} (Reason : Error → Type 0) (r : Result A Error) → IsErrAnd r IsInterruption → IfErr r Reason →
+    Reason (Device interrupted)
+interruption-why Reason (Ok x) is why = absurd is
+interruption-why Reason (Err (Device interrupted)) is why = why
+interruption-why Reason (Err _) is why = absurd is
 
 -- what holds of a refusal holds
 pub refused-by : {A P : Type 0} (r : Result A Error) → IsErrAnd r IsInterruption → OnErr r P → P

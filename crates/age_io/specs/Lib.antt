@@ -1,6 +1,7 @@
 pub mod Stretch
 pub mod Reading
 pub mod Writing
+pub mod WritingLaws
 pub mod Copying
 pub mod Slices
 pub mod Standard

@@ -1,9 +1,9 @@
 -- The kind of an error of std, as this port sorts it, and how its errors are counted.
-use Rattle.std.specs.Prelude.{◌≡◌, ℕ, ◌+◌, ◌^◌, ◌&&◌, nat_lt, if◌then◌else◌, Option, Some, Result, Ok, Err, MatchResult}
+use Rattle.std.specs.Prelude.{◌≡◌, ℕ, ◌+◌, ◌^◌, ◌&&◌, ◌⊎◌, nat_lt, if◌then◌else◌, Option, Some, Result, Ok, Err, MatchResult}
 use Rattle.age_io.specs.Cursor.{sought}
 use Rattle.age_error.specs.Refusals.{IsDevice}
 use Rattle.age_error.specs.declared.io.Error.{Error}
-use Rattle.age_error.specs.declared.io.Error.TheVariants.{TooLong}
+use Rattle.age_error.specs.declared.io.Error.TheVariants.{TooLong, Failed, WriteZero}
 use Rattle.age_error.specs.declared.io.SeekFrom.{SeekFrom}
 use Rattle.std.specs.declared.io.ErrorKind.{ErrorKind as StandardKind}
 use Rattle.std.specs.declared.io.ErrorKind.TheVariants.{NotFound as not_found, PermissionDenied as permission_denied, Interrupted as interrupted, UnexpectedEof as unexpected_eof, WriteZero as write_zero, InvalidData as invalid_data, InvalidInput as invalid_input, OutOfMemory as out_of_memory}
@@ -29,6 +29,11 @@ CountsFaults old new result = MatchResult result (λ _. new ≡ old) (λ e. IsDe
 -- a refusal that isn't the device's
 abbrev pub IsNoDevice : Error → Type 0
 IsNoDevice e = IsDevice e → ⊥
+
+-- What writes to a device answer that aren't taken: a fault of its own, `Failed` once its faults are used up, and
+-- `WriteZero`, where it takes none of the bytes.
+abbrev pub IsDeviceRefusal : Error → Type 0
+IsDeviceRefusal e = IsDevice e ⊎ (e ≡ Failed) ⊎ (e ≡ WriteZero)
 
 -- a fault of the device is one fault more, and nothing else counts as one
 abbrev pub CountsOwnFaults : {T : Type 0} → ℕ → ℕ → Result T Error → Type 0

@@ -1,8 +1,8 @@
 //! Copying what a reader still has to a writer.
-ghost use Rattle.std.specs.Prelude.{◌≡◌, ◌≢◌, ℕ, ◌<◌, ◌≤◌, ◌⊎◌, false, IsTrue, List, ◌++◌, length, take, OnOk, OnErr, IfErr, ⊤};
+ghost use Rattle.std.specs.Prelude.{◌≡◌, ℕ, ◌<◌, ◌≤◌, ◌⊎◌, IsTrue, List, ◌++◌, length, take, OnOk, OnErr, IfErr, ⊤};
 ghost use Rattle.age_error.specs.Refusals.{IsDevice};
-ghost use Rattle.age_error.specs.declared.io.Error.TheVariants.{TooLong};
 ghost use Rattle.age_io.specs.Reading.{IsQuiet, GivesInAll};
+ghost use Rattle.age_io.specs.Writing.{Narrows, NarrowsSome, Retried, OrMemory};
 ghost use Rattle.age_io.specs.Copying.{AppendsFront, CopiesFront};
 
 use crate::retry::read_retrying;
@@ -20,8 +20,8 @@ const ROOM: usize = 262_144;
 /// lost.
 ///
 /// `OutOfMemory` comes before the first piece, where memory of one is refused. Any other refusal is that of the reader
-/// or of the writer, but for `TooLong` after 2^64 - 1 pieces, to which a reader that tells its bytes never comes.
-/// Interruptions are tried again up to 16 times in a row.
+/// or one that the writer may make while it is given these bytes, but for `TooLong` after 2^64 - 1 pieces, to which a
+/// reader that tells its bytes never comes. Interruptions are tried again up to 16 times in a row.
 pub fn copy_all<R: Read, W: Write>(
     alloc: Global,
     reader: &mut R,
@@ -35,11 +35,13 @@ pub fn copy_all<R: Read, W: Write>(
     ensures stands { OnOk result (GivesInAll R.tells R.steady R.content R.place R.rest R.faults reader.old reader.new (R.rest reader.old).bytes) }
     ensures left { OnErr result (CopiesFront R.tells R.steady R.content R.place R.rest R.faults W.tells W.appended
         (λ _. ⊤) reader.old reader.new writer.old writer.new) }
-    // Why it refuses, as far as a writer says why it does.
+    // Why it refuses, where the reader has no fault.
     ensures device { IfErr result (λ e. IsDevice e →
         (R.faults reader.old < R.faults reader.new) ⊎ (W.faults writer.old < W.faults writer.new)) }
-    ensures too_long { IsTrue (R.tells reader.old) → IsTrue (R.rest reader.old).ends_well → W.limited writer.old ≡ false →
-        IsQuiet (R.faults reader.old) (R.faults reader.new) → IfErr result (λ e. e ≢ TooLong) }
+    ensures why { IsTrue (R.tells reader.old) → IsTrue (R.rest reader.old).ends_well → IsQuiet (R.faults reader.old) (R.faults reader.new) →
+        IfErr result (OrMemory (Retried W.refuses) writer.old (length (R.rest reader.old).bytes)) }
+    ensures narrows { IsTrue (R.tells reader.old) →
+        OnOk result (Narrows (Retried W.refuses) writer.old (length (R.rest reader.old).bytes) writer.new) }
 {
     let mut room = room_for(alloc, ROOM)?;
     for _piece in 0..u64::MAX {
@@ -59,7 +61,7 @@ pub fn copy_all<R: Read, W: Write>(
 /// lost. No byte after the `count` bytes is asked for.
 ///
 /// `OutOfMemory` comes before the first piece, where memory of one is refused. Any other refusal is that of the reader
-/// or of the writer. Interruptions are tried again up to 16 times in a row.
+/// or one that the writer may make while it is given `count` bytes. Interruptions are tried again up to 16 times in a row.
 pub fn copy_some<R: Read, W: Write>(
     alloc: Global,
     reader: &mut R,
@@ -76,11 +78,12 @@ pub fn copy_some<R: Read, W: Write>(
         (take count (R.rest reader.old).bytes)) }
     ensures left { OnErr result (CopiesFront R.tells R.steady R.content R.place R.rest R.faults W.tells W.appended
         (λ given. length given ≤ count) reader.old reader.new writer.old writer.new) }
-    // Why it refuses, as far as a writer says why it does.
+    // Why it refuses, where the reader has no fault.
     ensures device { IfErr result (λ e. IsDevice e →
         (R.faults reader.old < R.faults reader.new) ⊎ (W.faults writer.old < W.faults writer.new)) }
-    ensures too_long { IsTrue (R.tells reader.old) → IsTrue (R.rest reader.old).ends_well → W.limited writer.old ≡ false →
-        IsQuiet (R.faults reader.old) (R.faults reader.new) → IfErr result (λ e. e ≢ TooLong) }
+    ensures why { IsTrue (R.tells reader.old) → IsTrue (R.rest reader.old).ends_well → IsQuiet (R.faults reader.old) (R.faults reader.new) →
+        IfErr result (OrMemory (Retried W.refuses) writer.old count) }
+    ensures narrows { OnOk result (NarrowsSome (Retried W.refuses) writer.old count writer.new) }
 {
     let mut piece = room_for(alloc, ROOM)?;
     let mut left = count;

@@ -137,13 +137,16 @@ impl<'a> Seek for Bytes<'a> {
 impl Write for Vec<u8> {
     ghost tells = { λ _. true };
 
-    ghost limited = { λ _. false };
-
     ghost faults = { λ _. 0 };
+
+    // Whatever it is given.
+    ghost refuses = { λ _ _ e. e ≡ OutOfMemory };
 
     ghost appended = { λ a x b. b.items ≡ a.items ++ x };
 
     ghost faults_fit = { λ _. Prim.omega arith };
+
+    ghost refuses_more = { λ _ _ _ _ _ memory. memory };
 
     ghost appends_nothing = { λ w. Prim.grind (arith, common_steps) };
 
@@ -153,7 +156,7 @@ impl Write for Vec<u8> {
     /// nothing; it refuses with nothing else, and may be called again.
     fn write(&mut self, bytes: &[u8]) -> Result<usize, Error>
         ensures writes { let writer = ⟦<Vec<u8> as Write>⟧ in
-            Writes writer.tells writer.limited writer.faults writer.appended self.old self.new bytes.now result }
+            Writes writer.tells writer.faults writer.refuses writer.appended self.old self.new bytes.now result }
         ensures all { IfOk result (λ n. n ≡ length bytes.now) }
         ensures memory { IfErr result (λ e. e ≡ OutOfMemory) }
     {
@@ -164,7 +167,7 @@ impl Write for Vec<u8> {
     /// Does nothing, since nothing is held back, and never refuses.
     fn flush(&mut self) -> Result<(), Error>
         ensures flushes { let writer = ⟦<Vec<u8> as Write>⟧ in
-            Flushes writer.tells writer.limited writer.faults writer.appended self.old self.new result }
+            Flushes writer.tells writer.faults writer.refuses writer.appended self.old self.new result }
         ensures done { result ≡ Ok tt }
         ensures same { self.new ≡ self.old }
     {

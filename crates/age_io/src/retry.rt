@@ -3,7 +3,7 @@ ghost use Rattle.std.specs.Prelude.{◌≡◌, ◌<◌, IsTrue, length, false, I
 ghost use Rattle.age_error.specs.Refusals.{IsInterruption};
 ghost use Rattle.age_io.specs.Cursor.{Seeks};
 ghost use Rattle.age_io.specs.Reading.{Reads};
-ghost use Rattle.age_io.specs.Writing.{Writes, Flushes};
+ghost use Rattle.age_io.specs.Writing.{Retried, Writes, Flushes};
 
 use crate::seeking::Seek;
 use crate::traits::{Read, Write};
@@ -65,9 +65,10 @@ pub fn seek_retrying<R: Seek>(reader: &mut R, to: SeekFrom) -> Result<u64, Error
 /// often it is tried stands in no clause.
 ///
 /// All tries together do what one write may (`writes`): at `Ok(n)` the first n bytes were appended, and after a refusal
-/// nothing was. It is never `Device(Interrupted)` (`patient`).
+/// nothing was. A refusal is one of the writer's, but never `Device(Interrupted)` (`patient`): `Device(Other)` stands for
+/// it, and else comes only from the writer.
 pub fn write_retrying<W: Write>(writer: &mut W, bytes: &[u8]) -> Result<usize, Error>
-    ensures writes { Writes W.tells W.limited W.faults W.appended writer.old writer.new bytes.now result }
+    ensures writes { Writes W.tells W.faults (Retried W.refuses) W.appended writer.old writer.new bytes.now result }
     ensures patient { IfErr result (λ e. IsInterruption e → ⊥) }
 {
     retried!(_try, writer.write(bytes))
@@ -76,10 +77,10 @@ pub fn write_retrying<W: Write>(writer: &mut W, bytes: &[u8]) -> Result<usize, E
 /// A flush that is tried again after an interruption, up to 16 times in a row; after that it answers `Device(Other)`. How
 /// often it is tried stands in no clause.
 ///
-/// All tries together do what one flush may (`flushes`): they append nothing. It is never `Device(Interrupted)`
-/// (`patient`).
+/// All tries together do what one flush may (`flushes`): they append nothing. A refusal is one of the writer's, but never
+/// `Device(Interrupted)` (`patient`): `Device(Other)` stands for it, and else comes only from the writer.
 pub fn flush_retrying<W: Write>(writer: &mut W) -> Result<(), Error>
-    ensures flushes { Flushes W.tells W.limited W.faults W.appended writer.old writer.new result }
+    ensures flushes { Flushes W.tells W.faults (Retried W.refuses) W.appended writer.old writer.new result }
     ensures patient { IfErr result (λ e. IsInterruption e → ⊥) }
 {
     retried!(_try, writer.flush())

@@ -9,7 +9,7 @@ ghost use Rattle.age_io.specs.Stretch.{Stretch, nothing};
 ghost use Rattle.age_io.specs.Reading.{Reads, most_faults};
 ghost use Rattle.age_io.specs.Cursor.{Seeks};
 ghost use Rattle.age_io.specs.Writing.{Writes, Flushes};
-ghost use Rattle.age_io.specs.Standard.{CountsFaults, CountsOwnFaults, IsNoDevice, StandsAfter, sought_below, kind_from};
+ghost use Rattle.age_io.specs.Standard.{CountsFaults, CountsOwnFaults, IsNoDevice, IsDeviceRefusal, StandsAfter, sought_below, kind_from};
 
 use crate::seeking::Seek;
 use crate::targets::sought;
@@ -206,14 +206,16 @@ impl<T: io::Write> Write for Std<T> {
 
     ghost tells = { λ _. false };
 
-    ghost limited = { λ _. false };
-
     ghost faults = { λ w. faults_of w };
+
+    ghost refuses = { λ _ _. IsDeviceRefusal };
 
     // Of what went out nothing is known.
     ghost appended = { λ a x b. faults_of a ≤ faults_of b };
 
     ghost faults_fit = { λ w. w.fits };
+
+    ghost refuses_more = { λ _ _ _ _ _ h. h };
 
     ghost appends_nothing = { λ w. le_refl w.faults };
 
@@ -224,7 +226,7 @@ impl<T: io::Write> Write for Std<T> {
     /// A refusal is `Device(kind)`, or `Failed` once the faults are used up.
     fn write(&mut self, bytes: &[u8]) -> Result<usize, Error>
         ensures writes { let writer = ⟦<Std<T> as Write>⟧ in
-            Writes writer.tells writer.limited writer.faults writer.appended self.old self.new bytes.now result }
+            Writes writer.tells writer.faults writer.refuses writer.appended self.old self.new bytes.now result }
         ensures bytes { WriteAppends (T.contents (inner_of self.old)) (T.contents (inner_of self.new)) result bytes.now }
         ensures asked { faults_of self.old < most_faults → CountsFaults (faults_of self.old) (faults_of self.new) result }
         ensures spent { ⟦<Std<T> as Write>⟧.faults self.old ≡ most_faults → (result ≡ Err Failed) × (self.new ≡ self.old) }
@@ -241,7 +243,7 @@ impl<T: io::Write> Write for Std<T> {
     /// A refusal is `Device(kind)`, or `Failed` once the faults are used up.
     fn flush(&mut self) -> Result<(), Error>
         ensures flushes { let writer = ⟦<Std<T> as Write>⟧ in
-            Flushes writer.tells writer.limited writer.faults writer.appended self.old self.new result }
+            Flushes writer.tells writer.faults writer.refuses writer.appended self.old self.new result }
         ensures bytes { Keeps (T.contents (inner_of self.old)) (T.contents (inner_of self.new)) }
         ensures asked { faults_of self.old < most_faults → CountsFaults (faults_of self.old) (faults_of self.new) result }
         ensures spent { ⟦<Std<T> as Write>⟧.faults self.old ≡ most_faults → (result ≡ Err Failed) × (self.new ≡ self.old) }

@@ -2,6 +2,7 @@
 ghost use Rattle.std.specs.Prelude.{◌≡◌, ℕ, ◌^◌, ◌≤◌, ◌<◌, Bool, IsTrue, List, [], ◌++◌, length, refl};
 ghost use Rattle.std.proofs.Common.{◌∙◌};
 ghost use Rattle.age_error.specs.Bytes.{AreBytes};
+ghost use Rattle.age_error.specs.declared.io.Error.{Error};
 ghost use Rattle.age_io.specs.Stretch.{Stretch, nothing};
 ghost use Rattle.age_io.specs.Reading.{Reads, StandsIn, most_faults};
 ghost use Rattle.age_io.specs.Writing.{Writes, Flushes};
@@ -69,27 +70,32 @@ pub trait Write {
     /// Whether `appended` says what went out.
     ghost tells: { Self → Bool };
 
-    /// Whether a write or a flush may answer `TooLong`.
-    ghost limited: { Self → Bool };
-
     /// How often the device has failed.
     ghost faults: { Self → ℕ };
+
+    /// Which errors writes and flushes may answer while they are given this many bytes in all.
+    ghost refuses: { Self → ℕ → Error → Type 0 };
 
     /// The second state is the first with these bytes appended.
     ghost appended: { Self → List ℕ → Self → Type 0 };
 
-    /// Appends the first n bytes and answers n. A refusal appended nothing.
+    /// Appends the first n bytes and answers n. A refusal is one that `refuses` names, and appended nothing.
     ///
-    /// `Device(kind)` says that the device failed in this call.
+    /// `Device(kind)` says that the device failed in this call. A state that was given n bytes may refuse only what the
+    /// first one may that is given those and what follows; so may one that was interrupted. Where n is 0, though there
+    /// are bytes, the writer may refuse with `WriteZero`.
     fn write(&mut self, bytes: &[u8]) -> Result<usize, Error>
-        ensures { Writes tells limited faults appended self.old self.new bytes.now result };
+        ensures { Writes tells faults refuses appended self.old self.new bytes.now result };
 
     /// Sends on what a buffer holds back. It appends nothing.
     fn flush(&mut self) -> Result<(), Error>
-        ensures { Flushes tells limited faults appended self.old self.new result };
+        ensures { Flushes tells faults refuses appended self.old self.new result };
 
     /// The count of faults is a u64.
     ghost faults_fit: { (w : Self) → faults w < 2 ^ 64 };
+
+    /// What may be refused of fewer bytes may be of more.
+    ghost refuses_more: { (w : Self) (m n : ℕ) (e : Error) → m ≤ n → refuses w m e → refuses w n e };
 
     /// A state and itself are related by no bytes.
     ghost appends_nothing: { (w : Self) → appended w [] w };
@@ -134,13 +140,15 @@ impl<R: Read> Read for &mut R {
 impl<W: Write> Write for &mut W {
     ghost tells = { λ w. W.tells w.now };
 
-    ghost limited = { λ w. W.limited w.now };
-
     ghost faults = { λ w. W.faults w.now };
+
+    ghost refuses = { λ w. W.refuses w.now };
 
     ghost appended = { λ a x b. (a.ghost_name ≡ b.ghost_name) × W.appended a.now x b.now };
 
     ghost faults_fit = { λ w. W.faults_fit w.now };
+
+    ghost refuses_more = { λ w. W.refuses_more w.now };
 
     ghost appends_nothing = { λ w. (refl, W.appends_nothing w.now) };
 

@@ -4,7 +4,7 @@ ghost use Rattle.age_error.specs.Refusals.{IsDevice, IsInterruption};
 ghost use Rattle.age_error.specs.declared.io.Error.TheVariants.{OutOfMemory, UnexpectedEof};
 ghost use Rattle.age_io.specs.Stretch.{Stretch, IsCleanEnd, IsFault, from_place};
 ghost use Rattle.age_io.specs.Reading.{IsQuiet, Delivers, StaysOrFails, TookSome, IsShort, Appended, EndsEarly, Gave, most_faults};
-ghost use Rattle.age_io.specs.Writing.{WritesAll};
+ghost use Rattle.age_io.specs.Writing.{Retried, WritesAll};
 
 use crate::retry::{read_retrying, write_retrying};
 use crate::traits::{Read, Write};
@@ -149,10 +149,10 @@ pub fn room_for(alloc: Global, size: usize) -> Result<Vec<u8>, Error>
 
 /// Writes all bytes. Where a write of some bytes takes none of them the answer is `WriteZero`.
 ///
-/// Any other refusal is that of the write that met it. A beginning of the bytes was then appended, and how many isn't
-/// said. An interruption is tried again as in `write_retrying`.
+/// Any refusal is one that the writer may make while it is given these bytes, `WriteZero` among them; an interruption is
+/// tried again as in `write_retrying`. A beginning of the bytes was then appended, and how many isn't said.
 pub fn write_all<W: Write>(writer: &mut W, bytes: &[u8]) -> Result<(), Error>
-    ensures writes { WritesAll W.tells W.limited W.faults W.appended writer.old writer.new bytes.now result }
+    ensures writes { WritesAll W.tells W.faults (Retried W.refuses) W.appended writer.old writer.new bytes.now result }
     ensures patient { IfErr result (λ e. IsInterruption e → ⊥) }
 {
     let mut at = 0;

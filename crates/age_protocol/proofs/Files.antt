@@ -4,6 +4,7 @@ use Rattle.std.specs.Prelude.{slice_index}
 use Rattle.std.proofs.lemmas.List.Elements.{All-append}
 use Rattle.std.proofs.lemmas.Result.{IfOk-weaker}
 use Rattle.age_error.specs.Bytes.{AreBytes, AreBytesOf}
+use Rattle.age_error.specs.declared.io.Error.{Error}
 use Rattle.age_suite.specs.Mac.{hkdf_of}
 use Rattle.age_base64.specs.Lines.{line}
 use Rattle.age_format.specs.Header.{IsHeader, IsHeaderText, covered, covered_text, header_text, mac_line, version_line}
@@ -24,13 +25,13 @@ unfolding file_front
 front_is file_key h nonce text ready is = is ∙ ap (λ mac. header_text h.stanzas mac ++ nonce) ready.right
 
 -- what the writer's `finish` appends to the header and the nonce makes the file
-pub writes_file : {S W : Type 0} (seal_of : Seal) (tells limited : W → Bool) (faults : W → ℕ) (inner_appended : W → List ℕ → W → Type 0)
+pub writes_file : {S W : Type 0} (seal_of : Seal) (tells : W → Bool) (faults : W → ℕ) (refuses : W → ℕ → Error → Type 0) (inner_appended : W → List ℕ → W → Type 0)
     (appended : StreamWriter S W → List ℕ → StreamWriter S W → Type 0)
     (joins : (a b c : W) (x y : List ℕ) → inner_appended a x b → inner_appended b y c → inner_appended a (x ++ y) c)
     (file : Prepared) (output : W) (writer : StreamWriter S W) → IsTrue (tells output)
-    → Starts tells limited faults inner_appended file output writer → WritesFile seal_of inner_appended appended file output writer
+    → Starts tells faults refuses inner_appended file output writer → WritesFile seal_of inner_appended appended file output writer
 unfolding file_text
-writes_file seal_of tells limited faults inner_appended appended joins file output writer told starts plain last finished took finishes =
+writes_file seal_of tells faults refuses inner_appended appended joins file output writer told starts plain last finished took finishes =
     IfOk-weaker finished _ _
     (λ inner sent. joins output starts.inner inner (file_front file.file_key file.stanzas file.nonce)
     (payload seal_of (payload_key file.file_key file.nonce) plain) (starts.front told) sent)

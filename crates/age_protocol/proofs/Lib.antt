@@ -1,6 +1,7 @@
 pub mod Asking
 pub mod Sets
 pub mod Files
+pub mod Refusing
 pub mod Fronts
 pub mod Rule
 pub mod Accepted

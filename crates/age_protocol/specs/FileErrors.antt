@@ -2,6 +2,7 @@
 use Rattle.std.specs.Prelude.{◌≡◌, ◌⊎◌}
 use Rattle.age_error.specs.DecryptErrors.{DecryptRefusal, decrypt_refusal, OutOfMemory}
 use Rattle.age_error.specs.EncryptErrors.{EncryptRefusal, encrypt_refusal}
+use Rattle.age_error.specs.declared.io.Error.{Error}
 use Rattle.age_error.specs.declared.io.Error.TheVariants as io
 use Rattle.age_protocol.specs.declared.error.FileError.{FileError}
 use Rattle.age_protocol.specs.declared.error.FileError.TheVariants.{Io, Encrypt, Decrypt}
@@ -20,6 +21,11 @@ IsDecryptError other = ⊥
 abbrev pub IsIoError : FileError → Type 0
 IsIoError (Io e) = Unit {0}
 IsIoError other = ⊥
+
+-- what holds of the reader's or the writer's error, where it is one
+abbrev pub IfIo : (Error → Type 0) → FileError → Type 0
+IfIo Holds (Io e) = Holds e
+IfIo Holds other = Unit {0}
 
 -- an error of encryption is one of these refusals, and none is of decryption
 abbrev pub EncryptsUnless : (EncryptRefusal → Type 0) → FileError → Type 0

@@ -1,7 +1,8 @@
 -- What an encryptor writes before the plaintext comes, and what the file is in the end.
 use Rattle.std.specs.Prelude.{◌≡◌, ℕ, ◌≤◌, Bool, List, Result, Err, IsTrue, IfOk}
 use Rattle.age_error.specs.declared.io.Error.{Error}
-use Rattle.age_io.specs.Writing.{WritesAll}
+use Rattle.age_io.specs.Writing.{Retried, OrMemory, WritesAll}
+use Rattle.age_stream.specs.Sending.{RefusesChunk}
 use Rattle.age_stream.specs.Payload.{Seal}
 use Rattle.age_stream.specs.Writing.{WasMade, Finishes}
 use Rattle.age_stream.specs.declared.writer.StreamWriter.{StreamWriter}
@@ -9,14 +10,14 @@ use Rattle.age_protocol.specs.Encrypting.{Prepared}
 use Rattle.age_protocol.specs.File.{payload_key, file_front, file_text}
 
 -- The header and the nonce were appended to the output, and the writer was made over what the output then was.
-pub record Starts {S W : Type 0} (tells limited : W → Bool) (faults : W → ℕ) (appended : W → List ℕ → W → Type 0)
-    (file : Prepared) (output : W) (writer : StreamWriter S W) : Type 0 where
+pub record Starts {S W : Type 0} (tells : W → Bool) (faults : W → ℕ) (refuses : W → ℕ → Error → Type 0)
+    (appended : W → List ℕ → W → Type 0) (file : Prepared) (output : W) (writer : StreamWriter S W) : Type 0 where
   pub inner : W
   pub made : WasMade (payload_key file.file_key file.nonce) inner writer
   -- of every writer
   pub same_tells : tells inner ≡ tells output
-  pub same_limited : limited inner ≡ limited output
   pub no_fewer_faults : faults output ≤ faults inner
+  pub narrows : (e : Error) → RefusesChunk refuses inner e → RefusesChunk refuses output e
   -- of a writer that tells its bytes
   pub front : IsTrue (tells output) → appended output (file_front file.file_key file.stanzas file.nonce) inner
 
@@ -30,6 +31,6 @@ WritesFile {S} {W} seal_of inner_appended appended file output writer =
     → IfOk finished (inner_appended output (file_text seal_of file.file_key file.stanzas file.nonce plain))
 
 -- A refusal, and the output when it was given up: a beginning of the header and the nonce was appended.
-abbrev pub GivesUp : {W : Type 0} → (W → Bool) → (W → Bool) → (W → ℕ) → (W → List ℕ → W → Type 0) → Prepared → W → Error → Type 0
-GivesUp {W} tells limited faults appended file output e =
-    (last : W) × WritesAll {T = Unit {0}} tells limited faults appended output last (file_front file.file_key file.stanzas file.nonce) (Err e)
+abbrev pub GivesUp : {W : Type 0} → (W → Bool) → (W → ℕ) → (W → ℕ → Error → Type 0) → (W → List ℕ → W → Type 0) → Prepared → W → Error → Type 0
+GivesUp {W} tells faults refuses appended file output e =
+    (last : W) × WritesAll {T = Unit {0}} tells faults (OrMemory (Retried refuses)) appended output last (file_front file.file_key file.stanzas file.nonce) (Err e)

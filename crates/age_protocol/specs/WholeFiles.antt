@@ -14,6 +14,7 @@ use Rattle.age_armor.specs.Delivered.{delivered, stretch_of}
 use Rattle.age_format.specs.Stanza.{StanzaValue}
 use Rattle.age_format.specs.HeaderV1.{HeaderValue, header_mac}
 use Rattle.age_format.specs.Unwrapping.{UnwrapAnswer, Unwraps}
+use Rattle.age_stream.specs.Sending.{RefusesChunk}
 use Rattle.age_stream.specs.Payload.{Seal, payload, LastIsNoMiddle}
 use Rattle.age_protocol.specs.Answering.{decided}
 use Rattle.age_protocol.specs.Decrypting.{ReadsFront, WhyNoFront}
@@ -22,12 +23,16 @@ use Rattle.age_protocol.specs.File.{payload_key, file_text, IsFileOf}
 
 -- ---- encryption
 
--- A refusal while a plaintext of this many bytes is written: want of memory has a variant of its own, and `TooLong` comes
--- only past 2^60 bytes.
+-- Why a plaintext of this many bytes isn't written as a file, where nothing keeps it from being read: it has more than 2^60
+-- bytes, memory was refused, or the writer refuses, whatever it is given and with its interruptions tried again.
+abbrev pub RefusesFile : {W : Type 0} → (W → ℕ → Error → Type 0) → W → ℕ → Error → Type 0
+RefusesFile refuses writer size e = ((e ≡ io.TooLong) × (2 ^ 60 < size)) ⊎ RefusesChunk refuses writer e
+
+-- A refusal while a plaintext of this many bytes is written to memory: want of memory, or `TooLong` past 2^60 bytes.
 pub record RefusesOutput (size : ℕ) (refusal : EncryptRefusal) : Type 0 where
   pub error : Error
   pub is : refusal ≡ encrypt_refusal (encrypt_of_io error)
-  pub too_long : error ≡ io.TooLong → 2 ^ 60 < size
+  pub why : (error ≡ io.OutOfMemory) ⊎ ((error ≡ io.TooLong) × (2 ^ 60 < size))
 
 -- What was written is the file of the plaintext, in this form, which carries it. By the definition that decryptors are
 -- proved by it is a file.

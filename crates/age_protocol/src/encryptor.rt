@@ -6,7 +6,7 @@ ghost use Rattle.age_error.specs.declared.io.Error.TheVariants.{OutOfMemory};
 ghost use Rattle.age_protocol.specs.Answers.{encrypt_answer};
 ghost use Rattle.age_format.specs.Header.{header_text, IsHeader, KeepsScryptRule};
 ghost use Rattle.age_protocol.specs.Encrypting.{IsOrNoMemory, Prepares};
-ghost use Rattle.age_io.specs.Writing.{WritesAll};
+ghost use Rattle.age_io.specs.Writing.{WritesAll, Retried, OrMemory};
 ghost use Rattle.age_protocol.specs.File.{file_text, IsFileOf};
 ghost use Rattle.age_protocol.specs.Starting.{Starts, WritesFile, GivesUp};
 
@@ -75,7 +75,7 @@ fn write_front<W: Write>(
     nonce: &[u8; 16],
     output: &mut W,
 ) -> Result<ChunkRoom, io::Error>
-    ensures writes { WritesAll W.tells W.limited W.faults W.appended output.old output.new (header_text header.now.stanzas header.now.mac ++ nonce.now) result }
+    ensures writes { WritesAll W.tells W.faults (OrMemory (Retried W.refuses)) W.appended output.old output.new (header_text header.now.stanzas header.now.mac ++ nonce.now) result }
     ensures patient { IfErr result (λ e. IsInterruption e → ⊥) }
     ensures bytes { OnOk result (AreBytes (header_text header.now.stanzas header.now.mac ++ nonce.now)) }
 {
@@ -150,13 +150,13 @@ impl<S: Suite> Encryptor<S> {
         alloc: Global,
         output: W,
     ) -> Result<StreamWriter<S, W>, io::Error>
-        ensures starts { IfOk result (Starts W.tells W.limited W.faults W.appended self output) }
+        ensures starts { IfOk result (Starts W.tells W.faults W.refuses W.appended self output) }
         ensures file { IsTrue (W.tells output) → IfOk result (WritesFile S.seal_of W.appended ⟦<StreamWriter<S, W> as Write>⟧.appended self output) }
         // By the definition of a file that decryptors are proved by, what it writes is one.
         ensures is_file { OnOk result ((plain : List ℕ) →
             IsFileOf S.seal_of self.file_key self.stanzas plain (file_text S.seal_of self.file_key self.stanzas self.nonce plain)) }
         ensures bytes { OnOk result ((plain : List ℕ) → AreBytes plain → AreBytes (file_text S.seal_of self.file_key self.stanzas self.nonce plain)) }
-        ensures refused { IfErr result (GivesUp W.tells W.limited W.faults W.appended self output) }
+        ensures refused { IfErr result (GivesUp W.tells W.faults W.refuses W.appended self output) }
         ensures patient { IfErr result (λ e. IsInterruption e → ⊥) }
     {
         canonical_text_is_text();

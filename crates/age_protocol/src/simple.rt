@@ -1,79 +1,64 @@
 //! Whole files in one call.
 ghost use Rattle.std.specs.Prelude.{◌≡◌, ◌≢◌, ℕ, ◌^◌, ◌<◌, ◌≤◌, false, List, [], ◌∷◌, length, Some, Result, IsTrue, IfOk, IfErr, OnOk, MatchResult, string_bytes, vec_items};
 ghost use Rattle.std.specs.Result.{result_map_both};
-ghost use Rattle.age_error.specs.Bytes.{AreBytes};
-ghost use Rattle.age_error.specs.declared.io.Error.TheVariants.{TooLong};
 ghost use Rattle.age_error.specs.DecryptErrors.{decrypt_refusal, OutOfMemory};
 ghost use Rattle.age_error.specs.EncryptErrors.{EncryptRefusal, encrypt_refusal};
 ghost use Rattle.age_armor.specs.Armor.{armor, Carries};
+ghost use Rattle.age_armor.specs.Writing.{text_of};
 ghost use Rattle.age_protocol.specs.Encrypting.{Prepared, Prepares};
-ghost use Rattle.age_protocol.specs.File.{file_text, IsFileOf};
 ghost use Rattle.age_protocol.specs.Parts.{FirstAnswer, IsFileFor};
 ghost use Rattle.age_protocol.specs.WholeFiles.{Encrypts, Decrypts, Refuses};
 
 use crate::decryptor::Decryptor;
-use crate::encryptor::Encryptor;
-use crate::laws::{carried_files, files_carry_themselves};
-use age_armor::{ArmoredReader, ArmoredWriter, Format, armor_is_carrying, armor_is_text};
+use crate::error::FileError;
+use crate::laws::carried_files;
+use crate::whole::encrypt_all;
+use age_armor::{ArmoredReader, Format, armor_is_text};
 use age_error::bytes::known_bytes;
-use age_error::{DecryptError, EncryptError, io};
+use age_error::{DecryptError, EncryptError};
 use age_format::{Grease, Identity, Recipient};
-use age_io::{Bytes, Write, read_to_end};
+use age_io::{Bytes, read_to_end};
 use age_suite::draw::Draw;
 use age_suite::suite::Suite;
 use std::alloc::Global;
 
-// Writes the whole file of a plaintext to an output, and hands that back.
-fn write_file<S: Suite, W: Write + Drop>(
+// Encrypts a plaintext to one recipient: the file itself, or its armor.
+fn encrypt_as<S: Suite, T: Recipient>(
     alloc: Global,
-    encryptor: Encryptor<S>,
+    recipient: &T,
     plaintext: &[u8],
-    output: W,
-) -> Result<W, io::Error>
-    ensures file { IsTrue (W.tells output) → IfOk result (λ out. W.appended output (file_text S.seal_of encryptor.file_key encryptor.stanzas encryptor.nonce plaintext.now) out) }
-    ensures is_file { OnOk result (IsFileOf S.seal_of encryptor.file_key encryptor.stanzas plaintext.now
-        (file_text S.seal_of encryptor.file_key encryptor.stanzas encryptor.nonce plaintext.now)) }
-    ensures bytes { OnOk result (AreBytes (file_text S.seal_of encryptor.file_key encryptor.stanzas encryptor.nonce plaintext.now)) }
-    ensures tells { IfOk result (λ out. W.tells out ≡ W.tells output) }
-    ensures limited { IfOk result (λ out. W.limited out ≡ W.limited output) }
-    ensures within { OnOk result (length plaintext.now ≤ 2 ^ 60) }
-    ensures too_long { W.limited output ≡ false → IfErr result (λ e. e ≡ TooLong → 2 ^ 60 < length plaintext.now) }
+    draw: &mut Draw,
+    grease: Grease,
+    format: Format,
+) -> Result<Vec<u8>, EncryptError>
+    ensures { (outcome : Result Prepared EncryptRefusal)
+        × Prepares T.wraps (recipient.now ∷ []) (Some grease) draw.old outcome draw.new
+        × Encrypts S.seal_of (text_of format) plaintext.now outcome (result_map_both vec_items (λ e. encrypt_refusal e) result) }
 {
     known_bytes(plaintext);
-    let mut stream = encryptor.wrap_output(alloc, output)?;
-    // One write takes all bytes.
-    stream.write(plaintext)?;
-    stream.finish()
-}
-
-// Writes the armor of the whole file of a plaintext.
-fn write_armored<S: Suite>(
-    alloc: Global,
-    encryptor: Encryptor<S>,
-    plaintext: &[u8],
-) -> Result<String, io::Error>
-    ensures text { IfOk result (λ text. string_bytes text ≡ armor (file_text S.seal_of encryptor.file_key encryptor.stanzas encryptor.nonce plaintext.now)) }
-    ensures is_file { OnOk result (IsFileOf S.seal_of encryptor.file_key encryptor.stanzas plaintext.now
-        (file_text S.seal_of encryptor.file_key encryptor.stanzas encryptor.nonce plaintext.now)) }
-    ensures bytes { OnOk result (AreBytes (file_text S.seal_of encryptor.file_key encryptor.stanzas encryptor.nonce plaintext.now)) }
-    ensures within { OnOk result (length plaintext.now ≤ 2 ^ 60) }
-    ensures too_long { IfErr result (λ e. e ≡ TooLong → 2 ^ 60 < length plaintext.now) }
-{
-    let output = ArmoredWriter::wrap_output(alloc, Vec::new(alloc), Format::AsciiArmor)?;
-    let text = write_file(alloc, encryptor, plaintext, output)?.finish()?;
-    armor_is_text();
-    match String::from_utf8(text) {
-        Ok(text) => Ok(text),
-        Err(_) => unreachable!(),
+    let mut reader = Bytes::new(plaintext);
+    let mut file = Vec::new(alloc);
+    match encrypt_all::<S, &T, Bytes, Vec<u8>>(
+        alloc,
+        &[recipient],
+        draw,
+        grease,
+        format,
+        &mut reader,
+        &mut file,
+    ) {
+        Ok(()) => Ok(file),
+        Err(FileError::Encrypt(e)) => Err(e),
+        Err(FileError::Io(e)) => Err(EncryptError::from(e)),
+        Err(FileError::Decrypt(_)) => unreachable!(),
     }
 }
 
 /// Encrypts a plaintext to one recipient: the bytes of the whole file (age-encryption.org/v1).
 ///
 /// The random bytes are drawn as by `Encryptor::with_recipients`, and its refusals are those of this call: the recipient's
-/// own is answered as it is. After that it refuses a plaintext of more than 2^60 bytes as `Io(TooLong)`, and no other one so;
-/// a refusal while the file is written is else want of memory, which tests show and no clause says. After a refusal `draw` has
-/// lost what was taken before it.
+/// own is answered as it is. After that it refuses for want of memory, and a plaintext of more than 2^60 bytes as `Io(TooLong)`,
+/// and for nothing else. After a refusal `draw` has lost what was taken before it.
 pub fn encrypt<S: Suite, T: Recipient>(
     alloc: Global,
     recipient: &T,
@@ -85,9 +70,7 @@ pub fn encrypt<S: Suite, T: Recipient>(
         × Prepares T.wraps (recipient.now ∷ []) (Some grease) draw.old outcome draw.new
         × Encrypts S.seal_of (λ text. text) plaintext.now outcome (result_map_both vec_items (λ e. encrypt_refusal e) result) }
 {
-    let encryptor = Encryptor::<S>::with_recipients(alloc, &[recipient], draw, grease)?;
-    files_carry_themselves::<S>();
-    Ok(write_file(alloc, encryptor, plaintext, Vec::new(alloc))?)
+    encrypt_as::<S, T>(alloc, recipient, plaintext, draw, grease, Format::Binary)
 }
 
 /// Encrypts a plaintext to one recipient: the armor of the whole file (age-encryption.org/v1, section "ASCII armor").
@@ -104,9 +87,19 @@ pub fn encrypt_and_armor<S: Suite, T: Recipient>(
         × Prepares T.wraps (recipient.now ∷ []) (Some grease) draw.old outcome draw.new
         × Encrypts S.seal_of armor plaintext.now outcome (result_map_both string_bytes (λ e. encrypt_refusal e) result) }
 {
-    let encryptor = Encryptor::<S>::with_recipients(alloc, &[recipient], draw, grease)?;
-    armor_is_carrying();
-    Ok(write_armored(alloc, encryptor, plaintext)?)
+    let text = encrypt_as::<S, T>(
+        alloc,
+        recipient,
+        plaintext,
+        draw,
+        grease,
+        Format::AsciiArmor,
+    )?;
+    armor_is_text();
+    match String::from_utf8(text) {
+        Ok(text) => Ok(text),
+        Err(_) => unreachable!(),
+    }
 }
 
 // Reads the file to its end.

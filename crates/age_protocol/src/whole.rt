@@ -1,8 +1,9 @@
 //! Whole files from a reader to a writer, in flat memory.
-ghost use Rattle.std.specs.Prelude.{◌≡◌, IsTrue, Some, Ok, Err, IfOk, OnOk, IfErr};
+ghost use Rattle.std.specs.Prelude.{◌≡◌, length, IsTrue, Some, Ok, Err, IfOk, OnOk, IfErr};
+ghost use Rattle.age_io.specs.Reading.{IsQuiet};
 ghost use Rattle.age_protocol.specs.Encrypting.{Prepared, Prepares};
-ghost use Rattle.age_protocol.specs.WholeFiles.{AppendsFile};
-ghost use Rattle.age_protocol.specs.FileErrors.{IsIoError, IsEncryptError, EncryptsUnless};
+ghost use Rattle.age_protocol.specs.WholeFiles.{AppendsFile, RefusesFile};
+ghost use Rattle.age_protocol.specs.FileErrors.{IfIo, IsEncryptError, EncryptsUnless};
 ghost use Rattle.age_protocol.specs.DecryptingStreams.{DecryptsAll, AnswersFirst, GivesFirst};
 ghost use Rattle.age_protocol.specs.Parts.{FirstAnswer, IsFileFor};
 
@@ -11,6 +12,7 @@ use crate::error::FileError;
 use crate::laws::files_carry_themselves;
 use crate::opening::open_file;
 use age_armor::{ArmoredReader, ArmoredWriter, Format, armor_is_carrying};
+use age_error::io;
 use age_format::{Grease, Identity, Recipient};
 use age_io::{BufReader, Read, Write, copy_all, flush_retrying};
 use age_stream::laws::reader_law;
@@ -24,8 +26,8 @@ use std::alloc::Global;
 /// The random bytes are drawn before anything is read or written, as by `Encryptor::with_recipients`, which also says what the
 /// grease is for. A success says that the input ended well, and that what was appended is its file in this form; after an error of
 /// encryption nothing was read or written. It takes the memory of the header's text, of a few chunks, and in armor of some lines,
-/// whatever the length of the input. A plaintext past 2^60 bytes is `TooLong`. The other refusals are those of `wrap_output`, of
-/// `copy_all` and of `finish`; a beginning of the file may then have been appended.
+/// whatever the length of the input. After any other refusal a beginning of the file may have been appended: an input past 2^60
+/// bytes is `TooLong`, want of memory `OutOfMemory`, and the others are those of the reader and the writer.
 pub fn encrypt_all<S: Suite, T: Recipient, R: Read, W: Write>(
     alloc: Global,
     recipients: &[T],
@@ -41,6 +43,11 @@ pub fn encrypt_all<S: Suite, T: Recipient, R: Read, W: Write>(
         × AppendsFile S.seal_of W.appended format file (R.rest reader.old) writer.old writer.new) }
     ensures refused { IfErr result (λ e. IsEncryptError e → (reader.new ≡ reader.old) × (writer.new ≡ writer.old)) }
     ensures why { IfErr result (EncryptsUnless (λ refusal. Prepares T.wraps recipients.now (Some grease) draw.old (Err refusal) draw.new)) }
+    // The file was prepared; where the reader has no fault, the writer refuses, or memory or the length does.
+    ensures io { IfErr result (IfIo (λ e.
+        ((file : Prepared) × Prepares T.wraps recipients.now (Some grease) draw.old (Ok file) draw.new)
+        × (IsTrue (R.tells reader.old) → IsTrue (R.rest reader.old).ends_well → IsQuiet (R.faults reader.old) (R.faults reader.new) →
+        RefusesFile W.refuses writer.old (length (R.rest reader.old).bytes) e))) }
 {
     let encryptor = Encryptor::<S>::with_recipients(alloc, recipients, draw, grease)?;
     let _out = write_file::<S, R, &mut W>(alloc, encryptor, format, reader, writer)?;
@@ -54,10 +61,11 @@ fn write_file<S: Suite, R: Read, W: Write + Drop>(
     format: Format,
     reader: &mut R,
     writer: W,
-) -> Result<W, FileError>
+) -> Result<W, io::Error>
     ensures file { IsTrue (R.tells reader.old) → IsTrue (W.tells writer) →
         IfOk result (AppendsFile S.seal_of W.appended format encryptor (R.rest reader.old) writer) }
-    ensures io { IfErr result IsIoError }
+    ensures why { IsTrue (R.tells reader.old) → IsTrue (R.rest reader.old).ends_well → IsQuiet (R.faults reader.old) (R.faults reader.new) →
+        IfErr result (RefusesFile W.refuses writer (length (R.rest reader.old).bytes)) }
 {
     files_carry_themselves::<S>();
     armor_is_carrying();

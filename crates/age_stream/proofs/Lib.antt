@@ -17,3 +17,4 @@ pub mod Sound
 pub mod Ending
 pub mod Standing
 pub mod Remaining
+pub mod Flushing

@@ -11,6 +11,8 @@ pub mod Reading
 pub mod TextLaws
 pub mod ReadingLaws
 pub mod Reader
+pub mod Sending
+pub mod SendingLaws
 pub mod Writing
 pub mod WritingLaws
 pub mod Targets

@@ -1,6 +1,6 @@
 -- The laws of a `StreamReader`.
 use Rattle.std.specs.Prelude.{◌≡◌, ℕ, ◌+◌, ◌-◌, ◌*◌, ◌^◌, ◌<◌, ◌≤◌, ◌⊎◌, ◌&&◌, Option, Some, Ok, Bool, true, false, IsTrue, List, [], ◌++◌, length, drop}
-use Rattle.std.proofs.Common.{refl, sym, ap, ◌∙◌, inl, inr, arith, length-take, length-drop, add-one, zero-add}
+use Rattle.std.proofs.Common.{refl, sym, ap, ◌∙◌, inl, inr, arith, add-one, zero-add}
 use Rattle.std.proofs.lemmas.List.{take-append-drop, drop-drop, drop_all, drop-append-le}
 use Rattle.std.proofs.lemmas.List.Elements.{All-drop}
 use Rattle.std.proofs.lemmas.Bool.{cases_lt, true≢false}

@@ -1,6 +1,6 @@
 -- How long a text is that was taken off the front, over plain variables: `omega` takes seconds each time that it meets a text
 -- cut at a large numeral.
-use Rattle.std.specs.Prelude.{◌≡◌, ℕ, ◌+◌, ◌-◌, ◌<◌, ◌≤◌, List, length, take, drop}
+use Rattle.std.specs.Prelude.{ℕ, ◌+◌, ◌<◌, ◌≤◌, List, length, take, drop}
 use Rattle.std.proofs.Common.{arith, length-take, length-drop}
 
 pub text-most : (size : ℕ) (xs : List ℕ) → length (take size xs) ≤ size

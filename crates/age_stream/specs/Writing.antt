@@ -1,9 +1,9 @@
 -- What a `StreamWriter` has taken, and what it sent to its inner writer.
-use Rattle.std.specs.Prelude.{◌≡◌, ◌≢◌, ℕ, zero, suc, ◌+◌, ◌*◌, ◌^◌, ◌≤◌, ◌<◌, ◌⊎◌, Bool, true, false, List, [], ◌++◌, length, take, drop, vec_len, Result, IfOk, IfErr, OnOk, codes}
+use Rattle.std.specs.Prelude.{◌≡◌, ℕ, zero, suc, ◌+◌, ◌*◌, ◌^◌, ◌≤◌, ◌<◌, ◌⊎◌, true, false, List, [], ◌++◌, length, take, drop, vec_len, Result, IfOk, OnOk, codes}
 use Rattle.std.specs.Fmt.{decimal}
-use Rattle.age_error.specs.Refusals.{IsDevice}
 use Rattle.age_error.specs.declared.io.Error.{Error}
-use Rattle.age_error.specs.declared.io.Error.TheVariants.{TooLong}
+use Rattle.age_error.specs.declared.io.Error.TheVariants.{Failed, TooLong}
+use Rattle.age_stream.specs.Sending.{RefusesChunk}
 use Rattle.age_stream.specs.Payload.{Seal, nonce, last_piece, middle_seals, payload}
 use Rattle.age_stream.specs.declared.writer.StreamWriter.{StreamWriter}
 
@@ -45,21 +45,18 @@ pub record WasMade {S W : Type 0} (key : List ℕ) (inner : W) (writer : StreamW
   pub none_sealed : writer.sealed ≡ 0
   pub none_held : writer.held.items ≡ []
 
--- what writes do to an inner writer, whatever bytes they are
-pub record KeepsInner {W T : Type 0} (tells limited : W → Bool) (faults : W → ℕ) (old new : W) (result : Result T Error) : Type 0 where
-  pub same_tells : tells new ≡ tells old
-  pub same_limited : limited new ≡ limited old
-  pub no_fewer_faults : faults old ≤ faults new
-  pub device : IfErr result (λ e. IsDevice e → faults old < faults new)
-  pub unlimited : limited old ≡ false → IfErr result (λ e. e ≢ TooLong)
+-- why it refuses while it is given so many bytes: `Failed` where it failed earlier, else `TooLong` past 2^60 bytes in all, or
+-- because a chunk can't be sent
+abbrev pub Refused : {S W : Type 0} → (W → ℕ → Error → Type 0) → StreamWriter S W → ℕ → Error → Type 0
+Refused refuses writer n e = ((writer.failed ≡ true) × (e ≡ Failed))
+    ⊎ ((writer.failed ≡ false) × (((e ≡ TooLong) × (2 ^ 60 < taken_len writer + n)) ⊎ RefusesChunk refuses writer.inner e))
 
-module _ {S W : Type 0} (seal_of : Seal) (limited : W → Bool) (inner_appended : W → List ℕ → W → Type 0) where
+module _ {S W : Type 0} (seal_of : Seal) (inner_appended : W → List ℕ → W → Type 0) where
   -- the writer took these bytes: of what it held and these, the first pieces went out as middle chunks, and it holds the rest
   pub record Sent (before : StreamWriter S W) (bytes : List ℕ) (after : StreamWriter S W) : Type 0 where
     pub count : ℕ
     pub fits : 65536 * count ≤ length (before.held.items ++ bytes)
     pub same_key : after.key ≡ before.key
-    pub same_limited : limited after.inner ≡ limited before.inner
     pub sealed : after.sealed ≡ before.sealed + count
     pub held : after.held.items ≡ drop (65536 * count) (before.held.items ++ bytes)
     pub sent : inner_appended before.inner (middles seal_of before.key before.sealed count (before.held.items ++ bytes)) after.inner
@@ -93,10 +90,3 @@ abbrev pub StaysWithin : {S W : Type 0} → (StreamWriter S W → List ℕ → S
 StaysWithin {S} {W} appended writer result =
     (start : StreamWriter S W) (key plain : List ℕ) (first : W) → WasMade key first start → appended start plain writer
     → OnOk result (length plain ≤ 2 ^ 60)
-
--- where a writer was made over an inner writer that never answers `TooLong`, this isn't `TooLong` either
-abbrev pub StaysUnlimited : {S W : Type 0} → (W → Bool) → (StreamWriter S W → List ℕ → StreamWriter S W → Type 0)
-    → StreamWriter S W → Result W Error → Type 0
-StaysUnlimited {S} {W} limited appended writer result =
-    (start : StreamWriter S W) (key plain : List ℕ) (first : W) → WasMade key first start → appended start plain writer
-    → limited first ≡ false → IfErr result (λ e. e ≢ TooLong)

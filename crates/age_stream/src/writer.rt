@@ -1,7 +1,9 @@
 //! Writing a payload.
-ghost use Rattle.std.specs.Prelude.{◌≡◌, ◌≢◌, ℕ, ◌+◌, ◌*◌, ◌^◌, ◌<◌, ◌≤◌, Bool, true, false, IsTrue, List, [], ◌++◌, length, take, IfOk, IfErr, OnOk, OnErr, IsOk, IsOkAnd, Err, vec_len, vec_capacity};
-ghost use Rattle.age_error.specs.declared.io.Error.TheVariants.{Failed, OutOfMemory, TooLong};
-ghost use Rattle.age_io.specs.Writing.{WritesAll};
+ghost use Rattle.std.specs.Prelude.{◌≡◌, ℕ, ◌+◌, ◌*◌, ◌^◌, ◌<◌, ◌≤◌, Bool, true, false, IsTrue, List, [], ◌++◌, length, take, IfOk, IfErr, OnOk, OnErr, IsOk, IsOkAnd, Err, vec_len, vec_capacity};
+ghost use Rattle.age_error.specs.declared.io.Error.{Error as IoError};
+ghost use Rattle.age_error.specs.declared.io.Error.TheVariants.{Failed, OutOfMemory};
+ghost use Rattle.age_io.specs.Writing.{KeepsWriter};
+ghost use Rattle.age_stream.specs.Sending.{RefusesChunk};
 ghost use Rattle.age_stream.specs.Payload.{nonce};
 
 use crate::nonce::nonce_of;
@@ -53,7 +55,7 @@ pub struct StreamWriter<S, W> {
 }
 
 impl<S: Suite, W: Write> StreamWriter<S, W> {
-    ghost use Rattle.age_stream.specs.Writing.{WasMade, Sent, Took, KeepsInner, taken_len, held_len};
+    ghost use Rattle.age_stream.specs.Writing.{WasMade, Sent, Took, taken_len, held_len};
 
     /// A writer that has taken nothing. The payload begins where `inner` stands.
     ///
@@ -98,9 +100,9 @@ impl<S: Suite, W: Write> StreamWriter<S, W> {
         ensures room { OnOk result (held_len self.new < 65536) }
         ensures roomy { held_len self.old < 65536 → IsOk result × (held_len self.new ≡ held_len self.old) × (self.new.inner ≡ self.old.inner) }
         ensures total { OnOk result (taken_len self.new ≡ taken_len self.old) }
-        ensures sent { IsTrue (W.tells self.old.inner) → OnOk result (Sent S.seal_of W.limited W.appended self.old [] self.new) }
+        ensures sent { IsTrue (W.tells self.old.inner) → OnOk result (Sent S.seal_of W.appended self.old [] self.new) }
         ensures failed { self.new.failed ≡ self.old.failed }
-        ensures inner { KeepsInner W.tells W.limited W.faults self.old.inner self.new.inner result }
+        ensures inner { KeepsWriter W.tells W.faults (RefusesChunk W.refuses) self.old.inner self.new.inner result }
     {
         if self.held.len() < PIECE {
             return Ok(());
@@ -124,9 +126,9 @@ impl<S: Suite, W: Write> StreamWriter<S, W> {
         requires full { length piece.now ≡ 65536 }
         requires room { taken_len self.old + 65536 ≤ 2 ^ 60 }
         ensures total { OnOk result (taken_len self.new ≡ taken_len self.old + 65536) }
-        ensures sent { IsTrue (W.tells self.old.inner) → OnOk result (Sent S.seal_of W.limited W.appended self.old piece.now self.new) }
+        ensures sent { IsTrue (W.tells self.old.inner) → OnOk result (Sent S.seal_of W.appended self.old piece.now self.new) }
         ensures failed { self.new.failed ≡ self.old.failed }
-        ensures inner { KeepsInner W.tells W.limited W.faults self.old.inner self.new.inner result }
+        ensures inner { KeepsWriter W.tells W.faults (RefusesChunk W.refuses) self.old.inner self.new.inner result }
     {
         write_chunk::<S, W>(
             self.alloc,
@@ -148,9 +150,9 @@ impl<S: Suite, W: Write> StreamWriter<S, W> {
         ensures held { held_len self.new ≡ held_len self.old + length bytes.now }
         ensures same_inner { self.new.inner ≡ self.old.inner }
         ensures total { taken_len self.new ≡ taken_len self.old + length bytes.now }
-        ensures sent { IsTrue (W.tells self.old.inner) → OnOk result (Sent S.seal_of W.limited W.appended self.old bytes.now self.new) }
+        ensures sent { IsTrue (W.tells self.old.inner) → OnOk result (Sent S.seal_of W.appended self.old bytes.now self.new) }
         ensures failed { self.new.failed ≡ self.old.failed }
-        ensures inner { KeepsInner W.tells W.limited W.faults self.old.inner self.new.inner result }
+        ensures inner { KeepsWriter W.tells W.faults (RefusesChunk W.refuses) self.old.inner self.new.inner result }
     {
         self.held.extend_from_slice(bytes)?;
         Ok(())
@@ -166,9 +168,9 @@ impl<S: Suite, W: Write> StreamWriter<S, W> {
         ensures last { IfOk result (λ n. n ≡ length bytes.now → 0 < held_len self.new) }
         ensures roomy { held_len self.old + length bytes.now ≤ 65536 → IsOkAnd result (λ n.
             (held_len self.new ≡ held_len self.old + n) × (self.new.inner ≡ self.old.inner)) }
-        ensures sent { IsTrue (W.tells self.old.inner) → IfOk result (λ n. Sent S.seal_of W.limited W.appended self.old (take n bytes.now) self.new) }
+        ensures sent { IsTrue (W.tells self.old.inner) → IfOk result (λ n. Sent S.seal_of W.appended self.old (take n bytes.now) self.new) }
         ensures failed { self.new.failed ≡ self.old.failed }
-        ensures inner { KeepsInner W.tells W.limited W.faults self.old.inner self.new.inner result }
+        ensures inner { KeepsWriter W.tells W.faults (RefusesChunk W.refuses) self.old.inner self.new.inner result }
     {
         self.make_room()?;
         let count = bytes.len().min(PIECE - self.held.len());
@@ -186,9 +188,9 @@ impl<S: Suite, W: Write> StreamWriter<S, W> {
         ensures total { OnOk result (taken_len self.new ≡ taken_len self.old + length bytes.now) }
         ensures roomy { held_len self.old + length bytes.now ≤ 65536 →
             IsOk result × (held_len self.new ≡ held_len self.old + length bytes.now) × (self.new.inner ≡ self.old.inner) }
-        ensures took { IsTrue (W.tells self.old.inner) → OnOk result (Took S.seal_of W.limited W.appended self.old bytes.now self.new) }
+        ensures took { IsTrue (W.tells self.old.inner) → OnOk result (Took S.seal_of W.appended self.old bytes.now self.new) }
         ensures failed { self.new.failed ≡ self.old.failed }
-        ensures inner { KeepsInner W.tells W.limited W.faults self.old.inner self.new.inner result }
+        ensures inner { KeepsWriter W.tells W.faults (RefusesChunk W.refuses) self.old.inner self.new.inner result }
     {
         let mut done = 0;
         while done < bytes.len() {
@@ -199,7 +201,7 @@ impl<S: Suite, W: Write> StreamWriter<S, W> {
 }
 
 impl<S: Suite, W: Write + Drop> StreamWriter<S, W> {
-    ghost use Rattle.age_stream.specs.Writing.{Finishes, IsFailed, StaysWithin, StaysUnlimited, inner_of};
+    ghost use Rattle.age_stream.specs.Writing.{Finishes, IsFailed, StaysWithin, inner_of};
 
     /// Seals what is held as the last chunk, writes it, and hands back the inner writer, which isn't flushed.
     ///
@@ -212,11 +214,10 @@ impl<S: Suite, W: Write + Drop> StreamWriter<S, W> {
             IsTrue (writer.tells self) → Finishes S.seal_of W.appended writer.appended self result }
         ensures within { StaysWithin ⟦<StreamWriter<S, W> as Write>⟧.appended self result }
         ensures same_tells { IfOk result (λ inner. W.tells inner ≡ ⟦<StreamWriter<S, W> as Write>⟧.tells self) }
-        ensures same_limited { IfOk result (λ inner. W.limited inner ≡ W.limited (inner_of self)) }
         ensures no_fewer_faults { IfOk result (λ inner. ⟦<StreamWriter<S, W> as Write>⟧.faults self ≤ W.faults inner) }
         ensures failed { IsFailed self → result ≡ Err Failed }
-        ensures unlimited { W.limited (inner_of self) ≡ false → IfErr result (λ e. e ≢ TooLong) }
-        ensures made_unlimited { StaysUnlimited W.limited ⟦<StreamWriter<S, W> as Write>⟧.appended self result }
+        ensures why { IfErr result (⟦<StreamWriter<S, W> as Write>⟧.refuses self 0) }
+        ensures narrows { IfOk result (λ inner. (e : IoError) → RefusesChunk W.refuses inner e → RefusesChunk W.refuses (inner_of self) e) }
     {
         let StreamWriter {
             alloc,
@@ -244,7 +245,8 @@ pub(crate) fn write_chunk<S: Suite, W: Write>(
     last: bool,
     piece: &[u8],
 ) -> Result<(), Error>
-    ensures { WritesAll W.tells W.limited W.faults W.appended inner.old inner.new (S.seal_of key.now (nonce number last) piece.now) result }
+    ensures keeps { KeepsWriter W.tells W.faults (RefusesChunk W.refuses) inner.old inner.new result }
+    ensures sent { IsTrue (W.tells inner.old) → OnOk result (W.appended inner.old (S.seal_of key.now (nonce number last) piece.now) inner.new) }
 {
     let sealed = S::seal(alloc, key, &nonce_of(number, last), piece)?;
     write_all(inner, &sealed)

@@ -1,5 +1,5 @@
 //! `Write` for the writer of a payload.
-ghost use Rattle.std.specs.Prelude.{◌≡◌, ◌≢◌, ℕ, ◌+◌, ◌^◌, ◌<◌, ◌≤◌, true, false, List, [], length, IfOk, IfErr, OnOk, OnErr, IsOk, Err};
+ghost use Rattle.std.specs.Prelude.{◌≡◌, ℕ, ◌+◌, ◌^◌, ◌<◌, ◌≤◌, true, false, List, [], length, IfOk, IfErr, OnOk, OnErr, IsOk, Err};
 ghost use Rattle.age_error.specs.declared.io.Error.TheVariants.{Failed, TooLong};
 ghost use Rattle.age_io.specs.Writing.{Writes, Flushes};
 
@@ -11,22 +11,24 @@ use age_suite::suite::Suite;
 
 /// What was appended is plaintext that was taken. Only `finish` makes its payload whole.
 impl<S: Suite, W: Write> Write for StreamWriter<S, W> {
-    ghost use Rattle.age_stream.specs.Writing.{Appended, IsFailed, IsGood, inner_of, taken_len, held_len};
-    ghost use Rattle.age_stream.specs.WritingLaws.{Appended-nothing, Appended-both};
+    ghost use Rattle.age_stream.specs.Writing.{Appended, Refused, IsFailed, IsGood, inner_of, taken_len, held_len};
+    ghost use Rattle.age_stream.specs.WritingLaws.{Appended-nothing, Appended-both, Refused-more};
 
     ghost tells = { λ w. W.tells (inner_of w) };
 
-    ghost limited = { λ _. true };
-
     ghost faults = { λ w. W.faults (inner_of w) };
 
-    ghost appended = { Appended S.seal_of W.limited W.appended };
+    ghost refuses = { Refused W.refuses };
+
+    ghost appended = { Appended S.seal_of W.appended };
 
     ghost faults_fit = { λ w. W.faults_fit w.inner };
 
-    ghost appends_nothing = { Appended-nothing S.seal_of W.limited W.appended W.appends_nothing };
+    ghost refuses_more = { Refused-more W.refuses };
 
-    ghost joins = { Appended-both S.seal_of W.limited W.appended W.joins };
+    ghost appends_nothing = { Appended-nothing S.seal_of W.appended W.appends_nothing };
+
+    ghost joins = { Appended-both S.seal_of W.appended W.joins };
 
     /// Takes all bytes, and answers how many they are.
     ///
@@ -36,7 +38,7 @@ impl<S: Suite, W: Write> Write for StreamWriter<S, W> {
     /// as it is. Interruptions of the inner writer are retried as by `write_all`.
     fn write(&mut self, bytes: &[u8]) -> Result<usize, Error>
         ensures writes { let writer = ⟦<StreamWriter<S, W> as Write>⟧ in
-            Writes writer.tells writer.limited writer.faults writer.appended self.old self.new bytes.now result }
+            Writes writer.tells writer.faults writer.refuses writer.appended self.old self.new bytes.now result }
         ensures all { IfOk result (λ n. n ≡ length bytes.now) }
         ensures counts { OnOk result (taken_len self.new ≡ taken_len self.old + length bytes.now) }
         ensures good { OnOk result (IsGood self.old × IsGood self.new) }
@@ -46,9 +48,6 @@ impl<S: Suite, W: Write> Write for StreamWriter<S, W> {
         ensures past_limit { IsGood self.old → 2 ^ 60 < taken_len self.old + length bytes.now → (result ≡ Err TooLong) × (self.new ≡ self.old) }
         ensures fails { taken_len self.old + length bytes.now ≤ 2 ^ 60 → OnErr result (IsFailed self.new) }
         ensures failed { IsFailed self.old → (result ≡ Err Failed) × (self.new ≡ self.old) }
-        // Where the inner writer never answers `TooLong`, it comes only past the limit.
-        ensures too_long { W.limited (inner_of self.old) ≡ false → IfErr result (λ e. e ≡ TooLong → 2 ^ 60 < taken_len self.old + length bytes.now) }
-        ensures same_limited { W.limited (inner_of self.new) ≡ W.limited (inner_of self.old) }
     {
         if self.failed {
             return Err(Error::Failed);
@@ -72,13 +71,11 @@ impl<S: Suite, W: Write> Write for StreamWriter<S, W> {
     /// Interruptions of the inner writer are retried as by `flush_retrying`.
     fn flush(&mut self) -> Result<(), Error>
         ensures flushes { let writer = ⟦<StreamWriter<S, W> as Write>⟧ in
-            Flushes writer.tells writer.limited writer.faults writer.appended self.old self.new result }
+            Flushes writer.tells writer.faults writer.refuses writer.appended self.old self.new result }
         ensures counts { taken_len self.new ≡ taken_len self.old }
         ensures good { OnOk result (IsGood self.old × IsGood self.new) }
         ensures fails { OnErr result (IsFailed self.new) }
         ensures failed { IsFailed self.old → (result ≡ Err Failed) × (self.new ≡ self.old) }
-        ensures unlimited { W.limited (inner_of self.old) ≡ false → IfErr result (λ e. e ≢ TooLong) }
-        ensures same_limited { W.limited (inner_of self.new) ≡ W.limited (inner_of self.old) }
     {
         if self.failed {
             return Err(Error::Failed);

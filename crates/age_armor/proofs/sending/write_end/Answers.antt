@@ -1,5 +1,7 @@
 use Rattle.std.proofs.Common.{◌≡◌, ◌<◌, ◌∙◌, arith, rules, length}
 use Rattle.std.proofs.lemmas.Result.{on_ok_weaker}
+use Rattle.age_io.specs.Writing.{HandsOn}
+use Rattle.age_io.specs.WritingLaws.{keeps-later}
 use Rattle.age_base64.specs.Lines.{line}
 use Rattle.age_base64.specs.Base64.{padded_columns}
 use Rattle.age_armor.specs.Armor.{end_marker}
@@ -17,3 +19,8 @@ returns-clause-sent g c = λ told.
     rw (last_line c.args.held.now some c.requires)
     (on_ok_weaker c.write_end_marker-2.result (g.met.W.Write.joins c.args.inner.now c.write_last_line.new.inner c.write_end_marker-2.new.inner (line (padded_columns c.args.held.now)) (line end_marker)
     (c.in_ok-write_last_line.ensures.sent told)) (c.write_end_marker-2.ensures.sent (c.in_ok-write_last_line.ensures.keeps.same_tells ∙ told)))
+
+pub returns-clause-keeps : goal.returns-clause-keeps
+returns-clause-keeps g c = let w = g.W.Write in
+    keeps-later w.tells w.faults (HandsOn w.refuses) c.args.inner.now c.write_last_line.new.inner c.write_end_marker-2.new.inner tt
+    c.write_end_marker-2.result c.in_ok-write_last_line.ensures.keeps c.write_end_marker-2.ensures.keeps

@@ -1,6 +1,8 @@
-use Rattle.std.proofs.Common.{rules, ◌≡◌, ◌∙◌, arith, length}
+use Rattle.std.proofs.Common.{rules, ◌≡◌, ◌≤◌, ◌∙◌, ap, arith, length, length-append, take, inr}
 use Rattle.std.specs.Prelude.{⊤}
-use Rattle.age_io.proofs.Appending.{OnErr-of}
+use Rattle.age_io.specs.Writing.{Retried, OrMemory}
+use Rattle.age_io.specs.WritingLaws.{retried-more}
+use Rattle.age_io.proofs.Appending.{OnErr-of, left-fewer, left-refused}
 use Rattle.age_io.proofs.Delivering.{refilled}
 use Rattle.age_io.specs.Reading.{IsQuiet}
 use Rattle.age_io.proofs.Copied.{front-more, copied-more, left-unasked, left-by-read, left-by-write, well-is-no-fault}
@@ -13,7 +15,7 @@ returns-in_err-write_all-clause-front g c = λ reader_told writer_told.
     let room = c.loop-piece.room in
     let size : length c.read_retrying.new.buf ≡ length room.items = omega (arith, c.read_retrying.auto.buf, c.deref_mut.ensures.len, room.ok.0) in
     let filled = refilled room.items c.read_retrying.new.buf room.len room.ok.0 size in
-    let refused = rw (c.deref.ensures.value, filled) at (c.in_err-write_all.ensures.writes.refuses (before.writer_tells ∙ writer_told)) in
+    let refused = rw (c.deref.ensures.value, filled) at (c.in_err-write_all.ensures.writes.takes_front (before.writer_tells ∙ writer_told)) in
     front-more read.tells read.steady read.content read.place read.rest read.faults g.W.Write.tells g.W.Write.appended g.met.W.Write.joins
     c.args.reader.now c.loop-piece.reader c.read_retrying.new.reader c.args.writer.now c.loop-piece.writer c.write_all.new.writer
     c.read_retrying.new.buf c.in_ok-count.count refused.0 before.copied c.in_ok-count.ensures.reads reader_told writer_told refused.2
@@ -29,7 +31,7 @@ returns-in_err-write_all-clause-left g c =
     (λ _. ⊤) g.met.W.Write.joins
     before.copied.front c.args.reader.now c.loop-piece.reader c.read_retrying.new.reader c.args.writer.now c.loop-piece.writer c.write_all.new.writer
     c.read_retrying.new.buf c.in_ok-count.count tt before.copied.gives before.copied.out c.in_ok-count.ensures.reads
-    (λ told. rw (c.deref.ensures.value, filled) at (c.in_err-write_all.ensures.writes.refuses (before.writer_tells ∙ told))))
+    (λ told. rw (c.deref.ensures.value, filled) at (c.in_err-write_all.ensures.writes.takes_front (before.writer_tells ∙ told))))
 
 pub returns-in_err-count-clause-left : goal.returns-in_err-count-clause-left
 returns-in_err-count-clause-left g c =
@@ -45,8 +47,8 @@ returns-in_err-room-clause-left g c =
     OnErr-of _ (left-unasked read.tells read.steady read.content read.place read.rest read.faults g.W.Write.tells g.W.Write.appended (λ _. ⊤)
     c.args.reader.now c.args.writer.now tt (g.met.W.Write.appends_nothing c.args.writer.now))
 
-pub returns-in_err-count-clause-too_long : goal.returns-in_err-count-clause-too_long
-returns-in_err-count-clause-too_long g c = λ reader_told well unlimited quiet.
+pub returns-in_err-count-clause-why : goal.returns-in_err-count-clause-why
+returns-in_err-count-clause-why g c = λ reader_told well quiet.
     let before = c.loop-piece.invariant in
     let reads = c.in_err-count.ensures.reads in
     let cause = reads.cause (before.reader_tells ∙ reader_told) in
@@ -54,6 +56,25 @@ returns-in_err-count-clause-too_long g c = λ reader_told well unlimited quiet.
     record { same = omega (arith, quiet.same, before.reader_faults, reads.no_fewer_faults); below = quiet.below } in
     let ends = before.ends reader_told ∙ well in
     let refused = well-is-no-fault c.in_err-count.field-0.0 _ _ _ cause still ends in
+    search rules
+
+pub returns-in_err-write_all-clause-why : goal.returns-in_err-write_all-clause-why
+returns-in_err-write_all-clause-why g c = λ reader_told well quiet.
+    let before = c.loop-piece.invariant in
+    let refuses = Retried g.W.Write.refuses in
+    let e = c.in_err-write_all.field-0.0 in
+    let room = c.loop-piece.room in
+    let size : length c.read_retrying.new.buf ≡ length room.items = omega (arith, c.read_retrying.auto.buf, c.deref_mut.ensures.len, room.ok.0) in
+    let filled = refilled room.items c.read_retrying.new.buf room.len room.ok.0 size in
+    let came = c.in_ok-count.ensures.reads.bytes (before.reader_tells ∙ reader_told) in
+    let piece = take c.in_ok-count.count c.read_retrying.new.buf in
+    let left = (g.R.Read.rest c.loop-piece.reader).bytes in
+    let fewer : length piece ≤ length left = omega (arith, ap length came.bytes, length-append piece (g.R.Read.rest c.read_retrying.new.reader).bytes) in
+    let why : refuses c.loop-piece.writer (length piece) e = rw (c.deref.ensures.value, filled) at c.in_err-write_all.ensures.writes.why in
+    let all = (g.R.Read.rest c.args.reader.now).bytes in
+    let refused : OrMemory refuses c.args.writer.now (length all) e =
+    inr (left-refused refuses (retried-more g.W.Write.refuses g.met.W.Write.refuses_more) c.args.writer.now c.loop-piece.writer
+    (length all) (length left) (length piece) e fewer (before.has_left reader_told) why) in
     search rules
 
 pub loop-piece-preserved : goal.loop-piece-preserved
@@ -66,7 +87,11 @@ loop-piece-preserved g c =
     record {
       reader_tells = c.in_ok-count.ensures.reads.same_tells ∙ before.reader_tells;
       writer_tells = c.in_ok-write_all.ensures.writes.same_tells ∙ before.writer_tells;
-      limited = c.in_ok-write_all.ensures.writes.same_limited ∙ before.limited;
+      has_left = λ reader_told.
+          let came = c.in_ok-count.ensures.reads.bytes (before.reader_tells ∙ reader_told) in
+          left-fewer (Retried g.W.Write.refuses) c.args.writer.now c.loop-piece.writer c.write_all.new.writer _ _ _ _
+          (ap length came.bytes ∙ length-append _ _) (before.has_left reader_told)
+          (rw (c.deref.ensures.value, filled) at c.in_ok-write_all.ensures.writes.narrows);
       reader_faults = omega (arith, before.reader_faults, c.in_ok-count.ensures.reads.no_fewer_faults);
       writer_faults = omega (arith, before.writer_faults, c.in_ok-write_all.ensures.writes.no_fewer_faults);
       pieces = λ reader_told. omega (arith, before.pieces reader_told, c.in_ok-count.ensures.reads.moves (before.reader_tells ∙ reader_told), c.if-count-eq0.false);
@@ -76,5 +101,5 @@ loop-piece-preserved g c =
           copied-more read.tells read.steady read.content read.place read.rest read.faults g.W.Write.tells g.W.Write.appended g.met.W.Write.joins
           c.args.reader.now c.loop-piece.reader c.read_retrying.new.reader c.args.writer.now c.loop-piece.writer c.write_all.new.writer
           c.read_retrying.new.buf c.in_ok-count.count before.copied c.in_ok-count.ensures.reads
-          (λ told. rw (c.deref.ensures.value, filled) at (c.in_ok-write_all.ensures.writes.takes (before.writer_tells ∙ told)));
+          (λ told. rw (c.deref.ensures.value, filled) at (c.in_ok-write_all.ensures.writes.takes_all (before.writer_tells ∙ told)));
     }

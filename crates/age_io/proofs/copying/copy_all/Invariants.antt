@@ -1,5 +1,7 @@
 use Rattle.std.proofs.Common.{◌≡◌, ◌<◌, ◌≤◌, IsTrue, length}
 use Rattle.age_io.proofs.Copied.{IsCopied}
+use Rattle.age_io.specs.Writing.{Retried}
+use Rattle.age_io.proofs.Appending.{HasLeft}
 use Rattle.age_io.proofs.copying.copy_all.Given as goal
 
 abbrev pub invariant-loop-piece : goal.invariant-loop-piece
@@ -9,7 +11,8 @@ invariant-loop-piece g l =
     record {
       reader_tells : reader.tells l.reader ≡ reader.tells l.fn.reader;
       writer_tells : writer.tells l.writer ≡ writer.tells l.fn.writer;
-      limited : writer.limited l.writer ≡ writer.limited l.fn.writer;
+      has_left : IsTrue (reader.tells l.fn.reader) →
+          HasLeft (Retried writer.refuses) l.fn.writer l.writer (length (reader.rest l.fn.reader).bytes) (length (reader.rest l.reader).bytes);
       reader_faults : reader.faults l.fn.reader ≤ reader.faults l.reader;
       writer_faults : writer.faults l.fn.writer ≤ writer.faults l.writer;
       pieces : IsTrue (reader.tells l.fn.reader) → l._piece ≤ reader.place l.reader;

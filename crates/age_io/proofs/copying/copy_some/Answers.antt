@@ -1,6 +1,8 @@
-use Rattle.std.proofs.Common.{◌≡◌, ◌-◌, ◌≤◌, ◌∙◌, arith, length, take, length-take-le}
+use Rattle.std.proofs.Common.{rules, ◌≡◌, ◌-◌, ◌≤◌, inr, ◌∙◌, arith, length, take, length-take-le}
 use Rattle.std.proofs.lemmas.Grind.{common_steps}
-use Rattle.age_io.proofs.Appending.{OnErr-of}
+use Rattle.age_io.specs.Writing.{Retried, OrMemory}
+use Rattle.age_io.specs.WritingLaws.{retried-more}
+use Rattle.age_io.proofs.Appending.{OnErr-of, left-fewer, left-refused}
 use Rattle.age_io.proofs.Copied.{left-unasked}
 use Rattle.age_io.proofs.PartCopied.{part-front, part-unread, part-refused, part-unwritten, part-more}
 use Rattle.age_io.proofs.copying.copy_some.Goals as goal
@@ -33,7 +35,7 @@ returns-in_err-write_all-clause-front g c = λ reader_told writer_told.
     let bytes = take got c.read_retrying.new.buf in
     let size : length bytes ≡ got = length-take-le got c.read_retrying.new.buf reads.count in
     let fits : got ≤ c.pieces.left = grind (arith, common_steps, reads.count) in
-    let refused = c.in_err-write_all.ensures.writes.refuses (before.writer_tells ∙ writer_told) in
+    let refused = c.in_err-write_all.ensures.writes.takes_front (before.writer_tells ∙ writer_told) in
     part-refused read.tells read.steady read.content read.place read.rest read.faults g.W.Write.tells g.W.Write.appended g.met.W.Write.joins
     c.args.count c.pieces.left (c.pieces.left - got) c.args.reader.now c.pieces.reader c.read_retrying.new.reader
     c.args.writer.now c.pieces.writer c.write_all.new.writer bytes refused.0
@@ -50,7 +52,22 @@ returns-in_err-write_all-clause-left g c =
     OnErr-of _ (part-unwritten read.tells read.steady read.content read.place read.rest read.faults g.W.Write.tells g.W.Write.appended g.met.W.Write.joins
     c.args.count c.pieces.left (c.pieces.left - got) c.args.reader.now c.pieces.reader c.read_retrying.new.reader
     c.args.writer.now c.pieces.writer c.write_all.new.writer c.read_retrying.new.buf got
-    before.copied (omega (arith, size, fits)) reads (λ told. c.in_err-write_all.ensures.writes.refuses (before.writer_tells ∙ told)))
+    before.copied (omega (arith, size, fits)) reads (λ told. c.in_err-write_all.ensures.writes.takes_front (before.writer_tells ∙ told)))
+
+pub returns-in_err-write_all-clause-why : goal.returns-in_err-write_all-clause-why
+returns-in_err-write_all-clause-why g c = λ reader_told well quiet.
+    let before = c.pieces.invariant in
+    let reads = c.in_ok-got.ensures.reads in
+    let refuses = Retried g.W.Write.refuses in
+    let e = c.in_err-write_all.field-0.0 in
+    let got = c.in_ok-got.got in
+    let piece = take got c.read_retrying.new.buf in
+    let size : length piece ≡ got = length-take-le got c.read_retrying.new.buf reads.count in
+    let fits : got ≤ c.pieces.left = grind (arith, common_steps, reads.count) in
+    let refused : OrMemory refuses c.args.writer.now c.args.count e =
+    inr (left-refused refuses (retried-more g.W.Write.refuses g.met.W.Write.refuses_more) c.args.writer.now c.pieces.writer
+    c.args.count c.pieces.left (length piece) e (omega (arith, size, fits)) before.has_left c.in_err-write_all.ensures.writes.why) in
+    search rules
 
 pub pieces-preserved : goal.pieces-preserved
 pieces-preserved g c =
@@ -64,7 +81,8 @@ pieces-preserved g c =
     record {
       reader_tells = reads.same_tells ∙ before.reader_tells;
       writer_tells = writes.same_tells ∙ before.writer_tells;
-      limited = writes.same_limited ∙ before.limited;
+      has_left = left-fewer (Retried g.W.Write.refuses) c.args.writer.now c.pieces.writer c.write_all.new.writer c.args.count c.pieces.left
+          (length (take got c.read_retrying.new.buf)) (c.pieces.left - got) (omega (arith, size, fits)) before.has_left writes.narrows;
       reader_faults = omega (arith, before.reader_faults, reads.no_fewer_faults);
       writer_faults = omega (arith, before.writer_faults, writes.no_fewer_faults);
       ends = λ reader_told. (reads.bytes (before.reader_tells ∙ reader_told)).end ∙ before.ends reader_told;
@@ -73,5 +91,5 @@ pieces-preserved g c =
           part-more read.tells read.steady read.content read.place read.rest read.faults g.W.Write.tells g.W.Write.appended g.met.W.Write.joins
           c.args.count c.pieces.left (c.pieces.left - got) c.args.reader.now c.pieces.reader c.read_retrying.new.reader
           c.args.writer.now c.pieces.writer c.write_all.new.writer c.read_retrying.new.buf got
-          before.copied (omega (arith, size, fits)) reads (λ told. writes.takes (before.writer_tells ∙ told));
+          before.copied (omega (arith, size, fits)) reads (λ told. writes.takes_all (before.writer_tells ∙ told));
     }

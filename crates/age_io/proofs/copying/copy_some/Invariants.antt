@@ -1,5 +1,7 @@
 use Rattle.std.proofs.Common.{◌≡◌, ◌<◌, ◌≤◌, IsTrue, length}
 use Rattle.age_io.proofs.PartCopied.{IsPartCopied}
+use Rattle.age_io.specs.Writing.{Retried}
+use Rattle.age_io.proofs.Appending.{HasLeft}
 use Rattle.age_io.proofs.copying.copy_some.Given as goal
 
 abbrev pub invariant-pieces : goal.invariant-pieces
@@ -9,7 +11,7 @@ invariant-pieces g l =
     record {
       reader_tells : reader.tells l.reader ≡ reader.tells l.fn.reader;
       writer_tells : writer.tells l.writer ≡ writer.tells l.fn.writer;
-      limited : writer.limited l.writer ≡ writer.limited l.fn.writer;
+      has_left : HasLeft (Retried writer.refuses) l.fn.writer l.writer l.count l.left;
       reader_faults : reader.faults l.fn.reader ≤ reader.faults l.reader;
       writer_faults : writer.faults l.fn.writer ≤ writer.faults l.writer;
       ends : IsTrue (reader.tells l.fn.reader) → (reader.rest l.reader).ends_well ≡ (reader.rest l.fn.reader).ends_well;

@@ -1,37 +1,23 @@
-use Rattle.std.proofs.Common.{◌≡◌, Ok, Err, refl, sym, subst, string_bytes}
-use Rattle.age_error.specs.EncryptErrors.{encrypt_refusal, encrypt_of_io}
-use Rattle.age_protocol.specs.File.{file_text}
-use Rattle.age_armor.specs.Armor.{armor, Carries}
-use Rattle.age_protocol.specs.File.{file_text}
-use Rattle.age_protocol.proofs.WholeFiles.{seen_refusal, refuses}
+use Rattle.std.proofs.Common.{sym, subst}
+use Rattle.std.proofs.lemmas.Bool.{false≢true}
+use Rattle.std.specs.Str.{IsUtf8}
+use Rattle.age_error.specs.EncryptErrors.{encrypt_refusal}
+use Rattle.age_armor.specs.Armor.{armor}
+use Rattle.age_protocol.specs.WholeFiles.{Encrypts}
+use Rattle.age_protocol.proofs.WholeFiles.{seen_refusal, text-encrypted}
 use Rattle.age_protocol.proofs.simple.encrypt_and_armor.Goals as goal
 
-pub returns-in_err-encryptor : goal.returns-in_err-encryptor
-returns-in_err-encryptor g c =
-    (Err (encrypt_refusal c.in_err-encryptor.field-0.0), c.in_err-encryptor.ensures, seen_refusal _ _ _ _ c.from_residual.ensures.1)
-
-pub returns-in_err-write_armored : goal.returns-in_err-write_armored
-returns-in_err-write_armored g c = (
-  Ok c.in_ok-encryptor.encryptor,
-  c.in_ok-encryptor.ensures,
-  refuses _ (λ e. encrypt_refusal e) _ (encrypt_of_io c.in_err-write_armored.field-0.0) _ _ c.from_residual-in_err-write_armored.ensures.1 (record {
-    error = c.in_err-write_armored.field-0.0;
-    is = refl;
-    too_long = c.in_err-write_armored.ensures.too_long;
-  }),
-)
-
-pub returns : goal.returns
-returns g c =
-    let file = c.in_ok-encryptor.encryptor in
-    let text = file_text g.S.Suite.seal_of file.file_key file.stanzas file.nonce c.args.plaintext.now in
-    let is : string_bytes c.in_ok-write_armored.field-0 ≡ armor text = c.in_ok-write_armored.ensures.text in (
-      Ok file,
-      c.in_ok-encryptor.ensures,
-      record {
-        within = c.in_ok-write_armored.ensures.within;
-        text = is;
-        carries = subst (λ written. Carries written text) (sym is) (c.armor_is_carrying.ensures.itself text c.in_ok-write_armored.ensures.bytes);
-        is_file = c.in_ok-write_armored.ensures.is_file;
-      },
+pub returns-in_err-text : goal.returns-in_err-text
+returns-in_err-text g c =
+    let (outcome, prepared, refused) = c.in_err-text.ensures in (
+      outcome,
+      prepared,
+      subst (λ answer. Encrypts g.S.Suite.seal_of armor c.args.plaintext.now outcome answer)
+          (sym (seen_refusal _ (λ e. encrypt_refusal e) c.from_residual.result c.in_err-text.field-0.0 c.from_residual.ensures.1)) refused,
     )
+
+pub unreachable-requires : goal.unreachable-requires
+unreachable-requires g c =
+    let (outcome, prepared, encrypted) = c.in_ok-text.ensures in
+    let (text, is) = text-encrypted g.S.Suite.seal_of armor c.args.plaintext.now c.in_ok-text.text.items outcome encrypted in
+    false≢true (c.in-Err.ensures.succeeds (subst (λ bytes. IsUtf8 bytes) (sym is) (c.armor_is_text.ensures text)))

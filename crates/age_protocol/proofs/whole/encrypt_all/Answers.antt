@@ -10,3 +10,8 @@ returns-clause-file g c = λ reader_told writer_told.
 pub returns-in_err-encryptor-clause-why : goal.returns-in_err-encryptor-clause-why
 returns-in_err-encryptor-clause-why g c =
     of_error _ _ _ c.from_residual.ensures.1 c.in_err-encryptor.ensures
+
+pub returns-in_err-_out-clause-io : goal.returns-in_err-_out-clause-io
+returns-in_err-_out-clause-io g c =
+    of_error _ _ _ c.from_residual-in_err-_out.ensures.1
+    ((c.in_ok-encryptor.encryptor, c.in_ok-encryptor.ensures), c.in_err-_out.ensures.why)

@@ -1,4 +1,4 @@
-use Rattle.std.proofs.Common.{◌≡◌, ◌∙◌, ℕ, List, [], true, Ok, ap}
+use Rattle.std.proofs.Common.{rules, ◌≡◌, ◌∙◌, ℕ, List, [], true, Ok, ap, inl}
 use Rattle.age_error.specs.Bytes.{AreBytes}
 use Rattle.age_armor.specs.Armor.{armor, Carries}
 use Rattle.age_armor.specs.declared.format.Format.{Format}
@@ -6,6 +6,8 @@ use Rattle.age_armor.specs.declared.format.Format.TheVariants.{Binary, AsciiArmo
 use Rattle.std.proofs.lemmas.List.{append-nil}
 use Rattle.age_armor.specs.Writing.{inner_of, text_of}
 use Rattle.age_protocol.specs.File.{file_text}
+use Rattle.age_protocol.proofs.Fronts.{of_error}
+use Rattle.age_protocol.proofs.Refusing.{is-good, front-refused, stands-over, copy-refused, later-refused, armor-refused, out-refused}
 use Rattle.age_protocol.proofs.whole.write_file.Goals as goal
 
 -- either form of the text carries it
@@ -40,3 +42,55 @@ returns-clause-file g c = λ reader_told writer_told.
           (λ are. c.files_carry_themselves.ensures _ _ _ text are (started.is_file (g.R.Read.rest c.args.reader.now).bytes)) (λ are. c.armor_is_carrying.ensures.itself text are);
       out = rw append-nil at (g.met.W.Write.joins _ _ _ (text_of c.args.format text) [] written nothing);
     }
+
+pub returns-in_err-stream-clause-why : goal.returns-in_err-stream-clause-why
+returns-in_err-stream-clause-why g c = λ reader_told well quiet.
+    let given_up = c.in_err-stream.ensures.refused in
+    of_error _ _ _ c.from_residual-in_err-stream.ensures.1
+    (front-refused g.W.Write.refuses _ c.args.writer c.in_ok-armored.armored _ _ _ c.in_ok-armored.ensures.narrows given_up.1.why)
+
+pub returns-in_err-copy_all-clause-why : goal.returns-in_err-copy_all-clause-why
+returns-in_err-copy_all-clause-why g c = λ reader_told well quiet.
+    let made = c.in_ok-armored.ensures in
+    let started = c.in_ok-stream.ensures.starts in
+    let over = stands-over g.W.Write.refuses _ _ c.args.writer c.in_ok-armored.armored started.inner c.in_ok-stream.stream made.narrows started.narrows started.made in
+    of_error _ _ _ c.from_residual-in_err-copy_all.ensures.1
+    (copy-refused g.W.Write.refuses c.args.writer c.in_ok-stream.stream over _ _ (c.in_err-copy_all.ensures.why reader_told well quiet))
+
+pub returns-in_err-finished-clause-why : goal.returns-in_err-finished-clause-why
+returns-in_err-finished-clause-why g c = λ reader_told well quiet.
+    let made = c.in_ok-armored.ensures in
+    let started = c.in_ok-stream.ensures.starts in
+    let over = stands-over g.W.Write.refuses _ _ c.args.writer c.in_ok-armored.armored started.inner c.in_ok-stream.stream made.narrows started.narrows started.made in
+    let later = c.copy_all.new.writer in
+    let narrows = c.in_ok-copy_all.ensures.narrows reader_told in
+    of_error _ _ _ c.from_residual-in_err-finished.ensures.1
+    (later-refused g.W.Write.refuses c.args.writer c.in_ok-stream.stream over later _ narrows _ c.in_err-finished.ensures.why)
+
+pub returns-in_err-out-clause-why : goal.returns-in_err-out-clause-why
+returns-in_err-out-clause-why g c = λ reader_told well quiet.
+    let made = c.in_ok-armored.ensures in
+    let started = c.in_ok-stream.ensures.starts in
+    let over = stands-over g.W.Write.refuses _ _ c.args.writer c.in_ok-armored.armored started.inner c.in_ok-stream.stream made.narrows started.narrows started.made in
+    let later = c.copy_all.new.writer in
+    let narrows = c.in_ok-copy_all.ensures.narrows reader_told in
+    let sealed = c.in_ok-finished.ensures in
+    let good = is-good later.failed (λ failed. search rules) in
+    of_error _ _ _ c.from_residual-in_err-out.ensures.1
+    (armor-refused g.W.Write.refuses c.args.writer c.in_ok-stream.stream over later _ narrows c.in_ok-finished.finished good sealed.narrows _
+    (0, inl (c.in_err-out.ensures.patient, c.in_err-out.ensures.why)))
+
+pub returns-in_err-flush_retrying-clause-why : goal.returns-in_err-flush_retrying-clause-why
+returns-in_err-flush_retrying-clause-why g c = λ reader_told well quiet.
+    let made = c.in_ok-armored.ensures in
+    let started = c.in_ok-stream.ensures.starts in
+    let over = stands-over g.W.Write.refuses _ _ c.args.writer c.in_ok-armored.armored started.inner c.in_ok-stream.stream made.narrows started.narrows started.made in
+    let later = c.copy_all.new.writer in
+    let narrows = c.in_ok-copy_all.ensures.narrows reader_told in
+    let sealed = c.in_ok-finished.ensures in
+    let done = c.in_ok-out.ensures in
+    let good = is-good later.failed (λ failed. search rules) in
+    let done_good = is-good c.in_ok-finished.finished.failed (λ failed. search rules) in
+    of_error _ _ _ c.from_residual-in_err-flush_retrying.ensures.1
+    (out-refused g.W.Write.refuses c.args.writer c.in_ok-stream.stream over later _ narrows c.in_ok-finished.finished c.in_ok-out.out good done_good
+    sealed.narrows done.narrows _ (0, c.in_err-flush_retrying.ensures.flushes.why))

@@ -4,4 +4,4 @@ use Rattle.age_stream.proofs.laws.writer_law.Goals as goal
 
 pub returns : goal.returns
 returns g c = λ good. let writer = c.args.writer.now in
-    sent-so_far g.S.Suite.seal_of g.W.Write.limited g.W.Write.appended writer (omega (arith, writer.one_piece, writer.held.ok.0)) good
+    sent-so_far g.S.Suite.seal_of g.W.Write.appended writer (omega (arith, writer.one_piece, writer.held.ok.0)) good

@@ -14,7 +14,7 @@ returns g c = λ fits.
     let plain = c.args.plain.now in
     let text = file_text seal_of prepared.file_key prepared.stanzas prepared.nonce plain in
     let started = c.in_ok-writer.ensures in
-    let taken = c.in_ok-write_all.ensures.writes.takes refl in
+    let taken = c.in_ok-write_all.ensures.writes.takes_all refl in
     let is : c.in_ok-file.file.items ≡ text =
     rw c.new.ensures.items at (started.file refl plain c.write_all.new.writer (Ok c.in_ok-file.file) taken (c.in_ok-file.ensures.ok refl)) in
     let written : IsFileOf seal_of prepared.file_key prepared.stanzas plain text = started.is_file plain in

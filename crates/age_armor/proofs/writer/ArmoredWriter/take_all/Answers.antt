@@ -1,6 +1,9 @@
-use Rattle.std.proofs.Common.{◌∙◌, arith, refl, length-drop}
+use Rattle.std.proofs.Common.{rules, ◌∙◌, arith, refl, length-drop}
 use Rattle.std.proofs.lemmas.List.{take_rest, take_all}
 use Rattle.std.proofs.Math.Seq.{take-add}
+use Rattle.std.specs.Prelude.{Ok, Err}
+use Rattle.age_io.specs.Writing.{HandsOn}
+use Rattle.age_io.specs.WritingLaws.{keeps-same, keeps-later, keeps-well}
 use Rattle.age_armor.specs.WritingLaws.{Took-both, Took-nothing}
 use Rattle.age_armor.proofs.writer.ArmoredWriter.take_all.Goals as goal
 
@@ -10,9 +13,7 @@ loop-done-init g c = record {
   roomy = λ _. (omega arith, refl);
   failed = refl;
   same_form = refl;
-  same_tells = refl;
-  same_limited = refl;
-  no_fewer_faults = omega arith;
+  keeps = keeps-same g.W.Write.tells g.W.Write.faults (HandsOn g.W.Write.refuses) c.args.self.now.inner tt;
   took = λ told. Took-nothing g.W.Write.appended c.args.self.now (omega (arith, c.args.self.now.part, c.args.self.now.held.ok.0))
       (g.met.W.Write.appends_nothing c.args.self.now.inner);
 }
@@ -30,12 +31,17 @@ loop-done-preserved g c =
           (omega (arith, first.0, next.0), next.1 ∙ first.1);
       failed = now.failed ∙ before.failed;
       same_form = now.same_form ∙ before.same_form;
-      same_tells = now.inner.same_tells ∙ before.same_tells;
-      same_limited = now.inner.same_limited ∙ before.same_limited;
-      no_fewer_faults = omega (arith, now.inner.no_fewer_faults);
+      keeps = keeps-later g.W.Write.tells g.W.Write.faults (HandsOn g.W.Write.refuses) c.args.self.now.inner c.loop-done.self.inner _
+          tt (Ok tt) before.keeps (keeps-well g.W.Write.tells g.W.Write.faults (HandsOn g.W.Write.refuses) _ _ _ tt now.inner);
       took = λ told. rw (take-add c.loop-done.done c.in_ok-done.field-0 bytes)
-          (Took-both g.W.Write.appended g.met.W.Write.joins _ _ _ _ _ (before.took told) (rw (take_rest bytes c.loop-done.done) at (now.took (before.same_tells ∙ told))));
+          (Took-both g.W.Write.appended g.met.W.Write.joins _ _ _ _ _ (before.took told) (rw (take_rest bytes c.loop-done.done) at (now.took (before.keeps.same_tells ∙ told))));
     }
 
 pub returns-clause-took : goal.returns-clause-took
 returns-clause-took g c = λ told. rw (take_all c.loop-done.done c.args.bytes.now c.loop-done-test.false) at (c.loop-done.invariant.took told)
+
+pub returns-in_err-done-clause-inner : goal.returns-in_err-done-clause-inner
+returns-in_err-done-clause-inner g c = let w = g.W.Write in
+    let refused = keeps-later w.tells w.faults (HandsOn w.refuses) c.args.self.now.inner c.loop-done.self.inner c.take_some.new.self.inner
+    tt (Err c.in_err-done.field-0.0) c.loop-done.invariant.keeps c.in_err-done.ensures.inner in
+    search rules

@@ -1,10 +1,11 @@
 use Rattle.std.proofs.Common.{Err, refl, subst}
 use Rattle.age_error.specs.Bytes.{AreBytes}
-use Rattle.age_io.specs.Writing.{WritesAll}
+use Rattle.age_io.specs.Writing.{WritesAll, Retried, OrMemory}
 use Rattle.age_stream.specs.Writing.{WasMade}
 use Rattle.age_protocol.specs.File.{file_front, file_text, IsFileOf}
 use Rattle.age_protocol.specs.Starting.{Starts}
 use Rattle.age_protocol.proofs.Files.{front_is, writes_file, is_file, file_bytes}
+use Rattle.age_protocol.proofs.Refusing.{front-narrows}
 use Rattle.age_protocol.proofs.Fronts.{of_error}
 use Rattle.age_protocol.proofs.encryptor.Encryptor.wrap_output.Goals as goal
 
@@ -14,17 +15,17 @@ returns-in_err-room-clause-refused g c =
     let written = c.in_err-room.ensures.writes in
     of_error _ c.in_err-room.field-0.0 _ c.from_residual.ensures.1 (
       c.write_front.new.output,
-      subst (λ file. WritesAll {T = Unit {0}} g.W.Write.tells g.W.Write.limited g.W.Write.faults g.W.Write.appended c.args.output c.write_front.new.output
+      subst (λ file. WritesAll {T = Unit {0}} g.W.Write.tells g.W.Write.faults (OrMemory (Retried g.W.Write.refuses)) g.W.Write.appended c.args.output c.write_front.new.output
           (file_front file.file_key file.stanzas file.nonce) (Err c.in_err-room.field-0.0)) c.self.view_is
-          (subst (λ front. WritesAll {T = Unit {0}} g.W.Write.tells g.W.Write.limited g.W.Write.faults g.W.Write.appended c.args.output c.write_front.new.output
+          (subst (λ front. WritesAll {T = Unit {0}} g.W.Write.tells g.W.Write.faults (OrMemory (Retried g.W.Write.refuses)) g.W.Write.appended c.args.output c.write_front.new.output
           front (Err c.in_err-room.field-0.0)) (front_is inside.file_key inside.header inside.nonce _ c.self.invariant refl) (record {
             same_tells = written.same_tells;
-            same_limited = written.same_limited;
             no_fewer_faults = written.no_fewer_faults;
             device = written.device;
-            unlimited = written.unlimited;
-            takes = written.takes;
-            refuses = written.refuses;
+            why = written.why;
+            narrows = tt;
+            takes_all = written.takes_all;
+            takes_front = written.takes_front;
           })),
     )
 
@@ -32,18 +33,18 @@ pub returns-clause-starts : goal.returns-clause-starts
 returns-clause-starts g c =
     let inside = c.self.inside in
     let written = c.in_ok-room.ensures.writes in
-    subst (λ file. Starts g.W.Write.tells g.W.Write.limited g.W.Write.faults g.W.Write.appended file c.args.output c.with_room.result) c.self.view_is (record {
+    subst (λ file. Starts g.W.Write.tells g.W.Write.faults g.W.Write.refuses g.W.Write.appended file c.args.output c.with_room.result) c.self.view_is (record {
       inner = c.write_front.new.output;
       made = subst (λ key. WasMade key c.write_front.new.output c.with_room.result) c.payload_key_of-key.ensures c.with_room.ensures.made;
       same_tells = written.same_tells;
-      same_limited = written.same_limited;
       no_fewer_faults = written.no_fewer_faults;
+      narrows = front-narrows g.W.Write.refuses c.args.output c.write_front.new.output _ written.narrows;
       front = λ told. subst (λ front. g.W.Write.appended c.args.output front c.write_front.new.output)
-          (front_is inside.file_key inside.header inside.nonce _ c.self.invariant refl) (written.takes told);
+          (front_is inside.file_key inside.header inside.nonce _ c.self.invariant refl) (written.takes_all told);
     })
 
 pub returns-clause-file : goal.returns-clause-file
-returns-clause-file g c = λ told. writes_file g.S.Suite.seal_of g.W.Write.tells g.W.Write.limited g.W.Write.faults g.W.Write.appended _
+returns-clause-file g c = λ told. writes_file g.S.Suite.seal_of g.W.Write.tells g.W.Write.faults g.W.Write.refuses g.W.Write.appended _
     g.met.W.Write.joins c.args.self c.args.output c.with_room.result told (returns-clause-starts g c)
 
 pub returns-clause-is_file : goal.returns-clause-is_file

@@ -1,4 +1,4 @@
-use Rattle.std.proofs.Common.{◌≡◌, ◌∙◌, ℕ, ◌+◌, ◌-◌, ◌*◌, ◌≤◌, ◌++◌, Bool, List, [], length, drop, sym, ap, refl, inl, inr, arith, length-drop, false, true}
+use Rattle.std.proofs.Common.{◌≡◌, ◌∙◌, ℕ, ◌+◌, ◌-◌, ◌*◌, ◌≤◌, ◌++◌, List, length, drop, sym, ap, inl, inr, arith, length-drop}
 use Rattle.std.proofs.lemmas.Bool.{true≢false}
 use Rattle.age_stream.specs.Writing.{WasMade, Took}
 use Rattle.age_stream.specs.WritingLaws.{sealed-last}
@@ -8,17 +8,17 @@ use Rattle.age_stream.proofs.writer.StreamWriter.finish.Goals as goal
 
 pub returns-clause-ok : goal.returns-clause-ok
 returns-clause-ok g c = λ told. let writer = c.args.self in
-    sealed-last g.S.Suite.seal_of g.W.Write.limited g.W.Write.appended g.met.W.Write.joins writer c.write_chunk.new.inner
-    (omega (arith, writer.one_piece, writer.held.ok.0)) c.if-failed.false (rw c.deref.ensures.value at (c.in_ok-write_chunk.ensures.takes told))
+    sealed-last g.S.Suite.seal_of g.W.Write.appended g.met.W.Write.joins writer c.write_chunk.new.inner
+    (omega (arith, writer.one_piece, writer.held.ok.0)) c.if-failed.false (rw c.deref.ensures.value at (c.in_ok-write_chunk.ensures.sent told))
 
 counted : (sealed count size held : ℕ) → sealed ≡ 0 + count → 65536 * count ≤ size → held ≡ size - 65536 * count → 65536 * sealed + held ≡ size
 counted sealed count size held same fits is = omega (arith, same, fits, is)
 
 -- of a writer that was made empty, what it sealed and what it holds are what it took
-all_taken : {S W : Type 0} (seal_of : Seal) (limited : W → Bool) (appended : W → List ℕ → W → Type 0) (key plain : List ℕ) (first : W)
-    (start writer : StreamWriter S W) → WasMade key first start → Took seal_of limited appended start plain writer
+all_taken : {S W : Type 0} (seal_of : Seal) (appended : W → List ℕ → W → Type 0) (key plain : List ℕ) (first : W)
+    (start writer : StreamWriter S W) → WasMade key first start → Took seal_of appended start plain writer
     → 65536 * writer.sealed + length writer.held.items ≡ length plain
-all_taken seal_of limited appended key plain first start writer made took =
+all_taken seal_of appended key plain first start writer made took =
     let sending = took.sending in
     let text : start.held.items ++ plain ≡ plain = ap (λ l. l ++ plain) made.none_held in
     let held : length writer.held.items ≡ length (drop (65536 * sending.count) plain) = ap length (sending.held ∙ ap (drop (65536 * sending.count)) text) in
@@ -32,6 +32,6 @@ returns-clause-within g c = λ start key plain first made appended.
     elim appended [
       | inl failed ↦ absurd (true≢false (sym failed ∙ c.if-failed.false))
       | inr good ↦
-          let all = all_taken g.S.Suite.seal_of g.W.Write.limited g.W.Write.appended key plain first start writer made good.2 in
+          let all = all_taken g.S.Suite.seal_of g.W.Write.appended key plain first start writer made good.2 in
           omega (arith, all, writer.in_limit, writer.held.ok.0)
     ]

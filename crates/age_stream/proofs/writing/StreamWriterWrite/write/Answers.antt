@@ -1,16 +1,36 @@
-use Rattle.std.proofs.Common.{refl, arith}
-use Rattle.std.proofs.lemmas.Bool.{true≢false}
-use Rattle.age_stream.specs.WritingLaws.{Appended-nothing}
+use Rattle.std.proofs.Common.{refl, arith, inl, inr, ◌∙◌, length}
+use Rattle.std.proofs.lemmas.List.{take_all}
+use Rattle.age_stream.specs.WritingLaws.{Appended-nothing, Refused-narrows}
 use Rattle.age_stream.proofs.writing.StreamWriterWrite.write.Goals as goal
 
 pub returns-then-bytes-taken-clause-writes : goal.returns-then-bytes-taken-clause-writes
 returns-then-bytes-taken-clause-writes g c = record {
   count = tt;
   same_tells = refl;
-  same_limited = refl;
   no_fewer_faults = omega arith;
   device = λ is. absurd is;
-  unlimited = λ none. absurd (true≢false none);
-  takes = λ told. tt;
-  refuses = λ told. Appended-nothing g.S.Suite.seal_of g.W.Write.limited g.W.Write.appended g.met.W.Write.appends_nothing c.args.self.now;
+  why = inr (c.if-self.false, inl (refl, omega arith));
+  takes_none = tt;
+  narrows = tt;
+  interrupted = λ is. absurd is;
+  takes_front = λ told. tt;
+  takes_nothing = λ told. Appended-nothing g.S.Suite.seal_of g.W.Write.appended g.met.W.Write.appends_nothing c.args.self.now;
 }
+
+pub returns-in-Ok-clause-writes : goal.returns-in-Ok-clause-writes
+returns-in-Ok-clause-writes g c =
+    let took = c.in-Ok.ensures in
+    let bytes = c.args.bytes.now in
+    record {
+      count = omega arith;
+      same_tells = took.inner.same_tells;
+      no_fewer_faults = took.inner.no_fewer_faults;
+      device = tt;
+      why = tt;
+      takes_none = λ none some. absurd (omega (arith, none, some));
+      narrows = Refused-narrows g.W.Write.refuses c.args.self.now c.take_all.new.self (length bytes) c.if-self.false
+          (took.failed ∙ c.if-self.false) took.total took.inner.narrows;
+      interrupted = tt;
+      takes_front = λ told. inr (c.if-self.false, took.failed ∙ c.if-self.false, rw (take_all (length bytes) bytes (omega arith)) (took.took told));
+      takes_nothing = λ told. tt;
+    }

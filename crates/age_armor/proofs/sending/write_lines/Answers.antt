@@ -1,0 +1,6 @@
+use Rattle.age_io.specs.WritingLaws.{keeps-writer}
+use Rattle.age_armor.proofs.sending.write_lines.Goals as goal
+
+pub returns-clause-keeps : goal.returns-clause-keeps
+returns-clause-keeps g c = let w = g.W.Write in
+    keeps-writer w.tells w.faults w.refuses w.appended _ _ _ c.write_all.result c.write_all.ensures.writes

@@ -1,0 +1,13 @@
+pub mod Lists
+pub mod Numbers
+pub mod Spelling
+pub mod Payloads
+pub mod Separating
+pub mod Written
+pub mod Cases
+pub mod OneSymbol
+pub mod Existing
+pub mod Readings
+pub mod Regrouping
+pub mod Xor
+pub mod Remainders

@@ -1,0 +1,5 @@
+pub mod Symbols
+pub mod Remainder
+pub mod Groups
+pub mod Bech32
+pub mod Refusals

@@ -1,0 +1,95 @@
+//! The symbols and the case of letters (BIP 173, "Bech32").
+ghost use Rattle.std.specs.Prelude.{◌≡◌, ◌≢◌, ℕ, ◌<◌, ◌^◌, ◌++◌, map, MatchResult, MatchBool, MatchOption, OnOk, string_bytes, All, List};
+ghost use Rattle.std.specs.Char.{to_ascii_lowercase};
+ghost use Rattle.age_bech32.specs.Symbols.{IsOneCase, has_lower, has_upper, lowered, symbol, symbol_in};
+ghost use Rattle.age_bech32.specs.Refusals.{IfInvalid};
+
+use crate::error::Bech32Error;
+use std::alloc::{AllocError, Global};
+
+const SYMBOLS: &[u8; 32] = b"qpzry9x8gf2tvdw0s3jn54khce6mua7l";
+
+/// Whether a letter is in upper case.
+pub fn has_upper(text: &[u8]) -> bool
+    ensures { result ≡ has_upper text.now }
+{
+    text.iter().any(|byte| byte.is_ascii_uppercase())
+}
+
+/// Whether a letter is in lower case.
+fn has_lower(text: &[u8]) -> bool
+    ensures { result ≡ has_lower text.now }
+{
+    text.iter().any(|byte| byte.is_ascii_lowercase())
+}
+
+/// Whether not both cases stand in one text.
+pub fn is_one_case(text: &[u8]) -> bool
+    ensures { MatchBool result (IsOneCase text.now) (IsOneCase text.now → ⊥) }
+{
+    if has_upper(text) {
+        return !has_lower(text);
+    }
+    true
+}
+
+/// The symbol of a value, in lower case.
+fn symbol_of(value: u8) -> u8
+    requires { value < 2 ^ 5 }
+    ensures { result ≡ symbol value }
+{
+    SYMBOLS[usize::from(value)]
+}
+
+/// The symbol of a value, in upper case where asked.
+fn symbol_in(value: u8, upper: bool) -> u8
+    requires { value < 2 ^ 5 }
+    ensures symbol { result ≡ symbol_in upper value }
+    ensures ascii { result < 128 }
+{
+    let symbol = symbol_of(value);
+    if upper {
+        return symbol.to_ascii_uppercase();
+    }
+    symbol
+}
+
+/// The value of a symbol in either case, where it is one.
+fn value_of(byte: u8) -> Option<u8>
+    ensures { MatchOption result ((value : ℕ) → value < 2 ^ 5 → to_ascii_lowercase byte ≢ symbol value)
+        (λ value. (value < 2 ^ 5) × (to_ascii_lowercase byte ≡ symbol value)) }
+{
+    let lower = byte.to_ascii_lowercase();
+    for value in 0..32 {
+        if SYMBOLS[usize::from(value)] == lower {
+            return Some(value);
+        }
+    }
+    None
+}
+
+/// The values of symbols. `Invalid` where a byte is no symbol.
+pub fn values_of(alloc: Global, text: &[u8]) -> Result<Vec<u8>, Bech32Error>
+    ensures { MatchResult result (λ v. (lowered text.now ≡ map symbol v.items) × All (λ value. value < 2 ^ 5) v.items)
+        (λ e. IfInvalid e ((values : List ℕ) → All (λ value. value < 2 ^ 5) values → lowered text.now ≢ map symbol values)) }
+{
+    let mut values = Vec::new(alloc);
+    for byte in text {
+        match value_of(*byte) {
+            Some(value) => values.push(value)?,
+            None => return Err(Bech32Error::Invalid),
+        }
+    }
+    Ok(values)
+}
+
+/// Writes the symbols of values after a text, in upper case where asked.
+pub fn push_symbols(text: &mut String, values: &[u8], upper: bool) -> Result<(), AllocError>
+    requires { All (λ value. value < 2 ^ 5) values.now }
+    ensures { OnOk result (string_bytes text.new ≡ string_bytes text.old ++ map (symbol_in upper) values.now) }
+{
+    for value in values {
+        text.push(char::from(symbol_in(*value, upper)))?;
+    }
+    Ok(())
+}

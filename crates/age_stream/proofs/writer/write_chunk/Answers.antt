@@ -1,0 +1,8 @@
+use Rattle.age_io.specs.WritingLaws.{keeps-writer}
+use Rattle.age_stream.specs.SendingLaws.{keeps-chunk}
+use Rattle.age_stream.proofs.writer.write_chunk.Goals as goal
+
+pub returns-clause-keeps : goal.returns-clause-keeps
+returns-clause-keeps g c = let w = g.W.Write in
+    keeps-chunk w.refuses w.tells w.faults _ _ c.write_all.result
+    (keeps-writer w.tells w.faults w.refuses w.appended _ _ _ c.write_all.result c.write_all.ensures.writes)
