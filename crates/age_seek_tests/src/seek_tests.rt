@@ -235,15 +235,55 @@ fn is_read_up_to<R: Seek + Drop>(
     gives(rt, alloc, &mut reader, plain, error)
 }
 
+// So it does bare, and in each of its texts in armor.
+fn all_read_up_to(
+    rt: &impl Abort,
+    alloc: Global,
+    payload: &[u8],
+    plain: &[u8],
+    error: Error,
+) -> Result<(), Fail> {
+    is_read_up_to(rt, alloc, Bytes::new(payload), plain, error)?;
+    for text in &armored_texts(alloc, payload)? {
+        let armored = ArmoredReader::new(alloc, Bytes::new(text))?;
+        is_read_up_to(rt, alloc, armored, plain, error)?;
+    }
+    Ok(())
+}
+
+// Two chunks, the first under this nonce, and the second sealed as the last.
+fn chunks<S: Suite>(
+    alloc: Global,
+    nonce: &[u8; 12],
+    first: &[u8],
+    second: &[u8],
+) -> Result<Vec<u8>, Fail> {
+    let mut payload = S::seal(alloc, &KEY, nonce, first)?;
+    payload.extend_from_slice(&S::seal(alloc, &KEY, &SECOND_AS_LAST, second)?)?;
+    Ok(payload)
+}
+
+// Its texts in armor have no length either.
+fn texts_have_no_length(
+    rt: &impl Abort,
+    alloc: Global,
+    texts: &[Vec<u8>],
+    to: SeekFrom,
+) -> Result<(), Fail> {
+    for text in texts {
+        let armored = ArmoredReader::new(alloc, Bytes::new(text))?;
+        has_no_length::<BenchSuite, _>(rt, alloc, armored, to)?;
+    }
+    Ok(())
+}
+
 #[test]
 fn an_empty_last_chunk_after_a_full_one(rt: HostRuntime) -> Result<(), Fail> {
     let alloc = rt.alloc();
     let plain = plaintext(alloc, 65_536)?;
-    let mut payload = BenchSuite::seal(alloc, &KEY, &FIRST_AS_MIDDLE, &plain)?;
-    payload.extend_from_slice(&BenchSuite::seal(alloc, &KEY, &SECOND_AS_LAST, &[])?)?;
+    let payload = chunks::<BenchSuite>(alloc, &FIRST_AS_MIDDLE, &plain, &[])?;
     assert_eq!(rt; payload.len(), 65_568);
-    let mut other = OtherSuite::seal(alloc, &KEY, &FIRST_AS_MIDDLE, &plain)?;
-    other.extend_from_slice(&OtherSuite::seal(alloc, &KEY, &SECOND_AS_LAST, &[])?)?;
+    let other = chunks::<OtherSuite>(alloc, &FIRST_AS_MIDDLE, &plain, &[])?;
     let texts = armored_texts(alloc, &payload)?;
     for to in [
         SeekFrom::End(0),
@@ -253,23 +293,9 @@ fn an_empty_last_chunk_after_a_full_one(rt: HostRuntime) -> Result<(), Fail> {
     ] {
         has_no_length::<OtherSuite, _>(&rt, alloc, Bytes::new(&other), to)?;
         has_no_length::<BenchSuite, _>(&rt, alloc, Bytes::new(&payload), to)?;
-        for text in &texts {
-            let armored = ArmoredReader::new(alloc, Bytes::new(text))?;
-            has_no_length::<BenchSuite, _>(&rt, alloc, armored, to)?;
-        }
+        texts_have_no_length(&rt, alloc, &texts, to)?;
     }
-    is_read_up_to(
-        &rt,
-        alloc,
-        Bytes::new(&payload),
-        &plain,
-        Error::LastChunkEmpty,
-    )?;
-    for text in &texts {
-        let armored = ArmoredReader::new(alloc, Bytes::new(text))?;
-        is_read_up_to(&rt, alloc, armored, &plain, Error::LastChunkEmpty)?;
-    }
-    Ok(())
+    all_read_up_to(&rt, alloc, &payload, &plain, Error::LastChunkEmpty)
 }
 
 // A full chunk sealed as the last, and a second sealed as the last after it.
@@ -299,28 +325,27 @@ fn has_two_last_chunks<S: Suite, R: Seek + Drop>(
     Ok(())
 }
 
+// Bare, and in each of its texts in armor.
+fn all_have_two_last_chunks(rt: &impl Abort, alloc: Global, plain: &[u8]) -> Result<(), Fail> {
+    let payload = chunks::<BenchSuite>(alloc, &FIRST_AS_LAST, plain, &[25])?;
+    has_two_last_chunks::<BenchSuite, _>(rt, alloc, Bytes::new(&payload), plain)?;
+    for text in &armored_texts(alloc, &payload)? {
+        let armored = ArmoredReader::new(alloc, Bytes::new(text))?;
+        has_two_last_chunks::<BenchSuite, _>(rt, alloc, armored, plain)?;
+    }
+    Ok(())
+}
+
 #[test]
 fn bytes_after_the_last_chunk(rt: HostRuntime) -> Result<(), Fail> {
     let alloc = rt.alloc();
     let plain = plaintext(alloc, 65_536)?;
-    let mut one = BenchSuite::seal(alloc, &KEY, &FIRST_AS_LAST, &plain)?;
-    let mut two = Vec::from_slice(alloc, &one)?;
-    two.extend_from_slice(&BenchSuite::seal(alloc, &KEY, &SECOND_AS_LAST, &[25])?)?;
-    one.push(0)?;
-    has_two_last_chunks::<BenchSuite, _>(&rt, alloc, Bytes::new(&two), &plain)?;
-    let mut other = OtherSuite::seal(alloc, &KEY, &FIRST_AS_LAST, &plain)?;
-    other.extend_from_slice(&OtherSuite::seal(alloc, &KEY, &SECOND_AS_LAST, &[25])?)?;
+    all_have_two_last_chunks(&rt, alloc, &plain)?;
+    let other = chunks::<OtherSuite>(alloc, &FIRST_AS_LAST, &plain, &[25])?;
     has_two_last_chunks::<OtherSuite, _>(&rt, alloc, Bytes::new(&other), &plain)?;
-    for text in &armored_texts(alloc, &two)? {
-        let armored = ArmoredReader::new(alloc, Bytes::new(text))?;
-        has_two_last_chunks::<BenchSuite, _>(&rt, alloc, armored, &plain)?;
-    }
-    is_read_up_to(&rt, alloc, Bytes::new(&one), &plain, Error::AfterLast)?;
-    for text in &armored_texts(alloc, &one)? {
-        let armored = ArmoredReader::new(alloc, Bytes::new(text))?;
-        is_read_up_to(&rt, alloc, armored, &plain, Error::AfterLast)?;
-    }
-    Ok(())
+    let mut one = BenchSuite::seal(alloc, &KEY, &FIRST_AS_LAST, &plain)?;
+    one.push(0)?;
+    all_read_up_to(&rt, alloc, &one, &plain, Error::AfterLast)
 }
 
 // A bad chunk is passed over by a seek, and good chunks after it are read.
