@@ -56,8 +56,8 @@ fn gives<S: Suite, R: Read>(
     Ok(())
 }
 
-// Seeks in a payload of 102,400 bytes of plaintext, and a read after each.
-fn moves_a_cursor<S: Suite, R: Seek>(rt: &impl Abort, reader: &mut StreamReader<S, R>) {
+// Refused seeks in a payload of 102,400 bytes of plaintext, from its front on, and a read after each.
+fn stays_where_it_is<S: Suite, R: Seek>(rt: &impl Abort, reader: &mut StreamReader<S, R>) {
     assert_eq!(rt; reader.seek(SeekFrom::Start(102_401)), Err(Error::PastEnd));
     reads(rt, reader, 0);
     assert_eq!(rt; reader.seek(SeekFrom::Start(0)), Ok(0));
@@ -78,6 +78,11 @@ fn moves_a_cursor<S: Suite, R: Seek>(rt: &impl Abort, reader: &mut StreamReader<
         Err(Error::BeforeStart)
     );
     reads(rt, reader, 11);
+}
+
+// Seeks in a payload of 102,400 bytes of plaintext, from its front on, and a read after each.
+fn moves_a_cursor<S: Suite, R: Seek>(rt: &impl Abort, reader: &mut StreamReader<S, R>) {
+    stays_where_it_is(rt, reader);
     assert_eq!(rt; reader.seek(SeekFrom::End(0)), Ok(102_400));
     ends(rt, reader);
     assert_eq!(rt; reader.seek(SeekFrom::Start(102_400)), Ok(102_400));
@@ -90,33 +95,36 @@ fn moves_a_cursor<S: Suite, R: Seek>(rt: &impl Abort, reader: &mut StreamReader<
     ends(rt, reader);
 }
 
+// The payload that this reader gives.
+fn is_a_cursor<S: Suite, R: Seek + Drop>(
+    rt: &impl Abort,
+    alloc: Global,
+    inner: R,
+) -> Result<(), Fail> {
+    let mut reader = StreamReader::<S, R>::with_payload_key(alloc, KEY, inner)?;
+    moves_a_cursor(rt, &mut reader);
+    Ok(())
+}
+
 #[test]
 fn seeks_move_a_cursor(rt: HostRuntime) -> Result<(), Fail> {
     let alloc = rt.alloc();
     let payload = seal_whole::<BenchSuite>(alloc, &KEY, &plaintext(alloc, 102_400)?)?;
     assert_eq!(rt; payload.len(), 102_432);
-    let mut reader = Reader::with_payload_key(alloc, KEY, Bytes::new(&payload))?;
-    moves_a_cursor(&rt, &mut reader);
-    let buffered = BufReader::new(alloc, Bytes::new(&payload))?;
-    let mut reader = StreamReader::<BenchSuite, _>::with_payload_key(alloc, KEY, buffered)?;
-    moves_a_cursor(&rt, &mut reader);
+    is_a_cursor::<BenchSuite, _>(&rt, alloc, Bytes::new(&payload))?;
+    is_a_cursor::<BenchSuite, _>(&rt, alloc, BufReader::new(alloc, Bytes::new(&payload))?)?;
     for text in &armored_texts(alloc, &payload)? {
         let armored = ArmoredReader::new(alloc, Bytes::new(text))?;
-        let mut reader = StreamReader::<BenchSuite, _>::with_payload_key(alloc, KEY, armored)?;
-        moves_a_cursor(&rt, &mut reader);
+        is_a_cursor::<BenchSuite, _>(&rt, alloc, armored)?;
     }
     let other = seal_whole::<OtherSuite>(alloc, &KEY, &plaintext(alloc, 102_400)?)?;
-    let bytes = Bytes::new(&other);
-    moves_a_cursor(&rt, &mut OtherReader::with_payload_key(alloc, KEY, bytes)?);
-    Ok(())
+    is_a_cursor::<OtherSuite, _>(&rt, alloc, Bytes::new(&other))
 }
 
-// The answers of a list of reads and seeks in a payload of 200,000 bytes of plaintext.
-fn answers_a_list<S: Suite>(rt: &impl Abort, alloc: Global) -> Result<(), Fail> {
-    let plain = plaintext(alloc, 200_000)?;
-    let payload = seal_whole::<S>(alloc, &KEY, &plain)?;
-    let bytes = Bytes::new(&payload);
-    let mut reader = StreamReader::<S, Bytes>::with_payload_key(alloc, KEY, bytes)?;
+// The answers of a list of reads and seeks in the payload of this plaintext, of 200,000 bytes.
+fn answers<S: Suite>(alloc: Global, plain: &[u8]) -> Result<Vec<Answer>, Fail> {
+    let payload = seal_whole::<S>(alloc, &KEY, plain)?;
+    let mut reader = StreamReader::<S, Bytes>::with_payload_key(alloc, KEY, Bytes::new(&payload))?;
     let ops = [
         Op::Read(100),
         Op::Seek(SeekFrom::Current(65_436)),
@@ -130,39 +138,54 @@ fn answers_a_list<S: Suite>(rt: &impl Abort, alloc: Global) -> Result<(), Fail> 
         Op::Seek(SeekFrom::Current(-200_000)),
         Op::Read(3),
     ];
-    let answers = run(alloc, &mut reader, &ops)?;
+    Ok(run(alloc, &mut reader, &ops)?)
+}
+
+fn is_bytes(rt: &impl Abort, answer: &Answer, expected: &[u8]) -> Result<(), Fail> {
+    let Answer::Bytes(bytes) = answer else {
+        return Err(Fail::from("no bytes"));
+    };
+    assert!(rt; bytes.as_slice() == expected);
+    Ok(())
+}
+
+fn is_place(rt: &impl Abort, answer: &Answer, place: u64) -> Result<(), Fail> {
+    let Answer::At(at) = answer else {
+        return Err(Fail::from("no place"));
+    };
+    assert_eq!(rt; *at, place);
+    Ok(())
+}
+
+fn is_fault(rt: &impl Abort, answer: &Answer, refusal: Error) -> Result<(), Fail> {
+    let Answer::Fault { got, error } = answer else {
+        return Err(Fail::from("no refusal"));
+    };
+    assert!(rt; got.is_empty());
+    assert_eq!(rt; *error, refusal);
+    Ok(())
+}
+
+fn answers_a_list<S: Suite>(rt: &impl Abort, alloc: Global) -> Result<(), Fail> {
+    let plain = plaintext(alloc, 200_000)?;
+    let answers = answers::<S>(alloc, &plain)?;
     let [a, b, c, d, e, f, g, h, i, j, k] = answers.as_slice() else {
         return Err(Fail::from("another count of answers"));
     };
-    for (answer, from, count) in [
+    for (answer, from, to) in [
         (a, 0, 100),
-        (c, 65_536, 70_000),
-        (f, 199_995, 5),
-        (h, 200_000, 0),
+        (c, 65_536, 135_536),
+        (f, 199_995, 200_000),
+        (h, 200_000, 200_000),
         (k, 0, 3),
     ] {
-        let Answer::Bytes(bytes) = answer else {
-            return Err(Fail::from("no bytes"));
-        };
-        assert!(rt;
-            bytes.as_slice() == part(&plain, from, from.saturating_add(count)),
-            "from {from}"
-        );
+        is_bytes(rt, answer, part(&plain, from, to))?;
     }
     for (answer, place) in [(b, 65_536), (e, 199_995), (g, 200_000), (j, 0)] {
-        let Answer::At(at) = answer else {
-            return Err(Fail::from("no place"));
-        };
-        assert_eq!(rt; *at, place);
+        is_place(rt, answer, place)?;
     }
-    for (answer, refusal) in [(d, Error::BeforeStart), (i, Error::PastEnd)] {
-        let Answer::Fault { got, error } = answer else {
-            return Err(Fail::from("no refusal"));
-        };
-        assert!(rt; got.is_empty());
-        assert_eq!(rt; *error, refusal);
-    }
-    Ok(())
+    is_fault(rt, d, Error::BeforeStart)?;
+    is_fault(rt, i, Error::PastEnd)
 }
 
 #[test]
@@ -348,6 +371,19 @@ fn bytes_after_the_last_chunk(rt: HostRuntime) -> Result<(), Fail> {
     all_read_up_to(&rt, alloc, &one, &plain, Error::AfterLast)
 }
 
+// What is left gives these bytes, and then the clean end.
+fn is_left<S: Suite, R: Read>(
+    rt: &impl Abort,
+    alloc: Global,
+    reader: &mut StreamReader<S, R>,
+    expected: &[u8],
+) -> Result<(), Fail> {
+    let mut read = Vec::new(alloc);
+    assert_eq!(rt; read_to_end(alloc, reader, &mut read), Ok(expected.len()));
+    assert!(rt; read.as_slice() == expected);
+    Ok(())
+}
+
 // A bad chunk is passed over by a seek, and good chunks after it are read.
 fn passes_a_bad_chunk<S: Suite>(rt: &impl Abort, alloc: Global) -> Result<(), Fail> {
     let plain = plaintext(alloc, 200_000)?;
@@ -365,9 +401,7 @@ fn passes_a_bad_chunk<S: Suite>(rt: &impl Abort, alloc: Global) -> Result<(), Fa
         Error::BadChunk,
     )?;
     assert_eq!(rt; reader.seek(SeekFrom::Start(131_072)), Ok(131_072));
-    let mut read = Vec::new(alloc);
-    assert_eq!(rt; read_to_end(alloc, &mut reader, &mut read), Ok(68_928));
-    assert!(rt; read.as_slice() == part(&plain, 131_072, 200_000));
+    is_left(rt, alloc, &mut reader, part(&plain, 131_072, 200_000))?;
     assert_eq!(rt; reader.seek(SeekFrom::Start(100_000)), Ok(100_000));
     gives(rt, alloc, &mut reader, &[], Error::BadChunk)?;
     assert_eq!(rt; reader.seek(SeekFrom::Start(5)), Ok(5));
@@ -444,33 +478,33 @@ fn a_chunk_is_kept_while_it_is_read(rt: HostRuntime) -> Result<(), Fail> {
 }
 
 // A seek, and then reads until the buffer is full or the end comes.
-fn is_read_at_places<S: Suite>(rt: &impl Abort, alloc: Global) -> Result<(), Fail> {
-    let plain = plaintext(alloc, 200_000)?;
-    let payload = seal_whole::<S>(alloc, &KEY, &plain)?;
-    let bytes = Bytes::new(&payload);
-    let mut reader = StreamReader::<S, Bytes>::with_payload_key(alloc, KEY, bytes)?;
-    for (place, length, count, opens) in [
-        (0, 1, 1, 1),
-        (65_530, 10, 10, 1),
-        (60_000, 140_000, 140_000, 4),
-        (199_990, 100, 10, 0),
-        (200_000, 5, 0, 0),
-    ] {
-        let before = reader.opens();
-        let mut room = vec![in alloc; 0; length]?;
-        assert_eq!(rt;
-            reader.read_at(SeekFrom::Start(place), &mut room),
-            Ok(count),
-            "at {place}"
-        );
-        assert!(rt;
-            reader.opens().saturating_sub(before) <= opens,
-            "at {place}"
-        );
-        for (i, byte) in room.iter().take(count).enumerate() {
-            assert_eq!(rt; *byte, ((place as usize).wrapping_add(i) % 251) as u8);
-        }
+fn is_read_at<S: Suite, R: Seek>(
+    rt: &impl Abort,
+    alloc: Global,
+    reader: &mut StreamReader<S, R>,
+    place: u64,
+    length: usize,
+    count: usize,
+    opens: u64,
+) -> Result<(), Fail> {
+    let before = reader.opens();
+    let mut room = vec![in alloc; 0; length]?;
+    assert_eq!(rt;
+        reader.read_at(SeekFrom::Start(place), &mut room),
+        Ok(count),
+        "at {place}"
+    );
+    assert!(rt;
+        reader.opens().saturating_sub(before) <= opens,
+        "at {place}"
+    );
+    for (i, byte) in room.iter().take(count).enumerate() {
+        assert_eq!(rt; *byte, ((place as usize).wrapping_add(i) % 251) as u8);
     }
+    Ok(())
+}
+
+fn is_not_read_outside<S: Suite, R: Seek>(rt: &impl Abort, reader: &mut StreamReader<S, R>) {
     assert_eq!(rt;
         reader.read_at(SeekFrom::Start(200_001), &mut [0]),
         Err(Error::PastEnd)
@@ -479,6 +513,21 @@ fn is_read_at_places<S: Suite>(rt: &impl Abort, alloc: Global) -> Result<(), Fai
         reader.read_at(SeekFrom::End(-200_001), &mut [0]),
         Err(Error::BeforeStart)
     );
+}
+
+fn is_read_at_places<S: Suite>(rt: &impl Abort, alloc: Global) -> Result<(), Fail> {
+    let payload = seal_whole::<S>(alloc, &KEY, &plaintext(alloc, 200_000)?)?;
+    let mut reader = StreamReader::<S, Bytes>::with_payload_key(alloc, KEY, Bytes::new(&payload))?;
+    for (place, length, count, opens) in [
+        (0, 1, 1, 1),
+        (65_530, 10, 10, 1),
+        (60_000, 140_000, 140_000, 4),
+        (199_990, 100, 10, 0),
+        (200_000, 5, 0, 0),
+    ] {
+        is_read_at(rt, alloc, &mut reader, place, length, count, opens)?;
+    }
+    is_not_read_outside(rt, &mut reader);
     assert_eq!(rt; reader.read_at(SeekFrom::End(-1), &mut []), Ok(0));
     reads(rt, &mut reader, 199_999);
     Ok(())
