@@ -66,6 +66,23 @@ fn is_refused(
     Ok(())
 }
 
+// The chunk that is held is no worse for it.
+fn keeps_its_chunk(
+    rt: &impl Abort,
+    alloc: Global,
+    payload: &[u8],
+    done: usize,
+    to: SeekFrom,
+) -> Result<(), Fail> {
+    let steps = steps_before_a_fault(done);
+    let mut reader = after_a_byte(rt, alloc, &steps, payload)?;
+    is_refused(rt, alloc, &mut reader, to)?;
+    assert_eq!(rt; reader.seek(SeekFrom::Start(5)), Ok(5), "after {done}");
+    reads(rt, &mut reader, 5);
+    assert_eq!(rt; reader.opens(), 1);
+    Ok(())
+}
+
 // A seek asks the device nine times: for its place, its end, and a new place, each by three calls. To the end of the
 // plaintext it reads the last chunk by two more, and opens it.
 #[test]
@@ -78,40 +95,59 @@ fn a_seek_meets_a_fault_in_each_of_its_steps(rt: HostRuntime) -> Result<(), Fail
         (SeekFrom::End(0), 11),
     ] {
         for done in 0..calls {
-            let steps = steps_before_a_fault(done);
-            let mut reader = after_a_byte(&rt, alloc, &steps, &payload)?;
-            is_refused(&rt, alloc, &mut reader, to)?;
-            // The chunk that is held is no worse for it.
-            assert_eq!(rt; reader.seek(SeekFrom::Start(5)), Ok(5), "after {done}");
-            reads(&rt, &mut reader, 5);
-            assert_eq!(rt; reader.opens(), 1);
+            keeps_its_chunk(&rt, alloc, &payload, done, to)?;
         }
     }
     Ok(())
 }
 
-// A seek after the fault goes where it should, but where the fault left the device at its end: the third call of those
-// for its place, and of those for its end.
+// A seek after the fault goes where it should.
+fn goes_where_it_should(
+    rt: &impl Abort,
+    alloc: Global,
+    payload: &[u8],
+    done: usize,
+) -> Result<(), Fail> {
+    let steps = steps_before_a_fault(done);
+    let mut reader = after_a_byte(rt, alloc, &steps, payload)?;
+    is_refused(rt, alloc, &mut reader, SeekFrom::End(0))?;
+    assert_eq!(rt;
+        reader.seek(SeekFrom::Start(70_000)),
+        Ok(70_000),
+        "after {done}"
+    );
+    reads(rt, &mut reader, 70_000);
+    assert_eq!(rt; reader.opens(), 2);
+    assert_eq!(rt; reader.seek(SeekFrom::End(0)), Ok(102_400));
+    assert_eq!(rt; reader.read(&mut [0]), Ok(0));
+    assert_eq!(rt; reader.opens(), 2);
+    Ok(())
+}
+
+// But where the fault left the device at its end: the third call of those for its place, and of those for its end.
 #[test]
 fn a_seek_after_a_fault_is_exact(rt: HostRuntime) -> Result<(), Fail> {
     let alloc = rt.alloc();
     let payload = seal_whole::<BenchSuite>(alloc, &KEY, &plaintext(alloc, 102_400)?)?;
     for done in [0, 1, 3, 4, 6, 7, 8, 9, 10] {
-        let steps = steps_before_a_fault(done);
-        let mut reader = after_a_byte(&rt, alloc, &steps, &payload)?;
-        is_refused(&rt, alloc, &mut reader, SeekFrom::End(0))?;
-        assert_eq!(rt;
-            reader.seek(SeekFrom::Start(70_000)),
-            Ok(70_000),
-            "after {done}"
-        );
-        reads(&rt, &mut reader, 70_000);
-        assert_eq!(rt; reader.opens(), 2);
-        assert_eq!(rt; reader.seek(SeekFrom::End(0)), Ok(102_400));
-        assert_eq!(rt; reader.read(&mut [0]), Ok(0));
-        assert_eq!(rt; reader.opens(), 2);
+        goes_where_it_should(&rt, alloc, &payload, done)?;
     }
     Ok(())
+}
+
+// What a seek and the read after it answer, and how many chunks were opened then.
+fn is_done_before_a_fault(
+    rt: &impl Abort,
+    reader: &mut Reader<'_>,
+    to: SeekFrom,
+    answer: Result<u64, Error>,
+    next: Result<usize, Error>,
+    opens: u64,
+) {
+    assert_eq!(rt; reader.seek(to), answer);
+    assert_eq!(rt; reader.read(&mut [0]), next);
+    assert_eq!(rt; reader.opens(), opens);
+    assert_eq!(rt; reader.seek(SeekFrom::End(-1)).is_ok(), next.is_err());
 }
 
 // The seek is done before the fault, and the next call that asks the device meets it.
@@ -135,10 +171,7 @@ fn a_seek_asks_no_more_than_its_steps(rt: HostRuntime) -> Result<(), Fail> {
     ] {
         let steps = steps_before_a_fault(calls);
         let mut reader = after_a_byte(&rt, alloc, &steps, &payload)?;
-        assert_eq!(rt; reader.seek(to), answer);
-        assert_eq!(rt; reader.read(&mut [0]), next);
-        assert_eq!(rt; reader.opens(), opens);
-        assert_eq!(rt; reader.seek(SeekFrom::End(-1)).is_ok(), next.is_err());
+        is_done_before_a_fault(&rt, &mut reader, to, answer, next, opens);
     }
     Ok(())
 }
