@@ -47,6 +47,40 @@ fn a_slice_is_handed_back_whole(rt: HostRuntime) -> Result<(), Fail> {
     Ok(())
 }
 
+// The buffer holds nothing before two bytes are taken, and the third that it read with them after that.
+fn reads_ahead(
+    rt: &impl Abort,
+    alloc: Global,
+    reader: &mut BufReader<Std<Source>>,
+) -> Result<(), Fail> {
+    shows(
+        rt,
+        alloc,
+        &*reader,
+        "BufReader { held: 0, failed: false, .. }",
+    )?;
+    assert!(rt; takes_some(reader, 2));
+    shows(
+        rt,
+        alloc,
+        &*reader,
+        "BufReader { held: 3, failed: false, .. }",
+    )
+}
+
+// The device fails once, and then gives what the buffer hasn't read.
+fn gives_the_rest(rt: &impl Abort, alloc: Global, inner: &mut Std<Source>) -> Result<(), Fail> {
+    let mut room = [0; 4];
+    assert_eq!(rt;
+        inner.read(&mut room),
+        Err(Error::Device(ErrorKind::NotFound))
+    );
+    shows(rt, alloc, &*inner, "Std { faults: 1, .. }")?;
+    assert_eq!(rt; inner.read(&mut room), Ok(3));
+    assert_eq!(rt; room.as_slice(), b"fgh\0".as_slice());
+    Ok(())
+}
+
 #[test]
 fn what_was_read_ahead_is_lost(rt: HostRuntime) -> Result<(), Fail> {
     let alloc = rt.alloc();
@@ -61,30 +95,30 @@ fn what_was_read_ahead_is_lost(rt: HostRuntime) -> Result<(), Fail> {
     let Ok(mut reader) = BufReader::new(alloc, Std::new(source)) else {
         return Err(Fail::from("refused"));
     };
-    shows(
-        &rt,
-        alloc,
-        &reader,
-        "BufReader { held: 0, failed: false, .. }",
-    )?;
-    assert!(rt; takes_some(&mut reader, 2));
-    shows(
-        &rt,
-        alloc,
-        &reader,
-        "BufReader { held: 3, failed: false, .. }",
-    )?;
+    reads_ahead(&rt, alloc, &mut reader)?;
     let mut inner = reader.into_inner();
-    let mut room = [0; 4];
-    assert_eq!(rt;
-        inner.read(&mut room),
-        Err(Error::Device(ErrorKind::NotFound))
-    );
-    shows(&rt, alloc, &inner, "Std { faults: 1, .. }")?;
-    assert_eq!(rt; inner.read(&mut room), Ok(3));
-    assert_eq!(rt; room.as_slice(), b"fgh\0".as_slice());
+    gives_the_rest(&rt, alloc, &mut inner)?;
     assert_eq!(rt; inner.into_inner().bytes, b"".as_slice());
     Ok(())
+}
+
+// The answers to a read of two bytes, to a seek past the end and to a seek to place 4.
+fn wanted_answers(alloc: Global) -> Result<Vec<Answer>, Fail> {
+    let mut wanted = Vec::new(alloc);
+    wanted.push(Answer::Bytes(Vec::from_slice(alloc, b"ab")?))?;
+    wanted.push(Answer::Fault {
+        got: Vec::new(alloc),
+        error: Error::PastEnd,
+    })?;
+    wanted.push(Answer::At(4))?;
+    Ok(wanted)
+}
+
+// Answers of other kinds and of other places differ.
+fn single_answers_differ(rt: &impl Abort, alloc: Global) {
+    let none = Answer::Bytes(Vec::new(alloc));
+    assert!(rt; none != Answer::At(0));
+    assert!(rt; Answer::At(1) != Answer::At(0));
 }
 
 #[test]
@@ -96,18 +130,10 @@ fn answers_are_compared(rt: HostRuntime) -> Result<(), Fail> {
         Op::Seek(SeekFrom::Start(4)),
     ];
     let answers = run(alloc, &mut Bytes::new(b"abcdef"), &ops)?;
-    let mut wanted = Vec::new(alloc);
-    wanted.push(Answer::Bytes(Vec::from_slice(alloc, b"ab")?))?;
-    wanted.push(Answer::Fault {
-        got: Vec::new(alloc),
-        error: Error::PastEnd,
-    })?;
-    wanted.push(Answer::At(4))?;
+    let mut wanted = wanted_answers(alloc)?;
     assert!(rt; answers == wanted);
     wanted.push(Answer::At(4))?;
     assert!(rt; answers != wanted);
-    let none = Answer::Bytes(Vec::new(alloc));
-    assert!(rt; none != Answer::At(0));
-    assert!(rt; Answer::At(1) != Answer::At(0));
+    single_answers_differ(&rt, alloc);
     Ok(())
 }
