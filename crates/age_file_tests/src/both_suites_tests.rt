@@ -1,13 +1,13 @@
 //! Whole files over both suites, which have nothing in common but the laws. The digests are those of Python.
 
-use age::format::Grease;
+use crate::file_tests::grease;
 use age::io::{Answer, Bytes, Error, Op, Read, SeekFrom, read_to_end, run, write_all};
 use age::stream::StreamReader;
 use age::suite::Suite;
 use age::{DecryptError, Decryptor, Encryptor};
 use age_bench::recipient::{BenchIdentity, BenchRecipient};
 use age_bench::suite::BenchSuite;
-use age_try::fixtures::{digest, empty_stanza, message_file, part, plaintext, zeros};
+use age_try::fixtures::{digest, message_file, part, plaintext, zeros};
 use age_try::other_suite::OtherSuite;
 use std::alloc::Global;
 use std::process::Abort;
@@ -20,9 +20,7 @@ type Stream<'a, S> = StreamReader<S, Bytes<'a>>;
 
 // The file of a plaintext, written in pieces of 50,000 bytes, where each random byte is 0.
 fn file_of<S: Suite>(alloc: Global, plain: &[u8]) -> Result<Vec<u8>, Fail> {
-    let Some(grease) = empty_stanza(alloc, "x-grease")?.and_then(Grease::new) else {
-        return Err(Fail::from("no grease"));
-    };
+    let grease = grease(alloc, "x-grease")?;
     let mut draw = zeros(alloc, 32)?;
     let encryptor = Encryptor::<S>::with_recipients(alloc, &[BenchRecipient], &mut draw, grease)?;
     let mut stream = encryptor.wrap_output(alloc, Vec::new(alloc))?;

@@ -1,9 +1,10 @@
 //! Whole files to `bench`. The expected bytes are those of Python, from the format's own words.
 
 use age::armor::Format;
+use age::draw::Draw;
 use age::format::Grease;
 use age::io::{Bytes, read_to_end, write_all};
-use age::streaming::{decrypt_all, encrypt_all};
+use age::streaming::{FileError, decrypt_all, encrypt_all};
 use age::{Decryptor, Encryptor, Identity, Recipient};
 use age_bench::file::{decrypt_with, encrypt_to};
 use age_bench::recipient::{BenchIdentity, BenchRecipient};
@@ -14,25 +15,49 @@ use std::alloc::{AllocError, Global};
 use std::process::Abort;
 use std::test::Fail;
 
+// The recipient of `bench` alone.
+fn recipients(alloc: Global) -> Result<Vec<Box<dyn Recipient>>, AllocError> {
+    let mut recipients: Vec<Box<dyn Recipient>> = Vec::new(alloc);
+    recipients.push(Box::new(alloc, BenchRecipient)?)?;
+    Ok(recipients)
+}
+
+// The identity of `bench` alone.
+fn identities(alloc: Global) -> Result<Vec<Box<dyn Identity>>, AllocError> {
+    let mut identities: Vec<Box<dyn Identity>> = Vec::new(alloc);
+    identities.push(Box::new(alloc, BenchIdentity)?)?;
+    Ok(identities)
+}
+
+/// A grease stanza of this tag, with nothing else in it.
+pub fn grease(alloc: Global, tag: &str) -> Result<Grease, Fail> {
+    match empty_stanza(alloc, tag)?.and_then(Grease::new) {
+        Some(grease) => Ok(grease),
+        None => Err(Fail::from("no grease")),
+    }
+}
+
+// An encryptor to `bench` whose grease stanza is `x-grease`.
+fn prepared(alloc: Global, draw: &mut Draw) -> Result<Encryptor<BenchSuite>, Fail> {
+    let recipients = recipients(alloc)?;
+    let grease = grease(alloc, "x-grease")?;
+    Ok(Encryptor::<BenchSuite>::with_recipients(alloc, &recipients, draw, grease)?)
+}
+
+// The file of the message, written in one piece.
+fn message_written(alloc: Global, encryptor: Encryptor<BenchSuite>) -> Result<Vec<u8>, Fail> {
+    let mut stream = encryptor.wrap_output(alloc, Vec::new(alloc))?;
+    write_all(&mut stream, MESSAGE)?;
+    Ok(stream.finish()?)
+}
+
 #[test]
 fn a_message_has_its_file(rt: HostRuntime) -> Result<(), Fail> {
     let alloc = rt.alloc();
-    let mut recipients: Vec<Box<dyn Recipient>> = Vec::new(alloc);
-    recipients.push(Box::new(alloc, BenchRecipient)?)?;
-    let Some(grease) = empty_stanza(alloc, "x-grease")?.and_then(Grease::new) else {
-        return Err(Fail::from("no grease"));
-    };
     let mut draw = zeros(alloc, 33)?;
-    let encryptor = Encryptor::<BenchSuite>::with_recipients(
-        alloc,
-        &recipients,
-        &mut draw,
-        grease,
-    )?;
+    let encryptor = prepared(alloc, &mut draw)?;
     assert_eq!(rt; draw.left(), 1);
-    let mut stream = encryptor.wrap_output(alloc, Vec::new(alloc))?;
-    write_all(&mut stream, MESSAGE)?;
-    let file = stream.finish()?;
+    let file = message_written(alloc, encryptor)?;
     assert!(rt; file.as_slice() == message_file(alloc, &[])?.as_slice());
     Ok(())
 }
@@ -42,14 +67,34 @@ fn a_file_has_its_message(rt: HostRuntime) -> Result<(), Fail> {
     let alloc = rt.alloc();
     let file = message_file(alloc, &[])?;
     let decryptor = Decryptor::<BenchSuite, Bytes>::new(alloc, Bytes::new(&file))?;
-    let mut identities: Vec<Box<dyn Identity>> = Vec::new(alloc);
-    identities.push(Box::new(alloc, BenchIdentity)?)?;
+    let mut identities = identities(alloc)?;
     let mut stream = decryptor.decrypt(alloc, &mut identities)?;
     let mut plain = Vec::new(alloc);
     let count = read_to_end(alloc, &mut stream, &mut plain)?;
     assert_eq!(rt; count, 36);
     assert_eq!(rt; plain.as_slice(), MESSAGE);
     Ok(())
+}
+
+// Encrypts with so many random bytes, and says what that answers.
+fn encrypted(
+    alloc: Global,
+    plain: &[u8],
+    random: usize,
+    file: &mut Vec<u8>,
+) -> Result<Result<(), FileError>, Fail> {
+    let recipients = recipients(alloc)?;
+    let grease = grease(alloc, "agebench-grease")?;
+    let mut draw = zeros(alloc, random)?;
+    Ok(encrypt_all::<BenchSuite, Box<dyn Recipient>, Bytes, Vec<u8>>(
+        alloc,
+        &recipients,
+        &mut draw,
+        grease,
+        Format::Binary,
+        &mut Bytes::new(plain),
+        file,
+    ))
 }
 
 // Encrypting with so many random bytes gives so many bytes of file, or this text and nothing.
@@ -60,23 +105,8 @@ fn encrypts(
     random: usize,
     expected: Result<usize, &str>,
 ) -> Result<(), Fail> {
-    let mut recipients: Vec<Box<dyn Recipient>> = Vec::new(alloc);
-    recipients.push(Box::new(alloc, BenchRecipient)?)?;
-    let Some(grease) = empty_stanza(alloc, "agebench-grease")?.and_then(Grease::new) else {
-        return Err(Fail::from("no grease"));
-    };
-    let mut draw = zeros(alloc, random)?;
     let mut file = Vec::new(alloc);
-    let mut input = Bytes::new(plain);
-    match encrypt_all::<BenchSuite, Box<dyn Recipient>, Bytes, Vec<u8>>(
-        alloc,
-        &recipients,
-        &mut draw,
-        grease,
-        Format::Binary,
-        &mut input,
-        &mut file,
-    ) {
+    match encrypted(alloc, plain, random, &mut file)? {
         Ok(()) => assert_eq!(rt; Ok(file.len()), expected),
         Err(error) => {
             let text = error.to_string(alloc)?;
@@ -125,17 +155,25 @@ fn the_commands_turn_each_other_back(rt: HostRuntime) -> Result<(), Fail> {
     Ok(())
 }
 
-// Decrypting is refused with this text, before anything is written.
-fn is_refused(rt: &impl Abort, alloc: Global, file: &[u8], expected: &str) -> Result<(), Fail> {
-    let mut identities: Vec<Box<dyn Identity>> = Vec::new(alloc);
-    identities.push(Box::new(alloc, BenchIdentity)?)?;
-    let mut plain = Vec::new(alloc);
-    match decrypt_all::<BenchSuite, Box<dyn Identity>, Bytes, Vec<u8>>(
+// Decrypts, and says what that answers.
+fn decrypted(
+    alloc: Global,
+    file: &[u8],
+    plain: &mut Vec<u8>,
+) -> Result<Result<(), FileError>, Fail> {
+    let mut identities = identities(alloc)?;
+    Ok(decrypt_all::<BenchSuite, Box<dyn Identity>, Bytes, Vec<u8>>(
         alloc,
         &mut identities,
         &mut Bytes::new(file),
-        &mut plain,
-    ) {
+        plain,
+    ))
+}
+
+// Decrypting is refused with this text, before anything is written.
+fn is_refused(rt: &impl Abort, alloc: Global, file: &[u8], expected: &str) -> Result<(), Fail> {
+    let mut plain = Vec::new(alloc);
+    match decrypted(alloc, file, &mut plain)? {
         Ok(()) => return Err(Fail::from("decrypted")),
         Err(error) => assert_eq!(rt; error.to_string(alloc)?.as_str(), expected),
     }

@@ -1,7 +1,8 @@
 //! Several recipients and several identities: which refuses, who decides, and how many random bytes are left.
 
+use crate::file_tests::grease;
 use age::draw::Draw;
-use age::format::{Grease, Stanza};
+use age::format::Stanza;
 use age::io::{Bytes, write_all};
 use age::{Decryptor, Encryptor, Identity, Recipient};
 use age_bench::recipient::BenchRecipient;
@@ -31,14 +32,6 @@ fn scripted(
     Ok(ScriptedRecipient { tag, draws, labels })
 }
 
-fn grease_of(alloc: Global) -> Result<Grease, Fail> {
-    let tag = String::from_str(alloc, "x-grease")?;
-    match Stanza::new(tag, Vec::new(alloc), Vec::new(alloc)).and_then(Grease::new) {
-        Some(grease) => Ok(grease),
-        None => Err(Fail::from("no grease")),
-    }
-}
-
 // An encryption with so many random bytes succeeds, or is refused with this text, and so many are left.
 fn prepares(
     rt: &impl Abort,
@@ -49,7 +42,7 @@ fn prepares(
     left: usize,
 ) -> Result<(), Fail> {
     let mut draw = Draw::new(vec![in alloc; 7; random]?);
-    let grease = grease_of(alloc)?;
+    let grease = grease(alloc, "x-grease")?;
     match Encryptor::<BenchSuite>::with_recipients(alloc, recipients, &mut draw, grease) {
         Ok(_) => assert_eq!(rt; Ok(()), expected),
         Err(error) => assert_eq!(rt; Err(error.to_string(alloc)?.as_str()), expected),
@@ -162,7 +155,7 @@ fn file_of(alloc: Global, tag: &str) -> Result<Vec<u8>, Fail> {
     let mut recipients: Vec<Box<dyn Recipient>> = Vec::new(alloc);
     recipients.push(Box::new(alloc, scripted(alloc, tag, false, &[])?)?)?;
     let mut draw = Draw::new(vec![in alloc; 7; 32]?);
-    let grease = grease_of(alloc)?;
+    let grease = grease(alloc, "x-grease")?;
     let encryptor = Encryptor::<BenchSuite>::with_recipients(
         alloc,
         &recipients,

@@ -1,14 +1,14 @@
 //! Whole files to `bench` in one call, bare and armored. The expected texts are those of Python, from the format's own words.
 
+use crate::file_tests::grease;
 use age::armor::Format;
-use age::format::Grease;
 use age::io::{Bytes, Error, read_to_end};
 use age::streaming::FileError;
 use age::{DecryptError, Decryptor, decrypt, encrypt, encrypt_and_armor};
 use age_bench::file::{decrypt_with, encrypt_to};
 use age_bench::recipient::{BenchIdentity, BenchRecipient};
 use age_bench::suite::BenchSuite;
-use age_try::fixtures::{MESSAGE, empty_stanza, message_file, zeros};
+use age_try::fixtures::{MESSAGE, message_file, zeros};
 use agebench_command::names::{To, With};
 use std::alloc::Global;
 use std::process::Abort;
@@ -22,13 +22,6 @@ const ARMORED: &str =
 const PROGRAM_ARMORED: &[u8] =
     b"-----BEGIN AGE ENCRYPTED FILE-----\nYWdlLWVuY3J5cHRpb24ub3JnL3YxCi0+IGJlbmNoCkFBQUFBQUFBQUFBQUFBQUFB\nQUFBQUEKLT4gYWdlYmVuY2gtZ3JlYXNlCgotLS0gcVpoZjcxY2dRZmlYV01uejM2\nOFlOQTNvQkwxK0cvQUd3SVd5MUEyN2pmawoAAAAAAAAAAAAAAAAAAAAAfmDE9txr\ntwpw7Nkb7RnAPsRD/YVRpLEUkfEIupJuXBpDZsqraD0l8+3tQqLDL0/s0WzREg==\n-----END AGE ENCRYPTED FILE-----\n";
 
-fn grease(alloc: Global) -> Result<Grease, Fail> {
-    match empty_stanza(alloc, "x-grease")?.and_then(Grease::new) {
-        Some(grease) => Ok(grease),
-        None => Err(Fail::from("no grease")),
-    }
-}
-
 #[test]
 fn a_message_is_encrypted_in_one_call(rt: HostRuntime) -> Result<(), Fail> {
     let alloc = rt.alloc();
@@ -38,7 +31,7 @@ fn a_message_is_encrypted_in_one_call(rt: HostRuntime) -> Result<(), Fail> {
         &BenchRecipient,
         MESSAGE,
         &mut draw,
-        grease(alloc)?,
+        grease(alloc, "x-grease")?,
     )?;
     assert_eq!(rt; draw.left(), 1);
     assert_eq!(rt; file.len(), 183);
@@ -55,7 +48,7 @@ fn a_message_is_encrypted_and_armored_in_one_call(rt: HostRuntime) -> Result<(),
         &BenchRecipient,
         MESSAGE,
         &mut draw,
-        grease(alloc)?,
+        grease(alloc, "x-grease")?,
     )?;
     assert_eq!(rt; draw.left(), 1);
     assert_eq!(rt; text.len(), 316);
