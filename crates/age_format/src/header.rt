@@ -5,6 +5,7 @@ ghost use Rattle.std.specs.List.{AllByRecursion};
 ghost use Rattle.age_error.specs.Refusals.{IsDevice, IsInterruption};
 ghost use Rattle.age_error.specs.declared.io.Error.TheVariants.{OutOfMemory};
 ghost use Rattle.age_error.specs.DecryptErrors.{decrypt_refusal, IsDeviceRefusal, IsInterruptedRefusal};
+ghost use Rattle.age_io.specs.Keeping.{SameReader, KeepsReader};
 ghost use Rattle.age_io.specs.Reading.{Delivers, IsQuiet, IsShort, StaysOrFails, most_faults};
 ghost use Rattle.age_io.specs.Writing.{WritesAll, Retried, OrMemory};
 ghost use Rattle.age_suite.specs.Mac.{hkdf_of};
@@ -48,13 +49,8 @@ impl Model for HeaderV1 {
 // The next byte, tried again after an interruption. `UnexpectedEof` says that none is left and the rest ends well; any
 // other refusal is that of the read that met it.
 fn next_byte<R: Read>(reader: &mut R) -> Result<u8, io::Error>
-    ensures tells { R.tells reader.new ≡ R.tells reader.old }
-    ensures steady { R.steady reader.new ≡ R.steady reader.old }
-    ensures faults { R.faults reader.old ≤ R.faults reader.new }
-    ensures device { IfErr result (λ e. IsDevice e → R.faults reader.old < R.faults reader.new) }
+    ensures keeps { KeepsReader ⟦<R as Read>⟧ reader.old reader.new result }
     ensures unspent { OnOk result (R.faults reader.new < most_faults) }
-    ensures patient { IfErr result (λ e. IsInterruption e → ⊥) }
-    ensures content { IsTrue (R.tells reader.old) → R.content reader.new ≡ R.content reader.old }
     ensures byte { IsTrue (R.tells reader.old) → IfOk result (λ b.
         Delivers (b ∷ []) (R.rest reader.old) (R.rest reader.new)) }
     ensures moves { IsTrue (R.tells reader.old) → OnOk result (R.place reader.new ≡ R.place reader.old + 1) }
@@ -141,13 +137,10 @@ impl HeaderV1 {
     /// `Io(UnexpectedEof)`, or the reader's own refusal where that doesn't end well. `OutOfMemory` comes where memory is
     /// refused, here or by the reader. Interruptions are tried again up to 16 times in a row.
     pub fn read<R: Read>(alloc: Global, reader: &mut R) -> Result<HeaderV1, DecryptError>
-        ensures tells { R.tells reader.new ≡ R.tells reader.old }
-        ensures steady { R.steady reader.new ≡ R.steady reader.old }
-        ensures faults { R.faults reader.old ≤ R.faults reader.new }
+        ensures keeps { SameReader ⟦<R as Read>⟧ reader.old reader.new }
         ensures device { IfErr result (λ e. IsDeviceRefusal (decrypt_refusal e) → R.faults reader.old < R.faults reader.new) }
         ensures unspent { OnOk result (R.faults reader.new < most_faults) }
         ensures patient { IfErr result (λ e. IsInterruptedRefusal (decrypt_refusal e) → ⊥) }
-        ensures content { IsTrue (R.tells reader.old) → R.content reader.new ≡ R.content reader.old }
         ensures header { IsTrue (R.tells reader.old) → IfOk result (λ h.
             ReadsHeader (R.rest reader.old) (R.rest reader.new) (R.place reader.old) (R.place reader.new) h) }
         ensures refused { IsTrue (R.tells reader.old) → IfErr result (λ e.

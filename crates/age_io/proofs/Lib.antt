@@ -1,6 +1,7 @@
 pub mod Appending
 pub mod Delivering
 pub mod Retrying
+pub mod Keeping
 pub mod Holding
 pub mod Reaching
 pub mod Replying

@@ -1,13 +1,14 @@
 -- What an interrupted call says.
-use Rattle.std.proofs.Common.{◌≡◌, ℕ, ◌<◌, ◌≤◌, Bool, IsTrue, Result, Ok, Err, IfErr, OnErr}
+use Rattle.std.proofs.Common.{◌≡◌, ℕ, ◌<◌, IsTrue, Result, Ok, Err, IfErr, OnErr}
 use Rattle.std.specs.Prelude.{IsErrAnd}
-use Rattle.age_io.specs.Stretch.{Stretch}
+use Rattle.age_io.specs.declared.traits.Read.{Ghosts}
+use Rattle.age_io.specs.Keeping.{SameReader}
 use Rattle.age_error.specs.Refusals.{IsDevice, IsInterruption}
 use Rattle.age_error.specs.declared.io.Error.{Error}
 use Rattle.age_error.specs.declared.io.Error.TheVariants.{Device}
 use Rattle.age_error.specs.declared.io.ErrorKind.TheVariants.{Interrupted as interrupted}
 
-interruption-device : (e : Error) → IsInterruption e → IsDevice e
+pub interruption-device : (e : Error) → IsInterruption e → IsDevice e
 interruption-device (Device kind) is = tt
 interruption-device _ is = absurd is
 
@@ -34,12 +35,8 @@ refused-by (Ok x) is h = absurd is
 refused-by (Err e) is h = h
 
 -- a reader after so many calls, each of which was interrupted
-pub record Interrupted {S : Type 0} (tells steady : S → Bool) (content : S → Stretch) (place : S → ℕ) (rest : S → Stretch) (faults : S → ℕ)
-    (old new : S) (calls : ℕ) : Type 0 where
-  pub same_tells : tells new ≡ tells old
-  pub same_steady : steady new ≡ steady old
-  pub no_fewer_faults : faults old ≤ faults new
-  pub rose : 0 < calls → faults old < faults new
-  pub same_content : IsTrue (tells old) → content new ≡ content old
-  pub same_place : IsTrue (tells old) → place new ≡ place old
-  pub same_rest : IsTrue (tells old) → rest new ≡ rest old
+pub record Interrupted {R : Type 0} (read : Ghosts R) (old new : R) (calls : ℕ) : Type 0 where
+  pub same : SameReader read old new
+  pub rose : 0 < calls → read.faults old < read.faults new
+  pub same_place : IsTrue (read.tells old) → read.place new ≡ read.place old
+  pub same_rest : IsTrue (read.tells old) → read.rest new ≡ read.rest old

@@ -12,4 +12,5 @@ pub mod Buffered
 pub mod BehindLaws
 pub mod Failing
 pub mod Cursor
+pub mod Keeping
 pub mod Replies

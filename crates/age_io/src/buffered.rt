@@ -8,6 +8,7 @@ ghost use Rattle.age_error.specs.Refusals.{IsDevice, IsInterruption};
 ghost use Rattle.age_error.specs.declared.io.Error.TheVariants.{OutOfMemory, Failed};
 ghost use Rattle.age_io.specs.Stretch.{IsCleanEnd, IsFault, from_place};
 ghost use Rattle.age_io.specs.Reading.{Reads, IsQuiet, Delivers, most_faults};
+ghost use Rattle.age_io.specs.Keeping.{KeepsReader};
 ghost use Rattle.age_io.specs.Failing.{FailsForGood};
 ghost use Rattle.age_io.specs.Filling.{IsFront, Fills, Consumes};
 ghost use Rattle.age_io.specs.Cursor.{Seeks, IsOutside, place_at};
@@ -167,15 +168,10 @@ impl<R: Read> BufReader<R> {
     // Reads ahead where nothing is held. After a success nothing is held at a clean end alone.
     fn hold(&mut self) -> Result<(), Error>
         requires { self.old.failed ≡ false }
-        ensures tells { R.tells self.new.inner ≡ R.tells self.old.inner }
-        ensures steady { R.steady self.new.inner ≡ R.steady self.old.inner }
-        ensures faults { R.faults self.old.inner ≤ R.faults self.new.inner }
-        ensures device { IfErr result (λ e. IsDevice e → R.faults self.old.inner < R.faults self.new.inner) }
+        ensures keeps { KeepsReader ⟦<R as Read>⟧ self.old.inner self.new.inner result }
         ensures unspent { OnOk result (R.faults self.new.inner < most_faults) }
         ensures good { OnOk result (self.new.failed ≡ false) }
         ensures fails { OnErr result (self.new.failed ≡ true) }
-        ensures patient { IfErr result (λ e. IsInterruption e → ⊥) }
-        ensures content { IsTrue (R.tells self.old.inner) → R.content self.new.inner ≡ R.content self.old.inner }
         ensures place { IsTrue (R.tells self.old.inner) → place_of self.new ≡ place_of self.old }
         ensures rest { IsTrue (R.tells self.old.inner) → OnOk result (rest_of self.new ≡ rest_of self.old) }
         ensures end { IsTrue (R.tells self.old.inner) → OnOk result
@@ -265,16 +261,11 @@ impl<R: Seek> BufReader<R> {
 
     // Lets go of what is held, so that the inner reader stands where this one does.
     fn put_back(&mut self) -> Result<(), Error>
-        ensures tells { R.tells self.new.inner ≡ R.tells self.old.inner }
-        ensures steady { R.steady self.new.inner ≡ R.steady self.old.inner }
-        ensures faults { R.faults self.old.inner ≤ R.faults self.new.inner }
-        ensures device { IfErr result (λ e. IsDevice e → R.faults self.old.inner < R.faults self.new.inner) }
+        ensures keeps { KeepsReader ⟦<R as Read>⟧ self.old.inner self.new.inner result }
         ensures empty { OnOk result (self.new.given ≡ self.new.filled) }
         ensures same { OnOk result (self.new.failed ≡ self.old.failed) }
         ensures fails { OnErr result (self.new.failed ≡ true) }
         ensures other { IfErr result (λ e. IsOutside e → ⊥) }
-        ensures patient { IfErr result (λ e. IsInterruption e → ⊥) }
-        ensures content { IsTrue (R.tells self.old.inner) → R.content self.new.inner ≡ R.content self.old.inner }
         ensures place { IsTrue (R.tells self.old.inner) → place_of self.new ≡ place_of self.old }
         ensures sound { IsTrue (R.tells self.old.inner) → IsTrue (R.steady self.old.inner) → OnOk result
             (self.old.failed ≡ false → rest_of self.old ≡ from_place (place_of self.old) (R.content self.old.inner) →

@@ -2,6 +2,7 @@
 ghost use Rattle.std.specs.Prelude.{◌≡◌, ◌≢◌, ℕ, ◌+◌, ◌-◌, ◌≤◌, ◌<◌, Bool, IsTrue, List, [], ◌∷◌, ◌++◌, length, take, drop, map, All, IfOk, vec_len};
 ghost use Rattle.age_io.specs.Stretch.{Stretch, from_place};
 ghost use Rattle.age_io.specs.Reading.{IsQuiet};
+ghost use Rattle.age_io.specs.Keeping.{SameReader};
 ghost use Rattle.age_io.specs.Replies.{seen, replies, Replied, place_after_all, IsNoWant, IsDeviceFault, CameOf, CameOfAll};
 
 use crate::seeking::Seek;
@@ -45,10 +46,7 @@ pub enum Answer {
 /// `AllocError` says that the list of answers or the bytes in it couldn't grow; the reader then stands after some of the
 /// operations.
 pub fn run<R: Seek>(alloc: Global, reader: &mut R, ops: &[Op]) -> Result<Vec<Answer>, AllocError>
-    ensures tells { R.tells reader.new ≡ R.tells reader.old }
-    ensures steady { R.steady reader.new ≡ R.steady reader.old }
-    ensures faults { R.faults reader.old ≤ R.faults reader.new }
-    ensures content { IsTrue (R.tells reader.old) → R.content reader.new ≡ R.content reader.old }
+    ensures keeps { SameReader ⟦<R as Read>⟧ reader.old reader.new }
     ensures count { IfOk result (λ answers. length answers.items ≡ length ops.now) }
     ensures each { IfOk result (λ answers.
         CameOfAll R.tells R.steady R.content R.place R.rest R.faults ops.now answers.items reader.old reader.new) }
@@ -75,11 +73,8 @@ pub fn run<R: Seek>(alloc: Global, reader: &mut R, ops: &[Op]) -> Result<Vec<Ans
 
 // Does one.
 fn answer_of<R: Seek>(alloc: Global, reader: &mut R, op: Op) -> Result<Answer, AllocError>
-    ensures tells { R.tells reader.new ≡ R.tells reader.old }
-    ensures steady { R.steady reader.new ≡ R.steady reader.old }
-    ensures faults { R.faults reader.old ≤ R.faults reader.new }
+    ensures keeps { SameReader ⟦<R as Read>⟧ reader.old reader.new }
     ensures device { R.faults reader.new ≡ R.faults reader.old → IfOk result (λ a. IsDeviceFault a → ⊥) }
-    ensures content { IsTrue (R.tells reader.old) → R.content reader.new ≡ R.content reader.old }
     ensures came { IfOk result (λ a. CameOf R.tells R.steady R.content R.place R.rest R.faults op a reader.old reader.new) }
     ensures reply { IsTrue (R.tells reader.old) → IsTrue (R.content reader.old).ends_well →
         R.rest reader.old ≡ from_place (R.place reader.old) (R.content reader.old) →
@@ -101,11 +96,8 @@ fn answer_of<R: Seek>(alloc: Global, reader: &mut R, op: Op) -> Result<Answer, A
 
 // Reads until so many bytes came, or the end.
 fn read_up_to<R: Read>(alloc: Global, reader: &mut R, count: usize) -> Result<Answer, AllocError>
-    ensures tells { R.tells reader.new ≡ R.tells reader.old }
-    ensures steady { R.steady reader.new ≡ R.steady reader.old }
-    ensures faults { R.faults reader.old ≤ R.faults reader.new }
+    ensures keeps { SameReader ⟦<R as Read>⟧ reader.old reader.new }
     ensures device { R.faults reader.new ≡ R.faults reader.old → IfOk result (λ a. IsDeviceFault a → ⊥) }
-    ensures content { IsTrue (R.tells reader.old) → R.content reader.new ≡ R.content reader.old }
     ensures came { IfOk result (λ a. CameOf R.tells R.steady R.content R.place R.rest R.faults (Op.Read count) a reader.old reader.new) }
     ensures reply { IsTrue (R.tells reader.old) → IsTrue (R.content reader.old).ends_well →
         R.rest reader.old ≡ from_place (R.place reader.old) (R.content reader.old) →

@@ -4,6 +4,7 @@ ghost use Rattle.age_error.specs.Refusals.{IsDevice, IsInterruption};
 ghost use Rattle.age_error.specs.declared.io.Error.TheVariants.{OutOfMemory, UnexpectedEof};
 ghost use Rattle.age_io.specs.Stretch.{Stretch, IsCleanEnd, IsFault, from_place};
 ghost use Rattle.age_io.specs.Reading.{IsQuiet, Delivers, StaysOrFails, TookSome, IsShort, Appended, EndsEarly, Gave, most_faults};
+ghost use Rattle.age_io.specs.Keeping.{KeepsReader};
 ghost use Rattle.age_io.specs.Writing.{Retried, WritesAll};
 
 use crate::retry::{read_retrying, write_retrying};
@@ -16,14 +17,9 @@ use std::alloc::Global;
 /// A refusal is that of the read that met it. The reader then stands after the bytes in `filled`, or has failed there.
 /// An interruption is tried again as in `read_retrying`.
 pub fn fill<R: Read>(reader: &mut R, buf: &mut [u8], filled: &mut usize) -> Result<(), Error>
-    ensures tells { R.tells reader.new ≡ R.tells reader.old }
-    ensures steady { R.steady reader.new ≡ R.steady reader.old }
-    ensures faults { R.faults reader.old ≤ R.faults reader.new }
-    ensures device { IfErr result (λ e. IsDevice e → R.faults reader.old < R.faults reader.new) }
+    ensures keeps { KeepsReader ⟦<R as Read>⟧ reader.old reader.new result }
     ensures unspent { 0 < length buf.old → OnOk result (R.faults reader.new < most_faults) }
-    ensures patient { IfErr result (λ e. IsInterruption e → ⊥) }
     ensures count { filled.new ≤ length buf.new }
-    ensures content { IsTrue (R.tells reader.old) → R.content reader.new ≡ R.content reader.old }
     ensures moves { IsTrue (R.tells reader.old) → R.place reader.new ≡ R.place reader.old + filled.new }
     ensures bytes { IsTrue (R.tells reader.old) → OnOk result
         (Delivers (take filled.new buf.new) (R.rest reader.old) (R.rest reader.new)) }
@@ -50,13 +46,8 @@ pub fn fill<R: Read>(reader: &mut R, buf: &mut [u8], filled: &mut usize) -> Resu
 /// buffer's length, or has failed there; what the buffer holds isn't said. An interruption is tried again as in
 /// `read_retrying`.
 pub fn read_exact<R: Read>(reader: &mut R, buf: &mut [u8]) -> Result<(), Error>
-    ensures tells { R.tells reader.new ≡ R.tells reader.old }
-    ensures steady { R.steady reader.new ≡ R.steady reader.old }
-    ensures faults { R.faults reader.old ≤ R.faults reader.new }
-    ensures device { IfErr result (λ e. IsDevice e → R.faults reader.old < R.faults reader.new) }
+    ensures keeps { KeepsReader ⟦<R as Read>⟧ reader.old reader.new result }
     ensures unspent { 0 < length buf.old → OnOk result (R.faults reader.new < most_faults) }
-    ensures patient { IfErr result (λ e. IsInterruption e → ⊥) }
-    ensures content { IsTrue (R.tells reader.old) → R.content reader.new ≡ R.content reader.old }
     ensures bytes { IsTrue (R.tells reader.old) → OnOk result
         (Delivers buf.new (R.rest reader.old) (R.rest reader.new)) }
     ensures moves { IsTrue (R.tells reader.old) → OnOk result
@@ -106,13 +97,8 @@ pub fn read_to_end<R: Read>(
     reader: &mut R,
     buf: &mut Vec<u8>,
 ) -> Result<usize, Error>
-    ensures tells { R.tells reader.new ≡ R.tells reader.old }
-    ensures steady { R.steady reader.new ≡ R.steady reader.old }
-    ensures faults { R.faults reader.old ≤ R.faults reader.new }
-    ensures device { IfErr result (λ e. IsDevice e → R.faults reader.old < R.faults reader.new) }
+    ensures keeps { KeepsReader ⟦<R as Read>⟧ reader.old reader.new result }
     ensures unspent { OnOk result (R.faults reader.new < most_faults) }
-    ensures patient { IfErr result (λ e. IsInterruption e → ⊥) }
-    ensures content { IsTrue (R.tells reader.old) → R.content reader.new ≡ R.content reader.old }
     ensures bytes { IsTrue (R.tells reader.old) → OnOk result
         (buf.new.items ≡ buf.old.items ++ (R.rest reader.old).bytes) }
     ensures count { IfOk result (λ n. vec_len buf.new ≡ vec_len buf.old + n) }

@@ -4,6 +4,7 @@ use Rattle.age_error.specs.DecryptErrors as refusals
 use Rattle.age_error.specs.DecryptErrors.{DecryptRefusal, decrypt_refusal, decrypt_of_io}
 use Rattle.age_error.specs.declared.io.Error.{Error}
 use Rattle.age_error.specs.declared.io.Error.TheVariants as io
+use Rattle.age_io.specs.declared.traits.Read.{Ghosts}
 use Rattle.age_io.specs.Stretch.{Stretch}
 use Rattle.age_io.specs.Reading.{IsQuiet}
 use Rattle.age_format.specs.Stanza.{StanzaValue}
@@ -129,10 +130,10 @@ module _ (alone : ReadsAlone) (one : HasOneVerdict) where
       | inr (inr breaks) ↦ rule_kept old new p q e begins breaks
     ]
 
-  pub accepted : {R : Type 0} (tells steady : R → Bool) (content : R → Stretch) (place : R → ℕ) (rest : R → Stretch) (faults : R → ℕ)
-      → RefusesNoFile tells steady content place rest faults
-  accepted tells steady content place rest faults old new e header stanzas mac nonce more refuses told quiet begins =
-      front_accepted header stanzas mac nonce more (faults old) (faults new) (rest old) (rest new) (place old) (place new) e begins quiet (refuses.why told)
+  pub accepted : {R : Type 0} (read : Ghosts R) → RefusesNoFile read
+  accepted read old new e header stanzas mac nonce more refuses told quiet begins =
+      front_accepted header stanzas mac nonce more (read.faults old) (read.faults new) (read.rest old) (read.rest new) (read.place old) (read.place new)
+      e begins quiet (refuses.why told)
 
 pub opens : (back : ReadsBack) (seal_of : Seal) → FileOpens seal_of
 opens back seal_of start rest start_place place h nonce file_key stanzas plain front file =

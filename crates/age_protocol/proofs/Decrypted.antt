@@ -3,6 +3,7 @@ use Rattle.std.specs.Prelude.{◌≡◌, ◌⊎◌, ◌≤◌, ◌<◌, ℕ, Boo
 use Rattle.std.proofs.Common.{◌∙◌, inl, inr, subst}
 use Rattle.age_error.specs.declared.decrypt.DecryptError.{DecryptError}
 use Rattle.age_error.specs.DecryptErrors.{DecryptRefusal, decrypt_refusal}
+use Rattle.age_io.specs.declared.traits.Read.{Ghosts}
 use Rattle.age_io.specs.Stretch.{Stretch}
 use Rattle.age_armor.specs.Delivered.{delivered, stretch_of}
 use Rattle.age_format.specs.ReadingHeader.{RefusesHeader}
@@ -39,25 +40,24 @@ Causes old_faults new_faults old new old_place new_place e = RefusesHeader old_f
     ⊎ BreaksRule old new old_place new_place e
 
 -- of a reader of a text they are those of the reader that gives the text
-pub refuses_text : {A R : Type 0} (tells steady : A → Bool) (content : A → Stretch) (place : A → ℕ) (rest : A → Stretch) (faults : A → ℕ)
-    (r_tells : R → Bool) (r_rest : R → Stretch) (r_faults : R → ℕ) (text last : A) (reader r_last : R) (e : DecryptRefusal)
-    → tells text ≡ r_tells reader → faults text ≡ r_faults reader → faults last ≡ r_faults r_last → place text ≡ 0
-    → rest text ≡ stretch_of (delivered (r_rest reader).bytes (r_rest reader).ends_well)
-    → RefusesFront tells steady content place rest faults text last e → RefusesText r_tells r_rest r_faults reader r_last e
-refuses_text tells steady content place rest faults r_tells r_rest r_faults text last reader r_last e told old_faults new_faults start is refuses = record {
-  no_fewer_faults = subst (λ (n : ℕ). n ≤ r_faults r_last) old_faults (subst (λ (n : ℕ). faults text ≤ n) new_faults refuses.keeps.no_fewer_faults);
-  device = λ d. subst (λ (n : ℕ). n < r_faults r_last) old_faults (subst (λ (n : ℕ). faults text < n) new_faults (refuses.device d));
-  left = rest last;
-  place = place last;
+pub refuses_text : {A R : Type 0} (read : Ghosts A) (r_tells : R → Bool) (r_rest : R → Stretch) (r_faults : R → ℕ) (text last : A) (reader r_last : R) (e : DecryptRefusal)
+    → read.tells text ≡ r_tells reader → read.faults text ≡ r_faults reader → read.faults last ≡ r_faults r_last → read.place text ≡ 0
+    → read.rest text ≡ stretch_of (delivered (r_rest reader).bytes (r_rest reader).ends_well)
+    → RefusesFront read text last e → RefusesText r_tells r_rest r_faults reader r_last e
+refuses_text read r_tells r_rest r_faults text last reader r_last e told old_faults new_faults start is refuses = record {
+  no_fewer_faults = subst (λ (n : ℕ). n ≤ r_faults r_last) old_faults (subst (λ (n : ℕ). read.faults text ≤ n) new_faults refuses.same.faults);
+  device = λ d. subst (λ (n : ℕ). n < r_faults r_last) old_faults (subst (λ (n : ℕ). read.faults text < n) new_faults (refuses.device d));
+  left = read.rest last;
+  place = read.place last;
   why = λ tells_text.
       let delivers = stretch_of (delivered (r_rest reader).bytes (r_rest reader).ends_well) in
-      let by_text : Causes (faults text) (faults last) delivers (rest last) (place text) (place last) e =
-      subst (λ (s : Stretch). Causes (faults text) (faults last) s (rest last) (place text) (place last) e) is (refuses.why (told ∙ tells_text)) in
-      let by_place : Causes (faults text) (faults last) delivers (rest last) 0 (place last) e =
-      subst (λ (p : ℕ). Causes (faults text) (faults last) delivers (rest last) p (place last) e) start by_text in
-      let by_faults : Causes (r_faults reader) (faults last) delivers (rest last) 0 (place last) e =
-      subst (λ (n : ℕ). Causes n (faults last) delivers (rest last) 0 (place last) e) old_faults by_place in
-      subst (λ (n : ℕ). Causes (r_faults reader) n delivers (rest last) 0 (place last) e) new_faults by_faults;
+      let by_text : Causes (read.faults text) (read.faults last) delivers (read.rest last) (read.place text) (read.place last) e =
+      subst (λ (s : Stretch). Causes (read.faults text) (read.faults last) s (read.rest last) (read.place text) (read.place last) e) is (refuses.why (told ∙ tells_text)) in
+      let by_place : Causes (read.faults text) (read.faults last) delivers (read.rest last) 0 (read.place last) e =
+      subst (λ (p : ℕ). Causes (read.faults text) (read.faults last) delivers (read.rest last) p (read.place last) e) start by_text in
+      let by_faults : Causes (r_faults reader) (read.faults last) delivers (read.rest last) 0 (read.place last) e =
+      subst (λ (n : ℕ). Causes n (read.faults last) delivers (read.rest last) 0 (read.place last) e) old_faults by_place in
+      subst (λ (n : ℕ). Causes (r_faults reader) n delivers (read.rest last) 0 (read.place last) e) new_faults by_faults;
 }
 
 -- and so is the header that was read

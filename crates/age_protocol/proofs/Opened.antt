@@ -19,12 +19,11 @@ use Rattle.age_protocol.specs.OpeningFile.{Decrypts, OpensFile}
 use Rattle.age_protocol.specs.WholeFiles.{LacksFront, RefusesPayload, RefusesRest}
 
 -- of a reader whose device never fails
-pub lacks_front : {R : Type 0} (tells steady : R → Bool) (content : R → Stretch) (place : R → ℕ) (rest : R → Stretch) (faults : R → ℕ)
-    (old last : R) (e : DecryptRefusal) (start : Stretch) → RefusesFront tells steady content place rest faults old last e
-    → IsTrue (tells old) → rest old ≡ start → place old ≡ 0 → faults old ≡ 0 → faults last ≡ 0 → LacksFront start e
-lacks_front tells steady content place rest faults old last e start refuses told rest_is place_is none still = record {
-  left = rest last;
-  place = place last;
+pub lacks_front : {R : Type 0} (read : Ghosts R) (old last : R) (e : DecryptRefusal) (start : Stretch) → RefusesFront read old last e
+    → IsTrue (read.tells old) → read.rest old ≡ start → read.place old ≡ 0 → read.faults old ≡ 0 → read.faults last ≡ 0 → LacksFront start e
+lacks_front read old last e start refuses told rest_is place_is none still = record {
+  left = read.rest last;
+  place = read.place last;
   why = rw (rest_is, place_is, none, still) at (refuses.why told);
   no_device = λ device. omega (arith, refuses.device device, none, still);
 }

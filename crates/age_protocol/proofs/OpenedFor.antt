@@ -52,7 +52,7 @@ module _ {I S T : Type 0} {suite : SuiteMembers S} {read : ReadMembers T} (unwra
     (old new : List I) (text : T) (h : HeaderValue) (nonce : List ℕ) (input : T) where
   -- what comes of it once the identities were asked
   pub asked : (answer : UnwrapAnswer) (result : Result (StreamReader S T suite read) DecryptError)
-      → Asks unwraps read.tells read.steady read.content read.place read.rest read.faults old new text h nonce input answer
+      → Asks unwraps read old new text h nonce input answer
       → Decrypts (decided answer) h nonce input result → IfOk result (λ stream. IsOpened unwraps old new text stream)
   asked answer (Ok stream) asks d =
       let (key, is, opens) = decided_key answer h nonce input stream d in

@@ -117,7 +117,7 @@ module _ {I S T W : Type 0} {suite : SuiteMembers S} {read : ReadMembers T} (unw
         key = made.asks.first;
         right = made.opens.right;
         part = some-same appended count Holds (key_of stream) _ (payload_of stream) (read.rest input) before after made.opens.reader.same_key
-            (made.opens.reader.sealed ∙ ap (λ (s : Stretch). from_place (read.place input) s) (made.asks.same_content tells)
+            (made.opens.reader.sealed ∙ ap (λ (s : Stretch). from_place (read.place input) s) (made.asks.same.content tells)
             ∙ left-is (read.content text) (read.rest text) (read.rest input) (read.place text) (read.place input) _ fresh front.took.delivered front.took.moved)
             some;
       }

@@ -4,7 +4,9 @@ use Rattle.age_error.specs.Bytes.{AreBytesOf}
 use Rattle.age_error.specs.DecryptErrors.{DecryptRefusal, InvalidHeader, decrypt_refusal, decrypt_of_io, IsDeviceRefusal}
 use Rattle.age_error.specs.declared.io.Error.{Error}
 use Rattle.age_error.specs.declared.io.Error.TheVariants as io
+use Rattle.age_io.specs.declared.traits.Read.{Ghosts}
 use Rattle.age_io.specs.Stretch.{Stretch}
+use Rattle.age_io.specs.Keeping.{SameReader}
 use Rattle.age_io.specs.Reading.{Delivers, TookSome, IsQuiet, IsShort}
 use Rattle.age_format.specs.Header.{KeepsScryptRule, covered}
 use Rattle.age_format.specs.Verdict.{Header, IsVerdict}
@@ -51,19 +53,9 @@ WhyNoFront old_faults new_faults old new old_place new_place e = RefusesHeader o
     ⊎ LacksNonce old_faults new_faults old new old_place new_place e
     ⊎ BreaksRule old new old_place new_place e
 
-module _ {R : Type 0} (tells steady : R → Bool) (content : R → Stretch) (place : R → ℕ) (rest : R → Stretch) (faults : R → ℕ) where
-  -- What reading does to a reader, whatever it reads.
-  pub record KeepsReader (old new : R) : Type 0 where
-    -- of every reader
-    pub same_tells : tells new ≡ tells old
-    pub same_steady : steady new ≡ steady old
-    pub no_fewer_faults : faults old ≤ faults new
-    -- of a reader that tells its bytes
-    pub same_content : IsTrue (tells old) → content new ≡ content old
-
-  -- Why there is no decryptor, and the reader when it was given up.
-  pub record RefusesFront (old new : R) (e : DecryptRefusal) : Type 0 where
-    pub keeps : KeepsReader old new
-    pub device : IsDeviceRefusal e → faults old < faults new
-    -- of a reader that tells its bytes
-    pub why : IsTrue (tells old) → WhyNoFront (faults old) (faults new) (rest old) (rest new) (place old) (place new) e
+-- Why there is no decryptor, and the reader when it was given up.
+pub record RefusesFront {R : Type 0} (read : Ghosts R) (old new : R) (e : DecryptRefusal) : Type 0 where
+  pub same : SameReader read old new
+  pub device : IsDeviceRefusal e → read.faults old < read.faults new
+  -- of a reader that tells its bytes
+  pub why : IsTrue (read.tells old) → WhyNoFront (read.faults old) (read.faults new) (read.rest old) (read.rest new) (read.place old) (read.place new) e

@@ -26,11 +26,11 @@ ReadsBack = (start rest : Stretch) (start_place place : ℕ) (h : HeaderValue) (
     → (h.stanzas ≡ stanzas) × (h.mac ≡ mac) × (h.covered ≡ covered header) × (read ≡ nonce) × (rest.bytes ≡ more) × (rest.ends_well ≡ start.ends_well)
 
 -- bytes that begin as a file are refused for want of memory or after a fault of the device alone
-abbrev pub RefusesNoFile : {R : Type 0} → (R → Bool) → (R → Bool) → (R → Stretch) → (R → ℕ) → (R → Stretch) → (R → ℕ) → Type 0
-RefusesNoFile {R} tells steady content place rest faults =
+abbrev pub RefusesNoFile : {R : Type 0} → Ghosts R → Type 0
+RefusesNoFile {R} read =
     (old new : R) (e : DecryptRefusal) (header : List ℕ) (stanzas : List StanzaValue) (mac nonce more : List ℕ)
-    → RefusesFront tells steady content place rest faults old new e → IsTrue (tells old) → IsQuiet (faults old) (faults new)
-    → BeginsAsFile header stanzas mac nonce more (rest old).bytes → e ≡ OutOfMemory
+    → RefusesFront read old new e → IsTrue (read.tells old) → IsQuiet (read.faults old) (read.faults new)
+    → BeginsAsFile header stanzas mac nonce more (read.rest old).bytes → e ≡ OutOfMemory
 
 -- where a file is read, the header's MAC is right under its file key, and the payload of its plaintext is left
 abbrev pub FileOpens : Seal → Type 0

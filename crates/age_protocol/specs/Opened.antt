@@ -3,7 +3,7 @@ use Rattle.std.specs.Prelude.{◌≡◌, ◌⊎◌, ℕ, Bool, IsTrue, List, Som
 use Rattle.age_error.specs.DecryptErrors.{DecryptRefusal}
 use Rattle.age_suite.specs.declared.suite.Suite.{Ghosts as SuiteMembers}
 use Rattle.age_io.specs.declared.traits.Read.{Ghosts as ReadMembers}
-use Rattle.age_io.specs.Stretch.{Stretch}
+use Rattle.age_io.specs.Keeping.{SameReader}
 use Rattle.age_format.specs.HeaderV1.{HeaderValue}
 use Rattle.age_format.specs.Stanza.{StanzaValue}
 use Rattle.age_format.specs.Unwrapping.{UnwrapAnswer, Unwraps}
@@ -14,19 +14,17 @@ use Rattle.age_protocol.specs.OpeningFile.{OpensFile}
 use Rattle.age_protocol.specs.Texts.{RefusesKey}
 
 module _ {I T : Type 0} (unwraps : I → List StanzaValue → UnwrapAnswer → I → Type 0)
-    (tells steady : T → Bool) (content : T → Stretch) (place : T → ℕ) (rest : T → Stretch) (faults : T → ℕ) where
+    (read : ReadMembers T) where
   -- A header and a nonce were read from the front of the text, no byte more, and the first identity that answers to its stanzas
   -- answers this.
   pub record Asks (old new : List I) (text : T) (h : HeaderValue) (nonce : List ℕ) (input : T) (answer : UnwrapAnswer) : Type 0 where
-    pub same_tells : tells input ≡ tells text
-    pub same_steady : steady input ≡ steady text
-    pub same_content : IsTrue (tells text) → content input ≡ content text
-    pub front : IsTrue (tells text) → ReadsFront (rest text) (rest input) (place text) (place input) h nonce
+    pub same : SameReader read text input
+    pub front : IsTrue (read.tells text) → ReadsFront (read.rest text) (read.rest input) (read.place text) (read.place input) h nonce
     pub first : FirstThatAnswers (λ identity own next. Unwraps unwraps identity h.stanzas own next) old answer new
 
   -- No file begins the text, and no identity was asked; or the identities, the MAC or the reader's memory are why.
   abbrev pub IsNotOpened : List I → List I → T → DecryptRefusal → Type 0
-  IsNotOpened old new text e = ((new ≡ old) × ((last : T) × RefusesFront tells steady content place rest faults text last e))
+  IsNotOpened old new text e = ((new ≡ old) × ((last : T) × RefusesFront read text last e))
       ⊎ ((h : HeaderValue) × (nonce : List ℕ) × (input : T) × (answer : UnwrapAnswer)
       × Asks old new text h nonce input answer × RefusesKey (decided answer) h e)
 
@@ -37,5 +35,5 @@ pub record IsOpened {I S T : Type 0} {suite : SuiteMembers S} {read : ReadMember
   pub nonce : List ℕ
   pub input : T
   pub file_key : List ℕ
-  pub asks : Asks unwraps read.tells read.steady read.content read.place read.rest read.faults old new text h nonce input (Some (Ok file_key))
+  pub asks : Asks unwraps read old new text h nonce input (Some (Ok file_key))
   pub opens : OpensFile file_key h nonce input stream

@@ -6,7 +6,8 @@ ghost use Rattle.age_io.specs.Reading.{most_faults};
 ghost use Rattle.age_format.specs.Header.{KeepsScryptRule};
 ghost use Rattle.age_format.specs.Unwrapping.{UnwrapAnswer, Unwraps};
 ghost use Rattle.age_protocol.specs.Answering.{FirstThatAnswers, decided};
-ghost use Rattle.age_protocol.specs.Decrypting.{ReadsFront, KeepsReader, RefusesFront};
+ghost use Rattle.age_io.specs.Keeping.{SameReader};
+ghost use Rattle.age_protocol.specs.Decrypting.{ReadsFront, RefusesFront};
 ghost use Rattle.age_protocol.specs.OpeningFile.{Decrypts};
 
 use crate::answering::{file_key_by_one, file_key_of};
@@ -38,14 +39,14 @@ impl<S: Suite, R: Read + Drop> Decryptor<S, R> {
     /// the header `Io(UnexpectedEof)`, or the reader's own refusal where it doesn't end well; `InvalidHeader` where a stanza
     /// with the tag `scrypt` stands beside another. `OutOfMemory` where memory is refused. After a refusal the reader is gone.
     pub fn new(alloc: Global, input: R) -> Result<Self, DecryptError>
-        ensures keeps { IfOk result (λ d. KeepsReader R.tells R.steady R.content R.place R.rest R.faults input (input_of d)) }
+        ensures keeps { IfOk result (λ d. SameReader ⟦<R as Read>⟧ input (input_of d)) }
         ensures unspent { IfOk result (λ d. R.faults (input_of d) < most_faults) }
         ensures sixteen { IfOk result (λ d. AreBytesOf 16 (nonce_of d)) }
         ensures rule { IfOk result (λ d. KeepsScryptRule (header_of d).stanzas) }
         ensures front { IsTrue (R.tells input) → IfOk result (λ d.
             ReadsFront (R.rest input) (R.rest (input_of d)) (R.place input) (R.place (input_of d)) (header_of d) (nonce_of d)) }
         ensures patient { IfErr result (λ e. IsInterruptedRefusal (decrypt_refusal e) → ⊥) }
-        ensures refused { IfErr result (λ e. (last : R) × RefusesFront R.tells R.steady R.content R.place R.rest R.faults input last (decrypt_refusal e)) }
+        ensures refused { IfErr result (λ e. (last : R) × RefusesFront ⟦<R as Read>⟧ input last (decrypt_refusal e)) }
     {
         let mut input = input;
         let header = HeaderV1::read(alloc, &mut input)?;

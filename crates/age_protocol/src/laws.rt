@@ -24,7 +24,7 @@ pub fn front_reads_back()
 
 /// `Decryptor::new` refuses bytes that begin as a file for want of memory, or after a fault of the device, and else never.
 pub fn front_is_accepted<R: Read>()
-    ensures { RefusesNoFile R.tells R.steady R.content R.place R.rest R.faults }
+    ensures { RefusesNoFile ⟦<R as Read>⟧ }
 {
     header_text_reads_back();
     verdict_is_unique();

@@ -36,7 +36,7 @@ pub fn open_file<S: Suite, I: Identity, T: Read + Drop>(
     // Of any bytes.
     ensures opened { IfOk result (λ stream. IsOpened I.unwraps identities.old identities.new bytes stream) }
     ensures refused { IfErr result (λ e.
-        IsNotOpened I.unwraps T.tells T.steady T.content T.place T.rest T.faults identities.old identities.new bytes (decrypt_refusal e)) }
+        IsNotOpened I.unwraps ⟦<T as Read>⟧ identities.old identities.new bytes (decrypt_refusal e)) }
     // Of a file for the identities.
     ensures plaintext { IsTrue (T.tells bytes && T.steady bytes) → IsTrue (T.rest bytes).ends_well → (plain : List ℕ) →
         IsFileFor S.seal_of (FirstAnswer I.unwraps identities.old) plain (T.rest bytes).bytes →

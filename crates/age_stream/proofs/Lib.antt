@@ -14,6 +14,7 @@ pub mod Inner
 pub mod Last
 pub mod Moving
 pub mod Sound
+pub mod Keeping
 pub mod Ending
 pub mod Standing
 pub mod Remaining

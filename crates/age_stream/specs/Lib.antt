@@ -8,6 +8,7 @@ pub mod WellLaws
 pub mod SizeLaws
 pub mod Answering
 pub mod Reading
+pub mod Keeping
 pub mod TextLaws
 pub mod ReadingLaws
 pub mod Reader

@@ -1,12 +1,13 @@
 //! Random access to a payload.
 ghost use Rattle.std.specs.Prelude.{◌≡◌, ◌≢◌, ℕ, ◌+◌, ◌*◌, ◌/◌, ◌<◌, ◌≤◌, ◌⊎◌, ◌&&◌, Bool, false, true, IsTrue, List, length, take, drop, IfOk, IfErr, OnOk, OnErr, Ok, Err};
-ghost use Rattle.age_error.specs.Refusals.{IsDevice, IsInterruption};
 ghost use Rattle.age_error.specs.declared.io.Error.TheVariants.{OutOfMemory};
 ghost use Rattle.age_io.specs.Stretch.{IsCleanEnd, from_place};
 ghost use Rattle.age_io.specs.Reading.{IsQuiet, Delivers, EndsEarly};
 ghost use Rattle.age_io.specs.Cursor;
 ghost use Rattle.age_io.specs.Cursor.{IsOutside};
+ghost use Rattle.age_io.specs.Keeping.{KeepsReader};
 ghost use Rattle.age_stream.specs.Answering.{StandAt, StopsNear, IsGoodEnd};
+ghost use Rattle.age_stream.specs.Keeping.{KeepsPayload};
 ghost use Rattle.age_stream.specs.Targets.{below_start, sought_in, IsRefusedTarget, StopsWithin};
 
 use crate::reader::StreamReader;
@@ -20,14 +21,8 @@ impl<S: Suite, R: Read> StreamReader<S, R> {
     // Reads until the buffer is full or the end. `filled` says how many bytes were read, also after a refusal.
     fn read_full(&mut self, buf: &mut [u8], filled: &mut usize) -> Result<(), Error>
         requires good { self.old.failed ≡ false }
-        ensures tells { let reader = ⟦<StreamReader<S, R> as Read>⟧ in reader.tells self.new ≡ reader.tells self.old }
-        ensures steady { let reader = ⟦<StreamReader<S, R> as Read>⟧ in reader.steady self.new ≡ reader.steady self.old }
-        ensures faults { let reader = ⟦<StreamReader<S, R> as Read>⟧ in reader.faults self.old ≤ reader.faults self.new }
-        ensures device { let reader = ⟦<StreamReader<S, R> as Read>⟧ in IfErr result (λ e. IsDevice e → reader.faults self.old < reader.faults self.new) }
-        ensures patient { IfErr result (λ e. IsInterruption e → ⊥) }
+        ensures keeps { KeepsPayload ⟦<R as Read>⟧ self.old.inner self.old.taken self.new.inner self.new.taken result }
         ensures count { filled.new ≤ length buf.new }
-        ensures content { let reader = ⟦<StreamReader<S, R> as Read>⟧ in IsTrue (reader.tells self.old) → reader.content self.new ≡ reader.content self.old }
-        ensures payload { IsTrue (⟦<StreamReader<S, R> as Read>⟧.tells self.old) → payload_of self.new ≡ payload_of self.old }
         ensures key { key_of self.new ≡ key_of self.old }
         ensures moves { 65536 * self.new.number + self.new.at ≡ 65536 * self.old.number + self.old.at + filled.new }
         ensures bytes { let reader = ⟦<StreamReader<S, R> as Read>⟧ in IsTrue (reader.tells self.old) → OnOk result
@@ -77,13 +72,8 @@ impl<S: Suite, R: Seek> StreamReader<S, R> {
     /// where the seek refused with `BeforeStart` or `PastEnd`. What `buf` holds after a refusal isn't said. For n bytes it
     /// opens at most n / 65,536 + 4 times.
     pub fn read_at(&mut self, to: SeekFrom, buf: &mut [u8]) -> Result<usize, Error>
-        ensures tells { let reader = ⟦<StreamReader<S, R> as Read>⟧ in reader.tells self.new ≡ reader.tells self.old }
-        ensures steady { let reader = ⟦<StreamReader<S, R> as Read>⟧ in reader.steady self.new ≡ reader.steady self.old }
-        ensures faults { let reader = ⟦<StreamReader<S, R> as Read>⟧ in reader.faults self.old ≤ reader.faults self.new }
-        ensures device { let reader = ⟦<StreamReader<S, R> as Read>⟧ in IfErr result (λ e. IsDevice e → reader.faults self.old < reader.faults self.new) }
-        ensures patient { IfErr result (λ e. IsInterruption e → ⊥) }
+        ensures keeps { KeepsReader ⟦<StreamReader<S, R> as Read>⟧ self.old self.new result }
         ensures count { IfOk result (λ n. n ≤ length buf.new) }
-        ensures content { let reader = ⟦<StreamReader<S, R> as Read>⟧ in IsTrue (reader.tells self.old) → reader.content self.new ≡ reader.content self.old }
         ensures payload { IsTrue (⟦<StreamReader<S, R> as Read>⟧.tells self.old) → payload_of self.new ≡ payload_of self.old }
         ensures key { key_of self.new ≡ key_of self.old }
 

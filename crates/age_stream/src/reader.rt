@@ -9,6 +9,7 @@ ghost use Rattle.age_io.specs.Reading.{Reads, IsQuiet, Delivers, EndsEarly, most
 ghost use Rattle.age_stream.specs.Payload.{nonce, payload, LastIsNoMiddle};
 ghost use Rattle.age_stream.specs.Answering.{Gives, Refuses, RefusesItself, IsEnd, IsGoodEnd};
 ghost use Rattle.age_stream.specs.Chunks.{allowed, chunk_of, delivered};
+ghost use Rattle.age_stream.specs.Keeping.{KeepsPayload};
 ghost use Rattle.age_stream.specs.Reading.{payload_at, spare, IsSound};
 ghost use Rattle.age_suite.specs.Suite.{one_more};
 ghost use Rattle.age_stream.specs.ReadingLaws.{and-left, and-right, both-true, stream_stands, stream_spent};
@@ -272,8 +273,7 @@ impl<S: Suite, R: Read> StreamReader<S, R> {
         requires some { 0 < length buf.old }
         ensures reads { let reader = ⟦<StreamReader<S, R> as Read>⟧ in
             Reads reader.tells reader.steady reader.content reader.place reader.rest reader.faults self.old self.new buf.new result }
-        ensures patient { IfErr result (λ e. IsInterruption e → ⊥) }
-        ensures payload { IsTrue (⟦<StreamReader<S, R> as Read>⟧.tells self.old) → payload_of self.new ≡ payload_of self.old }
+        ensures keeps { KeepsPayload ⟦<R as Read>⟧ self.old.inner self.old.taken self.new.inner self.new.taken result }
         ensures key { self.new.key ≡ self.old.key }
         ensures gives { let reader = ⟦<StreamReader<S, R> as Read>⟧ in IsTrue (reader.tells self.old) → IfOk result (λ n. 0 < n →
             Gives S.seal_of self.old.key (payload_of self.old) (reader.place self.old) (length buf.old) (take n buf.new)) }
@@ -319,14 +319,9 @@ impl<S: Suite, R: Read> StreamReader<S, R> {
     fn hold(&mut self) -> Result<(), Error>
         requires good { self.old.failed ≡ false }
         requires more { self.old.held ≡ true → self.old.last ≡ true → self.old.at < length self.old.chunk.items }
-        ensures tells { R.tells self.new.inner ≡ R.tells self.old.inner }
-        ensures steady { R.steady self.new.inner ≡ R.steady self.old.inner }
-        ensures faults { R.faults self.old.inner ≤ R.faults self.new.inner }
-        ensures device { IfErr result (λ e. IsDevice e → R.faults self.old.inner < R.faults self.new.inner) }
-        ensures patient { IfErr result (λ e. IsInterruption e → ⊥) }
+        ensures keeps { KeepsPayload ⟦<R as Read>⟧ self.old.inner self.old.taken self.new.inner self.new.taken result }
         ensures key { self.new.key ≡ self.old.key }
         ensures sought { self.new.sought ≡ self.old.sought }
-        ensures payload { IsTrue (⟦<StreamReader<S, R> as Read>⟧.tells self.old) → payload_of self.new ≡ payload_of self.old }
         ensures place { ⟦<StreamReader<S, R> as Read>⟧.place self.new ≡ ⟦<StreamReader<S, R> as Read>⟧.place self.old }
         ensures good { OnOk result ((self.new.failed ≡ false) × (self.new.held ≡ true)) }
         ensures rest { let reader = ⟦<StreamReader<S, R> as Read>⟧ in IsTrue (reader.tells self.old) → OnOk result
@@ -390,16 +385,11 @@ impl<S: Suite, R: Read> StreamReader<S, R> {
         requires held { self.old.held ≡ true }
         requires last { self.old.last ≡ true }
         requires given { self.old.at ≡ length self.old.chunk.items }
-        ensures tells { R.tells self.new.inner ≡ R.tells self.old.inner }
-        ensures steady { R.steady self.new.inner ≡ R.steady self.old.inner }
-        ensures faults { R.faults self.old.inner ≤ R.faults self.new.inner }
-        ensures device { IfErr result (λ e. IsDevice e → R.faults self.old.inner < R.faults self.new.inner) }
+        ensures keeps { KeepsPayload ⟦<R as Read>⟧ self.old.inner self.old.taken self.new.inner self.new.taken result }
         ensures unspent { OnOk result (R.faults self.new.inner < most_faults) }
-        ensures patient { IfErr result (λ e. IsInterruption e → ⊥) }
         ensures none { IfOk result (λ n. n ≡ 0) }
         ensures key { self.new.key ≡ self.old.key }
         ensures sought { self.new.sought ≡ self.old.sought }
-        ensures payload { IsTrue (⟦<StreamReader<S, R> as Read>⟧.tells self.old) → payload_of self.new ≡ payload_of self.old }
         ensures place { ⟦<StreamReader<S, R> as Read>⟧.place self.new ≡ ⟦<StreamReader<S, R> as Read>⟧.place self.old }
         ensures end { let reader = ⟦<StreamReader<S, R> as Read>⟧ in IsTrue (reader.tells self.old) → OnOk result
             (IsCleanEnd (reader.rest self.old) × (reader.rest self.new ≡ reader.rest self.old)) }
@@ -441,15 +431,10 @@ impl<S: Suite, R: Read> StreamReader<S, R> {
     fn open(&mut self) -> Result<(), Error>
         requires good { self.old.failed ≡ false }
         requires closed { self.old.held ≡ false }
-        ensures tells { R.tells self.new.inner ≡ R.tells self.old.inner }
-        ensures steady { R.steady self.new.inner ≡ R.steady self.old.inner }
-        ensures faults { R.faults self.old.inner ≤ R.faults self.new.inner }
-        ensures device { IfErr result (λ e. IsDevice e → R.faults self.old.inner < R.faults self.new.inner) }
+        ensures keeps { KeepsPayload ⟦<R as Read>⟧ self.old.inner self.old.taken self.new.inner self.new.taken result }
         ensures unspent { OnOk result (R.faults self.new.inner < most_faults) }
-        ensures patient { IfErr result (λ e. IsInterruption e → ⊥) }
         ensures key { self.new.key ≡ self.old.key }
         ensures sought { self.new.sought ≡ self.old.sought }
-        ensures payload { IsTrue (⟦<StreamReader<S, R> as Read>⟧.tells self.old) → payload_of self.new ≡ payload_of self.old }
         ensures place { ⟦<StreamReader<S, R> as Read>⟧.place self.new ≡ ⟦<StreamReader<S, R> as Read>⟧.place self.old }
         ensures good { OnOk result ((self.new.failed ≡ false) × (self.new.held ≡ true)) }
         ensures rest { let reader = ⟦<StreamReader<S, R> as Read>⟧ in IsTrue (reader.tells self.old) → OnOk result

@@ -7,6 +7,7 @@ ghost use Rattle.age_io.specs.Reading.{IsQuiet, most_faults};
 ghost use Rattle.age_io.specs.Cursor.{Seeks, IsOutside};
 ghost use Rattle.age_stream.specs.Payload;
 ghost use Rattle.age_stream.specs.Payload.{nonce, final_chunk, EndsAsLast};
+ghost use Rattle.age_stream.specs.Keeping.{KeepsPayload};
 ghost use Rattle.age_stream.specs.Reading.{text_at, IsLastChunk};
 ghost use Rattle.age_stream.specs.Targets.{below_start, in_length, sought_in, IsToEnd, IsRefusedTarget};
 
@@ -100,13 +101,8 @@ impl<S: Suite, R: Seek> StreamReader<S, R> {
         ensures same { (self.new.number ≡ self.old.number) × (self.new.at ≡ self.old.at) × (self.new.held ≡ self.old.held)
             × (self.new.chunk ≡ self.old.chunk) × (self.new.last ≡ self.old.last) × (self.new.key ≡ self.old.key)
             × (self.new.opens ≡ self.old.opens) × (self.new.failed ≡ true) × (self.new.sought ≡ self.old.sought) }
-        ensures tells { R.tells self.new.inner ≡ R.tells self.old.inner }
-        ensures steady { R.steady self.new.inner ≡ R.steady self.old.inner }
-        ensures faults { R.faults self.old.inner ≤ R.faults self.new.inner }
-        ensures device { IfErr result (λ e. IsDevice e → R.faults self.old.inner < R.faults self.new.inner) }
-        ensures patient { IfErr result (λ e. IsInterruption e → ⊥) }
+        ensures keeps { KeepsPayload ⟦<R as Read>⟧ self.old.inner self.old.taken self.new.inner self.new.taken result }
         ensures refusal { IfErr result (λ e. IsOutside e → ⊥) }
-        ensures payload { IsTrue (R.tells self.old.inner && R.steady self.old.inner) → payload_of self.new ≡ payload_of self.old }
         ensures found { IsTrue (R.tells self.old.inner && R.steady self.old.inner) → IfOk result (λ found.
             (found.0 ≡ R.place self.old.inner - self.old.taken) × (found.0 ≡ R.place self.new.inner - self.new.taken)
             × (found.1 ≡ length (payload_of self.old).bytes)) }
@@ -137,13 +133,8 @@ impl<S: Suite, R: Seek> StreamReader<S, R> {
         ensures same { (self.new.number ≡ self.old.number) × (self.new.at ≡ self.old.at) × (self.new.held ≡ self.old.held)
             × (self.new.chunk ≡ self.old.chunk) × (self.new.last ≡ self.old.last) × (self.new.key ≡ self.old.key)
             × (self.new.opens ≡ self.old.opens) × (self.new.failed ≡ true) × (self.new.sought ≡ self.old.sought) }
-        ensures tells { R.tells self.new.inner ≡ R.tells self.old.inner }
-        ensures steady { R.steady self.new.inner ≡ R.steady self.old.inner }
-        ensures faults { R.faults self.old.inner ≤ R.faults self.new.inner }
-        ensures device { IfErr result (λ e. IsDevice e → R.faults self.old.inner < R.faults self.new.inner) }
-        ensures patient { IfErr result (λ e. IsInterruption e → ⊥) }
+        ensures keeps { KeepsPayload ⟦<R as Read>⟧ self.old.inner self.old.taken self.new.inner self.new.taken result }
         ensures refusal { IfErr result (λ e. IsOutside e → ⊥) }
-        ensures payload { IsTrue (R.tells self.old.inner && R.steady self.old.inner) → payload_of self.new ≡ payload_of self.old }
         ensures unspent { OnOk result (R.faults self.new.inner < most_faults) }
         ensures stands { IsTrue (R.tells self.old.inner && R.steady self.old.inner) → OnOk result ((self.new.taken ≡ place)
             × (R.rest self.new.inner ≡ from_place place (payload_of self.old))) }
@@ -172,14 +163,9 @@ impl<S: Suite, R: Seek> StreamReader<S, R> {
         requires start { IsTrue (R.tells self.old.inner && R.steady self.old.inner) → start ≡ R.place self.old.inner - self.old.taken }
         requires size { IsTrue (R.tells self.old.inner && R.steady self.old.inner) → size ≡ length (payload_of self.old).bytes }
         requires before { place + 16 * (place / 65536) + 16 < size }
-        ensures tells { R.tells self.new.inner ≡ R.tells self.old.inner }
-        ensures steady { R.steady self.new.inner ≡ R.steady self.old.inner }
-        ensures faults { R.faults self.old.inner ≤ R.faults self.new.inner }
-        ensures device { IfErr result (λ e. IsDevice e → R.faults self.old.inner < R.faults self.new.inner) }
-        ensures patient { IfErr result (λ e. IsInterruption e → ⊥) }
+        ensures keeps { KeepsPayload ⟦<R as Read>⟧ self.old.inner self.old.taken self.new.inner self.new.taken result }
         ensures refusal { IfErr result (λ e. IsOutside e → ⊥) }
         ensures key { self.new.key ≡ self.old.key }
-        ensures payload { IsTrue (R.tells self.old.inner && R.steady self.old.inner) → payload_of self.new ≡ payload_of self.old }
         ensures sought { self.new.sought ≡ true }
         ensures good { OnOk result (self.new.failed ≡ false) }
         ensures fails { OnErr result (self.new.failed ≡ true) }
@@ -231,14 +217,9 @@ impl<S: Suite, R: Seek> StreamReader<S, R> {
         requires stands { IsTrue (R.tells self.old.inner && R.steady self.old.inner) → (self.old.taken ≡ 65552 * number)
             × (R.rest self.old.inner ≡ from_place (65552 * number) (payload_of self.old)) }
         requires last { IsTrue (R.tells self.old.inner && R.steady self.old.inner) → IsLastChunk (length (payload_of self.old).bytes) number }
-        ensures tells { R.tells self.new.inner ≡ R.tells self.old.inner }
-        ensures steady { R.steady self.new.inner ≡ R.steady self.old.inner }
-        ensures faults { R.faults self.old.inner ≤ R.faults self.new.inner }
-        ensures device { IfErr result (λ e. IsDevice e → R.faults self.old.inner < R.faults self.new.inner) }
-        ensures patient { IfErr result (λ e. IsInterruption e → ⊥) }
+        ensures keeps { KeepsPayload ⟦<R as Read>⟧ self.old.inner self.old.taken self.new.inner self.new.taken result }
         ensures refusal { IfErr result (λ e. IsOutside e → ⊥) }
         ensures key { self.new.key ≡ self.old.key }
-        ensures payload { IsTrue (R.tells self.old.inner && R.steady self.old.inner) → payload_of self.new ≡ payload_of self.old }
         ensures sought { self.new.sought ≡ true }
         ensures good { OnOk result ((self.new.failed ≡ false) × (self.new.held ≡ true) × (self.new.last ≡ true) × (self.new.number ≡ number)) }
         ensures fails { OnErr result (self.new.failed ≡ true) }
@@ -290,14 +271,9 @@ impl<S: Suite, R: Seek> StreamReader<S, R> {
         requires last { IsLastChunk size (final_chunk size) }
         requires len { len + 16 * (final_chunk size + 1) ≡ size }
         requires limit { len ≤ 2 ^ 60 }
-        ensures tells { R.tells self.new.inner ≡ R.tells self.old.inner }
-        ensures steady { R.steady self.new.inner ≡ R.steady self.old.inner }
-        ensures faults { R.faults self.old.inner ≤ R.faults self.new.inner }
-        ensures device { IfErr result (λ e. IsDevice e → R.faults self.old.inner < R.faults self.new.inner) }
-        ensures patient { IfErr result (λ e. IsInterruption e → ⊥) }
+        ensures keeps { KeepsPayload ⟦<R as Read>⟧ self.old.inner self.old.taken self.new.inner self.new.taken result }
         ensures refusal { IfErr result (λ e. IsOutside e → ⊥) }
         ensures key { self.new.key ≡ self.old.key }
-        ensures payload { IsTrue (R.tells self.old.inner && R.steady self.old.inner) → payload_of self.new ≡ payload_of self.old }
         ensures sought { self.new.sought ≡ true }
         ensures good { OnOk result ((self.new.failed ≡ false) × (self.new.held ≡ true) × (self.new.last ≡ true) × (self.new.number ≡ final_chunk size)) }
         ensures fails { OnErr result (self.new.failed ≡ true) }

@@ -2,16 +2,14 @@ use Rattle.std.proofs.Common.{◌≡◌, ◌≤◌, ◌-◌, IsTrue, vec_len}
 use Rattle.age_io.specs.Stretch.{from_place}
 use Rattle.age_io.specs.Reading.{GivesInAll}
 use Rattle.age_io.proofs.Reaching.{Reached}
+use Rattle.age_io.specs.Keeping.{SameReader}
 use Rattle.age_io.proofs.operations.read_up_to.Given as goal
 
 abbrev pub invariant-reads : goal.invariant-reads
 invariant-reads g l =
     let reader = g.R.Read in
     record {
-      same_tells : reader.tells l.reader ≡ reader.tells l.fn.reader;
-      same_steady : reader.steady l.reader ≡ reader.steady l.fn.reader;
-      no_fewer_faults : reader.faults l.fn.reader ≤ reader.faults l.reader;
-      same_content : IsTrue (reader.tells l.fn.reader) → reader.content l.reader ≡ reader.content l.fn.reader;
+      same : SameReader reader l.fn.reader l.reader;
       most : vec_len l.got ≤ l.count;
       gives : GivesInAll reader.tells reader.steady reader.content reader.place reader.rest reader.faults l.fn.reader l.reader l.got.items;
       so_far : IsTrue (reader.tells l.fn.reader) →

@@ -8,15 +8,13 @@ use Rattle.age_io.specs.Reading.{IsQuiet}
 use Rattle.age_io.specs.Replies.{IsNoWant, IsDeviceFault}
 use Rattle.age_io.proofs.InTurn.{came-more}
 use Rattle.age_io.specs.declared.operations.Answer.{Answer}
+use Rattle.age_io.proofs.Keeping.{same-later}
 use Rattle.age_io.proofs.operations.run.Goals as goal
 
 pub loop-op-preserved : goal.loop-op-preserved
 loop-op-preserved g c =
     record {
-      same_tells = cc;
-      no_fewer_faults = omega arith;
-      same_steady = cc;
-      same_content = grind (arith, common_steps);
+      same = same-later g.R.Read c.args.reader.now c.loop-op.reader c.answer_of.new.reader c.loop-op.invariant.same c.in_ok-answer_of.ensures.keeps;
       so_many = grind (arith, common_steps);
       came =
           let loop = c.loop-op in
@@ -28,19 +26,19 @@ loop-op-preserved g c =
           rw (c.in_ok-push.ensures.items, take_more c.args.ops.now loop.op-index (Read 0) (omega arith)) more;
       no_device = λ same.
           let loop = c.loop-op in
-          let rose = c.in_ok-answer_of.ensures.faults in
-          let before : g.R.Read.faults loop.reader ≡ g.R.Read.faults c.args.reader.now = omega (arith, rose, loop.invariant.no_fewer_faults) in
-          let now : g.R.Read.faults c.answer_of.new.reader ≡ g.R.Read.faults loop.reader = omega (arith, rose, loop.invariant.no_fewer_faults) in
+          let rose = c.in_ok-answer_of.ensures.keeps.faults in
+          let before : g.R.Read.faults loop.reader ≡ g.R.Read.faults c.args.reader.now = omega (arith, rose, loop.invariant.same.faults) in
+          let now : g.R.Read.faults c.answer_of.new.reader ≡ g.R.Read.faults loop.reader = omega (arith, rose, loop.invariant.same.faults) in
           let no_fault : Answer → Type 0 = λ d. IsDeviceFault d → ⊥ in
           All-same no_fault _ (loop.answers.items ++ c.in_ok-answer_of.field-0 ∷ []) c.in_ok-push.ensures.items
           (All-push no_fault loop.answers.items c.in_ok-answer_of.field-0 (loop.invariant.no_device before) (c.in_ok-answer_of.ensures.device now));
       told = λ told well whole quiet wanted.
           let loop = c.loop-op in
           let a = c.in_ok-answer_of.field-0 in
-          let before = loop.invariant.same_tells ∙ told in
-          let same = loop.invariant.same_content told in
+          let before = loop.invariant.same.tells ∙ told in
+          let same = loop.invariant.same.content told in
           let pushed = c.in_ok-push.ensures.items in
-          let rose = c.in_ok-answer_of.ensures.faults in
+          let rose = c.in_ok-answer_of.ensures.keeps.faults in
           let calm : IsQuiet (g.R.Read.faults c.args.reader.now) (g.R.Read.faults loop.reader) =
           record { same = omega (arith, rose); below = omega (arith, rose) } in
           let calm_now : IsQuiet (g.R.Read.faults loop.reader) (g.R.Read.faults c.answer_of.new.reader) =

@@ -1,18 +1,16 @@
-use Rattle.std.proofs.Common.{◌≡◌, ◌≤◌, IsTrue, vec_len, All, take, drop}
+use Rattle.std.proofs.Common.{◌≡◌, IsTrue, vec_len, All, take, drop}
 use Rattle.age_io.specs.Stretch.{from_place}
 use Rattle.age_io.specs.Reading.{IsQuiet}
 use Rattle.age_io.specs.Replies.{IsNoWant, IsDeviceFault, CameOfAll}
 use Rattle.age_io.proofs.Replying.{Answered}
+use Rattle.age_io.specs.Keeping.{SameReader}
 use Rattle.age_io.proofs.operations.run.Given as goal
 
 abbrev pub invariant-loop-op : goal.invariant-loop-op
 invariant-loop-op g l =
     let reader = g.R.Read in
     record {
-      same_tells : reader.tells l.reader ≡ reader.tells l.fn.reader;
-      same_steady : reader.steady l.reader ≡ reader.steady l.fn.reader;
-      no_fewer_faults : reader.faults l.fn.reader ≤ reader.faults l.reader;
-      same_content : IsTrue (reader.tells l.fn.reader) → reader.content l.reader ≡ reader.content l.fn.reader;
+      same : SameReader reader l.fn.reader l.reader;
       so_many : vec_len l.answers ≡ l.op-index;
       came : CameOfAll reader.tells reader.steady reader.content reader.place reader.rest reader.faults
           (take l.op-index l.ops) l.answers.items l.fn.reader l.reader;

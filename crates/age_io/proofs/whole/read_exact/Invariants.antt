@@ -1,16 +1,14 @@
 use Rattle.std.proofs.Common.{◌≡◌, ◌≤◌, ◌<◌, ◌-◌, ◌+◌, IsTrue, length, take}
 use Rattle.age_io.specs.Reading.{Delivers, most_faults}
+use Rattle.age_io.specs.Keeping.{SameReader}
 use Rattle.age_io.proofs.whole.read_exact.Given as goal
 
 abbrev pub invariant-loop-at : goal.invariant-loop-at
 invariant-loop-at g l =
     let reader = g.R.Read in
     record {
-      same_tells : reader.tells l.reader ≡ reader.tells l.fn.reader;
-      same_steady : reader.steady l.reader ≡ reader.steady l.fn.reader;
-      no_fewer_faults : reader.faults l.fn.reader ≤ reader.faults l.reader;
+      same : SameReader reader l.fn.reader l.reader;
       within : l.at ≤ length l.buf;
-      same_content : IsTrue (reader.tells l.fn.reader) → reader.content l.reader ≡ reader.content l.fn.reader;
       moved : IsTrue (reader.tells l.fn.reader) → reader.place l.reader ≡ reader.place l.fn.reader + l.at;
       so_far : IsTrue (reader.tells l.fn.reader) →
           Delivers (take l.at l.buf) (reader.rest l.fn.reader) (reader.rest l.reader);

@@ -2,6 +2,7 @@ use Rattle.age_io.proofs.Appending.{OnErr-of}
 use Rattle.std.proofs.Common.{arith, ap, take, ◌++◌, ◌∙◌}
 use Rattle.std.proofs.lemmas.Grind.{common_steps}
 use Rattle.age_io.proofs.Delivering.{Appended-none, Grown-more}
+use Rattle.age_io.proofs.Keeping.{same-later, same-read}
 use Rattle.age_io.proofs.whole.read_to_end.Goals as goal
 
 pub returns-in_err-room-clause-err : goal.returns-in_err-room-clause-err
@@ -14,13 +15,10 @@ reads-preserved g c =
     let spare = c.in_ok-wanted.ensures in
     let extended = c.in_ok-extend_from_slice.ensures in
     record {
-      same_tells = reads.same_tells ∙ before.same_tells;
-      same_steady = reads.same_steady ∙ before.same_steady;
-      no_fewer_faults = omega (arith, before.no_fewer_faults, reads.no_fewer_faults);
-      same_content = λ told. reads.same_content (before.same_tells ∙ told) ∙ before.same_content told;
+      same = same-later g.R.Read c.args.reader.now c.reads.reader c.read_retrying.new.reader before.same (same-read g.R.Read c.reads.reader c.read_retrying.new.reader reads);
       some_room = before.some_room;
       start = before.start;
       longer = grind (arith, common_steps, before.longer);
-      moved = λ told. grind (arith, common_steps, before.moved told, reads.moves (before.same_tells ∙ told));
-      so_far = λ told. Grown-more _ _ _ _ _ _ _ (before.so_far told) (reads.bytes (before.same_tells ∙ told)) (extended.items ∙ ap (λ l. l ++ take c.in_ok-count.count c.read_retrying.new.buf) spare.items);
+      moved = λ told. grind (arith, common_steps, before.moved told, reads.moves (before.same.tells ∙ told));
+      so_far = λ told. Grown-more _ _ _ _ _ _ _ (before.so_far told) (reads.bytes (before.same.tells ∙ told)) (extended.items ∙ ap (λ l. l ++ take c.in_ok-count.count c.read_retrying.new.buf) spare.items);
     }

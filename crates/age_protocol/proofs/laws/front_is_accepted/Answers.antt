@@ -2,5 +2,4 @@ use Rattle.age_protocol.proofs.Accepted.{accepted}
 use Rattle.age_protocol.proofs.laws.front_is_accepted.Goals as goal
 
 pub returns : goal.returns
-returns g c = accepted c.header_text_reads_back.ensures c.verdict_is_unique.ensures
-    g.R.Read.tells g.R.Read.steady g.R.Read.content g.R.Read.place g.R.Read.rest g.R.Read.faults
+returns g c = accepted c.header_text_reads_back.ensures c.verdict_is_unique.ensures g.R.Read

@@ -28,7 +28,7 @@ returns-in-Ok-clause-plaintext g c = λ told well plain for.
     c.file_opens.ensures.payload (g.T.Read.rest bytes) (g.T.Read.rest input) (g.T.Read.place bytes) (g.T.Read.place input) h nonce for.file_key for.stanzas plain
     front for.is_file in
     let asked = for.right answer (c.decrypt.new.identities, rw stanzas_are at first) in
-    let input_told = both_told _ _ _ _ made.keeps.same_tells made.keeps.same_steady told in
+    let input_told = both_told _ _ _ _ made.keeps.tells made.keeps.steady told in
     opened_or_want _ h nonce for.file_key plain input right
     (λ r opened. c.file_opens.ensures.content (g.T.Read.rest bytes) (g.T.Read.place bytes) h nonce for.file_key for.stanzas plain input r front for.is_file
     for.bytes for.within for.last well input_told opened)
@@ -42,7 +42,7 @@ returns-in-Ok-clause-opened g c =
     let made = c.in-Ok.ensures in
     let (answer, first, decrypts) = c.decrypt.ensures in
     asked g.I.Identity.unwraps _ _ c.args.bytes _ _ _ answer c.decrypt.result
-    (record { same_tells = made.keeps.same_tells; same_steady = made.keeps.same_steady; same_content = made.keeps.same_content; front = made.front; first = first }) decrypts
+    (record { same = made.keeps; front = made.front; first = first }) decrypts
 
 pub returns-in-Ok-clause-refused : goal.returns-in-Ok-clause-refused
 returns-in-Ok-clause-refused g c =
@@ -53,7 +53,7 @@ returns-in-Ok-clause-refused g c =
       _,
       _,
       answer,
-      record { same_tells = made.keeps.same_tells; same_steady = made.keeps.same_steady; same_content = made.keeps.same_content; front = made.front; first = first },
+      record { same = made.keeps; front = made.front; first = first },
       why,
     ))
     (refused_key _ _ _ _ _ decrypts)

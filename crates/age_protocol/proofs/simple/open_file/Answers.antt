@@ -16,7 +16,7 @@ returns-in_err-decryptor-clause-refused g c =
     c.in_ok-input.ensures.rest ∙ ap (λ s. stretch_of (delivered s.bytes s.ends_well)) c.new.ensures.rest in
     let (last, refuses) = c.in_err-decryptor.ensures.refused in
     of_error _ _ _ c.from_residual-in_err-decryptor.ensures.1
-    (inl (refl, inr (lacks_front _ _ _ _ _ _ c.in_ok-input.input last _ _ refuses refl start c.in_ok-input.ensures.place refl refl)))
+    (inl (refl, inr (lacks_front _ c.in_ok-input.input last _ _ refuses refl start c.in_ok-input.ensures.place refl refl)))
 
 pub returns-in_err-reader-clause-refused : goal.returns-in_err-reader-clause-refused
 returns-in_err-reader-clause-refused g c =
@@ -51,7 +51,7 @@ returns-in_err-read_to_end-clause-refused g c =
       asked = asked;
       why = rw is (inr (
         opens.right,
-        refuses_payload key _ _ _ _ _ opens (λ device. omega (arith, read.device device))
+        refuses_payload key _ _ _ _ _ opens (λ device. omega (arith, read.keeps.device device))
             (λ other. read.cause refl other (record { same = refl; below = omega arith })),
       ));
     }))

@@ -41,7 +41,7 @@ returns-in_err-stream g c =
           let r_last = (buffered.inner_of (inner_of last)).now in
           inl (
             r_last,
-            refuses_text _ _ _ _ _ _ g.R.Read.tells g.R.Read.rest g.R.Read.faults _ last c.args.reader.now r_last _
+            refuses_text _ g.R.Read.tells g.R.Read.rest g.R.Read.faults _ last c.args.reader.now r_last _
                 text.tells text.faults refl text.place text.rest front.1.1,
           ))
           (λ asked.
@@ -70,7 +70,7 @@ returns-in_err-copy_all g c =
       why = of_error _ _ _ is tt;
       front = λ reader_told writer_told.
           let text_told = both_told _ _ _ _ text.tells text.steady reader_told in
-          let told = both_told _ _ _ _ asks.same_tells asks.same_steady text_told in
+          let told = both_told _ _ _ _ asks.same.tells asks.same.steady text_told in
           let copied = rw made.opens.reader.rest at (c.in_err-copy_all.ensures.front (made.opens.reader.tells ∙ told) writer_told) in
           let begins = begins_text g.R.Read.tells g.R.Read.rest c.args.reader.now made.h made.nonce _ _ _ _ _ text.tells text.place text.rest asks.front in
           inr (made.file_key, made.h, made.nonce, _, begins, asks.first, made.opens.right, copied);
@@ -92,7 +92,7 @@ returns g c =
     record {
       file = λ reader_told writer_told.
           let text_told = both_told _ _ _ _ text.tells text.steady reader_told in
-          let told = both_told _ _ _ _ asks.same_tells asks.same_steady text_told in
+          let told = both_told _ _ _ _ asks.same.tells asks.same.steady text_told in
           let copied = c.in_ok-copy_all.ensures.all (made.opens.reader.tells ∙ told) writer_told in
           let file = made.opens.file told _ _ _ (asks.front (and-left _ _ text_told)) (stretch-ext _ (whole _) refl copied.0) in
           let tells = and-left _ _ reader_told in
@@ -106,7 +106,7 @@ returns g c =
       why = tt;
       front = λ reader_told writer_told.
           let text_told = both_told _ _ _ _ text.tells text.steady reader_told in
-          let told = both_told _ _ _ _ asks.same_tells asks.same_steady text_told in
+          let told = both_told _ _ _ _ asks.same.tells asks.same.steady text_told in
           let copied = rw made.opens.reader.rest at (c.in_ok-copy_all.ensures.front (made.opens.reader.tells ∙ told) writer_told) in
           let begins = begins_text g.R.Read.tells g.R.Read.rest c.args.reader.now made.h made.nonce _ _ _ _ _ text.tells text.place text.rest asks.front in
           inr (made.file_key, made.h, made.nonce, _, begins, asks.first, made.opens.right, copied);

@@ -9,7 +9,7 @@ use Rattle.age_format.proofs.header.HeaderV1.read.Goals as goal
 pub returns-in-Bad-clause-refused : goal.returns-in-Bad-clause-refused
 returns-in-Bad-clause-refused g c = λ told.
     let before = c.bytes.invariant in
-    let here = before.same_tells ∙ told in
+    let here = before.same.tells ∙ told in
     let decides = (rw c.in-Bad.is at c.in_ok-more.ensures) in (
       _,
       took_verdict c.bytes.header.legacy (g.R.Read.rest c.args.reader.now) _ _ _ _ _ c.bytes.header.text c.in_ok-byte.byte Bad before.legacy
@@ -19,7 +19,7 @@ returns-in-Bad-clause-refused g c = λ told.
 pub returns-in-UnknownVersion-clause-refused : goal.returns-in-UnknownVersion-clause-refused
 returns-in-UnknownVersion-clause-refused g c = λ told.
     let before = c.bytes.invariant in
-    let here = before.same_tells ∙ told in
+    let here = before.same.tells ∙ told in
     let decides = (rw c.in-UnknownVersion.is at c.in_ok-more.ensures) in (
       _,
       took_verdict c.bytes.header.legacy (g.R.Read.rest c.args.reader.now) _ _ _ _ _ c.bytes.header.text c.in_ok-byte.byte UnknownVersion before.legacy
@@ -29,7 +29,7 @@ returns-in-UnknownVersion-clause-refused g c = λ told.
 pub returns-in-Header-clause-header : goal.returns-in-Header-clause-header
 returns-in-Header-clause-header g c = λ told.
     let before = c.bytes.invariant in
-    let here = before.same_tells ∙ told in
+    let here = before.same.tells ∙ told in
     let decides = (rw c.in-Header.is at c.in_ok-more.ensures) in
     let took = took_verdict c.bytes.header.legacy (g.R.Read.rest c.args.reader.now) _ _ _ _ _ c.bytes.header.text c.in_ok-byte.byte
     (Header c.in-Header.stanzas.items c.in-Header.mac) before.legacy
@@ -41,14 +41,14 @@ pub returns-in_err-byte-clause-refused : goal.returns-in_err-byte-clause-refused
 returns-in_err-byte-clause-refused g c = λ told.
     let read = g.R.Read in
     let before = c.bytes.invariant in
-    let here = before.same_tells ∙ told in
+    let here = before.same.tells ∙ told in
     let failed = c.in_err-byte.ensures in
     let e = c.in_err-byte.field-0.0 in
     let refused = reader_refused c.bytes.header.legacy (read.faults c.args.reader.now) (read.faults c.bytes.reader) (read.faults c.next_byte.new.reader)
     (read.rest c.args.reader.now) (read.rest c.bytes.reader) (read.rest c.next_byte.new.reader)
     (read.place c.args.reader.now) (read.place c.bytes.reader) (read.place c.next_byte.new.reader) c.bytes.header.text e before.legacy
     (before.so_far told) (failed.left here) (before.moved told) (failed.stays here) c.text-size.ensures.undecided
-    before.no_fewer_faults failed.faults (failed.cause here) in
+    before.same.faults failed.keeps.same.faults (failed.cause here) in
     let refuses = λ (x : DecryptRefusal). RefusesHeader (read.faults c.args.reader.now) (read.faults c.next_byte.new.reader)
     (read.rest c.args.reader.now) (read.rest c.next_byte.new.reader) (read.place c.args.reader.now) (read.place c.next_byte.new.reader) x in
     refusal_of_error c.from_residual.result (decrypt_of_io e) refuses c.from_residual.ensures.1 refused
@@ -57,7 +57,7 @@ pub returns-in_err-more-clause-refused : goal.returns-in_err-more-clause-refused
 returns-in_err-more-clause-refused g c = λ told.
     let read = g.R.Read in
     let before = c.bytes.invariant in
-    let here = before.same_tells ∙ told in
+    let here = before.same.tells ∙ told in
     let ran_out = ran_out_after c.bytes.header.legacy (read.rest c.args.reader.now) (read.rest c.bytes.reader) (read.rest c.next_byte.new.reader)
     (read.place c.args.reader.now) (read.place c.bytes.reader) (read.place c.next_byte.new.reader) c.bytes.header.text c.in_ok-byte.byte before.legacy
     (before.so_far told) (c.in_ok-byte.ensures.byte here) (before.moved told) (c.in_ok-byte.ensures.moves here) c.text-size.ensures.undecided in

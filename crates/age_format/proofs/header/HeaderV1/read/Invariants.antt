@@ -1,5 +1,6 @@
 use Rattle.std.proofs.Common.{◌≡◌, ◌≤◌, ◌-◌, ◌+◌, ◌^◌, IsTrue, length}
 use Rattle.age_io.specs.Reading.{Delivers}
+use Rattle.age_io.specs.Keeping.{SameReader}
 use Rattle.age_format.specs.HeaderV1.{reads_legacy}
 use Rattle.age_format.proofs.header.HeaderV1.read.Given as goal
 
@@ -7,10 +8,7 @@ abbrev pub invariant-bytes : goal.invariant-bytes
 invariant-bytes g l =
     let reader = g.R.Read in
     record {
-      same_tells : reader.tells l.reader ≡ reader.tells l.fn.reader;
-      same_steady : reader.steady l.reader ≡ reader.steady l.fn.reader;
-      no_fewer_faults : reader.faults l.fn.reader ≤ reader.faults l.reader;
-      same_content : IsTrue (reader.tells l.fn.reader) → reader.content l.reader ≡ reader.content l.fn.reader;
+      same : SameReader reader l.fn.reader l.reader;
       legacy : l.header.legacy ≡ reads_legacy;
       moved : IsTrue (reader.tells l.fn.reader) → reader.place l.reader ≡ reader.place l.fn.reader + length l.header.text;
       so_far : IsTrue (reader.tells l.fn.reader) → Delivers l.header.text (reader.rest l.fn.reader) (reader.rest l.reader);

@@ -1,5 +1,6 @@
 use Rattle.std.proofs.Common.{rules, ◌≡◌, ◌∙◌, length, refl, inl, inr, arith}
 use Rattle.age_error.specs.DecryptErrors.{decrypt_of_io}
+use Rattle.age_io.proofs.Keeping.{same-later}
 use Rattle.age_protocol.proofs.Fronts.{took_both, of_error, is_device}
 use Rattle.age_protocol.proofs.decryptor.Decryptor.new.Goals as goal
 
@@ -12,23 +13,18 @@ returns-in_err-read_exact-clause-refused g c =
     of_error _ (decrypt_of_io error) _ c.from_residual-in_err-read_exact.ensures.1 (
       c.read_exact.new.reader,
       record {
-        keeps = record {
-          same_tells = then.tells ∙ first.tells;
-          same_steady = then.steady ∙ first.steady;
-          no_fewer_faults = omega (arith, first.faults, then.faults);
-          same_content = λ told. then.content (first.tells ∙ told) ∙ first.content told;
-        };
-        device = λ device. omega (arith, first.faults, then.device (is_device error device));
+        same = same-later g.R.Read c.args.input c.read.new.reader c.read_exact.new.reader first.keeps then.keeps.same;
+        device = λ device. omega (arith, first.keeps.faults, then.keeps.device (is_device error device));
         why = λ told. inr (inl (record {
           h = c.in_ok-header.header;
           after = g.R.Read.rest c.read.new.reader;
           after_place = g.R.Read.place c.read.new.reader;
           header = first.header told;
-          some = rw sixteen at (then.err (first.tells ∙ told));
+          some = rw sixteen at (then.err (first.keeps.tells ∙ told));
           error = error;
           is = refl;
-          short = λ other quiet. rw sixteen at (then.early (first.tells ∙ told) other
-              (record { same = omega (arith, quiet.same, first.faults, then.faults); below = quiet.below }));
+          short = λ other quiet. rw sixteen at (then.early (first.keeps.tells ∙ told) other
+              (record { same = omega (arith, quiet.same, first.keeps.faults, then.keeps.same.faults); below = quiet.below }));
         }));
       },
     )
@@ -40,18 +36,13 @@ returns-then-not-keeps_scrypt_rule-clause-refused g c =
     let then = c.in_ok-read_exact.ensures in (
       c.read_exact.new.reader,
       record {
-        keeps = record {
-          same_tells = then.tells ∙ first.tells;
-          same_steady = then.steady ∙ first.steady;
-          no_fewer_faults = omega (arith, first.faults, then.faults);
-          same_content = λ told. then.content (first.tells ∙ told) ∙ first.content told;
-        };
+        same = same-later g.R.Read c.args.input c.read.new.reader c.read_exact.new.reader first.keeps then.keeps.same;
         device = λ device. absurd device;
         why = λ told. inr (inr (record {
           h = c.in_ok-header.header;
           nonce = c.read_exact.new.buf;
           took = took_both _ _ _ _ _ _ _ _ (first.header told) c.known_array.ensures
-              (then.bytes (first.tells ∙ told)) (then.moves (first.tells ∙ told));
+              (then.bytes (first.keeps.tells ∙ told)) (then.moves (first.keeps.tells ∙ told));
           broken = λ rule. search rules;
           is = refl;
         }));
@@ -64,6 +55,6 @@ returns-clause-front g c = λ told.
     let then = c.in_ok-read_exact.ensures in
     record {
       took = took_both _ _ _ _ _ _ _ _ (first.header told) c.known_array.ensures
-          (then.bytes (first.tells ∙ told)) (then.moves (first.tells ∙ told));
+          (then.bytes (first.keeps.tells ∙ told)) (then.moves (first.keeps.tells ∙ told));
       rule = search rules;
     }

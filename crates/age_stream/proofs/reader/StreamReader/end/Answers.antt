@@ -87,12 +87,12 @@ invariant_of-self g c =
       count_fits = self.count_fits;
       unspent = λ good. absurd (true≢false good);
       sound = λ told.
-          let told_before = rw (c.in-Err.ensures.tells, c.in-Err.ensures.steady) at told in
+          let told_before = rw (c.in-Err.ensures.keeps.same.tells, c.in-Err.ensures.keeps.same.steady) at told in
           let t : IsTrue (read.tells self.inner) = and-left _ _ told_before in
           sound-failed g.S.Suite.opened self.key self.failed self.held self.at self.chunk.items self.last self.sought self.number self.taken
           (read.place self.inner) (read.content self.inner) (read.rest self.inner) (self.sound told_before)
           c.saturating_add-self.result (read.place after) c.fill-answer.new.filled (read.content after) (read.rest after)
-          (c.in-Err.ensures.content t) (c.in-Err.ensures.moves t) (g.met.R.Read.place_fits after (and-left _ _ told)) c.saturating_add-self.ensures;
+          (c.in-Err.ensures.keeps.same.content t) (c.in-Err.ensures.moves t) (g.met.R.Read.place_fits after (and-left _ _ told)) c.saturating_add-self.ensures;
     }
 
 pub invariant_of-self-then-count-gt0-clause-sound : goal.invariant_of-self-then-count-gt0-clause-sound
@@ -100,19 +100,19 @@ invariant_of-self-then-count-gt0-clause-sound g c = λ told.
     let self = c.args.self.now in
     let read = g.R.Read in
     let after = c.fill-answer.new.reader in
-    let told_before = rw (c.in-Ok.ensures.tells, c.in-Ok.ensures.steady) at told in
+    let told_before = rw (c.in-Ok.ensures.keeps.same.tells, c.in-Ok.ensures.keeps.same.steady) at told in
     let t : IsTrue (read.tells self.inner) = and-left _ _ told_before in
     sound-failed g.S.Suite.opened self.key self.failed self.held self.at self.chunk.items self.last self.sought self.number self.taken
     (read.place self.inner) (read.content self.inner) (read.rest self.inner) (self.sound told_before)
     c.saturating_add-self.result (read.place after) c.fill-answer.new.filled (read.content after) (read.rest after)
-    (c.in-Ok.ensures.content t) (c.in-Ok.ensures.moves t) (g.met.R.Read.place_fits after (and-left _ _ told)) c.saturating_add-self.ensures
+    (c.in-Ok.ensures.keeps.same.content t) (c.in-Ok.ensures.moves t) (g.met.R.Read.place_fits after (and-left _ _ told)) c.saturating_add-self.ensures
 
 pub invariant_of-self-in-Ok-clause-sound : goal.invariant_of-self-in-Ok-clause-sound
 invariant_of-self-in-Ok-clause-sound g c = λ told.
     let self = c.args.self.now in
     let read = g.R.Read in
     let after = c.fill-answer.new.reader in
-    let told_before = rw (c.in-Ok.ensures.tells, c.in-Ok.ensures.steady) at told in
+    let told_before = rw (c.in-Ok.ensures.keeps.same.tells, c.in-Ok.ensures.keeps.same.steady) at told in
     let t : IsTrue (read.tells self.inner) = and-left _ _ told_before in
     let text = take c.fill-answer.new.filled c.fill-answer.new.buf in
     let size : length text ≡ c.fill-answer.new.filled = length-take-le c.fill-answer.new.filled c.fill-answer.new.buf c.in-Ok.ensures.count in
@@ -120,7 +120,7 @@ invariant_of-self-in-Ok-clause-sound g c = λ told.
     sound-ended g.S.Suite.opened self.key self.failed self.held self.at self.chunk.items self.last self.sought self.number self.taken
     (read.place self.inner) (read.content self.inner) (read.rest self.inner) (self.sound told_before)
     c.saturating_add-self.result (read.place after) c.fill-answer.new.filled (read.content after) (read.rest after)
-    (c.in-Ok.ensures.content t) (c.in-Ok.ensures.moves t) (g.met.R.Read.place_fits after (and-left _ _ told)) c.saturating_add-self.ensures
+    (c.in-Ok.ensures.keeps.same.content t) (c.in-Ok.ensures.moves t) (g.met.R.Read.place_fits after (and-left _ _ told)) c.saturating_add-self.ensures
     c.requires.good c.requires.held none
     (same-rest (read.rest self.inner) (read.rest after) text (c.in-Ok.ensures.bytes t) (omega (arith, size, none)))
 

@@ -1,10 +1,11 @@
-use Rattle.std.proofs.Common.{◌≡◌, ◌≤◌, ◌<◌, ◌-◌, ◌%◌, ◌^◌, ◌∙◌, arith, length, sym, ap, IsTrue, ◌&&◌}
+use Rattle.std.proofs.Common.{◌≡◌, ◌≤◌, ◌<◌, ◌-◌, ◌%◌, ◌^◌, ◌∙◌, arith, length, sym, ap}
 use Rattle.std.proofs.lemmas.List.Elements.{All-drop}
 use Rattle.age_io.specs.Stretch.{from_place}
 use Rattle.age_stream.specs.OpeningLaws.{shorter}
 use Rattle.age_stream.specs.Reading.{payload_at}
 use Rattle.age_stream.specs.ReadingLaws.{and-left}
 use Rattle.age_stream.proofs.Inner.{past-kept}
+use Rattle.age_stream.proofs.Keeping.{told-before}
 use Rattle.age_stream.proofs.Last.{inside-held}
 use Rattle.age_stream.proofs.Moving.{sound-kept}
 use Rattle.age_stream.proofs.reader.StreamReader.enter.Goals as goal
@@ -17,8 +18,7 @@ invariant_of-self g c =
     let done = c.in-Ok.ensures in
     let is_held = done.same.2 ∙ c.if-self.true in
     let law = shorter g.S.Suite.seal_of g.S.Suite.opened g.met.S.Suite.cipher mid.key mid.key_bytes in
-    let before : IsTrue (read.tells mid.inner && read.steady mid.inner) → IsTrue (read.tells self.inner && read.steady self.inner) =
-    λ told. rw (done.tells, done.steady) at told in
+    let before = told-before read self.inner mid.inner done.keeps.inner.same in
     let payload = payload_at (read.place mid.inner) mid.taken (read.content mid.inner) in
     let chunk_same : length mid.chunk.items ≡ length self.chunk.items = ap (λ v. length v.items) done.same.3 in
     let within : c.args.place % 65536 ≤ length mid.chunk.items = omega (arith, c.if-at-len.true, c.len.ensures, self.chunk.ok.0, chunk_same) in
@@ -36,7 +36,7 @@ invariant_of-self g c =
       sound = λ told.
           let told_before = before told in
           let placed = done.stands told_before in
-          let same = done.payload told_before in
+          let same = done.keeps.payload told_before in
           let size : c.args.size ≡ length payload.bytes = c.requires.size told_before ∙ ap (λ p. length p.bytes) (sym same) in
           let number : mid.number ≡ self.number = done.same.0 in
           let bytes = g.met.R.Read.are_bytes mid.inner (and-left (read.tells mid.inner) (read.steady mid.inner) told) in

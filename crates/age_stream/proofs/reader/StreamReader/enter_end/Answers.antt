@@ -1,10 +1,11 @@
-use Rattle.std.proofs.Common.{◌≡◌, ◌<◌, ◌-◌, ◌/◌, ◌^◌, ◌∙◌, arith, length, sym, ap, IsTrue, ◌&&◌}
+use Rattle.std.proofs.Common.{◌≡◌, ◌<◌, ◌-◌, ◌/◌, ◌^◌, ◌∙◌, arith, length, sym, ap}
 use Rattle.std.proofs.lemmas.List.Elements.{All-drop}
 use Rattle.age_io.specs.Stretch.{from_place}
 use Rattle.age_stream.specs.OpeningLaws.{shorter}
 use Rattle.age_stream.specs.Reading.{payload_at}
 use Rattle.age_stream.specs.ReadingLaws.{and-left}
 use Rattle.age_stream.proofs.Inner.{past-end}
+use Rattle.age_stream.proofs.Keeping.{told-before, told-later}
 use Rattle.age_stream.proofs.Last.{held-length}
 use Rattle.age_stream.proofs.Moving.{sound-kept}
 use Rattle.age_stream.proofs.reader.StreamReader.enter_end.Goals as goal
@@ -16,9 +17,9 @@ returns-in-Ok-clause-arrives g c = λ told.
     let mid = c.stand.new.self in
     let done = c.in-Ok.ensures in
     let law = shorter g.S.Suite.seal_of g.S.Suite.opened g.met.S.Suite.cipher mid.key mid.key_bytes in
-    let after : IsTrue (read.tells mid.inner && read.steady mid.inner) = rw (done.tells, done.steady) told in
+    let after = told-later read self.inner mid.inner done.keeps.inner.same told in
     let payload = payload_at (read.place mid.inner) mid.taken (read.content mid.inner) in
-    let size : c.args.size ≡ length payload.bytes = c.requires.size told ∙ ap (λ p. length p.bytes) (sym (done.payload told)) in
+    let size : c.args.size ≡ length payload.bytes = c.requires.size told ∙ ap (λ p. length p.bytes) (sym (done.keeps.payload told)) in
     let number : mid.number ≡ (c.args.size - 1) / 65552 = done.same.0 ∙ omega (arith, c.if-self-number.true) in
     let long = held-length g.S.Suite.opened mid.key law payload mid.number mid.at mid.last mid.chunk.items
     (All-drop (λ x. x < 2 ^ 8) (read.place mid.inner - mid.taken) (read.content mid.inner).bytes
@@ -35,8 +36,7 @@ invariant_of-self g c =
     let is_held = done.same.2 ∙ c.if-self.true in
     let is_last = done.same.4 ∙ c.if-self-2.true in
     let law = shorter g.S.Suite.seal_of g.S.Suite.opened g.met.S.Suite.cipher mid.key mid.key_bytes in
-    let before : IsTrue (read.tells mid.inner && read.steady mid.inner) → IsTrue (read.tells self.inner && read.steady self.inner) =
-    λ told. rw (done.tells, done.steady) at told in
+    let before = told-before read self.inner mid.inner done.keeps.inner.same in
     let payload = payload_at (read.place mid.inner) mid.taken (read.content mid.inner) in
     let small = mid.small is_held in
     let in_chunk = mid.in_chunk is_held in
@@ -55,7 +55,7 @@ invariant_of-self g c =
       sound = λ told.
           let told_before = before told in
           let placed = done.stands told_before in
-          let same = done.payload told_before in
+          let same = done.keeps.payload told_before in
           let size : c.args.size ≡ length payload.bytes = c.requires.size told_before ∙ ap (λ p. length p.bytes) (sym same) in
           let number : mid.number ≡ (c.args.size - 1) / 65552 = done.same.0 ∙ omega (arith, c.if-self-number.true) in
           let past = past-end payload (read.rest mid.inner) mid.number mid.taken mid.last is_last (omega (arith, placed.0, size))

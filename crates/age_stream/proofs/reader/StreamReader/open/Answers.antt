@@ -183,7 +183,7 @@ invariant_of-self-in-Ok-open_chunk-clause-sound g c = λ told.
     let self = c.args.self.now in
     let read = g.R.Read in
     let after = c.fill-answer.new.reader in
-    let told_before = rw (c.in-Ok.ensures.tells, c.in-Ok.ensures.steady) at told in
+    let told_before = rw (c.in-Ok.ensures.keeps.same.tells, c.in-Ok.ensures.keeps.same.steady) at told in
     let t : IsTrue (g.R.Read.tells self.inner) = and-left _ _ told_before in
     let text = take c.fill-answer.new.filled c.fill-answer.new.buf in
     let size : length c.fill-answer.new.buf ≡ 65552 = omega (arith, c.fill-answer.auto.buf, c.deref_mut.ensures.len, self.room, self.sealed.ok.0) in
@@ -195,7 +195,7 @@ invariant_of-self-in-Ok-open_chunk-clause-sound g c = λ told.
     sound-opened g.S.Suite.opened self.key self.failed self.held self.at self.chunk.items self.last self.sought self.number self.taken
     (read.place self.inner) (read.content self.inner) (read.rest self.inner) (self.sound told_before)
     c.saturating_add-self.result (read.place after) c.fill-answer.new.filled (read.content after) (read.rest after) text plain.items c.in-Ok-open_chunk.last
-    (c.in-Ok.ensures.content t) (c.in-Ok.ensures.moves t) (g.met.R.Read.place_fits after (and-left _ _ told)) c.saturating_add-self.ensures
+    (c.in-Ok.ensures.keeps.same.content t) (c.in-Ok.ensures.moves t) (g.met.R.Read.place_fits after (and-left _ _ told)) c.saturating_add-self.ensures
     c.requires.good c.requires.closed (omega (arith, c.if-self-len.false, c.len.ensures, plain.ok.0)) (g.met.R.Read.stands self.inner t (and-right _ _ told_before))
     took (length-take-le c.fill-answer.new.filled c.fill-answer.new.buf c.in-Ok.ensures.count)
     (rw (c.deref.ensures.value, filled) at c.in-Ok-open_chunk.ensures.short) ok

@@ -1,6 +1,7 @@
 use Rattle.std.proofs.Common.{◌≡◌, ◌≤◌, ◌+◌, ◌∙◌, arith, length, take, sym, ap, IsTrue, ◌&&◌, refl, length-take-le, Some, None, true}
 use Rattle.std.proofs.lemmas.Bool.{true≢false}
 use Rattle.age_io.proofs.Delivering.{refilled}
+use Rattle.age_io.proofs.Keeping.{keeps-done}
 use Rattle.age_stream.specs.Payload.{nonce}
 use Rattle.age_stream.specs.Reading.{payload_at}
 use Rattle.age_stream.specs.ReadingLaws.{and-left}
@@ -15,7 +16,7 @@ invariant_of-self g c =
     let read = g.R.Read in
     let after = c.fill-answer.new.reader in
     let before : IsTrue (read.tells after && read.steady after) → IsTrue (read.tells self.inner && read.steady self.inner) =
-    λ told. rw (c.in-Err.ensures.tells, c.in-Err.ensures.steady) at told in
+    λ told. rw (c.in-Err.ensures.keeps.same.tells, c.in-Err.ensures.keeps.same.steady) at told in
     let size : length c.fill-answer.new.buf ≡ 65552 = omega (arith, c.fill-answer.auto.buf, c.deref_mut.ensures.len, self.room, self.sealed.ok.0) in
     let filled = refilled self.sealed.items c.fill-answer.new.buf self.sealed.len self.sealed.ok.0 (omega (arith, size, self.room)) in
     record {
@@ -34,7 +35,7 @@ invariant_of-self g c =
           let fits = (self.sound (before told)).fits in
           let moved = c.in-Err.ensures.moves t in
           let same = payload-read (read.content self.inner) (read.content after) (read.place self.inner) (read.place after) self.taken c.saturating_add-self.result c.fill-answer.new.filled
-          (c.in-Err.ensures.content t) moved (g.met.R.Read.place_fits after (and-left _ _ told)) c.saturating_add-self.ensures fits in
+          (c.in-Err.ensures.keeps.same.content t) moved (g.met.R.Read.place_fits after (and-left _ _ told)) c.saturating_add-self.ensures fits in
           sound-moved g.S.Suite.opened self.key self.failed self.held self.at self.chunk.items self.last self.sought self.number self.taken
           (read.place self.inner) (read.content self.inner) (read.rest self.inner) (self.sound (before told)) self.failed self.sought
           c.saturating_add-self.result (read.place after) (read.content after) (read.rest after) c.requires.failed same.1 (omega (arith, same.0, moved, fits));
@@ -46,7 +47,7 @@ invariant_of-self-in-Ok-None g c =
     let read = g.R.Read in
     let after = c.fill-answer.new.reader in
     let before : IsTrue (read.tells after && read.steady after) → IsTrue (read.tells self.inner && read.steady self.inner) =
-    λ told. rw (c.in-Ok.ensures.tells, c.in-Ok.ensures.steady) at told in
+    λ told. rw (c.in-Ok.ensures.keeps.same.tells, c.in-Ok.ensures.keeps.same.steady) at told in
     let size : length c.fill-answer.new.buf ≡ 65552 = omega (arith, c.fill-answer.auto.buf, c.deref_mut.ensures.len, self.room, self.sealed.ok.0) in
     let filled = refilled self.sealed.items c.fill-answer.new.buf self.sealed.len self.sealed.ok.0 (omega (arith, size, self.room)) in
     record {
@@ -65,7 +66,7 @@ invariant_of-self-in-Ok-None g c =
           let fits = (self.sound (before told)).fits in
           let moved = c.in-Ok.ensures.moves t in
           let same = payload-read (read.content self.inner) (read.content after) (read.place self.inner) (read.place after) self.taken c.saturating_add-self.result c.fill-answer.new.filled
-          (c.in-Ok.ensures.content t) moved (g.met.R.Read.place_fits after (and-left _ _ told)) c.saturating_add-self.ensures fits in
+          (c.in-Ok.ensures.keeps.same.content t) moved (g.met.R.Read.place_fits after (and-left _ _ told)) c.saturating_add-self.ensures fits in
           sound-moved g.S.Suite.opened self.key self.failed self.held self.at self.chunk.items self.last self.sought self.number self.taken
           (read.place self.inner) (read.content self.inner) (read.rest self.inner) (self.sound (before told)) self.failed self.sought
           c.saturating_add-self.result (read.place after) (read.content after) (read.rest after) c.requires.failed same.1 (omega (arith, same.0, moved, fits));
@@ -87,14 +88,19 @@ returns-in-Ok-None-clause-cause g c = λ told well memory quiet.
     let none : g.S.Suite.opened self.key (nonce c.args.number true) text ≡ None = sym (rw (c.deref.ensures.value, filled, c.in-Ok-None.field-0-is) at c.in-Ok-None.ensures.opened) in
     (refl, last-none g.S.Suite.opened self.key payload (read.rest after) c.args.number text whole none)
 
-pub returns-in-Ok-Some-clause-payload : goal.returns-in-Ok-Some-clause-payload
-returns-in-Ok-Some-clause-payload g c = λ told.
+pub returns-in-Ok-Some-clause-keeps : goal.returns-in-Ok-Some-clause-keeps
+returns-in-Ok-Some-clause-keeps g c =
     let self = c.args.self.now in
     let read = g.R.Read in
     let after = c.fill-answer.new.reader in
-    let t = and-left (read.tells self.inner) (read.steady self.inner) told in
-    (payload-read (read.content self.inner) (read.content after) (read.place self.inner) (read.place after) self.taken c.saturating_add-self.result c.fill-answer.new.filled
-    (c.in-Ok.ensures.content t) (c.in-Ok.ensures.moves t) (g.met.R.Read.place_fits after (c.in-Ok.ensures.tells ∙ t)) c.saturating_add-self.ensures (self.sound told).fits).1
+    let filled = c.in-Ok.ensures in
+    record {
+      inner = keeps-done read self.inner after filled.keeps.same;
+      payload = λ told.
+          let t = and-left (read.tells self.inner) (read.steady self.inner) told in
+          (payload-read (read.content self.inner) (read.content after) (read.place self.inner) (read.place after) self.taken c.saturating_add-self.result c.fill-answer.new.filled
+          (filled.keeps.same.content t) (filled.moves t) (g.met.R.Read.place_fits after (filled.keeps.same.tells ∙ t)) c.saturating_add-self.ensures (self.sound told).fits).1;
+    }
 
 pub returns-in-Ok-Some-clause-arrives : goal.returns-in-Ok-Some-clause-arrives
 returns-in-Ok-Some-clause-arrives g c = λ told.
@@ -118,7 +124,7 @@ invariant_of-self-in-Ok-Some g c =
     let read = g.R.Read in
     let after = c.fill-answer.new.reader in
     let before : IsTrue (read.tells after && read.steady after) → IsTrue (read.tells self.inner && read.steady self.inner) =
-    λ told. rw (c.in-Ok.ensures.tells, c.in-Ok.ensures.steady) at told in
+    λ told. rw (c.in-Ok.ensures.keeps.same.tells, c.in-Ok.ensures.keeps.same.steady) at told in
     let text = take c.fill-answer.new.filled c.fill-answer.new.buf in
     let size : length c.fill-answer.new.buf ≡ 65552 = omega (arith, c.fill-answer.auto.buf, c.deref_mut.ensures.len, self.room, self.sealed.ok.0) in
     let filled = refilled self.sealed.items c.fill-answer.new.buf self.sealed.len self.sealed.ok.0 (omega (arith, size, self.room)) in
@@ -149,7 +155,7 @@ invariant_of-self-in-Ok-Some g c =
           sound-last g.S.Suite.opened self.key self.failed self.held self.at self.chunk.items self.last self.sought self.number self.taken
           (read.place self.inner) (read.content self.inner) (read.rest self.inner) (self.sound b)
           c.saturating_add-self.result (read.place after) c.fill-answer.new.filled (read.content after) (read.rest after) c.args.number c.len-self.result text plain.items
-          (c.in-Ok.ensures.content t) (c.in-Ok.ensures.moves t) (g.met.R.Read.place_fits after (and-left _ _ told)) c.saturating_add-self.ensures
+          (c.in-Ok.ensures.keeps.same.content t) (c.in-Ok.ensures.moves t) (g.met.R.Read.place_fits after (and-left _ _ told)) c.saturating_add-self.ensures
           c.requires.sought (c.requires.stands b).0 long whole (c.requires.last b) c.requires.limit longer there (sym some);
     }
 

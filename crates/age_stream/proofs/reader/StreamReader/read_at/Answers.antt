@@ -34,7 +34,7 @@ returns-in-Err-read_full-clause-refused g c = λ told well memory quiet.
     let seek = c.in-Ok.ensures in
     let read = c.in-Err-read_full.ensures in
     let calm : IsQuiet (g.R.Read.faults mid.inner) (g.R.Read.faults c.read_full.new.self.inner) =
-    record { same = omega (arith, seek.seeks.no_fewer_faults, read.faults, quiet.same); below = quiet.below } in
+    record { same = omega (arith, seek.seeks.no_fewer_faults, read.keeps.inner.same.faults, quiet.same); below = quiet.below } in
     let near = read.refused (seek.seeks.same_tells ∙ told) memory calm (seek.inner_end told ∙ well) in
     let stops = subst (λ p. StopsNear g.S.Suite.seal_of self.key p.bytes (place_of c.read_full.new.self) c.in-Err-read_full.e) (seek.payload told)
     (subst (λ k. StopsNear g.S.Suite.seal_of k (payload_of mid).bytes (place_of c.read_full.new.self) c.in-Err-read_full.e) seek.key near) in

@@ -1,8 +1,8 @@
 use Rattle.std.proofs.Common.{◌≡◌, arith, ◌∙◌, ◌-◌, ◌+◌, length, take, subst, length-take-le}
 use Rattle.age_stream.specs.Answering.{StandAt, StopsNear, IsGoodEnd}
 use Rattle.age_stream.specs.Reader.{payload_of, place_of, wanted_of}
-use Rattle.age_io.specs.Reading.{IsQuiet}
 use Rattle.age_stream.proofs.Answered.{refuses-near}
+use Rattle.age_stream.proofs.Keeping.{told-later, quiet-later, payload-done, payload-later}
 use Rattle.age_stream.proofs.Standing.{stand-given, stand-joined}
 use Rattle.std.proofs.lemmas.Grind.{common_steps}
 use Rattle.age_io.proofs.Delivering.{Delivers-joined, take-filled}
@@ -11,35 +11,32 @@ use Rattle.age_stream.proofs.reader.StreamReader.read_full.Goals as goal
 pub reads-preserved : goal.reads-preserved
 reads-preserved g c =
     let before = c.reads.invariant in
+    let later = told-later g.R.Read c.args.self.now.inner c.reads.self.inner before.keeps.inner.same in
     let read = c.in-Ok.ensures in
     let got = read.reads in
     record {
-      same_tells = got.same_tells ∙ before.same_tells;
-      same_steady = got.same_steady ∙ before.same_steady;
-      no_fewer_faults = omega (arith, before.no_fewer_faults, got.no_fewer_faults);
+      keeps = payload-done g.R.Read _ _ _ _ (payload-later g.R.Read _ c.args.self.now.inner c.reads.self.inner c.read_on.new.self.inner _ _ _ before.keeps read.keeps);
       within = grind (arith, common_steps);
       good = read.good;
       same_key = read.key ∙ before.same_key;
-      same_content = λ told. got.same_content (before.same_tells ∙ told) ∙ before.same_content told;
-      same_payload = λ told. read.payload (before.same_tells ∙ told) ∙ before.same_payload told;
       moved = omega (arith, before.moved, read.placed);
       so_far = λ told.
           let k = length c.reads.buf - c.reads.filled in
           let filled = take-filled c.reads.filled k c.in-Ok.n c.reads.buf c.read_on.new.buf before.within got.count in
-          rw filled (Delivers-joined _ _ _ _ _ (before.so_far told) (got.bytes (before.same_tells ∙ told)));
+          rw filled (Delivers-joined _ _ _ _ _ (before.so_far told) (got.bytes (later told)));
       spared = omega (arith, before.spared, read.spared);
       stored = λ told.
           let k = length c.reads.buf - c.reads.filled in
           let filled = take-filled c.reads.filled k c.in-Ok.n c.reads.buf c.read_on.new.buf before.within got.count in
           let long : length (take c.reads.filled c.reads.buf) ≡ c.reads.filled = length-take-le c.reads.filled c.reads.buf before.within in
           let there : place_of c.reads.self ≡ place_of c.args.self.now + length (take c.reads.filled c.reads.buf) = omega (arith, before.moved, long) in
-          let given = stand-given g.S.Suite.seal_of c.reads.self.key (payload_of c.reads.self) (place_of c.reads.self) _ _ (read.gives (before.same_tells ∙ told) (omega (arith, c.if-n-eq0.false))) in
+          let given = stand-given g.S.Suite.seal_of c.reads.self.key (payload_of c.reads.self) (place_of c.reads.self) _ _ (read.gives (later told) (omega (arith, c.if-n-eq0.false))) in
           rw filled (stand-joined g.S.Suite.seal_of c.args.self.now.key (payload_of c.args.self.now).bytes (place_of c.args.self.now) (take c.reads.filled c.reads.buf) (take c.in-Ok.n c.read_on.new.buf)
           (before.stored told)
           (subst (λ p. StandAt g.S.Suite.seal_of c.args.self.now.key (payload_of c.args.self.now).bytes p (take c.in-Ok.n c.read_on.new.buf)) there
-          (subst (λ p. StandAt g.S.Suite.seal_of c.args.self.now.key p.bytes (place_of c.reads.self) (take c.in-Ok.n c.read_on.new.buf)) (before.same_payload told)
+          (subst (λ p. StandAt g.S.Suite.seal_of c.args.self.now.key p.bytes (place_of c.reads.self) (take c.in-Ok.n c.read_on.new.buf)) (before.keeps.payload told)
           (subst (λ k. StandAt g.S.Suite.seal_of k (payload_of c.reads.self).bytes (place_of c.reads.self) (take c.in-Ok.n c.read_on.new.buf)) before.same_key given))));
-      inner_end = λ told. read.inner_end (before.same_tells ∙ told) ∙ before.inner_end told;
+      inner_end = λ told. read.inner_end (later told) ∙ before.inner_end told;
       counted = omega (arith, before.counted, read.counts);
     }
 
@@ -48,11 +45,12 @@ returns-then-n-eq0-clause-ended g c = λ told less.
     let self = c.args.self.now in
     let mid = c.reads.self in
     let before = c.reads.invariant in
+    let later = told-later g.R.Read c.args.self.now.inner c.reads.self.inner before.keeps.inner.same in
     let read = c.in-Ok.ensures in
-    let good = read.ended (before.same_tells ∙ told) (omega (arith, c.if-n-eq0.true)) in
+    let good = read.ended (later told) (omega (arith, c.if-n-eq0.true)) in
     let there : place_of mid ≡ place_of c.read_on.new.self = omega (arith, read.placed, c.if-n-eq0.true) in
     subst (λ n. IsGoodEnd g.S.Suite.seal_of self.key (payload_of self) n) there
-    (subst (λ p. IsGoodEnd g.S.Suite.seal_of self.key p (place_of mid)) (before.same_payload told)
+    (subst (λ p. IsGoodEnd g.S.Suite.seal_of self.key p (place_of mid)) (before.keeps.payload told)
     (subst (λ k. IsGoodEnd g.S.Suite.seal_of k (payload_of mid) (place_of mid)) before.same_key good))
 
 pub returns-in-Err-clause-refused : goal.returns-in-Err-clause-refused
@@ -60,12 +58,12 @@ returns-in-Err-clause-refused g c = λ told memory quiet well.
     let self = c.args.self.now in
     let mid = c.reads.self in
     let before = c.reads.invariant in
+    let later = told-later g.R.Read c.args.self.now.inner c.reads.self.inner before.keeps.inner.same in
     let read = c.in-Err.ensures in
-    let calm : IsQuiet (g.R.Read.faults mid.inner) (g.R.Read.faults c.read_on.new.self.inner) =
-    record { same = omega (arith, before.no_fewer_faults, read.reads.no_fewer_faults, quiet.same); below = quiet.below } in
+    let calm = quiet-later _ _ _ before.keeps.inner.same.faults read.keeps.inner.same.faults quiet in
     let near = refuses-near g.S.Suite.seal_of mid.key (payload_of mid) (g.R.Read.rest mid.inner) (wanted_of mid) (place_of mid) c.in-Err.e
-    (read.refused (before.same_tells ∙ told) memory calm) (before.inner_end told ∙ well) in
+    (read.refused (later told) memory calm) (before.inner_end told ∙ well) in
     let there : place_of mid ≡ place_of c.read_on.new.self = omega (arith, read.stayed) in
     subst (λ n. StopsNear g.S.Suite.seal_of self.key (payload_of self).bytes n c.in-Err.e) there
-    (subst (λ p. StopsNear g.S.Suite.seal_of self.key p.bytes (place_of mid) c.in-Err.e) (before.same_payload told)
+    (subst (λ p. StopsNear g.S.Suite.seal_of self.key p.bytes (place_of mid) c.in-Err.e) (before.keeps.payload told)
     (subst (λ k. StopsNear g.S.Suite.seal_of k (payload_of mid).bytes (place_of mid) c.in-Err.e) before.same_key near))

@@ -1,22 +1,19 @@
-use Rattle.std.proofs.Common.{◌≡◌, ◌≤◌, ◌-◌, ◌+◌, ◌*◌, false, IsTrue, length, take}
+use Rattle.std.proofs.Common.{◌≡◌, ◌≤◌, ◌-◌, ◌+◌, ◌*◌, false, IsTrue, Ok, length, take}
 use Rattle.age_io.specs.Reading.{Delivers}
-use Rattle.age_stream.specs.Reader.{tells_of, steady_of, content_of, plain_rest_of, payload_of, place_of}
+use Rattle.age_stream.specs.Reader.{tells_of, plain_rest_of, payload_of, place_of}
 use Rattle.age_stream.specs.Answering.{StandAt}
 use Rattle.age_stream.specs.Reading.{spare}
+use Rattle.age_stream.specs.Keeping.{KeepsPayload}
 use Rattle.age_stream.proofs.reader.StreamReader.read_full.Given as goal
 
 abbrev pub invariant-reads : goal.invariant-reads
 invariant-reads g l =
     let read = g.R.Read in
     record {
-      same_tells : tells_of l.self ≡ tells_of l.fn.self;
-      same_steady : steady_of l.self ≡ steady_of l.fn.self;
-      no_fewer_faults : read.faults l.fn.self.inner ≤ read.faults l.self.inner;
+      keeps : KeepsPayload read l.fn.self.inner l.fn.self.taken l.self.inner l.self.taken (Ok l.filled);
       within : l.filled ≤ length l.buf;
       good : l.self.failed ≡ false;
       same_key : l.self.key ≡ l.fn.self.key;
-      same_content : IsTrue (tells_of l.fn.self) → content_of l.self ≡ content_of l.fn.self;
-      same_payload : IsTrue (tells_of l.fn.self) → payload_of l.self ≡ payload_of l.fn.self;
       moved : 65536 * l.self.number + l.self.at ≡ 65536 * l.fn.self.number + l.fn.self.at + l.filled;
       so_far : IsTrue (tells_of l.fn.self) → Delivers (take l.filled l.buf) (plain_rest_of l.fn.self) (plain_rest_of l.self);
       spared : l.self.opens + spare l.self.held l.self.last + l.fn.self.number ≤ l.fn.self.opens + 2 + l.self.number;

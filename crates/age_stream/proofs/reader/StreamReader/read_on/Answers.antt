@@ -1,5 +1,6 @@
 use Rattle.std.proofs.Common.{◌≡◌, arith, length}
 use Rattle.age_stream.proofs.Answered.{refuses-widened}
+use Rattle.age_stream.proofs.Keeping.{payload-done}
 use Rattle.age_stream.proofs.reader.StreamReader.read_on.Goals as goal
 
 pub returns-in-Err-clause-refused : goal.returns-in-Err-clause-refused
@@ -9,9 +10,9 @@ returns-in-Err-clause-refused g c = λ told memory quiet.
 pub returns-in-Err-clause-by_itself : goal.returns-in-Err-clause-by_itself
 returns-in-Err-clause-by_itself g c = λ told apart. c.in-Err.ensures.refused told
 
-pub returns-in-Ok-clause-payload : goal.returns-in-Ok-clause-payload
-returns-in-Ok-clause-payload g c = λ told.
-    rw (c.give.ensures.inner, c.give.ensures.taken) (c.in-Ok.ensures.payload told)
+pub returns-in-Ok-clause-keeps : goal.returns-in-Ok-clause-keeps
+returns-in-Ok-clause-keeps g c =
+    rw (c.give.ensures.inner, c.give.ensures.taken) (payload-done g.R.Read _ _ _ _ c.in-Ok.ensures.keeps)
 
 pub returns-in-Ok-clause-inner_end : goal.returns-in-Ok-clause-inner_end
 returns-in-Ok-clause-inner_end g c = λ told.

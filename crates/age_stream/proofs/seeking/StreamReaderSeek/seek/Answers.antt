@@ -1,7 +1,6 @@
-use Rattle.std.proofs.Common.{rules, ◌≡◌, ◌<◌, ◌-◌, ◌+◌, ◌*◌, ◌^◌, ◌∙◌, arith, length, sym, subst, ap, IsTrue, ◌&&◌, refl, length-drop, true, Some, None, inr}
+use Rattle.std.proofs.Common.{◌≡◌, ◌<◌, ◌-◌, ◌+◌, ◌*◌, ◌^◌, ◌∙◌, arith, length, sym, subst, ap, IsTrue, ◌&&◌, refl, length-drop, true, Some, None, inr, Ok, Err}
 use Rattle.std.proofs.lemmas.Bool.{true≢false}
 use Rattle.std.proofs.lemmas.List.Elements.{All-drop}
-use Rattle.age_io.specs.Reading.{IsQuiet}
 use Rattle.age_io.specs.Stretch.{from_place}
 use Rattle.age_stream.specs.Payload.{nonce, final_chunk, plain_len}
 use Rattle.age_stream.specs.Chunks.{delivered}
@@ -10,9 +9,10 @@ use Rattle.age_stream.specs.Reading.{payload_at, text_at}
 use Rattle.age_stream.specs.ReadingLaws.{and-left, and-right, taken-rest}
 use Rattle.age_stream.proofs.Ending.{err-well, ok-well, last-opens, sought-refuses, not-both, in_length-leads, is-end, not-end}
 use Rattle.age_stream.proofs.Inner.{payload-place}
+use Rattle.age_stream.proofs.Keeping.{told-later, told-before, quiet-later, payload-refused, payload-ended, payload-later, content-kept, stream-kept, seeks-failed}
 use Rattle.age_stream.proofs.Judged.{ends_last, ends_badly}
 use Rattle.age_stream.proofs.Lengths.{plain_len_says}
-use Rattle.age_stream.proofs.Sound.{inner-well, rest-kept, same-steady, now-sound}
+use Rattle.age_stream.proofs.Sound.{rest-kept, now-sound}
 use Rattle.age_stream.proofs.seeking.StreamReaderSeek.seek.Goals as goal
 
 pub enter_end-requires-clause-last : goal.enter_end-requires-clause-last
@@ -30,12 +30,13 @@ pub stand-requires-clause-within : goal.stand-requires-clause-within
 stand-requires-clause-within g c = λ told.
     let self = c.args.self.now in
     let read = g.R.Read in
-    let told_before : IsTrue (read.tells self.inner && read.steady self.inner) = rw (c.in-Ok.ensures.tells, c.in-Ok.ensures.steady) at told in
+    let look = c.in-Ok.ensures.keeps in
+    let told_before = told-before read self.inner c.look.new.self.inner look.inner.same told in
     let t = and-left (read.tells self.inner) (read.steady self.inner) told_before in
     let s = and-right (read.tells self.inner) (read.steady self.inner) told_before in
     omega (
       arith,
-      ap (λ p. length p.bytes) (c.in-Ok.ensures.payload told_before),
+      ap (λ p. length p.bytes) (look.payload told_before),
       length-drop (read.place self.inner - self.taken) (read.content self.inner).bytes,
       (self.sound told_before).fits,
       (g.met.R.Read.stands self.inner t s).within,
@@ -44,202 +45,90 @@ stand-requires-clause-within g c = λ told.
 pub returns-in-Err-clause-seeks : goal.returns-in-Err-clause-seeks
 returns-in-Err-clause-seeks g c =
     let self = c.args.self.now in
-    let read = g.R.Read in
-    let suite = g.S.Suite in
-    let place = 65536 * self.number + self.at in
-    let payload = payload_at (read.place self.inner) self.taken (read.content self.inner) in
     let done = c.in-Err.ensures in
-    let content : IsTrue (read.tells self.inner && read.steady self.inner) →
-    delivered suite.opened c.look.new.self.key 0 (payload_at (read.place c.look.new.self.inner) c.look.new.self.taken (read.content c.look.new.self.inner)) ≡ delivered suite.opened self.key 0 payload = λ told.
-    ap (λ p. delivered suite.opened c.look.new.self.key 0 p) (done.payload told) ∙ ap (λ k. delivered suite.opened k 0 payload) (done.same.5) in
-    record {
-      same_tells = rw (done.tells, done.steady) refl;
-      same_steady = same-steady (read.tells self.inner) (read.steady self.inner) (delivered suite.opened self.key 0 payload).ends_well
-          (read.tells c.look.new.self.inner) (read.steady c.look.new.self.inner) (delivered suite.opened c.look.new.self.key 0 (payload_at (read.place c.look.new.self.inner) c.look.new.self.taken (read.content c.look.new.self.inner))).ends_well
-          (done.tells) (done.steady) (λ told. ap (λ d. d.ends_well) (content told));
-      no_fewer_faults = done.faults;
-      device = done.device;
-      unspent = tt;
-      same_content = content;
-      arrives = λ _. tt;
-      leads = λ _. tt;
-      stays = λ _. omega (arith, done.same.0, done.same.1);
-      interrupted = λ _ i. absurd (done.patient i);
-      moves = λ _ _. tt;
-      kept = λ _ _ _ r. absurd (done.refusal r);
-      refused = λ _ _ r. absurd (done.refusal r);
-      cause = λ told well memory quiet. absurd (done.cause told (inner-well suite.opened self.key payload well) memory quiet);
-    }
+    seeks-failed self c.look.new.self c.args.to c.in-Err.e
+    (payload-refused g.R.Read self.inner c.look.new.self.inner self.taken c.look.new.self.taken c.in-Err.e done.keeps)
+    done.same.5 (omega (arith, done.same.0, done.same.1)) done.refusal (λ told well plain memory quiet. done.cause told well memory quiet)
 
 pub returns-then-not-is_outside-clause-seeks : goal.returns-then-not-is_outside-clause-seeks
 returns-then-not-is_outside-clause-seeks g c =
     let self = c.args.self.now in
     let read = g.R.Read in
     let suite = g.S.Suite in
+    let mid = c.look.new.self in
     let place = 65536 * self.number + self.at in
     let payload = payload_at (read.place self.inner) self.taken (read.content self.inner) in
     let law = shorter suite.seal_of suite.opened g.met.S.Suite.cipher self.key self.key_bytes in
-    let are = λ (told : IsTrue (read.tells self.inner && read.steady self.inner)).
-    All-drop (λ x. x < 2 ^ 8) (read.place self.inner - self.taken) (read.content self.inner).bytes
-    (g.met.R.Read.are_bytes self.inner (and-left (read.tells self.inner) (read.steady self.inner) told)) in
     let done = c.in-Ok.ensures in
     let other = c.if-not-is_outside.ensures.no refl in
-    let told_refusal : (told : IsTrue (read.tells self.inner && read.steady self.inner)) → (delivered suite.opened self.key 0 payload).ends_well ≡ true → ⊥ = λ told well.
+    seeks-failed self mid c.args.to c.in-Err-find.e
+    (payload-ended read self.inner mid.inner self.taken mid.taken c.in-Err-find.e done.keeps c.in-Err-find.ensures.not_device)
+    done.same.5 (omega (arith, done.same.0, done.same.1)) other
+    (λ told whole well memory quiet.
+    let are = All-drop (λ x. x < 2 ^ 8) (read.place self.inner - self.taken) (read.content self.inner).bytes
+    (g.met.R.Read.are_bytes self.inner (and-left (read.tells self.inner) (read.steady self.inner) told)) in
     let size : c.in-Ok.size ≡ length payload.bytes = (done.found told).2 in
-    let err = c.in-Err-find.ensures.err in
-    other (sought-refuses c.args.to place _ c.in-Err-find.e (err-well suite.opened self.key law payload (are told) well c.args.to place c.in-Err-find.e (rw size at err))) in
-    let content : IsTrue (read.tells self.inner && read.steady self.inner) →
-    delivered suite.opened c.look.new.self.key 0 (payload_at (read.place c.look.new.self.inner) c.look.new.self.taken (read.content c.look.new.self.inner)) ≡ delivered suite.opened self.key 0 payload = λ told.
-    ap (λ p. delivered suite.opened c.look.new.self.key 0 p) (done.payload told) ∙ ap (λ k. delivered suite.opened k 0 payload) (done.same.5) in
-    record {
-      same_tells = rw (done.tells, done.steady) refl;
-      same_steady = same-steady (read.tells self.inner) (read.steady self.inner) (delivered suite.opened self.key 0 payload).ends_well
-          (read.tells c.look.new.self.inner) (read.steady c.look.new.self.inner) (delivered suite.opened c.look.new.self.key 0 (payload_at (read.place c.look.new.self.inner) c.look.new.self.taken (read.content c.look.new.self.inner))).ends_well
-          (done.tells) (done.steady) (λ told. ap (λ d. d.ends_well) (content told));
-      no_fewer_faults = done.faults;
-      device = λ d. absurd (c.in-Err-find.ensures.not_device d);
-      unspent = tt;
-      same_content = content;
-      arrives = λ _. tt;
-      leads = λ _. tt;
-      stays = λ _. omega (arith, done.same.0, done.same.1);
-      interrupted = search rules;
-      moves = λ _ _. tt;
-      kept = λ _ _ _ r. absurd (other r);
-      refused = λ _ _ r. absurd (other r);
-      cause = λ told well memory quiet. absurd (told_refusal told well);
-    }
+    other (sought-refuses c.args.to place _ c.in-Err-find.e
+    (err-well suite.opened self.key law payload are well c.args.to place c.in-Err-find.e (rw size at c.in-Err-find.ensures.err))))
 
 pub returns-in-Err-stand-clause-seeks : goal.returns-in-Err-stand-clause-seeks
 returns-in-Err-stand-clause-seeks g c =
     let self = c.args.self.now in
     let read = g.R.Read in
-    let suite = g.S.Suite in
-    let place = 65536 * self.number + self.at in
-    let payload = payload_at (read.place self.inner) self.taken (read.content self.inner) in
     let look = c.in-Ok.ensures in
     let mid = c.look.new.self in
-    let later : IsTrue (read.tells self.inner && read.steady self.inner) → IsTrue (read.tells mid.inner && read.steady mid.inner) =
-    λ told. rw (look.tells, look.steady) told in
     let done = c.in-Err-stand.ensures in
-    let key = done.same.5 ∙ look.same.5 in
-    let content : IsTrue (read.tells self.inner && read.steady self.inner) →
-    delivered suite.opened c.stand.new.self.key 0 (payload_at (read.place c.stand.new.self.inner) c.stand.new.self.taken (read.content c.stand.new.self.inner)) ≡ delivered suite.opened self.key 0 payload = λ told.
-    ap (λ p. delivered suite.opened c.stand.new.self.key 0 p) (done.payload (later told) ∙ look.payload told) ∙ ap (λ k. delivered suite.opened k 0 payload) (key) in
-    record {
-      same_tells = rw (done.tells, look.tells, done.steady, look.steady) refl;
-      same_steady = same-steady (read.tells self.inner) (read.steady self.inner) (delivered suite.opened self.key 0 payload).ends_well
-          (read.tells c.stand.new.self.inner) (read.steady c.stand.new.self.inner) (delivered suite.opened c.stand.new.self.key 0 (payload_at (read.place c.stand.new.self.inner) c.stand.new.self.taken (read.content c.stand.new.self.inner))).ends_well
-          (done.tells ∙ look.tells) (done.steady ∙ look.steady) (λ told. ap (λ d. d.ends_well) (content told));
-      no_fewer_faults = omega (arith, look.faults, done.faults);
-      device = λ d. omega (arith, look.faults, done.device d);
-      unspent = tt;
-      same_content = content;
-      arrives = λ _. tt;
-      leads = λ _. tt;
-      stays = λ _. omega (arith, look.same.0, look.same.1, done.same.0, done.same.1);
-      interrupted = λ _ i. absurd (done.patient i);
-      moves = λ _ _. tt;
-      kept = λ _ _ _ r. absurd (done.refusal r);
-      refused = λ _ _ r. absurd (done.refusal r);
-      cause = λ told well memory quiet.
-          let calm : IsQuiet (read.faults mid.inner) (read.faults c.stand.new.self.inner) =
-          record { same = omega (arith, look.faults, done.faults, quiet.same); below = quiet.below } in
-          let inner : IsTrue (payload_at (read.place mid.inner) mid.taken (read.content mid.inner)).ends_well =
-          ap (λ p. p.ends_well) (look.payload told) ∙ inner-well suite.opened self.key payload well in
-          absurd (done.cause (later told) inner memory calm);
-    }
+    let new = c.stand.new.self in
+    seeks-failed self new c.args.to c.in-Err-stand.fault
+    (payload-later read (Err c.in-Err-stand.fault) self.inner mid.inner new.inner self.taken mid.taken new.taken look.keeps
+    (payload-refused read mid.inner new.inner mid.taken new.taken c.in-Err-stand.fault done.keeps))
+    (done.same.5 ∙ look.same.5) (omega (arith, look.same.0, look.same.1, done.same.0, done.same.1)) done.refusal
+    (λ told well plain memory quiet. done.cause (told-later read self.inner mid.inner look.keeps.inner.same told)
+    (ap (λ p. p.ends_well) (look.keeps.payload told) ∙ well) memory
+    (quiet-later _ _ _ look.keeps.inner.same.faults done.keeps.inner.same.faults quiet))
 
 pub returns-in-Err-enter-clause-seeks : goal.returns-in-Err-enter-clause-seeks
 returns-in-Err-enter-clause-seeks g c =
     let self = c.args.self.now in
     let read = g.R.Read in
-    let suite = g.S.Suite in
-    let place = 65536 * self.number + self.at in
-    let payload = payload_at (read.place self.inner) self.taken (read.content self.inner) in
     let look = c.in-Ok.ensures in
     let mid = c.look.new.self in
-    let later : IsTrue (read.tells self.inner && read.steady self.inner) → IsTrue (read.tells mid.inner && read.steady mid.inner) =
-    λ told. rw (look.tells, look.steady) told in
     let done = c.in-Err-enter.ensures in
-    let key = done.key ∙ look.same.5 in
-    let content : IsTrue (read.tells self.inner && read.steady self.inner) →
-    delivered suite.opened c.enter.new.self.key 0 (payload_at (read.place c.enter.new.self.inner) c.enter.new.self.taken (read.content c.enter.new.self.inner)) ≡ delivered suite.opened self.key 0 payload = λ told.
-    ap (λ p. delivered suite.opened c.enter.new.self.key 0 p) (done.payload (later told) ∙ look.payload told) ∙ ap (λ k. delivered suite.opened k 0 payload) (key) in
-    record {
-      same_tells = rw (done.tells, look.tells, done.steady, look.steady) refl;
-      same_steady = same-steady (read.tells self.inner) (read.steady self.inner) (delivered suite.opened self.key 0 payload).ends_well
-          (read.tells c.enter.new.self.inner) (read.steady c.enter.new.self.inner) (delivered suite.opened c.enter.new.self.key 0 (payload_at (read.place c.enter.new.self.inner) c.enter.new.self.taken (read.content c.enter.new.self.inner))).ends_well
-          (done.tells ∙ look.tells) (done.steady ∙ look.steady) (λ told. ap (λ d. d.ends_well) (content told));
-      no_fewer_faults = omega (arith, look.faults, done.faults);
-      device = λ d. omega (arith, look.faults, done.device d);
-      unspent = tt;
-      same_content = content;
-      arrives = λ _. tt;
-      leads = λ _. tt;
-      stays = λ _. omega (arith, look.same.0, look.same.1, done.stays.0, done.stays.1);
-      interrupted = λ _ i. absurd (done.patient i);
-      moves = λ _ _. tt;
-      kept = λ _ _ _ r. absurd (done.refusal r);
-      refused = λ _ _ r. absurd (done.refusal r);
-      cause = λ told well memory quiet.
-          let calm : IsQuiet (read.faults mid.inner) (read.faults c.enter.new.self.inner) =
-          record { same = omega (arith, look.faults, done.faults, quiet.same); below = quiet.below } in
-          let inner : IsTrue (payload_at (read.place mid.inner) mid.taken (read.content mid.inner)).ends_well =
-          ap (λ p. p.ends_well) (look.payload told) ∙ inner-well suite.opened self.key payload well in
-          absurd (done.cause (later told) inner memory calm);
-    }
+    let new = c.enter.new.self in
+    seeks-failed self new c.args.to c.in-Err-enter.e
+    (payload-later read (Err c.in-Err-enter.e) self.inner mid.inner new.inner self.taken mid.taken new.taken look.keeps
+    (payload-refused read mid.inner new.inner mid.taken new.taken c.in-Err-enter.e done.keeps))
+    (done.key ∙ look.same.5) (omega (arith, look.same.0, look.same.1, done.stays.0, done.stays.1)) done.refusal
+    (λ told well plain memory quiet. done.cause (told-later read self.inner mid.inner look.keeps.inner.same told)
+    (ap (λ p. p.ends_well) (look.keeps.payload told) ∙ well) memory
+    (quiet-later _ _ _ look.keeps.inner.same.faults done.keeps.inner.same.faults quiet))
 
 pub returns-in-Err-enter_end-clause-seeks : goal.returns-in-Err-enter_end-clause-seeks
 returns-in-Err-enter_end-clause-seeks g c =
     let self = c.args.self.now in
     let read = g.R.Read in
     let suite = g.S.Suite in
-    let place = 65536 * self.number + self.at in
     let payload = payload_at (read.place self.inner) self.taken (read.content self.inner) in
     let look = c.in-Ok.ensures in
     let mid = c.look.new.self in
-    let later : IsTrue (read.tells self.inner && read.steady self.inner) → IsTrue (read.tells mid.inner && read.steady mid.inner) =
-    λ told. rw (look.tells, look.steady) told in
     let done = c.in-Err-enter_end.ensures in
-    let key = done.key ∙ look.same.5 in
-    let content : IsTrue (read.tells self.inner && read.steady self.inner) →
-    delivered suite.opened c.enter_end.new.self.key 0 (payload_at (read.place c.enter_end.new.self.inner) c.enter_end.new.self.taken (read.content c.enter_end.new.self.inner)) ≡ delivered suite.opened self.key 0 payload = λ told.
-    ap (λ p. delivered suite.opened c.enter_end.new.self.key 0 p) (done.payload (later told) ∙ look.payload told) ∙ ap (λ k. delivered suite.opened k 0 payload) (key) in
+    let new = c.enter_end.new.self in
     let law = shorter suite.seal_of suite.opened g.met.S.Suite.cipher self.key self.key_bytes in
-    let are = λ (told : IsTrue (read.tells self.inner && read.steady self.inner)).
-    All-drop (λ x. x < 2 ^ 8) (read.place self.inner - self.taken) (read.content self.inner).bytes
+    seeks-failed self new c.args.to c.in-Err-enter_end.e
+    (payload-later read (Err c.in-Err-enter_end.e) self.inner mid.inner new.inner self.taken mid.taken new.taken look.keeps
+    (payload-refused read mid.inner new.inner mid.taken new.taken c.in-Err-enter_end.e done.keeps))
+    (done.key ∙ look.same.5) (omega (arith, look.same.0, look.same.1, done.stays.0, done.stays.1)) done.refusal
+    (λ told whole well memory quiet.
+    let are = All-drop (λ x. x < 2 ^ 8) (read.place self.inner - self.taken) (read.content self.inner).bytes
     (g.met.R.Read.are_bytes self.inner (and-left (read.tells self.inner) (read.steady self.inner) told)) in
-    record {
-      same_tells = rw (done.tells, look.tells, done.steady, look.steady) refl;
-      same_steady = same-steady (read.tells self.inner) (read.steady self.inner) (delivered suite.opened self.key 0 payload).ends_well
-          (read.tells c.enter_end.new.self.inner) (read.steady c.enter_end.new.self.inner) (delivered suite.opened c.enter_end.new.self.key 0 (payload_at (read.place c.enter_end.new.self.inner) c.enter_end.new.self.taken (read.content c.enter_end.new.self.inner))).ends_well
-          (done.tells ∙ look.tells) (done.steady ∙ look.steady) (λ told. ap (λ d. d.ends_well) (content told));
-      no_fewer_faults = omega (arith, look.faults, done.faults);
-      device = λ d. omega (arith, look.faults, done.device d);
-      unspent = tt;
-      same_content = content;
-      arrives = λ _. tt;
-      leads = λ _. tt;
-      stays = λ _. omega (arith, look.same.0, look.same.1, done.stays.0, done.stays.1);
-      interrupted = λ _ i. absurd (done.patient i);
-      moves = λ _ _. tt;
-      kept = λ _ _ _ r. absurd (done.refusal r);
-      refused = λ _ _ r. absurd (done.refusal r);
-      cause = λ told well memory quiet.
-          let calm : IsQuiet (read.faults mid.inner) (read.faults c.enter_end.new.self.inner) =
-          record { same = omega (arith, look.faults, done.faults, quiet.same); below = quiet.below } in
-          let inner : IsTrue (payload_at (read.place mid.inner) mid.taken (read.content mid.inner)).ends_well =
-          ap (λ p. p.ends_well) (look.payload told) ∙ inner-well suite.opened self.key payload well in
-          let none = (done.cause (later told) inner memory calm).1 in
-          let same_key : mid.key ≡ self.key = look.same.5 in
-          let size : c.in-Ok.size ≡ length payload.bytes = (look.found told).2 in
-          let num = final_chunk c.in-Ok.size in
-          let moved = subst (λ p. suite.opened mid.key (nonce num true) (text_at num p) ≡ None) (look.payload told) none in
-          let same = subst (λ k. suite.opened k (nonce num true) (text_at num payload) ≡ None) same_key moved in
-          absurd (last-opens suite.opened self.key law payload (are told) well
-          (subst (λ n. suite.opened self.key (nonce (final_chunk n) true) (text_at (final_chunk n) payload) ≡ None) size same));
-    }
+    let none = (done.cause (told-later read self.inner mid.inner look.keeps.inner.same told) (ap (λ p. p.ends_well) (look.keeps.payload told) ∙ whole) memory
+    (quiet-later _ _ _ look.keeps.inner.same.faults done.keeps.inner.same.faults quiet)).1 in
+    let size : c.in-Ok.size ≡ length payload.bytes = (look.found told).2 in
+    let num = final_chunk c.in-Ok.size in
+    let moved = subst (λ p. suite.opened mid.key (nonce num true) (text_at num p) ≡ None) (look.keeps.payload told) none in
+    let same = subst (λ k. suite.opened k (nonce num true) (text_at num payload) ≡ None) look.same.5 moved in
+    last-opens suite.opened self.key law payload are well
+    (subst (λ n. suite.opened self.key (nonce (final_chunk n) true) (text_at (final_chunk n) payload) ≡ None) size same))
 
 pub returns-in-Ok-enter-clause-seeks : goal.returns-in-Ok-enter-clause-seeks
 returns-in-Ok-enter-clause-seeks g c =
@@ -250,28 +139,16 @@ returns-in-Ok-enter-clause-seeks g c =
     let payload = payload_at (read.place self.inner) self.taken (read.content self.inner) in
     let look = c.in-Ok.ensures in
     let mid = c.look.new.self in
-    let later : IsTrue (read.tells self.inner && read.steady self.inner) → IsTrue (read.tells mid.inner && read.steady mid.inner) =
-    λ told. rw (look.tells, look.steady) told in
-    let law = shorter suite.seal_of suite.opened g.met.S.Suite.cipher self.key self.key_bytes in
-    let are = λ (told : IsTrue (read.tells self.inner && read.steady self.inner)).
-    All-drop (λ x. x < 2 ^ 8) (read.place self.inner - self.taken) (read.content self.inner).bytes
-    (g.met.R.Read.are_bytes self.inner (and-left (read.tells self.inner) (read.steady self.inner) told)) in
     let done = c.in-Ok-enter.ensures in
     let new = c.enter.new.self in
-    let key = done.key ∙ look.same.5 in
-    let law_new = shorter suite.seal_of suite.opened g.met.S.Suite.cipher new.key new.key_bytes in
-    let payload_new = payload_at (read.place new.inner) new.taken (read.content new.inner) in
-    let after : IsTrue (read.tells self.inner && read.steady self.inner) → IsTrue (read.tells new.inner && read.steady new.inner) =
-    λ told. rw (done.tells, done.steady) (later told) in
-    let content : IsTrue (read.tells self.inner && read.steady self.inner) →
-    delivered suite.opened new.key 0 (payload_at (read.place new.inner) new.taken (read.content new.inner)) ≡ delivered suite.opened self.key 0 payload = λ told.
-    ap (λ p. delivered suite.opened new.key 0 p) (done.payload (later told) ∙ look.payload told) ∙ ap (λ k. delivered suite.opened k 0 payload) (key) in
+    let later = told-later read self.inner mid.inner look.keeps.inner.same in
+    let keeps = payload-later read (Ok c.in-Ok-enter.field-0) self.inner mid.inner new.inner self.taken mid.taken new.taken look.keeps done.keeps in
+    let kept = stream-kept self new keeps (done.key ∙ look.same.5) in
+    let content = content-kept self new keeps (done.key ∙ look.same.5) in
     record {
-      same_tells = rw (done.tells, look.tells, done.steady, look.steady) refl;
-      same_steady = same-steady (read.tells self.inner) (read.steady self.inner) (delivered suite.opened self.key 0 payload).ends_well
-          (read.tells new.inner) (read.steady new.inner) (delivered suite.opened new.key 0 (payload_at (read.place new.inner) new.taken (read.content new.inner))).ends_well
-          (done.tells ∙ look.tells) (done.steady ∙ look.steady) (λ told. ap (λ d. d.ends_well) (content told));
-      no_fewer_faults = omega (arith, look.faults, done.faults);
+      same_tells = kept.0;
+      same_steady = kept.1;
+      no_fewer_faults = keeps.inner.same.faults;
       device = tt;
       unspent = done.unspent;
       same_content = content;
@@ -281,15 +158,20 @@ returns-in-Ok-enter-clause-seeks g c =
       interrupted = λ _. tt;
       moves = λ told steady.
           let well = and-right (read.tells self.inner && read.steady self.inner) _ steady in
+          let law = shorter suite.seal_of suite.opened g.met.S.Suite.cipher self.key self.key_bytes in
+          let are = All-drop (λ x. x < 2 ^ 8) (read.place self.inner - self.taken) (read.content self.inner).bytes
+          (g.met.R.Read.are_bytes self.inner (and-left (read.tells self.inner) (read.steady self.inner) told)) in
           let size : c.in-Ok.size ≡ length payload.bytes = (look.found told).2 in
-          let same = done.payload (later told) ∙ look.payload told in
+          let same = keeps.payload told in
+          let after = told-later read self.inner new.inner keeps.inner.same told in
+          let law_new = shorter suite.seal_of suite.opened g.met.S.Suite.cipher new.key new.key_bytes in
           let are_new = All-drop (λ x. x < 2 ^ 8) (read.place new.inner - new.taken) (read.content new.inner).bytes
-          (g.met.R.Read.are_bytes new.inner (and-left (read.tells new.inner) (read.steady new.inner) (after told))) in
+          (g.met.R.Read.are_bytes new.inner (and-left (read.tells new.inner) (read.steady new.inner) after)) in
           let sound = now-sound suite.opened new.key law_new new.failed new.held new.at new.chunk.items new.last new.sought new.number new.taken (read.place new.inner) (read.content new.inner) (read.rest new.inner)
-          are_new (ap (λ d. d.ends_well) (content told) ∙ well) done.good new.in_chunk (new.sound (after told))
-          (λ shut. (done.rest (later told) ∙ ap (from_place new.taken) (sym (done.payload (later told))), omega (arith, done.more shut, size, ap (λ p. length p.bytes) same))) in (
-            ok-well suite.opened self.key law payload (are told) well c.args.to place _ (rw size at c.in-Ok-find.ensures.ok),
-            sound ∙ ap (λ d. from_place (65536 * new.number + new.at) d) (content told) ∙ ap (λ n. from_place n (delivered suite.opened self.key 0 payload)) (done.arrives),
+          are_new (ap (λ d. d.ends_well) (content told) ∙ well) done.good new.in_chunk (new.sound after)
+          (λ shut. (done.rest (later told) ∙ ap (from_place new.taken) (sym (done.keeps.payload (later told))), omega (arith, done.more shut, size, ap (λ p. length p.bytes) same))) in (
+            ok-well suite.opened self.key law payload are well c.args.to place _ (rw size at c.in-Ok-find.ensures.ok),
+            sound ∙ ap (λ d. from_place (65536 * new.number + new.at) d) (content told) ∙ ap (λ n. from_place n (delivered suite.opened self.key 0 payload)) done.arrives,
           );
       kept = λ _ _ _. tt;
       refused = λ _ _. tt;
@@ -305,28 +187,16 @@ returns-in-Ok-enter_end-clause-seeks g c =
     let payload = payload_at (read.place self.inner) self.taken (read.content self.inner) in
     let look = c.in-Ok.ensures in
     let mid = c.look.new.self in
-    let later : IsTrue (read.tells self.inner && read.steady self.inner) → IsTrue (read.tells mid.inner && read.steady mid.inner) =
-    λ told. rw (look.tells, look.steady) told in
-    let law = shorter suite.seal_of suite.opened g.met.S.Suite.cipher self.key self.key_bytes in
-    let are = λ (told : IsTrue (read.tells self.inner && read.steady self.inner)).
-    All-drop (λ x. x < 2 ^ 8) (read.place self.inner - self.taken) (read.content self.inner).bytes
-    (g.met.R.Read.are_bytes self.inner (and-left (read.tells self.inner) (read.steady self.inner) told)) in
     let done = c.in-Ok-enter_end.ensures in
     let new = c.enter_end.new.self in
-    let key = done.key ∙ look.same.5 in
-    let law_new = shorter suite.seal_of suite.opened g.met.S.Suite.cipher new.key new.key_bytes in
-    let payload_new = payload_at (read.place new.inner) new.taken (read.content new.inner) in
-    let after : IsTrue (read.tells self.inner && read.steady self.inner) → IsTrue (read.tells new.inner && read.steady new.inner) =
-    λ told. rw (done.tells, done.steady) (later told) in
-    let content : IsTrue (read.tells self.inner && read.steady self.inner) →
-    delivered suite.opened new.key 0 (payload_at (read.place new.inner) new.taken (read.content new.inner)) ≡ delivered suite.opened self.key 0 payload = λ told.
-    ap (λ p. delivered suite.opened new.key 0 p) (done.payload (later told) ∙ look.payload told) ∙ ap (λ k. delivered suite.opened k 0 payload) (key) in
+    let later = told-later read self.inner mid.inner look.keeps.inner.same in
+    let keeps = payload-later read (Ok c.in-Ok-enter_end.field-0) self.inner mid.inner new.inner self.taken mid.taken new.taken look.keeps done.keeps in
+    let kept = stream-kept self new keeps (done.key ∙ look.same.5) in
+    let content = content-kept self new keeps (done.key ∙ look.same.5) in
     record {
-      same_tells = rw (done.tells, look.tells, done.steady, look.steady) refl;
-      same_steady = same-steady (read.tells self.inner) (read.steady self.inner) (delivered suite.opened self.key 0 payload).ends_well
-          (read.tells new.inner) (read.steady new.inner) (delivered suite.opened new.key 0 (payload_at (read.place new.inner) new.taken (read.content new.inner))).ends_well
-          (done.tells ∙ look.tells) (done.steady ∙ look.steady) (λ told. ap (λ d. d.ends_well) (content told));
-      no_fewer_faults = omega (arith, look.faults, done.faults);
+      same_tells = kept.0;
+      same_steady = kept.1;
+      no_fewer_faults = keeps.inner.same.faults;
       device = tt;
       unspent = done.unspent;
       same_content = content;
@@ -336,14 +206,19 @@ returns-in-Ok-enter_end-clause-seeks g c =
       interrupted = λ _. tt;
       moves = λ told steady.
           let well = and-right (read.tells self.inner && read.steady self.inner) _ steady in
+          let law = shorter suite.seal_of suite.opened g.met.S.Suite.cipher self.key self.key_bytes in
+          let are = All-drop (λ x. x < 2 ^ 8) (read.place self.inner - self.taken) (read.content self.inner).bytes
+          (g.met.R.Read.are_bytes self.inner (and-left (read.tells self.inner) (read.steady self.inner) told)) in
           let size : c.in-Ok.size ≡ length payload.bytes = (look.found told).2 in
-          let same = done.payload (later told) ∙ look.payload told in
+          let same = keeps.payload told in
+          let after = told-later read self.inner new.inner keeps.inner.same told in
+          let law_new = shorter suite.seal_of suite.opened g.met.S.Suite.cipher new.key new.key_bytes in
           let are_new = All-drop (λ x. x < 2 ^ 8) (read.place new.inner - new.taken) (read.content new.inner).bytes
-          (g.met.R.Read.are_bytes new.inner (and-left (read.tells new.inner) (read.steady new.inner) (after told))) in
+          (g.met.R.Read.are_bytes new.inner (and-left (read.tells new.inner) (read.steady new.inner) after)) in
           let sound = now-sound suite.opened new.key law_new new.failed new.held new.at new.chunk.items new.last new.sought new.number new.taken (read.place new.inner) (read.content new.inner) (read.rest new.inner)
-          are_new (ap (λ d. d.ends_well) (content told) ∙ well) done.good.0 new.in_chunk (new.sound (after told))
+          are_new (ap (λ d. d.ends_well) (content told) ∙ well) done.good.0 new.in_chunk (new.sound after)
           (λ shut. absurd (true≢false (sym done.good.1 ∙ shut))) in (
-            ok-well suite.opened self.key law payload (are told) well c.args.to place _ (rw size at c.in-Ok-find.ensures.ok),
+            ok-well suite.opened self.key law payload are well c.args.to place _ (rw size at c.in-Ok-find.ensures.ok),
             sound ∙ ap (λ d. from_place (65536 * new.number + new.at) d) (content told) ∙ ap (λ n. from_place n (delivered suite.opened self.key 0 payload)) (done.arrives (later told) ∙ sym c.if-target-len.true),
           );
       kept = λ _ _ _. tt;
@@ -360,27 +235,19 @@ returns-in-Ok-stand-clause-seeks g c =
     let payload = payload_at (read.place self.inner) self.taken (read.content self.inner) in
     let look = c.in-Ok.ensures in
     let mid = c.look.new.self in
-    let later : IsTrue (read.tells self.inner && read.steady self.inner) → IsTrue (read.tells mid.inner && read.steady mid.inner) =
-    λ told. rw (look.tells, look.steady) told in
-    let law = shorter suite.seal_of suite.opened g.met.S.Suite.cipher self.key self.key_bytes in
-    let are = λ (told : IsTrue (read.tells self.inner && read.steady self.inner)).
-    All-drop (λ x. x < 2 ^ 8) (read.place self.inner - self.taken) (read.content self.inner).bytes
-    (g.met.R.Read.are_bytes self.inner (and-left (read.tells self.inner) (read.steady self.inner) told)) in
     let done = c.in-Ok-stand.ensures in
     let new = c.stand.new.self in
     let refusal = c.if-not-is_outside.ensures.yes refl in
-    let content : IsTrue (read.tells self.inner && read.steady self.inner) →
-    delivered suite.opened new.key 0 (payload_at (read.place new.inner) new.taken (read.content new.inner)) ≡ delivered suite.opened self.key 0 payload = λ told.
-    ap (λ p. delivered suite.opened new.key 0 p) (done.payload (later told) ∙ look.payload told) ∙ ap (λ k. delivered suite.opened k 0 payload) (done.same.5 ∙ look.same.5) in
+    let later = told-later read self.inner mid.inner look.keeps.inner.same in
+    let keeps = payload-later read (Ok c.in-Ok-stand.field-0) self.inner mid.inner new.inner self.taken mid.taken new.taken look.keeps done.keeps in
+    let kept = stream-kept self new keeps (done.same.5 ∙ look.same.5) in
     record {
-      same_tells = rw (done.tells, look.tells, done.steady, look.steady) refl;
-      same_steady = same-steady (read.tells self.inner) (read.steady self.inner) (delivered suite.opened self.key 0 payload).ends_well
-          (read.tells new.inner) (read.steady new.inner) (delivered suite.opened new.key 0 (payload_at (read.place new.inner) new.taken (read.content new.inner))).ends_well
-          (done.tells ∙ look.tells) (done.steady ∙ look.steady) (λ told. ap (λ d. d.ends_well) (content told));
-      no_fewer_faults = omega (arith, look.faults, done.faults);
+      same_tells = kept.0;
+      same_steady = kept.1;
+      no_fewer_faults = keeps.inner.same.faults;
       device = λ d. absurd (c.in-Err-find.ensures.not_device d);
       unspent = tt;
-      same_content = content;
+      same_content = content-kept self new keeps (done.same.5 ∙ look.same.5);
       arrives = λ _. tt;
       leads = λ _. tt;
       stays = λ _. omega (arith, look.same.0, look.same.1, done.same.0, done.same.1);
@@ -390,14 +257,17 @@ returns-in-Ok-stand-clause-seeks g c =
           let well = and-right (read.tells self.inner && read.steady self.inner) _ steady in
           let t = and-left (read.tells self.inner) (read.steady self.inner) told in
           let s = and-right (read.tells self.inner) (read.steady self.inner) told in
-          let back = (done.stands (later told)).1 ∙ ap (from_place self.taken) (look.payload told) in
+          let back = (done.stands (later told)).1 ∙ ap (from_place self.taken) (look.keeps.payload told) in
           let kept = rest-kept suite.opened self.key self.failed self.held self.last self.at self.chunk.items self.number place self.taken
           (delivered suite.opened self.key 0 payload) payload (read.rest self.inner) (read.rest new.inner) sound well
           (taken-rest (read.content self.inner) (read.rest self.inner) (read.place self.inner) self.taken (g.met.R.Read.stands self.inner t s) (self.sound told).fits) back in
           rw (done.same.0 ∙ look.same.0, done.same.1 ∙ look.same.1, done.same.2 ∙ look.same.2, done.same.3 ∙ look.same.3, done.same.4 ∙ look.same.4, done.same.5 ∙ look.same.5) kept;
       refused = λ told well r.
+          let law = shorter suite.seal_of suite.opened g.met.S.Suite.cipher self.key self.key_bytes in
+          let are = All-drop (λ x. x < 2 ^ 8) (read.place self.inner - self.taken) (read.content self.inner).bytes
+          (g.met.R.Read.are_bytes self.inner (and-left (read.tells self.inner) (read.steady self.inner) told)) in
           let size : c.in-Ok.size ≡ length payload.bytes = (look.found told).2 in
-          err-well suite.opened self.key law payload (are told) well c.args.to place c.in-Err-find.e (rw size at c.in-Err-find.ensures.err);
+          err-well suite.opened self.key law payload are well c.args.to place c.in-Err-find.e (rw size at c.in-Err-find.ensures.err);
       cause = λ _ _ _ _. refusal;
     }
 
@@ -406,13 +276,9 @@ returns-in-Err-enter_end-clause-end g c =
     λ told other.
     let self = c.args.self.now in
     let read = g.R.Read in
-    let suite = g.S.Suite in
     let place = 65536 * self.number + self.at in
     let payload = payload_at (read.place self.inner) self.taken (read.content self.inner) in
     let look = c.in-Ok.ensures in
-    let mid = c.look.new.self in
-    let later : IsTrue (read.tells self.inner && read.steady self.inner) → IsTrue (read.tells mid.inner && read.steady mid.inner) =
-    λ told. rw (look.tells, look.steady) told in
     let size : c.in-Ok.size ≡ length payload.bytes = (look.found told).2 in
     absurd (other (is-end c.args.to place (length payload.bytes) c.in-Ok-find.target c.in-Ok-find.len (rw size at c.in-Ok-find.ensures.plain)
     (sym c.is_below_start.ensures ∙ c.if-is_below_start.false) (rw size at c.in-Ok-find.ensures.ok) c.if-target-len.true))
@@ -422,13 +288,9 @@ returns-in-Err-enter_end-clause-held g c =
     λ told holds.
     let self = c.args.self.now in
     let read = g.R.Read in
-    let suite = g.S.Suite in
     let place = 65536 * self.number + self.at in
     let payload = payload_at (read.place self.inner) self.taken (read.content self.inner) in
     let look = c.in-Ok.ensures in
-    let mid = c.look.new.self in
-    let later : IsTrue (read.tells self.inner && read.steady self.inner) → IsTrue (read.tells mid.inner && read.steady mid.inner) =
-    λ told. rw (look.tells, look.steady) told in
     let size : c.in-Ok.size ≡ length payload.bytes = (look.found told).2 in
     c.in-Err-enter_end.ensures.held (look.same.2 ∙ holds.0) (look.same.4 ∙ holds.1) (look.same.0 ∙ holds.2 ∙ sym (ap final_chunk size)) ∙ look.same.6
 
@@ -437,13 +299,9 @@ returns-in-Ok-enter_end-clause-end g c =
     λ told other.
     let self = c.args.self.now in
     let read = g.R.Read in
-    let suite = g.S.Suite in
     let place = 65536 * self.number + self.at in
     let payload = payload_at (read.place self.inner) self.taken (read.content self.inner) in
     let look = c.in-Ok.ensures in
-    let mid = c.look.new.self in
-    let later : IsTrue (read.tells self.inner && read.steady self.inner) → IsTrue (read.tells mid.inner && read.steady mid.inner) =
-    λ told. rw (look.tells, look.steady) told in
     let size : c.in-Ok.size ≡ length payload.bytes = (look.found told).2 in
     absurd (other (is-end c.args.to place (length payload.bytes) c.in-Ok-find.target c.in-Ok-find.len (rw size at c.in-Ok-find.ensures.plain)
     (sym c.is_below_start.ensures ∙ c.if-is_below_start.false) (rw size at c.in-Ok-find.ensures.ok) c.if-target-len.true))
@@ -453,13 +311,9 @@ returns-in-Ok-enter_end-clause-held g c =
     λ told holds.
     let self = c.args.self.now in
     let read = g.R.Read in
-    let suite = g.S.Suite in
     let place = 65536 * self.number + self.at in
     let payload = payload_at (read.place self.inner) self.taken (read.content self.inner) in
     let look = c.in-Ok.ensures in
-    let mid = c.look.new.self in
-    let later : IsTrue (read.tells self.inner && read.steady self.inner) → IsTrue (read.tells mid.inner && read.steady mid.inner) =
-    λ told. rw (look.tells, look.steady) told in
     let size : c.in-Ok.size ≡ length payload.bytes = (look.found told).2 in
     c.in-Ok-enter_end.ensures.held (look.same.2 ∙ holds.0) (look.same.4 ∙ holds.1) (look.same.0 ∙ holds.2 ∙ sym (ap final_chunk size)) ∙ look.same.6
 
@@ -468,13 +322,9 @@ returns-in-Ok-enter_end-clause-judges g c =
     λ told other.
     let self = c.args.self.now in
     let read = g.R.Read in
-    let suite = g.S.Suite in
     let place = 65536 * self.number + self.at in
     let payload = payload_at (read.place self.inner) self.taken (read.content self.inner) in
     let look = c.in-Ok.ensures in
-    let mid = c.look.new.self in
-    let later : IsTrue (read.tells self.inner && read.steady self.inner) → IsTrue (read.tells mid.inner && read.steady mid.inner) =
-    λ told. rw (look.tells, look.steady) told in
     let size : c.in-Ok.size ≡ length payload.bytes = (look.found told).2 in
     absurd (other (is-end c.args.to place (length payload.bytes) c.in-Ok-find.target c.in-Ok-find.len (rw size at c.in-Ok-find.ensures.plain)
     (sym c.is_below_start.ensures ∙ c.if-is_below_start.false) (rw size at c.in-Ok-find.ensures.ok) c.if-target-len.true))
@@ -484,13 +334,9 @@ returns-in-Ok-enter-clause-ends g c =
     λ told end.
     let self = c.args.self.now in
     let read = g.R.Read in
-    let suite = g.S.Suite in
     let place = 65536 * self.number + self.at in
     let payload = payload_at (read.place self.inner) self.taken (read.content self.inner) in
     let look = c.in-Ok.ensures in
-    let mid = c.look.new.self in
-    let later : IsTrue (read.tells self.inner && read.steady self.inner) → IsTrue (read.tells mid.inner && read.steady mid.inner) =
-    λ told. rw (look.tells, look.steady) told in
     let size : c.in-Ok.size ≡ length payload.bytes = (look.found told).2 in
     absurd (not-end c.args.to place (length payload.bytes) c.in-Ok-find.target c.in-Ok-find.len (rw size at c.in-Ok-find.ensures.plain)
     (sym c.is_below_start.ensures ∙ c.if-is_below_start.false) (rw size at c.in-Ok-find.ensures.ok) (λ same. c.if-target-len.false same) end)
@@ -505,17 +351,15 @@ returns-in-Ok-enter_end-clause-ends g c =
     let payload = payload_at (read.place self.inner) self.taken (read.content self.inner) in
     let look = c.in-Ok.ensures in
     let mid = c.look.new.self in
-    let later : IsTrue (read.tells self.inner && read.steady self.inner) → IsTrue (read.tells mid.inner && read.steady mid.inner) =
-    λ told. rw (look.tells, look.steady) told in
-    let law = shorter suite.seal_of suite.opened g.met.S.Suite.cipher self.key self.key_bytes in
+    let later = told-later read self.inner mid.inner look.keeps.inner.same in
     let are = λ (told : IsTrue (read.tells self.inner && read.steady self.inner)).
     All-drop (λ x. x < 2 ^ 8) (read.place self.inner - self.taken) (read.content self.inner).bytes
     (g.met.R.Read.are_bytes self.inner (and-left (read.tells self.inner) (read.steady self.inner) told)) in
     let size : c.in-Ok.size ≡ length payload.bytes = (look.found told).2 in
     let done = c.in-Ok-enter_end.ensures in
     let new = c.enter_end.new.self in
-    let after : IsTrue (read.tells new.inner && read.steady new.inner) = rw (done.tells, done.steady) (later told) in
-    let same = done.payload (later told) ∙ look.payload told in
+    let after = told-later read mid.inner new.inner done.keeps.inner.same (later told) in
+    let same = done.keeps.payload (later told) ∙ look.keeps.payload told in
     let held = (new.sound after).is_held done.good.1 in
     let opens = subst (λ p. suite.opened new.key (nonce new.number new.last) (text_at new.number p) ≡ Some new.chunk.items) same held.opens in
     let number : new.number ≡ final_chunk (length payload.bytes) = done.good.3 ∙ ap final_chunk size in
@@ -533,20 +377,17 @@ returns-in-Err-enter_end-clause-bad g c =
     let payload = payload_at (read.place self.inner) self.taken (read.content self.inner) in
     let look = c.in-Ok.ensures in
     let mid = c.look.new.self in
-    let later : IsTrue (read.tells self.inner && read.steady self.inner) → IsTrue (read.tells mid.inner && read.steady mid.inner) =
-    λ told. rw (look.tells, look.steady) told in
-    let law = shorter suite.seal_of suite.opened g.met.S.Suite.cipher self.key self.key_bytes in
+    let later = told-later read self.inner mid.inner look.keeps.inner.same in
     let are = λ (told : IsTrue (read.tells self.inner && read.steady self.inner)).
     All-drop (λ x. x < 2 ^ 8) (read.place self.inner - self.taken) (read.content self.inner).bytes
     (g.met.R.Read.are_bytes self.inner (and-left (read.tells self.inner) (read.steady self.inner) told)) in
     let size : c.in-Ok.size ≡ length payload.bytes = (look.found told).2 in
     let done = c.in-Err-enter_end.ensures in
-    let calm : IsQuiet (read.faults mid.inner) (read.faults c.enter_end.new.self.inner) =
-    record { same = omega (arith, look.faults, done.faults, quiet.same); below = quiet.below } in
-    let inner : IsTrue (payload_at (read.place mid.inner) mid.taken (read.content mid.inner)).ends_well = ap (λ p. p.ends_well) (look.payload told) ∙ well in
+    let calm = quiet-later _ _ _ look.keeps.inner.same.faults done.keeps.inner.same.faults quiet in
+    let inner : IsTrue (payload_at (read.place mid.inner) mid.taken (read.content mid.inner)).ends_well = ap (λ p. p.ends_well) (look.keeps.payload told) ∙ well in
     let bad = done.cause (later told) inner memory calm in
     let num = final_chunk c.in-Ok.size in
-    let moved = subst (λ p. suite.opened mid.key (nonce num true) (text_at num p) ≡ None) (look.payload told) bad.1 in
+    let moved = subst (λ p. suite.opened mid.key (nonce num true) (text_at num p) ≡ None) (look.keeps.payload told) bad.1 in
     let same = subst (λ k. suite.opened k (nonce num true) (text_at num payload) ≡ None) look.same.5 moved in
     inr (
       bad.0,
@@ -562,15 +403,15 @@ pub returns-in-Ok-enter-clause-inner_end : goal.returns-in-Ok-enter-clause-inner
 returns-in-Ok-enter-clause-inner_end g c = λ told.
     let look = c.in-Ok.ensures in
     let mid = c.look.new.self in
-    let later : IsTrue (g.R.Read.tells mid.inner && g.R.Read.steady mid.inner) = rw (look.tells, look.steady) told in
-    ap (λ s. s.ends_well) (c.in-Ok-enter.ensures.rest later) ∙ ap (λ p. p.ends_well) (look.payload told)
+    let later = told-later g.R.Read c.args.self.now.inner mid.inner look.keeps.inner.same told in
+    ap (λ s. s.ends_well) (c.in-Ok-enter.ensures.rest later) ∙ ap (λ p. p.ends_well) (look.keeps.payload told)
 
 pub returns-in-Ok-enter_end-clause-inner_end : goal.returns-in-Ok-enter_end-clause-inner_end
 returns-in-Ok-enter_end-clause-inner_end g c = λ told.
     let look = c.in-Ok.ensures in
     let mid = c.look.new.self in
-    let later : IsTrue (g.R.Read.tells mid.inner && g.R.Read.steady mid.inner) = rw (look.tells, look.steady) told in
-    c.in-Ok-enter_end.ensures.inner_end later ∙ ap (λ p. p.ends_well) (look.payload told)
+    let later = told-later g.R.Read c.args.self.now.inner mid.inner look.keeps.inner.same told in
+    c.in-Ok-enter_end.ensures.inner_end later ∙ ap (λ p. p.ends_well) (look.keeps.payload told)
 
 pub returns-in-Ok-stand-clause-inner_place : goal.returns-in-Ok-stand-clause-inner_place
 returns-in-Ok-stand-clause-inner_place g c = λ told refusal.
@@ -580,8 +421,8 @@ returns-in-Ok-stand-clause-inner_place g c = λ told refusal.
     let mid = c.look.new.self in
     let done = c.in-Ok-stand.ensures in
     let new = c.stand.new.self in
-    let later : IsTrue (read.tells mid.inner && read.steady mid.inner) = rw (look.tells, look.steady) told in
-    let after : IsTrue (read.tells new.inner && read.steady new.inner) = rw (done.tells, done.steady) later in
+    let later = told-later read self.inner mid.inner look.keeps.inner.same told in
+    let after = told-later read mid.inner new.inner done.keeps.inner.same later in
     omega (arith, done.start later, (done.stands later).0, (look.found told).0, (self.sound told).fits, (new.sound after).fits)
 
 pub returns-in-Ok-stand-clause-inner_rest : goal.returns-in-Ok-stand-clause-inner_rest
@@ -590,9 +431,9 @@ returns-in-Ok-stand-clause-inner_rest g c = λ told asked refusal.
     let read = g.R.Read in
     let look = c.in-Ok.ensures in
     let mid = c.look.new.self in
-    let later : IsTrue (read.tells mid.inner && read.steady mid.inner) = rw (look.tells, look.steady) told in
+    let later = told-later read self.inner mid.inner look.keeps.inner.same told in
     let place = read.place self.inner in
     let back : place - self.taken + self.taken ≡ place = omega (arith, (self.sound told).fits) in
-    (c.in-Ok-stand.ensures.stands later).1 ∙ ap (from_place self.taken) (look.payload told)
+    (c.in-Ok-stand.ensures.stands later).1 ∙ ap (from_place self.taken) (look.keeps.payload told)
     ∙ sym (payload-place (read.content self.inner) (place - self.taken) place self.taken refl self.taken)
     ∙ ap (λ n. from_place n (read.content self.inner)) back
