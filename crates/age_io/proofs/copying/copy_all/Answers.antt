@@ -51,10 +51,10 @@ pub returns-in_err-count-clause-why : goal.returns-in_err-count-clause-why
 returns-in_err-count-clause-why g c = λ reader_told well quiet.
     let before = c.loop-piece.invariant in
     let reads = c.in_err-count.ensures.reads in
-    let cause = reads.cause (before.reader_tells ∙ reader_told) in
+    let cause = reads.cause (before.copied.gives.same_tells ∙ reader_told) in
     let still : IsQuiet (g.R.Read.faults c.loop-piece.reader) (g.R.Read.faults c.read_retrying.new.reader) =
-    record { same = omega (arith, quiet.same, before.reader_faults, reads.no_fewer_faults); below = quiet.below } in
-    let ends = before.ends reader_told ∙ well in
+    record { same = omega (arith, quiet.same, before.copied.gives.no_fewer_faults, reads.no_fewer_faults); below = quiet.below } in
+    let ends = (before.copied.gives.bytes reader_told).end ∙ well in
     let refused = well-is-no-fault c.in_err-count.field-0.0 _ _ _ cause still ends in
     search rules
 
@@ -66,7 +66,7 @@ returns-in_err-write_all-clause-why g c = λ reader_told well quiet.
     let room = c.loop-piece.room in
     let size : length c.read_retrying.new.buf ≡ length room.items = omega (arith, c.read_retrying.auto.buf, c.deref_mut.ensures.len, room.ok.0) in
     let filled = refilled room.items c.read_retrying.new.buf room.len room.ok.0 size in
-    let came = c.in_ok-count.ensures.reads.bytes (before.reader_tells ∙ reader_told) in
+    let came = c.in_ok-count.ensures.reads.bytes (before.copied.gives.same_tells ∙ reader_told) in
     let piece = take c.in_ok-count.count c.read_retrying.new.buf in
     let left = (g.R.Read.rest c.loop-piece.reader).bytes in
     let fewer : length piece ≤ length left = omega (arith, ap length came.bytes, length-append piece (g.R.Read.rest c.read_retrying.new.reader).bytes) in
@@ -85,17 +85,14 @@ loop-piece-preserved g c =
     let size : length c.read_retrying.new.buf ≡ length room.items = omega (arith, c.read_retrying.auto.buf, c.deref_mut.ensures.len, room.ok.0) in
     let filled = refilled room.items c.read_retrying.new.buf room.len room.ok.0 size in
     record {
-      reader_tells = c.in_ok-count.ensures.reads.same_tells ∙ before.reader_tells;
       writer_tells = c.in_ok-write_all.ensures.writes.same_tells ∙ before.writer_tells;
       has_left = λ reader_told.
-          let came = c.in_ok-count.ensures.reads.bytes (before.reader_tells ∙ reader_told) in
+          let came = c.in_ok-count.ensures.reads.bytes (before.copied.gives.same_tells ∙ reader_told) in
           left-fewer (Retried g.W.Write.refuses) c.args.writer.now c.loop-piece.writer c.write_all.new.writer _ _ _ _
           (ap length came.bytes ∙ length-append _ _) (before.has_left reader_told)
           (rw (c.deref.ensures.value, filled) at c.in_ok-write_all.ensures.writes.narrows);
-      reader_faults = omega (arith, before.reader_faults, c.in_ok-count.ensures.reads.no_fewer_faults);
       writer_faults = omega (arith, before.writer_faults, c.in_ok-write_all.ensures.writes.no_fewer_faults);
-      pieces = λ reader_told. omega (arith, before.pieces reader_told, c.in_ok-count.ensures.reads.moves (before.reader_tells ∙ reader_told), c.if-count-eq0.false);
-      ends = λ reader_told. (c.in_ok-count.ensures.reads.bytes (before.reader_tells ∙ reader_told)).end ∙ before.ends reader_told;
+      pieces = λ reader_told. omega (arith, before.pieces reader_told, c.in_ok-count.ensures.reads.moves (before.copied.gives.same_tells ∙ reader_told), c.if-count-eq0.false);
       room = rw filled (omega (arith, size, before.room));
       copied =
           copied-more read.tells read.steady read.content read.place read.rest read.faults g.W.Write.tells g.W.Write.appended g.met.W.Write.joins

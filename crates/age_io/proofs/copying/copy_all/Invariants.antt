@@ -9,14 +9,11 @@ invariant-loop-piece g l =
     let reader = g.R.Read in
     let writer = g.W.Write in
     record {
-      reader_tells : reader.tells l.reader ≡ reader.tells l.fn.reader;
       writer_tells : writer.tells l.writer ≡ writer.tells l.fn.writer;
       has_left : IsTrue (reader.tells l.fn.reader) →
           HasLeft (Retried writer.refuses) l.fn.writer l.writer (length (reader.rest l.fn.reader).bytes) (length (reader.rest l.reader).bytes);
-      reader_faults : reader.faults l.fn.reader ≤ reader.faults l.reader;
       writer_faults : writer.faults l.fn.writer ≤ writer.faults l.writer;
       pieces : IsTrue (reader.tells l.fn.reader) → l._piece ≤ reader.place l.reader;
-      ends : IsTrue (reader.tells l.fn.reader) → (reader.rest l.reader).ends_well ≡ (reader.rest l.fn.reader).ends_well;
       room : 0 < length l.room.items;
       copied : IsCopied reader.tells reader.steady reader.content reader.place reader.rest reader.faults writer.tells writer.appended
           l.fn.reader l.reader l.fn.writer l.writer;

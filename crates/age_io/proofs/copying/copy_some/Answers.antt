@@ -39,7 +39,7 @@ returns-in_err-write_all-clause-front g c = λ reader_told writer_told.
     part-refused read.tells read.steady read.content read.place read.rest read.faults g.W.Write.tells g.W.Write.appended g.met.W.Write.joins
     c.args.count c.pieces.left (c.pieces.left - got) c.args.reader.now c.pieces.reader c.read_retrying.new.reader
     c.args.writer.now c.pieces.writer c.write_all.new.writer bytes refused.0
-    before.copied reader_told writer_told (omega (arith, size, fits)) (reads.bytes (before.reader_tells ∙ reader_told)) refused.2
+    before.copied reader_told writer_told (omega (arith, size, fits)) (reads.bytes (before.copied.gives.same_tells ∙ reader_told)) refused.2
 
 pub returns-in_err-write_all-clause-left : goal.returns-in_err-write_all-clause-left
 returns-in_err-write_all-clause-left g c =
@@ -79,13 +79,10 @@ pieces-preserved g c =
     let size : length (take got c.read_retrying.new.buf) ≡ got = length-take-le got c.read_retrying.new.buf reads.count in
     let fits : got ≤ c.pieces.left = grind (arith, common_steps, reads.count) in
     record {
-      reader_tells = reads.same_tells ∙ before.reader_tells;
       writer_tells = writes.same_tells ∙ before.writer_tells;
       has_left = left-fewer (Retried g.W.Write.refuses) c.args.writer.now c.pieces.writer c.write_all.new.writer c.args.count c.pieces.left
           (length (take got c.read_retrying.new.buf)) (c.pieces.left - got) (omega (arith, size, fits)) before.has_left writes.narrows;
-      reader_faults = omega (arith, before.reader_faults, reads.no_fewer_faults);
       writer_faults = omega (arith, before.writer_faults, writes.no_fewer_faults);
-      ends = λ reader_told. (reads.bytes (before.reader_tells ∙ reader_told)).end ∙ before.ends reader_told;
       room = grind (arith, common_steps, before.room);
       copied =
           part-more read.tells read.steady read.content read.place read.rest read.faults g.W.Write.tells g.W.Write.appended g.met.W.Write.joins

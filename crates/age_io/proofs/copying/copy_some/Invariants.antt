@@ -1,4 +1,4 @@
-use Rattle.std.proofs.Common.{◌≡◌, ◌<◌, ◌≤◌, IsTrue, length}
+use Rattle.std.proofs.Common.{◌≡◌, ◌<◌, ◌≤◌, length}
 use Rattle.age_io.proofs.PartCopied.{IsPartCopied}
 use Rattle.age_io.specs.Writing.{Retried}
 use Rattle.age_io.proofs.Appending.{HasLeft}
@@ -9,12 +9,9 @@ invariant-pieces g l =
     let reader = g.R.Read in
     let writer = g.W.Write in
     record {
-      reader_tells : reader.tells l.reader ≡ reader.tells l.fn.reader;
       writer_tells : writer.tells l.writer ≡ writer.tells l.fn.writer;
       has_left : HasLeft (Retried writer.refuses) l.fn.writer l.writer l.count l.left;
-      reader_faults : reader.faults l.fn.reader ≤ reader.faults l.reader;
       writer_faults : writer.faults l.fn.writer ≤ writer.faults l.writer;
-      ends : IsTrue (reader.tells l.fn.reader) → (reader.rest l.reader).ends_well ≡ (reader.rest l.fn.reader).ends_well;
       room : 0 < length l.piece.items;
       copied : IsPartCopied reader.tells reader.steady reader.content reader.place reader.rest reader.faults writer.tells writer.appended
           l.count l.left l.fn.reader l.reader l.fn.writer l.writer;
