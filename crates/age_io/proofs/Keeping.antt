@@ -5,7 +5,7 @@ use Rattle.age_error.specs.Refusals.{IsDevice}
 use Rattle.age_error.specs.declared.io.Error.{Error}
 use Rattle.age_error.specs.declared.io.SeekFrom.{SeekFrom}
 use Rattle.age_io.specs.declared.traits.Read.{Ghosts}
-use Rattle.age_io.specs.Reading.{Reads}
+use Rattle.age_io.specs.Reading.{Reads, GivesInAll}
 use Rattle.age_io.specs.Cursor.{Seeks}
 use Rattle.age_io.specs.Keeping.{SameReader, KeepsReader}
 use Rattle.age_io.proofs.Retrying.{interruption-device}
@@ -33,6 +33,11 @@ module _ {R : Type 0} (read : Ghosts R) where
       Seeks read.tells read.steady read.content read.place read.rest read.faults a b to result → SameReader read a b
   same-sought a b seeks =
       record { tells = seeks.same_tells; steady = seeks.same_steady; faults = seeks.no_fewer_faults; content = seeks.same_content }
+
+  pub same-given : {got : List ℕ} (a b : R) →
+      GivesInAll read.tells read.steady read.content read.place read.rest read.faults a b got → SameReader read a b
+  same-given a b gives =
+      record { tells = gives.same_tells; steady = gives.same_steady; faults = gives.no_fewer_faults; content = gives.same_content }
 
   -- a call that succeeded
   pub keeps-done : {T : Type 0} {x : T} (a b : R) → SameReader read a b → KeepsReader read a b (Ok x)

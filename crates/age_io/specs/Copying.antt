@@ -1,6 +1,7 @@
 -- What of a list was appended to a writer, and where the reader stands that it came from.
 use Rattle.std.specs.Prelude.{◌≡◌, ℕ, ◌+◌, ◌≤◌, Bool, IsTrue, List, ◌++◌, length}
-use Rattle.age_io.specs.Stretch.{Stretch}
+use Rattle.age_io.specs.declared.traits.Read.{Ghosts}
+use Rattle.age_io.specs.Keeping.{SameReader}
 use Rattle.age_io.specs.Reading.{Gave}
 
 -- between two states of a writer a beginning of this list was appended
@@ -18,17 +19,14 @@ pub record AppendsSome {W : Type 0} (appended : W → List ℕ → W → Type 0)
   pub done : appended old out new
 
 -- A reader gave bytes of which this holds, and stands after them, or has failed there. A beginning of them was appended to a writer.
-pub record CopiesFront {S : Type 0} (tells steady : S → Bool) (content : S → Stretch) (place : S → ℕ) (rest : S → Stretch) (faults : S → ℕ)
-    {W : Type 0} (writer_tells : W → Bool) (appended : W → List ℕ → W → Type 0) (Holds : List ℕ → Type 0) (old new : S) (before after : W) : Type 0 where
+pub record CopiesFront {S : Type 0} (read : Ghosts S) {W : Type 0} (writer_tells : W → Bool) (appended : W → List ℕ → W → Type 0)
+    (Holds : List ℕ → Type 0) (old new : S) (before after : W) : Type 0 where
   pub given : List ℕ
   pub holds : Holds given
   -- to a writer that tells its bytes
   pub appends : IsTrue (writer_tells before) → AppendsFront appended given before after
   -- of every reader
-  pub same_tells : tells new ≡ tells old
-  pub same_steady : steady new ≡ steady old
-  pub no_fewer_faults : faults old ≤ faults new
+  pub same : SameReader read old new
   -- of a reader that tells its bytes
-  pub same_content : IsTrue (tells old) → content new ≡ content old
-  pub gave : IsTrue (tells old) → Gave given (rest old) (rest new)
-  pub moves : IsTrue (tells old) → place new ≡ place old + length given
+  pub gave : IsTrue (read.tells old) → Gave given (read.rest old) (read.rest new)
+  pub moves : IsTrue (read.tells old) → read.place new ≡ read.place old + length given

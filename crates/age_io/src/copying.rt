@@ -33,7 +33,7 @@ pub fn copy_all<R: Read, W: Write>(
     ensures front { IsTrue (R.tells reader.old) → IsTrue (W.tells writer.old) →
         AppendsFront W.appended (R.rest reader.old).bytes writer.old writer.new }
     ensures stands { OnOk result (GivesInAll R.tells R.steady R.content R.place R.rest R.faults reader.old reader.new (R.rest reader.old).bytes) }
-    ensures left { OnErr result (CopiesFront R.tells R.steady R.content R.place R.rest R.faults W.tells W.appended
+    ensures left { OnErr result (CopiesFront ⟦<R as Read>⟧ W.tells W.appended
         (λ _. ⊤) reader.old reader.new writer.old writer.new) }
     // Why it refuses, where the reader has no fault.
     ensures device { IfErr result (λ e. IsDevice e →
@@ -76,7 +76,7 @@ pub fn copy_some<R: Read, W: Write>(
         AppendsFront W.appended (take count (R.rest reader.old).bytes) writer.old writer.new }
     ensures stands { OnOk result (GivesInAll R.tells R.steady R.content R.place R.rest R.faults reader.old reader.new
         (take count (R.rest reader.old).bytes)) }
-    ensures left { OnErr result (CopiesFront R.tells R.steady R.content R.place R.rest R.faults W.tells W.appended
+    ensures left { OnErr result (CopiesFront ⟦<R as Read>⟧ W.tells W.appended
         (λ given. length given ≤ count) reader.old reader.new writer.old writer.new) }
     // Why it refuses, where the reader has no fault.
     ensures device { IfErr result (λ e. IsDevice e →

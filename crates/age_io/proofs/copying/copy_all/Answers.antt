@@ -16,7 +16,7 @@ returns-in_err-write_all-clause-front g c = λ reader_told writer_told.
     let size : length c.read_retrying.new.buf ≡ length room.items = omega (arith, c.read_retrying.auto.buf, c.deref_mut.ensures.len, room.ok.0) in
     let filled = refilled room.items c.read_retrying.new.buf room.len room.ok.0 size in
     let refused = rw (c.deref.ensures.value, filled) at (c.in_err-write_all.ensures.writes.takes_front (before.writer_tells ∙ writer_told)) in
-    front-more read.tells read.steady read.content read.place read.rest read.faults g.W.Write.tells g.W.Write.appended g.met.W.Write.joins
+    front-more read g.W.Write.tells g.W.Write.appended g.met.W.Write.joins
     c.args.reader.now c.loop-piece.reader c.read_retrying.new.reader c.args.writer.now c.loop-piece.writer c.write_all.new.writer
     c.read_retrying.new.buf c.in_ok-count.count refused.0 before.copied c.in_ok-count.ensures.reads reader_told writer_told refused.2
 
@@ -27,7 +27,7 @@ returns-in_err-write_all-clause-left g c =
     let room = c.loop-piece.room in
     let size : length c.read_retrying.new.buf ≡ length room.items = omega (arith, c.read_retrying.auto.buf, c.deref_mut.ensures.len, room.ok.0) in
     let filled = refilled room.items c.read_retrying.new.buf room.len room.ok.0 size in
-    OnErr-of _ (left-by-write read.tells read.steady read.content read.place read.rest read.faults g.W.Write.tells g.W.Write.appended
+    OnErr-of _ (left-by-write read g.W.Write.tells g.W.Write.appended
     (λ _. ⊤) g.met.W.Write.joins
     before.copied.front c.args.reader.now c.loop-piece.reader c.read_retrying.new.reader c.args.writer.now c.loop-piece.writer c.write_all.new.writer
     c.read_retrying.new.buf c.in_ok-count.count tt before.copied.gives before.copied.out c.in_ok-count.ensures.reads
@@ -37,14 +37,14 @@ pub returns-in_err-count-clause-left : goal.returns-in_err-count-clause-left
 returns-in_err-count-clause-left g c =
     let read = g.R.Read in
     let before = c.loop-piece.invariant in
-    OnErr-of _ (left-by-read read.tells read.steady read.content read.place read.rest read.faults g.W.Write.tells g.W.Write.appended (λ _. ⊤)
+    OnErr-of _ (left-by-read read g.W.Write.tells g.W.Write.appended (λ _. ⊤)
     before.copied.front c.args.reader.now c.loop-piece.reader c.read_retrying.new.reader c.args.writer.now c.loop-piece.writer
     c.read_retrying.new.buf c.in_err-count.field-0.0 tt before.copied.gives before.copied.out c.in_err-count.ensures.reads)
 
 pub returns-in_err-room-clause-left : goal.returns-in_err-room-clause-left
 returns-in_err-room-clause-left g c =
     let read = g.R.Read in
-    OnErr-of _ (left-unasked read.tells read.steady read.content read.place read.rest read.faults g.W.Write.tells g.W.Write.appended (λ _. ⊤)
+    OnErr-of _ (left-unasked read g.W.Write.tells g.W.Write.appended (λ _. ⊤)
     c.args.reader.now c.args.writer.now tt (g.met.W.Write.appends_nothing c.args.writer.now))
 
 pub returns-in_err-count-clause-why : goal.returns-in_err-count-clause-why
@@ -95,7 +95,7 @@ loop-piece-preserved g c =
       pieces = λ reader_told. omega (arith, before.pieces reader_told, c.in_ok-count.ensures.reads.moves (before.copied.gives.same_tells ∙ reader_told), c.if-count-eq0.false);
       room = rw filled (omega (arith, size, before.room));
       copied =
-          copied-more read.tells read.steady read.content read.place read.rest read.faults g.W.Write.tells g.W.Write.appended g.met.W.Write.joins
+          copied-more read g.W.Write.tells g.W.Write.appended g.met.W.Write.joins
           c.args.reader.now c.loop-piece.reader c.read_retrying.new.reader c.args.writer.now c.loop-piece.writer c.write_all.new.writer
           c.read_retrying.new.buf c.in_ok-count.count before.copied c.in_ok-count.ensures.reads
           (λ told. rw (c.deref.ensures.value, filled) at (c.in_ok-write_all.ensures.writes.takes_all (before.writer_tells ∙ told)));

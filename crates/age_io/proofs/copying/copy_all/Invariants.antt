@@ -15,6 +15,6 @@ invariant-loop-piece g l =
       writer_faults : writer.faults l.fn.writer ≤ writer.faults l.writer;
       pieces : IsTrue (reader.tells l.fn.reader) → l._piece ≤ reader.place l.reader;
       room : 0 < length l.room.items;
-      copied : IsCopied reader.tells reader.steady reader.content reader.place reader.rest reader.faults writer.tells writer.appended
+      copied : IsCopied reader writer.tells writer.appended
           l.fn.reader l.reader l.fn.writer l.writer;
     }

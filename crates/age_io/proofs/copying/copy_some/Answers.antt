@@ -10,19 +10,19 @@ use Rattle.age_io.proofs.copying.copy_some.Goals as goal
 pub returns-in_err-piece-clause-left : goal.returns-in_err-piece-clause-left
 returns-in_err-piece-clause-left g c =
     let read = g.R.Read in
-    OnErr-of _ (left-unasked read.tells read.steady read.content read.place read.rest read.faults g.W.Write.tells g.W.Write.appended
+    OnErr-of _ (left-unasked read g.W.Write.tells g.W.Write.appended
     (λ given. length given ≤ c.args.count) c.args.reader.now c.args.writer.now (omega arith) (g.met.W.Write.appends_nothing c.args.writer.now))
 
 pub returns-in_err-got-clause-front : goal.returns-in_err-got-clause-front
 returns-in_err-got-clause-front g c = λ reader_told writer_told.
     let read = g.R.Read in
-    part-front read.tells read.steady read.content read.place read.rest read.faults g.W.Write.tells g.W.Write.appended
+    part-front read g.W.Write.tells g.W.Write.appended
     c.args.count c.pieces.left c.args.reader.now c.pieces.reader c.args.writer.now c.pieces.writer c.pieces.invariant.copied reader_told writer_told
 
 pub returns-in_err-got-clause-left : goal.returns-in_err-got-clause-left
 returns-in_err-got-clause-left g c =
     let read = g.R.Read in
-    OnErr-of _ (part-unread read.tells read.steady read.content read.place read.rest read.faults g.W.Write.tells g.W.Write.appended
+    OnErr-of _ (part-unread read g.W.Write.tells g.W.Write.appended
     c.args.count c.pieces.left c.args.reader.now c.pieces.reader c.read_retrying.new.reader c.args.writer.now c.pieces.writer
     c.read_retrying.new.buf c.in_err-got.field-0.0 c.pieces.invariant.copied c.in_err-got.ensures.reads)
 
@@ -36,7 +36,7 @@ returns-in_err-write_all-clause-front g c = λ reader_told writer_told.
     let size : length bytes ≡ got = length-take-le got c.read_retrying.new.buf reads.count in
     let fits : got ≤ c.pieces.left = grind (arith, common_steps, reads.count) in
     let refused = c.in_err-write_all.ensures.writes.takes_front (before.writer_tells ∙ writer_told) in
-    part-refused read.tells read.steady read.content read.place read.rest read.faults g.W.Write.tells g.W.Write.appended g.met.W.Write.joins
+    part-refused read g.W.Write.tells g.W.Write.appended g.met.W.Write.joins
     c.args.count c.pieces.left (c.pieces.left - got) c.args.reader.now c.pieces.reader c.read_retrying.new.reader
     c.args.writer.now c.pieces.writer c.write_all.new.writer bytes refused.0
     before.copied reader_told writer_told (omega (arith, size, fits)) (reads.bytes (before.copied.gives.same_tells ∙ reader_told)) refused.2
@@ -49,7 +49,7 @@ returns-in_err-write_all-clause-left g c =
     let got = c.in_ok-got.got in
     let size : length (take got c.read_retrying.new.buf) ≡ got = length-take-le got c.read_retrying.new.buf reads.count in
     let fits : got ≤ c.pieces.left = grind (arith, common_steps, reads.count) in
-    OnErr-of _ (part-unwritten read.tells read.steady read.content read.place read.rest read.faults g.W.Write.tells g.W.Write.appended g.met.W.Write.joins
+    OnErr-of _ (part-unwritten read g.W.Write.tells g.W.Write.appended g.met.W.Write.joins
     c.args.count c.pieces.left (c.pieces.left - got) c.args.reader.now c.pieces.reader c.read_retrying.new.reader
     c.args.writer.now c.pieces.writer c.write_all.new.writer c.read_retrying.new.buf got
     before.copied (omega (arith, size, fits)) reads (λ told. c.in_err-write_all.ensures.writes.takes_front (before.writer_tells ∙ told)))
@@ -85,7 +85,7 @@ pieces-preserved g c =
       writer_faults = omega (arith, before.writer_faults, writes.no_fewer_faults);
       room = grind (arith, common_steps, before.room);
       copied =
-          part-more read.tells read.steady read.content read.place read.rest read.faults g.W.Write.tells g.W.Write.appended g.met.W.Write.joins
+          part-more read g.W.Write.tells g.W.Write.appended g.met.W.Write.joins
           c.args.count c.pieces.left (c.pieces.left - got) c.args.reader.now c.pieces.reader c.read_retrying.new.reader
           c.args.writer.now c.pieces.writer c.write_all.new.writer c.read_retrying.new.buf got
           before.copied (omega (arith, size, fits)) reads (λ told. writes.takes_all (before.writer_tells ∙ told));

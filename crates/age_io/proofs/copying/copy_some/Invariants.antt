@@ -13,7 +13,7 @@ invariant-pieces g l =
       has_left : HasLeft (Retried writer.refuses) l.fn.writer l.writer l.count l.left;
       writer_faults : writer.faults l.fn.writer ≤ writer.faults l.writer;
       room : 0 < length l.piece.items;
-      copied : IsPartCopied reader.tells reader.steady reader.content reader.place reader.rest reader.faults writer.tells writer.appended
+      copied : IsPartCopied reader writer.tells writer.appended
           l.count l.left l.fn.reader l.reader l.fn.writer l.writer;
     }
 
