@@ -1,18 +1,23 @@
 -- Where a seek in a text leads, over plain variables.
-use Rattle.std.proofs.Common.{◌≡◌, ◌≢◌, ◌⊎◌, ◌∙◌, ℕ, ◌<◌, ◌≤◌, ℤ, Bool, true, false, IsTrue, Result, Ok, Err, IfOk, IfErr, OnOk, Option, Some, None, length, arith, sym, ap, subst, refl, inl, inr, nat_le, if◌then◌else◌, le-leb, leb-true}
+use Rattle.std.proofs.Common.{◌≡◌, ◌≢◌, ◌⊎◌, ◌∙◌, ℕ, ◌<◌, ◌≤◌, ℤ, Bool, true, false, IsTrue, Result, Ok, Err, IfOk, OnOk, Option, Some, None, length, arith, sym, ap, subst, refl, inl, inr, nat_le, if◌then◌else◌, le-leb, leb-true}
 use Rattle.std.proofs.lemmas.Bool.{cases_Bool, true≢false}
 use Rattle.std.proofs.lemmas.Result.{IfOk-weaker, IfErr-weaker}
 use Rattle.age_error.specs.Refusals.{IsDevice, IsInterruption}
 use Rattle.age_error.specs.declared.io.Error.{Error}
 use Rattle.age_error.specs.declared.io.Error.TheVariants.{OutOfMemory, BeforeStart, PastEnd, TooLong, Failed}
 use Rattle.age_error.specs.declared.io.SeekFrom.{SeekFrom}
-use Rattle.age_error.specs.declared.io.SeekFrom.TheVariants.{Start, Current}
+use Rattle.age_error.specs.declared.io.SeekFrom.TheVariants.{Start, End, Current}
 use Rattle.age_io.specs.Stretch.{Stretch, nothing, from_place}
 use Rattle.age_io.specs.Reading.{IsQuiet}
-use Rattle.age_io.specs.Cursor.{IsOutside, MayLead, moved_to, place_at, sought}
+use Rattle.age_io.specs.declared.traits.Read.{Ghosts}
+use Rattle.age_io.specs.Keeping.{SameReader, KeepsReader}
+use Rattle.age_io.specs.Cursor.{Seeks, IsOutside, MayLead, moved_to, place_at, sought}
+use Rattle.age_io.proofs.Keeping.{same-self, same-later, keeps-refused}
 use Rattle.age_armor.specs.Delivered.{Ending, Clean, Refused, InnerFault, is_clean}
 use Rattle.age_armor.specs.Stages.{IsNamed}
 use Rattle.age_armor.specs.Seeking.{Goes, SeeksText, Misses, ComesBack}
+use Rattle.age_armor.proofs.Keeping.{goes-unrefused}
+use Rattle.age_armor.proofs.Taking.{quiet_after}
 
 -- ---- where a target leads
 
@@ -58,6 +63,11 @@ pub arrives-within : (P : Type 0) (r : Result ℕ Error) (o : Option ℕ) (len t
 arrives-within P (Ok n) o len target rest content other moved same there at = (rw there moved, rw (there, ← same) at.1)
 arrives-within P (Err e) o len target rest content other moved same there at = tt
 
+-- what was found from the end, where the distance is written in another way
+pub from-end : (d e : ℤ) (len : ℕ) (r answer : Result ℕ Error) → d ≡ e → ((place : ℕ) → r ≡ sought (End d) place len) → r ≡ answer →
+    (place : ℕ) → sought (End e) place len ≡ answer
+from-end d e len r answer same exact is place = subst (λ d. sought (End d) place len ≡ answer) same (sym (exact place) ∙ is)
+
 -- ---- errors
 
 pub refusal_or_not : (e : Error) → IsOutside e ⊎ (IsOutside e → ⊥)
@@ -80,53 +90,49 @@ clean-unnamed Clean e clean named = named
 clean-unnamed (Refused f) e clean named = true≢false (sym clean)
 clean-unnamed InnerFault e clean named = true≢false (sym clean)
 
--- ---- one step after another
-
-pub device-later : (a b c : ℕ) (r : Result ℕ Error) → a ≤ b → IfErr r (λ e. IsDevice e → b < c) → IfErr r (λ e. IsDevice e → a < c)
-device-later a b c (Ok n) most device = tt
-device-later a b c (Err e) most device = λ is. let rose = device is in omega (arith, most, rose)
-
-pub goes-later : {S : Type 0} (tells steady : S → Bool) (content : S → Stretch) (faults : S → ℕ) (old middle new : S) (r : Result ℕ Error) →
-    tells middle ≡ tells old → steady middle ≡ steady old → faults old ≤ faults middle → (IsTrue (tells old) → content middle ≡ content old) →
-    Goes tells steady content faults middle new r → Goes tells steady content faults old new r
-goes-later tells steady content faults old middle new r same_tells same_steady more same_content goes = record {
-  same_tells = goes.same_tells ∙ same_tells;
-  same_steady = goes.same_steady ∙ same_steady;
-  no_fewer_faults = let further = goes.no_fewer_faults in omega (arith, more, further);
-  device = device-later (faults old) (faults middle) (faults new) r more goes.device;
-  unspent = goes.unspent;
-  patient = goes.patient;
-  same_content = λ told. goes.same_content (same_tells ∙ told) ∙ same_content told;
-}
-
 -- ---- a whole seek
 
 -- the count of faults stays the same in each part, where it does in the whole
 quiet-first : (a b c : ℕ) → a ≤ b → b ≤ c → IsQuiet a c → IsQuiet a b
-quiet-first a b c first last quiet = record {
-  same = let same = quiet.same in omega (arith, first, last, same);
-  below = let same = quiet.same in let below = quiet.below in omega (arith, first, last, same, below);
-}
+quiet-first a b c first last quiet = record { same = omega (arith, first, last, quiet.same); below = omega (arith, first, last, quiet.same, quiet.below) }
 
-quiet-last : (a b c : ℕ) → a ≤ b → b ≤ c → IsQuiet a c → IsQuiet b c
-quiet-last a b c first last quiet = record {
-  same = let same = quiet.same in omega (arith, first, last, same);
-  below = quiet.below;
-}
+module _ {R : Type 0} (read : Ghosts R) (failed : R → Bool) where
+  -- a refusal that isn't an interruption
+  seeks-refused : (old new : R) (to : SeekFrom) (e : Error) → KeepsReader {T = ℕ} read old new (Err e) → (IsTrue (read.tells old) → read.place new ≡ read.place old) →
+      (IsTrue (read.tells old) → IsTrue (read.steady old) → read.rest old ≡ from_place (read.place old) (read.content old) → IsOutside e → read.rest new ≡ read.rest old) →
+      (IsTrue (read.tells old) → IsTrue (read.content old).ends_well → IsOutside e → sought to (read.place old) (length (read.content old).bytes) ≡ Err e) →
+      (IsTrue (read.tells old) → IsTrue (read.content old).ends_well → e ≢ OutOfMemory → IsQuiet (read.faults old) (read.faults new) → IsOutside e) →
+      Seeks read.tells read.steady read.content read.place read.rest read.faults old new to (Err e)
+  seeks-refused old new to e keeps stays kept refused cause = record {
+    same_tells = keeps.same.tells;
+    same_steady = keeps.same.steady;
+    no_fewer_faults = keeps.same.faults;
+    device = keeps.device;
+    unspent = tt;
+    same_content = keeps.same.content;
+    arrives = λ told. tt;
+    leads = λ told. tt;
+    stays = stays;
+    interrupted = λ told interruption. absurd (keeps.patient interruption);
+    moves = λ told steady. tt;
+    kept = kept;
+    refused = refused;
+    cause = cause;
+  }
 
-module _ {S : Type 0} (tells steady failed : S → Bool) (content : S → Stretch) (place : S → ℕ) (rest : S → Stretch) (faults : S → ℕ) where
-  pub arrived : (old new : S) (to : SeekFrom) (ends_well : Bool) (ending : Ending) (n : ℕ) → Goes tells steady content faults old new (Ok n) → failed new ≡ false →
-      (IsTrue (tells old) → place new ≡ n) → (IsTrue (tells old) → MayLead to (place old) n) →
-      (IsTrue (tells old) → IsTrue (steady old) → (sought to (place old) (length (content old).bytes) ≡ Ok n) × (rest new ≡ from_place n (content old))) →
-      SeeksText tells steady failed content place rest faults old new to ends_well ending (Ok n)
+  pub arrived : (old new : R) (to : SeekFrom) (ends_well : Bool) (ending : Ending) (n : ℕ) → Goes read old new (Ok n) → failed new ≡ false →
+      (IsTrue (read.tells old) → read.place new ≡ n) → (IsTrue (read.tells old) → MayLead to (read.place old) n) →
+      (IsTrue (read.tells old) → IsTrue (read.steady old) →
+      (sought to (read.place old) (length (read.content old).bytes) ≡ Ok n) × (read.rest new ≡ from_place n (read.content old))) →
+      SeeksText read failed old new to ends_well ending (Ok n)
   arrived old new to ends_well ending n goes good at leads exact = record {
     seeks = record {
-      same_tells = goes.same_tells;
-      same_steady = goes.same_steady;
-      no_fewer_faults = goes.no_fewer_faults;
+      same_tells = goes.keeps.same.tells;
+      same_steady = goes.keeps.same.steady;
+      no_fewer_faults = goes.keeps.same.faults;
       device = tt;
       unspent = goes.unspent;
-      same_content = goes.same_content;
+      same_content = goes.keeps.same.content;
       arrives = at;
       leads = leads;
       stays = λ told. tt;
@@ -144,56 +150,50 @@ module _ {S : Type 0} (tells steady failed : S → Bool) (content : S → Stretc
     early = λ told steady badly. tt;
   }
 
-  pub missed : (old middle new : S) (to : SeekFrom) (ends_well : Bool) (ending : Ending) (error answer : Error) →
-      (IsTrue (tells old) → IsTrue (content old).ends_well → IsTrue (steady old) × IsTrue ends_well × ((e : Error) → IsNamed ending e → ⊥)) →
-      (failed old ≡ true → rest old ≡ nothing) →
-      (IsTrue (tells old) → IsTrue ends_well → IsTrue (steady old)) →
-      Misses tells steady content place faults old middle to ends_well ending error →
-      ComesBack tells steady failed content place rest faults middle new (place old) (failed old) error answer →
-      SeeksText tells steady failed content place rest faults old new to ends_well ending (Err answer)
+  pub missed : (old middle new : R) (to : SeekFrom) (ends_well : Bool) (ending : Ending) (error answer : Error) →
+      (IsTrue (read.tells old) → IsTrue (read.content old).ends_well → IsTrue (read.steady old) × IsTrue ends_well × ((e : Error) → IsNamed ending e → ⊥)) →
+      (failed old ≡ true → read.rest old ≡ nothing) →
+      (IsTrue (read.tells old) → IsTrue ends_well → IsTrue (read.steady old)) →
+      Misses read old middle to ends_well ending error →
+      ComesBack read failed middle new (read.place old) (failed old) error answer →
+      SeeksText read failed old new to ends_well ending (Err answer)
   missed old middle new to ends_well ending error answer well_known gone steady_known misses back =
-      let goes = misses.goes in
-      let first = goes.no_fewer_faults in
-      let last = back.no_fewer_faults in
-      let patient : (IsInterruption answer → ⊥) = λ interruption. elim (refusal_or_not error) [
-        | inl is ↦ back.patient (refusal-interruption error is) interruption
-        | inr not ↦ goes.patient (subst IsInterruption (back.other not) interruption)
-      ] in
+      let goes = misses.goes.keeps in
+      let first = goes.same.faults in
+      let last = back.same.faults in
+      let keeps : KeepsReader {T = ℕ} read old new (Err answer) = record {
+        same = same-later read old middle new goes.same back.same;
+        device = λ device. elim (refusal_or_not error) [
+          | inl is ↦ omega (arith, first, back.device (refusal-device error is) device)
+          | inr not ↦ omega (arith, last, goes.device (subst IsDevice (back.other not) device))
+        ];
+        patient = λ interruption. elim (refusal_or_not error) [
+          | inl is ↦ back.patient (refusal-interruption error is) interruption
+          | inr not ↦ goes.patient (subst IsInterruption (back.other not) interruption)
+        ];
+      } in
+      let returns : (IsTrue (read.tells old) → IsTrue (read.content old).ends_well → IsOutside error → answer ≢ OutOfMemory →
+      IsQuiet (read.faults old) (read.faults new) → IsOutside answer) = λ told well is other quiet.
+      back.cause (goes.same.tells ∙ told) (subst (λ s. IsTrue s.ends_well) (sym (goes.same.content told)) well) is other (quiet_after _ _ _ first last quiet) in
       record {
-        seeks = record {
-          same_tells = back.same_tells ∙ goes.same_tells;
-          same_steady = back.same_steady ∙ goes.same_steady;
-          no_fewer_faults = omega (arith, first, last);
-          device = λ device. elim (refusal_or_not error) [
-            | inl is ↦ let rose = back.device (refusal-device error is) device in omega (arith, first, rose)
-            | inr not ↦ let rose = goes.device (subst IsDevice (back.other not) device) in omega (arith, last, rose)
-          ];
-          unspent = tt;
-          same_content = λ told. back.same_content (goes.same_tells ∙ told) ∙ goes.same_content told;
-          arrives = λ told. tt;
-          leads = λ told. tt;
-          stays = λ told. back.stays (goes.same_tells ∙ told);
-          interrupted = λ told interruption. absurd (patient interruption);
-          moves = λ told steady. tt;
-          kept = λ told is_steady stands refusal. elim (cases_Bool (failed old)) [
-            | inl had ↦ back.gone had ∙ sym (gone had)
-            | inr fine ↦ back.back (goes.same_tells ∙ told) (goes.same_steady ∙ is_steady) fine refusal ∙ ap (from_place (place old)) (goes.same_content told) ∙ sym stands
-          ];
-          refused = λ told well refusal. subst (λ e. sought to (place old) (length (content old).bytes) ≡ Err e) (sym (back.unmoved refusal).1)
-              (misses.refused told (well_known told well).0 (back.unmoved refusal).0).1;
-          cause = λ told well other quiet. elim (refusal_or_not error) [
-            | inl is ↦ back.cause (goes.same_tells ∙ told) (subst (λ s. IsTrue s.ends_well) (sym (goes.same_content told)) well) is other (quiet-last _ _ _ first last quiet)
-            | inr not ↦ absurd ((well_known told well).2 error
-                (misses.named told (well_known told well).1 not (λ memory. other (back.other not ∙ memory)) (quiet-first _ _ _ first last quiet)).0)
-          ];
-        };
-        patient = patient;
+        seeks = seeks-refused old new to answer keeps (λ told. back.stays (goes.same.tells ∙ told))
+            (λ told is_steady stands refusal. elim (cases_Bool (failed old)) [
+              | inl had ↦ back.gone had ∙ sym (gone had)
+              | inr fine ↦ back.back (goes.same.tells ∙ told) (goes.same.steady ∙ is_steady) fine refusal ∙ ap (from_place (read.place old)) (goes.same.content told) ∙ sym stands
+            ])
+            (λ told well refusal. subst (λ e. sought to (read.place old) (length (read.content old).bytes) ≡ Err e) (sym (back.unmoved refusal).1)
+            (misses.refused told (well_known told well).0 (back.unmoved refusal).0).1)
+            (λ told well other quiet. elim (refusal_or_not error) [
+              | inl is ↦ returns told well is other quiet
+              | inr not ↦ absurd ((well_known told well).2 error
+                  (misses.named told (well_known told well).1 not (λ memory. other (back.other not ∙ memory)) (quiet-first _ _ _ first last quiet)).0)
+            ]);
+        patient = keeps.patient;
         good = tt;
         unmoved = λ refusal. (back.unmoved refusal).2;
         fails = back.fails;
         named = λ told well own other quiet. elim (refusal_or_not error) [
-          | inl is ↦ absurd (own (back.cause (goes.same_tells ∙ told)
-              (subst (λ s. IsTrue s.ends_well) (sym (goes.same_content told)) (misses.refused told (steady_known told well) is).0) is other (quiet-last _ _ _ first last quiet)))
+          | inl is ↦ absurd (own (returns told (misses.refused told (steady_known told well) is).0 is other quiet))
           | inr not ↦
               let named = misses.named told well not (λ memory. other (back.other not ∙ memory)) (quiet-first _ _ _ first last quiet) in
               (subst (IsNamed ending) (sym (back.other not)) named.0, named.1)
@@ -201,111 +201,63 @@ module _ {S : Type 0} (tells steady failed : S → Bool) (content : S → Stretc
         early = λ told is_steady badly_ends refusal. absurd (true≢false (sym (misses.refused told is_steady (back.unmoved refusal).0).0 ∙ badly_ends));
       }
 
-  pub failed-before : (old new : S) (stood : ℕ) (had : Bool) (error : Error) → tells new ≡ tells old → steady new ≡ steady old → faults new ≡ faults old →
-      content new ≡ content old → place new ≡ stood → failed new ≡ true → rest new ≡ nothing → had ≡ true →
-      ComesBack tells steady failed content place rest faults old new stood had error error
-  failed-before old new stood had error same_tells same_steady same_faults same_content stands fails gone had_failed = record {
-    same_tells = same_tells;
-    same_steady = same_steady;
-    no_fewer_faults = omega (arith, same_faults);
+  -- a reader that had failed, or an error that doesn't refuse a seek
+  pub stays-failed : (old new : R) (stood : ℕ) (had : Bool) (error : Error) → SameReader read old new → read.place new ≡ stood → failed new ≡ true →
+      read.rest new ≡ nothing → ((had ≡ true) ⊎ (IsOutside error → ⊥)) → ComesBack read failed old new stood had error error
+  stays-failed old new stood had error same stands fails gone why = record {
+    same = same;
     device = λ no device. absurd (no device);
     patient = λ no interruption. no interruption;
     fails = λ own. fails;
-    unmoved = λ refusal. (refusal, refl, fails ∙ sym had_failed);
+    unmoved = λ refusal. elim why [ inl had_failed ↦ (refusal, refl, fails ∙ sym had_failed) | inr not ↦ absurd (not refusal) ];
     other = λ own. refl;
     gone = λ had. gone;
-    same_content = λ told. same_content;
     stays = λ told. stands;
-    back = λ told is_steady had. absurd (true≢false (sym had_failed ∙ had));
+    back = λ told is_steady fine refusal. elim why [ inl had_failed ↦ absurd (true≢false (sym had_failed ∙ fine)) | inr not ↦ absurd (not refusal) ];
     cause = λ told well refusal other quiet. refusal;
   }
 
-  pub failed-now : (old new : S) (stood : ℕ) (had : Bool) (error : Error) → tells new ≡ tells old → steady new ≡ steady old → faults new ≡ faults old →
-      content new ≡ content old → place new ≡ stood → failed new ≡ true → rest new ≡ nothing → (IsOutside error → ⊥) →
-      ComesBack tells steady failed content place rest faults old new stood had error error
-  failed-now old new stood had error same_tells same_steady same_faults same_content stands fails gone not = record {
-    same_tells = same_tells;
-    same_steady = same_steady;
-    no_fewer_faults = omega (arith, same_faults);
-    device = λ no device. absurd (no device);
-    patient = λ no interruption. no interruption;
-    fails = λ own. fails;
-    unmoved = λ refusal. absurd (not refusal);
-    other = λ own. refl;
-    gone = λ had. gone;
-    same_content = λ told. same_content;
-    stays = λ told. stands;
-    back = λ told is_steady had refusal. absurd (not refusal);
-    cause = λ told well refusal other quiet. refusal;
-  }
-
-  pub came : (old new : S) (stood : ℕ) (had : Bool) (error : Error) (n : ℕ) → Goes tells steady content faults old new (Ok n) → failed new ≡ false →
-      (IsTrue (tells old) → place new ≡ stood) → (IsTrue (tells old) → IsTrue (steady old) → rest new ≡ from_place stood (content old)) →
-      had ≡ false → IsOutside error → ComesBack tells steady failed content place rest faults old new stood had error error
-  came old new stood had error n goes good stands back good_before is = record {
-    same_tells = goes.same_tells;
-    same_steady = goes.same_steady;
-    no_fewer_faults = goes.no_fewer_faults;
+  pub came : (old new : R) (stood : ℕ) (had : Bool) (error : Error) → SameReader read old new → failed new ≡ false →
+      (IsTrue (read.tells old) → read.place new ≡ stood) → (IsTrue (read.tells old) → IsTrue (read.steady old) → read.rest new ≡ from_place stood (read.content old)) →
+      had ≡ false → IsOutside error → ComesBack read failed old new stood had error error
+  came old new stood had error same good stands back good_before is = record {
+    same = same;
     device = λ no device. absurd (no device);
     patient = λ no interruption. no interruption;
     fails = λ own. absurd (own is);
     unmoved = λ refusal. (refusal, refl, good ∙ sym good_before);
     other = λ own. refl;
     gone = λ had_failed. absurd (true≢false (sym had_failed ∙ good_before));
-    same_content = goes.same_content;
     stays = stands;
     back = λ told is_steady had refusal. back told is_steady;
     cause = λ told well refusal other quiet. refusal;
   }
 
-  pub lost : (old middle new : S) (stood : ℕ) (had : Bool) (error e answer : Error) → Goes {A = ℕ} tells steady content faults old middle (Err e) →
-      tells new ≡ tells middle → steady new ≡ steady middle → faults new ≡ faults middle → content new ≡ content middle →
-      place new ≡ stood → failed new ≡ true → rest new ≡ nothing → IsOutside error →
-      (IsOutside answer → ⊥) → ((IsOutside e → ⊥) → answer ≡ e) → (answer ≢ Failed → answer ≡ e) →
-      (IsTrue (tells old) → IsTrue (content old).ends_well → answer ≢ OutOfMemory → IsQuiet (faults old) (faults middle) → ⊥) →
-      ComesBack tells steady failed content place rest faults old new stood had error answer
-  lost old middle new stood had error e answer goes same_tells same_steady same_faults same_content stands fails gone is own same kept never =
-      let first = goes.no_fewer_faults in
+  pub lost : (old middle new : R) (stood : ℕ) (had : Bool) (error e answer : Error) → Goes {A = ℕ} read old middle (Err e) → SameReader read middle new →
+      read.place new ≡ stood → failed new ≡ true → read.rest new ≡ nothing → IsOutside error →
+      (IsOutside answer → ⊥) → (answer ≢ Failed → answer ≡ e) →
+      (IsTrue (read.tells old) → IsTrue (read.content old).ends_well → answer ≢ OutOfMemory → IsQuiet (read.faults old) (read.faults middle) → ⊥) →
+      ComesBack read failed old new stood had error answer
+  lost old middle new stood had error e answer goes same stands fails gone is own kept never =
+      let keeps = (goes-unrefused read {T = ℕ} {U = ℕ} old middle e answer kept goes).keeps in
       record {
-        same_tells = same_tells ∙ goes.same_tells;
-        same_steady = same_steady ∙ goes.same_steady;
-        no_fewer_faults = omega (arith, same_faults, first);
-        device = λ no device.
-            let made : answer ≡ e = kept (λ failed_one. rw failed_one at device) in
-            let rose = goes.device (subst IsDevice made device) in
-            omega (arith, same_faults, rose);
-        patient = λ no interruption.
-            let made : answer ≡ e = kept (λ failed_one. rw failed_one at interruption) in
-            goes.patient (subst IsInterruption made interruption);
+        same = same-later read old middle new keeps.same same;
+        device = λ no device. omega (arith, same.faults, keeps.device device);
+        patient = λ no interruption. keeps.patient interruption;
         fails = λ other. fails;
         unmoved = λ refusal. absurd (own refusal);
         other = λ not. absurd (not is);
         gone = λ had_failed. gone;
-        same_content = λ told. same_content ∙ goes.same_content told;
         stays = λ told. stands;
         back = λ told is_steady fine refusal. absurd (own refusal);
-        cause = λ told well refusal other quiet. absurd (never told well other (quiet-first (faults old) (faults middle) (faults new) first (omega (arith, same_faults)) quiet));
+        cause = λ told well refusal other quiet. absurd (never told well other (quiet-first _ _ _ keeps.same.faults same.faults quiet));
       }
 
-  pub too-long : (old new : S) (to : SeekFrom) (ends_well : Bool) (ending : Ending) → tells new ≡ tells old → steady new ≡ steady old → faults new ≡ faults old →
-      failed new ≡ true → (IsTrue (tells old) → ⊥) → SeeksText tells steady failed content place rest faults old new to ends_well ending (Err TooLong)
-  too-long old new to ends_well ending same_tells same_steady same_faults fails untold = record {
-    seeks = record {
-      same_tells = same_tells;
-      same_steady = same_steady;
-      no_fewer_faults = omega (arith, same_faults);
-      device = λ device. absurd device;
-      unspent = tt;
-      same_content = λ told. absurd (untold told);
-      arrives = λ told. tt;
-      leads = λ told. tt;
-      stays = λ told. absurd (untold told);
-      interrupted = λ told. absurd (untold told);
-      moves = λ told steady. tt;
-      kept = λ told. absurd (untold told);
-      refused = λ told. absurd (untold told);
-      cause = λ told. absurd (untold told);
-    };
+  pub too-long : (old new : R) (to : SeekFrom) (ends_well : Bool) (ending : Ending) → SameReader read old new →
+      failed new ≡ true → (IsTrue (read.tells old) → ⊥) → SeeksText read failed old new to ends_well ending (Err TooLong)
+  too-long old new to ends_well ending same fails untold = record {
+    seeks = seeks-refused old new to TooLong (keeps-refused read old new TooLong same (λ device. device))
+        (λ told. absurd (untold told)) (λ told. absurd (untold told)) (λ told. absurd (untold told)) (λ told. absurd (untold told));
     patient = λ interruption. interruption;
     good = tt;
     unmoved = λ refusal. absurd refusal;
@@ -314,25 +266,12 @@ module _ {S : Type 0} (tells steady failed : S → Bool) (content : S → Stretc
     early = λ told. absurd (untold told);
   }
 
-  pub too-early : (old : S) (d : ℤ) (ends_well : Bool) (ending : Ending) → place_at (place old) d ≡ None →
-      SeeksText tells steady failed content place rest faults old old (Current d) ends_well ending (Err BeforeStart)
+  pub too-early : (old : R) (d : ℤ) (ends_well : Bool) (ending : Ending) → place_at (read.place old) d ≡ None →
+      SeeksText read failed old old (Current d) ends_well ending (Err BeforeStart)
   too-early old d ends_well ending none = record {
-    seeks = record {
-      same_tells = refl;
-      same_steady = refl;
-      no_fewer_faults = omega arith;
-      device = λ device. absurd device;
-      unspent = tt;
-      same_content = λ told. refl;
-      arrives = λ told. tt;
-      leads = λ told. tt;
-      stays = λ told. refl;
-      interrupted = λ told interruption. absurd interruption;
-      moves = λ told steady. tt;
-      kept = λ told is_steady stands refusal. refl;
-      refused = λ told well refusal. ap (λ o. moved_to o (length (content old).bytes)) none;
-      cause = λ told well other quiet. tt;
-    };
+    seeks = seeks-refused old old (Current d) BeforeStart (keeps-refused read old old BeforeStart (same-self read old) (λ device. device))
+        (λ told. refl) (λ told is_steady stands refusal. refl) (λ told well refusal. ap (λ o. moved_to o (length (read.content old).bytes)) none)
+        (λ told well other quiet. tt);
     patient = λ interruption. interruption;
     good = tt;
     unmoved = λ refusal. refl;
@@ -341,13 +280,13 @@ module _ {S : Type 0} (tells steady failed : S → Bool) (content : S → Stretc
     early = λ told is_steady badly refusal. (refl, none);
   }
 
-  pub counted-on : (old new : S) (d : ℤ) (t : ℕ) (ends_well : Bool) (ending : Ending) (r : Result ℕ Error) → place_at (place old) d ≡ Some t →
-      SeeksText tells steady failed content place rest faults old new (Start t) ends_well ending r →
-      SeeksText tells steady failed content place rest faults old new (Current d) ends_well ending r
+  pub counted-on : (old new : R) (d : ℤ) (t : ℕ) (ends_well : Bool) (ending : Ending) (r : Result ℕ Error) → place_at (read.place old) d ≡ Some t →
+      SeeksText read failed old new (Start t) ends_well ending r →
+      SeeksText read failed old new (Current d) ends_well ending r
   counted-on old new d t ends_well ending r is text =
       let seeks = text.seeks in
-      let len = length (content old).bytes in
-      let same : sought (Start t) (place old) len ≡ sought (Current d) (place old) len = ap (λ o. moved_to o len) (sym is) in
+      let len = length (read.content old).bytes in
+      let same : sought (Start t) (read.place old) len ≡ sought (Current d) (read.place old) len = ap (λ o. moved_to o len) (sym is) in
       record {
         seeks = record {
           same_tells = seeks.same_tells;

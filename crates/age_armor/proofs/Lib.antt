@@ -19,6 +19,7 @@ pub mod Staging
 pub mod ReaderSteps
 pub mod Walking
 pub mod OwnEndings
+pub mod Keeping
 pub mod Aiming
 pub mod Forms
 pub mod Flushing

@@ -1,26 +1,19 @@
 -- A reader of which bytes are taken and counted.
-use Rattle.std.specs.Prelude.{◌≡◌, ℕ, ◌-◌, ◌≤◌, ◌<◌, Bool, true, ◌||◌, IsTrue, List, ◌∷◌, length, Result, IfErr, OnOk}
+use Rattle.std.specs.Prelude.{◌≡◌, ℕ, ◌-◌, ◌≤◌, ◌<◌, Bool, true, ◌||◌, IsTrue, List, ◌∷◌, length, Result, OnOk}
 use Rattle.age_io.specs.Stretch.{Stretch, IsCleanEnd}
 use Rattle.age_io.specs.Reading.{most_faults}
-use Rattle.age_error.specs.Refusals.{IsDevice, IsInterruption}
+use Rattle.age_io.specs.Keeping.{KeepsReader}
+use Rattle.age_io.specs.declared.traits.Read.{Ghosts}
 use Rattle.age_error.specs.declared.io.Error.{Error}
 use Rattle.age_armor.specs.LineVerdict.{last_is}
 use Rattle.age_armor.specs.Delivered.{raw_lines, section, ends, InnerFault}
 
 -- the reader is the same but for where it stands, and what stands before the bytes that were taken is as much as before
-pub record Kept {S A : Type 0} (tells steady : S → Bool) (content : S → Stretch) (place : S → ℕ) (faults : S → ℕ)
-    (old : S) (old_taken : ℕ) (new : S) (new_taken : ℕ) (result : Result A Error) : Type 0 where
-  -- of every reader
-  pub same_tells : tells new ≡ tells old
-  pub same_steady : steady new ≡ steady old
-  pub no_fewer_faults : faults old ≤ faults new
-  pub device : IfErr result (λ e. IsDevice e → faults old < faults new)
-  pub unspent : OnOk result (faults new < most_faults)
-  pub patient : IfErr result (λ e. IsInterruption e → ⊥)
-  -- of a reader that tells its bytes
-  pub same_content : IsTrue (tells old) → content new ≡ content old
-  pub origin : IsTrue (tells old) → place new - new_taken ≡ place old - old_taken
-  pub more : IsTrue (tells old) → old_taken ≤ new_taken
+pub record Kept {R A : Type 0} (read : Ghosts R) (old : R) (old_taken : ℕ) (new : R) (new_taken : ℕ) (result : Result A Error) : Type 0 where
+  pub keeps : KeepsReader read old new result
+  pub unspent : OnOk result (read.faults new < most_faults)
+  pub origin : IsTrue (read.tells old) → read.place new - new_taken ≡ read.place old - old_taken
+  pub more : IsTrue (read.tells old) → old_taken ≤ new_taken
 
 -- a line was taken: the first of what was left, empty only at a clean end
 pub record TakesLine (line : List ℕ) (old new : Stretch) : Type 0 where

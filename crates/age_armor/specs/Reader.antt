@@ -53,6 +53,17 @@ module _ {R : Type 0} {buf : buffered.Ghosts R} {read : readers.Ghosts R} where
   abbrev pub armored_rest : ArmoredReader R buf read → Stretch
   armored_rest r = rest_ahead r.failed r.bytes r.given r.filled r.stage (read.rest r.source.inner)
 
+  -- all of them
+  abbrev pub armored_reader : readers.Ghosts (ArmoredReader R buf read)
+  armored_reader = record {
+    tells = λ r. read.tells r.source.inner;
+    steady = λ r. read.steady r.source.inner;
+    content = armored_content;
+    place = place_of;
+    rest = armored_rest;
+    faults = λ r. read.faults r.source.inner;
+  }
+
   -- what it shows: the rest of the line that it holds
   abbrev pub shown_of : ArmoredReader R buf read → List ℕ
   shown_of r = shown_ahead r.failed r.bytes r.given r.filled

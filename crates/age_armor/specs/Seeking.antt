@@ -1,7 +1,9 @@
 -- What seeks in armor do.
-use Rattle.std.specs.Prelude.{◌≡◌, ◌≢◌, ℕ, ◌<◌, ◌≤◌, Bool, false, IsTrue, length, drop, Some, None, Result, Err, IfErr, OnOk, ⊤}
+use Rattle.std.specs.Prelude.{◌≡◌, ◌≢◌, ℕ, ◌<◌, Bool, false, IsTrue, length, drop, Some, None, Result, Err, IfErr, OnOk, ⊤}
 use Rattle.age_io.specs.Stretch.{Stretch, nothing, from_place}
 use Rattle.age_io.specs.Reading.{IsQuiet, most_faults}
+use Rattle.age_io.specs.declared.traits.Read.{Ghosts}
+use Rattle.age_io.specs.Keeping.{SameReader, KeepsReader}
 use Rattle.age_io.specs.Cursor.{Seeks, IsOutside, place_at, sought}
 use Rattle.age_error.specs.Refusals.{IsDevice, IsInterruption}
 use Rattle.age_error.specs.declared.io.Error.{Error}
@@ -12,16 +14,9 @@ use Rattle.age_armor.specs.Delivered.{Outcome, Ending, delivered}
 use Rattle.age_armor.specs.Stages.{IsNamed}
 
 -- the reader is the same but for where it stands
-pub record Goes {S A : Type 0} (tells steady : S → Bool) (content : S → Stretch) (faults : S → ℕ) (old new : S) (result : Result A Error) : Type 0 where
-  -- of every reader
-  pub same_tells : tells new ≡ tells old
-  pub same_steady : steady new ≡ steady old
-  pub no_fewer_faults : faults old ≤ faults new
-  pub device : IfErr result (λ e. IsDevice e → faults old < faults new)
-  pub unspent : OnOk result (faults new < most_faults)
-  pub patient : IfErr result (λ e. IsInterruption e → ⊥)
-  -- of a reader that tells its bytes
-  pub same_content : IsTrue (tells old) → content new ≡ content old
+pub record Goes {R A : Type 0} (read : Ghosts R) (old new : R) (result : Result A Error) : Type 0 where
+  pub keeps : KeepsReader read old new result
+  pub unspent : OnOk result (read.faults new < most_faults)
 
 -- what a text delivers that begins here in the content of the reader that gives it, and how it ends
 abbrev pub text_outcome : Stretch → ℕ → Outcome
@@ -46,43 +41,39 @@ IsFromEnd (End d) = ⊤
 IsFromEnd (Current d) = ⊥
 
 -- What a seek in a text does. The bool says whether the reader that gives the text ends well, the ending how the text does.
-pub record SeeksText {S : Type 0} (tells steady failed : S → Bool) (content : S → Stretch) (place : S → ℕ) (rest : S → Stretch) (faults : S → ℕ)
-    (old new : S) (to : SeekFrom) (ends_well : Bool) (ending : Ending) (result : Result ℕ Error) : Type 0 where
-  pub seeks : Seeks tells steady content place rest faults old new to result
+pub record SeeksText {R : Type 0} (read : Ghosts R) (failed : R → Bool) (old new : R) (to : SeekFrom) (ends_well : Bool) (ending : Ending)
+    (result : Result ℕ Error) : Type 0 where
+  pub seeks : Seeks read.tells read.steady read.content read.place read.rest read.faults old new to result
   pub patient : IfErr result (λ e. IsInterruption e → ⊥)
   pub good : OnOk result (failed new ≡ false)
   pub unmoved : IfErr result (λ e. IsOutside e → failed new ≡ failed old)
   pub fails : IfErr result (λ e. (IsOutside e → ⊥) → IsTrue (failed new))
-  pub named : IsTrue (tells old) → IsTrue ends_well → IfErr result (λ e. (IsOutside e → ⊥) → e ≢ OutOfMemory → IsQuiet (faults old) (faults new) →
-      IsNamed ending e × AsksPast to (place old) (length (content old).bytes))
-  pub early : IsTrue (tells old) → IsTrue (steady old) → (content old).ends_well ≡ false →
-      IfErr result (λ e. IsOutside e → (e ≡ BeforeStart) × IsEarly to (place old))
+  pub named : IsTrue (read.tells old) → IsTrue ends_well →
+      IfErr result (λ e. (IsOutside e → ⊥) → e ≢ OutOfMemory → IsQuiet (read.faults old) (read.faults new) →
+      IsNamed ending e × AsksPast to (read.place old) (length (read.content old).bytes))
+  pub early : IsTrue (read.tells old) → IsTrue (read.steady old) → (read.content old).ends_well ≡ false →
+      IfErr result (λ e. IsOutside e → (e ≡ BeforeStart) × IsEarly to (read.place old))
 
 -- what a seek in a text says of its error, before the reader is brought back to where it stood
-pub record Misses {S : Type 0} (tells steady : S → Bool) (content : S → Stretch) (place : S → ℕ) (faults : S → ℕ)
-    (old new : S) (to : SeekFrom) (ends_well : Bool) (ending : Ending) (error : Error) : Type 0 where
-  pub goes : Goes {A = ℕ} tells steady content faults old new (Err error)
-  pub refused : IsTrue (tells old) → IsTrue (steady old) → IsOutside error →
-      IsTrue (content old).ends_well × (sought to (place old) (length (content old).bytes) ≡ Err error)
-  pub named : IsTrue (tells old) → IsTrue ends_well → (IsOutside error → ⊥) → error ≢ OutOfMemory → IsQuiet (faults old) (faults new) →
-      IsNamed ending error × AsksPast to (place old) (length (content old).bytes)
+pub record Misses {R : Type 0} (read : Ghosts R) (old new : R) (to : SeekFrom) (ends_well : Bool) (ending : Ending) (error : Error) : Type 0 where
+  pub goes : Goes {A = ℕ} read old new (Err error)
+  pub refused : IsTrue (read.tells old) → IsTrue (read.steady old) → IsOutside error →
+      IsTrue (read.content old).ends_well × (sought to (read.place old) (length (read.content old).bytes) ≡ Err error)
+  pub named : IsTrue (read.tells old) → IsTrue ends_well → (IsOutside error → ⊥) → error ≢ OutOfMemory →
+      IsQuiet (read.faults old) (read.faults new) → IsNamed ending error × AsksPast to (read.place old) (length (read.content old).bytes)
 
 -- A reader is brought back to this place after an error that refuses a seek. After any other, or where it had failed, it has failed.
-pub record ComesBack {S : Type 0} (tells steady failed : S → Bool) (content : S → Stretch) (place : S → ℕ) (rest : S → Stretch) (faults : S → ℕ)
-    (old new : S) (stood : ℕ) (had_failed : Bool) (error answer : Error) : Type 0 where
+pub record ComesBack {R : Type 0} (read : Ghosts R) (failed : R → Bool) (old new : R) (stood : ℕ) (had_failed : Bool) (error answer : Error) : Type 0 where
   -- of every reader
-  pub same_tells : tells new ≡ tells old
-  pub same_steady : steady new ≡ steady old
-  pub no_fewer_faults : faults old ≤ faults new
-  pub device : (IsDevice error → ⊥) → IsDevice answer → faults old < faults new
+  pub same : SameReader read old new
+  pub device : (IsDevice error → ⊥) → IsDevice answer → read.faults old < read.faults new
   pub patient : (IsInterruption error → ⊥) → IsInterruption answer → ⊥
   pub fails : (IsOutside answer → ⊥) → IsTrue (failed new)
   pub unmoved : IsOutside answer → IsOutside error × (answer ≡ error) × (failed new ≡ had_failed)
   pub other : (IsOutside error → ⊥) → answer ≡ error
-  pub gone : IsTrue had_failed → rest new ≡ nothing
+  pub gone : IsTrue had_failed → read.rest new ≡ nothing
   -- of a reader that tells its bytes
-  pub same_content : IsTrue (tells old) → content new ≡ content old
-  pub stays : IsTrue (tells old) → place new ≡ stood
-  pub back : IsTrue (tells old) → IsTrue (steady old) → had_failed ≡ false → IsOutside answer → rest new ≡ from_place stood (content old)
-  pub cause : IsTrue (tells old) → IsTrue (content old).ends_well → IsOutside error → answer ≢ OutOfMemory → IsQuiet (faults old) (faults new) →
-      IsOutside answer
+  pub stays : IsTrue (read.tells old) → read.place new ≡ stood
+  pub back : IsTrue (read.tells old) → IsTrue (read.steady old) → had_failed ≡ false → IsOutside answer → read.rest new ≡ from_place stood (read.content old)
+  pub cause : IsTrue (read.tells old) → IsTrue (read.content old).ends_well → IsOutside error → answer ≢ OutOfMemory →
+      IsQuiet (read.faults old) (read.faults new) → IsOutside answer

@@ -1,11 +1,13 @@
 -- What is done with the bytes that a reader shows.
-use Rattle.std.specs.Prelude.{◌≡◌, ◌≢◌, ℕ, ◌+◌, ◌-◌, ◌*◌, ◌≤◌, ◌<◌, Bool, IsTrue, List, ◌++◌, length, take, drop, Result, IfErr, OnOk, OnErr}
+use Rattle.std.specs.Prelude.{◌≡◌, ◌≢◌, ℕ, ◌+◌, ◌-◌, ◌*◌, ◌≤◌, ◌<◌, IsTrue, List, ◌++◌, length, take, drop, Result, IfErr, OnOk, OnErr}
 use Rattle.age_error.specs.Bytes.{AreBytes}
 use Rattle.age_error.specs.Refusals.{IsDevice, IsInterruption}
 use Rattle.age_error.specs.declared.io.Error.{Error}
 use Rattle.age_error.specs.declared.io.Error.TheVariants.{OutOfMemory}
 use Rattle.age_io.specs.Stretch.{Stretch, IsCleanEnd, IsFault}
 use Rattle.age_io.specs.Reading.{IsQuiet, Delivers, most_faults}
+use Rattle.age_io.specs.Keeping.{SameReader}
+use Rattle.age_io.specs.declared.traits.Read.{Ghosts}
 use Rattle.age_base64.specs.Lines.{line, Lacks}
 use Rattle.age_base64.specs.Base64.{padded_columns}
 use Rattle.age_armor.specs.FullLines.{full_lines}
@@ -13,19 +15,15 @@ use Rattle.age_armor.specs.declared.showing.Run.{Run}
 use Rattle.age_armor.specs.declared.showing.Run.TheVariants.{Nothing, Open, Ended}
 
 -- A call that asks the reader for bytes. Where it refuses nothing was taken.
-pub record Asks {S A : Type 0} (tells steady : S → Bool) (content : S → Stretch) (place : S → ℕ) (rest : S → Stretch) (faults : S → ℕ)
-    (old new : S) (result : Result A Error) : Type 0 where
+pub record Asks {R A : Type 0} (read : Ghosts R) (old new : R) (result : Result A Error) : Type 0 where
   -- of every reader
-  pub same_tells : tells new ≡ tells old
-  pub same_steady : steady new ≡ steady old
-  pub no_fewer_faults : faults old ≤ faults new
-  pub device : IfErr result (λ e. IsDevice e → faults old < faults new)
-  pub unspent : OnOk result (faults new < most_faults)
+  pub same : SameReader read old new
+  pub device : IfErr result (λ e. IsDevice e → read.faults old < read.faults new)
+  pub unspent : OnOk result (read.faults new < most_faults)
   -- of a reader that tells its bytes
-  pub same_content : IsTrue (tells old) → content new ≡ content old
-  pub stays : IsTrue (tells old) → OnErr result (place new ≡ place old)
-  pub interrupted : IsTrue (tells old) → IfErr result (λ e. IsInterruption e → rest new ≡ rest old)
-  pub cause : IsTrue (tells old) → IfErr result (λ e. e ≢ OutOfMemory → IsQuiet (faults old) (faults new) → IsFault (rest old))
+  pub stays : IsTrue (read.tells old) → OnErr result (read.place new ≡ read.place old)
+  pub interrupted : IsTrue (read.tells old) → IfErr result (λ e. IsInterruption e → read.rest new ≡ read.rest old)
+  pub cause : IsTrue (read.tells old) → IfErr result (λ e. e ≢ OutOfMemory → IsQuiet (read.faults old) (read.faults new) → IsFault (read.rest old))
 
 -- a line of 64 columns that stands for these 48 bytes was taken
 pub record TakesFull (bytes : List ℕ) (old new : Stretch) : Type 0 where

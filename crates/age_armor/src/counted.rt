@@ -13,7 +13,7 @@ use crate::encoding::{LINE, LINE_TEXT};
 use crate::showing::{Run, look, show_lines, take_run};
 use age_error::bytes::known_bytes;
 use age_error::io::{ArmoredReadError, Error};
-use age_io::{BufRead, fill, read_retrying};
+use age_io::{BufRead, Read, fill, read_retrying};
 
 /// A reader of a text, and how many bytes were taken from it.
 #[derive(Drop)]
@@ -59,7 +59,7 @@ impl<R: BufRead> Counted<R> {
     /// Whether nothing is left but a clean end.
     #[tactic(auto, using(crate::proofs::AheadLines::ahead_none))]
     pub(crate) fn is_at_end(&mut self) -> Result<bool, Error>
-        ensures kept { Kept R.Read.tells R.Read.steady R.Read.content R.Read.place R.Read.faults self.old.inner self.old.taken self.new.inner self.new.taken result }
+        ensures kept { Kept ⟦<R as Read>⟧ self.old.inner self.old.taken self.new.inner self.new.taken result }
         ensures taken { self.new.taken ≡ self.old.taken }
         ensures same { IsTrue (R.Read.tells self.old.inner) → OnOk result (R.Read.rest self.new.inner ≡ R.Read.rest self.old.inner) }
         ensures some { IsTrue (R.Read.tells self.old.inner) → IfOk result (λ is. is ≡ false → 0 < length (R.Read.rest self.old.inner).bytes) }
@@ -75,7 +75,7 @@ impl<R: BufRead> Counted<R> {
     #[tactic(auto, using(crate::proofs::AheadLines::ahead_none))]
     pub(crate) fn read(&mut self, buf: &mut [u8]) -> Result<usize, Error>
         requires { 0 < length buf.old }
-        ensures kept { Kept R.Read.tells R.Read.steady R.Read.content R.Read.place R.Read.faults self.old.inner self.old.taken self.new.inner self.new.taken result }
+        ensures kept { Kept ⟦<R as Read>⟧ self.old.inner self.old.taken self.new.inner self.new.taken result }
         ensures count { IfOk result (λ n. n ≤ length buf.new) }
         ensures taken { IsTrue (R.Read.tells self.old.inner) → IfOk result (λ n. self.new.taken ≡ self.old.taken + n) }
         ensures bytes { IsTrue (R.Read.tells self.old.inner) → IfOk result (λ n. Delivers (take n buf.new) (R.Read.rest self.old.inner) (R.Read.rest self.new.inner)) }
@@ -97,7 +97,7 @@ impl<R: BufRead> Counted<R> {
     #[tactic(auto, using(crate::proofs::AheadLines::ahead_none))]
     pub(crate) fn take_front(&mut self, front: &mut [u8]) -> Result<bool, Error>
         requires { 0 < length front.old }
-        ensures kept { Kept R.Read.tells R.Read.steady R.Read.content R.Read.place R.Read.faults self.old.inner self.old.taken self.new.inner self.new.taken result }
+        ensures kept { Kept ⟦<R as Read>⟧ self.old.inner self.old.taken self.new.inner self.new.taken result }
         ensures taken { IsTrue (R.Read.tells self.old.inner) → IfOk result (λ whole. IsTrue whole → self.new.taken ≡ self.old.taken + length front.new) }
         ensures bytes { IsTrue (R.Read.tells self.old.inner) → IfOk result (λ whole. IsTrue whole → Delivers front.new (R.Read.rest self.old.inner) (R.Read.rest self.new.inner)) }
         ensures few { IsTrue (R.Read.tells self.old.inner) → IfOk result (λ whole. whole ≡ false → IsFew (length front.new) true (R.Read.rest self.old.inner)) }
@@ -117,7 +117,7 @@ impl<R: BufRead> Counted<R> {
     // Decodes the lines that are shown, where none is left. It takes nothing.
     #[tactic(auto, using(crate::proofs::AheadLines::ahead_none))]
     fn look_ahead(&mut self, decoder: &Decoder) -> Result<(), Error>
-        ensures kept { Kept R.Read.tells R.Read.steady R.Read.content R.Read.place R.Read.faults self.old.inner self.old.taken self.new.inner self.new.taken result }
+        ensures kept { Kept ⟦<R as Read>⟧ self.old.inner self.old.taken self.new.inner self.new.taken result }
         ensures same { IsTrue (R.Read.tells self.old.inner) → OnOk result (R.Read.rest self.new.inner ≡ R.Read.rest self.old.inner) }
         ensures taken { self.new.taken ≡ self.old.taken }
         ensures cause { IsTrue (R.Read.tells self.old.inner) → IfErr result (λ e. e ≢ OutOfMemory → IsQuiet (R.Read.faults self.old.inner) (R.Read.faults self.new.inner) →
@@ -141,7 +141,7 @@ impl<R: BufRead> Counted<R> {
     fn take_ahead(&mut self, bytes: &mut [u8; 48]) -> Result<bool, Error>
         requires { 0 < self.old.left }
         ensures ok { result ≡ Ok true }
-        ensures kept { Kept R.Read.tells R.Read.steady R.Read.content R.Read.place R.Read.faults self.old.inner self.old.taken self.new.inner self.new.taken result }
+        ensures kept { Kept ⟦<R as Read>⟧ self.old.inner self.old.taken self.new.inner self.new.taken result }
         ensures full { IsTrue (R.Read.tells self.old.inner) → TakesFull bytes.new (R.Read.rest self.old.inner) (R.Read.rest self.new.inner) }
         ensures taken { IsTrue (R.Read.tells self.old.inner) → self.new.taken ≡ self.old.taken + 65 }
     {
@@ -161,7 +161,7 @@ impl<R: BufRead> Counted<R> {
         decoder: &Decoder,
         bytes: &mut [u8; 48],
     ) -> Result<bool, Error>
-        ensures kept { Kept R.Read.tells R.Read.steady R.Read.content R.Read.place R.Read.faults self.old.inner self.old.taken self.new.inner self.new.taken result }
+        ensures kept { Kept ⟦<R as Read>⟧ self.old.inner self.old.taken self.new.inner self.new.taken result }
         ensures none { IsTrue (R.Read.tells self.old.inner) → IfOk result (λ is. is ≡ false → R.Read.rest self.new.inner ≡ R.Read.rest self.old.inner) }
         ensures full { IsTrue (R.Read.tells self.old.inner) → IfOk result (λ is. IsTrue is → TakesFull bytes.new (R.Read.rest self.old.inner) (R.Read.rest self.new.inner)) }
         ensures taken { IsTrue (R.Read.tells self.old.inner) → IfOk result (λ is. IsTrue is → self.new.taken ≡ self.old.taken + 65) }
@@ -180,7 +180,7 @@ impl<R: BufRead> Counted<R> {
 
     /// Takes a line up to its LF, or to the end, and puts it in `line`. It is empty at a clean end alone.
     pub(crate) fn take_line(&mut self, line: &mut Vec<u8>) -> Result<(), Error>
-        ensures kept { Kept R.Read.tells R.Read.steady R.Read.content R.Read.place R.Read.faults self.old.inner self.old.taken self.new.inner self.new.taken result }
+        ensures kept { Kept ⟦<R as Read>⟧ self.old.inner self.old.taken self.new.inner self.new.taken result }
         ensures taken { IsTrue (R.Read.tells self.old.inner) → OnOk result (self.new.taken ≡ self.old.taken + length line.new.items) }
         ensures line { IsTrue (R.Read.tells self.old.inner) → OnOk result (TakesLine line.new.items (R.Read.rest self.old.inner) (R.Read.rest self.new.inner)) }
         ensures cause { IsTrue (R.Read.tells self.old.inner) → IfErr result (λ e. e ≢ OutOfMemory → IsQuiet (R.Read.faults self.old.inner) (R.Read.faults self.new.inner) →
@@ -205,7 +205,7 @@ impl<R: BufRead> Counted<R> {
 
     /// Takes what follows the end marker's line: white space and then a clean end. `room` is room to read into.
     pub(crate) fn take_trailing(&mut self, room: &mut [u8; 48]) -> Result<(), Error>
-        ensures kept { Kept R.Read.tells R.Read.steady R.Read.content R.Read.place R.Read.faults self.old.inner self.old.taken self.new.inner self.new.taken result }
+        ensures kept { Kept ⟦<R as Read>⟧ self.old.inner self.old.taken self.new.inner self.new.taken result }
         ensures clean { IsTrue (R.Read.tells self.old.inner) → OnOk result (trailing (R.Read.rest self.old.inner).bytes (R.Read.rest self.old.inner).ends_well ≡ Clean) }
         ensures cause { IsTrue (R.Read.tells self.old.inner) → IfErr result (λ e. e ≢ OutOfMemory → IsQuiet (R.Read.faults self.old.inner) (R.Read.faults self.new.inner) →
             IsNamed (trailing (R.Read.rest self.old.inner).bytes (R.Read.rest self.old.inner).ends_well) e) }

@@ -2,7 +2,7 @@
 ghost use Rattle.std.specs.Prelude.{◌≡◌, ◌≢◌, ℕ, ◌+◌, ◌-◌, ◌^◌, ◌≤◌, ◌<◌, Bool, true, false, IsTrue, List, [], ◌++◌, length, take, drop, min, IfOk, IfErr, OnOk, OnErr, IsOk, Ok, Err, Some, codes};
 ghost use Rattle.std.proofs.Common.{arith};
 ghost use Rattle.age_error.specs.Bytes.{AreBytes};
-ghost use Rattle.age_error.specs.Refusals.{IsDevice, IsInterruption};
+ghost use Rattle.age_error.specs.Refusals.{IsInterruption};
 ghost use Rattle.age_error.specs.declared.io.Error.TheVariants.{OutOfMemory, Failed};
 ghost use Rattle.age_io.specs.Stretch.{Stretch, nothing, whole, from_place, IsCleanEnd, IsFault};
 ghost use Rattle.age_io.specs.Reading.{Reads, IsQuiet, Delivers, StandsIn, most_faults};
@@ -148,7 +148,7 @@ impl<R: BufRead> Read for ArmoredReader<R> {
 
 impl<R: BufRead> ArmoredReader<R> {
     ghost use Rattle.age_armor.specs.Reader.{inner_of, has_failed, has_armor, taken_of, text_of, outcome_of, text_outcome_of, armored_content, place_of, armored_rest, shown_of};
-    ghost use Rattle.age_armor.specs.Seeking.{text_outcome};
+    ghost use Rattle.age_armor.specs.Seeking.{Goes, text_outcome};
 
     /// A reader of what the text carries that begins where `inner` stands.
     ///
@@ -259,13 +259,7 @@ impl<R: BufRead> ArmoredReader<R> {
         requires some { 0 < length buf.old }
         requires binary { self.old.stage ≡ Binary }
         requires given { self.old.given ≡ self.old.filled }
-        ensures tells { R.Read.tells self.new.source.inner ≡ R.Read.tells self.old.source.inner }
-        ensures steady { R.Read.steady self.new.source.inner ≡ R.Read.steady self.old.source.inner }
-        ensures faults { R.Read.faults self.old.source.inner ≤ R.Read.faults self.new.source.inner }
-        ensures device { IfErr result (λ e. IsDevice e → R.Read.faults self.old.source.inner < R.Read.faults self.new.source.inner) }
-        ensures unspent { OnOk result (R.Read.faults self.new.source.inner < most_faults) }
-        ensures patient { IfErr result (λ e. IsInterruption e → ⊥) }
-        ensures content { IsTrue (R.Read.tells self.old.source.inner) → armored_content self.new ≡ armored_content self.old }
+        ensures goes { Goes ⟦<ArmoredReader<R> as Read>⟧ self.old self.new result }
         ensures same_text { IsTrue (R.Read.tells self.old.source.inner) → text_of self.new ≡ text_of self.old }
         ensures count { IfOk result (λ n. n ≤ length buf.new) }
         ensures bytes { IsTrue (R.Read.tells self.old.source.inner) → IfOk result (λ n.
@@ -311,13 +305,7 @@ impl<R: BufRead> ArmoredReader<R> {
     #[tactic(auto, using(crate::proofs::Ahead::rest_failed))]
     fn hold(&mut self) -> Result<(), Error>
         requires { self.old.failed ≡ false }
-        ensures tells { R.Read.tells self.new.source.inner ≡ R.Read.tells self.old.source.inner }
-        ensures steady { R.Read.steady self.new.source.inner ≡ R.Read.steady self.old.source.inner }
-        ensures faults { R.Read.faults self.old.source.inner ≤ R.Read.faults self.new.source.inner }
-        ensures device { IfErr result (λ e. IsDevice e → R.Read.faults self.old.source.inner < R.Read.faults self.new.source.inner) }
-        ensures unspent { OnOk result (R.Read.faults self.new.source.inner < most_faults) }
-        ensures patient { IfErr result (λ e. IsInterruption e → ⊥) }
-        ensures content { IsTrue (R.Read.tells self.old.source.inner) → armored_content self.new ≡ armored_content self.old }
+        ensures goes { Goes ⟦<ArmoredReader<R> as Read>⟧ self.old self.new result }
         ensures same_text { IsTrue (R.Read.tells self.old.source.inner) → text_of self.new ≡ text_of self.old }
         ensures place { self.new.place ≡ self.old.place }
         ensures fresh { OnOk result (self.new.failed ≡ false) }

@@ -38,7 +38,7 @@ impl<R: BufRead + Seek> Counted<R> {
     /// Goes back to where nothing had been taken.
     #[tactic(auto, using(crate::proofs::AheadLines::ahead_none))]
     pub(crate) fn rewind(&mut self) -> Result<(), Error>
-        ensures goes { Goes R.Read.tells R.Read.steady R.Read.content R.Read.faults self.old.inner self.new.inner result }
+        ensures goes { Goes ⟦<R as Read>⟧ self.old.inner self.new.inner result }
         ensures start { OnOk result (self.new.taken ≡ 0) }
         ensures stays { OnErr result (self.new.taken ≡ self.old.taken) }
         ensures origin { IsTrue (R.Read.tells self.old.inner) →
@@ -69,7 +69,7 @@ impl<R: BufRead + Seek> ArmoredReader<R> {
 
     // Back to the front of the text.
     fn restart(&mut self) -> Result<(), Error>
-        ensures goes { let reader = ⟦<ArmoredReader<R> as Read>⟧ in Goes reader.tells reader.steady reader.content reader.faults self.old self.new result }
+        ensures goes { Goes ⟦<ArmoredReader<R> as Read>⟧ self.old self.new result }
         ensures front { OnOk result (self.new.place ≡ 0) }
         ensures same_text { IsTrue (R.Read.tells (inner_of self.old)) → text_of self.new ≡ text_of self.old }
         ensures stays { OnErr result (self.new.place ≡ self.old.place) }
@@ -108,7 +108,7 @@ impl<R: BufRead> ArmoredReader<R> {
         requires good { self.old.failed ≡ false }
         requires before { self.old.place ≤ target }
         requires unspent { R.Read.faults (inner_of self.old) < most_faults }
-        ensures goes { let reader = ⟦<ArmoredReader<R> as Read>⟧ in Goes reader.tells reader.steady reader.content reader.faults self.old self.new result }
+        ensures goes { Goes ⟦<ArmoredReader<R> as Read>⟧ self.old self.new result }
         ensures good { OnOk result (self.new.failed ≡ false) }
         ensures fails { OnErr result (self.new.failed ≡ true) }
         ensures there { IsTrue (R.Read.tells (inner_of self.old)) → IfOk result (λ there. IsTrue there → self.new.place ≡ target) }
@@ -144,7 +144,7 @@ impl<R: BufRead + Seek> ArmoredReader<R> {
 
     // Goes to a place from the front of the text.
     fn go_to(&mut self, target: u64) -> Result<u64, Error>
-        ensures goes { let reader = ⟦<ArmoredReader<R> as Read>⟧ in Goes reader.tells reader.steady reader.content reader.faults self.old self.new result }
+        ensures goes { Goes ⟦<ArmoredReader<R> as Read>⟧ self.old self.new result }
         ensures there { IfOk result (λ n. n ≡ target) }
         ensures place { IsTrue (R.Read.tells (inner_of self.old)) → OnOk result (self.new.place ≡ target) }
         ensures good { OnOk result (self.new.failed ≡ false) }
@@ -177,7 +177,7 @@ impl<R: BufRead + Seek> ArmoredReader<R> {
 
     // Goes to a place counted from the end, once the whole text was read. At the end itself it stands then already.
     fn go_from_end(&mut self, distance: i64) -> Result<u64, Error>
-        ensures goes { let reader = ⟦<ArmoredReader<R> as Read>⟧ in Goes reader.tells reader.steady reader.content reader.faults self.old self.new result }
+        ensures goes { Goes ⟦<ArmoredReader<R> as Read>⟧ self.old self.new result }
         ensures well { IsTrue (R.Read.tells (inner_of self.old)) → IsTrue (R.Read.steady (inner_of self.old)) →
             OnOk result (IsTrue (armored_content self.old).ends_well) }
         ensures place { IsTrue (R.Read.tells (inner_of self.old)) → IfOk result (λ n. self.new.place ≡ n) }
@@ -244,8 +244,7 @@ impl<R: BufRead + Seek> ArmoredReader<R> {
     fn come_back(&mut self, place: u64, failed: bool, error: Error) -> Error
         requires fits { IsTrue (R.Read.tells (inner_of self.old)) → place < 2 ^ 63 }
         requires inside { IsTrue (R.Read.tells (inner_of self.old)) → IsTrue (R.Read.steady (inner_of self.old)) → place ≤ length (armored_content self.old).bytes }
-        ensures back { let reader = ⟦<ArmoredReader<R> as Read>⟧ in
-            ComesBack reader.tells reader.steady (λ r. has_failed r) reader.content reader.place reader.rest reader.faults self.old self.new place failed error result }
+        ensures back { ComesBack ⟦<ArmoredReader<R> as Read>⟧ (λ r. has_failed r) self.old self.new place failed error result }
         ensures same_text { IsTrue (R.Read.tells (inner_of self.old)) → text_of self.new ≡ text_of self.old }
         ensures ending { IsTrue (R.Read.tells (inner_of self.old)) → IsTrue (R.Read.steady (inner_of self.old)) → has_failed self.new ≡ false →
             (outcome_of self.new).ending ≡ (text_outcome_of self.old).ending }
@@ -269,8 +268,7 @@ impl<R: BufRead + Seek> ArmoredReader<R> {
 
     // A seek to a place.
     fn seek_to(&mut self, target: u64) -> Result<u64, Error>
-        ensures text { let reader = ⟦<ArmoredReader<R> as Read>⟧ in
-            SeeksText reader.tells reader.steady (λ r. has_failed r) reader.content reader.place reader.rest reader.faults self.old self.new (Start target)
+        ensures text { SeeksText ⟦<ArmoredReader<R> as Read>⟧ (λ r. has_failed r) self.old self.new (Start target)
             (R.Read.content (inner_of self.old)).ends_well (text_outcome_of self.old).ending result }
         ensures same_text { IsTrue (R.Read.tells (inner_of self.old)) → text_of self.new ≡ text_of self.old }
         ensures ending { IsTrue (R.Read.tells (inner_of self.old)) → IsTrue (R.Read.steady (inner_of self.old)) → has_failed self.new ≡ false →
@@ -286,8 +284,7 @@ impl<R: BufRead + Seek> ArmoredReader<R> {
 
     // A seek from the end.
     fn seek_from_end(&mut self, distance: i64) -> Result<u64, Error>
-        ensures text { let reader = ⟦<ArmoredReader<R> as Read>⟧ in
-            SeeksText reader.tells reader.steady (λ r. has_failed r) reader.content reader.place reader.rest reader.faults self.old self.new (End distance)
+        ensures text { SeeksText ⟦<ArmoredReader<R> as Read>⟧ (λ r. has_failed r) self.old self.new (End distance)
             (R.Read.content (inner_of self.old)).ends_well (text_outcome_of self.old).ending result }
         ensures well { IsTrue (R.Read.tells (inner_of self.old)) → IsTrue (R.Read.steady (inner_of self.old)) →
             OnOk result (IsTrue (armored_content self.old).ends_well) }
@@ -305,8 +302,7 @@ impl<R: BufRead + Seek> ArmoredReader<R> {
 
     // A seek from the present place.
     fn seek_by(&mut self, distance: i64) -> Result<u64, Error>
-        ensures text { let reader = ⟦<ArmoredReader<R> as Read>⟧ in
-            SeeksText reader.tells reader.steady (λ r. has_failed r) reader.content reader.place reader.rest reader.faults self.old self.new (Current distance)
+        ensures text { SeeksText ⟦<ArmoredReader<R> as Read>⟧ (λ r. has_failed r) self.old self.new (Current distance)
             (R.Read.content (inner_of self.old)).ends_well (text_outcome_of self.old).ending result }
         ensures same_text { IsTrue (R.Read.tells (inner_of self.old)) → text_of self.new ≡ text_of self.old }
         ensures ending { IsTrue (R.Read.tells (inner_of self.old)) → IsTrue (R.Read.steady (inner_of self.old)) →

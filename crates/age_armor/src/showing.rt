@@ -9,7 +9,7 @@ ghost use Rattle.age_armor.specs.declared.showing.Run.TheVariants.{Open as open_
 use crate::decoding::Decoder;
 use crate::gathering::decode_ahead;
 use age_error::io::{Error, ErrorKind};
-use age_io::{BufRead, retried};
+use age_io::{BufRead, Read, retried};
 
 /// What was taken of a line.
 #[derive(Clone, Copy)]
@@ -23,7 +23,7 @@ pub(crate) enum Run {
 }
 
 fn look_once<B: BufRead>(reader: &mut B) -> Result<bool, Error>
-    ensures asks { Asks B.Read.tells B.Read.steady B.Read.content B.Read.place B.Read.rest B.Read.faults reader.old reader.new result }
+    ensures asks { Asks ⟦<B as Read>⟧ reader.old reader.new result }
     ensures stays { IsTrue (B.Read.tells reader.old) → OnOk result (B.Read.place reader.new ≡ B.Read.place reader.old) }
     ensures same { IsTrue (B.Read.tells reader.old) → OnOk result (B.Read.rest reader.new ≡ B.Read.rest reader.old) }
     ensures some { IsTrue (B.Read.tells reader.old) → IfOk result (λ is. is ≡ false → 0 < length (B.Read.rest reader.old).bytes) }
@@ -35,7 +35,7 @@ fn look_once<B: BufRead>(reader: &mut B) -> Result<bool, Error>
 
 /// Whether nothing is left but a clean end.
 pub(crate) fn look<B: BufRead>(reader: &mut B) -> Result<bool, Error>
-    ensures asks { Asks B.Read.tells B.Read.steady B.Read.content B.Read.place B.Read.rest B.Read.faults reader.old reader.new result }
+    ensures asks { Asks ⟦<B as Read>⟧ reader.old reader.new result }
     ensures patient { IfErr result (λ e. IsInterruption e → ⊥) }
     ensures stays { IsTrue (B.Read.tells reader.old) → OnOk result (B.Read.place reader.new ≡ B.Read.place reader.old) }
     ensures same { IsTrue (B.Read.tells reader.old) → OnOk result (B.Read.rest reader.new ≡ B.Read.rest reader.old) }
@@ -50,7 +50,7 @@ fn show_once<B: BufRead>(
     decoder: &Decoder,
     ahead: &mut [u8; 768],
 ) -> Result<usize, Error>
-    ensures asks { Asks B.Read.tells B.Read.steady B.Read.content B.Read.place B.Read.rest B.Read.faults reader.old reader.new result }
+    ensures asks { Asks ⟦<B as Read>⟧ reader.old reader.new result }
     ensures stays { IsTrue (B.Read.tells reader.old) → OnOk result (B.Read.place reader.new ≡ B.Read.place reader.old) }
     ensures same { IsTrue (B.Read.tells reader.old) → OnOk result (B.Read.rest reader.new ≡ B.Read.rest reader.old) }
     ensures ahead { IfOk result (λ n. IsAhead ahead.new 0 n (B.shown reader.new)) }
@@ -66,7 +66,7 @@ pub(crate) fn show_lines<B: BufRead>(
     decoder: &Decoder,
     ahead: &mut [u8; 768],
 ) -> Result<usize, Error>
-    ensures asks { Asks B.Read.tells B.Read.steady B.Read.content B.Read.place B.Read.rest B.Read.faults reader.old reader.new result }
+    ensures asks { Asks ⟦<B as Read>⟧ reader.old reader.new result }
     ensures patient { IfErr result (λ e. IsInterruption e → ⊥) }
     ensures stays { IsTrue (B.Read.tells reader.old) → OnOk result (B.Read.place reader.new ≡ B.Read.place reader.old) }
     ensures same { IsTrue (B.Read.tells reader.old) → OnOk result (B.Read.rest reader.new ≡ B.Read.rest reader.old) }
@@ -89,7 +89,7 @@ fn line_end(bytes: &[u8]) -> Option<usize>
 }
 
 fn run_once<B: BufRead>(reader: &mut B, line: &mut Vec<u8>) -> Result<Run, Error>
-    ensures asks { Asks B.Read.tells B.Read.steady B.Read.content B.Read.place B.Read.rest B.Read.faults reader.old reader.new result }
+    ensures asks { Asks ⟦<B as Read>⟧ reader.old reader.new result }
     ensures longer { vec_len line.old ≤ vec_len line.new }
     ensures grows { IfOk result (λ run. run ≡ open_run → vec_len line.old < vec_len line.new) }
     ensures kept { OnErr result (line.new.items ≡ line.old.items) }
@@ -119,7 +119,7 @@ fn run_once<B: BufRead>(reader: &mut B, line: &mut Vec<u8>) -> Result<Run, Error
 
 /// Appends what is shown of a line, up to its LF.
 pub(crate) fn take_run<B: BufRead>(reader: &mut B, line: &mut Vec<u8>) -> Result<Run, Error>
-    ensures asks { Asks B.Read.tells B.Read.steady B.Read.content B.Read.place B.Read.rest B.Read.faults reader.old reader.new result }
+    ensures asks { Asks ⟦<B as Read>⟧ reader.old reader.new result }
     ensures patient { IfErr result (λ e. IsInterruption e → ⊥) }
     ensures longer { vec_len line.old ≤ vec_len line.new }
     ensures grows { IfOk result (λ run. run ≡ open_run → vec_len line.old < vec_len line.new) }

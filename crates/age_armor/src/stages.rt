@@ -10,7 +10,7 @@ use crate::counted::Counted;
 use crate::decoding::Decoder;
 use crate::judging::{Judged, judge};
 use age_error::io::{ArmoredReadError, Error};
-use age_io::BufRead;
+use age_io::{BufRead, Read};
 
 /// Where a reader of armor stands.
 #[derive(Clone, Copy)]
@@ -37,7 +37,7 @@ ghost use Rattle.age_armor.specs.declared.stages.Stage.TheVariants.{Start, Binar
 
 /// Reads the first 35 bytes and looks at the next; takes the begin marker's line, where it stands there.
 fn detect<R: BufRead>(source: &mut Counted<R>, bytes: &mut [u8; 48]) -> Result<Piece, Error>
-    ensures kept { Kept R.Read.tells R.Read.steady R.Read.content R.Read.place R.Read.faults source.old.inner source.old.taken source.new.inner source.new.taken result }
+    ensures kept { Kept ⟦<R as Read>⟧ source.old.inner source.old.taken source.new.inner source.new.taken result }
     ensures fits { IfOk result (λ piece. piece.count ≤ 48) }
     ensures taken { IsTrue (R.Read.tells source.old.inner) → IfOk result (λ piece. source.old.taken + piece.count ≤ source.new.taken) }
     ensures bytes { IsTrue (R.Read.tells source.old.inner) → IfOk result (λ piece.
@@ -68,7 +68,7 @@ fn after_front<R: BufRead>(
     bytes: &mut [u8; 48],
 ) -> Result<Piece, Error>
     requires { R.Read.faults source.old.inner < most_faults }
-    ensures kept { Kept R.Read.tells R.Read.steady R.Read.content R.Read.place R.Read.faults source.old.inner source.old.taken source.new.inner source.new.taken result }
+    ensures kept { Kept ⟦<R as Read>⟧ source.old.inner source.old.taken source.new.inner source.new.taken result }
     ensures fits { IfOk result (λ piece. piece.count ≤ 35) }
     ensures found { IfOk result (λ piece. IsFound piece) }
     ensures form { IsTrue (R.Read.tells source.old.inner) → (all : Stretch) → Delivers front.now all (R.Read.rest source.old.inner) →
@@ -120,7 +120,7 @@ fn next_line<R: BufRead>(
     line: &mut Vec<u8>,
     bytes: &mut [u8; 48],
 ) -> Result<Piece, Error>
-    ensures kept { Kept R.Read.tells R.Read.steady R.Read.content R.Read.place R.Read.faults source.old.inner source.old.taken source.new.inner source.new.taken result }
+    ensures kept { Kept ⟦<R as Read>⟧ source.old.inner source.old.taken source.new.inner source.new.taken result }
     ensures fits { IfOk result (λ piece. piece.count ≤ 48) }
     ensures begun { IfOk result (λ piece. is_start piece.next ≡ false) }
     ensures lines { IfOk result (λ piece. is_armored piece.next ≡ true) }
@@ -156,7 +156,7 @@ fn any_line<R: BufRead>(
     line: &mut Vec<u8>,
     bytes: &mut [u8; 48],
 ) -> Result<Piece, Error>
-    ensures kept { Kept R.Read.tells R.Read.steady R.Read.content R.Read.place R.Read.faults source.old.inner source.old.taken source.new.inner source.new.taken result }
+    ensures kept { Kept ⟦<R as Read>⟧ source.old.inner source.old.taken source.new.inner source.new.taken result }
     ensures fits { IfOk result (λ piece. piece.count ≤ 48) }
     ensures begun { IfOk result (λ piece. is_start piece.next ≡ false) }
     ensures lines { IfOk result (λ piece. is_armored piece.next ≡ true) }
@@ -198,7 +198,7 @@ fn first<R: BufRead>(
     line: &mut Vec<u8>,
     bytes: &mut [u8; 48],
 ) -> Result<Piece, Error>
-    ensures kept { Kept R.Read.tells R.Read.steady R.Read.content R.Read.place R.Read.faults source.old.inner source.old.taken source.new.inner source.new.taken result }
+    ensures kept { Kept ⟦<R as Read>⟧ source.old.inner source.old.taken source.new.inner source.new.taken result }
     ensures fits { IfOk result (λ piece. piece.count ≤ 48) }
     ensures begun { IfOk result (λ piece. is_start piece.next ≡ false) }
     ensures form { IsTrue (R.Read.tells source.old.inner) → IfOk result (λ piece. FindsForm (is_armored piece.next) (R.Read.rest source.old.inner).bytes) }
@@ -221,7 +221,7 @@ fn first<R: BufRead>(
 
 // Reads bytes of a binary text.
 fn next_bytes<R: BufRead>(source: &mut Counted<R>, bytes: &mut [u8; 48]) -> Result<Piece, Error>
-    ensures kept { Kept R.Read.tells R.Read.steady R.Read.content R.Read.place R.Read.faults source.old.inner source.old.taken source.new.inner source.new.taken result }
+    ensures kept { Kept ⟦<R as Read>⟧ source.old.inner source.old.taken source.new.inner source.new.taken result }
     ensures fits { IfOk result (λ piece. piece.count ≤ 48) }
     ensures begun { IfOk result (λ piece. is_start piece.next ≡ false) }
     ensures binary { IfOk result (λ piece. is_armored piece.next ≡ false) }
@@ -252,7 +252,7 @@ pub(crate) fn advance<R: BufRead>(
     bytes: &mut [u8; 48],
 ) -> Result<Piece, Error>
     requires { is_ended stage ≡ false }
-    ensures kept { Kept R.Read.tells R.Read.steady R.Read.content R.Read.place R.Read.faults source.old.inner source.old.taken source.new.inner source.new.taken result }
+    ensures kept { Kept ⟦<R as Read>⟧ source.old.inner source.old.taken source.new.inner source.new.taken result }
     ensures fits { IfOk result (λ piece. piece.count ≤ 48) }
     ensures begun { IfOk result (λ piece. is_start piece.next ≡ false) }
     ensures form { IsTrue (R.Read.tells source.old.inner) → is_start stage ≡ true →

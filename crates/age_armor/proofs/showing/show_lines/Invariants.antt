@@ -1,16 +1,6 @@
-use Rattle.std.proofs.Common.{◌≡◌, ◌≤◌, ◌<◌, IsTrue, length}
+use Rattle.std.proofs.Common.{◌≡◌, length}
+use Rattle.age_io.proofs.Retrying.{Interrupted}
 use Rattle.age_armor.proofs.showing.show_lines.Given as goal
 
 abbrev pub invariant-loop-of-retried : goal.invariant-loop-of-retried
-invariant-loop-of-retried g l =
-    let reader = g.B.Read in
-    record {
-      size : length l.ahead ≡ 768;
-      same_tells : reader.tells l.reader ≡ reader.tells l.fn.reader;
-      same_steady : reader.steady l.reader ≡ reader.steady l.fn.reader;
-      no_fewer_faults : reader.faults l.fn.reader ≤ reader.faults l.reader;
-      rose : 0 < l._try → reader.faults l.fn.reader < reader.faults l.reader;
-      same_content : IsTrue (reader.tells l.fn.reader) → reader.content l.reader ≡ reader.content l.fn.reader;
-      same_place : IsTrue (reader.tells l.fn.reader) → reader.place l.reader ≡ reader.place l.fn.reader;
-      same_rest : IsTrue (reader.tells l.fn.reader) → reader.rest l.reader ≡ reader.rest l.fn.reader;
-    }
+invariant-loop-of-retried g l = record { size : length l.ahead ≡ 768; interrupted : Interrupted g.B.Read l.fn.reader l.reader l._try }

@@ -22,20 +22,20 @@ pub returns-in-Ok-take_trailing-clause-bytes : goal.returns-in-Ok-take_trailing-
 returns-in-Ok-take_trailing-clause-bytes g c = λ told.
     advances_none _ _ _ refl (line_ends c.args.after_short c.take_line.new.line.items (g.R.Read.rest c.args.source.now.inner) (g.R.Read.rest c.take_line.new.self.inner)
     (c.in-Ok.ensures.line told) (omega (arith, eqb-false c.take_line.new.line.len 0 (sym c.is_empty.ensures ∙ c.if-is_empty.false))) (rw c.deref.ensures.value at (rw c.in-Ends.is at c.judge.ensures))
-    (c.in-Ok-take_trailing.ensures.clean (c.in-Ok.ensures.kept.same_tells ∙ told)))
+    (c.in-Ok-take_trailing.ensures.clean (c.in-Ok.ensures.kept.keeps.same.tells ∙ told)))
 
 pub returns-in-Ok-take_trailing-clause-end : goal.returns-in-Ok-take_trailing-clause-end
 returns-in-Ok-take_trailing-clause-end g c = λ told none.
     line_ends c.args.after_short c.take_line.new.line.items (g.R.Read.rest c.args.source.now.inner) (g.R.Read.rest c.take_line.new.self.inner)
     (c.in-Ok.ensures.line told) (omega (arith, eqb-false c.take_line.new.line.len 0 (sym c.is_empty.ensures ∙ c.if-is_empty.false))) (rw c.deref.ensures.value at (rw c.in-Ends.is at c.judge.ensures))
-    (c.in-Ok-take_trailing.ensures.clean (c.in-Ok.ensures.kept.same_tells ∙ told))
+    (c.in-Ok-take_trailing.ensures.clean (c.in-Ok.ensures.kept.keeps.same.tells ∙ told))
 
 pub returns-in-Err-take_trailing-clause-cause : goal.returns-in-Err-take_trailing-clause-cause
 returns-in-Err-take_trailing-clause-cause g c = λ told other quiet.
     let now = c.in-Err-take_trailing.ensures in
     line_trails c.args.after_short c.take_line.new.line.items (g.R.Read.rest c.args.source.now.inner) (g.R.Read.rest c.take_line.new.self.inner) _
     (c.in-Ok.ensures.line told) (omega (arith, eqb-false c.take_line.new.line.len 0 (sym c.is_empty.ensures ∙ c.if-is_empty.false))) (rw c.deref.ensures.value at (rw c.in-Ends.is at c.judge.ensures))
-    (now.cause (c.in-Ok.ensures.kept.same_tells ∙ told) other (quiet_after _ _ _ c.in-Ok.ensures.kept.no_fewer_faults now.kept.no_fewer_faults quiet))
+    (now.cause (c.in-Ok.ensures.kept.keeps.same.tells ∙ told) other (quiet_after _ _ _ c.in-Ok.ensures.kept.keeps.same.faults now.kept.keeps.same.faults quiet))
 
 pub returns-in-Holds-clause-taken : goal.returns-in-Holds-clause-taken
 returns-in-Holds-clause-taken g c = λ told.

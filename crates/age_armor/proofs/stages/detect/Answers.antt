@@ -16,37 +16,37 @@ returns-in-Err-clause-cause g c = λ told other quiet.
 pub returns-in-Ok-true-is_at_end-clause-cause : goal.returns-in-Ok-true-is_at_end-clause-cause
 returns-in-Ok-true-is_at_end-clause-cause g c = λ told other quiet.
     let got = c.in-Ok-true.ensures in
-    let mid = got.kept.same_tells ∙ told in
+    let mid = got.kept.keeps.same.tells ∙ told in
     few_clean 36 (g.R.Read.rest c.args.source.now.inner) (omega arith) (few_end c.take_front.new.front _ (g.R.Read.rest c.take_front.new.self.inner) (omega arith)
     (got.bytes told c.in-Ok-true.field-0-test) (c.in-Ok-true-is_at_end.ensures.end mid c.in-Ok-true-is_at_end.field-0-test))
 
 pub returns-in-Err-is_at_end-clause-cause : goal.returns-in-Err-is_at_end-clause-cause
 returns-in-Err-is_at_end-clause-cause g c = λ told other quiet.
     let got = c.in-Ok-true.ensures in
-    let mid = got.kept.same_tells ∙ told in
+    let mid = got.kept.keeps.same.tells ∙ told in
     let now = c.in-Err-is_at_end.ensures in
     few_fault 36 (g.R.Read.rest c.args.source.now.inner) _ (omega arith) (few_bad c.take_front.new.front _ (g.R.Read.rest c.take_front.new.self.inner) (omega arith)
-    (got.bytes told c.in-Ok-true.field-0-test) (now.cause mid other (quiet_after _ _ _ got.kept.no_fewer_faults now.kept.no_fewer_faults quiet)))
+    (got.bytes told c.in-Ok-true.field-0-test) (now.cause mid other (quiet_after _ _ _ got.kept.keeps.same.faults now.kept.keeps.same.faults quiet)))
 
 pub returns-clause-cause : goal.returns-clause-cause
 returns-clause-cause g c = λ told.
     let got = c.in-Ok-true.ensures in
     let now = c.in-Ok-false-is_at_end.ensures in
     let last = c.after_front.ensures in
-    let mid = got.kept.same_tells ∙ told in
+    let mid = got.kept.keeps.same.tells ∙ told in
     let same = now.same mid in
     let d : Delivers c.take_front.new.front (g.R.Read.rest c.args.source.now.inner) (g.R.Read.rest c.is_at_end.new.self.inner) = rw same (got.bytes told c.in-Ok-true.field-0-test) in
     let some : 0 < length (g.R.Read.rest c.is_at_end.new.self.inner).bytes = rw same (now.some mid c.in-Ok-false-is_at_end.field-0-test) in
     IfErr-weaker c.after_front.result _ _ (λ e h other quiet. h other
-    (quiet_after _ _ _ (omega (arith, got.kept.no_fewer_faults, now.kept.no_fewer_faults)) last.kept.no_fewer_faults quiet))
-    (last.cause (now.kept.same_tells ∙ mid) (g.R.Read.rest c.args.source.now.inner) d some)
+    (quiet_after _ _ _ (omega (arith, got.kept.keeps.same.faults, now.kept.keeps.same.faults)) last.kept.keeps.same.faults quiet))
+    (last.cause (now.kept.keeps.same.tells ∙ mid) (g.R.Read.rest c.args.source.now.inner) d some)
 
 pub returns-clause-form : goal.returns-clause-form
 returns-clause-form g c = λ told.
     let got = c.in-Ok-true.ensures in
     let now = c.in-Ok-false-is_at_end.ensures in
-    let mid = got.kept.same_tells ∙ told in
+    let mid = got.kept.keeps.same.tells ∙ told in
     let same = now.same mid in
     let d : Delivers c.take_front.new.front (g.R.Read.rest c.args.source.now.inner) (g.R.Read.rest c.is_at_end.new.self.inner) = rw same (got.bytes told c.in-Ok-true.field-0-test) in
     let some : 0 < length (g.R.Read.rest c.is_at_end.new.self.inner).bytes = rw same (now.some mid c.in-Ok-false-is_at_end.field-0-test) in
-    c.after_front.ensures.form (now.kept.same_tells ∙ mid) (g.R.Read.rest c.args.source.now.inner) d some
+    c.after_front.ensures.form (now.kept.keeps.same.tells ∙ mid) (g.R.Read.rest c.args.source.now.inner) d some

@@ -7,7 +7,7 @@ invariant_of-self g c =
     let before = c.args.self.now in
     let asks = c.in-Err.ensures.asks in
     record {
-      behind = λ told. omega (arith, before.behind (sym asks.same_tells ∙ told), asks.stays (sym asks.same_tells ∙ told));
+      behind = λ told. omega (arith, before.behind (sym asks.same.tells ∙ told), asks.stays (sym asks.same.tells ∙ told));
       size = c.in-Err.ensures.size;
       shows = ahead_none _ _ before.next;
       unspent = λ some. absurd (omega (arith, some));

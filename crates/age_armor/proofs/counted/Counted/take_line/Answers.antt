@@ -11,19 +11,19 @@ returns-in-Err-clause-cause g c = λ told other quiet.
     let loop = c.runs.invariant in
     let asks = c.in-Err.ensures.asks in
     cut_short c.runs.line.items (g.R.Read.rest c.args.self.now.inner) (g.R.Read.rest c.runs.self.inner) (loop.unended told) (loop.so_far told)
-    (asks.cause (loop.same_tells ∙ told) other (quiet_after _ _ _ loop.no_fewer_faults asks.no_fewer_faults quiet))
+    (asks.cause (loop.same.tells ∙ told) other (quiet_after _ _ _ loop.same.faults asks.same.faults quiet))
 
 pub returns-in-Nothing-clause-line : goal.returns-in-Nothing-clause-line
 returns-in-Nothing-clause-line g c = λ told.
     let loop = c.runs.invariant in
     taken_none c.runs.line.items c.take_run-answer.new.line.items (g.R.Read.rest c.args.self.now.inner) (g.R.Read.rest c.runs.self.inner) (g.R.Read.rest c.take_run-answer.new.reader)
-    (loop.unended told) (loop.so_far told) (rw c.in-Nothing.is at (c.in-Ok.ensures.run (loop.same_tells ∙ told)))
+    (loop.unended told) (loop.so_far told) (rw c.in-Nothing.is at (c.in-Ok.ensures.run (loop.same.tells ∙ told)))
 
 pub returns-in-Ended-clause-line : goal.returns-in-Ended-clause-line
 returns-in-Ended-clause-line g c = λ told.
     let loop = c.runs.invariant in
     taken_run c.runs.line.items c.take_run-answer.new.line.items (g.R.Read.rest c.args.self.now.inner) (g.R.Read.rest c.runs.self.inner) (g.R.Read.rest c.take_run-answer.new.reader)
-    (loop.unended told) (loop.so_far told) (rw c.in-Ended.is at (c.in-Ok.ensures.run (loop.same_tells ∙ told)))
+    (loop.unended told) (loop.so_far told) (rw c.in-Ended.is at (c.in-Ok.ensures.run (loop.same.tells ∙ told)))
 
 pub invariant_of-self-clause-shows : goal.invariant_of-self-clause-shows
 invariant_of-self-clause-shows g c = ahead_none _ _ _

@@ -1,6 +1,7 @@
-use Rattle.std.proofs.Common.{◌≡◌, ◌≤◌, ◌-◌, ◌+◌, ◌^◌, IsTrue, vec_len, length}
+use Rattle.std.proofs.Common.{◌≡◌, ◌-◌, ◌+◌, ◌^◌, IsTrue, vec_len, length}
 use Rattle.age_io.specs.Reading.{Delivers}
 use Rattle.age_base64.specs.Lines.{Lacks}
+use Rattle.age_io.specs.Keeping.{SameReader}
 use Rattle.age_armor.proofs.counted.Counted.take_line.Given as goal
 
 abbrev pub invariant-runs : goal.invariant-runs
@@ -8,10 +9,7 @@ invariant-runs g l =
     let reader = g.R.Read in
     record {
       none : l.self.left ≡ 0;
-      same_tells : reader.tells l.self.inner ≡ reader.tells l.fn.self.inner;
-      same_steady : reader.steady l.self.inner ≡ reader.steady l.fn.self.inner;
-      no_fewer_faults : reader.faults l.fn.self.inner ≤ reader.faults l.self.inner;
-      same_content : IsTrue (reader.tells l.fn.self.inner) → reader.content l.self.inner ≡ reader.content l.fn.self.inner;
+      same : SameReader reader l.fn.self.inner l.self.inner;
       origin : IsTrue (reader.tells l.fn.self.inner) → reader.place l.self.inner - l.self.taken ≡ reader.place l.fn.self.inner - l.fn.self.taken;
       count : IsTrue (reader.tells l.fn.self.inner) → l.self.taken ≡ l.fn.self.taken + length l.line.items;
       unended : IsTrue (reader.tells l.fn.self.inner) → Lacks 10 l.line.items;

@@ -1,4 +1,5 @@
 use Rattle.std.proofs.Common.{◌∙◌, take, arith, sym}
+use Rattle.age_io.proofs.Keeping.{same-later}
 use Rattle.age_armor.proofs.Taking.{garbage_taken, spaces_taken}
 use Rattle.age_armor.proofs.counted.Counted.take_trailing.Goals as goal
 
@@ -6,19 +7,16 @@ pub returns-then-not-are_spaces-clause-cause : goal.returns-then-not-are_spaces-
 returns-then-not-are_spaces-clause-cause g c = λ told other quiet.
     let loop = c.loop-count.invariant in
     garbage_taken (take c.in-Ok.count c.read.new.buf) (g.R.Read.rest c.args.self.now.inner) (g.R.Read.rest c.loop-count.self.inner) (g.R.Read.rest c.read.new.self.inner)
-    (sym c.are_spaces.ensures ∙ c.if-not-are_spaces.true) (c.in-Ok.ensures.bytes (loop.same_tells ∙ told)) (loop.so_far told)
+    (sym c.are_spaces.ensures ∙ c.if-not-are_spaces.true) (c.in-Ok.ensures.bytes (loop.same.tells ∙ told)) (loop.so_far told)
 
 pub loop-count-preserved : goal.loop-count-preserved
 loop-count-preserved g c =
     let loop = c.loop-count.invariant in
     let kept = c.in-Ok.ensures.kept in
     record {
-      same_tells = kept.same_tells ∙ loop.same_tells;
-      same_steady = kept.same_steady ∙ loop.same_steady;
-      no_fewer_faults = omega (arith, kept.no_fewer_faults, loop.no_fewer_faults);
-      same_content = λ told. kept.same_content (loop.same_tells ∙ told) ∙ loop.same_content told;
-      origin = λ told. kept.origin (loop.same_tells ∙ told) ∙ loop.origin told;
-      count = λ told. omega (arith, c.in-Ok.ensures.taken (loop.same_tells ∙ told), loop.count told, c.in-Ok.count-test);
+      same = same-later g.R.Read c.args.self.now.inner c.loop-count.self.inner c.read.new.self.inner loop.same kept.keeps.same;
+      origin = λ told. kept.origin (loop.same.tells ∙ told) ∙ loop.origin told;
+      count = λ told. omega (arith, c.in-Ok.ensures.taken (loop.same.tells ∙ told), loop.count told, c.in-Ok.count-test);
       so_far = λ told. spaces_taken (take c.in-Ok.count c.read.new.buf) (g.R.Read.rest c.args.self.now.inner) (g.R.Read.rest c.loop-count.self.inner) (g.R.Read.rest c.read.new.self.inner)
-          (sym c.are_spaces.ensures ∙ c.if-not-are_spaces.false) (c.in-Ok.ensures.bytes (loop.same_tells ∙ told)) (loop.so_far told);
+          (sym c.are_spaces.ensures ∙ c.if-not-are_spaces.false) (c.in-Ok.ensures.bytes (loop.same.tells ∙ told)) (loop.so_far told);
     }

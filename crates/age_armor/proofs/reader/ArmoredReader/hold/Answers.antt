@@ -1,10 +1,10 @@
-use Rattle.std.proofs.Common.{◌≡◌, ◌∙◌, ◌-◌, ◌≤◌, [], arith, length, sym, ap, subst, IsTrue, refl}
+use Rattle.std.proofs.Common.{◌≡◌, ◌∙◌, ◌-◌, ◌≤◌, [], arith, length, sym, ap, subst, IsTrue}
 use Rattle.std.proofs.lemmas.Bool.{true≢false}
 use Rattle.age_io.specs.Reading.{StandsIn}
 use Rattle.age_armor.specs.Ahead.{rest_ahead, shown_ahead}
 use Rattle.age_armor.specs.DeliveredLaws.{content_of, stands_by, stands_follows}
+use Rattle.age_armor.proofs.Keeping.{same-text}
 use Rattle.age_armor.proofs.Ahead.{kept_stands, rest_failed, hold_rest, hold_ending, hold_end, hold_fault, hold_named, ended_clean, shown_none}
-use Rattle.age_io.specs.Stretch.{from_place}
 use Rattle.age_armor.specs.Stages.{is_armored}
 use Rattle.age_armor.proofs.Forms.{form_held, form_kept}
 use Rattle.age_armor.proofs.reader.ArmoredReader.hold.Goals as goal
@@ -30,18 +30,13 @@ invariant_of-self g c =
     let other = content_of (reader.content source.inner) (reader.place source.inner - source.taken) in
     let rest = rest_ahead before.failed before.bytes before.given before.filled before.stage (reader.rest before.source.inner) in
     let new = rest_ahead before.failed bytes 0 piece.count piece.next (reader.rest source.inner) in
-    let told_before : (IsTrue (reader.tells source.inner) → IsTrue (reader.tells before.source.inner)) = λ told. sym now.kept.same_tells ∙ told in
-    let steady_before : (IsTrue (reader.steady source.inner) → IsTrue (reader.steady before.source.inner)) = λ steady. sym now.kept.same_steady ∙ steady in
-    let same : (IsTrue (reader.tells source.inner) → other ≡ content) = λ told. rw (now.kept.same_content (told_before told), now.kept.origin (told_before told)) refl in
-    let text : (IsTrue (reader.tells source.inner) → from_place (reader.place source.inner - source.taken) (reader.content source.inner)
-    ≡ from_place (reader.place before.source.inner - before.source.taken) (reader.content before.source.inner)) = λ told.
-    rw (now.kept.same_content (told_before told), now.kept.origin (told_before told)) refl in
+    let same = same-text reader before.source.inner before.source.taken source.inner source.taken now.kept.keeps.same now.kept.origin in
     let kept : (IsTrue (reader.tells source.inner) → new ≡ rest) = λ told.
     hold_rest before.failed before.bytes bytes before.given before.filled piece.count before.stage piece.next (reader.rest before.source.inner) (reader.rest source.inner)
-    c.requires all empty (now.bytes (told_before told)) in
+    c.requires all empty (now.bytes (same.told told)) in
     let stands : (IsTrue (reader.tells source.inner) → IsTrue (reader.steady source.inner) → StandsIn other before.place new) = λ told steady.
-    kept_stands content other rest new before.place (same told) (kept told)
-    (stands_by content rest before.place (before.inside (told_before told) (steady_before steady)) (before.follows (told_before told) (steady_before steady))) in
+    kept_stands content other rest new before.place (same.content told) (kept told)
+    (stands_by content rest before.place (before.inside (same.told told) (same.steady steady)) (before.follows (same.told told) (same.steady steady))) in
     record {
       room = c.advance.array_long;
       order = let h : 0 ≤ piece.count = omega arith in h;
@@ -51,11 +46,11 @@ invariant_of-self g c =
       form = λ told steady begun.
           form_held (reader.content before.source.inner) (reader.rest before.source.inner) _
           (reader.place before.source.inner) before.source.taken before.stage piece.next
-          (g.met.R.Read.stands before.source.inner (told_before told) (steady_before steady)) (before.untaken c.requires)
-          (now.form (told_before told)) now.kept_form (before.form (told_before told) (steady_before steady)) (text told);
+          (g.met.R.Read.stands before.source.inner (same.told told) (same.steady steady)) (before.untaken c.requires)
+          (now.form (same.told told)) now.kept_form (before.form (same.told told) (same.steady steady)) (same.text told);
       unspent = λ good begun. now.kept.unspent;
-      counted = λ told good. omega (arith, before.counted (told_before told) c.requires, now.taken (told_before told));
-      fits = λ told. before.fits (told_before told);
+      counted = λ told good. omega (arith, before.counted (same.told told) c.requires, now.taken (same.told told));
+      fits = λ told. before.fits (same.told told);
       inside = λ told steady. (stands told steady).within;
       follows = λ told steady some. stands_follows other new before.place (stands told steady) some;
     }
@@ -66,25 +61,18 @@ invariant_of-self-in-Err g c =
     let reader = g.R.Read in
     let now = c.in-Err.ensures in
     let source = c.advance.new.source in
-    let content = content_of (reader.content before.source.inner) (reader.place before.source.inner - before.source.taken) in
-    let other = content_of (reader.content source.inner) (reader.place source.inner - source.taken) in
-    let told_before : (IsTrue (reader.tells source.inner) → IsTrue (reader.tells before.source.inner)) = λ told. sym now.kept.same_tells ∙ told in
-    let steady_before : (IsTrue (reader.steady source.inner) → IsTrue (reader.steady before.source.inner)) = λ steady. sym now.kept.same_steady ∙ steady in
-    let same : (IsTrue (reader.tells source.inner) → other ≡ content) = λ told. rw (now.kept.same_content (told_before told), now.kept.origin (told_before told)) refl in
-    let text : (IsTrue (reader.tells source.inner) → from_place (reader.place source.inner - source.taken) (reader.content source.inner)
-    ≡ from_place (reader.place before.source.inner - before.source.taken) (reader.content before.source.inner)) = λ told.
-    rw (now.kept.same_content (told_before told), now.kept.origin (told_before told)) refl in
+    let same = same-text reader before.source.inner before.source.taken source.inner source.taken now.kept.keeps.same now.kept.origin in
     record {
       room = before.room;
       order = before.order;
       within = before.within;
       fresh = before.fresh;
       untaken = λ good. absurd (true≢false good);
-      form = λ told steady begun. form_kept (is_armored before.stage) _ _ (before.form (told_before told) (steady_before steady) begun) (text told);
+      form = λ told steady begun. form_kept (is_armored before.stage) _ _ (before.form (same.told told) (same.steady steady) begun) (same.text told);
       unspent = λ good. absurd (true≢false good);
       counted = λ told good. absurd (true≢false good);
-      fits = λ told. before.fits (told_before told);
-      inside = λ told steady. subst (λ s. before.place ≤ length s.bytes) (sym (same told)) (before.inside (told_before told) (steady_before steady));
+      fits = λ told. before.fits (same.told told);
+      inside = λ told steady. subst (λ s. before.place ≤ length s.bytes) (sym (same.content told)) (before.inside (same.told told) (same.steady steady));
       follows = λ told steady some. absurd (some (rest_failed before.bytes before.given before.filled before.stage (reader.rest source.inner)));
     }
 

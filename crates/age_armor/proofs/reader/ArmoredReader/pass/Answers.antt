@@ -1,10 +1,10 @@
-use Rattle.std.proofs.Common.{◌≡◌, ◌∙◌, ◌+◌, ◌-◌, ◌≤◌, arith, take, length, length-take-le, sym, ap, subst, IsTrue, refl}
+use Rattle.std.proofs.Common.{◌≡◌, ◌∙◌, ◌+◌, ◌-◌, ◌≤◌, arith, take, length, length-take-le, sym, ap, subst, IsTrue}
 use Rattle.std.proofs.lemmas.Bool.{true≢false}
 use Rattle.age_io.specs.Reading.{StandsIn}
 use Rattle.age_armor.specs.Ahead.{rest_ahead}
 use Rattle.age_armor.specs.DeliveredLaws.{content_of, stands_by, stands_follows}
+use Rattle.age_armor.proofs.Keeping.{same-text}
 use Rattle.age_armor.proofs.Ahead.{given_stands, rest_failed, pass_delivers, pass_end, pass_fault, pass_named, pass_ending, shown_none}
-use Rattle.age_io.specs.Stretch.{from_place}
 use Rattle.age_armor.specs.Stages.{is_start, is_armored}
 use Rattle.age_armor.proofs.Forms.{form_kept}
 use Rattle.age_armor.proofs.reader.ArmoredReader.pass.Goals as goal
@@ -23,28 +23,23 @@ invariant_of-self g c =
     let new = rest_ahead before.failed before.bytes before.given before.filled before.stage (reader.rest source.inner) in
     let front = take n c.read.new.buf in
     let size : n ≡ length front = sym (length-take-le n c.read.new.buf now.count) in
-    let told_before : (IsTrue (reader.tells source.inner) → IsTrue (reader.tells before.source.inner)) = λ told. sym now.kept.same_tells ∙ told in
-    let steady_before : (IsTrue (reader.steady source.inner) → IsTrue (reader.steady before.source.inner)) = λ steady. sym now.kept.same_steady ∙ steady in
-    let same : (IsTrue (reader.tells source.inner) → other ≡ content) = λ told. rw (now.kept.same_content (told_before told), now.kept.origin (told_before told)) refl in
-    let text : (IsTrue (reader.tells source.inner) → from_place (reader.place source.inner - source.taken) (reader.content source.inner)
-    ≡ from_place (reader.place before.source.inner - before.source.taken) (reader.content before.source.inner)) = λ told.
-    rw (now.kept.same_content (told_before told), now.kept.origin (told_before told)) refl in
+    let same = same-text reader before.source.inner before.source.taken source.inner source.taken now.kept.keeps.same now.kept.origin in
     let place : (IsTrue (reader.tells source.inner) → c.saturating_add-self.result ≡ before.place + n) = λ told.
-    omega (arith, c.saturating_add-self.ensures, before.counted (told_before told) c.requires.good, now.taken (told_before told), source.behind told, g.met.R.Read.place_fits source.inner told) in
+    omega (arith, c.saturating_add-self.ensures, before.counted (same.told told) c.requires.good, now.taken (same.told told), source.behind told, g.met.R.Read.place_fits source.inner told) in
     let stands : (IsTrue (reader.tells source.inner) → IsTrue (reader.steady source.inner) → StandsIn other c.saturating_add-self.result new) = λ told steady.
-    rw (place told, same told) (given_stands content rest new before.place n front size
-    (pass_delivers before.failed before.bytes front before.given before.filled before.stage _ _ c.requires.good c.requires.binary all c.requires.given (now.bytes (told_before told)))
-    (stands_by content rest before.place (before.inside (told_before told) (steady_before steady)) (before.follows (told_before told) (steady_before steady)))) in
+    rw (place told, same.content told) (given_stands content rest new before.place n front size
+    (pass_delivers before.failed before.bytes front before.given before.filled before.stage _ _ c.requires.good c.requires.binary all c.requires.given (now.bytes (same.told told)))
+    (stands_by content rest before.place (before.inside (same.told told) (same.steady steady)) (before.follows (same.told told) (same.steady steady)))) in
     record {
       room = before.room;
       order = before.order;
       within = before.within;
       fresh = before.fresh;
       untaken = λ good start. absurd (true≢false (sym start ∙ ap is_start c.requires.binary));
-      form = λ told steady begun. form_kept (is_armored before.stage) _ _ (before.form (told_before told) (steady_before steady) begun) (text told);
+      form = λ told steady begun. form_kept (is_armored before.stage) _ _ (before.form (same.told told) (same.steady steady) begun) (same.text told);
       unspent = λ good begun. now.kept.unspent;
-      counted = λ told good. omega (arith, before.counted (told_before told) c.requires.good, place told, now.taken (told_before told));
-      fits = λ told. omega (arith, before.counted (told_before told) c.requires.good, place told, now.taken (told_before told), source.behind told, g.met.R.Read.place_fits source.inner told);
+      counted = λ told good. omega (arith, before.counted (same.told told) c.requires.good, place told, now.taken (same.told told));
+      fits = λ told. omega (arith, before.counted (same.told told) c.requires.good, place told, now.taken (same.told told), source.behind told, g.met.R.Read.place_fits source.inner told);
       inside = λ told steady. (stands told steady).within;
       follows = λ told steady some. stands_follows other new c.saturating_add-self.result (stands told steady) some;
     }
@@ -83,25 +78,18 @@ invariant_of-self-in-Err g c =
     let reader = g.R.Read in
     let now = c.in-Err.ensures in
     let source = c.read.new.self in
-    let content = content_of (reader.content before.source.inner) (reader.place before.source.inner - before.source.taken) in
-    let other = content_of (reader.content source.inner) (reader.place source.inner - source.taken) in
-    let told_before : (IsTrue (reader.tells source.inner) → IsTrue (reader.tells before.source.inner)) = λ told. sym now.kept.same_tells ∙ told in
-    let steady_before : (IsTrue (reader.steady source.inner) → IsTrue (reader.steady before.source.inner)) = λ steady. sym now.kept.same_steady ∙ steady in
-    let same : (IsTrue (reader.tells source.inner) → other ≡ content) = λ told. rw (now.kept.same_content (told_before told), now.kept.origin (told_before told)) refl in
-    let text : (IsTrue (reader.tells source.inner) → from_place (reader.place source.inner - source.taken) (reader.content source.inner)
-    ≡ from_place (reader.place before.source.inner - before.source.taken) (reader.content before.source.inner)) = λ told.
-    rw (now.kept.same_content (told_before told), now.kept.origin (told_before told)) refl in
+    let same = same-text reader before.source.inner before.source.taken source.inner source.taken now.kept.keeps.same now.kept.origin in
     record {
       room = before.room;
       order = before.order;
       within = before.within;
       fresh = before.fresh;
       untaken = λ good. absurd (true≢false good);
-      form = λ told steady begun. form_kept (is_armored before.stage) _ _ (before.form (told_before told) (steady_before steady) begun) (text told);
+      form = λ told steady begun. form_kept (is_armored before.stage) _ _ (before.form (same.told told) (same.steady steady) begun) (same.text told);
       unspent = λ good. absurd (true≢false good);
       counted = λ told good. absurd (true≢false good);
-      fits = λ told. before.fits (told_before told);
-      inside = λ told steady. subst (λ s. before.place ≤ length s.bytes) (sym (same told)) (before.inside (told_before told) (steady_before steady));
+      fits = λ told. before.fits (same.told told);
+      inside = λ told steady. subst (λ s. before.place ≤ length s.bytes) (sym (same.content told)) (before.inside (same.told told) (same.steady steady));
       follows = λ told steady some. absurd (some (rest_failed before.bytes before.given before.filled before.stage (reader.rest source.inner)));
     }
 
@@ -124,5 +112,5 @@ pub returns-in-Ok-clause-moves : goal.returns-in-Ok-clause-moves
 returns-in-Ok-clause-moves g c = λ told.
     let before = c.args.self.now in
     let now = c.in-Ok.ensures in
-    let told_now : IsTrue (g.R.Read.tells c.read.new.self.inner) = now.kept.same_tells ∙ told in
+    let told_now : IsTrue (g.R.Read.tells c.read.new.self.inner) = now.kept.keeps.same.tells ∙ told in
     omega (arith, c.saturating_add-self.ensures, before.counted told c.requires.good, now.taken told, c.read.new.self.behind told_now, g.met.R.Read.place_fits c.read.new.self.inner told_now)

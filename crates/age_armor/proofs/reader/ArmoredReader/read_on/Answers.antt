@@ -15,18 +15,18 @@ returns-then-is_passing-clause-reads g c =
     let now = c.pass.ensures in
     record {
       count = now.count;
-      same_tells = now.tells;
-      same_steady = now.steady;
-      no_fewer_faults = now.faults;
-      device = now.device;
-      unspent = unspent_ok c.pass.result _ _ now.unspent;
-      same_content = now.content;
+      same_tells = now.goes.keeps.same.tells;
+      same_steady = now.goes.keeps.same.steady;
+      no_fewer_faults = now.goes.keeps.same.faults;
+      device = now.goes.keeps.device;
+      unspent = unspent_ok c.pass.result _ _ now.goes.unspent;
+      same_content = now.goes.keeps.same.content;
       bytes = now.bytes;
       moves = now.moves;
       end = λ told. ends_ok c.pass.result _ _ (now.end told);
       stays = λ told. now.stays;
       left = λ told. left_err c.pass.result _ _ now.gone;
-      interrupted = λ told. patient_err c.pass.result _ now.patient;
+      interrupted = λ told. patient_err c.pass.result _ now.goes.keeps.patient;
       cause = now.cause;
     }
 
@@ -36,18 +36,18 @@ returns-in-Err-clause-reads g c =
     let after = c.hold.new.self in
     record {
       count = tt;
-      same_tells = now.tells;
-      same_steady = now.steady;
-      no_fewer_faults = now.faults;
-      device = now.device;
+      same_tells = now.goes.keeps.same.tells;
+      same_steady = now.goes.keeps.same.steady;
+      no_fewer_faults = now.goes.keeps.same.faults;
+      device = now.goes.keeps.device;
       unspent = tt;
-      same_content = now.content;
+      same_content = now.goes.keeps.same.content;
       bytes = λ told. tt;
       moves = λ told. tt;
       end = λ told. tt;
       stays = λ told. now.place;
       left = λ told. inr (rest_gone after.failed after.bytes after.given after.filled after.stage (g.R.Read.rest after.source.inner) now.failed);
-      interrupted = λ told again. absurd (now.patient again);
+      interrupted = λ told again. absurd (now.goes.keeps.patient again);
       cause = now.cause;
     }
 
@@ -68,14 +68,14 @@ returns-in-Ok-clause-reads g c =
     ap (λ s. content_of (reader.content s.inner) (reader.place s.inner - s.taken)) given.source in
     record {
       count = omega (arith, given.count, c.give.auto.buf);
-      same_tells = ap reader.tells inner ∙ now.tells;
-      same_steady = ap reader.steady inner ∙ now.steady;
-      no_fewer_faults = omega (arith, faults, now.faults);
+      same_tells = ap reader.tells inner ∙ now.goes.keeps.same.tells;
+      same_steady = ap reader.steady inner ∙ now.goes.keeps.same.steady;
+      no_fewer_faults = omega (arith, faults, now.goes.keeps.same.faults);
       device = tt;
-      unspent = λ some. omega (arith, faults, now.unspent);
-      same_content = λ told. content ∙ now.content told;
+      unspent = λ some. omega (arith, faults, now.goes.unspent);
+      same_content = λ told. content ∙ now.goes.keeps.same.content told;
       bytes = λ told. subst (λ s. Delivers (take n c.give.new.buf) s left) (now.rest told) given.bytes;
-      moves = λ told. omega (arith, given.moves (now.tells ∙ told), now.place);
+      moves = λ told. omega (arith, given.moves (now.goes.keeps.same.tells ∙ told), now.place);
       end = λ told none some. now.end told (omega (arith, none, given.count, held.order, c.requires.some));
       stays = λ told. tt;
       left = λ told. tt;
@@ -107,7 +107,7 @@ returns-then-is_passing-clause-form g c = λ told steady.
     let now = c.pass.ensures in
     let after = c.pass.new.self in
     let is = form_kept (is_armored after.stage) (text_of after) (text_of c.args.self.now)
-    (after.form (now.tells ∙ told) (now.steady ∙ steady) (ap is_start now.stage)) (sym (now.same_text told)) in
+    (after.form (now.goes.keeps.same.tells ∙ told) (now.goes.keeps.same.steady ∙ steady) (ap is_start now.stage)) (sym (now.same_text told)) in
     on_ok_weaker c.pass.result (λ good. is) now.good
 
 pub returns-then-is_passing-clause-spared : goal.returns-then-is_passing-clause-spared
@@ -122,4 +122,4 @@ returns-in-Ok-clause-form g c = λ told steady.
     let held = c.hold.new.self in
     let after = c.give.new.self in
     ap is_armored c.give.ensures.stage ∙ form_kept (is_armored held.stage) (text_of held) (text_of c.args.self.now)
-    (held.form (now.tells ∙ told) (now.steady ∙ steady) now.begun) (sym (now.same_text told))
+    (held.form (now.goes.keeps.same.tells ∙ told) (now.goes.keeps.same.steady ∙ steady) now.begun) (sym (now.same_text told))

@@ -1,8 +1,9 @@
-use Rattle.std.proofs.Common.{◌≡◌, ◌∙◌, ◌-◌, ◌^◌, ◌<◌, ◌≤◌, arith, length, sym, ap, subst, IsTrue, refl}
+use Rattle.std.proofs.Common.{◌∙◌, ◌-◌, ◌^◌, ◌<◌, ◌≤◌, arith, length, sym, ap, subst, refl}
 use Rattle.std.proofs.lemmas.Bool.{true≢false}
 use Rattle.age_io.specs.Stretch.{from_place}
 use Rattle.age_armor.specs.DeliveredLaws.{content_of}
 use Rattle.age_armor.specs.Delivered.{delivered, stretch_of}
+use Rattle.age_armor.proofs.Keeping.{same-text}
 use Rattle.age_armor.proofs.Ahead.{rest_failed, starts_rest, starts_outcome}
 use Rattle.age_armor.specs.Stages.{is_armored}
 use Rattle.age_armor.proofs.Forms.{form_kept}
@@ -14,25 +15,18 @@ invariant_of-self g c =
     let reader = g.R.Read in
     let now = c.in-Err.ensures in
     let source = c.rewind.new.self in
-    let content = content_of (reader.content before.source.inner) (reader.place before.source.inner - before.source.taken) in
-    let other = content_of (reader.content source.inner) (reader.place source.inner - source.taken) in
-    let told_before : (IsTrue (reader.tells source.inner) → IsTrue (reader.tells before.source.inner)) = λ told. sym now.goes.same_tells ∙ told in
-    let steady_before : (IsTrue (reader.steady source.inner) → IsTrue (reader.steady before.source.inner)) = λ steady. sym now.goes.same_steady ∙ steady in
-    let same : (IsTrue (reader.tells source.inner) → other ≡ content) = λ told. rw (now.goes.same_content (told_before told), now.origin (told_before told)) refl in
-    let text : (IsTrue (reader.tells source.inner) → from_place (reader.place source.inner - source.taken) (reader.content source.inner)
-    ≡ from_place (reader.place before.source.inner - before.source.taken) (reader.content before.source.inner)) = λ told.
-    rw (now.goes.same_content (told_before told), now.origin (told_before told)) refl in
+    let same = same-text reader before.source.inner before.source.taken source.inner source.taken now.goes.keeps.same now.origin in
     record {
       room = before.room;
       order = before.order;
       within = before.within;
       fresh = before.fresh;
       untaken = λ good. absurd (true≢false good);
-      form = λ told steady begun. form_kept (is_armored before.stage) _ _ (before.form (told_before told) (steady_before steady) begun) (text told);
+      form = λ told steady begun. form_kept (is_armored before.stage) _ _ (before.form (same.told told) (same.steady steady) begun) (same.text told);
       unspent = λ good. absurd (true≢false good);
       counted = λ told good. absurd (true≢false good);
-      fits = λ told. before.fits (told_before told);
-      inside = λ told steady. subst (λ s. before.place ≤ length s.bytes) (sym (same told)) (before.inside (told_before told) (steady_before steady));
+      fits = λ told. before.fits (same.told told);
+      inside = λ told steady. subst (λ s. before.place ≤ length s.bytes) (sym (same.content told)) (before.inside (same.told told) (same.steady steady));
       follows = λ told steady some. absurd (some (rest_failed before.bytes before.given before.filled before.stage (reader.rest source.inner)));
     }
 
@@ -43,8 +37,7 @@ invariant_of-self-in-Ok g c =
     let now = c.in-Ok.ensures in
     let source = c.rewind.new.self in
     let other = content_of (reader.content source.inner) (reader.place source.inner - source.taken) in
-    let told_before : (IsTrue (reader.tells source.inner) → IsTrue (reader.tells before.source.inner)) = λ told. sym now.goes.same_tells ∙ told in
-    let steady_before : (IsTrue (reader.steady source.inner) → IsTrue (reader.steady before.source.inner)) = λ steady. sym now.goes.same_steady ∙ steady in
+    let same = same-text reader before.source.inner before.source.taken source.inner source.taken now.goes.keeps.same now.origin in
     record {
       room = before.room;
       order = let h : 0 ≤ 0 = omega arith in h;
@@ -57,7 +50,7 @@ invariant_of-self-in-Ok g c =
       fits = λ told. let h : 0 < 2 ^ 63 = omega arith in h;
       inside = λ told steady. let h : 0 ≤ length other.bytes = omega arith in h;
       follows = λ told steady some.
-          rw (now.rest (told_before told) (steady_before steady), now.goes.same_content (told_before told), now.origin (told_before told))
+          rw (now.rest (same.told told) (same.steady steady), now.goes.keeps.same.content (same.told told), now.origin (same.told told))
           (starts_rest before.bytes (from_place (reader.place before.source.inner - before.source.taken) (reader.content before.source.inner)));
     }
 

@@ -1,21 +1,19 @@
-use Rattle.std.proofs.Common.{◌≡◌, ◌∙◌, ◌-◌, ◌<◌, ◌^◌, Some, None, arith, ap, sym, subst, w64, to_z-of_z, refl}
+use Rattle.std.proofs.Common.{◌≡◌, ◌∙◌, ◌<◌, ◌^◌, Some, None, arith, sym, subst, w64, to_z-of_z, refl}
 use Rattle.std.proofs.lemmas.Bool.{true≢false}
 use Rattle.age_io.specs.Cursor.{place_at}
-use Rattle.age_io.specs.Stretch.{from_place}
+use Rattle.age_armor.proofs.Keeping.{same-source, same-source-text}
 use Rattle.age_armor.proofs.Aiming.{too-long, too-early, counted-on}
 use Rattle.age_armor.proofs.reader.ArmoredReader.seek_by.Goals as goal
 
 pub returns-then-self : goal.returns-then-self
 returns-then-self g c =
-    let reader = g.R.Read in
     let before = c.args.self.now in
     let now = c.fail_at.ensures in
     record {
-      text = too-long _ _ _ _ _ _ _ before c.fail_at.new.self _ _ _
-          (ap (λ s. reader.tells s.inner) now.source) (ap (λ s. reader.steady s.inner) now.source) (ap (λ s. reader.faults s.inner) now.source)
-          now.failed (λ told. let fits : before.place < 2 ^ 63 = before.fits told in omega (arith, fits, c.if-self.true));
+      text = too-long _ _ before c.fail_at.new.self _ _ _ (same-source _ _ now.source) now.failed
+          (λ told. let fits : before.place < 2 ^ 63 = before.fits told in omega (arith, fits, c.if-self.true));
       at_once = λ told early. let fits : before.place < 2 ^ 63 = before.fits told in absurd (omega (arith, fits, c.if-self.true));
-      same_text = λ told. ap (λ s. from_place (reader.place s.inner - s.taken) (reader.content s.inner)) now.source;
+      same_text = λ told. same-source-text _ _ now.source;
       ending = λ told steady later good. absurd (true≢false (sym now.failed ∙ good));
     }
 
@@ -25,7 +23,7 @@ returns-in-None g c =
     let none : place_at before.place c.args.distance ≡ None =
     subst (λ d. place_at before.place d ≡ None) (to_z-of_z {w = w64} c.ranges.distance) (sym c.in-None.ensures) in
     record {
-      text = too-early _ _ _ _ _ _ _ before c.args.distance _ _ none;
+      text = too-early _ _ before c.args.distance _ _ none;
       at_once = λ told early. (refl, refl);
       same_text = λ told. refl;
       ending = λ told steady later good. absurd (later none);
@@ -37,7 +35,7 @@ returns-in-Some g c =
     let some : place_at before.place c.args.distance ≡ Some c.in-Some.target =
     subst (λ d. place_at before.place d ≡ Some c.in-Some.target) (to_z-of_z {w = w64} c.ranges.distance) (sym c.in-Some.ensures) in
     record {
-      text = counted-on _ _ _ _ _ _ _ before c.seek_to.new.self c.args.distance c.in-Some.target _ _ c.seek_to.result some c.seek_to.ensures.text;
+      text = counted-on _ _ before c.seek_to.new.self c.args.distance c.in-Some.target _ _ c.seek_to.result some c.seek_to.ensures.text;
       at_once = λ told early. absurd (cc (sym early ∙ some));
       same_text = c.seek_to.ensures.same_text;
       ending = λ told steady later good. c.seek_to.ensures.ending told steady good;

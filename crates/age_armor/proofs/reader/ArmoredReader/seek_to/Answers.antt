@@ -1,9 +1,8 @@
 use Rattle.std.proofs.Common.{◌∙◌, ◌-◌, Err, length, ap, sym}
 use Rattle.age_armor.specs.Delivered.{delivered}
-use Rattle.age_armor.specs.Ahead.{rest_ahead}
 use Rattle.age_armor.specs.Reader.{armored_content}
 use Rattle.age_armor.specs.ReaderLaws.{well_inner}
-use Rattle.age_armor.proofs.Ahead.{rest_failed}
+use Rattle.age_armor.proofs.Ahead.{rest_gone}
 use Rattle.age_armor.proofs.Aiming.{clean-unnamed, moved-within, moved-past, arrived, missed}
 use Rattle.age_armor.proofs.reader.ArmoredReader.seek_to.Goals as goal
 
@@ -11,7 +10,7 @@ pub returns-in-Ok : goal.returns-in-Ok
 returns-in-Ok g c =
     let now = c.in-Ok.ensures in
     record {
-      text = arrived _ _ _ _ _ _ _ _ _ _ _ _ _ now.goes now.good
+      text = arrived _ _ _ _ _ _ _ _ now.goes now.good
           (λ told. now.place told ∙ sym now.there) (λ told. now.there)
           (λ told steady.
           let within = now.within told steady in
@@ -26,12 +25,11 @@ returns-in-Err g c =
     let before = c.args.self.now in
     let now = c.in-Err.ensures in
     record {
-      text = missed _ _ _ _ _ _ _ before c.go_to.new.self c.come_back.new.self _ _ _ c.in-Err.e c.come_back.result
+      text = missed _ _ before c.go_to.new.self c.come_back.new.self _ _ _ c.in-Err.e c.come_back.result
           (λ told well.
           let inner = well_inner (reader.content before.source.inner) (reader.place before.source.inner - before.source.taken) well in
           (g.met.R.Read.well before.source.inner told inner, inner, λ e. clean-unnamed _ e well))
-          (λ had. ap (λ f. rest_ahead f before.bytes before.given before.filled before.stage (reader.rest before.source.inner)) had
-          ∙ rest_failed before.bytes before.given before.filled before.stage (reader.rest before.source.inner))
+          (rest_gone before.failed before.bytes before.given before.filled before.stage (reader.rest before.source.inner))
           (λ told well. g.met.R.Read.well before.source.inner told well)
           (record {
             goes = now.goes;
@@ -41,8 +39,8 @@ returns-in-Err g c =
             named = now.named;
           })
           c.come_back.ensures.back;
-      same_text = λ told. c.come_back.ensures.same_text (now.goes.same_tells ∙ told) ∙ now.same_text told;
+      same_text = λ told. c.come_back.ensures.same_text (now.goes.keeps.same.tells ∙ told) ∙ now.same_text told;
       ending = λ told steady good.
-          c.come_back.ensures.ending (now.goes.same_tells ∙ told) (now.goes.same_steady ∙ steady) good
+          c.come_back.ensures.ending (now.goes.keeps.same.tells ∙ told) (now.goes.keeps.same.steady ∙ steady) good
           ∙ ap (λ t. (delivered t.bytes t.ends_well).ending) (now.same_text told);
     }

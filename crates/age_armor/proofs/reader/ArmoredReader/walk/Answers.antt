@@ -1,30 +1,26 @@
 use Rattle.std.proofs.Common.{rules, ◌≡◌, ◌∙◌, arith, take, length, length-take, length-take-le, sym}
+use Rattle.age_io.proofs.Keeping.{same-later, same-read, keeps-done, keeps-later}
+use Rattle.age_armor.specs.Reader.{armored_reader}
+use Rattle.age_armor.proofs.Taking.{quiet_after}
 use Rattle.age_armor.proofs.Walking.{further, still_clean, ends_before}
 use Rattle.age_armor.proofs.reader.ArmoredReader.walk.Goals as goal
 
 pub returns-in-Err-clause-goes : goal.returns-in-Err-clause-goes
 returns-in-Err-clause-goes g c =
     let loop = c.reads.invariant in
-    let reads = c.in-Err.ensures.reads in
+    let now = c.in-Err.ensures in
     record {
-      same_tells = reads.same_tells ∙ loop.same_tells;
-      same_steady = reads.same_steady ∙ loop.same_steady;
-      no_fewer_faults = omega (arith, loop.no_fewer_faults, reads.no_fewer_faults);
-      device = λ device. omega (arith, loop.no_fewer_faults, reads.device device);
+      keeps = keeps-later _ _ _ _ _ loop.same
+          (record { same = same-read armored_reader c.reads.self c.read_on.new.self now.reads; device = now.reads.device; patient = now.patient });
       unspent = tt;
-      patient = c.in-Err.ensures.patient;
-      same_content = λ told. reads.same_content (loop.same_tells ∙ told) ∙ loop.same_content told;
     }
 
 pub returns-in-Err-clause-short : goal.returns-in-Err-clause-short
 returns-in-Err-clause-short g c = λ told steady stands other quiet.
     let loop = c.reads.invariant in
-    let told_now = loop.same_tells ∙ told in
+    let told_now = loop.same.tells ∙ told in
     let reads = c.in-Err.ensures.reads in
-    let fault = reads.cause told_now other (record {
-      same = omega (arith, loop.no_fewer_faults, reads.no_fewer_faults, quiet.same);
-      below = quiet.below;
-    }) in
+    let fault = reads.cause told_now other (quiet_after _ _ _ loop.same.faults reads.no_fewer_faults quiet) in
     ends_before _ _ c.reads.self.place c.args.target (loop.rest told stands) fault
     (omega (arith, loop.place told, c.reads-test.true))
 
@@ -32,29 +28,21 @@ pub returns-in-Err-clause-named : goal.returns-in-Err-clause-named
 returns-in-Err-clause-named g c = λ told other quiet.
     let loop = c.reads.invariant in
     let reads = c.in-Err.ensures.reads in
-    rw (loop.ending told) at (c.in-Err.ensures.named (loop.same_tells ∙ told) other (record {
-      same = omega (arith, loop.no_fewer_faults, reads.no_fewer_faults, quiet.same);
-      below = quiet.below;
-    }))
+    rw (loop.ending told) at (c.in-Err.ensures.named (loop.same.tells ∙ told) other (quiet_after _ _ _ loop.same.faults reads.no_fewer_faults quiet))
 
 pub returns-in-Ok-eq0-clause-goes : goal.returns-in-Ok-eq0-clause-goes
 returns-in-Ok-eq0-clause-goes g c =
     let loop = c.reads.invariant in
     let reads = c.in-Ok-eq0.ensures.reads in
     record {
-      same_tells = reads.same_tells ∙ loop.same_tells;
-      same_steady = reads.same_steady ∙ loop.same_steady;
-      no_fewer_faults = omega (arith, loop.no_fewer_faults, reads.no_fewer_faults);
-      device = tt;
+      keeps = keeps-done _ _ _ (same-later armored_reader c.args.self.now c.reads.self _ loop.same (same-read _ _ _ reads));
       unspent = reads.unspent (search rules);
-      patient = tt;
-      same_content = λ told. reads.same_content (loop.same_tells ∙ told) ∙ loop.same_content told;
     }
 
 pub returns-in-Ok-eq0-clause-rest : goal.returns-in-Ok-eq0-clause-rest
 returns-in-Ok-eq0-clause-rest g c = λ told stands.
     let loop = c.reads.invariant in
-    let told_now = loop.same_tells ∙ told in
+    let told_now = loop.same.tells ∙ told in
     let reads = c.in-Ok-eq0.ensures.reads in
     let n = c.in-Ok-eq0.field-0 in
     further _ _ _ c.reads.self.place _ n (take n c.read_on.new.buf) (loop.rest told stands)
@@ -63,7 +51,7 @@ returns-in-Ok-eq0-clause-rest g c = λ told stands.
 pub returns-in-Ok-eq0-clause-end : goal.returns-in-Ok-eq0-clause-end
 returns-in-Ok-eq0-clause-end g c = λ told none.
     let loop = c.reads.invariant in
-    let told_now = loop.same_tells ∙ told in
+    let told_now = loop.same.tells ∙ told in
     let reads = c.in-Ok-eq0.ensures.reads in
     let n = c.in-Ok-eq0.field-0 in
     let size : length (take n c.read_on.new.buf) ≡ n = length-take-le n c.read_on.new.buf reads.count in (
@@ -81,25 +69,22 @@ reads-preserved g c =
     let reads = c.in-Ok.ensures.reads in
     let n = c.in-Ok.count in
     record {
-      same_tells = reads.same_tells ∙ loop.same_tells;
-      same_steady = reads.same_steady ∙ loop.same_steady;
-      no_fewer_faults = omega (arith, loop.no_fewer_faults, reads.no_fewer_faults);
+      same = same-later armored_reader c.args.self.now c.reads.self _ loop.same (same-read _ _ _ reads);
       unspent = reads.unspent (search rules);
       good = c.in-Ok.ensures.good;
-      same_content = λ told. reads.same_content (loop.same_tells ∙ told) ∙ loop.same_content told;
-      place = λ told. omega (arith, reads.moves (loop.same_tells ∙ told), loop.place told, reads.count, c.min-most.ensures, length-take c.min-most.result c.reads.room);
+      place = λ told. omega (arith, reads.moves (loop.same.tells ∙ told), loop.place told, reads.count, c.min-most.ensures, length-take c.min-most.result c.reads.room);
       rest = λ told stands.
           further _ _ _ c.reads.self.place _ n (take n c.read_on.new.buf) (loop.rest told stands)
-          (reads.bytes (loop.same_tells ∙ told)) (sym (length-take-le n c.read_on.new.buf reads.count)) (reads.moves (loop.same_tells ∙ told));
-      ending = λ told. c.in-Ok.ensures.ending (loop.same_tells ∙ told) ∙ loop.ending told;
-      same_text = λ told. c.in-Ok.ensures.same_text (loop.same_tells ∙ told) ∙ loop.same_text told;
+          (reads.bytes (loop.same.tells ∙ told)) (sym (length-take-le n c.read_on.new.buf reads.count)) (reads.moves (loop.same.tells ∙ told));
+      ending = λ told. c.in-Ok.ensures.ending (loop.same.tells ∙ told) ∙ loop.ending told;
+      same_text = λ told. c.in-Ok.ensures.same_text (loop.same.tells ∙ told) ∙ loop.same_text told;
     }
 
 pub returns-in-Err-clause-same_text : goal.returns-in-Err-clause-same_text
-returns-in-Err-clause-same_text g c = λ told. c.in-Err.ensures.same_text (c.reads.invariant.same_tells ∙ told) ∙ c.reads.invariant.same_text told
+returns-in-Err-clause-same_text g c = λ told. c.in-Err.ensures.same_text (c.reads.invariant.same.tells ∙ told) ∙ c.reads.invariant.same_text told
 
 pub returns-in-Ok-eq0-clause-same_text : goal.returns-in-Ok-eq0-clause-same_text
-returns-in-Ok-eq0-clause-same_text g c = λ told. c.in-Ok-eq0.ensures.same_text (c.reads.invariant.same_tells ∙ told) ∙ c.reads.invariant.same_text told
+returns-in-Ok-eq0-clause-same_text g c = λ told. c.in-Ok-eq0.ensures.same_text (c.reads.invariant.same.tells ∙ told) ∙ c.reads.invariant.same_text told
 
 pub returns-in-Ok-eq0-clause-ending : goal.returns-in-Ok-eq0-clause-ending
-returns-in-Ok-eq0-clause-ending g c = λ told. c.in-Ok-eq0.ensures.ending (c.reads.invariant.same_tells ∙ told) ∙ c.reads.invariant.ending told
+returns-in-Ok-eq0-clause-ending g c = λ told. c.in-Ok-eq0.ensures.ending (c.reads.invariant.same.tells ∙ told) ∙ c.reads.invariant.ending told

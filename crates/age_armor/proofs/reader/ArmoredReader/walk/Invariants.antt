@@ -1,19 +1,17 @@
-use Rattle.std.proofs.Common.{◌≡◌, ◌+◌, ◌≤◌, ◌<◌, IsTrue, false}
+use Rattle.std.proofs.Common.{◌≡◌, ◌+◌, ◌<◌, IsTrue, false}
 use Rattle.age_io.specs.Stretch.{from_place}
 use Rattle.age_io.specs.Reading.{most_faults}
-use Rattle.age_armor.specs.Reader.{outcome_of, text_of, armored_content, armored_rest}
+use Rattle.age_io.specs.Keeping.{SameReader}
+use Rattle.age_armor.specs.Reader.{outcome_of, text_of, armored_reader, armored_content, armored_rest}
 use Rattle.age_armor.proofs.reader.ArmoredReader.walk.Given as goal
 
 abbrev pub invariant-reads : goal.invariant-reads
 invariant-reads g l =
     let reader = g.R.Read in
     record {
-      same_tells : reader.tells l.self.source.inner ≡ reader.tells l.fn.self.source.inner;
-      same_steady : reader.steady l.self.source.inner ≡ reader.steady l.fn.self.source.inner;
-      no_fewer_faults : reader.faults l.fn.self.source.inner ≤ reader.faults l.self.source.inner;
+      same : SameReader armored_reader l.fn.self l.self;
       unspent : reader.faults l.self.source.inner < most_faults;
       good : l.self.failed ≡ false;
-      same_content : IsTrue (reader.tells l.fn.self.source.inner) → armored_content l.self ≡ armored_content l.fn.self;
       place : IsTrue (reader.tells l.fn.self.source.inner) → l.self.place + l.left ≡ l.target;
       rest : IsTrue (reader.tells l.fn.self.source.inner) →
           armored_rest l.fn.self ≡ from_place l.fn.self.place (armored_content l.fn.self) →

@@ -55,10 +55,10 @@ returns-in-Err g c =
         refl,
         λ r. tt,
         record {
-          same_tells = now.tells;
-          same_steady = now.steady;
-          no_fewer_faults = now.faults;
-          device = now.device;
+          same_tells = now.goes.keeps.same.tells;
+          same_steady = now.goes.keeps.same.steady;
+          no_fewer_faults = now.goes.keeps.same.faults;
+          device = now.goes.keeps.device;
           unspent = tt;
           shows = tt;
           own = (
@@ -66,7 +66,7 @@ returns-in-Err g c =
               failed = λ gone. absurd (true≢false (sym gone ∙ c.if-self.false));
               fails = now.failed;
               good = tt;
-              patient = now.patient;
+              patient = now.goes.keeps.patient;
             },
             record {
               same = λ told. tt;
@@ -76,11 +76,11 @@ returns-in-Err g c =
             now.same_text,
             λ told steady. tt,
           );
-          same_content = now.content;
+          same_content = now.goes.keeps.same.content;
           stays = λ told. now.place;
           same_rest = λ told. tt;
           left = λ told. inr (rest_gone after.failed after.bytes after.given after.filled after.stage (g.R.Read.rest after.source.inner) now.failed);
-          interrupted = λ told again. absurd (now.patient again);
+          interrupted = λ told again. absurd (now.goes.keeps.patient again);
           cause = now.cause;
         },
       ),
@@ -96,11 +96,11 @@ returns-in-Ok g c =
         refl,
         λ r. tt,
         record {
-          same_tells = now.tells;
-          same_steady = now.steady;
-          no_fewer_faults = now.faults;
+          same_tells = now.goes.keeps.same.tells;
+          same_steady = now.goes.keeps.same.steady;
+          no_fewer_faults = now.goes.keeps.same.faults;
           device = tt;
-          unspent = now.unspent;
+          unspent = now.goes.unspent;
           shows = held.shown;
           own = (
             record {
@@ -117,9 +117,9 @@ returns-in-Ok g c =
             now.same_text,
             λ told steady.
                 form_kept (is_armored after.stage) (text_of after) (text_of c.args.self.now)
-                (after.form (now.tells ∙ told) (now.steady ∙ steady) now.begun) (sym (now.same_text told)),
+                (after.form (now.goes.keeps.same.tells ∙ told) (now.goes.keeps.same.steady ∙ steady) now.begun) (sym (now.same_text told)),
           );
-          same_content = now.content;
+          same_content = now.goes.keeps.same.content;
           stays = λ told. now.place;
           same_rest = now.rest;
           left = λ told. tt;
