@@ -1,4 +1,4 @@
-use Rattle.std.proofs.Common.{◌≡◌, ◌≤◌, ◌-◌, ◌+◌, ◌^◌, IsTrue, length}
+use Rattle.std.proofs.Common.{◌≡◌, ◌-◌, ◌+◌, ◌^◌, IsTrue, length}
 use Rattle.age_io.specs.Reading.{Delivers}
 use Rattle.age_io.specs.Keeping.{SameReader}
 use Rattle.age_format.specs.HeaderV1.{reads_legacy}
