@@ -1,5 +1,5 @@
 -- What was read of a file, and what the identity's answer came to.
-use Rattle.std.proofs.Common.{◌≡◌, ◌≢◌, ◌∙◌, refl, sym, ap, inl, inr, ℕ, Bool, true, false, List, IsTrue, Some, None, Ok, Err, Result, IfErr, arith}
+use Rattle.std.proofs.Common.{◌≡◌, ◌≢◌, ◌∙◌, refl, sym, ap, inl, inr, ℕ, true, false, List, IsTrue, Some, None, Ok, Err, Result, IfErr, arith}
 use Rattle.age_error.specs.Refusals.{IsDevice}
 use Rattle.age_error.specs.DecryptErrors.{DecryptRefusal, decrypt_refusal, decrypt_of_io}
 use Rattle.age_error.specs.declared.decrypt.DecryptError.{DecryptError}

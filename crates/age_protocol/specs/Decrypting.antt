@@ -1,5 +1,5 @@
 -- What a decryptor reads before the payload, and why it refuses.
-use Rattle.std.specs.Prelude.{◌≡◌, ◌≢◌, ◌⊎◌, ℕ, ◌+◌, ◌≤◌, ◌<◌, Bool, List, ◌++◌, length, IsTrue}
+use Rattle.std.specs.Prelude.{◌≡◌, ◌≢◌, ◌⊎◌, ℕ, ◌+◌, ◌<◌, List, ◌++◌, length, IsTrue}
 use Rattle.age_error.specs.Bytes.{AreBytesOf}
 use Rattle.age_error.specs.DecryptErrors.{DecryptRefusal, InvalidHeader, decrypt_refusal, decrypt_of_io, IsDeviceRefusal}
 use Rattle.age_error.specs.declared.io.Error.{Error}

@@ -1,5 +1,5 @@
 -- The laws of files.
-use Rattle.std.specs.Prelude.{◌≡◌, ℕ, ◌^◌, ◌≤◌, ◌&&◌, Bool, List, [], ◌∷◌, length, IsTrue}
+use Rattle.std.specs.Prelude.{◌≡◌, ℕ, ◌^◌, ◌≤◌, ◌&&◌, List, [], ◌∷◌, length, IsTrue}
 use Rattle.age_error.specs.Bytes.{AreBytes}
 use Rattle.age_error.specs.DecryptErrors.{DecryptRefusal, OutOfMemory}
 use Rattle.age_suite.specs.declared.suite.Suite.{Ghosts as SuiteGhosts}
