@@ -102,7 +102,7 @@ module _ {R : Type 0} (read : Ghosts R) (failed : R → Bool) where
       (IsTrue (read.tells old) → IsTrue (read.steady old) → read.rest old ≡ from_place (read.place old) (read.content old) → IsOutside e → read.rest new ≡ read.rest old) →
       (IsTrue (read.tells old) → IsTrue (read.content old).ends_well → IsOutside e → sought to (read.place old) (length (read.content old).bytes) ≡ Err e) →
       (IsTrue (read.tells old) → IsTrue (read.content old).ends_well → e ≢ OutOfMemory → IsQuiet (read.faults old) (read.faults new) → IsOutside e) →
-      Seeks read.tells read.steady read.content read.place read.rest read.faults old new to (Err e)
+      Seeks read.tells read.steady read.content read.place read.rest read.faults read.refuses old new to (Err e)
   seeks-refused old new to e keeps stays kept refused cause = record {
     same_tells = keeps.same.tells;
     same_steady = keeps.same.steady;

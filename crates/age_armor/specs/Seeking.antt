@@ -43,7 +43,7 @@ IsFromEnd (Current d) = ⊥
 -- What a seek in a text does. The bool says whether the reader that gives the text ends well, the ending how the text does.
 pub record SeeksText {R : Type 0} (read : Ghosts R) (failed : R → Bool) (old new : R) (to : SeekFrom) (ends_well : Bool) (ending : Ending)
     (result : Result ℕ Error) : Type 0 where
-  pub seeks : Seeks read.tells read.steady read.content read.place read.rest read.faults old new to result
+  pub seeks : Seeks read.tells read.steady read.content read.place read.rest read.faults read.refuses old new to result
   pub patient : IfErr result (λ e. IsInterruption e → ⊥)
   pub good : OnOk result (failed new ≡ false)
   pub unmoved : IfErr result (λ e. IsOutside e → failed new ≡ failed old)

@@ -111,7 +111,7 @@ impl<R: BufRead> Read for ArmoredReader<R> {
     #[tactic(auto, using(crate::proofs::Ahead::rest_failed, crate::proofs::Ahead::shown_small))]
     fn read(&mut self, buf: &mut [u8]) -> Result<usize, Error>
         ensures reads { let reader = ⟦<ArmoredReader<R> as Read>⟧ in
-            Reads reader.tells reader.steady reader.content reader.place reader.rest reader.faults self.old self.new buf.new result }
+            Reads reader.tells reader.steady reader.content reader.place reader.rest reader.faults reader.refuses self.old self.new buf.new result }
         // After a refusal it answers `Failed`. A refusal that neither the device nor memory made is that of the text's end,
         // which reads don't change.
         ensures good { FailsForGood (has_failed self.old) (has_failed self.new) result }
@@ -216,7 +216,7 @@ impl<R: BufRead> ArmoredReader<R> {
         requires good { self.old.failed ≡ false }
         requires some { 0 < length buf.old }
         ensures reads { let reader = ⟦<ArmoredReader<R> as Read>⟧ in
-            Reads reader.tells reader.steady reader.content reader.place reader.rest reader.faults self.old self.new buf.new result }
+            Reads reader.tells reader.steady reader.content reader.place reader.rest reader.faults reader.refuses self.old self.new buf.new result }
         ensures patient { IfErr result (λ e. IsInterruption e → ⊥) }
         ensures named { IsTrue (R.Read.tells self.old.source.inner) → IfErr result (λ e. e ≢ OutOfMemory →
             IsQuiet (R.Read.faults self.old.source.inner) (R.Read.faults self.new.source.inner) → IsNamed (outcome_of self.old).ending e) }
@@ -417,7 +417,7 @@ impl<R: BufRead> BufRead for ArmoredReader<R> {
     fn consume(&mut self, amount: usize)
         requires { amount ≤ length (shown_of self.old) }
         ensures consumes { let reader = ⟦<ArmoredReader<R> as Read>⟧ in
-            Consumes reader.tells reader.steady reader.content reader.place reader.rest reader.faults (λ r. shown_of r) self.old self.new amount }
+            Consumes reader.tells reader.steady reader.content reader.place reader.rest reader.faults reader.refuses (λ r. shown_of r) self.old self.new amount }
         ensures failed { has_failed self.new ≡ has_failed self.old }
         ensures ending { (outcome_of self.new).ending ≡ (outcome_of self.old).ending }
         ensures whole { text_outcome_of self.new ≡ text_outcome_of self.old }

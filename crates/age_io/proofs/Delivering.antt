@@ -3,6 +3,7 @@ use Rattle.std.proofs.Common.{◌≡◌, ℕ, ◌+◌, ◌≤◌, Bool, IsTrue, 
 use borrow.Rule.Slice.PartMut.{put_mid, post_of}
 use Rattle.std.proofs.lemmas.Slice.{take-put_mid_below}
 use lib.Seq.{take-add, take-append-le}
+use Rattle.age_error.specs.declared.io.Error.{Error}
 use Rattle.age_io.specs.Stretch.{Stretch}
 use Rattle.age_io.specs.Reading.{Reads, Delivers, GivesInAll, Appended}
 
@@ -50,25 +51,27 @@ Appended-none s xs = record {
   left = inl refl;
 }
 
-module _ {S : Type 0} (tells steady : S → Bool) (content : S → Stretch) (place : S → ℕ) (rest : S → Stretch) (faults : S → ℕ) where
+module _ {S : Type 0} (tells steady : S → Bool) (content : S → Stretch) (place : S → ℕ) (rest : S → Stretch) (faults : S → ℕ) (refuses : S → Error → Type 0) where
   -- no read gave anything yet
-  pub gives-none : (s : S) → GivesInAll tells steady content place rest faults s s []
+  pub gives-none : (s : S) → GivesInAll tells steady content place rest faults refuses s s []
   gives-none s = record {
     same_tells = refl;
     same_steady = refl;
     no_fewer_faults = omega arith;
+    narrows = λ e h. h;
     same_content = λ told. refl;
     bytes = λ told. record { bytes = refl; end = refl };
     moves = λ told. omega arith;
   }
 
   -- a further read
-  pub gives-more : (old between new : S) (got buf : List ℕ) (n : ℕ) → GivesInAll tells steady content place rest faults old between got →
-      Reads tells steady content place rest faults between new buf (Ok n) → GivesInAll tells steady content place rest faults old new (got ++ take n buf)
+  pub gives-more : (old between new : S) (got buf : List ℕ) (n : ℕ) → GivesInAll tells steady content place rest faults refuses old between got →
+      Reads tells steady content place rest faults refuses between new buf (Ok n) → GivesInAll tells steady content place rest faults refuses old new (got ++ take n buf)
   gives-more old between new got buf n g r = record {
     same_tells = r.same_tells ∙ g.same_tells;
     same_steady = r.same_steady ∙ g.same_steady;
     no_fewer_faults = omega (arith, g.no_fewer_faults, r.no_fewer_faults);
+    narrows = λ e h. g.narrows e (r.narrows e h);
     same_content = λ told. r.same_content (g.same_tells ∙ told) ∙ g.same_content told;
     bytes = λ told. Delivers-joined got (take n buf) (rest old) (rest between) (rest new) (g.bytes told) (r.bytes (g.same_tells ∙ told));
     moves = λ told.
@@ -77,11 +80,12 @@ module _ {S : Type 0} (tells steady : S → Bool) (content : S → Stretch) (pla
 
   -- a reader that tells its bytes gave these, by another name
   pub gives-same : (old new : S) (got other : List ℕ) → (IsTrue (tells old) → got ≡ other) →
-      GivesInAll tells steady content place rest faults old new got → GivesInAll tells steady content place rest faults old new other
+      GivesInAll tells steady content place rest faults refuses old new got → GivesInAll tells steady content place rest faults refuses old new other
   gives-same old new got other same g = record {
     same_tells = g.same_tells;
     same_steady = g.same_steady;
     no_fewer_faults = g.no_fewer_faults;
+    narrows = g.narrows;
     same_content = g.same_content;
     bytes = λ told. subst (λ l. Delivers l (rest old) (rest new)) (same told) (g.bytes told);
     moves = λ told. g.moves told ∙ ap (λ l. place old + length l) (same told);

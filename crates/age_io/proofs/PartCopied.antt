@@ -5,7 +5,7 @@ use lib.Seq.{take-append-add, take-nil}
 use Rattle.age_error.specs.declared.io.Error.{Error}
 use Rattle.age_io.specs.declared.traits.Read.{Ghosts}
 use Rattle.age_io.specs.Stretch.{Stretch, IsCleanEnd}
-use Rattle.age_io.specs.Reading.{Reads, Delivers, GivesInAll}
+use Rattle.age_io.specs.Reading.{Reads, Delivers, GivesInAll, TriedAgain}
 use Rattle.age_io.proofs.Copied.{left-by-read, left-by-write}
 use Rattle.age_io.proofs.Delivering.{gives-none, gives-more, gives-same}
 use Rattle.age_io.specs.Copying.{AppendsFront, CopiesFront}
@@ -34,14 +34,14 @@ module _ {S : Type 0} (read : Ghosts S) {W : Type 0} (writer_tells : W → Bool)
   pub record IsPartCopied (count left : ℕ) (old new : S) (before after : W) : Type 0 where
     pub front : List ℕ
     pub budget : count ≡ length front + left
-    pub gives : GivesInAll read.tells read.steady read.content read.place read.rest read.faults old new front
+    pub gives : GivesInAll read.tells read.steady read.content read.place read.rest read.faults (TriedAgain read.refuses) old new front
     pub out : IsTrue (writer_tells before) → appended before front after
 
   pub part-none : (count : ℕ) (s : S) (w : W) → appended w [] w → IsPartCopied count count s s w w
   part-none count s w none = record {
     front = [];
     budget = omega arith;
-    gives = gives-none read.tells read.steady read.content read.place read.rest read.faults s;
+    gives = gives-none read.tells read.steady read.content read.place read.rest read.faults (TriedAgain read.refuses) s;
     out = λ told. none;
   }
 
@@ -69,20 +69,20 @@ module _ {S : Type 0} (read : Ghosts S) {W : Type 0} (writer_tells : W → Bool)
 
   -- the reader stands behind what the count asks for, once a read gave nothing at a clean end
   pub part-stands : (count left : ℕ) (old between new : S) (before after : W) (buf : List ℕ) →
-      IsPartCopied count left old between before after → Reads read.tells read.steady read.content read.place read.rest read.faults between new buf (Ok 0) → 0 < length buf →
-      GivesInAll read.tells read.steady read.content read.place read.rest read.faults old new (take count (read.rest old).bytes)
+      IsPartCopied count left old between before after → Reads read.tells read.steady read.content read.place read.rest read.faults (TriedAgain read.refuses) between new buf (Ok 0) → 0 < length buf →
+      GivesInAll read.tells read.steady read.content read.place read.rest read.faults (TriedAgain read.refuses) old new (take count (read.rest old).bytes)
   part-stands count left old between new before after buf so_far r some =
-      let all = gives-more read.tells read.steady read.content read.place read.rest read.faults old between new so_far.front buf 0 so_far.gives r in
-      gives-same read.tells read.steady read.content read.place read.rest read.faults old new (so_far.front ++ take 0 buf) (take count (read.rest old).bytes)
+      let all = gives-more read.tells read.steady read.content read.place read.rest read.faults (TriedAgain read.refuses) old between new so_far.front buf 0 so_far.gives r in
+      gives-same read.tells read.steady read.content read.place read.rest read.faults (TriedAgain read.refuses) old new (so_far.front ++ take 0 buf) (take count (read.rest old).bytes)
       (λ told. append-nil so_far.front ∙ sym (part_ended count left (read.rest old) (read.rest between) so_far.front so_far.budget (so_far.gives.bytes told)
       (r.end (so_far.gives.same_tells ∙ told) refl some)))
       all
 
   -- and so it does where none of the count is left
   pub part-stands-full : (count left : ℕ) (old new : S) (before after : W) → IsPartCopied count left old new before after →
-      left ≡ 0 → GivesInAll read.tells read.steady read.content read.place read.rest read.faults old new (take count (read.rest old).bytes)
+      left ≡ 0 → GivesInAll read.tells read.steady read.content read.place read.rest read.faults (TriedAgain read.refuses) old new (take count (read.rest old).bytes)
   part-stands-full count left old new before after so_far none =
-      gives-same read.tells read.steady read.content read.place read.rest read.faults old new so_far.front (take count (read.rest old).bytes)
+      gives-same read.tells read.steady read.content read.place read.rest read.faults (TriedAgain read.refuses) old new so_far.front (take count (read.rest old).bytes)
       (λ told. sym (part_full count left (read.rest old) (read.rest new) so_far.front so_far.budget (so_far.gives.bytes told) none)) so_far.gives
 
   -- a beginning was appended
@@ -97,7 +97,7 @@ module _ {S : Type 0} (read : Ghosts S) {W : Type 0} (writer_tells : W → Bool)
 
   -- where the reader is left by a read that refused
   pub part-unread : (count left : ℕ) (old between new : S) (before after : W) (buf : List ℕ) (e : Error) →
-      IsPartCopied count left old between before after → Reads read.tells read.steady read.content read.place read.rest read.faults between new buf (Err e) →
+      IsPartCopied count left old between before after → Reads read.tells read.steady read.content read.place read.rest read.faults (TriedAgain read.refuses) between new buf (Err e) →
       CopiesFront read writer_tells appended (λ given. length given ≤ count) old new before after
   part-unread count left old between new before after buf e so_far r =
       left-by-read read writer_tells appended (λ given. length given ≤ count)
@@ -106,12 +106,12 @@ module _ {S : Type 0} (read : Ghosts S) {W : Type 0} (writer_tells : W → Bool)
   module _ (joins : (a b c : W) (x y : List ℕ) → appended a x b → appended b y c → appended a (x ++ y) c) where
     pub part-more : (count left after_it : ℕ) (old between new : S) (before half after : W) (buf : List ℕ) (n : ℕ) →
         IsPartCopied count left old between before half → left ≡ length (take n buf) + after_it →
-        Reads read.tells read.steady read.content read.place read.rest read.faults between new buf (Ok n) → (IsTrue (writer_tells before) → appended half (take n buf) after) →
+        Reads read.tells read.steady read.content read.place read.rest read.faults (TriedAgain read.refuses) between new buf (Ok n) → (IsTrue (writer_tells before) → appended half (take n buf) after) →
         IsPartCopied count after_it old new before after
     part-more count left after_it old between new before half after buf n so_far size r out = record {
       front = so_far.front ++ take n buf;
       budget = omega (arith, so_far.budget, size, length-append so_far.front (take n buf));
-      gives = gives-more read.tells read.steady read.content read.place read.rest read.faults old between new so_far.front buf n so_far.gives r;
+      gives = gives-more read.tells read.steady read.content read.place read.rest read.faults (TriedAgain read.refuses) old between new so_far.front buf n so_far.gives r;
       out = λ told. joins before half after so_far.front (take n buf) (so_far.out told) (out told);
     }
 
@@ -136,7 +136,7 @@ module _ {S : Type 0} (read : Ghosts S) {W : Type 0} (writer_tells : W → Bool)
     -- where the reader is left by a write that refused and took a beginning of a further piece
     pub part-unwritten : (count left after_it : ℕ) (old between new : S) (before half after : W) (buf : List ℕ) (n : ℕ) →
         IsPartCopied count left old between before half → left ≡ length (take n buf) + after_it →
-        Reads read.tells read.steady read.content read.place read.rest read.faults between new buf (Ok n) →
+        Reads read.tells read.steady read.content read.place read.rest read.faults (TriedAgain read.refuses) between new buf (Ok n) →
         (IsTrue (writer_tells before) → (taken : ℕ) × (taken ≤ length (take n buf)) × appended half (take taken (take n buf)) after) →
         CopiesFront read writer_tells appended (λ given. length given ≤ count) old new before after
     part-unwritten count left after_it old between new before half after buf n so_far size r wrote =

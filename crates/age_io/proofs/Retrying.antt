@@ -1,8 +1,10 @@
 -- What an interrupted call says.
-use Rattle.std.proofs.Common.{◌≡◌, ℕ, ◌<◌, IsTrue, Result, Ok, Err, IfErr, OnErr}
+use Rattle.std.proofs.Common.{◌≡◌, ℕ, ◌<◌, IsTrue, Result, Ok, Err, IfErr, OnErr, inl, inr, subst}
 use Rattle.std.specs.Prelude.{IsErrAnd}
 use Rattle.age_io.specs.declared.traits.Read.{Ghosts}
+use Rattle.age_io.specs.Cursor.{IsSeekRefusal}
 use Rattle.age_io.specs.Keeping.{SameReader}
+use Rattle.age_io.specs.Reading.{AddsNoReason, TriedAgain}
 use Rattle.age_error.specs.Refusals.{IsDevice, IsInterruption}
 use Rattle.age_error.specs.declared.io.Error.{Error}
 use Rattle.age_error.specs.declared.io.Error.TheVariants.{Device}
@@ -40,3 +42,32 @@ pub record Interrupted {R : Type 0} (read : Ghosts R) (old new : R) (calls : ℕ
   pub rose : 0 < calls → read.faults old < read.faults new
   pub same_place : IsTrue (read.tells old) → read.place new ≡ read.place old
   pub same_rest : IsTrue (read.tells old) → read.rest new ≡ read.rest old
+  pub narrows : AddsNoReason read.refuses old new
+  pub worn : 0 < calls → read.refuses old (Device interrupted)
+
+-- an interruption is none of the refusals of seeks
+pub sought-interruption : (e : Error) → IsInterruption e → IsSeekRefusal e → ⊥
+sought-interruption (Device kind) is refusal = elim refusal [ inl outside ↦ outside | inr other ↦ elim other [ inl same ↦ cc | inr same ↦ cc ] ]
+sought-interruption _ is refusal = is
+
+module _ {S : Type 0} (refuses : S → Error → Type 0) where
+  -- none of these errors is an interruption
+  pub tried-patient : (s : S) (e : Error) → TriedAgain refuses s e → IsInterruption e → ⊥
+  tried-patient s e h is = elim h [
+    | inl plain ↦ plain.0 is
+    | inr worn ↦ subst IsInterruption worn.0 is
+  ]
+
+  -- two states, where interruptions are tried again
+  pub tried-narrows : (a b : S) → AddsNoReason refuses a b → AddsNoReason (TriedAgain refuses) a b
+  tried-narrows a b fewer e h = elim h [
+    | inl plain ↦ inl (plain.0, fewer e plain.1)
+    | inr worn ↦ inr (worn.0, fewer (Device interrupted) worn.1)
+  ]
+
+  -- who tries again what was tried again changes nothing
+  pub tried-once : (s : S) (e : Error) → TriedAgain (TriedAgain refuses) s e → TriedAgain refuses s e
+  tried-once s e h = elim h [
+    | inl plain ↦ plain.1
+    | inr worn ↦ absurd (tried-patient s (Device interrupted) worn.1 tt)
+  ]

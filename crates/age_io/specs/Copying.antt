@@ -1,5 +1,8 @@
 -- What of a list was appended to a writer, and where the reader stands that it came from.
-use Rattle.std.specs.Prelude.{◌≡◌, ℕ, ◌+◌, ◌≤◌, Bool, IsTrue, List, ◌++◌, length}
+use Rattle.std.specs.Prelude.{◌≡◌, ℕ, ◌+◌, ◌≤◌, ◌⊎◌, Bool, IsTrue, List, ◌++◌, length}
+use Rattle.age_error.specs.declared.io.Error.{Error}
+use Rattle.age_error.specs.declared.io.Error.TheVariants.{OutOfMemory}
+use Rattle.age_io.specs.Writing.{Retried, HandsOn}
 use Rattle.age_io.specs.declared.traits.Read.{Ghosts}
 use Rattle.age_io.specs.Keeping.{SameReader}
 use Rattle.age_io.specs.Reading.{Gave}
@@ -30,3 +33,11 @@ pub record CopiesFront {S : Type 0} (read : Ghosts S) {W : Type 0} (writer_tells
   -- of a reader that tells its bytes
   pub gave : IsTrue (read.tells old) → Gave given (read.rest old) (read.rest new)
   pub moves : IsTrue (read.tells old) → read.place new ≡ read.place old + length given
+
+-- Why copying refuses: for want of memory, or as the reader or the writer does.
+abbrev pub CopyRefuses : (Error → Type 0) → (Error → Type 0) → Error → Type 0
+CopyRefuses reads writes e = (e ≡ OutOfMemory) ⊎ reads e ⊎ writes e
+
+-- A writer refuses that is given all of a list, whose interruptions are tried again. The list is known where `told`.
+abbrev pub RefusesAll : {W : Type 0} → (W → ℕ → Error → Type 0) → W → Type 0 → ℕ → Error → Type 0
+RefusesAll refuses writer told size e = HandsOn refuses writer e × (told → Retried refuses writer size e)

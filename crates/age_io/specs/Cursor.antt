@@ -1,10 +1,10 @@
 -- A cursor over a list: where its seeks lead, and what a seek does to the meaning of a reader.
-use Rattle.std.specs.Prelude.{◌≡◌, ◌≢◌, ℕ, ◌+◌, ◌-◌, ◌≤◌, ◌<◌, ℤ, pos, negsuc, Bool, IsTrue, length, nat_lt, nat_le, if◌then◌else◌, Option, Some, None, Result, Ok, Err, IfOk, IfErr, OnOk, OnErr, ⊤}
+use Rattle.std.specs.Prelude.{◌≡◌, ◌≢◌, ℕ, ◌+◌, ◌-◌, ◌≤◌, ◌<◌, ℤ, pos, negsuc, Bool, IsTrue, length, nat_lt, nat_le, if◌then◌else◌, ◌⊎◌, Option, Some, None, Result, Ok, Err, IfOk, IfErr, OnOk, OnErr, ⊤}
 use Rattle.age_io.specs.Stretch.{Stretch, from_place}
-use Rattle.age_io.specs.Reading.{IsQuiet, most_faults}
+use Rattle.age_io.specs.Reading.{IsQuiet, AddsNoReason, most_faults}
 use Rattle.age_error.specs.Refusals.{IsDevice, IsInterruption}
 use Rattle.age_error.specs.declared.io.Error.{Error}
-use Rattle.age_error.specs.declared.io.Error.TheVariants.{OutOfMemory, BeforeStart, PastEnd}
+use Rattle.age_error.specs.declared.io.Error.TheVariants.{OutOfMemory, BeforeStart, PastEnd, TooLong, Failed}
 use Rattle.age_error.specs.declared.io.SeekFrom.{SeekFrom}
 use Rattle.age_error.specs.declared.io.SeekFrom.TheVariants.{Start, End, Current}
 
@@ -40,8 +40,13 @@ IsOutside BeforeStart = Unit {0}
 IsOutside PastEnd = Unit {0}
 IsOutside _ = ⊥
 
+-- What only a seek refuses with: its target is outside the content, the content or the place is past what a place may be, or what
+-- it was asked of below is not where it was found.
+abbrev pub IsSeekRefusal : Error → Type 0
+IsSeekRefusal e = IsOutside e ⊎ (e ≡ TooLong) ⊎ (e ≡ Failed)
+
 -- What a seek does: a target from 0 to the length is moved to, any other is refused and moves nothing.
-pub record Seeks {S : Type 0} (tells steady : S → Bool) (content : S → Stretch) (place : S → ℕ) (rest : S → Stretch) (faults : S → ℕ)
+pub record Seeks {S : Type 0} (tells steady : S → Bool) (content : S → Stretch) (place : S → ℕ) (rest : S → Stretch) (faults : S → ℕ) (refuses : S → Error → Type 0)
     (old new : S) (to : SeekFrom) (result : Result ℕ Error) : Type 0 where
   -- of every reader
   pub same_tells : tells new ≡ tells old
@@ -49,6 +54,10 @@ pub record Seeks {S : Type 0} (tells steady : S → Bool) (content : S → Stret
   pub no_fewer_faults : faults old ≤ faults new
   pub device : IfErr result (λ e. IsDevice e → faults old < faults new)
   pub unspent : OnOk result (faults new < most_faults)
+  pub why : IfErr result (λ e. IsSeekRefusal e ⊎ refuses old e)
+  pub narrows : OnOk result (AddsNoReason refuses old new)
+  pub again : IfErr result (λ e. IsInterruption e → AddsNoReason refuses old new)
+  pub missed : IfErr result (λ e. IsOutside e → AddsNoReason refuses old new)
   -- of a reader that tells its bytes
   pub same_content : IsTrue (tells old) → content new ≡ content old
   pub arrives : IsTrue (tells old) → IfOk result (λ n. place new ≡ n)

@@ -1,9 +1,10 @@
 -- What a call on a reader does to its meaning.
-use Rattle.std.specs.Prelude.{◌≡◌, ◌≢◌, ℕ, ◌+◌, ◌-◌, ◌^◌, ◌≤◌, ◌<◌, Bool, false, IsTrue, List, ◌++◌, length, take, ◌⊎◌, Result, IfOk, IfErr, OnErr}
+use Rattle.std.specs.Prelude.{◌≡◌, ◌≢◌, ℕ, ◌+◌, ◌-◌, ◌^◌, ◌≤◌, ◌<◌, Bool, false, IsTrue, List, ◌++◌, length, take, ◌⊎◌, Result, IfOk, IfErr, OnOk, OnErr}
 use Rattle.age_io.specs.Stretch.{Stretch, nothing, from_place, IsCleanEnd, IsFault}
 use Rattle.age_error.specs.Refusals.{IsDevice, IsInterruption}
 use Rattle.age_error.specs.declared.io.Error.{Error}
-use Rattle.age_error.specs.declared.io.Error.TheVariants.{UnexpectedEof, OutOfMemory}
+use Rattle.age_error.specs.declared.io.Error.TheVariants.{Device, UnexpectedEof, OutOfMemory}
+use Rattle.age_error.specs.declared.io.ErrorKind.TheVariants.{Interrupted, Other}
 
 -- the largest count of faults: it is used up, and its device is asked no more
 abbrev pub most_faults : ℕ
@@ -28,8 +29,16 @@ pub record StandsIn (content : Stretch) (place : ℕ) (rest : Stretch) : Type 0 
   pub within : place ≤ length content.bytes
   pub reaches : (rest ≡ from_place place content) ⊎ (rest ≡ nothing)
 
+-- What the new state may refuse with, the old one may.
+abbrev pub AddsNoReason : {S : Type 0} → (S → Error → Type 0) → S → S → Type 0
+AddsNoReason refuses old new = (e : Error) → refuses new e → refuses old e
+
+-- Why it refuses whose interruptions are tried again: as it does, but that the last of too many of them is `Device(Other)`.
+abbrev pub TriedAgain : {S : Type 0} → (S → Error → Type 0) → S → Error → Type 0
+TriedAgain refuses s e = ((IsInterruption e → ⊥) × refuses s e) ⊎ ((e ≡ Device Other) × refuses s (Device Interrupted))
+
 -- What a read does: at `Ok(n)` the next n bytes stand in front of the buffer.
-pub record Reads {S : Type 0} (tells steady : S → Bool) (content : S → Stretch) (place : S → ℕ) (rest : S → Stretch) (faults : S → ℕ)
+pub record Reads {S : Type 0} (tells steady : S → Bool) (content : S → Stretch) (place : S → ℕ) (rest : S → Stretch) (faults : S → ℕ) (refuses : S → Error → Type 0)
     (old new : S) (buf : List ℕ) (result : Result ℕ Error) : Type 0 where
   -- of every reader
   pub count : IfOk result (λ n. n ≤ length buf)
@@ -38,6 +47,9 @@ pub record Reads {S : Type 0} (tells steady : S → Bool) (content : S → Stret
   pub no_fewer_faults : faults old ≤ faults new
   pub device : IfErr result (λ e. IsDevice e → faults old < faults new)
   pub unspent : IfOk result (λ _. 0 < length buf → faults new < most_faults)
+  pub why : IfErr result (refuses old)
+  pub narrows : OnOk result (AddsNoReason refuses old new)
+  pub again : IfErr result (λ e. IsInterruption e → AddsNoReason refuses old new)
   -- of a reader that tells its bytes
   pub same_content : IsTrue (tells old) → content new ≡ content old
   pub bytes : IsTrue (tells old) → IfOk result (λ n. Delivers (take n buf) (rest old) (rest new))
@@ -49,12 +61,13 @@ pub record Reads {S : Type 0} (tells steady : S → Bool) (content : S → Stret
   pub cause : IsTrue (tells old) → IfErr result (λ e. e ≢ OutOfMemory → IsQuiet (faults old) (faults new) → IsFault (rest old))
 
 -- What several reads do that give these bytes in all.
-pub record GivesInAll {S : Type 0} (tells steady : S → Bool) (content : S → Stretch) (place : S → ℕ) (rest : S → Stretch) (faults : S → ℕ)
+pub record GivesInAll {S : Type 0} (tells steady : S → Bool) (content : S → Stretch) (place : S → ℕ) (rest : S → Stretch) (faults : S → ℕ) (refuses : S → Error → Type 0)
     (old new : S) (got : List ℕ) : Type 0 where
   -- of every reader
   pub same_tells : tells new ≡ tells old
   pub same_steady : steady new ≡ steady old
   pub no_fewer_faults : faults old ≤ faults new
+  pub narrows : AddsNoReason refuses old new
   -- of a reader that tells its bytes
   pub same_content : IsTrue (tells old) → content new ≡ content old
   pub bytes : IsTrue (tells old) → Delivers got (rest old) (rest new)

@@ -69,27 +69,27 @@ abbrev pub IsNoWant : Answer → Type 0
 IsNoWant (Fault got error) = error ≢ OutOfMemory
 IsNoWant _ = Unit {0}
 
-module _ {S : Type 0} (tells steady : S → Bool) (content : S → Stretch) (place : S → ℕ) (rest : S → Stretch) (faults : S → ℕ) where
+module _ {S : Type 0} (tells steady : S → Bool) (content : S → Stretch) (place : S → ℕ) (rest : S → Stretch) (faults : S → ℕ) (refuses : S → Error → Type 0) where
   -- Reads were asked for so many bytes in all, and gave fewer at a clean end alone.
   pub record GivesUpTo (wanted : ℕ) (got : List ℕ) (old new : S) : Type 0 where
     pub most : length got ≤ wanted
-    pub gives : GivesInAll tells steady content place rest faults old new got
+    pub gives : GivesInAll tells steady content place rest faults refuses old new got
     pub end : IsTrue (tells old) → length got < wanted → IsCleanEnd (rest new)
 
   -- They were asked for so many bytes, and gave fewer, since the next read refused with this error.
   pub record GivesThenRefuses (wanted : ℕ) (got : List ℕ) (e : Error) (old new : S) : Type 0 where
     pub fewer : length got < wanted
     pub between : S
-    pub gives : GivesInAll tells steady content place rest faults old between got
+    pub gives : GivesInAll tells steady content place rest faults refuses old between got
     pub buf : List ℕ
-    pub refuses : Reads tells steady content place rest faults between new buf (Err e)
+    pub refused : Reads tells steady content place rest faults refuses between new buf (Err e)
 
   -- this answer came of a read or a seek, which left the reader so
   abbrev pub CameOf : Op → Answer → S → S → Type 0
   CameOf (Read n) (Bytes got) old new = GivesUpTo n got.items old new
   CameOf (Read n) (Fault got e) old new = GivesThenRefuses n got.items e old new
-  CameOf (Seek to) (At n) old new = Seeks tells steady content place rest faults old new to (Ok n)
-  CameOf (Seek to) (Fault got e) old new = (got.items ≡ []) × Seeks tells steady content place rest faults old new to (Err e)
+  CameOf (Seek to) (At n) old new = Seeks tells steady content place rest faults refuses old new to (Ok n)
+  CameOf (Seek to) (Fault got e) old new = (got.items ≡ []) × Seeks tells steady content place rest faults refuses old new to (Err e)
   CameOf _ _ old new = ⊥
 
   -- these answers came of reads and seeks in turn, each from the state in which the one before it left the reader

@@ -30,10 +30,13 @@ CountsFaults old new result = MatchResult result (λ _. new ≡ old) (λ e. IsDe
 abbrev pub IsNoDevice : Error → Type 0
 IsNoDevice e = IsDevice e → ⊥
 
--- What writes to a device answer that aren't taken: a fault of its own, `Failed` once its faults are used up, and
--- `WriteZero`, where it takes none of the bytes.
-abbrev pub IsDeviceRefusal : Error → Type 0
-IsDeviceRefusal e = IsDevice e ⊎ (e ≡ Failed) ⊎ (e ≡ WriteZero)
+-- What calls on a device are refused with: a fault of its own, and `Failed` once its faults are used up.
+abbrev pub IsReadRefusal : Error → Type 0
+IsReadRefusal e = IsDevice e ⊎ (e ≡ Failed)
+
+-- Writes besides with `WriteZero`, where it takes none of the bytes.
+abbrev pub IsWriteRefusal : Error → Type 0
+IsWriteRefusal e = IsDevice e ⊎ (e ≡ Failed) ⊎ (e ≡ WriteZero)
 
 -- a fault of the device is one fault more, and nothing else counts as one
 abbrev pub CountsOwnFaults : {T : Type 0} → ℕ → ℕ → Result T Error → Type 0

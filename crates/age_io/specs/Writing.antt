@@ -1,10 +1,9 @@
 -- What a call on a writer does to its meaning, and why it refuses.
 use Rattle.std.specs.Prelude.{◌≡◌, ℕ, ◌+◌, ◌≤◌, ◌<◌, ◌⊎◌, Bool, IsTrue, List, [], length, take, Result, IfOk, IfErr, OnOk, OnErr}
-use Rattle.age_io.specs.Reading.{most_faults}
+use Rattle.age_io.specs.Reading.{TriedAgain, most_faults}
 use Rattle.age_error.specs.Refusals.{IsDevice, IsInterruption}
 use Rattle.age_error.specs.declared.io.Error.{Error}
-use Rattle.age_error.specs.declared.io.Error.TheVariants.{Device, OutOfMemory, WriteZero}
-use Rattle.age_error.specs.declared.io.ErrorKind.TheVariants.{Interrupted, Other}
+use Rattle.age_error.specs.declared.io.Error.TheVariants.{OutOfMemory, WriteZero}
 
 -- What the new state may refuse while it is given some bytes more, the old one may while it is given those after these.
 abbrev pub Narrows : {S : Type 0} → (S → ℕ → Error → Type 0) → S → ℕ → S → Type 0
@@ -14,9 +13,9 @@ Narrows refuses old between new = (more : ℕ) (e : Error) → refuses new more 
 abbrev pub NarrowsSome : {S : Type 0} → (S → ℕ → Error → Type 0) → S → ℕ → S → Type 0
 NarrowsSome refuses old most new = (n : ℕ) × (n ≤ most) × Narrows refuses old n new
 
--- Why a writer refuses whose interruptions are tried again: as it does, but that the last of too many of them is `Device(Other)`.
+-- why a writer refuses whose interruptions are tried again
 abbrev pub Retried : {S : Type 0} → (S → ℕ → Error → Type 0) → S → ℕ → Error → Type 0
-Retried refuses writer n e = ((IsInterruption e → ⊥) × refuses writer n e) ⊎ ((e ≡ Device Other) × refuses writer n (Device Interrupted))
+Retried refuses writer n = TriedAgain (λ w. refuses w n) writer
 
 -- as it does, or for want of memory
 abbrev pub OrMemory : {S : Type 0} → (S → ℕ → Error → Type 0) → S → ℕ → Error → Type 0

@@ -7,8 +7,8 @@ ghost use Rattle.std.proofs.Common.{arith};
 ghost use Rattle.age_error.specs.Refusals.{IsDevice, IsInterruption};
 ghost use Rattle.age_error.specs.declared.io.Error.TheVariants.{OutOfMemory, Failed};
 ghost use Rattle.age_io.specs.Stretch.{IsCleanEnd, IsFault, from_place};
-ghost use Rattle.age_io.specs.Reading.{Reads, IsQuiet, Delivers, most_faults};
-ghost use Rattle.age_io.specs.Keeping.{KeepsReader};
+ghost use Rattle.age_io.specs.Reading.{Reads, IsQuiet, Delivers, TriedAgain, most_faults};
+ghost use Rattle.age_io.specs.Keeping.{KeepsReader, OrSeek};
 ghost use Rattle.age_io.specs.Failing.{FailsForGood};
 ghost use Rattle.age_io.specs.Filling.{IsFront, Fills, Consumes};
 ghost use Rattle.age_io.specs.Cursor.{Seeks, IsOutside, place_at};
@@ -51,7 +51,7 @@ pub struct BufReader<R: Read> {
 }
 
 impl<R: Read> Read for BufReader<R> {
-    ghost use Rattle.age_io.specs.Buffered.{inner_of, has_failed, place_of, rest_of};
+    ghost use Rattle.age_io.specs.Buffered.{inner_of, has_failed, place_of, rest_of, refuses_of};
 
     ghost tells = { λ r. R.tells (inner_of r) };
 
@@ -64,6 +64,8 @@ impl<R: Read> Read for BufReader<R> {
     ghost rest = { λ r. rest_of r };
 
     ghost faults = { λ r. R.faults (inner_of r) };
+
+    ghost refuses = { λ r. refuses_of r };
 
     ghost faults_fit = { λ r. R.faults_fit r.inner };
 
@@ -89,7 +91,7 @@ impl<R: Read> Read for BufReader<R> {
     /// holds then isn't said. A failed reader answers `Failed`, also into an empty buffer.
     fn read(&mut self, buf: &mut [u8]) -> Result<usize, Error>
         ensures reads { let reader = ⟦<BufReader<R> as Read>⟧ in
-            Reads reader.tells reader.steady reader.content reader.place reader.rest reader.faults self.old self.new buf.new result }
+            Reads reader.tells reader.steady reader.content reader.place reader.rest reader.faults reader.refuses self.old self.new buf.new result }
         ensures own { FailsForGood (has_failed self.old) (has_failed self.new) result }
         ensures still { IsTrue (has_failed self.old) → self.new ≡ self.old }
         ensures empty { has_failed self.old ≡ false → length buf.old ≡ 0 → (result ≡ Ok 0) × (self.new ≡ self.old) }
@@ -156,7 +158,7 @@ impl<R: Read> BufReader<R> {
         requires empty { self.old.given ≡ self.old.filled }
         requires some { 0 < length buf.old }
         ensures reads { let reader = ⟦<BufReader<R> as Read>⟧ in
-            Reads reader.tells reader.steady reader.content reader.place reader.rest reader.faults self.old self.new buf.new result }
+            Reads reader.tells reader.steady reader.content reader.place reader.rest reader.faults reader.refuses self.old self.new buf.new result }
         ensures own { FailsForGood (has_failed self.old) (has_failed self.new) result }
     {
         self.failed = true;
@@ -168,7 +170,7 @@ impl<R: Read> BufReader<R> {
     // Reads ahead where nothing is held. After a success nothing is held at a clean end alone.
     fn hold(&mut self) -> Result<(), Error>
         requires { self.old.failed ≡ false }
-        ensures keeps { KeepsReader ⟦<R as Read>⟧ self.old.inner self.new.inner result }
+        ensures keeps { KeepsReader ⟦<R as Read>⟧ (TriedAgain R.refuses) self.old.inner self.new.inner result }
         ensures unspent { OnOk result (R.faults self.new.inner < most_faults) }
         ensures good { OnOk result (self.new.failed ≡ false) }
         ensures fails { OnErr result (self.new.failed ≡ true) }
@@ -249,7 +251,7 @@ impl<R: Read> BufRead for BufReader<R> {
     fn consume(&mut self, amount: usize)
         requires { amount ≤ length (shown_of self.old) }
         ensures consumes { let reader = ⟦<BufReader<R> as Read>⟧ in
-            Consumes reader.tells reader.steady reader.content reader.place reader.rest reader.faults (λ r. shown_of r) self.old self.new amount }
+            Consumes reader.tells reader.steady reader.content reader.place reader.rest reader.faults reader.refuses (λ r. shown_of r) self.old self.new amount }
         ensures failed { has_failed self.new ≡ has_failed self.old }
     {
         self.given += amount;
@@ -261,7 +263,7 @@ impl<R: Seek> BufReader<R> {
 
     // Lets go of what is held, so that the inner reader stands where this one does.
     fn put_back(&mut self) -> Result<(), Error>
-        ensures keeps { KeepsReader ⟦<R as Read>⟧ self.old.inner self.new.inner result }
+        ensures keeps { KeepsReader ⟦<R as Read>⟧ (OrSeek (TriedAgain R.refuses)) self.old.inner self.new.inner result }
         ensures empty { OnOk result (self.new.given ≡ self.new.filled) }
         ensures same { OnOk result (self.new.failed ≡ self.old.failed) }
         ensures fails { OnErr result (self.new.failed ≡ true) }
@@ -301,13 +303,16 @@ impl<R: Seek> Seek for BufReader<R> {
     /// it was; any other leaves it failed.
     fn seek(&mut self, to: SeekFrom) -> Result<u64, Error>
         ensures seeks { let reader = ⟦<BufReader<R> as Read>⟧ in
-            Seeks reader.tells reader.steady reader.content reader.place reader.rest reader.faults self.old self.new to result }
+            Seeks reader.tells reader.steady reader.content reader.place reader.rest reader.faults reader.refuses self.old self.new to result }
         ensures patient { IfErr result (λ e. IsInterruption e → ⊥) }
         ensures good { OnOk result (has_failed self.new ≡ false) }
         ensures unmoved { IfErr result (λ e. IsOutside e → has_failed self.new ≡ has_failed self.old) }
         ensures fails { IfErr result (λ e. (IsOutside e → ⊥) → IsTrue (has_failed self.new)) }
     {
-        self.put_back()?;
+        match self.put_back() {
+            Err(e) => return Err(e),
+            Ok(()) => {}
+        }
         match seek_retrying(&mut self.inner, to) {
             Ok(place) => {
                 self.failed = false;

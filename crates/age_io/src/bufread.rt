@@ -22,15 +22,15 @@ pub trait BufRead: Read {
     /// Shows a beginning of the rest, empty only at a clean end. The place stays where it is.
     ///
     /// It refuses where a read would: only where the device failed in this call or has failed 2^64 - 1 times, where
-    /// memory was refused, or where nothing but a fault is left. `Device(kind)` says that the device failed in this
-    /// call. After `Device(Interrupted)` the call may be made again.
+    /// memory was refused, or where nothing but a fault is left, and as `refuses` says. `Device(kind)` says that the
+    /// device failed in this call. After `Device(Interrupted)` the call may be made again.
     fn fill_buf(&mut self) -> Result<&[u8], Error>
         ensures front { IsTrue (Self.tells self.old) → IfOk result (λ front. IsFront front.now (Self.rest self.old)) }
         ensures end { IsTrue (Self.tells self.old) → IfOk result (λ front. length front.now ≡ 0 →
             IsCleanEnd (Self.rest self.old)) }
         // Once what was shown is let go:
         ensures* after { sem 𝓛 (Rests Self.row self.entry (λ new.
-            Fills Self.tells Self.steady Self.content Self.place Self.rest Self.faults shown besides self.old new result)) };
+            Fills Self.tells Self.steady Self.content Self.place Self.rest Self.faults Self.refuses shown besides self.old new result)) };
 
     /// Takes the first `amount` bytes of what was shown: the place moves behind them. It asks no device and takes no
     /// memory.
@@ -38,7 +38,7 @@ pub trait BufRead: Read {
     /// `amount` is at most the count of the bytes that the last `fill_buf` showed, less those consumed since.
     fn consume(&mut self, amount: usize)
         requires { amount ≤ length (shown self.old) }
-        ensures { Consumes Self.tells Self.steady Self.content Self.place Self.rest Self.faults shown self.old self.new amount };
+        ensures { Consumes Self.tells Self.steady Self.content Self.place Self.rest Self.faults Self.refuses shown self.old self.new amount };
 }
 
 impl<R: BufRead> BufRead for &mut R {

@@ -1,9 +1,10 @@
 //! Copying what a reader still has to a writer.
 ghost use Rattle.std.specs.Prelude.{◌≡◌, ℕ, ◌<◌, ◌≤◌, ◌⊎◌, IsTrue, List, ◌++◌, length, take, OnOk, OnErr, IfErr, ⊤};
 ghost use Rattle.age_error.specs.Refusals.{IsDevice};
-ghost use Rattle.age_io.specs.Reading.{IsQuiet, GivesInAll};
+ghost use Rattle.age_error.specs.declared.io.Error.TheVariants.{TooLong};
+ghost use Rattle.age_io.specs.Reading.{IsQuiet, GivesInAll, TriedAgain};
 ghost use Rattle.age_io.specs.Writing.{Narrows, NarrowsSome, Retried, OrMemory};
-ghost use Rattle.age_io.specs.Copying.{AppendsFront, CopiesFront};
+ghost use Rattle.age_io.specs.Copying.{AppendsFront, CopiesFront, CopyRefuses, RefusesAll};
 
 use crate::retry::read_retrying;
 use crate::traits::{Read, Write};
@@ -32,7 +33,7 @@ pub fn copy_all<R: Read, W: Write>(
         (IsTrue (R.rest reader.old).ends_well × W.appended writer.old (R.rest reader.old).bytes writer.new) }
     ensures front { IsTrue (R.tells reader.old) → IsTrue (W.tells writer.old) →
         AppendsFront W.appended (R.rest reader.old).bytes writer.old writer.new }
-    ensures stands { OnOk result (GivesInAll R.tells R.steady R.content R.place R.rest R.faults reader.old reader.new (R.rest reader.old).bytes) }
+    ensures stands { OnOk result (GivesInAll R.tells R.steady R.content R.place R.rest R.faults (TriedAgain R.refuses) reader.old reader.new (R.rest reader.old).bytes) }
     ensures left { OnErr result (CopiesFront ⟦<R as Read>⟧ W.tells W.appended
         (λ _. ⊤) reader.old reader.new writer.old writer.new) }
     // Why it refuses, where the reader has no fault.
@@ -40,6 +41,9 @@ pub fn copy_all<R: Read, W: Write>(
         (R.faults reader.old < R.faults reader.new) ⊎ (W.faults writer.old < W.faults writer.new)) }
     ensures why { IsTrue (R.tells reader.old) → IsTrue (R.rest reader.old).ends_well → IsQuiet (R.faults reader.old) (R.faults reader.new) →
         IfErr result (OrMemory (Retried W.refuses) writer.old (length (R.rest reader.old).bytes)) }
+    ensures named { IfErr result (λ e. CopyRefuses (TriedAgain R.refuses reader.old)
+        (RefusesAll W.refuses writer.old (IsTrue (R.tells reader.old)) (length (R.rest reader.old).bytes)) e
+        ⊎ ((e ≡ TooLong) × (IsTrue (R.tells reader.old) → ⊥))) }
     ensures narrows { IsTrue (R.tells reader.old) →
         OnOk result (Narrows (Retried W.refuses) writer.old (length (R.rest reader.old).bytes) writer.new) }
 {
@@ -74,7 +78,7 @@ pub fn copy_some<R: Read, W: Write>(
         × (length (R.rest reader.old).bytes < count → IsTrue (R.rest reader.old).ends_well)) }
     ensures front { IsTrue (R.tells reader.old) → IsTrue (W.tells writer.old) →
         AppendsFront W.appended (take count (R.rest reader.old).bytes) writer.old writer.new }
-    ensures stands { OnOk result (GivesInAll R.tells R.steady R.content R.place R.rest R.faults reader.old reader.new
+    ensures stands { OnOk result (GivesInAll R.tells R.steady R.content R.place R.rest R.faults (TriedAgain R.refuses) reader.old reader.new
         (take count (R.rest reader.old).bytes)) }
     ensures left { OnErr result (CopiesFront ⟦<R as Read>⟧ W.tells W.appended
         (λ given. length given ≤ count) reader.old reader.new writer.old writer.new) }
@@ -83,6 +87,7 @@ pub fn copy_some<R: Read, W: Write>(
         (R.faults reader.old < R.faults reader.new) ⊎ (W.faults writer.old < W.faults writer.new)) }
     ensures why { IsTrue (R.tells reader.old) → IsTrue (R.rest reader.old).ends_well → IsQuiet (R.faults reader.old) (R.faults reader.new) →
         IfErr result (OrMemory (Retried W.refuses) writer.old count) }
+    ensures named { IfErr result (CopyRefuses (TriedAgain R.refuses reader.old) (Retried W.refuses writer.old count)) }
     ensures narrows { OnOk result (NarrowsSome (Retried W.refuses) writer.old count writer.new) }
 {
     let mut piece = room_for(alloc, ROOM)?;

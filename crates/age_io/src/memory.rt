@@ -70,6 +70,8 @@ impl<'a> Read for Bytes<'a> {
 
     ghost faults = { λ _. 0 };
 
+    ghost refuses = { λ _ _. ⊥ };
+
     ghost faults_fit = { λ _. Prim.omega arith };
 
     ghost spent = { λ _ _ is. absurd (Prim.omega arith) };
@@ -88,7 +90,7 @@ impl<'a> Read for Bytes<'a> {
     /// the buffer behind them as it was.
     fn read(&mut self, buf: &mut [u8]) -> Result<usize, Error>
         ensures reads { let reader = ⟦<Bytes<'a> as Read>⟧ in
-            Reads reader.tells reader.steady reader.content reader.place reader.rest reader.faults self.old self.new buf.new result }
+            Reads reader.tells reader.steady reader.content reader.place reader.rest reader.faults reader.refuses self.old self.new buf.new result }
         ensures all { result ≡ Ok (min (length buf.old) (length (⟦<Bytes<'a> as Read>⟧.rest self.old).bytes)) }
         ensures behind { IfOk result (λ n. drop n buf.new ≡ drop n buf.old) }
     {
@@ -123,7 +125,7 @@ impl<'a> Seek for Bytes<'a> {
     /// nothing then.
     fn seek(&mut self, to: SeekFrom) -> Result<u64, Error>
         ensures seeks { let reader = ⟦<Bytes<'a> as Read>⟧ in
-            Seeks reader.tells reader.steady reader.content reader.place reader.rest reader.faults self.old self.new to result }
+            Seeks reader.tells reader.steady reader.content reader.place reader.rest reader.faults reader.refuses self.old self.new to result }
         ensures all { result ≡ Cursor.sought to (place_of self.old) (length (bytes_of self.old)) }
         ensures refuses { OnErr result (self.new ≡ self.old) }
     {

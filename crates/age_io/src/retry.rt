@@ -2,7 +2,7 @@
 ghost use Rattle.std.specs.Prelude.{◌≡◌, ◌<◌, IsTrue, length, false, IfErr, IsErrAnd};
 ghost use Rattle.age_error.specs.Refusals.{IsInterruption};
 ghost use Rattle.age_io.specs.Cursor.{Seeks};
-ghost use Rattle.age_io.specs.Reading.{Reads};
+ghost use Rattle.age_io.specs.Reading.{Reads, TriedAgain};
 ghost use Rattle.age_io.specs.Writing.{Retried, Writes, Flushes};
 
 use crate::seeking::Seek;
@@ -43,7 +43,7 @@ macro_rules! retried {
 /// `Device(Interrupted)` (`patient`).
 pub fn read_retrying<R: Read>(reader: &mut R, buf: &mut [u8]) -> Result<usize, Error>
     requires { 0 < length buf.old }
-    ensures reads { Reads R.tells R.steady R.content R.place R.rest R.faults reader.old reader.new buf.new result }
+    ensures reads { Reads R.tells R.steady R.content R.place R.rest R.faults (TriedAgain R.refuses) reader.old reader.new buf.new result }
     ensures patient { IfErr result (λ e. IsInterruption e → ⊥) }
 {
     retried!(_try, reader.read(buf))
@@ -55,7 +55,7 @@ pub fn read_retrying<R: Read>(reader: &mut R, buf: &mut [u8]) -> Result<usize, E
 /// All tries together do what one seek may (`seeks`): at `Ok(n)` the reader stands at n, and after a refusal where it
 /// stood. It is never `Device(Interrupted)` (`patient`).
 pub fn seek_retrying<R: Seek>(reader: &mut R, to: SeekFrom) -> Result<u64, Error>
-    ensures seeks { Seeks R.tells R.steady R.content R.place R.rest R.faults reader.old reader.new to result }
+    ensures seeks { Seeks R.tells R.steady R.content R.place R.rest R.faults (TriedAgain R.refuses) reader.old reader.new to result }
     ensures patient { IfErr result (λ e. IsInterruption e → ⊥) }
 {
     retried!(_try, reader.seek(to))

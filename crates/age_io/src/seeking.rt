@@ -11,10 +11,10 @@ pub trait Seek: Read {
     ///
     /// A refusal leaves the place. `BeforeStart` says that the target is below 0, and `PastEnd` that it is above the
     /// length; then the rest stays too. On a content that ends well any other refusal comes only where the device
-    /// failed in this call or has failed 2^64 - 1 times, or where memory was refused. `Device(kind)` says that the
-    /// device failed in this call. After `Device(Interrupted)` the call may be made again.
+    /// failed in this call or has failed 2^64 - 1 times, or where memory was refused. On any content it is `TooLong`,
+    /// `Failed`, or one that `refuses` names. `Device(kind)` says that the device failed in this call. After `Device(Interrupted)` the call may be made again.
     fn seek(&mut self, to: SeekFrom) -> Result<u64, Error>
-        ensures { Seeks Self.tells Self.steady Self.content Self.place Self.rest Self.faults self.old self.new to result };
+        ensures { Seeks Self.tells Self.steady Self.content Self.place Self.rest Self.faults Self.refuses self.old self.new to result };
 }
 
 impl<R: Seek> Seek for &mut R {

@@ -9,7 +9,7 @@ ghost use Rattle.age_io.specs.Stretch.{Stretch, nothing};
 ghost use Rattle.age_io.specs.Reading.{Reads, most_faults};
 ghost use Rattle.age_io.specs.Cursor.{Seeks};
 ghost use Rattle.age_io.specs.Writing.{Writes, Flushes};
-ghost use Rattle.age_io.specs.Standard.{CountsFaults, CountsOwnFaults, IsNoDevice, IsDeviceRefusal, StandsAfter, sought_below, kind_from};
+ghost use Rattle.age_io.specs.Standard.{CountsFaults, CountsOwnFaults, IsNoDevice, IsReadRefusal, IsWriteRefusal, StandsAfter, sought_below, kind_from};
 
 use crate::seeking::Seek;
 use crate::targets::sought;
@@ -111,6 +111,8 @@ impl<T: io::Read> Read for Std<T> {
 
     ghost faults = { λ r. faults_of r };
 
+    ghost refuses = { λ _. IsReadRefusal };
+
     ghost faults_fit = { λ r. r.fits };
 
     ghost spent = { λ _ _ _. refl };
@@ -130,7 +132,7 @@ impl<T: io::Read> Read for Std<T> {
     /// A refusal is `Device(kind)`, or `Failed` once the faults are used up.
     fn read(&mut self, buf: &mut [u8]) -> Result<usize, Error>
         ensures reads { let reader = ⟦<Std<T> as Read>⟧ in
-            Reads reader.tells reader.steady reader.content reader.place reader.rest reader.faults self.old self.new buf.new result }
+            Reads reader.tells reader.steady reader.content reader.place reader.rest reader.faults reader.refuses self.old self.new buf.new result }
         ensures bytes { ReadConsumes (T.remaining (inner_of self.old)) (T.remaining (inner_of self.new)) result buf.new }
         ensures asked { faults_of self.old < most_faults → CountsFaults (faults_of self.old) (faults_of self.new) result }
         ensures spent { ⟦<Std<T> as Read>⟧.faults self.old ≡ most_faults → (result ≡ Err Failed) × (self.new ≡ self.old) }
@@ -180,7 +182,7 @@ impl<T: io::Read + io::Seek> Seek for Std<T> {
     /// stand elsewhere, or `Failed` once the faults are used up.
     fn seek(&mut self, to: SeekFrom) -> Result<u64, Error>
         ensures seeks { let reader = ⟦<Std<T> as Read>⟧ in
-            Seeks reader.tells reader.steady reader.content reader.place reader.rest reader.faults self.old self.new to result }
+            Seeks reader.tells reader.steady reader.content reader.place reader.rest reader.faults reader.refuses self.old self.new to result }
         ensures moves { faults_of self.old < most_faults → (place : ℕ) (bytes : List ℕ) →
             T.stream_position (inner_of self.old) ≡ Some place → T.stream_bytes (inner_of self.old) ≡ Some bytes →
             StandsAfter (sought_below to place (length bytes)) place (T.stream_position (inner_of self.new)) result }
@@ -208,7 +210,7 @@ impl<T: io::Write> Write for Std<T> {
 
     ghost faults = { λ w. faults_of w };
 
-    ghost refuses = { λ _ _. IsDeviceRefusal };
+    ghost refuses = { λ _ _. IsWriteRefusal };
 
     // Of what went out nothing is known.
     ghost appended = { λ a x b. faults_of a ≤ faults_of b };

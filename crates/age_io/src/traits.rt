@@ -33,13 +33,18 @@ pub trait Read {
     /// How often the device has failed.
     ghost faults: { Self → ℕ };
 
+    /// Which errors its calls may answer, whatever is sought in between, until one was answered: then it may have failed, and
+    /// refuse with `Failed` too. What a seek says of its target is none of them.
+    ghost refuses: { Self → Error → Type 0 };
+
     /// Puts the next n bytes in front of `buf` and answers n. It is 0 only for an empty buffer or at a clean end.
     ///
     /// A refusal leaves the place where it was. It comes only where the device failed in this call or has failed
-    /// 2^64 - 1 times, where memory was refused, or where nothing but a fault is left. `Device(kind)` says that the
-    /// device failed in this call. After `Device(Interrupted)` the call may be made again.
+    /// 2^64 - 1 times, where memory was refused, or where nothing but a fault is left, and is one that `refuses` names.
+    /// `Device(kind)` says that the device failed in this call. What a state after a success or an interruption may refuse
+    /// with, the one before it may. After `Device(Interrupted)` the call may be made again.
     fn read(&mut self, buf: &mut [u8]) -> Result<usize, Error>
-        ensures { Reads tells steady content place rest faults self.old self.new buf.new result };
+        ensures { Reads tells steady content place rest faults refuses self.old self.new buf.new result };
 
     /// The count of faults is a u64.
     ghost faults_fit: { (r : Self) → faults r < 2 ^ 64 };
@@ -116,6 +121,8 @@ impl<R: Read> Read for &mut R {
     ghost rest = { λ r. R.rest r.now };
 
     ghost faults = { λ r. R.faults r.now };
+
+    ghost refuses = { λ r. R.refuses r.now };
 
     ghost faults_fit = { λ r. R.faults_fit r.now };
 

@@ -1,10 +1,10 @@
 //! Reads and writes that go on until all is done.
-ghost use Rattle.std.specs.Prelude.{◌≡◌, ◌≢◌, ℕ, ◌+◌, ◌^◌, ◌≤◌, ◌<◌, Bool, IsTrue, List, [], ◌++◌, length, take, vec_len, vec_capacity, All, false, IfOk, OnOk, IfErr, OnErr, Ok, Err};
+ghost use Rattle.std.specs.Prelude.{◌≡◌, ◌≢◌, ℕ, ◌+◌, ◌^◌, ◌≤◌, ◌<◌, ◌⊎◌, Bool, IsTrue, List, [], ◌++◌, length, take, vec_len, vec_capacity, All, false, IfOk, OnOk, IfErr, OnErr, Ok, Err};
 ghost use Rattle.age_error.specs.Refusals.{IsDevice, IsInterruption};
 ghost use Rattle.age_error.specs.declared.io.Error.TheVariants.{OutOfMemory, UnexpectedEof};
 ghost use Rattle.age_io.specs.Stretch.{Stretch, IsCleanEnd, IsFault, from_place};
-ghost use Rattle.age_io.specs.Reading.{IsQuiet, Delivers, StaysOrFails, TookSome, IsShort, Appended, EndsEarly, Gave, most_faults};
-ghost use Rattle.age_io.specs.Keeping.{KeepsReader};
+ghost use Rattle.age_io.specs.Reading.{IsQuiet, Delivers, StaysOrFails, TookSome, IsShort, Appended, EndsEarly, Gave, TriedAgain, most_faults};
+ghost use Rattle.age_io.specs.Keeping.{KeepsReader, OrEarly};
 ghost use Rattle.age_io.specs.Writing.{Retried, WritesAll};
 
 use crate::retry::{read_retrying, write_retrying};
@@ -17,7 +17,7 @@ use std::alloc::Global;
 /// A refusal is that of the read that met it. The reader then stands after the bytes in `filled`, or has failed there.
 /// An interruption is tried again as in `read_retrying`.
 pub fn fill<R: Read>(reader: &mut R, buf: &mut [u8], filled: &mut usize) -> Result<(), Error>
-    ensures keeps { KeepsReader ⟦<R as Read>⟧ reader.old reader.new result }
+    ensures keeps { KeepsReader ⟦<R as Read>⟧ (TriedAgain R.refuses) reader.old reader.new result }
     ensures unspent { 0 < length buf.old → OnOk result (R.faults reader.new < most_faults) }
     ensures count { filled.new ≤ length buf.new }
     ensures moves { IsTrue (R.tells reader.old) → R.place reader.new ≡ R.place reader.old + filled.new }
@@ -46,7 +46,7 @@ pub fn fill<R: Read>(reader: &mut R, buf: &mut [u8], filled: &mut usize) -> Resu
 /// buffer's length, or has failed there; what the buffer holds isn't said. An interruption is tried again as in
 /// `read_retrying`.
 pub fn read_exact<R: Read>(reader: &mut R, buf: &mut [u8]) -> Result<(), Error>
-    ensures keeps { KeepsReader ⟦<R as Read>⟧ reader.old reader.new result }
+    ensures keeps { KeepsReader ⟦<R as Read>⟧ (OrEarly ⟦<R as Read>⟧) reader.old reader.new result }
     ensures unspent { 0 < length buf.old → OnOk result (R.faults reader.new < most_faults) }
     ensures bytes { IsTrue (R.tells reader.old) → OnOk result
         (Delivers buf.new (R.rest reader.old) (R.rest reader.new)) }
@@ -97,7 +97,7 @@ pub fn read_to_end<R: Read>(
     reader: &mut R,
     buf: &mut Vec<u8>,
 ) -> Result<usize, Error>
-    ensures keeps { KeepsReader ⟦<R as Read>⟧ reader.old reader.new result }
+    ensures keeps { KeepsReader ⟦<R as Read>⟧ (λ r e. (e ≡ OutOfMemory) ⊎ TriedAgain R.refuses r e) reader.old reader.new result }
     ensures unspent { OnOk result (R.faults reader.new < most_faults) }
     ensures bytes { IsTrue (R.tells reader.old) → OnOk result
         (buf.new.items ≡ buf.old.items ++ (R.rest reader.old).bytes) }

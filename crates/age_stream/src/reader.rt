@@ -129,7 +129,7 @@ impl<S: Suite, R: Read> Read for StreamReader<S, R> {
     #[tactic(auto, using(crate::proofs::Holding::rest_failed, crate::proofs::Holding::fault_failed))]
     fn read(&mut self, buf: &mut [u8]) -> Result<usize, Error>
         ensures reads { let reader = ⟦<StreamReader<S, R> as Read>⟧ in
-            Reads reader.tells reader.steady reader.content reader.place reader.rest reader.faults self.old self.new buf.new result }
+            Reads reader.tells reader.steady reader.content reader.place reader.rest reader.faults reader.refuses self.old self.new buf.new result }
         ensures patient { IfErr result (λ e. IsInterruption e → ⊥) }
         ensures payload { IsTrue (⟦<StreamReader<S, R> as Read>⟧.tells self.old) → payload_of self.new ≡ payload_of self.old }
         ensures key { key_of self.new ≡ key_of self.old }
@@ -272,7 +272,7 @@ impl<S: Suite, R: Read> StreamReader<S, R> {
         requires good { self.old.failed ≡ false }
         requires some { 0 < length buf.old }
         ensures reads { let reader = ⟦<StreamReader<S, R> as Read>⟧ in
-            Reads reader.tells reader.steady reader.content reader.place reader.rest reader.faults self.old self.new buf.new result }
+            Reads reader.tells reader.steady reader.content reader.place reader.rest reader.faults reader.refuses self.old self.new buf.new result }
         ensures keeps { KeepsPayload ⟦<R as Read>⟧ self.old.inner self.old.taken self.new.inner self.new.taken result }
         ensures key { self.new.key ≡ self.old.key }
         ensures gives { let reader = ⟦<StreamReader<S, R> as Read>⟧ in IsTrue (reader.tells self.old) → IfOk result (λ n. 0 < n →

@@ -333,7 +333,7 @@ impl<S: Suite, R: Seek> Seek for StreamReader<S, R> {
     /// the inner reader stands, so a later seek is exact only over an inner reader whose refusals leave it where it was.
     fn seek(&mut self, to: SeekFrom) -> Result<u64, Error>
         ensures seeks { let reader = ⟦<StreamReader<S, R> as Read>⟧ in
-            Seeks reader.tells reader.steady reader.content reader.place reader.rest reader.faults self.old self.new to result }
+            Seeks reader.tells reader.steady reader.content reader.place reader.rest reader.faults reader.refuses self.old self.new to result }
         ensures patient { IfErr result (λ e. IsInterruption e → ⊥) }
         ensures payload { IsTrue (⟦<StreamReader<S, R> as Read>⟧.tells self.old) → payload_of self.new ≡ payload_of self.old }
         ensures key { key_of self.new ≡ key_of self.old }

@@ -1,10 +1,10 @@
-use Rattle.std.proofs.Common.{rules, ◌≡◌, ◌-◌, ◌≤◌, inr, ◌∙◌, arith, length, take, length-take-le}
+use Rattle.std.proofs.Common.{rules, ◌≡◌, ◌-◌, ◌≤◌, inr, ◌∙◌, refl, arith, length, take, length-take-le}
 use Rattle.std.proofs.lemmas.Grind.{common_steps}
 use Rattle.age_io.specs.Writing.{Retried, OrMemory}
-use Rattle.age_io.specs.WritingLaws.{retried-more}
+use Rattle.age_io.specs.WritingLaws.{narrows-same, retried-more}
 use Rattle.age_io.proofs.Appending.{OnErr-of, left-fewer, left-refused}
 use Rattle.age_io.proofs.Copied.{left-unasked}
-use Rattle.age_io.proofs.PartCopied.{part-front, part-unread, part-refused, part-unwritten, part-more}
+use Rattle.age_io.proofs.PartCopied.{part-none, part-front, part-unread, part-refused, part-unwritten, part-more}
 use Rattle.age_io.proofs.copying.copy_some.Goals as goal
 
 pub returns-in_err-piece-clause-left : goal.returns-in_err-piece-clause-left
@@ -68,6 +68,37 @@ returns-in_err-write_all-clause-why g c = λ reader_told well quiet.
     inr (left-refused refuses (retried-more g.W.Write.refuses g.met.W.Write.refuses_more) c.args.writer.now c.pieces.writer
     c.args.count c.pieces.left (length piece) e (omega (arith, size, fits)) before.has_left c.in_err-write_all.ensures.writes.why) in
     search rules
+
+pub returns-in_err-got-clause-named : goal.returns-in_err-got-clause-named
+returns-in_err-got-clause-named g c =
+    let why = c.pieces.invariant.copied.gives.narrows c.in_err-got.field-0.0 c.in_err-got.ensures.reads.why in
+    search rules
+
+pub returns-in_err-write_all-clause-named : goal.returns-in_err-write_all-clause-named
+returns-in_err-write_all-clause-named g c =
+    let before = c.pieces.invariant in
+    let reads = c.in_ok-got.ensures.reads in
+    let refuses = Retried g.W.Write.refuses in
+    let e = c.in_err-write_all.field-0.0 in
+    let got = c.in_ok-got.got in
+    let piece = take got c.read_retrying.new.buf in
+    let size : length piece ≡ got = length-take-le got c.read_retrying.new.buf reads.count in
+    let fits : got ≤ c.pieces.left = grind (arith, common_steps, reads.count) in
+    let refused : refuses c.args.writer.now c.args.count e =
+    left-refused refuses (retried-more g.W.Write.refuses g.met.W.Write.refuses_more) c.args.writer.now c.pieces.writer
+    c.args.count c.pieces.left (length piece) e (omega (arith, size, fits)) before.has_left c.in_err-write_all.ensures.writes.why in
+    search rules
+
+pub pieces-init : goal.pieces-init
+pieces-init g c =
+    let room = c.in_ok-piece.ensures.length in
+    record {
+      writer_tells = refl;
+      has_left = record { given = 0; joined = omega arith; narrows = narrows-same (Retried g.W.Write.refuses) c.args.writer.now };
+      writer_faults = omega arith;
+      room = omega (arith, room);
+      copied = part-none g.R.Read g.W.Write.tells g.W.Write.appended c.args.count c.args.reader.now c.args.writer.now (g.met.W.Write.appends_nothing c.args.writer.now);
+    }
 
 pub pieces-preserved : goal.pieces-preserved
 pieces-preserved g c =

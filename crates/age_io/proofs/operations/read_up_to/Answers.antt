@@ -14,7 +14,7 @@ reads-preserved g c =
       same = same-later g.R.Read c.args.reader.now c.reads.reader c.read.new.self c.reads.invariant.same (same-read g.R.Read c.reads.reader c.read.new.self got);
       most = grind (arith, common_steps, longer);
       gives =
-          rw grown (gives-more g.R.Read.tells g.R.Read.steady g.R.Read.content g.R.Read.place g.R.Read.rest g.R.Read.faults
+          rw grown (gives-more g.R.Read.tells g.R.Read.steady g.R.Read.content g.R.Read.place g.R.Read.rest g.R.Read.faults g.R.Read.refuses
           c.args.reader.now c.reads.reader c.read.new.self c.reads.got.items c.read.new.buf c.in-Ok.more c.reads.invariant.gives got);
       so_far = λ told whole.
           let before = c.reads.invariant.same.tells ∙ told in

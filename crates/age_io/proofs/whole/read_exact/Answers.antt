@@ -10,6 +10,7 @@ loop-at-preserved g c =
     let got = c.in_ok-n.ensures.reads in
     record {
       same = same-later g.R.Read c.args.reader.now c.loop-at.reader c.read_retrying.new.reader before.same (same-read g.R.Read c.loop-at.reader c.read_retrying.new.reader got);
+      narrows = λ e h. before.narrows e (got.narrows e h);
       within = grind (arith, common_steps);
       moved = λ told. omega (arith, got.moves (before.same.tells ∙ told), before.moved told);
       so_far = λ told.

@@ -1,5 +1,5 @@
 use Rattle.std.proofs.Common.{◌≡◌, ◌≤◌, ◌<◌, ◌-◌, ◌+◌, IsTrue, length, take}
-use Rattle.age_io.specs.Reading.{Delivers, most_faults}
+use Rattle.age_io.specs.Reading.{AddsNoReason, TriedAgain, Delivers, most_faults}
 use Rattle.age_io.specs.Keeping.{SameReader}
 use Rattle.age_io.proofs.whole.read_exact.Given as goal
 
@@ -8,6 +8,7 @@ invariant-loop-at g l =
     let reader = g.R.Read in
     record {
       same : SameReader reader l.fn.reader l.reader;
+      narrows : AddsNoReason (TriedAgain reader.refuses) l.fn.reader l.reader;
       within : l.at ≤ length l.buf;
       moved : IsTrue (reader.tells l.fn.reader) → reader.place l.reader ≡ reader.place l.fn.reader + l.at;
       so_far : IsTrue (reader.tells l.fn.reader) →

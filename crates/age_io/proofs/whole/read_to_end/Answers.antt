@@ -16,6 +16,7 @@ reads-preserved g c =
     let extended = c.in_ok-extend_from_slice.ensures in
     record {
       same = same-later g.R.Read c.args.reader.now c.reads.reader c.read_retrying.new.reader before.same (same-read g.R.Read c.reads.reader c.read_retrying.new.reader reads);
+      narrows = λ e h. before.narrows e (reads.narrows e h);
       some_room = before.some_room;
       start = before.start;
       longer = grind (arith, common_steps, before.longer);

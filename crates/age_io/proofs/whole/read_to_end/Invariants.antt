@@ -1,5 +1,6 @@
 use Rattle.std.proofs.Common.{◌≡◌, ◌≤◌, ◌<◌, ◌-◌, ◌+◌, ◌^◌, IsTrue, vec_len}
 use Rattle.age_io.proofs.Delivering.{Grown}
+use Rattle.age_io.specs.Reading.{AddsNoReason, TriedAgain}
 use Rattle.age_io.specs.Keeping.{SameReader}
 use Rattle.age_io.proofs.whole.read_to_end.Given as goal
 
@@ -8,6 +9,7 @@ invariant-reads g l =
     let reader = g.R.Read in
     record {
       same : SameReader reader l.fn.reader l.reader;
+      narrows : AddsNoReason (TriedAgain reader.refuses) l.fn.reader l.reader;
       some_room : 0 < vec_len l.room;
       start : l.start ≡ vec_len l.fn.buf;
       longer : vec_len l.fn.buf ≤ vec_len l.buf;

@@ -29,6 +29,7 @@ returns-clause-consumes g c =
       same_tells = refl;
       same_steady = refl;
       same_faults = refl;
+      narrows = λ e h. h;
       shows = shows-further before.failed before.buffer.items before.given before.filled c.args.amount;
       same_content = λ told. refl;
       bytes = λ told. gives-shown before.failed before.buffer.items before.given before.filled c.args.amount (g.R.Read.rest before.inner) c.requires;
