@@ -1,20 +1,20 @@
 -- Steps that keep the payload, and what they are to a caller of the reader.
-use Rattle.std.specs.Prelude.{◌≡◌, ◌≢◌, ℕ, ◌&&◌, IsTrue, Result, Ok, Err}
-use Rattle.std.proofs.Common.{◌≤◌, arith, ap, ◌∙◌, refl}
+use Rattle.std.specs.Prelude.{◌≡◌, ◌≢◌, ℕ, ◌&&◌, ◌⊎◌, Bool, true, IsTrue, Result, Ok, Err}
+use Rattle.std.proofs.Common.{◌≤◌, arith, ap, ◌∙◌, refl, inl, inr}
 use Rattle.age_error.specs.Refusals.{IsDevice}
 use Rattle.age_error.specs.declared.io.Error.{Error}
-use Rattle.age_error.specs.declared.io.Error.TheVariants.{OutOfMemory}
+use Rattle.age_error.specs.declared.io.Error.TheVariants.{OutOfMemory, Failed}
 use Rattle.age_error.specs.declared.io.SeekFrom.{SeekFrom}
 use Rattle.age_suite.specs.declared.suite.Suite.{Ghosts as SuiteGhosts}
 use Rattle.age_io.specs.declared.traits.Read.{Ghosts}
-use Rattle.age_io.specs.Reading.{IsQuiet}
-use Rattle.age_io.specs.Cursor.{Seeks, IsOutside}
+use Rattle.age_io.specs.Reading.{IsQuiet, AddsNoReason, TriedAgain}
+use Rattle.age_io.specs.Cursor.{Seeks, IsOutside, IsSeekRefusal}
 use Rattle.age_io.specs.Keeping.{SameReader}
 use Rattle.age_io.proofs.Keeping.{keeps-done, keeps-refused, keeps-later}
 use Rattle.age_stream.specs.declared.reader.StreamReader.{StreamReader}
 use Rattle.age_stream.specs.Chunks.{delivered}
-use Rattle.age_stream.specs.Reader.{payload_of, tells_of, steady_of, content_of, place_of, plain_rest_of, faults_of}
-use Rattle.age_stream.specs.Keeping.{KeepsPayload}
+use Rattle.age_stream.specs.Reader.{payload_of, tells_of, steady_of, content_of, place_of, plain_rest_of, faults_of, refuses_of}
+use Rattle.age_stream.specs.Keeping.{IsPayloadRefusal, IsPayloadSeekRefusal, OwnOrInner, KeepsPayload}
 use Rattle.age_stream.proofs.Sound.{same-steady, inner-well}
 
 -- what was quiet all along was quiet at its end
@@ -29,42 +29,59 @@ module _ {R : Type 0} (read : Ghosts R) where
   pub told-before : (a b : R) → SameReader read a b → IsTrue (read.tells b && read.steady b) → IsTrue (read.tells a && read.steady a)
   told-before a b same told = rw (same.tells, same.steady) at told
 
-  -- what a success keeps, whatever it gives
-  pub payload-done : {T U : Type 0} {result : Result T Error} {x : U} (a b : R) (taken after : ℕ) → KeepsPayload read a taken b after result →
-      KeepsPayload read a taken b after (Ok x)
-  payload-done a b taken after keeps = record { inner = keeps-done read a b keeps.inner.same; payload = keeps.payload }
+  -- a state that adds no reason to the inner reader's adds none to all
+  pub own-narrows : (Own : Error → Type 0) (a b : R) → AddsNoReason (TriedAgain read.refuses) a b → AddsNoReason (OwnOrInner read Own) a b
+  own-narrows Own a b fewer e h = elim h [ inl own ↦ inl own | inr inner ↦ inr (fewer e inner) ]
 
-  -- what a refusal keeps, whatever the call gives otherwise
-  pub payload-refused : {T U : Type 0} (a b : R) (taken after : ℕ) (e : Error) → KeepsPayload {T = T} read a taken b after (Err e) →
-      KeepsPayload {T = U} read a taken b after (Err e)
-  payload-refused a b taken after e keeps =
-      record { inner = record { same = keeps.inner.same; device = keeps.inner.device; patient = keeps.inner.patient }; payload = keeps.payload }
+  module _ {Own : Error → Type 0} where
+    -- what a success keeps, whatever it gives
+    pub payload-done : {T U : Type 0} {x : T} {y : U} (a b : R) (taken after : ℕ) → KeepsPayload read Own a taken b after (Ok x) →
+        KeepsPayload read Own a taken b after (Ok y)
+    payload-done a b taken after keeps =
+        record { inner = keeps-done read (OwnOrInner read Own) a b keeps.inner.same keeps.inner.narrows; payload = keeps.payload }
 
-  -- a step, and then a refusal that isn't the device's
-  pub payload-ended : {T U : Type 0} {result : Result T Error} (a b : R) (taken after : ℕ) (e : Error) → KeepsPayload read a taken b after result →
-      (IsDevice e → ⊥) → KeepsPayload {T = U} read a taken b after (Err e)
-  payload-ended a b taken after e keeps other =
-      record { inner = keeps-refused read a b e keeps.inner.same other; payload = keeps.payload }
+    -- what a refusal keeps, whatever the call gives otherwise
+    pub payload-refused : {T U : Type 0} (a b : R) (taken after : ℕ) (e : Error) → KeepsPayload {T = T} read Own a taken b after (Err e) →
+        KeepsPayload {T = U} read Own a taken b after (Err e)
+    payload-refused a b taken after e keeps =
+        record {
+          inner = record { same = keeps.inner.same; device = keeps.inner.device; patient = keeps.inner.patient; why = keeps.inner.why; narrows = tt };
+          payload = keeps.payload;
+        }
 
-  -- two steps are one
-  pub payload-later : {T U : Type 0} {first : Result T Error} (result : Result U Error) (a b c : R) (taken between after : ℕ) →
-      KeepsPayload read a taken b between first → KeepsPayload read b between c after result → KeepsPayload read a taken c after result
-  payload-later result a b c taken between after one two =
-      record {
-        inner = keeps-later read result a b c one.inner.same two.inner;
-        payload = λ told. two.payload (told-later a b one.inner.same told) ∙ one.payload told;
-      }
+    -- a step, and then a refusal of this kind that isn't the device's
+    pub payload-ended : {T U : Type 0} {result : Result T Error} (a b : R) (taken after : ℕ) (e : Error) → KeepsPayload read Own a taken b after result →
+        (IsDevice e → ⊥) → Own e → KeepsPayload {T = U} read Own a taken b after (Err e)
+    payload-ended a b taken after e keeps other own =
+        record { inner = keeps-refused read (OwnOrInner read Own) a b e keeps.inner.same other (inl own); payload = keeps.payload }
+
+    -- two steps are one
+    pub payload-later : {T U : Type 0} {x : T} (result : Result U Error) (a b c : R) (taken between after : ℕ) →
+        KeepsPayload read Own a taken b between (Ok x) → KeepsPayload read Own b between c after result → KeepsPayload read Own a taken c after result
+    payload-later result a b c taken between after one two =
+        record {
+          inner = keeps-later read (OwnOrInner read Own) result a b c one.inner.same one.inner.narrows (own-narrows Own a b one.inner.narrows) two.inner;
+          payload = λ told. two.payload (told-later a b one.inner.same told) ∙ one.payload told;
+        }
+
+-- A reader that has failed after a step only if it had before adds no reason.
+pub stream_narrows : {R : Type 0} (read : Ghosts R) (was is : Bool) (a b : R) → (is ≡ true → was ≡ true) → AddsNoReason (TriedAgain read.refuses) a b → (e : Error) →
+    ((is ≡ true) × (e ≡ Failed)) ⊎ OwnOrInner read IsPayloadRefusal b e → ((was ≡ true) × (e ≡ Failed)) ⊎ OwnOrInner read IsPayloadRefusal a e
+stream_narrows read was is a b good fewer e h = elim h [
+  | inl failed ↦ inl (good failed.0, failed.1)
+  | inr own ↦ inr (own-narrows read IsPayloadRefusal a b fewer e own)
+]
 
 module _ {S R : Type 0} {suite : SuiteGhosts S} {read : Ghosts R} where
   -- the reader's content is the same
-  pub content-kept : {T : Type 0} {result : Result T Error} (old new : StreamReader S R suite read) →
-      KeepsPayload read old.inner old.taken new.inner new.taken result → new.key ≡ old.key → IsTrue (tells_of old) → content_of new ≡ content_of old
+  pub content-kept : {T : Type 0} {Own : Error → Type 0} {result : Result T Error} (old new : StreamReader S R suite read) →
+      KeepsPayload read Own old.inner old.taken new.inner new.taken result → new.key ≡ old.key → IsTrue (tells_of old) → content_of new ≡ content_of old
   content-kept old new keeps key told =
       ap (λ p. delivered suite.opened new.key 0 p) (keeps.payload told) ∙ ap (λ k. delivered suite.opened k 0 (payload_of old)) key
 
   -- so it is the same reader
-  pub stream-kept : {T : Type 0} {result : Result T Error} (old new : StreamReader S R suite read) →
-      KeepsPayload read old.inner old.taken new.inner new.taken result → new.key ≡ old.key →
+  pub stream-kept : {T : Type 0} {Own : Error → Type 0} {result : Result T Error} (old new : StreamReader S R suite read) →
+      KeepsPayload read Own old.inner old.taken new.inner new.taken result → new.key ≡ old.key →
       (tells_of new ≡ tells_of old) × (steady_of new ≡ steady_of old)
   stream-kept old new keeps key = (
     rw (keeps.inner.same.tells, keeps.inner.same.steady) refl,
@@ -72,12 +89,19 @@ module _ {S R : Type 0} {suite : SuiteGhosts S} {read : Ghosts R} where
         keeps.inner.same.tells keeps.inner.same.steady (λ told. ap (λ d. d.ends_well) (content-kept old new keeps key told)),
   )
 
+  -- why a seek is refused, told of the reader itself
+  pub sought-why : (r : StreamReader S R suite read) (e : Error) → OwnOrInner read IsPayloadSeekRefusal r.inner e → IsSeekRefusal e ⊎ refuses_of r e
+  sought-why r e h = elim h [
+    | inl own ↦ elim own [ inl seek ↦ inl seek | inr payload ↦ inr (inr (inl payload)) ]
+    | inr inner ↦ inr (inr (inr inner))
+  ]
+
   -- A seek that is refused with an error that doesn't say that the target is outside.
   pub seeks-failed : (old new : StreamReader S R suite read) (to : SeekFrom) (e : Error) →
-      KeepsPayload {T = ℕ} read old.inner old.taken new.inner new.taken (Err e) → new.key ≡ old.key → place_of new ≡ place_of old → (IsOutside e → ⊥) →
+      KeepsPayload {T = ℕ} read IsPayloadSeekRefusal old.inner old.taken new.inner new.taken (Err e) → new.key ≡ old.key → place_of new ≡ place_of old → (IsOutside e → ⊥) →
       (IsTrue (tells_of old) → IsTrue (payload_of old).ends_well → IsTrue (content_of old).ends_well → e ≢ OutOfMemory →
       IsQuiet (read.faults old.inner) (read.faults new.inner) → ⊥) →
-      Seeks tells_of steady_of content_of place_of plain_rest_of faults_of old new to (Err e)
+      Seeks tells_of steady_of content_of place_of plain_rest_of faults_of refuses_of old new to (Err e)
   seeks-failed old new to e keeps key place other cause =
       record {
         same_tells = (stream-kept old new keeps key).0;
@@ -85,6 +109,10 @@ module _ {S R : Type 0} {suite : SuiteGhosts S} {read : Ghosts R} where
         no_fewer_faults = keeps.inner.same.faults;
         device = keeps.inner.device;
         unspent = tt;
+        why = sought-why old e keeps.inner.why;
+        narrows = tt;
+        again = λ i. absurd (keeps.inner.patient i);
+        missed = λ r. absurd (other r);
         same_content = content-kept old new keeps key;
         arrives = λ _. tt;
         leads = λ _. tt;

@@ -5,9 +5,9 @@ ghost use Rattle.age_io.specs.Stretch.{IsCleanEnd, from_place};
 ghost use Rattle.age_io.specs.Reading.{IsQuiet, Delivers, EndsEarly};
 ghost use Rattle.age_io.specs.Cursor;
 ghost use Rattle.age_io.specs.Cursor.{IsOutside};
-ghost use Rattle.age_io.specs.Keeping.{KeepsReader};
+ghost use Rattle.age_io.specs.Keeping.{KeepsReader, OrSeek};
 ghost use Rattle.age_stream.specs.Answering.{StandAt, StopsNear, IsGoodEnd};
-ghost use Rattle.age_stream.specs.Keeping.{KeepsPayload};
+ghost use Rattle.age_stream.specs.Keeping.{IsPayloadRefusal, KeepsPayload};
 ghost use Rattle.age_stream.specs.Targets.{below_start, sought_in, IsRefusedTarget, StopsWithin};
 
 use crate::reader::StreamReader;
@@ -21,7 +21,7 @@ impl<S: Suite, R: Read> StreamReader<S, R> {
     // Reads until the buffer is full or the end. `filled` says how many bytes were read, also after a refusal.
     fn read_full(&mut self, buf: &mut [u8], filled: &mut usize) -> Result<(), Error>
         requires good { self.old.failed ≡ false }
-        ensures keeps { KeepsPayload ⟦<R as Read>⟧ self.old.inner self.old.taken self.new.inner self.new.taken result }
+        ensures keeps { KeepsPayload ⟦<R as Read>⟧ IsPayloadRefusal self.old.inner self.old.taken self.new.inner self.new.taken result }
         ensures count { filled.new ≤ length buf.new }
         ensures key { key_of self.new ≡ key_of self.old }
         ensures moves { 65536 * self.new.number + self.new.at ≡ 65536 * self.old.number + self.old.at + filled.new }
@@ -72,7 +72,7 @@ impl<S: Suite, R: Seek> StreamReader<S, R> {
     /// where the seek refused with `BeforeStart` or `PastEnd`. What `buf` holds after a refusal isn't said. For n bytes it
     /// opens at most n / 65,536 + 4 times.
     pub fn read_at(&mut self, to: SeekFrom, buf: &mut [u8]) -> Result<usize, Error>
-        ensures keeps { KeepsReader ⟦<StreamReader<S, R> as Read>⟧ self.old self.new result }
+        ensures keeps { KeepsReader ⟦<StreamReader<S, R> as Read>⟧ (OrSeek ⟦<StreamReader<S, R> as Read>⟧.refuses) self.old self.new result }
         ensures count { IfOk result (λ n. n ≤ length buf.new) }
         ensures payload { IsTrue (⟦<StreamReader<S, R> as Read>⟧.tells self.old) → payload_of self.new ≡ payload_of self.old }
         ensures key { key_of self.new ≡ key_of self.old }

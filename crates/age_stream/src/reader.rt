@@ -9,7 +9,7 @@ ghost use Rattle.age_io.specs.Reading.{Reads, IsQuiet, Delivers, EndsEarly, most
 ghost use Rattle.age_stream.specs.Payload.{nonce, payload, LastIsNoMiddle};
 ghost use Rattle.age_stream.specs.Answering.{Gives, Refuses, RefusesItself, IsEnd, IsGoodEnd};
 ghost use Rattle.age_stream.specs.Chunks.{allowed, chunk_of, delivered};
-ghost use Rattle.age_stream.specs.Keeping.{KeepsPayload};
+ghost use Rattle.age_stream.specs.Keeping.{IsPayloadRefusal, KeepsPayload};
 ghost use Rattle.age_stream.specs.Reading.{payload_at, spare, IsSound};
 ghost use Rattle.age_suite.specs.Suite.{one_more};
 ghost use Rattle.age_stream.specs.ReadingLaws.{and-left, and-right, both-true, stream_stands, stream_spent};
@@ -67,7 +67,7 @@ pub struct StreamReader<S: Suite, R: Read> {
 
 impl<S: Suite, R: Read> Read for StreamReader<S, R> {
     ghost use Rattle.age_stream.specs.Reader.{payload_of, key_of, inner_rest_of, wanted_of, HasFailed, HasSought, IsHolding, IsAfterLast, opens_of};
-    ghost use Rattle.age_stream.specs.Reader.{tells_of, steady_of, content_of, place_of, plain_rest_of, faults_of};
+    ghost use Rattle.age_stream.specs.Reader.{tells_of, steady_of, content_of, place_of, plain_rest_of, faults_of, refuses_of};
 
     ghost tells = { tells_of };
 
@@ -80,6 +80,8 @@ impl<S: Suite, R: Read> Read for StreamReader<S, R> {
     ghost rest = { plain_rest_of };
 
     ghost faults = { faults_of };
+
+    ghost refuses = { refuses_of };
 
     ghost faults_fit = { λ r. R.faults_fit r.inner };
 
@@ -273,7 +275,7 @@ impl<S: Suite, R: Read> StreamReader<S, R> {
         requires some { 0 < length buf.old }
         ensures reads { let reader = ⟦<StreamReader<S, R> as Read>⟧ in
             Reads reader.tells reader.steady reader.content reader.place reader.rest reader.faults reader.refuses self.old self.new buf.new result }
-        ensures keeps { KeepsPayload ⟦<R as Read>⟧ self.old.inner self.old.taken self.new.inner self.new.taken result }
+        ensures keeps { KeepsPayload ⟦<R as Read>⟧ IsPayloadRefusal self.old.inner self.old.taken self.new.inner self.new.taken result }
         ensures key { self.new.key ≡ self.old.key }
         ensures gives { let reader = ⟦<StreamReader<S, R> as Read>⟧ in IsTrue (reader.tells self.old) → IfOk result (λ n. 0 < n →
             Gives S.seal_of self.old.key (payload_of self.old) (reader.place self.old) (length buf.old) (take n buf.new)) }
@@ -319,7 +321,7 @@ impl<S: Suite, R: Read> StreamReader<S, R> {
     fn hold(&mut self) -> Result<(), Error>
         requires good { self.old.failed ≡ false }
         requires more { self.old.held ≡ true → self.old.last ≡ true → self.old.at < length self.old.chunk.items }
-        ensures keeps { KeepsPayload ⟦<R as Read>⟧ self.old.inner self.old.taken self.new.inner self.new.taken result }
+        ensures keeps { KeepsPayload ⟦<R as Read>⟧ IsPayloadRefusal self.old.inner self.old.taken self.new.inner self.new.taken result }
         ensures key { self.new.key ≡ self.old.key }
         ensures sought { self.new.sought ≡ self.old.sought }
         ensures place { ⟦<StreamReader<S, R> as Read>⟧.place self.new ≡ ⟦<StreamReader<S, R> as Read>⟧.place self.old }
@@ -385,7 +387,7 @@ impl<S: Suite, R: Read> StreamReader<S, R> {
         requires held { self.old.held ≡ true }
         requires last { self.old.last ≡ true }
         requires given { self.old.at ≡ length self.old.chunk.items }
-        ensures keeps { KeepsPayload ⟦<R as Read>⟧ self.old.inner self.old.taken self.new.inner self.new.taken result }
+        ensures keeps { KeepsPayload ⟦<R as Read>⟧ IsPayloadRefusal self.old.inner self.old.taken self.new.inner self.new.taken result }
         ensures unspent { OnOk result (R.faults self.new.inner < most_faults) }
         ensures none { IfOk result (λ n. n ≡ 0) }
         ensures key { self.new.key ≡ self.old.key }
@@ -431,7 +433,7 @@ impl<S: Suite, R: Read> StreamReader<S, R> {
     fn open(&mut self) -> Result<(), Error>
         requires good { self.old.failed ≡ false }
         requires closed { self.old.held ≡ false }
-        ensures keeps { KeepsPayload ⟦<R as Read>⟧ self.old.inner self.old.taken self.new.inner self.new.taken result }
+        ensures keeps { KeepsPayload ⟦<R as Read>⟧ IsPayloadRefusal self.old.inner self.old.taken self.new.inner self.new.taken result }
         ensures unspent { OnOk result (R.faults self.new.inner < most_faults) }
         ensures key { self.new.key ≡ self.old.key }
         ensures sought { self.new.sought ≡ self.old.sought }
@@ -567,6 +569,7 @@ fn open_chunk<S: Suite>(
         (λ e. (e ≡ OutOfMemory) ⊎ (chunk_of S.opened key.now number sealed.now ≡ Err e)) }
     ensures device { IfErr result (λ e. IsDevice e → ⊥) }
     ensures itself { IfErr result (λ e. e ≢ AfterLast) }
+    ensures named { IfErr result IsPayloadRefusal }
     ensures in_limit { IfOk result (λ found. 0 < length found.0.items → number < 2 ^ 44) }
     ensures first { IfOk result (λ found. length found.0.items ≡ 0 → number ≡ 0) }
     ensures short { IfOk result (λ found. length sealed.now < 65552 → found.1 ≡ true) }
@@ -597,6 +600,7 @@ fn allow(number: u64, plain: Vec<u8>, last: bool) -> Result<(Vec<u8>, bool), Err
         (λ e. allowed number (plain.items, last) ≡ Err e) }
     ensures device { IfErr result (λ e. IsDevice e → ⊥) }
     ensures itself { IfErr result (λ e. e ≢ AfterLast) }
+    ensures named { IfErr result IsPayloadRefusal }
     ensures in_limit { IfOk result (λ found. 0 < length found.0.items → number < 2 ^ 44) }
     ensures first { IfOk result (λ found. length found.0.items ≡ 0 → number ≡ 0) }
     ensures same { IfOk result (λ found. (found.0 ≡ plain) × (found.1 ≡ last)) }

@@ -7,7 +7,7 @@ ghost use Rattle.age_io.specs.Reading.{IsQuiet, most_faults};
 ghost use Rattle.age_io.specs.Cursor.{Seeks, IsOutside};
 ghost use Rattle.age_stream.specs.Payload;
 ghost use Rattle.age_stream.specs.Payload.{nonce, final_chunk, EndsAsLast};
-ghost use Rattle.age_stream.specs.Keeping.{KeepsPayload};
+ghost use Rattle.age_stream.specs.Keeping.{IsPayloadSeekRefusal, KeepsPayload};
 ghost use Rattle.age_stream.specs.Reading.{text_at, IsLastChunk};
 ghost use Rattle.age_stream.specs.Targets.{below_start, in_length, sought_in, IsToEnd, IsRefusedTarget};
 
@@ -69,6 +69,7 @@ fn find(to: SeekFrom, place: u64, size: u64) -> Result<(u64, u64), Error>
     ensures limit { IfOk result (λ found. found.1 ≤ 2 ^ 60) }
     ensures not_device { IfErr result (λ e. IsDevice e → ⊥) }
     ensures want { IfErr result (λ e. e ≢ OutOfMemory) }
+    ensures named { IfErr result IsPayloadSeekRefusal }
 {
     match plain_len(size) {
         None => Err(Error::BadEnd),
@@ -101,7 +102,7 @@ impl<S: Suite, R: Seek> StreamReader<S, R> {
         ensures same { (self.new.number ≡ self.old.number) × (self.new.at ≡ self.old.at) × (self.new.held ≡ self.old.held)
             × (self.new.chunk ≡ self.old.chunk) × (self.new.last ≡ self.old.last) × (self.new.key ≡ self.old.key)
             × (self.new.opens ≡ self.old.opens) × (self.new.failed ≡ true) × (self.new.sought ≡ self.old.sought) }
-        ensures keeps { KeepsPayload ⟦<R as Read>⟧ self.old.inner self.old.taken self.new.inner self.new.taken result }
+        ensures keeps { KeepsPayload ⟦<R as Read>⟧ IsPayloadSeekRefusal self.old.inner self.old.taken self.new.inner self.new.taken result }
         ensures refusal { IfErr result (λ e. IsOutside e → ⊥) }
         ensures found { IsTrue (R.tells self.old.inner && R.steady self.old.inner) → IfOk result (λ found.
             (found.0 ≡ R.place self.old.inner - self.old.taken) × (found.0 ≡ R.place self.new.inner - self.new.taken)
@@ -133,7 +134,7 @@ impl<S: Suite, R: Seek> StreamReader<S, R> {
         ensures same { (self.new.number ≡ self.old.number) × (self.new.at ≡ self.old.at) × (self.new.held ≡ self.old.held)
             × (self.new.chunk ≡ self.old.chunk) × (self.new.last ≡ self.old.last) × (self.new.key ≡ self.old.key)
             × (self.new.opens ≡ self.old.opens) × (self.new.failed ≡ true) × (self.new.sought ≡ self.old.sought) }
-        ensures keeps { KeepsPayload ⟦<R as Read>⟧ self.old.inner self.old.taken self.new.inner self.new.taken result }
+        ensures keeps { KeepsPayload ⟦<R as Read>⟧ IsPayloadSeekRefusal self.old.inner self.old.taken self.new.inner self.new.taken result }
         ensures refusal { IfErr result (λ e. IsOutside e → ⊥) }
         ensures unspent { OnOk result (R.faults self.new.inner < most_faults) }
         ensures stands { IsTrue (R.tells self.old.inner && R.steady self.old.inner) → OnOk result ((self.new.taken ≡ place)
@@ -163,7 +164,7 @@ impl<S: Suite, R: Seek> StreamReader<S, R> {
         requires start { IsTrue (R.tells self.old.inner && R.steady self.old.inner) → start ≡ R.place self.old.inner - self.old.taken }
         requires size { IsTrue (R.tells self.old.inner && R.steady self.old.inner) → size ≡ length (payload_of self.old).bytes }
         requires before { place + 16 * (place / 65536) + 16 < size }
-        ensures keeps { KeepsPayload ⟦<R as Read>⟧ self.old.inner self.old.taken self.new.inner self.new.taken result }
+        ensures keeps { KeepsPayload ⟦<R as Read>⟧ IsPayloadSeekRefusal self.old.inner self.old.taken self.new.inner self.new.taken result }
         ensures refusal { IfErr result (λ e. IsOutside e → ⊥) }
         ensures key { self.new.key ≡ self.old.key }
         ensures sought { self.new.sought ≡ true }
@@ -217,7 +218,7 @@ impl<S: Suite, R: Seek> StreamReader<S, R> {
         requires stands { IsTrue (R.tells self.old.inner && R.steady self.old.inner) → (self.old.taken ≡ 65552 * number)
             × (R.rest self.old.inner ≡ from_place (65552 * number) (payload_of self.old)) }
         requires last { IsTrue (R.tells self.old.inner && R.steady self.old.inner) → IsLastChunk (length (payload_of self.old).bytes) number }
-        ensures keeps { KeepsPayload ⟦<R as Read>⟧ self.old.inner self.old.taken self.new.inner self.new.taken result }
+        ensures keeps { KeepsPayload ⟦<R as Read>⟧ IsPayloadSeekRefusal self.old.inner self.old.taken self.new.inner self.new.taken result }
         ensures refusal { IfErr result (λ e. IsOutside e → ⊥) }
         ensures key { self.new.key ≡ self.old.key }
         ensures sought { self.new.sought ≡ true }
@@ -271,7 +272,7 @@ impl<S: Suite, R: Seek> StreamReader<S, R> {
         requires last { IsLastChunk size (final_chunk size) }
         requires len { len + 16 * (final_chunk size + 1) ≡ size }
         requires limit { len ≤ 2 ^ 60 }
-        ensures keeps { KeepsPayload ⟦<R as Read>⟧ self.old.inner self.old.taken self.new.inner self.new.taken result }
+        ensures keeps { KeepsPayload ⟦<R as Read>⟧ IsPayloadSeekRefusal self.old.inner self.old.taken self.new.inner self.new.taken result }
         ensures refusal { IfErr result (λ e. IsOutside e → ⊥) }
         ensures key { self.new.key ≡ self.old.key }
         ensures sought { self.new.sought ≡ true }

@@ -2,6 +2,7 @@ use Rattle.std.proofs.Common.{◌≡◌, ◌≤◌, ◌+◌, ◌∙◌, arith, l
 use Rattle.std.proofs.lemmas.Bool.{true≢false}
 use Rattle.age_io.proofs.Delivering.{refilled}
 use Rattle.age_io.proofs.Keeping.{keeps-done}
+use Rattle.age_stream.specs.Keeping.{IsPayloadSeekRefusal, OwnOrInner}
 use Rattle.age_stream.specs.Payload.{nonce}
 use Rattle.age_stream.specs.Reading.{payload_at}
 use Rattle.age_stream.specs.ReadingLaws.{and-left}
@@ -95,7 +96,7 @@ returns-in-Ok-Some-clause-keeps g c =
     let after = c.fill-answer.new.reader in
     let filled = c.in-Ok.ensures in
     record {
-      inner = keeps-done read self.inner after filled.keeps.same;
+      inner = keeps-done read (OwnOrInner read IsPayloadSeekRefusal) self.inner after filled.keeps.same filled.keeps.narrows;
       payload = λ told.
           let t = and-left (read.tells self.inner) (read.steady self.inner) told in
           (payload-read (read.content self.inner) (read.content after) (read.place self.inner) (read.place after) self.taken c.saturating_add-self.result c.fill-answer.new.filled

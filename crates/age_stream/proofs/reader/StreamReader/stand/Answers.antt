@@ -5,8 +5,33 @@ use Rattle.std.proofs.lemmas.Bool.{true≢false}
 use Rattle.age_stream.specs.Reading.{payload_at}
 use Rattle.age_stream.specs.ReadingLaws.{and-left, and-right}
 use Rattle.age_stream.proofs.Inner.{start-at, same-payload, refused-start}
-use Rattle.age_stream.proofs.Moving.{sound-moved}
+use Rattle.age_stream.proofs.Moving.{sound-moved, sound-missed}
 use Rattle.age_stream.proofs.reader.StreamReader.stand.Goals as goal
+
+pub invariant_of-self : goal.invariant_of-self
+invariant_of-self g c =
+    let self = c.args.self.now in
+    let read = g.R.Read in
+    let seek = c.in-Err.ensures.seeks in
+    let after = c.seek_retrying.new.reader in
+    record {
+      key_bytes = self.key_bytes;
+      room = self.room;
+      offset = self.offset;
+      limit = self.limit;
+      in_chunk = self.in_chunk;
+      small = self.small;
+      more = self.more;
+      full = self.full;
+      count_fits = self.count_fits;
+      unspent = λ good. absurd (true≢false (sym c.requires.failed ∙ good));
+      sound = λ told.
+          let told_before : IsTrue (read.tells self.inner && read.steady self.inner) = rw (seek.same_tells, seek.same_steady) at told in
+          let t = and-left (read.tells self.inner) (read.steady self.inner) told_before in
+          sound-missed g.S.Suite.opened self.key self.failed self.held self.at self.chunk.items self.last self.sought self.number self.taken
+          (read.place self.inner) (read.content self.inner) (read.rest self.inner) (self.sound told_before)
+          (read.place after) (read.content after) (read.rest after) c.requires.failed (seek.stays t) (seek.same_content t);
+    }
 
 pub invariant_of-self-in-Ok : goal.invariant_of-self-in-Ok
 invariant_of-self-in-Ok g c =

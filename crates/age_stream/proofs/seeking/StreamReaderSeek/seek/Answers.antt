@@ -1,4 +1,4 @@
-use Rattle.std.proofs.Common.{◌≡◌, ◌<◌, ◌-◌, ◌+◌, ◌*◌, ◌^◌, ◌∙◌, arith, length, sym, subst, ap, IsTrue, ◌&&◌, refl, length-drop, true, Some, None, inr, Ok, Err}
+use Rattle.std.proofs.Common.{◌≡◌, ◌<◌, ◌-◌, ◌+◌, ◌*◌, ◌^◌, ◌∙◌, arith, length, sym, subst, ap, IsTrue, ◌&&◌, refl, length-drop, true, Some, None, inl, inr, Ok, Err}
 use Rattle.std.proofs.lemmas.Bool.{true≢false}
 use Rattle.std.proofs.lemmas.List.Elements.{All-drop}
 use Rattle.age_io.specs.Stretch.{from_place}
@@ -9,7 +9,7 @@ use Rattle.age_stream.specs.Reading.{payload_at, text_at}
 use Rattle.age_stream.specs.ReadingLaws.{and-left, and-right, taken-rest}
 use Rattle.age_stream.proofs.Ending.{err-well, ok-well, last-opens, sought-refuses, not-both, in_length-leads, is-end, not-end}
 use Rattle.age_stream.proofs.Inner.{payload-place}
-use Rattle.age_stream.proofs.Keeping.{told-later, told-before, quiet-later, payload-refused, payload-ended, payload-later, content-kept, stream-kept, seeks-failed}
+use Rattle.age_stream.proofs.Keeping.{told-later, told-before, quiet-later, payload-refused, payload-ended, payload-later, content-kept, stream-kept, sought-why, stream_narrows, seeks-failed}
 use Rattle.age_stream.proofs.Judged.{ends_last, ends_badly}
 use Rattle.age_stream.proofs.Lengths.{plain_len_says}
 use Rattle.age_stream.proofs.Sound.{rest-kept, now-sound}
@@ -62,7 +62,7 @@ returns-then-not-is_outside-clause-seeks g c =
     let done = c.in-Ok.ensures in
     let other = c.if-not-is_outside.ensures.no refl in
     seeks-failed self mid c.args.to c.in-Err-find.e
-    (payload-ended read self.inner mid.inner self.taken mid.taken c.in-Err-find.e done.keeps c.in-Err-find.ensures.not_device)
+    (payload-ended read self.inner mid.inner self.taken mid.taken c.in-Err-find.e done.keeps c.in-Err-find.ensures.not_device c.in-Err-find.ensures.named)
     done.same.5 (omega (arith, done.same.0, done.same.1)) other
     (λ told whole well memory quiet.
     let are = All-drop (λ x. x < 2 ^ 8) (read.place self.inner - self.taken) (read.content self.inner).bytes
@@ -151,6 +151,10 @@ returns-in-Ok-enter-clause-seeks g c =
       no_fewer_faults = keeps.inner.same.faults;
       device = tt;
       unspent = done.unspent;
+      why = tt;
+      narrows = stream_narrows read self.failed new.failed self.inner new.inner (λ is. absurd (true≢false (sym is ∙ done.good))) keeps.inner.narrows;
+      again = tt;
+      missed = tt;
       same_content = content;
       arrives = λ told. done.arrives;
       leads = λ told. in_length-leads (plain_len c.in-Ok.size) c.args.to place _ c.in-Ok-find.ensures.ok;
@@ -199,6 +203,10 @@ returns-in-Ok-enter_end-clause-seeks g c =
       no_fewer_faults = keeps.inner.same.faults;
       device = tt;
       unspent = done.unspent;
+      why = tt;
+      narrows = stream_narrows read self.failed new.failed self.inner new.inner (λ is. absurd (true≢false (sym is ∙ done.good.0))) keeps.inner.narrows;
+      again = tt;
+      missed = tt;
       same_content = content;
       arrives = λ told. (done.arrives (later told) ∙ sym c.if-target-len.true);
       leads = λ told. in_length-leads (plain_len c.in-Ok.size) c.args.to place _ c.in-Ok-find.ensures.ok;
@@ -247,6 +255,10 @@ returns-in-Ok-stand-clause-seeks g c =
       no_fewer_faults = keeps.inner.same.faults;
       device = λ d. absurd (c.in-Err-find.ensures.not_device d);
       unspent = tt;
+      why = sought-why self c.in-Err-find.e (inl c.in-Err-find.ensures.named);
+      narrows = tt;
+      again = λ i. absurd (not-both c.in-Err-find.e refusal i);
+      missed = λ _. stream_narrows read self.failed self.failed self.inner new.inner (λ is. is) keeps.inner.narrows;
       same_content = content-kept self new keeps (done.same.5 ∙ look.same.5);
       arrives = λ _. tt;
       leads = λ _. tt;
@@ -366,6 +378,14 @@ returns-in-Ok-enter_end-clause-ends g c =
     ends_last suite.seal_of suite.opened g.met.S.Suite.cipher self.key self.key_bytes payload.bytes (are told) new.number new.chunk.items number
     (subst (λ k. suite.opened k (nonce new.number true) (text_at new.number payload) ≡ Some new.chunk.items) (done.key ∙ look.same.5)
     (subst (λ b. suite.opened new.key (nonce new.number b) (text_at new.number payload) ≡ Some new.chunk.items) done.good.2 opens))
+
+pub returns-then-not-is_outside-clause-bad : goal.returns-then-not-is_outside-clause-bad
+returns-then-not-is_outside-clause-bad g c = λ told well memory quiet.
+    let self = c.args.self.now in
+    let read = g.R.Read in
+    let payload = payload_at (read.place self.inner) self.taken (read.content self.inner) in
+    let size : c.in-Ok.size ≡ length payload.bytes = (c.in-Ok.ensures.found told).2 in
+    inl (rw (sym c.is_below_start.ensures ∙ c.if-is_below_start.false) (rw size at c.in-Err-find.ensures.err))
 
 pub returns-in-Err-enter_end-clause-bad : goal.returns-in-Err-enter_end-clause-bad
 returns-in-Err-enter_end-clause-bad g c =
