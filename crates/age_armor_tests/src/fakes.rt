@@ -1,7 +1,7 @@
 //! A reader that is interrupted on purpose.
 
 ghost use Rattle.std.specs.Prelude.{◌≤◌, ◌<◌, ◌^◌, false, List, [], OnOk, IfErr, refl};
-ghost use Rattle.age_error.specs.Refusals.{IsDevice};
+ghost use Rattle.age_error.specs.Refusals.{IsDevice, IsInterruption};
 ghost use Rattle.age_io.specs.Stretch.{nothing};
 ghost use Rattle.age_io.specs.Reading.{most_faults};
 
@@ -71,6 +71,8 @@ impl<'a> Read for Restless<'a> {
     ghost rest = { λ _. nothing };
 
     ghost faults = { λ r. r.faults };
+
+    ghost refuses = { λ _. IsInterruption };
 
     ghost faults_fit = { λ r. r.fits };
 

@@ -4,9 +4,9 @@ ghost use Rattle.std.specs.Prelude.{◌≡◌, ◌≢◌, ◌≤◌, ◌<◌, �
 ghost use Rattle.std.specs.List.{AllByRecursion};
 ghost use Rattle.age_error.specs.Refusals.{IsDevice, IsInterruption};
 ghost use Rattle.age_error.specs.declared.io.Error.TheVariants.{OutOfMemory};
-ghost use Rattle.age_error.specs.DecryptErrors.{decrypt_refusal, IsDeviceRefusal, IsInterruptedRefusal};
-ghost use Rattle.age_io.specs.Keeping.{SameReader, KeepsReader};
-ghost use Rattle.age_io.specs.Reading.{Delivers, IsQuiet, IsShort, StaysOrFails, most_faults};
+ghost use Rattle.age_error.specs.DecryptErrors.{decrypt_refusal, IfIoRefusal, IsDeviceRefusal, IsInterruptedRefusal};
+ghost use Rattle.age_io.specs.Keeping.{SameReader, KeepsReader, OrEarly};
+ghost use Rattle.age_io.specs.Reading.{Delivers, IsQuiet, IsShort, StaysOrFails, AddsNoReason, TriedAgain, most_faults};
 ghost use Rattle.age_io.specs.Writing.{WritesAll, Retried, OrMemory};
 ghost use Rattle.age_suite.specs.Mac.{hkdf_of};
 ghost use Rattle.age_base64.specs.Lines.{line};
@@ -49,7 +49,7 @@ impl Model for HeaderV1 {
 // The next byte, tried again after an interruption. `UnexpectedEof` says that none is left and the rest ends well; any
 // other refusal is that of the read that met it.
 fn next_byte<R: Read>(reader: &mut R) -> Result<u8, io::Error>
-    ensures keeps { KeepsReader ⟦<R as Read>⟧ reader.old reader.new result }
+    ensures keeps { KeepsReader ⟦<R as Read>⟧ (OrEarly ⟦<R as Read>⟧) reader.old reader.new result }
     ensures unspent { OnOk result (R.faults reader.new < most_faults) }
     ensures byte { IsTrue (R.tells reader.old) → IfOk result (λ b.
         Delivers (b ∷ []) (R.rest reader.old) (R.rest reader.new)) }
@@ -134,8 +134,8 @@ impl HeaderV1 {
     /// `InvalidHeader` comes at the first byte that departs from how each header begins or that is neither LF nor
     /// printable, and at the LF of a line that no header has there; `UnknownFormat` at the LF of another version's line.
     /// The reader then stands right after that byte. Where the input ends before a header does the answer is
-    /// `Io(UnexpectedEof)`, or the reader's own refusal where that doesn't end well. `OutOfMemory` comes where memory is
-    /// refused, here or by the reader. Interruptions are tried again up to 16 times in a row.
+    /// `Io(UnexpectedEof)`, or the reader's own refusal where that doesn't end well, and no other `Io`. `OutOfMemory` comes
+    /// where memory is refused, here or by the reader. Interruptions are tried again up to 16 times in a row.
     pub fn read<R: Read>(alloc: Global, reader: &mut R) -> Result<HeaderV1, DecryptError>
         ensures keeps { SameReader ⟦<R as Read>⟧ reader.old reader.new }
         ensures device { IfErr result (λ e. IsDeviceRefusal (decrypt_refusal e) → R.faults reader.old < R.faults reader.new) }
@@ -146,6 +146,8 @@ impl HeaderV1 {
         ensures refused { IsTrue (R.tells reader.old) → IfErr result (λ e.
             RefusesHeader (R.faults reader.old) (R.faults reader.new) (R.rest reader.old) (R.rest reader.new)
             (R.place reader.old) (R.place reader.new) (decrypt_refusal e)) }
+        ensures io { IfErr result (λ e. IfIoRefusal (OrEarly ⟦<R as Read>⟧ reader.old) (decrypt_refusal e)) }
+        ensures narrows { OnOk result (AddsNoReason (TriedAgain R.refuses) reader.old reader.new) }
     {
         let mut header = HeaderReader::new(alloc, READS_LEGACY);
         'bytes: loop {

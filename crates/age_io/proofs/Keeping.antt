@@ -1,13 +1,13 @@
 -- Steps that keep a reader.
 use Rattle.std.specs.Prelude.{ℕ, List, Result, Ok, Err}
-use Rattle.std.proofs.Common.{◌∙◌, arith, refl, inl, inr}
+use Rattle.std.proofs.Common.{◌≡◌, ◌∙◌, arith, refl, sym, IsTrue, inl, inr}
 use Rattle.age_error.specs.Refusals.{IsDevice}
 use Rattle.age_error.specs.declared.io.Error.{Error}
 use Rattle.age_error.specs.declared.io.SeekFrom.{SeekFrom}
 use Rattle.age_io.specs.declared.traits.Read.{Ghosts}
 use Rattle.age_io.specs.Reading.{Reads, GivesInAll, AddsNoReason, TriedAgain}
 use Rattle.age_io.specs.Cursor.{Seeks}
-use Rattle.age_io.specs.Keeping.{SameReader, KeepsReader, OrSeek}
+use Rattle.age_io.specs.Keeping.{SameReader, KeepsReader, OrEarly, OrSeek}
 use Rattle.age_io.proofs.Retrying.{interruption-device}
 
 module _ {R : Type 0} (read : Ghosts R) where
@@ -69,6 +69,15 @@ module _ {R : Type 0} (read : Ghosts R) where
         KeepsReader read may a b result → KeepsReader read more a b result
     keeps-more more (Ok x) a b wider k = record { same = k.same; device = tt; patient = tt; why = tt; narrows = k.narrows }
     keeps-more more (Err e) a b wider k = record { same = k.same; device = k.device; patient = k.patient; why = wider e k.why; narrows = tt }
+
+-- what a read of all bytes may refuse with in a state that adds no reason, it may in the one before
+pub early-narrows : {R : Type 0} (read : Ghosts R) (a b : R) → read.tells b ≡ read.tells a →
+    (IsTrue (read.tells a) → (read.rest b).ends_well ≡ (read.rest a).ends_well) → AddsNoReason (TriedAgain read.refuses) a b →
+    AddsNoReason (OrEarly read) a b
+early-narrows read a b tells end fewer e h = elim h [
+  | inl early ↦ inl (early.0, λ told. sym (end told) ∙ early.1 (tells ∙ told))
+  | inr more ↦ inr (fewer e more)
+]
 
 -- what a seek may refuse with in a state that adds no reason, it may in the one before
 pub seek-narrows : {R : Type 0} (refuses : R → Error → Type 0) (a b : R) → AddsNoReason refuses a b → AddsNoReason (OrSeek refuses) a b

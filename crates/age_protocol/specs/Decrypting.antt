@@ -1,12 +1,12 @@
 -- What a decryptor reads before the payload, and why it refuses.
 use Rattle.std.specs.Prelude.{◌≡◌, ◌≢◌, ◌⊎◌, ℕ, ◌+◌, ◌<◌, List, ◌++◌, length, IsTrue}
 use Rattle.age_error.specs.Bytes.{AreBytesOf}
-use Rattle.age_error.specs.DecryptErrors.{DecryptRefusal, InvalidHeader, decrypt_refusal, decrypt_of_io, IsDeviceRefusal}
+use Rattle.age_error.specs.DecryptErrors.{DecryptRefusal, InvalidHeader, decrypt_refusal, decrypt_of_io, IfIoRefusal, IsDeviceRefusal}
 use Rattle.age_error.specs.declared.io.Error.{Error}
 use Rattle.age_error.specs.declared.io.Error.TheVariants as io
 use Rattle.age_io.specs.declared.traits.Read.{Ghosts}
 use Rattle.age_io.specs.Stretch.{Stretch}
-use Rattle.age_io.specs.Keeping.{SameReader}
+use Rattle.age_io.specs.Keeping.{SameReader, OrEarly}
 use Rattle.age_io.specs.Reading.{Delivers, TookSome, IsQuiet, IsShort}
 use Rattle.age_format.specs.Header.{KeepsScryptRule, covered}
 use Rattle.age_format.specs.Verdict.{Header, IsVerdict}
@@ -57,5 +57,6 @@ WhyNoFront old_faults new_faults old new old_place new_place e = RefusesHeader o
 pub record RefusesFront {R : Type 0} (read : Ghosts R) (old new : R) (e : DecryptRefusal) : Type 0 where
   pub same : SameReader read old new
   pub device : IsDeviceRefusal e → read.faults old < read.faults new
+  pub io : IfIoRefusal (OrEarly read old) e
   -- of a reader that tells its bytes
   pub why : IsTrue (read.tells old) → WhyNoFront (read.faults old) (read.faults new) (read.rest old) (read.rest new) (read.place old) (read.place new) e

@@ -2,7 +2,7 @@
 ghost use Rattle.std.specs.Prelude.{◌≡◌, ◌<◌, IsTrue, Ok, IfOk, IfErr};
 ghost use Rattle.age_error.specs.Bytes.{AreBytesOf};
 ghost use Rattle.age_error.specs.DecryptErrors.{decrypt_refusal, IsInterruptedRefusal};
-ghost use Rattle.age_io.specs.Reading.{most_faults};
+ghost use Rattle.age_io.specs.Reading.{AddsNoReason, TriedAgain, most_faults};
 ghost use Rattle.age_format.specs.Header.{KeepsScryptRule};
 ghost use Rattle.age_format.specs.Unwrapping.{UnwrapAnswer, Unwraps};
 ghost use Rattle.age_protocol.specs.Answering.{FirstThatAnswers, decided};
@@ -40,6 +40,7 @@ impl<S: Suite, R: Read + Drop> Decryptor<S, R> {
     /// with the tag `scrypt` stands beside another. `OutOfMemory` where memory is refused. After a refusal the reader is gone.
     pub fn new(alloc: Global, input: R) -> Result<Self, DecryptError>
         ensures keeps { IfOk result (λ d. SameReader ⟦<R as Read>⟧ input (input_of d)) }
+        ensures narrows { IfOk result (λ d. AddsNoReason (TriedAgain R.refuses) input (input_of d)) }
         ensures unspent { IfOk result (λ d. R.faults (input_of d) < most_faults) }
         ensures sixteen { IfOk result (λ d. AreBytesOf 16 (nonce_of d)) }
         ensures rule { IfOk result (λ d. KeepsScryptRule (header_of d).stanzas) }

@@ -201,6 +201,7 @@ impl<S: Suite, R: Read> StreamReader<S, R> {
         ensures opens { IfOk result (λ r. opens_of r ≡ 0) }
         ensures unsought { IfOk result (λ r. HasSought r → ⊥) }
         ensures key { IfOk result (λ r. key_of r ≡ key) }
+        ensures inner { IfOk result (λ r. inner_of r ≡ inner) }
         ensures payload { IfOk result (λ r. payload_of r ≡ from_place (R.place inner) (R.content inner)) }
         ensures inner_rest { IfOk result (λ r. inner_rest_of r ≡ R.rest inner) }
         ensures tells { IfOk result (λ r. ⟦<StreamReader<S, R> as Read>⟧.tells r ≡ (R.tells inner && R.steady inner)) }

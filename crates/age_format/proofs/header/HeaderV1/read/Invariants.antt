@@ -1,5 +1,5 @@
 use Rattle.std.proofs.Common.{◌≡◌, ◌-◌, ◌+◌, ◌^◌, IsTrue, length}
-use Rattle.age_io.specs.Reading.{Delivers}
+use Rattle.age_io.specs.Reading.{AddsNoReason, Delivers, TriedAgain}
 use Rattle.age_io.specs.Keeping.{SameReader}
 use Rattle.age_format.specs.HeaderV1.{reads_legacy}
 use Rattle.age_format.proofs.header.HeaderV1.read.Given as goal
@@ -9,6 +9,7 @@ invariant-bytes g l =
     let reader = g.R.Read in
     record {
       same : SameReader reader l.fn.reader l.reader;
+      narrows : AddsNoReason (TriedAgain reader.refuses) l.fn.reader l.reader;
       legacy : l.header.legacy ≡ reads_legacy;
       moved : IsTrue (reader.tells l.fn.reader) → reader.place l.reader ≡ reader.place l.fn.reader + length l.header.text;
       so_far : IsTrue (reader.tells l.fn.reader) → Delivers l.header.text (reader.rest l.fn.reader) (reader.rest l.reader);
