@@ -1,20 +1,25 @@
 -- Steps that keep the payload, and what they are to a caller of the reader.
-use Rattle.std.specs.Prelude.{◌≡◌, ◌≢◌, ℕ, ◌&&◌, ◌⊎◌, Bool, true, IsTrue, Result, Ok, Err}
-use Rattle.std.proofs.Common.{◌≤◌, arith, ap, ◌∙◌, refl, inl, inr}
+use Rattle.std.specs.Prelude.{◌≡◌, ◌≢◌, ℕ, ◌&&◌, ◌⊎◌, Bool, true, false, IsTrue, List, Result, OnOk, Ok, Err}
+use Rattle.std.proofs.Common.{◌≤◌, arith, ap, ◌∙◌, refl, sym, subst, inl, inr}
 use Rattle.age_error.specs.Refusals.{IsDevice}
 use Rattle.age_error.specs.declared.io.Error.{Error}
-use Rattle.age_error.specs.declared.io.Error.TheVariants.{OutOfMemory, Failed}
+use Rattle.age_error.specs.declared.io.Error.TheVariants.{OutOfMemory, Failed, BadEnd}
 use Rattle.age_error.specs.declared.io.SeekFrom.{SeekFrom}
 use Rattle.age_suite.specs.declared.suite.Suite.{Ghosts as SuiteGhosts}
 use Rattle.age_io.specs.declared.traits.Read.{Ghosts}
-use Rattle.age_io.specs.Reading.{IsQuiet, AddsNoReason, TriedAgain}
+use Rattle.age_io.specs.Reading.{IsQuiet, AddsNoReason, Reads, TriedAgain}
 use Rattle.age_io.specs.Cursor.{Seeks, IsOutside, IsSeekRefusal}
-use Rattle.age_io.specs.Keeping.{SameReader}
-use Rattle.age_io.proofs.Keeping.{keeps-done, keeps-refused, keeps-later}
+use Rattle.age_io.specs.Keeping.{SameReader, KeepsReader}
+use Rattle.age_io.proofs.Keeping.{keeps-done, keeps-refused, keeps-later, keeps-more}
 use Rattle.age_stream.specs.declared.reader.StreamReader.{StreamReader}
 use Rattle.age_stream.specs.Chunks.{delivered}
-use Rattle.age_stream.specs.Reader.{payload_of, tells_of, steady_of, content_of, place_of, plain_rest_of, faults_of, refuses_of}
-use Rattle.age_stream.specs.Keeping.{IsPayloadRefusal, IsPayloadSeekRefusal, OwnOrInner, KeepsPayload}
+use Rattle.age_stream.specs.FrontToEnd.{StopsAt}
+use Rattle.age_stream.specs.Reader.{payload_of, tells_of, steady_of, content_of, place_of, plain_rest_of, faults_of, stops_of, refuses_of}
+use Rattle.age_stream.specs.Reading.{payload_at}
+use Rattle.age_stream.specs.Keeping.{IsPayloadSeekRefusal, OwnOrInner, KeepsPayload}
+use Rattle.std.proofs.lemmas.Bool.{true≢false}
+use Rattle.age_io.specs.Stretch.{IsFault}
+use Rattle.age_stream.proofs.Holding.{rest_failed}
 use Rattle.age_stream.proofs.Sound.{same-steady, inner-well}
 
 -- what was quiet all along was quiet at its end
@@ -34,6 +39,19 @@ module _ {R : Type 0} (read : Ghosts R) where
   own-narrows Own a b fewer e h = elim h [ inl own ↦ inl own | inr inner ↦ inr (fewer e inner) ]
 
   module _ {Own : Error → Type 0} where
+    -- a read of the inner reader that was tried again, after which the payload is the same
+    pub payload-filled : {T U : Type 0} {x : T} {y : U} (a b : R) (taken after : ℕ) →
+        (IsTrue (read.tells a && read.steady a) → payload_at (read.place b) after (read.content b) ≡ payload_at (read.place a) taken (read.content a)) →
+        KeepsReader read (TriedAgain read.refuses) a b (Ok x) → KeepsPayload read Own a taken b after (Ok y)
+    payload-filled a b taken after same keeps =
+        record { inner = keeps-done read (OwnOrInner read Own) a b keeps.same keeps.narrows; payload = same }
+
+    pub payload-asked : {T U : Type 0} (a b : R) (taken after : ℕ) (e : Error) →
+        (IsTrue (read.tells a && read.steady a) → payload_at (read.place b) after (read.content b) ≡ payload_at (read.place a) taken (read.content a)) →
+        KeepsReader {T = T} read (TriedAgain read.refuses) a b (Err e) → KeepsPayload {T = U} read Own a taken b after (Err e)
+    payload-asked a b taken after e same keeps =
+        record { inner = record { same = keeps.same; device = keeps.device; patient = keeps.patient; why = inr keeps.why; narrows = tt }; payload = same }
+
     -- what a success keeps, whatever it gives
     pub payload-done : {T U : Type 0} {x : T} {y : U} (a b : R) (taken after : ℕ) → KeepsPayload read Own a taken b after (Ok x) →
         KeepsPayload read Own a taken b after (Ok y)
@@ -46,6 +64,16 @@ module _ {R : Type 0} (read : Ghosts R) where
     payload-refused a b taken after e keeps =
         record {
           inner = record { same = keeps.inner.same; device = keeps.inner.device; patient = keeps.inner.patient; why = keeps.inner.why; narrows = tt };
+          payload = keeps.payload;
+        }
+
+    -- the same step, of which more may be the reason
+    pub payload-more : {T : Type 0} {More : Error → Type 0} (result : Result T Error) (a b : R) (taken after : ℕ) → ((e : Error) → Own e → More e) →
+        KeepsPayload read Own a taken b after result → KeepsPayload read More a taken b after result
+    payload-more result a b taken after wider keeps =
+        record {
+          inner = keeps-more read (OwnOrInner read Own) (OwnOrInner read _) result a b
+              (λ e h. elim h [ inl own ↦ inl (wider e own) | inr inner ↦ inr inner ]) keeps.inner;
           payload = keeps.payload;
         }
 
@@ -64,14 +92,6 @@ module _ {R : Type 0} (read : Ghosts R) where
           payload = λ told. two.payload (told-later a b one.inner.same told) ∙ one.payload told;
         }
 
--- A reader that has failed after a step only if it had before adds no reason.
-pub stream_narrows : {R : Type 0} (read : Ghosts R) (was is : Bool) (a b : R) → (is ≡ true → was ≡ true) → AddsNoReason (TriedAgain read.refuses) a b → (e : Error) →
-    ((is ≡ true) × (e ≡ Failed)) ⊎ OwnOrInner read IsPayloadRefusal b e → ((was ≡ true) × (e ≡ Failed)) ⊎ OwnOrInner read IsPayloadRefusal a e
-stream_narrows read was is a b good fewer e h = elim h [
-  | inl failed ↦ inl (good failed.0, failed.1)
-  | inr own ↦ inr (own-narrows read IsPayloadRefusal a b fewer e own)
-]
-
 module _ {S R : Type 0} {suite : SuiteGhosts S} {read : Ghosts R} where
   -- the reader's content is the same
   pub content-kept : {T : Type 0} {Own : Error → Type 0} {result : Result T Error} (old new : StreamReader S R suite read) →
@@ -89,10 +109,69 @@ module _ {S R : Type 0} {suite : SuiteGhosts S} {read : Ghosts R} where
         keeps.inner.same.tells keeps.inner.same.steady (λ told. ap (λ d. d.ends_well) (content-kept old new keeps key told)),
   )
 
+  -- what is said of the payload after a step was said of it before
+  pub stops-kept : {T : Type 0} {Own : Error → Type 0} {result : Result T Error} (old new : StreamReader S R suite read) →
+      KeepsPayload read Own old.inner old.taken new.inner new.taken result → new.key ≡ old.key → (e : Error) → stops_of new e → stops_of old e
+  stops-kept old new keeps key e h = record {
+    is = h.is;
+    named = λ told.
+        let named = h.named (told-later read old.inner new.inner keeps.inner.same told) in
+        subst (λ p. (e ≡ BadEnd) ⊎ ((number : ℕ) × StopsAt suite.seal_of old.key p.bytes number e)) (keeps.payload told)
+        (subst (λ k. (e ≡ BadEnd) ⊎ ((number : ℕ) × StopsAt suite.seal_of k (payload_of new).bytes number e)) key named);
+  }
+
+  -- A reader that has failed after a step only if it had before adds no reason.
+  pub stream_narrows : {T : Type 0} {Own : Error → Type 0} {x : T} (was : Bool) (old new : StreamReader S R suite read) → (was ≡ true → old.failed ≡ true) →
+      KeepsPayload read Own old.inner old.taken new.inner new.taken (Ok x) → new.key ≡ old.key → (e : Error) →
+      ((was ≡ true) × (e ≡ Failed)) ⊎ OwnOrInner read (stops_of new) new.inner e → refuses_of old e
+  stream_narrows was old new good keeps key e h = elim h [
+    | inl failed ↦ inl (good failed.0, failed.1)
+    | inr own ↦ inr (elim own [ inl stops ↦ inl (stops-kept old new keeps key e stops) | inr inner ↦ inr (keeps.inner.narrows e inner) ])
+  ]
+
+  pub ok_narrows : {T : Type 0} {Own : Error → Type 0} (result : Result T Error) (old new : StreamReader S R suite read) →
+      KeepsPayload read Own old.inner old.taken new.inner new.taken result → new.key ≡ old.key → OnOk result (new.failed ≡ false) →
+      OnOk result ((e : Error) → refuses_of new e → refuses_of old e)
+  ok_narrows (Ok x) old new keeps key good = stream_narrows new.failed old new (λ is. absurd (true≢false (sym is ∙ good))) keeps key
+  ok_narrows (Err e) old new keeps key good = tt
+
+  -- A read that is refused leaves the reader failed.
+  pub read-refused : (old new : StreamReader S R suite read) (buf : List ℕ) (e : Error) →
+      KeepsPayload {T = Unit {0}} read (stops_of old) old.inner old.taken new.inner new.taken (Err e) → new.key ≡ old.key → place_of new ≡ place_of old →
+      new.failed ≡ true →
+      (IsTrue (tells_of old) → e ≢ OutOfMemory → IsQuiet (read.faults old.inner) (read.faults new.inner) → IsFault (plain_rest_of old)) →
+      Reads tells_of steady_of content_of place_of plain_rest_of faults_of refuses_of old new buf (Err e)
+  read-refused old new buf e keeps key place failed cause =
+      record {
+        count = tt;
+        same_tells = (stream-kept old new keeps key).0;
+        same_steady = (stream-kept old new keeps key).1;
+        no_fewer_faults = keeps.inner.same.faults;
+        device = keeps.inner.device;
+        unspent = tt;
+        why = inr keeps.inner.why;
+        narrows = tt;
+        again = λ i. absurd (keeps.inner.patient i);
+        same_content = content-kept old new keeps key;
+        bytes = λ _. tt;
+        moves = λ _. tt;
+        end = λ _. tt;
+        stays = λ _. place;
+        left = λ _. inr (rest_failed suite.opened new.key new.failed new.held new.at new.chunk.items new.last new.number (read.rest new.inner) failed);
+        interrupted = λ _ i. absurd (keeps.inner.patient i);
+        cause = cause;
+      }
+
   -- why a seek is refused, told of the reader itself
   pub sought-why : (r : StreamReader S R suite read) (e : Error) → OwnOrInner read IsPayloadSeekRefusal r.inner e → IsSeekRefusal e ⊎ refuses_of r e
   sought-why r e h = elim h [
-    | inl own ↦ elim own [ inl seek ↦ inl seek | inr payload ↦ inr (inr (inl payload)) ]
+    | inl own ↦ elim own [
+        | inl seek ↦ inl seek
+        | inr payload ↦ elim payload [
+            | inl bad ↦ inr (inr (inl (subst (stops_of r) (sym bad) (record { is = tt; named = λ told. inl refl }))))
+            | inr memory ↦ inr (inr (inl (subst (stops_of r) (sym memory) (record { is = tt; named = λ told. inr (0, tt) }))))
+          ]
+      ]
     | inr inner ↦ inr (inr (inr inner))
   ]
 

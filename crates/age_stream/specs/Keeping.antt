@@ -1,14 +1,17 @@
 -- What a step of a reader of a payload keeps of the reader that the payload comes from.
-use Rattle.std.specs.Prelude.{◌≡◌, ℕ, ◌&&◌, ◌⊎◌, IsTrue, Result, ⊤}
+use Rattle.std.specs.Prelude.{◌≡◌, ℕ, ◌&&◌, ◌⊎◌, IsTrue, List, Result, ⊤}
 use Rattle.age_error.specs.declared.io.Error.{Error}
 use Rattle.age_error.specs.declared.io.Error.TheVariants.{Truncated, BadChunk, AfterLast, LastChunkEmpty, BadEnd, TooLong, OutOfMemory}
 use Rattle.age_io.specs.Cursor.{IsSeekRefusal}
 use Rattle.age_io.specs.Reading.{TriedAgain}
 use Rattle.age_io.specs.declared.traits.Read.{Ghosts}
 use Rattle.age_io.specs.Keeping.{KeepsReader}
+use Rattle.age_io.specs.Stretch.{Stretch}
+use Rattle.age_stream.specs.Payload.{Seal}
+use Rattle.age_stream.specs.FrontToEnd.{StopsAt}
 use Rattle.age_stream.specs.Reading.{payload_at}
 
--- What a reader of a payload refuses with of its own: what is wrong with the payload, or want of memory.
+-- What a reader of a payload may say of its own: what is wrong with a payload, or want of memory.
 abbrev pub IsPayloadRefusal : Error → Type 0
 IsPayloadRefusal Truncated = ⊤
 IsPayloadRefusal BadChunk = ⊤
@@ -19,9 +22,14 @@ IsPayloadRefusal TooLong = ⊤
 IsPayloadRefusal OutOfMemory = ⊤
 IsPayloadRefusal _ = ⊥
 
--- and what its seeks refuse with
+-- What it says of this payload: where that is known, what the definition names for one of its chunks, or that its end is bad.
+pub record Stops (seal_of : Seal) (key : List ℕ) (payload : Stretch) (known : Type 0) (e : Error) : Type 0 where
+  pub is : IsPayloadRefusal e
+  pub named : known → (e ≡ BadEnd) ⊎ ((number : ℕ) × StopsAt seal_of key payload.bytes number e)
+
+-- and what its seeks say
 abbrev pub IsPayloadSeekRefusal : Error → Type 0
-IsPayloadSeekRefusal e = IsSeekRefusal e ⊎ IsPayloadRefusal e
+IsPayloadSeekRefusal e = IsSeekRefusal e ⊎ (e ≡ BadEnd) ⊎ (e ≡ OutOfMemory)
 
 -- with an error of a kind of its own, or as the reader below does, whose interruptions are tried again
 abbrev pub OwnOrInner : {R : Type 0} → Ghosts R → (Error → Type 0) → R → Error → Type 0

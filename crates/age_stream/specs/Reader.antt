@@ -1,12 +1,12 @@
 -- What a caller sees of a `StreamReader`, and what it means as a reader.
-use Rattle.std.specs.Prelude.{◌≡◌, ℕ, ◌+◌, ◌*◌, ◌<◌, ◌&&◌, ◌⊎◌, Bool, true, cond, List, ◌++◌, length, codes}
+use Rattle.std.specs.Prelude.{◌≡◌, ℕ, ◌+◌, ◌*◌, ◌<◌, ◌&&◌, ◌⊎◌, Bool, true, IsTrue, cond, List, ◌++◌, length, codes}
 use Rattle.std.specs.Fmt.{decimal}
 use Rattle.age_suite.specs.declared.suite.Suite.{Ghosts as SuiteGhosts}
 use Rattle.age_io.specs.declared.traits.Read.{Ghosts}
 use Rattle.age_io.specs.Stretch.{Stretch}
 use Rattle.age_error.specs.declared.io.Error.{Error}
 use Rattle.age_error.specs.declared.io.Error.TheVariants.{Failed}
-use Rattle.age_stream.specs.Keeping.{IsPayloadRefusal, OwnOrInner}
+use Rattle.age_stream.specs.Keeping.{Stops, OwnOrInner}
 use Rattle.age_stream.specs.declared.reader.StreamReader.{StreamReader}
 use Rattle.age_stream.specs.Payload.{final_chunk}
 use Rattle.age_stream.specs.Chunks.{delivered}
@@ -87,6 +87,10 @@ module _ {S R : Type 0} {suite : SuiteGhosts S} {read : Ghosts R} where
   abbrev pub faults_of : StreamReader S R suite read → ℕ
   faults_of r = read.faults r.inner
 
+  -- what it says of its payload
+  abbrev pub stops_of : StreamReader S R suite read → Error → Type 0
+  stops_of r = Stops suite.seal_of r.key (payload_of r) (IsTrue (tells_of r))
+
   -- with `Failed` once it has failed, else with what is wrong with the payload, for want of memory, or as the inner reader does
   abbrev pub refuses_of : StreamReader S R suite read → Error → Type 0
-  refuses_of r e = (HasFailed r × (e ≡ Failed)) ⊎ OwnOrInner read IsPayloadRefusal r.inner e
+  refuses_of r e = (HasFailed r × (e ≡ Failed)) ⊎ OwnOrInner read (stops_of r) r.inner e

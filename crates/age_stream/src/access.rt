@@ -7,7 +7,7 @@ ghost use Rattle.age_io.specs.Cursor;
 ghost use Rattle.age_io.specs.Cursor.{IsOutside};
 ghost use Rattle.age_io.specs.Keeping.{KeepsReader, OrSeek};
 ghost use Rattle.age_stream.specs.Answering.{StandAt, StopsNear, IsGoodEnd};
-ghost use Rattle.age_stream.specs.Keeping.{IsPayloadRefusal, KeepsPayload};
+ghost use Rattle.age_stream.specs.Keeping.{KeepsPayload};
 ghost use Rattle.age_stream.specs.Targets.{below_start, sought_in, IsRefusedTarget, StopsWithin};
 
 use crate::reader::StreamReader;
@@ -16,12 +16,12 @@ use age_io::{Read, Seek};
 use age_suite::suite::Suite;
 
 impl<S: Suite, R: Read> StreamReader<S, R> {
-    ghost use Rattle.age_stream.specs.Reader.{payload_of, key_of, place_of};
+    ghost use Rattle.age_stream.specs.Reader.{payload_of, key_of, place_of, stops_of};
 
     // Reads until the buffer is full or the end. `filled` says how many bytes were read, also after a refusal.
     fn read_full(&mut self, buf: &mut [u8], filled: &mut usize) -> Result<(), Error>
         requires good { self.old.failed ≡ false }
-        ensures keeps { KeepsPayload ⟦<R as Read>⟧ IsPayloadRefusal self.old.inner self.old.taken self.new.inner self.new.taken result }
+        ensures keeps { KeepsPayload ⟦<R as Read>⟧ (stops_of self.old) self.old.inner self.old.taken self.new.inner self.new.taken result }
         ensures count { filled.new ≤ length buf.new }
         ensures key { key_of self.new ≡ key_of self.old }
         ensures moves { 65536 * self.new.number + self.new.at ≡ 65536 * self.old.number + self.old.at + filled.new }

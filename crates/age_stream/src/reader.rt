@@ -186,7 +186,7 @@ impl<S: Suite, R: Read> Read for StreamReader<S, R> {
 }
 
 impl<S: Suite, R: Read> StreamReader<S, R> {
-    ghost use Rattle.age_stream.specs.Reader.{payload_of, key_of, inner_of, inner_rest_of, wanted_of, HasFailed, HasSought, IsHolding, IsAfterLast, opens_of};
+    ghost use Rattle.age_stream.specs.Reader.{payload_of, key_of, inner_of, inner_rest_of, wanted_of, HasFailed, HasSought, IsHolding, IsAfterLast, opens_of, stops_of};
 
     /// A reader of the payload that begins where `inner` stands, under the payload key of 32 bytes. It stands before the
     /// first byte of the plaintext.
@@ -270,13 +270,13 @@ impl<S: Suite, R: Read> StreamReader<S, R> {
     }
 
     // A read of a good reader into a buffer that isn't empty.
-    #[tactic(auto, using(crate::proofs::Holding::rest_failed, crate::proofs::Holding::fault_failed))]
+    #[tactic(auto, using(crate::proofs::Holding::rest_failed, crate::proofs::Holding::fault_failed, crate::proofs::Keeping::ok_narrows))]
     pub(crate) fn read_on(&mut self, buf: &mut [u8]) -> Result<usize, Error>
         requires good { self.old.failed ≡ false }
         requires some { 0 < length buf.old }
         ensures reads { let reader = ⟦<StreamReader<S, R> as Read>⟧ in
             Reads reader.tells reader.steady reader.content reader.place reader.rest reader.faults reader.refuses self.old self.new buf.new result }
-        ensures keeps { KeepsPayload ⟦<R as Read>⟧ IsPayloadRefusal self.old.inner self.old.taken self.new.inner self.new.taken result }
+        ensures keeps { KeepsPayload ⟦<R as Read>⟧ (stops_of self.old) self.old.inner self.old.taken self.new.inner self.new.taken result }
         ensures key { self.new.key ≡ self.old.key }
         ensures gives { let reader = ⟦<StreamReader<S, R> as Read>⟧ in IsTrue (reader.tells self.old) → IfOk result (λ n. 0 < n →
             Gives S.seal_of self.old.key (payload_of self.old) (reader.place self.old) (length buf.old) (take n buf.new)) }
@@ -322,7 +322,7 @@ impl<S: Suite, R: Read> StreamReader<S, R> {
     fn hold(&mut self) -> Result<(), Error>
         requires good { self.old.failed ≡ false }
         requires more { self.old.held ≡ true → self.old.last ≡ true → self.old.at < length self.old.chunk.items }
-        ensures keeps { KeepsPayload ⟦<R as Read>⟧ IsPayloadRefusal self.old.inner self.old.taken self.new.inner self.new.taken result }
+        ensures keeps { KeepsPayload ⟦<R as Read>⟧ (stops_of self.old) self.old.inner self.old.taken self.new.inner self.new.taken result }
         ensures key { self.new.key ≡ self.old.key }
         ensures sought { self.new.sought ≡ self.old.sought }
         ensures place { ⟦<StreamReader<S, R> as Read>⟧.place self.new ≡ ⟦<StreamReader<S, R> as Read>⟧.place self.old }
@@ -388,7 +388,7 @@ impl<S: Suite, R: Read> StreamReader<S, R> {
         requires held { self.old.held ≡ true }
         requires last { self.old.last ≡ true }
         requires given { self.old.at ≡ length self.old.chunk.items }
-        ensures keeps { KeepsPayload ⟦<R as Read>⟧ IsPayloadRefusal self.old.inner self.old.taken self.new.inner self.new.taken result }
+        ensures keeps { KeepsPayload ⟦<R as Read>⟧ (stops_of self.old) self.old.inner self.old.taken self.new.inner self.new.taken result }
         ensures unspent { OnOk result (R.faults self.new.inner < most_faults) }
         ensures none { IfOk result (λ n. n ≡ 0) }
         ensures key { self.new.key ≡ self.old.key }
@@ -434,7 +434,7 @@ impl<S: Suite, R: Read> StreamReader<S, R> {
     fn open(&mut self) -> Result<(), Error>
         requires good { self.old.failed ≡ false }
         requires closed { self.old.held ≡ false }
-        ensures keeps { KeepsPayload ⟦<R as Read>⟧ IsPayloadRefusal self.old.inner self.old.taken self.new.inner self.new.taken result }
+        ensures keeps { KeepsPayload ⟦<R as Read>⟧ (stops_of self.old) self.old.inner self.old.taken self.new.inner self.new.taken result }
         ensures unspent { OnOk result (R.faults self.new.inner < most_faults) }
         ensures key { self.new.key ≡ self.old.key }
         ensures sought { self.new.sought ≡ self.old.sought }

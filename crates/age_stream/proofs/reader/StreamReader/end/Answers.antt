@@ -1,12 +1,14 @@
-use Rattle.std.proofs.Common.{◌≡◌, ◌∙◌, ap, sym, IsTrue, refl, subst, arith, length, take, length-take-le, ◌<◌, ◌^◌, ◌-◌, inl, inr}
+use Rattle.std.proofs.Common.{◌≡◌, ◌∙◌, ap, sym, IsTrue, ◌&&◌, refl, subst, arith, length, take, length-take-le, ◌<◌, ◌^◌, ◌-◌, inl, inr}
 use Rattle.std.proofs.lemmas.Bool.{true≢false}
 use Rattle.std.proofs.lemmas.List.Elements.{All-drop}
+use Rattle.age_error.specs.declared.io.Error.TheVariants.{AfterLast}
 use Rattle.age_io.specs.Reading.{EndsEarly}
 use Rattle.age_stream.specs.Reading.{payload_at}
 use Rattle.age_stream.specs.Reader.{wanted_of}
 use Rattle.age_stream.specs.ReadingLaws.{and-left}
 use Rattle.age_stream.proofs.Answered.{refuses-after, good-end}
-use Rattle.age_stream.proofs.Holding.{end-early, end-more, end-clean, same-rest, sound-failed, sound-ended}
+use Rattle.age_stream.proofs.Holding.{payload-read, end-early, end-more, end-clean, same-rest, sound-failed, sound-ended}
+use Rattle.age_stream.proofs.Keeping.{payload-asked, payload-filled, payload-ended}
 use Rattle.age_stream.proofs.reader.StreamReader.end.Goals as goal
 
 pub returns-in-Err-clause-cause : goal.returns-in-Err-clause-cause
@@ -149,3 +151,43 @@ returns-in-Err-clause-after_last g c = λ told memory quiet.
     let size : length c.fill-answer.new.buf ≡ 1 = c.fill-answer.auto.buf in
     let early : EndsEarly 1 (g.R.Read.rest self.inner) = rw size at (c.in-Err.ensures.cause (and-left _ _ told) memory quiet) in
     inl early
+
+pub returns-in-Err-clause-keeps : goal.returns-in-Err-clause-keeps
+returns-in-Err-clause-keeps g c =
+    let self = c.args.self.now in
+    let read = g.R.Read in
+    let after = c.fill-answer.new.reader in
+    let filled = c.in-Err.ensures in
+    let path = λ (told : IsTrue (read.tells self.inner && read.steady self.inner)).
+    let t = and-left (read.tells self.inner) (read.steady self.inner) told in
+    (payload-read (read.content self.inner) (read.content after) (read.place self.inner) (read.place after) self.taken c.saturating_add-self.result c.fill-answer.new.filled
+    (filled.keeps.same.content t) (filled.moves t) (g.met.R.Read.place_fits after (filled.keeps.same.tells ∙ t)) c.saturating_add-self.ensures (self.sound told).fits).1 in
+    payload-asked read self.inner after self.taken c.saturating_add-self.result c.in-Err.e path filled.keeps
+
+pub returns-then-count-gt0-clause-keeps : goal.returns-then-count-gt0-clause-keeps
+returns-then-count-gt0-clause-keeps g c =
+    let self = c.args.self.now in
+    let read = g.R.Read in
+    let after = c.fill-answer.new.reader in
+    let filled = c.in-Ok.ensures in
+    let path = λ (told : IsTrue (read.tells self.inner && read.steady self.inner)).
+    let t = and-left (read.tells self.inner) (read.steady self.inner) told in
+    (payload-read (read.content self.inner) (read.content after) (read.place self.inner) (read.place after) self.taken c.saturating_add-self.result c.fill-answer.new.filled
+    (filled.keeps.same.content t) (filled.moves t) (g.met.R.Read.place_fits after (filled.keeps.same.tells ∙ t)) c.saturating_add-self.ensures (self.sound told).fits).1 in
+    payload-ended read self.inner after self.taken c.saturating_add-self.result AfterLast
+    (payload-filled read {x = c.in-Ok.field-0} {y = c.in-Ok.field-0} self.inner after self.taken c.saturating_add-self.result path filled.keeps)
+    (λ device. device)
+    (record {
+      is = tt;
+      named = λ told.
+          let text = take c.fill-answer.new.filled c.fill-answer.new.buf in
+          let size : length text ≡ c.fill-answer.new.filled = length-take-le c.fill-answer.new.filled c.fill-answer.new.buf filled.count in
+          let content = read.content self.inner in
+          let sound = self.sound told in
+          inr (self.number, refuses-after g.S.Suite.seal_of g.S.Suite.opened g.met.S.Suite.cipher self.key self.key_bytes
+          (payload_at (read.place self.inner) self.taken content) (read.rest self.inner) (read.rest after)
+          self.number self.taken self.last self.at self.chunk.items text
+          (All-drop (λ x. x < 2 ^ 8) (read.place self.inner - self.taken) content.bytes (g.met.R.Read.are_bytes self.inner (and-left _ _ told)))
+          (sound.is_held c.requires.held) c.requires.last (sound.is_past c.requires.good c.requires.held)
+          (filled.bytes (and-left _ _ told)) (omega (arith, size, c.if-count-gt0.true)));
+    })

@@ -2,7 +2,7 @@ use Rattle.std.proofs.Common.{◌≡◌, arith, ◌∙◌, ◌-◌, ◌+◌, len
 use Rattle.age_stream.specs.Answering.{StandAt, StopsNear, IsGoodEnd}
 use Rattle.age_stream.specs.Reader.{payload_of, place_of, wanted_of}
 use Rattle.age_stream.proofs.Answered.{refuses-near}
-use Rattle.age_stream.proofs.Keeping.{told-later, quiet-later, payload-done, payload-later}
+use Rattle.age_stream.proofs.Keeping.{payload-more, stops-kept, told-later, quiet-later, payload-done, payload-later}
 use Rattle.age_stream.proofs.Standing.{stand-given, stand-joined}
 use Rattle.std.proofs.lemmas.Grind.{common_steps}
 use Rattle.age_io.proofs.Delivering.{Delivers-joined, take-filled}
@@ -15,7 +15,8 @@ reads-preserved g c =
     let read = c.in-Ok.ensures in
     let got = read.reads in
     record {
-      keeps = payload-done g.R.Read _ _ _ _ (payload-later g.R.Read _ c.args.self.now.inner c.reads.self.inner c.read_on.new.self.inner _ _ _ before.keeps read.keeps);
+      keeps = payload-done g.R.Read _ _ _ _ (payload-later g.R.Read _ c.args.self.now.inner c.reads.self.inner c.read_on.new.self.inner _ _ _ before.keeps
+          (payload-more g.R.Read _ _ _ _ _ (stops-kept c.args.self.now c.reads.self before.keeps before.same_key) read.keeps));
       within = grind (arith, common_steps);
       good = read.good;
       same_key = read.key ∙ before.same_key;

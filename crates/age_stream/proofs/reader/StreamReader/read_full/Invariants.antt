@@ -1,16 +1,16 @@
 use Rattle.std.proofs.Common.{◌≡◌, ◌≤◌, ◌-◌, ◌+◌, ◌*◌, false, IsTrue, Ok, length, take}
 use Rattle.age_io.specs.Reading.{Delivers}
-use Rattle.age_stream.specs.Reader.{tells_of, plain_rest_of, payload_of, place_of}
+use Rattle.age_stream.specs.Reader.{tells_of, plain_rest_of, payload_of, place_of, stops_of}
 use Rattle.age_stream.specs.Answering.{StandAt}
 use Rattle.age_stream.specs.Reading.{spare}
-use Rattle.age_stream.specs.Keeping.{IsPayloadRefusal, KeepsPayload}
+use Rattle.age_stream.specs.Keeping.{KeepsPayload}
 use Rattle.age_stream.proofs.reader.StreamReader.read_full.Given as goal
 
 abbrev pub invariant-reads : goal.invariant-reads
 invariant-reads g l =
     let read = g.R.Read in
     record {
-      keeps : KeepsPayload read IsPayloadRefusal l.fn.self.inner l.fn.self.taken l.self.inner l.self.taken (Ok l.filled);
+      keeps : KeepsPayload read (stops_of l.fn.self) l.fn.self.inner l.fn.self.taken l.self.inner l.self.taken (Ok l.filled);
       within : l.filled ≤ length l.buf;
       good : l.self.failed ≡ false;
       same_key : l.self.key ≡ l.fn.self.key;

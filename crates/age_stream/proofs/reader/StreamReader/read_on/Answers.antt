@@ -1,7 +1,12 @@
 use Rattle.std.proofs.Common.{◌≡◌, arith, length}
 use Rattle.age_stream.proofs.Answered.{refuses-widened}
-use Rattle.age_stream.proofs.Keeping.{payload-done}
+use Rattle.age_stream.proofs.Keeping.{payload-done, read-refused}
 use Rattle.age_stream.proofs.reader.StreamReader.read_on.Goals as goal
+
+pub returns-in-Err-clause-reads : goal.returns-in-Err-clause-reads
+returns-in-Err-clause-reads g c =
+    let failed = c.in-Err.ensures in
+    read-refused c.args.self.now c.hold.new.self c.args.buf.now c.in-Err.e failed.keeps failed.key failed.place failed.fails failed.cause
 
 pub returns-in-Err-clause-refused : goal.returns-in-Err-clause-refused
 returns-in-Err-clause-refused g c = λ told memory quiet.
