@@ -8,11 +8,11 @@ use Rattle.age_error.specs.declared.io.Error.TheVariants.{OutOfMemory, BeforeSta
 use Rattle.age_error.specs.declared.io.SeekFrom.{SeekFrom}
 use Rattle.age_error.specs.declared.io.SeekFrom.TheVariants.{Start, End, Current}
 use Rattle.age_io.specs.Stretch.{Stretch, nothing, from_place}
-use Rattle.age_io.specs.Reading.{IsQuiet}
+use Rattle.age_io.specs.Reading.{IsQuiet, AddsNoReason}
 use Rattle.age_io.specs.declared.traits.Read.{Ghosts}
-use Rattle.age_io.specs.Keeping.{SameReader, KeepsReader}
+use Rattle.age_io.specs.Keeping.{SameReader, KeepsReader, OrSeek}
 use Rattle.age_io.specs.Cursor.{Seeks, IsOutside, MayLead, moved_to, place_at, sought}
-use Rattle.age_io.proofs.Keeping.{same-self, same-later, keeps-refused}
+use Rattle.age_io.proofs.Keeping.{same-self, same-later, keeps-refused, seek-narrows}
 use Rattle.age_armor.specs.Delivered.{Ending, Clean, Refused, InnerFault, is_clean}
 use Rattle.age_armor.specs.Stages.{IsNamed}
 use Rattle.age_armor.specs.Seeking.{Goes, SeeksText, Misses, ComesBack}
@@ -98,17 +98,22 @@ quiet-first a b c first last quiet = record { same = omega (arith, first, last, 
 
 module _ {R : Type 0} (read : Ghosts R) (failed : R → Bool) where
   -- a refusal that isn't an interruption
-  seeks-refused : (old new : R) (to : SeekFrom) (e : Error) → KeepsReader {T = ℕ} read old new (Err e) → (IsTrue (read.tells old) → read.place new ≡ read.place old) →
+  seeks-refused : (old new : R) (to : SeekFrom) (e : Error) → KeepsReader {T = ℕ} read (OrSeek read.refuses) old new (Err e) →
+      (IsOutside e → AddsNoReason read.refuses old new) → (IsTrue (read.tells old) → read.place new ≡ read.place old) →
       (IsTrue (read.tells old) → IsTrue (read.steady old) → read.rest old ≡ from_place (read.place old) (read.content old) → IsOutside e → read.rest new ≡ read.rest old) →
       (IsTrue (read.tells old) → IsTrue (read.content old).ends_well → IsOutside e → sought to (read.place old) (length (read.content old).bytes) ≡ Err e) →
       (IsTrue (read.tells old) → IsTrue (read.content old).ends_well → e ≢ OutOfMemory → IsQuiet (read.faults old) (read.faults new) → IsOutside e) →
       Seeks read.tells read.steady read.content read.place read.rest read.faults read.refuses old new to (Err e)
-  seeks-refused old new to e keeps stays kept refused cause = record {
+  seeks-refused old new to e keeps missed stays kept refused cause = record {
     same_tells = keeps.same.tells;
     same_steady = keeps.same.steady;
     no_fewer_faults = keeps.same.faults;
     device = keeps.device;
     unspent = tt;
+    why = keeps.why;
+    narrows = tt;
+    again = λ interruption. absurd (keeps.patient interruption);
+    missed = missed;
     same_content = keeps.same.content;
     arrives = λ told. tt;
     leads = λ told. tt;
@@ -120,18 +125,23 @@ module _ {R : Type 0} (read : Ghosts R) (failed : R → Bool) where
     cause = cause;
   }
 
-  pub arrived : (old new : R) (to : SeekFrom) (ends_well : Bool) (ending : Ending) (n : ℕ) → Goes read old new (Ok n) → failed new ≡ false →
+  pub arrived : (old new : R) (to : SeekFrom) (ends_well : Bool) (ending : Ending) (n : ℕ) → Goes read (OrSeek read.refuses) old new (Ok n) → AddsNoReason read.refuses old new →
+      failed new ≡ false →
       (IsTrue (read.tells old) → read.place new ≡ n) → (IsTrue (read.tells old) → MayLead to (read.place old) n) →
       (IsTrue (read.tells old) → IsTrue (read.steady old) →
       (sought to (read.place old) (length (read.content old).bytes) ≡ Ok n) × (read.rest new ≡ from_place n (read.content old))) →
       SeeksText read failed old new to ends_well ending (Ok n)
-  arrived old new to ends_well ending n goes good at leads exact = record {
+  arrived old new to ends_well ending n goes narrows good at leads exact = record {
     seeks = record {
       same_tells = goes.keeps.same.tells;
       same_steady = goes.keeps.same.steady;
       no_fewer_faults = goes.keeps.same.faults;
       device = tt;
       unspent = goes.unspent;
+      why = tt;
+      narrows = narrows;
+      again = tt;
+      missed = tt;
       same_content = goes.keeps.same.content;
       arrives = at;
       leads = leads;
@@ -154,14 +164,15 @@ module _ {R : Type 0} (read : Ghosts R) (failed : R → Bool) where
       (IsTrue (read.tells old) → IsTrue (read.content old).ends_well → IsTrue (read.steady old) × IsTrue ends_well × ((e : Error) → IsNamed ending e → ⊥)) →
       (failed old ≡ true → read.rest old ≡ nothing) →
       (IsTrue (read.tells old) → IsTrue ends_well → IsTrue (read.steady old)) →
+      (failed old ≡ true → read.refuses old Failed) →
       Misses read old middle to ends_well ending error →
       ComesBack read failed middle new (read.place old) (failed old) error answer →
       SeeksText read failed old new to ends_well ending (Err answer)
-  missed old middle new to ends_well ending error answer well_known gone steady_known misses back =
+  missed old middle new to ends_well ending error answer well_known gone steady_known owns misses back =
       let goes = misses.goes.keeps in
       let first = goes.same.faults in
       let last = back.same.faults in
-      let keeps : KeepsReader {T = ℕ} read old new (Err answer) = record {
+      let keeps : KeepsReader {T = ℕ} read (OrSeek read.refuses) old new (Err answer) = record {
         same = same-later read old middle new goes.same back.same;
         device = λ device. elim (refusal_or_not error) [
           | inl is ↦ omega (arith, first, back.device (refusal-device error is) device)
@@ -171,12 +182,22 @@ module _ {R : Type 0} (read : Ghosts R) (failed : R → Bool) where
           | inl is ↦ back.patient (refusal-interruption error is) interruption
           | inr not ↦ goes.patient (subst IsInterruption (back.other not) interruption)
         ];
+        why = elim (refusal_or_not error) [
+          | inl is ↦ seek-narrows read.refuses old middle (misses.narrows is) answer (back.why is)
+          | inr not ↦ subst (OrSeek read.refuses old) (sym (back.other not)) goes.why
+        ];
+        narrows = tt;
       } in
       let returns : (IsTrue (read.tells old) → IsTrue (read.content old).ends_well → IsOutside error → answer ≢ OutOfMemory →
       IsQuiet (read.faults old) (read.faults new) → IsOutside answer) = λ told well is other quiet.
       back.cause (goes.same.tells ∙ told) (subst (λ s. IsTrue s.ends_well) (sym (goes.same.content told)) well) is other (quiet_after _ _ _ first last quiet) in
       record {
-        seeks = seeks-refused old new to answer keeps (λ told. back.stays (goes.same.tells ∙ told))
+        seeks = seeks-refused old new to answer keeps
+            (λ refusal e h. elim (back.narrows refusal e h) [
+              | inl own ↦ subst (read.refuses old) (sym own.1) (owns own.0)
+              | inr earlier ↦ misses.narrows (back.unmoved refusal).0 e earlier
+            ])
+            (λ told. back.stays (goes.same.tells ∙ told))
             (λ told is_steady stands refusal. elim (cases_Bool (failed old)) [
               | inl had ↦ back.gone had ∙ sym (gone had)
               | inr fine ↦ back.back (goes.same.tells ∙ told) (goes.same.steady ∙ is_steady) fine refusal ∙ ap (from_place (read.place old)) (goes.same.content told) ∙ sym stands
@@ -203,8 +224,9 @@ module _ {R : Type 0} (read : Ghosts R) (failed : R → Bool) where
 
   -- a reader that had failed, or an error that doesn't refuse a seek
   pub stays-failed : (old new : R) (stood : ℕ) (had : Bool) (error : Error) → SameReader read old new → read.place new ≡ stood → failed new ≡ true →
-      read.rest new ≡ nothing → ((had ≡ true) ⊎ (IsOutside error → ⊥)) → ComesBack read failed old new stood had error error
-  stays-failed old new stood had error same stands fails gone why = record {
+      read.rest new ≡ nothing → ((e : Error) → read.refuses new e → (e ≡ Failed) ⊎ read.refuses old e) → ((had ≡ true) ⊎ (IsOutside error → ⊥)) →
+      ComesBack read failed old new stood had error error
+  stays-failed old new stood had error same stands fails gone more why = record {
     same = same;
     device = λ no device. absurd (no device);
     patient = λ no interruption. no interruption;
@@ -212,6 +234,11 @@ module _ {R : Type 0} (read : Ghosts R) (failed : R → Bool) where
     unmoved = λ refusal. elim why [ inl had_failed ↦ (refusal, refl, fails ∙ sym had_failed) | inr not ↦ absurd (not refusal) ];
     other = λ own. refl;
     gone = λ had. gone;
+    why = λ refusal. inl (inl refusal);
+    narrows = λ refusal e h. elim why [
+      | inl had_failed ↦ elim (more e h) [ inl is ↦ inl (had_failed, is) | inr earlier ↦ inr earlier ]
+      | inr not ↦ absurd (not refusal)
+    ];
     stays = λ told. stands;
     back = λ told is_steady fine refusal. elim why [ inl had_failed ↦ absurd (true≢false (sym had_failed ∙ fine)) | inr not ↦ absurd (not refusal) ];
     cause = λ told well refusal other quiet. refusal;
@@ -219,8 +246,8 @@ module _ {R : Type 0} (read : Ghosts R) (failed : R → Bool) where
 
   pub came : (old new : R) (stood : ℕ) (had : Bool) (error : Error) → SameReader read old new → failed new ≡ false →
       (IsTrue (read.tells old) → read.place new ≡ stood) → (IsTrue (read.tells old) → IsTrue (read.steady old) → read.rest new ≡ from_place stood (read.content old)) →
-      had ≡ false → IsOutside error → ComesBack read failed old new stood had error error
-  came old new stood had error same good stands back good_before is = record {
+      had ≡ false → IsOutside error → AddsNoReason read.refuses old new → ComesBack read failed old new stood had error error
+  came old new stood had error same good stands back good_before is narrows = record {
     same = same;
     device = λ no device. absurd (no device);
     patient = λ no interruption. no interruption;
@@ -228,18 +255,20 @@ module _ {R : Type 0} (read : Ghosts R) (failed : R → Bool) where
     unmoved = λ refusal. (refusal, refl, good ∙ sym good_before);
     other = λ own. refl;
     gone = λ had_failed. absurd (true≢false (sym had_failed ∙ good_before));
+    why = λ refusal. inl (inl refusal);
+    narrows = λ refusal e h. inr (narrows e h);
     stays = stands;
     back = λ told is_steady had refusal. back told is_steady;
     cause = λ told well refusal other quiet. refusal;
   }
 
-  pub lost : (old middle new : R) (stood : ℕ) (had : Bool) (error e answer : Error) → Goes {A = ℕ} read old middle (Err e) → SameReader read middle new →
+  pub lost : (old middle new : R) (stood : ℕ) (had : Bool) (error e answer : Error) → Goes {A = ℕ} read (OrSeek read.refuses) old middle (Err e) → SameReader read middle new →
       read.place new ≡ stood → failed new ≡ true → read.rest new ≡ nothing → IsOutside error →
       (IsOutside answer → ⊥) → (answer ≢ Failed → answer ≡ e) →
       (IsTrue (read.tells old) → IsTrue (read.content old).ends_well → answer ≢ OutOfMemory → IsQuiet (read.faults old) (read.faults middle) → ⊥) →
       ComesBack read failed old new stood had error answer
   lost old middle new stood had error e answer goes same stands fails gone is own kept never =
-      let keeps = (goes-unrefused read {T = ℕ} {U = ℕ} old middle e answer kept goes).keeps in
+      let keeps = (goes-unrefused read {T = ℕ} {U = ℕ} read.refuses old middle e answer kept goes).keeps in
       record {
         same = same-later read old middle new keeps.same same;
         device = λ no device. omega (arith, same.faults, keeps.device device);
@@ -248,6 +277,8 @@ module _ {R : Type 0} (read : Ghosts R) (failed : R → Bool) where
         unmoved = λ refusal. absurd (own refusal);
         other = λ not. absurd (not is);
         gone = λ had_failed. gone;
+        why = λ refusal. keeps.why;
+        narrows = λ refusal. absurd (own refusal);
         stays = λ told. stands;
         back = λ told is_steady fine refusal. absurd (own refusal);
         cause = λ told well refusal other quiet. absurd (never told well other (quiet-first _ _ _ keeps.same.faults same.faults quiet));
@@ -256,8 +287,8 @@ module _ {R : Type 0} (read : Ghosts R) (failed : R → Bool) where
   pub too-long : (old new : R) (to : SeekFrom) (ends_well : Bool) (ending : Ending) → SameReader read old new →
       failed new ≡ true → (IsTrue (read.tells old) → ⊥) → SeeksText read failed old new to ends_well ending (Err TooLong)
   too-long old new to ends_well ending same fails untold = record {
-    seeks = seeks-refused old new to TooLong (keeps-refused read old new TooLong same (λ device. device))
-        (λ told. absurd (untold told)) (λ told. absurd (untold told)) (λ told. absurd (untold told)) (λ told. absurd (untold told));
+    seeks = seeks-refused old new to TooLong (keeps-refused read (OrSeek read.refuses) old new TooLong same (λ device. device) (inl (inr (inl refl))))
+        (λ refusal. absurd refusal) (λ told. absurd (untold told)) (λ told. absurd (untold told)) (λ told. absurd (untold told)) (λ told. absurd (untold told));
     patient = λ interruption. interruption;
     good = tt;
     unmoved = λ refusal. absurd refusal;
@@ -269,8 +300,8 @@ module _ {R : Type 0} (read : Ghosts R) (failed : R → Bool) where
   pub too-early : (old : R) (d : ℤ) (ends_well : Bool) (ending : Ending) → place_at (read.place old) d ≡ None →
       SeeksText read failed old old (Current d) ends_well ending (Err BeforeStart)
   too-early old d ends_well ending none = record {
-    seeks = seeks-refused old old (Current d) BeforeStart (keeps-refused read old old BeforeStart (same-self read old) (λ device. device))
-        (λ told. refl) (λ told is_steady stands refusal. refl) (λ told well refusal. ap (λ o. moved_to o (length (read.content old).bytes)) none)
+    seeks = seeks-refused old old (Current d) BeforeStart (keeps-refused read (OrSeek read.refuses) old old BeforeStart (same-self read old) (λ device. device) (inl (inl tt)))
+        (λ refusal e h. h) (λ told. refl) (λ told is_steady stands refusal. refl) (λ told well refusal. ap (λ o. moved_to o (length (read.content old).bytes)) none)
         (λ told well other quiet. tt);
     patient = λ interruption. interruption;
     good = tt;
@@ -294,6 +325,10 @@ module _ {R : Type 0} (read : Ghosts R) (failed : R → Bool) where
           no_fewer_faults = seeks.no_fewer_faults;
           device = seeks.device;
           unspent = seeks.unspent;
+          why = seeks.why;
+          narrows = seeks.narrows;
+          again = seeks.again;
+          missed = seeks.missed;
           same_content = seeks.same_content;
           arrives = seeks.arrives;
           leads = λ told. IfOk-weaker r _ _ (λ n there. is ∙ ap Some (sym there)) (seeks.leads told);

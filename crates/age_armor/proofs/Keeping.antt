@@ -1,19 +1,25 @@
 -- Steps that keep a reader, and what seeks make of them.
-use Rattle.std.proofs.Common.{◌≡◌, ◌≢◌, ◌∙◌, ◌-◌, ◌≤◌, ℕ, IsTrue, Result, Err, length, arith, ap, subst, sym, refl}
+use Rattle.std.proofs.Common.{◌≡◌, ◌≢◌, ◌⊎◌, ◌∙◌, ◌-◌, ◌≤◌, ℕ, false, IsTrue, Result, Ok, Err, length, arith, ap, subst, sym, refl, inl, inr}
+use Rattle.std.proofs.lemmas.Bool.{true≢false}
 use Rattle.age_error.specs.Refusals.{IsDevice, IsInterruption}
 use Rattle.age_error.specs.declared.io.Error.{Error}
 use Rattle.age_error.specs.declared.io.Error.TheVariants.{Failed}
 use Rattle.age_io.specs.declared.traits.Read.{Ghosts}
 use Rattle.age_io.specs.Stretch.{from_place, IsCleanEnd}
-use Rattle.age_io.specs.Keeping.{SameReader}
-use Rattle.age_io.proofs.Keeping.{same-later, keeps-later, keeps-refused}
+use Rattle.age_io.specs.Keeping.{SameReader, OrSeek}
+use Rattle.age_io.specs.Reading.{AddsNoReason, TriedAgain}
+use Rattle.age_io.proofs.Keeping.{same-later, keeps-done, keeps-later, keeps-more, keeps-refused, seek-narrows}
+use Rattle.age_io.proofs.Retrying.{tried-patient, tried-narrows}
 use Rattle.age_io.specs.declared.bufread.BufRead as buffered
 use Rattle.age_armor.specs.declared.reader.ArmoredReader.{ArmoredReader}
 use Rattle.age_armor.specs.declared.counted.Counted.{Counted}
-use Rattle.age_armor.specs.Reader.{armored_reader}
+use Rattle.age_armor.specs.Counting.{Kept}
+use Rattle.age_armor.specs.Reader.{armored_reader, refuses_of}
+use Rattle.age_armor.specs.Refusing.{OrText}
 use Rattle.age_armor.specs.DeliveredLaws.{content_of}
 use Rattle.age_armor.specs.Seeking.{Goes}
 use Rattle.age_armor.proofs.Walking.{ends_at}
+use Rattle.age_armor.proofs.Refusing.{failed-or-kept, plain-narrows, text-patient, text-narrows}
 
 module _ {R : Type 0} (read : Ghosts R) where
   -- the new reader stands in the text that the old one stood in
@@ -33,21 +39,30 @@ module _ {R : Type 0} (read : Ghosts R) where
   }
 
   -- a step, and then a call
-  pub goes-later : {T : Type 0} (result : Result T Error) (a b c : R) → SameReader read a b → Goes read b c result → Goes read a c result
-  goes-later result a b c first second = record { keeps = keeps-later read result a b c first second.keeps; unspent = second.unspent }
+  pub goes-later : {T : Type 0} (may : R → Error → Type 0) (result : Result T Error) (a b c : R) → SameReader read a b →
+      AddsNoReason (TriedAgain read.refuses) a b → AddsNoReason may a b → Goes read may b c result → Goes read may a c result
+  goes-later may result a b c first narrows fewer second =
+      record { keeps = keeps-later read may result a b c first narrows fewer second.keeps; unspent = second.unspent }
 
   -- two steps, and then a refusal that isn't the device's
-  pub goes-refused : {T : Type 0} (a b c : R) (e : Error) → SameReader read a b → SameReader read b c → (IsDevice e → ⊥) → Goes {A = T} read a c (Err e)
-  goes-refused a b c e first second other = record { keeps = keeps-refused read a c e (same-later read a b c first second) other; unspent = tt }
+  pub goes-refused : {T : Type 0} (may : R → Error → Type 0) (a b c : R) (e : Error) → SameReader read a b → SameReader read b c → (IsDevice e → ⊥) →
+      may a e → Goes {A = T} read may a c (Err e)
+  goes-refused may a b c e first second other why = record { keeps = keeps-refused read may a c e (same-later read a b c first second) other why; unspent = tt }
+
+  -- a call that refuses as one that seeks may
+  pub goes-seeking : {T : Type 0} (may : R → Error → Type 0) (result : Result T Error) (a b : R) → Goes read may a b result → Goes read (OrSeek may) a b result
+  goes-seeking may result a b goes = record { keeps = keeps-more read may (OrSeek may) result a b (λ e why. inr why) goes.keeps; unspent = goes.unspent }
 
   -- a refusal of which nothing is left but that it failed, where it was that of a seek
-  pub goes-unrefused : {T U : Type 0} (a b : R) (e answer : Error) → (answer ≢ Failed → answer ≡ e) → Goes {A = T} read a b (Err e) →
-      Goes {A = U} read a b (Err answer)
-  goes-unrefused a b e answer kept goes = record {
+  pub goes-unrefused : {T U : Type 0} (may : R → Error → Type 0) (a b : R) (e answer : Error) → (answer ≢ Failed → answer ≡ e) →
+      Goes {A = T} read (OrSeek may) a b (Err e) → Goes {A = U} read (OrSeek may) a b (Err answer)
+  goes-unrefused may a b e answer kept goes = record {
     keeps = record {
       same = goes.keeps.same;
       device = λ is. goes.keeps.device (subst IsDevice (kept (λ failed. rw failed at is)) is);
       patient = λ is. goes.keeps.patient (subst IsInterruption (kept (λ failed. rw failed at is)) is);
+      why = elim (failed-or-kept e answer kept) [ inl failed ↦ inl (inr (inr failed)) | inr same ↦ subst (OrSeek may a) (sym same) goes.keeps.why ];
+      narrows = tt;
     };
     unspent = tt;
   }
@@ -89,3 +104,101 @@ module _ {R : Type 0} {buf : buffered.Ghosts R} {read : Ghosts R} where
   pub same-source-text : (old new : Counted R buf read) → new ≡ old →
       from_place (read.place new.inner - new.taken) (read.content new.inner) ≡ from_place (read.place old.inner - old.taken) (read.content old.inner)
   same-source-text old new is = ap (λ s. from_place (read.place s.inner - s.taken) (read.content s.inner)) is
+
+-- ---- an armored reader
+
+module _ {R : Type 0} {buf : buffered.Ghosts R} {read : Ghosts R} where
+  pub armor-patient : (r : ArmoredReader R buf read) (e : Error) → refuses_of r e → IsInterruption e → ⊥
+  armor-patient r e h is = elim h [
+    | inl own ↦ subst IsInterruption own.1 is
+    | inr reading ↦ elim reading [
+      | inl text ↦ text-patient _ _ _ e text is
+      | inr tried ↦ tried-patient read.refuses r.source.inner e tried is
+    ]
+  ]
+
+  pub armor-plain : (a b : ArmoredReader R buf read) → AddsNoReason (TriedAgain refuses_of) a b → AddsNoReason refuses_of a b
+  armor-plain a b narrows = plain-narrows refuses_of a b armor-patient narrows
+
+  pub seeks-plain : (a b : ArmoredReader R buf read) → AddsNoReason (TriedAgain refuses_of) a b → AddsNoReason (OrSeek refuses_of) a b
+  seeks-plain a b narrows = seek-narrows refuses_of a b (armor-plain a b narrows)
+
+  -- a step that adds no reason to the inner reader, after which it hasn't failed
+  pub armor-narrows : (a b : ArmoredReader R buf read) → SameReader read a.source.inner b.source.inner →
+      AddsNoReason (TriedAgain read.refuses) a.source.inner b.source.inner → b.failed ≡ false → AddsNoReason refuses_of a b
+  armor-narrows a b same narrows good e h = elim h [
+    | inl own ↦ absurd (true≢false (sym own.0 ∙ good))
+    | inr reading ↦ inr (text-narrows read a.source.inner b.source.inner same narrows e reading)
+  ]
+
+  -- over the same source, one that has failed refuses with no more than `Failed` besides
+  pub source-narrows : (a b : ArmoredReader R buf read) → b.source ≡ a.source → (e : Error) → refuses_of b e → (e ≡ Failed) ⊎ refuses_of a e
+  source-narrows a b is e h = elim h [
+    | inl own ↦ inl own.1
+    | inr reading ↦ inr (inr (subst (λ s. OrText read s.inner e) is reading))
+  ]
+
+  -- and one that hasn't, with none
+  pub still-narrows : (a b : ArmoredReader R buf read) → b.source ≡ a.source → b.failed ≡ false → AddsNoReason refuses_of a b
+  still-narrows a b is good e h = elim h [
+    | inl own ↦ absurd (true≢false (sym own.0 ∙ good))
+    | inr reading ↦ inr (subst (λ s. OrText read s.inner e) is reading)
+  ]
+
+  pub same-armored : (a b : ArmoredReader R buf read) → SameReader read a.source.inner b.source.inner →
+      (IsTrue (read.tells a.source.inner) → read.place b.source.inner - b.source.taken ≡ read.place a.source.inner - a.source.taken) →
+      SameReader armored_reader a b
+  same-armored a b same origin = record {
+    tells = same.tells;
+    steady = same.steady;
+    faults = same.faults;
+    content = λ told. rw (same.content told, origin told) refl;
+  }
+
+  -- a step of what counts the bytes
+  pub armor-done : {A B : Type 0} {x : A} {y : B} (a b : ArmoredReader R buf read) →
+      Kept {A = A} read a.source.inner a.source.taken b.source.inner b.source.taken (Ok x) → b.failed ≡ false → Goes {A = B} armored_reader refuses_of a b (Ok y)
+  armor-done a b kept good = record {
+    keeps = keeps-done armored_reader refuses_of a b (same-armored a b kept.keeps.same kept.origin)
+        (tried-narrows refuses_of a b (armor-narrows a b kept.keeps.same kept.keeps.narrows good));
+    unspent = kept.unspent;
+  }
+
+  pub armor-refused : {A B : Type 0} (a b : ArmoredReader R buf read) (e : Error) →
+      Kept {A = A} read a.source.inner a.source.taken b.source.inner b.source.taken (Err e) → Goes {A = B} armored_reader refuses_of a b (Err e)
+  armor-refused a b e kept = record {
+    keeps = record {
+      same = same-armored a b kept.keeps.same kept.origin;
+      device = kept.keeps.device;
+      patient = kept.keeps.patient;
+      why = inr kept.keeps.why;
+      narrows = tt;
+    };
+    unspent = tt;
+  }
+
+  -- back to the front of the text
+  pub rewound : {A B : Type 0} {x : A} {y : B} (a b : ArmoredReader R buf read) →
+      Goes {A = A} read (OrSeek (TriedAgain read.refuses)) a.source.inner b.source.inner (Ok x) →
+      (IsTrue (read.tells a.source.inner) → read.place b.source.inner - b.source.taken ≡ read.place a.source.inner - a.source.taken) →
+      b.failed ≡ false → Goes {A = B} armored_reader (OrSeek refuses_of) a b (Ok y)
+  rewound a b goes origin good = record {
+    keeps = keeps-done armored_reader (OrSeek refuses_of) a b (same-armored a b goes.keeps.same origin)
+        (tried-narrows refuses_of a b (armor-narrows a b goes.keeps.same goes.keeps.narrows good));
+    unspent = goes.unspent;
+  }
+
+  pub rewind-refused : {A B : Type 0} (a b : ArmoredReader R buf read) (e : Error) →
+      Goes {A = A} read (OrSeek (TriedAgain read.refuses)) a.source.inner b.source.inner (Err e) →
+      (IsTrue (read.tells a.source.inner) → read.place b.source.inner - b.source.taken ≡ read.place a.source.inner - a.source.taken) →
+      Goes {A = B} armored_reader (OrSeek refuses_of) a b (Err e)
+  rewind-refused a b e goes origin = record {
+    keeps = record {
+      same = same-armored a b goes.keeps.same origin;
+      device = goes.keeps.device;
+      patient = goes.keeps.patient;
+      why = elim goes.keeps.why [ inl is ↦ inl is | inr tried ↦ inr (inr (inr tried)) ];
+      narrows = tt;
+    };
+    unspent = tt;
+  }

@@ -19,6 +19,8 @@ pub mod Staging
 pub mod ReaderSteps
 pub mod Walking
 pub mod OwnEndings
+pub mod Asking
+pub mod Refusing
 pub mod Keeping
 pub mod Aiming
 pub mod Forms

@@ -10,6 +10,7 @@ pub mod DeliveredLaws
 pub mod Decoder
 pub mod Judging
 pub mod Showing
+pub mod Refusing
 pub mod Counting
 pub mod Stages
 pub mod Ahead

@@ -1,11 +1,15 @@
 -- What a caller sees of an `ArmoredReader`, and what it means as a reader.
-use Rattle.std.specs.Prelude.{ℕ, ◌-◌, Bool, List}
+use Rattle.std.specs.Prelude.{◌≡◌, ℕ, ◌-◌, ◌⊎◌, Bool, true, List}
+use Rattle.age_error.specs.declared.io.Error.{Error}
+use Rattle.age_error.specs.declared.io.Error.TheVariants.{Failed}
 use Rattle.age_io.specs.declared.traits.Read as readers
 use Rattle.age_io.specs.declared.bufread.BufRead as buffered
 use Rattle.age_io.specs.Stretch.{Stretch, from_place}
+use Rattle.age_io.specs.Reading.{TriedAgain}
 use Rattle.age_armor.specs.declared.reader.ArmoredReader.{ArmoredReader}
 use Rattle.age_armor.specs.Delivered.{Outcome}
 use Rattle.age_armor.specs.Stages.{is_armored}
+use Rattle.age_armor.specs.Refusing.{IsTextRefusal}
 use Rattle.age_armor.specs.Seeking.{text_outcome}
 use Rattle.age_armor.specs.Ahead.{outcome_ahead, rest_ahead, shown_ahead}
 use Rattle.age_armor.specs.DeliveredLaws.{content_of}
@@ -53,6 +57,13 @@ module _ {R : Type 0} {buf : buffered.Ghosts R} {read : readers.Ghosts R} where
   abbrev pub armored_rest : ArmoredReader R buf read → Stretch
   armored_rest r = rest_ahead r.failed r.bytes r.given r.filled r.stage (read.rest r.source.inner)
 
+  -- why its calls refuse: with `Failed` once it has failed, with what reading the text refuses with of itself, or as the inner reader
+  -- does, whose interruptions are tried again
+  abbrev pub refuses_of : ArmoredReader R buf read → Error → Type 0
+  refuses_of r e = ((r.failed ≡ true) × (e ≡ Failed))
+      ⊎ IsTextRefusal (read.tells r.source.inner) (read.steady r.source.inner) (text_of r).ends_well e
+      ⊎ TriedAgain read.refuses r.source.inner e
+
   -- all of them
   abbrev pub armored_reader : readers.Ghosts (ArmoredReader R buf read)
   armored_reader = record {
@@ -62,6 +73,7 @@ module _ {R : Type 0} {buf : buffered.Ghosts R} {read : readers.Ghosts R} where
     place = place_of;
     rest = armored_rest;
     faults = λ r. read.faults r.source.inner;
+    refuses = refuses_of;
   }
 
   -- what it shows: the rest of the line that it holds

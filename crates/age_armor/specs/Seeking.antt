@@ -1,21 +1,21 @@
 -- What seeks in armor do.
-use Rattle.std.specs.Prelude.{◌≡◌, ◌≢◌, ℕ, ◌<◌, Bool, false, IsTrue, length, drop, Some, None, Result, Err, IfErr, OnOk, ⊤}
+use Rattle.std.specs.Prelude.{◌≡◌, ◌≢◌, ℕ, ◌<◌, ◌⊎◌, Bool, true, false, IsTrue, length, drop, Some, None, Result, Err, IfErr, OnOk, ⊤}
 use Rattle.age_io.specs.Stretch.{Stretch, nothing, from_place}
-use Rattle.age_io.specs.Reading.{IsQuiet, most_faults}
+use Rattle.age_io.specs.Reading.{IsQuiet, AddsNoReason, most_faults}
 use Rattle.age_io.specs.declared.traits.Read.{Ghosts}
-use Rattle.age_io.specs.Keeping.{SameReader, KeepsReader}
+use Rattle.age_io.specs.Keeping.{SameReader, KeepsReader, OrSeek}
 use Rattle.age_io.specs.Cursor.{Seeks, IsOutside, place_at, sought}
 use Rattle.age_error.specs.Refusals.{IsDevice, IsInterruption}
 use Rattle.age_error.specs.declared.io.Error.{Error}
-use Rattle.age_error.specs.declared.io.Error.TheVariants.{OutOfMemory, BeforeStart}
+use Rattle.age_error.specs.declared.io.Error.TheVariants.{OutOfMemory, BeforeStart, Failed}
 use Rattle.age_error.specs.declared.io.SeekFrom.{SeekFrom}
 use Rattle.age_error.specs.declared.io.SeekFrom.TheVariants.{Start, End, Current}
 use Rattle.age_armor.specs.Delivered.{Outcome, Ending, delivered}
 use Rattle.age_armor.specs.Stages.{IsNamed}
 
--- the reader is the same but for where it stands
-pub record Goes {R A : Type 0} (read : Ghosts R) (old new : R) (result : Result A Error) : Type 0 where
-  pub keeps : KeepsReader read old new result
+-- the reader is the same but for where it stands, and refuses as it may
+pub record Goes {R A : Type 0} (read : Ghosts R) (may : R → Error → Type 0) (old new : R) (result : Result A Error) : Type 0 where
+  pub keeps : KeepsReader read may old new result
   pub unspent : OnOk result (read.faults new < most_faults)
 
 -- what a text delivers that begins here in the content of the reader that gives it, and how it ends
@@ -56,7 +56,8 @@ pub record SeeksText {R : Type 0} (read : Ghosts R) (failed : R → Bool) (old n
 
 -- what a seek in a text says of its error, before the reader is brought back to where it stood
 pub record Misses {R : Type 0} (read : Ghosts R) (old new : R) (to : SeekFrom) (ends_well : Bool) (ending : Ending) (error : Error) : Type 0 where
-  pub goes : Goes {A = ℕ} read old new (Err error)
+  pub goes : Goes {A = ℕ} read (OrSeek read.refuses) old new (Err error)
+  pub narrows : IsOutside error → AddsNoReason read.refuses old new
   pub refused : IsTrue (read.tells old) → IsTrue (read.steady old) → IsOutside error →
       IsTrue (read.content old).ends_well × (sought to (read.place old) (length (read.content old).bytes) ≡ Err error)
   pub named : IsTrue (read.tells old) → IsTrue ends_well → (IsOutside error → ⊥) → error ≢ OutOfMemory →
@@ -72,6 +73,8 @@ pub record ComesBack {R : Type 0} (read : Ghosts R) (failed : R → Bool) (old n
   pub unmoved : IsOutside answer → IsOutside error × (answer ≡ error) × (failed new ≡ had_failed)
   pub other : (IsOutside error → ⊥) → answer ≡ error
   pub gone : IsTrue had_failed → read.rest new ≡ nothing
+  pub why : IsOutside error → OrSeek read.refuses old answer
+  pub narrows : IsOutside answer → (e : Error) → read.refuses new e → ((had_failed ≡ true) × (e ≡ Failed)) ⊎ read.refuses old e
   -- of a reader that tells its bytes
   pub stays : IsTrue (read.tells old) → read.place new ≡ stood
   pub back : IsTrue (read.tells old) → IsTrue (read.steady old) → had_failed ≡ false → IsOutside answer → read.rest new ≡ from_place stood (read.content old)

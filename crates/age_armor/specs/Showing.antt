@@ -5,7 +5,7 @@ use Rattle.age_error.specs.Refusals.{IsDevice, IsInterruption}
 use Rattle.age_error.specs.declared.io.Error.{Error}
 use Rattle.age_error.specs.declared.io.Error.TheVariants.{OutOfMemory}
 use Rattle.age_io.specs.Stretch.{Stretch, IsCleanEnd, IsFault}
-use Rattle.age_io.specs.Reading.{IsQuiet, Delivers, most_faults}
+use Rattle.age_io.specs.Reading.{IsQuiet, Delivers, AddsNoReason, most_faults}
 use Rattle.age_io.specs.Keeping.{SameReader}
 use Rattle.age_io.specs.declared.traits.Read.{Ghosts}
 use Rattle.age_base64.specs.Lines.{line, Lacks}
@@ -14,12 +14,15 @@ use Rattle.age_armor.specs.FullLines.{full_lines}
 use Rattle.age_armor.specs.declared.showing.Run.{Run}
 use Rattle.age_armor.specs.declared.showing.Run.TheVariants.{Nothing, Open, Ended}
 
--- A call that asks the reader for bytes. Where it refuses nothing was taken.
-pub record Asks {R A : Type 0} (read : Ghosts R) (old new : R) (result : Result A Error) : Type 0 where
+-- A call that asks the reader for bytes, which refuses for these reasons, or for want of memory. Where it refuses nothing was taken.
+pub record Asks {R A : Type 0} (read : Ghosts R) (refuses : R → Error → Type 0) (old new : R) (result : Result A Error) : Type 0 where
   -- of every reader
   pub same : SameReader read old new
   pub device : IfErr result (λ e. IsDevice e → read.faults old < read.faults new)
   pub unspent : OnOk result (read.faults new < most_faults)
+  pub why : IfErr result (λ e. e ≢ OutOfMemory → refuses old e)
+  pub narrows : OnOk result (AddsNoReason refuses old new)
+  pub again : IfErr result (λ e. IsInterruption e → AddsNoReason refuses old new)
   -- of a reader that tells its bytes
   pub stays : IsTrue (read.tells old) → OnErr result (read.place new ≡ read.place old)
   pub interrupted : IsTrue (read.tells old) → IfErr result (λ e. IsInterruption e → read.rest new ≡ read.rest old)

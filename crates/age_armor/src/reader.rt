@@ -63,7 +63,7 @@ pub struct ArmoredReader<R: BufRead> {
 }
 
 impl<R: BufRead> Read for ArmoredReader<R> {
-    ghost use Rattle.age_armor.specs.Reader.{inner_of, has_failed, has_armor, text_of, outcome_of, text_outcome_of, armored_content, place_of, armored_rest, shown_of};
+    ghost use Rattle.age_armor.specs.Reader.{inner_of, has_failed, has_armor, text_of, outcome_of, text_outcome_of, armored_content, place_of, armored_rest, refuses_of, shown_of};
 
     ghost tells = { λ r. R.Read.tells (inner_of r) };
 
@@ -76,6 +76,8 @@ impl<R: BufRead> Read for ArmoredReader<R> {
     ghost rest = { armored_rest };
 
     ghost faults = { λ r. R.Read.faults (inner_of r) };
+
+    ghost refuses = { λ r. refuses_of r };
 
     ghost faults_fit = { λ r. R.Read.faults_fit r.source.inner };
 
@@ -259,7 +261,7 @@ impl<R: BufRead> ArmoredReader<R> {
         requires some { 0 < length buf.old }
         requires binary { self.old.stage ≡ Binary }
         requires given { self.old.given ≡ self.old.filled }
-        ensures goes { Goes ⟦<ArmoredReader<R> as Read>⟧ self.old self.new result }
+        ensures goes { let reader = ⟦<ArmoredReader<R> as Read>⟧ in Goes reader reader.refuses self.old self.new result }
         ensures same_text { IsTrue (R.Read.tells self.old.source.inner) → text_of self.new ≡ text_of self.old }
         ensures count { IfOk result (λ n. n ≤ length buf.new) }
         ensures bytes { IsTrue (R.Read.tells self.old.source.inner) → IfOk result (λ n.
@@ -305,7 +307,7 @@ impl<R: BufRead> ArmoredReader<R> {
     #[tactic(auto, using(crate::proofs::Ahead::rest_failed))]
     fn hold(&mut self) -> Result<(), Error>
         requires { self.old.failed ≡ false }
-        ensures goes { Goes ⟦<ArmoredReader<R> as Read>⟧ self.old self.new result }
+        ensures goes { let reader = ⟦<ArmoredReader<R> as Read>⟧ in Goes reader reader.refuses self.old self.new result }
         ensures same_text { IsTrue (R.Read.tells self.old.source.inner) → text_of self.new ≡ text_of self.old }
         ensures place { self.new.place ≡ self.old.place }
         ensures fresh { OnOk result (self.new.failed ≡ false) }

@@ -4,8 +4,9 @@ ghost use Rattle.age_error.specs.Refusals.{IsDevice, IsInterruption};
 ghost use Rattle.age_error.specs.declared.io.Error.TheVariants.{OutOfMemory, BeforeStart, PastEnd};
 ghost use Rattle.age_error.specs.declared.io.SeekFrom.TheVariants.{Start, End, Current};
 ghost use Rattle.age_io.specs.Stretch.{Stretch, nothing, from_place, IsCleanEnd};
-ghost use Rattle.age_io.specs.Reading.{IsQuiet, most_faults};
-ghost use Rattle.age_io.specs.Cursor.{Seeks, IsOutside, place_at as place_by, sought as sought_by};
+ghost use Rattle.age_io.specs.Reading.{IsQuiet, AddsNoReason, TriedAgain, most_faults};
+ghost use Rattle.age_io.specs.Keeping.{OrSeek};
+ghost use Rattle.age_io.specs.Cursor.{Seeks, IsOutside, IsSeekRefusal, place_at as place_by, sought as sought_by};
 ghost use Rattle.age_armor.specs.Seeking.{Goes, AsksPast, IsEarly, IsFromEnd, SeeksText, ComesBack};
 ghost use Rattle.age_armor.specs.Stages.{IsNamed};
 
@@ -19,6 +20,7 @@ use age_io::{BufRead, Read, Seek, distance_back, is_outside, place_at, seek_retr
 fn from_end(len: u64, distance: i64) -> Result<u64, Error>
     ensures exact { len < 2 ^ 63 → (place : ℕ) → result ≡ sought_by (End distance) place len }
     ensures other { IfErr result (λ e. IsDevice e → ⊥) }
+    ensures why { IfErr result IsSeekRefusal }
 {
     if len > i64::MAX as u64 {
         return Err(Error::TooLong);
@@ -38,7 +40,7 @@ impl<R: BufRead + Seek> Counted<R> {
     /// Goes back to where nothing had been taken.
     #[tactic(auto, using(crate::proofs::AheadLines::ahead_none))]
     pub(crate) fn rewind(&mut self) -> Result<(), Error>
-        ensures goes { Goes ⟦<R as Read>⟧ self.old.inner self.new.inner result }
+        ensures goes { Goes ⟦<R as Read>⟧ (OrSeek (TriedAgain R.Read.refuses)) self.old.inner self.new.inner result }
         ensures start { OnOk result (self.new.taken ≡ 0) }
         ensures stays { OnErr result (self.new.taken ≡ self.old.taken) }
         ensures origin { IsTrue (R.Read.tells self.old.inner) →
@@ -69,7 +71,7 @@ impl<R: BufRead + Seek> ArmoredReader<R> {
 
     // Back to the front of the text.
     fn restart(&mut self) -> Result<(), Error>
-        ensures goes { Goes ⟦<ArmoredReader<R> as Read>⟧ self.old self.new result }
+        ensures goes { let reader = ⟦<ArmoredReader<R> as Read>⟧ in Goes reader (OrSeek reader.refuses) self.old self.new result }
         ensures front { OnOk result (self.new.place ≡ 0) }
         ensures same_text { IsTrue (R.Read.tells (inner_of self.old)) → text_of self.new ≡ text_of self.old }
         ensures stays { OnErr result (self.new.place ≡ self.old.place) }
@@ -108,7 +110,7 @@ impl<R: BufRead> ArmoredReader<R> {
         requires good { self.old.failed ≡ false }
         requires before { self.old.place ≤ target }
         requires unspent { R.Read.faults (inner_of self.old) < most_faults }
-        ensures goes { Goes ⟦<ArmoredReader<R> as Read>⟧ self.old self.new result }
+        ensures goes { let reader = ⟦<ArmoredReader<R> as Read>⟧ in Goes reader reader.refuses self.old self.new result }
         ensures good { OnOk result (self.new.failed ≡ false) }
         ensures fails { OnErr result (self.new.failed ≡ true) }
         ensures there { IsTrue (R.Read.tells (inner_of self.old)) → IfOk result (λ there. IsTrue there → self.new.place ≡ target) }
@@ -144,7 +146,8 @@ impl<R: BufRead + Seek> ArmoredReader<R> {
 
     // Goes to a place from the front of the text.
     fn go_to(&mut self, target: u64) -> Result<u64, Error>
-        ensures goes { Goes ⟦<ArmoredReader<R> as Read>⟧ self.old self.new result }
+        ensures goes { let reader = ⟦<ArmoredReader<R> as Read>⟧ in Goes reader (OrSeek reader.refuses) self.old self.new result }
+        ensures missed { IfErr result (λ e. IsOutside e → AddsNoReason ⟦<ArmoredReader<R> as Read>⟧.refuses self.old self.new) }
         ensures there { IfOk result (λ n. n ≡ target) }
         ensures place { IsTrue (R.Read.tells (inner_of self.old)) → OnOk result (self.new.place ≡ target) }
         ensures good { OnOk result (self.new.failed ≡ false) }
@@ -177,7 +180,8 @@ impl<R: BufRead + Seek> ArmoredReader<R> {
 
     // Goes to a place counted from the end, once the whole text was read. At the end itself it stands then already.
     fn go_from_end(&mut self, distance: i64) -> Result<u64, Error>
-        ensures goes { Goes ⟦<ArmoredReader<R> as Read>⟧ self.old self.new result }
+        ensures goes { let reader = ⟦<ArmoredReader<R> as Read>⟧ in Goes reader (OrSeek reader.refuses) self.old self.new result }
+        ensures missed { IfErr result (λ e. IsOutside e → AddsNoReason ⟦<ArmoredReader<R> as Read>⟧.refuses self.old self.new) }
         ensures well { IsTrue (R.Read.tells (inner_of self.old)) → IsTrue (R.Read.steady (inner_of self.old)) →
             OnOk result (IsTrue (armored_content self.old).ends_well) }
         ensures place { IsTrue (R.Read.tells (inner_of self.old)) → IfOk result (λ n. self.new.place ≡ n) }

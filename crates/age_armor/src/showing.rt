@@ -2,6 +2,7 @@
 ghost use Rattle.std.specs.Prelude.{◌≡◌, ◌≢◌, ℕ, ◌+◌, ◌≤◌, ◌<◌, Bool, true, false, IsTrue, List, [], ◌∷◌, ◌++◌, length, take, drop, vec_len, MatchOption, IfOk, IfErr, OnOk, OnErr};
 ghost use Rattle.age_error.specs.Refusals.{IsInterruption};
 ghost use Rattle.age_io.specs.Stretch.{IsCleanEnd};
+ghost use Rattle.age_io.specs.Reading.{TriedAgain};
 ghost use Rattle.age_base64.specs.Lines.{Lacks};
 ghost use Rattle.age_armor.specs.Showing.{Asks, IsAhead, TakesRun, IsLineEnd};
 ghost use Rattle.age_armor.specs.declared.showing.Run.TheVariants.{Open as open_run};
@@ -23,7 +24,7 @@ pub(crate) enum Run {
 }
 
 fn look_once<B: BufRead>(reader: &mut B) -> Result<bool, Error>
-    ensures asks { Asks ⟦<B as Read>⟧ reader.old reader.new result }
+    ensures asks { Asks ⟦<B as Read>⟧ B.Read.refuses reader.old reader.new result }
     ensures stays { IsTrue (B.Read.tells reader.old) → OnOk result (B.Read.place reader.new ≡ B.Read.place reader.old) }
     ensures same { IsTrue (B.Read.tells reader.old) → OnOk result (B.Read.rest reader.new ≡ B.Read.rest reader.old) }
     ensures some { IsTrue (B.Read.tells reader.old) → IfOk result (λ is. is ≡ false → 0 < length (B.Read.rest reader.old).bytes) }
@@ -35,7 +36,7 @@ fn look_once<B: BufRead>(reader: &mut B) -> Result<bool, Error>
 
 /// Whether nothing is left but a clean end.
 pub(crate) fn look<B: BufRead>(reader: &mut B) -> Result<bool, Error>
-    ensures asks { Asks ⟦<B as Read>⟧ reader.old reader.new result }
+    ensures asks { Asks ⟦<B as Read>⟧ (TriedAgain B.Read.refuses) reader.old reader.new result }
     ensures patient { IfErr result (λ e. IsInterruption e → ⊥) }
     ensures stays { IsTrue (B.Read.tells reader.old) → OnOk result (B.Read.place reader.new ≡ B.Read.place reader.old) }
     ensures same { IsTrue (B.Read.tells reader.old) → OnOk result (B.Read.rest reader.new ≡ B.Read.rest reader.old) }
@@ -50,7 +51,7 @@ fn show_once<B: BufRead>(
     decoder: &Decoder,
     ahead: &mut [u8; 768],
 ) -> Result<usize, Error>
-    ensures asks { Asks ⟦<B as Read>⟧ reader.old reader.new result }
+    ensures asks { Asks ⟦<B as Read>⟧ B.Read.refuses reader.old reader.new result }
     ensures stays { IsTrue (B.Read.tells reader.old) → OnOk result (B.Read.place reader.new ≡ B.Read.place reader.old) }
     ensures same { IsTrue (B.Read.tells reader.old) → OnOk result (B.Read.rest reader.new ≡ B.Read.rest reader.old) }
     ensures ahead { IfOk result (λ n. IsAhead ahead.new 0 n (B.shown reader.new)) }
@@ -66,7 +67,7 @@ pub(crate) fn show_lines<B: BufRead>(
     decoder: &Decoder,
     ahead: &mut [u8; 768],
 ) -> Result<usize, Error>
-    ensures asks { Asks ⟦<B as Read>⟧ reader.old reader.new result }
+    ensures asks { Asks ⟦<B as Read>⟧ (TriedAgain B.Read.refuses) reader.old reader.new result }
     ensures patient { IfErr result (λ e. IsInterruption e → ⊥) }
     ensures stays { IsTrue (B.Read.tells reader.old) → OnOk result (B.Read.place reader.new ≡ B.Read.place reader.old) }
     ensures same { IsTrue (B.Read.tells reader.old) → OnOk result (B.Read.rest reader.new ≡ B.Read.rest reader.old) }
@@ -89,7 +90,7 @@ fn line_end(bytes: &[u8]) -> Option<usize>
 }
 
 fn run_once<B: BufRead>(reader: &mut B, line: &mut Vec<u8>) -> Result<Run, Error>
-    ensures asks { Asks ⟦<B as Read>⟧ reader.old reader.new result }
+    ensures asks { Asks ⟦<B as Read>⟧ B.Read.refuses reader.old reader.new result }
     ensures longer { vec_len line.old ≤ vec_len line.new }
     ensures grows { IfOk result (λ run. run ≡ open_run → vec_len line.old < vec_len line.new) }
     ensures kept { OnErr result (line.new.items ≡ line.old.items) }
@@ -119,7 +120,7 @@ fn run_once<B: BufRead>(reader: &mut B, line: &mut Vec<u8>) -> Result<Run, Error
 
 /// Appends what is shown of a line, up to its LF.
 pub(crate) fn take_run<B: BufRead>(reader: &mut B, line: &mut Vec<u8>) -> Result<Run, Error>
-    ensures asks { Asks ⟦<B as Read>⟧ reader.old reader.new result }
+    ensures asks { Asks ⟦<B as Read>⟧ (TriedAgain B.Read.refuses) reader.old reader.new result }
     ensures patient { IfErr result (λ e. IsInterruption e → ⊥) }
     ensures longer { vec_len line.old ≤ vec_len line.new }
     ensures grows { IfOk result (λ run. run ≡ open_run → vec_len line.old < vec_len line.new) }

@@ -1,4 +1,6 @@
-use Rattle.std.proofs.Common.{◌∙◌, arith}
+use Rattle.std.proofs.Common.{◌∙◌, arith, rules}
+use Rattle.age_io.proofs.Keeping.{same-later, keeps-done}
+use Rattle.age_armor.proofs.Refusing.{text-asked}
 use Rattle.age_armor.proofs.AheadLines.{ahead_none}
 use Rattle.age_armor.proofs.Taking.{cut_short, quiet_after, taken_none, taken_run}
 use Rattle.age_armor.proofs.counted.Counted.take_line.Goals as goal
@@ -30,3 +32,42 @@ invariant_of-self-clause-shows g c = ahead_none _ _ _
 
 pub invariant_of-self-in-runs-clause-shows : goal.invariant_of-self-in-runs-clause-shows
 invariant_of-self-in-runs-clause-shows g c = rw c.runs.invariant.none (ahead_none c.runs.self.ahead _ c.runs.self.next)
+
+pub returns-in-Err-clause-kept : goal.returns-in-Err-clause-kept
+returns-in-Err-clause-kept g c =
+    let loop = c.runs.invariant in
+    let asks = c.in-Err.ensures.asks in
+    record {
+      keeps = record {
+        same = same-later _ _ _ _ loop.same asks.same;
+        device = λ is. omega (arith, loop.same.faults, asks.device is);
+        patient = c.in-Err.ensures.patient;
+        why = text-asked g.R.Read c.args.self.now.inner c.runs.self.inner c.in-Err.e loop.narrows asks.why;
+        narrows = tt;
+      };
+      unspent = tt;
+      origin = search rules;
+      more = search rules;
+    }
+
+pub returns-in-Nothing-clause-kept : goal.returns-in-Nothing-clause-kept
+returns-in-Nothing-clause-kept g c =
+    let loop = c.runs.invariant in
+    let asks = c.in-Ok.ensures.asks in
+    record {
+      keeps = keeps-done _ _ _ _ (same-later _ _ _ _ loop.same asks.same) (λ e h. loop.narrows e (asks.narrows e h));
+      unspent = asks.unspent;
+      origin = search rules;
+      more = search rules;
+    }
+
+pub returns-in-Ended-clause-kept : goal.returns-in-Ended-clause-kept
+returns-in-Ended-clause-kept g c =
+    let loop = c.runs.invariant in
+    let asks = c.in-Ok.ensures.asks in
+    record {
+      keeps = keeps-done _ _ _ _ (same-later _ _ _ _ loop.same asks.same) (λ e h. loop.narrows e (asks.narrows e h));
+      unspent = asks.unspent;
+      origin = search rules;
+      more = search rules;
+    }

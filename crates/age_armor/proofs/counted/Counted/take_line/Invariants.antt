@@ -1,5 +1,5 @@
 use Rattle.std.proofs.Common.{◌≡◌, ◌-◌, ◌+◌, ◌^◌, IsTrue, vec_len, length}
-use Rattle.age_io.specs.Reading.{Delivers}
+use Rattle.age_io.specs.Reading.{Delivers, AddsNoReason, TriedAgain}
 use Rattle.age_base64.specs.Lines.{Lacks}
 use Rattle.age_io.specs.Keeping.{SameReader}
 use Rattle.age_armor.proofs.counted.Counted.take_line.Given as goal
@@ -10,6 +10,7 @@ invariant-runs g l =
     record {
       none : l.self.left ≡ 0;
       same : SameReader reader l.fn.self.inner l.self.inner;
+      narrows : AddsNoReason (TriedAgain reader.refuses) l.fn.self.inner l.self.inner;
       origin : IsTrue (reader.tells l.fn.self.inner) → reader.place l.self.inner - l.self.taken ≡ reader.place l.fn.self.inner - l.fn.self.taken;
       count : IsTrue (reader.tells l.fn.self.inner) → l.self.taken ≡ l.fn.self.taken + length l.line.items;
       unended : IsTrue (reader.tells l.fn.self.inner) → Lacks 10 l.line.items;

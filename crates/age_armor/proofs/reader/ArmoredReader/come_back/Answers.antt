@@ -2,7 +2,7 @@ use Rattle.std.proofs.Common.{◌∙◌, ◌-◌, ◌<◌, ◌≤◌, length, ar
 use Rattle.std.proofs.lemmas.Bool.{true≢false}
 use Rattle.age_armor.specs.Reader.{armored_content}
 use Rattle.age_armor.specs.ReaderLaws.{well_inner}
-use Rattle.age_armor.proofs.Keeping.{same-source, same-source-text}
+use Rattle.age_armor.proofs.Keeping.{same-source, same-source-text, source-narrows, armor-plain}
 use Rattle.age_armor.proofs.Aiming.{refusal_or_not, stays-failed, came, lost}
 use Rattle.age_armor.proofs.reader.ArmoredReader.come_back.Goals as goal
 
@@ -10,7 +10,7 @@ pub returns-then-failed : goal.returns-then-failed
 returns-then-failed g c =
     let now = c.fail_at.ensures in
     record {
-      back = stays-failed _ _ _ _ _ _ _ (same-source _ _ now.source) now.place now.failed now.rest (inl c.if-failed.true);
+      back = stays-failed _ _ _ _ _ _ _ (same-source _ _ now.source) now.place now.failed now.rest (source-narrows c.args.self.now c.fail_at.new.self now.source) (inl c.if-failed.true);
       same_text = λ told. same-source-text _ _ now.source;
       ending = λ told steady good. absurd (true≢false (sym now.failed ∙ good));
     }
@@ -19,7 +19,7 @@ pub returns-then-not-is_outside : goal.returns-then-not-is_outside
 returns-then-not-is_outside g c =
     let now = c.fail_at-then-not-is_outside.ensures in
     record {
-      back = stays-failed _ _ _ _ _ _ _ (same-source _ _ now.source) now.place now.failed now.rest (inr (c.is_outside.ensures.no c.if-not-is_outside.true));
+      back = stays-failed _ _ _ _ _ _ _ (same-source _ _ now.source) now.place now.failed now.rest (source-narrows c.args.self.now c.fail_at-then-not-is_outside.new.self now.source) (inr (c.is_outside.ensures.no c.if-not-is_outside.true));
       same_text = λ told. same-source-text _ _ now.source;
       ending = λ told steady good. absurd (true≢false (sym now.failed ∙ good));
     }
@@ -38,7 +38,7 @@ returns-in-Ok g c =
     let now = c.in-Ok.ensures in
     record {
       back = came _ _ _ _ _ _ _ now.goes.keeps.same now.good now.place (λ told steady. (now.within told steady).1) c.if-failed.false
-          (c.is_outside.ensures.yes c.if-not-is_outside.false);
+          (c.is_outside.ensures.yes c.if-not-is_outside.false) (armor-plain c.args.self.now c.go_to.new.self now.goes.keeps.narrows);
       same_text = now.same_text;
       ending = λ told steady good. now.ending told steady;
     }

@@ -1,15 +1,16 @@
-use Rattle.std.proofs.Common.{◌≡◌, ◌≢◌, ◌∙◌, ◌-◌, ◌<◌, ◌≤◌, ◌^◌, ℕ, Ok, Err, arith, to_z-of_z, w64, length, ap, subst, sym, IsTrue}
+use Rattle.std.proofs.Common.{◌≡◌, ◌≢◌, ◌∙◌, ◌-◌, ◌<◌, ◌≤◌, ◌^◌, ℕ, Ok, Err, arith, to_z-of_z, w64, length, ap, subst, sym, refl, inl, inr, IsTrue}
 use Rattle.std.proofs.lemmas.Result.{IfErr-weaker, on_ok_weaker}
 use Rattle.age_error.specs.declared.io.Error.TheVariants.{OutOfMemory, TooLong}
 use Rattle.age_error.specs.declared.io.SeekFrom.TheVariants.{End}
 use Rattle.age_io.specs.Cursor.{sought, target}
+use Rattle.age_io.specs.Reading.{AddsNoReason, TriedAgain}
 use Rattle.age_io.specs.Stretch.{from_place}
 use Rattle.age_io.proofs.Keeping.{keeps-done}
 use Rattle.age_armor.specs.Delivered.{delivered}
 use Rattle.age_armor.specs.ReaderLaws.{well_inner}
 use Rattle.age_armor.specs.Stages.{IsNamed}
-use Rattle.age_armor.specs.Reader.{armored_reader, armored_content, armored_rest}
-use Rattle.age_armor.proofs.Keeping.{goes-later, goes-refused, goes-unrefused, walks, walks-out}
+use Rattle.age_armor.specs.Reader.{refuses_of, armored_reader, armored_content, armored_rest}
+use Rattle.age_armor.proofs.Keeping.{goes-later, goes-refused, goes-seeking, goes-unrefused, walks, walks-out, armor-plain, seeks-plain}
 use Rattle.age_armor.proofs.OwnEndings.{still_named}
 use Rattle.age_armor.proofs.Taking.{quiet_after}
 use Rattle.age_armor.proofs.Aiming.{within-moved, moved-refusal, arrives, arrives-within, from-end}
@@ -23,8 +24,26 @@ returns-in-Err-clause-named g c = λ told well own other quiet. absurd (c.in-Err
 
 pub returns-in-Err-walk-clause-goes : goal.returns-in-Err-walk-clause-goes
 returns-in-Err-walk-clause-goes g c =
-    goes-later _ _ c.args.self.now c.restart.new.self c.walk.new.self c.in-Ok.ensures.goes.keeps.same
-    (goes-unrefused _ _ _ c.in-Err-walk.e c.unrefused.result c.unrefused.ensures.kept c.in-Err-walk.ensures.goes)
+    let back = c.in-Ok.ensures.goes.keeps in
+    goes-later _ _ _ c.args.self.now c.restart.new.self c.walk.new.self back.same back.narrows (seeks-plain c.args.self.now c.restart.new.self back.narrows)
+    (goes-unrefused _ refuses_of _ _ c.in-Err-walk.e c.unrefused.result c.unrefused.ensures.kept (goes-seeking _ refuses_of _ _ _ c.in-Err-walk.ensures.goes))
+
+pub returns-in-Err-clause-missed : goal.returns-in-Err-clause-missed
+returns-in-Err-clause-missed g c = λ refusal. absurd (c.in-Err.ensures.other refusal)
+
+pub returns-in-Err-walk-clause-missed : goal.returns-in-Err-walk-clause-missed
+returns-in-Err-walk-clause-missed g c = λ refusal. absurd (c.unrefused.ensures.other refusal)
+
+pub returns-then-there-clause-missed : goal.returns-then-there-clause-missed
+returns-then-there-clause-missed g c = λ refusal. absurd refusal
+
+pub returns-in-Err-from_end-clause-missed : goal.returns-in-Err-from_end-clause-missed
+returns-in-Err-from_end-clause-missed g c = λ refusal.
+    armor-plain c.args.self.now c.walk.new.self (λ e h. c.in-Ok.ensures.goes.keeps.narrows e (c.in-Ok-walk.ensures.goes.keeps.narrows e h))
+
+pub returns-in-Err-from_end-clause-goes : goal.returns-in-Err-from_end-clause-goes
+returns-in-Err-from_end-clause-goes g c = goes-refused armored_reader _ c.args.self.now c.restart.new.self c.walk.new.self c.in-Err-from_end.e
+    c.in-Ok.ensures.goes.keeps.same c.in-Ok-walk.ensures.goes.keeps.same c.in-Err-from_end.ensures.other (inl c.in-Err-from_end.ensures.why)
 
 pub returns-in-Err-walk-clause-refused : goal.returns-in-Err-walk-clause-refused
 returns-in-Err-walk-clause-refused g c = λ told steady place refusal. absurd (c.unrefused.ensures.other refusal)
@@ -43,8 +62,8 @@ returns-in-Err-walk-clause-named g c = λ told well own other quiet.
     still_named _ _ c.in-Err-walk.e c.unrefused.result named c.unrefused.ensures.same
 
 pub returns-then-there-clause-goes : goal.returns-then-there-clause-goes
-returns-then-there-clause-goes g c = goes-refused armored_reader c.args.self.now c.restart.new.self c.walk.new.self TooLong
-    c.in-Ok.ensures.goes.keeps.same c.in-Ok-walk.ensures.goes.keeps.same (λ device. device)
+returns-then-there-clause-goes g c = goes-refused armored_reader _ c.args.self.now c.restart.new.self c.walk.new.self TooLong
+    c.in-Ok.ensures.goes.keeps.same c.in-Ok-walk.ensures.goes.keeps.same (λ device. device) (inl (inr (inl refl)))
 
 pub returns-then-there-clause-named : goal.returns-then-there-clause-named
 returns-then-there-clause-named g c = λ told well own other quiet.
@@ -84,6 +103,7 @@ returns-else-target-len g c =
     let now = c.go_to.ensures in
     let w = walks armored_reader before c.restart.new.self new back first.front first.rest last.goes.keeps.same last.rest new.inside in
     let same = w.same in
+    let narrows : AddsNoReason (TriedAgain refuses_of) before new = λ e h. first.goes.keeps.narrows e (last.goes.keeps.narrows e h) in
     let out : (IsTrue (armored_reader.tells before) → IsTrue (armored_reader.steady before) →
     IsTrue (armored_content before).ends_well × (new.place ≡ length (armored_content before).bytes)) = λ told steady.
     walks-out armored_reader before new w told steady (last.end (back.tells ∙ told) c.if-there.false).0 in
@@ -95,7 +115,8 @@ returns-else-target-len g c =
     let within : (IsTrue (armored_reader.tells before) → IsTrue (armored_reader.steady before) → new.place ≤ length (armored_content new).bytes) = λ told steady.
     new.inside (same.tells ∙ told) (same.steady ∙ steady) in
     record {
-      goes = goes-later _ _ before new c.go_to.new.self same now.goes;
+      goes = goes-later _ _ _ before new c.go_to.new.self same narrows (seeks-plain before new narrows) now.goes;
+      missed = IfErr-weaker c.go_to.result _ _ (λ e missed refusal f h. armor-plain before new narrows f (missed refusal f h)) now.missed;
       well = λ told steady. on_ok_weaker c.go_to.result (λ is. (out told steady).0) (now.within (same.tells ∙ told) (same.steady ∙ steady));
       place = λ told. arrives c.go_to.result c.go_to.new.self.place aim now.there (now.place (same.tells ∙ told));
       good = now.good;
@@ -141,7 +162,8 @@ returns-then-target-len g c =
     IsTrue (armored_content before).ends_well × (new.place ≡ length (armored_content before).bytes)) = λ told steady.
     walks-out armored_reader before new w told steady (last.end (back.tells ∙ told) c.if-there.false).0 in
     record {
-      goes = record { keeps = keeps-done _ _ _ w.same; unspent = last.goes.unspent };
+      goes = record { keeps = keeps-done _ _ _ _ w.same (λ e h. first.goes.keeps.narrows e (last.goes.keeps.narrows e h)); unspent = last.goes.unspent };
+      missed = tt;
       well = λ told steady. (out told steady).0;
       place = λ told. sym c.if-target-len.true;
       good = last.good;

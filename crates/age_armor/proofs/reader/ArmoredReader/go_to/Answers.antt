@@ -1,10 +1,10 @@
-use Rattle.std.proofs.Common.{◌≡◌, ◌≢◌, ◌∙◌, ◌<◌, ◌≤◌, arith, length, ap, subst, refl}
+use Rattle.std.proofs.Common.{◌≡◌, ◌≢◌, ◌∙◌, ◌<◌, ◌≤◌, arith, length, ap, subst, refl, inl}
 use Rattle.age_error.specs.declared.io.Error.TheVariants.{OutOfMemory, PastEnd}
 use Rattle.age_io.specs.Stretch.{from_place}
 use Rattle.age_io.proofs.Keeping.{keeps-done}
 use Rattle.age_armor.specs.Stages.{IsNamed}
-use Rattle.age_armor.specs.Reader.{armored_reader, armored_content, armored_rest}
-use Rattle.age_armor.proofs.Keeping.{goes-later, goes-refused, goes-unrefused, walks, walks-out}
+use Rattle.age_armor.specs.Reader.{refuses_of, armored_reader, armored_content, armored_rest}
+use Rattle.age_armor.proofs.Keeping.{goes-later, goes-refused, goes-seeking, goes-unrefused, walks, walks-out, armor-plain, seeks-plain}
 use Rattle.age_armor.proofs.OwnEndings.{still_named}
 use Rattle.age_armor.proofs.Taking.{quiet_after}
 use Rattle.age_armor.proofs.reader.ArmoredReader.go_to.Goals as goal
@@ -17,8 +17,9 @@ returns-in-Err-clause-named g c = λ told well own other quiet. absurd (c.in-Err
 
 pub returns-in-Err-walk-clause-goes : goal.returns-in-Err-walk-clause-goes
 returns-in-Err-walk-clause-goes g c =
-    goes-later _ _ c.args.self.now c.restart.new.self c.walk.new.self c.in-Ok.ensures.goes.keeps.same
-    (goes-unrefused _ _ _ c.in-Err-walk.e c.unrefused.result c.unrefused.ensures.kept c.in-Err-walk.ensures.goes)
+    let back = c.in-Ok.ensures.goes.keeps in
+    goes-later _ _ _ c.args.self.now c.restart.new.self c.walk.new.self back.same back.narrows (seeks-plain c.args.self.now c.restart.new.self back.narrows)
+    (goes-unrefused _ refuses_of _ _ c.in-Err-walk.e c.unrefused.result c.unrefused.ensures.kept (goes-seeking _ refuses_of _ _ _ c.in-Err-walk.ensures.goes))
 
 pub returns-in-Err-walk-clause-past : goal.returns-in-Err-walk-clause-past
 returns-in-Err-walk-clause-past g c = λ told steady refusal. absurd (c.unrefused.ensures.other refusal)
@@ -50,7 +51,8 @@ returns-then-there g c =
     let last = c.in-Ok-walk.ensures in
     let w = walks armored_reader before c.restart.new.self c.walk.new.self back first.front first.rest last.goes.keeps.same last.rest c.walk.new.self.inside in
     record {
-      goes = record { keeps = keeps-done _ _ _ w.same; unspent = last.goes.unspent };
+      goes = record { keeps = keeps-done _ _ _ _ w.same (λ e h. first.goes.keeps.narrows e (last.goes.keeps.narrows e h)); unspent = last.goes.unspent };
+      missed = tt;
       there = refl;
       place = λ told. last.there (back.tells ∙ told) c.if-there.true;
       good = last.good;
@@ -66,8 +68,18 @@ returns-then-there g c =
     }
 
 pub returns-else-there-clause-goes : goal.returns-else-there-clause-goes
-returns-else-there-clause-goes g c = goes-refused armored_reader c.args.self.now c.restart.new.self c.walk.new.self PastEnd
-    c.in-Ok.ensures.goes.keeps.same c.in-Ok-walk.ensures.goes.keeps.same (λ device. device)
+returns-else-there-clause-goes g c = goes-refused armored_reader _ c.args.self.now c.restart.new.self c.walk.new.self PastEnd
+    c.in-Ok.ensures.goes.keeps.same c.in-Ok-walk.ensures.goes.keeps.same (λ device. device) (inl (inl tt))
+
+pub returns-in-Err-clause-missed : goal.returns-in-Err-clause-missed
+returns-in-Err-clause-missed g c = λ refusal. absurd (c.in-Err.ensures.other refusal)
+
+pub returns-in-Err-walk-clause-missed : goal.returns-in-Err-walk-clause-missed
+returns-in-Err-walk-clause-missed g c = λ refusal. absurd (c.unrefused.ensures.other refusal)
+
+pub returns-else-there-clause-missed : goal.returns-else-there-clause-missed
+returns-else-there-clause-missed g c = λ refusal.
+    armor-plain c.args.self.now c.walk.new.self (λ e h. c.in-Ok.ensures.goes.keeps.narrows e (c.in-Ok-walk.ensures.goes.keeps.narrows e h))
 
 pub returns-else-there-clause-past : goal.returns-else-there-clause-past
 returns-else-there-clause-past g c = λ told steady refusal.

@@ -3,7 +3,7 @@ use Rattle.std.proofs.lemmas.Bool.{true≢false}
 use Rattle.age_io.specs.Reading.{StandsIn}
 use Rattle.age_armor.specs.Ahead.{rest_ahead, shown_ahead}
 use Rattle.age_armor.specs.DeliveredLaws.{content_of, stands_by, stands_follows}
-use Rattle.age_armor.proofs.Keeping.{same-text}
+use Rattle.age_armor.proofs.Keeping.{same-text, armor-done, armor-refused}
 use Rattle.age_armor.proofs.Ahead.{kept_stands, rest_failed, hold_rest, hold_ending, hold_end, hold_fault, hold_named, ended_clean, shown_none}
 use Rattle.age_armor.specs.Stages.{is_armored}
 use Rattle.age_armor.proofs.Forms.{form_held, form_kept}
@@ -121,3 +121,9 @@ pub returns-in-Err-clause-named : goal.returns-in-Err-clause-named
 returns-in-Err-clause-named g c = λ told other quiet.
     let before = c.args.self.now in
     hold_named before.bytes before.given before.filled before.stage (g.R.Read.rest before.source.inner) c.in-Err.e (c.in-Err.ensures.cause told other quiet)
+
+pub returns-in-Ok-clause-goes : goal.returns-in-Ok-clause-goes
+returns-in-Ok-clause-goes g c = armor-done _ _ c.in-Ok.ensures.kept c.requires
+
+pub returns-in-Err-clause-goes : goal.returns-in-Err-clause-goes
+returns-in-Err-clause-goes g c = armor-refused _ _ c.in-Err.e c.in-Err.ensures.kept

@@ -3,7 +3,7 @@ use Rattle.std.proofs.lemmas.Bool.{true≢false}
 use Rattle.age_io.specs.Reading.{StandsIn}
 use Rattle.age_armor.specs.Ahead.{rest_ahead}
 use Rattle.age_armor.specs.DeliveredLaws.{content_of, stands_by, stands_follows}
-use Rattle.age_armor.proofs.Keeping.{same-text}
+use Rattle.age_armor.proofs.Keeping.{same-text, armor-done, armor-refused}
 use Rattle.age_armor.proofs.Ahead.{given_stands, rest_failed, pass_delivers, pass_end, pass_fault, pass_named, pass_ending, shown_none}
 use Rattle.age_armor.specs.Stages.{is_start, is_armored}
 use Rattle.age_armor.proofs.Forms.{form_kept}
@@ -114,3 +114,9 @@ returns-in-Ok-clause-moves g c = λ told.
     let now = c.in-Ok.ensures in
     let told_now : IsTrue (g.R.Read.tells c.read.new.self.inner) = now.kept.keeps.same.tells ∙ told in
     omega (arith, c.saturating_add-self.ensures, before.counted told c.requires.good, now.taken told, c.read.new.self.behind told_now, g.met.R.Read.place_fits c.read.new.self.inner told_now)
+
+pub returns-in-Ok-clause-goes : goal.returns-in-Ok-clause-goes
+returns-in-Ok-clause-goes g c = armor-done _ _ c.in-Ok.ensures.kept c.requires.good
+
+pub returns-in-Err-clause-goes : goal.returns-in-Err-clause-goes
+returns-in-Err-clause-goes g c = armor-refused _ _ c.in-Err.e c.in-Err.ensures.kept

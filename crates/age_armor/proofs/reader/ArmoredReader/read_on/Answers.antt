@@ -3,6 +3,7 @@ use Rattle.age_io.specs.Reading.{Delivers}
 use Rattle.age_armor.specs.Ahead.{rest_ahead, shown_ahead}
 use Rattle.age_armor.specs.DeliveredLaws.{content_of}
 use Rattle.age_armor.proofs.Ahead.{rest_gone, length_held, shown_small}
+use Rattle.age_armor.proofs.Keeping.{armor-plain, still-narrows}
 use Rattle.age_armor.proofs.ReaderSteps.{unspent_ok, ends_ok, left_err, patient_err}
 use Rattle.age_armor.specs.Stages.{is_start, is_armored}
 use Rattle.age_armor.proofs.Forms.{form_kept, binary_form}
@@ -20,6 +21,9 @@ returns-then-is_passing-clause-reads g c =
       no_fewer_faults = now.goes.keeps.same.faults;
       device = now.goes.keeps.device;
       unspent = unspent_ok c.pass.result _ _ now.goes.unspent;
+      why = now.goes.keeps.why;
+      narrows = on_ok_weaker c.pass.result (armor-plain c.args.self.now c.pass.new.self) now.goes.keeps.narrows;
+      again = patient_err c.pass.result _ now.goes.keeps.patient;
       same_content = now.goes.keeps.same.content;
       bytes = now.bytes;
       moves = now.moves;
@@ -41,6 +45,9 @@ returns-in-Err-clause-reads g c =
       no_fewer_faults = now.goes.keeps.same.faults;
       device = now.goes.keeps.device;
       unspent = tt;
+      why = now.goes.keeps.why;
+      narrows = tt;
+      again = λ again. absurd (now.goes.keeps.patient again);
       same_content = now.goes.keeps.same.content;
       bytes = λ told. tt;
       moves = λ told. tt;
@@ -73,6 +80,9 @@ returns-in-Ok-clause-reads g c =
       no_fewer_faults = omega (arith, faults, now.goes.keeps.same.faults);
       device = tt;
       unspent = λ some. omega (arith, faults, now.goes.unspent);
+      why = tt;
+      narrows = λ e h. armor-plain c.args.self.now held now.goes.keeps.narrows e (still-narrows held after given.source given.fresh e h);
+      again = tt;
       same_content = λ told. content ∙ now.goes.keeps.same.content told;
       bytes = λ told. subst (λ s. Delivers (take n c.give.new.buf) s left) (now.rest told) given.bytes;
       moves = λ told. omega (arith, given.moves (now.goes.keeps.same.tells ∙ told), now.place);

@@ -3,7 +3,7 @@ use Rattle.std.proofs.lemmas.Bool.{true≢false}
 use Rattle.age_io.specs.Stretch.{from_place}
 use Rattle.age_armor.specs.DeliveredLaws.{content_of}
 use Rattle.age_armor.specs.Delivered.{delivered, stretch_of}
-use Rattle.age_armor.proofs.Keeping.{same-text}
+use Rattle.age_armor.proofs.Keeping.{same-text, rewound, rewind-refused}
 use Rattle.age_armor.proofs.Ahead.{rest_failed, starts_rest, starts_outcome}
 use Rattle.age_armor.specs.Stages.{is_armored}
 use Rattle.age_armor.proofs.Forms.{form_kept}
@@ -63,3 +63,9 @@ pub returns-in-Ok-clause-rest : goal.returns-in-Ok-clause-rest
 returns-in-Ok-clause-rest g c = λ told steady.
     starts_rest c.args.self.now.bytes (g.R.Read.rest c.rewind.new.self.inner)
     ∙ ap (λ s. stretch_of (delivered s.bytes s.ends_well)) (c.in-Ok.ensures.rest told steady)
+
+pub returns-in-Ok-clause-goes : goal.returns-in-Ok-clause-goes
+returns-in-Ok-clause-goes g c = rewound _ _ c.in-Ok.ensures.goes c.in-Ok.ensures.origin refl
+
+pub returns-in-Err-clause-goes : goal.returns-in-Err-clause-goes
+returns-in-Err-clause-goes g c = rewind-refused _ _ c.in-Err.e c.in-Err.ensures.goes c.in-Err.ensures.origin

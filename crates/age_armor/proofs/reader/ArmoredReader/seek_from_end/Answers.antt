@@ -1,10 +1,11 @@
-use Rattle.std.proofs.Common.{◌≡◌, ◌∙◌, ◌-◌, Ok, Err, length, ap, subst, w64, to_z-of_z}
+use Rattle.std.proofs.Common.{◌≡◌, ◌∙◌, ◌-◌, Ok, Err, length, ap, subst, w64, to_z-of_z, refl, inl}
 use Rattle.age_error.specs.declared.io.SeekFrom.TheVariants.{End}
 use Rattle.age_io.specs.Cursor.{sought}
 use Rattle.age_armor.specs.Delivered.{delivered}
 use Rattle.age_armor.specs.Reader.{armored_content}
 use Rattle.age_armor.specs.ReaderLaws.{well_inner}
 use Rattle.age_armor.proofs.Ahead.{rest_gone}
+use Rattle.age_armor.proofs.Keeping.{armor-plain}
 use Rattle.age_armor.proofs.Aiming.{clean-unnamed, arrived, missed}
 use Rattle.age_armor.proofs.reader.ArmoredReader.seek_from_end.Goals as goal
 
@@ -12,7 +13,7 @@ pub returns-in-Ok : goal.returns-in-Ok
 returns-in-Ok g c =
     let now = c.in-Ok.ensures in
     record {
-      text = arrived _ _ _ _ _ _ _ _ now.goes now.good
+      text = arrived _ _ _ _ _ _ _ _ now.goes (armor-plain c.args.self.now c.go_from_end.new.self now.goes.keeps.narrows) now.good
           now.place (λ told. tt) (λ told steady.
           let before = c.args.self.now in
           let moved = now.exact told steady before.place in (
@@ -35,9 +36,10 @@ returns-in-Err g c =
           let inner = well_inner (reader.content before.source.inner) (reader.place before.source.inner - before.source.taken) well in
           (g.met.R.Read.well before.source.inner told inner, inner, λ e. clean-unnamed _ e well))
           (rest_gone before.failed before.bytes before.given before.filled before.stage (reader.rest before.source.inner))
-          (λ told well. g.met.R.Read.well before.source.inner told well)
+          (λ told well. g.met.R.Read.well before.source.inner told well) (λ had. inl (had, refl))
           (record {
             goes = now.goes;
+            narrows = now.missed;
             refused = λ told steady is.
                 let known = now.refused told steady before.place is in (
                   known.0,

@@ -1,8 +1,9 @@
-use Rattle.std.proofs.Common.{◌∙◌, ◌-◌, Err, length, ap, sym}
+use Rattle.std.proofs.Common.{◌∙◌, ◌-◌, Err, length, ap, sym, refl, inl}
 use Rattle.age_armor.specs.Delivered.{delivered}
 use Rattle.age_armor.specs.Reader.{armored_content}
 use Rattle.age_armor.specs.ReaderLaws.{well_inner}
 use Rattle.age_armor.proofs.Ahead.{rest_gone}
+use Rattle.age_armor.proofs.Keeping.{armor-plain}
 use Rattle.age_armor.proofs.Aiming.{clean-unnamed, moved-within, moved-past, arrived, missed}
 use Rattle.age_armor.proofs.reader.ArmoredReader.seek_to.Goals as goal
 
@@ -10,7 +11,7 @@ pub returns-in-Ok : goal.returns-in-Ok
 returns-in-Ok g c =
     let now = c.in-Ok.ensures in
     record {
-      text = arrived _ _ _ _ _ _ _ _ now.goes now.good
+      text = arrived _ _ _ _ _ _ _ _ now.goes (armor-plain c.args.self.now c.go_to.new.self now.goes.keeps.narrows) now.good
           (λ told. now.place told ∙ sym now.there) (λ told. now.there)
           (λ told steady.
           let within = now.within told steady in
@@ -30,9 +31,10 @@ returns-in-Err g c =
           let inner = well_inner (reader.content before.source.inner) (reader.place before.source.inner - before.source.taken) well in
           (g.met.R.Read.well before.source.inner told inner, inner, λ e. clean-unnamed _ e well))
           (rest_gone before.failed before.bytes before.given before.filled before.stage (reader.rest before.source.inner))
-          (λ told well. g.met.R.Read.well before.source.inner told well)
+          (λ told well. g.met.R.Read.well before.source.inner told well) (λ had. inl (had, refl))
           (record {
             goes = now.goes;
+            narrows = now.missed;
             refused = λ told steady is.
                 let past = now.past told steady is in
                 (past.0, moved-past c.args.target (length (armored_content before).bytes) past.1 ∙ ap Err (sym past.2));

@@ -1,6 +1,8 @@
 use Rattle.std.proofs.Common.{rules, ◌≡◌, ◌∙◌, arith, take, length, length-take, length-take-le, sym}
 use Rattle.age_io.proofs.Keeping.{same-later, same-read, keeps-done, keeps-later}
-use Rattle.age_armor.specs.Reader.{armored_reader}
+use Rattle.age_io.proofs.Retrying.{tried-narrows}
+use Rattle.age_armor.specs.Reader.{armored_reader, refuses_of}
+use Rattle.age_armor.proofs.Keeping.{armor-plain}
 use Rattle.age_armor.proofs.Taking.{quiet_after}
 use Rattle.age_armor.proofs.Walking.{further, still_clean, ends_before}
 use Rattle.age_armor.proofs.reader.ArmoredReader.walk.Goals as goal
@@ -10,8 +12,14 @@ returns-in-Err-clause-goes g c =
     let loop = c.reads.invariant in
     let now = c.in-Err.ensures in
     record {
-      keeps = keeps-later _ _ _ _ _ loop.same
-          (record { same = same-read armored_reader c.reads.self c.read_on.new.self now.reads; device = now.reads.device; patient = now.patient });
+      keeps = keeps-later _ _ _ _ _ _ loop.same loop.narrows (armor-plain c.args.self.now c.reads.self loop.narrows)
+          (record {
+            same = same-read armored_reader c.reads.self c.read_on.new.self now.reads;
+            device = now.reads.device;
+            patient = now.patient;
+            why = now.reads.why;
+            narrows = tt;
+          });
       unspent = tt;
     }
 
@@ -35,7 +43,8 @@ returns-in-Ok-eq0-clause-goes g c =
     let loop = c.reads.invariant in
     let reads = c.in-Ok-eq0.ensures.reads in
     record {
-      keeps = keeps-done _ _ _ (same-later armored_reader c.args.self.now c.reads.self _ loop.same (same-read _ _ _ reads));
+      keeps = keeps-done _ _ _ _ (same-later armored_reader c.args.self.now c.reads.self _ loop.same (same-read _ _ _ reads))
+          (λ e h. loop.narrows e (tried-narrows refuses_of c.reads.self c.read_on.new.self reads.narrows e h));
       unspent = reads.unspent (search rules);
     }
 
@@ -70,6 +79,7 @@ reads-preserved g c =
     let n = c.in-Ok.count in
     record {
       same = same-later armored_reader c.args.self.now c.reads.self _ loop.same (same-read _ _ _ reads);
+      narrows = λ e h. loop.narrows e (tried-narrows refuses_of c.reads.self c.read_on.new.self reads.narrows e h);
       unspent = reads.unspent (search rules);
       good = c.in-Ok.ensures.good;
       place = λ told. omega (arith, reads.moves (loop.same.tells ∙ told), loop.place told, reads.count, c.min-most.ensures, length-take c.min-most.result c.reads.room);

@@ -1,8 +1,8 @@
 use Rattle.std.proofs.Common.{◌≡◌, ◌+◌, ◌<◌, IsTrue, false}
 use Rattle.age_io.specs.Stretch.{from_place}
-use Rattle.age_io.specs.Reading.{most_faults}
+use Rattle.age_io.specs.Reading.{AddsNoReason, TriedAgain, most_faults}
 use Rattle.age_io.specs.Keeping.{SameReader}
-use Rattle.age_armor.specs.Reader.{outcome_of, text_of, armored_reader, armored_content, armored_rest}
+use Rattle.age_armor.specs.Reader.{outcome_of, text_of, refuses_of, armored_reader, armored_content, armored_rest}
 use Rattle.age_armor.proofs.reader.ArmoredReader.walk.Given as goal
 
 abbrev pub invariant-reads : goal.invariant-reads
@@ -10,6 +10,7 @@ invariant-reads g l =
     let reader = g.R.Read in
     record {
       same : SameReader armored_reader l.fn.self l.self;
+      narrows : AddsNoReason (TriedAgain refuses_of) l.fn.self l.self;
       unspent : reader.faults l.self.source.inner < most_faults;
       good : l.self.failed ≡ false;
       place : IsTrue (reader.tells l.fn.self.source.inner) → l.self.place + l.left ≡ l.target;

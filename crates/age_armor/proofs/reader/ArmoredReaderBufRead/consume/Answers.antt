@@ -56,6 +56,7 @@ returns-clause-consumes g c =
       same_tells = refl;
       same_steady = refl;
       same_faults = refl;
+      narrows = λ e h. h;
       shows = shown_further before.failed before.bytes before.given before.filled c.args.amount;
       same_content = λ told. refl;
       bytes = λ told. gives_shown before.failed before.bytes before.given before.filled c.args.amount before.stage (g.R.Read.rest before.source.inner) c.requires;

@@ -6,6 +6,7 @@ use Rattle.age_armor.specs.Delivered.{delivered}
 use Rattle.age_armor.specs.Stages.{is_armored}
 use Rattle.age_armor.specs.Reader.{text_of}
 use Rattle.age_armor.proofs.Forms.{form_kept}
+use Rattle.age_armor.proofs.Keeping.{armor-plain}
 use Rattle.age_armor.proofs.reader.ArmoredReaderBufRead.fill_buf.Goals as goal
 
 pub returns-then-self : goal.returns-then-self
@@ -20,6 +21,9 @@ returns-then-self g c =
           no_fewer_faults = omega arith;
           device = λ device. absurd device;
           unspent = tt;
+          why = inl (c.if-self.true, refl);
+          narrows = tt;
+          again = λ again. absurd again;
           shows = tt;
           own = (
             record {
@@ -60,6 +64,9 @@ returns-in-Err g c =
           no_fewer_faults = now.goes.keeps.same.faults;
           device = now.goes.keeps.device;
           unspent = tt;
+          why = now.goes.keeps.why;
+          narrows = tt;
+          again = λ again. absurd (now.goes.keeps.patient again);
           shows = tt;
           own = (
             record {
@@ -101,6 +108,9 @@ returns-in-Ok g c =
           no_fewer_faults = now.goes.keeps.same.faults;
           device = tt;
           unspent = now.goes.unspent;
+          why = tt;
+          narrows = armor-plain c.args.self.now after now.goes.keeps.narrows;
+          again = tt;
           shows = held.shown;
           own = (
             record {

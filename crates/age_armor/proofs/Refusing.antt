@@ -1,0 +1,113 @@
+-- Why reading a text refuses, over a step.
+use Rattle.std.proofs.Common.{◌≡◌, ◌≢◌, ◌⊎◌, ◌∙◌, ◌-◌, ◌≤◌, ℕ, Bool, true, false, IsTrue, Ok, Err, Result, inl, inr, refl, sym, ap, subst, arith}
+use Rattle.std.proofs.lemmas.Bool.{true≢false}
+use Rattle.age_error.specs.Refusals.{IsDevice, IsInterruption}
+use Rattle.age_error.specs.declared.io.Error.{Error}
+use Rattle.age_error.specs.declared.io.Error.TheVariants.{Device, UnexpectedEof, TooLong, Armor, OutOfMemory, Failed}
+use Rattle.age_error.specs.declared.io.ErrorKind.TheVariants.{Interrupted}
+use Rattle.age_io.specs.Reading.{AddsNoReason, TriedAgain, StandsIn}
+use Rattle.age_io.specs.Keeping.{SameReader, KeepsReader}
+use Rattle.age_io.specs.declared.traits.Read.{Ghosts}
+use Rattle.age_io.proofs.Keeping.{keeps-later, keeps-refused}
+use Rattle.age_armor.specs.Counting.{Kept}
+use Rattle.age_armor.specs.Refusing.{IsTextRefusal, OrText}
+
+-- ---- an error
+
+pub text-patient : (tells steady ends_well : Bool) (e : Error) → IsTextRefusal tells steady ends_well e → IsInterruption e → ⊥
+text-patient tells steady ends_well (Device kind) h is = h
+text-patient tells steady ends_well _ h is = is
+
+-- of a text of which less is known
+pub text-wider : (told steady well told_before steady_before well_before : Bool) (e : Error) → (IsTrue told_before → IsTrue told) →
+    (IsTrue steady_before → IsTrue steady) → (IsTrue told_before → IsTrue well → IsTrue well_before) →
+    IsTextRefusal told steady well e → IsTextRefusal told_before steady_before well_before e
+text-wider told steady well told_before steady_before well_before (Armor fault) tells stays ends h = tt
+text-wider told steady well told_before steady_before well_before OutOfMemory tells stays ends h = tt
+text-wider told steady well told_before steady_before well_before UnexpectedEof tells stays ends h = λ t s. ends t (h (tells t) (stays s))
+text-wider told steady well told_before steady_before well_before TooLong tells stays ends h = λ t. h (tells t)
+text-wider told steady well told_before steady_before well_before _ tells stays ends h = absurd h
+
+memory-or-not : (e : Error) → (e ≡ OutOfMemory) ⊎ (e ≢ OutOfMemory)
+memory-or-not OutOfMemory = inl refl
+memory-or-not _ = inr (λ is. cc is)
+
+-- what `unrefused` makes of an error
+pub failed-or-kept : (e answer : Error) → (answer ≢ Failed → answer ≡ e) → (answer ≡ Failed) ⊎ (answer ≡ e)
+failed-or-kept e Failed kept = inl refl
+failed-or-kept e _ kept = inr (kept (λ is. cc is))
+
+-- ---- a reader of a text
+
+module _ {R : Type 0} (read : Ghosts R) where
+  -- a step that adds no reason to refuse
+  pub text-narrows : (a b : R) → SameReader read a b → AddsNoReason (TriedAgain read.refuses) a b → AddsNoReason (OrText read) a b
+  text-narrows a b same narrows e h = elim h [
+    | inl own ↦ inl (text-wider _ _ _ (read.tells a) (read.steady a) (read.content a).ends_well e (λ told. same.tells ∙ told) (λ steady. same.steady ∙ steady)
+        (λ told well. subst (λ s. IsTrue s.ends_well) (same.content told) well) own)
+    | inr tried ↦ inr (narrows e tried)
+  ]
+
+  -- a call that asks for bytes, after such a step
+  pub text-asked : (a b : R) (e : Error) → AddsNoReason (TriedAgain read.refuses) a b → (e ≢ OutOfMemory → TriedAgain read.refuses b e) → OrText read a e
+  text-asked a b e narrows why = elim (memory-or-not e) [
+    | inl is ↦ inl (subst (IsTextRefusal (read.tells a) (read.steady a) (read.content a).ends_well) (sym is) tt)
+    | inr other ↦ inr (narrows e (why other))
+  ]
+
+  -- a step, and then a call
+  pub kept-on : {B : Type 0} (result : Result B Error) (a b c : R) (k l m : ℕ) → SameReader read a b → AddsNoReason (TriedAgain read.refuses) a b →
+      (IsTrue (read.tells a) → read.place b - l ≡ read.place a - k) → (IsTrue (read.tells a) → k ≤ l) → Kept read b l c m result → Kept read a k c m result
+  kept-on result a b c k l m same narrows origin more next = record {
+    keeps = keeps-later read (OrText read) result a b c same narrows (text-narrows a b same narrows) next.keeps;
+    unspent = next.unspent;
+    origin = λ told. next.origin (same.tells ∙ told) ∙ origin told;
+    more = λ told. omega (arith, more told, next.more (same.tells ∙ told));
+  }
+
+  pub kept-later : {A B : Type 0} {x : A} (result : Result B Error) (a b c : R) (k l m : ℕ) → Kept read a k b l (Ok x) → Kept read b l c m result →
+      Kept read a k c m result
+  kept-later result a b c k l m first second = kept-on result a b c k l m first.keeps.same first.keeps.narrows first.origin first.more second
+
+  -- the same answer by another name
+  pub kept-as : {A B : Type 0} {x : A} {y : B} (a b : R) (k l : ℕ) → Kept read a k b l (Ok x) → Kept read a k b l (Ok y)
+  kept-as a b k l kept = record {
+    keeps = record { same = kept.keeps.same; device = tt; patient = tt; why = tt; narrows = kept.keeps.narrows };
+    unspent = kept.unspent;
+    origin = kept.origin;
+    more = kept.more;
+  }
+
+  pub kept-error : {A B : Type 0} (a b : R) (k l : ℕ) (e : Error) → Kept {A = A} read a k b l (Err e) → Kept {A = B} read a k b l (Err e)
+  kept-error a b k l e kept = record {
+    keeps = record { same = kept.keeps.same; device = kept.keeps.device; patient = kept.keeps.patient; why = kept.keeps.why; narrows = tt };
+    unspent = tt;
+    origin = kept.origin;
+    more = kept.more;
+  }
+
+  -- a step, and then a refusal of the text
+  pub kept-refused : {A B : Type 0} {x : A} (a b : R) (k l : ℕ) (e : Error) → Kept read a k b l (Ok x) → (IsDevice e → ⊥) →
+      IsTextRefusal (read.tells a) (read.steady a) (read.content a).ends_well e → Kept {A = B} read a k b l (Err e)
+  kept-refused a b k l e first other own = record {
+    keeps = keeps-refused read (OrText read) a b e first.keeps.same other (inl own);
+    unspent = tt;
+    origin = first.origin;
+    more = first.more;
+  }
+
+  -- the text ends well, where its reader's rest does
+  pub text-well : (r : R) → (IsTrue (read.tells r) → IsTrue (read.steady r) → StandsIn (read.content r) (read.place r) (read.rest r)) →
+      (IsTrue (read.tells r) → IsTrue (read.rest r).ends_well) → IsTrue (read.tells r) → IsTrue (read.steady r) → IsTrue (read.content r).ends_well
+  text-well r stands well told steady = elim (stands told steady).reaches [
+    | inl is ↦ subst (λ s. IsTrue s.ends_well) is (well told)
+    | inr gone ↦ absurd (true≢false (sym (well told) ∙ ap (λ s. s.ends_well) gone))
+  ]
+
+-- what was tried again adds no reason, and so does what wasn't
+pub plain-narrows : {S : Type 0} (refuses : S → Error → Type 0) (a b : S) → ((s : S) (e : Error) → refuses s e → IsInterruption e → ⊥) →
+    AddsNoReason (TriedAgain refuses) a b → AddsNoReason refuses a b
+plain-narrows refuses a b patient narrows e h = elim (narrows e (inl (patient b e h, h))) [
+  | inl plain ↦ plain.1
+  | inr worn ↦ absurd (patient a (Device Interrupted) worn.1 tt)
+]
