@@ -3,6 +3,7 @@ ghost use Rattle.std.specs.Prelude.{◌≡◌, ◌≢◌, ℕ, ◌+◌, ◌-◌,
 ghost use Rattle.std.proofs.Common.{arith};
 ghost use Rattle.age_error.specs.Bytes.{AreBytes};
 ghost use Rattle.age_error.specs.Refusals.{IsInterruption};
+ghost use Rattle.age_error.specs.declared.io.Error.{Error as Failure};
 ghost use Rattle.age_error.specs.declared.io.Error.TheVariants.{OutOfMemory, Failed};
 ghost use Rattle.age_io.specs.Stretch.{Stretch, nothing, whole, from_place, IsCleanEnd, IsFault};
 ghost use Rattle.age_io.specs.Reading.{Reads, IsQuiet, Delivers, StandsIn, most_faults};
@@ -12,6 +13,7 @@ ghost use Rattle.age_armor.specs.Armor.{Carries};
 ghost use Rattle.age_armor.specs.Delivered.{stretch_of, delivered, begins_armor};
 ghost use Rattle.age_armor.specs.Stages.{is_start, is_armored, is_ended, IsNamed};
 ghost use Rattle.age_armor.specs.Ending.{KeepsEnding};
+ghost use Rattle.age_armor.specs.Refusing.{OrText};
 ghost use Rattle.age_armor.specs.declared.stages.Stage.TheVariants.{Binary};
 ghost use Rattle.age_armor.specs.Ahead.{outcome_ahead, rest_ahead, shown_ahead};
 ghost use Rattle.age_armor.specs.DeliveredLaws.{content_of, content_bytes, content_short, stands_by};
@@ -174,6 +176,7 @@ impl<R: BufRead> ArmoredReader<R> {
             IsTrue (R.Read.rest inner).ends_well × (AreBytes (R.Read.rest inner).bytes → Carries (R.Read.rest inner).bytes (armored_rest r).bytes)) }
         ensures honest { (bytes : List ℕ) → IsTrue (R.Read.rest inner).ends_well → Carries (R.Read.rest inner).bytes bytes →
             IfOk result (λ r. armored_rest r ≡ whole bytes) }
+        ensures named { IfOk result (λ r. (e : Failure) → ⟦<ArmoredReader<R> as Read>⟧.refuses r e → OrText ⟦<R as Read>⟧ inner e) }
         ensures ok { IsOk result }
         ensures memory { IfErr result (λ e. e ≡ OutOfMemory) }
     {
@@ -457,6 +460,7 @@ impl<R: Read> ArmoredReader<BufReader<R>> {
             IsTrue (R.rest inner).ends_well × (AreBytes (R.rest inner).bytes → Carries (R.rest inner).bytes (armored_rest r).bytes)) }
         ensures honest { (bytes : List ℕ) → IsTrue (R.rest inner).ends_well → Carries (R.rest inner).bytes bytes →
             IfOk result (λ r. armored_rest r ≡ whole bytes) }
+        ensures named { IfOk result (λ r. (e : Failure) → ⟦<ArmoredReader<BufReader<R>> as Read>⟧.refuses r e → OrText ⟦<R as Read>⟧ inner e) }
         ensures memory { IfErr result (λ e. e ≡ OutOfMemory) }
     {
         let buffered = BufReader::new(alloc, inner)?;

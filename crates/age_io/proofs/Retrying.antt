@@ -1,6 +1,6 @@
 -- What an interrupted call says.
 use Rattle.std.proofs.Common.{◌≡◌, ℕ, ◌<◌, IsTrue, Result, Ok, Err, IfErr, OnErr, inl, inr, subst}
-use Rattle.std.specs.Prelude.{IsErrAnd}
+use Rattle.std.specs.Prelude.{IsErrAnd, ◌⊎◌}
 use Rattle.age_io.specs.declared.traits.Read.{Ghosts}
 use Rattle.age_io.specs.Cursor.{IsSeekRefusal}
 use Rattle.age_io.specs.Keeping.{SameReader}
@@ -65,9 +65,25 @@ module _ {S : Type 0} (refuses : S → Error → Type 0) where
     | inr worn ↦ inr (worn.0, fewer (Device interrupted) worn.1)
   ]
 
+  -- of errors of its own none is an interruption
+  pub tried-own : (Own : Error → Type 0) (s : S) (e : Error) → (Own (Device interrupted) → ⊥) → TriedAgain (λ r f. Own f ⊎ TriedAgain refuses r f) s e →
+      Own e ⊎ TriedAgain refuses s e
+  tried-own Own s e patient h = elim h [
+    | inl plain ↦ plain.1
+    | inr worn ↦ elim worn.1 [ inl own ↦ absurd (patient own) | inr again ↦ absurd (tried-patient s (Device interrupted) again tt) ]
+  ]
+
   -- who tries again what was tried again changes nothing
   pub tried-once : (s : S) (e : Error) → TriedAgain (TriedAgain refuses) s e → TriedAgain refuses s e
   tried-once s e h = elim h [
     | inl plain ↦ plain.1
     | inr worn ↦ absurd (tried-patient s (Device interrupted) worn.1 tt)
   ]
+
+-- what may be refused with may be tried again
+pub tried-more : {S T : Type 0} (first : S → Error → Type 0) (second : T → Error → Type 0) (s : S) (t : T) → ((e : Error) → first s e → second t e) → (e : Error) →
+    TriedAgain first s e → TriedAgain second t e
+tried-more first second s t wider e h = elim h [
+  | inl plain ↦ inl (plain.0, wider e plain.1)
+  | inr worn ↦ inr (worn.0, wider (Device interrupted) worn.1)
+]

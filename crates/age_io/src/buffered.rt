@@ -5,6 +5,7 @@ ghost use types.Logic.{sem};
 ghost use denote.Follow.{follows};
 ghost use Rattle.std.proofs.Common.{arith};
 ghost use Rattle.age_error.specs.Refusals.{IsDevice, IsInterruption};
+ghost use Rattle.age_error.specs.declared.io.Error.{Error as Failure};
 ghost use Rattle.age_error.specs.declared.io.Error.TheVariants.{OutOfMemory, Failed};
 ghost use Rattle.age_io.specs.Stretch.{IsCleanEnd, IsFault, from_place};
 ghost use Rattle.age_io.specs.Reading.{Reads, IsQuiet, Delivers, TriedAgain, most_faults};
@@ -123,6 +124,7 @@ impl<R: Read> BufReader<R> {
         ensures place { IfOk result (λ r. place_of r ≡ R.place inner) }
         ensures rest { IfOk result (λ r. rest_of r ≡ R.rest inner) }
         ensures good { IfOk result (λ r. has_failed r ≡ false) }
+        ensures named { IfOk result (λ r. (e : Failure) → ⟦<BufReader<R> as Read>⟧.refuses r e → TriedAgain R.refuses inner e) }
         ensures memory { IfErr result (λ e. e ≡ OutOfMemory) }
     {
         let buffer = room_for(alloc, ROOM)?;

@@ -3,13 +3,14 @@ ghost use Rattle.std.specs.Prelude.{◌≡◌, ◌≢◌, ℕ, ◌+◌, ◌-◌,
 ghost use Rattle.std.proofs.Common.{arith, refl};
 ghost use Rattle.age_error.specs.Bytes.{AreBytes, AreBytesOf};
 ghost use Rattle.age_error.specs.Refusals.{IsDevice, IsInterruption};
+ghost use Rattle.age_error.specs.declared.io.Error.{Error as Failure};
 ghost use Rattle.age_error.specs.declared.io.Error.TheVariants.{OutOfMemory, Failed, AfterLast};
 ghost use Rattle.age_io.specs.Stretch.{Stretch, nothing, whole, from_place, IsCleanEnd, IsFault};
 ghost use Rattle.age_io.specs.Reading.{Reads, IsQuiet, Delivers, EndsEarly, most_faults};
 ghost use Rattle.age_stream.specs.Payload.{nonce, payload, LastIsNoMiddle};
 ghost use Rattle.age_stream.specs.Answering.{Gives, Refuses, RefusesItself, IsEnd, IsGoodEnd};
 ghost use Rattle.age_stream.specs.Chunks.{allowed, chunk_of, delivered};
-ghost use Rattle.age_stream.specs.Keeping.{IsPayloadRefusal, KeepsPayload};
+ghost use Rattle.age_stream.specs.Keeping.{IsPayloadRefusal, KeepsPayload, OwnOrInner, Stops};
 ghost use Rattle.age_stream.specs.Reading.{payload_at, spare, IsSound};
 ghost use Rattle.age_suite.specs.Suite.{one_more};
 ghost use Rattle.age_stream.specs.ReadingLaws.{and-left, and-right, both-true, stream_stands, stream_spent};
@@ -216,6 +217,8 @@ impl<S: Suite, R: Read> StreamReader<S, R> {
         ensures honest { IfOk result (λ r. (plain : List ℕ) → AreBytes plain → length plain ≤ 2 ^ 60 →
             LastIsNoMiddle S.seal_of key plain → R.rest inner ≡ whole (payload S.seal_of key plain) →
             ⟦<StreamReader<S, R> as Read>⟧.rest r ≡ whole plain) }
+        ensures named { IfOk result (λ r. (e : Failure) → ⟦<StreamReader<S, R> as Read>⟧.refuses r e → OwnOrInner ⟦<R as Read>⟧
+            (Stops S.seal_of key (from_place (R.place inner) (R.content inner)) (IsTrue (R.tells inner && R.steady inner))) inner e) }
         ensures memory { IfErr result (λ e. e ≡ OutOfMemory) }
     {
         known_array(&key);

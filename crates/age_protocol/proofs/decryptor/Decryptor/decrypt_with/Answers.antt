@@ -18,6 +18,7 @@ returns g c =
       unsought = made.unsought;
       opens = made.opens;
       same_key = made.key;
+      inner = made.inner;
       sealed = made.payload;
       inner_rest = made.inner_rest;
       tells = made.tells;

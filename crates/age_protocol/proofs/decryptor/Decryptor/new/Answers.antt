@@ -1,6 +1,8 @@
 use Rattle.std.proofs.Common.{rules, ◌≡◌, ◌∙◌, length, refl, inl, inr, arith}
 use Rattle.age_error.specs.DecryptErrors.{decrypt_of_io}
-use Rattle.age_io.proofs.Keeping.{same-later}
+use Rattle.age_io.specs.Keeping.{OrEarly}
+use Rattle.age_io.proofs.Keeping.{same-later, early-narrows}
+use Rattle.age_format.proofs.HeaderReading.{io_of_error}
 use Rattle.age_protocol.proofs.Fronts.{took_both, of_error, is_device}
 use Rattle.age_protocol.proofs.decryptor.Decryptor.new.Goals as goal
 
@@ -15,6 +17,8 @@ returns-in_err-read_exact-clause-refused g c =
       record {
         same = same-later g.R.Read c.args.input c.read.new.reader c.read_exact.new.reader first.keeps then.keeps.same;
         device = λ device. omega (arith, first.keeps.faults, then.keeps.device (is_device error device));
+        io = io_of_error (OrEarly g.R.Read c.args.input) error (early-narrows g.R.Read c.args.input c.read.new.reader first.keeps.tells
+            (λ told. (first.header told).took.delivered.end) first.narrows error then.keeps.why);
         why = λ told. inr (inl (record {
           h = c.in_ok-header.header;
           after = g.R.Read.rest c.read.new.reader;
@@ -38,6 +42,7 @@ returns-then-not-keeps_scrypt_rule-clause-refused g c =
       record {
         same = same-later g.R.Read c.args.input c.read.new.reader c.read_exact.new.reader first.keeps then.keeps.same;
         device = λ device. absurd device;
+        io = tt;
         why = λ told. inr (inr (record {
           h = c.in_ok-header.header;
           nonce = c.read_exact.new.buf;
