@@ -1,14 +1,14 @@
 -- A call that asks a reader for bytes, and is tried again after an interruption.
-use Rattle.std.proofs.Common.{◌≡◌, ◌≢◌, ◌∙◌, ℕ, ◌+◌, ◌<◌, IsTrue, Result, Ok, Err, IfErr, arith, inl, inr}
+use Rattle.std.proofs.Common.{◌∙◌, ℕ, ◌+◌, Result, Ok, Err, IfErr, arith, inl}
 use Rattle.std.specs.Prelude.{IsErrAnd}
-use Rattle.age_error.specs.Refusals.{IsDevice, IsInterruption}
+use Rattle.age_error.specs.Refusals.{IsInterruption}
 use Rattle.age_error.specs.declared.io.Error.{Error}
-use Rattle.age_error.specs.declared.io.Error.TheVariants.{Device, OutOfMemory}
+use Rattle.age_error.specs.declared.io.Error.TheVariants.{Device}
 use Rattle.age_error.specs.declared.io.ErrorKind.TheVariants.{Interrupted as interrupted}
 use Rattle.age_io.specs.Reading.{TriedAgain}
 use Rattle.age_io.specs.declared.traits.Read.{Ghosts}
 use Rattle.age_io.proofs.Keeping.{same-later}
-use Rattle.age_io.proofs.Retrying.{Interrupted, interruption-device, tried-narrows}
+use Rattle.age_io.proofs.Retrying.{Interrupted, tried-narrows}
 use Rattle.age_armor.proofs.Taking.{quiet_after}
 use Rattle.age_armor.specs.Showing.{Asks}
 

@@ -1,12 +1,12 @@
 -- Why reading a text refuses, over a step.
-use Rattle.std.proofs.Common.{◌≡◌, ◌≢◌, ◌⊎◌, ◌∙◌, ◌-◌, ◌≤◌, ℕ, Bool, true, false, IsTrue, Ok, Err, Result, inl, inr, refl, sym, ap, subst, arith}
+use Rattle.std.proofs.Common.{◌≡◌, ◌≢◌, ◌⊎◌, ◌∙◌, ◌-◌, ◌≤◌, ℕ, Bool, IsTrue, Ok, Err, Result, inl, inr, refl, sym, ap, subst, arith}
 use Rattle.std.proofs.lemmas.Bool.{true≢false}
 use Rattle.age_error.specs.Refusals.{IsDevice, IsInterruption}
 use Rattle.age_error.specs.declared.io.Error.{Error}
 use Rattle.age_error.specs.declared.io.Error.TheVariants.{Device, UnexpectedEof, TooLong, Armor, OutOfMemory, Failed}
 use Rattle.age_error.specs.declared.io.ErrorKind.TheVariants.{Interrupted}
 use Rattle.age_io.specs.Reading.{AddsNoReason, TriedAgain, StandsIn}
-use Rattle.age_io.specs.Keeping.{SameReader, KeepsReader}
+use Rattle.age_io.specs.Keeping.{SameReader}
 use Rattle.age_io.specs.declared.traits.Read.{Ghosts}
 use Rattle.age_io.proofs.Keeping.{keeps-later, keeps-refused}
 use Rattle.age_armor.specs.Counting.{Kept}

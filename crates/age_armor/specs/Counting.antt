@@ -9,7 +9,8 @@ use Rattle.age_armor.specs.LineVerdict.{last_is}
 use Rattle.age_armor.specs.Refusing.{OrText}
 use Rattle.age_armor.specs.Delivered.{raw_lines, section, ends, InnerFault}
 
--- the reader is the same but for where it stands, and what stands before the bytes that were taken is as much as before
+-- the reader is the same but for where it stands, it refuses as reading a text may, and what stands before the bytes that were taken
+-- is as much as before
 pub record Kept {R A : Type 0} (read : Ghosts R) (old : R) (old_taken : ℕ) (new : R) (new_taken : ℕ) (result : Result A Error) : Type 0 where
   pub keeps : KeepsReader read (OrText read) old new result
   pub unspent : OnOk result (read.faults new < most_faults)

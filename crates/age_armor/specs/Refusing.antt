@@ -5,8 +5,8 @@ use Rattle.age_error.specs.declared.io.Error.TheVariants.{UnexpectedEof, TooLong
 use Rattle.age_io.specs.Reading.{TriedAgain}
 use Rattle.age_io.specs.declared.traits.Read.{Ghosts}
 
--- What it refuses with of itself: a fault of the armor, or want of memory. It calls only a text too short that ends well, where the
--- reader that gives it tells its bytes and is steady, and none too long where that tells its bytes.
+-- What it refuses with of itself: a fault of the armor, or want of memory. Where the reader that gives the text tells its bytes and is
+-- steady it says only of one that ends well that it ends early, and where that tells its bytes it calls none too long.
 abbrev pub IsTextRefusal : Bool → Bool → Bool → Error → Type 0
 IsTextRefusal tells steady ends_well (Armor fault) = Unit {0}
 IsTextRefusal tells steady ends_well OutOfMemory = Unit {0}

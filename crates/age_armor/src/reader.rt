@@ -108,6 +108,7 @@ impl<R: BufRead> Read for ArmoredReader<R> {
     /// - that of the inner reader, where it refuses before a line is whole, or in place of its end. Its interruptions
     ///   are tried again up to 16 times in a row; after that the answer is `Device(Other)`.
     /// - `OutOfMemory`: memory for a line's text was refused.
+    /// - `TooLong`: the inner reader doesn't tell its bytes, and gave white space behind the end marker in 2^64 - 1 reads.
     /// - `Failed`: it refused before.
     ///
     /// After a refusal the reader has failed, and stays so. The place is as it was, and so is the buffer where the text begins
