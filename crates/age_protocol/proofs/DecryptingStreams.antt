@@ -1,5 +1,5 @@
 -- One kind of identities as another.
-use Rattle.std.specs.Prelude.{◌≡◌, ◌⊎◌, ℕ, List, Result, Ok, Err, OnOk, IsErrAnd}
+use Rattle.std.specs.Prelude.{◌≡◌, ◌⊎◌, ◌&&◌, ℕ, IsTrue, List, Result, Ok, Err, OnOk, IsErrAnd}
 use Rattle.std.proofs.Common.{inl, inr}
 use Rattle.std.proofs.lemmas.Result.{on_ok_weaker, IfErr-weaker}
 use Rattle.age_error.specs.DecryptErrors.{DecryptRefusal}
@@ -14,6 +14,13 @@ use Rattle.age_protocol.specs.Answering.{decided}
 use Rattle.age_protocol.specs.Texts.{RefusesText, BeginsText, RefusesKey}
 use Rattle.age_protocol.specs.DecryptingStreams.{DecryptsAll, DecryptsPart}
 use Rattle.age_protocol.specs.declared.error.FileError.{FileError}
+use Rattle.age_protocol.specs.declared.error.FileError.TheVariants.{Io, Encrypt, Decrypt}
+use Rattle.age_protocol.specs.FileErrors.{IfIo, RefusesPlain}
+use Rattle.age_protocol.specs.File.{payload_key}
+use Rattle.age_stream.specs.Keeping.{Stops}
+use Rattle.age_format.specs.HeaderV1.{header_mac}
+use Rattle.age_io.specs.Writing.{HandsOn}
+use Rattle.age_error.specs.declared.io.Error.{Error}
 use Rattle.age_protocol.specs.Parts.{StandsAt, IsPartAt}
 use Rattle.age_protocol.proofs.Standing.{begun, begun-or}
 use Rattle.age_protocol.proofs.Decrypted.{by_cause, decrypts_weaker}
@@ -33,6 +40,25 @@ same_cause : (Text : DecryptRefusal → Type 0) (begins : HeaderValue → List �
 same_cause Text begins answers own answered refusal (inl text) = inl text
 same_cause Text begins answers own answered refusal (inr (h, nonce, left, answer, begun, told, cause)) =
     inr (h, nonce, left, answer, begun, answered h.stanzas answer told, cause)
+
+-- what holds of the reader's or the writer's error
+pub io_weaker : (Holds More : Error → Type 0) → ((e : Error) → Holds e → More e) → (e : FileError) → IfIo Holds e → IfIo More e
+io_weaker Holds More wider (Io e) h = wider e h
+io_weaker Holds More wider (Encrypt e) h = tt
+io_weaker Holds More wider (Decrypt e) h = tt
+
+-- the same reason of a refusal, told of other identities
+same_reason : {R W : Type 0} (read : ReadGhosts R) (refuses : W → ℕ → Error → Type 0) (input : R) (old : W) (begins : HeaderValue → List ℕ → Stretch → Type 0)
+    (gives by : List ℕ → List StanzaValue → Type 0) → ((key : List ℕ) (stanzas : List StanzaValue) → gives key stanzas → by key stanzas)
+    → (Says : HeaderValue → List ℕ → List ℕ → Stretch → Type 0) (e : Error)
+    → RefusesPlain read input e ⊎ HandsOn refuses old e ⊎ ((file_key : List ℕ) × (h : HeaderValue) × (nonce : List ℕ) × (left : Stretch)
+    × begins h nonce left × gives file_key h.stanzas × (h.mac ≡ header_mac file_key h.covered) × Says h file_key nonce left)
+    → RefusesPlain read input e ⊎ HandsOn refuses old e ⊎ ((file_key : List ℕ) × (h : HeaderValue) × (nonce : List ℕ) × (left : Stretch)
+    × begins h nonce left × by file_key h.stanzas × (h.mac ≡ header_mac file_key h.covered) × Says h file_key nonce left)
+same_reason read refuses input old begins gives by given Says e (inl plain) = inl plain
+same_reason read refuses input old begins gives by given Says e (inr (inl writer)) = inr (inl writer)
+same_reason read refuses input old begins gives by given Says e (inr (inr (file_key, h, nonce, left, begun, gave, right, says))) =
+    inr (inr (file_key, h, nonce, left, begun, given file_key h.stanzas gave, right, says))
 
 -- what is given, what is answered, and which files are theirs may be said in another way
 pub decrypts_all_as : {S R W T : Type 0} (suite : SuiteGhosts S) (read : ReadGhosts R) (write : WriteGhosts W)
@@ -60,6 +86,8 @@ decrypts_all_as {S} {R} {W} {T} suite read write gives by answers own IsFor IsOw
       let (key, h, nonce, left, begins, gave, right, appended) = opened in
       inr (key, h, nonce, left, begins, given key h.stanzas gave, right, appended))
       (all.front reader_told writer_told);
+  io = IfErr-weaker result _ _ (io_weaker _ _ (λ e why. same_reason read write.refuses input old (BeginsText read.tells read.rest input) gives by given (λ h file_key nonce left. Stops suite.seal_of (payload_key file_key nonce) left (IsTrue (read.tells input && read.steady input)) e) e why)) all.io;
+  written = λ told well never file plain carries own_file. all.written told well never file plain carries (for plain file own_file);
   honest = λ told well never file plain carries own_file. all.honest told well never file plain carries (for plain file own_file);
   plaintext = λ told well writer_told file plain carries own_file. all.plaintext told well writer_told file plain carries (for plain file own_file);
 }
@@ -81,5 +109,6 @@ decrypts_part_as suite read write gives by IsFor IsOwn place count input last ol
       (begun (BeginsText read.tells read.rest input) (BeginsText read.tells read.rest input) gives by write.appended count (IsPartAt suite.seal_of place count) old new
       (λ h nonce left begins. begins) given_so)
       (part.given reader_told writer_told);
+  io = part.io;
   refused = part.refused;
 }

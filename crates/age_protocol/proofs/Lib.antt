@@ -17,3 +17,4 @@ pub mod Parts
 pub mod Standing
 pub mod Alone
 pub mod Belonging
+pub mod Reasons

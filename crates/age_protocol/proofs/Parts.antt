@@ -1,5 +1,5 @@
 -- A part of a file's plaintext.
-use Rattle.std.specs.Prelude.{◌≡◌, ◌≢◌, ◌⊎◌, ℕ, ◌≤◌, ◌<◌, Bool, true, false, List, [], length, take, drop, IsTrue, Result, Some, Ok, Err, refl}
+use Rattle.std.specs.Prelude.{◌≡◌, ◌≢◌, ◌⊎◌, ℕ, ◌≤◌, ◌<◌, Bool, true, false, List, [], length, take, drop, IsTrue, Result, OnOk, OnErr, Some, Ok, Err, refl}
 use Rattle.std.proofs.Common.{◌∙◌, sym, ap, subst, inl, inr, arith}
 use Rattle.age_error.specs.DecryptErrors.{OutOfMemory, decrypt_refusal}
 use Rattle.age_error.specs.declared.decrypt.DecryptError.{DecryptError}
@@ -8,6 +8,7 @@ use Rattle.age_error.specs.declared.io.Error.TheVariants as io
 use Rattle.age_io.specs.Stretch.{Stretch, whole}
 use Rattle.age_io.specs.Reading.{IsQuiet}
 use Rattle.age_io.specs.Cursor.{moved_to}
+use Rattle.age_io.specs.Writing.{OrMemory, Retried}
 use Rattle.std.proofs.lemmas.Bool.Decides.{nat_tests}
 use Rattle.age_format.specs.Stanza.{StanzaValue}
 use Rattle.age_format.specs.Unwrapping.{UnwrapAnswer}
@@ -25,15 +26,16 @@ past_or_memory : (e : Error) → (e ≢ io.OutOfMemory → e ≡ io.PastEnd) →
 past_or_memory e why (inl is) = inr is
 past_or_memory e why (inr other) = inl (why other)
 
-module _ {W T : Type 0} (appended : W → List ℕ → W → Type 0) (Quiet : Type 0) (place count : ℕ) (plain : List ℕ) where
+module _ {W T : Type 0} (appended : W → List ℕ → W → Type 0) (refuses : W → ℕ → Error → Type 0) (Quiet : Type 0) (place count : ℕ) (plain : List ℕ) where
   -- a refusal before anything was appended
   pub refused_before : (w : W) (e : DecryptError) → appended w [] w → (Quiet → decrypt_refusal e ≡ OutOfMemory)
-      → AppendsPart {T = T} appended Quiet place count plain w w (Err (Decrypt e))
+      → AppendsPart {T = T} appended refuses Quiet place count plain w w (Err (Decrypt e))
   refused_before w e none why = record {
     part = tt;
     front = record { front = []; after = take count (drop place plain); joined = refl; out = none };
     opened = why;
     past_end = λ quiet past. (refl, why quiet);
+    inside = λ quiet within. tt;
   }
 
   -- what was appended from a reader of the plaintext
@@ -41,7 +43,7 @@ module _ {W T : Type 0} (appended : W → List ℕ → W → Type 0) (Quiet : Ty
       → (place ≤ length content.bytes) × appended old (take count (drop place content.bytes)) new
       → AppendsFront appended (take count (drop place content.bytes)) old new
       → (length content.bytes < place → (new ≡ old) × ⊥)
-      → AppendsPart appended Quiet place count plain old new (Ok done)
+      → AppendsPart appended refuses Quiet place count plain old new (Ok done)
   part_done content old new done is part front past =
       let bytes : content.bytes ≡ plain = ap (λ s. s.bytes) is in
       record {
@@ -49,13 +51,15 @@ module _ {W T : Type 0} (appended : W → List ℕ → W → Type 0) (Quiet : Ty
         front = rw bytes at front;
         opened = λ quiet. tt;
         past_end = λ quiet beyond. absurd ((rw bytes at past) beyond).1;
+        inside = λ quiet within. tt;
       }
 
   pub part_refused : (content : Stretch) (f g : ℕ) (old new : W) (e : Error) → content ≡ whole plain → (Quiet → IsQuiet f g)
       → AppendsFront appended (take count (drop place content.bytes)) old new
       → (length content.bytes < place → (new ≡ old) × (e ≢ io.OutOfMemory → IsQuiet f g → e ≡ io.PastEnd))
-      → AppendsPart {T = T} appended Quiet place count plain old new (Err (Io e))
-  part_refused content f g old new e is still front past =
+      → (place ≤ length content.bytes → IsQuiet f g → OrMemory (Retried refuses) old count e)
+      → AppendsPart {T = T} appended refuses Quiet place count plain old new (Err (Io e))
+  part_refused content f g old new e is still front past why =
       let bytes : content.bytes ≡ plain = ap (λ s. s.bytes) is in
       record {
         part = tt;
@@ -64,6 +68,7 @@ module _ {W T : Type 0} (appended : W → List ℕ → W → Type 0) (Quiet : Ty
         past_end = λ quiet beyond.
             let both = (rw bytes at past) beyond in
             (both.0, past_or_memory e (λ other. both.1 other (still quiet)) (memory_or_not e));
+        inside = λ quiet within. elim ((rw bytes at why) within (still quiet)) [ inl memory ↦ inl memory | inr writer ↦ inr (count, writer) ];
       }
 
 -- ---- a target from the start
@@ -77,6 +82,15 @@ refused_past place len e past is =
     let same : ◌≡◌ {A = Result ℕ Error} (Err io.PastEnd) (Err e) = sym (start_past place len past) ∙ is in
     Prim.cc
 
+-- a place up to the end isn't refused
+pub never_refused : (place len : ℕ) (e : Error) → place ≤ len → moved_to (Some place) len ≡ Err e → ⊥
+never_refused place len e within is = grind (arith, nat_tests)
+
+-- what holds of a success and of a refusal holds
+pub either_way : {T E P : Type 0} (r : Result T E) → OnOk r P → OnErr r P → P
+either_way (Ok x) done refused = done
+either_way (Err e) done refused = refused
+
 -- and that isn't moved to
 pub never_past : (place len n : ℕ) → len < place → moved_to (Some place) len ≡ Ok n → ⊥
 never_past place len n past is =
@@ -88,25 +102,27 @@ start_within place len n is moved = grind (arith, nat_tests)
 
 -- ---- files in memory
 
-module _ {W T : Type 0} (appended : W → List ℕ → W → Type 0) (place count : ℕ) (plain : List ℕ) where
+module _ {W T : Type 0} (appended : W → List ℕ → W → Type 0) (refuses : W → ℕ → Error → Type 0) (place count : ℕ) (plain : List ℕ) where
   -- want of memory before anything was appended
   pub memory_before : (Quiet : Type 0) (w : W) (e : Error) → appended w [] w → (Quiet → e ≡ io.OutOfMemory)
-      → AppendsPart {T = T} appended Quiet place count plain w w (Err (Io e))
+      → AppendsPart {T = T} appended refuses Quiet place count plain w w (Err (Io e))
   memory_before Quiet w e none why = record {
     part = tt;
     front = record { front = []; after = take count (drop place plain); joined = refl; out = none };
     opened = λ quiet. tt;
     past_end = λ quiet past. (refl, inr (why quiet));
+    inside = λ quiet within. inl (why quiet);
   }
 
   -- another reason why the device doesn't fail
   pub quiet_by : (Quiet Calm : Type 0) (old new : W) (result : Result T FileError) → (Calm → Quiet)
-      → AppendsPart appended Quiet place count plain old new result → AppendsPart appended Calm place count plain old new result
+      → AppendsPart appended refuses Quiet place count plain old new result → AppendsPart appended refuses Calm place count plain old new result
   quiet_by Quiet Calm old new result by done = record {
     part = done.part;
     front = done.front;
     opened = λ calm. done.opened (by calm);
     past_end = λ calm past. done.past_end (by calm) past;
+    inside = λ calm within. done.inside (by calm) within;
   }
 
 want_alone : (e : Error) (well : Bool) → IsTrue well → (e ≢ io.OutOfMemory → well ≡ false) → (e ≡ io.OutOfMemory) ⊎ (e ≢ io.OutOfMemory) → e ≡ io.OutOfMemory

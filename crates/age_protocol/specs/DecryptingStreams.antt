@@ -1,21 +1,26 @@
 -- What decrypting from a reader to a writer comes to: of a whole file, and of a part of its plaintext.
-use Rattle.std.specs.Prelude.{◌≡◌, ◌⊎◌, ℕ, ◌&&◌, List, Some, Result, Ok, IsTrue, OnOk, IfErr}
+use Rattle.std.specs.Prelude.{◌≡◌, ◌⊎◌, ℕ, ◌&&◌, true, List, Some, Result, Ok, IsTrue, OnOk, IfErr}
 use Rattle.age_error.specs.Bytes.{AreBytes}
 use Rattle.age_error.specs.DecryptErrors.{OutOfMemory}
 use Rattle.age_suite.specs.declared.suite.Suite.{Ghosts as SuiteGhosts}
 use Rattle.age_io.specs.declared.traits.Read.{Ghosts as ReadGhosts}
 use Rattle.age_io.specs.declared.traits.Write.{Ghosts as WriteGhosts}
 use Rattle.age_io.specs.Stretch.{Stretch}
-use Rattle.age_io.specs.Reading.{IsQuiet}
+use Rattle.age_io.specs.Reading.{IsQuiet, TriedAgain}
+use Rattle.age_io.specs.Cursor.{IsSeekRefusal}
+use Rattle.age_armor.specs.Refusing.{IsTextRefusal}
+use Rattle.age_error.specs.declared.io.Error.TheVariants.{OutOfMemory as out_of_memory}
+use Rattle.age_io.specs.Writing.{HandsOn}
 use Rattle.age_io.specs.Copying.{AppendsFront}
 use Rattle.age_armor.specs.Armor.{Carries}
 use Rattle.age_format.specs.HeaderV1.{HeaderValue, header_mac}
 use Rattle.age_format.specs.Stanza.{StanzaValue}
 use Rattle.age_format.specs.Unwrapping.{UnwrapAnswer, Unwraps}
 use Rattle.age_stream.specs.Chunks.{delivered}
+use Rattle.age_stream.specs.Keeping.{IsPayloadRefusal, Stops}
 use Rattle.age_protocol.specs.Answering.{FirstThatAnswers, decided}
 use Rattle.age_protocol.specs.File.{IsFileOf, payload_key}
-use Rattle.age_protocol.specs.FileErrors.{IsDecryptError, DecryptsUnless}
+use Rattle.age_protocol.specs.FileErrors.{IfIo, IsDecryptError, DecryptsUnless, RefusesPlain}
 use Rattle.age_protocol.specs.Texts.{RefusesText, BeginsText, RefusesKey}
 use Rattle.age_protocol.specs.Parts.{AppendsPart, AppendsOf, StandsAt, IsPartAt}
 use Rattle.age_protocol.specs.declared.error.FileError.{FileError}
@@ -51,6 +56,13 @@ pub record DecryptsAll {S R W T : Type 0} (suite : SuiteGhosts S) (read : ReadGh
       × BeginsText read.tells read.rest input h nonce left
       × answers h.stanzas answer
       × RefusesKey (decided answer) h refusal)) e)
+  -- The cause of a refusal of the reader or the writer: memory, the writer, the text, or, under a right MAC, the payload.
+  pub io : IfErr result (IfIo (λ e. RefusesPlain read input e ⊎ HandsOn write.refuses old e
+      ⊎ ((file_key : List ℕ) × (h : HeaderValue) × (nonce : List ℕ) × (left : Stretch)
+      × BeginsText read.tells read.rest input h nonce left
+      × gives file_key h.stanzas
+      × (h.mac ≡ header_mac file_key h.covered)
+      × Stops suite.seal_of (payload_key file_key nonce) left (IsTrue (read.tells input && read.steady input)) e)))
   -- Whatever it answers, nothing was appended before the MAC was found to be right, and then a beginning of what the good
   -- chunks open to.
   pub front : IsTrue (read.tells input && read.steady input) → IsTrue (write.tells old) → (new ≡ old)
@@ -59,11 +71,14 @@ pub record DecryptsAll {S R W T : Type 0} (suite : SuiteGhosts S) (read : ReadGh
       × gives file_key h.stanzas
       × (h.mac ≡ header_mac file_key h.covered)
       × AppendsFront write.appended (delivered suite.opened (payload_key file_key nonce) 0 left).bytes old new)
-  -- A file for the identities is opened unless memory is refused, where the device never fails; and whatever happens, what is
-  -- appended is a beginning of its plaintext.
+  -- A file for the identities is opened unless memory is refused, and written out unless memory is or the writer refuses, where the
+  -- device never fails; and whatever happens, what is appended is a beginning of its plaintext.
   pub honest : IsTrue (read.tells input && read.steady input) → IsTrue (read.rest input).ends_well → ((r : R) → read.faults r ≡ 0)
       → (file plain : List ℕ) → Carries (read.rest input).bytes file → IsFor plain file
       → IfErr result (DecryptsUnless (λ refusal. refusal ≡ OutOfMemory))
+  pub written : IsTrue (read.tells input && read.steady input) → IsTrue (read.rest input).ends_well → ((r : R) → read.faults r ≡ 0)
+      → (file plain : List ℕ) → Carries (read.rest input).bytes file → IsFor plain file
+      → IfErr result (IfIo (λ e. (e ≡ out_of_memory) ⊎ HandsOn write.refuses old e))
   pub plaintext : IsTrue (read.tells input && read.steady input) → IsTrue (read.rest input).ends_well → IsTrue (write.tells old)
       → (file plain : List ℕ) → Carries (read.rest input).bytes file → IsFor plain file
       → AppendsFront write.appended plain old new
@@ -75,12 +90,16 @@ pub record DecryptsPart {S R W T : Type 0} (suite : SuiteGhosts S) (read : ReadG
   -- Of a file for the identities they are appended.
   pub cursor : IsTrue (read.tells input) → IsTrue (write.tells old) → IsTrue (read.rest input).ends_well
       → (file plain : List ℕ) → Carries (read.rest input).bytes file → IsFor plain file
-      → AppendsPart write.appended (IsQuiet (read.faults input) (read.faults last)) place count plain old new result
+      → AppendsPart write.appended write.refuses (IsQuiet (read.faults input) (read.faults last)) place count plain old new result
   -- On any input: whatever it answers, nothing was appended before the MAC was found to be right, and then what stands in the
   -- plaintext from the place on; and where it succeeds no byte of it is missing.
   pub standing : IsTrue (read.tells input) → IsTrue (write.tells old) → (new ≡ old)
       ⊎ AppendsOf (BeginsText read.tells read.rest input) gives write.appended count (StandsAt suite.seal_of place) old new
   pub given : IsTrue (read.tells input) → IsTrue (write.tells old) → OnOk result
       (AppendsOf (BeginsText read.tells read.rest input) gives write.appended count (IsPartAt suite.seal_of place count) old new)
+  -- The cause of a refusal of the reader or the writer: memory, the writer, the reader, the target, or what is wrong with the text or the
+  -- payload that was read.
+  pub io : IfErr result (IfIo (λ e. (e ≡ out_of_memory) ⊎ TriedAgain read.refuses input e ⊎ HandsOn write.refuses old e
+      ⊎ IsSeekRefusal e ⊎ IsTextRefusal true true true e ⊎ IsPayloadRefusal e))
   -- After a refusal of the header or of the identities nothing was appended.
   pub refused : IfErr result (λ e. IsDecryptError e → new ≡ old)

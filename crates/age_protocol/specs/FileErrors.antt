@@ -4,6 +4,8 @@ use Rattle.age_error.specs.DecryptErrors.{DecryptRefusal, decrypt_refusal, OutOf
 use Rattle.age_error.specs.EncryptErrors.{EncryptRefusal, encrypt_refusal}
 use Rattle.age_error.specs.declared.io.Error.{Error}
 use Rattle.age_error.specs.declared.io.Error.TheVariants as io
+use Rattle.age_io.specs.declared.traits.Read.{Ghosts}
+use Rattle.age_armor.specs.Refusing.{OrText}
 use Rattle.age_protocol.specs.declared.error.FileError.{FileError}
 use Rattle.age_protocol.specs.declared.error.FileError.TheVariants.{Io, Encrypt, Decrypt}
 
@@ -50,3 +52,8 @@ abbrev pub IsWant : FileError → Type 0
 IsWant (Io e) = e ≡ io.OutOfMemory
 IsWant (Encrypt e) = ⊥
 IsWant (Decrypt e) = decrypt_refusal e ≡ OutOfMemory
+
+-- Why reading a file's plaintext refuses that a text carries, apart from what is wrong with the payload: for want of memory, for a fault
+-- of the text, or as the reader of the text does, whose interruptions are tried again.
+abbrev pub RefusesPlain : {R : Type 0} → Ghosts R → R → Error → Type 0
+RefusesPlain read input e = (e ≡ io.OutOfMemory) ⊎ OrText read input e

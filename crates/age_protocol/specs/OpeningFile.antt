@@ -9,7 +9,9 @@ use Rattle.age_io.specs.Stretch.{Stretch, whole, from_place}
 use Rattle.age_format.specs.HeaderV1.{HeaderValue, header_mac}
 use Rattle.age_stream.specs.Payload.{payload, LastIsNoMiddle}
 use Rattle.age_stream.specs.Chunks.{delivered}
-use Rattle.age_stream.specs.Reader.{payload_of, key_of, inner_of, inner_rest_of, HasFailed, HasSought, opens_of, tells_of, content_of, place_of, plain_rest_of, faults_of}
+use Rattle.age_stream.specs.Reader.{payload_of, key_of, inner_rest_of, HasFailed, HasSought, opens_of, tells_of, content_of, place_of, plain_rest_of, faults_of, refuses_of}
+use Rattle.age_error.specs.declared.io.Error.{Error}
+use Rattle.age_stream.specs.Keeping.{OwnOrInner, Stops}
 use Rattle.age_stream.specs.declared.reader.StreamReader.{StreamReader}
 use Rattle.age_protocol.specs.File.{payload_key, IsFileOf}
 use Rattle.age_protocol.specs.Decrypting.{ReadsFront}
@@ -21,7 +23,9 @@ module _ {S R : Type 0} {suite : SuiteGhosts S} {read : Ghosts R} where
     pub unsought : HasSought r → ⊥
     pub opens : opens_of r ≡ 0
     pub same_key : key_of r ≡ key
-    pub inner : inner_of r ≡ input
+    -- Why its reads and seeks refuse: for what is wrong with the payload, or as the input does.
+    pub named : (e : Error) → refuses_of r e
+        → OwnOrInner read (Stops suite.seal_of key (from_place (read.place input) (read.content input)) (IsTrue (read.tells input && read.steady input))) input e
     pub sealed : payload_of r ≡ from_place (read.place input) (read.content input)
     pub inner_rest : inner_rest_of r ≡ read.rest input
     pub tells : tells_of r ≡ (read.tells input && read.steady input)

@@ -2,6 +2,9 @@
 use Rattle.std.specs.Prelude.{◌≡◌, ◌⊎◌, ℕ, ◌+◌, ◌^◌, ◌≤◌, ◌<◌, List, length, take, drop, Result, Some, Ok, Err, OnOk, IfErr, MatchResult}
 use Rattle.age_error.specs.Bytes.{AreBytes}
 use Rattle.age_error.specs.DecryptErrors.{OutOfMemory}
+use Rattle.age_error.specs.declared.io.Error.{Error}
+use Rattle.age_error.specs.declared.io.Error.TheVariants as io
+use Rattle.age_io.specs.Writing.{HandsOn}
 use Rattle.age_io.specs.Stretch.{Stretch}
 use Rattle.age_io.specs.Copying.{AppendsFront, AppendsSome}
 use Rattle.age_format.specs.Stanza.{StanzaValue}
@@ -11,7 +14,7 @@ use Rattle.age_stream.specs.Payload.{Seal, LastIsNoMiddle}
 use Rattle.age_stream.specs.Answering.{StandAt, IsGoodEnd}
 use Rattle.age_protocol.specs.Answering.{FirstThatAnswers}
 use Rattle.age_protocol.specs.File.{IsFileOf, payload_key}
-use Rattle.age_protocol.specs.FileErrors.{DecryptsUnless, IsPastEnd}
+use Rattle.age_protocol.specs.FileErrors.{IfIo, DecryptsUnless, IsPastEnd}
 use Rattle.age_protocol.specs.declared.error.FileError.{FileError}
 
 -- what the first of the identities that answers may answer to these stanzas
@@ -54,9 +57,11 @@ pub record AppendsOf {W : Type 0} (begins : HeaderValue → List ℕ → Stretch
 
 -- Of a plaintext the bytes from a place on were appended, so many or fewer at the end; after a refusal a beginning of them.
 -- Where the device doesn't fail, the file is opened unless memory is refused, and a place after the end is refused as such.
-pub record AppendsPart {W T : Type 0} (appended : W → List ℕ → W → Type 0) (Quiet : Type 0) (place count : ℕ) (plain : List ℕ)
+pub record AppendsPart {W T : Type 0} (appended : W → List ℕ → W → Type 0) (refuses : W → ℕ → Error → Type 0) (Quiet : Type 0) (place count : ℕ) (plain : List ℕ)
     (old new : W) (result : Result T FileError) : Type 0 where
   pub part : OnOk result ((place ≤ length plain) × appended old (take count (drop place plain)) new)
   pub front : AppendsFront appended (take count (drop place plain)) old new
   pub opened : Quiet → IfErr result (DecryptsUnless (λ refusal. refusal ≡ OutOfMemory))
   pub past_end : Quiet → length plain < place → (new ≡ old) × MatchResult result (λ done. ⊥) IsPastEnd
+  -- a place up to the end only where memory is refused, or as the writer does
+  pub inside : Quiet → place ≤ length plain → IfErr result (IfIo (λ e. (e ≡ io.OutOfMemory) ⊎ HandsOn refuses old e))

@@ -4,13 +4,17 @@ ghost use Rattle.age_error.specs.Refusals.{IsDevice};
 ghost use Rattle.age_error.specs.declared.io.Error.TheVariants.{PastEnd, OutOfMemory};
 ghost use Rattle.age_error.specs.declared.io.SeekFrom.TheVariants.{Start};
 ghost use Rattle.age_io.specs.Stretch.{from_place};
-ghost use Rattle.age_io.specs.Reading.{IsQuiet};
-ghost use Rattle.age_io.specs.Copying.{AppendsFront, AppendsSome};
+ghost use Rattle.age_io.specs.Reading.{IsQuiet, TriedAgain};
+ghost use Rattle.age_io.specs.Copying.{AppendsFront, AppendsSome, CopyRefuses};
+ghost use Rattle.age_io.specs.Cursor.{IsSeekRefusal};
+ghost use Rattle.age_io.specs.Writing.{HandsOn, OrMemory, Retried};
 ghost use Rattle.age_armor.specs.Armor.{Carries};
 ghost use Rattle.age_armor.specs.Delivered.{delivered, stretch_of};
+ghost use Rattle.age_armor.specs.Refusing.{IsTextRefusal};
+ghost use Rattle.age_stream.specs.Keeping.{IsPayloadRefusal};
 ghost use Rattle.age_stream.specs.Targets.{sought_in};
 ghost use Rattle.age_stream.specs.Reader.{payload_of, key_of};
-ghost use Rattle.age_protocol.specs.FileErrors.{IsDecryptError};
+ghost use Rattle.age_protocol.specs.FileErrors.{IfIo, IsDecryptError};
 ghost use Rattle.age_protocol.specs.DecryptingStreams.{DecryptsPart, GivesFirst};
 ghost use Rattle.age_protocol.specs.Texts.{Begins};
 ghost use Rattle.age_protocol.specs.Parts.{AppendsPart, AppendsOf, StandsAt, IsPartAt, FirstAnswer, IsFileFor};
@@ -63,7 +67,13 @@ pub fn write_part<S: Suite, R: Seek, W: Write>(
         AppendsSome W.appended count (StandsAt S.seal_of place (key_of stream.old) (payload_of stream.old)) writer.old writer.new }
     ensures given { let reader = ⟦<StreamReader<S, R> as Read>⟧ in IsTrue (reader.tells stream.old) → IsTrue (W.tells writer.old) → OnOk result
         (AppendsSome W.appended count (IsPartAt S.seal_of place count (key_of stream.old) (payload_of stream.old)) writer.old writer.new) }
-    // Why it refuses, as far as a writer says why it does.
+    // Why it refuses: for want of memory, as a seek or a read of the stream does, or as the writer does that is given so many bytes. A
+    // place in a content that ends well is refused for want of memory or by the writer alone.
+    ensures named { let reader = ⟦<StreamReader<S, R> as Read>⟧ in IfErr result
+        (CopyRefuses (λ e. IsSeekRefusal e ⊎ TriedAgain reader.refuses stream.old e) (Retried W.refuses writer.old count)) }
+    ensures why { let reader = ⟦<StreamReader<S, R> as Read>⟧ in IsTrue (reader.tells stream.old) → IsTrue (reader.content stream.old).ends_well →
+        place ≤ length (reader.content stream.old).bytes → IsQuiet (reader.faults stream.old) (reader.faults stream.new) →
+        IfErr result (OrMemory (Retried W.refuses) writer.old count) }
     ensures device { let reader = ⟦<StreamReader<S, R> as Read>⟧ in IfErr result (λ e. IsDevice e →
         (reader.faults stream.old < reader.faults stream.new) ⊎ (W.faults writer.old < W.faults writer.new)) }
 {
@@ -87,7 +97,7 @@ fn at_bytes<S: Suite, I: Identity, T: Seek + Drop, W: Write>(
 ) -> Result<(), FileError>
     ensures cursor { IsTrue (T.tells bytes && T.steady bytes) → IsTrue (W.tells writer.old) → IsTrue (T.rest bytes).ends_well → (plain : List ℕ) →
         IsFileFor S.seal_of (FirstAnswer I.unwraps identities.old) plain (T.rest bytes).bytes →
-        AppendsPart W.appended ((t : T) → T.faults t ≡ 0) place count plain writer.old writer.new result }
+        AppendsPart W.appended W.refuses ((t : T) → T.faults t ≡ 0) place count plain writer.old writer.new result }
     ensures standing { T.rest bytes ≡ from_place (T.place bytes) (T.content bytes) → IsTrue (T.tells bytes && T.steady bytes) → IsTrue (W.tells writer.old) →
         (writer.new ≡ writer.old) ⊎ AppendsOf (Begins (T.rest bytes) (T.place bytes))
         (GivesFirst I.unwraps identities.old identities.new)
@@ -96,6 +106,8 @@ fn at_bytes<S: Suite, I: Identity, T: Seek + Drop, W: Write>(
         (GivesFirst I.unwraps identities.old identities.new)
         W.appended count (IsPartAt S.seal_of place count) writer.old writer.new) }
     ensures refused { IfErr result (λ e. IsDecryptError e → writer.new ≡ writer.old) }
+    ensures io { IfErr result (IfIo (λ e. (e ≡ OutOfMemory) ⊎ TriedAgain T.refuses bytes e ⊎ HandsOn W.refuses writer.old e
+        ⊎ IsSeekRefusal e ⊎ IsPayloadRefusal e)) }
 {
     let mut stream = match open_file::<S, I, T>(alloc, identities, bytes) {
         Err(e) => return Err(FileError::Decrypt(e)),
@@ -142,7 +154,7 @@ fn at_text<S: Suite, I: Identity, W: Write>(
 ) -> Result<(), FileError>
     ensures cursor { IsTrue (W.tells writer.old) → (file plain : List ℕ) → Carries text.now file →
         IsFileFor S.seal_of (FirstAnswer I.unwraps identities.old) plain file →
-        AppendsPart W.appended ⊤ place count plain writer.old writer.new result }
+        AppendsPart W.appended W.refuses ⊤ place count plain writer.old writer.new result }
     ensures standing { IsTrue (W.tells writer.old) → (writer.new ≡ writer.old) ⊎ AppendsOf (Begins (stretch_of (delivered text.now true)) 0)
         (GivesFirst I.unwraps identities.old identities.new)
         W.appended count (StandsAt S.seal_of place) writer.old writer.new }
@@ -150,6 +162,8 @@ fn at_text<S: Suite, I: Identity, W: Write>(
         (GivesFirst I.unwraps identities.old identities.new)
         W.appended count (IsPartAt S.seal_of place count) writer.old writer.new) }
     ensures refused { IfErr result (λ e. IsDecryptError e → writer.new ≡ writer.old) }
+    ensures io { IfErr result (IfIo (λ e. (e ≡ OutOfMemory) ⊎ HandsOn W.refuses writer.old e
+        ⊎ IsSeekRefusal e ⊎ IsTextRefusal true true true e ⊎ IsPayloadRefusal e)) }
 {
     match ArmoredReader::new_buffered(alloc, Bytes::new(text)) {
         Err(e) => Err(FileError::Io(e)),

@@ -42,7 +42,7 @@ returns-in-Ok-clause-opened g c =
     let made = c.in-Ok.ensures in
     let (answer, first, decrypts) = c.decrypt.ensures in
     asked g.I.Identity.unwraps _ _ c.args.bytes _ _ _ answer c.decrypt.result
-    (record { same = made.keeps; front = made.front; first = first }) decrypts
+    (record { same = made.keeps; narrows = made.narrows; front = made.front; first = first }) decrypts
 
 pub returns-in-Ok-clause-refused : goal.returns-in-Ok-clause-refused
 returns-in-Ok-clause-refused g c =
@@ -53,7 +53,7 @@ returns-in-Ok-clause-refused g c =
       _,
       _,
       answer,
-      record { same = made.keeps; front = made.front; first = first },
+      record { same = made.keeps; narrows = made.narrows; front = made.front; first = first },
       why,
     ))
     (refused_key _ _ _ _ _ decrypts)

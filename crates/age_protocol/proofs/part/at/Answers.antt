@@ -1,10 +1,11 @@
-use Rattle.std.proofs.Common.{◌≡◌, ◌∙◌, sym, ap, subst, refl, inl, true, List, ◌++◌, ℕ, IsTrue}
-use Rattle.std.proofs.lemmas.Result.{on_ok_weaker}
+use Rattle.std.proofs.Common.{◌≡◌, ◌∙◌, sym, ap, subst, refl, inl, inr, true, List, ◌++◌, ℕ, IsTrue}
+use Rattle.std.proofs.lemmas.Result.{on_ok_weaker, IfErr-weaker}
 use Rattle.age_armor.specs.Armor.{Carries}
 use Rattle.age_armor.specs.Delivered.{delivered, stretch_of}
 use Rattle.age_protocol.specs.Texts.{BeginsText}
 use Rattle.age_protocol.specs.Texts.{Begins}
 use Rattle.age_protocol.specs.Parts.{StandsAt, IsPartAt}
+use Rattle.age_protocol.proofs.DecryptingStreams.{io_weaker}
 use Rattle.age_protocol.proofs.Parts.{memory_before, memory_only, quiet_by}
 use Rattle.age_protocol.proofs.Standing.{begun, begun-or, begins-read}
 use Rattle.age_protocol.proofs.part.at.Goals as goal
@@ -12,10 +13,11 @@ use Rattle.age_protocol.proofs.part.at.Goals as goal
 pub returns-in-Err : goal.returns-in-Err
 returns-in-Err g c = record {
   cursor = λ reader_told writer_told well file plain carries for.
-      memory_before g.W.Write.appended c.args.place c.args.count plain _ c.args.writer.now c.in-Err.e (g.met.W.Write.appends_nothing c.args.writer.now)
+      memory_before g.W.Write.appended g.W.Write.refuses c.args.place c.args.count plain _ c.args.writer.now c.in-Err.e (g.met.W.Write.appends_nothing c.args.writer.now)
       (memory_only c.in-Err.e _ _ well (c.in-Err.ensures.cause reader_told));
   standing = λ reader_told writer_told. inl refl;
   given = λ reader_told writer_told. tt;
+  io = elim c.in-Err.ensures.keeps.why [ inl memory ↦ inl memory | inr tried ↦ inr (inl tried) ];
   refused = λ none. refl;
 }
 
@@ -29,7 +31,7 @@ returns g c =
     c.deref.ensures.value ∙ c.in-Ok.ensures.bytes reader_told ∙ ap (λ (l : List ℕ). l ++ rest.bytes) c.new-text.ensures.items in
     record {
       cursor = λ reader_told writer_told well file plain carries for.
-          quiet_by g.W.Write.appended c.args.place c.args.count plain _ _ c.args.writer.now c.at_text.new.writer c.at_text.result (λ quiet. tt)
+          quiet_by g.W.Write.appended g.W.Write.refuses c.args.place c.args.count plain _ _ c.args.writer.now c.at_text.new.writer c.at_text.result (λ quiet. tt)
           (c.at_text.ensures.cursor writer_told file plain (subst (λ (l : List ℕ). Carries l file) (sym (same reader_told)) carries) for);
       standing = λ reader_told writer_told.
           begun-or (Begins (stretch_of (delivered text true)) 0) front _ _ g.W.Write.appended c.args.count (StandsAt g.S.Suite.seal_of c.args.place) c.args.writer.now
@@ -40,5 +42,9 @@ returns g c =
           (begun (Begins (stretch_of (delivered text true)) 0) front _ _ g.W.Write.appended c.args.count (IsPartAt g.S.Suite.seal_of c.args.place c.args.count) c.args.writer.now
           c.at_text.new.writer (begins-read g.R.Read.tells g.R.Read.rest reader text (same reader_told) (c.in-Ok.ensures.end reader_told)) (λ key stanzas by. by))
           (c.at_text.ensures.given writer_told);
+      io =
+          IfErr-weaker c.at_text.result _ _
+          (io_weaker _ _ (λ e why. elim why [ inl memory ↦ inl memory | inr other ↦ inr (inr other) ]))
+          c.at_text.ensures.io;
       refused = c.at_text.ensures.refused;
     }

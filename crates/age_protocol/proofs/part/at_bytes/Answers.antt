@@ -1,6 +1,7 @@
-use Rattle.std.proofs.Common.{◌∙◌, ap, inr}
+use Rattle.std.proofs.Common.{◌∙◌, ap, inl, inr}
 use Rattle.age_protocol.specs.Parts.{StandsAt, IsPartAt}
-use Rattle.age_stream.specs.Reader.{content_of}
+use Rattle.age_stream.specs.Reader.{content_of, refuses_of}
+use Rattle.age_protocol.proofs.Reasons.{from_stream}
 use Rattle.age_protocol.proofs.OpenedFor.{never_fails}
 use Rattle.age_protocol.proofs.Standing.{opened-part}
 use Rattle.age_protocol.proofs.Parts.{refused_before, part_done, part_refused}
@@ -8,7 +9,7 @@ use Rattle.age_protocol.proofs.part.at_bytes.Goals as goal
 
 pub returns-in-Err-clause-cursor : goal.returns-in-Err-clause-cursor
 returns-in-Err-clause-cursor g c = λ bytes_told writer_told well plain for.
-    refused_before g.W.Write.appended _ c.args.place c.args.count plain c.args.writer.now c.in-Err.e (g.met.W.Write.appends_nothing c.args.writer.now)
+    refused_before g.W.Write.appended g.W.Write.refuses _ c.args.place c.args.count plain c.args.writer.now c.in-Err.e (g.met.W.Write.appends_nothing c.args.writer.now)
     (c.in-Err.ensures.plaintext bytes_told well plain for)
 
 pub returns-in-Err-write_part-clause-cursor : goal.returns-in-Err-write_part-clause-cursor
@@ -18,8 +19,9 @@ returns-in-Err-write_part-clause-cursor g c = λ bytes_told writer_told well pla
     let told = c.in-Ok.ensures.tells ∙ bytes_told in
     let ends_well = ap (λ s. s.ends_well) stands.content in
     let writes = c.in-Err-write_part.ensures in
-    part_refused g.W.Write.appended _ c.args.place c.args.count plain (content_of stream) _ _ c.args.writer.now c.write_part.new.writer c.in-Err-write_part.e stands.content
+    part_refused g.W.Write.appended g.W.Write.refuses _ c.args.place c.args.count plain (content_of stream) _ _ c.args.writer.now c.write_part.new.writer c.in-Err-write_part.e stands.content
     (λ still. never_fails g.T.Read.faults _ _ still) (writes.front told writer_told ends_well) (λ past. writes.past_end told ends_well past)
+    (λ within quiet. writes.why told ends_well within quiet)
 
 pub returns-clause-cursor : goal.returns-clause-cursor
 returns-clause-cursor g c = λ bytes_told writer_told well plain for.
@@ -28,7 +30,7 @@ returns-clause-cursor g c = λ bytes_told writer_told well plain for.
     let told = c.in-Ok.ensures.tells ∙ bytes_told in
     let ends_well = ap (λ s. s.ends_well) stands.content in
     let writes = c.in-Ok-write_part.ensures in
-    part_done g.W.Write.appended _ c.args.place c.args.count plain (content_of stream) c.args.writer.now c.write_part.new.writer _ stands.content
+    part_done g.W.Write.appended g.W.Write.refuses _ c.args.place c.args.count plain (content_of stream) c.args.writer.now c.write_part.new.writer _ stands.content
     (writes.part told writer_told ends_well) (writes.front told writer_told ends_well) (λ past. writes.past_end told ends_well past)
 
 pub returns-in-Err-write_part-clause-standing : goal.returns-in-Err-write_part-clause-standing
@@ -48,3 +50,22 @@ returns-clause-given g c = λ fresh bytes_told writer_told.
     let made = c.in-Ok.ensures in
     opened-part _ _ _ c.args.bytes c.in-Ok.stream g.W.Write.appended c.args.count (IsPartAt g.S.Suite.seal_of c.args.place c.args.count) c.args.writer.now c.write_part.new.writer fresh bytes_told made.opened
     (c.in-Ok-write_part.ensures.given (made.tells ∙ bytes_told) writer_told)
+
+pub returns-in-Err-write_part-clause-io : goal.returns-in-Err-write_part-clause-io
+returns-in-Err-write_part-clause-io g c =
+    let opened = c.in-Ok.ensures.opened in
+    let reader = opened.opens.reader in
+    elim c.in-Err-write_part.ensures.named [
+      | inl memory ↦ inl memory
+      | inr other ↦ elim other [
+          | inl reads ↦ elim reads [
+              | inl seek ↦ inr (inr (inr (inl seek)))
+              | inr tried ↦ elim (from_stream refuses_of g.T.Read.refuses _ c.in-Ok.stream opened.input c.args.bytes c.in-Err-write_part.e reader.named (λ s. s.is)
+                    opened.asks.narrows tried) [
+                  | inl own ↦ inr (inr (inr (inr own.is)))
+                  | inr text ↦ inr (inl text)
+                ]
+            ]
+          | inr writes ↦ inr (inr (inl (c.args.count, writes)))
+        ]
+    ]

@@ -1,9 +1,11 @@
-use Rattle.std.proofs.Common.{◌≡◌, ◌∙◌, refl, sym, ap, subst, true, List, ℕ}
-use Rattle.std.proofs.lemmas.Result.{on_ok_weaker}
+use Rattle.std.proofs.Common.{◌≡◌, ◌∙◌, refl, sym, ap, subst, true, inl, inr, List, ℕ}
+use Rattle.std.proofs.lemmas.Result.{on_ok_weaker, IfErr-weaker}
 use Rattle.age_io.specs.Stretch.{whole}
 use Rattle.age_armor.specs.Armor.{Carries}
 use Rattle.age_armor.specs.Delivered.{delivered, stretch_of}
-use Rattle.age_armor.specs.Reader.{armored_rest, armored_content, place_of}
+use Rattle.age_armor.specs.Reader.{armored_rest, armored_content, place_of, refuses_of}
+use Rattle.age_protocol.proofs.Reasons.{from_slice}
+use Rattle.age_protocol.proofs.DecryptingStreams.{io_weaker}
 use Rattle.age_protocol.specs.Texts.{Begins}
 use Rattle.age_protocol.specs.Parts.{StandsAt, IsPartAt}
 use Rattle.age_protocol.proofs.Parts.{memory_before, quiet_by, file_for}
@@ -12,7 +14,7 @@ use Rattle.age_protocol.proofs.part.at_text.Goals as goal
 
 pub returns-in-Err-clause-cursor : goal.returns-in-Err-clause-cursor
 returns-in-Err-clause-cursor g c = λ writer_told file plain carries for.
-    memory_before g.W.Write.appended c.args.place c.args.count plain _ c.args.writer.now c.in-Err.e (g.met.W.Write.appends_nothing c.args.writer.now)
+    memory_before g.W.Write.appended g.W.Write.refuses c.args.place c.args.count plain _ c.args.writer.now c.in-Err.e (g.met.W.Write.appends_nothing c.args.writer.now)
     (λ quiet. c.in-Err.ensures.memory)
 
 pub returns-in-Ok-clause-cursor : goal.returns-in-Ok-clause-cursor
@@ -20,7 +22,7 @@ returns-in-Ok-clause-cursor g c = λ writer_told file plain carries for.
     let bytes = c.in-Ok.bytes in
     let rest : armored_rest bytes ≡ whole file =
     c.in-Ok.ensures.honest file (ap (λ s. s.ends_well) c.new.ensures.rest) (subst (λ (l : List ℕ). Carries l file) (sym (ap (λ s. s.bytes) c.new.ensures.rest)) carries) in
-    quiet_by g.W.Write.appended c.args.place c.args.count plain _ _ c.args.writer.now c.at_bytes.new.writer c.at_bytes.result (λ u t. refl)
+    quiet_by g.W.Write.appended g.W.Write.refuses c.args.place c.args.count plain _ _ c.args.writer.now c.at_bytes.new.writer c.at_bytes.result (λ u t. refl)
     (c.at_bytes.ensures.cursor refl writer_told (ap (λ s. s.ends_well) rest) plain
     (file_for g.S.Suite.seal_of _ plain file (armored_rest bytes).bytes (sym (ap (λ s. s.bytes) rest)) for))
 
@@ -50,3 +52,19 @@ returns-in-Ok-clause-given g c = λ writer_told.
     (begun (Begins (armored_rest bytes) (place_of bytes)) (Begins (stretch_of (delivered text true)) 0) _ _ g.W.Write.appended c.args.count (IsPartAt g.S.Suite.seal_of c.args.place c.args.count) c.args.writer.now c.at_bytes.new.writer
     (begins-same (armored_rest bytes) (stretch_of (delivered text true)) (place_of bytes) rest made.place) (λ key stanzas by. by))
     (c.at_bytes.ensures.given fresh refl writer_told)
+
+pub returns-in-Ok-clause-io : goal.returns-in-Ok-clause-io
+returns-in-Ok-clause-io g c =
+    let bytes = c.in-Ok.bytes in
+    IfErr-weaker c.at_bytes.result _ _
+    (io_weaker _ _ (λ e why. elim why [
+      | inl memory ↦ inl memory
+      | inr other ↦ elim other [
+          | inl text ↦ inr (inr (inr (inl (from_slice refuses_of bytes c.new.result e c.in-Ok.ensures.named text))))
+          | inr rest ↦ elim rest [
+              | inl writer ↦ inr (inl writer)
+              | inr asked ↦ elim asked [ inl seek ↦ inr (inr (inl seek)) | inr payload ↦ inr (inr (inr (inr payload))) ]
+            ]
+        ]
+    ]))
+    c.at_bytes.ensures.io

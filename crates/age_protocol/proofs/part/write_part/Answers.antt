@@ -1,13 +1,15 @@
-use Rattle.std.proofs.Common.{◌≡◌, ◌∙◌, ◌+◌, refl, sym, ap, subst, IsTrue, List, ℕ, length, take, drop}
+use Rattle.std.proofs.Common.{◌≡◌, ◌∙◌, ◌+◌, ◌≤◌, refl, inl, inr, arith, sym, ap, subst, IsTrue, List, ℕ, length, take, drop}
 use Rattle.age_io.specs.Stretch.{Stretch, from_place}
 use Rattle.age_io.specs.Reading.{Delivers}
 use Rattle.age_io.proofs.Reaching.{delivered-at}
-use Rattle.std.proofs.lemmas.Result.{on_ok_weaker}
-use Rattle.age_stream.specs.Reader.{tells_of, content_of, steady_of, place_of, plain_rest_of, key_of, payload_of}
+use Rattle.std.proofs.lemmas.Result.{on_ok_weaker, on_err_weaker, IfErr-weaker}
+use Rattle.age_stream.specs.Reader.{tells_of, content_of, steady_of, place_of, plain_rest_of, faults_of, refuses_of, key_of, payload_of}
 use Rattle.age_stream.specs.ReadingLaws.{both-true}
 use Rattle.age_io.proofs.PartCopied.{none-copied}
 use Rattle.age_protocol.proofs.Standing.{standing, standing-none, stand-moved, good-moved, given}
-use Rattle.age_protocol.proofs.Parts.{refused_past, never_past, start_within}
+use Rattle.age_protocol.proofs.Parts.{refused_past, never_past, never_refused, either_way, start_within}
+use Rattle.age_protocol.proofs.Accepted.{memory_or_not}
+use Rattle.age_io.proofs.Retrying.{tried-narrows}
 use Rattle.age_io.specs.Copying.{AppendsFront}
 use Rattle.age_protocol.proofs.part.write_part.Goals as goal
 
@@ -50,6 +52,44 @@ returns-in-Ok-clause-past_end g c = λ told well past.
     let seeks = c.in-Ok.ensures.seeks in
     let steady : IsTrue (steady_of stream) = both-true (tells_of stream) (content_of stream).ends_well told well in
     absurd (never_past c.args.place (length (content_of stream).bytes) c.in-Ok._start past (seeks.moves told steady).0)
+
+pub returns-in-Err-clause-why : goal.returns-in-Err-clause-why
+returns-in-Err-clause-why g c = λ told well within quiet.
+    let stream = c.args.stream.now in
+    let seeks = c.in-Err.ensures.seeks in
+    inl (elim (memory_or_not c.in-Err.e) [
+      | inl memory ↦ memory
+      | inr other ↦ absurd (never_refused c.args.place (length (content_of stream).bytes) c.in-Err.e within (seeks.refused told well (seeks.cause told well other quiet)))
+    ])
+
+pub returns-in-Err-clause-named : goal.returns-in-Err-clause-named
+returns-in-Err-clause-named g c =
+    elim c.in-Err.ensures.seeks.why [ inl seek ↦ inr (inl (inl seek)) | inr own ↦ inr (inl (inr (inl (c.in-Err.ensures.patient, own)))) ]
+
+pub returns-in-Ok-clause-why : goal.returns-in-Ok-clause-why
+returns-in-Ok-clause-why g c = λ told well within quiet.
+    let stream = c.args.stream.now in
+    let seeks = c.in-Ok.ensures.seeks in
+    let steady : IsTrue (steady_of stream) = both-true (tells_of stream) (content_of stream).ends_well told well in
+    let ends = ap (λ s. s.ends_well) (seeks.moves told steady).1 ∙ well in
+    let copied = c.copy_some.ensures in
+    let rose : faults_of c.seek.new.self ≤ faults_of c.copy_some.new.reader =
+    either_way c.copy_some.result (on_ok_weaker c.copy_some.result (λ gives. gives.no_fewer_faults) copied.stands)
+    (on_err_weaker c.copy_some.result (λ left. left.same.faults) copied.left) in
+    copied.why (seeks.same_tells ∙ told) ends (record { same = omega (arith, quiet.same, rose, seeks.no_fewer_faults); below = quiet.below })
+
+pub returns-in-Ok-clause-named : goal.returns-in-Ok-clause-named
+returns-in-Ok-clause-named g c =
+    let reader = c.args.stream.now in
+    IfErr-weaker c.copy_some.result _ _
+    (λ e why. elim why [
+      | inl memory ↦ inl memory
+      | inr other ↦ inr (elim other [
+          | inl reads ↦ inl (inr (tried-narrows refuses_of reader c.seek.new.self c.in-Ok.ensures.seeks.narrows e reads))
+          | inr writes ↦ inr writes
+        ])
+    ])
+    c.copy_some.ensures.named
 
 pub returns-in-Err-clause-standing : goal.returns-in-Err-clause-standing
 returns-in-Err-clause-standing g c = λ told writer_told.

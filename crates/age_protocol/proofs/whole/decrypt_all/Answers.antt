@@ -1,7 +1,13 @@
-use Rattle.std.proofs.Common.{◌≡◌, ◌∙◌, ap, sym, refl, subst, inl, inr}
-use Rattle.age_io.specs.Stretch.{Stretch, whole, stretch-ext}
+use Rattle.std.proofs.Common.{◌≡◌, ◌∙◌, ap, sym, refl, subst, arith, inl, inr}
+use Rattle.age_io.specs.Stretch.{Stretch, whole, from_place, stretch-ext}
 use Rattle.age_io.specs.Buffered as buffered
-use Rattle.age_armor.specs.Reader.{inner_of, armored_rest}
+use Rattle.age_armor.specs.Reader.{inner_of, armored_rest, armored_content, place_of, refuses_of as armor_refuses}
+use Rattle.age_armor.specs.DeliveredLaws.{stands_by}
+use Rattle.age_io.specs.Reading.{TriedAgain}
+use Rattle.age_stream.specs.Reader.{refuses_of}
+use Rattle.age_stream.specs.Keeping.{IsPayloadRefusal}
+use Rattle.age_protocol.specs.File.{payload_key}
+use Rattle.age_protocol.proofs.Reasons.{from_stream, from_text, front-stands, stops-as}
 use Rattle.age_stream.specs.ReadingLaws.{and-left, and-right}
 use Rattle.age_stream.proofs.Answered.{rest-bytes}
 use Rattle.age_stream.proofs.Standing.{stand-bytes}
@@ -20,8 +26,10 @@ returns-in_err-text g c =
       file = λ reader_told writer_told. none_done _ _ _ is;
       refused = of_error _ _ _ is (λ none. refl);
       why = of_error _ _ _ is tt;
+      io = of_error _ _ _ is (inl (inl c.in_err-text.ensures.memory));
       front = λ reader_told writer_told. inl refl;
       honest = λ told well never file plain carries for. of_error _ _ _ is tt;
+      written = λ told well never file plain carries for. of_error _ _ _ is (inl c.in_err-text.ensures.memory);
       plaintext = λ told well writer_told file plain carries for.
           none-copied g.W.Write.appended _ c.args.writer.now (g.met.W.Write.appends_nothing c.args.writer.now);
     }
@@ -48,6 +56,8 @@ returns-in_err-stream g c =
           let (h, nonce, input, answer, asks, why) = asked in
           inr (h, nonce, _, answer, begins_text g.R.Read.tells g.R.Read.rest c.args.reader.now h nonce _ _ _ _ _ text.tells text.place text.rest asks.front, asks.first, why))
           c.in_err-stream.ensures.refused);
+      io = of_error _ _ _ is tt;
+      written = λ told well never file plain carries for. of_error _ _ _ is tt;
       front = λ reader_told writer_told. inl refl;
       honest = λ told well never file plain carries for.
           let rest : armored_rest c.in_ok-text.text ≡ whole file = text.honest file well carries in
@@ -68,6 +78,67 @@ returns-in_err-copy_all g c =
       file = λ reader_told writer_told. none_done _ _ _ is;
       refused = of_error _ _ _ is (λ none. absurd none);
       why = of_error _ _ _ is tt;
+      io =
+          let e = c.in_err-copy_all.field-0.0 in
+          let reader = c.args.reader.now in
+          let write = g.W.Write in
+          let suite = g.S.Suite in
+          let key = payload_key made.file_key made.nonce in
+          let left = armored_rest made.input in
+          let payload = from_place (place_of made.input) (armored_content made.input) in
+          let begins = begins_text g.R.Read.tells g.R.Read.rest reader made.h made.nonce _ _ _ _ _ text.tells text.place text.rest asks.front in
+          of_error _ _ _ is
+          (by_cause
+          (by_cause (λ memory. inl (inl memory))
+          (by_cause
+          (λ tried.
+          by_cause
+          (λ own. inr (inr (
+                made.file_key,
+                made.h,
+                made.nonce,
+                left,
+                begins,
+                asks.first,
+                made.opens.right,
+                stops-as suite.seal_of key payload left _ _ e
+                    (λ reader_told. both_told _ _ _ _ asks.same.tells asks.same.steady (both_told _ _ _ _ text.tells text.steady reader_told))
+                    (λ reader_told.
+                    let text_told = both_told _ _ _ _ text.tells text.steady reader_told in
+                    let t = and-left _ _ text_told in
+                    ap (from_place (place_of made.input)) (asks.same.content t)
+                    ∙ front-stands (armored_content c.in_ok-text.text) (armored_rest c.in_ok-text.text) left (place_of c.in_ok-text.text) (place_of made.input) made.h made.nonce
+                    (stands_by (armored_content c.in_ok-text.text) (armored_rest c.in_ok-text.text) (place_of c.in_ok-text.text)
+                    (c.in_ok-text.text.inside t (and-right _ _ text_told)) (c.in_ok-text.text.follows t (and-right _ _ text_told))) (asks.front t)) own,
+              )))
+          (λ armored. inl (inr (from_text armor_refuses g.R.Read c.in_ok-text.text reader e text.named armored)))
+          (from_stream refuses_of armor_refuses _ c.in_ok-stream.stream made.input c.in_ok-text.text e made.opens.reader.named (λ s. s.is) asks.narrows tried))
+          (λ writes. inr (inl writes.0))))
+          (λ long. inr (inr (
+            made.file_key,
+            made.h,
+            made.nonce,
+            left,
+            begins,
+            asks.first,
+            made.opens.right,
+            record {
+              is = subst IsPayloadRefusal (sym long.0) tt;
+              named = λ reader_told. absurd (long.1 (made.opens.reader.tells ∙ both_told _ _ _ _ asks.same.tells asks.same.steady (both_told _ _ _ _ text.tells text.steady reader_told)));
+            },
+          )))
+          c.in_err-copy_all.ensures.named);
+      written = λ told well never file plain carries for.
+          let rest : armored_rest c.in_ok-text.text ≡ whole file = text.honest file well carries in
+          let text_told = both_told _ _ _ _ text.tells text.steady told in
+          let stands = c.in_ok-stream.ensures.plaintext text_told (ap (λ s. s.ends_well) rest) plain
+          (file_for g.S.Suite.seal_of _ plain file (armored_rest c.in_ok-text.text).bytes (sym (ap (λ s. s.bytes) rest)) for) in
+          let before = never c.in_ok-stream.stream.inner.source.inner.inner.now in
+          let after = never c.copy_all.new.reader.inner.source.inner.inner.now in
+          of_error _ _ _ is
+          (by_cause inl (λ writes. inr (_, writes))
+          (c.in_err-copy_all.ensures.why (c.in_ok-stream.ensures.tells ∙ text_told) (ap (λ s. s.ends_well) stands.rest)
+          (record { same = after ∙ sym before; below = omega (arith, after) })));
       front = λ reader_told writer_told.
           let text_told = both_told _ _ _ _ text.tells text.steady reader_told in
           let told = both_told _ _ _ _ asks.same.tells asks.same.steady text_told in
@@ -104,6 +175,8 @@ returns g c =
           (made.file_key, _, _, _, asks.first, carried.0, carried.1 bytes, file.1, plain_bytes, copied.1);
       refused = tt;
       why = tt;
+      io = tt;
+      written = λ told well never file plain carries for. tt;
       front = λ reader_told writer_told.
           let text_told = both_told _ _ _ _ text.tells text.steady reader_told in
           let told = both_told _ _ _ _ asks.same.tells asks.same.steady text_told in

@@ -1,0 +1,79 @@
+-- Why a reader of a payload and a reader of a text refuse, told of the reader below.
+use Rattle.std.specs.Prelude.{◌≡◌, ◌⊎◌, ℕ, ◌+◌, ◌<◌, ◌&&◌, true, IsTrue, List, ◌++◌, length, drop}
+use Rattle.std.proofs.Common.{◌∙◌, sym, ap, subst, refl, inl, inr, arith, drop_at, length-append}
+use Rattle.std.proofs.lemmas.List.{drop-drop}
+use Rattle.age_error.specs.declared.io.Error.{Error}
+use Rattle.age_error.specs.declared.io.Error.TheVariants.{Device, BadEnd}
+use Rattle.age_error.specs.declared.io.ErrorKind.TheVariants.{Interrupted}
+use Rattle.age_io.specs.declared.traits.Read.{Ghosts}
+use Rattle.age_io.specs.Stretch.{Stretch, nothing, from_place, stretch-ext}
+use Rattle.age_io.specs.Reading.{AddsNoReason, Delivers, StandsIn, TriedAgain}
+use Rattle.age_io.proofs.Retrying.{tried-more, tried-own}
+use Rattle.age_armor.specs.Refusing.{IsTextRefusal, OrText}
+use Rattle.age_stream.specs.Payload.{Seal}
+use Rattle.age_stream.specs.FrontToEnd.{StopsAt}
+use Rattle.age_stream.specs.Keeping.{Stops}
+use Rattle.age_format.specs.HeaderV1.{HeaderValue}
+use Rattle.age_protocol.specs.Decrypting.{ReadsFront}
+
+-- from the reader of a payload to the reader of the text that it was in
+pub from_stream : {S A : Type 0} (refuses : S → Error → Type 0) (below : A → Error → Type 0) (Own : Error → Type 0) (stream : S) (input text : A) (e : Error)
+    → ((e : Error) → refuses stream e → Own e ⊎ TriedAgain below input e) → (Own (Device Interrupted) → ⊥)
+    → AddsNoReason (TriedAgain below) text input → TriedAgain refuses stream e → Own e ⊎ TriedAgain below text e
+from_stream refuses below Own stream input text e named patient narrows h =
+    elim (tried-own below Own input e patient (tried-more refuses (λ r f. Own f ⊎ TriedAgain below r f) stream input named e h)) [
+      | inl own ↦ inl own
+      | inr inner ↦ inr (narrows e inner)
+    ]
+
+-- from the reader of a text to the reader that gives it
+pub from_text : {A R : Type 0} (refuses : A → Error → Type 0) (read : Ghosts R) (text : A) (reader : R) (e : Error)
+    → ((e : Error) → refuses text e → OrText read reader e) → TriedAgain refuses text e → OrText read reader e
+from_text refuses read text reader e named h =
+    tried-own read.refuses (IsTextRefusal (read.tells reader) (read.steady reader) (read.content reader).ends_well) reader e (λ is. is)
+    (tried-more refuses (OrText read) text reader named e h)
+
+-- a reader that never refuses has no reason
+no_reason : {R : Type 0} (r : R) (e : Error) → TriedAgain (λ _ _. ⊥) r e → ⊥
+no_reason r e h = elim h [ inl plain ↦ plain.1 | inr worn ↦ worn.1 ]
+
+-- from the reader of a text to one that never refuses
+pub from_slice : {A R : Type 0} (refuses : A → Error → Type 0) (text : A) (bytes : R) (e : Error)
+    → ((e : Error) → refuses text e → IsTextRefusal true true true e ⊎ TriedAgain (λ _ _. ⊥) bytes e) → TriedAgain refuses text e → IsTextRefusal true true true e
+from_slice refuses text bytes e named h =
+    elim (tried-own (λ _ _. ⊥) (IsTextRefusal true true true) bytes e (λ is. is)
+    (tried-more refuses (λ r f. IsTextRefusal true true true f ⊎ TriedAgain (λ _ _. ⊥) r f) text bytes named e h)) [
+      | inl own ↦ own
+      | inr none ↦ absurd (no_reason bytes e none)
+    ]
+
+-- what a reader of a text that hadn't failed has left, once some bytes were read
+left-stands : (content rest left : Stretch) (place : ℕ) (front : List ℕ) → StandsIn content place rest → Delivers front rest left → 0 < length front
+    → left ≡ from_place (place + length front) content
+left-stands content rest left place front stands came some =
+    elim stands.reaches [
+      | inl is ↦
+          let bytes : drop place content.bytes ≡ front ++ left.bytes = sym (ap (λ s. s.bytes) is) ∙ came.bytes in
+          stretch-ext _ _
+          (sym (drop_at front left.bytes (length front) refl) ∙ ap (drop (length front)) (sym bytes) ∙ drop-drop (length front) place content.bytes)
+          (came.end ∙ ap (λ s. s.ends_well) is)
+      | inr none ↦
+          let gone = ap length (sym (ap (λ s. s.bytes) none) ∙ came.bytes) in
+          absurd (omega (arith, gone, some, length-append front left.bytes))
+    ]
+
+-- after the header and the nonce the rest is that of the content
+pub front-stands : (content rest left : Stretch) (place after : ℕ) (h : HeaderValue) (nonce : List ℕ) → StandsIn content place rest
+    → ReadsFront rest left place after h nonce → from_place after content ≡ left
+front-stands content rest left place after h nonce stands front =
+    let took = front.took in
+    let some : 0 < length (took.header ++ nonce) = omega (arith, length-append took.header nonce, took.sixteen.len) in
+    ap (λ n. from_place n content) took.moved ∙ sym (left-stands content rest left place (took.header ++ nonce) stands took.delivered some)
+
+-- what is said of a payload is said of another name of it
+pub stops-as : (seal_of : Seal) (key : List ℕ) (payload other : Stretch) (known told : Type 0) (e : Error) → (told → known) → (told → payload ≡ other)
+    → Stops seal_of key payload known e → Stops seal_of key other told e
+stops-as seal_of key payload other known told e by same stops = record {
+  is = stops.is;
+  named = λ t. subst (λ p. (e ≡ BadEnd) ⊎ ((number : ℕ) × StopsAt seal_of key p.bytes number e)) (same t) (stops.named (by t));
+}
