@@ -1,7 +1,7 @@
 -- What was read of a file, and what the identity's answer came to.
-use Rattle.std.proofs.Common.{◌≡◌, ◌≢◌, ◌∙◌, refl, sym, ap, inl, inr, ℕ, true, false, List, IsTrue, Some, None, Ok, Err, Result, IfErr, arith}
+use Rattle.std.proofs.Common.{◌≡◌, ◌≢◌, ◌⊎◌, ◌∙◌, refl, sym, ap, inl, inr, ℕ, true, false, List, IsTrue, Some, None, Ok, Err, Result, IfErr, arith}
 use Rattle.age_error.specs.Refusals.{IsDevice}
-use Rattle.age_error.specs.DecryptErrors.{DecryptRefusal, decrypt_refusal, decrypt_of_io}
+use Rattle.age_error.specs.DecryptErrors.{DecryptRefusal, IfIoRefusal, decrypt_refusal, decrypt_of_io}
 use Rattle.age_error.specs.declared.decrypt.DecryptError.{DecryptError}
 use Rattle.age_error.specs.declared.io.Error.{Error}
 use Rattle.age_error.specs.declared.io.Error.TheVariants as io
@@ -10,6 +10,8 @@ use Rattle.age_io.specs.declared.traits.Read.{Ghosts}
 use Rattle.age_io.specs.Stretch.{Stretch, whole}
 use Rattle.age_format.specs.HeaderV1.{HeaderValue}
 use Rattle.age_format.specs.Unwrapping.{UnwrapAnswer}
+use Rattle.age_armor.specs.Refusing.{IsTextRefusal}
+use Rattle.age_stream.specs.Keeping.{Stops}
 use Rattle.age_stream.specs.Reader.{plain_rest_of}
 use Rattle.age_stream.specs.declared.reader.StreamReader.{StreamReader}
 use Rattle.age_protocol.specs.Answering.{decided}
@@ -20,11 +22,13 @@ use Rattle.age_protocol.specs.WholeFiles.{LacksFront, RefusesPayload, RefusesRes
 
 -- of a reader whose device never fails
 pub lacks_front : {R : Type 0} (read : Ghosts R) (old last : R) (e : DecryptRefusal) (start : Stretch) → RefusesFront read old last e
-    → IsTrue (read.tells old) → read.rest old ≡ start → read.place old ≡ 0 → read.faults old ≡ 0 → read.faults last ≡ 0 → LacksFront start e
-lacks_front read old last e start refuses told rest_is place_is none still = record {
+    → IsTrue (read.tells old) → read.rest old ≡ start → read.place old ≡ 0 → read.faults old ≡ 0 → read.faults last ≡ 0
+    → IfIoRefusal (λ f. (f ≡ io.UnexpectedEof) ⊎ IsTextRefusal true true true f) e → LacksFront start e
+lacks_front read old last e start refuses told rest_is place_is none still named = record {
   left = read.rest last;
   place = read.place last;
   why = rw (rest_is, place_is, none, still) at (refuses.why told);
+  named = named;
   no_device = λ device. omega (arith, refuses.device device, none, still);
 }
 
@@ -51,6 +55,7 @@ module _ {S R : Type 0} {suite : SuiteGhosts S} {read : Ghosts R} where
       error = io.OutOfMemory;
       is = right.1;
       no_device = λ device. device;
+      named = inl tt;
       bad = λ other. absurd (other refl);
     },
   )
@@ -58,11 +63,13 @@ module _ {S R : Type 0} {suite : SuiteGhosts S} {read : Ghosts R} where
   -- the reader that was given met an end that isn't clean
   pub refuses_payload : (file_key : List ℕ) (h : HeaderValue) (nonce : List ℕ) (input : R) (r : StreamReader S R suite read) (e : Error)
       → OpensFile file_key h nonce input r → (IsDevice e → ⊥) → (e ≢ io.OutOfMemory → (plain_rest_of r).ends_well ≡ false)
+      → IsTextRefusal true true true e ⊎ Stops suite.seal_of (payload_key file_key nonce) (read.rest input) (Unit {0}) e
       → RefusesPayload suite.seal_of (payload_key file_key nonce) (read.rest input) (decrypt_refusal (decrypt_of_io e))
-  refuses_payload file_key h nonce input r e opens none badly = record {
+  refuses_payload file_key h nonce input r e opens none badly named = record {
     error = e;
     is = refl;
     no_device = none;
+    named = named;
     bad = λ other plain bytes within last is.
         let all : plain_rest_of r ≡ whole plain = opens.reader.honest plain bytes within last is in
         let well : true ≡ false = sym (ap (λ s. s.ends_well) all) ∙ badly other in

@@ -5,6 +5,7 @@ use Rattle.std.proofs.lemmas.List.{drop-drop}
 use Rattle.age_error.specs.declared.io.Error.{Error}
 use Rattle.age_error.specs.declared.io.Error.TheVariants.{Device, BadEnd}
 use Rattle.age_error.specs.declared.io.ErrorKind.TheVariants.{Interrupted}
+use Rattle.age_error.specs.DecryptErrors.{DecryptRefusal, Io, IfIoRefusal}
 use Rattle.age_io.specs.declared.traits.Read.{Ghosts}
 use Rattle.age_io.specs.Stretch.{Stretch, nothing, from_place, stretch-ext}
 use Rattle.age_io.specs.Reading.{AddsNoReason, Delivers, StandsIn, TriedAgain}
@@ -77,3 +78,9 @@ stops-as seal_of key payload other known told e by same stops = record {
   is = stops.is;
   named = λ t. subst (λ p. (e ≡ BadEnd) ⊎ ((number : ℕ) × StopsAt seal_of key p.bytes number e)) (same t) (stops.named (by t));
 }
+
+-- what holds of a reader's refusal
+pub io_refusal_weaker : (Holds More : Error → Type 0) → ((e : Error) → Holds e → More e) → (refusal : DecryptRefusal) → IfIoRefusal Holds refusal
+    → IfIoRefusal More refusal
+io_refusal_weaker Holds More wider (Io e) h = wider e h
+io_refusal_weaker Holds More wider _ h = tt

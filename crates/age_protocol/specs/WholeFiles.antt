@@ -2,18 +2,20 @@
 use Rattle.std.specs.Prelude.{◌≡◌, ◌≢◌, ◌⊎◌, ℕ, ◌^◌, ◌<◌, ◌≤◌, true, List, length, IsTrue, Some, Result, Ok, Err, MatchResult}
 use Rattle.age_error.specs.Bytes.{AreBytes}
 use Rattle.age_error.specs.Refusals.{IsDevice}
-use Rattle.age_error.specs.DecryptErrors.{DecryptRefusal, InvalidMac, OutOfMemory, decrypt_refusal, decrypt_of_io, IsDeviceRefusal}
+use Rattle.age_error.specs.DecryptErrors.{DecryptRefusal, InvalidMac, OutOfMemory, decrypt_refusal, decrypt_of_io, IfIoRefusal, IsDeviceRefusal}
 use Rattle.age_error.specs.EncryptErrors.{EncryptRefusal, encrypt_refusal, encrypt_of_io}
 use Rattle.age_error.specs.declared.io.Error.{Error}
 use Rattle.age_error.specs.declared.io.Error.TheVariants as io
 use Rattle.age_io.specs.Stretch.{Stretch, whole}
 use Rattle.age_armor.specs.declared.format.Format.{Format}
 use Rattle.age_armor.specs.Armor.{Carries}
+use Rattle.age_armor.specs.Refusing.{IsTextRefusal}
 use Rattle.age_armor.specs.Writing.{text_of}
 use Rattle.age_armor.specs.Delivered.{delivered, stretch_of}
 use Rattle.age_format.specs.Stanza.{StanzaValue}
 use Rattle.age_format.specs.HeaderV1.{HeaderValue, header_mac}
 use Rattle.age_format.specs.Unwrapping.{UnwrapAnswer, Unwraps}
+use Rattle.age_stream.specs.Keeping.{Stops}
 use Rattle.age_stream.specs.Sending.{RefusesChunk}
 use Rattle.age_stream.specs.Payload.{Seal, payload, LastIsNoMiddle}
 use Rattle.age_protocol.specs.Answering.{decided}
@@ -68,6 +70,8 @@ pub record LacksFront (start : Stretch) (refusal : DecryptRefusal) : Type 0 wher
   pub left : Stretch
   pub place : ℕ
   pub why : WhyNoFront 0 0 start left 0 place refusal
+  -- where a read was refused, the bytes had an end too early, or a fault as a text
+  pub named : IfIoRefusal (λ e. (e ≡ io.UnexpectedEof) ⊎ IsTextRefusal true true true e) refusal
   pub no_device : IsDeviceRefusal refusal → ⊥
 
 -- What is left after the nonce is no payload of a plaintext under this key, or memory was refused.
@@ -75,6 +79,8 @@ pub record RefusesPayload (seal_of : Seal) (key : List ℕ) (left : Stretch) (re
   pub error : Error
   pub is : refusal ≡ decrypt_refusal (decrypt_of_io error)
   pub no_device : IsDevice error → ⊥
+  -- the text has a fault, or the definition names this of what is left
+  pub named : IsTextRefusal true true true error ⊎ Stops seal_of key left (Unit {0}) error
   pub bad : error ≢ io.OutOfMemory → (plain : List ℕ) → AreBytes plain → length plain ≤ 2 ^ 60
       → LastIsNoMiddle seal_of key plain → left ≢ whole (payload seal_of key plain)
 

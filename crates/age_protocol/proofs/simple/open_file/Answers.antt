@@ -1,10 +1,17 @@
-use Rattle.std.proofs.Common.{rules, ◌≡◌, ◌∙◌, refl, sym, ap, subst, inl, inr, arith}
+use Rattle.std.proofs.Common.{rules, ◌≡◌, ◌∙◌, refl, sym, ap, subst, true, inl, inr, arith}
 use Rattle.age_error.specs.Bytes.{AreBytes}
 use Rattle.age_error.specs.DecryptErrors.{decrypt_of_io}
-use Rattle.age_io.specs.Stretch.{whole, stretch-ext}
+use Rattle.age_io.specs.Stretch.{whole, from_place, stretch-ext}
 use Rattle.age_armor.specs.Armor.{Carries}
 use Rattle.age_armor.specs.Delivered.{stretch_of, delivered}
-use Rattle.age_armor.specs.Reader.{armored_rest}
+use Rattle.age_armor.specs.DeliveredLaws.{stands_by}
+use Rattle.age_armor.specs.Reader.{armored_rest, armored_content, place_of, refuses_of}
+use Rattle.age_armor.specs.Refusing.{IsTextRefusal}
+use Rattle.age_stream.specs.Reader.{refuses_of as stream_refuses}
+use Rattle.age_protocol.specs.Decryptor.{header_of, nonce_of, input_of}
+use Rattle.age_protocol.specs.File.{payload_key}
+use Rattle.age_protocol.proofs.Decrypted.{by_cause}
+use Rattle.age_protocol.proofs.Reasons.{from_slice, from_stream, front-stands, io_refusal_weaker, stops-as}
 use Rattle.age_protocol.specs.WholeFiles.{read_of}
 use Rattle.age_protocol.proofs.Fronts.{of_error}
 use Rattle.age_protocol.proofs.Opened.{lacks_front, decided_key, refuses_rest, refuses_payload}
@@ -16,7 +23,9 @@ returns-in_err-decryptor-clause-refused g c =
     c.in_ok-input.ensures.rest ∙ ap (λ s. stretch_of (delivered s.bytes s.ends_well)) c.new.ensures.rest in
     let (last, refuses) = c.in_err-decryptor.ensures.refused in
     of_error _ _ _ c.from_residual-in_err-decryptor.ensures.1
-    (inl (refl, inr (lacks_front _ c.in_ok-input.input last _ _ refuses refl start c.in_ok-input.ensures.place refl refl)))
+    (inl (refl, inr (lacks_front _ c.in_ok-input.input last _ _ refuses refl start c.in_ok-input.ensures.place refl refl
+    (io_refusal_weaker _ _ (λ e. by_cause (λ early. inl early.0) (λ tried. inr (from_slice refuses_of c.in_ok-input.input c.new.result e c.in_ok-input.ensures.named tried)))
+    _ refuses.io))))
 
 pub returns-in_err-reader-clause-refused : goal.returns-in_err-reader-clause-refused
 returns-in_err-reader-clause-refused g c =
@@ -41,6 +50,11 @@ returns-in_err-read_to_end-clause-refused g c =
     let (answer, asked, decrypts) = c.in_ok-reader.ensures in
     let (key, is, opens) = decided_key answer _ _ _ _ decrypts in
     let read = c.in_err-read_to_end.ensures in
+    let e = c.in_err-read_to_end.field-0.0 in
+    let input = c.in_ok-input.input in
+    let decryptor = c.in_ok-decryptor.decryptor in
+    let front = c.in_ok-decryptor.ensures in
+    let after = input_of decryptor in
     of_error _ (decrypt_of_io c.in_err-read_to_end.field-0.0) _ c.from_residual-in_err-read_to_end.ensures.1 (inr (record {
       h = _;
       nonce = _;
@@ -52,7 +66,18 @@ returns-in_err-read_to_end-clause-refused g c =
       why = rw is (inr (
         opens.right,
         refuses_payload key _ _ _ _ _ opens (λ device. omega (arith, read.keeps.device device))
-            (λ other. read.cause refl other (record { same = refl; below = omega arith })),
+            (λ other. read.cause refl other (record { same = refl; below = omega arith }))
+            (by_cause (λ memory. inl (subst (IsTextRefusal true true true) (sym memory) tt))
+            (λ tried.
+            by_cause
+            (λ own. inr (stops-as g.S.Suite.seal_of (payload_key key (nonce_of decryptor)) _ (armored_rest after) _ _ e (λ known. refl)
+            (λ known.
+            ap (from_place (place_of after)) (front.keeps.content refl)
+            ∙ front-stands (armored_content input) (armored_rest input) (armored_rest after) (place_of input) (place_of after) (header_of decryptor) (nonce_of decryptor)
+            (stands_by (armored_content input) (armored_rest input) (place_of input) (input.inside refl refl) (input.follows refl refl)) (front.front refl)) own))
+            (λ text. inl (from_slice refuses_of input c.new.result e c.in_ok-input.ensures.named text))
+            (from_stream stream_refuses refuses_of _ c.in_ok-reader.reader after input e opens.reader.named (λ s. s.is) front.narrows tried))
+            read.keeps.why),
       ));
     }))
 
