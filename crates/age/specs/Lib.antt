@@ -31,6 +31,8 @@ pub use Rattle.age_suite.specs.Draw
 -- readers and writers: age_io
 pub use Rattle.age_io.specs.Stretch
 pub use Rattle.age_io.specs.Reading
+pub use Rattle.age_io.specs.Keeping
+pub use Rattle.age_io.proofs.Retrying
 pub use Rattle.age_io.specs.Filling
 pub use Rattle.age_io.specs.Failing
 pub use Rattle.age_io.specs.Writing
@@ -55,6 +57,7 @@ pub use Rattle.age_armor.specs.Delivered
 pub use Rattle.age_armor.specs.DeliveredLaws as ArmorDeliveredLaws
 pub use Rattle.age_armor.specs.Stages as ArmorStages
 pub use Rattle.age_armor.specs.Ending as ArmorEnding
+pub use Rattle.age_armor.specs.Refusing as ArmorRefusing
 pub use Rattle.age_armor.specs.Reader as ArmorReader
 pub use Rattle.age_armor.specs.Seeking as ArmorSeeking
 pub use Rattle.age_armor.specs.Writing as ArmorWriting
@@ -64,6 +67,7 @@ pub use Rattle.age_stream.specs.Chunks
 pub use Rattle.age_stream.specs.FrontToEnd
 pub use Rattle.age_stream.specs.Answering as StreamAnswering
 pub use Rattle.age_stream.specs.Targets as StreamTargets
+pub use Rattle.age_stream.specs.Keeping as StreamKeeping
 pub use Rattle.age_stream.specs.Reader as StreamReader
 pub use Rattle.age_stream.specs.ReadingLaws as StreamReadingLaws
 pub use Rattle.age_stream.specs.Sending as StreamSending

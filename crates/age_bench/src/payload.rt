@@ -1,6 +1,10 @@
 //! The commands on payloads under a given key.
-ghost use Rattle.std.specs.Prelude.{◌≡◌, ℕ, IsTrue, ◌&&◌, List, IfOk, OnOk};
-ghost use Rattle.age.specs.Stretch.{whole};
+ghost use Rattle.std.specs.Prelude.{◌≡◌, ◌⊎◌, ℕ, IsTrue, ◌&&◌, List, IfOk, IfErr, OnOk};
+ghost use Rattle.age.specs.ErrorVariants.{OutOfMemory};
+ghost use Rattle.age.specs.FileErrors.{IfIo, IsIoError};
+ghost use Rattle.age.specs.Stretch.{from_place, whole};
+ghost use Rattle.age.specs.StreamKeeping.{OwnOrInner, Stops};
+ghost use Rattle.age.specs.Writing.{HandsOn};
 ghost use Rattle.age.specs.Payload.{payload};
 ghost use Rattle.age.specs.Chunks.{delivered};
 ghost use Rattle.age_bench.specs.Bench.{bench_seal, bench_opened};
@@ -61,6 +65,10 @@ pub fn open_all<R: Read, W: Write>(
         ((plain : List ℕ) × (R.rest reader.old ≡ whole (payload bench_seal key plain)) × W.appended writer.old plain writer.new) }
     ensures front { IsTrue (R.tells reader.old && R.steady reader.old) → IsTrue (W.tells writer.old) →
         AppendsFront W.appended (delivered bench_opened key 0 (R.rest reader.old)).bytes writer.old writer.new }
+    // Why it refuses: for want of memory, as the writer does, for what is wrong with the payload, or as the reader does.
+    ensures io { IfErr result IsIoError }
+    ensures why { IfErr result (IfIo (λ e. (e ≡ OutOfMemory) ⊎ HandsOn W.refuses writer.old e ⊎ OwnOrInner ⟦<R as Read>⟧
+        (Stops bench_seal key (from_place (R.place reader.old) (R.content reader.old)) (IsTrue (R.tells reader.old && R.steady reader.old))) reader.old e)) }
 {
     let mut stream = StreamReader::<BenchSuite, &mut R>::with_payload_key(alloc, key, reader)?;
     copy_all(alloc, &mut stream, writer)?;

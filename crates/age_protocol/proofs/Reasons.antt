@@ -1,5 +1,5 @@
 -- Why a reader of a payload and a reader of a text refuse, told of the reader below.
-use Rattle.std.specs.Prelude.{◌≡◌, ◌⊎◌, ℕ, ◌+◌, ◌<◌, ◌&&◌, true, IsTrue, List, ◌++◌, length, drop}
+use Rattle.std.specs.Prelude.{◌≡◌, ◌⊎◌, ℕ, ◌+◌, ◌<◌, true, List, ◌++◌, length, drop}
 use Rattle.std.proofs.Common.{◌∙◌, sym, ap, subst, refl, inl, inr, arith, drop_at, length-append}
 use Rattle.std.proofs.lemmas.List.{drop-drop}
 use Rattle.age_error.specs.declared.io.Error.{Error}
@@ -7,7 +7,7 @@ use Rattle.age_error.specs.declared.io.Error.TheVariants.{Device, BadEnd}
 use Rattle.age_error.specs.declared.io.ErrorKind.TheVariants.{Interrupted}
 use Rattle.age_error.specs.DecryptErrors.{DecryptRefusal, Io, IfIoRefusal}
 use Rattle.age_io.specs.declared.traits.Read.{Ghosts}
-use Rattle.age_io.specs.Stretch.{Stretch, nothing, from_place, stretch-ext}
+use Rattle.age_io.specs.Stretch.{Stretch, from_place, stretch-ext}
 use Rattle.age_io.specs.Reading.{AddsNoReason, Delivers, StandsIn, TriedAgain}
 use Rattle.age_io.proofs.Retrying.{tried-more, tried-own}
 use Rattle.age_armor.specs.Refusing.{IsTextRefusal, OrText}

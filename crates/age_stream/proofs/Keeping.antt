@@ -166,12 +166,12 @@ module _ {S R : Type 0} {suite : SuiteGhosts S} {read : Ghosts R} where
   pub sought-why : (r : StreamReader S R suite read) (e : Error) → OwnOrInner read IsPayloadSeekRefusal r.inner e → IsSeekRefusal e ⊎ refuses_of r e
   sought-why r e h = elim h [
     | inl own ↦ elim own [
-        | inl seek ↦ inl seek
-        | inr payload ↦ elim payload [
-            | inl bad ↦ inr (inr (inl (subst (stops_of r) (sym bad) (record { is = tt; named = λ told. inl refl }))))
-            | inr memory ↦ inr (inr (inl (subst (stops_of r) (sym memory) (record { is = tt; named = λ told. inr (0, tt) }))))
-          ]
+      | inl seek ↦ inl seek
+      | inr payload ↦ elim payload [
+        | inl bad ↦ inr (inr (inl (subst (stops_of r) (sym bad) (record { is = tt; named = λ told. inl refl }))))
+        | inr memory ↦ inr (inr (inl (subst (stops_of r) (sym memory) (record { is = tt; named = λ told. inr (0, tt) }))))
       ]
+    ]
     | inr inner ↦ inr (inr (inr inner))
   ]
 

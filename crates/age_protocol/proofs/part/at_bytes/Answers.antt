@@ -58,14 +58,14 @@ returns-in-Err-write_part-clause-io g c =
     elim c.in-Err-write_part.ensures.named [
       | inl memory ↦ inl memory
       | inr other ↦ elim other [
-          | inl reads ↦ elim reads [
-              | inl seek ↦ inr (inr (inr (inl seek)))
-              | inr tried ↦ elim (from_stream refuses_of g.T.Read.refuses _ c.in-Ok.stream opened.input c.args.bytes c.in-Err-write_part.e reader.named (λ s. s.is)
-                    opened.asks.narrows tried) [
-                  | inl own ↦ inr (inr (inr (inr own.is)))
-                  | inr text ↦ inr (inl text)
-                ]
-            ]
-          | inr writes ↦ inr (inr (inl (c.args.count, writes)))
+        | inl reads ↦ elim reads [
+          | inl seek ↦ inr (inr (inr (inl seek)))
+          | inr tried ↦ elim (from_stream refuses_of g.T.Read.refuses _ c.in-Ok.stream opened.input c.args.bytes c.in-Err-write_part.e reader.named (λ s. s.is)
+              opened.asks.narrows tried) [
+                | inl own ↦ inr (inr (inr (inr own.is)))
+                | inr text ↦ inr (inl text)
+              ]
         ]
+        | inr writes ↦ inr (inr (inl (c.args.count, writes)))
+      ]
     ]

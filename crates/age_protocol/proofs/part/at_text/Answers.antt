@@ -60,11 +60,11 @@ returns-in-Ok-clause-io g c =
     (io_weaker _ _ (λ e why. elim why [
       | inl memory ↦ inl memory
       | inr other ↦ elim other [
-          | inl text ↦ inr (inr (inr (inl (from_slice refuses_of bytes c.new.result e c.in-Ok.ensures.named text))))
-          | inr rest ↦ elim rest [
-              | inl writer ↦ inr (inl writer)
-              | inr asked ↦ elim asked [ inl seek ↦ inr (inr (inl seek)) | inr payload ↦ inr (inr (inr (inr payload))) ]
-            ]
+        | inl text ↦ inr (inr (inr (inl (from_slice refuses_of bytes c.new.result e c.in-Ok.ensures.named text))))
+        | inr rest ↦ elim rest [
+          | inl writer ↦ inr (inl writer)
+          | inr asked ↦ elim asked [ inl seek ↦ inr (inr (inl seek)) | inr payload ↦ inr (inr (inr (inr payload))) ]
         ]
+      ]
     ]))
     c.at_bytes.ensures.io

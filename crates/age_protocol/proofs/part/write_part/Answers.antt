@@ -85,9 +85,9 @@ returns-in-Ok-clause-named g c =
     (λ e why. elim why [
       | inl memory ↦ inl memory
       | inr other ↦ inr (elim other [
-          | inl reads ↦ inl (inr (tried-narrows refuses_of reader c.seek.new.self c.in-Ok.ensures.seeks.narrows e reads))
-          | inr writes ↦ inr writes
-        ])
+        | inl reads ↦ inl (inr (tried-narrows refuses_of reader c.seek.new.self c.in-Ok.ensures.seeks.narrows e reads))
+        | inr writes ↦ inr writes
+      ])
     ])
     c.copy_some.ensures.named
 

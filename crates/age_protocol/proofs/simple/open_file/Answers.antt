@@ -23,9 +23,12 @@ returns-in_err-decryptor-clause-refused g c =
     c.in_ok-input.ensures.rest ∙ ap (λ s. stretch_of (delivered s.bytes s.ends_well)) c.new.ensures.rest in
     let (last, refuses) = c.in_err-decryptor.ensures.refused in
     of_error _ _ _ c.from_residual-in_err-decryptor.ensures.1
-    (inl (refl, inr (lacks_front _ c.in_ok-input.input last _ _ refuses refl start c.in_ok-input.ensures.place refl refl
-    (io_refusal_weaker _ _ (λ e. by_cause (λ early. inl early.0) (λ tried. inr (from_slice refuses_of c.in_ok-input.input c.new.result e c.in_ok-input.ensures.named tried)))
-    _ refuses.io))))
+    (inl (
+      refl,
+      inr (lacks_front _ c.in_ok-input.input last _ _ refuses refl start c.in_ok-input.ensures.place refl refl
+          (io_refusal_weaker _ _ (λ e. by_cause (λ early. inl early.0) (λ tried. inr (from_slice refuses_of c.in_ok-input.input c.new.result e c.in_ok-input.ensures.named tried)))
+          _ refuses.io)),
+    ))
 
 pub returns-in_err-reader-clause-refused : goal.returns-in_err-reader-clause-refused
 returns-in_err-reader-clause-refused g c =

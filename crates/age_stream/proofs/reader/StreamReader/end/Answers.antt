@@ -184,10 +184,13 @@ returns-then-count-gt0-clause-keeps g c =
           let size : length text ≡ c.fill-answer.new.filled = length-take-le c.fill-answer.new.filled c.fill-answer.new.buf filled.count in
           let content = read.content self.inner in
           let sound = self.sound told in
-          inr (self.number, refuses-after g.S.Suite.seal_of g.S.Suite.opened g.met.S.Suite.cipher self.key self.key_bytes
-          (payload_at (read.place self.inner) self.taken content) (read.rest self.inner) (read.rest after)
-          self.number self.taken self.last self.at self.chunk.items text
-          (All-drop (λ x. x < 2 ^ 8) (read.place self.inner - self.taken) content.bytes (g.met.R.Read.are_bytes self.inner (and-left _ _ told)))
-          (sound.is_held c.requires.held) c.requires.last (sound.is_past c.requires.good c.requires.held)
-          (filled.bytes (and-left _ _ told)) (omega (arith, size, c.if-count-gt0.true)));
+          inr (
+            self.number,
+            refuses-after g.S.Suite.seal_of g.S.Suite.opened g.met.S.Suite.cipher self.key self.key_bytes
+                (payload_at (read.place self.inner) self.taken content) (read.rest self.inner) (read.rest after)
+                self.number self.taken self.last self.at self.chunk.items text
+                (All-drop (λ x. x < 2 ^ 8) (read.place self.inner - self.taken) content.bytes (g.met.R.Read.are_bytes self.inner (and-left _ _ told)))
+                (sound.is_held c.requires.held) c.requires.last (sound.is_past c.requires.good c.requires.held)
+                (filled.bytes (and-left _ _ told)) (omega (arith, size, c.if-count-gt0.true)),
+          );
     })

@@ -249,10 +249,13 @@ returns-in-Err-open_chunk-clause-keeps g c =
           let sealed = (payload_at (read.place self.inner) self.taken (read.content self.inner)).bytes in
           elim judged [
             | inl want ↦ inr (0, subst (StopsAt g.S.Suite.seal_of self.key sealed 0) (sym want) tt)
-            | inr bad ↦ inr (self.number, refuses-chunk g.S.Suite.seal_of g.S.Suite.opened g.met.S.Suite.cipher self.key self.key_bytes
-                (read.content self.inner) (read.rest self.inner) (read.rest after) (read.place self.inner) self.taken self.number text e
-                (g.met.R.Read.are_bytes self.inner t) (g.met.R.Read.stands self.inner t (and-right _ _ told)) sound.fits before.stood
-                sound.inside.front took bad)
+            | inr bad ↦ inr (
+              self.number,
+              refuses-chunk g.S.Suite.seal_of g.S.Suite.opened g.met.S.Suite.cipher self.key self.key_bytes
+                  (read.content self.inner) (read.rest self.inner) (read.rest after) (read.place self.inner) self.taken self.number text e
+                  (g.met.R.Read.are_bytes self.inner t) (g.met.R.Read.stands self.inner t (and-right _ _ told)) sound.fits before.stood
+                  sound.inside.front took bad,
+            )
           ];
     })
 
