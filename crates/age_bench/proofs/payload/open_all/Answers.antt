@@ -1,4 +1,4 @@
-use Rattle.std.specs.Prelude.{◌≡◌, ◌⊎◌, ◌&&◌, ℕ, IsTrue, Result, Ok, Err, IfErr, IsErrAnd}
+use Rattle.std.specs.Prelude.{◌≡◌, ◌⊎◌, ◌&&◌, IsTrue, Result, Ok, Err, IfErr, IsErrAnd}
 use Rattle.std.proofs.Common.{◌∙◌, refl, sym, subst, inl, inr}
 use Rattle.age.specs.Stretch.{from_place, whole, stretch-ext}
 use Rattle.age.specs.Chunks.{delivered}
@@ -8,8 +8,6 @@ use Rattle.age.specs.ErrorVariants.{Device, OutOfMemory}
 use Rattle.age.specs.ErrorKindVariants.{Interrupted}
 use Rattle.age.specs.FileErrorVariants.{Io}
 use Rattle.age.specs.FileErrors.{IfIo}
-use Rattle.age.specs.Copying.{CopyRefuses, RefusesAll}
-use Rattle.age.specs.Writing.{HandsOn}
 use Rattle.age.specs.Reading.{TriedAgain}
 use Rattle.age.specs.Retrying.{tried-own, tried-more}
 use Rattle.age.specs.StreamKeeping.{IsPayloadRefusal, Stops}
@@ -32,21 +30,14 @@ pub returns-in_err-stream-clause-why : goal.returns-in_err-stream-clause-why
 returns-in_err-stream-clause-why g c = io_error _ _ c.in_err-stream.field-0.0 c.from_residual.ensures.1 (inl c.in_err-stream.ensures.memory)
 
 -- why copying from a reader of a payload refuses
-why_copied : {S R : Type 0} (refuses : S → Error → Type 0) (below : R → Error → Type 0) (Own Writes : Error → Type 0) (Long : Type 0) (stream : S) (inner : R) (e : Error)
+why_copied : {S R Some All Long : Type 0} (refuses : S → Error → Type 0) (below : R → Error → Type 0) (Own : Error → Type 0) (stream : S) (inner : R) (e : Error)
     → ((e : Error) → refuses stream e → Own e ⊎ TriedAgain below inner e) → (Own (Device Interrupted) → ⊥) → (Long → Own e)
-    → CopyRefuses (TriedAgain refuses stream) Writes e ⊎ Long → (e ≡ OutOfMemory) ⊎ Writes e ⊎ Own e ⊎ TriedAgain below inner e
-why_copied refuses below Own Writes Long stream inner e named patient too_long (inr long) = inr (inr (inl (too_long long)))
-why_copied refuses below Own Writes Long stream inner e named patient too_long (inl (inl memory)) = inl memory
-why_copied refuses below Own Writes Long stream inner e named patient too_long (inl (inr (inr writes))) = inr (inl writes)
-why_copied refuses below Own Writes Long stream inner e named patient too_long (inl (inr (inl reads))) =
+    → ((e ≡ OutOfMemory) ⊎ TriedAgain refuses stream e ⊎ (Some × All)) ⊎ Long → (e ≡ OutOfMemory) ⊎ Some ⊎ Own e ⊎ TriedAgain below inner e
+why_copied refuses below Own stream inner e named patient too_long (inr long) = inr (inr (inl (too_long long)))
+why_copied refuses below Own stream inner e named patient too_long (inl (inl memory)) = inl memory
+why_copied refuses below Own stream inner e named patient too_long (inl (inr (inr writes))) = inr (inl writes.0)
+why_copied refuses below Own stream inner e named patient too_long (inl (inr (inl reads))) =
     inr (inr (tried-own below Own inner e patient (tried-more refuses (λ r f. Own f ⊎ TriedAgain below r f) stream inner named e reads)))
-
--- what is refused of all that was given is refused of some
-written : {W : Type 0} {refuses : W → ℕ → Error → Type 0} {writer : W} {told : Type 0} {size : ℕ} {e : Error} {A B : Type 0}
-    → A ⊎ RefusesAll refuses writer told size e ⊎ B → A ⊎ HandsOn refuses writer e ⊎ B
-written (inl a) = inl a
-written (inr (inl all)) = inr (inl all.0)
-written (inr (inr b)) = inr (inr b)
 
 pub returns-in_err-copy_all-clause-why : goal.returns-in_err-copy_all-clause-why
 returns-in_err-copy_all-clause-why g c =
@@ -56,6 +47,6 @@ returns-in_err-copy_all-clause-why g c =
     let e = c.in_err-copy_all.field-0.0 in
     let own = Stops bench_seal c.args.key (from_place (read.place reader) (read.content reader)) (IsTrue (read.tells reader && read.steady reader)) in
     io_error _ _ e c.from_residual-in_err-copy_all.ensures.1
-    (written (why_copied refuses_of read.refuses own _ _ c.in_ok-stream.stream reader e made.named (λ s. s.is)
+    (why_copied refuses_of read.refuses own c.in_ok-stream.stream reader e made.named (λ s. s.is)
     (λ long. record { is = subst IsPayloadRefusal (sym long.0) tt; named = λ told. absurd (long.1 (made.tells ∙ told)) })
-    c.in_err-copy_all.ensures.named))
+    c.in_err-copy_all.ensures.named)
