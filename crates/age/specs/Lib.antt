@@ -72,6 +72,7 @@ pub use Rattle.age_stream.specs.Reader as StreamReader
 pub use Rattle.age_stream.specs.ReadingLaws as StreamReadingLaws
 pub use Rattle.age_stream.specs.Sending as StreamSending
 pub use Rattle.age_stream.specs.Writing as StreamWriting
+pub use Rattle.age_stream.specs.WritingLaws as StreamWritingLaws
 pub use Rattle.age_stream.specs.Laws as StreamLaws
 -- headers: age_format
 pub use Rattle.age_format.specs.Bytes as FormatBytes

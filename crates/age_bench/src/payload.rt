@@ -1,9 +1,11 @@
 //! The commands on payloads under a given key.
-ghost use Rattle.std.specs.Prelude.{◌≡◌, ◌⊎◌, ℕ, IsTrue, ◌&&◌, List, IfOk, IfErr, OnOk};
+ghost use Rattle.std.specs.Prelude.{◌≡◌, ◌⊎◌, ℕ, length, IsTrue, ◌&&◌, List, IfOk, IfErr, OnOk};
 ghost use Rattle.age.specs.ErrorVariants.{OutOfMemory};
 ghost use Rattle.age.specs.FileErrors.{IfIo, IsIoError};
 ghost use Rattle.age.specs.Stretch.{from_place, whole};
 ghost use Rattle.age.specs.StreamKeeping.{OwnOrInner, Stops};
+ghost use Rattle.age.specs.Reading.{IsQuiet};
+ghost use Rattle.age.specs.WholeFiles.{RefusesFile};
 ghost use Rattle.age.specs.Writing.{HandsOn};
 ghost use Rattle.age.specs.Payload.{payload};
 ghost use Rattle.age.specs.Chunks.{delivered};
@@ -26,9 +28,13 @@ pub fn seal_all<R: Read, W: Write>(
     reader: &mut R,
     writer: &mut W,
 ) -> Result<(), FileError>
-    ensures { IsTrue (R.tells reader.old) → IsTrue (W.tells writer.old) → OnOk result
+    ensures payload { IsTrue (R.tells reader.old) → IsTrue (W.tells writer.old) → OnOk result
         (IsTrue (R.rest reader.old).ends_well
         × W.appended writer.old (payload bench_seal key (R.rest reader.old).bytes) writer.new) }
+    // Why it refuses, where the reader has no fault: for want of memory, a plaintext past 2^60 bytes, or as the writer does.
+    ensures io { IfErr result IsIoError }
+    ensures why { IsTrue (R.tells reader.old) → IsTrue (R.rest reader.old).ends_well → IsQuiet (R.faults reader.old) (R.faults reader.new) →
+        IfErr result (IfIo (RefusesFile W.refuses writer.old (length (R.rest reader.old).bytes))) }
 {
     let _out = seal_into::<R, &mut W>(alloc, key, reader, writer)?;
     Ok(())
@@ -41,8 +47,10 @@ fn seal_into<R: Read, W: Write + Drop>(
     reader: &mut R,
     writer: W,
 ) -> Result<W, Error>
-    ensures { IsTrue (R.tells reader.old) → IsTrue (W.tells writer) → IfOk result (λ out. IsTrue (R.rest reader.old).ends_well
+    ensures payload { IsTrue (R.tells reader.old) → IsTrue (W.tells writer) → IfOk result (λ out. IsTrue (R.rest reader.old).ends_well
         × W.appended writer (payload bench_seal key (R.rest reader.old).bytes) out) }
+    ensures why { IsTrue (R.tells reader.old) → IsTrue (R.rest reader.old).ends_well → IsQuiet (R.faults reader.old) (R.faults reader.new) →
+        IfErr result (RefusesFile W.refuses writer (length (R.rest reader.old).bytes)) }
 {
     let mut stream = StreamWriter::<BenchSuite, W>::with_payload_key(alloc, key, writer)?;
     copy_all(alloc, reader, &mut stream)?;

@@ -15,8 +15,8 @@ pub record SameReader {R : Type 0} (read : Ghosts R) (old new : R) : Type 0 wher
   pub content : IsTrue (read.tells old) → read.content new ≡ read.content old
 
 -- What a call keeps of a reader whose interruptions it tries again: it is the same, wherever it stands, an error that says
--- that the device failed needs a device that failed, and a refusal is one that it might make before
--- the call. What it may refuse with after a success, tried again, it might before.
+-- that the device failed needs a device that failed, and a refusal is one that it might make before the call. What it may
+-- refuse with after a success, tried again, it might before.
 pub record KeepsReader {R T : Type 0} (read : Ghosts R) (may : R → Error → Type 0) (old new : R) (result : Result T Error) : Type 0 where
   pub same : SameReader read old new
   pub device : IfErr result (λ e. IsDevice e → read.faults old < read.faults new)

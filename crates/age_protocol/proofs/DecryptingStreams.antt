@@ -2,7 +2,7 @@
 use Rattle.std.specs.Prelude.{◌≡◌, ◌⊎◌, ◌&&◌, ℕ, IsTrue, List, Result, Ok, Err, OnOk, IsErrAnd}
 use Rattle.std.proofs.Common.{inl, inr}
 use Rattle.std.proofs.lemmas.Result.{on_ok_weaker, IfErr-weaker}
-use Rattle.age_error.specs.DecryptErrors.{DecryptRefusal}
+use Rattle.age_error.specs.DecryptErrors.{DecryptRefusal, IfIoRefusal}
 use Rattle.age_suite.specs.declared.suite.Suite.{Ghosts as SuiteGhosts}
 use Rattle.age_io.specs.declared.traits.Read.{Ghosts as ReadGhosts}
 use Rattle.age_io.specs.declared.traits.Write.{Ghosts as WriteGhosts}
@@ -15,7 +15,7 @@ use Rattle.age_protocol.specs.Texts.{RefusesText, BeginsText, RefusesKey}
 use Rattle.age_protocol.specs.DecryptingStreams.{DecryptsAll, DecryptsPart}
 use Rattle.age_protocol.specs.declared.error.FileError.{FileError}
 use Rattle.age_protocol.specs.declared.error.FileError.TheVariants.{Io, Encrypt, Decrypt}
-use Rattle.age_protocol.specs.FileErrors.{IfIo, RefusesPlain}
+use Rattle.age_protocol.specs.FileErrors.{IfIo, RefusesHead, RefusesPlain}
 use Rattle.age_protocol.specs.File.{payload_key}
 use Rattle.age_stream.specs.Keeping.{Stops}
 use Rattle.age_format.specs.HeaderV1.{header_mac}
@@ -77,7 +77,7 @@ decrypts_all_as {S} {R} {W} {T} suite read write gives by answers own IsFor IsOw
   refused = all.refused;
   why =
       IfErr-weaker result _ _
-      (decrypts_weaker _ _ (same_cause (λ refusal. (last : R) × RefusesText read.tells read.rest read.faults input last refusal)
+      (decrypts_weaker _ _ (same_cause (λ refusal. ((last : R) × RefusesText read.tells read.rest read.faults input last refusal) × IfIoRefusal (RefusesHead read input) refusal)
       (BeginsText read.tells read.rest input) answers own answered))
       all.why;
   front = λ reader_told writer_told.

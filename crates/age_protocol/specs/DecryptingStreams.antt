@@ -1,7 +1,7 @@
 -- What decrypting from a reader to a writer comes to: of a whole file, and of a part of its plaintext.
 use Rattle.std.specs.Prelude.{◌≡◌, ◌⊎◌, ℕ, ◌&&◌, true, List, Some, Result, Ok, IsTrue, OnOk, IfErr}
 use Rattle.age_error.specs.Bytes.{AreBytes}
-use Rattle.age_error.specs.DecryptErrors.{OutOfMemory}
+use Rattle.age_error.specs.DecryptErrors.{OutOfMemory, IfIoRefusal}
 use Rattle.age_suite.specs.declared.suite.Suite.{Ghosts as SuiteGhosts}
 use Rattle.age_io.specs.declared.traits.Read.{Ghosts as ReadGhosts}
 use Rattle.age_io.specs.declared.traits.Write.{Ghosts as WriteGhosts}
@@ -20,7 +20,7 @@ use Rattle.age_stream.specs.Chunks.{delivered}
 use Rattle.age_stream.specs.Keeping.{IsPayloadRefusal, Stops}
 use Rattle.age_protocol.specs.Answering.{FirstThatAnswers, decided}
 use Rattle.age_protocol.specs.File.{IsFileOf, payload_key}
-use Rattle.age_protocol.specs.FileErrors.{IfIo, IsDecryptError, DecryptsUnless, RefusesPlain}
+use Rattle.age_protocol.specs.FileErrors.{IfIo, IsDecryptError, DecryptsUnless, RefusesHead, RefusesPlain}
 use Rattle.age_protocol.specs.Texts.{RefusesText, BeginsText, RefusesKey}
 use Rattle.age_protocol.specs.Parts.{AppendsPart, AppendsOf, StandsAt, IsPartAt}
 use Rattle.age_protocol.specs.declared.error.FileError.{FileError}
@@ -51,7 +51,7 @@ pub record DecryptsAll {S R W T : Type 0} (suite : SuiteGhosts S) (read : ReadGh
   pub refused : IfErr result (λ e. IsDecryptError e → new ≡ old)
   -- The cause of such a refusal.
   pub why : IfErr result (λ e. DecryptsUnless (λ refusal.
-      ((last : R) × RefusesText read.tells read.rest read.faults input last refusal)
+      (((last : R) × RefusesText read.tells read.rest read.faults input last refusal) × IfIoRefusal (RefusesHead read input) refusal)
       ⊎ ((h : HeaderValue) × (nonce : List ℕ) × (left : Stretch) × (answer : UnwrapAnswer)
       × BeginsText read.tells read.rest input h nonce left
       × answers h.stanzas answer

@@ -6,7 +6,7 @@ use Rattle.age_armor.specs.DeliveredLaws.{stands_by}
 use Rattle.age_stream.specs.Reader.{refuses_of}
 use Rattle.age_stream.specs.Keeping.{IsPayloadRefusal}
 use Rattle.age_protocol.specs.File.{payload_key}
-use Rattle.age_protocol.proofs.Reasons.{from_stream, from_text, front-stands, stops-as}
+use Rattle.age_protocol.proofs.Reasons.{from_stream, from_text, front-stands, io_refusal_weaker, stops-as}
 use Rattle.age_stream.specs.ReadingLaws.{and-left, and-right}
 use Rattle.age_stream.proofs.Answered.{rest-bytes}
 use Rattle.age_stream.proofs.Standing.{stand-bytes}
@@ -47,9 +47,16 @@ returns-in_err-stream g c =
           let last = front.1.0 in
           let r_last = (buffered.inner_of (inner_of last)).now in
           inl (
-            r_last,
-            refuses_text _ g.R.Read.tells g.R.Read.rest g.R.Read.faults _ last c.args.reader.now r_last _
-                text.tells text.faults refl text.place text.rest front.1.1,
+            (
+              r_last,
+              refuses_text _ g.R.Read.tells g.R.Read.rest g.R.Read.faults _ last c.args.reader.now r_last _
+                  text.tells text.faults refl text.place text.rest front.1.1,
+            ),
+            io_refusal_weaker _ _
+                (λ e.
+                by_cause (λ early. inl (early.0, λ reader_told. sym (ap (λ s. s.ends_well) text.rest) ∙ early.1 (text.tells ∙ reader_told)))
+                (λ tried. inr (from_text armor_refuses g.R.Read c.in_ok-text.text c.args.reader.now e text.named tried)))
+                _ front.1.1.io,
           ))
           (λ asked.
           let (h, nonce, input, answer, asks, why) = asked in
