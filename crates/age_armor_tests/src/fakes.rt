@@ -1,9 +1,10 @@
 //! A reader that is interrupted on purpose.
 
 ghost use Rattle.std.specs.Prelude.{◌≤◌, ◌<◌, ◌^◌, false, List, [], OnOk, IfErr, refl};
-ghost use Rattle.age_error.specs.Refusals.{IsDevice, IsInterruption};
+ghost use Rattle.age_error.specs.Refusals.{IsDevice};
 ghost use Rattle.age_io.specs.Stretch.{nothing};
 ghost use Rattle.age_io.specs.Reading.{most_faults};
+ghost use Rattle.age_io.specs.Standard.{IsReadRefusal};
 
 use age_error::io::{Error, ErrorKind};
 use age_io::{BufRead, Read};
@@ -39,6 +40,7 @@ impl<'a> Restless<'a> {
         ensures no_fewer { self.old.faults ≤ self.new.faults }
         ensures unspent { OnOk result (self.new.faults < most_faults) }
         ensures device { IfErr result (λ e. IsDevice e → self.old.faults < self.new.faults) }
+        ensures why { IfErr result IsReadRefusal }
     {
         if self.faults == u64::MAX {
             return Err(Error::Failed);
@@ -72,7 +74,7 @@ impl<'a> Read for Restless<'a> {
 
     ghost faults = { λ r. r.faults };
 
-    ghost refuses = { λ _. IsInterruption };
+    ghost refuses = { λ _. IsReadRefusal };
 
     ghost faults_fit = { λ r. r.fits };
 
