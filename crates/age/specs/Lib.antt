@@ -82,6 +82,7 @@ pub use Rattle.age_format.specs.Verdict
 pub use Rattle.age_format.specs.HeaderV1
 pub use Rattle.age_format.specs.ReadingHeader
 pub use Rattle.age_format.specs.Wrapping
+pub use Rattle.age_format.specs.Drawing
 pub use Rattle.age_format.specs.Unwrapping
 pub use Rattle.age_format.specs.Boxed
 -- files: age_protocol

@@ -2,6 +2,8 @@
 //! age-encryption.org/v1, sections "Header" and "ASCII armor").
 #![tactic(auto)]
 
+mod coding;
 mod engine;
 
+pub use coding::{decode_columns, encode_columns};
 pub use engine::{armor_engine, header_engine};

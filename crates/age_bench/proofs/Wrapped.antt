@@ -8,7 +8,8 @@ use Rattle.age.specs.FileErrorVariants.{Io, Encrypt, Decrypt}
 use Rattle.age.specs.Types.{FileError}
 use Rattle.age.specs.Wrapping.{WrapAnswer}
 use Rattle.age.specs.RecipientLabels.{Gathered, nothing_yet, judged}
-use Rattle.age.specs.Encrypting.{Ends, UnlessNoMemory, After, WithDrawn, Prepared, PreparesNonce, PreparesRest, PreparesWith, Prepares}
+use Rattle.age.specs.Drawing.{Ends, UnlessNoMemory, After, WithDrawn}
+use Rattle.age.specs.Encrypting.{Prepared, PreparesNonce, PreparesRest, PreparesWith, Prepares}
 use Rattle.age.specs.File.{file_text}
 use Rattle.age_bench.specs.Bench.{bench_seal}
 use Rattle.age_bench.specs.Recipient.{bench_stanza, bench_wrapped, bench_grease, bench_file}

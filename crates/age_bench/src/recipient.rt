@@ -5,7 +5,7 @@ ghost use Rattle.std.specs.Result.{result_map_both};
 ghost use Rattle.age.specs.EncryptErrors.{encrypt_refusal};
 ghost use Rattle.age.specs.EncryptErrors.{OutOfMemory as out_of_memory};
 ghost use Rattle.age.specs.Unwrapping.{FirstOf};
-ghost use Rattle.age.specs.Encrypting.{IsOrNoMemory, Ends};
+ghost use Rattle.age.specs.Drawing.{IsOrNoMemory, Ends};
 ghost use Rattle.age_bench.specs.Recipient.{bench_stanza, bench_wrapped, bench_unwrapped};
 
 use age::draw::Draw;

@@ -8,5 +8,6 @@ pub mod Steps
 pub mod HeaderV1
 pub mod ReadingHeader
 pub mod Wrapping
+pub mod Drawing
 pub mod Unwrapping
 pub mod Boxed

@@ -10,22 +10,8 @@ ghost use Rattle.age_format.specs.Stanza.{StanzaValue, IsStanza, first_line};
 ghost use Rattle.age_format.specs.Header.{mac_line};
 
 use crate::stanza::{Stanza, is_string};
-use age_base64::header_engine;
-use base64::DecodeAllocError;
+use age_base64::decode_columns;
 use std::alloc::{AllocError, Global};
-
-/// The bytes that the columns stand for, if they are canonical base64.
-pub(crate) fn decode_columns(alloc: Global, text: &[u8]) -> Result<Option<Vec<u8>>, AllocError>
-    ensures { IfOk result (λ found. MatchOption found
-        ((bytes : List ℕ) → AreBytes bytes → columns bytes ≡ text.now → ⊥)
-        (λ v. AreBytes v.items × (columns v.items ≡ text.now))) }
-{
-    match header_engine().decode(alloc, text) {
-        Ok(bytes) => Ok(Some(bytes)),
-        Err(DecodeAllocError::OutOfMemory) => Err(AllocError),
-        Err(DecodeAllocError::DecodeError(_)) => Ok(None),
-    }
-}
 
 /// What follows the prefix, if the text begins with it.
 pub(crate) fn after_prefix<'a>(text: &'a [u8], prefix: &[u8]) -> Option<&'a [u8]>

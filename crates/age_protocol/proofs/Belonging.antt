@@ -11,7 +11,8 @@ use Rattle.age_format.specs.Unwrapping.{UnwrapAnswer, Unwraps}
 use Rattle.age_stream.specs.Payload.{Seal}
 use Rattle.age_suite.specs.Draw.{taken, left_after}
 use Rattle.age_protocol.specs.Labels.{Labels, Gathered, nothing_yet, has_scrypt, agreed_labels, judged, with_labels, greased, closed}
-use Rattle.age_protocol.specs.Encrypting.{Prepared, PreparesWith, PreparesRest, PreparesNonce, WrapsInTurn, UnlessNoMemory, Ends, Then, After}
+use Rattle.age_format.specs.Drawing.{UnlessNoMemory, Ends, Then, After}
+use Rattle.age_protocol.specs.Encrypting.{Prepared, PreparesWith, PreparesRest, PreparesNonce, WrapsInTurn}
 use Rattle.age_protocol.specs.Belonging.{stanzas_of, grease_beside, MayWrap, HoldsAnswers, HoldAnswers, WrapsStrange, AnyDecrypts}
 use Rattle.age_protocol.proofs.Alone.{alone_asked}
 

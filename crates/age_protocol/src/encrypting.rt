@@ -3,7 +3,8 @@ ghost use Rattle.std.specs.Prelude.{◌≡◌, ◌≢◌, [], ◌∷◌};
 ghost use Rattle.age_format.specs.Header.{KeepsScryptRule};
 ghost use Rattle.age_format.specs.Wrapping.{WrapAnswer};
 ghost use Rattle.age_protocol.specs.Labels.{nothing_yet, judged};
-ghost use Rattle.age_protocol.specs.Encrypting.{IsOrNoMemory, WrapsInTurn, PreparesNonce, PreparesRest, PreparesWith, Prepares};
+ghost use Rattle.age_format.specs.Drawing.{IsOrNoMemory};
+ghost use Rattle.age_protocol.specs.Encrypting.{WrapsInTurn, PreparesNonce, PreparesRest, PreparesWith, Prepares};
 ghost use Rattle.age_protocol.specs.Answers.{encrypt_answer};
 
 use crate::encryptor::Encryptor;

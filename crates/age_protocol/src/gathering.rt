@@ -9,7 +9,7 @@ ghost use Rattle.age_error.specs.Labels.{labels_of};
 ghost use Rattle.age_format.specs.Header.{KeepsScryptRule};
 ghost use Rattle.age_error.specs.EncryptErrors.{encrypt_refusal};
 ghost use Rattle.std.specs.Vec.{vec_items};
-ghost use Rattle.age_protocol.specs.Encrypting.{IsOrNoMemory};
+ghost use Rattle.age_format.specs.Drawing.{IsOrNoMemory};
 ghost use Rattle.age_protocol.specs.Labels.{nothing_yet, has_scrypt, same_labels, agreed_labels, judged, greased, closed};
 
 use age_error::EncryptError;

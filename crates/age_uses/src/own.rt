@@ -4,7 +4,7 @@ ghost use Rattle.std.specs.Result.{result_map_both};
 ghost use Rattle.age.specs.EncryptErrors.{encrypt_refusal};
 ghost use Rattle.age.specs.EncryptErrors.{OutOfMemory as out_of_memory};
 ghost use Rattle.age.specs.Unwrapping.{FirstOf};
-ghost use Rattle.age.specs.Encrypting.{IsOrNoMemory, Ends};
+ghost use Rattle.age.specs.Drawing.{IsOrNoMemory, Ends};
 ghost use Rattle.age.specs.Belonging.{BelongsTo};
 ghost use Rattle.age_uses.specs.Own.{own_stanza, own_wrapped, own_unwrapped, has_other_tag};
 

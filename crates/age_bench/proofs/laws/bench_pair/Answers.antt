@@ -5,7 +5,7 @@ use Rattle.age.specs.EncryptErrors.{EncryptRefusal, OutOfMemory}
 use Rattle.age.specs.Stanza.{StanzaValue}
 use Rattle.age.specs.Wrapping.{Wrapped, WrapAnswer}
 use Rattle.age.specs.Unwrapping.{UnwrapAnswer, FirstOf}
-use Rattle.age.specs.Encrypting.{Ends}
+use Rattle.age.specs.Drawing.{Ends}
 use Rattle.age.specs.Belonging.{BelongsTo}
 use Rattle.age.specs.BelongingLaws.{by_stanza}
 use Rattle.age_bench.specs.Recipient.{bench_stanza, bench_wrapped, bench_unwrapped, has_other_tag}

@@ -1,6 +1,6 @@
 use Rattle.std.proofs.Common.{◌≡◌, sym, ◌∙◌, Ok, Err, Result}
 use Rattle.age_base64.proofs.Columns.{bytes-by_index, bytes-from_index}
-use Rattle.age_format.proofs.parse.decode_columns.Goals as goal
+use Rattle.age_base64.proofs.coding.decode_columns.Goals as goal
 
 pub returns-in-Ok : goal.returns-in-Ok
 returns-in-Ok c =
