@@ -2,6 +2,7 @@
 ghost use Rattle.std.specs.Prelude.{◌≡◌, ◌<◌, ◌/◌, ◌%◌, ◌^◌, ◌++◌, All, length, map};
 ghost use Rattle.age_bech32.specs.Symbols.{lowered};
 ghost use Rattle.age_bech32.specs.Remainder.{expanded, generated, remainder, remainder_after, step};
+ghost use Rattle.age_bech32.specs.Written.{check_values};
 
 /// The sum of the generators that the top five bits of a remainder choose.
 fn generated(top: u32) -> u32
@@ -81,7 +82,7 @@ pub fn check_of(prefix: &[u8], values: &[u8]) -> [u8; 6]
     requires { All (λ value. value < 2 ^ 5) values.now }
     ensures values { All (λ value. value < 2 ^ 5) result }
     ensures six { length result ≡ 6 }
-    ensures checked { remainder (expanded prefix.now ++ values.now ++ result) ≡ 1 }
+    ensures check { result ≡ check_values prefix.now values.now }
 {
     let sum = remainder_of_values(remainder(prefix, values), &[0; 6]) ^ 1;
     [

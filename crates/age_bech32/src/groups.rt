@@ -2,6 +2,7 @@
 ghost use Rattle.std.specs.Prelude.{◌≡◌, ◌+◌, ◌*◌, ◌%◌, ◌^◌, ◌<◌, ◌≤◌, All, IfOk, MatchResult};
 ghost use Rattle.age_bech32.specs.Groups.{IsRegrouped};
 ghost use Rattle.age_bech32.specs.Refusals.{AreNoGroups, IfInvalid};
+ghost use Rattle.age_bech32.specs.Written.{groups_of_bytes};
 
 use crate::error::Bech32Error;
 use std::alloc::{AllocError, Global};
@@ -26,7 +27,8 @@ fn last_bits(held: u32, count: u32) -> u32
 
 /// The groups of five bits of bytes, the last filled with zeros.
 pub fn groups_of(alloc: Global, bytes: &[u8]) -> Result<Vec<u8>, AllocError>
-    ensures { IfOk result (λ v. IsRegrouped bytes.now v.items) }
+    ensures groups { IfOk result (λ v. v.items ≡ groups_of_bytes bytes.now) }
+    ensures fives { IfOk result (λ v. All (λ group. group < 2 ^ 5) v.items) }
 {
     let mut groups = Vec::new(alloc);
     let mut held = 0u32;

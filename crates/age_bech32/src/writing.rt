@@ -1,7 +1,8 @@
 //! Writing (BIP 173, "Bech32").
-ghost use Rattle.std.specs.Prelude.{MatchResult, string_bytes};
+ghost use Rattle.std.specs.Prelude.{◌≡◌, IfOk, MatchResult, string_bytes};
 ghost use Rattle.age_bech32.specs.Bech32.{IsBech32, IsInCaseOf};
 ghost use Rattle.age_bech32.specs.Refusals.{IsRefusalOfPrefix};
+ghost use Rattle.age_bech32.specs.Written.{bech32_text};
 
 use crate::checksum::check_of;
 use crate::error::Bech32Error;
@@ -18,8 +19,8 @@ use std::alloc::Global;
 /// - `Invalid`: the prefix isn't 1 to 83 bytes of 33 to 126, or has letters of both cases.
 /// - `OutOfMemory`: memory was refused.
 pub fn encode(alloc: Global, prefix: &str, data: &[u8]) -> Result<String, Bech32Error>
-    ensures { MatchResult result (λ text. IsBech32 (string_bytes text) prefix.now «data».now × IsInCaseOf prefix.now (string_bytes text))
-        (λ e. IsRefusalOfPrefix e prefix.now) }
+    ensures text { MatchResult result (λ text. string_bytes text ≡ bech32_text prefix.now «data».now) (λ e. IsRefusalOfPrefix e prefix.now) }
+    ensures reads { IfOk result (λ text. IsBech32 (string_bytes text) prefix.now «data».now × IsInCaseOf prefix.now (string_bytes text)) }
 {
     let bytes = prefix.as_bytes();
     if !is_prefix(bytes) {

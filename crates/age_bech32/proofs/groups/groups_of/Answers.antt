@@ -2,6 +2,7 @@ use Rattle.std.proofs.Common.{◌≡◌, ℕ, ◌+◌, ◌-◌, ◌∙◌, ◌++
 use Rattle.std.proofs.lemmas.List.Elements.{All-from_get_or}
 use Rattle.age_bech32.specs.Groups.{IsRegrouped}
 use Rattle.age_bech32.proofs.Regrouping.{Regrouping, begun, joined_state, given, given_fits, moved, filled, whole, last_is}
+use Rattle.age_bech32.proofs.Written.{groups-same}
 use Rattle.age_bech32.proofs.groups.groups_of.Goals as goal
 use Rattle.age_bech32.proofs.groups.groups_of.Goals.{then-count-ge5+in_ok-push-2, else-count-ge5, then-count-gt0+in_ok-push-3, else-count-gt0}
 
@@ -61,6 +62,7 @@ pub returns : goal.returns
 returns c =
     let all : All (λ byte. byte < 2 ^ 8) c.args.bytes.now =
     All-from_get_or (λ byte. byte < 2 ^ 8) c.args.bytes.now 0 (λ i l. let h = c.type_inv.bytes i in omega (arith, h)) in
+    let regrouped : IsRegrouped c.args.bytes.now c.if-count-gt0.groups.items =
     elim c.if-count-gt0.branch [
       | then-count-gt0+in_ok-push-3 w ↦
           subst (λ v. IsRegrouped c.args.bytes.now v) (sym (ap (λ v. v.items) w.groups-is ∙ w.in_ok-push-3.ensures.items))
@@ -72,4 +74,5 @@ returns c =
           subst (λ v. IsRegrouped c.args.bytes.now v) (sym (ap (λ v. v.items) w.groups-is))
           (whole c.args.bytes.now c.loop-byte.groups.items c.loop-byte.byte-index c.loop-byte.count c.loop-byte.held c.loop-byte-test.false c.loop-byte.auto.byte-index-end
           c.loop-byte.invariant.state none all)
-    ]
+    ] in
+    record { groups = groups-same c.args.bytes.now c.if-count-gt0.groups.items regrouped; fives = regrouped.fives }
