@@ -1,6 +1,8 @@
 -- Regrouping bits: what was written, and the bits held, are what was read.
-use Rattle.std.proofs.Common.{◌≡◌, ℕ, ◌+◌, ◌-◌, ◌*◌, ◌/◌, ◌%◌, ◌^◌, ◌<◌, ◌≤◌, ◌≢◌, List, [], ◌∷◌, ◌++◌, length, length-append, drop, get_or, refl, ap, sym, ◌∙◌, arith, All, subst}
+use Rattle.std.proofs.Common.{◌≡◌, ℕ, ◌+◌, ◌-◌, ◌*◌, ◌/◌, ◌%◌, ◌^◌, ◌<◌, ◌≤◌, ◌≢◌, List, [], ◌∷◌, ◌++◌, length, length-append, take, drop, get_or, refl, ap, sym, ◌∙◌, arith, All, subst}
 use Rattle.std.proofs.lemmas.Nat.{pow-add, pow_pos, shr_split, shr_below, mod_below, shl_below, same_from_place}
+use Rattle.std.proofs.Math.ListN.{set}
+use Rattle.std.proofs.lemmas.List.{take_more_set}
 use Rattle.std.proofs.lemmas.List.Elements.{All-push, All-nil}
 use Rattle.age_bech32.specs.Groups.{number_after, number, IsRegrouped}
 use Rattle.age_bech32.proofs.Numbers.{number-step, number-push, same_digits}
@@ -73,6 +75,21 @@ pub moved : (from to : ℕ) (xs out out' : List ℕ) (i count count' held held' 
 moved from to xs out out' i count count' held held' e f g r =
     subst (λ o. Regrouping from to xs o i count' held') (sym e) (subst (λ k. Regrouping from to xs out i k held') (sym f)
     (subst (λ h. Regrouping from to xs out i count h) (sym g) r))
+
+-- the same in places that are written one after another
+pub gave : (from to : ℕ) (xs places new : List ℕ) (at i full count held rest : ℕ) → full ≡ count + to → at < length places → new ≡ set places at (held / 2 ^ count)
+    → rest ≡ held % 2 ^ count → Regrouping from to xs (take at places) i full held → Regrouping from to xs (take (at + 1) new) i count rest
+gave from to xs places new at i full count held rest is lt e f r =
+    let out : take (at + 1) new ≡ take at places ++ (held / 2 ^ count) ∷ [] = ap (take (at + 1)) e ∙ take_more_set places at (held / 2 ^ count) lt in
+    subst (λ o. Regrouping from to xs o i count rest) (sym out) (subst (Regrouping from to xs (take at places ++ (held / 2 ^ count) ∷ []) i count) (sym f)
+    (given from to xs (take at places) i full count held is r))
+
+pub placed : (from to : ℕ) (xs places places' : List ℕ) (at at' i count count' held held' : ℕ) → places' ≡ places → at' ≡ at → count' ≡ count → held' ≡ held
+    → Regrouping from to xs (take at places) i count held → Regrouping from to xs (take at' places') i count' held'
+placed from to xs places places' at at' i count count' held held' e f g h r =
+    let out : take at' places' ≡ take at places = ap (take at') e ∙ ap (λ k. take k places) f in
+    subst (λ o. Regrouping from to xs o i count' held') (sym out) (subst (λ k. Regrouping from to xs (take at places) i k held') (sym g)
+    (subst (Regrouping from to xs (take at places) i count) (sym h) r))
 
 add_zero : (n : ℕ) → n + 0 ≡ n
 add_zero n = omega arith

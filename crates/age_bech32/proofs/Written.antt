@@ -1,8 +1,8 @@
 -- The text that is written of a prefix and bytes is one of them, and there is one in each case.
-use Rattle.std.proofs.Common.{◌≡◌, ℕ, ◌+◌, ◌-◌, ◌*◌, ◌/◌, ◌%◌, ◌^◌, ◌<◌, ◌≤◌, inl, inr, Bool, true, false, ◌||◌, List, [], ◌∷◌, ◌++◌, length, map, refl, ap, sym, subst, ◌∙◌, arith, All, append_assoc}
+use Rattle.std.proofs.Common.{◌≡◌, ℕ, ◌+◌, ◌-◌, ◌*◌, ◌/◌, ◌%◌, ◌^◌, ◌<◌, ◌≤◌, inl, inr, Bool, true, false, ◌||◌, List, [], ◌∷◌, ◌++◌, length, map, refl, ap, sym, subst, ◌∙◌, arith, All, length-append}
 use Rattle.std.proofs.lemmas.Bool.Decides.{nat_tests}
 use Rattle.std.proofs.lemmas.Nat.{shl_below}
-use Rattle.std.proofs.lemmas.List.{map-append}
+use Rattle.std.proofs.lemmas.List.{length-map}
 use Rattle.std.proofs.lemmas.List.Elements.{All-append, All-head, All-tail, All-nil, All-cons}
 use Rattle.std.specs.List.{list_any}
 use Rattle.std.proofs.lemmas.List.Folds.{list_any-append}
@@ -41,6 +41,33 @@ groups-are bytes all =
 -- groups that have the bits of bytes are those
 pub groups-same : (bytes groups : List ℕ) → IsRegrouped bytes groups → groups ≡ groups_of_bytes bytes
 groups-same bytes groups r = same_groups bytes groups (groups_of_bytes bytes) r (groups-are bytes r.eights)
+
+length-groups : (bytes : List ℕ) → length (groups_of_bytes bytes) ≡ group_count (length bytes)
+unfolding groups_of_bytes
+length-groups bytes = length-digits 5 (group_count (length bytes)) (number 8 bytes * 2 ^ (5 * group_count (length bytes) - 8 * length bytes))
+
+pub length-values : (prefix bytes : List ℕ) → length (values_of_bytes prefix bytes) ≡ group_count (length bytes) + 6
+unfolding values_of_bytes
+length-values prefix bytes =
+    let groups = length-groups bytes in
+    let check = check-six prefix (groups_of_bytes bytes) in
+    length-append (groups_of_bytes bytes) (check_values prefix (groups_of_bytes bytes)) ∙ (omega arith)
+
+pub length-text : (prefix bytes : List ℕ) → length (bech32_text prefix bytes) ≡ length prefix + 1 + (group_count (length bytes) + 6)
+unfolding bech32_text
+length-text prefix bytes =
+    let values = length-values prefix bytes in
+    let f = symbol_in (has_upper prefix) in
+    let symbols : length (map f (values_of_bytes prefix bytes)) ≡ length (values_of_bytes prefix bytes) = length-map (values_of_bytes prefix bytes) f in
+    length-append prefix (49 ∷ map f (values_of_bytes prefix bytes)) ∙ (omega arith)
+
+pub groups-fit : (bytes : List ℕ) → All (λ v. v < 2 ^ 5) (groups_of_bytes bytes)
+unfolding groups_of_bytes
+groups-fit bytes = digits-fit 5 (group_count (length bytes)) (number 8 bytes * 2 ^ (5 * group_count (length bytes) - 8 * length bytes))
+
+pub values-fit : (prefix bytes : List ℕ) → All (λ v. v < 2 ^ 5) (values_of_bytes prefix bytes)
+unfolding values_of_bytes
+values-fit prefix bytes = All-append (λ v. v < 2 ^ 5) (groups_of_bytes bytes) (check_values prefix (groups_of_bytes bytes)) (groups-fit bytes) (check-fits prefix (groups_of_bytes bytes))
 
 low_bits-fit : (p : List ℕ) → All (λ v. v < 2 ^ 5) (map (λ b. b % 2 ^ 5) (lowered p))
 low_bits-fit [] = All-nil (λ v. v < 2 ^ 5)
@@ -96,7 +123,7 @@ text_in-is upper prefix bytes good case all =
     let groups = groups_of_bytes bytes in
     let check = check_values prefix groups in
     let regrouped : IsRegrouped bytes groups = groups-are bytes all in
-    let values : All (λ v. v < 2 ^ 5) (groups ++ check) = All-append (λ v. v < 2 ^ 5) groups check regrouped.fives (check-fits prefix groups) in
+    let values : All (λ v. v < 2 ^ 5) (groups ++ check) = values-fit prefix bytes in
     let below : remainder (expanded prefix ++ groups) < 2 ^ 30 = after-below 1 (expanded prefix ++ groups) (omega arith)
     (All-append (λ v. v < 2 ^ 5) (expanded prefix) groups (expanded-fit prefix good.high) regrouped.fives) in
     let same : IsInCase upper (text_in upper prefix bytes) = kept upper prefix (groups ++ check) values case in (
@@ -141,15 +168,15 @@ written prefix bytes good one all =
     let is = text_in-is upper prefix bytes good (case_of upper prefix refl one) all in
     (is.0, in_case_of upper prefix (bech32_text prefix bytes) refl is.1)
 
--- as it is pushed
-pub pushed : (upper : Bool) (prefix bytes groups check text : List ℕ) → has_upper prefix ≡ upper → groups ≡ groups_of_bytes bytes → check ≡ check_values prefix groups
-    → text ≡ ((prefix ++ 49 ∷ []) ++ map (symbol_in upper) groups) ++ map (symbol_in upper) check → text ≡ bech32_text prefix bytes
-unfolding bech32_text values_of_bytes
-pushed upper prefix bytes groups check text case is closed e =
-    let values : groups ++ check ≡ groups_of_bytes bytes ++ check_values prefix (groups_of_bytes bytes) =
-    ap (λ c. groups ++ c) closed ∙ ap (λ g. g ++ check_values prefix g) is in
-    e ∙ append_assoc (prefix ++ 49 ∷ []) (map (symbol_in upper) groups) (map (symbol_in upper) check)
-    ∙ ap (λ t. (prefix ++ 49 ∷ []) ++ t) (sym (map-append (symbol_in upper) groups check))
-    ∙ append_assoc prefix (49 ∷ []) (map (symbol_in upper) (groups ++ check))
-    ∙ ap (λ v. prefix ++ 49 ∷ map (symbol_in upper) v) values
-    ∙ ap (λ u. prefix ++ 49 ∷ map (symbol_in u) (values_of_bytes prefix bytes)) (sym case)
+pub values_are : (prefix bytes groups check : List ℕ) → groups ≡ groups_of_bytes bytes → check ≡ check_values prefix groups
+    → groups ++ check ≡ values_of_bytes prefix bytes
+unfolding values_of_bytes
+values_are prefix bytes groups check is closed = ap (λ c. groups ++ c) closed ∙ ap (λ g. g ++ check_values prefix g) is
+
+-- as its parts are written
+pub text_is : (upper : Bool) (prefix bytes front separator values symbols : List ℕ) → front ≡ prefix → separator ≡ 49 ∷ [] → values ≡ values_of_bytes prefix bytes
+    → upper ≡ has_upper prefix → symbols ≡ map (symbol_in upper) values → front ++ (separator ++ symbols) ≡ bech32_text prefix bytes
+unfolding bech32_text
+text_is upper prefix bytes front separator values symbols e f v u s =
+    ap (λ p. p ++ (separator ++ symbols)) e ∙ ap (λ c. prefix ++ (c ++ symbols)) f ∙ ap (λ t. prefix ++ 49 ∷ t) s
+    ∙ ap (λ w. prefix ++ 49 ∷ map (symbol_in upper) w) v ∙ ap (λ w. prefix ++ 49 ∷ map (symbol_in w) (values_of_bytes prefix bytes)) u

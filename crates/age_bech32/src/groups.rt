@@ -1,11 +1,11 @@
 //! Bytes and groups of five bits (BIP 173, "Segwit address format").
-ghost use Rattle.std.specs.Prelude.{◌≡◌, ◌+◌, ◌*◌, ◌%◌, ◌^◌, ◌<◌, ◌≤◌, All, IfOk, MatchResult};
+ghost use Rattle.std.specs.Prelude.{◌≡◌, ◌+◌, ◌*◌, ◌/◌, ◌%◌, ◌^◌, ◌<◌, ◌≤◌, All, MatchResult, length, slice_set};
 ghost use Rattle.age_bech32.specs.Groups.{IsRegrouped};
 ghost use Rattle.age_bech32.specs.Refusals.{AreNoGroups, IfInvalid};
-ghost use Rattle.age_bech32.specs.Written.{groups_of_bytes};
+ghost use Rattle.age_bech32.specs.Written.{group_count, groups_of_bytes};
 
 use crate::error::Bech32Error;
-use std::alloc::{AllocError, Global};
+use std::alloc::Global;
 
 /// The bits held, and those of a digit below them.
 fn joined(held: u32, digit: u8, bits: u32) -> u32
@@ -25,30 +25,49 @@ fn last_bits(held: u32, count: u32) -> u32
     held & ((1 << count) - 1)
 }
 
-/// The groups of five bits of bytes, the last filled with zeros.
-pub fn groups_of(alloc: Global, bytes: &[u8]) -> Result<Vec<u8>, AllocError>
-    ensures groups { IfOk result (λ v. v.items ≡ groups_of_bytes bytes.now) }
-    ensures fives { IfOk result (λ v. All (λ group. group < 2 ^ 5) v.items) }
+/// How many groups of five bits so many bytes have, the last filled.
+pub fn group_count(bytes: usize) -> usize
+    requires { bytes < 2 ^ 63 }
+    ensures { result ≡ group_count bytes }
 {
-    let mut groups = Vec::new(alloc);
+    // Eight times the bytes may not fit.
+    bytes / 5 * 8 + (bytes % 5 * 8 + 4) / 5
+}
+
+/// Writes what stands above so many of the bits held, and gives those that are left.
+fn give(places: &mut [u8], at: usize, held: u32, count: u32) -> u32
+    requires at { at < length places.old }
+    requires count { count < 32 }
+    requires fits { held / 2 ^ count < 2 ^ 8 }
+    ensures places { places.new ≡ slice_set places.old at (held / 2 ^ count) }
+    ensures rest { result ≡ held % 2 ^ count }
+{
+    places[at] = (held >> count) as u8;
+    last_bits(held, count)
+}
+
+/// Writes the groups of five bits of bytes, the last filled with zeros.
+pub fn groups_into(bytes: &[u8], groups: &mut [u8])
+    requires { length groups.old ≡ group_count (length bytes.now) }
+    ensures { groups.new ≡ groups_of_bytes bytes.now }
+{
     let mut held = 0u32;
     let mut count = 0u32;
+    let mut at = 0;
     for byte in bytes {
-        held = joined(held, *byte, 8);
         // Eight bits more, of which the first group takes five.
         count += 3;
-        groups.push((held >> count) as u8)?;
-        held = last_bits(held, count);
+        held = give(groups, at, joined(held, *byte, 8), count);
+        at += 1;
         if count >= 5 {
             count -= 5;
-            groups.push((held >> count) as u8)?;
-            held = last_bits(held, count);
+            held = give(groups, at, held, count);
+            at += 1;
         }
     }
     if count > 0 {
-        groups.push((held << (5 - count)) as u8)?;
+        groups[at] = (held << (5 - count)) as u8;
     }
-    Ok(groups)
 }
 
 /// The bytes of groups of five bits. `Invalid` where more than four bits at the end are unused, or one of them isn't zero.

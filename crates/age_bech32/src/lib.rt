@@ -13,4 +13,4 @@ mod writing;
 pub use error::Bech32Error;
 pub use laws::bech32_laws;
 pub use reading::decode;
-pub use writing::encode;
+pub use writing::{encode, encode_array};

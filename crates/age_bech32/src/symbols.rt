@@ -83,6 +83,16 @@ pub fn values_of(alloc: Global, text: &[u8]) -> Result<Vec<u8>, Bech32Error>
     Ok(values)
 }
 
+/// Exchanges each value for its symbol, in upper case where asked.
+pub fn write_symbols(values: &mut [u8], upper: bool)
+    requires { All (λ value. value < 2 ^ 5) values.old }
+    ensures { values.new ≡ map (symbol_in upper) values.old }
+{
+    for value in values.iter_mut() {
+        *value = symbol_in(*value, upper);
+    }
+}
+
 /// Writes the symbols of values after a text, in upper case where asked.
 pub fn push_symbols(text: &mut String, values: &[u8], upper: bool) -> Result<(), AllocError>
     requires { All (λ value. value < 2 ^ 5) values.now }
