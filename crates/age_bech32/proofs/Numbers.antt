@@ -2,8 +2,7 @@
 use Rattle.std.proofs.Common.{◌≡◌, ℕ, zero, suc, ◌+◌, ◌*◌, ◌/◌, ◌%◌, ◌^◌, ◌<◌, ◌≤◌, List, [], ◌∷◌, ◌++◌, length, length-append, drop, get_or, refl, ap, subst, ◌∙◌, arith, All, add-one, drop-cons}
 use Rattle.std.proofs.lemmas.Nat.{same_from_place, pow-add, pow_pos, shr_split, shr_below, mod_below}
 use Rattle.std.proofs.lemmas.List.Elements.{All-head, All-tail, All-nil, All-push}
-use Rattle.age_bech32.specs.Groups.{number_after, number}
-use Rattle.age_bech32.specs.Written.{digits}
+use Rattle.age_bech32.specs.Groups.{number_after, number, digits}
 
 -- one digit more is read
 pub number-step : (bits front : ℕ) (xs : List ℕ) (i : ℕ) → i < length xs
@@ -74,3 +73,9 @@ after-below bits front (x ∷ xs) fits =
 
 pub number-below : (bits : ℕ) (xs : List ℕ) → All (λ x. x < 2 ^ bits) xs → number bits xs < 2 ^ (bits * length xs)
 number-below bits xs fits = let h = after-below bits 0 xs fits in omega arith
+
+-- digits are those of the number that they write
+pub digits-number : (bits : ℕ) (xs : List ℕ) → All (λ x. x < 2 ^ bits) xs → digits bits (length xs) (number bits xs) ≡ xs
+digits-number bits xs fits =
+    (same_digits bits 0 0 (digits bits (length xs) (number bits xs)) xs (length-digits bits (length xs) (number bits xs)) (digits-fit bits (length xs) (number bits xs)) fits
+    (number-digits bits (length xs) (number bits xs) (number-below bits xs fits))).1

@@ -6,8 +6,8 @@ use Rattle.std.proofs.lemmas.List.Elements.{All-head, All-tail, All-from_recursi
 use Rattle.age_bech32.specs.Remainder.{expanded, generated, step, remainder_after, remainder}
 use Rattle.std.specs.Char.{to_ascii_lowercase}
 use Rattle.age_bech32.specs.Symbols.{lowered}
-use Rattle.age_bech32.specs.Groups.{number_after, number}
-use Rattle.age_bech32.specs.Written.{digits, zeros, check_values}
+use Rattle.age_bech32.specs.Groups.{number_after, number, digits}
+use Rattle.age_bech32.specs.Written.{zeros, check_values}
 use Rattle.age_bech32.proofs.Xor.{xor-zero, xor-self, xor-cancel, xor-moved, xor-swap}
 use Rattle.age_bech32.proofs.Lists.{nothing_left}
 use Rattle.age_bech32.proofs.Numbers.{same_digits, length-digits, digits-fit, number-digits}

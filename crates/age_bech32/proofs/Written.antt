@@ -9,8 +9,8 @@ use Rattle.std.proofs.lemmas.List.Folds.{list_any-append}
 use Rattle.std.specs.Char.{is_ascii_uppercase, is_ascii_lowercase, to_ascii_lowercase}
 use Rattle.age_bech32.specs.Symbols.{symbol_in, lowered, has_upper, has_lower, IsOneCase, IsInCase}
 use Rattle.age_bech32.specs.Remainder.{remainder, expanded}
-use Rattle.age_bech32.specs.Groups.{number, IsRegrouped}
-use Rattle.age_bech32.specs.Written.{group_count, groups_of_bytes, check_values, values_of_bytes, bech32_text}
+use Rattle.age_bech32.specs.Groups.{number, IsRegrouped, group_count, groups_of_bytes}
+use Rattle.age_bech32.specs.Written.{check_values, values_of_bytes, bech32_text}
 use Rattle.age_bech32.specs.Bech32.{IsBech32, IsPrefix, IsInCaseOf}
 use Rattle.age_bech32.proofs.Numbers.{length-digits, digits-fit, number-digits, number-below}
 use Rattle.age_bech32.proofs.Remainders.{after-below, checked, check-fits, check-six}

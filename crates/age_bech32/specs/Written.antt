@@ -1,23 +1,8 @@
 -- The text that is written of a prefix and bytes (BIP 173, "Checksum" and "Bech32").
-use Rattle.std.specs.Prelude.{ℕ, zero, suc, ◌+◌, ◌-◌, ◌*◌, ◌/◌, ◌%◌, ◌^◌, List, [], ◌∷◌, ◌++◌, length, map, bit_xor}
+use Rattle.std.specs.Prelude.{ℕ, List, [], ◌∷◌, ◌++◌, map, bit_xor}
 use Rattle.age_bech32.specs.Symbols.{has_upper, symbol_in}
 use Rattle.age_bech32.specs.Remainder.{remainder, expanded}
-use Rattle.age_bech32.specs.Groups.{number}
-
--- the last `count` digits of so many bits of a number, the most significant first
-unfoldable pub digits : ℕ → ℕ → ℕ → List ℕ
-digits bits zero n = []
-digits bits (suc count) n = digits bits count (n / 2 ^ bits) ++ (n % 2 ^ bits) ∷ []
-
--- how many groups of five bits so many bytes have, the last filled
-abbrev pub group_count : ℕ → ℕ
-group_count bytes = (8 * bytes + 4) / 5
-
--- the groups of five bits of bytes, the last filled with zero bits
-unfoldable pub groups_of_bytes : List ℕ → List ℕ
-groups_of_bytes bytes =
-    let size = group_count (length bytes) in
-    digits 5 size (number 8 bytes * 2 ^ (5 * size - 8 * length bytes))
+use Rattle.age_bech32.specs.Groups.{digits, groups_of_bytes}
 
 -- six values that are zero
 abbrev pub zeros : List ℕ

@@ -2,7 +2,8 @@
 ghost use Rattle.std.specs.Prelude.{◌≡◌, ◌+◌, ◌^◌, ◌<◌, ◌≤◌, All, IfOk, MatchBool, MatchResult, SomeIff, length, string_bytes};
 ghost use Rattle.age_bech32.specs.Bech32.{IsBech32, IsInCaseOf};
 ghost use Rattle.age_bech32.specs.Refusals.{IsRefusalOfPrefix, MayBeWritten};
-ghost use Rattle.age_bech32.specs.Written.{bech32_text, group_count, values_of_bytes};
+ghost use Rattle.age_bech32.specs.Groups.{group_count};
+ghost use Rattle.age_bech32.specs.Written.{bech32_text, values_of_bytes};
 
 use crate::checksum::check_of;
 use crate::error::Bech32Error;

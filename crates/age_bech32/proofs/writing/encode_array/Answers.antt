@@ -1,6 +1,7 @@
 use Rattle.std.proofs.Common.{◌≡◌, ◌+◌, ◌∙◌, length, sym, subst, ap}
 use Rattle.age_bech32.specs.Refusals.{MayBeWritten}
-use Rattle.age_bech32.specs.Written.{bech32_text, group_count}
+use Rattle.age_bech32.specs.Groups.{group_count}
+use Rattle.age_bech32.specs.Written.{bech32_text}
 use Rattle.age_bech32.proofs.Written.{length-text}
 use Rattle.age_bech32.proofs.writing.encode_array.Goals as goal
 
