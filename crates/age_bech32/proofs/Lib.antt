@@ -3,10 +3,9 @@ pub mod Numbers
 pub mod Spelling
 pub mod Payloads
 pub mod Separating
-pub mod Written
 pub mod Cases
 pub mod OneSymbol
-pub mod Existing
+pub mod Written
 pub mod Readings
 pub mod Regrouping
 pub mod Xor

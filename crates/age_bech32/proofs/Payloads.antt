@@ -1,16 +1,14 @@
 -- What follows the separator is read in one way.
-use Rattle.std.proofs.Common.{◌≡◌, ◌≢◌, ℕ, ◌+◌, ◌^◌, ◌<◌, List, [], ◌∷◌, ◌++◌, map, length, take, drop, ap, sym, subst, ◌∙◌, arith, All, append_assoc, length-append, length-drop, Result, Ok, Err, MatchResult}
+use Rattle.std.proofs.Common.{◌≡◌, ◌≢◌, ℕ, ◌+◌, ◌^◌, ◌<◌, ◌++◌, List, [], ◌∷◌, map, length, take, drop, ap, sym, subst, ◌∙◌, arith, All, append_assoc, length-append, length-drop}
 use Rattle.std.proofs.Math.Seq.{take-append_seam}
-use Rattle.std.proofs.lemmas.List.{take-append-drop}
-use Rattle.age_bech32.specs.declared.error.Bech32Error.{Bech32Error}
-use Rattle.age_bech32.specs.declared.error.Bech32Error.TheVariants.{Invalid, OutOfMemory}
-use Rattle.age_bech32.specs.Symbols.{symbol, lowered}
+use Rattle.std.proofs.lemmas.List.{take-append-drop, take-map}
+use Rattle.age_bech32.specs.Symbols.{symbol, value_of, values_of, AreSymbols, lowered}
 use Rattle.age_bech32.specs.Remainder.{remainder, remainder_after, expanded}
 use Rattle.age_bech32.specs.Groups.{IsRegrouped}
 use Rattle.age_bech32.specs.Bech32.{IsPayload}
-use Rattle.age_bech32.specs.Refusals.{IfInvalid, AreNoGroups, IsNoPayload}
-use Rattle.std.proofs.lemmas.List.Elements.{All-tail}
-use Rattle.age_bech32.proofs.Spelling.{same_values}
+use Rattle.age_bech32.specs.Refusals.{AreNoGroups, IsNoPayload}
+use Rattle.std.proofs.lemmas.List.Elements.{All-tail, All-take}
+use Rattle.age_bech32.proofs.Spelling.{same_values, spelled, spells, values-size, values-fit}
 use Rattle.age_bech32.proofs.Regrouping.{same_bytes, same_groups}
 use Rattle.age_bech32.proofs.Remainders.{after-append, one_check}
 
@@ -47,12 +45,33 @@ module _ (prefix rest values : List ℕ) (spelled : lowered rest ≡ map symbol 
         checked = ap remainder (append_assoc (expanded prefix) (take mid values) (drop mid values)) ∙ ap (λ v. remainder (expanded prefix ++ v)) all ∙ closed;
       }
 
-  pub answered : (mid : ℕ) → mid + 6 ≡ length values → remainder (expanded prefix ++ values) ≡ 1 → {V : Type 0} (items : V → List ℕ) (r : Result V Bech32Error)
-      → MatchResult r (λ v. IsRegrouped (items v) (take mid values)) (λ e. IfInvalid e (AreNoGroups (take mid values)))
-      → MatchResult r (λ v. IsPayload prefix rest (items v)) (λ e. IfInvalid e (IsNoPayload prefix rest))
-  answered mid is closed items (Ok v) h = made mid is closed (items v) h
-  answered mid is closed items (Err Invalid) h = λ bytes p. h bytes (subst (IsRegrouped bytes) (groups_are mid is bytes p) p.regrouped)
-  answered mid is closed items (Err OutOfMemory) h = tt
+pub no_symbols : (prefix rest : List ℕ) → (AreSymbols rest → ⊥) → IsNoPayload prefix rest
+no_symbols prefix rest none bytes p = none (spells rest (p.groups ++ p.check) p.values p.spelled)
+
+-- of symbols that follow the separator
+module _ (prefix rest : List ℕ) (are : AreSymbols rest) where
+  pub wrong_check : remainder_after (remainder (expanded prefix)) (values_of rest) ≢ 1 → IsNoPayload prefix rest
+  wrong_check wrong =
+      wrong_remainder prefix rest (values_of rest) (spelled rest are) (values-fit rest are) (λ e. wrong (sym (after-append 1 (expanded prefix) (values_of rest)) ∙ e))
+
+  module _ (mid : ℕ) (is : mid + 6 ≡ length rest) where
+    size_of : mid + 6 ≡ length (values_of rest)
+    size_of = is ∙ sym (values-size rest)
+
+    taken : take mid (values_of rest) ≡ values_of (take mid rest)
+    taken = take-map value_of mid rest
+
+    pub no_groups : AreNoGroups (values_of (take mid rest)) → IsNoPayload prefix rest
+    no_groups none bytes p =
+        none bytes (subst (IsRegrouped bytes) (groups_are prefix rest (values_of rest) (spelled rest are) (values-fit rest are) mid size_of bytes p ∙ taken) p.regrouped)
+
+    pub read : remainder_after (remainder (expanded prefix)) (values_of rest) ≡ 1 → (bytes : List ℕ) → IsRegrouped bytes (values_of (take mid rest))
+        → AreSymbols (take mid rest) × IsPayload prefix rest bytes
+    read closed bytes regrouped = (
+      All-take (λ b. value_of b < 2 ^ 5) mid rest are,
+      made prefix rest (values_of rest) (spelled rest are) (values-fit rest are) mid size_of (after-append 1 (expanded prefix) (values_of rest) ∙ closed) bytes
+          (subst (IsRegrouped bytes) (sym taken) regrouped),
+    )
 
 -- what follows the separator has one list of bytes
 pub one_reading : (prefix rest a b : List ℕ) → IsPayload prefix rest a → IsPayload prefix rest b → a ≡ b

@@ -1,15 +1,16 @@
 -- The remainder is linear, so that six values close it.
-use Rattle.std.proofs.Common.{◌≡◌, ℕ, ◌+◌, ◌*◌, ◌/◌, ◌%◌, ◌^◌, ◌<◌, ◌≤◌, List, [], ◌∷◌, ◌++◌, length, map, drop, get_or, bit_and, bit_xor, refl, ap, sym, ◌∙◌, arith, add-one, drop-cons, All, subst}
+use Rattle.std.proofs.Common.{◌≡◌, ℕ, ◌+◌, ◌*◌, ◌/◌, ◌%◌, ◌^◌, ◌<◌, ◌≤◌, List, [], ◌∷◌, ◌++◌, length, map, drop, get_or, bit_and, bit_xor, refl, ap, sym, ◌∙◌, arith, add-one, drop-cons, All}
 use Rattle.std.proofs.lemmas.Nat.{and_mask, xor_mod, xor_shr, xor_lt, pow-add}
 use Rattle.std.proofs.Math.Pow.{pow_mono}
 use Rattle.std.proofs.lemmas.List.Elements.{All-head, All-tail, All-from_recursion}
 use Rattle.age_bech32.specs.Remainder.{expanded, generated, step, remainder_after, remainder}
 use Rattle.std.specs.Char.{to_ascii_lowercase}
 use Rattle.age_bech32.specs.Symbols.{lowered}
-use Rattle.age_bech32.specs.Groups.{number_after, number}
+use Rattle.age_bech32.specs.Groups.{number_after, number, digits}
+use Rattle.age_bech32.specs.Written.{zeros, check_values}
 use Rattle.age_bech32.proofs.Xor.{xor-zero, xor-self, xor-cancel, xor-moved, xor-swap}
 use Rattle.age_bech32.proofs.Lists.{nothing_left}
-use Rattle.age_bech32.proofs.Numbers.{same_digits}
+use Rattle.age_bech32.proofs.Numbers.{same_digits, length-digits, digits-fit, number-digits}
 
 pub after-append : (sum : ℕ) (xs ys : List ℕ) → remainder_after sum (xs ++ ys) ≡ remainder_after (remainder_after sum xs) ys
 unfolding remainder_after
@@ -114,56 +115,55 @@ pub of_prefix : (prefix : List ℕ) → remainder_after (step (remainder_after 1
 unfolding expanded remainder_after
 of_prefix prefix = sym (after-append 1 (map (λ b. b / 2 ^ 5) (lowered prefix)) (0 ∷ map (λ b. b % 2 ^ 5) (lowered prefix)))
 
--- the six values of a number of thirty bits
-abbrev pub six_of : ℕ → List ℕ
-six_of n = n / 2 ^ 25 ∷ n / 2 ^ 20 % 2 ^ 5 ∷ n / 2 ^ 15 % 2 ^ 5 ∷ n / 2 ^ 10 % 2 ^ 5 ∷ n / 2 ^ 5 % 2 ^ 5 ∷ n % 2 ^ 5 ∷ []
-
-abbrev pub zeros : List ℕ
-zeros = 0 ∷ 0 ∷ 0 ∷ 0 ∷ 0 ∷ 0 ∷ []
-
-pub six-fits : (n : ℕ) → n < 2 ^ 30 → All (λ c. c < 2 ^ 5) (six_of n)
-six-fits n h = All-from_recursion (λ c. c < 2 ^ 5) (six_of n)
-    (omega arith, (omega arith, (omega arith, (omega arith, (omega arith, (omega arith, tt))))))
-
-six-number : (n : ℕ) → n < 2 ^ 30 → number 5 (six_of n) ≡ n
-unfolding number_after
-six-number n h = omega arith
-
 pub zeros-fit : All (λ c. c < 2 ^ 5) zeros
 zeros-fit = All-from_recursion (λ c. c < 2 ^ 5) zeros (omega arith, (omega arith, (omega arith, (omega arith, (omega arith, (omega arith, tt))))))
-
--- six values close the remainder
-pub closes : (s n : ℕ) → s < 2 ^ 30 → n ≡ bit_xor (remainder_after s zeros) 1 → remainder_after s (six_of n) ≡ 1
-closes s n h is =
-    let p = remainder_after s zeros in
-    let below : bit_xor p 1 < 2 ^ 30 = xor_lt 30 p 1 (after-below s zeros h zeros-fit) (omega arith) in
-    let small : n < 2 ^ 30 = subst (λ x. x < 2 ^ 30) (sym is) below in
-    let none : 0 < 2 ^ 0 = omega arith in
-    ap (λ x. remainder_after x (six_of n)) (sym (xor-zero s)) ∙ carried 0 s 0 (six_of n) (omega arith) none (six-fits n small)
-    ∙ ap (λ x. bit_xor p x) (six-number n small ∙ is) ∙ xor-self p 1
-
--- the six values, as they are computed
-pub six_is : (n : ℕ) → n / 33554432 ∷ bit_and (n / 1048576) 31 ∷ bit_and (n / 32768) 31 ∷ bit_and (n / 1024) 31 ∷ bit_and (n / 32) 31 ∷ bit_and n 31 ∷ [] ≡ six_of n
-six_is n =
-    let e1 : bit_and (n / 1048576) 31 ≡ n / 2 ^ 20 % 2 ^ 5 = and_mask (n / 1048576) 5 in
-    let e2 : bit_and (n / 32768) 31 ≡ n / 2 ^ 15 % 2 ^ 5 = and_mask (n / 32768) 5 in
-    let e3 : bit_and (n / 1024) 31 ≡ n / 2 ^ 10 % 2 ^ 5 = and_mask (n / 1024) 5 in
-    let e4 : bit_and (n / 32) 31 ≡ n / 2 ^ 5 % 2 ^ 5 = and_mask (n / 32) 5 in
-    let e5 : bit_and n 31 ≡ n % 2 ^ 5 = and_mask n 5 in
-    cc
-
--- what stands after the prefix, and then six values
-pub checked : (front values check : List ℕ) (s n : ℕ) → s ≡ remainder (front ++ values) → s < 2 ^ 30 → n ≡ bit_xor (remainder_after s zeros) 1 → check ≡ six_of n
-    → remainder (front ++ values ++ check) ≡ 1
-checked front values check s n is below code six =
-    after-append 1 (front ++ values) check
-    ∙ ap (λ x. remainder_after x check) (sym is) ∙ ap (λ c. remainder_after s c) six ∙ closes s n below code
 
 all_zeros : (a b : List ℕ) → length a ≡ length b → map {A = ℕ} {B = ℕ} (λ c. 0) a ≡ map {A = ℕ} {B = ℕ} (λ c. 0) b
 all_zeros [] [] l = refl
 all_zeros [] (y ∷ b) l = absurd (omega arith)
 all_zeros (x ∷ a) [] l = absurd (omega arith)
 all_zeros (x ∷ a) (y ∷ b) l = ap (λ z. 0 ∷ z) (all_zeros a b (omega arith))
+
+-- six values close the remainder
+closes : (s : ℕ) → s < 2 ^ 30 → remainder_after s (digits 5 6 (bit_xor (remainder_after s zeros) 1)) ≡ 1
+closes s h =
+    let p = remainder_after s zeros in
+    let n = bit_xor p 1 in
+    let six = length-digits 5 6 n in
+    let below : n < 2 ^ (5 * 6) = xor_lt 30 p 1 (after-below s zeros h zeros-fit) (omega arith) in
+    let none : 0 < 2 ^ 0 = omega arith in
+    ap (λ x. remainder_after x (digits 5 6 n)) (sym (xor-zero s)) ∙ carried 0 s 0 (digits 5 6 n) (omega arith) none (digits-fit 5 6 n)
+    ∙ ap (λ z. bit_xor (remainder_after s z) (number 5 (digits 5 6 n))) (all_zeros (digits 5 6 n) zeros six)
+    ∙ ap (λ x. bit_xor p x) (number-digits 5 6 n below) ∙ xor-self p 1
+
+-- the six values, as they are computed
+pub six_is : (n : ℕ) → n < 2 ^ 30
+    → n / 33554432 ∷ bit_and (n / 1048576) 31 ∷ bit_and (n / 32768) 31 ∷ bit_and (n / 1024) 31 ∷ bit_and (n / 32) 31 ∷ bit_and n 31 ∷ [] ≡ digits 5 6 n
+unfolding digits
+six_is n h =
+    let e0 : n / 33554432 ≡ n / 2 ^ 5 / 2 ^ 5 / 2 ^ 5 / 2 ^ 5 / 2 ^ 5 % 2 ^ 5 = omega arith in
+    let e1 : bit_and (n / 1048576) 31 ≡ n / 2 ^ 5 / 2 ^ 5 / 2 ^ 5 / 2 ^ 5 % 2 ^ 5 = and_mask (n / 1048576) 5 ∙ (omega arith) in
+    let e2 : bit_and (n / 32768) 31 ≡ n / 2 ^ 5 / 2 ^ 5 / 2 ^ 5 % 2 ^ 5 = and_mask (n / 32768) 5 ∙ (omega arith) in
+    let e3 : bit_and (n / 1024) 31 ≡ n / 2 ^ 5 / 2 ^ 5 % 2 ^ 5 = and_mask (n / 1024) 5 ∙ (omega arith) in
+    let e4 : bit_and (n / 32) 31 ≡ n / 2 ^ 5 % 2 ^ 5 = and_mask (n / 32) 5 in
+    let e5 : bit_and n 31 ≡ n % 2 ^ 5 = and_mask n 5 in
+    cc
+
+pub check-six : (prefix groups : List ℕ) → length (check_values prefix groups) ≡ 6
+unfolding check_values
+check-six prefix groups = length-digits 5 6 (bit_xor (remainder (expanded prefix ++ groups ++ zeros)) 1)
+
+pub check-fits : (prefix groups : List ℕ) → All (λ c. c < 2 ^ 5) (check_values prefix groups)
+unfolding check_values
+check-fits prefix groups = digits-fit 5 6 (bit_xor (remainder (expanded prefix ++ groups ++ zeros)) 1)
+
+-- a prefix and groups, and then their check
+pub checked : (prefix groups : List ℕ) → remainder (expanded prefix ++ groups) < 2 ^ 30 → remainder (expanded prefix ++ groups ++ check_values prefix groups) ≡ 1
+unfolding check_values
+checked prefix groups below =
+    let front = expanded prefix ++ groups in
+    after-append 1 front (check_values prefix groups)
+    ∙ ap (λ x. remainder_after (remainder front) (digits 5 6 (bit_xor x 1))) (after-append 1 front zeros) ∙ closes (remainder front) below
 
 -- a remainder has one check
 pub one_check : (s : ℕ) (a b : List ℕ) → length a ≡ 6 → length b ≡ 6 → All (λ c. c < 2 ^ 5) a → All (λ c. c < 2 ^ 5) b

@@ -3,11 +3,9 @@ use Rattle.std.proofs.Common.{◌≡◌, ◌≢◌, ℕ, zero, suc, ◌+◌, ◌
 use Rattle.std.proofs.Math.Seq.{get_or-append_seam}
 use Rattle.std.proofs.lemmas.List.{take-append-drop}
 use Rattle.std.specs.List.{AllByRecursion, AllWithin}
-use Rattle.age_bech32.specs.declared.error.Bech32Error.{Bech32Error}
-use Rattle.age_bech32.specs.declared.error.Bech32Error.TheVariants.{Invalid, OutOfMemory}
 use Rattle.age_bech32.specs.Symbols.{IsOneCase}
 use Rattle.age_bech32.specs.Bech32.{IsBech32, IsPrefix, IsPayload}
-use Rattle.age_bech32.specs.Refusals.{IfInvalid, IsNoPayload, IsNoBech32}
+use Rattle.age_bech32.specs.Refusals.{IsNoBech32}
 use Rattle.age_bech32.proofs.Spelling.{lacks_one}
 
 -- the last `1` stands there
@@ -59,10 +57,6 @@ module _ (text : List ℕ) (i : ℕ) (last : IsLast text i) where
   payload_of prefix bytes b =
       let parts = parts_of prefix bytes b in
       subst (λ p. IsPayload p (drop (i + 1) text) bytes) parts.0 (subst (λ r. IsPayload prefix r bytes) parts.1 b.payload)
-
-  pub refused : (e : Bech32Error) → IfInvalid e (IsNoPayload (take i text) (drop (i + 1) text)) → IfInvalid e (IsNoBech32 text)
-  refused Invalid h = λ prefix bytes b. h bytes (payload_of prefix bytes b)
-  refused OutOfMemory h = tt
 
   pub read : IsPrefix (take i text) → IsOneCase text → (bytes : List ℕ) → IsPayload (take i text) (drop (i + 1) text) bytes → IsBech32 text (take i text) bytes
   read good one bytes payload = record {

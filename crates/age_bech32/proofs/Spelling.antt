@@ -1,17 +1,12 @@
 -- Symbols and their values.
-use Rattle.std.proofs.Common.{◌≡◌, ◌≢◌, ℕ, zero, suc, ◌+◌, ◌<◌, ◌^◌, Bool, true, false, not, ◌&&◌, ◌==◌, if◌then◌else◌, List, [], ◌∷◌, ◌++◌, map, length, take, get_or, nat_lt, refl, ap, sym, ◌∙◌, arith, All, append_assoc}
+use Rattle.std.proofs.Common.{◌≡◌, ◌≢◌, ℕ, zero, suc, ◌+◌, ◌<◌, ◌≤◌, ◌^◌, Bool, true, false, not, ◌&&◌, ◌==◌, if◌then◌else◌, List, [], ◌∷◌, ◌++◌, map, length, take, get_or, nat_lt, refl, ap, sym, ◌∙◌, arith, All, append_assoc}
 use Rattle.std.proofs.Common.{◌⊎◌, inl, inr}
 use Rattle.std.specs.Char.{is_ascii_uppercase, is_ascii_lowercase, to_ascii_lowercase}
 use Rattle.std.specs.List.{AllByRecursion}
 use Rattle.std.proofs.lemmas.Bool.{and_parts, cases_lt, eqb-true, eqb-false, ltb-true, not-true}
-use Rattle.std.proofs.lemmas.List.{take_more, map-append}
-use Rattle.std.proofs.lemmas.List.Elements.{All-head, All-tail}
-use Rattle.age_bech32.specs.Symbols.{symbols, symbol, symbol_in, lowered}
-
--- where a symbol stands
-pub place_of : ℕ → List ℕ → ℕ
-place_of c [] = 0
-place_of c (x ∷ xs) = if c == x then 0 else suc (place_of c xs)
+use Rattle.std.proofs.lemmas.List.{take_more, map-append, length-map, get_or-map}
+use Rattle.std.proofs.lemmas.List.Elements.{All-head, All-tail, All-nil, All-cons, All-map}
+use Rattle.age_bech32.specs.Symbols.{symbols, symbol, symbol_in, place_of, value_of, values_of, AreSymbols, lowered}
 
 -- what is tested of each value
 test : ℕ → Bool
@@ -83,13 +78,55 @@ same_values (v ∷ vs) (w ∷ ws) hv hw e =
     let b : vs ≡ ws = same_values vs ws (All-tail (λ x. x < 2 ^ 5) v vs hv) (All-tail (λ x. x < 2 ^ 5) w ws hw) rest in
     cc
 
--- where a byte is no symbol the text has no values
-pub no_values : (text vs : List ℕ) (i : ℕ) → i < length text → All (λ v. v < 2 ^ 5) vs
-    → ((v : ℕ) → v < 2 ^ 5 → to_ascii_lowercase (get_or text i 0) ≢ symbol v) → lowered text ≡ map symbol vs → ⊥
-no_values [] vs i lt fits none e = absurd (omega arith)
-no_values (x ∷ text) [] i lt fits none e = cc
-no_values (x ∷ text) (v ∷ vs) zero lt fits none e = none v (All-head (λ y. y < 2 ^ 5) v vs fits) (cc)
-no_values (x ∷ text) (v ∷ vs) (suc i) lt fits none e = no_values text vs i (omega arith) (All-tail (λ y. y < 2 ^ 5) v vs fits) none (cc)
+-- what stands at its place
+here : (b : Bool) (c x : ℕ) (xs : List ℕ) (n : ℕ) → (c == x) ≡ b → (n < length xs → get_or xs n 0 ≡ c) → (if b then 0 else suc n) < suc (length xs)
+    → get_or (x ∷ xs) (if b then 0 else suc n) 0 ≡ c
+here true c x xs n e rest lt = sym (eqb-true c x e)
+here false c x xs n e rest lt = rest (omega arith)
+
+at_place : (c : ℕ) (xs : List ℕ) → place_of c xs < length xs → get_or xs (place_of c xs) 0 ≡ c
+unfolding place_of
+at_place c [] lt = absurd (omega arith)
+at_place c (x ∷ xs) lt = here (c == x) c x xs (place_of c xs) refl (at_place c xs) lt
+
+symbol_at : (byte : ℕ) → value_of byte < 2 ^ 5 → to_ascii_lowercase byte ≡ symbol (value_of byte)
+unfolding value_of symbol
+symbol_at byte lt = sym (at_place (to_ascii_lowercase byte) symbols lt)
+
+pub value_is : (byte v : ℕ) → v < 2 ^ 5 → to_ascii_lowercase byte ≡ symbol v → value_of byte ≡ v
+unfolding value_of
+value_is byte v lt e = ap (λ s. place_of s symbols) e ∙ (symbol-is v lt).place
+
+pub no_value : (byte : ℕ) → ((v : ℕ) → v < 2 ^ 5 → to_ascii_lowercase byte ≢ symbol v) → 2 ^ 5 ≤ value_of byte
+no_value byte none = elim (cases_lt (value_of byte) (2 ^ 5)) [ inl lt ↦ absurd (none (value_of byte) lt (symbol_at byte lt)) | inr out ↦ out ]
+
+pub values-size : (text : List ℕ) → length (values_of text) ≡ length text
+values-size text = length-map text value_of
+
+pub value-at : (text : List ℕ) (i : ℕ) → i < length text → get_or (values_of text) i 0 ≡ value_of (get_or text i 0)
+value-at text i lt = get_or-map value_of text i 0 0 lt
+
+pub values-fit : (text : List ℕ) → AreSymbols text → All (λ v. v < 2 ^ 5) (values_of text)
+values-fit text are = All-map (λ v. v < 2 ^ 5) value_of text are
+
+-- symbols spell their values
+pub spelled : (text : List ℕ) → AreSymbols text → lowered text ≡ map symbol (values_of text)
+spelled [] h = refl
+spelled (x ∷ text) h =
+    let first = symbol_at x (All-head (λ b. value_of b < 2 ^ 5) x text h) in
+    let rest = spelled text (All-tail (λ b. value_of b < 2 ^ 5) x text h) in
+    cc
+
+-- a text that spells values has symbols of these
+pub spells : (text vs : List ℕ) → All (λ v. v < 2 ^ 5) vs → lowered text ≡ map symbol vs → AreSymbols text
+spells [] vs h e = All-nil (λ b. value_of b < 2 ^ 5)
+spells (x ∷ text) [] h e = cc
+spells (x ∷ text) (v ∷ vs) h e =
+    let first : to_ascii_lowercase x ≡ symbol v = cc in
+    let rest : lowered text ≡ map symbol vs = cc in
+    let five : v < 2 ^ 5 = All-head (λ y. y < 2 ^ 5) v vs h in
+    let same : value_of x ≡ v = value_is x v five first in
+    All-cons (λ b. value_of b < 2 ^ 5) x text (omega arith) (spells text vs (All-tail (λ y. y < 2 ^ 5) v vs h) rest)
 
 lower_of : (b : Bool) (v : ℕ) → v < 2 ^ 5 → to_ascii_lowercase (symbol_in b v) ≡ symbol v
 lower_of true v h = (symbol-is v h).lower_of_upper

@@ -1,5 +1,5 @@
 -- What is refused, and what it prints.
-use Rattle.std.specs.Prelude.{ℕ, List, codes}
+use Rattle.std.specs.Prelude.{◌≢◌, ℕ, List, codes, length}
 use Rattle.age_bech32.specs.declared.error.Bech32Error.{Bech32Error}
 use Rattle.age_bech32.specs.declared.error.Bech32Error.TheVariants.{Invalid, OutOfMemory}
 use Rattle.age_bech32.specs.Symbols.{IsOneCase}
@@ -35,3 +35,7 @@ IsNoPayload prefix rest = (bytes : List ℕ) → IsPayload prefix rest bytes →
 -- no prefix and bytes have this text
 abbrev pub IsNoBech32 : List ℕ → Type 0
 IsNoBech32 text = (prefix bytes : List ℕ) → IsBech32 text prefix bytes → ⊥
+
+-- the text has this prefix and some bytes, but not so many
+abbrev pub IsOfOtherSize : ℕ → List ℕ → List ℕ → Type 0
+IsOfOtherSize size text prefix = (bytes : List ℕ) × IsBech32 text prefix bytes × (length bytes ≢ size)

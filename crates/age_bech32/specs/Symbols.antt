@@ -1,5 +1,5 @@
 -- The symbols of Bech32 and the case of letters (BIP 173, "Bech32").
-use Rattle.std.specs.Prelude.{◌≡◌, ℕ, Bool, List, ◌⊎◌, true, false, codes, map, slice_index}
+use Rattle.std.specs.Prelude.{◌≡◌, ℕ, suc, ◌<◌, ◌^◌, Bool, List, [], ◌∷◌, ◌⊎◌, true, false, ◌==◌, if◌then◌else◌, codes, map, slice_index, All}
 use Rattle.std.specs.Char.{is_ascii_uppercase, is_ascii_lowercase, to_ascii_lowercase, to_ascii_uppercase}
 use Rattle.std.specs.List.{list_any}
 
@@ -15,6 +15,23 @@ symbol value = slice_index symbols value
 abbrev pub symbol_in : Bool → ℕ → ℕ
 symbol_in true value = to_ascii_uppercase (symbol value)
 symbol_in false value = symbol value
+
+-- how many of these stand before it
+unfoldable pub place_of : ℕ → List ℕ → ℕ
+place_of byte [] = 0
+place_of byte (symbol ∷ symbols) = if byte == symbol then 0 else suc (place_of byte symbols)
+
+-- the value of a symbol in either case, and 32 where a byte is none
+unfoldable pub value_of : ℕ → ℕ
+value_of byte = place_of (to_ascii_lowercase byte) symbols
+
+-- the values of symbols
+abbrev pub values_of : List ℕ → List ℕ
+values_of text = map value_of text
+
+-- each byte is a symbol
+abbrev pub AreSymbols : List ℕ → Type 0
+AreSymbols text = All (λ byte. value_of byte < 2 ^ 5) text
 
 -- a text with each of its letters in lower case
 abbrev pub lowered : List ℕ → List ℕ

@@ -1,7 +1,10 @@
 //! The remainder of the check (BIP 173, "Checksum").
-ghost use Rattle.std.specs.Prelude.{◌≡◌, ◌<◌, ◌/◌, ◌%◌, ◌^◌, ◌++◌, All, length, map};
-ghost use Rattle.age_bech32.specs.Symbols.{lowered};
+ghost use Rattle.std.specs.Prelude.{◌≡◌, ◌<◌, ◌/◌, ◌%◌, ◌^◌, ◌++◌, All, MatchOption, length, map};
+ghost use Rattle.age_bech32.specs.Symbols.{AreSymbols, lowered, values_of};
 ghost use Rattle.age_bech32.specs.Remainder.{expanded, generated, remainder, remainder_after, step};
+ghost use Rattle.age_bech32.specs.Written.{check_values};
+
+use crate::symbols::value_of;
 
 /// The sum of the generators that the top five bits of a remainder choose.
 fn generated(top: u32) -> u32
@@ -66,14 +69,29 @@ fn remainder_of_low_bits(start: u32, prefix: &[u8]) -> u32
     sum
 }
 
-/// The remainder of a prefix and values: 1 where the last six are the check of what stands before them.
-pub fn remainder(prefix: &[u8], values: &[u8]) -> u32
-    requires { All (λ value. value < 2 ^ 5) values.now }
-    ensures value { result ≡ remainder (expanded prefix.now ++ values.now) }
+/// The remainder of a prefix.
+pub fn remainder_of_prefix(prefix: &[u8]) -> u32
+    ensures value { result ≡ remainder (expanded prefix.now) }
     ensures bound { result < 2 ^ 30 }
 {
     let sum = step(remainder_of_high_bits(1, prefix), 0);
-    remainder_of_values(remainder_of_low_bits(sum, prefix), values)
+    remainder_of_low_bits(sum, prefix)
+}
+
+/// The remainder after the values of symbols, where each byte is one.
+pub fn remainder_of_symbols(start: u32, symbols: &[u8]) -> Option<u32>
+    requires { start < 2 ^ 30 }
+    ensures { MatchOption result (AreSymbols symbols.now → ⊥)
+        (λ sum. AreSymbols symbols.now × (sum ≡ remainder_after start (values_of symbols.now))) }
+{
+    let mut sum = start;
+    for symbol in symbols {
+        match value_of(*symbol) {
+            Some(value) => sum = step(sum, value),
+            None => return None,
+        }
+    }
+    Some(sum)
 }
 
 /// The six values of the check of a prefix and values.
@@ -81,9 +99,10 @@ pub fn check_of(prefix: &[u8], values: &[u8]) -> [u8; 6]
     requires { All (λ value. value < 2 ^ 5) values.now }
     ensures values { All (λ value. value < 2 ^ 5) result }
     ensures six { length result ≡ 6 }
-    ensures checked { remainder (expanded prefix.now ++ values.now ++ result) ≡ 1 }
+    ensures check { result ≡ check_values prefix.now values.now }
 {
-    let sum = remainder_of_values(remainder(prefix, values), &[0; 6]) ^ 1;
+    let sum = remainder_of_values(remainder_of_prefix(prefix), values);
+    let sum = remainder_of_values(sum, &[0; 6]) ^ 1;
     [
         (sum >> 25) as u8,
         (sum >> 20 & 31) as u8,

@@ -12,5 +12,5 @@ mod writing;
 
 pub use error::Bech32Error;
 pub use laws::bech32_laws;
-pub use reading::decode;
-pub use writing::encode;
+pub use reading::{decode, decode_array};
+pub use writing::{encode, encode_array};

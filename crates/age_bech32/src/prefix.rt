@@ -1,9 +1,7 @@
 //! Prefixes and the separator (BIP 173, "Bech32").
-ghost use Rattle.std.specs.Prelude.{◌≡◌, ◌≢◌, ◌+◌, ◌<◌, ◌≤◌, All, IfOk, MatchBool, MatchOption, length, slice_index, string_bytes};
+ghost use Rattle.std.specs.Prelude.{◌≡◌, ◌≢◌, ◌+◌, ◌<◌, ◌≤◌, All, MatchBool, MatchOption, length, slice_index};
 ghost use Rattle.std.specs.List.{AllWithin};
 ghost use Rattle.age_bech32.specs.Bech32.{IsPrefix};
-
-use std::alloc::{AllocError, Global};
 
 const MOST_BYTES: usize = 83;
 
@@ -33,16 +31,4 @@ pub fn last_separator(text: &[u8]) -> Option<usize>
         }
     }
     None
-}
-
-/// A text of its bytes.
-pub fn text_of(alloc: Global, bytes: &[u8]) -> Result<String, AllocError>
-    requires { All (λ byte. byte ≤ 126) bytes.now }
-    ensures { IfOk result (λ text. string_bytes text ≡ bytes.now) }
-{
-    let mut text = String::new(alloc);
-    for byte in bytes {
-        text.push(char::from(*byte))?;
-    }
-    Ok(text)
 }

@@ -1,13 +1,15 @@
 //! Reading (BIP 173, "Bech32").
-ghost use Rattle.std.specs.Prelude.{MatchResult, string_bytes};
+ghost use Rattle.std.specs.Prelude.{MatchOption, MatchResult, string_bytes};
 ghost use Rattle.age_bech32.specs.Bech32.{IsBech32, IsPayload};
-ghost use Rattle.age_bech32.specs.Refusals.{IfInvalid, IsNoBech32, IsNoPayload};
+ghost use Rattle.age_bech32.specs.Groups.{bytes_of_groups};
+ghost use Rattle.age_bech32.specs.Refusals.{IfInvalid, IsNoBech32, IsNoPayload, IsOfOtherSize};
+ghost use Rattle.age_bech32.specs.Symbols.{AreSymbols, values_of};
 
-use crate::checksum::remainder;
+use crate::checksum::{remainder_of_prefix, remainder_of_symbols};
 use crate::error::Bech32Error;
-use crate::groups::bytes_of;
-use crate::prefix::{is_prefix, last_separator, text_of};
-use crate::symbols::{is_one_case, values_of};
+use crate::groups::{are_groups, byte_count, bytes_into};
+use crate::prefix::{is_prefix, last_separator};
+use crate::symbols::is_one_case;
 use std::alloc::Global;
 
 const CHECK: usize = 6;
@@ -15,19 +17,47 @@ const CHECK: usize = 6;
 // The remainder of values with their check.
 const CLOSED: u32 = 1;
 
-/// The bytes of what follows the separator.
-fn payload(alloc: Global, prefix: &[u8], rest: &[u8]) -> Result<Vec<u8>, Bech32Error>
-    ensures { MatchResult result (λ bytes. IsPayload prefix.now rest.now bytes.items) (λ e. IfInvalid e (IsNoPayload prefix.now rest.now)) }
+/// The symbols of the groups in what follows the separator, where their check is right and they have bytes.
+fn groups_in<'a>(prefix: &[u8], rest: &'a [u8]) -> Option<&'a [u8]>
+    ensures { MatchOption result (IsNoPayload prefix.now rest.now)
+        (λ groups. AreSymbols groups.now × IsPayload prefix.now rest.now (bytes_of_groups (values_of groups.now))) }
 {
-    let values = values_of(alloc, rest)?;
-    if values.len() < CHECK {
-        return Err(Bech32Error::Invalid);
+    let Some(sum) = remainder_of_symbols(remainder_of_prefix(prefix), rest) else {
+        return None;
+    };
+    if sum != CLOSED {
+        return None;
     }
-    if remainder(prefix, &values) != CLOSED {
-        return Err(Bech32Error::Invalid);
+    if rest.len() < CHECK {
+        return None;
     }
-    let (groups, _) = values.split_at(values.len() - CHECK);
-    bytes_of(alloc, groups)
+    let (groups, _) = rest.split_at(rest.len() - CHECK);
+    if !are_groups(groups) {
+        return None;
+    }
+    Some(groups)
+}
+
+/// The prefix of a text, and the symbols of its groups.
+fn parts_of(text: &str) -> Option<(&str, &[u8])>
+    ensures { MatchOption result (IsNoBech32 text.now)
+        (λ parts. AreSymbols parts.1.now × IsBech32 text.now parts.0.now (bytes_of_groups (values_of parts.1.now))) }
+{
+    let bytes = text.as_bytes();
+    let Some(separator) = last_separator(bytes) else {
+        return None;
+    };
+    let prefix = &text[..separator];
+    if !is_prefix(prefix.as_bytes()) {
+        return None;
+    }
+    if !is_one_case(bytes) {
+        return None;
+    }
+    match groups_in(prefix.as_bytes(), &bytes[separator + 1..]) {
+        Some(groups) => Some((prefix, groups)),
+        None => None,
+    }
 }
 
 /// Reads Bech32 of any length (BIP 173, "Bech32"): the prefix as it is written, and the bytes.
@@ -40,21 +70,29 @@ fn payload(alloc: Global, prefix: &[u8], rest: &[u8]) -> Result<Vec<u8>, Bech32E
 pub fn decode(alloc: Global, text: &str) -> Result<(String, Vec<u8>), Bech32Error>
     ensures { MatchResult result (λ read. IsBech32 text.now (string_bytes read.0) read.1.items) (λ e. IfInvalid e (IsNoBech32 text.now)) }
 {
-    let bytes = text.as_bytes();
-    let Some(separator) = last_separator(bytes) else {
+    let Some((prefix, symbols)) = parts_of(text) else {
         return Err(Bech32Error::Invalid);
     };
-    let prefix = &bytes[..separator];
-    let rest = &bytes[separator + 1..];
-    if !is_prefix(prefix) {
-        return Err(Bech32Error::Invalid);
-    }
-    if !is_one_case(bytes) {
-        return Err(Bech32Error::Invalid);
-    }
-    let data = match payload(alloc, prefix, rest) {
-        Err(error) => return Err(error),
-        Ok(data) => data,
+    let mut data = vec![in alloc; 0; byte_count(symbols.len())]?;
+    bytes_into(symbols, &mut data);
+    Ok((String::from_str(alloc, prefix)?, data))
+}
+
+/// Reads Bech32 of any length (BIP 173, "Bech32") into an array: the prefix as it is written, and the bytes where they are
+/// `N`, else `None` in their place. It takes no memory. `None` for the whole where the text is no Bech32: it lacks a separator,
+/// its prefix isn't 1 to 83 bytes of 33 to 126, it has letters of both cases, a symbol is none, the check is wrong, or unused
+/// bits at the end are more than four or not zero.
+pub fn decode_array<const N: usize>(text: &str) -> Option<(&str, Option<[u8; N]>)>
+    ensures { MatchOption result (IsNoBech32 text.now)
+        (λ read. MatchOption read.1 (IsOfOtherSize N text.now read.0.now) (λ bytes. IsBech32 text.now read.0.now bytes)) }
+{
+    let Some((prefix, symbols)) = parts_of(text) else {
+        return None;
     };
-    Ok((text_of(alloc, prefix)?, data))
+    if byte_count(symbols.len()) != N {
+        return Some((prefix, None));
+    }
+    let mut data = [0; N];
+    bytes_into(symbols, &mut data);
+    Some((prefix, Some(data)))
 }

@@ -1,11 +1,8 @@
 //! The symbols and the case of letters (BIP 173, "Bech32").
-ghost use Rattle.std.specs.Prelude.{◌≡◌, ◌≢◌, ℕ, ◌<◌, ◌^◌, ◌++◌, map, MatchResult, MatchBool, MatchOption, OnOk, string_bytes, All, List};
-ghost use Rattle.std.specs.Char.{to_ascii_lowercase};
-ghost use Rattle.age_bech32.specs.Symbols.{IsOneCase, has_lower, has_upper, lowered, symbol, symbol_in};
-ghost use Rattle.age_bech32.specs.Refusals.{IfInvalid};
+ghost use Rattle.std.specs.Prelude.{◌≡◌, ◌<◌, ◌≤◌, ◌^◌, ◌++◌, map, MatchBool, MatchOption, OnOk, string_bytes, All};
+ghost use Rattle.age_bech32.specs.Symbols.{IsOneCase, has_lower, has_upper, symbol, symbol_in, value_of};
 
-use crate::error::Bech32Error;
-use std::alloc::{AllocError, Global};
+use std::alloc::AllocError;
 
 const SYMBOLS: &[u8; 32] = b"qpzry9x8gf2tvdw0s3jn54khce6mua7l";
 
@@ -55,9 +52,8 @@ fn symbol_in(value: u8, upper: bool) -> u8
 }
 
 /// The value of a symbol in either case, where it is one.
-fn value_of(byte: u8) -> Option<u8>
-    ensures { MatchOption result ((value : ℕ) → value < 2 ^ 5 → to_ascii_lowercase byte ≢ symbol value)
-        (λ value. (value < 2 ^ 5) × (to_ascii_lowercase byte ≡ symbol value)) }
+pub fn value_of(byte: u8) -> Option<u8>
+    ensures { MatchOption result (2 ^ 5 ≤ value_of byte) (λ value. (value < 2 ^ 5) × (value ≡ value_of byte)) }
 {
     let lower = byte.to_ascii_lowercase();
     for value in 0..32 {
@@ -68,19 +64,25 @@ fn value_of(byte: u8) -> Option<u8>
     None
 }
 
-/// The values of symbols. `Invalid` where a byte is no symbol.
-pub fn values_of(alloc: Global, text: &[u8]) -> Result<Vec<u8>, Bech32Error>
-    ensures { MatchResult result (λ v. (lowered text.now ≡ map symbol v.items) × All (λ value. value < 2 ^ 5) v.items)
-        (λ e. IfInvalid e ((values : List ℕ) → All (λ value. value < 2 ^ 5) values → lowered text.now ≢ map symbol values)) }
+/// The value of what is known to be a symbol.
+pub fn known_value(symbol: u8) -> u8
+    requires { value_of symbol < 2 ^ 5 }
+    ensures { result ≡ value_of symbol }
 {
-    let mut values = Vec::new(alloc);
-    for byte in text {
-        match value_of(*byte) {
-            Some(value) => values.push(value)?,
-            None => return Err(Bech32Error::Invalid),
-        }
+    match value_of(symbol) {
+        Some(value) => value,
+        None => unreachable!(),
     }
-    Ok(values)
+}
+
+/// Exchanges each value for its symbol, in upper case where asked.
+pub fn write_symbols(values: &mut [u8], upper: bool)
+    requires { All (λ value. value < 2 ^ 5) values.old }
+    ensures { values.new ≡ map (symbol_in upper) values.old }
+{
+    for value in values.iter_mut() {
+        *value = symbol_in(*value, upper);
+    }
 }
 
 /// Writes the symbols of values after a text, in upper case where asked.

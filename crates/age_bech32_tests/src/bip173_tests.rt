@@ -1,38 +1,69 @@
 //! The texts of BIP 173, "Test vectors". All seven that it calls valid are so here too: none has unused bits that are more than four
 //! or not zero. Their bytes were reckoned by a program of its own in another language.
 
-use age_bech32::{Bech32Error, decode, encode};
+ghost use Rattle.std.specs.Prelude.{◌<◌, ◌^◌};
+
+use age_bech32::{Bech32Error, decode, decode_array, encode, encode_array};
 use std::alloc::Global;
 
-// Whether the text decodes to this prefix and these bytes, and these encode to the text.
-fn stands(alloc: Global, text: &str, prefix: &str, bytes: &[u8]) -> bool {
+// The same in arrays.
+fn stands_in_arrays<const TEXT: usize, const BYTES: usize>(
+    text: &str,
+    prefix: &str,
+    bytes: &[u8],
+) -> bool
+    requires text { TEXT < 2 ^ 63 }
+    requires bytes { BYTES < 2 ^ 63 }
+{
+    let Some((read, Some(data))) = decode_array::<BYTES>(text) else {
+        return false;
+    };
+    let Some(written) = encode_array::<TEXT>(prefix, bytes) else {
+        return false;
+    };
+    read == prefix && data.as_slice() == bytes && written.as_slice() == text.as_bytes()
+}
+
+// Whether the text decodes to this prefix and these bytes, and these encode to the text. `TEXT` and `BYTES` are how many bytes each has.
+fn stands<const TEXT: usize, const BYTES: usize>(
+    alloc: Global,
+    text: &str,
+    prefix: &str,
+    bytes: &[u8],
+) -> bool
+    requires text { TEXT < 2 ^ 63 }
+    requires bytes { BYTES < 2 ^ 63 }
+{
     let Ok((read, data)) = decode(alloc, text) else {
         return false;
     };
     let Ok(written) = encode(alloc, prefix, bytes) else {
         return false;
     };
-    read.as_str() == prefix && data.as_slice() == bytes && written.as_str() == text
+    read.as_str() == prefix
+        && data.as_slice() == bytes
+        && written.as_str() == text
+        && stands_in_arrays::<TEXT, BYTES>(text, prefix, bytes)
 }
 
 fn is_invalid(alloc: Global, text: &str) -> bool {
-    matches!(decode(alloc, text), Err(Bech32Error::Invalid))
+    matches!(decode(alloc, text), Err(Bech32Error::Invalid)) && decode_array::<0>(text).is_none()
 }
 
 #[test]
 fn only_upper_case(rt: HostRuntime) {
-    assert!(rt; stands(rt.alloc(), "A12UEL5L", "A", &[]));
+    assert!(rt; stands::<8, 0>(rt.alloc(), "A12UEL5L", "A", &[]));
 }
 
 #[test]
 fn only_lower_case(rt: HostRuntime) {
-    assert!(rt; stands(rt.alloc(), "a12uel5l", "a", &[]));
+    assert!(rt; stands::<8, 0>(rt.alloc(), "a12uel5l", "a", &[]));
 }
 
 #[test]
 fn a_prefix_of_83_bytes(rt: HostRuntime) {
     assert!(rt;
-        stands(
+        stands::<90, 0>(
             rt.alloc(),
             "an83characterlonghumanreadablepartthatcontainsthenumber1andtheexcludedcharactersbio1tt5tgs",
             "an83characterlonghumanreadablepartthatcontainsthenumber1andtheexcludedcharactersbio",
@@ -44,7 +75,7 @@ fn a_prefix_of_83_bytes(rt: HostRuntime) {
 #[test]
 fn every_symbol(rt: HostRuntime) {
     assert!(rt;
-        stands(
+        stands::<45, 20>(
             rt.alloc(),
             "abcdef1qpzry9x8gf2tvdw0s3jn54khce6mua7lmqqqxw",
             "abcdef",
@@ -59,7 +90,7 @@ fn every_symbol(rt: HostRuntime) {
 #[test]
 fn zeros_after_a_prefix_of_the_separator(rt: HostRuntime) {
     assert!(rt;
-        stands(
+        stands::<90, 51>(
             rt.alloc(),
             "11qqqqqqqqqqqqqqqqqqqqqqqqqqqqqqqqqqqqqqqqqqqqqqqqqqqqqqqqqqqqqqqqqqqqqqqqqqqqqqqqqqc8247j",
             "1",
@@ -76,7 +107,7 @@ fn zeros_after_a_prefix_of_the_separator(rt: HostRuntime) {
 #[test]
 fn thirty_bytes(rt: HostRuntime) {
     assert!(rt;
-        stands(
+        stands::<60, 30>(
             rt.alloc(),
             "split1checkupstagehandshakeupstreamerranterredcaperred2y9e3w",
             "split",
@@ -91,7 +122,7 @@ fn thirty_bytes(rt: HostRuntime) {
 
 #[test]
 fn a_prefix_with_no_letter(rt: HostRuntime) {
-    assert!(rt; stands(rt.alloc(), "?1ezyfcl", "?", &[]));
+    assert!(rt; stands::<8, 0>(rt.alloc(), "?1ezyfcl", "?", &[]));
 }
 
 #[test]

@@ -1,4 +1,4 @@
-use Rattle.age_bech32.proofs.Existing.{existing}
+use Rattle.age_bech32.proofs.Written.{existing, written}
 use Rattle.age_bech32.proofs.Readings.{reading, spelling, one_symbol}
 use Rattle.age_bech32.proofs.laws.bech32_laws.Goals as goal
 
@@ -10,6 +10,9 @@ returns-clause-one_text c = spelling
 
 pub returns-clause-some_text : goal.returns-clause-some_text
 returns-clause-some_text c = existing
+
+pub returns-clause-written : goal.returns-clause-written
+returns-clause-written c = written
 
 pub returns-clause-one_symbol : goal.returns-clause-one_symbol
 returns-clause-one_symbol c = one_symbol
