@@ -158,6 +158,11 @@ def files(runs):
                                  ("a key with an argument", [stanza([b"bench", b"x"], key)], BAD_HEADER),
                                  ("another key", [stanza([b"bench"], bytes(16))], BAD_MAC)]:
         runs.refuses(f"decrypt a file with {words}", decrypt, second.file(key, stanzas, name, plain), b"", text)
+    old = [other, second.legacy([b"x-old"], b""), body, second.legacy([b"long"], bytes(96))]
+    runs.answers("decrypt a file of stanzas in the legacy form", decrypt, second.file(key, old, name, plain), plain)
+    canonical = second.header(key, [other, stanza([b"x-old"], b""), body, long])
+    runs.refuses("a legacy header under the canonical one's MAC", decrypt,
+                 second.header(key, old)[:-48] + canonical[-48:] + rest, b"", BAD_MAC)
     good = second.header(key, [body])
     runs.refuses("a changed MAC", decrypt, good[:-2] + second.columns(bytes(32))[-1:] + b"\n" + rest, b"", BAD_MAC)
     front, last = VERSION + body, good[len(VERSION + body):]
@@ -171,8 +176,8 @@ def files(runs):
             ("65 columns", VERSION + b"-> bench\n" + b"A" * 65 + b"\n", BAD_HEADER),
             ("padding", VERSION + b"-> bench\nYQ==\n", BAD_HEADER),
             ("a second spelling", VERSION + b"-> bench\nYR\n", BAD_HEADER),
-            ("no end of a body of whole lines", VERSION + b"-> long\n" + b"A" * 64 + b"\n" + last, BAD_HEADER),
-            ("no body", VERSION + b"-> bench\n" + last, BAD_HEADER),
+            ("no end of a body of whole lines", VERSION + b"-> long\n" + b"A" * 64 + b"\n" + last + rest, NO_KEYS),
+            ("no body", VERSION + b"-> bench\n" + last + rest, BAD_HEADER),
             ("a MAC of 42 columns", front + b"--- " + b"A" * 42 + b"\n", BAD_HEADER),
             ("a MAC of 44 columns", front + b"--- " + b"A" * 44 + b"\n", BAD_HEADER),
             ("a MAC of a second spelling", front + b"--- " + b"A" * 42 + b"B\n", BAD_HEADER),

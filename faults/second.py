@@ -53,6 +53,12 @@ def stanza(words, body):
     return b"-> " + b" ".join(words) + b"\n" + b"".join(line + b"\n" for line in lines)
 
 
+def legacy(words, body):
+    """A stanza's text in the legacy form, whose body has no empty last line."""
+    assert len(columns(body)) % 64 == 0
+    return stanza(words, body)[:-1]
+
+
 def header(file_key, stanzas):
     front = VERSION + b"".join(stanzas) + b"---"
     return front + b" " + columns(mac(hkdf(b"", b"header", file_key), front)) + b"\n"

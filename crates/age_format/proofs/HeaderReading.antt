@@ -16,38 +16,38 @@ use Rattle.age_base64.specs.Lines.{line}
 use Rattle.age_format.specs.Stanza.{StanzaValue, IsStanza}
 use Rattle.age_format.specs.Header.{AreStanzaTexts, IsHeaderText, IsHeader, covered, mac_line, version_line}
 use Rattle.age_format.specs.Verdict.{Verdict, Header, Decides, IsUndecided, IsVerdict}
-use Rattle.age_format.specs.HeaderV1.{HeaderValue, reads_legacy}
+use Rattle.age_format.specs.HeaderV1.{HeaderValue}
 use Rattle.age_format.specs.ReadingHeader.{TookVerdict, ReadsHeader, TookFront, RunsOut, RefusesHeader}
 use Rattle.age_base64.proofs.Columns.{length-columns}
 use Rattle.age_format.proofs.Deciding.{none_shorter, verdict_here}
 
 -- the byte after a front that decides nothing decides
-pub took_verdict : (legacy : Bool) (old middle new : Stretch) (start place end : ℕ) (t : List ℕ) (b : ℕ) (v : Verdict) → legacy ≡ reads_legacy
-    → Delivers t old middle → Delivers (b ∷ []) middle new → place ≡ start + length t → end ≡ place + 1 → IsUndecided legacy t
-    → Decides legacy (t ++ b ∷ []) v → TookVerdict old new start end (t ++ b ∷ []) v
-took_verdict legacy old middle new start place end t b v same so_far here moved step quiet decides =
+pub took_verdict : {legacy : Bool} (own : Bool) (old middle new : Stretch) (start place end : ℕ) (t : List ℕ) (b : ℕ) (v : Verdict) → own ≡ legacy
+    → Delivers t old middle → Delivers (b ∷ []) middle new → place ≡ start + length t → end ≡ place + 1 → IsUndecided own t
+    → Decides own (t ++ b ∷ []) v → TookVerdict legacy old new start end (t ++ b ∷ []) v
+took_verdict own old middle new start place end t b v same so_far here moved step quiet decides =
     let joined = Delivers-joined t (b ∷ []) old middle new so_far here in
     record {
       delivered = joined;
       moved = omega (arith, moved, step, length-append t (b ∷ []));
-      verdict = subst (λ l. IsVerdict l old.bytes (t ++ b ∷ []) v) same (verdict_here legacy old.bytes t new.bytes b v joined.bytes quiet decides);
+      verdict = subst (λ l. IsVerdict l old.bytes (t ++ b ∷ []) v) same (verdict_here own old.bytes t new.bytes b v joined.bytes quiet decides);
     }
 
 -- a header that was made of the front says what the front does
-pub reads_header : (old new : Stretch) (start end : ℕ) (front text : List ℕ) (stanzas : List StanzaValue) (mac : List ℕ) (h : HeaderValue)
-    → TookVerdict old new start end front (Header stanzas mac) → text ≡ front → h.stanzas ≡ stanzas → h.mac ≡ mac → h.covered ≡ covered text
-    → ReadsHeader old new start end h
-reads_header old new start end front text stanzas mac h took same ss m told = record {
+pub reads_header : {legacy : Bool} (old new : Stretch) (start end : ℕ) (front text : List ℕ) (stanzas : List StanzaValue) (mac : List ℕ) (h : HeaderValue)
+    → TookVerdict legacy old new start end front (Header stanzas mac) → text ≡ front → h.stanzas ≡ stanzas → h.mac ≡ mac → h.covered ≡ covered text
+    → ReadsHeader legacy old new start end h
+reads_header {legacy} old new start end front text stanzas mac h took same ss m told = record {
   front = front;
-  took = subst (λ xs. TookVerdict old new start end front (Header xs h.mac)) (sym ss)
-      (subst (λ xs. TookVerdict old new start end front (Header stanzas xs)) (sym m) took);
+  took = subst (λ xs. TookVerdict legacy old new start end front (Header xs h.mac)) (sym ss)
+      (subst (λ xs. TookVerdict legacy old new start end front (Header stanzas xs)) (sym m) took);
   told = told ∙ ap covered same;
 }
 
 -- memory was refused for the byte after a front that decides nothing
-pub ran_out_after : (legacy : Bool) (old middle new : Stretch) (start place end : ℕ) (t : List ℕ) (b : ℕ) → legacy ≡ reads_legacy → Delivers t old middle
-    → Delivers (b ∷ []) middle new → place ≡ start + length t → end ≡ place + 1 → IsUndecided legacy t → RunsOut old new start end
-ran_out_after legacy old middle new start place end t b is so_far here moved step quiet = record {
+pub ran_out_after : {legacy : Bool} (own : Bool) (old middle new : Stretch) (start place end : ℕ) (t : List ℕ) (b : ℕ) → own ≡ legacy → Delivers t old middle
+    → Delivers (b ∷ []) middle new → place ≡ start + length t → end ≡ place + 1 → IsUndecided own t → RunsOut legacy old new start end
+ran_out_after {legacy} own old middle new start place end t b is so_far here moved step quiet = record {
   front = t ++ b ∷ [];
   took = record {
     middle = new;
@@ -55,7 +55,7 @@ ran_out_after legacy old middle new start place end t b is so_far here moved ste
     left = inl refl;
     moved = omega (arith, moved, step, length-append t (b ∷ []));
   };
-  shortest = λ shorter c more v e k. none_shorter reads_legacy t shorter more b c v (subst (λ l. IsUndecided l t) is quiet) e k;
+  shortest = λ shorter c more v e k. none_shorter legacy t shorter more b c v (subst (λ l. IsUndecided l t) is quiet) e k;
 }
 
 -- want of memory, or any other refusal as it is
@@ -82,20 +82,20 @@ still_quiet : (old_faults faults new_faults : ℕ) → old_faults ≤ faults →
 still_quiet old_faults faults new_faults before after still = record { same = omega (arith, still.same); below = still.below }
 
 -- the reader refused after a front that decides nothing
-pub reader_refused : (legacy : Bool) (old_faults faults new_faults : ℕ) (old middle new : Stretch) (start place end : ℕ) (t : List ℕ) (e : Error)
-    → legacy ≡ reads_legacy → Delivers t old middle → StaysOrFails middle new → place ≡ start + length t → end ≡ place → IsUndecided legacy t
+pub reader_refused : {legacy : Bool} (own : Bool) (old_faults faults new_faults : ℕ) (old middle new : Stretch) (start place end : ℕ) (t : List ℕ) (e : Error)
+    → own ≡ legacy → Delivers t old middle → StaysOrFails middle new → place ≡ start + length t → end ≡ place → IsUndecided own t
     → old_faults ≤ faults → faults ≤ new_faults → (e ≢ io.OutOfMemory → IsQuiet faults new_faults → IsShort 1 middle e)
-    → RefusesHeader old_faults new_faults old new start end (decrypt_refusal (decrypt_of_io e))
-reader_refused legacy old_faults faults new_faults old middle new start place end t e is so_far left moved stays undecided before after cause =
+    → RefusesHeader legacy old_faults new_faults old new start end (decrypt_refusal (decrypt_of_io e))
+reader_refused {legacy} own old_faults faults new_faults old middle new start place end t e is so_far left moved stays undecided before after cause =
     let quiet = subst (λ l. IsUndecided l t) is undecided in
     let took : TookFront old new start end t = record { middle = middle; delivered = so_far; left = left; moved = stays ∙ moved } in
     elim (memory_or_io e) [
-      | inl memory ↦ subst (λ x. RefusesHeader old_faults new_faults old new start end (decrypt_refusal (decrypt_of_io x))) (sym memory) (record {
+      | inl memory ↦ subst (λ x. RefusesHeader legacy old_faults new_faults old new start end (decrypt_refusal (decrypt_of_io x))) (sym memory) (record {
         front = t;
         took = took;
         shortest = λ shorter b more v same k. quiet shorter (b ∷ more) v same k;
       })
-      | inr (other, same) ↦ subst (λ x. RefusesHeader old_faults new_faults old new start end (decrypt_refusal x)) (sym same) (record {
+      | inr (other, same) ↦ subst (λ x. RefusesHeader legacy old_faults new_faults old new start end (decrypt_refusal x)) (sym same) (record {
         front = t;
         took = took;
         undecided = quiet;

@@ -1,5 +1,5 @@
 -- A header that was read or made, and its MAC.
-use Rattle.std.specs.Prelude.{◌≡◌, ℕ, Bool, false, List, [], ◌∷◌, codes}
+use Rattle.std.specs.Prelude.{◌≡◌, ℕ, Bool, true, List, [], ◌∷◌, codes}
 use Rattle.age_error.specs.Bytes.{AreBytes}
 use Rattle.age_suite.specs.Mac.{hmac_of, hkdf_of}
 use Rattle.age_format.specs.Stanza.{StanzaValue}
@@ -18,7 +18,7 @@ pub record IsHeaderValue (h : HeaderValue) : Type 0 where
 
 -- whether `HeaderV1` reads the legacy form of a stanza too
 abbrev pub reads_legacy : Bool
-reads_legacy = false
+reads_legacy = true
 
 -- the MAC of a header whose text up to and with `---` is the front
 -- standard: "Header MAC": HMAC-SHA-256 over the header up to and including the `---`, under the key that HKDF-SHA-256

@@ -1,5 +1,5 @@
--- What reading a header does to a reader that tells its bytes.
-use Rattle.std.specs.Prelude.{◌≡◌, ◌≢◌, ℕ, ◌+◌, List, ◌∷◌, ◌++◌, length, IsTrue}
+-- What reading a header does to a reader that tells its bytes. `legacy` says whether the legacy form of a stanza is read too.
+use Rattle.std.specs.Prelude.{◌≡◌, ◌≢◌, ℕ, ◌+◌, Bool, List, ◌∷◌, ◌++◌, length, IsTrue}
 use Rattle.age_error.specs.declared.io.Error.{Error}
 use Rattle.age_error.specs.declared.io.Error.TheVariants as io
 use Rattle.age_error.specs.DecryptErrors.{DecryptRefusal, InvalidHeader, UnknownFormat, Io, OutOfMemory}
@@ -7,18 +7,18 @@ use Rattle.age_io.specs.Stretch.{Stretch}
 use Rattle.age_io.specs.Reading.{Delivers, StaysOrFails, IsQuiet}
 use Rattle.age_format.specs.Header.{covered}
 use Rattle.age_format.specs.Verdict.{Verdict, Header, UnknownVersion, Bad, Decides, IsUndecided, IsVerdict}
-use Rattle.age_format.specs.HeaderV1.{HeaderValue, reads_legacy}
+use Rattle.age_format.specs.HeaderV1.{HeaderValue}
 
 -- The shortest front of the rest that decides was taken, and no byte more.
-pub record TookVerdict (old new : Stretch) (old_place new_place : ℕ) (front : List ℕ) (v : Verdict) : Type 0 where
+pub record TookVerdict (legacy : Bool) (old new : Stretch) (old_place new_place : ℕ) (front : List ℕ) (v : Verdict) : Type 0 where
   pub delivered : Delivers front old new
   pub moved : new_place ≡ old_place + length front
-  pub verdict : IsVerdict reads_legacy old.bytes front v
+  pub verdict : IsVerdict legacy old.bytes front v
 
 -- The header text at the front of the rest was taken, and this is what it says.
-pub record ReadsHeader (old new : Stretch) (old_place new_place : ℕ) (h : HeaderValue) : Type 0 where
+pub record ReadsHeader (legacy : Bool) (old new : Stretch) (old_place new_place : ℕ) (h : HeaderValue) : Type 0 where
   pub front : List ℕ
-  pub took : TookVerdict old new old_place new_place front (Header h.stanzas h.mac)
+  pub took : TookVerdict legacy old new old_place new_place front (Header h.stanzas h.mac)
   pub told : h.covered ≡ covered front
 
 -- A front of the rest was taken. The reader stands after it, or has failed there.
@@ -29,26 +29,26 @@ pub record TookFront (old new : Stretch) (old_place new_place : ℕ) (front : Li
   pub moved : new_place ≡ old_place + length front
 
 -- The reader refused, or ended, after a front that decides nothing. Without a fault that front is all that it had.
-pub record BreaksOff (old_faults new_faults : ℕ) (old new : Stretch) (old_place new_place : ℕ) (e : Error) : Type 0 where
+pub record BreaksOff (legacy : Bool) (old_faults new_faults : ℕ) (old new : Stretch) (old_place new_place : ℕ) (e : Error) : Type 0 where
   pub front : List ℕ
   pub took : TookFront old new old_place new_place front
-  pub undecided : IsUndecided reads_legacy front
+  pub undecided : IsUndecided legacy front
   pub other : e ≢ io.OutOfMemory
   pub all : IsQuiet old_faults new_faults → front ≡ old.bytes
   pub early : IsQuiet old_faults new_faults → IsTrue old.ends_well → e ≡ io.UnexpectedEof
 
 -- Memory was refused after a front of which no shorter one decides.
-pub record RunsOut (old new : Stretch) (old_place new_place : ℕ) : Type 0 where
+pub record RunsOut (legacy : Bool) (old new : Stretch) (old_place new_place : ℕ) : Type 0 where
   pub front : List ℕ
   pub took : TookFront old new old_place new_place front
-  pub shortest : (shorter : List ℕ) (b : ℕ) (more : List ℕ) (v : Verdict) → front ≡ shorter ++ b ∷ more → Decides reads_legacy shorter v → ⊥
+  pub shortest : (shorter : List ℕ) (b : ℕ) (more : List ℕ) (v : Verdict) → front ≡ shorter ++ b ∷ more → Decides legacy shorter v → ⊥
 
 -- Why no header was read, and what was taken.
-abbrev pub RefusesHeader : ℕ → ℕ → Stretch → Stretch → ℕ → ℕ → DecryptRefusal → Type 0
-RefusesHeader old_faults new_faults old new old_place new_place InvalidHeader =
-    (front : List ℕ) × TookVerdict old new old_place new_place front Bad
-RefusesHeader old_faults new_faults old new old_place new_place UnknownFormat =
-    (front : List ℕ) × TookVerdict old new old_place new_place front UnknownVersion
-RefusesHeader old_faults new_faults old new old_place new_place (Io e) = BreaksOff old_faults new_faults old new old_place new_place e
-RefusesHeader old_faults new_faults old new old_place new_place OutOfMemory = RunsOut old new old_place new_place
-RefusesHeader old_faults new_faults old new old_place new_place _ = ⊥
+abbrev pub RefusesHeader : Bool → ℕ → ℕ → Stretch → Stretch → ℕ → ℕ → DecryptRefusal → Type 0
+RefusesHeader legacy old_faults new_faults old new old_place new_place InvalidHeader =
+    (front : List ℕ) × TookVerdict legacy old new old_place new_place front Bad
+RefusesHeader legacy old_faults new_faults old new old_place new_place UnknownFormat =
+    (front : List ℕ) × TookVerdict legacy old new old_place new_place front UnknownVersion
+RefusesHeader legacy old_faults new_faults old new old_place new_place (Io e) = BreaksOff legacy old_faults new_faults old new old_place new_place e
+RefusesHeader legacy old_faults new_faults old new old_place new_place OutOfMemory = RunsOut legacy old new old_place new_place
+RefusesHeader legacy old_faults new_faults old new old_place new_place _ = ⊥

@@ -69,7 +69,7 @@ fn next_byte<R: Read>(reader: &mut R) -> Result<u8, io::Error>
 }
 
 // Whether headers with the legacy form of a stanza are read.
-const READS_LEGACY: bool = false;
+const READS_LEGACY: bool = true;
 
 // How many bytes of a header's text the MAC doesn't cover: a space, the 43 columns of the MAC, and LF.
 const UNCOVERED: usize = 45;
@@ -128,8 +128,9 @@ fn mac_key(file_key: &FileKey) -> [u8; 32]
 }
 
 impl HeaderV1 {
-    /// Reads the header at the front of what `reader` still has, and no byte more. The covered bytes are those that were
-    /// read.
+    /// Reads the header at the front of what `reader` still has, and no byte more. The legacy form of a stanza is read too,
+    /// which leaves out the final line of the body where it would be empty. The covered bytes are those that were read, in
+    /// whichever form.
     ///
     /// `InvalidHeader` comes at the first byte that departs from how each header begins or that is neither LF nor
     /// printable, and at the LF of a line that no header has there; `UnknownFormat` at the LF of another version's line.
@@ -142,9 +143,9 @@ impl HeaderV1 {
         ensures unspent { OnOk result (R.faults reader.new < most_faults) }
         ensures patient { IfErr result (λ e. IsInterruptedRefusal (decrypt_refusal e) → ⊥) }
         ensures header { IsTrue (R.tells reader.old) → IfOk result (λ h.
-            ReadsHeader (R.rest reader.old) (R.rest reader.new) (R.place reader.old) (R.place reader.new) h) }
+            ReadsHeader reads_legacy (R.rest reader.old) (R.rest reader.new) (R.place reader.old) (R.place reader.new) h) }
         ensures refused { IsTrue (R.tells reader.old) → IfErr result (λ e.
-            RefusesHeader (R.faults reader.old) (R.faults reader.new) (R.rest reader.old) (R.rest reader.new)
+            RefusesHeader reads_legacy (R.faults reader.old) (R.faults reader.new) (R.rest reader.old) (R.rest reader.new)
             (R.place reader.old) (R.place reader.new) (decrypt_refusal e)) }
         ensures io { IfErr result (λ e. IfIoRefusal (OrEarly ⟦<R as Read>⟧ reader.old) (decrypt_refusal e)) }
         ensures narrows { OnOk result (AddsNoReason (TriedAgain R.refuses) reader.old reader.new) }
@@ -195,8 +196,9 @@ impl HeaderV1 {
         Ok(text)
     }
 
-    /// Writes the canonical text. `OutOfMemory` comes before a byte is written, where memory for the text is refused. Any
-    /// other refusal is that of the writer, and leaves a beginning of the text written.
+    /// Writes the canonical text, also of a header that was read in the legacy form, whose MAC covers other bytes.
+    /// `OutOfMemory` comes before a byte is written, where memory for the text is refused. Any other refusal is that of the
+    /// writer, and leaves a beginning of the text written.
     pub fn write<W: Write>(&self, alloc: Global, writer: &mut W) -> Result<(), io::Error>
         ensures writes { WritesAll W.tells W.faults (OrMemory (Retried W.refuses)) W.appended writer.old writer.new
             (header_text self.now.stanzas self.now.mac) result }
@@ -206,7 +208,8 @@ impl HeaderV1 {
         write_all(writer, text.as_slice())
     }
 
-    /// Whether the MAC is that of the covered bytes under the file key. It takes no memory.
+    /// Whether the MAC is that of the covered bytes under the file key: of the bytes as they were read, where the header was
+    /// read, and so also where that was the legacy form. It takes no memory.
     pub fn verify_mac(&self, file_key: &FileKey) -> bool
         ensures { IsTrue result ↔ (self.now.mac ≡ header_mac file_key.now self.now.covered) }
     {

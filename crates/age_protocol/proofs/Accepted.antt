@@ -84,7 +84,7 @@ module _ (alone : ReadsAlone) (one : HasOneVerdict) where
 
   module _ (header : List ℕ) (stanzas : List StanzaValue) (mac nonce more : List ℕ) where
     header_accepted : (f g : ℕ) (old new : Stretch) (p q : ℕ) (e : DecryptRefusal) → BeginsAsFile header stanzas mac nonce more old.bytes
-        → IsQuiet f g → RefusesHeader f g old new p q e → e ≡ refusals.OutOfMemory
+        → IsQuiet f g → RefusesHeader reads_legacy f g old new p q e → e ≡ refusals.OutOfMemory
     header_accepted f g old new p q refusals.OutOfMemory begins quiet why = refl
     header_accepted f g old new p q refusals.InvalidHeader begins quiet why =
         let same = (one reads_legacy old.bytes why.0 header Bad (Header stanzas mac) why.1.verdict (verdict_of header stanzas mac nonce more old.bytes begins)).1 in cc

@@ -5,7 +5,7 @@ use Rattle.age_io.specs.Stretch.{whole, stretch-ext}
 use Rattle.age_armor.specs.Armor.{Carries}
 use Rattle.age_armor.specs.Delivered.{delivered, stretch_of, Clean}
 use Rattle.age_format.specs.Stanza.{StanzaValue}
-use Rattle.age_format.specs.HeaderV1.{header_mac}
+use Rattle.age_format.specs.HeaderV1.{header_mac, reads_legacy}
 use Rattle.age_format.specs.Unwrapping.{UnwrapAnswer, Unwraps}
 use Rattle.age_stream.specs.Payload.{Seal, payload, LastIsNoMiddle}
 use Rattle.age_protocol.specs.Answering.{decided}
@@ -34,20 +34,20 @@ module _ {I : Type 0} (seal_of : Seal) (unwraps : I → List StanzaValue → Unw
   pub gives_back : CarriesOne → OneHeader seal_of → OnePlain seal_of → GivesBack seal_of unwraps
   gives_back one_list one_header one_plain before after text file plain given carries for is =
       let same : is.carried ≡ file = one_list text is.carried file is.carries carries in
-      let got : IsFileOf seal_of is.file_key is.stanzas given file = subst (λ x. IsFileOf seal_of is.file_key is.stanzas given x) same is.is_file in
+      let got : IsFileOf reads_legacy seal_of is.file_key is.stanzas given file = subst (λ x. IsFileOf reads_legacy seal_of is.file_key is.stanzas given x) same is.is_file in
       let stanzas : is.stanzas ≡ for.stanzas = one_header is.file_key for.file_key is.stanzas for.stanzas given plain file got for.is_file in
       elim (for.right (Some (Ok is.file_key)) (alone_answers unwraps before for.stanzas (Some (Ok is.file_key)) after
       (subst (λ s. Unwraps unwraps before s (Some (Ok is.file_key)) after) stanzas is.asked))) [
         | inl answer ↦
             let key : is.file_key ≡ for.file_key = same_key is.file_key for.file_key answer in
             one_plain for.file_key is.stanzas for.stanzas given plain file is.bytes for.bytes
-            (subst (λ k. IsFileOf seal_of k is.stanzas given file) key got) for.is_file
+            (subst (λ k. IsFileOf reads_legacy seal_of k is.stanzas given file) key got) for.is_file
         | inr none ↦ no_key is.file_key OutOfMemory none
       ]
 
   module _ (alone : ReadsAlone) (one : HasOneVerdict) (before after : I) (text file plain : List ℕ) (refusal : DecryptRefusal)
       (for : IsFileFor seal_of (FirstAnswer unwraps (before ∷ [])) plain file) (start_is : read_of text ≡ whole file) where
-    abbrev f : IsFileOf seal_of for.file_key for.stanzas plain file
+    abbrev f : IsFileOf reads_legacy seal_of for.file_key for.stanzas plain file
     f = for.is_file
 
     abbrev sealed : List ℕ

@@ -12,7 +12,7 @@ use Rattle.age_protocol.specs.FileErrors.{DecryptsUnless}
 use Rattle.age_protocol.specs.Texts.{RefusesKey, RefusesText, BeginsText}
 use Rattle.age_protocol.specs.declared.error.FileError.{FileError}
 use Rattle.age_protocol.specs.declared.error.FileError.TheVariants.{Io, Encrypt, Decrypt}
-use Rattle.age_format.specs.HeaderV1.{HeaderValue}
+use Rattle.age_format.specs.HeaderV1.{HeaderValue, reads_legacy}
 use Rattle.age_suite.specs.declared.suite.Suite.{Ghosts as SuiteMembers}
 use Rattle.age_io.specs.declared.traits.Read.{Ghosts as ReadMembers}
 use Rattle.age_stream.specs.declared.reader.StreamReader.{StreamReader}
@@ -35,7 +35,7 @@ both_told a b a' b' p q t = rw (p, q) t
 
 -- the causes by which what a text delivers doesn't begin as a file
 abbrev Causes : ℕ → ℕ → Stretch → Stretch → ℕ → ℕ → DecryptRefusal → Type 0
-Causes old_faults new_faults old new old_place new_place e = RefusesHeader old_faults new_faults old new old_place new_place e
+Causes old_faults new_faults old new old_place new_place e = RefusesHeader reads_legacy old_faults new_faults old new old_place new_place e
     ⊎ LacksNonce old_faults new_faults old new old_place new_place e
     ⊎ BreaksRule old new old_place new_place e
 
@@ -64,13 +64,13 @@ refuses_text read r_tells r_rest r_faults text last reader r_last e told old_fau
 pub begins_text : {R : Type 0} (r_tells : R → Bool) (r_rest : R → Stretch) (reader : R) (h : HeaderValue) (nonce : List ℕ)
     (tells : Bool) (start left : Stretch) (start_place place : ℕ) → tells ≡ r_tells reader → start_place ≡ 0
     → start ≡ stretch_of (delivered (r_rest reader).bytes (r_rest reader).ends_well)
-    → (IsTrue tells → ReadsFront start left start_place place h nonce) → BeginsText r_tells r_rest reader h nonce left
+    → (IsTrue tells → ReadsFront reads_legacy start left start_place place h nonce) → BeginsText r_tells r_rest reader h nonce left
 begins_text r_tells r_rest reader h nonce tells start left start_place place told at_front is front = record {
   place = place;
   front = λ tells_text.
-      let by_place : ReadsFront start left 0 place h nonce =
-      subst (λ (p : ℕ). ReadsFront start left p place h nonce) at_front (front (told ∙ tells_text)) in
-      subst (λ (s : Stretch). ReadsFront s left 0 place h nonce) is by_place;
+      let by_place : ReadsFront reads_legacy start left 0 place h nonce =
+      subst (λ (p : ℕ). ReadsFront reads_legacy start left p place h nonce) at_front (front (told ∙ tells_text)) in
+      subst (λ (s : Stretch). ReadsFront reads_legacy s left 0 place h nonce) is by_place;
 }
 
 -- what follows from each cause follows

@@ -8,7 +8,7 @@ use Rattle.age_error.specs.declared.io.Error.{Error}
 use Rattle.age_suite.specs.Mac.{hkdf_of}
 use Rattle.age_base64.specs.Lines.{line}
 use Rattle.age_format.specs.Header.{IsHeader, IsHeaderText, covered, covered_text, header_text, mac_line, version_line}
-use Rattle.age_format.specs.HeaderV1.{HeaderValue, header_mac, reads_legacy}
+use Rattle.age_format.specs.HeaderV1.{HeaderValue, header_mac}
 use Rattle.age_format.specs.Stanza.{StanzaValue}
 use Rattle.age_stream.specs.Payload.{Seal, payload}
 use Rattle.age_stream.specs.Laws.{PayloadLength}
@@ -76,12 +76,12 @@ carries_itself seal_of file_key stanzas plain bytes each f =
     }
 
 -- the file of a plaintext is a file of it
-pub is_file : (seal_of : Seal) (file_key : List ℕ) (h : HeaderValue) (nonce plain : List ℕ) → IsReady file_key h nonce
+pub is_file : {legacy : Bool} (seal_of : Seal) (file_key : List ℕ) (h : HeaderValue) (nonce plain : List ℕ) → IsReady file_key h nonce
     → ((legacy : Bool) (stanzas : List StanzaValue) (mac : List ℕ) → IsHeader stanzas mac → IsHeaderText legacy (header_text stanzas mac) stanzas mac)
     → ((stanzas : List StanzaValue) (mac : List ℕ) → length mac ≡ 32 → covered (header_text stanzas mac) ≡ covered_text stanzas)
-    → IsFileOf seal_of file_key h.stanzas plain (file_text seal_of file_key h.stanzas nonce plain)
+    → IsFileOf legacy seal_of file_key h.stanzas plain (file_text seal_of file_key h.stanzas nonce plain)
 unfolding file_text file_front
-is_file seal_of file_key h nonce plain ready is_text covers =
+is_file {legacy} seal_of file_key h nonce plain ready is_text covers =
     let mac = header_mac file_key (covered_text h.stanzas) in
     let header = header_text h.stanzas mac in
     let good : IsHeader h.stanzas mac = subst (λ m. IsHeader h.stanzas m) ready.right ready.header in
@@ -89,7 +89,7 @@ is_file seal_of file_key h nonce plain ready is_text covers =
       header = header;
       mac = mac;
       nonce = nonce;
-      text = is_text reads_legacy h.stanzas mac good;
+      text = is_text legacy h.stanzas mac good;
       rule = ready.rule;
       right = ap (λ front. header_mac file_key front) (sym (covers h.stanzas mac good.is_mac.len));
       sixteen = ready.sixteen;

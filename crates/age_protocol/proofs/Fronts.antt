@@ -1,5 +1,5 @@
 -- What was read before the payload.
-use Rattle.std.proofs.Common.{◌≡◌, ◌∙◌, refl, sym, ap, subst, ℕ, ◌+◌, List, ◌++◌, length, IsTrue, Result, Ok, Err, IfErr, IsErrAnd, append_assoc, length-append, arith}
+use Rattle.std.proofs.Common.{◌≡◌, ◌∙◌, refl, sym, ap, subst, ℕ, ◌+◌, Bool, List, ◌++◌, length, IsTrue, Result, Ok, Err, IfErr, IsErrAnd, append_assoc, length-append, arith}
 use Rattle.age_error.specs.Bytes.{AreBytesOf}
 use Rattle.age_error.specs.Refusals.{IsDevice}
 use Rattle.age_error.specs.DecryptErrors.{decrypt_refusal, decrypt_of_io, IsDeviceRefusal}
@@ -15,9 +15,9 @@ use Rattle.age_protocol.specs.File.{payload_key, IsFileOf}
 use Rattle.age_protocol.specs.Decrypting.{TookHeaderAndNonce, ReadsFront}
 
 -- a nonce follows the header
-pub took_both : (old after new : Stretch) (old_place after_place new_place : ℕ) (h : HeaderValue) (nonce : List ℕ)
-    → ReadsHeader old after old_place after_place h → AreBytesOf 16 nonce → Delivers nonce after new → new_place ≡ after_place + length nonce
-    → TookHeaderAndNonce old new old_place new_place h nonce
+pub took_both : {legacy : Bool} (old after new : Stretch) (old_place after_place new_place : ℕ) (h : HeaderValue) (nonce : List ℕ)
+    → ReadsHeader legacy old after old_place after_place h → AreBytesOf 16 nonce → Delivers nonce after new → new_place ≡ after_place + length nonce
+    → TookHeaderAndNonce legacy old new old_place new_place h nonce
 took_both old after new old_place after_place new_place h nonce reads sixteen gave moved = record {
   header = reads.front;
   verdict = reads.took.verdict;
@@ -54,10 +54,10 @@ is_device io.Failed d = d
 is_device io.OutOfMemory d = d
 
 -- what stood before a payload and a clean end, with the right MAC, makes a file
-pub file_of : (seal_of : Seal) (file_key : List ℕ) (h : HeaderValue) (nonce : List ℕ) (start rest : Stretch) (start_place place : ℕ) (plain : List ℕ)
-    → h.mac ≡ header_mac file_key h.covered → ReadsFront start rest start_place place h nonce
+pub file_of : {legacy : Bool} (seal_of : Seal) (file_key : List ℕ) (h : HeaderValue) (nonce : List ℕ) (start rest : Stretch) (start_place place : ℕ) (plain : List ℕ)
+    → h.mac ≡ header_mac file_key h.covered → ReadsFront legacy start rest start_place place h nonce
     → rest ≡ whole (payload seal_of (payload_key file_key nonce) plain)
-    → IsTrue start.ends_well × IsFileOf seal_of file_key h.stanzas plain start.bytes
+    → IsTrue start.ends_well × IsFileOf legacy seal_of file_key h.stanzas plain start.bytes
 file_of seal_of file_key h nonce start rest start_place place plain right reads is =
     let took = reads.took in (
       subst (λ b. IsTrue b) (sym (ap (λ s. s.ends_well) is) ∙ took.delivered.end) refl,

@@ -1,9 +1,8 @@
 -- A file tells its stanzas, and under a file key its plaintext.
-use Rattle.std.proofs.Common.{◌≡◌, ◌∙◌, sym, ap, subst, ℕ, List, ◌++◌, take, drop, take_at, drop_at}
+use Rattle.std.proofs.Common.{◌≡◌, ◌∙◌, sym, ap, subst, ℕ, Bool, List, ◌++◌, take, drop, take_at, drop_at}
 use Rattle.std.proofs.lemmas.List.{append_cancel_left}
 use Rattle.age_error.specs.Bytes.{AreBytesOf}
 use Rattle.age_format.specs.Stanza.{StanzaValue}
-use Rattle.age_format.specs.HeaderV1.{reads_legacy}
 use Rattle.age_format.specs.Verdict.{Header, IsVerdict}
 use Rattle.age_suite.specs.Mac.{hkdf_of}
 use Rattle.age_stream.specs.Payload.{Seal, payload}
@@ -13,16 +12,16 @@ use Rattle.age_protocol.specs.Laws.{OneHeader, OnePlain}
 use Rattle.age_protocol.proofs.Accepted.{ReadsAlone, HasOneVerdict}
 
 module _ (alone : ReadsAlone) (one : HasOneVerdict) (seal_of : Seal) where
-  verdict : (k : List ℕ) (s : List StanzaValue) (p bytes : List ℕ) (f : IsFileOf seal_of k s p bytes)
-      → IsVerdict reads_legacy bytes f.header (Header s f.mac)
-  verdict k s p bytes f =
-      subst (λ input. IsVerdict reads_legacy input f.header (Header s f.mac)) (sym f.whole)
-      (alone reads_legacy f.header (f.nonce ++ payload seal_of (payload_key k f.nonce) p) s f.mac f.text)
+  verdict : {legacy : Bool} (k : List ℕ) (s : List StanzaValue) (p bytes : List ℕ) (f : IsFileOf legacy seal_of k s p bytes)
+      → IsVerdict legacy bytes f.header (Header s f.mac)
+  verdict {legacy} k s p bytes f =
+      subst (λ input. IsVerdict legacy input f.header (Header s f.mac)) (sym f.whole)
+      (alone legacy f.header (f.nonce ++ payload seal_of (payload_key k f.nonce) p) s f.mac f.text)
 
-  same_header : (k l : List ℕ) (s t : List StanzaValue) (p q bytes : List ℕ) (f : IsFileOf seal_of k s p bytes) (g : IsFileOf seal_of l t q bytes)
+  same_header : {legacy : Bool} (k l : List ℕ) (s t : List StanzaValue) (p q bytes : List ℕ) (f : IsFileOf legacy seal_of k s p bytes) (g : IsFileOf legacy seal_of l t q bytes)
       → (f.header ≡ g.header) × (s ≡ t)
-  same_header k l s t p q bytes f g =
-      let same = one reads_legacy bytes f.header g.header (Header s f.mac) (Header t g.mac) (verdict k s p bytes f) (verdict l t q bytes g) in
+  same_header {legacy} k l s t p q bytes f g =
+      let same = one legacy bytes f.header g.header (Header s f.mac) (Header t g.mac) (verdict k s p bytes f) (verdict l t q bytes g) in
       let says = same.1 in
       (same.0, Prim.cc)
 
@@ -30,7 +29,7 @@ module _ (alone : ReadsAlone) (one : HasOneVerdict) (seal_of : Seal) where
   one_header k l s t p q bytes f g = (same_header k l s t p q bytes f g).1
 
   -- under one file key they have the same payload
-  pub same_payload : (k : List ℕ) (s t : List StanzaValue) (p q bytes : List ℕ) (f : IsFileOf seal_of k s p bytes) → IsFileOf seal_of k t q bytes
+  pub same_payload : {legacy : Bool} (k : List ℕ) (s t : List StanzaValue) (p q bytes : List ℕ) (f : IsFileOf legacy seal_of k s p bytes) → IsFileOf legacy seal_of k t q bytes
       → payload seal_of (payload_key k f.nonce) p ≡ payload seal_of (payload_key k f.nonce) q
   same_payload k s t p q bytes f g =
       let sealed = payload seal_of (payload_key k f.nonce) p in

@@ -7,7 +7,7 @@ use Rattle.age_suite.specs.declared.suite.Suite.{Ghosts as SuiteMembers}
 use Rattle.age_io.specs.declared.traits.Read.{Ghosts as ReadMembers}
 use Rattle.age_io.specs.Reading.{IsQuiet}
 use Rattle.age_format.specs.Stanza.{StanzaValue}
-use Rattle.age_format.specs.HeaderV1.{HeaderValue, header_mac}
+use Rattle.age_format.specs.HeaderV1.{HeaderValue, header_mac, reads_legacy}
 use Rattle.age_format.specs.Unwrapping.{UnwrapAnswer}
 use Rattle.age_stream.specs.Payload.{Seal, payload}
 use Rattle.age_stream.specs.declared.reader.StreamReader.{StreamReader}
@@ -22,7 +22,7 @@ pub never_fails : {T : Type 0} (faults : T → ℕ) (a b : T) → ((t : T) → f
 never_fails faults a b none = record { same = none b ∙ sym (none a); below = omega (arith, none b) }
 
 -- a file begins as one
-pub begins : (seal_of : Seal) (file_key : List ℕ) (stanzas : List StanzaValue) (plain text : List ℕ) (f : IsFileOf seal_of file_key stanzas plain text)
+pub begins : (seal_of : Seal) (file_key : List ℕ) (stanzas : List StanzaValue) (plain text : List ℕ) (f : IsFileOf reads_legacy seal_of file_key stanzas plain text)
     → BeginsAsFile f.header stanzas f.mac f.nonce (payload seal_of (payload_key file_key f.nonce) plain) text
 begins seal_of file_key stanzas plain text f = record { text = f.text; rule = f.rule; sixteen = f.sixteen; whole = f.whole }
 

@@ -1,5 +1,5 @@
 -- Why a reader of a payload and a reader of a text refuse, told of the reader below.
-use Rattle.std.specs.Prelude.{◌≡◌, ◌⊎◌, ℕ, ◌+◌, ◌<◌, true, List, ◌++◌, length, drop}
+use Rattle.std.specs.Prelude.{◌≡◌, ◌⊎◌, ℕ, ◌+◌, ◌<◌, Bool, true, List, ◌++◌, length, drop}
 use Rattle.std.proofs.Common.{◌∙◌, sym, ap, subst, refl, inl, inr, arith, drop_at, length-append}
 use Rattle.std.proofs.lemmas.List.{drop-drop}
 use Rattle.age_error.specs.declared.io.Error.{Error}
@@ -64,8 +64,8 @@ left-stands content rest left place front stands came some =
     ]
 
 -- after the header and the nonce the rest is that of the content
-pub front-stands : (content rest left : Stretch) (place after : ℕ) (h : HeaderValue) (nonce : List ℕ) → StandsIn content place rest
-    → ReadsFront rest left place after h nonce → from_place after content ≡ left
+pub front-stands : {legacy : Bool} (content rest left : Stretch) (place after : ℕ) (h : HeaderValue) (nonce : List ℕ) → StandsIn content place rest
+    → ReadsFront legacy rest left place after h nonce → from_place after content ≡ left
 front-stands content rest left place after h nonce stands front =
     let took = front.took in
     let some : 0 < length (took.header ++ nonce) = omega (arith, length-append took.header nonce, took.sixteen.len) in

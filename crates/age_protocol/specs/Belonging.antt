@@ -9,6 +9,7 @@ use Rattle.age_format.specs.Unwrapping.{UnwrapAnswer, Unwraps}
 use Rattle.age_stream.specs.Payload.{Seal, LastIsNoMiddle}
 use Rattle.age_protocol.specs.Labels.{has_scrypt}
 use Rattle.age_protocol.specs.Encrypting.{Prepared, Prepares}
+use Rattle.age_format.specs.HeaderV1.{reads_legacy}
 use Rattle.age_protocol.specs.File.{IsFileOf, payload_key}
 use Rattle.age_protocol.specs.Parts.{FirstAnswer, IsFileFor}
 
@@ -70,6 +71,6 @@ module _ {R : Type 0} (wraps : R → List ℕ → List ℕ → WrapAnswer → Li
     AnyDecrypts seal_of =
         (recipients : List R) (identity : I) (grease : Option StanzaValue) (draws left : List ℕ) (file : Prepared) (plain text : List ℕ)
         → BelongsToOne recipients identity → Prepares wraps recipients grease draws (Ok file) left
-        → (is_file : IsFileOf seal_of file.file_key file.stanzas plain text)
+        → (is_file : IsFileOf reads_legacy seal_of file.file_key file.stanzas plain text)
         → AreBytes plain → length plain ≤ 2 ^ 60 → LastIsNoMiddle seal_of (payload_key file.file_key is_file.nonce) plain
         → IsFileFor seal_of (FirstAnswer unwraps (identity ∷ [])) plain text

@@ -1,5 +1,5 @@
 -- The text of an encrypted file: its header, the payload nonce and the payload.
-use Rattle.std.specs.Prelude.{◌≡◌, ℕ, List, ◌++◌, codes}
+use Rattle.std.specs.Prelude.{◌≡◌, ℕ, Bool, List, ◌++◌, codes}
 use Rattle.age_error.specs.Bytes.{AreBytesOf}
 use Rattle.age_suite.specs.Mac.{hkdf_of}
 use Rattle.age_format.specs.Stanza.{StanzaValue}
@@ -22,17 +22,17 @@ unfoldable pub file_text : Seal → List ℕ → List StanzaValue → List ℕ �
 file_text seal_of file_key stanzas nonce plain =
     file_front file_key stanzas nonce ++ payload seal_of (payload_key file_key nonce) plain
 
--- the text of a header as it is read from files
-abbrev pub IsFileHeader : List ℕ → List StanzaValue → List ℕ → Type 0
-IsFileHeader text stanzas mac = IsHeaderText reads_legacy text stanzas mac
+-- the text of a header as it is read from files, also in the legacy form where `legacy` is true
+abbrev pub IsFileHeader : Bool → List ℕ → List StanzaValue → List ℕ → Type 0
+IsFileHeader legacy text stanzas mac = IsHeaderText legacy text stanzas mac
 
 -- The bytes are a file of this plaintext under this file key: a header of these stanzas which keeps the rule on passphrases
 -- and whose MAC is right, a nonce, the plaintext's payload, and nothing else.
-pub record IsFileOf (seal_of : Seal) (file_key : List ℕ) (stanzas : List StanzaValue) (plain bytes : List ℕ) : Type 0 where
+pub record IsFileOf (legacy : Bool) (seal_of : Seal) (file_key : List ℕ) (stanzas : List StanzaValue) (plain bytes : List ℕ) : Type 0 where
   pub header : List ℕ
   pub mac : List ℕ
   pub nonce : List ℕ
-  pub text : IsFileHeader header stanzas mac
+  pub text : IsFileHeader legacy header stanzas mac
   pub rule : KeepsScryptRule stanzas
   pub right : mac ≡ header_mac file_key (covered header)
   pub sixteen : AreBytesOf 16 nonce
@@ -49,7 +49,7 @@ pub record IsReady (file_key : List ℕ) (h : HeaderValue) (nonce : List ℕ) : 
 
 -- The bytes begin as a file does: a header that keeps the rule on passphrases, and a nonce. What follows may be anything.
 pub record BeginsAsFile (header : List ℕ) (stanzas : List StanzaValue) (mac nonce more bytes : List ℕ) : Type 0 where
-  pub text : IsFileHeader header stanzas mac
+  pub text : IsFileHeader reads_legacy header stanzas mac
   pub rule : KeepsScryptRule stanzas
   pub sixteen : AreBytesOf 16 nonce
   pub whole : bytes ≡ header ++ (nonce ++ more)

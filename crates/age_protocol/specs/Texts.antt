@@ -3,7 +3,7 @@ use Rattle.std.specs.Prelude.{◌≡◌, ◌≢◌, ◌⊎◌, ◌≤◌, ◌<�
 use Rattle.age_error.specs.DecryptErrors.{DecryptRefusal, IsDeviceRefusal, InvalidMac, OutOfMemory}
 use Rattle.age_io.specs.Stretch.{Stretch}
 use Rattle.age_armor.specs.Delivered.{delivered, stretch_of}
-use Rattle.age_format.specs.HeaderV1.{HeaderValue, header_mac}
+use Rattle.age_format.specs.HeaderV1.{HeaderValue, header_mac, reads_legacy}
 use Rattle.age_format.specs.ReadingHeader.{RefusesHeader}
 use Rattle.age_protocol.specs.Decrypting.{ReadsFront, LacksNonce, BreaksRule}
 
@@ -16,7 +16,7 @@ pub record RefusesText {R : Type 0} (tells : R → Bool) (rest : R → Stretch) 
   pub place : ℕ
   -- of a reader that tells its bytes
   pub why : let text = stretch_of (delivered (rest old).bytes (rest old).ends_well) in IsTrue (tells old)
-      → RefusesHeader (faults old) (faults last) text left 0 place e
+      → RefusesHeader reads_legacy (faults old) (faults last) text left 0 place e
       ⊎ LacksNonce (faults old) (faults last) text left 0 place e
       ⊎ BreaksRule text left 0 place e
 
@@ -24,11 +24,11 @@ pub record RefusesText {R : Type 0} (tells : R → Bool) (rest : R → Stretch) 
 pub record BeginsText {R : Type 0} (tells : R → Bool) (rest : R → Stretch) (old : R) (h : HeaderValue) (nonce : List ℕ) (left : Stretch) : Type 0 where
   pub place : ℕ
   -- of a reader that tells its bytes
-  pub front : IsTrue (tells old) → ReadsFront (stretch_of (delivered (rest old).bytes (rest old).ends_well)) left 0 place h nonce
+  pub front : IsTrue (tells old) → ReadsFront reads_legacy (stretch_of (delivered (rest old).bytes (rest old).ends_well)) left 0 place h nonce
 
 -- A header and a nonce stand at the front of a stretch, and this is left after them.
 abbrev pub Begins : Stretch → ℕ → HeaderValue → List ℕ → Stretch → Type 0
-Begins start start_place h nonce left = (place : ℕ) × ReadsFront start left start_place place h nonce
+Begins start start_place h nonce left = (place : ℕ) × ReadsFront reads_legacy start left start_place place h nonce
 
 -- after the identity that decides has answered: its own refusal, or the header's MAC is wrong under its file key, or memory was refused
 abbrev pub RefusesKey : Result (List ℕ) DecryptRefusal → HeaderValue → DecryptRefusal → Type 0

@@ -4,6 +4,7 @@ ghost use Rattle.age_error.specs.Bytes.{AreBytesOf};
 ghost use Rattle.age_error.specs.DecryptErrors.{decrypt_refusal, IsInterruptedRefusal};
 ghost use Rattle.age_io.specs.Reading.{AddsNoReason, TriedAgain, most_faults};
 ghost use Rattle.age_format.specs.Header.{KeepsScryptRule};
+ghost use Rattle.age_format.specs.HeaderV1.{reads_legacy};
 ghost use Rattle.age_format.specs.Unwrapping.{UnwrapAnswer, Unwraps};
 ghost use Rattle.age_protocol.specs.Answering.{FirstThatAnswers, decided};
 ghost use Rattle.age_io.specs.Keeping.{SameReader};
@@ -33,7 +34,8 @@ pub struct Decryptor<S, R> {
 impl<S: Suite, R: Read + Drop> Decryptor<S, R> {
     ghost use Rattle.age_protocol.specs.Decryptor.{header_of, nonce_of, input_of};
 
-    /// Reads the header and the nonce of 16 bytes from the front of the input, and no byte after them.
+    /// Reads the header and the nonce of 16 bytes from the front of the input, and no byte after them. The header may be in
+    /// the legacy form, as by `HeaderV1::read`, and its MAC then covers the bytes as they were read.
     ///
     /// The refusals, in the order in which they are looked for: those of `HeaderV1::read`; where fewer than 16 bytes follow
     /// the header `Io(UnexpectedEof)`, or the reader's own refusal where it doesn't end well; `InvalidHeader` where a stanza
@@ -45,7 +47,7 @@ impl<S: Suite, R: Read + Drop> Decryptor<S, R> {
         ensures sixteen { IfOk result (λ d. AreBytesOf 16 (nonce_of d)) }
         ensures rule { IfOk result (λ d. KeepsScryptRule (header_of d).stanzas) }
         ensures front { IsTrue (R.tells input) → IfOk result (λ d.
-            ReadsFront (R.rest input) (R.rest (input_of d)) (R.place input) (R.place (input_of d)) (header_of d) (nonce_of d)) }
+            ReadsFront reads_legacy (R.rest input) (R.rest (input_of d)) (R.place input) (R.place (input_of d)) (header_of d) (nonce_of d)) }
         ensures patient { IfErr result (λ e. IsInterruptedRefusal (decrypt_refusal e) → ⊥) }
         ensures refused { IfErr result (λ e. (last : R) × RefusesFront ⟦<R as Read>⟧ input last (decrypt_refusal e)) }
     {

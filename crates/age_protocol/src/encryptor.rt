@@ -5,6 +5,7 @@ ghost use Rattle.age_error.specs.Refusals.{IsInterruption};
 ghost use Rattle.age_error.specs.declared.io.Error.TheVariants.{OutOfMemory};
 ghost use Rattle.age_protocol.specs.Answers.{encrypt_answer};
 ghost use Rattle.age_format.specs.Header.{header_text, IsHeader, KeepsScryptRule};
+ghost use Rattle.age_format.specs.HeaderV1.{reads_legacy};
 ghost use Rattle.age_format.specs.Drawing.{IsOrNoMemory};
 ghost use Rattle.age_protocol.specs.Encrypting.{Prepares};
 ghost use Rattle.age_io.specs.Writing.{WritesAll, Retried, OrMemory};
@@ -155,7 +156,7 @@ impl<S: Suite> Encryptor<S> {
         ensures file { IsTrue (W.tells output) → IfOk result (WritesFile S.seal_of W.appended ⟦<StreamWriter<S, W> as Write>⟧.appended self output) }
         // By the definition of a file that decryptors are proved by, what it writes is one.
         ensures is_file { OnOk result ((plain : List ℕ) →
-            IsFileOf S.seal_of self.file_key self.stanzas plain (file_text S.seal_of self.file_key self.stanzas self.nonce plain)) }
+            IsFileOf reads_legacy S.seal_of self.file_key self.stanzas plain (file_text S.seal_of self.file_key self.stanzas self.nonce plain)) }
         ensures bytes { OnOk result ((plain : List ℕ) → AreBytes plain → AreBytes (file_text S.seal_of self.file_key self.stanzas self.nonce plain)) }
         ensures refused { IfErr result (GivesUp W.tells W.faults W.refuses W.appended self output) }
         ensures patient { IfErr result (λ e. IsInterruption e → ⊥) }

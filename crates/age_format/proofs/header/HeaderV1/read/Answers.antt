@@ -3,6 +3,7 @@ use Rattle.age_error.specs.declared.decrypt.DecryptError.TheVariants as decrypt
 use Rattle.age_error.specs.DecryptErrors.{DecryptRefusal, IfIoRefusal, decrypt_of_io}
 use Rattle.age_io.specs.Keeping.{OrEarly}
 use Rattle.age_io.proofs.Keeping.{early-narrows}
+use Rattle.age_format.specs.HeaderV1.{reads_legacy}
 use Rattle.age_format.specs.ReadingHeader.{RefusesHeader}
 use Rattle.age_format.specs.Verdict.{Header, UnknownVersion, Bad}
 use Rattle.age_format.proofs.HeaderReading.{took_verdict, io_of_error, reads_header, ran_out_after, reader_refused, refusal_of_error}
@@ -51,7 +52,7 @@ returns-in_err-byte-clause-refused g c = λ told.
     (read.place c.args.reader.now) (read.place c.bytes.reader) (read.place c.next_byte.new.reader) c.bytes.header.text e before.legacy
     (before.so_far told) (failed.left here) (before.moved told) (failed.stays here) c.text-size.ensures.undecided
     before.same.faults failed.keeps.same.faults (failed.cause here) in
-    let refuses = λ (x : DecryptRefusal). RefusesHeader (read.faults c.args.reader.now) (read.faults c.next_byte.new.reader)
+    let refuses = λ (x : DecryptRefusal). RefusesHeader reads_legacy (read.faults c.args.reader.now) (read.faults c.next_byte.new.reader)
     (read.rest c.args.reader.now) (read.rest c.next_byte.new.reader) (read.place c.args.reader.now) (read.place c.next_byte.new.reader) x in
     refusal_of_error c.from_residual.result (decrypt_of_io e) refuses c.from_residual.ensures.1 refused
 
@@ -73,6 +74,6 @@ returns-in_err-more-clause-refused g c = λ told.
     let ran_out = ran_out_after c.bytes.header.legacy (read.rest c.args.reader.now) (read.rest c.bytes.reader) (read.rest c.next_byte.new.reader)
     (read.place c.args.reader.now) (read.place c.bytes.reader) (read.place c.next_byte.new.reader) c.bytes.header.text c.in_ok-byte.byte before.legacy
     (before.so_far told) (c.in_ok-byte.ensures.byte here) (before.moved told) (c.in_ok-byte.ensures.moves here) c.text-size.ensures.undecided in
-    let refuses = λ (x : DecryptRefusal). RefusesHeader (read.faults c.args.reader.now) (read.faults c.next_byte.new.reader)
+    let refuses = λ (x : DecryptRefusal). RefusesHeader reads_legacy (read.faults c.args.reader.now) (read.faults c.next_byte.new.reader)
     (read.rest c.args.reader.now) (read.rest c.next_byte.new.reader) (read.place c.args.reader.now) (read.place c.next_byte.new.reader) x in
     refusal_of_error c.from_residual-in_err-more.result decrypt.OutOfMemory refuses c.from_residual-in_err-more.ensures.1 ran_out
