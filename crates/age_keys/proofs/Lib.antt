@@ -1,0 +1,4 @@
+pub mod Strings
+pub mod Asking
+pub mod Shares
+pub mod Opening

@@ -1,0 +1,72 @@
+-- The X25519 recipient type (age-encryption.org/v1, section "The X25519 recipient type"). Under "standard" stands what it asks, in
+-- our words. Keys, shares and shared secrets are lists of 32 bytes.
+use Rattle.std.specs.Prelude.{◌≡◌, ◌≢◌, ◌⊎◌, ℕ, List, [], ◌∷◌, ◌++◌, length, replicate, codes, bytes_eq, if◌then◌else◌, Option, Some, None, option_map, Result, Ok, Err}
+use Rattle.age_error.specs.Bytes.{AreBytesOf}
+use Rattle.age_error.specs.EncryptErrors.{EncryptRefusal, ZeroSharedSecret}
+use Rattle.age_error.specs.DecryptErrors.{InvalidHeader, OutOfMemory}
+use Rattle.age_suite.specs.Mac.{hkdf_of}
+use Rattle.age_base64.specs.Base64.{columns}
+use Rattle.age_format.specs.Stanza.{StanzaValue}
+use Rattle.age_format.specs.Wrapping.{Wrapped, WrapAnswer}
+use Rattle.age_format.specs.Unwrapping.{UnwrapAnswer}
+use Rattle.age_format.specs.Drawing.{Ends, After, WithDrawn}
+
+-- the key that a file key is sealed with
+-- standard: HKDF-SHA-256 of the shared secret, with the share and then the recipient as salt and the name of the type as info
+abbrev pub wrap_key : List ℕ → List ℕ → List ℕ → List ℕ
+wrap_key share recipient shared = hkdf_of (share ++ recipient) (codes "age-encryption.org/v1/X25519") shared
+
+-- standard: the nonce is 12 zero bytes, since each wrap key is used once
+abbrev pub no_nonce : List ℕ
+no_nonce = replicate 12 0
+
+-- the secret that everybody can share: both sides abort at it
+-- standard: where the shared secret is all zeros, abort
+abbrev pub no_secret : List ℕ
+no_secret = replicate 32 0
+
+-- the stanza of a share and of what stands under it
+-- standard: the type X25519, one argument, the base64 of the share, and a body of 32 bytes
+abbrev pub x25519_stanza : List ℕ → List ℕ → StanzaValue
+x25519_stanza share body = record { tag = codes "X25519"; args = columns share ∷ []; body = body }
+
+-- a stanza has what the type asks, with this share
+pub record HasShare (share : List ℕ) (s : StanzaValue) : Type 0 where
+  pub args : s.args ≡ columns share ∷ []
+  pub bytes : AreBytesOf 32 share
+  pub body : length s.body ≡ 32
+
+module _ (seal_of : List ℕ → List ℕ → List ℕ → List ℕ) (shared_of : List ℕ → List ℕ → List ℕ) (public_of : List ℕ → List ℕ) where
+  -- the file key wrapped for a recipient with an ephemeral secret: one stanza, and no labels
+  -- standard: the share is the ephemeral secret's public value
+  abbrev pub wrapped_with : List ℕ → List ℕ → List ℕ → Result Wrapped EncryptRefusal
+  wrapped_with recipient file_key ephemeral =
+      let share = public_of ephemeral in
+      let shared = shared_of ephemeral recipient in
+      if bytes_eq shared no_secret then Err ZeroSharedSecret
+      else Ok (record { stanzas = x25519_stanza share (seal_of (wrap_key share recipient shared) no_nonce file_key) ∷ []; labels = [] })
+
+  -- What a recipient answers: 32 bytes are drawn for the ephemeral secret, and where that wraps the file key memory can be refused.
+  abbrev pub WrapsFor : List ℕ → List ℕ → List ℕ → WrapAnswer → List ℕ → Type 0
+  WrapsFor recipient file_key = WithDrawn 32 (λ ephemeral. After (wrapped_with recipient file_key ephemeral) (λ wrapped. Ends (Ok wrapped)))
+
+module _ (opened : List ℕ → List ℕ → List ℕ → Option (List ℕ)) (shared_of : List ℕ → List ℕ → List ℕ) (public_of : List ℕ → List ℕ) where
+  -- what the secret of an identity makes of a share and of what stands under it
+  abbrev pub opened_with : List ℕ → List ℕ → List ℕ → UnwrapAnswer
+  opened_with secret share body =
+      let shared = shared_of secret share in
+      if bytes_eq shared no_secret then Some (Err InvalidHeader)
+      else option_map Ok (opened (wrap_key share (public_of secret) shared) no_nonce body)
+
+  -- to a stanza with the tag of this type: where it lacks what the type asks it is refused, else its share and its body decide;
+  -- memory can be refused
+  abbrev pub UnwrapsOwn : List ℕ → StanzaValue → UnwrapAnswer → Type 0
+  UnwrapsOwn secret s answer =
+      (((share : List ℕ) → HasShare share s → ⊥) × (answer ≡ Some (Err InvalidHeader)))
+      ⊎ ((share : List ℕ) × HasShare share s × (answer ≡ opened_with secret share s.body))
+      ⊎ (answer ≡ Some (Err OutOfMemory))
+
+  -- What an identity answers to a stanza: one with another tag is passed over.
+  abbrev pub UnwrapsBy : List ℕ → StanzaValue → UnwrapAnswer → Type 0
+  UnwrapsBy secret s answer =
+      ((s.tag ≢ codes "X25519") × (answer ≡ None)) ⊎ ((s.tag ≡ codes "X25519") × UnwrapsOwn secret s answer)

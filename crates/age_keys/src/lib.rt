@@ -1,0 +1,4 @@
+//! Keys: native recipients and identities, and what texts they have.
+#![tactic(auto)]
+
+pub mod x25519;

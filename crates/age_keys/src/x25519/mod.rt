@@ -1,0 +1,9 @@
+//! The X25519 recipient type (age-encryption.org/v1, section "The X25519 recipient type").
+
+mod identity;
+mod recipient;
+mod unwrapping;
+mod wrapping;
+
+pub use identity::Identity;
+pub use recipient::Recipient;

@@ -1,0 +1,100 @@
+//! Stanzas of the X25519 recipient type.
+ghost use Rattle.std.specs.Prelude.{◌≡◌, ℕ, List, [], ◌∷◌, Ok, IfOk, MatchOption};
+ghost use Rattle.std.specs.Result.{result_map_both};
+ghost use Rattle.age_error.specs.EncryptErrors.{encrypt_refusal};
+ghost use Rattle.age_error.specs.Bytes.{AreBytesOf};
+ghost use Rattle.age_base64.specs.Base64.{columns};
+ghost use Rattle.age_format.specs.Drawing.{IsOrNoMemory};
+ghost use Rattle.age_keys.specs.X25519.{wrap_key, no_nonce, x25519_stanza, HasShare};
+
+use age_base64::{decode_columns, encode_columns};
+use age_error::EncryptError;
+use age_error::bytes::known_array;
+use age_format::Stanza;
+use age_suite::mac::hkdf;
+use age_suite::secrecy::FileKey;
+use age_suite::suite::Suite;
+use std::alloc::{AllocError, Global};
+
+/// The tag of the type.
+pub(crate) const TAG: &str = "X25519";
+
+/// The secret that both sides abort at.
+pub(crate) const NO_SECRET: [u8; 32] = [0; 32];
+
+/// The nonce of each seal: a wrap key is used once.
+pub(crate) const NO_NONCE: [u8; 12] = [0; 12];
+
+/// The key that a file key is sealed with, of a share, a recipient and the secret that they share.
+pub(crate) fn wrap_key(share: &[u8; 32], recipient: &[u8; 32], shared: &[u8; 32]) -> [u8; 32]
+    ensures { result ≡ wrap_key share.now recipient.now shared.now }
+{
+    let mut salt = [0; 64];
+    let (front, back) = salt.split_at_mut(32);
+    front.copy_from_slice(share);
+    back.copy_from_slice(recipient);
+    hkdf(&salt, b"age-encryption.org/v1/X25519", shared)
+}
+
+/// The stanza of a share and of the file key sealed under a wrap key.
+pub(crate) fn stanza_of<S: Suite>(
+    alloc: Global,
+    share: &[u8; 32],
+    wrap_key: &[u8; 32],
+    file_key: &FileKey,
+) -> Result<Stanza, EncryptError>
+    ensures { IsOrNoMemory (Ok (x25519_stanza share.now (S.seal_of wrap_key.now no_nonce file_key.now)))
+        (result_map_both (λ s. s) (λ e. encrypt_refusal e) result) }
+{
+    known_array(share);
+    let body = S::seal(alloc, wrap_key, &NO_NONCE, file_key.expose_secret())?;
+    let tag = String::from_str(alloc, TAG)?;
+    let mut args = Vec::new(alloc);
+    args.push(encode_columns(alloc, share)?)?;
+    match Stanza::new(tag, args, body) {
+        Some(stanza) => Ok(stanza),
+        None => unreachable!(),
+    }
+}
+
+// The argument of a stanza that has one.
+fn one_argument(stanza: &Stanza) -> Option<&str>
+    ensures { MatchOption result ((argument : List ℕ) → stanza.now.args ≡ argument ∷ [] → ⊥) (λ argument. stanza.now.args ≡ argument.now ∷ []) }
+{
+    let (argument, more) = stanza.args().split_first()?;
+    if more.is_empty() {
+        Some(argument.as_str())
+    } else {
+        None
+    }
+}
+
+// The 32 bytes whose base64 a text is.
+fn decode_share(alloc: Global, text: &str) -> Result<Option<[u8; 32]>, AllocError>
+    ensures { IfOk result (λ found. MatchOption found ((share : List ℕ) → AreBytesOf 32 share → columns share ≡ text.now → ⊥)
+        (λ share. AreBytesOf 32 share × (columns share ≡ text.now))) }
+{
+    let Some(bytes) = decode_columns(alloc, text.as_bytes())? else {
+        return Ok(None);
+    };
+    if bytes.len() != 32 {
+        return Ok(None);
+    }
+    let mut share = [0; 32];
+    share.copy_from_slice(bytes.as_slice());
+    Ok(Some(share))
+}
+
+/// The share of a stanza, or `None` where it lacks what this type asks: one argument, the base64 of 32 bytes, and a body of 32
+/// bytes.
+pub(crate) fn share_of(alloc: Global, stanza: &Stanza) -> Result<Option<[u8; 32]>, AllocError>
+    ensures { IfOk result (λ found. MatchOption found ((share : List ℕ) → HasShare share stanza.now → ⊥) (λ share. HasShare share stanza.now)) }
+{
+    let Some(argument) = one_argument(stanza) else {
+        return Ok(None);
+    };
+    if stanza.body().len() != 32 {
+        return Ok(None);
+    }
+    decode_share(alloc, argument)
+}
