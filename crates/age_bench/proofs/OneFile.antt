@@ -8,7 +8,7 @@ use Rattle.age.specs.Mac.{hmac_of}
 use Rattle.age.specs.Digests.{hmac_of-bytes, hkdf_of-bytes}
 use Rattle.age.specs.Stanza.{StanzaValue, IsStanza}
 use Rattle.age.specs.Header.{IsHeader, IsHeaderText, covered, covered_text, header_text}
-use Rattle.age.specs.HeaderV1.{HeaderValue, header_mac}
+use Rattle.age.specs.HeaderV1.{HeaderValue, header_mac, reads_legacy}
 use Rattle.age.proofs.Strings.{string_tested}
 use Rattle.age.specs.Payload.{piece, nonce, middle_seals, last_piece, payload}
 use Rattle.age.specs.StreamLaws.{ArePieces, PayloadLength, OnePlaintext, joined}
@@ -66,7 +66,7 @@ payload_opened key plain pieces b =
 -- it is a file of no other plaintext under the file key that its first bench stanza holds
 abbrev pub IsAlone : Type 0
 IsAlone = (draws plain file_key : List ℕ) (stanzas : List StanzaValue) (given : List ℕ) → AreBytes draws → 32 ≤ length draws → AreBytes plain
-    → HoldsBenchKey file_key stanzas → IsFileOf bench_seal file_key stanzas given (bench_file draws plain) → given ≡ plain
+    → HoldsBenchKey file_key stanzas → IsFileOf reads_legacy bench_seal file_key stanzas given (bench_file draws plain) → given ≡ plain
 
 -- the first of a list, or the grease where there is none
 abbrev first_of : List StanzaValue → StanzaValue
@@ -128,7 +128,7 @@ module _ (is_text : (legacy : Bool) (stanzas : List StanzaValue) (mac : List ℕ
       let made = is_bench_file draws plain b long in
       let same = one_header alone one bench_seal key file_key _ stanzas plain given text made f in
       let is : key ≡ file_key = first_key key file_key holds.passed holds.later (same ∙ holds.all) holds.others in
-      let g : IsFileOf bench_seal key stanzas given text = subst (λ k. IsFileOf bench_seal k stanzas given text) (sym is) f in
+      let g : IsFileOf reads_legacy bench_seal key stanzas given text = subst (λ k. IsFileOf reads_legacy bench_seal k stanzas given text) (sym is) f in
       let sealing = payload_key key g.nonce in
       let is_payload : payload bench_seal sealing given ≡ payload bench_seal sealing plain =
       same_payload alone one bench_seal key stanzas _ given plain text g made in

@@ -5,6 +5,7 @@ use Rattle.age.specs.Armor.{Carries}
 use Rattle.age.specs.Types.{Format}
 use Rattle.age.specs.ArmorWriting.{text_of}
 use Rattle.age.specs.Stanza.{StanzaValue}
+use Rattle.age.specs.HeaderV1.{reads_legacy}
 use Rattle.age.specs.File.{IsFileOf}
 use Rattle.age_bench.specs.Bench.{bench_seal}
 use Rattle.age_bench.specs.Recipient.{bench_stanza, bench_grease, bench_file, HoldsBenchKey}
@@ -12,7 +13,7 @@ use Rattle.age_bench.specs.Recipient.{bench_stanza, bench_grease, bench_file, Ho
 -- it is a file of the plaintext under the file key that its bench stanza holds
 abbrev pub IsBenchFile : Type 0
 IsBenchFile = (draws plain : List ℕ) → AreBytes draws → 32 ≤ length draws
-    → IsFileOf bench_seal (take 16 draws) (bench_stanza (take 16 draws) ∷ bench_grease ∷ []) plain (bench_file draws plain)
+    → IsFileOf reads_legacy bench_seal (take 16 draws) (bench_stanza (take 16 draws) ∷ bench_grease ∷ []) plain (bench_file draws plain)
 
 -- the text in either form carries it
 abbrev pub IsCarried : Type 0
@@ -23,4 +24,4 @@ IsCarried = (format : Format) (draws plain : List ℕ) → AreBytes draws → 32
 abbrev pub GivesBack : Type 0
 GivesBack = (format : Format) (draws plain bytes file_key : List ℕ) (stanzas : List StanzaValue) (given : List ℕ)
     → AreBytes draws → 32 ≤ length draws → AreBytes plain → Carries (text_of format (bench_file draws plain)) bytes
-    → HoldsBenchKey file_key stanzas → IsFileOf bench_seal file_key stanzas given bytes → given ≡ plain
+    → HoldsBenchKey file_key stanzas → IsFileOf reads_legacy bench_seal file_key stanzas given bytes → given ≡ plain
