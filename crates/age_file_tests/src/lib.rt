@@ -6,6 +6,8 @@ mod both_suites_tests;
 #[cfg(test)]
 mod file_tests;
 #[cfg(test)]
+mod legacy_tests;
+#[cfg(test)]
 mod other_suite_tests;
 #[cfg(test)]
 mod recipient_tests;

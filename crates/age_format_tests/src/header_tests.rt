@@ -32,6 +32,14 @@ fn stanza_of(alloc: Global, tag: &str, arg: &str, body: &[u8]) -> Result<Stanza,
     }
 }
 
+// A header of four stanzas in the legacy form: an empty body, and one of a whole line, have no empty line at their ends.
+const LEGACY: &[u8] =
+    b"age-encryption.org/v1\n-> X25519 CJM36AHmTbdHSuOQL+NESqyVQE75f2e610iRdLPEN20\nC3ZAeY64NXS4QFrksLm3EGz+uPRyI0eQsWw7LWbbYig\n-> some-empty-body-recipient BjH7FA 37 mhir0Q\n-> some-full-body-recipient BjH7FA 37 mhir0Q\nxD7o4VEOu1t7KZQ1gDgq2FPzBEeSRqbnqvQEXdLRYy143BxR6oFxsUUJCRB0ErXA\n-> some-other-recipient mhir0Q BjH7FA 37\nm/uPLMQdlIkiOOdbsrE6tFesRLZNHAYspeRKI9MJ++Xg9i7rutU34ZM+1BL6KgZf\nJ9FSm+GFHiVWpr1MfYCo/w\n--- fgMiVLJHMlg9fW7CVG/hPS5EAU4Zeg19LyCP7SoH5nA\n";
+
+// The same header in the canonical form.
+const CANONICAL: &[u8] =
+    b"age-encryption.org/v1\n-> X25519 CJM36AHmTbdHSuOQL+NESqyVQE75f2e610iRdLPEN20\nC3ZAeY64NXS4QFrksLm3EGz+uPRyI0eQsWw7LWbbYig\n-> some-empty-body-recipient BjH7FA 37 mhir0Q\n\n-> some-full-body-recipient BjH7FA 37 mhir0Q\nxD7o4VEOu1t7KZQ1gDgq2FPzBEeSRqbnqvQEXdLRYy143BxR6oFxsUUJCRB0ErXA\n\n-> some-other-recipient mhir0Q BjH7FA 37\nm/uPLMQdlIkiOOdbsrE6tFesRLZNHAYspeRKI9MJ++Xg9i7rutU34ZM+1BL6KgZf\nJ9FSm+GFHiVWpr1MfYCo/w\n--- fgMiVLJHMlg9fW7CVG/hPS5EAU4Zeg19LyCP7SoH5nA\n";
+
 // Reading a header from this text is refused with that text, after so many bytes.
 fn is_refused(
     rt: &impl Abort,
@@ -100,7 +108,7 @@ fn lines_are_judged_at_their_ends(rt: HostRuntime) -> Result<(), Fail> {
         (b"-> a\nYQ==\n", 10, "invalid header"),
         (b"-> a\nY\n", 7, "invalid header"),
         (b"-> a\n--- ", 9, "input ended early"),
-        (b"-> a\n-> b\n\n", 10, "invalid header"),
+        (b"-> a\n-> b\n\n", 11, "input ended early"),
         (b"-> a\n\nYQ\n", 9, "invalid header"),
         (b"-> a\n\n\n", 7, "invalid header"),
         (b"-> a\n\n--- AA\n", 13, "invalid header"),
@@ -136,13 +144,14 @@ fn lines_are_judged_at_their_ends(rt: HostRuntime) -> Result<(), Fail> {
     Ok(())
 }
 
-// A header is read from the front of this text, of so many bytes, and has so many stanzas; it is written the same.
-fn is_read(
+// A header is read from the front of this text, of so many bytes, and has so many stanzas; this is written for it.
+fn is_read_as(
     rt: &impl Abort,
     alloc: Global,
     text: &[u8],
     size: usize,
     stanzas: usize,
+    canonical: &[u8],
 ) -> Result<HeaderV1, Fail> {
     let mut input = Bytes::new(text);
     let header = HeaderV1::read(alloc, &mut input)?;
@@ -152,8 +161,20 @@ fn is_read(
     assert_eq!(rt; header.stanzas().len(), stanzas);
     let mut written = Vec::new(alloc);
     header.write(alloc, &mut written)?;
-    assert!(rt; written.as_slice() == &text[..size]);
+    assert!(rt; written.as_slice() == canonical);
     Ok(header)
+}
+
+// The same of a canonical text.
+fn is_read(
+    rt: &impl Abort,
+    alloc: Global,
+    text: &[u8],
+    size: usize,
+    stanzas: usize,
+) -> Result<HeaderV1, Fail> {
+    let front = text.get(..size).ok_or("too short")?;
+    is_read_as(rt, alloc, text, size, stanzas, front)
 }
 
 #[test]
@@ -171,6 +192,54 @@ fn a_header_is_read_and_no_byte_after_it(rt: HostRuntime) -> Result<(), Fail> {
     assert!(rt; *first == stanza_of(alloc, "bench", "", &NO_KEY)?);
     assert!(rt; *second == stanza_of(alloc, "x-grease", "", &[])?);
     assert_eq!(rt; header.into_stanzas().len(), 2);
+    Ok(())
+}
+
+#[test]
+fn both_forms_say_the_same(rt: HostRuntime) -> Result<(), Fail> {
+    let alloc = rt.alloc();
+    let legacy = is_read_as(&rt, alloc, LEGACY, 453, 4, CANONICAL)?;
+    let canonical = is_read_as(&rt, alloc, CANONICAL, 455, 4, CANONICAL)?;
+    assert!(rt; legacy.stanzas() == canonical.stanzas());
+    assert_eq!(rt; legacy.mac(), canonical.mac());
+    for (stanza, (tag, args, length)) in legacy.stanzas().iter().zip([
+        ("X25519", 1, 32),
+        ("some-empty-body-recipient", 3, 0),
+        ("some-full-body-recipient", 3, 48),
+        ("some-other-recipient", 3, 64),
+    ]) {
+        assert_eq!(rt; stanza.tag(), tag);
+        assert_eq!(rt; stanza.args().len(), args);
+        assert_eq!(rt; stanza.body().len(), length);
+    }
+    Ok(())
+}
+
+// The columns of the MAC of file key zero over the first 408 bytes of the legacy text.
+const LEGACY_MAC: &[u8] = b"Thin7/1TCgKusiKft7v4pwildP26tTc72UWO0eqYPQo";
+
+// Those over the first 410 bytes of the canonical text.
+const CANONICAL_MAC: &[u8] = b"c+jCEWk57MIJk2lm//iDCUmnem2iiSpgbhshbnhmxSQ";
+
+// The MAC covers the bytes as they were read, in either form.
+#[test]
+fn the_mac_is_that_of_the_text_as_it_was_read(rt: HostRuntime) -> Result<(), Fail> {
+    let alloc = rt.alloc();
+    for (text, covered, mac, right) in [
+        (LEGACY, 408, LEGACY_MAC, true),
+        (CANONICAL, 410, CANONICAL_MAC, true),
+        (LEGACY, 408, CANONICAL_MAC, false),
+        (CANONICAL, 410, LEGACY_MAC, false),
+    ] {
+        let front = text.get(..covered).ok_or("too short")?;
+        let mut changed = Vec::from_slice(alloc, front)?;
+        changed.push(b' ')?;
+        changed.extend_from_slice(mac)?;
+        changed.push(b'\n')?;
+        assert_eq!(rt; changed.len(), text.len());
+        let header = HeaderV1::read(alloc, &mut Bytes::new(&changed))?;
+        assert_eq!(rt; header.verify_mac(&FileKey::new(NO_KEY)), right);
+    }
     Ok(())
 }
 
