@@ -53,9 +53,9 @@ length-values prefix bytes =
     let check = check-six prefix (groups_of_bytes bytes) in
     length-append (groups_of_bytes bytes) (check_values prefix (groups_of_bytes bytes)) ∙ (omega arith)
 
-pub length-text : (prefix bytes : List ℕ) → length (bech32_text prefix bytes) ≡ length prefix + 1 + (group_count (length bytes) + 6)
+pub length_text : (prefix bytes : List ℕ) → length (bech32_text prefix bytes) ≡ length prefix + 1 + (group_count (length bytes) + 6)
 unfolding bech32_text
-length-text prefix bytes =
+length_text prefix bytes =
     let values = length-values prefix bytes in
     let f = symbol_in (has_upper prefix) in
     let symbols : length (map f (values_of_bytes prefix bytes)) ≡ length (values_of_bytes prefix bytes) = length-map (values_of_bytes prefix bytes) f in
@@ -173,10 +173,6 @@ pub values_are : (prefix bytes groups check : List ℕ) → groups ≡ groups_of
 unfolding values_of_bytes
 values_are prefix bytes groups check is closed = ap (λ c. groups ++ c) closed ∙ ap (λ g. g ++ check_values prefix g) is
 
--- as its parts are written
-pub text_is : (upper : Bool) (prefix bytes front separator values symbols : List ℕ) → front ≡ prefix → separator ≡ 49 ∷ [] → values ≡ values_of_bytes prefix bytes
-    → upper ≡ has_upper prefix → symbols ≡ map (symbol_in upper) values → front ++ (separator ++ symbols) ≡ bech32_text prefix bytes
+pub text_parts : (prefix bytes : List ℕ) → bech32_text prefix bytes ≡ prefix ++ 49 ∷ map (symbol_in (has_upper prefix)) (values_of_bytes prefix bytes)
 unfolding bech32_text
-text_is upper prefix bytes front separator values symbols e f v u s =
-    ap (λ p. p ++ (separator ++ symbols)) e ∙ ap (λ c. prefix ++ (c ++ symbols)) f ∙ ap (λ t. prefix ++ 49 ∷ t) s
-    ∙ ap (λ w. prefix ++ 49 ∷ map (symbol_in upper) w) v ∙ ap (λ w. prefix ++ 49 ∷ map (symbol_in w) (values_of_bytes prefix bytes)) u
+text_parts prefix bytes = refl

@@ -45,6 +45,7 @@ fn values_into(prefix: &[u8], bytes: &[u8], values: &mut [u8])
 }
 
 /// Writes the text of a prefix and bytes, in the prefix's case.
+#[tactic(auto, using(crate::proofs::Written::text_parts))]
 fn text_into(prefix: &[u8], bytes: &[u8], text: &mut [u8])
     requires { length text.old ≡ length prefix.now + 1 + (group_count (length bytes.now) + 6) }
     ensures { text.new ≡ bech32_text prefix.now bytes.now }
@@ -60,6 +61,7 @@ fn text_into(prefix: &[u8], bytes: &[u8], text: &mut [u8])
 /// Writes a prefix and bytes as Bech32 of any length (BIP 173, "Bech32") into an array, in the prefix's case, and in lower case
 /// where it has no letter. It takes no memory. `None` where the prefix isn't 1 to 83 bytes of 33 to 126, or has letters of both
 /// cases, or where the text isn't `N` bytes long.
+#[tactic(auto, using(crate::proofs::Written::length_text))]
 pub fn encode_array<const N: usize>(prefix: &str, data: &[u8]) -> Option<[u8; N]>
     ensures { let text = bech32_text prefix.now «data».now in SomeIff result (MayBeWritten prefix.now × (length text ≡ N)) text }
 {

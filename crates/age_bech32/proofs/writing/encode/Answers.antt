@@ -1,11 +1,11 @@
-use Rattle.std.proofs.Common.{◌≡◌, ◌^◌, ◌<◌, ◌++◌, ◌∷◌, [], ◌∙◌, map, length, drop, refl, ap, lit<, sym, subst, arith, All, append_assoc, string_bytes}
+use Rattle.std.proofs.Common.{◌≡◌, ◌^◌, ◌<◌, ◌++◌, ◌∷◌, [], ◌∙◌, map, length, drop, ap, lit<, sym, subst, arith, All, append_assoc, string_bytes}
 use Rattle.std.proofs.lemmas.List.Elements.{All-from_get_or}
 use Rattle.age_bech32.specs.Symbols.{has_upper, symbol_in}
 use Rattle.age_bech32.specs.Bech32.{IsBech32, IsInCaseOf}
 use Rattle.age_bech32.specs.Refusals.{MayBeWritten}
 use Rattle.age_bech32.specs.Written.{values_of_bytes, bech32_text}
 use Rattle.age_bech32.proofs.Lists.{refilled}
-use Rattle.age_bech32.proofs.Written.{text_is, written}
+use Rattle.age_bech32.proofs.Written.{text_parts, written}
 use Rattle.age_bech32.proofs.writing.encode.Goals as goal
 
 pub returns : goal.returns
@@ -23,8 +23,9 @@ returns c =
     let second : string_bytes c.push_symbols.new.text ≡ c.args.prefix.now ++ ((49 ∷ []) ++ symbols) =
     c.in_ok-push_symbols.ensures ∙ ap (λ t. t ++ symbols) first ∙ append_assoc c.args.prefix.now (49 ∷ []) symbols in
     let text : string_bytes c.push_symbols.new.text ≡ bech32_text c.args.prefix.now c.args.data.now =
-    second ∙ text_is upper c.args.prefix.now c.args.data.now c.args.prefix.now (49 ∷ []) c.deref.result.now symbols refl refl values
-    (c.has_upper-upper.ensures ∙ ap has_upper bytes) refl in
+    second ∙ ap (λ v. c.args.prefix.now ++ 49 ∷ map (symbol_in upper) v) values
+    ∙ ap (λ u. c.args.prefix.now ++ 49 ∷ map (symbol_in u) (values_of_bytes c.args.prefix.now c.args.data.now)) (c.has_upper-upper.ensures ∙ ap has_upper bytes)
+    ∙ sym (text_parts c.args.prefix.now c.args.data.now) in
     let all : All (λ byte. byte < 2 ^ 8) c.args.data.now =
     All-from_get_or (λ byte. byte < 2 ^ 8) c.args.data.now 0 (λ i l. let h = c.type_inv.data i in omega (arith, h)) in
     record {
