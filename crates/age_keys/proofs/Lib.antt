@@ -2,3 +2,4 @@ pub mod Strings
 pub mod Asking
 pub mod Shares
 pub mod Opening
+pub mod Printed

@@ -1,17 +1,21 @@
 //! X25519 identities.
-ghost use Rattle.std.specs.Prelude.{◌≡◌, option_map};
+ghost use Rattle.std.specs.Prelude.{◌≡◌, IfOk, option_map};
+ghost use Rattle.age_bech32.specs.Written.{bech32_text};
 ghost use Rattle.age_suite.specs.Draw.{taken, left_after};
+ghost use Rattle.age_keys.specs.KeyTexts.{identity_prefix};
 
+use crate::texts::{parse_key, text_of};
 use crate::x25519::recipient::Recipient;
 use crate::x25519::unwrapping::unwrap;
 use age_error::DecryptError;
 use age_error::bytes::known_array;
 use age_format::Stanza;
 use age_suite::draw::Draw;
-use age_suite::secrecy::FileKey;
+use age_suite::secrecy::{FileKey, SecretString};
 use age_suite::suite::Suite;
-use std::alloc::Global;
+use std::alloc::{AllocError, Global};
 use std::marker::{Model, PhantomData};
+use std::str::FromStr;
 
 /// One who decrypts: a secret of 32 bytes. It has no `Debug` and no `Display`, so no text shows it by chance. In contracts it is
 /// the list of the secret's bytes.
@@ -39,11 +43,7 @@ impl<S: Suite> Identity<S> {
         ensures left { draw.new ≡ left_after 32 draw.old }
     {
         let secret = draw.take::<32>()?;
-        known_array(&secret);
-        Some(Identity {
-            secret,
-            suite: PhantomData,
-        })
+        Some(Identity::of(secret))
     }
 
     /// The recipient that this identity belongs to.
@@ -51,6 +51,63 @@ impl<S: Suite> Identity<S> {
         ensures { result ≡ S.public_of self.now }
     {
         Recipient::of(S::public(&self.secret))
+    }
+}
+
+impl<S> Identity<S> {
+    // The identity of a secret.
+    fn of(secret: [u8; 32]) -> Identity<S>
+        ensures { result ≡ secret }
+    {
+        known_array(&secret);
+        Identity {
+            secret,
+            suite: PhantomData,
+        }
+    }
+
+    /// The text of the identity, in upper case: Bech32 (BIP 173) of the secret with the prefix `AGE-SECRET-KEY-`. It shows the
+    /// secret. `AllocError` where memory is refused.
+    pub fn to_string(&self, alloc: Global) -> Result<SecretString, AllocError>
+        ensures { IfOk result (λ text. text ≡ bech32_text identity_prefix self.now) }
+    {
+        let text = text_of(alloc, "AGE-SECRET-KEY-", &self.secret)?;
+        Ok(SecretString::from(text))
+    }
+}
+
+impl<S> FromStr for Identity<S> {
+    type Err = &'static str;
+
+    ghost use Rattle.std.specs.Prelude.{MatchResult, codes};
+    ghost use Rattle.age_keys.specs.KeyTexts.{identity_prefix, IsKeyText, IsRefusedAs};
+
+    ghost from_str_gives = { λ text result. MatchResult result (λ identity. IsKeyText identity_prefix text identity)
+        (λ message. IsRefusedAs identity_prefix (codes "incorrect identity length") text message.now) };
+
+    /// Reads the text of an identity, in either case, and takes no memory. What it is refused with, in this order:
+    ///
+    /// - `invalid Bech32 encoding`: it is no Bech32 (BIP 173) of any length.
+    /// - `incorrect HRP`: its prefix isn't `AGE-SECRET-KEY-`.
+    /// - `incorrect identity length`: it has other than 32 bytes.
+    fn from_str(text: &str) -> Result<Identity<S>, &'static str> {
+        match parse_key(text, "AGE-SECRET-KEY-", "incorrect identity length") {
+            Ok(secret) => Ok(Identity::of(secret)),
+            Err(message) => Err(message),
+        }
+    }
+}
+
+impl<S> Clone for Identity<S> {
+    ghost use Rattle.std.specs.Prelude.{◌≡◌, ⊤};
+
+    ghost is_clone = { λ identity other. other ≡ identity };
+
+    ghost is_infallible = { λ _. ⊤ };
+
+    // It takes no memory, so it never fails.
+    fn clone(&self) -> Result<Identity<S>, AllocError> {
+        Ok(Identity::of(self.secret))
     }
 }
 

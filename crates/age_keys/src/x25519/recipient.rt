@@ -1,16 +1,21 @@
 //! X25519 recipients.
 ghost use Rattle.std.specs.Prelude.{◌≡◌};
 
+use crate::texts::parse_key;
 use crate::x25519::wrapping::{NO_SECRET, stanza_of, wrap_key};
+use age_bech32::encode_array;
 use age_error::EncryptError;
 use age_error::bytes::known_array;
 use age_format::Stanza;
 use age_suite::draw::Draw;
 use age_suite::secrecy::FileKey;
 use age_suite::suite::Suite;
-use std::alloc::Global;
+use std::alloc::{AllocError, Global};
 use std::collections::BTreeSet;
+use std::fmt;
+use std::hash::{Hash, Hasher};
 use std::marker::{Model, PhantomData};
+use std::str::FromStr;
 
 /// One to whom files are encrypted: the public value of an identity's secret. In contracts it is the list of its 32 bytes.
 #[derive(Drop)]
@@ -66,5 +71,107 @@ impl<S: Suite> age_format::Recipient for Recipient<S> {
         let mut stanzas = Vec::new(alloc);
         stanzas.push(stanza_of::<S>(alloc, &share, &key, file_key)?)?;
         Ok((stanzas, BTreeSet::new(alloc)))
+    }
+}
+
+impl<S> FromStr for Recipient<S> {
+    type Err = &'static str;
+
+    ghost use Rattle.std.specs.Prelude.{MatchResult, codes};
+    ghost use Rattle.age_keys.specs.KeyTexts.{recipient_prefix, IsKeyText, IsRefusedAs};
+
+    ghost from_str_gives = { λ text result. MatchResult result (λ recipient. IsKeyText recipient_prefix text recipient)
+        (λ message. IsRefusedAs recipient_prefix (codes "incorrect pubkey length") text message.now) };
+
+    /// Reads the text of a recipient, in either case, and takes no memory. What it is refused with, in this order:
+    ///
+    /// - `invalid Bech32 encoding`: it is no Bech32 (BIP 173) of any length.
+    /// - `incorrect HRP`: its prefix isn't `age`.
+    /// - `incorrect pubkey length`: it has other than 32 bytes.
+    fn from_str(text: &str) -> Result<Recipient<S>, &'static str> {
+        match parse_key(text, "age", "incorrect pubkey length") {
+            Ok(public) => Ok(Recipient::of(public)),
+            Err(message) => Err(message),
+        }
+    }
+}
+
+impl<S> fmt::Display for Recipient<S> {
+    ghost use Rattle.std.specs.Prelude.{Some};
+    ghost use Rattle.age_bech32.specs.Written.{bech32_text};
+    ghost use Rattle.age_keys.specs.KeyTexts.{recipient_prefix};
+
+    ghost output = { λ recipient. Some (bech32_text recipient_prefix recipient) };
+
+    /// The text of the recipient, in lower case.
+    fn fmt<W: fmt::Write>(&self, f: &mut fmt::Formatter<W>) -> fmt::Result {
+        let Some(text) = encode_array::<62>("age", &self.public) else {
+            unreachable!();
+        };
+        match str::from_utf8(&text) {
+            Ok(text) => f.write_str(text),
+            Err(_) => unreachable!(),
+        }
+    }
+}
+
+impl<S> fmt::Debug for Recipient<S> {
+    ghost use Rattle.std.specs.Prelude.{Some};
+    ghost use Rattle.age_bech32.specs.Written.{bech32_text};
+    ghost use Rattle.age_keys.specs.KeyTexts.{recipient_prefix};
+
+    ghost debug_output = { λ recipient. Some (bech32_text recipient_prefix recipient) };
+
+    // The text of `Display`.
+    fn fmt<W: fmt::Write>(&self, f: &mut fmt::Formatter<W>) -> fmt::Result {
+        fmt::Display::fmt(self, f)
+    }
+}
+
+impl<S> Clone for Recipient<S> {
+    ghost use Rattle.std.specs.Prelude.{◌≡◌, ⊤};
+
+    ghost is_clone = { λ recipient other. other ≡ recipient };
+
+    ghost is_infallible = { λ _. ⊤ };
+
+    // It takes no memory, so it never fails.
+    fn clone(&self) -> Result<Recipient<S>, AllocError> {
+        Ok(Recipient::of(self.public))
+    }
+}
+
+impl<S> PartialEq for Recipient<S> {
+    ghost use Rattle.std.specs.Str.{bytes_eq};
+    ghost use Rattle.std.specs.Cmp.{partial_equiv_from_equiv};
+    ghost use Rattle.std.proofs.lemmas.Cmp.{nat_list_eq_equiv};
+
+    ghost eq = { bytes_eq };
+
+    ghost laws = { partial_equiv_from_equiv nat_list_eq_equiv };
+
+    /// Whether the 32 bytes are the same.
+    fn eq(&self, other: &Recipient<S>) -> bool {
+        self.public == other.public
+    }
+}
+
+impl<S> Eq for Recipient<S> {
+    ghost use Rattle.std.proofs.lemmas.Cmp.{nat_list_eq_equiv};
+
+    ghost laws = { nat_list_eq_equiv };
+}
+
+impl<S> Hash for Recipient<S> {
+    ghost use Rattle.std.specs.Prelude.{[], ◌∷◌};
+    ghost use Rattle.age_keys.specs.RecipientLaws.{same_input};
+
+    ghost hash_input = { λ recipient. recipient ∷ [] };
+
+    ghost respects_eq = { same_input };
+
+    /// Its 32 bytes in one write.
+    fn hash<H: Hasher>(&self, state: &mut H) {
+        state.write(&self.public);
     }
 }

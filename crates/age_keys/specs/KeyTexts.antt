@@ -1,0 +1,34 @@
+-- Texts of native keys: Bech32 (BIP 173) of 32 bytes, with the prefixes that age-encryption.org/v1 has in the section "The X25519
+-- recipient type". A prefix is read in either case.
+use Rattle.std.specs.Prelude.{◌≡◌, ◌≢◌, ◌⊎◌, ℕ, List, length, codes}
+use Rattle.age_bech32.specs.Bech32.{IsBech32}
+use Rattle.age_bech32.specs.Refusals.{IsNoBech32}
+use Rattle.age_bech32.specs.Symbols.{lowered}
+
+-- standard: a recipient is Bech32 with the prefix `age`, in lower case
+abbrev pub recipient_prefix : List ℕ
+recipient_prefix = codes "age"
+
+-- standard: an identity is Bech32 with the prefix `AGE-SECRET-KEY-`, in upper case
+abbrev pub identity_prefix : List ℕ
+identity_prefix = codes "AGE-SECRET-KEY-"
+
+-- a text of a key with this prefix in either case
+pub record IsKeyText (prefix text key : List ℕ) : Type 0 where
+  pub written : List ℕ
+  pub same : lowered written ≡ lowered prefix
+  pub reads : IsBech32 text written key
+  pub size : length key ≡ 32
+
+-- it is Bech32 of other bytes: the prefix is another, or they are more or fewer than 32
+pub record IsOtherText (prefix size_message text message : List ℕ) : Type 0 where
+  pub written : List ℕ
+  pub bytes : List ℕ
+  pub reads : IsBech32 text written bytes
+  pub cause : ((lowered written ≢ lowered prefix) × (message ≡ codes "incorrect HRP"))
+      ⊎ ((lowered written ≡ lowered prefix) × (length bytes ≢ 32) × (message ≡ size_message))
+
+-- what a text is refused with that is none of a key with this prefix
+abbrev pub IsRefusedAs : List ℕ → List ℕ → List ℕ → List ℕ → Type 0
+IsRefusedAs prefix size_message text message =
+    (IsNoBech32 text × (message ≡ codes "invalid Bech32 encoding")) ⊎ IsOtherText prefix size_message text message
