@@ -2,4 +2,6 @@
 #![tactic(auto)]
 
 #[cfg(test)]
+mod text_tests;
+#[cfg(test)]
 mod x25519_tests;
