@@ -5,8 +5,8 @@ ghost use Rattle.age_base64.specs.Lines.{line, Lacks};
 ghost use Rattle.age_format.specs.Reading.{IsAt, IsBefore, IsJudged};
 
 use crate::parse::{after_prefix, parse_first_line, parse_mac_line};
-use age_base64::decode_columns;
 use crate::stanza::{Stanza, is_string_of_bytes};
+use age_base64::decode_columns;
 use std::alloc::{AllocError, Global};
 
 /// Which lines may come next.

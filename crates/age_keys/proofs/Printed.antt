@@ -6,7 +6,7 @@ use Rattle.age_bech32.specs.Refusals.{MayBeWritten}
 use Rattle.age_bech32.specs.Groups.{group_count}
 use Rattle.age_bech32.specs.Written.{bech32_text, values_of_bytes}
 use Rattle.age_bech32.proofs.Spelling.{symbol-is}
-use Rattle.age_bech32.proofs.Written.{length-text, values-fit}
+use Rattle.age_bech32.proofs.Written.{length_text, values-fit}
 use Rattle.age_keys.specs.KeyTexts.{recipient_prefix}
 
 prefix-low : All (λ b. 33 ≤ b) recipient_prefix
@@ -26,7 +26,7 @@ counted : group_count 32 ≡ 52
 counted = refl
 
 pub recipient-size : (key : List ℕ) → length key ≡ 32 → length (bech32_text recipient_prefix key) ≡ 62
-recipient-size key is = length-text recipient_prefix key ∙ ap (λ n. 3 + 1 + (group_count n + 6)) is
+recipient-size key is = length_text recipient_prefix key ∙ ap (λ n. 3 + 1 + (group_count n + 6)) is
 
 prefix-ascii : All (λ b. b < 128) recipient_prefix
 prefix-ascii =
