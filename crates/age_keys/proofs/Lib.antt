@@ -3,3 +3,4 @@ pub mod Asking
 pub mod Shares
 pub mod Opening
 pub mod Printed
+pub mod Unwrapped

@@ -1,9 +1,11 @@
 //! The X25519 recipient type (age-encryption.org/v1, section "The X25519 recipient type").
 
 mod identity;
+mod laws;
 mod recipient;
 mod unwrapping;
 mod wrapping;
 
 pub use identity::Identity;
+pub use laws::x25519_laws;
 pub use recipient::Recipient;
