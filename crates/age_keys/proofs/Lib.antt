@@ -4,3 +4,4 @@ pub mod Shares
 pub mod Opening
 pub mod Printed
 pub mod Unwrapped
+pub mod Names

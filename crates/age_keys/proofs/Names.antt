@@ -1,0 +1,41 @@
+-- Names are ASCII.
+use Rattle.std.proofs.Common.{◌≡◌, ◌≢◌, ◌∙◌, inl, inr, refl, subst, Option, Some, None, MatchOption, ℕ, suc, ◌<◌, ◌++◌, ap, append_assoc, replicate, true, false, List, [], ◌∷◌, length, sym, arith, All}
+use Rattle.std.specs.Prelude.{nat_lt, codes}
+use Rattle.std.specs.List.{list_all}
+use Rattle.std.proofs.lemmas.Bool.{and_parts}
+use Rattle.std.proofs.lemmas.Bool.Decides.{nat_tests}
+use Rattle.std.proofs.lemmas.List.{append_cancel_left}
+use Rattle.std.proofs.lemmas.List.Elements.{All-nil, All-cons}
+use Rattle.age_bech32.specs.Bech32.{IsBech32}
+use Rattle.age_keys.specs.PluginKeys.{is_name, is_name_byte, identity_front, IsWithoutHyphens, RefusesIdentity}
+
+byte-ascii : (byte : ℕ) → is_name_byte byte ≡ true → byte < 128
+byte-ascii byte h = grind (arith, nat_tests)
+
+bytes-ascii : (bytes : List ℕ) → list_all is_name_byte bytes ≡ true → All (λ b. b < 128) bytes
+bytes-ascii [] h = All-nil (λ b. b < 128)
+bytes-ascii (x ∷ bytes) h =
+    let (first, rest) = and_parts (is_name_byte x) (list_all is_name_byte bytes) h in
+    All-cons (λ b. b < 128) x bytes (byte-ascii x first) (bytes-ascii bytes rest)
+
+pub name-ascii : (name : List ℕ) → is_name name ≡ true → All (λ b. b < 128) name
+name-ascii name h = bytes-ascii name (and_parts (nat_lt 0 (length name)) (list_all is_name_byte name) h).1
+
+-- a hyphen more was taken off
+pub one_hyphen_more : (bytes front before : List ℕ) (count : ℕ) → bytes ≡ front ++ replicate count 45 → front ≡ before ++ 45 ∷ []
+    → (more : ℕ) × (bytes ≡ before ++ replicate more 45)
+one_hyphen_more bytes front before count all is =
+    (suc count, all ∙ ap (λ f. f ++ replicate count 45) is ∙ append_assoc before (45 ∷ []) (replicate count 45))
+
+-- what stands between the front and a hyphen at the end
+pub between_is : {X : Type 0} (now : X → List ℕ) (prefix front rest : List ℕ) (found : Option X) → prefix ≡ front ++ rest
+    → MatchOption found ((before : List ℕ) → rest ≢ before ++ 45 ∷ []) (λ before. rest ≡ now before ++ 45 ∷ [])
+    → MatchOption found ((before : List ℕ) → prefix ≢ front ++ before ++ 45 ∷ []) (λ before. prefix ≡ front ++ now before ++ 45 ∷ [])
+between_is now prefix front rest None is none = λ before e. none before (append_cancel_left front rest (before ++ 45 ∷ []) (sym is ∙ e ∙ append_assoc front before (45 ∷ [])))
+between_is now prefix front rest (Some before) is has = is ∙ ap (λ r. front ++ r) has ∙ sym (append_assoc front (now before) (45 ∷ []))
+
+-- what stands there is no name
+pub no_name : (text prefix before front bytes : List ℕ) → IsBech32 text prefix bytes → prefix ≡ identity_front ++ before ++ 45 ∷ [] → IsWithoutHyphens before front
+    → is_name front ≡ false → RefusesIdentity text (codes "invalid plugin name")
+no_name text prefix before front bytes reads is trimmed none =
+    inr (inr (inl (before, front, bytes, subst (λ p. IsBech32 text p bytes) is reads, trimmed, none, refl)))

@@ -1,0 +1,84 @@
+//! Identities of plugins.
+ghost use Rattle.std.specs.Prelude.{◌≡◌, IfOk, MatchResult, codes};
+ghost use Rattle.age_keys.specs.PluginKeys.{IsPluginIdentity, RefusesIdentity};
+
+use crate::plugin::names::{between, name_in, prefix_of, without_hyphens};
+use std::alloc::{AllocError, Global};
+use std::fmt;
+use std::marker::Model;
+
+/// One whom a plugin unwraps file keys for. No plugin is started here: a key tells which one it needs. In contracts it is a record of the
+/// plugin's name and of its own text.
+#[derive(Drop)]
+pub struct Identity {
+    name: String,
+    text: String,
+}
+
+impl Model for Identity {
+    ghost use Rattle.std.specs.Prelude.{string_bytes};
+    ghost use Rattle.age_keys.specs.PluginKeys.{PluginKey, IsPluginIdentity};
+
+    ghost Value = { PluginKey };
+
+    ghost view = { λ key. record { name = string_bytes key.name; text = string_bytes key.text } };
+
+    ghost invariant = { λ key. IsPluginIdentity (record { name = string_bytes key.name; text = string_bytes key.text }) };
+}
+
+impl Identity {
+    /// Reads the text of an identity. What it is refused with, in this order:
+    ///
+    /// - `invalid Bech32 encoding`: it is no Bech32 (BIP 173) of any length.
+    /// - `invalid HRP`: its prefix isn't longer than `AGE-PLUGIN-` with that beginning, in upper case, or doesn't end in a hyphen.
+    /// - `invalid plugin name`: what stands between, without hyphens at its end, isn't one or more ASCII letters, digits, `+`, `-`,
+    ///   `.` and `_`.
+    /// - `out of memory`: memory was refused.
+    pub fn from_str(alloc: Global, text: &str) -> Result<Identity, &'static str>
+        ensures { MatchResult result (λ key. (key.text ≡ text.now) × IsPluginIdentity key) (λ message. RefusesIdentity text.now message.now) }
+    {
+        let Some(prefix) = prefix_of(text) else {
+            return Err("invalid Bech32 encoding");
+        };
+        let Some(before) = between(prefix.as_bytes(), b"AGE-PLUGIN-") else {
+            return Err("invalid HRP");
+        };
+        let Some(name) = name_in(without_hyphens(before)) else {
+            return Err("invalid plugin name");
+        };
+        let Ok(name) = name.to_ascii_lowercase(alloc) else {
+            return Err("out of memory");
+        };
+        match String::from_str(alloc, text) {
+            Ok(text) => Ok(Identity { name, text }),
+            Err(_) => Err("out of memory"),
+        }
+    }
+
+    /// The name of the plugin, in lower case.
+    pub fn plugin(&self) -> &str
+        ensures { result.now ≡ self.now.name }
+    {
+        self.name.as_str()
+    }
+
+    /// The same key in memory of its own, from the first one's allocator. `AllocError` where that is refused.
+    pub fn clone(&self) -> Result<Identity, AllocError>
+        ensures { IfOk result (λ key. key ≡ self.now) }
+    {
+        let name = self.name.clone()?;
+        let text = self.text.clone()?;
+        Ok(Identity { name, text })
+    }
+}
+
+impl fmt::Display for Identity {
+    ghost use Rattle.std.specs.Prelude.{Some};
+
+    ghost output = { λ key. Some (key.text) };
+
+    /// The text that was read.
+    fn fmt<W: fmt::Write>(&self, f: &mut fmt::Formatter<W>) -> fmt::Result {
+        f.write_str(self.text.as_str())
+    }
+}
