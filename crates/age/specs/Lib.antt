@@ -48,6 +48,14 @@ pub use Rattle.age_io.specs.StandardFaults
 -- base64: age_base64
 pub use Rattle.age_base64.specs.Base64
 pub use Rattle.age_base64.specs.Lines
+-- texts of keys: age_bech32
+pub use Rattle.age_bech32.specs.declared.error.Bech32Error.TheVariants as Bech32ErrorVariants
+pub use Rattle.age_bech32.specs.Symbols as Bech32Symbols
+pub use Rattle.age_bech32.specs.Remainder as Bech32Remainder
+pub use Rattle.age_bech32.specs.Groups as Bech32Groups
+pub use Rattle.age_bech32.specs.Bech32
+pub use Rattle.age_bech32.specs.Written as Bech32Written
+pub use Rattle.age_bech32.specs.Refusals as Bech32Refusals
 -- armor: age_armor
 pub use Rattle.age_armor.specs.Armor
 pub use Rattle.age_armor.specs.FullLines as ArmorFullLines
@@ -85,6 +93,11 @@ pub use Rattle.age_format.specs.Wrapping
 pub use Rattle.age_format.specs.Drawing
 pub use Rattle.age_format.specs.Unwrapping
 pub use Rattle.age_format.specs.Boxed
+-- keys: age_keys
+pub use Rattle.age_keys.specs.X25519
+pub use Rattle.age_keys.specs.X25519Laws
+pub use Rattle.age_keys.specs.KeyTexts
+pub use Rattle.age_keys.specs.PluginKeys
 -- files: age_protocol
 pub use Rattle.age_protocol.specs.Labels as RecipientLabels
 pub use Rattle.age_protocol.specs.Encrypting

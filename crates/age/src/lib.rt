@@ -71,7 +71,7 @@ pub mod draw {
 
 /// Values that are kept secret.
 pub mod secrecy {
-    pub use age_suite::secrecy::FileKey;
+    pub use age_suite::secrecy::{FileKey, SecretString};
 }
 
 /// Stanzas and headers.
@@ -101,9 +101,30 @@ pub mod armor {
     }
 }
 
-/// What a plugin's name is refused with.
+/// Native keys: X25519 recipients and identities.
+pub mod x25519 {
+    pub use age_keys::x25519::{Identity, Recipient};
+
+    /// What is true of them, for proofs alone.
+    pub mod laws {
+        pub use age_keys::x25519::x25519_laws;
+    }
+}
+
+/// Texts of the keys of plugins, and what a plugin's name is refused with.
 pub mod plugin {
     pub use age_error::resolve::ResolveError;
+    pub use age_keys::plugin::{Identity, Recipient};
+}
+
+/// The texts of keys, of any prefix and length.
+pub mod bech32 {
+    pub use age_bech32::{Bech32Error, decode, decode_array, encode, encode_array};
+
+    /// What is true of them, for proofs alone.
+    pub mod laws {
+        pub use age_bech32::bech32_laws;
+    }
 }
 
 /// The payload of a file: the plaintext in sealed chunks.

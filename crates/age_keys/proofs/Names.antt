@@ -1,4 +1,4 @@
--- Names are ASCII.
+-- Names, and the keys that have them.
 use Rattle.std.proofs.Common.{◌≡◌, ◌≢◌, ◌∙◌, inl, inr, refl, subst, Option, Some, None, MatchOption, ℕ, suc, ◌<◌, ◌++◌, ap, append_assoc, replicate, true, false, List, [], ◌∷◌, length, sym, arith, All}
 use Rattle.std.specs.Prelude.{nat_lt, codes}
 use Rattle.std.specs.List.{list_all}
@@ -7,7 +7,8 @@ use Rattle.std.proofs.lemmas.Bool.Decides.{nat_tests}
 use Rattle.std.proofs.lemmas.List.{append_cancel_left}
 use Rattle.std.proofs.lemmas.List.Elements.{All-nil, All-cons}
 use Rattle.age_bech32.specs.Bech32.{IsBech32}
-use Rattle.age_keys.specs.PluginKeys.{is_name, is_name_byte, identity_front, IsWithoutHyphens, RefusesIdentity}
+use Rattle.age_bech32.specs.Symbols.{lowered}
+use Rattle.age_keys.specs.PluginKeys.{is_name, is_name_byte, identity_front, IsWithoutHyphens, IsPluginIdentity, RefusesIdentity}
 
 byte-ascii : (byte : ℕ) → is_name_byte byte ≡ true → byte < 128
 byte-ascii byte h = grind (arith, nat_tests)
@@ -39,3 +40,17 @@ pub no_name : (text prefix before front bytes : List ℕ) → IsBech32 text pref
     → is_name front ≡ false → RefusesIdentity text (codes "invalid plugin name")
 no_name text prefix before front bytes reads is trimmed none =
     inr (inr (inl (before, front, bytes, subst (λ p. IsBech32 text p bytes) is reads, trimmed, none, refl)))
+
+-- the key of an identity without bytes: `upper` is read in two ways, from one text
+pub default_key : (name text upper as_text as_bytes trimmed front : List ℕ) → as_text ≡ upper → as_bytes ≡ upper
+    → IsBech32 text (identity_front ++ as_text ++ 45 ∷ []) [] → IsWithoutHyphens as_bytes trimmed → (front ≡ trimmed) × (is_name trimmed ≡ true) → name ≡ lowered front
+    → IsPluginIdentity (record { name = name; text = text })
+default_key name text upper as_text as_bytes trimmed front is same reads without named lower = record {
+  before = upper;
+  bytes = [];
+  reads = subst (λ u. IsBech32 text (identity_front ++ u ++ 45 ∷ []) []) is reads;
+  front = trimmed;
+  trimmed = subst (λ u. IsWithoutHyphens u trimmed) same without;
+  named = named.1;
+  lower = lower ∙ ap lowered named.0;
+}

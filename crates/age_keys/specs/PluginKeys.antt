@@ -1,11 +1,13 @@
 -- Texts of the keys of plugins: Bech32 (BIP 173) of any bytes, whose prefix names the plugin (age's plugin specification, on names and
 -- keys).
-use Rattle.std.specs.Prelude.{◌≡◌, ◌≢◌, ◌⊎◌, ℕ, Bool, true, false, ◌||◌, ◌&&◌, ◌==◌, List, [], ◌∷◌, ◌++◌, length, replicate, codes, nat_lt}
+use Rattle.std.specs.Prelude.{◌≡◌, ◌≢◌, ◌⊎◌, ℕ, ◌<◌, ◌≤◌, Bool, true, false, ◌||◌, ◌&&◌, ◌==◌, List, [], ◌∷◌, ◌++◌, length, map, replicate, codes, nat_lt}
 use Rattle.std.specs.List.{list_all}
-use Rattle.std.specs.Char.{is_ascii_alphanumeric}
+use Rattle.std.specs.Char.{is_ascii_alphanumeric, to_ascii_uppercase}
 use Rattle.age_bech32.specs.Bech32.{IsBech32}
 use Rattle.age_bech32.specs.Refusals.{IsNoBech32}
 use Rattle.age_bech32.specs.Symbols.{lowered}
+use Rattle.age_bech32.specs.Written.{bech32_text}
+use Rattle.age_error.specs.ResolveErrors.{ResolveRefusal, InvalidPluginName, OutOfMemory}
 
 -- an ASCII letter or digit, or one of + - . _
 abbrev pub is_name_byte : ℕ → Bool
@@ -71,3 +73,20 @@ RefusesIdentity text message =
     ⊎ ((before : List ℕ) × (front : List ℕ) × (bytes : List ℕ) × IsBech32 text (identity_front ++ before ++ 45 ∷ []) bytes
     × IsWithoutHyphens before front × (is_name front ≡ false) × (message ≡ codes "invalid plugin name"))
     ⊎ (message ≡ codes "out of memory")
+
+-- a name in upper case
+abbrev pub uppered : List ℕ → List ℕ
+uppered name = map to_ascii_uppercase name
+
+-- the identity of a plugin that needs no bytes: that of the name in upper case
+pub record IsDefault (name : List ℕ) (key : PluginKey) : Type 0 where
+  pub few : length name ≤ 71
+  pub key_of : IsPluginIdentity key
+  pub text : key.text ≡ bech32_text (identity_front ++ uppered name ++ 45 ∷ []) []
+
+-- a name that has no such identity, since it is longer than 71 bytes, or since it is none or has nothing but hyphens; else memory was refused
+abbrev pub RefusesDefault : List ℕ → ResolveRefusal → Type 0
+RefusesDefault name refusal =
+    ((refusal ≡ InvalidPluginName name)
+    × ((71 < length name) ⊎ ((front : List ℕ) × IsWithoutHyphens (uppered name) front × (is_name front ≡ false))))
+    ⊎ (refusal ≡ OutOfMemory)

@@ -2,6 +2,8 @@
 #![tactic(auto)]
 
 #[cfg(test)]
+mod plugin_tests;
+#[cfg(test)]
 mod text_tests;
 #[cfg(test)]
 mod x25519_tests;

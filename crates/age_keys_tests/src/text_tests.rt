@@ -1,8 +1,8 @@
 //! Texts of X25519 recipients and identities.
 
 use age::draw::Draw;
+use age::x25519::{Identity, Recipient};
 use age_bench::suite::BenchSuite;
-use age_keys::x25519::{Identity, Recipient};
 use age_try::fixtures::zeros;
 use std::collections::HashSet;
 use std::process::Abort;

@@ -3,11 +3,11 @@
 use age::draw::Draw;
 use age::format::{Grease, Stanza};
 use age::secrecy::FileKey;
+use age::x25519::{Identity, Recipient};
 use age::{
     DecryptError, EncryptError, Identity as _, Recipient as _, decrypt, encrypt, encrypt_and_armor,
 };
 use age_bench::suite::BenchSuite;
-use age_keys::x25519::{Identity, Recipient};
 use age_try::fixtures::{MESSAGE, digest, empty_stanza, zeros};
 use std::alloc::{AllocError, Global};
 use std::process::Abort;

@@ -1,11 +1,19 @@
 //! Identities of plugins.
-ghost use Rattle.std.specs.Prelude.{◌≡◌, IfOk, MatchResult, codes};
-ghost use Rattle.age_keys.specs.PluginKeys.{IsPluginIdentity, RefusesIdentity};
+ghost use Rattle.std.specs.Prelude.{◌≡◌, ◌⊎◌, ◌++◌, [], ◌∷◌, IfOk, MatchResult, string_bytes};
+ghost use Rattle.age_error.specs.ResolveErrors.{resolve_refusal, InvalidPluginName, OutOfMemory};
+ghost use Rattle.age_bech32.specs.Bech32.{IsBech32};
+ghost use Rattle.age_bech32.specs.Written.{bech32_text};
+ghost use Rattle.age_keys.specs.PluginKeys.{identity_front, IsDefault, IsPluginIdentity, RefusesDefault, RefusesIdentity};
 
 use crate::plugin::names::{between, name_in, prefix_of, without_hyphens};
+use age_bech32::encode;
+use age_error::resolve::ResolveError;
 use std::alloc::{AllocError, Global};
 use std::fmt;
 use std::marker::Model;
+
+// A prefix has at most 83 bytes, of which 12 aren't the name's.
+const MOST_BYTES: usize = 71;
 
 /// One whom a plugin unwraps file keys for. No plugin is started here: a key tells which one it needs. In contracts it is a record of the
 /// plugin's name and of its own text.
@@ -24,6 +32,31 @@ impl Model for Identity {
     ghost view = { λ key. record { name = string_bytes key.name; text = string_bytes key.text } };
 
     ghost invariant = { λ key. IsPluginIdentity (record { name = string_bytes key.name; text = string_bytes key.text }) };
+}
+
+// The refusal of a name, or of memory for it.
+fn invalid_name(alloc: Global, name: &str) -> ResolveError
+    ensures { let refusal = resolve_refusal result in (refusal ≡ InvalidPluginName name.now) ⊎ (refusal ≡ OutOfMemory) }
+{
+    match String::from_str(alloc, name) {
+        Ok(name) => ResolveError::InvalidPluginName { name },
+        Err(_) => ResolveError::OutOfMemory,
+    }
+}
+
+// The text of an identity without bytes, of a plugin's name in upper case. Its prefix may be written, so what is refused is memory.
+fn default_text(alloc: Global, upper: &str) -> Result<String, ResolveError>
+    ensures { let prefix = identity_front ++ upper.now ++ 45 ∷ [] in MatchResult result
+        (λ text. IsBech32 (string_bytes text) prefix [] × (string_bytes text ≡ bech32_text prefix []))
+        (λ e. resolve_refusal e ≡ OutOfMemory) }
+{
+    let mut prefix = String::from_str(alloc, "AGE-PLUGIN-")?;
+    prefix.push_str(upper)?;
+    prefix.push('-')?;
+    match encode(alloc, prefix.as_str(), &[]) {
+        Ok(text) => Ok(text),
+        Err(_) => Err(ResolveError::OutOfMemory),
+    }
 }
 
 impl Identity {
@@ -53,6 +86,28 @@ impl Identity {
             Ok(text) => Ok(Identity { name, text }),
             Err(_) => Err("out of memory"),
         }
+    }
+
+    /// The identity of a plugin that needs no bytes: the one whose text has the name in upper case and no bytes.
+    ///
+    /// # Errors
+    ///
+    /// - `InvalidPluginName`: the name isn't one or more ASCII letters, digits, `+`, `-`, `.` and `_`, is hyphens alone, or has more
+    ///   than 71 bytes.
+    /// - `OutOfMemory`: memory was refused.
+    pub fn default_for_plugin(alloc: Global, name: &str) -> Result<Identity, ResolveError>
+        ensures { MatchResult result (IsDefault name.now) (λ e. RefusesDefault name.now (resolve_refusal e)) }
+    {
+        if name.len() > MOST_BYTES {
+            return Err(invalid_name(alloc, name));
+        }
+        let upper = name.to_ascii_uppercase(alloc)?;
+        let Some(front) = name_in(without_hyphens(upper.as_bytes())) else {
+            return Err(invalid_name(alloc, name));
+        };
+        let text = default_text(alloc, upper.as_str())?;
+        let name = front.to_ascii_lowercase(alloc)?;
+        Ok(Identity { name, text })
     }
 
     /// The name of the plugin, in lower case.
