@@ -1,9 +1,6 @@
 -- What an X25519 recipient wraps its identity unwraps.
-use Rattle.std.proofs.Common.{◌≡◌, ◌⊎◌, inl, inr, ℕ, ◌+◌, ◌^◌, ◌<◌, ◌∙◌, Bool, true, false, List, [], ◌∷◌, length, take, drop, ap, sym, refl, Option, Some, None, Result, Ok, Err, MatchOption, if◌then◌else◌, nat_le}
+use Rattle.std.proofs.Common.{◌≡◌, ◌⊎◌, inl, inr, ℕ, ◌+◌, ◌∙◌, Bool, true, false, List, [], ◌∷◌, length, take, drop, ap, sym, refl, Option, Some, None, Result, Ok, Err, MatchOption, if◌then◌else◌, nat_le}
 use Rattle.std.specs.Prelude.{bytes_eq}
-use Rattle.std.proofs.lemmas.List.{length-take-le}
-use Rattle.std.proofs.lemmas.List.Elements.{All-take}
-use Rattle.std.proofs.lemmas.Bool.{leb-true}
 use Rattle.age_error.specs.Bytes.{AreBytes, AreBytesOf}
 use Rattle.age_error.specs.EncryptErrors.{EncryptRefusal, ShortRandom, OutOfMemory, ZeroSharedSecret}
 use Rattle.age_error.specs.DecryptErrors.{OutOfMemory as out_of_memory}
@@ -16,7 +13,7 @@ use Rattle.age_format.specs.Stanza.{StanzaValue}
 use Rattle.age_format.specs.Wrapping.{Wrapped}
 use Rattle.age_format.specs.Unwrapping.{UnwrapAnswer}
 use Rattle.age_format.specs.Drawing.{Ends, After}
-use Rattle.age_keys.specs.X25519.{wrap_key, no_nonce, no_secret, x25519_stanza, HasShare, wrapped_with, opened_with, UnwrapsBy}
+use Rattle.age_keys.specs.X25519.{wrap_key, no_nonce, no_secret, x25519_stanza, HasShare, WrapsWith, wrapped_with, opened_with, UnwrapsBy}
 use Rattle.age_keys.specs.X25519Laws.{UnwrapsWhatItWraps}
 use Rattle.age_keys.proofs.Opening.{no_nonce-bytes}
 
@@ -98,11 +95,10 @@ module _ (seal_of : List ℕ → List ℕ → List ℕ → List ℕ) (opened : L
     answered other answer (inr (tag, inr (inr want))) = inr want
 
   pub unwraps_what_it_wraps : UnwrapsWhatItWraps seal_of opened shared_of public_of
-  unwraps_what_it_wraps secret file_key draws left wrapped s f d wraps =
-      let (enough, after) = drawn (nat_le 32 (length draws)) 32 (λ ephemeral. After (wrapped_with seal_of shared_of public_of (public_of secret) file_key ephemeral) (λ w. Ends (Ok w)))
-      draws left wrapped wraps in
+  unwraps_what_it_wraps secret file_key draws left wrapped s wraps =
+      let (enough, given) = drawn (nat_le 32 (length draws)) 32 (WrapsWith seal_of shared_of public_of (public_of secret) file_key) draws left wrapped wraps in
+      let (f, e, after) = given in
       let ephemeral = take 32 draws in
-      let e : AreBytesOf 32 ephemeral = record { len = length-take-le 32 draws (leb-true 32 (length draws) enough); bytes = All-take (λ x. x < 2 ^ 8) 32 draws d } in
       let due = was_due (wrapped_with seal_of shared_of public_of (public_of secret) file_key ephemeral) (drop 32 draws) left wrapped after in
       let (other, made) = was_wrapped (bytes_eq (shared_of ephemeral (public_of secret)) no_secret) _ wrapped due in
       record {

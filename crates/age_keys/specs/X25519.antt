@@ -46,9 +46,16 @@ module _ (seal_of : List ℕ → List ℕ → List ℕ → List ℕ) (shared_of 
       if bytes_eq shared no_secret then Err ZeroSharedSecret
       else Ok (record { stanzas = x25519_stanza share (seal_of (wrap_key share recipient shared) no_nonce file_key) ∷ []; labels = [] })
 
-  -- What a recipient answers: 32 bytes are drawn for the ephemeral secret, and where that wraps the file key memory can be refused.
+  -- What is wrapped with an ephemeral secret, or why not: memory can be refused where it wraps. The file key and the secret are
+  -- bytes, since nothing else is ever handed in or drawn.
+  abbrev pub WrapsWith : List ℕ → List ℕ → List ℕ → List ℕ → WrapAnswer → List ℕ → Type 0
+  WrapsWith recipient file_key ephemeral draws answer left =
+      AreBytesOf 16 file_key × AreBytesOf 32 ephemeral
+      × After (wrapped_with recipient file_key ephemeral) (λ wrapped. Ends (Ok wrapped)) draws answer left
+
+  -- What a recipient answers: 32 bytes are drawn for the ephemeral secret.
   abbrev pub WrapsFor : List ℕ → List ℕ → List ℕ → WrapAnswer → List ℕ → Type 0
-  WrapsFor recipient file_key = WithDrawn 32 (λ ephemeral. After (wrapped_with recipient file_key ephemeral) (λ wrapped. Ends (Ok wrapped)))
+  WrapsFor recipient file_key = WithDrawn 32 (WrapsWith recipient file_key)
 
 module _ (opened : List ℕ → List ℕ → List ℕ → Option (List ℕ)) (shared_of : List ℕ → List ℕ → List ℕ) (public_of : List ℕ → List ℕ) where
   -- what the secret of an identity makes of a share and of what stands under it

@@ -1,6 +1,6 @@
 -- What an X25519 recipient wraps its identity unwraps.
 use Rattle.std.specs.Prelude.{◌≡◌, ◌⊎◌, ℕ, List, [], ◌∷◌, Option, Some, Ok, Err}
-use Rattle.age_error.specs.Bytes.{AreBytes, AreBytesOf}
+use Rattle.age_error.specs.Bytes.{AreBytesOf}
 use Rattle.age_error.specs.DecryptErrors.{OutOfMemory}
 use Rattle.age_format.specs.Stanza.{StanzaValue}
 use Rattle.age_format.specs.Wrapping.{Wrapped}
@@ -17,7 +17,7 @@ module _ (seal_of : List ℕ → List ℕ → List ℕ → List ℕ) (opened : L
     pub unwraps : (answer : UnwrapAnswer) → UnwrapsBy opened shared_of public_of secret stanza answer
         → (answer ≡ Some (Ok file_key)) ⊎ (answer ≡ Some (Err OutOfMemory))
 
-  -- so it is of whatever the recipient of a secret wraps, whatever is drawn
+  -- so it is of whatever the recipient of a secret of 32 bytes wraps, whatever is drawn
   abbrev pub UnwrapsWhatItWraps : Type 0
-  UnwrapsWhatItWraps = (secret file_key draws left : List ℕ) (wrapped : Wrapped) → AreBytesOf 32 secret → AreBytesOf 16 file_key → AreBytes draws
+  UnwrapsWhatItWraps = (secret file_key draws left : List ℕ) (wrapped : Wrapped) → AreBytesOf 32 secret
       → WrapsFor seal_of shared_of public_of (public_of secret) file_key draws (Ok wrapped) left → IsFor secret file_key wrapped

@@ -3,8 +3,8 @@ ghost use Rattle.age_keys.specs.X25519Laws.{UnwrapsWhatItWraps};
 
 use age_suite::suite::Suite;
 
-/// What a recipient wraps is one stanza without labels, and the identity that it belongs to unwraps the file key of 16 bytes from it,
-/// whatever was drawn. So a file that is encrypted to `to_public` of an identity is one for that identity.
+/// What the recipient of a secret of 32 bytes wraps is one stanza without labels, to which the identity of that secret answers the
+/// file key, or want of memory, whatever was drawn. `to_public` gives that recipient.
 pub fn x25519_laws<S: Suite>()
     ensures { UnwrapsWhatItWraps S.seal_of S.opened S.shared_of S.public_of }
 {}

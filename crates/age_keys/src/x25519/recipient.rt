@@ -62,6 +62,8 @@ impl<S: Suite> age_format::Recipient for Recipient<S> {
         let Some(ephemeral) = draw.take::<32>() else {
             return Err(EncryptError::ShortRandom);
         };
+        known_array(&ephemeral);
+        known_array(file_key.expose_secret());
         let shared = S::x25519(&ephemeral, &self.public);
         if shared == NO_SECRET {
             return Err(EncryptError::ZeroSharedSecret);
