@@ -10,4 +10,6 @@ pub mod ReadingHeader
 pub mod Wrapping
 pub mod Drawing
 pub mod Unwrapping
+pub mod Belonging
+pub mod BelongingLaws
 pub mod Boxed

@@ -4,4 +4,5 @@ pub mod Shares
 pub mod Opening
 pub mod Printed
 pub mod Unwrapped
+pub mod Matching
 pub mod Names

@@ -42,7 +42,8 @@ was_wrapped : (zero : Bool) (made wrapped : Wrapped) → (if zero then Err ZeroS
 was_wrapped true made wrapped is = not_err wrapped ZeroSharedSecret (sym is)
 was_wrapped false made wrapped is = (refl, same_ok made wrapped is)
 
-one_share : (share other : List ℕ) (s : StanzaValue) → AreBytes share → s.args ≡ columns share ∷ [] → HasShare other s → other ≡ share
+-- a stanza has one share
+pub one_share : (share other : List ℕ) (s : StanzaValue) → AreBytes share → s.args ≡ columns share ∷ [] → HasShare other s → other ≡ share
 one_share share other s b are h =
     let same : columns other ≡ columns share = cc (h.args, are) in
     columns_same other share h.bytes.bytes b same

@@ -1,5 +1,6 @@
 //! X25519 identities.
 ghost use Rattle.std.specs.Prelude.{◌≡◌, IfOk, option_map};
+ghost use Rattle.age_error.specs.Bytes.{AreBytesOf};
 ghost use Rattle.age_bech32.specs.Written.{bech32_text};
 ghost use Rattle.age_suite.specs.Draw.{taken, left_after};
 ghost use Rattle.age_keys.specs.KeyTexts.{identity_prefix};
@@ -64,6 +65,13 @@ impl<S> Identity<S> {
             secret,
             suite: PhantomData,
         }
+    }
+
+    /// The secret is 32 bytes: a fact for proofs alone, which costs nothing.
+    pub(crate) fn known(&self)
+        ensures { AreBytesOf 32 self.now }
+    {
+        known_array(&self.secret);
     }
 
     /// The text of the identity, in upper case: Bech32 (BIP 173) of the secret with the prefix `AGE-SECRET-KEY-`. It shows the
