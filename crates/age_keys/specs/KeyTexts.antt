@@ -1,9 +1,11 @@
 -- Texts of native keys: Bech32 (BIP 173) of 32 bytes, with the prefixes that age-encryption.org/v1 has in the section "The X25519
 -- recipient type". A prefix is read in either case.
 use Rattle.std.specs.Prelude.{◌≡◌, ◌≢◌, ◌⊎◌, ℕ, List, length, codes}
+use Rattle.age_error.specs.Bytes.{AreBytesOf}
 use Rattle.age_bech32.specs.Bech32.{IsBech32}
 use Rattle.age_bech32.specs.Refusals.{IsNoBech32}
 use Rattle.age_bech32.specs.Symbols.{lowered}
+use Rattle.age_bech32.specs.Written.{bech32_text}
 
 -- standard: a recipient is Bech32 with the prefix `age`, in lower case
 abbrev pub recipient_prefix : List ℕ
@@ -32,3 +34,13 @@ pub record IsOtherText (prefix size_message text message : List ℕ) : Type 0 wh
 abbrev pub IsRefusedAs : List ℕ → List ℕ → List ℕ → List ℕ → Type 0
 IsRefusedAs prefix size_message text message =
     (IsNoBech32 text × (message ≡ codes "invalid Bech32 encoding")) ⊎ IsOtherText prefix size_message text message
+
+-- the text that is written of a key is one of that key and of no other, and none that is refused
+pub record IsReadBack (prefix key : List ℕ) : Type 0 where
+  pub text : IsKeyText prefix (bech32_text prefix key) key
+  pub alone : (other : List ℕ) → IsKeyText prefix (bech32_text prefix key) other → other ≡ key
+  pub accepted : (size_message message : List ℕ) → IsRefusedAs prefix size_message (bech32_text prefix key) message → ⊥
+
+-- so it is of each key of 32 bytes
+abbrev pub ReadsBack : List ℕ → Type 0
+ReadsBack prefix = (key : List ℕ) → AreBytesOf 32 key → IsReadBack prefix key

@@ -4,3 +4,5 @@
 pub mod plugin;
 mod texts;
 pub mod x25519;
+
+pub use texts::text_laws;

@@ -2,7 +2,7 @@
 ghost use Rattle.std.specs.Prelude.{◌≡◌, IfOk, MatchResult, string_bytes};
 ghost use Rattle.age_bech32.specs.Refusals.{MayBeWritten};
 ghost use Rattle.age_bech32.specs.Written.{bech32_text};
-ghost use Rattle.age_keys.specs.KeyTexts.{IsKeyText, IsRefusedAs};
+ghost use Rattle.age_keys.specs.KeyTexts.{identity_prefix, recipient_prefix, IsKeyText, IsRefusedAs, ReadsBack};
 
 use age_bech32::{decode_array, encode};
 use std::alloc::{AllocError, Global};
@@ -38,3 +38,10 @@ pub(crate) fn text_of(alloc: Global, prefix: &str, key: &[u8; 32]) -> Result<Str
         Err(_) => Err(AllocError),
     }
 }
+
+/// What is printed of an X25519 identity or recipient is read back as it is: its text is one of its 32 bytes and of no others, and
+/// parsing doesn't refuse it. For proofs alone: it does nothing.
+pub fn text_laws()
+    ensures identity { ReadsBack identity_prefix }
+    ensures recipient { ReadsBack recipient_prefix }
+{}
