@@ -92,6 +92,8 @@ pub use Rattle.age_format.specs.ReadingHeader
 pub use Rattle.age_format.specs.Wrapping
 pub use Rattle.age_format.specs.Drawing
 pub use Rattle.age_format.specs.Unwrapping
+pub use Rattle.age_format.specs.Belonging
+pub use Rattle.age_format.specs.BelongingLaws
 pub use Rattle.age_format.specs.Boxed
 -- keys: age_keys
 pub use Rattle.age_keys.specs.X25519
@@ -114,6 +116,5 @@ pub use Rattle.age_protocol.specs.Texts
 pub use Rattle.age_protocol.specs.DecryptingStreams
 pub use Rattle.age_protocol.specs.Opened
 pub use Rattle.age_protocol.specs.Parts
-pub use Rattle.age_protocol.specs.Belonging
-pub use Rattle.age_protocol.specs.BelongingLaws
+pub use Rattle.age_protocol.specs.Several
 pub use Rattle.age_protocol.specs.Laws as FileLaws

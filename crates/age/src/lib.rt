@@ -107,7 +107,8 @@ pub mod x25519 {
 
     /// What is true of them, for proofs alone.
     pub mod laws {
-        pub use age_keys::x25519::x25519_laws;
+        pub use age_keys::text_laws;
+        pub use age_keys::x25519::{x25519_laws, x25519_pair};
     }
 }
 

@@ -13,7 +13,8 @@ use Rattle.age_suite.specs.Draw.{taken, left_after}
 use Rattle.age_protocol.specs.Labels.{Labels, Gathered, nothing_yet, has_scrypt, agreed_labels, judged, with_labels, greased, closed}
 use Rattle.age_format.specs.Drawing.{UnlessNoMemory, Ends, Then, After}
 use Rattle.age_protocol.specs.Encrypting.{Prepared, PreparesWith, PreparesRest, PreparesNonce, WrapsInTurn}
-use Rattle.age_protocol.specs.Belonging.{stanzas_of, grease_beside, MayWrap, HoldsAnswers, HoldAnswers, WrapsStrange, AnyDecrypts}
+use Rattle.age_format.specs.Belonging.{MayWrap}
+use Rattle.age_protocol.specs.Several.{stanzas_of, grease_beside, HoldsAnswers, HoldAnswers, WrapsStrange, OneDecrypts, AnyDecrypts}
 use Rattle.age_protocol.proofs.Alone.{alone_asked}
 
 no_outcome : {A X : Type 0} (x : A) (e : EncryptRefusal) → Path (Result A EncryptRefusal) (Ok x) (Err e) → X
@@ -88,6 +89,21 @@ after_labels : (agreed : Result Labels EncryptRefusal) (stanzas : List StanzaVal
 after_labels (Err e) stanzas all goes_on draws left ended = no_outcome all e ended.0
 after_labels (Ok labels) stanzas all goes_on draws left (inl more) = (record { labels = Some labels; stanzas = stanzas }, refl, more)
 after_labels (Ok labels) stanzas all goes_on draws left (inr want) = no_outcome all OutOfMemory want.0
+
+-- ---- one identity
+
+pub one_decrypts : {I : Type 0} (unwraps : I → List StanzaValue → UnwrapAnswer → I → Type 0) (seal_of : Seal) → OneDecrypts unwraps seal_of
+one_decrypts unwraps seal_of identity file_key stanzas plain text own is_file bytes within last = record {
+  file_key = file_key;
+  stanzas = stanzas;
+  is_file = is_file;
+  bytes = bytes;
+  within = within;
+  last = last;
+  right = λ answer asked.
+      let (after, answers) = alone_asked (λ i a t. Unwraps unwraps i stanzas a t) identity answer asked.0 asked.1 in
+      own answer after answers;
+}
 
 module _ {R : Type 0} (wraps : R → List ℕ → List ℕ → WrapAnswer → List ℕ → Type 0) where
   after_answer : (file_key : List ℕ) (so_far : Gathered) (r : R) (answer : WrapAnswer) (all : Gathered)
@@ -178,15 +194,7 @@ module _ {R : Type 0} (wraps : R → List ℕ → List ℕ → WrapAnswer → Li
       let are : file.stanzas ≡ before ++ (wrapped.stanzas ++ (later ++ rest)) =
       holds.in_order ∙ ap (λ l. l ++ rest) is ∙ append_assoc before (wrapped.stanzas ++ later) rest
       ∙ ap (λ l. before ++ l) (append_assoc wrapped.stanzas later rest) in
-      record {
-        file_key = file.file_key;
-        stanzas = file.stanzas;
-        is_file = is_file;
-        bytes = bytes;
-        within = within;
-        last = last;
-        right = λ answer asked.
-            let (after, own) = alone_asked (λ i a t. Unwraps unwraps i file.stanzas a t) identity answer asked.0 asked.1 in
-            one.belongs file.file_key wrapped before (later ++ rest) answer after holds.sixteen wraps_so passed
-            (subst (λ l. Unwraps unwraps identity l answer after) are own);
-      }
+      one_decrypts unwraps seal_of identity file.file_key file.stanzas plain text
+      (λ answer after own.
+      one.belongs file.file_key wrapped before (later ++ rest) answer after holds.sixteen wraps_so passed
+      (subst (λ l. Unwraps unwraps identity l answer after) are own)) is_file bytes within last

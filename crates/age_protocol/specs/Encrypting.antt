@@ -1,5 +1,5 @@
 -- What an encryption to several recipients may come to: of the draws before, the outcome and the draws left.
-use Rattle.std.specs.Prelude.{◌≡◌, ◌⊎◌, ℕ, List, [], ◌∷◌, Option, Result, Ok, Err, MatchOption}
+use Rattle.std.specs.Prelude.{ℕ, List, [], ◌∷◌, Option, Result, Ok}
 use Rattle.age_error.specs.EncryptErrors.{EncryptRefusal}
 use Rattle.age_format.specs.Stanza.{StanzaValue}
 use Rattle.age_format.specs.Wrapping.{WrapAnswer}

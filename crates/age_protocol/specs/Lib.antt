@@ -14,6 +14,5 @@ pub mod Texts
 pub mod DecryptingStreams
 pub mod Opened
 pub mod Parts
-pub mod Belonging
-pub mod BelongingLaws
+pub mod Several
 pub mod Laws

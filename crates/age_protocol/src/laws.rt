@@ -3,7 +3,7 @@ ghost use Rattle.std.specs.Prelude.{◌↔◌, IsTrue, List, ℕ};
 ghost use Rattle.std.specs.List.{Contains};
 ghost use Rattle.age_error.specs.Labels.{labels_of};
 ghost use Rattle.age_protocol.specs.Labels.{same_labels};
-ghost use Rattle.age_protocol.specs.Belonging.{HoldAnswers, AnyDecrypts};
+ghost use Rattle.age_protocol.specs.Several.{HoldAnswers, OneDecrypts, AnyDecrypts};
 ghost use Rattle.age_protocol.specs.Laws.{ReadsBack, RefusesNoFile, FileOpens, FileIsContent, OneHeader, OnePlain, CarriesItself, GivesBack, RefusesNone};
 
 use age_armor::{carried_is_delivered, carried_is_unique};
@@ -77,10 +77,12 @@ pub fn carried_files<S: Suite, I: Identity>()
 ///
 /// - `stanzas`: a file holds the stanzas that each recipient wrapped its file key in, in the recipients' order, and then the
 ///   grease, which is left out beside a stanza of a passphrase.
+/// - `one`: it is a file for each identity that answers its file key to its stanzas.
 /// - `any`: it is a file for each identity that belongs to one of the recipients, where those before that one wrap in nothing but
 ///   what is strange to the identity. So `decrypt` and `decrypt_all` with that identity alone give its plaintext.
 pub fn several_recipients<S: Suite, T: Recipient, I: Identity>()
     ensures stanzas { HoldAnswers T.wraps }
+    ensures one { OneDecrypts I.unwraps S.seal_of }
     ensures any { AnyDecrypts T.wraps I.unwraps S.seal_of }
 {}
 

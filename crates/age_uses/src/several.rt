@@ -1,7 +1,7 @@
 //! A file for several recipients, opened by the identity of one of them.
 ghost use Rattle.std.specs.Prelude.{◌≡◌, ℕ, List, IfOk, IfErr};
 ghost use Rattle.age.specs.Payload.{LastIsNoMiddle};
-ghost use Rattle.age.specs.Belonging.{BelongsToOne};
+ghost use Rattle.age.specs.Several.{BelongsToOne};
 ghost use Rattle.age.specs.FileErrors.{IsDecryptError, IsWant};
 
 use age::armor::Format;

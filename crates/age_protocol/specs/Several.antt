@@ -1,15 +1,16 @@
--- Recipients, and the identities that belong to them.
+-- Files for several recipients, and the identities that belong to one of them.
 use Rattle.std.specs.Prelude.{◌≡◌, ◌⊎◌, ℕ, ◌^◌, ◌≤◌, Bool, true, false, List, [], ◌∷◌, ◌++◌, Option, None, Some, Ok, Err, All, IsTrue, length}
 use Rattle.std.specs.List.{AllZip}
 use Rattle.age_error.specs.Bytes.{AreBytes}
 use Rattle.age_error.specs.DecryptErrors.{OutOfMemory}
 use Rattle.age_format.specs.Stanza.{StanzaValue}
+use Rattle.age_format.specs.HeaderV1.{reads_legacy}
 use Rattle.age_format.specs.Wrapping.{WrapAnswer, Wrapped}
 use Rattle.age_format.specs.Unwrapping.{UnwrapAnswer, Unwraps}
+use Rattle.age_format.specs.Belonging.{MayWrap, BelongsTo}
 use Rattle.age_stream.specs.Payload.{Seal, LastIsNoMiddle}
 use Rattle.age_protocol.specs.Labels.{has_scrypt}
 use Rattle.age_protocol.specs.Encrypting.{Prepared, Prepares}
-use Rattle.age_format.specs.HeaderV1.{reads_legacy}
 use Rattle.age_protocol.specs.File.{IsFileOf, payload_key}
 use Rattle.age_protocol.specs.Parts.{FirstAnswer, IsFileFor}
 
@@ -24,16 +25,21 @@ grease_beside true grease = []
 grease_beside false None = []
 grease_beside false (Some grease) = grease ∷ []
 
-module _ {R : Type 0} (wraps : R → List ℕ → List ℕ → WrapAnswer → List ℕ → Type 0) where
-  -- the recipient may wrap the file key so
-  abbrev pub MayWrap : List ℕ → R → Wrapped → Type 0
-  MayWrap file_key recipient wrapped = (draws : List ℕ) × (left : List ℕ) × wraps recipient file_key draws (Ok wrapped) left
+-- A file is one for each identity that answers its file key to its stanzas, unless memory is refused.
+abbrev pub OneDecrypts : {I : Type 0} → (I → List StanzaValue → UnwrapAnswer → I → Type 0) → Seal → Type 0
+OneDecrypts {I} unwraps seal_of =
+    (identity : I) (file_key : List ℕ) (stanzas : List StanzaValue) (plain text : List ℕ)
+    → ((answer : UnwrapAnswer) (after : I) → Unwraps unwraps identity stanzas answer after → (answer ≡ Some (Ok file_key)) ⊎ (answer ≡ Some (Err OutOfMemory)))
+    → (is_file : IsFileOf reads_legacy seal_of file_key stanzas plain text)
+    → AreBytes plain → length plain ≤ 2 ^ 60 → LastIsNoMiddle seal_of (payload_key file_key is_file.nonce) plain
+    → IsFileFor seal_of (FirstAnswer unwraps (identity ∷ [])) plain text
 
+module _ {R : Type 0} (wraps : R → List ℕ → List ℕ → WrapAnswer → List ℕ → Type 0) where
   -- A file's stanzas are those that the recipients wrapped its file key in, in their order, and then the grease.
   pub record HoldsAnswers (recipients : List R) (grease : Option StanzaValue) (file : Prepared) : Type 0 where
     pub sixteen : length file.file_key ≡ 16
     pub answers : List Wrapped
-    pub each : AllZip (MayWrap file.file_key) recipients answers
+    pub each : AllZip (MayWrap wraps file.file_key) recipients answers
     pub in_order : file.stanzas ≡ stanzas_of answers ++ grease_beside (has_scrypt (stanzas_of answers)) grease
 
   -- so it is, whatever was drawn
@@ -44,19 +50,10 @@ module _ {R : Type 0} (wraps : R → List ℕ → List ℕ → WrapAnswer → Li
   -- all stanzas that the recipient wraps a file key in are strange
   abbrev pub WrapsStrange : (StanzaValue → Bool) → R → Type 0
   WrapsStrange is_strange recipient =
-      (file_key : List ℕ) (wrapped : Wrapped) → length file_key ≡ 16 → MayWrap file_key recipient wrapped → All (λ s. IsTrue (is_strange s)) wrapped.stanzas
+      (file_key : List ℕ) (wrapped : Wrapped) → length file_key ≡ 16 → MayWrap wraps file_key recipient wrapped → All (λ s. IsTrue (is_strange s)) wrapped.stanzas
 
   module _ {I : Type 0} (unwraps : I → List StanzaValue → UnwrapAnswer → I → Type 0) where
-    -- An identity belongs to a recipient: it answers the file key that the recipient wrapped, unless memory is refused, whatever
-    -- stands after the recipient's stanzas, and whatever strange ones stand before them.
-    abbrev pub BelongsTo : (StanzaValue → Bool) → R → I → Type 0
-    BelongsTo is_strange recipient identity =
-        (file_key : List ℕ) (wrapped : Wrapped) (before later : List StanzaValue) (answer : UnwrapAnswer) (after : I)
-        → length file_key ≡ 16 → MayWrap file_key recipient wrapped → All (λ s. IsTrue (is_strange s)) before
-        → Unwraps unwraps identity (before ++ (wrapped.stanzas ++ later)) answer after
-        → (answer ≡ Some (Ok file_key)) ⊎ (answer ≡ Some (Err OutOfMemory))
-
-    -- It belongs to one of several recipients, and what those before that one wrap is strange to it.
+    -- The identity belongs to one of several recipients, and what those before that one wrap is strange to it.
     pub record BelongsToOne (recipients : List R) (identity : I) : Type 0 where
       pub is_strange : StanzaValue → Bool
       pub front : List R
@@ -64,7 +61,7 @@ module _ {R : Type 0} (wraps : R → List ℕ → List ℕ → WrapAnswer → Li
       pub back : List R
       pub all : recipients ≡ front ++ recipient ∷ back
       pub strange : All (WrapsStrange is_strange) front
-      pub belongs : BelongsTo is_strange recipient identity
+      pub belongs : BelongsTo wraps unwraps is_strange recipient identity
 
     -- A file for several recipients is one for each identity that belongs to one of them.
     abbrev pub AnyDecrypts : Seal → Type 0
