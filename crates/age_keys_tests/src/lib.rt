@@ -2,6 +2,8 @@
 #![tactic(auto)]
 
 #[cfg(test)]
+mod file_tests;
+#[cfg(test)]
 mod plugin_tests;
 #[cfg(test)]
 mod text_tests;

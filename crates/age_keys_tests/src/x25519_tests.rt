@@ -26,8 +26,8 @@ const SEALED: [u8; 32] = [
 const HEADER: &[u8] =
     b"age-encryption.org/v1\n-> X25519 WlpaWlpaWlpaWlpaWlpaWlpaWlpaWlpaWlpaWlpaWlo\n8YTqiaR+AGskezrb0qlKIRgOyNRiXDZoyGHuvoArL9k\n-> x-grease\n\n--- C94eH/KHckOUH2UEVHxqtCs9Jhhpv0tTWSL3QORypWU\n";
 
-// The identity of a secret.
-fn identity_of(
+/// The identity of a secret.
+pub fn identity_of(
     rt: &impl Abort,
     alloc: Global,
     secret: &[u8],
@@ -44,7 +44,8 @@ fn counting(rt: &impl Abort, alloc: Global) -> Result<Identity<BenchSuite>, Allo
     identity_of(rt, alloc, &age_try::fixtures::KEY)
 }
 
-fn grease(alloc: Global) -> Result<Grease, Fail> {
+/// A grease stanza.
+pub fn grease(alloc: Global) -> Result<Grease, Fail> {
     match empty_stanza(alloc, "x-grease")?.and_then(Grease::new) {
         Some(grease) => Ok(grease),
         None => Err(Fail::from("no grease")),
