@@ -27,6 +27,7 @@ UNKNOWN = "unknown format"
 EARLY = "input ended early"
 NO_KEYS = "no matching keys"
 NO_RANDOM = "random bytes ran out"
+ZERO_SHARED = "shared secret is zero"
 PAST_END = "cannot seek past the end"
 BASE64 = "invalid base64 in armor"
 BEGIN_MARKER = "invalid armor begin marker"
@@ -37,6 +38,9 @@ NOT_WRAPPED = "invalid armor (not wrapped at 64 characters)"
 SHORT_LINE = "invalid armor (short line in middle of encoding)"
 TRAILING = "invalid armor (non-whitespace characters after end marker)"
 DRAW = bytes(range(100, 132))
+SECRET, KEY_DRAW = bytes(range(50, 82)), bytes(range(100, 164))
+RECIPIENT = second.bech32("age", second.public(SECRET))
+IDENTITY = second.bech32("age-secret-key-", SECRET).upper()
 USAGE = ("usage: agebench seal|open KEY, encrypt TO DRAW [armor], decrypt WITH, at WITH PLACE COUNT, "
          "keygen DRAW\n")
 
@@ -280,6 +284,69 @@ def parts(runs):
     runs.refuses("at of a changed payload", ["at", "bench", "5", "3"], whole[:-1] + bytes([whole[-1] ^ 1]), b"", BAD_CHUNK)
 
 
+def keys(runs):
+    """Keys that are made, files for them, and stanzas that are none of theirs."""
+    line = IDENTITY.encode() + b"\n"
+    for more in [b"", b"x", bytes(1000)]:
+        runs.answers(f"keygen of {32 + len(more)} bytes", ["keygen", (SECRET + more).hex()], b"ignored", line)
+    runs.answers("keygen of zeros", ["keygen", "00" * 32], b"",
+                 b"AGE-SECRET-KEY-1QQQQQQQQQQQQQQQQQQQQQQQQQQQQQQQQQQQQQQQQQQQQQQQQQQQQ8H00W3\n")
+    for count in [0, 1, 31]:
+        runs.refuses(f"keygen of {count} bytes", ["keygen", SECRET[:count].hex()], b"", b"", NO_RANDOM)
+    plain = random.Random(5).randbytes(200000)
+    recipient = second.public(SECRET)
+    whole = second.encrypted_to(recipient, KEY_DRAW, plain)
+    other = second.bech32("age-secret-key-", bytes(32))
+    for to, identity in [(RECIPIENT, IDENTITY), (RECIPIENT.upper(), IDENTITY.lower())]:
+        runs.answers(f"encrypt to {to}", ["encrypt", to, KEY_DRAW.hex()], plain, whole)
+        runs.answers(f"encrypt to {to} in armor", ["encrypt", to, KEY_DRAW.hex(), "armor"], plain, armor(whole))
+        for given in [whole, armor(whole)]:
+            runs.answers(f"decrypt with {identity}", ["decrypt", identity], given, plain)
+            runs.answers(f"at with {identity}", ["at", identity, "70000", "10"], given, plain[70000:70010])
+            runs.refuses("decrypt with another key", ["decrypt", other], given, b"", NO_KEYS)
+            runs.refuses("decrypt with bench what is for a key", ["decrypt", "bench"], given, b"", NO_KEYS)
+    runs.refuses("decrypt with a key what is for bench", ["decrypt", IDENTITY], second.encrypted(DRAW, plain), b"", NO_KEYS)
+    for count in [0, 15, 16, 47, 48, 63]:
+        runs.refuses(f"encrypt to a key with {count} random bytes", ["encrypt", RECIPIENT, KEY_DRAW[:count].hex()], plain, b"", NO_RANDOM)
+    shared = KEY_DRAW[:16] + SECRET + KEY_DRAW[48:]
+    runs.refuses("encrypt to a key with its own secret", ["encrypt", RECIPIENT, shared.hex()], plain, b"", ZERO_SHARED)
+    key, name, share = KEY_DRAW[:16], KEY_DRAW[48:], second.columns(bytes(range(32)))
+    own = second.x25519_stanza(key, recipient, KEY_DRAW[16:48])
+    foreign = second.x25519_stanza(key, second.public(bytes(32)), KEY_DRAW[16:48])
+    decrypt = ["decrypt", IDENTITY]
+    for words, stanzas in [("behind others", [stanza([b"other", b"x"], b""), foreign, own]), ("before others", [own, foreign]), ("twice", [own, own])]:
+        runs.answers(f"decrypt a key's stanza {words}", decrypt, second.file(key, stanzas, name, plain), plain)
+    for words, stanzas, text in [("another's stanza", [foreign], NO_KEYS), ("a body that is no seal", [stanza([b"X25519", share], bytes(32))], NO_KEYS),
+                                 ("no share", [stanza([b"X25519"], bytes(32)), own], BAD_HEADER),
+                                 ("a second argument", [stanza([b"X25519", share, share], bytes(32)), own], BAD_HEADER),
+                                 ("a share of 31 bytes", [stanza([b"X25519", second.columns(bytes(31))], bytes(32)), own], BAD_HEADER),
+                                 ("a share with padding", [stanza([b"X25519", share + b"="], bytes(32)), own], BAD_HEADER),
+                                 ("a body of 31 bytes", [stanza([b"X25519", share], bytes(31)), own], BAD_HEADER),
+                                 ("a share that everybody has", [stanza([b"X25519", second.columns(recipient)], bytes(32)), own], BAD_HEADER),
+                                 ("a passphrase beside it", [stanza([b"scrypt", b"AAAA", b"10"], bytes(32)), own], BAD_HEADER)]:
+        runs.refuses(f"decrypt with a key a file with {words}", decrypt, second.file(key, stanzas, name, plain), b"", text)
+
+
+def injected_keys(runs):
+    """The commands with keys where each request for memory, read and write fails in turn."""
+    short = b"This is a test message. For testing."
+    whole = second.encrypted_to(second.public(SECRET), KEY_DRAW, short)
+    for name, words, given, want in [
+            ("encrypt to a key", ["encrypt", RECIPIENT, KEY_DRAW.hex()], short, whole),
+            ("encrypt to a key in armor", ["encrypt", RECIPIENT, KEY_DRAW.hex(), "armor"], short, armor(whole)),
+            ("decrypt with a key", ["decrypt", IDENTITY], whole, short), ("at with a key", ["at", IDENTITY, "5", "3"], armor(whole), b"is ")]:
+        runs.injected(name, words, given, want, "alloc", NO_MEMORY)
+        for call in ["read", "write"]:
+            runs.injected(name, words, given, want, call, DEVICE)
+    words, line = ["keygen", SECRET.hex()], IDENTITY.encode() + b"\n"
+    runs.injected("keygen", words, b"", line, "alloc", NO_MEMORY)
+    runs.injected("keygen", words, b"", line, "write", DEVICE)
+    runs.injected("keygen", words, b"", line, "write-short", None)
+    runs.injected("keygen", words, b"", line, "write-interrupted", None)
+    runs.injected("keygen", words, b"", line, "write-interrupted-on", DEVICE)
+    devices(runs, words, b"")
+
+
 def command_lines(runs):
     key = KEY.hex()
     lines = [[], ["--help"], ["seal"], ["open"], ["seal", key[:-1]], ["open", key + "0"], ["seal", key, "x"],
@@ -289,7 +356,12 @@ def command_lines(runs):
              ["encrypt", "other", "00", "armor"], ["encrypt", "bench", "0", "armor"], ["decrypt", "bench", "armor"], ["decrypt"],
              ["decrypt", "other"], ["decrypt", "bench", "x"], ["at", "bench", "1"], ["at", "other", "1", "1"], ["at", "bench", "1", "1", "1"],
              ["at", "bench", "", "1"], ["at", "bench", "1", ""], ["at", "bench", "+1", "1"], ["at", "bench", "1", "-1"],
-             ["at", "bench", " 1", "1"], ["at", "bench", "1", str(2 ** 64)], ["at", "bench", "0x1", "1"], ["keygen", "00" * 32], [b"seal", b"\xff" * 64]]
+             ["at", "bench", " 1", "1"], ["at", "bench", "1", str(2 ** 64)], ["at", "bench", "0x1", "1"], ["keygen"], ["keygen", "0"], ["keygen", "0g"], ["keygen", "00", "00"],
+             ["encrypt", IDENTITY, "00"], ["encrypt", RECIPIENT[:-1], "00"], ["encrypt", RECIPIENT[:-1] + "q", "00"],
+             ["encrypt", "A" + RECIPIENT[1:], "00"], ["encrypt", second.bech32("age", bytes(31)), "00"],
+             ["encrypt", second.bech32("age1foobar", bytes(32)), "00"], ["decrypt", RECIPIENT], ["decrypt", IDENTITY[1:]],
+             ["decrypt", second.bech32("age-secret-key-", bytes(33))], ["decrypt", second.bech32("age-plugin-foobar-", b"").upper()],
+             ["at", RECIPIENT, "0", "1"], ["at", IDENTITY[:-1], "0", "1"], [b"decrypt", IDENTITY.encode() + b"\xff"], [b"seal", b"\xff" * 64]]
     for words in lines:
         got = runs.run(words, b"abc")
         runs.judge(f"wrong command line {words}", got[:3] == (2, b"", USAGE), got)
@@ -352,7 +424,7 @@ def main():
         armored = armor(second.encrypted(DRAW, short))
         runs.injected("encrypt a message in armor", armor_words, short, armored, "alloc", NO_MEMORY)
         runs.injected("decrypt a message in armor", decrypt_words, armored, short, "alloc", NO_MEMORY)
-        other = second.encrypted(bytes(32), short, b"x-grease")
+        other = second.encrypted(bytes(32), short, stanza([b"x-grease"], b""))
         runs.injected("decrypt a message with other grease", decrypt_words, other, short, "alloc", NO_MEMORY)
         for name, words, given, want in [
                 ("seal", seal_words, plain, sealed), ("open", open_words, sealed, plain),
@@ -371,6 +443,8 @@ def main():
         armored_files(runs)
         damaged_armor(runs)
         parts(runs)
+        keys(runs)
+        injected_keys(runs)
         command_lines(runs)
         seek_memory(runs)
     print(f"{runs.passed} passed, {runs.failed} failed")

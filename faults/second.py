@@ -68,10 +68,50 @@ def file(file_key, stanzas, file_nonce, plain):
     return header(file_key, stanzas) + file_nonce + payload(hkdf(file_nonce, b"payload", file_key), plain)
 
 
-def encrypted(draw, plain, grease=b"agebench-grease"):
+GREASE = stanza([b"agebench-grease"], b"")
+
+
+def encrypted(draw, plain, grease=GREASE):
     """The file of a plaintext to `bench`, with these random bytes."""
     file_key, file_nonce = draw[:16], draw[16:32]
-    return file(file_key, [stanza([b"bench"], file_key), stanza([grease], b"")], file_nonce, plain)
+    return file(file_key, [stanza([b"bench"], file_key), grease], file_nonce, plain)
+
+
+def public(secret):
+    """The public value of a secret under the bench suite."""
+    return bytes(x ^ 0x5a for x in secret)
+
+
+def x25519_stanza(file_key, recipient, ephemeral):
+    """The stanza of a file key for the public value of a recipient, under the bench suite."""
+    share = public(ephemeral)
+    shared = bytes(x ^ y ^ 0x5a for x, y in zip(ephemeral, recipient))
+    key = hkdf(share + recipient, b"age-encryption.org/v1/X25519", shared)
+    return stanza([b"X25519", columns(share)], seal(key, 0, False, file_key))
+
+
+def encrypted_to(recipient, draw, plain):
+    """The file of a plaintext to the public value of an X25519 recipient, with these random bytes."""
+    file_key, ephemeral, file_nonce = draw[:16], draw[16:48], draw[48:64]
+    return file(file_key, [x25519_stanza(file_key, recipient, ephemeral), GREASE], file_nonce, plain)
+
+
+LETTERS = "qpzry9x8gf2tvdw0s3jn54khce6mua7l"
+
+
+def bech32(prefix, given):
+    """The text of bytes (BIP 173), in lower case."""
+    bits = "".join(f"{x:08b}" for x in given)
+    bits += "0" * (-len(bits) % 5)
+    values = [int(bits[i:i + 5], 2) for i in range(0, len(bits), 5)]
+    remainder = 1
+    for x in [ord(c) >> 5 for c in prefix] + [0] + [ord(c) & 31 for c in prefix] + values + [0] * 6:
+        top = remainder >> 25
+        remainder = (remainder & 0x1ffffff) << 5 ^ x
+        for i, generator in enumerate([0x3b6a57b2, 0x26508e6d, 0x1ea119fa, 0x3d4233dd, 0x2a1462b3]):
+            remainder ^= generator if top >> i & 1 else 0
+    remainder ^= 1
+    return prefix + "1" + "".join(LETTERS[x] for x in values + [remainder >> 5 * (5 - i) & 31 for i in range(6)])
 
 
 def armor_lines(given):

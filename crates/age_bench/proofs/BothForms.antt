@@ -19,8 +19,8 @@ use Rattle.age.specs.Payload.{payload}
 use Rattle.age.specs.StreamLaws.{PayloadLength}
 use Rattle.age.specs.File.{file_front, file_text, payload_key, IsFileOf}
 use Rattle.age_bench.specs.Bench.{bench_seal}
-use Rattle.age_bench.specs.Recipient.{bench_stanza, bench_grease, bench_file}
-use Rattle.age_bench.specs.FileLaws.{IsCarried, GivesBack}
+use Rattle.age_bench.specs.Recipient.{bench_stanza, bench_grease, bench_file, HoldsBenchKey}
+use Rattle.age.specs.Types.{Format}
 use Rattle.age_bench.proofs.OneFile.{header_mac-bytes, payload_key-bytes, IsAlone}
 
 -- ---- a bench file is bytes
@@ -111,8 +111,19 @@ bench_file_plain draws plain rest is =
     let same : 97 ≡ 45 = ap first_of is in
     absurd (omega (arith, same))
 
+-- the text in either form carries it
+abbrev pub IsCarriedAs : Type 0
+IsCarriedAs = (format : Format) (draws plain : List ℕ) → AreBytes draws → 32 ≤ length draws → AreBytes plain
+    → Carries (text_of format (bench_file draws plain)) (bench_file draws plain)
+
+-- what it carries is a file of no other plaintext under the file key that its first bench stanza holds
+abbrev pub IsGivenBack : Type 0
+IsGivenBack = (format : Format) (draws plain bytes file_key : List ℕ) (stanzas : List StanzaValue) (given : List ℕ)
+    → AreBytes draws → 32 ≤ length draws → AreBytes plain → Carries (text_of format (bench_file draws plain)) bytes
+    → HoldsBenchKey file_key stanzas → IsFileOf reads_legacy bench_seal file_key stanzas given bytes → given ≡ plain
+
 module _ (armored : (bytes : List ℕ) → AreBytes bytes → Carries (armor bytes) bytes) (size : PayloadLength bench_seal) where
-  pub is_carried : IsCarried
+  pub is_carried : IsCarriedAs
   is_carried Binary draws plain b long p = record {
     each = bench_file_bytes size draws plain b p;
     way = inr (record { size = bench_file_long draws plain long; plain = bench_file_plain draws plain; same = refl });
@@ -120,7 +131,7 @@ module _ (armored : (bytes : List ℕ) → AreBytes bytes → Carries (armor byt
   is_carried AsciiArmor draws plain b long p = armored (bench_file draws plain) (bench_file_bytes size draws plain b p)
 
   -- so what is read from either form is true of the file itself
-  pub gives_back : ((text bytes others : List ℕ) → Carries text bytes → Carries text others → bytes ≡ others) → IsAlone → GivesBack
+  pub gives_back : ((text bytes others : List ℕ) → Carries text bytes → Carries text others → bytes ≡ others) → IsAlone → IsGivenBack
   gives_back one alone format draws plain bytes file_key stanzas given b long p carries holds f =
       let is : bytes ≡ bench_file draws plain = one (text_of format (bench_file draws plain)) bytes (bench_file draws plain) carries (is_carried format draws plain b long p) in
       alone draws plain file_key stanzas given b long p holds (subst (λ x. IsFileOf reads_legacy bench_seal file_key stanzas given x) is f)

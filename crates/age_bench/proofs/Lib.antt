@@ -3,4 +3,5 @@ pub mod Unwrapped
 pub mod Wrapped
 pub mod OneFile
 pub mod BothForms
-pub mod Opened
+pub mod Answered
+pub mod BenchFiles

@@ -19,7 +19,6 @@ use Rattle.age.proofs.OneFile.{one_header, same_payload}
 use Rattle.age_bench.specs.Bench.{bench_seal, masked, tag_of}
 use Rattle.age_bench.specs.Recipient.{bench_stanza, bench_grease, bench_file, HoldsBenchKey}
 use Rattle.age_bench.specs.Laws.{masked_twice, masked-bytes}
-use Rattle.age_bench.specs.FileLaws.{IsBenchFile}
 
 -- ---- any file
 
@@ -63,6 +62,11 @@ payload_opened key plain pieces b =
 
 -- ---- the bench file
 
+-- it is a file under the file key that its bench stanza holds
+abbrev pub IsMade : Type 0
+IsMade = (draws plain : List ℕ) → AreBytes draws → 32 ≤ length draws
+    → IsFileOf reads_legacy bench_seal (take 16 draws) (bench_stanza (take 16 draws) ∷ bench_grease ∷ []) plain (bench_file draws plain)
+
 -- it is a file of no other plaintext under the file key that its first bench stanza holds
 abbrev pub IsAlone : Type 0
 IsAlone = (draws plain file_key : List ℕ) (stanzas : List StanzaValue) (given : List ℕ) → AreBytes draws → 32 ≤ length draws → AreBytes plain
@@ -91,7 +95,7 @@ grease_good = record { tag = (string_tested (codes "agebench-grease")).0 refl; a
 
 module _ (is_text : (legacy : Bool) (stanzas : List StanzaValue) (mac : List ℕ) → IsHeader stanzas mac → IsHeaderText legacy (header_text stanzas mac) stanzas mac)
     (covers : (stanzas : List StanzaValue) (mac : List ℕ) → length mac ≡ 32 → covered (header_text stanzas mac) ≡ covered_text stanzas) where
-  pub is_bench_file : IsBenchFile
+  pub is_bench_file : IsMade
   is_bench_file draws plain b long =
       let file_key = take 16 draws in
       let stanzas = bench_stanza file_key ∷ bench_grease ∷ [] in

@@ -1,7 +1,7 @@
--- What the one bench identity answers.
-use Rattle.std.specs.Prelude.{◌≡◌, ◌≢◌, ℕ, Bool, true, false, List, [], ◌∷◌, ◌++◌, All, length, nat_eq, bytes_eq, codes, if◌then◌else◌, Option, Some, None, Ok, Err, refl}
+-- What the bench identity answers to stanzas.
+use Rattle.std.specs.Prelude.{◌≡◌, ◌≢◌, ◌⊎◌, ℕ, Bool, true, false, List, [], ◌∷◌, ◌++◌, All, length, nat_eq, bytes_eq, codes, if◌then◌else◌, Option, Some, None, Ok, Err, refl}
 use Rattle.std.specs.Option.{option_or}
-use Rattle.std.proofs.Common.{◌∙◌, sym, ap, inl, inr}
+use Rattle.std.proofs.Common.{◌∙◌, sym, ap, inl}
 use Rattle.std.proofs.lemmas.Bool.{eqb-true, false≢true}
 use Rattle.std.proofs.lemmas.List.{nil_from_length}
 use Rattle.std.proofs.lemmas.List.Elements.{All-nil, All-cons, All-head, All-tail}
@@ -9,41 +9,13 @@ use Rattle.std.proofs.lemmas.Option.{none-some}
 use Rattle.std.proofs.lemmas.Slice.Eq.{bytes_eq-Decides}
 use Rattle.age.specs.DecryptErrors.{InvalidHeader}
 use Rattle.age.specs.Stanza.{StanzaValue}
-use Rattle.age.specs.Unwrapping.{UnwrapAnswer, FirstOf, Then, Unwraps}
-use Rattle.age.specs.Answering.{Decides, FirstThatAnswers}
+use Rattle.age.specs.Unwrapping.{UnwrapAnswer}
+use Rattle.age.specs.Parts.{IsFileFor}
+use Rattle.age_bench.specs.Bench.{bench_seal}
+use Rattle.age_bench.specs.Files.{IsFileForBench}
+use Rattle.age_bench.specs.Names.{AsksWith, OrElse, FirstTo, answers_of, gives_of}
 use Rattle.age_bench.specs.Recipient.{bench_stanza, bench_unwrapped, first_answer, bench_answer, HoldsBenchKey}
-
--- ---- one who answers to each stanza by itself
-
-module _ {S X A : Type 0} (f : X → Option A) (asks : S → X → Option A → S → Type 0)
-    (each : (before : S) (x : X) (answer : Option A) (after : S) → asks before x answer after → answer ≡ f x) where
-  went_on : (xs : List X) (first : Option A) (x : X) (between : S) (answer : Option A) (after : S) → first ≡ f x
-      → ((s : S) → FirstOf asks s xs answer after → answer ≡ first_answer f xs)
-      → Then (λ s. FirstOf asks s xs) first between answer after → answer ≡ option_or (f x) (first_answer f xs)
-  went_on xs None x between answer after is step h = rw (← is) (step between h)
-  went_on xs (Some a) x between answer after is step h = rw (← is) h.0
-
-  pub in_order : (before : S) (xs : List X) (answer : Option A) (after : S) → FirstOf asks before xs answer after → answer ≡ first_answer f xs
-  in_order before [] answer after h = h.0
-  in_order before (x ∷ xs) answer after h =
-      went_on xs h.0 x h.1 answer after (each before x h.0 h.1 h.2) (λ s. in_order s xs answer after) h.3
-
-or_none : {A : Type 0} (o : Option A) → option_or o None ≡ o
-or_none None = refl
-or_none (Some x) = refl
-
-module _ {S X A : Type 0} (f : X → Option A) (asks : S → List X → Option A → S → Type 0)
-    (all : (before : S) (xs : List X) (answer : Option A) (after : S) → asks before xs answer after → answer ≡ first_answer f xs) where
-  -- it doesn't matter which of its calls is made
-  pub either_way : (before : S) (xs : List X) (answer : Option A) (after : S) → Unwraps asks before xs answer after → answer ≡ first_answer f xs
-  either_way before xs answer after (inl h) = all before xs answer after h
-  either_way before xs answer after (inr h) =
-      in_order f (λ s x. asks s (x ∷ [])) (λ s x a t asked. all s (x ∷ []) a t asked ∙ or_none (f x)) before xs answer after h
-
-  -- nor which of several such decides
-  pub any_decides : (before : List S) (xs : List X) (answer : A) (after : List S)
-      → Decides (λ s. Unwraps asks s xs) before answer after → Some answer ≡ first_answer f xs
-  any_decides before xs answer after d = either_way d.decider xs (Some answer) d.decider_after d.answers
+use Rattle.age_bench.specs.declared.names.With.TheVariants.{Bench}
 
 -- ---- the file key
 
@@ -128,36 +100,31 @@ held_after (p ∷ passed) later key others sixteen =
 pub held_answer : (stanzas : List StanzaValue) (key : List ℕ) → HoldsBenchKey key stanzas → first_answer bench_unwrapped stanzas ≡ Some (Ok key)
 held_answer stanzas key holds = ap (first_answer bench_unwrapped) holds.all ∙ held_after holds.passed holds.later key holds.others holds.sixteen
 
--- of a list of one
-pub first_of_one : {S X A : Type 0} (f : X → Option A) (asks : S → List X → Option A → S → Type 0)
-    → ((before : S) (xs : List X) (answer : Option A) (after : S) → asks before xs answer after → answer ≡ first_answer f xs)
-    → (one : S) (xs : List X) (answer : Option A) (after : List S) → FirstThatAnswers (λ s. Unwraps asks s xs) (one ∷ []) answer after → answer ≡ first_answer f xs
-first_of_one f asks all one xs None [] h = absurd h
-first_of_one f asks all one xs None (next ∷ after) h = either_way f asks all one xs None next h.0
-first_of_one f asks all one xs (Some a) after h = any_decides f asks all (one ∷ []) xs a after h
+-- ---- what WITH answers where it names the bench identity
 
--- ---- the bench identity itself, which goes stanza by stanza
+or_else : (s : StanzaValue) (rest : List StanzaValue) (first answer : UnwrapAnswer) → first ≡ bench_unwrapped s
+    → (FirstTo (AsksWith Bench) rest answer → answer ≡ bench_answer rest)
+    → OrElse first (FirstTo (AsksWith Bench) rest answer) answer → answer ≡ option_or (bench_unwrapped s) (bench_answer rest)
+or_else s rest None answer is step h = rw (← is) (step h)
+or_else s rest (Some a) answer is step h = rw (← is) h
 
-module _ {S : Type 0} where
-  abbrev pub BenchUnwraps : S → List StanzaValue → UnwrapAnswer → S → Type 0
-  BenchUnwraps = FirstOf (λ before stanza answer after. (answer ≡ bench_unwrapped stanza) × (after ≡ before))
+-- it is set by the stanzas
+pub bench_answers : (stanzas : List StanzaValue) (answer : UnwrapAnswer) → answers_of Bench stanzas answer → answer ≡ bench_answer stanzas
+bench_answers [] answer h = h
+bench_answers (s ∷ stanzas) answer (first, asked, next) = or_else s stanzas first answer asked (λ more. bench_answers stanzas answer more) next
 
-  by_stanza : (before : S) (stanzas : List StanzaValue) (answer : UnwrapAnswer) (after : S) → BenchUnwraps before stanzas answer after
-      → answer ≡ first_answer bench_unwrapped stanzas
-  by_stanza = in_order bench_unwrapped _ (λ s x a t asked. asked.0)
+-- so a file key that it gives stands in the first bench stanza
+pub bench_gives : (file_key : List ℕ) (stanzas : List StanzaValue) → gives_of Bench file_key stanzas → HoldsBenchKey file_key stanzas
+bench_gives file_key stanzas h = holds stanzas file_key (bench_answers stanzas (Some (Ok file_key)) h)
 
-  -- the file key that it decides on stands in the first bench stanza
-  pub key_given : (before : List S) (stanzas : List StanzaValue) (key : List ℕ) (after : List S)
-      → Decides (λ identity answer next. Unwraps BenchUnwraps identity stanzas answer next) before (Ok key) after → HoldsBenchKey key stanzas
-  key_given before stanzas key after decides = holds stanzas key (any_decides bench_unwrapped BenchUnwraps by_stanza before stanzas (Ok key) after decides)
-
-  -- and it answers the file key that stands there
-  pub key_answered : (one : S) (stanzas : List StanzaValue) (key : List ℕ) (answer : UnwrapAnswer) (after : List S) → HoldsBenchKey key stanzas
-      → FirstThatAnswers (λ identity own next. Unwraps BenchUnwraps identity stanzas own next) (one ∷ []) answer after → answer ≡ Some (Ok key)
-  key_answered one stanzas key answer after held asked =
-      first_of_one bench_unwrapped BenchUnwraps by_stanza one stanzas answer after asked ∙ held_answer stanzas key held
-
-  -- what one of them answers is set by the stanzas
-  pub one_answers : (one : S) (stanzas : List StanzaValue) (answer : UnwrapAnswer) (after : List S)
-      → FirstThatAnswers (λ identity own next. Unwraps BenchUnwraps identity stanzas own next) (one ∷ []) answer after → answer ≡ bench_answer stanzas
-  one_answers = first_of_one bench_unwrapped BenchUnwraps by_stanza
+-- and it opens the files for it
+pub for_bench : (plain text : List ℕ) → IsFileForBench plain text → IsFileFor bench_seal (answers_of Bench) plain text
+for_bench plain text for = record {
+  file_key = for.file_key;
+  stanzas = for.stanzas;
+  is_file = for.is_file;
+  bytes = for.bytes;
+  within = for.within;
+  last = for.last;
+  right = λ answer asked. inl (bench_answers for.stanzas answer asked ∙ held_answer for.stanzas for.file_key for.holds);
+}

@@ -1,69 +1,29 @@
--- What a file comes to that is encrypted to the one bench recipient.
-use Rattle.std.specs.Prelude.{◌≡◌, ◌⊎◌, ◌≤◌, ◌<◌, ℕ, Bool, true, false, List, [], ◌∷◌, length, take, drop, nat_le, Some, None, Result, Ok, Err, if◌then◌else◌, MatchOption, refl}
-use Rattle.std.proofs.Common.{◌∙◌, sym, arith, inl, inr, length-drop}
-use Rattle.std.proofs.lemmas.Bool.{leb-true, leb-false}
-use Rattle.age.specs.EncryptErrors.{EncryptRefusal, OutOfMemory, ShortRandom, encrypt_refusal}
+-- What a file comes to that is encrypted to the one recipient that TO names.
+use Rattle.std.specs.Prelude.{◌≡◌, ◌≢◌, ◌⊎◌, ◌≤◌, ◌<◌, ℕ, Bool, true, false, List, [], ◌∷◌, ◌++◌, length, take, drop, nat_le, bytes_eq, codes, Option, Some, None, Result, Ok, Err, if◌then◌else◌, MatchOption, refl}
+use Rattle.std.specs.Result.{result_map_both}
+use Rattle.std.proofs.Common.{◌∙◌, sym, ap, subst, inl, inr}
+use Rattle.age.specs.Bytes.{AreBytesOf}
+use Rattle.age.specs.EncryptErrors.{EncryptRefusal, OutOfMemory, ShortRandom, ZeroSharedSecret, encrypt_refusal}
 use Rattle.age.specs.FileErrors.{EncryptsUnless}
 use Rattle.age.specs.FileErrorVariants.{Io, Encrypt, Decrypt}
 use Rattle.age.specs.Types.{FileError}
-use Rattle.age.specs.Wrapping.{WrapAnswer}
+use Rattle.age.specs.Stanza.{StanzaValue}
+use Rattle.age.specs.Wrapping.{Wrapped, WrapAnswer}
 use Rattle.age.specs.RecipientLabels.{Gathered, nothing_yet, judged}
-use Rattle.age.specs.Drawing.{Ends, UnlessNoMemory, After, WithDrawn}
-use Rattle.age.specs.Encrypting.{Prepared, PreparesNonce, PreparesRest, PreparesWith, Prepares}
+use Rattle.age.specs.Draw.{taken, left_after}
+use Rattle.age.specs.Drawing.{Ends, UnlessNoMemory, Then, After, WithDrawn}
+use Rattle.age.specs.Encrypting.{Prepared, PreparesNonce, PreparesRest, PreparesWith, Prepares, WrapsInTurn}
 use Rattle.age.specs.File.{file_text}
-use Rattle.age_bench.specs.Bench.{bench_seal}
-use Rattle.age_bench.specs.Recipient.{bench_stanza, bench_wrapped, bench_grease, bench_file}
+use Rattle.age.specs.X25519.{wrapped_with, x25519_stanza, no_secret}
+use Rattle.age_bench.specs.Bench.{bench_seal, bench_shared, bench_public}
+use Rattle.age_bench.specs.Recipient.{bench_stanza, bench_grease}
+use Rattle.age_bench.specs.Names.{WrapsTo, drawn, and_then, wrapped_by, left_by, prepared_by, file_by}
+use Rattle.age_bench.specs.declared.names.To.{To}
+use Rattle.age_bench.specs.declared.names.To.TheVariants.{Bench, Key}
 
-Ok-inj : {A : Type 0} {x y : A} → ◌≡◌ {A = Result A EncryptRefusal} (Ok x) (Ok y) → x ≡ y
-Ok-inj same = Prim.cc
-
--- a success isn't the end by a refusal
-no_refusal : {A P : Type 0} (x : A) (e : EncryptRefusal) → Ok x ≡ Err e → P
-no_refusal x e same = absurd (Prim.cc)
-
-went_on : {A P : Type 0} (draws : List ℕ) (x : A) (left : List ℕ) → UnlessNoMemory P draws (Ok x) left → P
-went_on draws x left (inl h) = h
-went_on draws x left (inr h) = no_refusal x OutOfMemory h.0
-
-drawn_by : {A : Type 0} (n : ℕ) (goes_on : List ℕ → List ℕ → Result A EncryptRefusal → List ℕ → Type 0) (draws : List ℕ) (x : A) (left : List ℕ) (enough : Bool)
-    → MatchOption (if enough then Some (take n draws) else None) (Ends (Err ShortRandom) draws (Ok x) left)
-    (λ bytes. goes_on bytes (if enough then drop n draws else draws) (Ok x) left) → (enough ≡ true) × goes_on (take n draws) (drop n draws) (Ok x) left
-drawn_by n goes_on draws x left true h = (refl, h)
-drawn_by n goes_on draws x left false h = no_refusal x ShortRandom h.0
-
--- before a success the bytes were there
-drawn : {A : Type 0} (n : ℕ) (goes_on : List ℕ → List ℕ → Result A EncryptRefusal → List ℕ → Type 0) (draws : List ℕ) (x : A) (left : List ℕ)
-    → WithDrawn n goes_on draws (Ok x) left → (n ≤ length draws) × goes_on (take n draws) (drop n draws) (Ok x) left
-drawn n goes_on draws x left h =
-    let (enough, rest) = drawn_by n goes_on draws x left (nat_le n (length draws)) h in
-    (leb-true n (length draws) enough, rest)
-
-Err-inj : {A : Type 0} {x y : EncryptRefusal} → ◌≡◌ {A = Result A EncryptRefusal} (Err x) (Err y) → x ≡ y
-Err-inj same = Prim.cc
-
--- want of memory, or fewer random bytes than this
-abbrev pub LacksRandom : ℕ → List ℕ → EncryptRefusal → Type 0
-LacksRandom n draws e = (e ≡ OutOfMemory) ⊎ ((e ≡ ShortRandom) × (length draws < n))
-
--- after a value a refusal is want of memory, or comes later
-later : {A P : Type 0} (draws : List ℕ) (e : EncryptRefusal) (left : List ℕ) → UnlessNoMemory {A = A} P draws (Err e) left → P ⊎ (e ≡ OutOfMemory)
-later draws e left (inl h) = inl h
-later draws e left (inr h) = inr (Err-inj h.0)
-
-short_by : {A : Type 0} (n : ℕ) (goes_on : List ℕ → List ℕ → Result A EncryptRefusal → List ℕ → Type 0) (draws : List ℕ) (e : EncryptRefusal) (left : List ℕ) (enough : Bool)
-    → MatchOption (if enough then Some (take n draws) else None) (Ends {A = A} (Err ShortRandom) draws (Err e) left)
-    (λ bytes. goes_on bytes (if enough then drop n draws else draws) (Err e) left)
-    → ((enough ≡ false) × (e ≡ ShortRandom)) ⊎ goes_on (take n draws) (drop n draws) (Err e) left
-short_by n goes_on draws e left true h = inr h
-short_by n goes_on draws e left false h = inl (refl, Err-inj h.0)
-
--- a refusal is want of random bytes, or comes after they were taken
-short : {A : Type 0} (n : ℕ) (goes_on : List ℕ → List ℕ → Result A EncryptRefusal → List ℕ → Type 0) (draws : List ℕ) (e : EncryptRefusal) (left : List ℕ)
-    → WithDrawn n goes_on draws (Err e) left → ((e ≡ ShortRandom) × (length draws < n)) ⊎ goes_on (take n draws) (drop n draws) (Err e) left
-short n goes_on draws e left h = elim (short_by n goes_on draws e left (nat_le n (length draws)) h) [
-  | inl few ↦ inl (few.1, leb-false n (length draws) few.0)
-  | inr rest ↦ inr rest
-]
+-- an outcome is what is due, or want of memory
+abbrev pub IsDue : {A : Type 0} → Result A EncryptRefusal → Result A EncryptRefusal → Type 0
+IsDue due outcome = (outcome ≡ due) ⊎ (outcome ≡ Err OutOfMemory)
 
 -- a refusal of encryption says what follows from what it says
 pub encrypts_weaker : (P Q : EncryptRefusal → Type 0) → ((refusal : EncryptRefusal) → P refusal → Q refusal) → (e : FileError) → EncryptsUnless P e → EncryptsUnless Q e
@@ -71,112 +31,185 @@ encrypts_weaker P Q f (Encrypt e) d = f (encrypt_refusal e) d
 encrypts_weaker P Q f (Io e) d = tt
 encrypts_weaker P Q f (Decrypt e) d = d
 
--- the stanza of the file key, and no labels
-abbrev gathered_by : List ℕ → Gathered
-gathered_by file_key = record { labels = Some []; stanzas = bench_stanza file_key ∷ [] }
+-- random bytes that may be too few
+due_of_drawn : {A : Type 0} (bytes : Option (List ℕ)) (goes_on : List ℕ → Type 0) (draws left : List ℕ) (outcome : Result A EncryptRefusal)
+    (next : List ℕ → Result A EncryptRefusal) → ((b : List ℕ) → goes_on b → IsDue (next b) outcome)
+    → MatchOption bytes (Ends (Err ShortRandom) draws outcome left) goes_on → IsDue (drawn bytes next) outcome
+due_of_drawn None goes_on draws left outcome next step h = inl h.0
+due_of_drawn (Some b) goes_on draws left outcome next step h = step b h
 
--- the file key, the bench stanza of it beside the grease, and a nonce
-abbrev pub prepared_by : List ℕ → List ℕ → Prepared
-prepared_by file_key nonce = record { file_key = file_key; stanzas = bench_stanza file_key ∷ bench_grease ∷ []; nonce = nonce }
+-- the nonce
+nonce_due : (file_key : List ℕ) (stanzas : List StanzaValue) (draws left : List ℕ) (outcome : Result Prepared EncryptRefusal)
+    → PreparesNonce file_key stanzas draws outcome left
+    → IsDue (drawn (taken 16 draws) (λ nonce. Ok (record { file_key = file_key; stanzas = stanzas; nonce = nonce }))) outcome
+nonce_due file_key stanzas draws left outcome h =
+    let made : List ℕ → Prepared = λ nonce. record { file_key = file_key; stanzas = stanzas; nonce = nonce } in
+    let goes_on : List ℕ → Type 0 = λ nonce. UnlessNoMemory (Ends (Ok (made nonce)) (left_after 16 draws) outcome left) (left_after 16 draws) outcome left in
+    due_of_drawn (taken 16 draws) goes_on draws left outcome (λ nonce. Ok (made nonce))
+    (λ nonce on. elim on [
+      | inl done ↦ inl done.0
+      | inr want ↦ inr want.0
+    ]) h
 
-nonce_drawn : (file_key draws : List ℕ) (file : Prepared) (left : List ℕ) → PreparesNonce file_key (bench_stanza file_key ∷ bench_grease ∷ []) draws (Ok file) left
-    → (16 ≤ length draws) × (file ≡ prepared_by file_key (take 16 draws))
-nonce_drawn file_key draws file left h =
-    let made = prepared_by file_key (take 16 draws) in
-    let goes_on : List ℕ → List ℕ → Result Prepared EncryptRefusal → List ℕ → Type 0 =
-    λ nonce draws outcome left. UnlessNoMemory (Ends (Ok (prepared_by file_key nonce)) draws outcome left) draws outcome left in
-    let (long, rest) = drawn 16 goes_on draws file left h in
-    (long, Ok-inj (went_on {P = Ends (Ok made) (drop 16 draws) (Ok file) left} (drop 16 draws) file left rest).0)
+-- one stanza that isn't of a passphrase, and no labels
+pub record IsOnePlain (wrapped : Wrapped) : Type 0 where
+  pub stanza : StanzaValue
+  pub is : wrapped ≡ record { stanzas = stanza ∷ []; labels = [] }
+  pub plain : bytes_eq stanza.tag (codes "scrypt") ≡ false
 
--- an answer of the bench recipient, or none for want of memory
-abbrev pub BenchAnswers : List ℕ → List ℕ → WrapAnswer → List ℕ → Type 0
-BenchAnswers file_key draws answer left = Ends (Ok (bench_wrapped file_key)) draws answer left ⊎ Ends (Err OutOfMemory) draws answer left
+-- what TO answers
+pub record Answered (to : To) (file_key draws : List ℕ) (answer : WrapAnswer) (left : List ℕ) : Type 0 where
+  pub due : IsDue (wrapped_by to file_key draws) answer
+  pub left_is : answer ≢ Err OutOfMemory → left ≡ left_by to draws
 
--- what one recipient comes to by its answer
-judged_one : (file_key draws : List ℕ) (answer : WrapAnswer) (between : List ℕ) (gathered : Gathered) (left : List ℕ) → BenchAnswers file_key draws answer between
-    → After (judged nothing_yet answer) (λ more. Ends (Ok more)) between (Ok gathered) left → (gathered ≡ gathered_by file_key) × (left ≡ draws)
-judged_one file_key draws answer between gathered left (inl is) h =
-    let ended : After (judged nothing_yet (Ok (bench_wrapped file_key))) (λ more. Ends (Ok more)) draws (Ok gathered) left = rw (is.0, is.1) at h in
-    let (one, same) = went_on draws gathered left ended in
-    (Ok-inj one, same)
-judged_one file_key draws answer between gathered left (inr is) h =
-    let ended : After (judged nothing_yet (Err OutOfMemory)) (λ more. Ends (Ok more)) between (Ok gathered) left = rw is.0 at h in
-    no_refusal gathered OutOfMemory ended.0
+bench_answered : (file_key draws : List ℕ) (answer : WrapAnswer) (left : List ℕ) → WrapsTo Bench file_key draws answer left → Answered Bench file_key draws answer left
+bench_answered file_key draws answer left (inl h) = record { due = inl h.0; left_is = λ _. h.1 }
+bench_answered file_key draws answer left (inr h) = record { due = inr h.0; left_is = λ other. absurd (other h.0) }
 
-nonce_refused : (file_key draws : List ℕ) (e : EncryptRefusal) (left : List ℕ) → PreparesNonce file_key (bench_stanza file_key ∷ bench_grease ∷ []) draws (Err e) left
-    → LacksRandom 16 draws e
-nonce_refused file_key draws e left h =
-    let goes_on : List ℕ → List ℕ → Result Prepared EncryptRefusal → List ℕ → Type 0 =
-    λ nonce draws outcome left. UnlessNoMemory (Ends (Ok (prepared_by file_key nonce)) draws outcome left) draws outcome left in
-    elim (short 16 goes_on draws e left h) [
-      | inl few ↦ inr few
-      | inr rest ↦ elim (later {A = Prepared} {P = Ends (Ok (prepared_by file_key (take 16 draws))) (drop 16 draws) (Err e) left} (drop 16 draws) e left rest) [
-        | inl made ↦ no_refusal (prepared_by file_key (take 16 draws)) e (sym made.0)
-        | inr memory ↦ inl memory
-      ]
+-- what came after a value that was due
+after_due : (due : Result Wrapped EncryptRefusal) (draws : List ℕ) (answer : WrapAnswer) (left : List ℕ) → After due (λ w. Ends (Ok w)) draws answer left
+    → IsDue due answer × (left ≡ draws)
+after_due (Err e) draws answer left h = (inl h.0, h.1)
+after_due (Ok w) draws answer left (inl h) = (inl h.0, h.1)
+after_due (Ok w) draws answer left (inr h) = (inr h.0, h.1)
+
+-- an answer for which random bytes are drawn
+drawn_answer : (enough : Bool) (n : ℕ) (Known : List ℕ → Type 0) (due : List ℕ → Result Wrapped EncryptRefusal) (draws : List ℕ) (answer : WrapAnswer) (left : List ℕ)
+    → MatchOption (if enough then Some (take n draws) else None) (Ends (Err ShortRandom) draws answer left)
+    (λ bytes. Known bytes × After (due bytes) (λ w. Ends (Ok w)) (if enough then drop n draws else draws) answer left)
+    → IsDue (drawn (if enough then Some (take n draws) else None) due) answer × (left ≡ (if enough then drop n draws else draws))
+drawn_answer true n Known due draws answer left h = after_due (due (take n draws)) (drop n draws) answer left h.1
+drawn_answer false n Known due draws answer left h = (inl h.0, h.1)
+
+-- what is known of the file key and of the ephemeral secret, put together
+of_some : (bytes : Option (List ℕ)) (Short : Type 0) (A B C : List ℕ → Type 0) → MatchOption bytes Short (λ b. A b × B b × C b)
+    → MatchOption bytes Short (λ b. (A b × B b) × C b)
+of_some None Short A B C h = h
+of_some (Some b) Short A B C h = ((h.0, h.1), h.2)
+
+key_answered : (public file_key draws : List ℕ) (answer : WrapAnswer) (left : List ℕ) → WrapsTo (Key public) file_key draws answer left
+    → Answered (Key public) file_key draws answer left
+key_answered public file_key draws answer left h =
+    let due : List ℕ → Result Wrapped EncryptRefusal = λ ephemeral. wrapped_with bench_seal bench_shared bench_public public file_key ephemeral in
+    let after : List ℕ → Type 0 = λ ephemeral. After (due ephemeral) (λ w. Ends (Ok w)) (left_after 32 draws) answer left in
+    let known = of_some (taken 32 draws) (Ends (Err ShortRandom) draws answer left) (λ ephemeral. AreBytesOf 16 file_key) (λ ephemeral. AreBytesOf 32 ephemeral) after h in
+    let (is, same) = drawn_answer (nat_le 32 (length draws)) 32 (λ ephemeral. AreBytesOf 16 file_key × AreBytesOf 32 ephemeral) due draws answer left known in
+    record { due = is; left_is = λ _. same }
+
+answered : (to : To) (file_key draws : List ℕ) (answer : WrapAnswer) (left : List ℕ) → WrapsTo to file_key draws answer left → Answered to file_key draws answer left
+answered Bench file_key draws answer left h = bench_answered file_key draws answer left h
+answered (Key public) file_key draws answer left h = key_answered public file_key draws answer left h
+
+-- ---- what is wrapped is one stanza
+
+ok_same : {A : Type 0} (x y : A) → ◌≡◌ {A = Result A EncryptRefusal} (Ok x) (Ok y) → x ≡ y
+ok_same x y is = Prim.cc
+
+not_ok : {A P : Type 0} (x : A) (e : EncryptRefusal) → ◌≡◌ {A = Result A EncryptRefusal} (Err e) (Ok x) → P
+not_ok x e is = absurd (Prim.cc)
+
+key_plain : (zero : Bool) (share body : List ℕ) (wrapped : Wrapped)
+    → (if zero then Err ZeroSharedSecret else Ok (record { stanzas = x25519_stanza share body ∷ []; labels = [] })) ≡ Ok wrapped → IsOnePlain wrapped
+key_plain true share body wrapped is = not_ok wrapped ZeroSharedSecret is
+key_plain false share body wrapped is = record { stanza = x25519_stanza share body; is = sym (ok_same _ wrapped is); plain = refl }
+
+drawn_plain : (bytes : Option (List ℕ)) (due : List ℕ → Result Wrapped EncryptRefusal) (wrapped : Wrapped)
+    → ((b : List ℕ) → due b ≡ Ok wrapped → IsOnePlain wrapped) → drawn bytes due ≡ Ok wrapped → IsOnePlain wrapped
+drawn_plain None due wrapped each is = not_ok wrapped ShortRandom is
+drawn_plain (Some b) due wrapped each is = each b is
+
+one_plain : (to : To) (file_key draws : List ℕ) (wrapped : Wrapped) → wrapped_by to file_key draws ≡ Ok wrapped → IsOnePlain wrapped
+one_plain Bench file_key draws wrapped is = record { stanza = bench_stanza file_key; is = sym (ok_same _ wrapped is); plain = refl }
+one_plain (Key public) file_key draws wrapped is =
+    drawn_plain (taken 32 draws) (λ ephemeral. wrapped_with bench_seal bench_shared bench_public public file_key ephemeral) wrapped
+    (λ ephemeral made. key_plain (bytes_eq (bench_shared ephemeral public) no_secret) _ _ wrapped made) is
+
+same_refusal : {A B : Type 0} (e : EncryptRefusal) → ◌≡◌ {A = Result A EncryptRefusal} (Err e) (Err OutOfMemory) → ◌≡◌ {A = Result B EncryptRefusal} (Err e) (Err OutOfMemory)
+same_refusal e is = Prim.cc
+
+made_due : (due : Result Wrapped EncryptRefusal) (wrapped : Wrapped) → IsDue due (Ok wrapped) → Ok wrapped ≡ due
+made_due due wrapped (inl is) = is
+made_due due wrapped (inr want) = not_ok wrapped OutOfMemory (sym want)
+
+-- ---- the whole
+
+-- one stanza and no labels come to themselves
+abbrev gathered_by : StanzaValue → Gathered
+gathered_by stanza = record { labels = Some []; stanzas = stanza ∷ [] }
+
+-- the nonce that is due after the stanza, and the grease behind it
+abbrev finished : List ℕ → Wrapped → List ℕ → Result Prepared EncryptRefusal
+finished file_key wrapped draws =
+    drawn (taken 16 draws) (λ nonce. Ok (record { file_key = file_key; stanzas = wrapped.stanzas ++ bench_grease ∷ []; nonce = nonce }))
+
+rest_due : (file_key : List ℕ) (stanza : StanzaValue) (draws : List ℕ) (outcome : Result Prepared EncryptRefusal) (left : List ℕ)
+    → bytes_eq stanza.tag (codes "scrypt") ≡ false → PreparesRest file_key (Some bench_grease) (gathered_by stanza) draws outcome left
+    → IsDue (finished file_key (record { stanzas = stanza ∷ []; labels = [] }) draws) outcome
+rest_due file_key stanza draws outcome left plain h =
+    let on : UnlessNoMemory (PreparesNonce file_key (stanza ∷ bench_grease ∷ []) draws outcome left) draws outcome left = rw plain at h in
+    elim on [
+      | inl nonce ↦ nonce_due file_key (stanza ∷ bench_grease ∷ []) draws left outcome nonce
+      | inr want ↦ inr want.0
     ]
 
--- the one recipient refuses for want of memory alone
-judged_refused : (file_key draws : List ℕ) (answer : WrapAnswer) (between : List ℕ) (e : EncryptRefusal) (left : List ℕ) → BenchAnswers file_key draws answer between
-    → After (judged nothing_yet answer) (λ more. Ends (Ok more)) between (Err e) left → e ≡ OutOfMemory
-judged_refused file_key draws answer between e left (inl is) h =
-    let ended : After (judged nothing_yet (Ok (bench_wrapped file_key))) (λ more. Ends (Ok more)) draws (Err e) left = rw (is.0, is.1) at h in
-    elim (later {A = Gathered} {P = Ends (Ok (gathered_by file_key)) draws (Err e) left} draws e left ended) [
-      | inl made ↦ no_refusal (gathered_by file_key) e (sym made.0)
-      | inr memory ↦ memory
-    ]
-judged_refused file_key draws answer between e left (inr is) h =
-    let ended : After (judged nothing_yet (Err OutOfMemory)) (λ more. Ends (Ok more)) between (Err e) left = rw is.0 at h in
-    Err-inj ended.0
+gathered_due : (file_key : List ℕ) (stanza : StanzaValue) (draws : List ℕ) (gathered : Result Gathered EncryptRefusal) (between : List ℕ)
+    (outcome : Result Prepared EncryptRefusal) (left : List ℕ) → bytes_eq stanza.tag (codes "scrypt") ≡ false
+    → UnlessNoMemory (Ends (Ok (gathered_by stanza)) draws gathered between) draws gathered between
+    → Then gathered (λ all. PreparesRest file_key (Some bench_grease) all) between outcome left
+    → IsDue (finished file_key (record { stanzas = stanza ∷ []; labels = [] }) draws) outcome
+gathered_due file_key stanza draws gathered between outcome left plain (inl ended) rest =
+    let on : PreparesRest file_key (Some bench_grease) (gathered_by stanza) draws outcome left = rw (ended.0, ended.1) at rest in
+    rest_due file_key stanza draws outcome left plain on
+gathered_due file_key stanza draws gathered between outcome left plain (inr want) rest =
+    let ended : Ends (Err OutOfMemory) between outcome left = rw want.0 at rest in
+    inr ended.0
 
-module _ {R : Type 0} (wraps : R → List ℕ → List ℕ → WrapAnswer → List ℕ → Type 0) (r : R)
-    (is_bench : (file_key draws : List ℕ) (answer : WrapAnswer) (left : List ℕ) → wraps r file_key draws answer left → BenchAnswers file_key draws answer left) where
-  prepared_with : (file_key draws : List ℕ) (file : Prepared) (left : List ℕ) → PreparesWith wraps (r ∷ []) (Some bench_grease) file_key draws (Ok file) left
-      → (16 ≤ length draws) × (file ≡ prepared_by file_key (take 16 draws))
-  prepared_with file_key draws file left (Err e, between, wrapped, rest) = no_refusal file e rest.0
-  prepared_with file_key draws file left (Ok gathered, between, wrapped, rest) =
-      let (answer, after, answers, judged) = wrapped in
-      let (one, same) = judged_one file_key draws answer after gathered between (is_bench file_key draws answer after answers) judged in
-      let rest_of_one : PreparesRest file_key (Some bench_grease) (gathered_by file_key) draws (Ok file) left = rw (one, same) at rest in
-      nonce_drawn file_key draws file left (went_on draws file left rest_of_one)
+-- the same where the recipient refused
+refused_due : (due : Result Wrapped EncryptRefusal) (next : Wrapped → Result Prepared EncryptRefusal) (e : EncryptRefusal) (outcome : Result Prepared EncryptRefusal)
+    → IsDue due (Err e) → outcome ≡ Err e → IsDue (and_then due next) outcome
+refused_due due next e outcome (inl is) ended = inl (ended ∙ ap (λ d. and_then d next) is)
+refused_due due next e outcome (inr want) ended = inr (ended ∙ same_refusal e want)
 
-  -- all of a file is set by the random bytes, of which there were 32 or more
-  pub prepared : (draws : List ℕ) (file : Prepared) (left : List ℕ) → Prepares wraps (r ∷ []) (Some bench_grease) draws (Ok file) left
-      → (32 ≤ length draws) × (file ≡ prepared_by (take 16 draws) (take 16 (drop 16 draws)))
-  prepared draws file left h =
-      let (long, rest) = drawn 16 (PreparesWith wraps (r ∷ []) (Some bench_grease)) draws file left h in
-      let (longer, is) = prepared_with (take 16 draws) (drop 16 draws) file left rest in
-      (omega (arith, long, longer, length-drop 16 draws), is)
+with_due : (to : To) (file_key draws : List ℕ) (outcome : Result Prepared EncryptRefusal) (left : List ℕ)
+    → PreparesWith WrapsTo (to ∷ []) (Some bench_grease) file_key draws outcome left
+    → IsDue (and_then (wrapped_by to file_key draws) (λ wrapped. finished file_key wrapped (left_by to draws))) outcome
+with_due to file_key draws outcome left (gathered, between, (Err e, after, wraps, judges), rest) =
+    let ended : Ends (Err e) between outcome left = rw judges.0 at rest in
+    refused_due (wrapped_by to file_key draws) (λ wrapped. finished file_key wrapped (left_by to draws)) e outcome (answered to file_key draws (Err e) after wraps).due ended.0
+with_due to file_key draws outcome left (gathered, between, (Ok wrapped, after, wraps, judges), rest) =
+    let said = answered to file_key draws (Ok wrapped) after wraps in
+    let is : Ok wrapped ≡ wrapped_by to file_key draws = made_due _ wrapped said.due in
+    let one = one_plain to file_key draws wrapped (sym is) in
+    let same : after ≡ left_by to draws = said.left_is (λ want. not_ok wrapped OutOfMemory (sym want)) in
+    let on : UnlessNoMemory (Ends (Ok (gathered_by one.stanza)) after gathered between) after gathered between = rw one.is at judges in
+    let due : IsDue (finished file_key (record { stanzas = one.stanza ∷ []; labels = [] }) after) outcome =
+    gathered_due file_key one.stanza after gathered between outcome left one.plain on rest in
+    let of_wrapped : IsDue (finished file_key wrapped (left_by to draws)) outcome = rw (one.is, ← same) due in
+    subst (λ d. IsDue (and_then d (λ wrapped. finished file_key wrapped (left_by to draws))) outcome) is of_wrapped
 
-  -- so is the text of the file
-  pub bench_filed : (draws plain : List ℕ) (Well : Type 0) (Appended : List ℕ → Type 0)
-      → ((file : Prepared) × (left : List ℕ) × Prepares wraps (r ∷ []) (Some bench_grease) draws (Ok file) left
-      × Well × Appended (file_text bench_seal file.file_key file.stanzas file.nonce plain))
-      → (32 ≤ length draws) × Well × Appended (bench_file draws plain)
-  bench_filed draws plain Well Appended (file, left, prepares, well, appended) =
-      let (long, is) = prepared draws file left prepares in
-      (long, well, rw is at appended)
+-- A file to TO is what the random bytes come to, or memory was refused.
+pub prepared : (to : To) (draws : List ℕ) (outcome : Result Prepared EncryptRefusal) (left : List ℕ)
+    → Prepares WrapsTo (to ∷ []) (Some bench_grease) draws outcome left → IsDue (prepared_by to draws) outcome
+prepared to draws outcome left h =
+    due_of_drawn (taken 16 draws) (λ file_key. PreparesWith WrapsTo (to ∷ []) (Some bench_grease) file_key (left_after 16 draws) outcome left) draws left outcome
+    (λ file_key. and_then (wrapped_by to file_key (left_after 16 draws)) (λ wrapped. finished file_key wrapped (left_by to (left_after 16 draws))))
+    (λ file_key on. with_due to file_key (left_after 16 draws) outcome left on) h
 
-  refused_with : (file_key draws : List ℕ) (e : EncryptRefusal) (left : List ℕ) → PreparesWith wraps (r ∷ []) (Some bench_grease) file_key draws (Err e) left
-      → LacksRandom 16 draws e
-  refused_with file_key draws e left (Err own, between, wrapped, rest) =
-      let (answer, after, answers, judged) = wrapped in
-      inl (Err-inj rest.0 ∙ judged_refused file_key draws answer after own between (is_bench file_key draws answer after answers) judged)
-  refused_with file_key draws e left (Ok gathered, between, wrapped, rest) =
-      let (answer, after, answers, judged) = wrapped in
-      let (one, same) = judged_one file_key draws answer after gathered between (is_bench file_key draws answer after answers) judged in
-      let rest_of_one : PreparesRest file_key (Some bench_grease) (gathered_by file_key) draws (Err e) left = rw (one, same) at rest in
-      elim (later {A = Prepared} {P = PreparesNonce file_key (bench_stanza file_key ∷ bench_grease ∷ []) draws (Err e) left} draws e left rest_of_one) [
-        | inl nonce ↦ nonce_refused file_key draws e left nonce
-        | inr memory ↦ inl memory
-      ]
+-- so it is the file that they come to
+pub filed : (to : To) (draws plain : List ℕ) (file : Prepared) (left : List ℕ) → Prepares WrapsTo (to ∷ []) (Some bench_grease) draws (Ok file) left
+    → file_by to draws plain ≡ Ok (file_text bench_seal file.file_key file.stanzas file.nonce plain)
+filed to draws plain file left h = elim (prepared to draws (Ok file) left h) [
+  | inl due ↦ ap (λ made. result_map_both (λ file. file_text bench_seal file.file_key file.stanzas file.nonce plain) (λ e. e) made) (sym due)
+  | inr want ↦ not_ok file OutOfMemory (sym want)
+]
 
-  -- and it is refused for want of memory, or of 32 random bytes
-  pub refused : (draws : List ℕ) (e : EncryptRefusal) (left : List ℕ) → Prepares wraps (r ∷ []) (Some bench_grease) draws (Err e) left → LacksRandom 32 draws e
-  refused draws e left h = elim (short 16 (PreparesWith wraps (r ∷ []) (Some bench_grease)) draws e left h) [
-    | inl few ↦ inr (few.0, omega (arith, few.1))
-    | inr rest ↦ elim (refused_with (take 16 draws) (drop 16 draws) e left rest) [
-      | inl memory ↦ inl memory
-      | inr few ↦ inr (few.0, omega (arith, few.1, length-drop 16 draws))
-    ]
-  ]
+err_same : {A : Type 0} (x y : EncryptRefusal) → ◌≡◌ {A = Result A EncryptRefusal} (Err x) (Err y) → x ≡ y
+err_same x y is = Prim.cc
+
+-- or the refusal
+pub never_filed : (to : To) (draws : List ℕ) (refusal : EncryptRefusal) (left : List ℕ) → Prepares WrapsTo (to ∷ []) (Some bench_grease) draws (Err refusal) left
+    → (refusal ≡ OutOfMemory) ⊎ ((plain : List ℕ) → file_by to draws plain ≡ Err refusal)
+never_filed to draws refusal left h = elim (prepared to draws (Err refusal) left h) [
+  | inl due ↦ inr (λ plain. ap (λ made. result_map_both (λ file. file_text bench_seal file.file_key file.stanzas file.nonce plain) (λ e. e) made) (sym due))
+  | inr want ↦ inl (err_same refusal OutOfMemory want)
+]

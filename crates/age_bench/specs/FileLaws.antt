@@ -1,5 +1,5 @@
 -- What is true of the files of the bench recipient.
-use Rattle.std.specs.Prelude.{◌≡◌, ◌≤◌, ℕ, List, [], ◌∷◌, length, take}
+use Rattle.std.specs.Prelude.{◌≡◌, ℕ, List, [], ◌∷◌, take, Ok}
 use Rattle.age.specs.Bytes.{AreBytes}
 use Rattle.age.specs.Armor.{Carries}
 use Rattle.age.specs.Types.{Format}
@@ -7,21 +7,30 @@ use Rattle.age.specs.ArmorWriting.{text_of}
 use Rattle.age.specs.Stanza.{StanzaValue}
 use Rattle.age.specs.HeaderV1.{reads_legacy}
 use Rattle.age.specs.File.{IsFileOf}
+use Rattle.age.specs.Parts.{IsFileFor}
 use Rattle.age_bench.specs.Bench.{bench_seal}
-use Rattle.age_bench.specs.Recipient.{bench_stanza, bench_grease, bench_file, HoldsBenchKey}
+use Rattle.age_bench.specs.Files.{IsFileForBench}
+use Rattle.age_bench.specs.Names.{answers_of, file_by, gives_of}
+use Rattle.age_bench.specs.Recipient.{bench_stanza, bench_grease}
+use Rattle.age_bench.specs.declared.names.To.TheVariants as to
+use Rattle.age_bench.specs.declared.names.With.TheVariants as with_
 
 -- it is a file of the plaintext under the file key that its bench stanza holds
 abbrev pub IsBenchFile : Type 0
-IsBenchFile = (draws plain : List ℕ) → AreBytes draws → 32 ≤ length draws
-    → IsFileOf reads_legacy bench_seal (take 16 draws) (bench_stanza (take 16 draws) ∷ bench_grease ∷ []) plain (bench_file draws plain)
+IsBenchFile = (draws plain text : List ℕ) → AreBytes draws → file_by to.Bench draws plain ≡ Ok text
+    → IsFileOf reads_legacy bench_seal (take 16 draws) (bench_stanza (take 16 draws) ∷ bench_grease ∷ []) plain text
 
 -- the text in either form carries it
 abbrev pub IsCarried : Type 0
-IsCarried = (format : Format) (draws plain : List ℕ) → AreBytes draws → 32 ≤ length draws → AreBytes plain
-    → Carries (text_of format (bench_file draws plain)) (bench_file draws plain)
+IsCarried = (format : Format) (draws plain text : List ℕ) → AreBytes draws → AreBytes plain → file_by to.Bench draws plain ≡ Ok text
+    → Carries (text_of format text) text
 
--- what the text in either form carries is a file of no other plaintext under the file key that its first bench stanza holds
+-- what the text in either form carries is a file of no other plaintext under a file key that the bench identity gives to its stanzas
 abbrev pub GivesBack : Type 0
-GivesBack = (format : Format) (draws plain bytes file_key : List ℕ) (stanzas : List StanzaValue) (given : List ℕ)
-    → AreBytes draws → 32 ≤ length draws → AreBytes plain → Carries (text_of format (bench_file draws plain)) bytes
-    → HoldsBenchKey file_key stanzas → IsFileOf reads_legacy bench_seal file_key stanzas given bytes → given ≡ plain
+GivesBack = (format : Format) (draws plain text bytes file_key : List ℕ) (stanzas : List StanzaValue) (given : List ℕ)
+    → AreBytes draws → AreBytes plain → file_by to.Bench draws plain ≡ Ok text → Carries (text_of format text) bytes
+    → gives_of with_.Bench file_key stanzas → IsFileOf reads_legacy bench_seal file_key stanzas given bytes → given ≡ plain
+
+-- a file whose first bench stanza holds its file key is one for the bench identity
+abbrev pub IsForBench : Type 0
+IsForBench = (plain text : List ℕ) → IsFileForBench plain text → IsFileFor bench_seal (answers_of with_.Bench) plain text

@@ -1,5 +1,6 @@
 pub mod Bench
 pub mod Laws
 pub mod Recipient
+pub mod Names
 pub mod FileLaws
 pub mod Files

@@ -1,13 +1,15 @@
 //! The commands on whole files.
-ghost use Rattle.std.specs.Prelude.{◌≡◌, ◌<◌, ◌≤◌, length, IsTrue, ◌⊎◌, IfOk, OnOk, IfErr};
+ghost use Rattle.std.specs.Prelude.{◌≡◌, ◌⊎◌, ℕ, List, IsTrue, Ok, Err, IfOk, OnOk, IfErr};
 ghost use Rattle.age.specs.ArmorWriting.{text_of};
 ghost use Rattle.age.specs.DecryptingStreams.{DecryptsAll};
-ghost use Rattle.age.specs.EncryptErrors.{encrypt_refusal, OutOfMemory, ShortRandom};
+ghost use Rattle.age.specs.EncryptErrors.{encrypt_refusal, OutOfMemory};
 ghost use Rattle.age.specs.FileErrors.{IsEncryptError, EncryptsUnless};
-ghost use Rattle.age_bench.specs.Files.{IsFileForBench};
-ghost use Rattle.age_bench.specs.Recipient.{bench_grease, bench_file, bench_answer, HoldsBenchKey};
+ghost use Rattle.age.specs.Parts.{IsFileFor};
+ghost use Rattle.age_bench.specs.Bench.{bench_seal};
+ghost use Rattle.age_bench.specs.Names.{answers_of, file_by, gives_of};
+ghost use Rattle.age_bench.specs.Recipient.{bench_grease};
 
-use crate::recipient::{BenchIdentity, BenchRecipient};
+use crate::names::{To, With};
 use crate::suite::BenchSuite;
 use age::EncryptError;
 use age::armor::Format;
@@ -16,7 +18,6 @@ use age::format::{Grease, Stanza};
 use age::io::{Read, Write};
 use age::streaming::{FileError, decrypt_all, encrypt_all};
 use age::suite::Suite;
-use agebench_command::names::{To, With};
 use std::alloc::Global;
 
 // The stanza that each file has besides those of its recipients: the tag `agebench-grease`, no arguments and no body.
@@ -36,9 +37,10 @@ fn grease(alloc: Global) -> Result<Grease, EncryptError>
 
 /// `encrypt_all` to the recipient that a word of the command line names.
 ///
-/// The first 16 random bytes are the file key, and the next 16 the nonce of the payload. So what a success appended to
-/// `writer` is set by the random bytes, the form and the plaintext alone. It refuses as `encrypt_all` does; an error of encryption
-/// is `ShortRandom`, where there are fewer than 32 random bytes, or `OutOfMemory`.
+/// The first 16 random bytes are the file key; an X25519 recipient takes the next 32 for its ephemeral secret; the next 16 are the
+/// nonce of the payload. So what a success appended to `writer` is set by the random bytes, the form and the plaintext alone. It
+/// refuses as `encrypt_all` does; an error of encryption is want of memory, or what the random bytes come to: `ShortRandom` where
+/// there are too few, and for an X25519 recipient `ZeroSharedSecret`.
 pub fn encrypt_to<R: Read, W: Write>(
     alloc: Global,
     to: To,
@@ -48,43 +50,38 @@ pub fn encrypt_to<R: Read, W: Write>(
     writer: &mut W,
 ) -> Result<(), FileError>
     ensures file { IsTrue (R.tells reader.old) → IsTrue (W.tells writer.old) → OnOk result
-        ((32 ≤ length draw) × IsTrue (R.rest reader.old).ends_well
-        × W.appended writer.old (text_of format (bench_file draw (R.rest reader.old).bytes)) writer.new) }
+        ((text : List ℕ)
+        × (file_by to draw (R.rest reader.old).bytes ≡ Ok text)
+        × IsTrue (R.rest reader.old).ends_well
+        × W.appended writer.old (text_of format text) writer.new) }
     ensures refused { IfErr result (λ e. IsEncryptError e → (reader.new ≡ reader.old) × (writer.new ≡ writer.old)) }
-    ensures why { IfErr result (EncryptsUnless (λ refusal. (refusal ≡ OutOfMemory) ⊎ ((refusal ≡ ShortRandom) × (length draw < 32)))) }
+    ensures why { IfErr result (EncryptsUnless (λ refusal. (refusal ≡ OutOfMemory) ⊎ ((plain : List ℕ) → file_by to draw plain ≡ Err refusal))) }
 {
     let mut draw = draw;
     let grease = grease(alloc)?;
-    match to {
-        To::Bench => encrypt_all::<BenchSuite, BenchRecipient, R, W>(
-            alloc,
-            &[BenchRecipient],
-            &mut draw,
-            grease,
-            format,
-            reader,
-            writer,
-        ),
-    }
+    encrypt_all::<BenchSuite, To, R, W>(
+        alloc,
+        &[to],
+        &mut draw,
+        grease,
+        format,
+        reader,
+        writer,
+    )
 }
 
 /// `decrypt_all` with the identity that a word of the command line names.
 ///
-/// A success says that the input carried a file of exactly what was appended to `writer`, under the file key of 16 bytes
-/// that its first stanza with the tag `bench` holds. It refuses as `decrypt_all` does, and then the same was appended.
+/// A success says that the input carried a file of exactly what was appended to `writer`, under the file key that this identity
+/// gives to its stanzas. It refuses as `decrypt_all` does, and then the same was appended.
 pub fn decrypt_with<R: Read, W: Write>(
     alloc: Global,
     with: With,
     reader: &mut R,
     writer: &mut W,
 ) -> Result<(), FileError>
-    ensures { DecryptsAll ⟦<BenchSuite as Suite>⟧ ⟦<R as Read>⟧ ⟦<W as Write>⟧ HoldsBenchKey
-        (λ stanzas answer. answer ≡ bench_answer stanzas) IsFileForBench reader.old writer.old writer.new result }
+    ensures { DecryptsAll ⟦<BenchSuite as Suite>⟧ ⟦<R as Read>⟧ ⟦<W as Write>⟧ (gives_of with) (answers_of with)
+        (IsFileFor bench_seal (answers_of with)) reader.old writer.old writer.new result }
 {
-    match with {
-        With::Bench => {
-            let identities = &mut [BenchIdentity];
-            decrypt_all::<BenchSuite, BenchIdentity, R, W>(alloc, identities, reader, writer)
-        }
-    }
+    decrypt_all::<BenchSuite, With, R, W>(alloc, &mut [with], reader, writer)
 }

@@ -1,7 +1,7 @@
 //! What is true of the bench recipient and its files, for proofs alone: the functions here do nothing, and their contracts are
 //! the laws.
 ghost use Rattle.age.specs.Belonging.{BelongsTo};
-ghost use Rattle.age_bench.specs.FileLaws.{IsBenchFile, IsCarried, GivesBack};
+ghost use Rattle.age_bench.specs.FileLaws.{IsBenchFile, IsCarried, GivesBack, IsForBench};
 ghost use Rattle.age_bench.specs.Recipient.{has_other_tag};
 
 use crate::recipient::{BenchIdentity, BenchRecipient};
@@ -13,16 +13,19 @@ use age::format::laws::{
 use age::stream::laws::{payload_laws, piece_law};
 use age::{Identity, Recipient};
 
-/// What is true of the file that `encrypt_to` appends.
+/// What is true of the file that `encrypt_to` appends where it is asked for `bench`.
 ///
-/// - `is_file`: with 32 random bytes or more it is a file of its plaintext.
+/// - `is_file`: it is a file of its plaintext.
 /// - `is_carried`: what is appended in either form carries that file.
-/// - `gives_back`: what a success of `decrypt_with` says of it is true of no other plaintext. So what is encrypted and then
-///   decrypted is as it was.
+/// - `gives_back`: what a success of `decrypt_with` with `bench` says of it is true of no other plaintext. So what is encrypted and
+///   then decrypted is as it was.
+/// - `is_for_bench`: a file whose first bench stanza holds its file key is one for `bench`, so `decrypt_with`, `at_with` and
+///   `answers_with` succeed on it but for want of memory, as their clauses say.
 pub fn bench_file_laws()
     ensures is_file { IsBenchFile }
     ensures is_carried { IsCarried }
     ensures gives_back { GivesBack }
+    ensures is_for_bench { IsForBench }
 {
     canonical_text_is_text();
     canonical_text_reads_back();

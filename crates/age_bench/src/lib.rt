@@ -3,7 +3,9 @@
 #![tactic(auto)]
 
 pub mod file;
+pub mod keygen;
 pub mod laws;
+pub mod names;
 pub mod opening;
 pub mod part;
 pub mod payload;

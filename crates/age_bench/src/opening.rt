@@ -5,15 +5,16 @@ ghost use Rattle.age.specs.Replies.{seen, replies, IsNoWant};
 ghost use Rattle.age.specs.Armor.{Carries};
 ghost use Rattle.age.specs.OpeningFile.{StandsBefore};
 ghost use Rattle.age.specs.FileErrors.{IsWant};
-ghost use Rattle.age_bench.specs.Files.{IsFileForBench};
+ghost use Rattle.age.specs.Parts.{IsFileFor};
+ghost use Rattle.age_bench.specs.Bench.{bench_seal};
+ghost use Rattle.age_bench.specs.Names.{answers_of};
 
-use crate::recipient::BenchIdentity;
+use crate::names::With;
 use crate::suite::BenchSuite;
 use age::DecryptError;
 use age::io::{Answer, Op, Read, Seek};
 use age::stream::StreamReader;
 use age::streaming::{FileError, answers, open_file};
-use agebench_command::names::With;
 use std::alloc::Global;
 
 /// `open_file` with the identity that a word of the command line names.
@@ -25,15 +26,10 @@ pub fn open_with<T: Read + Drop>(
     ensures tells { let reader = ⟦<StreamReader<BenchSuite, T> as Read>⟧ in IfOk result (λ stream. reader.tells stream ≡ (T.tells bytes && T.steady bytes)) }
     ensures faults { let reader = ⟦<StreamReader<BenchSuite, T> as Read>⟧ in IfOk result (λ stream. T.faults bytes ≤ reader.faults stream) }
     ensures plaintext { IsTrue (T.tells bytes && T.steady bytes) → IsTrue (T.rest bytes).ends_well → (plain : List ℕ) →
-        IsFileForBench plain (T.rest bytes).bytes →
+        IsFileFor bench_seal (answers_of with) plain (T.rest bytes).bytes →
         MatchResult result (λ stream. StandsBefore plain stream) (λ e. ((t : T) → T.faults t ≡ 0) → decrypt_refusal e ≡ OutOfMemory) }
 {
-    match with {
-        With::Bench => {
-            let identities = &mut [BenchIdentity];
-            open_file::<BenchSuite, BenchIdentity, T>(alloc, identities, bytes)
-        }
-    }
+    open_file::<BenchSuite, With, T>(alloc, &mut [with], bytes)
 }
 
 /// Does each read and seek in turn on the plaintext of the file, bare or armored, that `reader` gives from where it stands, and
@@ -50,13 +46,8 @@ pub fn answers_with<R: Seek + Drop>(
     reader: R,
 ) -> Result<Vec<Answer>, FileError>
     ensures cursor { IsTrue (R.tells reader && R.steady reader) → IsTrue (R.rest reader).ends_well → ((r : R) → R.faults r ≡ 0) →
-        (file plain : List ℕ) → Carries (R.rest reader).bytes file → IsFileForBench plain file →
+        (file plain : List ℕ) → Carries (R.rest reader).bytes file → IsFileFor bench_seal (answers_of with) plain file →
         MatchResult result (λ answers. All IsNoWant answers.items → map seen answers.items ≡ replies ops.now plain 0) IsWant }
 {
-    match with {
-        With::Bench => {
-            let identities = &mut [BenchIdentity];
-            answers::<BenchSuite, BenchIdentity, R>(alloc, identities, ops, reader)
-        }
-    }
+    answers::<BenchSuite, With, R>(alloc, &mut [with], ops, reader)
 }

@@ -1,14 +1,14 @@
 //! The command on a part of a file's plaintext.
 ghost use Rattle.age.specs.DecryptingStreams.{DecryptsPart};
-ghost use Rattle.age_bench.specs.Files.{IsFileForBench};
-ghost use Rattle.age_bench.specs.Recipient.{HoldsBenchKey};
+ghost use Rattle.age.specs.Parts.{IsFileFor};
+ghost use Rattle.age_bench.specs.Bench.{bench_seal};
+ghost use Rattle.age_bench.specs.Names.{answers_of, gives_of};
 
-use crate::recipient::BenchIdentity;
+use crate::names::With;
 use crate::suite::BenchSuite;
 use age::io::{Read, Write};
 use age::streaming::{FileError, at};
 use age::suite::Suite;
-use agebench_command::names::With;
 use std::alloc::Global;
 
 /// `at` with the identity that a word of the command line names.
@@ -22,13 +22,8 @@ pub fn at_with<R: Read, W: Write>(
     reader: &mut R,
     writer: &mut W,
 ) -> Result<(), FileError>
-    ensures { DecryptsPart ⟦<BenchSuite as Suite>⟧ ⟦<R as Read>⟧ ⟦<W as Write>⟧ HoldsBenchKey IsFileForBench
+    ensures { DecryptsPart ⟦<BenchSuite as Suite>⟧ ⟦<R as Read>⟧ ⟦<W as Write>⟧ (gives_of with) (IsFileFor bench_seal (answers_of with))
         place count reader.old reader.new writer.old writer.new result }
 {
-    match with {
-        With::Bench => {
-            let identities = &mut [BenchIdentity];
-            at::<BenchSuite, BenchIdentity, R, W>(alloc, identities, place, count, reader, writer)
-        }
-    }
+    at::<BenchSuite, With, R, W>(alloc, &mut [with], place, count, reader, writer)
 }

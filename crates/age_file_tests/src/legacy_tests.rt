@@ -6,7 +6,7 @@ use age_bench::part::at_with;
 use age_bench::recipient::BenchIdentity;
 use age_bench::suite::BenchSuite;
 use age_try::fixtures::{MESSAGE, SEALED, armored};
-use agebench_command::names::With;
+use age_bench::names::With;
 use std::alloc::{AllocError, Global};
 use std::process::Abort;
 use std::test::Fail;

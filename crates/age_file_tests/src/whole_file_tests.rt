@@ -9,7 +9,7 @@ use age_bench::file::{decrypt_with, encrypt_to};
 use age_bench::recipient::{BenchIdentity, BenchRecipient};
 use age_bench::suite::BenchSuite;
 use age_try::fixtures::{MESSAGE, message_file, zeros};
-use agebench_command::names::{To, With};
+use age_bench::names::{To, With};
 use std::alloc::Global;
 use std::process::Abort;
 use std::test::Fail;

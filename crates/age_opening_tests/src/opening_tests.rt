@@ -7,7 +7,7 @@ use age::streaming::FileError;
 use age_bench::file::encrypt_to;
 use age_bench::opening::answers_with;
 use age_try::fixtures::{armored_texts, message_file, plaintext, zeros};
-use agebench_command::names::{To, With};
+use age_bench::names::{To, With};
 use std::alloc::Global;
 use std::process::Abort;
 use std::test::Fail;

@@ -5,6 +5,7 @@ use age::draw::Draw;
 use age::io::{Error, Std};
 use age::streaming::FileError;
 use age_bench::file::{decrypt_with, encrypt_to};
+use age_bench::keygen::keygen;
 use age_bench::part::at_with;
 use age_bench::payload::{open_all, seal_all};
 use agebench_command::command::{Command, parse};
@@ -55,6 +56,7 @@ fn run(rt: &HostRuntime, command: Command) -> Result<(), FileError> {
         Command::At { with, place, count } => {
             at_with(rt.alloc(), with, place, count, &mut input, &mut output)
         }
+        Command::Keygen { draw } => keygen(rt.alloc(), Draw::new(draw), &mut output),
     }
 }
 

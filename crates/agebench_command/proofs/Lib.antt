@@ -1,3 +1,4 @@
 pub mod Hex
 pub mod Words
 pub mod Numbers
+pub mod Keys

@@ -1,13 +1,14 @@
 -- What the words of a command line ask for. A word is a list of bytes.
-use Rattle.std.specs.Prelude.{ℕ, ◌+◌, ◌-◌, ◌*◌, ◌&&◌, List, [], ◌∷◌, length, nat_eq, nat_le, bytes_eq, codes, if◌then◌else◌, Option, Some, None, option_map}
+use Rattle.std.specs.Prelude.{◌≡◌, ◌≢◌, ℕ, ◌+◌, ◌-◌, ◌*◌, Bool, true, false, ◌&&◌, List, [], ◌∷◌, length, nat_eq, nat_le, bytes_eq, codes, if◌then◌else◌, Option, Some, None, option_map}
 use Rattle.std.specs.Option.{option_and_then}
-use Rattle.age_armor.specs.declared.format.Format.{Format}
-use Rattle.age_armor.specs.declared.format.Format.TheVariants.{Binary, AsciiArmor}
+use Rattle.age.specs.Types.{Format}
+use Rattle.age.specs.FormatVariants.{Binary, AsciiArmor}
+use Rattle.age.specs.KeyTexts.{recipient_prefix, identity_prefix, IsKeyText}
+use Rattle.age_bench.specs.declared.names.To.{To}
+use Rattle.age_bench.specs.declared.names.To.TheVariants as to
+use Rattle.age_bench.specs.declared.names.With.{With}
+use Rattle.age_bench.specs.declared.names.With.TheVariants as with_
 use Rattle.agebench_command.specs.Decimal.{number_of}
-use Rattle.agebench_command.specs.declared.names.To.{To}
-use Rattle.agebench_command.specs.declared.names.To.TheVariants as to
-use Rattle.agebench_command.specs.declared.names.With.{With}
-use Rattle.agebench_command.specs.declared.names.With.TheVariants as with_
 use Rattle.agebench_command.specs.declared.command.Command.{Command}
 use Rattle.agebench_command.specs.declared.command.Command.TheVariants as command
 
@@ -18,6 +19,7 @@ pub data CommandValue : Type 0 where
   Encrypt : To → List ℕ → Format → CommandValue
   Decrypt : With → CommandValue
   At : With → ℕ → ℕ → CommandValue
+  Keygen : List ℕ → CommandValue
 
 abbrev pub command_value : Command → CommandValue
 command_value (command.Seal key) = Seal key
@@ -25,6 +27,7 @@ command_value (command.Open key) = Open key
 command_value (command.Encrypt to draw format) = Encrypt to draw.items format
 command_value (command.Decrypt with_) = Decrypt with_
 command_value (command.At with_ place count) = At with_ place count
+command_value (command.Keygen draw) = Keygen draw.items
 
 -- the value of a hexadecimal digit: '0' to '9', 'a' to 'f' or 'A' to 'F'
 abbrev pub digit_of : ℕ → Option ℕ
@@ -48,35 +51,52 @@ bytes_of (high ∷ low ∷ text) = option_and_then (λ byte. option_map (λ byte
 abbrev pub key_of : List ℕ → Option (List ℕ)
 key_of text = if nat_eq (length text) 64 then bytes_of text else None
 
--- the recipient that a word names
-abbrev pub to_of : List ℕ → Option To
-to_of word = if bytes_eq word (codes "bench") then Some to.Bench else None
+-- what a word names as TO: the recipient of the bench suite, or an X25519 recipient by its text; else nothing
+abbrev pub NamesTo : List ℕ → Option To → Type 0
+NamesTo word (Some to.Bench) = word ≡ codes "bench"
+NamesTo word (Some (to.Key key)) = IsKeyText recipient_prefix word key
+NamesTo word None = (word ≢ codes "bench") × ((key : List ℕ) → IsKeyText recipient_prefix word key → ⊥)
 
--- the identity that a word names
-abbrev pub with_of : List ℕ → Option With
-with_of word = if bytes_eq word (codes "bench") then Some with_.Bench else None
+-- and as WITH: the identity of the bench suite, or an X25519 identity by its text; else nothing
+abbrev pub NamesWith : List ℕ → Option With → Type 0
+NamesWith word (Some with_.Bench) = word ≡ codes "bench"
+NamesWith word (Some (with_.Key secret)) = IsKeyText identity_prefix word secret
+NamesWith word None = (word ≢ codes "bench") × ((secret : List ℕ) → IsKeyText identity_prefix word secret → ⊥)
+
+-- one or the other, by a test
+abbrev pub When : Bool → Type 0 → Type 0 → Type 0
+When true this other = this
+When false this other = other
 
 -- `encrypt`, where TO and DRAW are such words
 abbrev pub encryption : Option To → Option (List ℕ) → Format → Option CommandValue
 encryption to draw format = option_and_then (λ t. option_map (λ bytes. Encrypt t bytes format) draw) to
 
+-- so it is asked for in this form
+abbrev pub AsksToEncrypt : List ℕ → List ℕ → Format → Option CommandValue → Type 0
+AsksToEncrypt word draw format asked = (to : Option To) × NamesTo word to × (asked ≡ encryption to (bytes_of draw) format)
+
+-- in the form that more words ask for, if they ask for one
+abbrev pub InFormat : List ℕ → List ℕ → Option Format → Option CommandValue → Type 0
+InFormat word draw None asked = asked ≡ None
+InFormat word draw (Some format) asked = AsksToEncrypt word draw format asked
+
 -- `at`, where WITH, PLACE and COUNT are such words
 abbrev pub part : Option With → Option ℕ → Option ℕ → Option CommandValue
 part with_ place count = option_and_then (λ w. option_and_then (λ p. option_map (λ c. At w p c) count) place) with_
 
--- The command lines, by how many words they have: `seal KEY`, `open KEY`, `decrypt WITH`, `encrypt TO DRAW`, `encrypt TO DRAW armor` and
--- `at WITH PLACE COUNT`. All else is no command line.
-abbrev pub parsed : List (List ℕ) → Option CommandValue
-parsed (name ∷ word ∷ []) =
-    if bytes_eq name (codes "seal") then option_map Seal (key_of word)
+-- The command lines, by how many words they have: `seal KEY`, `open KEY`, `decrypt WITH`, `keygen DRAW`, `encrypt TO DRAW`,
+-- `encrypt TO DRAW armor` and `at WITH PLACE COUNT`. All else asks for nothing.
+abbrev pub AsksFor : List (List ℕ) → Option CommandValue → Type 0
+AsksFor (name ∷ word ∷ []) asked =
+    When (bytes_eq name (codes "decrypt")) ((with_ : Option With) × NamesWith word with_ × (asked ≡ option_map Decrypt with_))
+    (asked ≡ (if bytes_eq name (codes "keygen") then option_map Keygen (bytes_of word)
+    else if bytes_eq name (codes "seal") then option_map Seal (key_of word)
     else if bytes_eq name (codes "open") then option_map Open (key_of word)
-    else if bytes_eq name (codes "decrypt") then option_map Decrypt (with_of word)
-    else None
-parsed (name ∷ to ∷ draw ∷ []) =
-    if bytes_eq name (codes "encrypt") then encryption (to_of to) (bytes_of draw) Binary
-    else None
-parsed (name ∷ second ∷ third ∷ fourth ∷ []) =
-    if bytes_eq name (codes "encrypt") && bytes_eq fourth (codes "armor") then encryption (to_of second) (bytes_of third) AsciiArmor
-    else if bytes_eq name (codes "at") then part (with_of second) (number_of third) (number_of fourth)
-    else None
-parsed words = None
+    else None))
+AsksFor (name ∷ second ∷ third ∷ []) asked = When (bytes_eq name (codes "encrypt")) (AsksToEncrypt second third Binary asked) (asked ≡ None)
+AsksFor (name ∷ second ∷ third ∷ fourth ∷ []) asked =
+    When (bytes_eq name (codes "encrypt") && bytes_eq fourth (codes "armor")) (AsksToEncrypt second third AsciiArmor asked)
+    (When (bytes_eq name (codes "at"))
+    ((with_ : Option With) × NamesWith second with_ × (asked ≡ part with_ (number_of third) (number_of fourth))) (asked ≡ None))
+AsksFor words asked = asked ≡ None

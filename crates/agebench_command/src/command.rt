@@ -1,13 +1,15 @@
 //! What the words of a command line ask for.
 
-ghost use Rattle.std.specs.Prelude.{◌≡◌, ◌≢◌, ◌<◌, ℕ, List, [], ◌∷◌, length, map, string_bytes, vec_items, bytes_eq, codes, if◌then◌else◌, Some, None, IfOk, IfSome, option_map};
-ghost use Rattle.std.specs.Option.{option_and_then};
-ghost use Rattle.agebench_command.specs.Command.{Seal, Open, bytes_of, byte_of, command_value, digit_of, encryption, key_of, parsed, to_of, with_of};
+ghost use Rattle.std.specs.Prelude.{◌≡◌, ◌≢◌, ◌<◌, ℕ, List, [], ◌∷◌, length, map, string_bytes, vec_items, bytes_eq, codes, if◌then◌else◌, Option, Some, None, IfOk, IfSome, option_map};
+ghost use Rattle.age_bench.specs.declared.names.To.{To};
+ghost use Rattle.agebench_command.specs.Command.{Seal, Open, CommandValue, bytes_of, byte_of, command_value, digit_of, key_of, AsksFor, AsksToEncrypt, InFormat, NamesTo, NamesWith};
 
-use crate::names::{To, With};
 use crate::number::parse_number;
-use age_armor::Format;
+use age::armor::Format;
+use age::x25519::{Identity, Recipient};
+use age_bench::names::{To, With};
 use std::alloc::{AllocError, Global};
+use std::str::FromStr;
 
 /// What the program is to do with its standard input.
 #[derive(Drop)]
@@ -35,6 +37,10 @@ pub enum Command {
         with: With,
         place: u64,
         count: u64,
+    },
+    /// Write the text of a new identity, whose secret these random bytes begin with.
+    Keygen {
+        draw: Vec<u8>,
     },
 }
 
@@ -93,22 +99,30 @@ fn parse_key(alloc: Global, text: &str) -> Result<Option<[u8; 32]>, AllocError>
 }
 
 // The recipient that a word names.
+#[tactic(auto, using(crate::proofs::Keys::no_recipient))]
 fn parse_to(word: &str) -> Option<To>
-    ensures { result ≡ to_of word.now }
+    ensures { NamesTo word.now result }
 {
-    match word {
-        "bench" => Some(To::Bench),
-        _ => None,
+    if word == "bench" {
+        return Some(To::Bench);
+    }
+    match Recipient::from_str(word) {
+        Ok(recipient) => Some(To::Key(recipient)),
+        Err(_) => None,
     }
 }
 
 // The identity that a word names.
+#[tactic(auto, using(crate::proofs::Keys::no_identity))]
 fn parse_with(word: &str) -> Option<With>
-    ensures { result ≡ with_of word.now }
+    ensures { NamesWith word.now result }
 {
-    match word {
-        "bench" => Some(With::Bench),
-        _ => None,
+    if word == "bench" {
+        return Some(With::Bench);
+    }
+    match Identity::from_str(word) {
+        Ok(identity) => Some(With::Key(identity)),
+        Err(_) => None,
     }
 }
 
@@ -124,12 +138,16 @@ fn named(name: &str, key: [u8; 32]) -> Option<Command>
     }
 }
 
-// `decrypt WITH`, `seal KEY` and `open KEY`.
+// `decrypt WITH`, `keygen DRAW`, `seal KEY` and `open KEY`.
 fn parse_two(alloc: Global, name: &str, word: &str) -> Result<Option<Command>, AllocError>
-    ensures { IfOk result (λ found. option_map command_value found ≡ parsed (name.now ∷ word.now ∷ [])) }
+    ensures { IfOk result (λ found. AsksFor (name.now ∷ word.now ∷ []) (option_map command_value found)) }
 {
     if name == "decrypt" {
         return Ok(parse_with(word).map(|with| Command::Decrypt { with }));
+    }
+    if name == "keygen" {
+        let draw = parse_bytes(alloc, word.as_bytes())?;
+        return Ok(draw.map(|draw| Command::Keygen { draw }));
     }
     match parse_key(alloc, word)? {
         Some(key) => Ok(named(name, key)),
@@ -139,8 +157,7 @@ fn parse_two(alloc: Global, name: &str, word: &str) -> Result<Option<Command>, A
 
 // The form that the words after `encrypt TO DRAW` ask for: none of them for the bytes themselves, `armor` for armor.
 fn parse_format(words: &[String]) -> Option<Format>
-    ensures { (to draw : List ℕ) → parsed (codes "encrypt" ∷ to ∷ draw ∷ map string_bytes words.now)
-        ≡ option_and_then (encryption (to_of to) (bytes_of draw)) result }
+    ensures { (to draw : List ℕ) (asked : Option CommandValue) → InFormat to draw result asked → AsksFor (codes "encrypt" ∷ to ∷ draw ∷ map string_bytes words.now) asked }
 {
     let Some((word, more)) = words.split_first() else {
         return Some(Format::Binary);
@@ -159,18 +176,20 @@ fn parse_encrypt(
     draw: &str,
     format: Format,
 ) -> Result<Option<Command>, AllocError>
-    ensures { IfOk result (λ found. option_map command_value found ≡ encryption (to_of to.now) (bytes_of draw.now) format) }
+    ensures { IfOk result (λ found. AsksToEncrypt to.now draw.now format (option_map command_value found)) }
 {
     let Some(to) = parse_to(to) else {
         return Ok(None);
     };
-    let draw = parse_bytes(alloc, draw.as_bytes())?;
-    Ok(draw.map(|draw| Command::Encrypt { to, draw, format }))
+    match parse_bytes(alloc, draw.as_bytes())? {
+        Some(draw) => Ok(Some(Command::Encrypt { to, draw, format })),
+        None => Ok(None),
+    }
 }
 
 // `at WITH PLACE COUNT`.
 fn parse_at(with: &str, place: &str, more: &[String]) -> Option<Command>
-    ensures { option_map command_value result ≡ parsed (codes "at" ∷ with.now ∷ place.now ∷ map string_bytes more.now) }
+    ensures { AsksFor (codes "at" ∷ with.now ∷ place.now ∷ map string_bytes more.now) (option_map command_value result) }
 {
     let Some((count, rest)) = more.split_first() else {
         return None;
@@ -187,7 +206,7 @@ fn parse_at(with: &str, place: &str, more: &[String]) -> Option<Command>
 // A command that hasn't two words.
 #[tactic(auto, using(crate::proofs::Words::few))]
 fn parse_many(alloc: Global, words: &[String]) -> Result<Option<Command>, AllocError>
-    ensures { length words.now ≢ 2 → IfOk result (λ found. option_map command_value found ≡ parsed (map string_bytes words.now)) }
+    ensures { length words.now ≢ 2 → IfOk result (λ found. AsksFor (map string_bytes words.now) (option_map command_value found)) }
 {
     let [name, second, third, more @ ..] = words else {
         return Ok(None);
@@ -205,14 +224,14 @@ fn parse_many(alloc: Global, words: &[String]) -> Result<Option<Command>, AllocE
 }
 
 /// What the words after the program's name ask for: `seal KEY`, `open KEY`, `encrypt TO DRAW`, `encrypt TO DRAW armor`,
-/// `decrypt WITH` or `at WITH PLACE COUNT`.
+/// `decrypt WITH`, `at WITH PLACE COUNT` or `keygen DRAW`.
 ///
-/// KEY is 64 hexadecimal digits of either case, two a byte, the high digit first, and DRAW so any number of bytes; TO
-/// and WITH are `bench`; PLACE and COUNT are one or more decimal digits, leading zeros among them, of at most
-/// 2^64 - 1. `Ok(None)` says that they are no command line of this program. `AllocError` where memory for the bytes of KEY
-/// or DRAW is refused.
+/// KEY is 64 hexadecimal digits of either case, two a byte, the high digit first, and DRAW so any number of bytes. TO is `bench` or
+/// the text of an X25519 recipient, and WITH is `bench` or that of an X25519 identity, each in either case. PLACE and COUNT are one or
+/// more decimal digits, leading zeros among them, of at most 2^64 - 1. `Ok(None)` says that they are no command line of this program.
+/// `AllocError` where memory for the bytes of KEY or DRAW is refused.
 pub fn parse(alloc: Global, words: &[String]) -> Result<Option<Command>, AllocError>
-    ensures { IfOk result (λ found. option_map command_value found ≡ parsed (map string_bytes words.now)) }
+    ensures { IfOk result (λ found. AsksFor (map string_bytes words.now) (option_map command_value found)) }
 {
     let [name, word] = words else {
         return parse_many(alloc, words);

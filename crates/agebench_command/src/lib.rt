@@ -2,5 +2,4 @@
 #![tactic(auto)]
 
 pub mod command;
-pub mod names;
 mod number;

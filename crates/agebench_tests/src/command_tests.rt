@@ -2,7 +2,7 @@
 
 use age::armor::Format;
 use agebench_command::command::{Command, parse};
-use agebench_command::names::{To, With};
+use age_bench::names::{To, With};
 use std::alloc::{AllocError, Global};
 use std::process::Abort;
 use std::test::Fail;
@@ -24,14 +24,19 @@ fn parsed(alloc: Global, line: &str) -> Result<Option<Command>, AllocError> {
 
 // Whether a command encrypts to `bench` with these random bytes, in armor or not.
 fn encrypts(command: Option<Command>, random: &[u8], in_armor: bool) -> bool {
-    let Some(Command::Encrypt { to, draw, format }) = command else {
+    let Some(Command::Encrypt {
+        to: To::Bench,
+        draw,
+        format,
+    }) = command
+    else {
         return false;
     };
     let armor = match format {
         Format::Binary => false,
         Format::AsciiArmor => true,
     };
-    to == To::Bench && draw.as_slice() == random && armor == in_armor
+    draw.as_slice() == random && armor == in_armor
 }
 
 // An empty word is no random bytes at all.
@@ -78,8 +83,108 @@ fn commands_are_parsed(rt: HostRuntime) -> Result<(), Fail> {
         );
     }
     match parsed(alloc, "decrypt bench")? {
-        Some(Command::Decrypt { with }) => assert_eq!(rt; with, With::Bench),
+        Some(Command::Decrypt { with: With::Bench }) => Ok(()),
+        _ => Err(Fail::from("another command")),
+    }
+}
+
+// The recipient of a public value, its text and that text in the other case.
+const RECIPIENT: &str = "age1t7rxyev2z3rw82stdlrrepyc39nvn86l5078zqkf5uasdy86jp6svpy7pa";
+
+const RECIPIENT_UPPER: &str = "AGE1T7RXYEV2Z3RW82STDLRREPYC39NVN86L5078ZQKF5UASDY86JP6SVPY7PA";
+
+// The same of an identity.
+const IDENTITY: &str = "AGE-SECRET-KEY-1GQ9778VQXMMJVE8SK7J6VT8UJ4HDQAJUVSFCWCM02D8GEWQ72PVQ2Y5J33";
+
+const IDENTITY_LOWER: &str =
+    "age-secret-key-1gq9778vqxmmjve8sk7j6vt8uj4hdqajuvsfcwcm02d8gewq72pvq2y5j33";
+
+// The text of the identity that a command decrypts with.
+fn key_asked_with(alloc: Global, command: Option<Command>) -> Result<Option<String>, Fail> {
+    match command {
+        Some(
+            Command::Decrypt {
+                with: With::Key(identity),
+            }
+            | Command::At {
+                with: With::Key(identity),
+                ..
+            },
+        ) => {
+            let text = identity.to_string(alloc)?;
+            Ok(Some(String::from_str(alloc, text.expose_secret())?))
+        }
+        _ => Ok(None),
+    }
+}
+
+#[test]
+fn keys_are_named_by_their_texts(rt: HostRuntime) -> Result<(), Fail> {
+    let alloc = rt.alloc();
+    for text in [RECIPIENT, RECIPIENT_UPPER] {
+        for rest in ["00", "00 armor"] {
+            let line = format!(in alloc; "encrypt {text} {rest}")?;
+            match parsed(alloc, &line)? {
+                Some(
+                    Command::Encrypt {
+                        to: To::Key(recipient),
+                        ..
+                    },
+                ) => assert_eq!(rt; recipient.to_string(alloc)?.as_str(), RECIPIENT),
+                _ => return Err(Fail::from("another command")),
+            }
+        }
+    }
+    for text in [IDENTITY, IDENTITY_LOWER] {
+        for line in [
+            format!(in alloc; "decrypt {text}")?,
+            format!(in alloc; "at {text} 1 2")?,
+        ] {
+            let key = key_asked_with(alloc, parsed(alloc, &line)?)?;
+            assert!(rt; key.is_some_and(|key| key.as_str() == IDENTITY), "at {line}");
+        }
+    }
+    Ok(())
+}
+
+// A word that begins as a key but is none, a key of the other kind, of another length, and keys of plugins.
+#[test]
+fn other_words_name_nobody(rt: HostRuntime) -> Result<(), Fail> {
+    let alloc = rt.alloc();
+    for word in [
+        "Bench",
+        "age1",
+        "age1t7rxyev2z3rw82stdlrrepyc39nvn86l5078zqkf5uasdy86jp6svpy7pb",
+        "age1t7rxyev2z3rw82stdlrrepyc39nvn86l5078zqkf5uasdy86jp6svpy7p",
+        "Age1t7rxyev2z3rw82stdlrrepyc39nvn86l5078zqkf5uasdy86jp6svpy7pa",
+        "A12UEL5L",
+        "age1foobar1qqqsyqcyq5rqwzfl7kp",
+        "AGE-SECRET-KEY-1GQ9778VQXMMJVE8SK7J6VT8UJ4HDQAJUVSFCWCM02D8GEWQ72PVQ2Y5J34",
+        "AGE-PLUGIN-FOOBAR-1QVHULF",
+    ] {
+        let to = format!(in alloc; "encrypt {word} 00")?;
+        assert!(rt; parsed(alloc, &to)?.is_none(), "at {to}");
+        let with = format!(in alloc; "decrypt {word}")?;
+        assert!(rt; parsed(alloc, &with)?.is_none(), "at {with}");
+        let part = format!(in alloc; "at {word} 0 1")?;
+        assert!(rt; parsed(alloc, &part)?.is_none(), "at {part}");
+    }
+    let to = format!(in alloc; "encrypt {IDENTITY} 00")?;
+    assert!(rt; parsed(alloc, &to)?.is_none());
+    let with = format!(in alloc; "decrypt {RECIPIENT}")?;
+    assert!(rt; parsed(alloc, &with)?.is_none());
+    Ok(())
+}
+
+#[test]
+fn keys_are_asked_for(rt: HostRuntime) -> Result<(), Fail> {
+    let alloc = rt.alloc();
+    match parsed(alloc, "keygen 0AbC")? {
+        Some(Command::Keygen { draw }) => assert_eq!(rt; draw.as_slice(), [0x0a, 0xbc].as_slice()),
         _ => return Err(Fail::from("another command")),
+    }
+    for line in ["keygen", "keygen 0", "keygen 0g", "keygen 00 00", "Keygen 00"] {
+        assert!(rt; parsed(alloc, line)?.is_none(), "at {line}");
     }
     Ok(())
 }

@@ -1,5 +1,7 @@
-//! Tests of `agebench_command`: what command lines ask for.
+//! Tests of `agebench_command`, what command lines ask for, and of the commands with keys.
 #![tactic(auto)]
 
 #[cfg(test)]
 mod command_tests;
+#[cfg(test)]
+mod key_tests;

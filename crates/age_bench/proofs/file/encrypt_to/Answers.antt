@@ -1,29 +1,30 @@
-use Rattle.std.specs.Prelude.{⊤, [], ◌∷◌, Some, Err}
+use Rattle.std.specs.Prelude.{◌≡◌, ◌∷◌, [], ℕ, List, Some, Ok, Err, Result}
 use Rattle.std.specs.Bool.{IsTrue}
+use Rattle.std.proofs.Common.{◌⊎◌, inl, inr, ◌∙◌, sym, ap}
 use Rattle.std.proofs.lemmas.Result.{on_ok_weaker, IfErr-weaker}
+use Rattle.age.specs.EncryptErrors.{EncryptRefusal, OutOfMemory}
 use Rattle.age.specs.Types.{FileError}
 use Rattle.age.specs.FileErrors.{EncryptsUnless}
-use Rattle.age.specs.Encrypting.{Prepares}
+use Rattle.age.specs.Encrypting.{Prepared, Prepares}
+use Rattle.age_bench.specs.Names.{WrapsTo, file_by, prepared_by}
 use Rattle.age_bench.specs.Recipient.{bench_grease}
-use Rattle.age.specs.ArmorWriting.{text_of}
-use Rattle.age_bench.proofs.Wrapped.{BenchAnswers, LacksRandom, bench_filed, refused, encrypts_weaker}
+use Rattle.age_bench.proofs.Wrapped.{IsDue, prepared, encrypts_weaker, filed, never_filed}
 use Rattle.age_bench.proofs.file.encrypt_to.Goals as goal
 
 pub returns-clause-file : goal.returns-clause-file
 returns-clause-file g c = λ reader_told writer_told.
-    let rest = g.R.Read.rest c.args.reader.now in
     on_ok_weaker c.encrypt_all.result
     (λ done.
     let (file, prepares, made) = done in
-    bench_filed {R = ⊤} (λ one. BenchAnswers) tt (λ file_key draws answer left h. h) c.args.draw rest.bytes (IsTrue rest.ends_well)
-    (λ text. g.W.Write.appended c.args.writer.now (text_of c.args.format text) c.encrypt_all.new.writer)
-    (file, _, rw c.in_ok-grease.ensures.value at prepares, made.ended, made.out))
+    let by_draws : Prepares WrapsTo (c.args.to ∷ []) (Some bench_grease) c.args.draw (Ok file) c.encrypt_all.new.draw = rw c.in_ok-grease.ensures.value at prepares in
+    (_, filed c.args.to c.args.draw (g.R.Read.rest c.args.reader.now).bytes file _ by_draws, made.ended, made.out))
     (c.encrypt_all.ensures.file reader_told writer_told)
 
 pub returns-clause-why : goal.returns-clause-why
 returns-clause-why g c =
-    let asks : FileError → Type 0 = EncryptsUnless (λ refusal. Prepares {R = ⊤} (λ one. BenchAnswers) (tt ∷ []) (Some bench_grease) c.args.draw (Err refusal) c.encrypt_all.new.draw) in
-    IfErr-weaker c.encrypt_all.result asks (EncryptsUnless (LacksRandom 32 c.args.draw))
-    (encrypts_weaker _ _
-    (λ refusal prepares. refused {R = ⊤} (λ one. BenchAnswers) tt (λ file_key draws answer left h. h) c.args.draw refusal c.encrypt_all.new.draw prepares))
+    let asks : FileError → Type 0 =
+    EncryptsUnless (λ refusal. Prepares WrapsTo (c.args.to ∷ []) (Some bench_grease) c.args.draw (Err refusal) c.encrypt_all.new.draw) in
+    IfErr-weaker c.encrypt_all.result asks
+    (EncryptsUnless (λ refusal. (refusal ≡ OutOfMemory) ⊎ ((plain : List ℕ) → file_by c.args.to c.args.draw plain ≡ Err refusal)))
+    (encrypts_weaker _ _ (λ refusal prepares. never_filed c.args.to c.args.draw refusal _ prepares))
     (rw c.in_ok-grease.ensures.value at c.encrypt_all.ensures.why)

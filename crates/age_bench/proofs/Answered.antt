@@ -1,0 +1,90 @@
+-- What the one identity that WITH names answers.
+use Rattle.std.specs.Prelude.{◌≡◌, ◌⊎◌, ℕ, List, [], ◌∷◌, ◌++◌, Option, Some, None, Ok, Err, refl}
+use Rattle.std.specs.List.{AllZip}
+use Rattle.std.proofs.Common.{◌∙◌, sym, ap, subst, inl, inr}
+use Rattle.age.specs.DecryptErrors.{DecryptRefusal}
+use Rattle.age.specs.Stanza.{StanzaValue}
+use Rattle.age.specs.Unwrapping.{UnwrapAnswer, FirstOf, Then, Unwraps}
+use Rattle.age.specs.Answering.{Decides, FirstThatAnswers}
+use Rattle.age.specs.Parts.{FirstAnswer, IsFileFor}
+use Rattle.age_bench.specs.Bench.{bench_seal}
+use Rattle.age_bench.specs.Names.{AsksWith, OrElse, FirstTo, answers_of}
+use Rattle.age_bench.specs.declared.names.With.{With}
+
+-- ---- one who doesn't change, and answers to each item by itself
+
+first_same : {S : Type 0} (x y : S) (xs ys : List S) → x ∷ xs ≡ y ∷ ys → x ≡ y
+first_same x y xs ys is = Prim.cc
+
+module _ {S X A : Type 0} (asks : S → X → Option A → Type 0) where
+  -- as a relation that says also who is there afterwards
+  abbrev pub Steady : S → X → Option A → S → Type 0
+  Steady before x answer after = asks before x answer × (after ≡ before)
+
+  went_on : (xs : List X) (first : Option A) (before between : S) (answer : Option A) (after : S) → between ≡ before
+      → ((s : S) → FirstOf Steady s xs answer after → FirstTo (asks s) xs answer)
+      → Then (λ s. FirstOf Steady s xs) first between answer after → OrElse first (FirstTo (asks before) xs answer) answer
+  went_on xs None before between answer after same step h = subst (λ s. FirstTo (asks s) xs answer) same (step between h)
+  went_on xs (Some a) before between answer after same step h = h.0
+
+  pub in_order : (before : S) (xs : List X) (answer : Option A) (after : S) → FirstOf Steady before xs answer after → FirstTo (asks before) xs answer
+  in_order before [] answer after h = h.0
+  in_order before (x ∷ xs) answer after (first, between, (asked, same), next) =
+      (first, asked, went_on xs first before between answer after same (λ s. in_order s xs answer after) next)
+
+  -- of one item
+  one_item : (before : S) (x : X) (answer : Option A) (after : S) → FirstOf Steady before (x ∷ []) answer after → Steady before x answer after
+  one_item before x answer after (None, between, asked, next) =
+      let same : after ≡ between = next.1 in
+      (subst (λ a. asks before x a) (sym next.0) asked.0, same ∙ asked.1)
+  one_item before x answer after (Some a, between, asked, next) = (subst (λ o. asks before x o) (sym next.0) asked.0, next.1 ∙ asked.1)
+
+  then_singly : (xs : List X) (first : Option A) (between : S) (answer : Option A) (after : S)
+      → ((s : S) → FirstOf (λ s x. FirstOf Steady s (x ∷ [])) s xs answer after → FirstOf Steady s xs answer after)
+      → Then (λ s. FirstOf (λ s x. FirstOf Steady s (x ∷ [])) s xs) first between answer after → Then (λ s. FirstOf Steady s xs) first between answer after
+  then_singly xs None between answer after step h = step between h
+  then_singly xs (Some a) between answer after step h = h
+
+  -- item by item it does what it does on the list
+  singly : (before : S) (xs : List X) (answer : Option A) (after : S) → FirstOf (λ s x. FirstOf Steady s (x ∷ [])) before xs answer after
+      → FirstOf Steady before xs answer after
+  singly before [] answer after h = h
+  singly before (x ∷ xs) answer after (first, between, asked, next) =
+      (first, between, one_item before x first between asked, then_singly xs first between answer after (λ s. singly s xs answer after) next)
+
+  -- so it doesn't matter which of its calls is made
+  pub either_way : (before : S) (xs : List X) (answer : Option A) (after : S) → Unwraps (FirstOf Steady) before xs answer after → FirstTo (asks before) xs answer
+  either_way before xs answer after (inl h) = in_order before xs answer after h
+  either_way before xs answer after (inr h) = in_order before xs answer after (singly before xs answer after h)
+
+  -- the one of a list of one that decides is that one
+  decider : (before : S) (passed later : List S) (one : S) → before ∷ [] ≡ passed ++ one ∷ later → one ≡ before
+  decider before [] later one is = sym (first_same before one [] later is)
+  decider before (p ∷ []) later one is = absurd (Prim.cc)
+  decider before (p ∷ q ∷ passed) later one is = absurd (Prim.cc)
+
+  -- of a list of one
+  pub first_of_one : (one : S) (xs : List X) (answer : Option A) (after : List S)
+      → FirstThatAnswers (λ s own then. Unwraps (FirstOf Steady) s xs own then) (one ∷ []) answer after → FirstTo (asks one) xs answer
+  first_of_one one xs None [] h = absurd h
+  first_of_one one xs None (next ∷ after) h = either_way one xs None next h.0
+  first_of_one one xs (Some a) after d =
+      subst (λ s. FirstTo (asks s) xs (Some a)) (decider one d.passed d.later d.decider d.all_before) (either_way d.decider xs (Some a) d.decider_after d.answers)
+
+-- what the one identity may answer is what WITH answers
+pub answers : (with_ : With) (stanzas : List StanzaValue) (answer : UnwrapAnswer)
+    → FirstAnswer (FirstOf (Steady AsksWith)) (with_ ∷ []) stanzas answer → answers_of with_ stanzas answer
+answers with_ stanzas answer (after, asked) = first_of_one AsksWith with_ stanzas answer after asked
+
+-- so a file for WITH is one for that identity
+pub file_for : (with_ : With) (plain text : List ℕ) → IsFileFor bench_seal (answers_of with_) plain text
+    → IsFileFor bench_seal (FirstAnswer (FirstOf (Steady AsksWith)) (with_ ∷ [])) plain text
+file_for with_ plain text for = record {
+  file_key = for.file_key;
+  stanzas = for.stanzas;
+  is_file = for.is_file;
+  bytes = for.bytes;
+  within = for.within;
+  last = for.last;
+  right = λ answer asked. for.right answer (answers with_ for.stanzas answer asked);
+}

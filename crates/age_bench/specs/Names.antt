@@ -1,0 +1,82 @@
+-- What those answer whom the words of a command line name.
+use Rattle.std.specs.Prelude.{◌≡◌, ◌⊎◌, ℕ, List, [], ◌∷◌, ◌++◌, Option, Some, None, Result, Ok, Err}
+use Rattle.std.specs.Result.{result_map_both}
+use Rattle.age.specs.EncryptErrors.{EncryptRefusal, OutOfMemory, ShortRandom}
+use Rattle.age.specs.Draw.{taken, left_after}
+use Rattle.age.specs.Drawing.{Ends}
+use Rattle.age.specs.Stanza.{StanzaValue}
+use Rattle.age.specs.Wrapping.{Wrapped, WrapAnswer}
+use Rattle.age.specs.Unwrapping.{UnwrapAnswer}
+use Rattle.age.specs.X25519.{WrapsFor, UnwrapsBy, wrapped_with}
+use Rattle.age.specs.Encrypting.{Prepared}
+use Rattle.age.specs.File.{file_text}
+use Rattle.age_bench.specs.Bench.{bench_seal, bench_opened, bench_shared, bench_public}
+use Rattle.age_bench.specs.Recipient.{bench_wrapped, bench_unwrapped, bench_grease}
+use Rattle.age_bench.specs.declared.names.To.{To}
+use Rattle.age_bench.specs.declared.names.To.TheVariants as to
+use Rattle.age_bench.specs.declared.names.With.{With}
+use Rattle.age_bench.specs.declared.names.With.TheVariants as with_
+
+-- ---- encrypting
+
+-- what TO answers to a file key: of the random bytes before, the answer and the random bytes left
+abbrev pub WrapsTo : To → List ℕ → List ℕ → WrapAnswer → List ℕ → Type 0
+WrapsTo to.Bench file_key draws answer left = Ends (Ok (bench_wrapped file_key)) draws answer left ⊎ Ends (Err OutOfMemory) draws answer left
+WrapsTo (to.Key public) file_key draws answer left = WrapsFor bench_seal bench_shared bench_public public file_key draws answer left
+
+-- what comes of random bytes, which may be too few
+abbrev pub drawn : {A : Type 0} → Option (List ℕ) → (List ℕ → Result A EncryptRefusal) → Result A EncryptRefusal
+drawn None next = Err ShortRandom
+drawn (Some bytes) next = next bytes
+
+-- what comes of a value, which may have been refused
+abbrev pub and_then : {A B : Type 0} → Result A EncryptRefusal → (A → Result B EncryptRefusal) → Result B EncryptRefusal
+and_then (Err e) next = Err e
+and_then (Ok x) next = next x
+
+-- what TO wraps a file key in, where memory isn't refused: X25519 takes the next 32 random bytes for the ephemeral secret
+abbrev pub wrapped_by : To → List ℕ → List ℕ → Result Wrapped EncryptRefusal
+wrapped_by to.Bench file_key draws = Ok (bench_wrapped file_key)
+wrapped_by (to.Key public) file_key draws = drawn (taken 32 draws) (λ ephemeral. wrapped_with bench_seal bench_shared bench_public public file_key ephemeral)
+
+-- and the random bytes that are left then
+abbrev pub left_by : To → List ℕ → List ℕ
+left_by to.Bench draws = draws
+left_by (to.Key public) draws = left_after 32 draws
+
+-- What a file to TO is made of, by the random bytes: the first 16 are the file key, then come those of TO, and the next 16 are the
+-- nonce of the payload.
+abbrev pub prepared_by : To → List ℕ → Result Prepared EncryptRefusal
+prepared_by to draws =
+    drawn (taken 16 draws) (λ file_key.
+    and_then (wrapped_by to file_key (left_after 16 draws)) (λ wrapped.
+    drawn (taken 16 (left_by to (left_after 16 draws))) (λ nonce.
+    Ok (record { file_key = file_key; stanzas = wrapped.stanzas ++ bench_grease ∷ []; nonce = nonce }))))
+
+-- so the file of a plaintext is set by the random bytes and the plaintext
+abbrev pub file_by : To → List ℕ → List ℕ → Result (List ℕ) EncryptRefusal
+file_by to draws plain = result_map_both (λ file. file_text bench_seal file.file_key file.stanzas file.nonce plain) (λ e. e) (prepared_by to draws)
+
+-- ---- decrypting
+
+-- what WITH answers to a stanza
+abbrev pub AsksWith : With → StanzaValue → UnwrapAnswer → Type 0
+AsksWith with_.Bench stanza answer = answer ≡ bench_unwrapped stanza
+AsksWith (with_.Key secret) stanza answer = UnwrapsBy bench_opened bench_shared bench_public secret stanza answer
+
+-- the first answer that isn't None, to items that are asked of in their order
+abbrev pub OrElse : {A : Type 0} → Option A → Type 0 → Option A → Type 0
+OrElse (Some a) rest answer = answer ≡ Some a
+OrElse None rest answer = rest
+
+abbrev pub FirstTo : {X A : Type 0} → (X → Option A → Type 0) → List X → Option A → Type 0
+FirstTo asks [] answer = answer ≡ None
+FirstTo {X} {A} asks (x ∷ xs) answer = (first : Option A) × asks x first × OrElse first (FirstTo asks xs answer) answer
+
+-- what WITH answers to the stanzas of a header
+abbrev pub answers_of : With → List StanzaValue → UnwrapAnswer → Type 0
+answers_of with_ stanzas answer = FirstTo (AsksWith with_) stanzas answer
+
+-- and the file key that it gives to them
+abbrev pub gives_of : With → List ℕ → List StanzaValue → Type 0
+gives_of with_ file_key stanzas = answers_of with_ stanzas (Some (Ok file_key))
