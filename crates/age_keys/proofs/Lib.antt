@@ -3,6 +3,7 @@ pub mod Asking
 pub mod Shares
 pub mod Opening
 pub mod Printed
+pub mod RefusedTexts
 pub mod ReadBack
 pub mod Unwrapped
 pub mod Matching
