@@ -5,7 +5,6 @@ use Rattle.std.proofs.Common.{◌∙◌, sym, ap, subst, arith, length-drop}
 use Rattle.std.proofs.lemmas.Bool.{leb-true}
 use Rattle.age.specs.Armor.{Carries}
 use Rattle.age.specs.ArmorWriting.{text_of}
-use Rattle.age.specs.Bytes.{AreBytes}
 use Rattle.age.specs.Draw.{taken, left_after}
 use Rattle.age.specs.EncryptErrors.{EncryptRefusal, ShortRandom}
 use Rattle.age.specs.Encrypting.{Prepared}
@@ -16,7 +15,7 @@ use Rattle.age_bench.specs.Names.{drawn, file_by}
 use Rattle.age_bench.specs.Recipient.{bench_stanza, bench_grease, bench_file}
 use Rattle.age_bench.specs.FileLaws.{IsBenchFile, IsCarried, GivesBack}
 use Rattle.age_bench.specs.declared.names.To.TheVariants.{Bench}
-use Rattle.age_bench.proofs.OneFile.{IsMade, IsAlone}
+use Rattle.age_bench.proofs.OneFile.{IsMade}
 use Rattle.age_bench.proofs.BothForms.{IsCarriedAs, IsGivenBack}
 use Rattle.age_bench.proofs.Unwrapped.{bench_gives}
 
@@ -41,7 +40,7 @@ enough_by : (enough : Bool) (n : ℕ) (draws bytes : List ℕ) → Path (Option 
 enough_by true n draws bytes is = (refl, sym (some_same _ _ is), refl)
 enough_by false n draws bytes is = absurd (Prim.cc)
 
-were_enough : (n : ℕ) (draws bytes : List ℕ) → taken n draws ≡ Some bytes → (n ≤ length draws) × (bytes ≡ take n draws) × (left_after n draws ≡ drop n draws)
+pub were_enough : (n : ℕ) (draws bytes : List ℕ) → taken n draws ≡ Some bytes → (n ≤ length draws) × (bytes ≡ take n draws) × (left_after n draws ≡ drop n draws)
 were_enough n draws bytes is =
     let (enough, same, left) = enough_by (nat_le n (length draws)) n draws bytes is in
     (leb-true n (length draws) enough, same, left)

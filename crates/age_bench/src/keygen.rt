@@ -1,7 +1,7 @@
 //! The command that makes a key.
-ghost use Rattle.std.specs.Prelude.{◌≡◌, ◌⊎◌, ◌<◌, ◌≤◌, [], ◌∷◌, ◌++◌, length, take, IsTrue, OnOk, IfErr};
+ghost use Rattle.std.specs.Prelude.{◌≡◌, ◌⊎◌, ◌<◌, ◌≤◌, [], ◌∷◌, ◌++◌, length, take, IsTrue, IfOk, OnOk, IfErr};
 ghost use Rattle.age.specs.Bech32Written.{bech32_text};
-ghost use Rattle.age.specs.EncryptErrors.{OutOfMemory, ShortRandom};
+ghost use Rattle.age.specs.EncryptErrors.{encrypt_refusal, OutOfMemory, ShortRandom};
 ghost use Rattle.age.specs.FileErrors.{IsEncryptError, EncryptsUnless, IfIo};
 ghost use Rattle.age.specs.KeyTexts.{identity_prefix};
 ghost use Rattle.age.specs.Writing.{HandsOn};
