@@ -61,8 +61,7 @@ bench_filed draws plain text h =
     let (long, key_same, left) = were_enough 16 draws key is_key in
     let (longer, nonce_same, more) = were_enough 16 (left_after 16 draws) nonce is_nonce in
     let behind : 16 ≤ length (drop 16 draws) = subst (λ l. 16 ≤ length l) left longer in
-    let nonce_is : nonce ≡ take 16 (drop 16 draws) = nonce_same ∙ ap (λ l. take 16 l) left in
-    (
+    let nonce_is : nonce ≡ take 16 (drop 16 draws) = nonce_same ∙ ap (λ l. take 16 l) left in (
       omega (arith, long, behind, length-drop 16 draws),
       sym (ok_same _ _ done) ∙ ap (λ k. text_by plain (made_of k nonce)) key_same ∙ ap (λ n. text_by plain (made_of (take 16 draws) n)) nonce_is,
     )

@@ -59,15 +59,7 @@ pub fn encrypt_to<R: Read, W: Write>(
 {
     let mut draw = draw;
     let grease = grease(alloc)?;
-    encrypt_all::<BenchSuite, To, R, W>(
-        alloc,
-        &[to],
-        &mut draw,
-        grease,
-        format,
-        reader,
-        writer,
-    )
+    encrypt_all::<BenchSuite, To, R, W>(alloc, &[to], &mut draw, grease, format, reader, writer)
 }
 
 /// `decrypt_all` with the identity that a word of the command line names.

@@ -1,5 +1,5 @@
 -- What a word names that is no key.
-use Rattle.std.specs.Prelude.{◌≡◌, ◌≢◌, ℕ, List, codes, None}
+use Rattle.std.specs.Prelude.{◌≢◌, ℕ, List, codes, None}
 use Rattle.age.specs.KeyTexts.{recipient_prefix, identity_prefix, IsRefusedAs}
 use Rattle.age.proofs.RefusedTexts.{refused}
 use Rattle.agebench_command.specs.Command.{NamesTo, NamesWith}

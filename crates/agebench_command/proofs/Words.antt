@@ -1,5 +1,5 @@
 -- Too few words, and words behind a name that is known.
-use Rattle.std.specs.Prelude.{◌≡◌, ◌≢◌, ℕ, ◌-◌, ◌<◌, ◌≤◌, List, [], ◌∷◌, length, get_or, take, drop, map, bytes_eq, codes, Bool, true, false, not, Option, None, refl}
+use Rattle.std.specs.Prelude.{◌≡◌, ◌≢◌, ℕ, ◌-◌, ◌<◌, ◌≤◌, List, [], ◌∷◌, length, get_or, take, drop, map, bytes_eq, Bool, true, false, not, Option, None, refl}
 use Rattle.std.proofs.Common.{◌∙◌, arith, ap, sym, true≢false}
 use Rattle.std.proofs.lemmas.List.{take_all}
 use Rattle.std.proofs.lemmas.Slice.Eq.{bytes_eq-Decides}
@@ -11,6 +11,18 @@ few bytes [] h other = refl
 few bytes (a ∷ []) h other = refl
 few bytes (a ∷ b ∷ []) h other = absurd (other refl)
 few bytes (a ∷ b ∷ c ∷ words) h other = absurd (omega arith)
+
+-- two words
+pub two : {Word : Type 0} (bytes : Word → List ℕ) (words : List Word) (first second : Word) (left right : List ℕ) (asked : Option CommandValue)
+    → 2 ≤ length words → length words < 3 → first ≡ get_or words 0 first → second ≡ get_or words 1 second → left ≡ bytes first → right ≡ bytes second
+    → AsksFor (left ∷ right ∷ []) asked → AsksFor (map bytes words) asked
+two bytes [] first second left right asked long short is_first is_second is_left is_right h = absurd (omega (arith, long))
+two bytes (a ∷ []) first second left right asked long short is_first is_second is_left is_right h = absurd (omega (arith, long))
+two bytes (a ∷ b ∷ []) first second left right asked long short is_first is_second is_left is_right h =
+    let first_is : left ≡ bytes a = is_left ∙ ap bytes is_first in
+    let second_is : right ≡ bytes b = is_right ∙ ap bytes is_second in
+    rw (first_is, second_is) at h
+two bytes (a ∷ b ∷ c ∷ words) first second left right asked long short is_first is_second is_left is_right h = absurd (omega (arith, short))
 
 pub not_not : (b : Bool) → false ≡ not b → true ≡ b
 not_not true named = refl

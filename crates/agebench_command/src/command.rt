@@ -99,7 +99,6 @@ fn parse_key(alloc: Global, text: &str) -> Result<Option<[u8; 32]>, AllocError>
 }
 
 // The recipient that a word names.
-#[tactic(auto, using(crate::proofs::Keys::no_recipient))]
 fn parse_to(word: &str) -> Option<To>
     ensures { NamesTo word.now result }
 {
@@ -113,7 +112,6 @@ fn parse_to(word: &str) -> Option<To>
 }
 
 // The identity that a word names.
-#[tactic(auto, using(crate::proofs::Keys::no_identity))]
 fn parse_with(word: &str) -> Option<With>
     ensures { NamesWith word.now result }
 {

@@ -1,8 +1,8 @@
 //! What command lines ask for.
 
 use age::armor::Format;
-use agebench_command::command::{Command, parse};
 use age_bench::names::{To, With};
+use agebench_command::command::{Command, parse};
 use std::alloc::{AllocError, Global};
 use std::process::Abort;
 use std::test::Fail;
@@ -24,11 +24,13 @@ fn parsed(alloc: Global, line: &str) -> Result<Option<Command>, AllocError> {
 
 // Whether a command encrypts to `bench` with these random bytes, in armor or not.
 fn encrypts(command: Option<Command>, random: &[u8], in_armor: bool) -> bool {
-    let Some(Command::Encrypt {
-        to: To::Bench,
-        draw,
-        format,
-    }) = command
+    let Some(
+        Command::Encrypt {
+            to: To::Bench,
+            draw,
+            format,
+        },
+    ) = command
     else {
         return false;
     };
@@ -141,7 +143,10 @@ fn keys_are_named_by_their_texts(rt: HostRuntime) -> Result<(), Fail> {
             format!(in alloc; "at {text} 1 2")?,
         ] {
             let key = key_asked_with(alloc, parsed(alloc, &line)?)?;
-            assert!(rt; key.is_some_and(|key| key.as_str() == IDENTITY), "at {line}");
+            assert!(rt;
+                key.is_some_and(|key| key.as_str() == IDENTITY),
+                "at {line}"
+            );
         }
     }
     Ok(())
@@ -183,7 +188,13 @@ fn keys_are_asked_for(rt: HostRuntime) -> Result<(), Fail> {
         Some(Command::Keygen { draw }) => assert_eq!(rt; draw.as_slice(), [0x0a, 0xbc].as_slice()),
         _ => return Err(Fail::from("another command")),
     }
-    for line in ["keygen", "keygen 0", "keygen 0g", "keygen 00 00", "Keygen 00"] {
+    for line in [
+        "keygen",
+        "keygen 0",
+        "keygen 0g",
+        "keygen 00 00",
+        "Keygen 00",
+    ] {
         assert!(rt; parsed(alloc, line)?.is_none(), "at {line}");
     }
     Ok(())

@@ -52,7 +52,11 @@ fn keys_are_made(rt: HostRuntime) -> Result<(), Fail> {
         let mut line = Vec::new(alloc);
         keygen(alloc, Draw::new(random(alloc, count, 0)?), &mut line)?;
         assert_eq!(rt; line.len(), 75);
-        assert!(rt; line.as_slice().strip_suffix(b"\n").is_some_and(|text| text == IDENTITY.as_bytes()));
+        assert!(rt;
+            line.as_slice()
+                .strip_suffix(b"\n")
+                .is_some_and(|text| text == IDENTITY.as_bytes())
+        );
     }
     for count in [0, 31] {
         let mut line = Vec::new(alloc);
@@ -82,10 +86,21 @@ fn identity(text: &str) -> Result<With, Fail> {
 }
 
 // The message encrypted to that recipient in this form, with these random bytes.
-fn encrypted(alloc: Global, draw: Vec<u8>, format: Format) -> Result<Result<Vec<u8>, FileError>, Fail> {
+fn encrypted(
+    alloc: Global,
+    draw: Vec<u8>,
+    format: Format,
+) -> Result<Result<Vec<u8>, FileError>, Fail> {
     let mut file = Vec::new(alloc);
     let mut input = Bytes::new(MESSAGE);
-    match encrypt_to(alloc, recipient()?, Draw::new(draw), format, &mut input, &mut file) {
+    match encrypt_to(
+        alloc,
+        recipient()?,
+        Draw::new(draw),
+        format,
+        &mut input,
+        &mut file,
+    ) {
         Ok(()) => Ok(Ok(file)),
         Err(error) => {
             if !file.is_empty() {
@@ -103,10 +118,22 @@ fn files_for_a_key_are_decrypted_with_it(rt: HostRuntime) -> Result<(), Fail> {
         let file = encrypted(alloc, random(alloc, 64, 64)?, format)??;
         assert_eq!(rt; file.len(), length);
         let mut plain = Vec::new(alloc);
-        decrypt_with(alloc, identity(IDENTITY)?, &mut Bytes::new(&file), &mut plain)?;
+        decrypt_with(
+            alloc,
+            identity(IDENTITY)?,
+            &mut Bytes::new(&file),
+            &mut plain,
+        )?;
         assert_eq!(rt; plain.as_slice(), MESSAGE);
         let mut part = Vec::new(alloc);
-        at_with(alloc, identity(IDENTITY)?, 5, 3, &mut Bytes::new(&file), &mut part)?;
+        at_with(
+            alloc,
+            identity(IDENTITY)?,
+            5,
+            3,
+            &mut Bytes::new(&file),
+            &mut part,
+        )?;
         assert_eq!(rt; part.as_slice(), b"is ".as_slice());
         for other in [identity(OTHER)?, With::Bench] {
             let mut nothing = Vec::new(alloc);

@@ -1,0 +1,11 @@
+use Rattle.std.specs.Prelude.{codes}
+use Rattle.std.proofs.Common.{◌∙◌}
+use Rattle.std.proofs.lemmas.Bool.{false≢true}
+use Rattle.std.proofs.lemmas.Slice.Eq.{bytes_eq-Decides}
+use Rattle.agebench_command.proofs.Keys.{no_identity}
+use Rattle.agebench_command.proofs.command.parse_with.Goals as goal
+
+pub returns-in-Err : goal.returns-in-Err
+returns-in-Err c =
+    let word = c.args.word.now in
+    no_identity word _ _ (λ same. false≢true (c.if-eq.ensures ∙ (bytes_eq-Decides word (codes "bench")).1 same)) c.in-Err.ensures
