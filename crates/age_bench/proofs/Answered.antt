@@ -1,11 +1,9 @@
 -- What the one identity that WITH names answers.
-use Rattle.std.specs.Prelude.{◌≡◌, ◌⊎◌, ℕ, List, [], ◌∷◌, ◌++◌, Option, Some, None, Ok, Err, refl}
-use Rattle.std.specs.List.{AllZip}
-use Rattle.std.proofs.Common.{◌∙◌, sym, ap, subst, inl, inr}
-use Rattle.age.specs.DecryptErrors.{DecryptRefusal}
+use Rattle.std.specs.Prelude.{◌≡◌, ℕ, List, [], ◌∷◌, ◌++◌, Option, Some, None, refl}
+use Rattle.std.proofs.Common.{◌∙◌, sym, subst, inl, inr}
 use Rattle.age.specs.Stanza.{StanzaValue}
 use Rattle.age.specs.Unwrapping.{UnwrapAnswer, FirstOf, Then, Unwraps}
-use Rattle.age.specs.Answering.{Decides, FirstThatAnswers}
+use Rattle.age.specs.Answering.{FirstThatAnswers}
 use Rattle.age.specs.Parts.{FirstAnswer, IsFileFor}
 use Rattle.age_bench.specs.Bench.{bench_seal}
 use Rattle.age_bench.specs.Names.{AsksWith, OrElse, FirstTo, answers_of}
@@ -70,6 +68,19 @@ module _ {S X A : Type 0} (asks : S → X → Option A → Type 0) where
   first_of_one one xs None (next ∷ after) h = either_way one xs None next h.0
   first_of_one one xs (Some a) after d =
       subst (λ s. FirstTo (asks s) xs (Some a)) (decider one d.passed d.later d.decider d.all_before) (either_way d.decider xs (Some a) d.decider_after d.answers)
+
+module _ {S T X A : Type 0} (asks : S → X → Option A → Type 0) (others : T → X → Option A → Type 0) (one : S) (other : T)
+    (same : (x : X) (answer : Option A) → asks one x answer → others other x answer) where
+  next_as : (xs : List X) (first answer : Option A) → (FirstTo (asks one) xs answer → FirstOf (Steady others) other xs answer other)
+      → OrElse first (FirstTo (asks one) xs answer) answer → Then (λ t. FirstOf (Steady others) t xs) first other answer other
+  next_as xs None answer step h = step h
+  next_as xs (Some a) answer step h = (h, refl)
+
+  -- another who doesn't change either, and answers to each item so
+  pub as_other : (xs : List X) (answer : Option A) → FirstTo (asks one) xs answer → FirstOf (Steady others) other xs answer other
+  as_other [] answer h = (h, refl)
+  as_other (x ∷ xs) answer (first, asked, next) =
+      (first, other, (same x first asked, refl), next_as xs first answer (λ more. as_other xs answer more) next)
 
 -- what the one identity may answer is what WITH answers
 pub answers : (with_ : With) (stanzas : List StanzaValue) (answer : UnwrapAnswer)

@@ -5,3 +5,4 @@ pub mod OneFile
 pub mod BothForms
 pub mod Answered
 pub mod BenchFiles
+pub mod NamedPairs

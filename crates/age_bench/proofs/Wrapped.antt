@@ -1,5 +1,5 @@
 -- What a file comes to that is encrypted to the one recipient that TO names.
-use Rattle.std.specs.Prelude.{◌≡◌, ◌≢◌, ◌⊎◌, ◌≤◌, ◌<◌, ℕ, Bool, true, false, List, [], ◌∷◌, ◌++◌, length, take, drop, nat_le, bytes_eq, codes, Option, Some, None, Result, Ok, Err, if◌then◌else◌, MatchOption, refl}
+use Rattle.std.specs.Prelude.{◌≡◌, ◌≢◌, ◌⊎◌, ℕ, Bool, true, false, List, [], ◌∷◌, ◌++◌, length, take, drop, nat_le, bytes_eq, codes, Option, Some, None, Result, Ok, Err, if◌then◌else◌, MatchOption, refl}
 use Rattle.std.specs.Result.{result_map_both}
 use Rattle.std.proofs.Common.{◌∙◌, sym, ap, subst, inl, inr}
 use Rattle.age.specs.Bytes.{AreBytesOf}
@@ -9,10 +9,10 @@ use Rattle.age.specs.FileErrorVariants.{Io, Encrypt, Decrypt}
 use Rattle.age.specs.Types.{FileError}
 use Rattle.age.specs.Stanza.{StanzaValue}
 use Rattle.age.specs.Wrapping.{Wrapped, WrapAnswer}
-use Rattle.age.specs.RecipientLabels.{Gathered, nothing_yet, judged}
+use Rattle.age.specs.RecipientLabels.{Gathered}
 use Rattle.age.specs.Draw.{taken, left_after}
-use Rattle.age.specs.Drawing.{Ends, UnlessNoMemory, Then, After, WithDrawn}
-use Rattle.age.specs.Encrypting.{Prepared, PreparesNonce, PreparesRest, PreparesWith, Prepares, WrapsInTurn}
+use Rattle.age.specs.Drawing.{Ends, UnlessNoMemory, Then, After}
+use Rattle.age.specs.Encrypting.{Prepared, PreparesNonce, PreparesRest, PreparesWith, Prepares}
 use Rattle.age.specs.File.{file_text}
 use Rattle.age.specs.X25519.{wrapped_with, x25519_stanza, no_secret}
 use Rattle.age_bench.specs.Bench.{bench_seal, bench_shared, bench_public}

@@ -1,5 +1,5 @@
 -- What those answer whom the words of a command line name.
-use Rattle.std.specs.Prelude.{◌≡◌, ◌⊎◌, ℕ, List, [], ◌∷◌, ◌++◌, Option, Some, None, Result, Ok, Err}
+use Rattle.std.specs.Prelude.{◌≡◌, ◌⊎◌, ℕ, Bool, List, [], ◌∷◌, ◌++◌, Option, Some, None, Result, Ok, Err}
 use Rattle.std.specs.Result.{result_map_both}
 use Rattle.age.specs.EncryptErrors.{EncryptRefusal, OutOfMemory, ShortRandom}
 use Rattle.age.specs.Draw.{taken, left_after}
@@ -8,10 +8,11 @@ use Rattle.age.specs.Stanza.{StanzaValue}
 use Rattle.age.specs.Wrapping.{Wrapped, WrapAnswer}
 use Rattle.age.specs.Unwrapping.{UnwrapAnswer}
 use Rattle.age.specs.X25519.{WrapsFor, UnwrapsBy, wrapped_with}
+use Rattle.age.specs.X25519Laws as x25519
 use Rattle.age.specs.Encrypting.{Prepared}
 use Rattle.age.specs.File.{file_text}
 use Rattle.age_bench.specs.Bench.{bench_seal, bench_opened, bench_shared, bench_public}
-use Rattle.age_bench.specs.Recipient.{bench_wrapped, bench_unwrapped, bench_grease}
+use Rattle.age_bench.specs.Recipient.{bench_wrapped, bench_unwrapped, bench_grease, has_other_tag}
 use Rattle.age_bench.specs.declared.names.To.{To}
 use Rattle.age_bench.specs.declared.names.To.TheVariants as to
 use Rattle.age_bench.specs.declared.names.With.{With}
@@ -80,3 +81,15 @@ answers_of with_ stanzas answer = FirstTo (AsksWith with_) stanzas answer
 -- and the file key that it gives to them
 abbrev pub gives_of : With → List ℕ → List StanzaValue → Type 0
 gives_of with_ file_key stanzas = answers_of with_ stanzas (Some (Ok file_key))
+
+-- ---- both
+
+-- TO that WITH belongs to
+abbrev pub to_of : With → To
+to_of with_.Bench = to.Bench
+to_of (with_.Key secret) = to.Key (bench_public secret)
+
+-- a stanza of another type than WITH answers to
+abbrev pub is_other_to : With → StanzaValue → Bool
+is_other_to with_.Bench stanza = has_other_tag stanza
+is_other_to (with_.Key secret) stanza = x25519.has_other_tag stanza

@@ -2,8 +2,10 @@
 //! the laws.
 ghost use Rattle.age.specs.Belonging.{BelongsTo};
 ghost use Rattle.age_bench.specs.FileLaws.{IsBenchFile, IsCarried, GivesBack, IsForBench};
+ghost use Rattle.age_bench.specs.Names.{is_other_to, to_of};
 ghost use Rattle.age_bench.specs.Recipient.{has_other_tag};
 
+use crate::names::{To, With};
 use crate::recipient::{BenchIdentity, BenchRecipient};
 use crate::suite::BenchSuite;
 use age::armor::laws::{armor_is_carrying, carried_is_unique};
@@ -11,6 +13,7 @@ use age::format::laws::{
     canonical_text_is_text, canonical_text_reads_back, header_text_reads_back, verdict_is_unique,
 };
 use age::stream::laws::{payload_laws, piece_law};
+use age::x25519::laws::x25519_pair;
 use age::{Identity, Recipient};
 
 /// What is true of the file that `encrypt_to` appends where it is asked for `bench`.
@@ -45,4 +48,15 @@ pub fn bench_pair(recipient: &BenchRecipient, identity: &BenchIdentity)
 {
     let _recipient = recipient;
     let _identity = identity;
+}
+
+/// What WITH names belongs to what TO names: the identity of the bench suite to its recipient, and that of a secret to the recipient of
+/// its public value. So by `several_recipients` a file that is encrypted to the one is one for the other.
+pub fn named_pair(with: &With)
+    ensures { BelongsTo ⟦<To as Recipient>⟧.wraps ⟦<With as Identity>⟧.unwraps (is_other_to with.now) (to_of with.now) with.now }
+{
+    match with {
+        With::Bench => bench_pair(&BenchRecipient, &BenchIdentity),
+        With::Key(identity) => x25519_pair(identity),
+    }
 }
