@@ -1,10 +1,16 @@
 -- What is written of a key is read as that key.
-use Rattle.std.specs.Prelude.{◌≡◌, ℕ, ◌≤◌, true, ◌&&◌, List, [], ◌∷◌, nat_le, All, refl}
+use Rattle.std.specs.Prelude.{◌≡◌, ℕ, ◌≤◌, ◌/◌, ◌%◌, ◌^◌, true, ◌&&◌, List, [], ◌∷◌, ◌++◌, map, nat_le, All, refl}
+use Rattle.std.specs.Char.{to_ascii_lowercase}
 use Rattle.std.specs.List.{list_all}
-use Rattle.std.proofs.Common.{inr, arith}
+use Rattle.std.proofs.Common.{◌∙◌, inr, arith, ap, sym, subst}
 use Rattle.std.proofs.lemmas.Bool.{and_parts, leb-true}
+use Rattle.std.proofs.lemmas.List.{map-append}
 use Rattle.std.proofs.lemmas.List.Elements.{All-cons, All-nil}
-use Rattle.age_bech32.specs.Bech32.{IsBech32}
+use Rattle.age_bech32.specs.Bech32.{IsBech32, IsPayload}
+use Rattle.age_bech32.specs.Remainder.{expanded, remainder}
+use Rattle.age_bech32.specs.Symbols.{lowered}
+use Rattle.age_bech32.proofs.Cases.{told}
+use Rattle.age_bech32.proofs.Payloads.{one_spelling}
 use Rattle.age_bech32.specs.Refusals.{MayBeWritten}
 use Rattle.age_bech32.specs.Written.{bech32_text}
 use Rattle.age_bech32.proofs.Readings.{reading}
@@ -27,6 +33,32 @@ identity-may_be_written =
     let (low, high) = tested identity_prefix refl in
     (record { some = omega arith; few = omega arith; low = low; high = high }, inr refl)
 
+expanded-lowered : (one other : List ℕ) → lowered one ≡ lowered other → expanded one ≡ expanded other
+unfolding expanded
+expanded-lowered one other same = ap (λ l. map (λ byte. byte / 2 ^ 5) l ++ 0 ∷ map (λ byte. byte % 2 ^ 5) l) same
+
+-- what follows a prefix follows it in the other case too
+either_case : (one other rest bytes : List ℕ) → lowered one ≡ lowered other → IsPayload one rest bytes → IsPayload other rest bytes
+either_case one other rest bytes same p = record {
+  groups = p.groups;
+  check = p.check;
+  spelled = p.spelled;
+  values = p.values;
+  regrouped = p.regrouped;
+  six = p.six;
+  checked = subst (λ values. remainder (values ++ p.groups ++ p.check) ≡ 1) (expanded-lowered one other same) p.checked;
+}
+
+-- two texts of a key are the same in lower case
+lowered_same : (prefix text other key : List ℕ) → IsKeyText prefix text key → IsBech32 other prefix key → lowered text ≡ lowered other
+lowered_same prefix text other key is b =
+    let a = is.reads in
+    let rests : lowered a.rest ≡ lowered b.rest = one_spelling prefix a.rest b.rest key (either_case is.written prefix a.rest key is.same a.payload) b.payload in
+    let parts : lowered (is.written ++ 49 ∷ a.rest) ≡ lowered (prefix ++ 49 ∷ b.rest) =
+    map-append to_ascii_lowercase is.written (49 ∷ a.rest) ∙ ap (λ front. front ++ lowered (49 ∷ a.rest)) is.same
+    ∙ ap (λ rest. lowered prefix ++ 49 ∷ rest) rests ∙ sym (map-append to_ascii_lowercase prefix (49 ∷ b.rest)) in
+    ap lowered a.parts ∙ parts ∙ ap lowered (sym b.parts)
+
 reads_back : (prefix : List ℕ) → MayBeWritten prefix → ReadsBack prefix
 reads_back prefix may key bytes =
     let reads : IsBech32 (bech32_text prefix key) prefix key = (written prefix key may.0 may.1 bytes.bytes).0 in
@@ -34,6 +66,8 @@ reads_back prefix may key bytes =
     record {
       text = text;
       alone = λ other of_other. (reading (bech32_text prefix key) of_other.written prefix other key of_other.reads reads).1;
+      printed = λ other is same.
+      told other (bech32_text prefix key) is.reads.one_case reads.one_case same (lowered_same prefix other (bech32_text prefix key) key is reads);
       accepted = λ size_message message is. refused prefix size_message (bech32_text prefix key) message is key text;
     }
 

@@ -4,7 +4,7 @@ use Rattle.std.specs.Prelude.{◌≡◌, ◌≢◌, ◌⊎◌, ℕ, List, length
 use Rattle.age_error.specs.Bytes.{AreBytesOf}
 use Rattle.age_bech32.specs.Bech32.{IsBech32}
 use Rattle.age_bech32.specs.Refusals.{IsNoBech32}
-use Rattle.age_bech32.specs.Symbols.{lowered}
+use Rattle.age_bech32.specs.Symbols.{lowered, has_upper}
 use Rattle.age_bech32.specs.Written.{bech32_text}
 
 -- standard: a recipient is Bech32 with the prefix `age`, in lower case
@@ -35,10 +35,11 @@ abbrev pub IsRefusedAs : List ℕ → List ℕ → List ℕ → List ℕ → Typ
 IsRefusedAs prefix size_message text message =
     (IsNoBech32 text × (message ≡ codes "invalid Bech32 encoding")) ⊎ IsOtherText prefix size_message text message
 
--- the text that is written of a key is one of that key and of no other, and none that is refused
+-- the text that is written of a key is one of that key and of no other, the only one of it in its case, and none that is refused
 pub record IsReadBack (prefix key : List ℕ) : Type 0 where
   pub text : IsKeyText prefix (bech32_text prefix key) key
   pub alone : (other : List ℕ) → IsKeyText prefix (bech32_text prefix key) other → other ≡ key
+  pub printed : (other : List ℕ) → IsKeyText prefix other key → has_upper other ≡ has_upper (bech32_text prefix key) → other ≡ bech32_text prefix key
   pub accepted : (size_message message : List ℕ) → IsRefusedAs prefix size_message (bech32_text prefix key) message → ⊥
 
 -- so it is of each key of 32 bytes
