@@ -1,6 +1,7 @@
 //! Uses of `age`, each proved from what `age` says in public: what a caller writes over any suite, and what it is worth.
 #![tactic(auto)]
 
+pub mod keys;
 pub mod own;
 pub mod parts;
 pub mod several;
