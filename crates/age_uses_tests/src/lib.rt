@@ -4,6 +4,8 @@
 #[cfg(test)]
 mod fixtures;
 #[cfg(test)]
+mod keys_tests;
+#[cfg(test)]
 mod own_tests;
 #[cfg(test)]
 mod parts_tests;
