@@ -2,11 +2,11 @@
 
 use age::io::Bytes;
 use age::{DecryptError, decrypt};
+use age_bench::names::With;
 use age_bench::part::at_with;
 use age_bench::recipient::BenchIdentity;
 use age_bench::suite::BenchSuite;
 use age_try::fixtures::{MESSAGE, SEALED, armored};
-use age_bench::names::With;
 use std::alloc::{AllocError, Global};
 use std::process::Abort;
 use std::test::Fail;

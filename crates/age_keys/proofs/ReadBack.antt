@@ -67,7 +67,7 @@ reads_back prefix may key bytes =
       text = text;
       alone = λ other of_other. (reading (bech32_text prefix key) of_other.written prefix other key of_other.reads reads).1;
       printed = λ other is same.
-      told other (bech32_text prefix key) is.reads.one_case reads.one_case same (lowered_same prefix other (bech32_text prefix key) key is reads);
+          told other (bech32_text prefix key) is.reads.one_case reads.one_case same (lowered_same prefix other (bech32_text prefix key) key is reads);
       accepted = λ size_message message is. refused prefix size_message (bech32_text prefix key) message is key text;
     }
 

@@ -3,9 +3,9 @@
 use age::armor::Format;
 use age::io::Bytes;
 use age_bench::file::encrypt_to;
+use age_bench::names::{To, With};
 use age_bench::part::at_with;
 use age_try::fixtures::{MESSAGE, plaintext, zeros};
-use age_bench::names::{To, With};
 use std::alloc::{AllocError, Global};
 use std::process::Abort;
 use std::test::Fail;
