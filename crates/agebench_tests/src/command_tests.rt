@@ -101,22 +101,49 @@ const IDENTITY: &str = "AGE-SECRET-KEY-1GQ9778VQXMMJVE8SK7J6VT8UJ4HDQAJUVSFCWCM0
 const IDENTITY_LOWER: &str =
     "age-secret-key-1gq9778vqxmmjve8sk7j6vt8uj4hdqajuvsfcwcm02d8gewq72pvq2y5j33";
 
-// The text of the identity that a command decrypts with.
-fn key_asked_with(alloc: Global, command: Option<Command>) -> Result<Option<String>, Fail> {
+// To whom a command encrypts.
+fn asked_to(command: Option<Command>) -> Option<To> {
     match command {
         Some(
-            Command::Decrypt {
-                with: With::Key(identity),
-            }
-            | Command::At {
-                with: With::Key(identity),
-                ..
+            Command::Encrypt {
+                to,
+                draw: _draw,
+                format: _format,
             },
-        ) => {
-            let text = identity.to_string(alloc)?;
-            Ok(Some(String::from_str(alloc, text.expose_secret())?))
+        ) => Some(to),
+        _ => None,
+    }
+}
+
+// The command of these words encrypts to the recipient.
+fn is_to_recipient(rt: &impl Abort, alloc: Global, line: &str) -> Result<(), Fail> {
+    match asked_to(parsed(alloc, line)?) {
+        Some(To::Key(recipient)) => {
+            let text = recipient.to_string(alloc)?;
+            assert_eq!(rt; text.as_str(), RECIPIENT);
+            Ok(())
         }
-        _ => Ok(None),
+        _ => Err(Fail::from("another command")),
+    }
+}
+
+// Whether WITH is the identity.
+fn is_identity(alloc: Global, with: &With) -> Result<bool, AllocError> {
+    match with {
+        With::Key(identity) => {
+            let text = identity.to_string(alloc)?;
+            Ok(text.expose_secret() == IDENTITY)
+        }
+        With::Bench => Ok(false),
+    }
+}
+
+// Whether a command decrypts with the identity.
+fn asks_with_identity(alloc: Global, command: &Option<Command>) -> Result<bool, AllocError> {
+    match command {
+        Some(Command::Decrypt { with }) => is_identity(alloc, with),
+        Some(Command::At { with, .. }) => is_identity(alloc, with),
+        _ => Ok(false),
     }
 }
 
@@ -124,30 +151,14 @@ fn key_asked_with(alloc: Global, command: Option<Command>) -> Result<Option<Stri
 fn keys_are_named_by_their_texts(rt: HostRuntime) -> Result<(), Fail> {
     let alloc = rt.alloc();
     for text in [RECIPIENT, RECIPIENT_UPPER] {
-        for rest in ["00", "00 armor"] {
-            let line = format!(in alloc; "encrypt {text} {rest}")?;
-            match parsed(alloc, &line)? {
-                Some(
-                    Command::Encrypt {
-                        to: To::Key(recipient),
-                        ..
-                    },
-                ) => assert_eq!(rt; recipient.to_string(alloc)?.as_str(), RECIPIENT),
-                _ => return Err(Fail::from("another command")),
-            }
-        }
+        is_to_recipient(&rt, alloc, &format!(in alloc; "encrypt {text} 00")?)?;
+        is_to_recipient(&rt, alloc, &format!(in alloc; "encrypt {text} 00 armor")?)?;
     }
     for text in [IDENTITY, IDENTITY_LOWER] {
-        for line in [
-            format!(in alloc; "decrypt {text}")?,
-            format!(in alloc; "at {text} 1 2")?,
-        ] {
-            let key = key_asked_with(alloc, parsed(alloc, &line)?)?;
-            assert!(rt;
-                key.is_some_and(|key| key.as_str() == IDENTITY),
-                "at {line}"
-            );
-        }
+        let whole = parsed(alloc, &format!(in alloc; "decrypt {text}")?)?;
+        assert!(rt; asks_with_identity(alloc, &whole)?, "whole by {text}");
+        let part = parsed(alloc, &format!(in alloc; "at {text} 1 2")?)?;
+        assert!(rt; asks_with_identity(alloc, &part)?, "part by {text}");
     }
     Ok(())
 }
