@@ -1,6 +1,7 @@
 //! The command that makes a key.
 ghost use Rattle.std.specs.Prelude.{◌≡◌, ◌⊎◌, ◌<◌, ◌≤◌, [], ◌∷◌, ◌++◌, length, take, IsTrue, IfOk, OnOk, IfErr};
 ghost use Rattle.age.specs.Bech32Written.{bech32_text};
+ghost use Rattle.age.specs.Copying.{AppendsFront};
 ghost use Rattle.age.specs.EncryptErrors.{encrypt_refusal, OutOfMemory, ShortRandom};
 ghost use Rattle.age.specs.FileErrors.{IsEncryptError, EncryptsUnless, IfIo};
 ghost use Rattle.age.specs.KeyTexts.{identity_prefix};
@@ -18,10 +19,12 @@ use std::alloc::Global;
 /// what is left of them is ignored.
 ///
 /// `Encrypt(ShortRandom)` where there are fewer than 32 random bytes, and `Encrypt(OutOfMemory)` where memory for the text is refused:
-/// then nothing was appended. Any other refusal is the writer's, and then a beginning of the line may have been appended.
+/// then nothing was appended. Any other refusal is the writer's. Whatever it answers, what was appended is a beginning of the line.
 pub fn keygen<W: Write>(alloc: Global, draw: Draw, writer: &mut W) -> Result<(), FileError>
     ensures text { IsTrue (W.tells writer.old) → OnOk result
         ((32 ≤ length draw) × W.appended writer.old (bech32_text identity_prefix (take 32 draw) ++ 10 ∷ []) writer.new) }
+    ensures front { IsTrue (W.tells writer.old) → (writer.new ≡ writer.old)
+        ⊎ AppendsFront W.appended (bech32_text identity_prefix (take 32 draw) ++ 10 ∷ []) writer.old writer.new }
     ensures refused { IfErr result (λ e. IsEncryptError e → writer.new ≡ writer.old) }
     ensures why { IfErr result (EncryptsUnless (λ refusal. (refusal ≡ OutOfMemory) ⊎ ((refusal ≡ ShortRandom) × (length draw < 32)))) }
     ensures io { IfErr result (IfIo (HandsOn W.refuses writer.old)) }
