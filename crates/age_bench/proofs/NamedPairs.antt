@@ -1,17 +1,14 @@
 -- What WITH names belongs to what TO names.
-use Rattle.std.specs.Prelude.{◌≡◌, ◌⊎◌, ℕ, List, ◌++◌, Ok, Err}
+use Rattle.std.specs.Prelude.{◌≡◌, ℕ, List, ◌++◌}
 use Rattle.std.proofs.Common.{inl}
 use Rattle.age.specs.Belonging.{BelongsTo}
-use Rattle.age.specs.Drawing.{Ends}
-use Rattle.age.specs.EncryptErrors.{OutOfMemory}
 use Rattle.age.specs.Stanza.{StanzaValue}
 use Rattle.age.specs.Unwrapping.{UnwrapAnswer, FirstOf}
-use Rattle.age.specs.Wrapping.{WrapAnswer}
 use Rattle.age.specs.X25519.{WrapsFor, UnwrapsBy}
 use Rattle.age.specs.X25519Laws as x25519
 use Rattle.age_bench.specs.Bench.{bench_seal, bench_opened, bench_shared, bench_public}
 use Rattle.age_bench.specs.Names.{AsksWith, WrapsTo, is_other_to, to_of}
-use Rattle.age_bench.specs.Recipient.{bench_wrapped, bench_unwrapped, has_other_tag}
+use Rattle.age_bench.specs.Recipient.{BenchWraps, bench_unwrapped, has_other_tag}
 use Rattle.age_bench.specs.declared.names.With.{With}
 use Rattle.age_bench.specs.declared.names.With.TheVariants.{Bench, Key}
 use Rattle.age_bench.proofs.Answered.{Steady, either_way, as_other}
@@ -20,13 +17,10 @@ use Rattle.age_bench.proofs.Answered.{Steady, either_way, as_other}
 abbrev pub IsPaired : With → Type 0
 IsPaired with_ = BelongsTo WrapsTo (FirstOf (Steady AsksWith)) (is_other_to with_) (to_of with_) with_
 
-abbrev BenchWraps : {R : Type 0} → R → List ℕ → List ℕ → WrapAnswer → List ℕ → Type 0
-BenchWraps recipient file_key draws answer left = Ends (Ok (bench_wrapped file_key)) draws answer left ⊎ Ends (Err OutOfMemory) draws answer left
-
 abbrev BenchAsks : {I : Type 0} → I → StanzaValue → UnwrapAnswer → Type 0
 BenchAsks identity stanza answer = answer ≡ bench_unwrapped stanza
 
-pub bench_paired : {R I : Type 0} (recipient : R) (identity : I) → BelongsTo BenchWraps (FirstOf (Steady BenchAsks)) has_other_tag recipient identity → IsPaired Bench
+pub bench_paired : {R I : Type 0} (recipient : R) (identity : I) → BelongsTo (λ r. BenchWraps) (FirstOf (Steady BenchAsks)) has_other_tag recipient identity → IsPaired Bench
 bench_paired recipient identity pair file_key wrapped before later answer after sixteen wraps_so strange asked =
     let stanzas = before ++ (wrapped.stanzas ++ later) in
     pair file_key wrapped before later answer identity sixteen wraps_so strange

@@ -1,9 +1,8 @@
 -- What those answer whom the words of a command line name.
-use Rattle.std.specs.Prelude.{◌≡◌, ◌⊎◌, ℕ, Bool, List, [], ◌∷◌, ◌++◌, Option, Some, None, Result, Ok, Err}
+use Rattle.std.specs.Prelude.{◌≡◌, ℕ, Bool, List, [], ◌∷◌, ◌++◌, Option, Some, None, Result, Ok, Err}
 use Rattle.std.specs.Result.{result_map_both}
-use Rattle.age.specs.EncryptErrors.{EncryptRefusal, OutOfMemory, ShortRandom}
+use Rattle.age.specs.EncryptErrors.{EncryptRefusal, ShortRandom}
 use Rattle.age.specs.Draw.{taken, left_after}
-use Rattle.age.specs.Drawing.{Ends}
 use Rattle.age.specs.Stanza.{StanzaValue}
 use Rattle.age.specs.Wrapping.{Wrapped, WrapAnswer}
 use Rattle.age.specs.Unwrapping.{UnwrapAnswer}
@@ -12,7 +11,7 @@ use Rattle.age.specs.X25519Laws as x25519
 use Rattle.age.specs.Encrypting.{Prepared}
 use Rattle.age.specs.File.{file_text}
 use Rattle.age_bench.specs.Bench.{bench_seal, bench_opened, bench_shared, bench_public}
-use Rattle.age_bench.specs.Recipient.{bench_wrapped, bench_unwrapped, bench_grease, has_other_tag}
+use Rattle.age_bench.specs.Recipient.{BenchWraps, bench_wrapped, bench_unwrapped, bench_grease, has_other_tag}
 use Rattle.age_bench.specs.declared.names.To.{To}
 use Rattle.age_bench.specs.declared.names.To.TheVariants as to
 use Rattle.age_bench.specs.declared.names.With.{With}
@@ -22,7 +21,7 @@ use Rattle.age_bench.specs.declared.names.With.TheVariants as with_
 
 -- what TO answers to a file key: of the random bytes before, the answer and the random bytes left
 abbrev pub WrapsTo : To → List ℕ → List ℕ → WrapAnswer → List ℕ → Type 0
-WrapsTo to.Bench file_key draws answer left = Ends (Ok (bench_wrapped file_key)) draws answer left ⊎ Ends (Err OutOfMemory) draws answer left
+WrapsTo to.Bench file_key draws answer left = BenchWraps file_key draws answer left
 WrapsTo (to.Key public) file_key draws answer left = WrapsFor bench_seal bench_shared bench_public public file_key draws answer left
 
 -- what comes of random bytes, which may be too few

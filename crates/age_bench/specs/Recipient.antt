@@ -2,8 +2,9 @@
 use Rattle.std.specs.Prelude.{◌≡◌, ◌≢◌, ℕ, List, [], ◌∷◌, ◌++◌, Option, Some, None, Ok, Err, if◌then◌else◌, length, take, drop, nat_eq, bytes_eq, codes, All, Bool, not}
 use Rattle.std.specs.Option.{option_or}
 use Rattle.age.specs.DecryptErrors.{InvalidHeader}
+use Rattle.age.specs.Drawing.{Ends, UnlessNoMemory}
 use Rattle.age.specs.Stanza.{StanzaValue}
-use Rattle.age.specs.Wrapping.{Wrapped}
+use Rattle.age.specs.Wrapping.{Wrapped, WrapAnswer}
 use Rattle.age.specs.Unwrapping.{UnwrapAnswer}
 use Rattle.age.specs.File.{file_text}
 use Rattle.age_bench.specs.Bench.{bench_seal}
@@ -15,6 +16,10 @@ bench_stanza file_key = record { tag = codes "bench"; args = []; body = file_key
 -- one stanza, and no labels
 abbrev pub bench_wrapped : List ℕ → Wrapped
 bench_wrapped file_key = record { stanzas = bench_stanza file_key ∷ []; labels = [] }
+
+-- what the bench recipient answers to a file key: of the random bytes before, the answer and the random bytes left
+abbrev pub BenchWraps : List ℕ → List ℕ → WrapAnswer → List ℕ → Type 0
+BenchWraps file_key draws answer left = UnlessNoMemory (Ends (Ok (bench_wrapped file_key)) draws answer left) draws answer left
 
 -- a stanza with another tag is passed over; one with an argument, or a body not of 16 bytes, is refused
 abbrev pub bench_unwrapped : StanzaValue → UnwrapAnswer

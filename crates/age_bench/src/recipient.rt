@@ -1,12 +1,11 @@
 //! A recipient and an identity that hide nothing: the file key stands in the header as it is.
 
-ghost use Rattle.std.specs.Prelude.{◌≡◌, ◌⊎◌, Ok, Err};
+ghost use Rattle.std.specs.Prelude.{◌≡◌, Ok};
 ghost use Rattle.std.specs.Result.{result_map_both};
 ghost use Rattle.age.specs.EncryptErrors.{encrypt_refusal};
-ghost use Rattle.age.specs.EncryptErrors.{OutOfMemory as out_of_memory};
 ghost use Rattle.age.specs.Unwrapping.{FirstOf};
-ghost use Rattle.age.specs.Drawing.{IsOrNoMemory, Ends};
-ghost use Rattle.age_bench.specs.Recipient.{bench_stanza, bench_wrapped, bench_unwrapped};
+ghost use Rattle.age.specs.Drawing.{IsOrNoMemory};
+ghost use Rattle.age_bench.specs.Recipient.{BenchWraps, bench_stanza, bench_unwrapped};
 
 use age::draw::Draw;
 use age::format::Stanza;
@@ -32,7 +31,7 @@ fn stanza_of(alloc: Global, file_key: &FileKey) -> Result<Stanza, EncryptError>
 }
 
 impl Recipient for BenchRecipient {
-    ghost wraps = { λ _ file_key draws answer left. Ends (Ok (bench_wrapped file_key)) draws answer left ⊎ Ends (Err out_of_memory) draws answer left };
+    ghost wraps = { λ _. BenchWraps };
 
     fn wrap_file_key(
         &self,

@@ -1,8 +1,9 @@
 -- What a recipient and an identity of one's own answer.
 use Rattle.std.specs.Prelude.{ℕ, List, [], ◌∷◌, Some, None, Ok, Err, if◌then◌else◌, length, nat_eq, bytes_eq, codes, Bool, not}
 use Rattle.age.specs.DecryptErrors.{InvalidHeader}
+use Rattle.age.specs.Drawing.{Ends, UnlessNoMemory}
 use Rattle.age.specs.Stanza.{StanzaValue}
-use Rattle.age.specs.Wrapping.{Wrapped}
+use Rattle.age.specs.Wrapping.{Wrapped, WrapAnswer}
 use Rattle.age.specs.Unwrapping.{UnwrapAnswer}
 
 -- the stanza whose body is the file key
@@ -12,6 +13,10 @@ own_stanza file_key = record { tag = codes "own"; args = []; body = file_key }
 -- one stanza, and no labels
 abbrev pub own_wrapped : List ℕ → Wrapped
 own_wrapped file_key = record { stanzas = own_stanza file_key ∷ []; labels = [] }
+
+-- what the recipient answers to a file key: of the random bytes before, the answer and the random bytes left
+abbrev pub OwnWraps : List ℕ → List ℕ → WrapAnswer → List ℕ → Type 0
+OwnWraps file_key draws answer left = UnlessNoMemory (Ends (Ok (own_wrapped file_key)) draws answer left) draws answer left
 
 -- a stanza with another tag is passed over; one with an argument, or a body not of 16 bytes, is refused
 abbrev pub own_unwrapped : StanzaValue → UnwrapAnswer

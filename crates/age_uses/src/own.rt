@@ -1,12 +1,11 @@
 //! A recipient and an identity of one's own. They hide nothing: the file key stands in the header as it is.
-ghost use Rattle.std.specs.Prelude.{◌≡◌, ◌⊎◌, Ok, Err};
+ghost use Rattle.std.specs.Prelude.{◌≡◌, Ok};
 ghost use Rattle.std.specs.Result.{result_map_both};
 ghost use Rattle.age.specs.EncryptErrors.{encrypt_refusal};
-ghost use Rattle.age.specs.EncryptErrors.{OutOfMemory as out_of_memory};
 ghost use Rattle.age.specs.Unwrapping.{FirstOf};
-ghost use Rattle.age.specs.Drawing.{IsOrNoMemory, Ends};
+ghost use Rattle.age.specs.Drawing.{IsOrNoMemory};
 ghost use Rattle.age.specs.Belonging.{BelongsTo};
-ghost use Rattle.age_uses.specs.Own.{own_stanza, own_wrapped, own_unwrapped, has_other_tag};
+ghost use Rattle.age_uses.specs.Own.{OwnWraps, own_stanza, own_unwrapped, has_other_tag};
 
 use age::draw::Draw;
 use age::format::Stanza;
@@ -32,7 +31,7 @@ fn stanza_of(alloc: Global, file_key: &FileKey) -> Result<Stanza, EncryptError>
 }
 
 impl Recipient for OwnRecipient {
-    ghost wraps = { λ _ file_key draws answer left. Ends (Ok (own_wrapped file_key)) draws answer left ⊎ Ends (Err out_of_memory) draws answer left };
+    ghost wraps = { λ _. OwnWraps };
 
     fn wrap_file_key(
         &self,

@@ -1,15 +1,14 @@
-use Rattle.std.specs.Prelude.{◌≡◌, ◌≢◌, ◌⊎◌, ℕ, Bool, true, false, not, List, [], Some, None, Ok, Err, Result, IsTrue, length, bytes_eq, nat_eq, if◌then◌else◌, codes, refl}
+use Rattle.std.specs.Prelude.{◌≡◌, ◌≢◌, ℕ, Bool, true, false, not, List, [], Some, None, Ok, Err, Result, IsTrue, length, bytes_eq, nat_eq, if◌then◌else◌, codes, refl}
 use Rattle.std.proofs.Common.{◌∙◌, ap, inl, inr}
 use Rattle.std.proofs.lemmas.Slice.Eq.{bytes_eq-Decides}
 use Rattle.age.specs.DecryptErrors.{InvalidHeader}
 use Rattle.age.specs.EncryptErrors.{EncryptRefusal, OutOfMemory}
 use Rattle.age.specs.Stanza.{StanzaValue}
-use Rattle.age.specs.Wrapping.{Wrapped, WrapAnswer}
+use Rattle.age.specs.Wrapping.{Wrapped}
 use Rattle.age.specs.Unwrapping.{UnwrapAnswer, FirstOf}
-use Rattle.age.specs.Drawing.{Ends}
 use Rattle.age.specs.Belonging.{BelongsTo}
 use Rattle.age.specs.BelongingLaws.{by_stanza}
-use Rattle.age_uses.specs.Own.{own_stanza, own_wrapped, own_unwrapped, has_other_tag}
+use Rattle.age_uses.specs.Own.{OwnWraps, own_stanza, own_wrapped, own_unwrapped, has_other_tag}
 use Rattle.age_uses.proofs.own.own_pair.Goals as goal
 
 not_so : (b : Bool) → IsTrue (not b) → b ≢ true
@@ -38,23 +37,17 @@ same_wrapped a b is = cc
 no_wrapped : {X : Type 0} (a : Wrapped) → Path (Result Wrapped EncryptRefusal) (Ok a) (Err OutOfMemory) → X
 no_wrapped a is = absurd (Prim.cc)
 
-wraps_one : (file_key draws left : List ℕ) (wrapped : Wrapped)
-    → Ends (Ok (own_wrapped file_key)) draws (Ok wrapped) left ⊎ Ends (Err OutOfMemory) draws (Ok wrapped) left
-    → wrapped ≡ own_wrapped file_key
+wraps_one : (file_key draws left : List ℕ) (wrapped : Wrapped) → OwnWraps file_key draws (Ok wrapped) left → wrapped ≡ own_wrapped file_key
 wraps_one file_key draws left wrapped (inl made) = same_wrapped wrapped (own_wrapped file_key) made.0
 wraps_one file_key draws left wrapped (inr want) = no_wrapped wrapped want.0
-
-abbrev Wraps : {R : Type 0} → R → List ℕ → List ℕ → WrapAnswer → List ℕ → Type 0
-Wraps recipient file_key draws answer left =
-    Ends (Ok (own_wrapped file_key)) draws answer left ⊎ Ends (Err OutOfMemory) draws answer left
 
 abbrev Asks : {I : Type 0} → I → StanzaValue → UnwrapAnswer → I → Type 0
 Asks before stanza answer after = (answer ≡ own_unwrapped stanza) × (after ≡ before)
 
 module _ {R I : Type 0} where
-  pair : (recipient : R) (identity : I) → BelongsTo Wraps (FirstOf Asks) has_other_tag recipient identity
+  pair : (recipient : R) (identity : I) → BelongsTo (λ r. OwnWraps) (FirstOf Asks) has_other_tag recipient identity
   pair recipient identity =
-      by_stanza Asks Wraps has_other_tag recipient identity
+      by_stanza Asks (λ r. OwnWraps) has_other_tag recipient identity
       (λ s answer after strange asked. inl (asked.0 ∙ over_other s (other_tag s strange), asked.1))
       (λ file_key wrapped sixteen wraps_so.
       let (draws, left, made) = wraps_so in
