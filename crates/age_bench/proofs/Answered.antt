@@ -6,7 +6,8 @@ use Rattle.age.specs.Unwrapping.{UnwrapAnswer, FirstOf, Then, Unwraps}
 use Rattle.age.specs.Answering.{FirstThatAnswers}
 use Rattle.age.specs.Parts.{FirstAnswer, IsFileFor}
 use Rattle.age_bench.specs.Bench.{bench_seal}
-use Rattle.age_bench.specs.Names.{AsksWith, OrElse, FirstTo, answers_of}
+use Rattle.age_bench.specs.Names.{AsksWith, answers_of}
+use Rattle.age_bench.specs.Recipient.{Steady}
 use Rattle.age_bench.specs.declared.names.With.{With}
 
 -- ---- one who doesn't change, and answers to each item by itself
@@ -15,43 +16,45 @@ first_same : {S : Type 0} (x y : S) (xs ys : List S) → x ∷ xs ≡ y ∷ ys �
 first_same x y xs ys is = Prim.cc
 
 module _ {S X A : Type 0} (asks : S → X → Option A → Type 0) where
-  -- as a relation that says also who is there afterwards
-  abbrev pub Steady : S → X → Option A → S → Type 0
-  Steady before x answer after = asks before x answer × (after ≡ before)
+  -- the relation that says also who is there afterwards
+  abbrev Says : S → X → Option A → S → Type 0
+  Says = Steady asks
 
-  went_on : (xs : List X) (first : Option A) (before between : S) (answer : Option A) (after : S) → between ≡ before
-      → ((s : S) → FirstOf Steady s xs answer after → FirstTo (asks s) xs answer)
-      → Then (λ s. FirstOf Steady s xs) first between answer after → OrElse first (FirstTo (asks before) xs answer) answer
-  went_on xs None before between answer after same step h = subst (λ s. FirstTo (asks s) xs answer) same (step between h)
-  went_on xs (Some a) before between answer after same step h = h.0
+  stays_on : (xs : List X) (first : Option A) (between : S) (answer : Option A) (after : S) → ((s : S) → FirstOf Says s xs answer after → after ≡ s)
+      → Then (λ s. FirstOf Says s xs) first between answer after → after ≡ between
+  stays_on xs None between answer after step h = step between h
+  stays_on xs (Some a) between answer after step h = h.1
 
-  pub in_order : (before : S) (xs : List X) (answer : Option A) (after : S) → FirstOf Steady before xs answer after → FirstTo (asks before) xs answer
-  in_order before [] answer after h = h.0
-  in_order before (x ∷ xs) answer after (first, between, (asked, same), next) =
-      (first, asked, went_on xs first before between answer after same (λ s. in_order s xs answer after) next)
+  stays : (before : S) (xs : List X) (answer : Option A) (after : S) → FirstOf Says before xs answer after → after ≡ before
+  stays before [] answer after h = h.1
+  stays before (x ∷ xs) answer after (first, between, asked, next) = stays_on xs first between answer after (λ s. stays s xs answer after) next ∙ asked.1
+
+  -- the one who is there afterwards is the same
+  pub in_order : (before : S) (xs : List X) (answer : Option A) (after : S) → FirstOf Says before xs answer after → FirstOf Says before xs answer before
+  in_order before xs answer after h = subst (λ s. FirstOf Says before xs answer s) (stays before xs answer after h) h
 
   -- of one item
-  one_item : (before : S) (x : X) (answer : Option A) (after : S) → FirstOf Steady before (x ∷ []) answer after → Steady before x answer after
+  one_item : (before : S) (x : X) (answer : Option A) (after : S) → FirstOf Says before (x ∷ []) answer after → Says before x answer after
   one_item before x answer after (None, between, asked, next) =
       let same : after ≡ between = next.1 in
       (subst (λ a. asks before x a) (sym next.0) asked.0, same ∙ asked.1)
   one_item before x answer after (Some a, between, asked, next) = (subst (λ o. asks before x o) (sym next.0) asked.0, next.1 ∙ asked.1)
 
   then_singly : (xs : List X) (first : Option A) (between : S) (answer : Option A) (after : S)
-      → ((s : S) → FirstOf (λ s x. FirstOf Steady s (x ∷ [])) s xs answer after → FirstOf Steady s xs answer after)
-      → Then (λ s. FirstOf (λ s x. FirstOf Steady s (x ∷ [])) s xs) first between answer after → Then (λ s. FirstOf Steady s xs) first between answer after
+      → ((s : S) → FirstOf (λ s x. FirstOf Says s (x ∷ [])) s xs answer after → FirstOf Says s xs answer after)
+      → Then (λ s. FirstOf (λ s x. FirstOf Says s (x ∷ [])) s xs) first between answer after → Then (λ s. FirstOf Says s xs) first between answer after
   then_singly xs None between answer after step h = step between h
   then_singly xs (Some a) between answer after step h = h
 
   -- item by item it does what it does on the list
-  singly : (before : S) (xs : List X) (answer : Option A) (after : S) → FirstOf (λ s x. FirstOf Steady s (x ∷ [])) before xs answer after
-      → FirstOf Steady before xs answer after
+  singly : (before : S) (xs : List X) (answer : Option A) (after : S) → FirstOf (λ s x. FirstOf Says s (x ∷ [])) before xs answer after
+      → FirstOf Says before xs answer after
   singly before [] answer after h = h
   singly before (x ∷ xs) answer after (first, between, asked, next) =
       (first, between, one_item before x first between asked, then_singly xs first between answer after (λ s. singly s xs answer after) next)
 
   -- so it doesn't matter which of its calls is made
-  pub either_way : (before : S) (xs : List X) (answer : Option A) (after : S) → Unwraps (FirstOf Steady) before xs answer after → FirstTo (asks before) xs answer
+  pub either_way : (before : S) (xs : List X) (answer : Option A) (after : S) → Unwraps (FirstOf Says) before xs answer after → FirstOf Says before xs answer before
   either_way before xs answer after (inl h) = in_order before xs answer after h
   either_way before xs answer after (inr h) = in_order before xs answer after (singly before xs answer after h)
 
@@ -63,24 +66,25 @@ module _ {S X A : Type 0} (asks : S → X → Option A → Type 0) where
 
   -- of a list of one
   pub first_of_one : (one : S) (xs : List X) (answer : Option A) (after : List S)
-      → FirstThatAnswers (λ s own then. Unwraps (FirstOf Steady) s xs own then) (one ∷ []) answer after → FirstTo (asks one) xs answer
+      → FirstThatAnswers (λ s own then. Unwraps (FirstOf Says) s xs own then) (one ∷ []) answer after → FirstOf Says one xs answer one
   first_of_one one xs None [] h = absurd h
   first_of_one one xs None (next ∷ after) h = either_way one xs None next h.0
   first_of_one one xs (Some a) after d =
-      subst (λ s. FirstTo (asks s) xs (Some a)) (decider one d.passed d.later d.decider d.all_before) (either_way d.decider xs (Some a) d.decider_after d.answers)
+      subst (λ s. FirstOf Says s xs (Some a) s) (decider one d.passed d.later d.decider d.all_before) (either_way d.decider xs (Some a) d.decider_after d.answers)
 
 module _ {S T X A : Type 0} (asks : S → X → Option A → Type 0) (others : T → X → Option A → Type 0) (one : S) (other : T)
     (same : (x : X) (answer : Option A) → asks one x answer → others other x answer) where
-  next_as : (xs : List X) (first answer : Option A) → (FirstTo (asks one) xs answer → FirstOf (Steady others) other xs answer other)
-      → OrElse first (FirstTo (asks one) xs answer) answer → Then (λ t. FirstOf (Steady others) t xs) first other answer other
-  next_as xs None answer step h = step h
-  next_as xs (Some a) answer step h = (h, refl)
+  next_as : (xs : List X) (first : Option A) (between : S) (answer : Option A) → between ≡ one
+      → (FirstOf (Steady asks) one xs answer one → FirstOf (Steady others) other xs answer other)
+      → Then (λ s. FirstOf (Steady asks) s xs) first between answer one → Then (λ t. FirstOf (Steady others) t xs) first other answer other
+  next_as xs None between answer is step h = step (subst (λ s. FirstOf (Steady asks) s xs answer one) is h)
+  next_as xs (Some a) between answer is step h = (h.0, refl)
 
   -- another who doesn't change either, and answers to each item so
-  pub as_other : (xs : List X) (answer : Option A) → FirstTo (asks one) xs answer → FirstOf (Steady others) other xs answer other
-  as_other [] answer h = (h, refl)
-  as_other (x ∷ xs) answer (first, asked, next) =
-      (first, other, (same x first asked, refl), next_as xs first answer (λ more. as_other xs answer more) next)
+  pub as_other : (xs : List X) (answer : Option A) → FirstOf (Steady asks) one xs answer one → FirstOf (Steady others) other xs answer other
+  as_other [] answer h = (h.0, refl)
+  as_other (x ∷ xs) answer (first, between, asked, next) =
+      (first, other, (same x first asked.0, refl), next_as xs first between answer asked.1 (λ more. as_other xs answer more) next)
 
 -- what the one identity may answer is what WITH answers
 pub answers : (with_ : With) (stanzas : List StanzaValue) (answer : UnwrapAnswer)

@@ -8,23 +8,20 @@ use Rattle.age.specs.X25519.{WrapsFor, UnwrapsBy}
 use Rattle.age.specs.X25519Laws as x25519
 use Rattle.age_bench.specs.Bench.{bench_seal, bench_opened, bench_shared, bench_public}
 use Rattle.age_bench.specs.Names.{AsksWith, WrapsTo, is_other_to, to_of}
-use Rattle.age_bench.specs.Recipient.{BenchWraps, bench_unwrapped, has_other_tag}
+use Rattle.age_bench.specs.Recipient.{BenchAsks, BenchWraps, Steady, has_other_tag}
 use Rattle.age_bench.specs.declared.names.With.{With}
 use Rattle.age_bench.specs.declared.names.With.TheVariants.{Bench, Key}
-use Rattle.age_bench.proofs.Answered.{Steady, either_way, as_other}
+use Rattle.age_bench.proofs.Answered.{either_way, as_other}
 
 -- it belongs to the recipient that goes with it
 abbrev pub IsPaired : With → Type 0
 IsPaired with_ = BelongsTo WrapsTo (FirstOf (Steady AsksWith)) (is_other_to with_) (to_of with_) with_
 
-abbrev BenchAsks : {I : Type 0} → I → StanzaValue → UnwrapAnswer → Type 0
-BenchAsks identity stanza answer = answer ≡ bench_unwrapped stanza
-
-pub bench_paired : {R I : Type 0} (recipient : R) (identity : I) → BelongsTo (λ r. BenchWraps) (FirstOf (Steady BenchAsks)) has_other_tag recipient identity → IsPaired Bench
+pub bench_paired : {R I : Type 0} (recipient : R) (identity : I) → BelongsTo (λ r. BenchWraps) (FirstOf (Steady (λ i. BenchAsks))) has_other_tag recipient identity → IsPaired Bench
 bench_paired recipient identity pair file_key wrapped before later answer after sixteen wraps_so strange asked =
     let stanzas = before ++ (wrapped.stanzas ++ later) in
     pair file_key wrapped before later answer identity sixteen wraps_so strange
-    (inl (as_other AsksWith BenchAsks Bench identity (λ s own h. h) stanzas answer (either_way AsksWith Bench stanzas answer after asked)))
+    (inl (as_other AsksWith (λ i. BenchAsks) Bench identity (λ s own h. h) stanzas answer (either_way AsksWith Bench stanzas answer after asked)))
 
 abbrev KeyAsks : List ℕ → StanzaValue → UnwrapAnswer → Type 0
 KeyAsks secret stanza answer = UnwrapsBy bench_opened bench_shared bench_public secret stanza answer

@@ -1,7 +1,7 @@
 -- What the bench identity answers to stanzas.
 use Rattle.std.specs.Prelude.{◌≡◌, ◌≢◌, ℕ, Bool, true, false, List, [], ◌∷◌, ◌++◌, All, length, nat_eq, bytes_eq, codes, if◌then◌else◌, Some, None, Ok, Err, refl}
 use Rattle.std.specs.Option.{option_or}
-use Rattle.std.proofs.Common.{◌∙◌, sym, ap, inl}
+use Rattle.std.proofs.Common.{◌∙◌, sym, ap, subst, inl}
 use Rattle.std.proofs.lemmas.Bool.{eqb-true, false≢true}
 use Rattle.std.proofs.lemmas.List.{nil_from_length}
 use Rattle.std.proofs.lemmas.List.Elements.{All-nil, All-cons, All-head, All-tail}
@@ -9,12 +9,13 @@ use Rattle.std.proofs.lemmas.Option.{none-some}
 use Rattle.std.proofs.lemmas.Slice.Eq.{bytes_eq-Decides}
 use Rattle.age.specs.DecryptErrors.{InvalidHeader}
 use Rattle.age.specs.Stanza.{StanzaValue}
-use Rattle.age.specs.Unwrapping.{UnwrapAnswer}
+use Rattle.age.specs.Unwrapping.{UnwrapAnswer, FirstOf, Then}
 use Rattle.age.specs.Parts.{IsFileFor}
 use Rattle.age_bench.specs.Bench.{bench_seal}
 use Rattle.age_bench.specs.Files.{IsFileForBench}
-use Rattle.age_bench.specs.Names.{AsksWith, OrElse, FirstTo, answers_of, gives_of}
-use Rattle.age_bench.specs.Recipient.{bench_stanza, bench_unwrapped, first_answer, bench_answer, HoldsBenchKey}
+use Rattle.age_bench.specs.Names.{AsksWith, answers_of, gives_of}
+use Rattle.age_bench.specs.Recipient.{Steady, bench_stanza, bench_unwrapped, first_answer, bench_answer, HoldsBenchKey}
+use Rattle.age_bench.specs.declared.names.With.{With}
 use Rattle.age_bench.specs.declared.names.With.TheVariants.{Bench}
 
 -- ---- the file key
@@ -102,16 +103,17 @@ held_answer stanzas key holds = ap (first_answer bench_unwrapped) holds.all ∙ 
 
 -- ---- what WITH answers where it names the bench identity
 
-or_else : (s : StanzaValue) (rest : List StanzaValue) (first answer : UnwrapAnswer) → first ≡ bench_unwrapped s
-    → (FirstTo (AsksWith Bench) rest answer → answer ≡ bench_answer rest)
-    → OrElse first (FirstTo (AsksWith Bench) rest answer) answer → answer ≡ option_or (bench_unwrapped s) (bench_answer rest)
-or_else s rest None answer is step h = rw (← is) (step h)
-or_else s rest (Some a) answer is step h = rw (← is) h
+or_else : (s : StanzaValue) (rest : List StanzaValue) (first answer : UnwrapAnswer) (between : With) → (first ≡ bench_unwrapped s) × (between ≡ Bench)
+    → (answers_of Bench rest answer → answer ≡ bench_answer rest)
+    → Then (λ with_. FirstOf (Steady AsksWith) with_ rest) first between answer Bench → answer ≡ option_or (bench_unwrapped s) (bench_answer rest)
+or_else s rest None answer between asked step h = rw (← asked.0) (step (subst (λ with_. FirstOf (Steady AsksWith) with_ rest answer Bench) asked.1 h))
+or_else s rest (Some a) answer between asked step h = rw (← asked.0) h.0
 
 -- it is set by the stanzas
 pub bench_answers : (stanzas : List StanzaValue) (answer : UnwrapAnswer) → answers_of Bench stanzas answer → answer ≡ bench_answer stanzas
-bench_answers [] answer h = h
-bench_answers (s ∷ stanzas) answer (first, asked, next) = or_else s stanzas first answer asked (λ more. bench_answers stanzas answer more) next
+bench_answers [] answer h = h.0
+bench_answers (s ∷ stanzas) answer (first, between, asked, next) =
+    or_else s stanzas first answer between asked (λ more. bench_answers stanzas answer more) next
 
 -- so a file key that it gives stands in the first bench stanza
 pub bench_gives : (file_key : List ℕ) (stanzas : List StanzaValue) → gives_of Bench file_key stanzas → HoldsBenchKey file_key stanzas

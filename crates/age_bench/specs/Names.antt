@@ -1,17 +1,17 @@
 -- What those answer whom the words of a command line name.
-use Rattle.std.specs.Prelude.{◌≡◌, ℕ, Bool, List, [], ◌∷◌, ◌++◌, Option, Some, None, Result, Ok, Err}
+use Rattle.std.specs.Prelude.{ℕ, Bool, List, [], ◌∷◌, ◌++◌, Option, Some, None, Result, Ok, Err}
 use Rattle.std.specs.Result.{result_map_both}
 use Rattle.age.specs.EncryptErrors.{EncryptRefusal, ShortRandom}
 use Rattle.age.specs.Draw.{taken, left_after}
 use Rattle.age.specs.Stanza.{StanzaValue}
 use Rattle.age.specs.Wrapping.{Wrapped, WrapAnswer}
-use Rattle.age.specs.Unwrapping.{UnwrapAnswer}
+use Rattle.age.specs.Unwrapping.{UnwrapAnswer, FirstOf}
 use Rattle.age.specs.X25519.{WrapsFor, UnwrapsBy, wrapped_with}
 use Rattle.age.specs.X25519Laws as x25519
 use Rattle.age.specs.Encrypting.{Prepared}
 use Rattle.age.specs.File.{file_text}
 use Rattle.age_bench.specs.Bench.{bench_seal, bench_opened, bench_shared, bench_public}
-use Rattle.age_bench.specs.Recipient.{BenchWraps, bench_wrapped, bench_unwrapped, bench_grease, has_other_tag}
+use Rattle.age_bench.specs.Recipient.{BenchAsks, BenchWraps, Steady, bench_wrapped, bench_grease, has_other_tag}
 use Rattle.age_bench.specs.declared.names.To.{To}
 use Rattle.age_bench.specs.declared.names.To.TheVariants as to
 use Rattle.age_bench.specs.declared.names.With.{With}
@@ -61,21 +61,12 @@ file_by to draws plain = result_map_both (λ file. file_text bench_seal file.fil
 
 -- what WITH answers to a stanza
 abbrev pub AsksWith : With → StanzaValue → UnwrapAnswer → Type 0
-AsksWith with_.Bench stanza answer = answer ≡ bench_unwrapped stanza
+AsksWith with_.Bench stanza answer = BenchAsks stanza answer
 AsksWith (with_.Key secret) stanza answer = UnwrapsBy bench_opened bench_shared bench_public secret stanza answer
-
--- the first answer that isn't None, to items that are asked of in their order
-abbrev pub OrElse : {A : Type 0} → Option A → Type 0 → Option A → Type 0
-OrElse (Some a) rest answer = answer ≡ Some a
-OrElse None rest answer = rest
-
-abbrev pub FirstTo : {X A : Type 0} → (X → Option A → Type 0) → List X → Option A → Type 0
-FirstTo asks [] answer = answer ≡ None
-FirstTo {X} {A} asks (x ∷ xs) answer = (first : Option A) × asks x first × OrElse first (FirstTo asks xs answer) answer
 
 -- what WITH answers to the stanzas of a header
 abbrev pub answers_of : With → List StanzaValue → UnwrapAnswer → Type 0
-answers_of with_ stanzas answer = FirstTo (AsksWith with_) stanzas answer
+answers_of with_ stanzas answer = FirstOf (Steady AsksWith) with_ stanzas answer with_
 
 -- and the file key that it gives to them
 abbrev pub gives_of : With → List ℕ → List StanzaValue → Type 0

@@ -30,9 +30,17 @@ bench_unwrapped stanza =
     else Some (Err InvalidHeader))
     else None
 
+-- what the bench identity answers to a stanza
+abbrev pub BenchAsks : StanzaValue → UnwrapAnswer → Type 0
+BenchAsks stanza answer = answer ≡ bench_unwrapped stanza
+
 -- a stanza with another tag
 abbrev pub has_other_tag : StanzaValue → Bool
 has_other_tag stanza = not (bytes_eq stanza.tag (codes "bench"))
+
+-- one who answers so, and doesn't change by it
+abbrev pub Steady : {S X A : Type 0} → (S → X → Option A → Type 0) → S → X → Option A → S → Type 0
+Steady asks before x answer after = asks before x answer × (after ≡ before)
 
 -- the first answer that isn't None
 abbrev pub first_answer : {X A : Type 0} → (X → Option A) → List X → Option A

@@ -1,5 +1,6 @@
 //! To whom and with what the program encrypts and decrypts.
 ghost use Rattle.age_bench.specs.Names.{WrapsTo, AsksWith};
+ghost use Rattle.age_bench.specs.Recipient.{Steady};
 
 use crate::recipient::{BenchIdentity, BenchRecipient};
 use crate::suite::BenchSuite;
@@ -47,10 +48,9 @@ pub enum With {
 
 // Each word's identity answers by itself, to one stanza after the other.
 impl Identity for With {
-    ghost use Rattle.std.specs.Prelude.{◌≡◌};
     ghost use Rattle.age.specs.Unwrapping.{FirstOf};
 
-    ghost unwraps = { FirstOf (λ before stanza answer after. AsksWith before stanza answer × (after ≡ before)) };
+    ghost unwraps = { FirstOf (Steady AsksWith) };
 
     fn unwrap_stanza(
         &mut self,

@@ -1,11 +1,11 @@
 //! A recipient and an identity that hide nothing: the file key stands in the header as it is.
 
-ghost use Rattle.std.specs.Prelude.{◌≡◌, Ok};
+ghost use Rattle.std.specs.Prelude.{Ok};
 ghost use Rattle.std.specs.Result.{result_map_both};
 ghost use Rattle.age.specs.EncryptErrors.{encrypt_refusal};
 ghost use Rattle.age.specs.Unwrapping.{FirstOf};
 ghost use Rattle.age.specs.Drawing.{IsOrNoMemory};
-ghost use Rattle.age_bench.specs.Recipient.{BenchWraps, bench_stanza, bench_unwrapped};
+ghost use Rattle.age_bench.specs.Recipient.{BenchAsks, BenchWraps, Steady, bench_stanza};
 
 use age::draw::Draw;
 use age::format::Stanza;
@@ -52,7 +52,7 @@ impl Recipient for BenchRecipient {
 pub struct BenchIdentity;
 
 impl Identity for BenchIdentity {
-    ghost unwraps = { FirstOf (λ before stanza answer after. (answer ≡ bench_unwrapped stanza) × (after ≡ before)) };
+    ghost unwraps = { FirstOf (Steady (λ _. BenchAsks)) };
 
     fn unwrap_stanza(
         &mut self,

@@ -4,10 +4,10 @@ use Rattle.std.proofs.lemmas.Slice.Eq.{bytes_eq-Decides}
 use Rattle.age.specs.EncryptErrors.{EncryptRefusal, OutOfMemory}
 use Rattle.age.specs.Stanza.{StanzaValue}
 use Rattle.age.specs.Wrapping.{Wrapped}
-use Rattle.age.specs.Unwrapping.{UnwrapAnswer, FirstOf}
+use Rattle.age.specs.Unwrapping.{FirstOf}
 use Rattle.age.specs.Belonging.{BelongsTo}
 use Rattle.age.specs.BelongingLaws.{by_stanza}
-use Rattle.age_bench.specs.Recipient.{BenchWraps, bench_stanza, bench_wrapped, bench_unwrapped, has_other_tag}
+use Rattle.age_bench.specs.Recipient.{BenchAsks, BenchWraps, Steady, bench_stanza, bench_wrapped, has_other_tag}
 use Rattle.age_bench.proofs.Unwrapped.{over_other, of_own}
 use Rattle.age_bench.proofs.laws.bench_pair.Goals as goal
 
@@ -28,13 +28,10 @@ wraps_one : (file_key draws left : List ℕ) (wrapped : Wrapped) → BenchWraps 
 wraps_one file_key draws left wrapped (inl made) = same_wrapped wrapped (bench_wrapped file_key) made.0
 wraps_one file_key draws left wrapped (inr want) = no_wrapped wrapped want.0
 
-abbrev Asks : {I : Type 0} → I → StanzaValue → UnwrapAnswer → I → Type 0
-Asks before stanza answer after = (answer ≡ bench_unwrapped stanza) × (after ≡ before)
-
 module _ {R I : Type 0} where
-  pair : (recipient : R) (identity : I) → BelongsTo (λ r. BenchWraps) (FirstOf Asks) has_other_tag recipient identity
+  pair : (recipient : R) (identity : I) → BelongsTo (λ r. BenchWraps) (FirstOf (Steady (λ i. BenchAsks))) has_other_tag recipient identity
   pair recipient identity =
-      by_stanza Asks (λ r. BenchWraps) has_other_tag recipient identity
+      by_stanza (Steady (λ i. BenchAsks)) (λ r. BenchWraps) has_other_tag recipient identity
       (λ s answer after strange asked. inl (asked.0 ∙ over_other s (other_tag s strange), asked.1))
       (λ file_key wrapped sixteen wraps_so.
       let (draws, left, made) = wraps_so in
