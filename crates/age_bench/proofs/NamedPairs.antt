@@ -1,5 +1,5 @@
 -- What WITH names belongs to what TO names.
-use Rattle.std.specs.Prelude.{◌≡◌, ℕ, List, ◌++◌}
+use Rattle.std.specs.Prelude.{ℕ, List, ◌++◌}
 use Rattle.std.proofs.Common.{inl}
 use Rattle.age.specs.Belonging.{BelongsTo}
 use Rattle.age.specs.Stanza.{StanzaValue}
