@@ -96,6 +96,23 @@ def encrypted_to(recipient, draw, plain):
     return file(file_key, [x25519_stanza(file_key, recipient, ephemeral), GREASE], file_nonce, plain)
 
 
+def stretched(passphrase, salt, factor):
+    """A passphrase stretched with the salt of a stanza, under the bench suite."""
+    return mac(passphrase, b"age-encryption.org/v1/scrypt" + salt + bytes([factor]))
+
+
+def scrypt_stanza(file_key, passphrase, salt, factor):
+    """The stanza of a file key for a passphrase, under the bench suite."""
+    body = seal(stretched(passphrase, salt, factor), 0, False, file_key)
+    return stanza([b"scrypt", columns(salt), str(factor).encode()], body)
+
+
+def encrypted_under(passphrase, draw, plain, factor=10):
+    """The file of a plaintext for a passphrase, with these random bytes: 24 of them are the label, which no file shows."""
+    file_key, salt, file_nonce = draw[:16], draw[16:32], draw[56:72]
+    return file(file_key, [scrypt_stanza(file_key, passphrase, salt, factor)], file_nonce, plain)
+
+
 LETTERS = "qpzry9x8gf2tvdw0s3jn54khce6mua7l"
 
 

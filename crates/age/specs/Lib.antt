@@ -96,8 +96,11 @@ pub use Rattle.age_format.specs.Belonging
 pub use Rattle.age_format.specs.BelongingLaws
 pub use Rattle.age_format.specs.Boxed
 -- keys: age_keys
+pub use Rattle.age_keys.specs.OwnType
 pub use Rattle.age_keys.specs.X25519
 pub use Rattle.age_keys.specs.X25519Laws
+pub use Rattle.age_keys.specs.Scrypt
+pub use Rattle.age_keys.specs.ScryptLaws
 pub use Rattle.age_keys.specs.KeyTexts
 pub use Rattle.age_keys.specs.PluginKeys
 -- files: age_protocol

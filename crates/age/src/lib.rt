@@ -112,6 +112,16 @@ pub mod x25519 {
     }
 }
 
+/// Passphrases: recipients and identities of the type scrypt.
+pub mod scrypt {
+    pub use age_keys::scrypt::{Identity, Recipient};
+
+    /// What is true of them, for proofs alone.
+    pub mod laws {
+        pub use age_keys::scrypt::scrypt_pair;
+    }
+}
+
 /// Texts of the keys of plugins, and what a plugin's name is refused with.
 pub mod plugin {
     pub use age_error::resolve::ResolveError;

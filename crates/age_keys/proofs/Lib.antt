@@ -1,3 +1,4 @@
+pub mod OwnTypes
 pub mod Strings
 pub mod Asking
 pub mod Shares
@@ -8,3 +9,5 @@ pub mod ReadBack
 pub mod Unwrapped
 pub mod Matching
 pub mod Names
+pub mod Factors
+pub mod Stretched

@@ -1,7 +1,6 @@
 -- An X25519 identity belongs to its recipient.
-use Rattle.std.specs.Prelude.{◌≡◌, ◌≢◌, ◌⊎◌, ℕ, Bool, true, false, not, List, [], Option, None, Some, Err, IsTrue, bytes_eq, codes}
-use Rattle.std.proofs.Common.{◌∙◌, ap, inl, inr}
-use Rattle.std.proofs.lemmas.Slice.Eq.{bytes_eq-Decides}
+use Rattle.std.specs.Prelude.{◌≡◌, ◌⊎◌, ℕ, List, [], Option, None, Some, Err, IsTrue, codes}
+use Rattle.std.proofs.Common.{◌∙◌, inl, inr}
 use Rattle.age_error.specs.Bytes.{AreBytesOf}
 use Rattle.age_error.specs.DecryptErrors.{OutOfMemory}
 use Rattle.age_suite.specs.Suite.{IsCipher, IsAgreement}
@@ -10,39 +9,27 @@ use Rattle.age_format.specs.Wrapping.{WrapAnswer}
 use Rattle.age_format.specs.Unwrapping.{UnwrapAnswer, FirstOf}
 use Rattle.age_format.specs.Belonging.{AnswersBeside, BelongsTo}
 use Rattle.age_format.specs.BelongingLaws.{OpensFirst, beside, by_stanza}
-use Rattle.age_keys.specs.X25519.{WrapsFor, opened_with, UnwrapsBy}
+use Rattle.age_keys.specs.X25519.{HasShare, WrapsFor, opened_with, UnwrapsBy}
 use Rattle.age_keys.specs.X25519Laws.{has_other_tag, IsPassedOver, PassesUnopened}
+use Rattle.age_keys.proofs.OwnTypes.{unchanged, passes_other as other_passed, answers_own}
 use Rattle.age_keys.proofs.Unwrapped.{one_share, unwraps_what_it_wraps}
-
-not_so : (b : Bool) → IsTrue (not b) → b ≢ true
-not_so true strange = absurd (Prim.cc)
-not_so false strange = λ is. absurd (Prim.cc)
-
-other_tag : (s : StanzaValue) → IsTrue (has_other_tag s) → s.tag ≢ codes "X25519"
-other_tag s strange same = not_so (bytes_eq s.tag (codes "X25519")) strange ((bytes_eq-Decides s.tag (codes "X25519")).1 same)
-
--- nothing was answered, and nothing changed
-unchanged : (secret after : List ℕ) (answer : UnwrapAnswer) → after ≡ secret → (answer ≡ None) ⊎ (answer ≡ Some (Err OutOfMemory))
-    → ((answer ≡ None) × (after ≡ secret)) ⊎ (answer ≡ Some (Err OutOfMemory))
-unchanged secret after answer same (inl none) = inl (none, same)
-unchanged secret after answer same (inr want) = inr want
 
 module _ (opened : List ℕ → List ℕ → List ℕ → Option (List ℕ)) (shared_of : List ℕ → List ℕ → List ℕ) (public_of : List ℕ → List ℕ) where
   abbrev Passes : List ℕ → StanzaValue → Type 0
   Passes = IsPassedOver opened shared_of public_of
 
   passes_other : (secret : List ℕ) (s : StanzaValue) → IsTrue (has_other_tag s) → Passes secret s
-  passes_other secret s other answer (inl passed) = inl passed.1
-  passes_other secret s other answer (inr own) = absurd (other_tag s other own.0)
+  passes_other secret s other answer asked = other_passed HasShare (opened_with opened shared_of public_of secret) (codes "X25519") s answer other asked
+
+  nothing : (made answer : UnwrapAnswer) → made ≡ None → (answer ≡ made) ⊎ (answer ≡ Some (Err OutOfMemory)) → (answer ≡ None) ⊎ (answer ≡ Some (Err OutOfMemory))
+  nothing made answer none (inl is) = inl (is ∙ none)
+  nothing made answer none (inr want) = inr want
 
   pub passes_unopened : (secret : List ℕ) → PassesUnopened opened shared_of public_of secret
-  passes_unopened secret s share tag has shut answer (inl other) = absurd (other.0 tag)
-  passes_unopened secret s share tag has shut answer (inr (own, inl none)) = absurd (none.0 share has)
-  passes_unopened secret s share tag has shut answer (inr (own, inr (inl found))) =
-      let (other_share, of_other, is) = found in
-      let same : other_share ≡ share = one_share share other_share s has.bytes.bytes has.args of_other in
-      inl (is ∙ ap (λ x. opened_with opened shared_of public_of secret x s.body) same ∙ shut)
-  passes_unopened secret s share tag has shut answer (inr (own, inr (inr want))) = inr want
+  passes_unopened secret s share tag has shut answer asked =
+      nothing (opened_with opened shared_of public_of secret share s.body) answer shut
+      (answers_own HasShare (opened_with opened shared_of public_of secret) (codes "X25519") s share answer tag has
+      (λ other of_other. one_share share other s has.bytes.bytes has.args of_other) asked)
 
   module _ (seal_of : List ℕ → List ℕ → List ℕ → List ℕ) (cipher : IsCipher seal_of opened) (agreement : IsAgreement shared_of public_of) (secret : List ℕ)
       (bytes : AreBytesOf 32 secret) where

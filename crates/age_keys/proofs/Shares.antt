@@ -1,8 +1,7 @@
 -- A share is told by a stanza in one way.
-use Rattle.std.proofs.Common.{◌≡◌, ◌≢◌, ℕ, List, [], ◌∷◌, length, ap, sym, ◌∙◌, Option, Some, None, MatchOption}
-use Rattle.age_error.specs.Bytes.{AreBytes, AreBytesOf}
+use Rattle.std.proofs.Common.{◌≡◌, ℕ, List, [], ◌∷◌, length, ap, sym, ◌∙◌, Option, Some, None, MatchOption}
+use Rattle.age_error.specs.Bytes.{AreBytesOf}
 use Rattle.age_base64.specs.Base64.{columns}
-use Rattle.age_base64.proofs.Columns.{columns_same}
 use Rattle.age_format.specs.Stanza.{StanzaValue}
 use Rattle.age_keys.specs.X25519.{HasShare}
 
@@ -22,10 +21,6 @@ no_share s argument are none share h = none share h.bytes (sym (argument_is s ar
 pub has_share : (s : StanzaValue) (argument share : List ℕ) → s.args ≡ argument ∷ [] → AreBytesOf 32 share → columns share ≡ argument → length s.body ≡ 32
     → HasShare share s
 has_share s argument share are bytes is body = record { args = are ∙ ap (λ a. a ∷ []) (sym is); bytes = bytes; body = body }
-
--- base64 of other than 32 bytes
-pub other_length : (bytes share text : List ℕ) → AreBytes bytes → columns bytes ≡ text → length bytes ≢ 32 → AreBytesOf 32 share → columns share ≡ text → ⊥
-other_length bytes share text b is other h same = other (ap length (columns_same bytes share b h.bytes (is ∙ sym same)) ∙ h.len)
 
 -- what is found of an argument is found of its stanza
 pub found_share : (s : StanzaValue) (argument : List ℕ) (found : Option (List ℕ)) → s.args ≡ argument ∷ [] → length s.body ≡ 32

@@ -1,6 +1,6 @@
 -- What an X25519 recipient wraps its identity unwraps.
 use Rattle.std.proofs.Common.{◌≡◌, ◌⊎◌, inl, inr, ℕ, ◌+◌, ◌∙◌, Bool, true, false, List, [], ◌∷◌, length, take, drop, ap, sym, refl, Option, Some, None, Result, Ok, Err, MatchOption, if◌then◌else◌, nat_le}
-use Rattle.std.specs.Prelude.{bytes_eq}
+use Rattle.std.specs.Prelude.{bytes_eq, codes}
 use Rattle.age_error.specs.Bytes.{AreBytes, AreBytesOf}
 use Rattle.age_error.specs.EncryptErrors.{EncryptRefusal, ShortRandom, OutOfMemory, ZeroSharedSecret}
 use Rattle.age_error.specs.DecryptErrors.{OutOfMemory as out_of_memory}
@@ -13,25 +13,27 @@ use Rattle.age_format.specs.Stanza.{StanzaValue}
 use Rattle.age_format.specs.Wrapping.{Wrapped}
 use Rattle.age_format.specs.Unwrapping.{UnwrapAnswer}
 use Rattle.age_format.specs.Drawing.{Ends, After}
-use Rattle.age_keys.specs.X25519.{wrap_key, no_nonce, no_secret, x25519_stanza, HasShare, WrapsWith, wrapped_with, opened_with, UnwrapsBy}
+use Rattle.age_keys.specs.OwnType.{no_nonce}
+use Rattle.age_keys.specs.X25519.{wrap_key, no_secret, x25519_stanza, HasShare, WrapsWith, wrapped_with, opened_with, UnwrapsBy}
 use Rattle.age_keys.specs.X25519Laws.{UnwrapsWhatItWraps}
 use Rattle.age_keys.proofs.Opening.{no_nonce-bytes}
+use Rattle.age_keys.proofs.OwnTypes.{answers_own}
 
 -- two equal successes
-same_ok : (a b : Wrapped) → Path (Result Wrapped EncryptRefusal) (Ok a) (Ok b) → a ≡ b
+pub same_ok : (a b : Wrapped) → Path (Result Wrapped EncryptRefusal) (Ok a) (Ok b) → a ≡ b
 same_ok a b is = cc
 
-not_err : {P : Type 0} (a : Wrapped) (e : EncryptRefusal) → Path (Result Wrapped EncryptRefusal) (Ok a) (Err e) → P
+pub not_err : {P : Type 0} (a : Wrapped) (e : EncryptRefusal) → Path (Result Wrapped EncryptRefusal) (Ok a) (Err e) → P
 not_err a e is = absurd (Prim.cc)
 
 -- what came after a value that was due is that value
-was_due : (due : Result Wrapped EncryptRefusal) (draws left : List ℕ) (wrapped : Wrapped) → After due (λ w. Ends (Ok w)) draws (Ok wrapped) left → due ≡ Ok wrapped
+pub was_due : (due : Result Wrapped EncryptRefusal) (draws left : List ℕ) (wrapped : Wrapped) → After due (λ w. Ends (Ok w)) draws (Ok wrapped) left → due ≡ Ok wrapped
 was_due (Err e) draws left wrapped h = not_err wrapped e h.0
 was_due (Ok w) draws left wrapped (inl h) = sym h.0
 was_due (Ok w) draws left wrapped (inr h) = not_err wrapped OutOfMemory h.0
 
 -- bytes were drawn
-drawn : (enough : Bool) (n : ℕ) (goes_on : List ℕ → List ℕ → Result Wrapped EncryptRefusal → List ℕ → Type 0) (draws left : List ℕ) (wrapped : Wrapped)
+pub drawn : (enough : Bool) (n : ℕ) (goes_on : List ℕ → List ℕ → Result Wrapped EncryptRefusal → List ℕ → Type 0) (draws left : List ℕ) (wrapped : Wrapped)
     → MatchOption (if enough then Some (take n draws) else None) (Ends (Err ShortRandom) draws (Ok wrapped) left)
     (λ bytes. goes_on bytes (if enough then drop n draws else draws) (Ok wrapped) left) → (enough ≡ true) × goes_on (take n draws) (drop n draws) (Ok wrapped) left
 drawn true n goes_on draws left wrapped h = (refl, h)
@@ -85,15 +87,17 @@ module _ (seal_of : List ℕ → List ℕ → List ℕ → List ℕ) (opened : L
         let whole : opened key no_nonce sealed ≡ Some file_key = (cipher.opens_exactly key no_nonce sealed file_key key-bytes no_nonce-bytes sealed-size.bytes).1 (f.bytes, refl) in
         rw (alike, other, whole) refl
 
+    key_or_want : bytes_eq shared no_secret ≡ false → (answer : UnwrapAnswer) → (answer ≡ opened_with opened shared_of public_of secret share sealed) ⊎ (answer ≡ Some (Err out_of_memory))
+        → (answer ≡ Some (Ok file_key)) ⊎ (answer ≡ Some (Err out_of_memory))
+    key_or_want other answer (inl is) = inl (is ∙ opens other)
+    key_or_want other answer (inr want) = inr want
+
     answered : bytes_eq shared no_secret ≡ false → (answer : UnwrapAnswer) → UnwrapsBy opened shared_of public_of secret stanza answer
         → (answer ≡ Some (Ok file_key)) ⊎ (answer ≡ Some (Err out_of_memory))
-    answered other answer (inl tag) = absurd (tag.0 refl)
-    answered other answer (inr (tag, inl none)) = absurd (none.0 share has_share)
-    answered other answer (inr (tag, inr (inl found))) =
-        let (other_share, has, is) = found in
-        let same : other_share ≡ share = one_share share other_share stanza has_share.bytes.bytes refl has in
-        inl (is ∙ ap (λ x. opened_with opened shared_of public_of secret x sealed) same ∙ opens other)
-    answered other answer (inr (tag, inr (inr want))) = inr want
+    answered other answer asked =
+        key_or_want other answer
+        (answers_own HasShare (opened_with opened shared_of public_of secret) (codes "X25519") stanza share answer refl has_share
+        (λ other_share of_other. one_share share other_share stanza has_share.bytes.bytes refl of_other) asked)
 
   pub unwraps_what_it_wraps : UnwrapsWhatItWraps seal_of opened shared_of public_of
   unwraps_what_it_wraps secret file_key draws left wrapped s wraps =

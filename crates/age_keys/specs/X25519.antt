@@ -1,24 +1,21 @@
 -- The X25519 recipient type (age-encryption.org/v1, section "The X25519 recipient type"). Under "standard" stands what it asks, in
 -- our words. Keys, shares and shared secrets are lists of 32 bytes.
-use Rattle.std.specs.Prelude.{◌≡◌, ◌≢◌, ◌⊎◌, ℕ, List, [], ◌∷◌, ◌++◌, length, replicate, codes, bytes_eq, if◌then◌else◌, Option, Some, None, option_map, Result, Ok, Err}
+use Rattle.std.specs.Prelude.{◌≡◌, ℕ, List, [], ◌∷◌, ◌++◌, length, replicate, codes, bytes_eq, if◌then◌else◌, Option, Some, option_map, Result, Ok, Err}
 use Rattle.age_error.specs.Bytes.{AreBytesOf}
 use Rattle.age_error.specs.EncryptErrors.{EncryptRefusal, ZeroSharedSecret}
-use Rattle.age_error.specs.DecryptErrors.{InvalidHeader, OutOfMemory}
+use Rattle.age_error.specs.DecryptErrors.{InvalidHeader}
 use Rattle.age_suite.specs.Mac.{hkdf_of}
 use Rattle.age_base64.specs.Base64.{columns}
 use Rattle.age_format.specs.Stanza.{StanzaValue}
 use Rattle.age_format.specs.Wrapping.{Wrapped, WrapAnswer}
 use Rattle.age_format.specs.Unwrapping.{UnwrapAnswer}
 use Rattle.age_format.specs.Drawing.{Ends, After, WithDrawn}
+use Rattle.age_keys.specs.OwnType.{no_nonce, UnwrapsType}
 
 -- the key that a file key is sealed with
 -- standard: HKDF-SHA-256 of the shared secret, with the share and then the recipient as salt and the name of the type as info
 abbrev pub wrap_key : List ℕ → List ℕ → List ℕ → List ℕ
 wrap_key share recipient shared = hkdf_of (share ++ recipient) (codes "age-encryption.org/v1/X25519") shared
-
--- standard: the nonce is 12 zero bytes, since each wrap key is used once
-abbrev pub no_nonce : List ℕ
-no_nonce = replicate 12 0
 
 -- the secret that everybody can share: both sides abort at it
 -- standard: where the shared secret is all zeros, abort
@@ -65,15 +62,6 @@ module _ (opened : List ℕ → List ℕ → List ℕ → Option (List ℕ)) (sh
       if bytes_eq shared no_secret then Some (Err InvalidHeader)
       else option_map Ok (opened (wrap_key share (public_of secret) shared) no_nonce body)
 
-  -- to a stanza with the tag of this type: where it lacks what the type asks it is refused, else its share and its body decide;
-  -- memory can be refused
-  abbrev pub UnwrapsOwn : List ℕ → StanzaValue → UnwrapAnswer → Type 0
-  UnwrapsOwn secret s answer =
-      (((share : List ℕ) → HasShare share s → ⊥) × (answer ≡ Some (Err InvalidHeader)))
-      ⊎ ((share : List ℕ) × HasShare share s × (answer ≡ opened_with secret share s.body))
-      ⊎ (answer ≡ Some (Err OutOfMemory))
-
-  -- What an identity answers to a stanza: one with another tag is passed over.
+  -- What an identity answers to a stanza.
   abbrev pub UnwrapsBy : List ℕ → StanzaValue → UnwrapAnswer → Type 0
-  UnwrapsBy secret s answer =
-      ((s.tag ≢ codes "X25519") × (answer ≡ None)) ⊎ ((s.tag ≡ codes "X25519") × UnwrapsOwn secret s answer)
+  UnwrapsBy secret = UnwrapsType HasShare (opened_with secret) (codes "X25519")

@@ -2,6 +2,8 @@
 #![tactic(auto)]
 
 pub mod plugin;
+pub mod scrypt;
+mod stanzas;
 mod texts;
 pub mod x25519;
 

@@ -52,8 +52,8 @@ pub fn grease(alloc: Global) -> Result<Grease, Fail> {
     }
 }
 
-// A stanza of a tag, with these arguments and this body.
-fn stanza(alloc: Global, tag: &str, arguments: &[&str], body: &[u8]) -> Result<Stanza, Fail> {
+/// A stanza of a tag, with these arguments and this body.
+pub fn stanza(alloc: Global, tag: &str, arguments: &[&str], body: &[u8]) -> Result<Stanza, Fail> {
     let mut args = Vec::new(alloc);
     for argument in arguments {
         args.push(String::from_str(alloc, argument)?)?;

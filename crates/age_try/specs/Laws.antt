@@ -1,9 +1,9 @@
 -- The other suite keeps the laws of a suite.
-use Rattle.std.specs.Prelude.{◌≡◌, ℕ, ◌+◌, ◌-◌, ◌%◌, ◌<◌, ◌^◌, ◌≤◌, ◌↔◌, Bool, true, false, List, [], ◌∷◌, ◌++◌, length, take, drop, ◌&&◌, if◌then◌else◌, Some, None, refl}
+use Rattle.std.specs.Prelude.{◌≡◌, ℕ, ◌+◌, ◌-◌, ◌%◌, ◌<◌, ◌^◌, ◌≤◌, ◌↔◌, Bool, true, false, List, [], ◌∷◌, ◌++◌, length, take, drop, replicate, ◌&&◌, if◌then◌else◌, Some, None, refl}
 use Rattle.std.proofs.Common.{sym, ◌∙◌, arith, add-zero, add_assoc}
 use Rattle.std.proofs.Math.Numerals.{one-add}
 use Rattle.std.proofs.lemmas.List.{length-take-le, length-append, length-map, take_at, drop_at, take-append-drop}
-use Rattle.std.proofs.lemmas.List.Elements.{All-nil, All-cons, All-head, All-tail, All-append, All-take, All-drop, All-map, All-weaker}
+use Rattle.std.proofs.lemmas.List.Elements.{All-nil, All-cons, All-head, All-tail, All-append, All-take, All-drop, All-map, All-weaker, All-replicate}
 use Rattle.std.proofs.lemmas.Bool.{le-leb}
 use Rattle.std.proofs.lemmas.Slice.Eq.{bytes_eq-Decides}
 use Rattle.age.specs.Bytes.{AreBytes, AreBytesOf}
@@ -154,3 +154,12 @@ other_agreement = record { alike = other_shared_alike; public_is_bytes = other_p
 
 pub other_stretching : IsStretching other_stretch other_accepts
 other_stretching passphrase salt factor p s f accepted = hkdf_of-bytes salt (factor ∷ []) passphrase
+
+-- ---- the suite that stretches no passphrase
+
+-- what it would stretch each to
+abbrev pub zeros : List ℕ → List ℕ → ℕ → List ℕ
+zeros passphrase salt factor = replicate 32 0
+
+pub zeros_stretching : IsStretching zeros (λ factor. true)
+zeros_stretching passphrase salt factor p s small accepts = record { len = refl; bytes = All-replicate (λ x. x < 2 ^ 8) 32 0 (omega arith) }

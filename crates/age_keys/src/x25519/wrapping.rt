@@ -5,9 +5,11 @@ ghost use Rattle.age_error.specs.EncryptErrors.{encrypt_refusal};
 ghost use Rattle.age_error.specs.Bytes.{AreBytesOf};
 ghost use Rattle.age_base64.specs.Base64.{columns};
 ghost use Rattle.age_format.specs.Drawing.{IsOrNoMemory};
-ghost use Rattle.age_keys.specs.X25519.{wrap_key, no_nonce, x25519_stanza, HasShare};
+ghost use Rattle.age_keys.specs.OwnType.{no_nonce};
+ghost use Rattle.age_keys.specs.X25519.{wrap_key, x25519_stanza, HasShare};
 
-use age_base64::{decode_columns, encode_columns};
+use crate::stanzas::{decode_argument, seal_stanza};
+use age_base64::encode_columns;
 use age_error::EncryptError;
 use age_error::bytes::known_array;
 use age_format::Stanza;
@@ -21,9 +23,6 @@ pub(crate) const TAG: &str = "X25519";
 
 /// The secret that both sides abort at.
 pub(crate) const NO_SECRET: [u8; 32] = [0; 32];
-
-/// The nonce of each seal: a wrap key is used once.
-pub(crate) const NO_NONCE: [u8; 12] = [0; 12];
 
 /// The key that a file key is sealed with, of a share, a recipient and the secret that they share.
 pub(crate) fn wrap_key(share: &[u8; 32], recipient: &[u8; 32], shared: &[u8; 32]) -> [u8; 32]
@@ -47,14 +46,9 @@ pub(crate) fn stanza_of<S: Suite>(
         (result_map_both (λ s. s) (λ e. encrypt_refusal e) result) }
 {
     known_array(share);
-    let body = S::seal(alloc, wrap_key, &NO_NONCE, file_key.expose_secret())?;
-    let tag = String::from_str(alloc, TAG)?;
     let mut args = Vec::new(alloc);
     args.push(encode_columns(alloc, share)?)?;
-    match Stanza::new(tag, args, body) {
-        Some(stanza) => Ok(stanza),
-        None => unreachable!(),
-    }
+    seal_stanza::<S>(alloc, TAG, args, wrap_key, file_key)
 }
 
 // The argument of a stanza that has one.
@@ -69,22 +63,6 @@ fn one_argument(stanza: &Stanza) -> Option<&str>
     }
 }
 
-// The 32 bytes whose base64 a text is.
-fn decode_share(alloc: Global, text: &str) -> Result<Option<[u8; 32]>, AllocError>
-    ensures { IfOk result (λ found. MatchOption found ((share : List ℕ) → AreBytesOf 32 share → columns share ≡ text.now → ⊥)
-        (λ share. AreBytesOf 32 share × (columns share ≡ text.now))) }
-{
-    let Some(bytes) = decode_columns(alloc, text.as_bytes())? else {
-        return Ok(None);
-    };
-    if bytes.len() != 32 {
-        return Ok(None);
-    }
-    let mut share = [0; 32];
-    share.copy_from_slice(bytes.as_slice());
-    Ok(Some(share))
-}
-
 /// The share of a stanza, or `None` where it lacks what this type asks: one argument, the base64 of 32 bytes, and a body of 32
 /// bytes.
 pub(crate) fn share_of(alloc: Global, stanza: &Stanza) -> Result<Option<[u8; 32]>, AllocError>
@@ -96,5 +74,5 @@ pub(crate) fn share_of(alloc: Global, stanza: &Stanza) -> Result<Option<[u8; 32]
     if stanza.body().len() != 32 {
         return Ok(None);
     }
-    decode_share(alloc, argument)
+    decode_argument::<32>(alloc, argument)
 }

@@ -1,6 +1,6 @@
 use Rattle.std.proofs.Common.{◌∙◌, sym, ap, length}
 use Rattle.age_keys.proofs.Opening.{sixteen}
-use Rattle.age_keys.proofs.x25519.unwrapping.open_file_key.Goals as goal
+use Rattle.age_keys.proofs.stanzas.open_file_key.Goals as goal
 
 pub unreachable-requires : goal.unreachable-requires
 unreachable-requires g c =

@@ -1,0 +1,121 @@
+//! Files for a passphrase, and passphrases beside other recipients. The expected bytes are those of Python, from the format's own words.
+
+use crate::scrypt_tests::passphrase;
+use crate::x25519_tests::{grease, identity_of};
+use age::draw::Draw;
+use age::scrypt::{Identity, Recipient};
+use age::{
+    DecryptError, EncryptError, Encryptor, Recipient as AnyRecipient, decrypt, encrypt,
+    encrypt_and_armor,
+};
+use age_bench::suite::BenchSuite;
+use age_try::fixtures::{MESSAGE, zeros};
+use age_try::scripted::ScriptedRecipient;
+use std::alloc::{AllocError, Global};
+use std::collections::BTreeSet;
+use std::process::Abort;
+use std::test::Fail;
+
+// The header of the message's file for `correct horse` with the work factor 10 and random bytes that are zero.
+const HEADER: &[u8] =
+    b"age-encryption.org/v1\n-> scrypt AAAAAAAAAAAAAAAAAAAAAA 10\nXMo9UYTFFgkpCpmsdHlIM5/W0hYXn1BbZnv0Q3kl82o\n--- OYcv5rOrwoJ2JGRsY7wui/ipHM33H1JfEIQQIqZefyE\n";
+
+fn recipient(alloc: Global) -> Result<Recipient<BenchSuite>, AllocError> {
+    Ok(Recipient::new(passphrase(alloc, "correct horse")?, 10))
+}
+
+// The file has no grease, since the stanza of a passphrase stands alone.
+#[test]
+fn a_message_has_its_file(rt: HostRuntime) -> Result<(), Fail> {
+    let alloc = rt.alloc();
+    let file = encrypt::<BenchSuite, Recipient<BenchSuite>>(
+        alloc,
+        &recipient(alloc)?,
+        MESSAGE,
+        &mut zeros(alloc, 72)?,
+        grease(alloc)?,
+    )?;
+    assert_eq!(rt; file.len(), 218);
+    assert!(rt; file.starts_with(HEADER));
+    let mut identity = Identity::<BenchSuite>::new(passphrase(alloc, "correct horse")?, 18);
+    let plain = decrypt::<BenchSuite, Identity<BenchSuite>>(alloc, &mut identity, &file)?;
+    assert!(rt; plain.as_slice() == MESSAGE);
+    Ok(())
+}
+
+#[test]
+fn another_passphrase_fails(rt: HostRuntime) -> Result<(), Fail> {
+    let alloc = rt.alloc();
+    let text = encrypt_and_armor::<BenchSuite, Recipient<BenchSuite>>(
+        alloc,
+        &recipient(alloc)?,
+        MESSAGE,
+        &mut zeros(alloc, 72)?,
+        grease(alloc)?,
+    )?;
+    assert_eq!(rt; text.len(), 365);
+    let mut identity = Identity::<BenchSuite>::new(passphrase(alloc, "correct horse")?, 18);
+    let plain = decrypt::<BenchSuite, Identity<BenchSuite>>(alloc, &mut identity, text.as_bytes())?;
+    assert!(rt; plain.as_slice() == MESSAGE);
+    let mut other = Identity::<BenchSuite>::new(passphrase(alloc, "correct horse ")?, 18);
+    let refused = decrypt::<BenchSuite, Identity<BenchSuite>>(alloc, &mut other, text.as_bytes());
+    assert!(rt; matches!(refused, Err(DecryptError::DecryptionFailed)));
+    Ok(())
+}
+
+// Recipients are refused since a passphrase is among them and others are, and so many of 104 random bytes are left.
+fn mixed(
+    rt: &impl Abort,
+    alloc: Global,
+    recipients: &[Box<dyn AnyRecipient>],
+    left: usize,
+) -> Result<(), Fail> {
+    let mut draw = Draw::new(vec![in alloc; 0; 104]?);
+    let refused = Encryptor::<BenchSuite>::with_recipients(
+        alloc,
+        recipients,
+        &mut draw,
+        grease(alloc)?,
+    );
+    assert!(rt; matches!(refused, Err(EncryptError::MixedRecipientAndPassphrase)));
+    assert_eq!(rt; draw.left(), left);
+    Ok(())
+}
+
+// A recipient without labels whose one stanza has the tag `scrypt`.
+fn unlabelled(alloc: Global) -> Result<ScriptedRecipient, AllocError> {
+    Ok(ScriptedRecipient {
+        tag: Some(String::from_str(alloc, "scrypt")?),
+        draws: false,
+        labels: BTreeSet::new(alloc),
+    })
+}
+
+// 16 bytes go to the file key, 32 to an X25519 recipient, 40 to a passphrase.
+#[test]
+fn a_passphrase_stands_alone(rt: HostRuntime) -> Result<(), Fail> {
+    let alloc = rt.alloc();
+    let key = identity_of(&rt, alloc, &[1; 32])?.to_public();
+    let mut recipients: Vec<Box<dyn AnyRecipient>> = Vec::new(alloc);
+    recipients.push(Box::new(alloc, key)?)?;
+    recipients.push(Box::new(alloc, recipient(alloc)?)?)?;
+    mixed(&rt, alloc, &recipients, 16)?;
+    let mut first: Vec<Box<dyn AnyRecipient>> = Vec::new(alloc);
+    first.push(Box::new(alloc, recipient(alloc)?)?)?;
+    first.push(Box::new(alloc, identity_of(&rt, alloc, &[1; 32])?.to_public())?)?;
+    mixed(&rt, alloc, &first, 16)
+}
+
+#[test]
+fn two_passphrases_are_mixed(rt: HostRuntime) -> Result<(), Fail> {
+    let alloc = rt.alloc();
+    let mut both: Vec<Box<dyn AnyRecipient>> = Vec::new(alloc);
+    both.push(Box::new(alloc, recipient(alloc)?)?)?;
+    both.push(Box::new(alloc, recipient(alloc)?)?)?;
+    // (Random bytes that are all zero give both the same label.)
+    mixed(&rt, alloc, &both, 8)?;
+    let mut without: Vec<Box<dyn AnyRecipient>> = Vec::new(alloc);
+    without.push(Box::new(alloc, identity_of(&rt, alloc, &[1; 32])?.to_public())?)?;
+    without.push(Box::new(alloc, unlabelled(alloc)?)?)?;
+    mixed(&rt, alloc, &without, 56)
+}

@@ -1,0 +1,233 @@
+//! Recipients and identities of a passphrase. The expected bytes are those of Python, from the format's own words.
+
+use crate::x25519_tests::stanza;
+use age::draw::Draw;
+use age::format::Stanza;
+use age::scrypt::{Identity, Recipient};
+use age::secrecy::{FileKey, SecretString};
+use age::suite::Suite;
+use age::{DecryptError, Identity as _, Recipient as _};
+use age_bench::suite::BenchSuite;
+use age_try::never_stretches::NeverStretches;
+use std::alloc::{AllocError, Global};
+use std::process::Abort;
+use std::test::Fail;
+
+// A salt of zeros, and what is sealed under `correct horse` with it and the work factor 10: a file key of zeros.
+const SALT: &str = "AAAAAAAAAAAAAAAAAAAAAA";
+
+const SEALED: [u8; 32] = [
+    0x5c, 0xca, 0x3d, 0x51, 0x84, 0xc5, 0x16, 0x09, 0x29, 0x0a, 0x99, 0xac, 0x74, 0x79, 0x48, 0x33,
+    0x9f, 0xd6, 0xd2, 0x16, 0x17, 0x9f, 0x50, 0x5b, 0x66, 0x7b, 0xf4, 0x43, 0x79, 0x25, 0xf3, 0x6a,
+];
+
+// 24 zeros in base64.
+const LABEL: &str = "AAAAAAAAAAAAAAAAAAAAAAAAAAAAAAAA";
+
+/// A passphrase.
+pub fn passphrase(alloc: Global, text: &str) -> Result<SecretString, AllocError> {
+    Ok(SecretString::from(String::from_str(alloc, text)?))
+}
+
+// What an identity that is meant for a work factor of 18 answers to a stanza of the type with these arguments and this body: nothing, a
+// key of zeros, or a refusal with this text.
+fn answers(
+    rt: &impl Abort,
+    alloc: Global,
+    arguments: &[&str],
+    body: &[u8],
+    expected: Result<(), &str>,
+) -> Result<(), Fail> {
+    let mut identity = Identity::<BenchSuite>::new(passphrase(alloc, "correct horse")?, 18);
+    match identity.unwrap_stanza(alloc, &stanza(alloc, "scrypt", arguments, body)?) {
+        None => panic!(rt; "passed over"),
+        Some(Ok(key)) => {
+            assert_eq!(rt; expected, Ok(()));
+            assert!(rt; *key.expose_secret() == [0; 16]);
+        }
+        Some(Err(error)) => assert_eq!(rt; expected, Err(error.to_string(alloc)?.as_str())),
+    }
+    Ok(())
+}
+
+#[test]
+fn a_stanza_opens(rt: HostRuntime) -> Result<(), Fail> {
+    let alloc = rt.alloc();
+    answers(&rt, alloc, &[SALT, "10"], &SEALED, Ok(()))?;
+    // Another factor or body.
+    answers(&rt, alloc, &[SALT, "9"], &SEALED, Err("decryption failed"))?;
+    answers(
+        &rt,
+        alloc,
+        &[SALT, "10"],
+        &[0; 32],
+        Err("decryption failed"),
+    )
+}
+
+#[test]
+fn other_types_are_passed_over(rt: HostRuntime) -> Result<(), Fail> {
+    let alloc = rt.alloc();
+    let mut identity = Identity::<BenchSuite>::new(passphrase(alloc, "correct horse")?, 18);
+    for tag in ["Scrypt", "scrypt2", "X25519"] {
+        let stanza = stanza(alloc, tag, &[SALT, "10"], &SEALED)?;
+        assert!(rt; identity.unwrap_stanza(alloc, &stanza).is_none());
+    }
+    Ok(())
+}
+
+#[test]
+fn arguments_are_judged(rt: HostRuntime) -> Result<(), Fail> {
+    let alloc = rt.alloc();
+    let bad = Err("invalid header");
+    for factor in ["0", "010", "10x", "256", "+10", "-1", "1e1", "1000"] {
+        answers(&rt, alloc, &[SALT, factor], &SEALED, bad)?;
+    }
+    answers(&rt, alloc, &[], &SEALED, bad)?;
+    answers(&rt, alloc, &[SALT], &SEALED, bad)?;
+    answers(&rt, alloc, &[SALT, "10", "10"], &SEALED, bad)?;
+    answers(&rt, alloc, &["10", SALT], &SEALED, bad)
+}
+
+// 21 columns, 15 bytes, 17 bytes, padding, and unused bits that aren't zero.
+#[test]
+fn salts_and_bodies_are_judged(rt: HostRuntime) -> Result<(), Fail> {
+    let alloc = rt.alloc();
+    let bad = Err("invalid header");
+    for salt in [
+        "AAAAAAAAAAAAAAAAAAAAA",
+        "AAAAAAAAAAAAAAAAAAAA",
+        "AAAAAAAAAAAAAAAAAAAAAAA",
+        "AAAAAAAAAAAAAAAAAAAAAA==",
+        "AAAAAAAAAAAAAAAAAAAAAB",
+    ] {
+        answers(&rt, alloc, &[salt, "10"], &SEALED, bad)?;
+    }
+    answers(&rt, alloc, &[SALT, "10"], &[0; 31], bad)?;
+    answers(&rt, alloc, &[SALT, "10"], &[0; 33], bad)
+}
+
+// 22 is the largest that is taken, and the bench suite accepts 20 at most.
+#[test]
+fn large_work_factors_are_refused(rt: HostRuntime) -> Result<(), Fail> {
+    let alloc = rt.alloc();
+    answers(&rt, alloc, &[SALT, "20"], &SEALED, Err("decryption failed"))?;
+    answers(
+        &rt,
+        alloc,
+        &[SALT, "21"],
+        &SEALED,
+        Err("excessive work factor 21, target 18"),
+    )?;
+    answers(
+        &rt,
+        alloc,
+        &[SALT, "25"],
+        &SEALED,
+        Err("excessive work factor 25, target 18"),
+    )?;
+    answers(
+        &rt,
+        alloc,
+        &[SALT, "255"],
+        &SEALED,
+        Err("excessive work factor 255, target 18"),
+    )
+}
+
+// An identity that takes factors up to four above its target, or up to another one that it is told.
+#[test]
+fn the_largest_work_factor_can_be_set(rt: HostRuntime) -> Result<(), Fail> {
+    let alloc = rt.alloc();
+    let stanza = stanza(alloc, "scrypt", &[SALT, "10"], &SEALED)?;
+    let mut identity = Identity::<BenchSuite>::new(passphrase(alloc, "correct horse")?, 6);
+    assert!(rt; matches!(identity.unwrap_stanza(alloc, &stanza), Some(Ok(_))));
+    identity.set_max_work_factor(9);
+    let refused = identity.unwrap_stanza(alloc, &stanza);
+    assert!(rt;
+        matches!(
+            refused,
+            Some(Err(DecryptError::ExcessiveWork {
+                required: 10,
+                target: 6
+            }))
+        )
+    );
+    identity.set_max_work_factor(10);
+    assert!(rt; matches!(identity.unwrap_stanza(alloc, &stanza), Some(Ok(_))));
+    Ok(())
+}
+
+// A factor that is too large is refused by an identity whose suite stretches nothing, as are arguments that aren't those of the type: no
+// passphrase was stretched. One within the bound would be.
+#[test]
+fn no_work_is_done_above_the_largest_factor(rt: HostRuntime) -> Result<(), Fail> {
+    let alloc = rt.alloc();
+    let mut identity = Identity::<NeverStretches>::new(passphrase(alloc, "correct horse")?, 5);
+    let refused = identity.unwrap_stanza(alloc, &stanza(alloc, "scrypt", &[SALT, "10"], &SEALED)?);
+    assert!(rt;
+        matches!(
+            refused,
+            Some(Err(DecryptError::ExcessiveWork {
+                required: 10,
+                target: 5
+            }))
+        )
+    );
+    let bad = identity.unwrap_stanza(alloc, &stanza(alloc, "scrypt", &[SALT, "09"], &SEALED)?);
+    assert!(rt; matches!(bad, Some(Err(DecryptError::InvalidHeader))));
+    let want = identity.unwrap_stanza(alloc, &stanza(alloc, "scrypt", &[SALT, "9"], &SEALED)?);
+    assert!(rt; matches!(want, Some(Err(DecryptError::OutOfMemory))));
+    Ok(())
+}
+
+// A file key of zeros is wrapped with random bytes that are zero, of which so many are left, or refused with this text.
+fn wraps<S: Suite>(
+    rt: &impl Abort,
+    alloc: Global,
+    recipient: &Recipient<S>,
+    random: usize,
+    expected: Result<&Stanza, &str>,
+    left: usize,
+) -> Result<(), Fail> {
+    let mut draw = Draw::new(vec![in alloc; 0; random]?);
+    match recipient.wrap_file_key(alloc, &FileKey::new([0; 16]), &mut draw) {
+        Ok((stanzas, labels)) => {
+            assert_eq!(rt; stanzas.len(), 1);
+            assert!(rt; matches!(expected, Ok(stanza) if stanzas[0] == *stanza));
+            assert_eq!(rt; labels.len(), 1);
+            assert!(rt; labels.iter().all(|label| label.as_str() == LABEL));
+        }
+        Err(error) => {
+            let text = error.to_string(alloc)?;
+            assert!(rt; matches!(expected, Err(refusal) if text.as_str() == refusal));
+        }
+    }
+    assert_eq!(rt; draw.left(), left);
+    Ok(())
+}
+
+#[test]
+fn file_keys_are_wrapped(rt: HostRuntime) -> Result<(), Fail> {
+    let alloc = rt.alloc();
+    let expected = stanza(alloc, "scrypt", &[SALT, "10"], &SEALED)?;
+    let short = Err("random bytes ran out");
+    let mut recipient = Recipient::<BenchSuite>::new(passphrase(alloc, "correct horse")?, 10);
+    wraps(&rt, alloc, &recipient, 40, Ok(&expected), 0)?;
+    wraps(&rt, alloc, &recipient, 41, Ok(&expected), 1)?;
+    for (random, left) in [(0, 0), (15, 15), (16, 0), (39, 23)] {
+        wraps(&rt, alloc, &recipient, random, short, left)?;
+    }
+    recipient.set_work_factor(21);
+    wraps(&rt, alloc, &recipient, 56, Err("work factor refused"), 16)?;
+    wraps(&rt, alloc, &recipient, 39, short, 23)
+}
+
+// All is drawn before a passphrase is stretched.
+#[test]
+fn draws_come_before_the_work(rt: HostRuntime) -> Result<(), Fail> {
+    let alloc = rt.alloc();
+    let recipient = Recipient::<NeverStretches>::new(passphrase(alloc, "correct horse")?, 10);
+    wraps(&rt, alloc, &recipient, 39, Err("random bytes ran out"), 23)?;
+    wraps(&rt, alloc, &recipient, 40, Err("out of memory"), 0)
+}
