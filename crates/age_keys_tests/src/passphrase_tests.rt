@@ -2,14 +2,18 @@
 
 use crate::scrypt_tests::passphrase;
 use crate::x25519_tests::{grease, identity_of};
+use age::armor::ArmoredReader;
 use age::draw::Draw;
+use age::format::HeaderV1;
+use age::io::Bytes;
 use age::scrypt::{Identity, Recipient};
 use age::{
-    DecryptError, EncryptError, Encryptor, Recipient as AnyRecipient, decrypt, encrypt,
-    encrypt_and_armor,
+    DecryptError, EncryptError, Encryptor, Identity as _, Recipient as AnyRecipient, decrypt,
+    encrypt, encrypt_and_armor,
 };
 use age_bench::suite::BenchSuite;
 use age_try::fixtures::{MESSAGE, zeros};
+use age_try::never_stretches::NeverStretches;
 use age_try::scripted::ScriptedRecipient;
 use std::alloc::{AllocError, Global};
 use std::collections::BTreeSet;
@@ -118,4 +122,52 @@ fn two_passphrases_are_mixed(rt: HostRuntime) -> Result<(), Fail> {
     without.push(Box::new(alloc, identity_of(&rt, alloc, &[1; 32])?.to_public())?)?;
     without.push(Box::new(alloc, unlabelled(alloc)?)?)?;
     mixed(&rt, alloc, &without, 56)
+}
+
+// The armor of a header whose one stanza has the type scrypt and the work factor 10, with a MAC that is nobody's, and 32 zeros after it.
+const ARMORED: &[u8] =
+    b"-----BEGIN AGE ENCRYPTED FILE-----\nYWdlLWVuY3J5cHRpb24ub3JnL3YxCi0+IHNjcnlwdCBza2I4R0t6L2NLT2s4cGlI\nTTRGRjFRIDEwCkFBQUFBQUFBQUFBQUFBQUFBQUFBQUFBQUFBQUFBQUFBQUFBQUFB\nQUFBQUEKLS0tIEFBQUFBQUFBQUFBQUFBQUFBQUFBQUFBQUFBQUFBQUFBQUFBQUFB\nQUFBQUEKAAAAAAAAAAAAAAAAAAAAAAAAAAAAAAAAAAAAAAAAAAA=\n-----END AGE ENCRYPTED FILE-----\n";
+
+// A file with that stanza twice.
+const TWICE: &[u8] =
+    b"age-encryption.org/v1\n-> scrypt skb8GKz/cKOk8piHM4FF1Q 10\nAAAAAAAAAAAAAAAAAAAAAAAAAAAAAAAAAAAAAAAAAAA\n-> scrypt skb8GKz/cKOk8piHM4FF1Q 10\nAAAAAAAAAAAAAAAAAAAAAAAAAAAAAAAAAAAAAAAAAAA\n--- AAAAAAAAAAAAAAAAAAAAAAAAAAAAAAAAAAAAAAAAAAA\n\0\0\0\0\0\0\0\0\0\0\0\0\0\0\0\0\0\0\0\0\0\0\0\0\0\0\0\0\0\0\0\0";
+
+#[test]
+fn a_stanza_is_read_through_armor(rt: HostRuntime) -> Result<(), Fail> {
+    let alloc = rt.alloc();
+    let mut reader = ArmoredReader::new_buffered(alloc, Bytes::new(ARMORED))?;
+    let header = HeaderV1::read(alloc, &mut reader)?;
+    let [stanza] = header.stanzas() else {
+        return Err(Fail::from("not one stanza"));
+    };
+    assert_eq!(rt; stanza.tag(), "scrypt");
+    let [salt, factor] = stanza.args() else {
+        return Err(Fail::from("not two arguments"));
+    };
+    assert_eq!(rt; salt.as_str(), "skb8GKz/cKOk8piHM4FF1Q");
+    assert_eq!(rt; factor.as_str(), "10");
+    let mut identity = Identity::<BenchSuite>::new(passphrase(alloc, "p")?, 5);
+    let refused = identity.unwrap_stanza(alloc, stanza);
+    assert!(rt;
+        matches!(
+            refused,
+            Some(Err(DecryptError::ExcessiveWork {
+                required: 10,
+                target: 5
+            }))
+        )
+    );
+    Ok(())
+}
+
+// Two stanzas of passphrases break the rule, and no passphrase is stretched: the suite would have no memory for it, as it hasn't for one.
+#[test]
+fn no_work_is_done_where_the_rule_is_broken(rt: HostRuntime) -> Result<(), Fail> {
+    let alloc = rt.alloc();
+    let mut identity = Identity::<NeverStretches>::new(passphrase(alloc, "correct horse")?, 18);
+    let want = decrypt::<NeverStretches, Identity<NeverStretches>>(alloc, &mut identity, ARMORED);
+    assert!(rt; matches!(want, Err(DecryptError::OutOfMemory)));
+    let refused = decrypt::<NeverStretches, Identity<NeverStretches>>(alloc, &mut identity, TWICE);
+    assert!(rt; matches!(refused, Err(DecryptError::InvalidHeader)));
+    Ok(())
 }
