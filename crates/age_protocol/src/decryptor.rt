@@ -1,14 +1,7 @@
 //! Decrypting a file.
-ghost use Rattle.std.specs.Prelude.{◌≡◌, ◌<◌, IsTrue, Ok, IfOk, IfErr};
-ghost use Rattle.age_error.specs.Bytes.{AreBytesOf};
-ghost use Rattle.age_error.specs.DecryptErrors.{decrypt_refusal, IsInterruptedRefusal};
-ghost use Rattle.age_io.specs.Reading.{AddsNoReason, TriedAgain, most_faults};
-ghost use Rattle.age_format.specs.Header.{KeepsScryptRule};
-ghost use Rattle.age_format.specs.HeaderV1.{reads_legacy};
+ghost use Rattle.std.specs.Prelude.{Ok};
 ghost use Rattle.age_format.specs.Unwrapping.{UnwrapAnswer, Unwraps};
 ghost use Rattle.age_protocol.specs.Answering.{FirstThatAnswers, decided};
-ghost use Rattle.age_io.specs.Keeping.{SameReader};
-ghost use Rattle.age_protocol.specs.Decrypting.{ReadsFront, RefusesFront};
 ghost use Rattle.age_protocol.specs.OpeningFile.{Decrypts};
 
 use crate::answering::{file_key_by_one, file_key_of};
@@ -32,7 +25,7 @@ pub struct Decryptor<S, R> {
 }
 
 impl<S: Suite, R: Read + Drop> Decryptor<S, R> {
-    ghost use Rattle.age_protocol.specs.Decryptor.{header_of, nonce_of, input_of};
+    ghost use Rattle.age_protocol.specs.Decryptor.{header_of, nonce_of, input_of, OpensFront};
 
     /// Reads the header and the nonce of 16 bytes from the front of the input, and no byte after them. The header may be in
     /// the legacy form, as by `HeaderV1::read`, and its MAC then covers the bytes as they were read.
@@ -41,15 +34,7 @@ impl<S: Suite, R: Read + Drop> Decryptor<S, R> {
     /// the header `Io(UnexpectedEof)`, or the reader's own refusal where it doesn't end well; `InvalidHeader` where a stanza
     /// with the tag `scrypt` stands beside another. `OutOfMemory` where memory is refused. After a refusal the reader is gone.
     pub fn new(alloc: Global, input: R) -> Result<Self, DecryptError>
-        ensures keeps { IfOk result (λ d. SameReader ⟦<R as Read>⟧ input (input_of d)) }
-        ensures narrows { IfOk result (λ d. AddsNoReason (TriedAgain R.refuses) input (input_of d)) }
-        ensures unspent { IfOk result (λ d. R.faults (input_of d) < most_faults) }
-        ensures sixteen { IfOk result (λ d. AreBytesOf 16 (nonce_of d)) }
-        ensures rule { IfOk result (λ d. KeepsScryptRule (header_of d).stanzas) }
-        ensures front { IsTrue (R.tells input) → IfOk result (λ d.
-            ReadsFront reads_legacy (R.rest input) (R.rest (input_of d)) (R.place input) (R.place (input_of d)) (header_of d) (nonce_of d)) }
-        ensures patient { IfErr result (λ e. IsInterruptedRefusal (decrypt_refusal e) → ⊥) }
-        ensures refused { IfErr result (λ e. (last : R) × RefusesFront ⟦<R as Read>⟧ input last (decrypt_refusal e)) }
+        ensures { OpensFront ⟦<R as Read>⟧ input result }
     {
         let mut input = input;
         let header = HeaderV1::read(alloc, &mut input)?;
