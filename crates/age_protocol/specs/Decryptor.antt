@@ -29,7 +29,7 @@ pub record OpensFront {S R : Type 0} (read : Ghosts R) (input : R) (result : Res
   pub keeps : IfOk result (λ d. SameReader read input (input_of d))
   pub narrows : IfOk result (λ d. AddsNoReason (TriedAgain read.refuses) input (input_of d))
   pub unspent : IfOk result (λ d. read.faults (input_of d) < most_faults)
-  -- the nonce has 16 bytes, and a stanza of a passphrase is the only one
+  -- the nonce has 16 bytes, and no stanza of a passphrase stands beside another
   pub sixteen : IfOk result (λ d. AreBytesOf 16 (nonce_of d))
   pub rule : IfOk result (λ d. KeepsScryptRule (header_of d).stanzas)
   -- of a reader that tells its bytes: the header and the nonce were taken from the front of its rest, and no byte more

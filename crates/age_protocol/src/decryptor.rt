@@ -9,7 +9,7 @@ use crate::keys::payload_key_of;
 use age_error::DecryptError;
 use age_error::bytes::known_array;
 use age_format::{HeaderV1, Identity};
-use age_io::{Read, read_exact};
+use age_io::{BufRead, Read, read_exact};
 use age_stream::reader::StreamReader;
 use age_suite::secrecy::FileKey;
 use age_suite::suite::Suite;
@@ -111,6 +111,21 @@ impl<S: Suite, R: Read + Drop> Decryptor<S, R> {
         let key = payload_key_of(file_key, &nonce);
         let reader = StreamReader::with_payload_key(alloc, key, input)?;
         Ok(reader)
+    }
+}
+
+impl<S: Suite, R: BufRead + Drop> Decryptor<S, R> {
+    ghost use Rattle.age_protocol.specs.Decryptor.{OpensFront};
+
+    /// `new` for a reader with a buffer of its own, which stands exactly after the nonce then.
+    ///
+    /// `new` takes the header byte by byte, and here each of these reads is one of the buffer. What the reader holds of the
+    /// payload it still holds afterwards, so nothing that it read ahead is lost. The refusals are those of `new`, in the same
+    /// order. After a refusal the reader is gone.
+    pub fn new_buffered(alloc: Global, input: R) -> Result<Self, DecryptError>
+        ensures { OpensFront ⟦<R as Read>⟧ input result }
+    {
+        Decryptor::new(alloc, input)
     }
 }
 

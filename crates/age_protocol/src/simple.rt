@@ -113,7 +113,7 @@ fn open_file<S: Suite, I: Identity>(
 {
     known_bytes(file);
     let input = ArmoredReader::new_buffered(alloc, Bytes::new(file))?;
-    let decryptor = Decryptor::<S, ArmoredReader<Bytes>>::new(alloc, input)?;
+    let decryptor = Decryptor::<S, ArmoredReader<Bytes>>::new_buffered(alloc, input)?;
     let mut reader = decryptor.decrypt_one(alloc, identity)?;
     let mut plaintext = Vec::new(alloc);
     read_to_end(alloc, &mut reader, &mut plaintext)?;
@@ -126,7 +126,7 @@ fn open_file<S: Suite, I: Identity>(
 /// A success says that the bytes carry a file of exactly this plaintext, under the file key that the identity got from the
 /// header's stanzas, with the right MAC. The refusals, in the order in which they are looked for:
 ///
-/// - those of `Decryptor::new`; the identity isn't asked then. Fewer than 36 bytes are `Io(UnexpectedEof)`, whatever they
+/// - those of `Decryptor::new_buffered`; the identity isn't asked then. Fewer than 36 bytes are `Io(UnexpectedEof)`, whatever they
 ///   are. `Io(Armor(..))` where the armor has a fault before the nonce ends.
 /// - the identity's own, `NoMatchingKeys` where it answers `None`, and `InvalidMac` where the header's MAC is wrong under
 ///   its file key.
