@@ -129,6 +129,20 @@ impl<S: Suite, R: BufRead + Drop> Decryptor<S, R> {
     }
 }
 
+impl<S, R> Decryptor<S, R> {
+    ghost use Rattle.std.specs.Prelude.{◌↔◌, IsTrue};
+    ghost use Rattle.age_format.specs.HeaderV1.{IsScrypt};
+    ghost use Rattle.age_protocol.specs.Decryptor.{header_of};
+
+    /// Whether the file is one of a passphrase: whether its header's only stanza has the tag `scrypt` (age-encryption.org/v1,
+    /// "The scrypt recipient type"). It takes no memory.
+    pub fn is_scrypt(&self) -> bool
+        ensures { IsTrue result ↔ IsScrypt (header_of self.now).stanzas }
+    {
+        self.header.is_scrypt()
+    }
+}
+
 impl<S, R: Drop> Drop for Decryptor<S, R> {
     fn drop(self) {
         let Decryptor {
