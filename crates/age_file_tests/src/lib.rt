@@ -4,6 +4,8 @@
 #[cfg(test)]
 mod both_suites_tests;
 #[cfg(test)]
+mod buffered_tests;
+#[cfg(test)]
 mod file_tests;
 #[cfg(test)]
 mod legacy_tests;
