@@ -1,5 +1,5 @@
 //! Encrypting a file.
-ghost use Rattle.std.specs.Prelude.{◌≡◌, ◌≢◌, ℕ, List, [], ◌++◌, Some, Ok, IsTrue, IfOk, OnOk, IfErr};
+ghost use Rattle.std.specs.Prelude.{◌≡◌, ◌≢◌, ◌≤◌, ℕ, List, [], ◌∷◌, ◌++◌, Some, None, Ok, IsTrue, IfOk, OnOk, IfErr};
 ghost use Rattle.age_error.specs.Bytes.{AreBytes};
 ghost use Rattle.age_error.specs.Refusals.{IsInterruption};
 ghost use Rattle.age_error.specs.declared.io.Error.TheVariants.{OutOfMemory};
@@ -7,6 +7,7 @@ ghost use Rattle.age_protocol.specs.Answers.{encrypt_answer};
 ghost use Rattle.age_format.specs.Header.{header_text, IsHeader, KeepsScryptRule};
 ghost use Rattle.age_format.specs.HeaderV1.{reads_legacy};
 ghost use Rattle.age_format.specs.Drawing.{IsOrNoMemory};
+ghost use Rattle.age_keys.specs.Scrypt.{WrapsUnder};
 ghost use Rattle.age_protocol.specs.Encrypting.{Prepares};
 ghost use Rattle.age_io.specs.Writing.{WritesAll, Retried, OrMemory};
 ghost use Rattle.age_protocol.specs.File.{file_text, IsFileOf};
@@ -20,11 +21,12 @@ use age_format::{
     Grease, HeaderV1, Recipient, Stanza, canonical_text_is_text, canonical_text_reads_back,
 };
 use age_io::{Write, write_all};
+use age_keys::scrypt;
 use age_stream::laws::payload_laws;
 use age_stream::writer::{ChunkRoom, StreamWriter};
 use age_suite::draw::Draw;
 use age_suite::mac::mac_laws;
-use age_suite::secrecy::FileKey;
+use age_suite::secrecy::{FileKey, SecretString};
 use age_suite::suite::Suite;
 use std::alloc::Global;
 use std::marker::{Model, PhantomData};
@@ -117,6 +119,34 @@ impl<S: Suite> Encryptor<S> {
         ensures { Prepares R.wraps recipients.now (Some grease) draw.old (encrypt_answer result) draw.new }
     {
         prepare(alloc, recipients, draw, Some(grease))
+    }
+
+    /// `with_recipients` for the one recipient of a passphrase, `scrypt::Recipient`, with a work factor from 1 to 63
+    /// (age-encryption.org/v1, "The scrypt recipient type"): the suite's scrypt works on 2^`log_n` blocks. The header has the
+    /// recipient's stanza alone, and no grease.
+    ///
+    /// A file key of 16 bytes is drawn, then a salt of 16, a label of 24 and a nonce of 16. The refusals, in the order in which they
+    /// are looked for:
+    ///
+    /// - `ShortRandom`: fewer bytes are left than the file key, the salt or the label takes next.
+    /// - `WorkFactorRefused`: the suite doesn't accept the work factor.
+    /// - `ShortRandom`: fewer than 16 bytes are left for the nonce.
+    ///
+    /// `OutOfMemory` can come where the passphrase is stretched, where the stanza and its label are made or kept, and where the
+    /// header is made. After a refusal `draw` has lost what was taken before it.
+    pub fn with_user_passphrase(
+        alloc: Global,
+        passphrase: SecretString,
+        log_n: u8,
+        draw: &mut Draw,
+    ) -> Result<Encryptor<S>, EncryptError>
+        requires some { 1 ≤ log_n }
+        requires most { log_n ≤ 63 }
+        ensures { Prepares (WrapsUnder S.seal_of S.stretch_of S.accepts) (record { passphrase = passphrase; factor = log_n } ∷ []) None
+            draw.old (encrypt_answer result) draw.new }
+    {
+        let recipient = scrypt::Recipient::<S>::new(passphrase, log_n);
+        prepare(alloc, &[recipient], draw, None)
     }
 
     // With the canonical header of the stanzas, whose MAC is that under the file key.
