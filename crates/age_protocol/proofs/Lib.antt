@@ -18,3 +18,4 @@ pub mod Standing
 pub mod Alone
 pub mod Belonging
 pub mod Reasons
+pub mod Knowing

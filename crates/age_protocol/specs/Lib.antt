@@ -15,4 +15,5 @@ pub mod DecryptingStreams
 pub mod Opened
 pub mod Parts
 pub mod Several
+pub mod Passphrases
 pub mod Laws

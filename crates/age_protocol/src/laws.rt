@@ -4,6 +4,7 @@ ghost use Rattle.std.specs.List.{Contains};
 ghost use Rattle.age_error.specs.Labels.{labels_of};
 ghost use Rattle.age_protocol.specs.Labels.{same_labels};
 ghost use Rattle.age_protocol.specs.Several.{HoldAnswers, OneDecrypts, AnyDecrypts};
+ghost use Rattle.age_protocol.specs.Passphrases.{PassphraseDecrypts};
 ghost use Rattle.age_protocol.specs.Laws.{ReadsBack, RefusesNoFile, FileOpens, FileIsContent, OneHeader, OnePlain, CarriesItself, GivesBack, RefusesNone};
 
 use age_armor::{carried_is_delivered, carried_is_unique};
@@ -84,6 +85,12 @@ pub fn several_recipients<S: Suite, T: Recipient, I: Identity>()
     ensures stanzas { HoldAnswers T.wraps }
     ensures one { OneDecrypts I.unwraps S.seal_of }
     ensures any { AnyDecrypts T.wraps I.unwraps S.seal_of }
+{}
+
+/// A file by `Encryptor::with_user_passphrase` is one for each identity that has the passphrase and takes its work factor. So
+/// `decrypt` with that identity gives its plaintext.
+pub fn passphrase_files<S: Suite>()
+    ensures { PassphraseDecrypts ⟦<S as Suite>⟧ }
 {}
 
 /// Labels are compared as sets: two sets are the same, by their texts in order, exactly where each has the labels of the
