@@ -120,4 +120,5 @@ pub use Rattle.age_protocol.specs.DecryptingStreams
 pub use Rattle.age_protocol.specs.Opened
 pub use Rattle.age_protocol.specs.Parts
 pub use Rattle.age_protocol.specs.Several
+pub use Rattle.age_protocol.specs.Passphrases
 pub use Rattle.age_protocol.specs.Laws as FileLaws

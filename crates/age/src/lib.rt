@@ -16,7 +16,7 @@ pub use age_protocol::simple::{decrypt, encrypt, encrypt_and_armor};
 pub mod laws {
     pub use age_protocol::laws::{
         carried_files, file_opens, files_carry_themselves, front_is_accepted, front_reads_back,
-        labels_are_sets, one_plaintext, several_recipients,
+        labels_are_sets, one_plaintext, passphrase_files, several_recipients,
     };
 }
 

@@ -1,5 +1,10 @@
 -- Recipients and identities that belong together.
-use Rattle.std.specs.Prelude.{◌≡◌, ℕ, List, Some, Ok}
+use Rattle.std.specs.Prelude.{◌≡◌, ℕ, ◌^◌, ◌≤◌, List, length, Some, Ok}
+use Rattle.age.specs.Bytes.{AreBytes}
+use Rattle.age.specs.Armor.{Carries}
+use Rattle.age.specs.HeaderV1.{reads_legacy}
+use Rattle.age.specs.Payload.{Seal}
+use Rattle.age.specs.File.{IsFileOf}
 use Rattle.age.specs.Stanza.{StanzaValue}
 use Rattle.age.specs.Wrapping.{WrapAnswer}
 use Rattle.age.specs.Unwrapping.{UnwrapAnswer, Unwraps}
@@ -14,3 +19,10 @@ GiveKeysBack {R} {I} wraps unwraps recipients grease identities =
     → Prepares wraps recipients (Some grease) draws (Ok file) left
     → FirstThatAnswers (λ identity answer next. Unwraps unwraps identity file.stanzas answer next) identities (Some (Ok file_key)) after
     → file_key ≡ file.file_key
+
+-- The bytes are the file of a plaintext that was prepared for, which is within the limit, and carry themselves.
+pub record IsWhole (seal_of : Seal) (prepared : Prepared) (plain file : List ℕ) : Type 0 where
+  pub bytes : AreBytes plain
+  pub within : length plain ≤ 2 ^ 60
+  pub is_file : IsFileOf reads_legacy seal_of prepared.file_key prepared.stanzas plain file
+  pub carries : Carries file file
