@@ -12,6 +12,8 @@ mod legacy_tests;
 #[cfg(test)]
 mod other_suite_tests;
 #[cfg(test)]
+mod passphrase_tests;
+#[cfg(test)]
 mod recipient_tests;
 #[cfg(test)]
 mod whole_file_tests;
