@@ -134,7 +134,7 @@ fn is_identity(alloc: Global, with: &With) -> Result<bool, AllocError> {
             let text = identity.to_string(alloc)?;
             Ok(text.expose_secret() == IDENTITY)
         }
-        With::Bench => Ok(false),
+        With::Bench | With::Passphrase(_) => Ok(false),
     }
 }
 
