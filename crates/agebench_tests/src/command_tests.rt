@@ -117,7 +117,8 @@ fn asked_to(command: Option<Command>) -> Option<To> {
 
 // The command of these words encrypts to the recipient.
 fn is_to_recipient(rt: &impl Abort, alloc: Global, line: &str) -> Result<(), Fail> {
-    match asked_to(parsed(alloc, line)?) {
+    let to = asked_to(parsed(alloc, line)?);
+    match &to {
         Some(To::Key(recipient)) => {
             let text = recipient.to_string(alloc)?;
             assert_eq!(rt; text.as_str(), RECIPIENT);
