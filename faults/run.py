@@ -28,6 +28,7 @@ EARLY = "input ended early"
 NO_KEYS = "no matching keys"
 NO_RANDOM = "random bytes ran out"
 ZERO_SHARED = "shared secret is zero"
+FAILED = "decryption failed"
 PAST_END = "cannot seek past the end"
 BASE64 = "invalid base64 in armor"
 BEGIN_MARKER = "invalid armor begin marker"
@@ -41,6 +42,7 @@ DRAW = bytes(range(100, 132))
 SECRET, KEY_DRAW = bytes(range(50, 82)), bytes(range(100, 164))
 RECIPIENT = second.bech32("age", second.public(SECRET))
 IDENTITY = second.bech32("age-secret-key-", SECRET).upper()
+PASSPHRASE, LONG_DRAW = "correct horse", bytes(range(100, 172))
 USAGE = ("usage: agebench seal|open KEY, encrypt TO DRAW [armor], decrypt WITH, at WITH PLACE COUNT, "
          "keygen DRAW\n")
 
@@ -347,6 +349,71 @@ def injected_keys(runs):
     devices(runs, words, b"")
 
 
+def passphrases(runs):
+    """Files for a passphrase, and stanzas that are none of its."""
+    plain = random.Random(6).randbytes(200000)
+    for passphrase in [PASSPHRASE, "", "pass=x", " two  spaces ", "\u5bc6\u7801"]:
+        word, whole = f"pass={passphrase}".encode(), second.encrypted_under(passphrase.encode(), LONG_DRAW, plain)
+        runs.answers(f"encrypt to {word}", ["encrypt", word, LONG_DRAW.hex()], plain, whole)
+        runs.answers(f"encrypt to {word} in armor", ["encrypt", word, LONG_DRAW.hex(), "armor"], plain, armor(whole))
+        for given in [whole, armor(whole)]:
+            runs.answers(f"decrypt with {word}", ["decrypt", word], given, plain)
+            runs.answers(f"at with {word}", ["at", word, "70000", "10"], given, plain[70000:70010])
+            runs.refuses(f"decrypt with another than {word}", ["decrypt", word + b"x"], given, b"", FAILED)
+            for other in ["bench", IDENTITY]:
+                runs.refuses(f"decrypt with {other} what is for {word}", ["decrypt", other], given, b"", NO_KEYS)
+    encrypt, decrypt = ["encrypt", f"pass={PASSPHRASE}"], ["decrypt", f"pass={PASSPHRASE}"]
+    for words, given in [("bench", second.encrypted(DRAW, plain)), ("a key", second.encrypted_to(second.public(SECRET), KEY_DRAW, plain))]:
+        runs.refuses(f"decrypt with a passphrase what is for {words}", decrypt, given, b"", NO_KEYS)
+    for count in [0, 15, 16, 31, 32, 55, 56, 71]:
+        runs.refuses(f"encrypt to a passphrase with {count} random bytes", encrypt + [LONG_DRAW[:count].hex()], plain, b"", NO_RANDOM)
+    runs.answers("encrypt to a passphrase with a byte too many", encrypt + [LONG_DRAW.hex() + "ff"], plain,
+                 second.encrypted_under(PASSPHRASE.encode(), LONG_DRAW, plain))
+    key, salt, name = LONG_DRAW[:16], LONG_DRAW[16:32], LONG_DRAW[56:]
+    written = second.columns(salt)
+
+    def sealed(factor):
+        return second.seal(second.stretched(PASSPHRASE.encode(), salt, factor), 0, False, key)
+
+    def of(words, body=sealed(10)):
+        return [stanza([b"scrypt", *words], body)]
+
+    for factor in [1, 9, 18, 20]:
+        runs.answers(f"decrypt with a passphrase a work factor of {factor}", decrypt,
+                     second.file(key, of([written, str(factor).encode()], sealed(factor)), name, plain), plain)
+    own = of([written, b"10"])
+    for words, stanzas, text in [
+            *[(f"the work factor {factor}", of([written, factor.encode()]), BAD_HEADER)
+              for factor in ["0", "00", "010", "10x", "x10", "256", "1000", "+10", "-10", "1e1", "0x0a"]],
+            *[(f"the work factor {factor}", of([written, str(factor).encode()], sealed(factor)), f"excessive work factor {factor}, target 18")
+              for factor in [21, 22, 23, 255]],
+            ("no arguments", of([]), BAD_HEADER), ("no work factor", of([written]), BAD_HEADER), ("a third argument", of([written, b"10", b"10"]), BAD_HEADER),
+            ("arguments exchanged", of([b"10", written]), BAD_HEADER), ("a salt of 15 bytes", of([second.columns(salt[:15]), b"10"]), BAD_HEADER),
+            ("a salt of 17 bytes", of([second.columns(salt + b"x"), b"10"]), BAD_HEADER), ("a salt with padding", of([written + b"==", b"10"]), BAD_HEADER),
+            ("a second spelling of a salt", of([b"AAAAAAAAAAAAAAAAAAAAAB", b"10"]), BAD_HEADER), ("another salt", of([second.columns(bytes(16)), b"10"]), FAILED),
+            ("another work factor", of([written, b"11"]), FAILED), ("a body that is no seal", of([written, b"10"], bytes(32)), FAILED),
+            ("a body of 31 bytes", of([written, b"10"], sealed(10)[:31]), BAD_HEADER), ("a body of 33 bytes", of([written, b"10"], sealed(10) + b"x"), BAD_HEADER),
+            ("a large work factor and a body of 31 bytes", of([written, b"23"], bytes(31)), BAD_HEADER),
+            ("its stanza twice", own + own, BAD_HEADER), ("grease beside it", own + [second.GREASE], BAD_HEADER), ("grease before it", [second.GREASE] + own, BAD_HEADER),
+            ("a tag in another case", [stanza([b"Scrypt", written, b"10"], sealed(10))], NO_KEYS)]:
+        runs.refuses(f"decrypt with a passphrase a file with {words}", decrypt, second.file(key, stanzas, name, plain), b"", text)
+    runs.refuses("decrypt with a passphrase a file with another MAC", decrypt,
+                 second.header(bytes(16), own) + name + second.payload(second.hkdf(name, b"payload", key), plain), b"", BAD_MAC)
+
+
+def injected_passphrases(runs):
+    """The commands with a passphrase where each request for memory, read and write fails in turn."""
+    short = b"This is a test message. For testing."
+    word, whole = f"pass={PASSPHRASE}", second.encrypted_under(PASSPHRASE.encode(), LONG_DRAW, short)
+    for name, words, given, want in [
+            ("encrypt to a passphrase", ["encrypt", word, LONG_DRAW.hex()], short, whole),
+            ("encrypt to a passphrase in armor", ["encrypt", word, LONG_DRAW.hex(), "armor"], short, armor(whole)),
+            ("decrypt with a passphrase", ["decrypt", word], whole, short), ("at with a passphrase", ["at", word, "5", "3"], armor(whole), b"is ")]:
+        runs.injected(name, words, given, want, "alloc", NO_MEMORY)
+        for call in ["read", "write"]:
+            runs.injected(name, words, given, want, call, DEVICE)
+
+
 def command_lines(runs):
     key = KEY.hex()
     lines = [[], ["--help"], ["seal"], ["open"], ["seal", key[:-1]], ["open", key + "0"], ["seal", key, "x"],
@@ -361,7 +428,9 @@ def command_lines(runs):
              ["encrypt", "A" + RECIPIENT[1:], "00"], ["encrypt", second.bech32("age", bytes(31)), "00"],
              ["encrypt", second.bech32("age1foobar", bytes(32)), "00"], ["decrypt", RECIPIENT], ["decrypt", IDENTITY[1:]],
              ["decrypt", second.bech32("age-secret-key-", bytes(33))], ["decrypt", second.bech32("age-plugin-foobar-", b"").upper()],
-             ["at", RECIPIENT, "0", "1"], ["at", IDENTITY[:-1], "0", "1"], [b"decrypt", IDENTITY.encode() + b"\xff"], [b"seal", b"\xff" * 64]]
+             ["at", RECIPIENT, "0", "1"], ["at", IDENTITY[:-1], "0", "1"], ["encrypt", "pass", "00"], ["encrypt", "Pass=x", "00"],
+             ["decrypt", "pass"], ["decrypt", "PASS=x"], ["at", "pass", "0", "1"], ["at", " pass=x", "0", "1"], ["encrypt", "pass=x", "0"],
+             ["at", "pass=x", "0"], [b"decrypt", b"pass=\xff"], [b"decrypt", IDENTITY.encode() + b"\xff"], [b"seal", b"\xff" * 64]]
     for words in lines:
         got = runs.run(words, b"abc")
         runs.judge(f"wrong command line {words}", got[:3] == (2, b"", USAGE), got)
@@ -445,6 +514,8 @@ def main():
         parts(runs)
         keys(runs)
         injected_keys(runs)
+        passphrases(runs)
+        injected_passphrases(runs)
         command_lines(runs)
         seek_memory(runs)
     print(f"{runs.passed} passed, {runs.failed} failed")

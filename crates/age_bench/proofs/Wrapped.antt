@@ -1,25 +1,32 @@
 -- What a file comes to that is encrypted to the one recipient that TO names.
-use Rattle.std.specs.Prelude.{◌≡◌, ◌≢◌, ◌⊎◌, ℕ, Bool, true, false, List, [], ◌∷◌, ◌++◌, length, take, drop, nat_le, bytes_eq, codes, Option, Some, None, Result, Ok, Err, if◌then◌else◌, MatchOption, refl}
+use Rattle.std.specs.Prelude.{◌≡◌, ◌⊎◌, ℕ, ◌<◌, Bool, true, false, ◌&&◌, List, [], ◌∷◌, ◌++◌, length, take, drop, nat_le, bytes_eq, Option, Some, None, Result, Ok, Err, if◌then◌else◌, MatchOption, refl}
+use Rattle.std.specs.List.{AllByRecursion, list_all}
 use Rattle.std.specs.Result.{result_map_both}
-use Rattle.std.proofs.Common.{◌∙◌, sym, ap, subst, inl, inr}
+use Rattle.std.proofs.Common.{◌∙◌, sym, ap, subst, inl, inr, arith}
+use Rattle.std.proofs.lemmas.Bool.{false≢true, le-leb, lt-ltb}
 use Rattle.age.specs.Bytes.{AreBytesOf}
-use Rattle.age.specs.EncryptErrors.{EncryptRefusal, OutOfMemory, ShortRandom, ZeroSharedSecret, encrypt_refusal}
+use Rattle.age.specs.Base64.{columns}
+use Rattle.age.proofs.Columns.{IsSymbol, columns_symbols, length-columns}
+use Rattle.age.specs.FormatBytes.{is_graphic, is_string_of}
+use Rattle.age.specs.EncryptErrors.{EncryptRefusal, OutOfMemory, ShortRandom, ZeroSharedSecret, WorkFactorRefused, InvalidRecipientLabels, encrypt_refusal}
 use Rattle.age.specs.FileErrors.{EncryptsUnless}
 use Rattle.age.specs.FileErrorVariants.{Io, Encrypt, Decrypt}
 use Rattle.age.specs.Types.{FileError}
 use Rattle.age.specs.Stanza.{StanzaValue}
 use Rattle.age.specs.Wrapping.{Wrapped, WrapAnswer}
-use Rattle.age.specs.RecipientLabels.{Gathered}
+use Rattle.age.specs.RecipientLabels.{Gathered, has_scrypt, judged, nothing_yet, with_labels}
 use Rattle.age.specs.Draw.{taken, left_after}
 use Rattle.age.specs.Drawing.{Ends, UnlessNoMemory, Then, After}
-use Rattle.age.specs.Encrypting.{Prepared, PreparesNonce, PreparesRest, PreparesWith, Prepares}
+use Rattle.age.specs.Encrypting.{Prepared, PreparesNonce, PreparesRest, PreparesWith, Prepares, WrapsInTurn}
+use Rattle.age.specs.Several.{grease_beside}
 use Rattle.age.specs.File.{file_text}
 use Rattle.age.specs.X25519.{wrapped_with, x25519_stanza, no_secret}
-use Rattle.age_bench.specs.Bench.{bench_seal, bench_shared, bench_public}
+use Rattle.age.specs.Scrypt.{PassphraseRecipient, WrapsWith, wrapped_under}
+use Rattle.age_bench.specs.Bench.{bench_seal, bench_shared, bench_public, bench_stretch, bench_accepts}
 use Rattle.age_bench.specs.Recipient.{bench_stanza, bench_grease}
-use Rattle.age_bench.specs.Names.{WrapsTo, drawn, and_then, wrapped_by, left_by, prepared_by, file_by}
+use Rattle.age_bench.specs.Names.{WrapsTo, drawn, and_then, wrapped_by, left_by, stanzas_beside, prepared_by, file_by}
 use Rattle.age_bench.specs.declared.names.To.{To}
-use Rattle.age_bench.specs.declared.names.To.TheVariants.{Bench, Key}
+use Rattle.age_bench.specs.declared.names.To.TheVariants.{Bench, Key, Passphrase}
 
 -- an outcome is what is due, or want of memory
 abbrev pub IsDue : {A : Type 0} → Result A EncryptRefusal → Result A EncryptRefusal → Type 0
@@ -51,20 +58,49 @@ nonce_due file_key stanzas draws left outcome h =
       | inr want ↦ inr want.0
     ]) h
 
--- one stanza that isn't of a passphrase, and no labels
-pub record IsOnePlain (wrapped : Wrapped) : Type 0 where
+-- one stanza, and labels that are strings
+pub record IsOne (wrapped : Wrapped) : Type 0 where
   pub stanza : StanzaValue
-  pub is : wrapped ≡ record { stanzas = stanza ∷ []; labels = [] }
-  pub plain : bytes_eq stanza.tag (codes "scrypt") ≡ false
+  pub labels : List (List ℕ)
+  pub is : wrapped ≡ record { stanzas = stanza ∷ []; labels = labels }
+  pub strings : list_all is_string_of labels ≡ true
+
+-- an answer where this is due, and these random bytes are left after a success
+pub record Answers (due : Result Wrapped EncryptRefusal) (kept : List ℕ) (answer : WrapAnswer) (left : List ℕ) : Type 0 where
+  pub is_due : IsDue due answer
+  pub left_is : (wrapped : Wrapped) → answer ≡ Ok wrapped → left ≡ kept
+  pub one : (wrapped : Wrapped) → answer ≡ Ok wrapped → IsOne wrapped
 
 -- what TO answers
-pub record Answered (to : To) (file_key draws : List ℕ) (answer : WrapAnswer) (left : List ℕ) : Type 0 where
-  pub due : IsDue (wrapped_by to file_key draws) answer
-  pub left_is : answer ≢ Err OutOfMemory → left ≡ left_by to draws
+abbrev Answered : To → List ℕ → List ℕ → WrapAnswer → List ℕ → Type 0
+Answered to file_key draws answer left = Answers (wrapped_by to file_key draws) (left_by to draws) answer left
+
+ok_same : {A : Type 0} (x y : A) → ◌≡◌ {A = Result A EncryptRefusal} (Ok x) (Ok y) → x ≡ y
+ok_same x y is = Prim.cc
+
+not_ok : {A P : Type 0} (x : A) (e : EncryptRefusal) → ◌≡◌ {A = Result A EncryptRefusal} (Err e) (Ok x) → P
+not_ok x e is = absurd (Prim.cc)
+
+-- what was wrapped was due
+was_due : (due : Result Wrapped EncryptRefusal) (wrapped : Wrapped) (answer : WrapAnswer) → IsDue due answer → answer ≡ Ok wrapped → due ≡ Ok wrapped
+was_due due wrapped answer (inl is) made = sym is ∙ made
+was_due due wrapped answer (inr want) made = not_ok wrapped OutOfMemory (sym want ∙ made)
+
+-- one stanza without labels
+plain_one : (stanza : StanzaValue) (wrapped : Wrapped) → ◌≡◌ {A = Result Wrapped EncryptRefusal} (Ok (record { stanzas = stanza ∷ []; labels = [] })) (Ok wrapped)
+    → IsOne wrapped
+plain_one stanza wrapped is = record { stanza = stanza; labels = []; is = sym (ok_same _ wrapped is); strings = refl }
+
+-- a refusal that is due, or want of memory
+refused_as : (e : EncryptRefusal) (due : Result Wrapped EncryptRefusal) (kept : List ℕ) (answer : WrapAnswer) (left : List ℕ) → answer ≡ Err e → IsDue due answer
+    → Answers due kept answer left
+refused_as e due kept answer left is so =
+    record { is_due = so; left_is = λ wrapped made. not_ok wrapped e (sym is ∙ made); one = λ wrapped made. not_ok wrapped e (sym is ∙ made) }
 
 bench_answered : (file_key draws : List ℕ) (answer : WrapAnswer) (left : List ℕ) → WrapsTo Bench file_key draws answer left → Answered Bench file_key draws answer left
-bench_answered file_key draws answer left (inl h) = record { due = inl h.0; left_is = λ _. h.1 }
-bench_answered file_key draws answer left (inr h) = record { due = inr h.0; left_is = λ other. absurd (other h.0) }
+bench_answered file_key draws answer left (inl h) =
+    record { is_due = inl h.0; left_is = λ _ _. h.1; one = λ wrapped is. plain_one (bench_stanza file_key) wrapped (sym h.0 ∙ is) }
+bench_answered file_key draws answer left (inr h) = refused_as OutOfMemory _ _ answer left h.0 (inr h.0)
 
 -- what came after a value that was due
 after_due : (due : Result Wrapped EncryptRefusal) (draws : List ℕ) (answer : WrapAnswer) (left : List ℕ) → After due (λ w. Ends (Ok w)) draws answer left
@@ -87,6 +123,16 @@ of_some : (bytes : Option (List ℕ)) (Short : Type 0) (A B C : List ℕ → Typ
 of_some None Short A B C h = h
 of_some (Some b) Short A B C h = ((h.0, h.1), h.2)
 
+key_one : (zero : Bool) (share body : List ℕ) (wrapped : Wrapped)
+    → (if zero then Err ZeroSharedSecret else Ok (record { stanzas = x25519_stanza share body ∷ []; labels = [] })) ≡ Ok wrapped → IsOne wrapped
+key_one true share body wrapped is = not_ok wrapped ZeroSharedSecret is
+key_one false share body wrapped is = plain_one (x25519_stanza share body) wrapped is
+
+drawn_one : (bytes : Option (List ℕ)) (due : List ℕ → Result Wrapped EncryptRefusal) (wrapped : Wrapped)
+    → ((b : List ℕ) → due b ≡ Ok wrapped → IsOne wrapped) → drawn bytes due ≡ Ok wrapped → IsOne wrapped
+drawn_one None due wrapped each is = not_ok wrapped ShortRandom is
+drawn_one (Some b) due wrapped each is = each b is
+
 key_answered : (public file_key draws : List ℕ) (answer : WrapAnswer) (left : List ℕ) → WrapsTo (Key public) file_key draws answer left
     → Answered (Key public) file_key draws answer left
 key_answered public file_key draws answer left h =
@@ -94,35 +140,63 @@ key_answered public file_key draws answer left h =
     let after : List ℕ → Type 0 = λ ephemeral. After (due ephemeral) (λ w. Ends (Ok w)) (left_after 32 draws) answer left in
     let known = of_some (taken 32 draws) (Ends (Err ShortRandom) draws answer left) (λ ephemeral. AreBytesOf 16 file_key) (λ ephemeral. AreBytesOf 32 ephemeral) after h in
     let (is, same) = drawn_answer (nat_le 32 (length draws)) 32 (λ ephemeral. AreBytesOf 16 file_key × AreBytesOf 32 ephemeral) due draws answer left known in
-    record { due = is; left_is = λ _. same }
+    record {
+      is_due = is;
+      left_is = λ _ _. same;
+      one = λ wrapped made.
+          drawn_one (taken 32 draws) due wrapped (λ ephemeral so. key_one (bytes_eq (bench_shared ephemeral public) no_secret) _ _ wrapped so)
+          (was_due (drawn (taken 32 draws) due) wrapped answer is made);
+    }
+
+-- ---- a passphrase
+
+both : {a b : Bool} → a ≡ true → b ≡ true → (a && b) ≡ true
+both is so = rw (is, so) refl
+
+graphic : (c : ℕ) → IsSymbol c → is_graphic c ≡ true
+graphic c h = both (le-leb 33 c (omega (arith, h.0))) (le-leb c 126 (omega (arith, h.1)))
+
+all_graphic : (xs : List ℕ) → AllByRecursion IsSymbol xs → list_all is_graphic xs ≡ true
+all_graphic [] h = refl
+all_graphic (x ∷ xs) h = both (graphic x h.0) (all_graphic xs h.1)
+
+-- the label is a string
+label_string : (label : List ℕ) → AreBytesOf 24 label → list_all is_string_of (columns label ∷ []) ≡ true
+label_string label h =
+    let size = length-columns label in
+    let some : 0 < length (columns label) = omega (arith, size, h.len) in
+    both (both (lt-ltb 0 (length (columns label)) some) (all_graphic (columns label) (columns_symbols label h.bytes))) refl
+
+passphrase_one : (accepts : Bool) (stanza : StanzaValue) (label : List ℕ) (wrapped : Wrapped) → AreBytesOf 24 label
+    → (if accepts then Ok (record { stanzas = stanza ∷ []; labels = columns label ∷ [] }) else Err WorkFactorRefused) ≡ Ok wrapped → IsOne wrapped
+passphrase_one true stanza label wrapped bytes is =
+    record { stanza = stanza; labels = columns label ∷ []; is = sym (ok_same _ wrapped is); strings = label_string label bytes }
+passphrase_one false stanza label wrapped bytes is = not_ok wrapped WorkFactorRefused is
+
+passphrase_by : (salt label : Option (List ℕ)) (recipient : PassphraseRecipient) (file_key draws between kept : List ℕ) (answer : WrapAnswer) (left : List ℕ)
+    → MatchOption salt (Ends (Err ShortRandom) draws answer left) (λ s. MatchOption label (Ends (Err ShortRandom) between answer left)
+    (λ l. WrapsWith bench_seal bench_stretch bench_accepts recipient file_key s l kept answer left))
+    → Answers (drawn salt (λ s. drawn label (λ l. wrapped_under bench_seal bench_stretch bench_accepts recipient file_key s l))) kept answer left
+passphrase_by None label recipient file_key draws between kept answer left h = refused_as ShortRandom _ kept answer left h.0 (inl h.0)
+passphrase_by (Some s) None recipient file_key draws between kept answer left h = refused_as ShortRandom _ kept answer left h.0 (inl h.0)
+passphrase_by (Some s) (Some l) recipient file_key draws between kept answer left h =
+    let due = wrapped_under bench_seal bench_stretch bench_accepts recipient file_key s l in
+    let (is, same) = after_due due kept answer left h.3 in
+    record {
+      is_due = is;
+      left_is = λ _ _. same;
+      one = λ wrapped made. passphrase_one (bench_accepts recipient.factor) _ l wrapped h.2 (was_due due wrapped answer is made);
+    }
+
+passphrase_answered : (recipient : PassphraseRecipient) (file_key draws : List ℕ) (answer : WrapAnswer) (left : List ℕ)
+    → WrapsTo (Passphrase recipient) file_key draws answer left → Answered (Passphrase recipient) file_key draws answer left
+passphrase_answered recipient file_key draws answer left h =
+    passphrase_by (taken 16 draws) (taken 24 (left_after 16 draws)) recipient file_key draws (left_after 16 draws) (left_after 24 (left_after 16 draws)) answer left h
 
 answered : (to : To) (file_key draws : List ℕ) (answer : WrapAnswer) (left : List ℕ) → WrapsTo to file_key draws answer left → Answered to file_key draws answer left
 answered Bench file_key draws answer left h = bench_answered file_key draws answer left h
 answered (Key public) file_key draws answer left h = key_answered public file_key draws answer left h
-
--- ---- what is wrapped is one stanza
-
-ok_same : {A : Type 0} (x y : A) → ◌≡◌ {A = Result A EncryptRefusal} (Ok x) (Ok y) → x ≡ y
-ok_same x y is = Prim.cc
-
-not_ok : {A P : Type 0} (x : A) (e : EncryptRefusal) → ◌≡◌ {A = Result A EncryptRefusal} (Err e) (Ok x) → P
-not_ok x e is = absurd (Prim.cc)
-
-key_plain : (zero : Bool) (share body : List ℕ) (wrapped : Wrapped)
-    → (if zero then Err ZeroSharedSecret else Ok (record { stanzas = x25519_stanza share body ∷ []; labels = [] })) ≡ Ok wrapped → IsOnePlain wrapped
-key_plain true share body wrapped is = not_ok wrapped ZeroSharedSecret is
-key_plain false share body wrapped is = record { stanza = x25519_stanza share body; is = sym (ok_same _ wrapped is); plain = refl }
-
-drawn_plain : (bytes : Option (List ℕ)) (due : List ℕ → Result Wrapped EncryptRefusal) (wrapped : Wrapped)
-    → ((b : List ℕ) → due b ≡ Ok wrapped → IsOnePlain wrapped) → drawn bytes due ≡ Ok wrapped → IsOnePlain wrapped
-drawn_plain None due wrapped each is = not_ok wrapped ShortRandom is
-drawn_plain (Some b) due wrapped each is = each b is
-
-one_plain : (to : To) (file_key draws : List ℕ) (wrapped : Wrapped) → wrapped_by to file_key draws ≡ Ok wrapped → IsOnePlain wrapped
-one_plain Bench file_key draws wrapped is = record { stanza = bench_stanza file_key; is = sym (ok_same _ wrapped is); plain = refl }
-one_plain (Key public) file_key draws wrapped is =
-    drawn_plain (taken 32 draws) (λ ephemeral. wrapped_with bench_seal bench_shared bench_public public file_key ephemeral) wrapped
-    (λ ephemeral made. key_plain (bytes_eq (bench_shared ephemeral public) no_secret) _ _ wrapped made) is
+answered (Passphrase recipient) file_key draws answer left h = passphrase_answered recipient file_key draws answer left h
 
 same_refusal : {A B : Type 0} (e : EncryptRefusal) → ◌≡◌ {A = Result A EncryptRefusal} (Err e) (Err OutOfMemory) → ◌≡◌ {A = Result B EncryptRefusal} (Err e) (Err OutOfMemory)
 same_refusal e is = Prim.cc
@@ -133,34 +207,51 @@ made_due due wrapped (inr want) = not_ok wrapped OutOfMemory (sym want)
 
 -- ---- the whole
 
--- one stanza and no labels come to themselves
-abbrev gathered_by : StanzaValue → Gathered
-gathered_by stanza = record { labels = Some []; stanzas = stanza ∷ [] }
+-- one stanza and its labels come to themselves
+abbrev gathered_by : StanzaValue → List (List ℕ) → Gathered
+gathered_by stanza labels = record { labels = Some labels; stanzas = stanza ∷ [] }
 
--- the nonce that is due after the stanza, and the grease behind it
+judged_by : (strings : Bool) (stanza : StanzaValue) (labels : List (List ℕ)) → strings ≡ true
+    → with_labels (stanza ∷ []) (if strings then Ok labels else Err (InvalidRecipientLabels labels)) ≡ Ok (gathered_by stanza labels)
+judged_by true stanza labels is = refl
+judged_by false stanza labels is = absurd (false≢true is)
+
+judged_one : (wrapped : Wrapped) (one : IsOne wrapped) → judged nothing_yet (Ok wrapped) ≡ Ok (gathered_by one.stanza one.labels)
+judged_one wrapped one = ap (λ w. judged nothing_yet (Ok w)) one.is ∙ judged_by (list_all is_string_of one.labels) one.stanza one.labels one.strings
+
+-- the nonce that is due after these stanzas
+abbrev with_nonce : List ℕ → List StanzaValue → List ℕ → Result Prepared EncryptRefusal
+with_nonce file_key stanzas draws = drawn (taken 16 draws) (λ nonce. Ok (record { file_key = file_key; stanzas = stanzas; nonce = nonce }))
+
+-- after the stanza, and the grease where it may stand beside it
 abbrev finished : List ℕ → Wrapped → List ℕ → Result Prepared EncryptRefusal
-finished file_key wrapped draws =
-    drawn (taken 16 draws) (λ nonce. Ok (record { file_key = file_key; stanzas = wrapped.stanzas ++ bench_grease ∷ []; nonce = nonce }))
+finished file_key wrapped draws = with_nonce file_key (stanzas_beside wrapped.stanzas) draws
 
-rest_due : (file_key : List ℕ) (stanza : StanzaValue) (draws : List ℕ) (outcome : Result Prepared EncryptRefusal) (left : List ℕ)
-    → bytes_eq stanza.tag (codes "scrypt") ≡ false → PreparesRest file_key (Some bench_grease) (gathered_by stanza) draws outcome left
-    → IsDue (finished file_key (record { stanzas = stanza ∷ []; labels = [] }) draws) outcome
-rest_due file_key stanza draws outcome left plain h =
-    let on : UnlessNoMemory (PreparesNonce file_key (stanza ∷ bench_grease ∷ []) draws outcome left) draws outcome left = rw plain at h in
-    elim on [
-      | inl nonce ↦ nonce_due file_key (stanza ∷ bench_grease ∷ []) draws left outcome nonce
-      | inr want ↦ inr want.0
-    ]
+rest_on : (file_key : List ℕ) (stanzas : List StanzaValue) (draws : List ℕ) (outcome : Result Prepared EncryptRefusal) (left : List ℕ)
+    → UnlessNoMemory (PreparesNonce file_key stanzas draws outcome left) draws outcome left → IsDue (with_nonce file_key stanzas draws) outcome
+rest_on file_key stanzas draws outcome left (inl nonce) = nonce_due file_key stanzas draws left outcome nonce
+rest_on file_key stanzas draws outcome left (inr want) = inr want.0
 
-gathered_due : (file_key : List ℕ) (stanza : StanzaValue) (draws : List ℕ) (gathered : Result Gathered EncryptRefusal) (between : List ℕ)
-    (outcome : Result Prepared EncryptRefusal) (left : List ℕ) → bytes_eq stanza.tag (codes "scrypt") ≡ false
-    → UnlessNoMemory (Ends (Ok (gathered_by stanza)) draws gathered between) draws gathered between
+rest_by : (scrypt : Bool) (file_key : List ℕ) (stanza : StanzaValue) (draws : List ℕ) (outcome : Result Prepared EncryptRefusal) (left : List ℕ)
+    → After (if scrypt then Ok (stanza ∷ []) else Ok (stanza ∷ bench_grease ∷ [])) (λ stanzas. PreparesNonce file_key stanzas) draws outcome left
+    → IsDue (with_nonce file_key ((stanza ∷ []) ++ grease_beside scrypt (Some bench_grease)) draws) outcome
+rest_by true file_key stanza draws outcome left h = rest_on file_key (stanza ∷ []) draws outcome left h
+rest_by false file_key stanza draws outcome left h = rest_on file_key (stanza ∷ bench_grease ∷ []) draws outcome left h
+
+rest_due : (file_key : List ℕ) (stanza : StanzaValue) (labels : List (List ℕ)) (draws : List ℕ) (outcome : Result Prepared EncryptRefusal) (left : List ℕ)
+    → PreparesRest file_key (Some bench_grease) (gathered_by stanza labels) draws outcome left
+    → IsDue (finished file_key (record { stanzas = stanza ∷ []; labels = labels }) draws) outcome
+rest_due file_key stanza labels draws outcome left h = rest_by (has_scrypt (stanza ∷ [])) file_key stanza draws outcome left h
+
+gathered_due : (file_key : List ℕ) (stanza : StanzaValue) (labels : List (List ℕ)) (draws : List ℕ) (gathered : Result Gathered EncryptRefusal)
+    (between : List ℕ) (outcome : Result Prepared EncryptRefusal) (left : List ℕ)
+    → UnlessNoMemory (Ends (Ok (gathered_by stanza labels)) draws gathered between) draws gathered between
     → Then gathered (λ all. PreparesRest file_key (Some bench_grease) all) between outcome left
-    → IsDue (finished file_key (record { stanzas = stanza ∷ []; labels = [] }) draws) outcome
-gathered_due file_key stanza draws gathered between outcome left plain (inl ended) rest =
-    let on : PreparesRest file_key (Some bench_grease) (gathered_by stanza) draws outcome left = rw (ended.0, ended.1) at rest in
-    rest_due file_key stanza draws outcome left plain on
-gathered_due file_key stanza draws gathered between outcome left plain (inr want) rest =
+    → IsDue (finished file_key (record { stanzas = stanza ∷ []; labels = labels }) draws) outcome
+gathered_due file_key stanza labels draws gathered between outcome left (inl ended) rest =
+    let on : PreparesRest file_key (Some bench_grease) (gathered_by stanza labels) draws outcome left = rw (ended.0, ended.1) at rest in
+    rest_due file_key stanza labels draws outcome left on
+gathered_due file_key stanza labels draws gathered between outcome left (inr want) rest =
     let ended : Ends (Err OutOfMemory) between outcome left = rw want.0 at rest in
     inr ended.0
 
@@ -175,15 +266,16 @@ with_due : (to : To) (file_key draws : List ℕ) (outcome : Result Prepared Encr
     → IsDue (and_then (wrapped_by to file_key draws) (λ wrapped. finished file_key wrapped (left_by to draws))) outcome
 with_due to file_key draws outcome left (gathered, between, (Err e, after, wraps, judges), rest) =
     let ended : Ends (Err e) between outcome left = rw judges.0 at rest in
-    refused_due (wrapped_by to file_key draws) (λ wrapped. finished file_key wrapped (left_by to draws)) e outcome (answered to file_key draws (Err e) after wraps).due ended.0
+    refused_due (wrapped_by to file_key draws) (λ wrapped. finished file_key wrapped (left_by to draws)) e outcome (answered to file_key draws (Err e) after wraps).is_due ended.0
 with_due to file_key draws outcome left (gathered, between, (Ok wrapped, after, wraps, judges), rest) =
     let said = answered to file_key draws (Ok wrapped) after wraps in
-    let is : Ok wrapped ≡ wrapped_by to file_key draws = made_due _ wrapped said.due in
-    let one = one_plain to file_key draws wrapped (sym is) in
-    let same : after ≡ left_by to draws = said.left_is (λ want. not_ok wrapped OutOfMemory (sym want)) in
-    let on : UnlessNoMemory (Ends (Ok (gathered_by one.stanza)) after gathered between) after gathered between = rw one.is at judges in
-    let due : IsDue (finished file_key (record { stanzas = one.stanza ∷ []; labels = [] }) after) outcome =
-    gathered_due file_key one.stanza after gathered between outcome left one.plain on rest in
+    let is : Ok wrapped ≡ wrapped_by to file_key draws = made_due _ wrapped said.is_due in
+    let one = said.one wrapped refl in
+    let same : after ≡ left_by to draws = said.left_is wrapped refl in
+    let on : UnlessNoMemory (Ends (Ok (gathered_by one.stanza one.labels)) after gathered between) after gathered between =
+    subst (λ j. After j (λ more. WrapsInTurn WrapsTo file_key more []) after gathered between) (judged_one wrapped one) judges in
+    let due : IsDue (finished file_key (record { stanzas = one.stanza ∷ []; labels = one.labels }) after) outcome =
+    gathered_due file_key one.stanza one.labels after gathered between outcome left on rest in
     let of_wrapped : IsDue (finished file_key wrapped (left_by to draws)) outcome = rw (one.is, ← same) due in
     subst (λ d. IsDue (and_then d (λ wrapped. finished file_key wrapped (left_by to draws))) outcome) is of_wrapped
 

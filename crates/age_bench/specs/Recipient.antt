@@ -51,7 +51,7 @@ first_answer f (x ∷ xs) = option_or (f x) (first_answer f xs)
 abbrev pub bench_answer : List StanzaValue → UnwrapAnswer
 bench_answer stanzas = first_answer bench_unwrapped stanzas
 
--- the stanza that each file of the program has besides those of its recipients
+-- the stanza that a file of the program has besides those of its recipients, where none of these is of a passphrase
 abbrev pub bench_grease : StanzaValue
 bench_grease = record { tag = codes "agebench-grease"; args = []; body = [] }
 

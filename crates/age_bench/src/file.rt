@@ -20,7 +20,7 @@ use age::streaming::{FileError, decrypt_all, encrypt_all};
 use age::suite::Suite;
 use std::alloc::Global;
 
-// The stanza that each file has besides those of its recipients: the tag `agebench-grease`, no arguments and no body.
+// The stanza that a file has besides those of its recipients, where none of these is of a passphrase: the tag `agebench-grease`, no arguments and no body.
 fn grease(alloc: Global) -> Result<Grease, EncryptError>
     ensures value { IfOk result (λ grease. grease ≡ bench_grease) }
     ensures memory { IfErr result (λ e. encrypt_refusal e ≡ OutOfMemory) }
@@ -37,10 +37,12 @@ fn grease(alloc: Global) -> Result<Grease, EncryptError>
 
 /// `encrypt_all` to the recipient that a word of the command line names.
 ///
-/// The first 16 random bytes are the file key; an X25519 recipient takes the next 32 for its ephemeral secret; the next 16 are the
-/// nonce of the payload. So what a success appended to `writer` is set by the random bytes, the form and the plaintext alone. It
-/// refuses as `encrypt_all` does; an error of encryption is want of memory, or what the random bytes come to: `ShortRandom` where
-/// there are too few, and for an X25519 recipient `ZeroSharedSecret`.
+/// The first 16 random bytes are the file key; an X25519 recipient takes the next 32 for its ephemeral secret, and a passphrase the next
+/// 16 for its salt and 24 more for its label; the next 16 are the nonce of the payload. So what a success appended to `writer` is set by
+/// the random bytes, the form and the plaintext alone. Beside the stanza of a passphrase stands no other; all else have the one of
+/// `grease` too. It refuses as `encrypt_all` does; an error of encryption is want of memory, or what the random bytes come to:
+/// `ShortRandom` where there are too few, for an X25519 recipient `ZeroSharedSecret`, and for a passphrase `WorkFactorRefused`, where
+/// its work factor isn't one that the suite accepts.
 pub fn encrypt_to<R: Read, W: Write>(
     alloc: Global,
     to: To,

@@ -2,8 +2,9 @@
 //! the laws.
 ghost use Rattle.age.specs.Belonging.{BelongsTo};
 ghost use Rattle.age_bench.specs.FileLaws.{IsBenchFile, IsCarried, GivesBack, IsForBench};
-ghost use Rattle.age_bench.specs.Names.{is_other_to, to_of};
+ghost use Rattle.age_bench.specs.Names.{GoesWith, is_other_to};
 ghost use Rattle.age_bench.specs.Recipient.{has_other_tag};
+ghost use Rattle.age_bench.specs.declared.names.With.TheVariants.{Passphrase};
 
 use crate::names::{To, With};
 use crate::recipient::{BenchIdentity, BenchRecipient};
@@ -12,6 +13,8 @@ use age::armor::laws::{armor_is_carrying, carried_is_unique};
 use age::format::laws::{
     canonical_text_is_text, canonical_text_reads_back, header_text_reads_back, verdict_is_unique,
 };
+use age::scrypt::Identity as PassphraseIdentity;
+use age::scrypt::laws::scrypt_pair;
 use age::stream::laws::{payload_laws, piece_law};
 use age::x25519::laws::x25519_pair;
 use age::{Identity, Recipient};
@@ -50,13 +53,25 @@ pub fn bench_pair(recipient: &BenchRecipient, identity: &BenchIdentity)
     let _identity = identity;
 }
 
-/// What WITH names belongs to what TO names: the identity of the bench suite to its recipient, and that of a secret to the recipient of
-/// its public value. So by `several_recipients` a file that is encrypted to the one is one for the other.
-pub fn named_pair(with: &With)
-    ensures { BelongsTo ⟦<To as Recipient>⟧.wraps ⟦<With as Identity>⟧.unwraps (is_other_to with.now) (to_of with.now) with.now }
+// One who knows a passphrase belongs to all who know it, where the work factor of those is taken.
+fn passphrase_pair(to: &To, identity: &PassphraseIdentity<BenchSuite>)
+    ensures { GoesWith to.now (Passphrase identity.now) →
+        BelongsTo ⟦<To as Recipient>⟧.wraps ⟦<With as Identity>⟧.unwraps (is_other_to (Passphrase identity.now)) to.now (Passphrase identity.now) }
+{
+    if let To::Passphrase(recipient) = to {
+        scrypt_pair(recipient, identity);
+    }
+}
+
+/// What WITH names belongs to what TO names, where the two go together: the identity of the bench suite to its recipient, that of a
+/// secret to the recipient of its public value, and that of a passphrase to each recipient of it whose work factor it takes. So by
+/// `several_recipients` a file that is encrypted to the one is one for the other.
+pub fn named_pair(to: &To, with: &With)
+    ensures { GoesWith to.now with.now → BelongsTo ⟦<To as Recipient>⟧.wraps ⟦<With as Identity>⟧.unwraps (is_other_to with.now) to.now with.now }
 {
     match with {
         With::Bench => bench_pair(&BenchRecipient, &BenchIdentity),
         With::Key(identity) => x25519_pair(identity),
+        With::Passphrase(identity) => passphrase_pair(to, identity),
     }
 }

@@ -7,7 +7,7 @@ use crate::suite::BenchSuite;
 use age::draw::Draw;
 use age::format::Stanza;
 use age::secrecy::FileKey;
-use age::{DecryptError, EncryptError, Identity, Recipient, x25519};
+use age::{DecryptError, EncryptError, Identity, Recipient, scrypt, x25519};
 use std::alloc::Global;
 use std::collections::BTreeSet;
 
@@ -18,6 +18,8 @@ pub enum To {
     Bench,
     /// The X25519 recipient of a public value.
     Key(x25519::Recipient<BenchSuite>),
+    /// All who know a passphrase.
+    Passphrase(scrypt::Recipient<BenchSuite>),
 }
 
 // Each word's recipient answers by itself.
@@ -33,6 +35,7 @@ impl Recipient for To {
         match self {
             To::Bench => BenchRecipient.wrap_file_key(alloc, file_key, draw),
             To::Key(recipient) => recipient.wrap_file_key(alloc, file_key, draw),
+            To::Passphrase(recipient) => recipient.wrap_file_key(alloc, file_key, draw),
         }
     }
 }
@@ -44,6 +47,8 @@ pub enum With {
     Bench,
     /// The X25519 identity of a secret.
     Key(x25519::Identity<BenchSuite>),
+    /// One who knows a passphrase.
+    Passphrase(scrypt::Identity<BenchSuite>),
 }
 
 // Each word's identity answers by itself, to one stanza after the other.
@@ -60,6 +65,7 @@ impl Identity for With {
         match self {
             With::Bench => BenchIdentity.unwrap_stanza(alloc, stanza),
             With::Key(identity) => identity.unwrap_stanza(alloc, stanza),
+            With::Passphrase(identity) => identity.unwrap_stanza(alloc, stanza),
         }
     }
 }

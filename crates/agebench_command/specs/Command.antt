@@ -1,5 +1,5 @@
 -- What the words of a command line ask for. A word is a list of bytes.
-use Rattle.std.specs.Prelude.{◌≡◌, ◌≢◌, ℕ, ◌+◌, ◌-◌, ◌*◌, Bool, true, false, ◌&&◌, List, [], ◌∷◌, length, nat_eq, nat_le, bytes_eq, codes, if◌then◌else◌, Option, Some, None, option_map}
+use Rattle.std.specs.Prelude.{◌≡◌, ◌≢◌, ℕ, ◌+◌, ◌-◌, ◌*◌, Bool, true, false, ◌&&◌, List, [], ◌∷◌, ◌++◌, length, nat_eq, nat_le, bytes_eq, codes, if◌then◌else◌, Option, Some, None, option_map}
 use Rattle.std.specs.Option.{option_and_then}
 use Rattle.age.specs.Types.{Format}
 use Rattle.age.specs.FormatVariants.{Binary, AsciiArmor}
@@ -51,17 +51,27 @@ bytes_of (high ∷ low ∷ text) = option_and_then (λ byte. option_map (λ byte
 abbrev pub key_of : List ℕ → Option (List ℕ)
 key_of text = if nat_eq (length text) 64 then bytes_of text else None
 
--- what a word names as TO: the recipient of the bench suite, or an X25519 recipient by its text; else nothing
+-- the word that names a passphrase: what follows `pass=`, byte by byte, which may be nothing
+abbrev pub passphrase_word : List ℕ → List ℕ
+passphrase_word passphrase = codes "pass=" ++ passphrase
+
+-- What a word names as TO: the recipient of the bench suite, an X25519 recipient by its text, or all who know a passphrase, with the work
+-- factor 10; else nothing.
 abbrev pub NamesTo : List ℕ → Option To → Type 0
 NamesTo word (Some to.Bench) = word ≡ codes "bench"
 NamesTo word (Some (to.Key key)) = IsKeyText recipient_prefix word key
-NamesTo word None = (word ≢ codes "bench") × ((key : List ℕ) → IsKeyText recipient_prefix word key → ⊥)
+NamesTo word (Some (to.Passphrase recipient)) = (word ≡ passphrase_word recipient.passphrase) × (recipient.factor ≡ 10)
+NamesTo word None =
+    (word ≢ codes "bench") × ((passphrase : List ℕ) → word ≢ passphrase_word passphrase) × ((key : List ℕ) → IsKeyText recipient_prefix word key → ⊥)
 
--- and as WITH: the identity of the bench suite, or an X25519 identity by its text; else nothing
+-- And as WITH: the identity of the bench suite, an X25519 identity by its text, or one who knows a passphrase, with the target 18, so that
+-- work factors up to 22 are taken; else nothing.
 abbrev pub NamesWith : List ℕ → Option With → Type 0
 NamesWith word (Some with_.Bench) = word ≡ codes "bench"
 NamesWith word (Some (with_.Key secret)) = IsKeyText identity_prefix word secret
-NamesWith word None = (word ≢ codes "bench") × ((secret : List ℕ) → IsKeyText identity_prefix word secret → ⊥)
+NamesWith word (Some (with_.Passphrase identity)) = (word ≡ passphrase_word identity.passphrase) × (identity.target ≡ 18) × (identity.most ≡ 22)
+NamesWith word None =
+    (word ≢ codes "bench") × ((passphrase : List ℕ) → word ≢ passphrase_word passphrase) × ((secret : List ℕ) → IsKeyText identity_prefix word secret → ⊥)
 
 -- one or the other, by a test
 abbrev pub When : Bool → Type 0 → Type 0 → Type 0

@@ -1,11 +1,13 @@
 //! What the words of a command line ask for.
 
-ghost use Rattle.std.specs.Prelude.{◌≡◌, ◌≢◌, ◌<◌, ℕ, List, [], ◌∷◌, length, map, string_bytes, vec_items, bytes_eq, codes, if◌then◌else◌, Option, Some, None, IfOk, IfSome, option_map};
+ghost use Rattle.std.specs.Prelude.{◌≡◌, ◌≢◌, ◌<◌, ℕ, List, [], ◌∷◌, length, MatchOption, map, string_bytes, vec_items, bytes_eq, codes, if◌then◌else◌, Option, Some, None, IfOk, IfSome, option_map};
 ghost use Rattle.age_bench.specs.declared.names.To.{To};
-ghost use Rattle.agebench_command.specs.Command.{Seal, Open, CommandValue, bytes_of, byte_of, command_value, digit_of, key_of, AsksFor, AsksToEncrypt, InFormat, NamesTo, NamesWith};
+ghost use Rattle.agebench_command.specs.Command.{Seal, Open, CommandValue, bytes_of, byte_of, command_value, digit_of, key_of, AsksFor, AsksToEncrypt, InFormat, NamesTo, NamesWith, passphrase_word};
 
 use crate::number::parse_number;
 use age::armor::Format;
+use age::scrypt;
+use age::secrecy::SecretString;
 use age::x25519::{Identity, Recipient};
 use age_bench::names::{To, With};
 use std::alloc::{AllocError, Global};
@@ -98,29 +100,51 @@ fn parse_key(alloc: Global, text: &str) -> Result<Option<[u8; 32]>, AllocError>
     }
 }
 
+// The passphrase that a word names.
+fn passphrase_of(word: &str) -> Option<&str>
+    ensures { MatchOption result ((passphrase : List ℕ) → word.now ≢ passphrase_word passphrase) (λ passphrase. word.now ≡ passphrase_word passphrase.now) }
+{
+    word.strip_prefix("pass=")
+}
+
+// A text that is kept secret.
+fn secret(alloc: Global, text: &str) -> Result<SecretString, AllocError>
+    ensures { IfOk result (λ secret. secret ≡ text.now) }
+{
+    Ok(SecretString::from(String::from_str(alloc, text)?))
+}
+
 // The recipient that a word names.
-fn parse_to(word: &str) -> Option<To>
-    ensures { NamesTo word.now result }
+fn parse_to(alloc: Global, word: &str) -> Result<Option<To>, AllocError>
+    ensures { IfOk result (λ found. NamesTo word.now found) }
 {
     if word == "bench" {
-        return Some(To::Bench);
+        return Ok(Some(To::Bench));
+    }
+    if let Some(passphrase) = passphrase_of(word) {
+        let recipient = scrypt::Recipient::new(secret(alloc, passphrase)?, 10);
+        return Ok(Some(To::Passphrase(recipient)));
     }
     match Recipient::from_str(word) {
-        Ok(recipient) => Some(To::Key(recipient)),
-        Err(_) => None,
+        Ok(recipient) => Ok(Some(To::Key(recipient))),
+        Err(_) => Ok(None),
     }
 }
 
 // The identity that a word names.
-fn parse_with(word: &str) -> Option<With>
-    ensures { NamesWith word.now result }
+fn parse_with(alloc: Global, word: &str) -> Result<Option<With>, AllocError>
+    ensures { IfOk result (λ found. NamesWith word.now found) }
 {
     if word == "bench" {
-        return Some(With::Bench);
+        return Ok(Some(With::Bench));
+    }
+    if let Some(passphrase) = passphrase_of(word) {
+        let identity = scrypt::Identity::new(secret(alloc, passphrase)?, 18);
+        return Ok(Some(With::Passphrase(identity)));
     }
     match Identity::from_str(word) {
-        Ok(identity) => Some(With::Key(identity)),
-        Err(_) => None,
+        Ok(identity) => Ok(Some(With::Key(identity))),
+        Err(_) => Ok(None),
     }
 }
 
@@ -141,7 +165,8 @@ fn parse_two(alloc: Global, name: &str, word: &str) -> Result<Option<Command>, A
     ensures { IfOk result (λ found. AsksFor (name.now ∷ word.now ∷ []) (option_map command_value found)) }
 {
     if name == "decrypt" {
-        return Ok(parse_with(word).map(|with| Command::Decrypt { with }));
+        let with = parse_with(alloc, word)?;
+        return Ok(with.map(|with| Command::Decrypt { with }));
     }
     if name == "keygen" {
         let draw = parse_bytes(alloc, word.as_bytes())?;
@@ -176,7 +201,7 @@ fn parse_encrypt(
 ) -> Result<Option<Command>, AllocError>
     ensures { IfOk result (λ found. AsksToEncrypt to.now draw.now format (option_map command_value found)) }
 {
-    let Some(to) = parse_to(to) else {
+    let Some(to) = parse_to(alloc, to)? else {
         return Ok(None);
     };
     match parse_bytes(alloc, draw.as_bytes())? {
@@ -186,19 +211,30 @@ fn parse_encrypt(
 }
 
 // `at WITH PLACE COUNT`.
-fn parse_at(with: &str, place: &str, more: &[String]) -> Option<Command>
-    ensures { AsksFor (codes "at" ∷ with.now ∷ place.now ∷ map string_bytes more.now) (option_map command_value result) }
+fn parse_at(
+    alloc: Global,
+    with: &str,
+    place: &str,
+    more: &[String],
+) -> Result<Option<Command>, AllocError>
+    ensures { IfOk result (λ found. AsksFor (codes "at" ∷ with.now ∷ place.now ∷ map string_bytes more.now) (option_map command_value found)) }
 {
     let Some((count, rest)) = more.split_first() else {
-        return None;
+        return Ok(None);
     };
     if !rest.is_empty() {
-        return None;
+        return Ok(None);
     }
-    let with = parse_with(with)?;
-    let place = parse_number(place.as_bytes())?;
-    let count = parse_number(count.as_str().as_bytes())?;
-    Some(Command::At { with, place, count })
+    let Some(with) = parse_with(alloc, with)? else {
+        return Ok(None);
+    };
+    let Some(place) = parse_number(place.as_bytes()) else {
+        return Ok(None);
+    };
+    let Some(count) = parse_number(count.as_str().as_bytes()) else {
+        return Ok(None);
+    };
+    Ok(Some(Command::At { with, place, count }))
 }
 
 // A command that hasn't two words.
@@ -210,7 +246,7 @@ fn parse_many(alloc: Global, words: &[String]) -> Result<Option<Command>, AllocE
         return Ok(None);
     };
     if name.as_str() == "at" {
-        return Ok(parse_at(second.as_str(), third.as_str(), more));
+        return parse_at(alloc, second.as_str(), third.as_str(), more);
     }
     if name.as_str() != "encrypt" {
         return Ok(None);
@@ -224,10 +260,12 @@ fn parse_many(alloc: Global, words: &[String]) -> Result<Option<Command>, AllocE
 /// What the words after the program's name ask for: `seal KEY`, `open KEY`, `encrypt TO DRAW`, `encrypt TO DRAW armor`,
 /// `decrypt WITH`, `at WITH PLACE COUNT` or `keygen DRAW`.
 ///
-/// KEY is 64 hexadecimal digits of either case, two a byte, the high digit first, and DRAW so any number of bytes. TO is `bench` or
-/// the text of an X25519 recipient, and WITH is `bench` or that of an X25519 identity, each in either case. PLACE and COUNT are one or
-/// more decimal digits, leading zeros among them, of at most 2^64 - 1. `Ok(None)` says that they are no command line of this program.
-/// `AllocError` where memory for the bytes of KEY or DRAW is refused.
+/// KEY is 64 hexadecimal digits of either case, two a byte, the high digit first, and DRAW so any number of bytes. TO is `bench`, the
+/// text of an X25519 recipient, or `pass=` and a passphrase, for which the work factor is 10. WITH is `bench`, the text of an X25519
+/// identity, or `pass=` and a passphrase, with the target 18, so that work factors up to 22 are taken. The texts of keys are taken in
+/// either case. What follows `pass=` in the word is the passphrase, byte by byte, and with nothing after it that is empty. PLACE and
+/// COUNT are one or more decimal digits, leading zeros among them, of at most 2^64 - 1. `Ok(None)` says that they are no command line
+/// of this program. `AllocError` where memory for the bytes of KEY, of DRAW or of a passphrase is refused.
 pub fn parse(alloc: Global, words: &[String]) -> Result<Option<Command>, AllocError>
     ensures { IfOk result (λ found. AsksFor (map string_bytes words.now) (option_map command_value found)) }
 {

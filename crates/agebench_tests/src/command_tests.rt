@@ -117,7 +117,8 @@ fn asked_to(command: Option<Command>) -> Option<To> {
 
 // The command of these words encrypts to the recipient.
 fn is_to_recipient(rt: &impl Abort, alloc: Global, line: &str) -> Result<(), Fail> {
-    match asked_to(parsed(alloc, line)?) {
+    let to = asked_to(parsed(alloc, line)?);
+    match &to {
         Some(To::Key(recipient)) => {
             let text = recipient.to_string(alloc)?;
             assert_eq!(rt; text.as_str(), RECIPIENT);
@@ -134,7 +135,7 @@ fn is_identity(alloc: Global, with: &With) -> Result<bool, AllocError> {
             let text = identity.to_string(alloc)?;
             Ok(text.expose_secret() == IDENTITY)
         }
-        With::Bench => Ok(false),
+        With::Bench | With::Passphrase(_) => Ok(false),
     }
 }
 

@@ -1,4 +1,4 @@
-use Rattle.std.proofs.Common.{refl, string_bytes, codes, bytes_eq, map, option_map}
+use Rattle.std.proofs.Common.{refl, string_bytes, codes, bytes_eq, map, option_map, ◌∷◌, ◌-◌, length, take, drop}
 use Rattle.std.proofs.lemmas.Result.{IfOk-weaker}
 use Rattle.agebench_command.specs.Command.{AsksFor, AsksToEncrypt, command_value}
 use Rattle.agebench_command.proofs.Words.{behind, not_not}
@@ -6,9 +6,16 @@ use Rattle.agebench_command.proofs.command.parse_many.Goals as goal
 
 pub returns-then-eq : goal.returns-then-eq
 returns-then-eq c = λ other.
-    behind string_bytes c.args.words.now c.name-item.result c.second-item.result c.third-item.result (codes "at") c.as_str.result.now
-    c.as_str-then-eq.result.now c.as_str-then-eq-2.result.now _ c.in-len3-up.len_at_least c.name-item.is c.second-item.is c.third-item.is
-    c.as_str.ensures.value c.as_str-then-eq.ensures.value c.as_str-then-eq-2.ensures.value c.if-eq.ensures c.parse_at.ensures
+    let with_ = c.as_str-then-eq.result.now in
+    let place = c.as_str-then-eq-2.result.now in
+    let more = map string_bytes (take (length c.args.words.now - 3) (drop 3 c.args.words.now)) in
+    IfOk-weaker c.parse_at.result (λ found. AsksFor (codes "at" ∷ with_ ∷ place ∷ more) (option_map command_value found))
+    (λ found. AsksFor (map string_bytes c.args.words.now) (option_map command_value found))
+    (λ found asks.
+    behind string_bytes c.args.words.now c.name-item.result c.second-item.result c.third-item.result (codes "at") c.as_str.result.now with_ place _
+    c.in-len3-up.len_at_least c.name-item.is c.second-item.is c.third-item.is c.as_str.ensures.value c.as_str-then-eq.ensures.value
+    c.as_str-then-eq-2.ensures.value c.if-eq.ensures asks)
+    c.parse_at.ensures
 
 pub returns-in_default-parse_format : goal.returns-in_default-parse_format
 returns-in_default-parse_format c = λ other.
