@@ -16,7 +16,7 @@ graphic [] h = tt
 graphic (x ∷ xs) h = ((omega (arith, h.0), omega (arith, h.0)), graphic xs h.1)
 
 -- the base64 of some bytes
-columns-string : (n : ℕ) (bytes : List ℕ) → 1 ≤ n → AreBytesOf n bytes → IsString (columns bytes)
+pub columns-string : (n : ℕ) (bytes : List ℕ) → 1 ≤ n → AreBytesOf n bytes → IsString (columns bytes)
 columns-string n bytes more h =
     let size = length-columns bytes in
     let some : columns bytes ≢ [] = λ e. let none : length (columns bytes) ≡ 0 = ap length e in omega (arith, size, h.len, none, more) in

@@ -17,10 +17,10 @@ use Rattle.age_format.specs.Belonging.{MayWrap}
 use Rattle.age_protocol.specs.Several.{stanzas_of, grease_beside, HoldsAnswers, HoldAnswers, WrapsStrange, OneDecrypts, AnyDecrypts}
 use Rattle.age_protocol.proofs.Alone.{alone_asked}
 
-no_outcome : {A X : Type 0} (x : A) (e : EncryptRefusal) → Path (Result A EncryptRefusal) (Ok x) (Err e) → X
+pub no_outcome : {A X : Type 0} (x : A) (e : EncryptRefusal) → Path (Result A EncryptRefusal) (Ok x) (Err e) → X
 no_outcome x e is = absurd (Prim.cc)
 
-same_outcome : {A : Type 0} (x y : A) → Path (Result A EncryptRefusal) (Ok x) (Ok y) → x ≡ y
+pub same_outcome : {A : Type 0} (x y : A) → Path (Result A EncryptRefusal) (Ok x) (Ok y) → x ≡ y
 same_outcome x y is = cc
 
 some_same : {A : Type 0} (x y : A) → Path (Option A) (Some x) (Some y) → x ≡ y

@@ -1,12 +1,14 @@
 -- Files of a passphrase, and the identities that know it.
-use Rattle.std.specs.Prelude.{◌≡◌, ℕ, ◌^◌, ◌≤◌, List, [], ◌∷◌, None, Ok, length}
-use Rattle.age_error.specs.Bytes.{AreBytes}
+use Rattle.std.specs.Prelude.{◌≡◌, ◌⊎◌, ℕ, ◌^◌, ◌≤◌, true, false, List, [], ◌∷◌, None, Ok, Err, length}
+use Rattle.age_error.specs.Bytes.{AreBytes, AreBytesOf}
+use Rattle.age_error.specs.EncryptErrors.{EncryptRefusal, ShortRandom, WorkFactorRefused, OutOfMemory}
 use Rattle.age_suite.specs.declared.suite.Suite.{Ghosts}
 use Rattle.age_format.specs.HeaderV1.{reads_legacy}
 use Rattle.age_format.specs.Stanza.{StanzaValue}
 use Rattle.age_format.specs.Wrapping.{WrapAnswer}
 use Rattle.age_format.specs.Unwrapping.{UnwrapAnswer, FirstOf}
-use Rattle.age_keys.specs.Scrypt.{PassphraseRecipient, PassphraseIdentity, WrapsUnder, UnwrapsUnder}
+use Rattle.age_keys.specs.OwnType.{no_nonce}
+use Rattle.age_keys.specs.Scrypt.{PassphraseRecipient, PassphraseIdentity, stretch_salt, scrypt_stanza, WrapsUnder, UnwrapsUnder}
 use Rattle.age_keys.specs.ScryptLaws.{IsMeantFor}
 use Rattle.age_stream.specs.Payload.{LastIsNoMiddle}
 use Rattle.age_protocol.specs.Encrypting.{Prepared, Prepares}
@@ -21,6 +23,25 @@ module _ {S : Type 0} (suite : Ghosts S) where
   -- what an identity of a passphrase answers: it goes stanza by stanza, and stays as it is
   abbrev pub UnwrapsPassphrase : PassphraseIdentity → List StanzaValue → UnwrapAnswer → PassphraseIdentity → Type 0
   UnwrapsPassphrase = FirstOf (λ before stanza answer after. UnwrapsUnder suite.opened suite.stretch_of suite.accepts before stanza answer × (after ≡ before))
+
+  -- A file under a passphrase holds the recipient's stanza alone, of the file key and a salt, and the suite accepts the work factor.
+  pub record HoldsPassphrase (recipient : PassphraseRecipient) (file : Prepared) : Type 0 where
+    pub accepted : suite.accepts recipient.factor ≡ true
+    pub salt : List ℕ
+    pub bytes : AreBytesOf 16 salt
+    pub alone : file.stanzas ≡ scrypt_stanza salt recipient.factor
+        (suite.seal_of (suite.stretch_of recipient.passphrase (stretch_salt salt) recipient.factor) no_nonce file.file_key) ∷ []
+
+  -- so it is, whatever was drawn
+  abbrev pub PassphraseHolds : Type 0
+  PassphraseHolds = (recipient : PassphraseRecipient) (draws left : List ℕ) (file : Prepared)
+      → Prepares WrapsPassphrase (recipient ∷ []) None draws (Ok file) left → HoldsPassphrase recipient file
+
+  -- Where there is none, random bytes ran out, the suite doesn't accept the work factor, or memory was refused.
+  abbrev pub PassphraseRefuses : Type 0
+  PassphraseRefuses = (recipient : PassphraseRecipient) (draws left : List ℕ) (refusal : EncryptRefusal)
+      → Prepares WrapsPassphrase (recipient ∷ []) None draws (Err refusal) left
+      → (refusal ≡ ShortRandom) ⊎ ((refusal ≡ WorkFactorRefused) × (suite.accepts recipient.factor ≡ false)) ⊎ (refusal ≡ OutOfMemory)
 
   -- A file that was prepared under a passphrase is one for each identity that has the passphrase and takes the work factor.
   abbrev pub PassphraseDecrypts : Type 0

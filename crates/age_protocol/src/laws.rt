@@ -4,7 +4,7 @@ ghost use Rattle.std.specs.List.{Contains};
 ghost use Rattle.age_error.specs.Labels.{labels_of};
 ghost use Rattle.age_protocol.specs.Labels.{same_labels};
 ghost use Rattle.age_protocol.specs.Several.{HoldAnswers, OneDecrypts, AnyDecrypts};
-ghost use Rattle.age_protocol.specs.Passphrases.{PassphraseDecrypts};
+ghost use Rattle.age_protocol.specs.Passphrases.{PassphraseHolds, PassphraseDecrypts, PassphraseRefuses};
 ghost use Rattle.age_protocol.specs.Laws.{ReadsBack, RefusesNoFile, FileOpens, FileIsContent, OneHeader, OnePlain, CarriesItself, GivesBack, RefusesNone};
 
 use age_armor::{carried_is_delivered, carried_is_unique};
@@ -87,10 +87,16 @@ pub fn several_recipients<S: Suite, T: Recipient, I: Identity>()
     ensures any { AnyDecrypts T.wraps I.unwraps S.seal_of }
 {}
 
-/// A file by `Encryptor::with_user_passphrase` is one for each identity that has the passphrase and takes its work factor. So
-/// `decrypt` with that identity gives its plaintext.
+/// What `Encryptor::with_user_passphrase` prepares, or why it refuses, and the identities that have the passphrase:
+///
+/// - `holds`: a file holds the recipient's stanza alone, so it is one of a passphrase, and the suite accepts the work factor.
+/// - `opens`: it is a file for each identity that has the passphrase and takes the work factor. So `decrypt` with that identity
+///   gives its plaintext.
+/// - `refuses`: a refusal is `ShortRandom`, `WorkFactorRefused` where the suite doesn't accept the factor, or `OutOfMemory`.
 pub fn passphrase_files<S: Suite>()
-    ensures { PassphraseDecrypts ⟦<S as Suite>⟧ }
+    ensures holds { PassphraseHolds ⟦<S as Suite>⟧ }
+    ensures opens { PassphraseDecrypts ⟦<S as Suite>⟧ }
+    ensures refuses { PassphraseRefuses ⟦<S as Suite>⟧ }
 {}
 
 /// Labels are compared as sets: two sets are the same, by their texts in order, exactly where each has the labels of the

@@ -8,7 +8,7 @@ returns-clause-plaintext g c = λ meant keeps.
     let whole = c.in_ok-file.ensures in
     let file = c.in_ok-file.file.items in
     let typed : AreBytes c.args.passphrase = subst AreBytes (c.as_bytes.ensures.value ∙ c.expose_secret.ensures) c.known_bytes.ensures in
-    let for = c.passphrase_files.ensures _ c.args.identity.now c.args.draw.now _ c.in_ok-encryptor.encryptor c.args.plain.now file
+    let for = c.passphrase_files.ensures.opens _ c.args.identity.now c.args.draw.now _ c.in_ok-encryptor.encryptor c.args.plain.now file
     typed c.requires.some c.requires.most meant c.in_ok-encryptor.ensures whole.is_file whole.bytes whole.within (keeps _ _) in
     c.in-Ok.ensures.honest file c.args.plain.now (subst (λ (l : List ℕ). Carries l file) (sym c.deref.ensures.value) whole.carries) for
 
@@ -17,6 +17,6 @@ returns-in-Err-clause-honest g c = λ meant keeps kind.
     let whole = c.in_ok-file.ensures in
     let file = c.in_ok-file.file.items in
     let typed : AreBytes c.args.passphrase = subst AreBytes (c.as_bytes.ensures.value ∙ c.expose_secret.ensures) c.known_bytes.ensures in
-    let for = c.passphrase_files.ensures _ c.args.identity.now c.args.draw.now _ c.in_ok-encryptor.encryptor c.args.plain.now file
+    let for = c.passphrase_files.ensures.opens _ c.args.identity.now c.args.draw.now _ c.in_ok-encryptor.encryptor c.args.plain.now file
     typed c.requires.some c.requires.most meant c.in_ok-encryptor.ensures whole.is_file whole.bytes whole.within (keeps _ _) in
     c.in-Err.ensures.honest file c.args.plain.now (subst (λ (l : List ℕ). Carries l file) (sym c.deref.ensures.value) whole.carries) for
