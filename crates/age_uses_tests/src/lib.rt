@@ -10,6 +10,8 @@ mod own_tests;
 #[cfg(test)]
 mod parts_tests;
 #[cfg(test)]
+mod passphrases_tests;
+#[cfg(test)]
 mod several_tests;
 #[cfg(test)]
 mod streams_tests;

@@ -1,4 +1,4 @@
-use Rattle.std.proofs.Common.{◌≡◌, ◌∙◌, ℕ, List, subst, sym}
+use Rattle.std.proofs.Common.{◌∙◌, ℕ, List, subst, sym}
 use Rattle.age.specs.Bytes.{AreBytes}
 use Rattle.age.specs.Armor.{Carries}
 use Rattle.age_uses.proofs.passphrases.kept_under_a_passphrase.Goals as goal
