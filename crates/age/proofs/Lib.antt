@@ -7,7 +7,10 @@ pub use Rattle.age_stream.proofs.Standing as StreamStanding
 pub use Rattle.age_stream.proofs.Remaining as StreamRemaining
 pub use Rattle.age_stream.proofs.Answered as StreamAnswered
 pub use Rattle.age_format.proofs.Strings
+pub use Rattle.age_format.proofs.Tags
+pub use Rattle.age_format.proofs.Outcomes
 pub use Rattle.age_keys.proofs.RefusedTexts
+pub use Rattle.age_keys.proofs.Strings as KeyStrings
 pub use Rattle.age_protocol.proofs.Fronts
 pub use Rattle.age_protocol.proofs.Accepted
 pub use Rattle.age_protocol.proofs.Opened

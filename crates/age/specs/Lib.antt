@@ -92,6 +92,7 @@ pub use Rattle.age_format.specs.ReadingHeader
 pub use Rattle.age_format.specs.Wrapping
 pub use Rattle.age_format.specs.Drawing
 pub use Rattle.age_format.specs.Unwrapping
+pub use Rattle.age_format.specs.UnwrappingLaws
 pub use Rattle.age_format.specs.Belonging
 pub use Rattle.age_format.specs.BelongingLaws
 pub use Rattle.age_format.specs.Boxed

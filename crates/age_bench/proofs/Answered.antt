@@ -2,12 +2,12 @@
 use Rattle.std.specs.Prelude.{◌≡◌, ℕ, List, [], ◌∷◌, ◌++◌, Option, Some, None, refl}
 use Rattle.std.proofs.Common.{◌∙◌, sym, subst, inl, inr}
 use Rattle.age.specs.Stanza.{StanzaValue}
-use Rattle.age.specs.Unwrapping.{UnwrapAnswer, FirstOf, Then, Unwraps}
+use Rattle.age.specs.Unwrapping.{UnwrapAnswer, Steady, FirstOf, Then, Unwraps}
+use Rattle.age.specs.UnwrappingLaws.{singly}
 use Rattle.age.specs.Answering.{FirstThatAnswers}
 use Rattle.age.specs.Parts.{FirstAnswer, IsFileFor}
 use Rattle.age_bench.specs.Bench.{bench_seal}
 use Rattle.age_bench.specs.Names.{AsksWith, answers_of}
-use Rattle.age_bench.specs.Recipient.{Steady}
 use Rattle.age_bench.specs.declared.names.With.{With}
 
 -- ---- one who doesn't change, and answers to each item by itself
@@ -33,30 +33,10 @@ module _ {S X A : Type 0} (asks : S → X → Option A → Type 0) where
   pub in_order : (before : S) (xs : List X) (answer : Option A) (after : S) → FirstOf Says before xs answer after → FirstOf Says before xs answer before
   in_order before xs answer after h = subst (λ s. FirstOf Says before xs answer s) (stays before xs answer after h) h
 
-  -- of one item
-  one_item : (before : S) (x : X) (answer : Option A) (after : S) → FirstOf Says before (x ∷ []) answer after → Says before x answer after
-  one_item before x answer after (None, between, asked, next) =
-      let same : after ≡ between = next.1 in
-      (subst (λ a. asks before x a) (sym next.0) asked.0, same ∙ asked.1)
-  one_item before x answer after (Some a, between, asked, next) = (subst (λ o. asks before x o) (sym next.0) asked.0, next.1 ∙ asked.1)
-
-  then_singly : (xs : List X) (first : Option A) (between : S) (answer : Option A) (after : S)
-      → ((s : S) → FirstOf (λ s x. FirstOf Says s (x ∷ [])) s xs answer after → FirstOf Says s xs answer after)
-      → Then (λ s. FirstOf (λ s x. FirstOf Says s (x ∷ [])) s xs) first between answer after → Then (λ s. FirstOf Says s xs) first between answer after
-  then_singly xs None between answer after step h = step between h
-  then_singly xs (Some a) between answer after step h = h
-
-  -- item by item it does what it does on the list
-  singly : (before : S) (xs : List X) (answer : Option A) (after : S) → FirstOf (λ s x. FirstOf Says s (x ∷ [])) before xs answer after
-      → FirstOf Says before xs answer after
-  singly before [] answer after h = h
-  singly before (x ∷ xs) answer after (first, between, asked, next) =
-      (first, between, one_item before x first between asked, then_singly xs first between answer after (λ s. singly s xs answer after) next)
-
   -- so it doesn't matter which of its calls is made
   pub either_way : (before : S) (xs : List X) (answer : Option A) (after : S) → Unwraps (FirstOf Says) before xs answer after → FirstOf Says before xs answer before
   either_way before xs answer after (inl h) = in_order before xs answer after h
-  either_way before xs answer after (inr h) = in_order before xs answer after (singly before xs answer after h)
+  either_way before xs answer after (inr h) = in_order before xs answer after (singly Says before xs answer after h)
 
   -- the one of a list of one that decides is that one
   decider : (before : S) (passed later : List S) (one : S) → before ∷ [] ≡ passed ++ one ∷ later → one ≡ before

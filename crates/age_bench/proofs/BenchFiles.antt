@@ -7,11 +7,13 @@ use Rattle.age.specs.Armor.{Carries}
 use Rattle.age.specs.ArmorWriting.{text_of}
 use Rattle.age.specs.Draw.{taken, left_after}
 use Rattle.age.specs.EncryptErrors.{EncryptRefusal, ShortRandom}
+use Rattle.age.specs.Drawing.{drawn}
 use Rattle.age.specs.Encrypting.{Prepared}
+use Rattle.age.proofs.Outcomes.{same_value, no_refusal}
 use Rattle.age.specs.File.{file_text, IsFileOf}
 use Rattle.age.specs.HeaderV1.{reads_legacy}
 use Rattle.age_bench.specs.Bench.{bench_seal}
-use Rattle.age_bench.specs.Names.{drawn, file_by}
+use Rattle.age_bench.specs.Names.{file_by}
 use Rattle.age_bench.specs.Recipient.{bench_stanza, bench_grease, bench_file}
 use Rattle.age_bench.specs.FileLaws.{IsBenchFile, IsCarried, GivesBack}
 use Rattle.age_bench.specs.declared.names.To.TheVariants.{Bench}
@@ -19,17 +21,11 @@ use Rattle.age_bench.proofs.OneFile.{IsMade}
 use Rattle.age_bench.proofs.BothForms.{IsCarriedAs, IsGivenBack}
 use Rattle.age_bench.proofs.Unwrapped.{bench_gives}
 
-not_ok : {P : Type 0} (x : List ℕ) (e : EncryptRefusal) → ◌≡◌ {A = Result (List ℕ) EncryptRefusal} (Err e) (Ok x) → P
-not_ok x e is = absurd (Prim.cc)
-
-ok_same : (x y : List ℕ) → ◌≡◌ {A = Result (List ℕ) EncryptRefusal} (Ok x) (Ok y) → x ≡ y
-ok_same x y is = Prim.cc
-
 -- what was made of random bytes was made of enough of them
 were_drawn : (bytes : Option (List ℕ)) (text_by : Prepared → List ℕ) (next : List ℕ → Result Prepared EncryptRefusal) (text : List ℕ)
     → result_map_both text_by (λ e. e) (drawn bytes next) ≡ Ok text
     → (b : List ℕ) × (bytes ≡ Some b) × (result_map_both text_by (λ e. e) (next b) ≡ Ok text)
-were_drawn None text_by next text h = not_ok text ShortRandom h
+were_drawn None text_by next text h = no_refusal text ShortRandom (sym h)
 were_drawn (Some b) text_by next text h = (b, refl, h)
 
 some_same : (x y : List ℕ) → Path (Option (List ℕ)) (Some x) (Some y) → x ≡ y
@@ -63,7 +59,7 @@ bench_filed draws plain text h =
     let behind : 16 ≤ length (drop 16 draws) = subst (λ l. 16 ≤ length l) left longer in
     let nonce_is : nonce ≡ take 16 (drop 16 draws) = nonce_same ∙ ap (λ l. take 16 l) left in (
       omega (arith, long, behind, length-drop 16 draws),
-      sym (ok_same _ _ done) ∙ ap (λ k. text_by plain (made_of k nonce)) key_same ∙ ap (λ n. text_by plain (made_of (take 16 draws) n)) nonce_is,
+      sym (same_value _ _ done) ∙ ap (λ k. text_by plain (made_of k nonce)) key_same ∙ ap (λ n. text_by plain (made_of (take 16 draws) n)) nonce_is,
     )
 
 pub is_file : IsMade → IsBenchFile

@@ -3,7 +3,7 @@ use Rattle.std.specs.Prelude.{ℕ, List, ◌++◌}
 use Rattle.std.proofs.Common.{inl, sym, subst}
 use Rattle.age.specs.Belonging.{BelongsTo}
 use Rattle.age.specs.Stanza.{StanzaValue}
-use Rattle.age.specs.Unwrapping.{UnwrapAnswer, FirstOf}
+use Rattle.age.specs.Unwrapping.{UnwrapAnswer, Steady, FirstOf}
 use Rattle.age.specs.X25519.{WrapsFor, UnwrapsBy}
 use Rattle.age.specs.X25519Laws as x25519
 use Rattle.age.specs.Scrypt.{PassphraseRecipient, PassphraseIdentity, WrapsUnder, UnwrapsUnder}
@@ -11,7 +11,7 @@ use Rattle.age.specs.ScryptLaws.{IsMeantFor}
 use Rattle.age.specs.ScryptLaws as scrypt
 use Rattle.age_bench.specs.Bench.{bench_seal, bench_opened, bench_shared, bench_public, bench_stretch, bench_accepts}
 use Rattle.age_bench.specs.Names.{AsksWith, WrapsTo, GoesWith, is_other_to}
-use Rattle.age_bench.specs.Recipient.{BenchAsks, BenchWraps, Steady, has_other_tag}
+use Rattle.age_bench.specs.Recipient.{BenchAsks, BenchWraps, has_other_tag}
 use Rattle.age_bench.specs.declared.names.To.{To}
 use Rattle.age_bench.specs.declared.names.To.TheVariants as to
 use Rattle.age_bench.specs.declared.names.With.{With}

@@ -9,12 +9,12 @@ use Rattle.std.proofs.lemmas.Option.{none-some}
 use Rattle.std.proofs.lemmas.Slice.Eq.{bytes_eq-Decides}
 use Rattle.age.specs.DecryptErrors.{InvalidHeader}
 use Rattle.age.specs.Stanza.{StanzaValue}
-use Rattle.age.specs.Unwrapping.{UnwrapAnswer, FirstOf, Then}
+use Rattle.age.specs.Unwrapping.{UnwrapAnswer, Steady, FirstOf, Then}
 use Rattle.age.specs.Parts.{IsFileFor}
 use Rattle.age_bench.specs.Bench.{bench_seal}
 use Rattle.age_bench.specs.Files.{IsFileForBench}
 use Rattle.age_bench.specs.Names.{AsksWith, answers_of, gives_of}
-use Rattle.age_bench.specs.Recipient.{Steady, bench_stanza, bench_unwrapped, first_answer, bench_answer, HoldsBenchKey}
+use Rattle.age_bench.specs.Recipient.{bench_stanza, bench_unwrapped, first_answer, bench_answer, HoldsBenchKey}
 use Rattle.age_bench.specs.declared.names.With.{With}
 use Rattle.age_bench.specs.declared.names.With.TheVariants.{Bench}
 

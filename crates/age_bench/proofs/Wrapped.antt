@@ -16,7 +16,9 @@ use Rattle.age.specs.Stanza.{StanzaValue}
 use Rattle.age.specs.Wrapping.{Wrapped, WrapAnswer}
 use Rattle.age.specs.RecipientLabels.{Gathered, has_scrypt, judged, nothing_yet, with_labels}
 use Rattle.age.specs.Draw.{taken, left_after}
-use Rattle.age.specs.Drawing.{Ends, UnlessNoMemory, Then, After}
+use Rattle.age.specs.Drawing.{Ends, UnlessNoMemory, Then, After, drawn, and_then}
+use Rattle.age.proofs.Outcomes.{same_value, same_refusal, no_refusal}
+use Rattle.age.proofs.KeyStrings.{columns-tested}
 use Rattle.age.specs.Encrypting.{Prepared, PreparesNonce, PreparesRest, PreparesWith, Prepares, WrapsInTurn}
 use Rattle.age.specs.Several.{grease_beside}
 use Rattle.age.specs.File.{file_text}
@@ -24,7 +26,7 @@ use Rattle.age.specs.X25519.{wrapped_with, x25519_stanza, no_secret}
 use Rattle.age.specs.Scrypt.{PassphraseRecipient, WrapsWith, wrapped_under}
 use Rattle.age_bench.specs.Bench.{bench_seal, bench_shared, bench_public, bench_stretch, bench_accepts}
 use Rattle.age_bench.specs.Recipient.{bench_stanza, bench_grease}
-use Rattle.age_bench.specs.Names.{WrapsTo, drawn, and_then, wrapped_by, left_by, stanzas_beside, prepared_by, file_by}
+use Rattle.age_bench.specs.Names.{WrapsTo, wrapped_by, left_by, stanzas_beside, prepared_by, file_by}
 use Rattle.age_bench.specs.declared.names.To.{To}
 use Rattle.age_bench.specs.declared.names.To.TheVariants.{Bench, Key, Passphrase}
 
@@ -75,27 +77,21 @@ pub record Answers (due : Result Wrapped EncryptRefusal) (kept : List ℕ) (answ
 abbrev Answered : To → List ℕ → List ℕ → WrapAnswer → List ℕ → Type 0
 Answered to file_key draws answer left = Answers (wrapped_by to file_key draws) (left_by to draws) answer left
 
-ok_same : {A : Type 0} (x y : A) → ◌≡◌ {A = Result A EncryptRefusal} (Ok x) (Ok y) → x ≡ y
-ok_same x y is = Prim.cc
-
-not_ok : {A P : Type 0} (x : A) (e : EncryptRefusal) → ◌≡◌ {A = Result A EncryptRefusal} (Err e) (Ok x) → P
-not_ok x e is = absurd (Prim.cc)
-
 -- what was wrapped was due
-was_due : (due : Result Wrapped EncryptRefusal) (wrapped : Wrapped) (answer : WrapAnswer) → IsDue due answer → answer ≡ Ok wrapped → due ≡ Ok wrapped
-was_due due wrapped answer (inl is) made = sym is ∙ made
-was_due due wrapped answer (inr want) made = not_ok wrapped OutOfMemory (sym want ∙ made)
+value_due : (due : Result Wrapped EncryptRefusal) (wrapped : Wrapped) (answer : WrapAnswer) → IsDue due answer → answer ≡ Ok wrapped → due ≡ Ok wrapped
+value_due due wrapped answer (inl is) made = sym is ∙ made
+value_due due wrapped answer (inr want) made = no_refusal wrapped OutOfMemory (sym made ∙ want)
 
 -- one stanza without labels
 plain_one : (stanza : StanzaValue) (wrapped : Wrapped) → ◌≡◌ {A = Result Wrapped EncryptRefusal} (Ok (record { stanzas = stanza ∷ []; labels = [] })) (Ok wrapped)
     → IsOne wrapped
-plain_one stanza wrapped is = record { stanza = stanza; labels = []; is = sym (ok_same _ wrapped is); strings = refl }
+plain_one stanza wrapped is = record { stanza = stanza; labels = []; is = sym (same_value _ wrapped is); strings = refl }
 
 -- a refusal that is due, or want of memory
 refused_as : (e : EncryptRefusal) (due : Result Wrapped EncryptRefusal) (kept : List ℕ) (answer : WrapAnswer) (left : List ℕ) → answer ≡ Err e → IsDue due answer
     → Answers due kept answer left
 refused_as e due kept answer left is so =
-    record { is_due = so; left_is = λ wrapped made. not_ok wrapped e (sym is ∙ made); one = λ wrapped made. not_ok wrapped e (sym is ∙ made) }
+    record { is_due = so; left_is = λ wrapped made. no_refusal wrapped e (sym made ∙ is); one = λ wrapped made. no_refusal wrapped e (sym made ∙ is) }
 
 bench_answered : (file_key draws : List ℕ) (answer : WrapAnswer) (left : List ℕ) → WrapsTo Bench file_key draws answer left → Answered Bench file_key draws answer left
 bench_answered file_key draws answer left (inl h) =
@@ -125,12 +121,12 @@ of_some (Some b) Short A B C h = ((h.0, h.1), h.2)
 
 key_one : (zero : Bool) (share body : List ℕ) (wrapped : Wrapped)
     → (if zero then Err ZeroSharedSecret else Ok (record { stanzas = x25519_stanza share body ∷ []; labels = [] })) ≡ Ok wrapped → IsOne wrapped
-key_one true share body wrapped is = not_ok wrapped ZeroSharedSecret is
+key_one true share body wrapped is = no_refusal wrapped ZeroSharedSecret (sym is)
 key_one false share body wrapped is = plain_one (x25519_stanza share body) wrapped is
 
 drawn_one : (bytes : Option (List ℕ)) (due : List ℕ → Result Wrapped EncryptRefusal) (wrapped : Wrapped)
     → ((b : List ℕ) → due b ≡ Ok wrapped → IsOne wrapped) → drawn bytes due ≡ Ok wrapped → IsOne wrapped
-drawn_one None due wrapped each is = not_ok wrapped ShortRandom is
+drawn_one None due wrapped each is = no_refusal wrapped ShortRandom (sym is)
 drawn_one (Some b) due wrapped each is = each b is
 
 key_answered : (public file_key draws : List ℕ) (answer : WrapAnswer) (left : List ℕ) → WrapsTo (Key public) file_key draws answer left
@@ -145,33 +141,20 @@ key_answered public file_key draws answer left h =
       left_is = λ _ _. same;
       one = λ wrapped made.
           drawn_one (taken 32 draws) due wrapped (λ ephemeral so. key_one (bytes_eq (bench_shared ephemeral public) no_secret) _ _ wrapped so)
-          (was_due (drawn (taken 32 draws) due) wrapped answer is made);
+          (value_due (drawn (taken 32 draws) due) wrapped answer is made);
     }
 
 -- ---- a passphrase
 
-both : {a b : Bool} → a ≡ true → b ≡ true → (a && b) ≡ true
-both is so = rw (is, so) refl
-
-graphic : (c : ℕ) → IsSymbol c → is_graphic c ≡ true
-graphic c h = both (le-leb 33 c (omega (arith, h.0))) (le-leb c 126 (omega (arith, h.1)))
-
-all_graphic : (xs : List ℕ) → AllByRecursion IsSymbol xs → list_all is_graphic xs ≡ true
-all_graphic [] h = refl
-all_graphic (x ∷ xs) h = both (graphic x h.0) (all_graphic xs h.1)
-
 -- the label is a string
 label_string : (label : List ℕ) → AreBytesOf 24 label → list_all is_string_of (columns label ∷ []) ≡ true
-label_string label h =
-    let size = length-columns label in
-    let some : 0 < length (columns label) = omega (arith, size, h.len) in
-    both (both (lt-ltb 0 (length (columns label)) some) (all_graphic (columns label) (columns_symbols label h.bytes))) refl
+label_string label h = rw (columns-tested 24 label (omega arith) h) refl
 
 passphrase_one : (accepts : Bool) (stanza : StanzaValue) (label : List ℕ) (wrapped : Wrapped) → AreBytesOf 24 label
     → (if accepts then Ok (record { stanzas = stanza ∷ []; labels = columns label ∷ [] }) else Err WorkFactorRefused) ≡ Ok wrapped → IsOne wrapped
 passphrase_one true stanza label wrapped bytes is =
-    record { stanza = stanza; labels = columns label ∷ []; is = sym (ok_same _ wrapped is); strings = label_string label bytes }
-passphrase_one false stanza label wrapped bytes is = not_ok wrapped WorkFactorRefused is
+    record { stanza = stanza; labels = columns label ∷ []; is = sym (same_value _ wrapped is); strings = label_string label bytes }
+passphrase_one false stanza label wrapped bytes is = no_refusal wrapped WorkFactorRefused (sym is)
 
 passphrase_by : (salt label : Option (List ℕ)) (recipient : PassphraseRecipient) (file_key draws between kept : List ℕ) (answer : WrapAnswer) (left : List ℕ)
     → MatchOption salt (Ends (Err ShortRandom) draws answer left) (λ s. MatchOption label (Ends (Err ShortRandom) between answer left)
@@ -185,7 +168,7 @@ passphrase_by (Some s) (Some l) recipient file_key draws between kept answer lef
     record {
       is_due = is;
       left_is = λ _ _. same;
-      one = λ wrapped made. passphrase_one (bench_accepts recipient.factor) _ l wrapped h.2 (was_due due wrapped answer is made);
+      one = λ wrapped made. passphrase_one (bench_accepts recipient.factor) _ l wrapped h.2 (value_due due wrapped answer is made);
     }
 
 passphrase_answered : (recipient : PassphraseRecipient) (file_key draws : List ℕ) (answer : WrapAnswer) (left : List ℕ)
@@ -198,12 +181,9 @@ answered Bench file_key draws answer left h = bench_answered file_key draws answ
 answered (Key public) file_key draws answer left h = key_answered public file_key draws answer left h
 answered (Passphrase recipient) file_key draws answer left h = passphrase_answered recipient file_key draws answer left h
 
-same_refusal : {A B : Type 0} (e : EncryptRefusal) → ◌≡◌ {A = Result A EncryptRefusal} (Err e) (Err OutOfMemory) → ◌≡◌ {A = Result B EncryptRefusal} (Err e) (Err OutOfMemory)
-same_refusal e is = Prim.cc
-
 made_due : (due : Result Wrapped EncryptRefusal) (wrapped : Wrapped) → IsDue due (Ok wrapped) → Ok wrapped ≡ due
 made_due due wrapped (inl is) = is
-made_due due wrapped (inr want) = not_ok wrapped OutOfMemory (sym want)
+made_due due wrapped (inr want) = no_refusal wrapped OutOfMemory want
 
 -- ---- the whole
 
@@ -259,7 +239,7 @@ gathered_due file_key stanza labels draws gathered between outcome left (inr wan
 refused_due : (due : Result Wrapped EncryptRefusal) (next : Wrapped → Result Prepared EncryptRefusal) (e : EncryptRefusal) (outcome : Result Prepared EncryptRefusal)
     → IsDue due (Err e) → outcome ≡ Err e → IsDue (and_then due next) outcome
 refused_due due next e outcome (inl is) ended = inl (ended ∙ ap (λ d. and_then d next) is)
-refused_due due next e outcome (inr want) ended = inr (ended ∙ same_refusal e want)
+refused_due due next e outcome (inr want) ended = inr (ended ∙ ap Err (same_refusal {A = Wrapped} e OutOfMemory want))
 
 with_due : (to : To) (file_key draws : List ℕ) (outcome : Result Prepared EncryptRefusal) (left : List ℕ)
     → PreparesWith WrapsTo (to ∷ []) (Some bench_grease) file_key draws outcome left
@@ -292,16 +272,13 @@ pub filed : (to : To) (draws plain : List ℕ) (file : Prepared) (left : List �
     → file_by to draws plain ≡ Ok (file_text bench_seal file.file_key file.stanzas file.nonce plain)
 filed to draws plain file left h = elim (prepared to draws (Ok file) left h) [
   | inl due ↦ ap (λ made. result_map_both (λ file. file_text bench_seal file.file_key file.stanzas file.nonce plain) (λ e. e) made) (sym due)
-  | inr want ↦ not_ok file OutOfMemory (sym want)
+  | inr want ↦ no_refusal file OutOfMemory want
 ]
-
-err_same : {A : Type 0} (x y : EncryptRefusal) → ◌≡◌ {A = Result A EncryptRefusal} (Err x) (Err y) → x ≡ y
-err_same x y is = Prim.cc
 
 -- or the refusal
 pub never_filed : (to : To) (draws : List ℕ) (refusal : EncryptRefusal) (left : List ℕ) → Prepares WrapsTo (to ∷ []) (Some bench_grease) draws (Err refusal) left
     → (refusal ≡ OutOfMemory) ⊎ ((plain : List ℕ) → file_by to draws plain ≡ Err refusal)
 never_filed to draws refusal left h = elim (prepared to draws (Err refusal) left h) [
   | inl due ↦ inr (λ plain. ap (λ made. result_map_both (λ file. file_text bench_seal file.file_key file.stanzas file.nonce plain) (λ e. e) made) (sym due))
-  | inr want ↦ inl (err_same refusal OutOfMemory want)
+  | inr want ↦ inl (same_refusal {A = Prepared} refusal OutOfMemory want)
 ]

@@ -1,11 +1,12 @@
 -- What those answer whom the words of a command line name.
 use Rattle.std.specs.Prelude.{◌≡◌, ⊤, ℕ, Bool, List, ◌++◌, Option, Some, None, Result, Ok, Err}
 use Rattle.std.specs.Result.{result_map_both}
-use Rattle.age.specs.EncryptErrors.{EncryptRefusal, ShortRandom}
+use Rattle.age.specs.EncryptErrors.{EncryptRefusal}
 use Rattle.age.specs.Draw.{taken, left_after}
+use Rattle.age.specs.Drawing.{drawn, and_then}
 use Rattle.age.specs.Stanza.{StanzaValue}
 use Rattle.age.specs.Wrapping.{Wrapped, WrapAnswer}
-use Rattle.age.specs.Unwrapping.{UnwrapAnswer, FirstOf}
+use Rattle.age.specs.Unwrapping.{UnwrapAnswer, Steady, FirstOf}
 use Rattle.age.specs.X25519.{WrapsFor, UnwrapsBy, wrapped_with}
 use Rattle.age.specs.X25519Laws as x25519
 use Rattle.age.specs.Scrypt.{WrapsUnder, UnwrapsUnder, wrapped_under}
@@ -16,7 +17,7 @@ use Rattle.age.specs.Encrypting.{Prepared}
 use Rattle.age.specs.Several.{grease_beside}
 use Rattle.age.specs.File.{file_text}
 use Rattle.age_bench.specs.Bench.{bench_seal, bench_opened, bench_shared, bench_public, bench_stretch, bench_accepts}
-use Rattle.age_bench.specs.Recipient.{BenchAsks, BenchWraps, Steady, bench_wrapped, bench_grease, has_other_tag}
+use Rattle.age_bench.specs.Recipient.{BenchAsks, BenchWraps, bench_wrapped, bench_grease, has_other_tag}
 use Rattle.age_bench.specs.declared.names.To.{To}
 use Rattle.age_bench.specs.declared.names.To.TheVariants as to
 use Rattle.age_bench.specs.declared.names.With.{With}
@@ -29,16 +30,6 @@ abbrev pub WrapsTo : To → List ℕ → List ℕ → WrapAnswer → List ℕ �
 WrapsTo to.Bench file_key draws answer left = BenchWraps file_key draws answer left
 WrapsTo (to.Key public) file_key draws answer left = WrapsFor bench_seal bench_shared bench_public public file_key draws answer left
 WrapsTo (to.Passphrase recipient) file_key draws answer left = WrapsUnder bench_seal bench_stretch bench_accepts recipient file_key draws answer left
-
--- what comes of random bytes, which may be too few
-abbrev pub drawn : {A : Type 0} → Option (List ℕ) → (List ℕ → Result A EncryptRefusal) → Result A EncryptRefusal
-drawn None next = Err ShortRandom
-drawn (Some bytes) next = next bytes
-
--- what comes of a value, which may have been refused
-abbrev pub and_then : {A B : Type 0} → Result A EncryptRefusal → (A → Result B EncryptRefusal) → Result B EncryptRefusal
-and_then (Err e) next = Err e
-and_then (Ok x) next = next x
 
 -- what TO wraps a file key in, where memory isn't refused: X25519 takes the next 32 random bytes for the ephemeral secret, a passphrase
 -- the next 16 for the salt and 24 more for the label

@@ -38,10 +38,6 @@ BenchAsks stanza answer = answer ≡ bench_unwrapped stanza
 abbrev pub has_other_tag : StanzaValue → Bool
 has_other_tag stanza = not (bytes_eq stanza.tag (codes "bench"))
 
--- one who answers so, and doesn't change by it
-abbrev pub Steady : {S X A : Type 0} → (S → X → Option A → Type 0) → S → X → Option A → S → Type 0
-Steady asks before x answer after = asks before x answer × (after ≡ before)
-
 -- the first answer that isn't None
 abbrev pub first_answer : {X A : Type 0} → (X → Option A) → List X → Option A
 first_answer f [] = None

@@ -1,6 +1,5 @@
 //! To whom and with what the program encrypts and decrypts.
 ghost use Rattle.age_bench.specs.Names.{WrapsTo, AsksWith};
-ghost use Rattle.age_bench.specs.Recipient.{Steady};
 
 use crate::recipient::{BenchIdentity, BenchRecipient};
 use crate::suite::BenchSuite;
@@ -53,7 +52,7 @@ pub enum With {
 
 // Each word's identity answers by itself, to one stanza after the other.
 impl Identity for With {
-    ghost use Rattle.age.specs.Unwrapping.{FirstOf};
+    ghost use Rattle.age.specs.Unwrapping.{FirstOf, Steady};
 
     ghost unwraps = { FirstOf (Steady AsksWith) };
 

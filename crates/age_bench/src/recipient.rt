@@ -3,9 +3,9 @@
 ghost use Rattle.std.specs.Prelude.{Ok};
 ghost use Rattle.std.specs.Result.{result_map_both};
 ghost use Rattle.age.specs.EncryptErrors.{encrypt_refusal};
-ghost use Rattle.age.specs.Unwrapping.{FirstOf};
+ghost use Rattle.age.specs.Unwrapping.{FirstOf, Steady};
 ghost use Rattle.age.specs.Drawing.{IsOrNoMemory};
-ghost use Rattle.age_bench.specs.Recipient.{BenchAsks, BenchWraps, Steady, bench_stanza};
+ghost use Rattle.age_bench.specs.Recipient.{BenchAsks, BenchWraps, bench_stanza};
 
 use age::draw::Draw;
 use age::format::Stanza;

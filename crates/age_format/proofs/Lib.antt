@@ -3,6 +3,8 @@ pub mod Body
 pub mod Headers
 pub mod Verdicts
 pub mod Strings
+pub mod Tags
+pub mod Outcomes
 pub mod Equality
 pub mod Writing
 pub mod Parsing

@@ -6,6 +6,7 @@ use Rattle.age_error.specs.DecryptErrors.{OutOfMemory}
 use Rattle.age_format.specs.Stanza.{StanzaValue}
 use Rattle.age_format.specs.Wrapping.{WrapAnswer, Wrapped}
 use Rattle.age_format.specs.Unwrapping.{UnwrapAnswer, FirstOf, Then}
+use Rattle.age_format.specs.UnwrappingLaws.{singly}
 use Rattle.age_format.specs.Belonging.{MayWrap, AnswersBeside, BelongsTo}
 
 -- the file key, or want of memory
@@ -13,32 +14,6 @@ abbrev IsKeyOrWant : List ℕ → UnwrapAnswer → Type 0
 IsKeyOrWant file_key answer = (answer ≡ Some (Ok file_key)) ⊎ (answer ≡ Some (Err OutOfMemory))
 
 module _ {I : Type 0} (asks : I → StanzaValue → UnwrapAnswer → I → Type 0) where
-  -- asking a list of one by the relation on lists is asking that one
-  one_asked : (before : I) (s : StanzaValue) (first answer : UnwrapAnswer) (between after : I) → asks before s first between
-      → Then (λ i. FirstOf asks i []) first between answer after → asks before s answer after
-  one_asked before s None answer between after asked (none, same) = rw (none, same) asked
-  one_asked before s (Some a) answer between after asked (is, same) = rw (is, same) asked
-
-  singly_then : (stanzas : List StanzaValue) (first : UnwrapAnswer) (between : I) (answer : UnwrapAnswer) (after : I)
-      → ((i : I) → FirstOf (λ i s. FirstOf asks i (s ∷ [])) i stanzas answer after → FirstOf asks i stanzas answer after)
-      → Then (λ i. FirstOf (λ i s. FirstOf asks i (s ∷ [])) i stanzas) first between answer after
-      → Then (λ i. FirstOf asks i stanzas) first between answer after
-  singly_then stanzas None between answer after more next = more between next
-  singly_then stanzas (Some a) between answer after more next = next
-
-  -- so going stanza by stanza it does what it does on the list
-  singly : (before : I) (stanzas : List StanzaValue) (answer : UnwrapAnswer) (after : I)
-      → FirstOf (λ i s. FirstOf asks i (s ∷ [])) before stanzas answer after → FirstOf asks before stanzas answer after
-  singly before [] answer after h = h
-  singly before (s ∷ stanzas) answer after h =
-      let (first, between, one, next) = h in
-      let (own, then, asked, ended) = one in (
-        first,
-        between,
-        one_asked before s own first then between asked ended,
-        singly_then stanzas first between answer after (λ i more. singly i stanzas answer after more) next,
-      )
-
   -- to a strange stanza it answers nothing and doesn't change, unless memory is refused
   abbrev pub PassesOver : (StanzaValue → Type 0) → I → Type 0
   PassesOver Strange identity = (s : StanzaValue) (answer : UnwrapAnswer) (after : I) → Strange s → asks identity s answer after
@@ -83,7 +58,7 @@ module _ {I : Type 0} (asks : I → StanzaValue → UnwrapAnswer → I → Type 
             | inl on_list ↦ passed file_key before (wrapped.stanzas ++ later) answer after strange of_own on_list
             | inr in_turn ↦
                 passed file_key before (wrapped.stanzas ++ later) answer after strange of_own
-                (singly identity (before ++ (wrapped.stanzas ++ later)) answer after in_turn)
+                (singly asks identity (before ++ (wrapped.stanzas ++ later)) answer after in_turn)
           ]
 
     -- So an identity that goes stanza by stanza belongs to the recipient.

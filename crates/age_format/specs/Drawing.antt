@@ -1,5 +1,5 @@
 -- Steps of an encryption that draws random bytes: of the draws before, the outcome and the draws left.
-use Rattle.std.specs.Prelude.{◌≡◌, ◌⊎◌, ℕ, List, Result, Ok, Err, MatchOption}
+use Rattle.std.specs.Prelude.{◌≡◌, ◌⊎◌, ℕ, List, Option, Some, None, Result, Ok, Err, MatchOption}
 use Rattle.age_suite.specs.Draw.{taken, left_after}
 use Rattle.age_error.specs.EncryptErrors.{EncryptRefusal, ShortRandom, OutOfMemory}
 
@@ -33,3 +33,13 @@ abbrev pub WithDrawn : {B : Type 0} → ℕ → (List ℕ → List ℕ → Resul
     → List ℕ → Result B EncryptRefusal → List ℕ → Type 0
 WithDrawn n goes_on draws outcome left =
     MatchOption (taken n draws) (Ends (Err ShortRandom) draws outcome left) (λ bytes. goes_on bytes (left_after n draws) outcome left)
+
+-- what comes of random bytes where memory isn't refused: they may be too few
+abbrev pub drawn : {A : Type 0} → Option (List ℕ) → (List ℕ → Result A EncryptRefusal) → Result A EncryptRefusal
+drawn None next = Err ShortRandom
+drawn (Some bytes) next = next bytes
+
+-- what comes of a value, which may have been refused
+abbrev pub and_then : {A B : Type 0} → Result A EncryptRefusal → (A → Result B EncryptRefusal) → Result B EncryptRefusal
+and_then (Err e) next = Err e
+and_then (Ok x) next = next x

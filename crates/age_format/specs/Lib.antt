@@ -10,6 +10,7 @@ pub mod ReadingHeader
 pub mod Wrapping
 pub mod Drawing
 pub mod Unwrapping
+pub mod UnwrappingLaws
 pub mod Belonging
 pub mod BelongingLaws
 pub mod Boxed

@@ -28,6 +28,10 @@ FirstOf asks before [] answer after = (answer ≡ None) × (after ≡ before)
 FirstOf {S} {X} {A} asks before (x ∷ xs) answer after =
     (first : Option A) × (between : S) × asks before x first between × Then (λ s. FirstOf asks s xs) first between answer after
 
+-- one that answers so, and doesn't change by being asked
+abbrev pub Steady : {S X A : Type 0} → (S → X → Option A → Type 0) → S → X → Option A → S → Type 0
+Steady asks before x answer after = asks before x answer × (after ≡ before)
+
 -- what an identity may do with several stanzas: by its relation on lists, or stanza by stanza
 abbrev pub Unwraps : {S X A : Type 0} → (S → List X → Option A → S → Type 0) → S → List X → Option A → S → Type 0
 Unwraps unwraps before stanzas answer after =

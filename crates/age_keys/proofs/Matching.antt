@@ -6,7 +6,7 @@ use Rattle.age_error.specs.DecryptErrors.{OutOfMemory}
 use Rattle.age_suite.specs.Suite.{IsCipher, IsAgreement}
 use Rattle.age_format.specs.Stanza.{StanzaValue}
 use Rattle.age_format.specs.Wrapping.{WrapAnswer}
-use Rattle.age_format.specs.Unwrapping.{UnwrapAnswer, FirstOf}
+use Rattle.age_format.specs.Unwrapping.{UnwrapAnswer, Steady, FirstOf}
 use Rattle.age_format.specs.Belonging.{AnswersBeside, BelongsTo}
 use Rattle.age_format.specs.BelongingLaws.{OpensFirst, beside, by_stanza}
 use Rattle.age_keys.specs.X25519.{HasShare, WrapsFor, opened_with, UnwrapsBy}
@@ -37,7 +37,7 @@ module _ (opened : List ℕ → List ℕ → List ℕ → Option (List ℕ)) (sh
     Wraps = WrapsFor seal_of shared_of public_of
 
     abbrev Asks : List ℕ → StanzaValue → UnwrapAnswer → List ℕ → Type 0
-    Asks before stanza answer after = UnwrapsBy opened shared_of public_of before stanza answer × (after ≡ before)
+    Asks = Steady (UnwrapsBy opened shared_of public_of)
 
     opens_first : OpensFirst Asks Wraps (public_of secret) secret
     opens_first file_key wrapped sixteen wraps_so =

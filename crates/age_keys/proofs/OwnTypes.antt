@@ -1,18 +1,11 @@
 -- Identities that answer to one type of stanzas.
-use Rattle.std.specs.Prelude.{◌≡◌, ◌≢◌, ◌⊎◌, ℕ, Bool, true, false, not, List, None, Some, Err, IsTrue, bytes_eq}
+use Rattle.std.specs.Prelude.{◌≡◌, ◌⊎◌, ℕ, not, List, None, Some, Err, IsTrue, bytes_eq}
 use Rattle.std.proofs.Common.{◌∙◌, ap, inl, inr}
-use Rattle.std.proofs.lemmas.Slice.Eq.{bytes_eq-Decides}
 use Rattle.age_error.specs.DecryptErrors.{OutOfMemory}
 use Rattle.age_format.specs.Stanza.{StanzaValue}
 use Rattle.age_format.specs.Unwrapping.{UnwrapAnswer}
+use Rattle.age_format.proofs.Tags.{other_tag}
 use Rattle.age_keys.specs.OwnType.{UnwrapsType}
-
-not_so : (b : Bool) → IsTrue (not b) → b ≢ true
-not_so true strange = absurd (Prim.cc)
-not_so false strange = λ is. absurd (Prim.cc)
-
-other_tag : (tag : List ℕ) (s : StanzaValue) → IsTrue (not (bytes_eq s.tag tag)) → s.tag ≢ tag
-other_tag tag s strange same = not_so (bytes_eq s.tag tag) strange ((bytes_eq-Decides s.tag tag).1 same)
 
 -- nothing was answered, and nothing changed
 pub unchanged : {I : Type 0} (identity after : I) (answer : UnwrapAnswer) → after ≡ identity → (answer ≡ None) ⊎ (answer ≡ Some (Err OutOfMemory))
@@ -25,7 +18,7 @@ module _ {P : Type 0} (Has : P → StanzaValue → Type 0) (made_of : P → List
   pub passes_other : (s : StanzaValue) (answer : UnwrapAnswer) → IsTrue (not (bytes_eq s.tag tag)) → UnwrapsType Has made_of tag s answer
       → (answer ≡ None) ⊎ (answer ≡ Some (Err OutOfMemory))
   passes_other s answer other (inl passed) = inl passed.1
-  passes_other s answer other (inr own) = absurd (other_tag tag s other own.0)
+  passes_other s answer other (inr own) = absurd (other_tag s.tag tag other own.0)
 
   -- to a stanza of the type that has these parts and no others it answers what it makes of them
   pub answers_own : (s : StanzaValue) (parts : P) (answer : UnwrapAnswer) → s.tag ≡ tag → Has parts s → ((other : P) → Has other s → other ≡ parts)

@@ -16,16 +16,17 @@ use Rattle.age_base64.specs.Base64.{columns}
 use Rattle.age_base64.proofs.Columns.{columns_same}
 use Rattle.age_format.specs.Stanza.{StanzaValue}
 use Rattle.age_format.specs.Wrapping.{Wrapped, WrapAnswer}
-use Rattle.age_format.specs.Unwrapping.{UnwrapAnswer, FirstOf}
+use Rattle.age_format.specs.Unwrapping.{UnwrapAnswer, Steady, FirstOf}
 use Rattle.age_format.specs.Belonging.{BelongsTo}
 use Rattle.age_format.specs.BelongingLaws.{OpensFirst, by_stanza}
 use Rattle.age_format.specs.Drawing.{WithDrawn, IsOrNoMemory}
+use Rattle.age_format.proofs.Outcomes.{same_value, no_refusal, was_due}
 use Rattle.age_keys.specs.OwnType.{no_nonce}
 use Rattle.age_keys.specs.Scrypt.{PassphraseRecipient, PassphraseIdentity, Stretching, HasStretching, stretch_salt, scrypt_stanza, wrapped_under, WrapsWith, WrapsUnder, key_under, UnwrapsUnder}
 use Rattle.age_keys.specs.ScryptLaws.{IsMeantFor, has_other_tag}
 use Rattle.age_keys.proofs.Opening.{no_nonce-bytes}
 use Rattle.age_keys.proofs.OwnTypes.{unchanged, passes_other, answers_own}
-use Rattle.age_keys.proofs.Unwrapped.{same_ok, not_err, was_due, drawn}
+use Rattle.age_keys.proofs.Unwrapped.{was_drawn}
 
 -- a suite that stretched a passphrase accepts the factor
 pub accepted : (key : List ℕ) (accepts : Bool) → Path (Result (List ℕ) ScryptError) (Ok key) (Err InvalidParams) ↔ (accepts ≡ false) → accepts ≡ true
@@ -73,9 +74,9 @@ one_stretching with_ other s h o =
     λ i. record { salt = salt i; factor = factor i }
 
 -- wrapped where the suite accepts the factor
-was_accepted : (accepts : Bool) (made wrapped : Wrapped) → (if accepts then Ok made else Err WorkFactorRefused) ≡ Ok wrapped → (accepts ≡ true) × (made ≡ wrapped)
-was_accepted true made wrapped is = (refl, same_ok made wrapped is)
-was_accepted false made wrapped is = not_err wrapped WorkFactorRefused (sym is)
+pub was_accepted : (accepts : Bool) (made wrapped : Wrapped) → (if accepts then Ok made else Err WorkFactorRefused) ≡ Ok wrapped → (accepts ≡ true) × (made ≡ wrapped)
+was_accepted true made wrapped is = (refl, same_value made wrapped is)
+was_accepted false made wrapped is = no_refusal wrapped WorkFactorRefused (sym is)
 
 module _ (seal_of : List ℕ → List ℕ → List ℕ → List ℕ) (opened : List ℕ → List ℕ → List ℕ → Option (List ℕ)) (stretch_of : List ℕ → List ℕ → ℕ → List ℕ)
     (accepts : ℕ → Bool) (cipher : IsCipher seal_of opened) (stretching : IsStretching stretch_of accepts) (recipient : PassphraseRecipient)
@@ -125,14 +126,14 @@ module _ (seal_of : List ℕ → List ℕ → List ℕ → List ℕ) (opened : L
   Wraps = WrapsUnder seal_of stretch_of accepts
 
   abbrev Asks : PassphraseIdentity → StanzaValue → UnwrapAnswer → PassphraseIdentity → Type 0
-  Asks before stanza answer after = UnwrapsUnder opened stretch_of accepts before stanza answer × (after ≡ before)
+  Asks = Steady (UnwrapsUnder opened stretch_of accepts)
 
   opens_first : OpensFirst Asks Wraps recipient identity
   opens_first file_key wrapped sixteen wraps_so =
       let (draws, left, made_so) = wraps_so in
-      let (enough, given) = drawn (nat_le 16 (length draws)) 16 (λ salt. WithDrawn 24 (λ label. WrapsWith seal_of stretch_of accepts recipient file_key salt label)) draws left
+      let (enough, given) = was_drawn (nat_le 16 (length draws)) 16 (λ salt. WithDrawn 24 (λ label. WrapsWith seal_of stretch_of accepts recipient file_key salt label)) draws left
       wrapped made_so in
-      let (more, wrapping) = drawn (nat_le 24 (length (drop 16 draws))) 24 (WrapsWith seal_of stretch_of accepts recipient file_key (take 16 draws)) (drop 16 draws) left
+      let (more, wrapping) = was_drawn (nat_le 24 (length (drop 16 draws))) 24 (WrapsWith seal_of stretch_of accepts recipient file_key (take 16 draws)) (drop 16 draws) left
       wrapped given in
       let (f, s, l, after) = wrapping in
       let due = was_due (wrapped_under seal_of stretch_of accepts recipient file_key (take 16 draws) (take 24 (drop 16 draws))) (drop 24 (drop 16 draws)) left wrapped after in

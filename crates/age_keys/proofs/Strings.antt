@@ -1,5 +1,5 @@
 -- Base64 and decimals are strings of the format, and so a stanza of them is made.
-use Rattle.std.proofs.Common.{◌≡◌, ◌≢◌, ◌∙◌, ℕ, ◌^◌, ◌<◌, ◌≤◌, List, [], ◌∷◌, ◌++◌, length, map, arith, ap, refl}
+use Rattle.std.proofs.Common.{◌≡◌, ◌≢◌, ◌∙◌, ℕ, ◌^◌, ◌<◌, ◌≤◌, List, [], ◌∷◌, ◌++◌, length, map, arith, ap, refl, true}
 use Rattle.std.specs.Fmt.{decimal}
 use Rattle.std.specs.List.{AllByRecursion}
 use Rattle.std.specs.Str.Parse.{AllDigits}
@@ -8,19 +8,24 @@ use Rattle.std.proofs.lemmas.Str.Parse.{digit_from_value}
 use Rattle.age_error.specs.Bytes.{AreBytesOf}
 use Rattle.age_base64.specs.Base64.{columns}
 use Rattle.age_base64.proofs.Columns.{IsSymbol, columns_symbols, length-columns}
-use Rattle.age_format.specs.Bytes.{IsGraphic, IsString}
+use Rattle.age_format.specs.Bytes.{IsGraphic, IsString, is_string_of}
 use Rattle.age_format.specs.Stanza.{StanzaValue}
+use Rattle.age_format.proofs.Strings.{string_tested}
 
 graphic : (xs : List ℕ) → AllByRecursion IsSymbol xs → AllByRecursion IsGraphic xs
 graphic [] h = tt
 graphic (x ∷ xs) h = ((omega (arith, h.0), omega (arith, h.0)), graphic xs h.1)
 
 -- the base64 of some bytes
-pub columns-string : (n : ℕ) (bytes : List ℕ) → 1 ≤ n → AreBytesOf n bytes → IsString (columns bytes)
+columns-string : (n : ℕ) (bytes : List ℕ) → 1 ≤ n → AreBytesOf n bytes → IsString (columns bytes)
 columns-string n bytes more h =
     let size = length-columns bytes in
     let some : columns bytes ≢ [] = λ e. let none : length (columns bytes) ≡ 0 = ap length e in omega (arith, size, h.len, none, more) in
     (some, graphic (columns bytes) (columns_symbols bytes h.bytes))
+
+-- so it passes the test on strings
+pub columns-tested : (n : ℕ) (bytes : List ℕ) → 1 ≤ n → AreBytesOf n bytes → is_string_of (columns bytes) ≡ true
+columns-tested n bytes more h = (string_tested (columns bytes)).1 (columns-string n bytes more h)
 
 graphic_digits : (ds : List ℕ) → AllDigits 10 ds → AllByRecursion IsGraphic ds
 graphic_digits [] d = tt

@@ -2,7 +2,7 @@
 use Rattle.std.proofs.Common.{◌≡◌, ◌⊎◌, inl, inr, ℕ, ◌+◌, ◌∙◌, Bool, true, false, List, [], ◌∷◌, length, take, drop, ap, sym, refl, Option, Some, None, Result, Ok, Err, MatchOption, if◌then◌else◌, nat_le}
 use Rattle.std.specs.Prelude.{bytes_eq, codes}
 use Rattle.age_error.specs.Bytes.{AreBytes, AreBytesOf}
-use Rattle.age_error.specs.EncryptErrors.{EncryptRefusal, ShortRandom, OutOfMemory, ZeroSharedSecret}
+use Rattle.age_error.specs.EncryptErrors.{EncryptRefusal, ShortRandom, ZeroSharedSecret}
 use Rattle.age_error.specs.DecryptErrors.{OutOfMemory as out_of_memory}
 use Rattle.age_suite.specs.Suite.{IsCipher, IsAgreement}
 use Rattle.age_suite.specs.Mac.{hkdf_of}
@@ -12,37 +12,25 @@ use Rattle.age_base64.proofs.Columns.{columns_same}
 use Rattle.age_format.specs.Stanza.{StanzaValue}
 use Rattle.age_format.specs.Wrapping.{Wrapped}
 use Rattle.age_format.specs.Unwrapping.{UnwrapAnswer}
-use Rattle.age_format.specs.Drawing.{Ends, After}
+use Rattle.age_format.specs.Drawing.{Ends}
+use Rattle.age_format.proofs.Outcomes.{same_value, no_refusal, was_due}
 use Rattle.age_keys.specs.OwnType.{no_nonce}
 use Rattle.age_keys.specs.X25519.{wrap_key, no_secret, x25519_stanza, HasShare, WrapsWith, wrapped_with, opened_with, UnwrapsBy}
 use Rattle.age_keys.specs.X25519Laws.{UnwrapsWhatItWraps}
 use Rattle.age_keys.proofs.Opening.{no_nonce-bytes}
 use Rattle.age_keys.proofs.OwnTypes.{answers_own}
 
--- two equal successes
-pub same_ok : (a b : Wrapped) → Path (Result Wrapped EncryptRefusal) (Ok a) (Ok b) → a ≡ b
-same_ok a b is = cc
-
-pub not_err : {P : Type 0} (a : Wrapped) (e : EncryptRefusal) → Path (Result Wrapped EncryptRefusal) (Ok a) (Err e) → P
-not_err a e is = absurd (Prim.cc)
-
--- what came after a value that was due is that value
-pub was_due : (due : Result Wrapped EncryptRefusal) (draws left : List ℕ) (wrapped : Wrapped) → After due (λ w. Ends (Ok w)) draws (Ok wrapped) left → due ≡ Ok wrapped
-was_due (Err e) draws left wrapped h = not_err wrapped e h.0
-was_due (Ok w) draws left wrapped (inl h) = sym h.0
-was_due (Ok w) draws left wrapped (inr h) = not_err wrapped OutOfMemory h.0
-
 -- bytes were drawn
-pub drawn : (enough : Bool) (n : ℕ) (goes_on : List ℕ → List ℕ → Result Wrapped EncryptRefusal → List ℕ → Type 0) (draws left : List ℕ) (wrapped : Wrapped)
+pub was_drawn : (enough : Bool) (n : ℕ) (goes_on : List ℕ → List ℕ → Result Wrapped EncryptRefusal → List ℕ → Type 0) (draws left : List ℕ) (wrapped : Wrapped)
     → MatchOption (if enough then Some (take n draws) else None) (Ends (Err ShortRandom) draws (Ok wrapped) left)
     (λ bytes. goes_on bytes (if enough then drop n draws else draws) (Ok wrapped) left) → (enough ≡ true) × goes_on (take n draws) (drop n draws) (Ok wrapped) left
-drawn true n goes_on draws left wrapped h = (refl, h)
-drawn false n goes_on draws left wrapped h = not_err wrapped ShortRandom h.0
+was_drawn true n goes_on draws left wrapped h = (refl, h)
+was_drawn false n goes_on draws left wrapped h = no_refusal wrapped ShortRandom h.0
 
 -- wrapped where the secret isn't the one that everybody shares
 was_wrapped : (zero : Bool) (made wrapped : Wrapped) → (if zero then Err ZeroSharedSecret else Ok made) ≡ Ok wrapped → (zero ≡ false) × (made ≡ wrapped)
-was_wrapped true made wrapped is = not_err wrapped ZeroSharedSecret (sym is)
-was_wrapped false made wrapped is = (refl, same_ok made wrapped is)
+was_wrapped true made wrapped is = no_refusal wrapped ZeroSharedSecret (sym is)
+was_wrapped false made wrapped is = (refl, same_value made wrapped is)
 
 -- a stanza has one share
 pub one_share : (share other : List ℕ) (s : StanzaValue) → AreBytes share → s.args ≡ columns share ∷ [] → HasShare other s → other ≡ share
@@ -101,7 +89,7 @@ module _ (seal_of : List ℕ → List ℕ → List ℕ → List ℕ) (opened : L
 
   pub unwraps_what_it_wraps : UnwrapsWhatItWraps seal_of opened shared_of public_of
   unwraps_what_it_wraps secret file_key draws left wrapped s wraps =
-      let (enough, given) = drawn (nat_le 32 (length draws)) 32 (WrapsWith seal_of shared_of public_of (public_of secret) file_key) draws left wrapped wraps in
+      let (enough, given) = was_drawn (nat_le 32 (length draws)) 32 (WrapsWith seal_of shared_of public_of (public_of secret) file_key) draws left wrapped wraps in
       let (f, e, after) = given in
       let ephemeral = take 32 draws in
       let due = was_due (wrapped_with seal_of shared_of public_of (public_of secret) file_key ephemeral) (drop 32 draws) left wrapped after in

@@ -14,14 +14,9 @@ use Rattle.age_protocol.specs.Labels.{Labels, Gathered, nothing_yet, has_scrypt,
 use Rattle.age_format.specs.Drawing.{UnlessNoMemory, Ends, Then, After}
 use Rattle.age_protocol.specs.Encrypting.{Prepared, PreparesWith, PreparesRest, PreparesNonce, WrapsInTurn}
 use Rattle.age_format.specs.Belonging.{MayWrap}
+use Rattle.age_format.proofs.Outcomes.{same_value, no_refusal}
 use Rattle.age_protocol.specs.Several.{stanzas_of, grease_beside, HoldsAnswers, HoldAnswers, WrapsStrange, OneDecrypts, AnyDecrypts}
 use Rattle.age_protocol.proofs.Alone.{alone_asked}
-
-pub no_outcome : {A X : Type 0} (x : A) (e : EncryptRefusal) → Path (Result A EncryptRefusal) (Ok x) (Err e) → X
-no_outcome x e is = absurd (Prim.cc)
-
-pub same_outcome : {A : Type 0} (x y : A) → Path (Result A EncryptRefusal) (Ok x) (Ok y) → x ≡ y
-same_outcome x y is = cc
 
 some_same : {A : Type 0} (x y : A) → Path (Option A) (Some x) (Some y) → x ≡ y
 some_same x y is = cc
@@ -43,20 +38,20 @@ taken_length false draws is bytes given = none_given bytes (rw is at given)
 
 greased_order : (stanzas : List StanzaValue) (grease : Option StanzaValue) (all : List StanzaValue) → greased stanzas grease ≡ Ok all
     → all ≡ stanzas ++ grease_beside false grease
-greased_order [] None all is = no_outcome all _ (sym is)
-greased_order (s ∷ stanzas) None all is = sym (same_outcome (s ∷ stanzas) all is) ∙ sym (append-nil (s ∷ stanzas))
-greased_order stanzas (Some grease) all is = sym (same_outcome (stanzas ++ grease ∷ []) all is)
+greased_order [] None all is = no_refusal all _ (sym is)
+greased_order (s ∷ stanzas) None all is = sym (same_value (s ∷ stanzas) all is) ∙ sym (append-nil (s ∷ stanzas))
+greased_order stanzas (Some grease) all is = sym (same_value (stanzas ++ grease ∷ []) all is)
 
 closed_by : (passphrase single : Bool) (stanzas : List StanzaValue) (grease : Option StanzaValue) (all : List StanzaValue) (e : EncryptRefusal)
     → ◌≡◌ {A = Result (List StanzaValue) EncryptRefusal} (if passphrase then (if single then Ok stanzas else Err e) else greased stanzas grease) (Ok all)
     → all ≡ stanzas ++ grease_beside passphrase grease
-closed_by true true stanzas grease all e is = sym (same_outcome stanzas all is) ∙ sym (append-nil stanzas)
-closed_by true false stanzas grease all e is = no_outcome all e (sym is)
+closed_by true true stanzas grease all e is = sym (same_value stanzas all is) ∙ sym (append-nil stanzas)
+closed_by true false stanzas grease all e is = no_refusal all e (sym is)
 closed_by false single stanzas grease all e is = greased_order stanzas grease all is
 
 closed_order : (labels : Option Labels) (stanzas : List StanzaValue) (grease : Option StanzaValue) (all : List StanzaValue)
     → closed labels stanzas grease ≡ Ok all → all ≡ stanzas ++ grease_beside (has_scrypt stanzas) grease
-closed_order None stanzas grease all is = no_outcome all _ (sym is)
+closed_order None stanzas grease all is = no_refusal all _ (sym is)
 closed_order (Some labels) stanzas grease all is = closed_by (has_scrypt stanzas) (nat_eq (length stanzas) 1) stanzas grease all _ is
 
 -- ---- what was prepared
@@ -65,20 +60,20 @@ after_nonce : (nonce : Option (List ℕ)) (file_key : List ℕ) (stanzas : List 
     → MatchOption nonce (Ends (Err ShortRandom) draws (Ok file) left)
     (λ bytes. UnlessNoMemory (Ends (Ok (record { file_key = file_key; stanzas = stanzas; nonce = bytes })) rest (Ok file) left) rest (Ok file) left)
     → (file.file_key ≡ file_key) × (file.stanzas ≡ stanzas)
-after_nonce None file_key stanzas file draws rest left short = no_outcome file ShortRandom short.0
+after_nonce None file_key stanzas file draws rest left short = no_refusal file ShortRandom short.0
 after_nonce (Some bytes) file_key stanzas file draws rest left (inl made) =
-    let is = same_outcome file (record { file_key = file_key; stanzas = stanzas; nonce = bytes }) made.0 in
+    let is = same_value file (record { file_key = file_key; stanzas = stanzas; nonce = bytes }) made.0 in
     (ap (λ f. f.file_key) is, ap (λ f. f.stanzas) is)
-after_nonce (Some bytes) file_key stanzas file draws rest left (inr want) = no_outcome file OutOfMemory want.0
+after_nonce (Some bytes) file_key stanzas file draws rest left (inr want) = no_refusal file OutOfMemory want.0
 
 after_closed : (all : Result (List StanzaValue) EncryptRefusal) (file_key : List ℕ) (file : Prepared) (draws left : List ℕ)
     → After all (λ stanzas. PreparesNonce file_key stanzas) draws (Ok file) left
     → (stanzas : List StanzaValue) × (all ≡ Ok stanzas) × (file.file_key ≡ file_key) × (file.stanzas ≡ stanzas)
-after_closed (Err e) file_key file draws left ended = no_outcome file e ended.0
+after_closed (Err e) file_key file draws left ended = no_refusal file e ended.0
 after_closed (Ok stanzas) file_key file draws left (inl goes_on) =
     let (same_key, same_stanzas) = after_nonce (taken 16 draws) file_key stanzas file draws (left_after 16 draws) left goes_on in
     (stanzas, refl, same_key, same_stanzas)
-after_closed (Ok stanzas) file_key file draws left (inr want) = no_outcome file OutOfMemory want.0
+after_closed (Ok stanzas) file_key file draws left (inr want) = no_refusal file OutOfMemory want.0
 
 -- ---- the answers in turn
 
@@ -86,9 +81,9 @@ after_labels : (agreed : Result Labels EncryptRefusal) (stanzas : List StanzaVal
     (goes_on : Gathered → List ℕ → Result Gathered EncryptRefusal → List ℕ → Type 0) (draws left : List ℕ)
     → After (with_labels stanzas agreed) goes_on draws (Ok all) left
     → (more : Gathered) × (more.stanzas ≡ stanzas) × goes_on more draws (Ok all) left
-after_labels (Err e) stanzas all goes_on draws left ended = no_outcome all e ended.0
+after_labels (Err e) stanzas all goes_on draws left ended = no_refusal all e ended.0
 after_labels (Ok labels) stanzas all goes_on draws left (inl more) = (record { labels = Some labels; stanzas = stanzas }, refl, more)
-after_labels (Ok labels) stanzas all goes_on draws left (inr want) = no_outcome all OutOfMemory want.0
+after_labels (Ok labels) stanzas all goes_on draws left (inr want) = no_refusal all OutOfMemory want.0
 
 -- ---- one identity
 
@@ -111,7 +106,7 @@ module _ {R : Type 0} (wraps : R → List ℕ → List ℕ → WrapAnswer → Li
       → wraps r file_key draws answer between → After (judged so_far answer) goes_on between (Ok all) left
       → (wrapped : Wrapped) × (more : Gathered) × MayWrap wraps file_key r wrapped × (more.stanzas ≡ so_far.stanzas ++ wrapped.stanzas)
       × goes_on more between (Ok all) left
-  after_answer file_key so_far r (Err e) all goes_on draws between left wraps_so ended = no_outcome all e ended.0
+  after_answer file_key so_far r (Err e) all goes_on draws between left wraps_so ended = no_refusal all e ended.0
   after_answer file_key so_far r (Ok wrapped) all goes_on draws between left wraps_so after =
       let stanzas = so_far.stanzas ++ wrapped.stanzas in
       let (more, is, next) = after_labels (agreed_labels so_far.labels wrapped.labels (has_scrypt stanzas)) stanzas all goes_on between left after in
@@ -121,7 +116,7 @@ module _ {R : Type 0} (wraps : R → List ℕ → List ℕ → WrapAnswer → Li
       → WrapsInTurn wraps file_key so_far recipients draws (Ok all) left
       → (answers : List Wrapped) × AllZip (MayWrap wraps file_key) recipients answers × (all.stanzas ≡ so_far.stanzas ++ stanzas_of answers)
   in_turn file_key so_far [] draws all left ended =
-      ([], tt, ap (λ g. g.stanzas) (same_outcome all so_far ended.0) ∙ sym (append-nil so_far.stanzas))
+      ([], tt, ap (λ g. g.stanzas) (same_value all so_far ended.0) ∙ sym (append-nil so_far.stanzas))
   in_turn file_key so_far (r ∷ rs) draws all left turn =
       let (wrapped, more, wraps_so, grown, next) =
       after_answer file_key so_far r turn.0 all (λ g. WrapsInTurn wraps file_key g rs) draws turn.1 left turn.2 turn.3 in
@@ -134,7 +129,7 @@ module _ {R : Type 0} (wraps : R → List ℕ → List ℕ → WrapAnswer → Li
   after_all : (gathered : Result Gathered EncryptRefusal) (recipients : List R) (grease : Option StanzaValue) (file_key : List ℕ) (file : Prepared)
       (draws between left : List ℕ) → length file_key ≡ 16 → WrapsInTurn wraps file_key nothing_yet recipients draws gathered between
       → Then gathered (λ all. PreparesRest file_key grease all) between (Ok file) left → HoldsAnswers wraps recipients grease file
-  after_all (Err e) recipients grease file_key file draws between left sixteen turn ended = no_outcome file e ended.0
+  after_all (Err e) recipients grease file_key file draws between left sixteen turn ended = no_refusal file e ended.0
   after_all (Ok all) recipients grease file_key file draws between left sixteen turn rest =
       let (answers, each, are) = in_turn file_key nothing_yet recipients draws all between turn in
       let (stanzas, is, same_key, same_stanzas) = after_closed (closed all.labels all.stanzas grease) file_key file between left rest in
@@ -150,7 +145,7 @@ module _ {R : Type 0} (wraps : R → List ℕ → List ℕ → WrapAnswer → Li
       → ((bytes : List ℕ) → key ≡ Some bytes → length bytes ≡ 16)
       → MatchOption key (Ends (Err ShortRandom) draws (Ok file) left) (λ bytes. PreparesWith wraps recipients grease bytes rest (Ok file) left)
       → HoldsAnswers wraps recipients grease file
-  with_key None recipients grease draws rest left file sixteen short = no_outcome file ShortRandom short.0
+  with_key None recipients grease draws rest left file sixteen short = no_refusal file ShortRandom short.0
   with_key (Some bytes) recipients grease draws rest left file sixteen prepares =
       after_all prepares.0 recipients grease bytes file rest prepares.1 left (sixteen bytes refl) prepares.2 prepares.3
 

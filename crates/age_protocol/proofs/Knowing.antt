@@ -9,22 +9,21 @@ use Rattle.age_base64.specs.Base64.{columns}
 use Rattle.age_suite.specs.Draw.{taken, left_after}
 use Rattle.age_suite.specs.Suite.{IsCipher, IsStretching}
 use Rattle.age_suite.specs.declared.suite.Suite.{Ghosts}
-use Rattle.age_format.specs.Bytes.{is_string_of}
 use Rattle.age_format.specs.Belonging.{MayWrap}
 use Rattle.age_format.specs.Drawing.{Ends, UnlessNoMemory, Then, After, WithDrawn}
 use Rattle.age_format.specs.Stanza.{StanzaValue}
 use Rattle.age_format.specs.Wrapping.{WrapAnswer, Wrapped}
-use Rattle.age_format.proofs.Strings.{string_tested}
+use Rattle.age_format.proofs.Outcomes.{same_value, same_refusal, no_refusal, was_due}
 use Rattle.age_keys.specs.Scrypt.{PassphraseRecipient, stretch_salt, scrypt_stanza, WrapsWith}
 use Rattle.age_keys.specs.OwnType.{no_nonce}
 use Rattle.age_keys.specs.ScryptLaws.{has_other_tag}
-use Rattle.age_keys.proofs.Strings.{columns-string}
-use Rattle.age_keys.proofs.Stretched.{belongs}
+use Rattle.age_keys.proofs.Strings.{columns-tested}
+use Rattle.age_keys.proofs.Stretched.{was_accepted, belongs}
 use Rattle.age_protocol.specs.Encrypting.{Prepared, Prepares, PreparesNonce, PreparesRest, PreparesWith, WrapsInTurn}
 use Rattle.age_protocol.specs.Labels.{Gathered, nothing_yet, judged, has_scrypt}
 use Rattle.age_protocol.specs.Several.{WrapsStrange, stanzas_of, grease_beside}
 use Rattle.age_protocol.specs.Passphrases.{WrapsPassphrase, UnwrapsPassphrase, HoldsPassphrase, PassphraseHolds, PassphraseDecrypts, PassphraseRefuses}
-use Rattle.age_protocol.proofs.Belonging.{no_outcome, same_outcome, any_decrypts, hold_answers}
+use Rattle.age_protocol.proofs.Belonging.{any_decrypts, hold_answers}
 
 -- the identity belongs to the only recipient
 pub opened_by_knowing : {S : Type 0} (suite : Ghosts S) → IsCipher suite.seal_of suite.opened → IsStretching suite.stretch_of suite.accepts → PassphraseDecrypts suite
@@ -43,9 +42,6 @@ opened_by_knowing suite cipher stretching recipient identity draws left file pla
 
 -- ---- steps that end
 
-same_refusal : {A : Type 0} (e f : EncryptRefusal) → Path (Result A EncryptRefusal) (Err e) (Err f) → e ≡ f
-same_refusal e f is = cc
-
 -- a draw that ends in a refusal: fewer bytes were left, or a later step refused
 draw_refused : (B : Type 0) (bytes : Option (List ℕ)) (goes_on : List ℕ → Type 0) (draws left : List ℕ) (e : EncryptRefusal)
     → MatchOption bytes (Ends {A = B} (Err ShortRandom) draws (Err e) left) goes_on → (e ≡ ShortRandom) ⊎ ((some : List ℕ) × goes_on some)
@@ -55,25 +51,15 @@ draw_refused B (Some bytes) goes_on draws left e next = inr (bytes, next)
 -- a draw that ends in a value: bytes were drawn
 draw_given : {B : Type 0} (bytes : Option (List ℕ)) (goes_on : List ℕ → Type 0) (draws left : List ℕ) (x : B)
     → MatchOption bytes (Ends (Err ShortRandom) draws (Ok x) left) goes_on → (some : List ℕ) × goes_on some
-draw_given None goes_on draws left x ended = no_outcome x ShortRandom ended.0
+draw_given None goes_on draws left x ended = no_refusal x ShortRandom ended.0
 draw_given (Some bytes) goes_on draws left x next = (bytes, next)
-
--- ---- the label of a passphrase is a string
-
-label_tested : (label : List ℕ) → AreBytesOf 24 label → is_string_of (columns label) ≡ true
-label_tested label h = (string_tested (columns label)).1 (columns-string 24 label (omega arith) h)
 
 -- ---- one recipient of a passphrase
 
 -- a step that would end in a value ends in a refusal: memory was refused
 ended_refused : {A : Type 0} (x : A) (draws left : List ℕ) (e : EncryptRefusal) → UnlessNoMemory {A = A} (Ends (Ok x) draws (Err e) left) draws (Err e) left → e ≡ OutOfMemory
-ended_refused x draws left e (inl ended) = no_outcome x e (sym ended.0)
+ended_refused x draws left e (inl ended) = no_refusal x e (sym ended.0)
 ended_refused {A} x draws left e (inr want) = same_refusal {A = A} e OutOfMemory want.0
-
--- it is that value
-ended_given : {A : Type 0} (x y : A) (draws left : List ℕ) → UnlessNoMemory (Ends (Ok x) draws (Ok y) left) draws (Ok y) left → y ≡ x
-ended_given x y draws left (inl ended) = same_outcome y x ended.0
-ended_given x y draws left (inr want) = no_outcome y OutOfMemory want.0
 
 factor_refused : (accepts : Bool) (made : Wrapped) (draws left : List ℕ) (e : EncryptRefusal)
     → After (if accepts then Ok made else Err WorkFactorRefused) (λ wrapped. Ends (Ok wrapped)) draws (Err e) left
@@ -81,16 +67,10 @@ factor_refused : (accepts : Bool) (made : Wrapped) (draws left : List ℕ) (e : 
 factor_refused true made draws left e h = inr (ended_refused made draws left e h)
 factor_refused false made draws left e ended = inl (same_refusal {A = Wrapped} e WorkFactorRefused ended.0, refl)
 
-factor_given : (accepts : Bool) (made wrapped : Wrapped) (draws left : List ℕ)
-    → After (if accepts then Ok made else Err WorkFactorRefused) (λ wrapped. Ends (Ok wrapped)) draws (Ok wrapped) left
-    → (accepts ≡ true) × (wrapped ≡ made)
-factor_given true made wrapped draws left h = (refl, ended_given made wrapped draws left h)
-factor_given false made wrapped draws left ended = no_outcome wrapped WorkFactorRefused ended.0
-
 -- what is wrapped under a passphrase is kept as it is: its label is a string
 judged_alone : (wrapped : Wrapped) (s : StanzaValue) (label : List ℕ) → AreBytesOf 24 label → wrapped.stanzas ≡ s ∷ [] → wrapped.labels ≡ columns label ∷ []
     → judged nothing_yet (Ok wrapped) ≡ Ok (record { labels = Some (columns label ∷ []); stanzas = s ∷ [] })
-judged_alone wrapped s label h stanzas labels = rw (stanzas, labels, label_tested label h) refl
+judged_alone wrapped s label h stanzas labels = rw (stanzas, labels, columns-tested 24 label (omega arith) h) refl
 
 module _ {S : Type 0} (suite : Ghosts S) (recipient : PassphraseRecipient) where
   abbrev IsCause : EncryptRefusal → Type 0
@@ -131,15 +111,15 @@ module _ {S : Type 0} (suite : Ghosts S) (recipient : PassphraseRecipient) where
       let between = left_after 16 draws in
       let (drawn, next) = draw_given (taken 16 draws) (λ salt. WithDrawn 24 (Wraps file_key salt) between (Ok wrapped) left) draws left wrapped h in
       let (more, wraps) = draw_given (taken 24 between) (λ label. Wraps file_key drawn label (left_after 24 between) (Ok wrapped) left) between left wrapped next in
-      let (takes, is) = factor_given (suite.accepts recipient.factor) _ wrapped _ left wraps.3 in
+      let (takes, is) = was_accepted (suite.accepts recipient.factor) _ wrapped (was_due _ _ left wrapped wraps.3) in
       record {
         accepted = takes;
         salt = drawn;
         salt_bytes = wraps.1;
         label = more;
         label_bytes = wraps.2;
-        stanzas = ap (λ w. w.stanzas) is;
-        labels = ap (λ w. w.labels) is;
+        stanzas = ap (λ w. w.stanzas) (sym is);
+        labels = ap (λ w. w.labels) (sym is);
       }
 
   -- ---- the file
@@ -171,11 +151,11 @@ module _ {S : Type 0} (suite : Ghosts S) (recipient : PassphraseRecipient) where
   gathered_refused : (file_key draws between middle left : List ℕ) (e : EncryptRefusal) (answer : WrapAnswer) (all : Gathered)
       → WrapsPassphrase suite recipient file_key draws answer between → After (judged nothing_yet answer) (λ more. Ends (Ok more)) between (Ok all) middle
       → PreparesRest file_key None all middle (Err e) left → IsCause e
-  gathered_refused file_key draws between middle left e (Err f) all wraps ended rest = no_outcome all f ended.0
+  gathered_refused file_key draws between middle left e (Err f) all wraps ended rest = no_refusal all f ended.0
   gathered_refused file_key draws between middle left e (Ok wrapped) all wraps after rest =
       let wrote = wrap_given file_key draws between wrapped wraps in
       let kept = rw (judged_alone wrapped _ wrote.label wrote.label_bytes wrote.stanzas wrote.labels) at after in
-      let is : all ≡ record { labels = Some (columns wrote.label ∷ []); stanzas = stanza file_key wrote.salt ∷ [] } = ended_given _ all between middle kept in
+      let is : all ≡ record { labels = Some (columns wrote.label ∷ []); stanzas = stanza file_key wrote.salt ∷ [] } = sym (same_value _ all (was_due (Ok _) between middle all kept)) in
       rest_refused file_key middle left (stanza file_key wrote.salt ∷ []) e (rw is at rest)
 
   outcome_refused : (file_key draws middle left : List ℕ) (e : EncryptRefusal) (gathered : Result Gathered EncryptRefusal)

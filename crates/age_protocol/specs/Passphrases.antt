@@ -6,7 +6,7 @@ use Rattle.age_suite.specs.declared.suite.Suite.{Ghosts}
 use Rattle.age_format.specs.HeaderV1.{reads_legacy}
 use Rattle.age_format.specs.Stanza.{StanzaValue}
 use Rattle.age_format.specs.Wrapping.{WrapAnswer}
-use Rattle.age_format.specs.Unwrapping.{UnwrapAnswer, FirstOf}
+use Rattle.age_format.specs.Unwrapping.{UnwrapAnswer, Steady, FirstOf}
 use Rattle.age_keys.specs.OwnType.{no_nonce}
 use Rattle.age_keys.specs.Scrypt.{PassphraseRecipient, PassphraseIdentity, stretch_salt, scrypt_stanza, WrapsUnder, UnwrapsUnder}
 use Rattle.age_keys.specs.ScryptLaws.{IsMeantFor}
@@ -22,7 +22,7 @@ module _ {S : Type 0} (suite : Ghosts S) where
 
   -- what an identity of a passphrase answers: it goes stanza by stanza, and stays as it is
   abbrev pub UnwrapsPassphrase : PassphraseIdentity → List StanzaValue → UnwrapAnswer → PassphraseIdentity → Type 0
-  UnwrapsPassphrase = FirstOf (λ before stanza answer after. UnwrapsUnder suite.opened suite.stretch_of suite.accepts before stanza answer × (after ≡ before))
+  UnwrapsPassphrase = FirstOf (Steady (UnwrapsUnder suite.opened suite.stretch_of suite.accepts))
 
   -- A file under a passphrase holds the recipient's stanza alone, of the file key and a salt, and the suite accepts the work factor.
   pub record HoldsPassphrase (recipient : PassphraseRecipient) (file : Prepared) : Type 0 where

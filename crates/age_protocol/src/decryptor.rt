@@ -117,7 +117,8 @@ impl<S: Suite, R: Read + Drop> Decryptor<S, R> {
 impl<S: Suite, R: BufRead + Drop> Decryptor<S, R> {
     ghost use Rattle.age_protocol.specs.Decryptor.{OpensFront};
 
-    /// `new` for a reader with a buffer of its own, which stands exactly after the nonce then.
+    /// Reads the header and the nonce of 16 bytes, as `new` does, from a reader with a buffer of its own, which stands exactly after
+    /// the nonce then.
     ///
     /// `new` takes the header byte by byte, and here each of these reads is one of the buffer. What the reader holds of the
     /// payload it still holds afterwards, so nothing that it read ahead is lost. The refusals are those of `new`, in the same

@@ -1,5 +1,5 @@
 -- What a recipient and an identity of one's own answer.
-use Rattle.std.specs.Prelude.{ℕ, List, [], ◌∷◌, Some, None, Ok, Err, if◌then◌else◌, length, nat_eq, bytes_eq, codes, Bool, not}
+use Rattle.std.specs.Prelude.{◌≡◌, ℕ, List, [], ◌∷◌, Some, None, Ok, Err, if◌then◌else◌, length, nat_eq, bytes_eq, codes, Bool, not}
 use Rattle.age.specs.DecryptErrors.{InvalidHeader}
 use Rattle.age.specs.Drawing.{Ends, UnlessNoMemory}
 use Rattle.age.specs.Stanza.{StanzaValue}
@@ -26,6 +26,10 @@ own_unwrapped stanza =
     (if nat_eq (length stanza.body) 16 then Some (Ok stanza.body) else Some (Err InvalidHeader))
     else Some (Err InvalidHeader))
     else None
+
+-- what the identity answers to a stanza
+abbrev pub OwnAsks : StanzaValue → UnwrapAnswer → Type 0
+OwnAsks stanza answer = answer ≡ own_unwrapped stanza
 
 -- a stanza with another tag
 abbrev pub has_other_tag : StanzaValue → Bool

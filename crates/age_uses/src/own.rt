@@ -2,10 +2,10 @@
 ghost use Rattle.std.specs.Prelude.{◌≡◌, Ok};
 ghost use Rattle.std.specs.Result.{result_map_both};
 ghost use Rattle.age.specs.EncryptErrors.{encrypt_refusal};
-ghost use Rattle.age.specs.Unwrapping.{FirstOf};
+ghost use Rattle.age.specs.Unwrapping.{FirstOf, Steady};
 ghost use Rattle.age.specs.Drawing.{IsOrNoMemory};
 ghost use Rattle.age.specs.Belonging.{BelongsTo};
-ghost use Rattle.age_uses.specs.Own.{OwnWraps, own_stanza, own_unwrapped, has_other_tag};
+ghost use Rattle.age_uses.specs.Own.{OwnWraps, OwnAsks, own_stanza, has_other_tag};
 
 use age::draw::Draw;
 use age::format::Stanza;
@@ -52,7 +52,7 @@ impl Recipient for OwnRecipient {
 pub struct OwnIdentity;
 
 impl Identity for OwnIdentity {
-    ghost unwraps = { FirstOf (λ before stanza answer after. (answer ≡ own_unwrapped stanza) × (after ≡ before)) };
+    ghost unwraps = { FirstOf (Steady (λ _. OwnAsks)) };
 
     fn unwrap_stanza(
         &mut self,

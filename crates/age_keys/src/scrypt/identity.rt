@@ -115,11 +115,10 @@ impl<S: Suite> Identity<S> {
 }
 
 impl<S: Suite> age_format::Identity for Identity<S> {
-    ghost use Rattle.std.specs.Prelude.{◌≡◌};
-    ghost use Rattle.age_format.specs.Unwrapping.{FirstOf};
+    ghost use Rattle.age_format.specs.Unwrapping.{FirstOf, Steady};
     ghost use Rattle.age_keys.specs.Scrypt.{UnwrapsUnder};
 
-    ghost unwraps = { FirstOf (λ before stanza answer after. UnwrapsUnder S.opened S.stretch_of S.accepts before stanza answer × (after ≡ before)) };
+    ghost unwraps = { FirstOf (Steady (UnwrapsUnder S.opened S.stretch_of S.accepts)) };
 
     fn unwrap_stanza(
         &mut self,

@@ -27,7 +27,7 @@ use std::marker::{Model, PhantomData};
 /// passphrase by chance. In contracts it is a record of the passphrase's bytes and the work factor, the logarithm to base 2.
 ///
 /// It wraps a file key in one stanza of the type scrypt. A salt of 16 random bytes is drawn, then the 24 bytes of its one label, and the
-/// passphrase is stretched after that. The label is another each time, so that nobody else may have the file too. Its refusals, in this
+/// passphrase is stretched after that. The label is drawn anew each time, so that nobody else may have the file too. Its refusals, in this
 /// order: `ShortRandom` where fewer bytes are left, `WorkFactorRefused` where the suite doesn't accept the work factor, and
 /// `OutOfMemory`.
 #[derive(Drop)]

@@ -120,11 +120,10 @@ impl<S> Clone for Identity<S> {
 }
 
 impl<S: Suite> age_format::Identity for Identity<S> {
-    ghost use Rattle.std.specs.Prelude.{◌≡◌};
-    ghost use Rattle.age_format.specs.Unwrapping.{FirstOf};
+    ghost use Rattle.age_format.specs.Unwrapping.{FirstOf, Steady};
     ghost use Rattle.age_keys.specs.X25519.{UnwrapsBy};
 
-    ghost unwraps = { FirstOf (λ before stanza answer after. UnwrapsBy S.opened S.shared_of S.public_of before stanza answer × (after ≡ before)) };
+    ghost unwraps = { FirstOf (Steady (UnwrapsBy S.opened S.shared_of S.public_of)) };
 
     fn unwrap_stanza(
         &mut self,

@@ -2,21 +2,16 @@ use Rattle.std.specs.Prelude.{◌≡◌, ◌≢◌, ℕ, Bool, true, false, not,
 use Rattle.std.proofs.Common.{◌∙◌, ap, inl, inr}
 use Rattle.std.proofs.lemmas.Slice.Eq.{bytes_eq-Decides}
 use Rattle.age.specs.DecryptErrors.{InvalidHeader}
-use Rattle.age.specs.EncryptErrors.{EncryptRefusal, OutOfMemory}
+use Rattle.age.specs.EncryptErrors.{OutOfMemory}
 use Rattle.age.specs.Stanza.{StanzaValue}
 use Rattle.age.specs.Wrapping.{Wrapped}
-use Rattle.age.specs.Unwrapping.{UnwrapAnswer, FirstOf}
+use Rattle.age.specs.Unwrapping.{UnwrapAnswer, Steady, FirstOf}
 use Rattle.age.specs.Belonging.{BelongsTo}
 use Rattle.age.specs.BelongingLaws.{by_stanza}
-use Rattle.age_uses.specs.Own.{OwnWraps, own_stanza, own_wrapped, own_unwrapped, has_other_tag}
+use Rattle.age.proofs.Tags.{other_tag}
+use Rattle.age.proofs.Outcomes.{same_value, no_refusal}
+use Rattle.age_uses.specs.Own.{OwnWraps, OwnAsks, own_stanza, own_wrapped, own_unwrapped, has_other_tag}
 use Rattle.age_uses.proofs.own.own_pair.Goals as goal
-
-not_so : (b : Bool) → IsTrue (not b) → b ≢ true
-not_so true strange = absurd (Prim.cc)
-not_so false strange = λ is. absurd (Prim.cc)
-
-other_tag : (s : StanzaValue) → IsTrue (has_other_tag s) → s.tag ≢ codes "own"
-other_tag s strange same = not_so (bytes_eq s.tag (codes "own")) strange ((bytes_eq-Decides s.tag (codes "own")).1 same)
 
 passed_by : (tag args body : Bool) (bytes : List ℕ) → tag ≢ true
     → ◌≡◌ {A = UnwrapAnswer} (if tag then (if args then (if body then Some (Ok bytes) else Some (Err InvalidHeader)) else Some (Err InvalidHeader)) else None) None
@@ -31,24 +26,15 @@ over_other s other =
 of_own : (key : List ℕ) → length key ≡ 16 → own_unwrapped (own_stanza key) ≡ Some (Ok key)
 of_own key sixteen = rw sixteen refl
 
-same_wrapped : (a b : Wrapped) → Path (Result Wrapped EncryptRefusal) (Ok a) (Ok b) → a ≡ b
-same_wrapped a b is = cc
-
-no_wrapped : {X : Type 0} (a : Wrapped) → Path (Result Wrapped EncryptRefusal) (Ok a) (Err OutOfMemory) → X
-no_wrapped a is = absurd (Prim.cc)
-
 wraps_one : (file_key draws left : List ℕ) (wrapped : Wrapped) → OwnWraps file_key draws (Ok wrapped) left → wrapped ≡ own_wrapped file_key
-wraps_one file_key draws left wrapped (inl made) = same_wrapped wrapped (own_wrapped file_key) made.0
-wraps_one file_key draws left wrapped (inr want) = no_wrapped wrapped want.0
-
-abbrev Asks : {I : Type 0} → I → StanzaValue → UnwrapAnswer → I → Type 0
-Asks before stanza answer after = (answer ≡ own_unwrapped stanza) × (after ≡ before)
+wraps_one file_key draws left wrapped (inl made) = same_value wrapped (own_wrapped file_key) made.0
+wraps_one file_key draws left wrapped (inr want) = no_refusal wrapped OutOfMemory want.0
 
 module _ {R I : Type 0} where
-  pair : (recipient : R) (identity : I) → BelongsTo (λ r. OwnWraps) (FirstOf Asks) has_other_tag recipient identity
+  pair : (recipient : R) (identity : I) → BelongsTo (λ r. OwnWraps) (FirstOf (Steady (λ i. OwnAsks))) has_other_tag recipient identity
   pair recipient identity =
-      by_stanza Asks (λ r. OwnWraps) has_other_tag recipient identity
-      (λ s answer after strange asked. inl (asked.0 ∙ over_other s (other_tag s strange), asked.1))
+      by_stanza (Steady (λ i. OwnAsks)) (λ r. OwnWraps) has_other_tag recipient identity
+      (λ s answer after strange asked. inl (asked.0 ∙ over_other s (other_tag s.tag (codes "own") strange), asked.1))
       (λ file_key wrapped sixteen wraps_so.
       let (draws, left, made) = wraps_so in
       let is : wrapped ≡ own_wrapped file_key = wraps_one file_key draws left wrapped made in
