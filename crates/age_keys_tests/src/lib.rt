@@ -4,11 +4,7 @@
 #[cfg(test)]
 mod file_tests;
 #[cfg(test)]
-mod passphrase_tests;
-#[cfg(test)]
 mod plugin_tests;
-#[cfg(test)]
-mod scrypt_tests;
 #[cfg(test)]
 mod text_tests;
 #[cfg(test)]

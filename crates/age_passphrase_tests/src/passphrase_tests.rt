@@ -1,10 +1,9 @@
 //! Files for a passphrase, and passphrases beside other recipients. The expected bytes are those of Python, from the format's own words.
 
-use crate::scrypt_tests::passphrase;
-use crate::x25519_tests::{grease, identity_of};
+use crate::fixtures::{grease, horse, is_excessive, key_recipient, passphrase};
 use age::armor::ArmoredReader;
 use age::draw::Draw;
-use age::format::HeaderV1;
+use age::format::{HeaderV1, Stanza};
 use age::io::Bytes;
 use age::scrypt::{Identity, Recipient};
 use age::{
@@ -28,6 +27,13 @@ fn recipient(alloc: Global) -> Result<Recipient<BenchSuite>, AllocError> {
     Ok(Recipient::new(passphrase(alloc, "correct horse")?, 10))
 }
 
+// The identity of the passphrase decrypts a file, or its armor, to the message.
+fn comes_back(rt: &impl Abort, alloc: Global, file: &[u8]) -> Result<(), Fail> {
+    let plain = decrypt::<BenchSuite, Identity<BenchSuite>>(alloc, &mut horse(alloc, 18)?, file)?;
+    assert!(rt; plain.as_slice() == MESSAGE);
+    Ok(())
+}
+
 // The file has no grease, since the stanza of a passphrase stands alone.
 #[test]
 fn a_message_has_its_file(rt: HostRuntime) -> Result<(), Fail> {
@@ -41,26 +47,26 @@ fn a_message_has_its_file(rt: HostRuntime) -> Result<(), Fail> {
     )?;
     assert_eq!(rt; file.len(), 218);
     assert!(rt; file.starts_with(HEADER));
-    let mut identity = Identity::<BenchSuite>::new(passphrase(alloc, "correct horse")?, 18);
-    let plain = decrypt::<BenchSuite, Identity<BenchSuite>>(alloc, &mut identity, &file)?;
-    assert!(rt; plain.as_slice() == MESSAGE);
-    Ok(())
+    comes_back(&rt, alloc, &file)
 }
 
-#[test]
-fn another_passphrase_fails(rt: HostRuntime) -> Result<(), Fail> {
-    let alloc = rt.alloc();
-    let text = encrypt_and_armor::<BenchSuite, Recipient<BenchSuite>>(
+// The armor of the message's file.
+fn armored(alloc: Global) -> Result<String, Fail> {
+    Ok(encrypt_and_armor::<BenchSuite, Recipient<BenchSuite>>(
         alloc,
         &recipient(alloc)?,
         MESSAGE,
         &mut zeros(alloc, 72)?,
         grease(alloc)?,
-    )?;
+    )?)
+}
+
+#[test]
+fn another_passphrase_fails(rt: HostRuntime) -> Result<(), Fail> {
+    let alloc = rt.alloc();
+    let text = armored(alloc)?;
     assert_eq!(rt; text.len(), 365);
-    let mut identity = Identity::<BenchSuite>::new(passphrase(alloc, "correct horse")?, 18);
-    let plain = decrypt::<BenchSuite, Identity<BenchSuite>>(alloc, &mut identity, text.as_bytes())?;
-    assert!(rt; plain.as_slice() == MESSAGE);
+    comes_back(&rt, alloc, text.as_bytes())?;
     let mut other = Identity::<BenchSuite>::new(passphrase(alloc, "correct horse ")?, 18);
     let refused = decrypt::<BenchSuite, Identity<BenchSuite>>(alloc, &mut other, text.as_bytes());
     assert!(rt; matches!(refused, Err(DecryptError::DecryptionFailed)));
@@ -99,29 +105,44 @@ fn unlabelled(alloc: Global) -> Result<ScriptedRecipient, AllocError> {
 #[test]
 fn a_passphrase_stands_alone(rt: HostRuntime) -> Result<(), Fail> {
     let alloc = rt.alloc();
-    let key = identity_of(&rt, alloc, &[1; 32])?.to_public();
+    passphrase_after_key(&rt, alloc)?;
+    passphrase_before_key(&rt, alloc)
+}
+
+fn passphrase_after_key(rt: &impl Abort, alloc: Global) -> Result<(), Fail> {
     let mut recipients: Vec<Box<dyn AnyRecipient>> = Vec::new(alloc);
-    recipients.push(Box::new(alloc, key)?)?;
+    recipients.push(Box::new(alloc, key_recipient(rt, alloc)?)?)?;
     recipients.push(Box::new(alloc, recipient(alloc)?)?)?;
-    mixed(&rt, alloc, &recipients, 16)?;
-    let mut first: Vec<Box<dyn AnyRecipient>> = Vec::new(alloc);
-    first.push(Box::new(alloc, recipient(alloc)?)?)?;
-    first.push(Box::new(alloc, identity_of(&rt, alloc, &[1; 32])?.to_public())?)?;
-    mixed(&rt, alloc, &first, 16)
+    mixed(rt, alloc, &recipients, 16)
+}
+
+fn passphrase_before_key(rt: &impl Abort, alloc: Global) -> Result<(), Fail> {
+    let mut recipients: Vec<Box<dyn AnyRecipient>> = Vec::new(alloc);
+    recipients.push(Box::new(alloc, recipient(alloc)?)?)?;
+    recipients.push(Box::new(alloc, key_recipient(rt, alloc)?)?)?;
+    mixed(rt, alloc, &recipients, 16)
 }
 
 #[test]
 fn two_passphrases_are_mixed(rt: HostRuntime) -> Result<(), Fail> {
     let alloc = rt.alloc();
-    let mut both: Vec<Box<dyn AnyRecipient>> = Vec::new(alloc);
-    both.push(Box::new(alloc, recipient(alloc)?)?)?;
-    both.push(Box::new(alloc, recipient(alloc)?)?)?;
-    // (Random bytes that are all zero give both the same label.)
-    mixed(&rt, alloc, &both, 8)?;
-    let mut without: Vec<Box<dyn AnyRecipient>> = Vec::new(alloc);
-    without.push(Box::new(alloc, identity_of(&rt, alloc, &[1; 32])?.to_public())?)?;
-    without.push(Box::new(alloc, unlabelled(alloc)?)?)?;
-    mixed(&rt, alloc, &without, 56)
+    passphrase_twice(&rt, alloc)?;
+    unlabelled_after_key(&rt, alloc)
+}
+
+// (Random bytes that are all zero give both the same label.)
+fn passphrase_twice(rt: &impl Abort, alloc: Global) -> Result<(), Fail> {
+    let mut recipients: Vec<Box<dyn AnyRecipient>> = Vec::new(alloc);
+    recipients.push(Box::new(alloc, recipient(alloc)?)?)?;
+    recipients.push(Box::new(alloc, recipient(alloc)?)?)?;
+    mixed(rt, alloc, &recipients, 8)
+}
+
+fn unlabelled_after_key(rt: &impl Abort, alloc: Global) -> Result<(), Fail> {
+    let mut recipients: Vec<Box<dyn AnyRecipient>> = Vec::new(alloc);
+    recipients.push(Box::new(alloc, key_recipient(rt, alloc)?)?)?;
+    recipients.push(Box::new(alloc, unlabelled(alloc)?)?)?;
+    mixed(rt, alloc, &recipients, 56)
 }
 
 // The armor of a header whose one stanza has the type scrypt and the work factor 10, with a MAC that is nobody's, and 32 zeros after it.
@@ -141,22 +162,18 @@ fn a_stanza_is_read_through_armor(rt: HostRuntime) -> Result<(), Fail> {
         return Err(Fail::from("not one stanza"));
     };
     assert_eq!(rt; stanza.tag(), "scrypt");
+    has_arguments(&rt, stanza)?;
+    let mut identity = Identity::<BenchSuite>::new(passphrase(alloc, "p")?, 5);
+    assert!(rt; is_excessive(&identity.unwrap_stanza(alloc, stanza), 10, 5));
+    Ok(())
+}
+
+fn has_arguments(rt: &impl Abort, stanza: &Stanza) -> Result<(), Fail> {
     let [salt, factor] = stanza.args() else {
         return Err(Fail::from("not two arguments"));
     };
     assert_eq!(rt; salt.as_str(), "skb8GKz/cKOk8piHM4FF1Q");
     assert_eq!(rt; factor.as_str(), "10");
-    let mut identity = Identity::<BenchSuite>::new(passphrase(alloc, "p")?, 5);
-    let refused = identity.unwrap_stanza(alloc, stanza);
-    assert!(rt;
-        matches!(
-            refused,
-            Some(Err(DecryptError::ExcessiveWork {
-                required: 10,
-                target: 5
-            }))
-        )
-    );
     Ok(())
 }
 

@@ -1,15 +1,15 @@
 //! Recipients and identities of a passphrase. The expected bytes are those of Python, from the format's own words.
 
-use crate::x25519_tests::stanza;
+use crate::fixtures::{horse, is_excessive, passphrase, stanza};
 use age::draw::Draw;
 use age::format::Stanza;
 use age::scrypt::{Identity, Recipient};
-use age::secrecy::{FileKey, SecretString};
+use age::secrecy::FileKey;
 use age::suite::Suite;
 use age::{DecryptError, Identity as _, Recipient as _};
 use age_bench::suite::BenchSuite;
 use age_try::never_stretches::NeverStretches;
-use std::alloc::{AllocError, Global};
+use std::alloc::Global;
 use std::process::Abort;
 use std::test::Fail;
 
@@ -21,13 +21,11 @@ const SEALED: [u8; 32] = [
     0x9f, 0xd6, 0xd2, 0x16, 0x17, 0x9f, 0x50, 0x5b, 0x66, 0x7b, 0xf4, 0x43, 0x79, 0x25, 0xf3, 0x6a,
 ];
 
+// The refusal where too few random bytes are left.
+const SHORT: &str = "random bytes ran out";
+
 // 24 zeros in base64.
 const LABEL: &str = "AAAAAAAAAAAAAAAAAAAAAAAAAAAAAAAA";
-
-/// A passphrase.
-pub fn passphrase(alloc: Global, text: &str) -> Result<SecretString, AllocError> {
-    Ok(SecretString::from(String::from_str(alloc, text)?))
-}
 
 // What an identity that is meant for a work factor of 18 answers to a stanza of the type with these arguments and this body: nothing, a
 // key of zeros, or a refusal with this text.
@@ -38,8 +36,8 @@ fn answers(
     body: &[u8],
     expected: Result<(), &str>,
 ) -> Result<(), Fail> {
-    let mut identity = Identity::<BenchSuite>::new(passphrase(alloc, "correct horse")?, 18);
-    match identity.unwrap_stanza(alloc, &stanza(alloc, "scrypt", arguments, body)?) {
+    let stanza = stanza(alloc, "scrypt", arguments, body)?;
+    match horse(alloc, 18)?.unwrap_stanza(alloc, &stanza) {
         None => panic!(rt; "passed over"),
         Some(Ok(key)) => {
             assert_eq!(rt; expected, Ok(()));
@@ -53,22 +51,21 @@ fn answers(
 #[test]
 fn a_stanza_opens(rt: HostRuntime) -> Result<(), Fail> {
     let alloc = rt.alloc();
-    answers(&rt, alloc, &[SALT, "10"], &SEALED, Ok(()))?;
     // Another factor or body.
-    answers(&rt, alloc, &[SALT, "9"], &SEALED, Err("decryption failed"))?;
-    answers(
-        &rt,
-        alloc,
-        &[SALT, "10"],
-        &[0; 32],
-        Err("decryption failed"),
-    )
+    for (factor, body, expected) in [
+        ("10", SEALED, Ok(())),
+        ("9", SEALED, Err("decryption failed")),
+        ("10", [0; 32], Err("decryption failed")),
+    ] {
+        answers(&rt, alloc, &[SALT, factor], &body, expected)?;
+    }
+    Ok(())
 }
 
 #[test]
 fn other_types_are_passed_over(rt: HostRuntime) -> Result<(), Fail> {
     let alloc = rt.alloc();
-    let mut identity = Identity::<BenchSuite>::new(passphrase(alloc, "correct horse")?, 18);
+    let mut identity = horse(alloc, 18)?;
     for tag in ["Scrypt", "scrypt2", "X25519"] {
         let stanza = stanza(alloc, tag, &[SALT, "10"], &SEALED)?;
         assert!(rt; identity.unwrap_stanza(alloc, &stanza).is_none());
@@ -76,24 +73,37 @@ fn other_types_are_passed_over(rt: HostRuntime) -> Result<(), Fail> {
     Ok(())
 }
 
+// A stanza of the type with these arguments and this body is a bad one.
+fn is_bad(rt: &impl Abort, alloc: Global, arguments: &[&str], body: &[u8]) -> Result<(), Fail> {
+    answers(rt, alloc, arguments, body, Err("invalid header"))
+}
+
 #[test]
 fn arguments_are_judged(rt: HostRuntime) -> Result<(), Fail> {
     let alloc = rt.alloc();
-    let bad = Err("invalid header");
     for factor in ["0", "010", "10x", "256", "+10", "-1", "1e1", "1000"] {
-        answers(&rt, alloc, &[SALT, factor], &SEALED, bad)?;
+        is_bad(&rt, alloc, &[SALT, factor], &SEALED)?;
     }
-    answers(&rt, alloc, &[], &SEALED, bad)?;
-    answers(&rt, alloc, &[SALT], &SEALED, bad)?;
-    answers(&rt, alloc, &[SALT, "10", "10"], &SEALED, bad)?;
-    answers(&rt, alloc, &["10", SALT], &SEALED, bad)
+    other_counts_are_bad(&rt, alloc)
+}
+
+// None, one, three, and two in the other order.
+fn other_counts_are_bad(rt: &impl Abort, alloc: Global) -> Result<(), Fail> {
+    for arguments in [
+        [].as_slice(),
+        [SALT].as_slice(),
+        [SALT, "10", "10"].as_slice(),
+        ["10", SALT].as_slice(),
+    ] {
+        is_bad(rt, alloc, arguments, &SEALED)?;
+    }
+    Ok(())
 }
 
 // 21 columns, 15 bytes, 17 bytes, padding, and unused bits that aren't zero.
 #[test]
 fn salts_and_bodies_are_judged(rt: HostRuntime) -> Result<(), Fail> {
     let alloc = rt.alloc();
-    let bad = Err("invalid header");
     for salt in [
         "AAAAAAAAAAAAAAAAAAAAA",
         "AAAAAAAAAAAAAAAAAAAA",
@@ -101,38 +111,25 @@ fn salts_and_bodies_are_judged(rt: HostRuntime) -> Result<(), Fail> {
         "AAAAAAAAAAAAAAAAAAAAAA==",
         "AAAAAAAAAAAAAAAAAAAAAB",
     ] {
-        answers(&rt, alloc, &[salt, "10"], &SEALED, bad)?;
+        is_bad(&rt, alloc, &[salt, "10"], &SEALED)?;
     }
-    answers(&rt, alloc, &[SALT, "10"], &[0; 31], bad)?;
-    answers(&rt, alloc, &[SALT, "10"], &[0; 33], bad)
+    is_bad(&rt, alloc, &[SALT, "10"], &[0; 31])?;
+    is_bad(&rt, alloc, &[SALT, "10"], &[0; 33])
 }
 
 // 22 is the largest that is taken, and the bench suite accepts 20 at most.
 #[test]
 fn large_work_factors_are_refused(rt: HostRuntime) -> Result<(), Fail> {
     let alloc = rt.alloc();
-    answers(&rt, alloc, &[SALT, "20"], &SEALED, Err("decryption failed"))?;
-    answers(
-        &rt,
-        alloc,
-        &[SALT, "21"],
-        &SEALED,
-        Err("excessive work factor 21, target 18"),
-    )?;
-    answers(
-        &rt,
-        alloc,
-        &[SALT, "25"],
-        &SEALED,
-        Err("excessive work factor 25, target 18"),
-    )?;
-    answers(
-        &rt,
-        alloc,
-        &[SALT, "255"],
-        &SEALED,
-        Err("excessive work factor 255, target 18"),
-    )
+    for (factor, refusal) in [
+        ("20", "decryption failed"),
+        ("21", "excessive work factor 21, target 18"),
+        ("25", "excessive work factor 25, target 18"),
+        ("255", "excessive work factor 255, target 18"),
+    ] {
+        answers(&rt, alloc, &[SALT, factor], &SEALED, Err(refusal))?;
+    }
+    Ok(())
 }
 
 // An identity that takes factors up to four above its target, or up to another one that it is told.
@@ -140,22 +137,20 @@ fn large_work_factors_are_refused(rt: HostRuntime) -> Result<(), Fail> {
 fn the_largest_work_factor_can_be_set(rt: HostRuntime) -> Result<(), Fail> {
     let alloc = rt.alloc();
     let stanza = stanza(alloc, "scrypt", &[SALT, "10"], &SEALED)?;
-    let mut identity = Identity::<BenchSuite>::new(passphrase(alloc, "correct horse")?, 6);
+    let mut identity = horse(alloc, 6)?;
     assert!(rt; matches!(identity.unwrap_stanza(alloc, &stanza), Some(Ok(_))));
     identity.set_max_work_factor(9);
-    let refused = identity.unwrap_stanza(alloc, &stanza);
-    assert!(rt;
-        matches!(
-            refused,
-            Some(Err(DecryptError::ExcessiveWork {
-                required: 10,
-                target: 6
-            }))
-        )
-    );
+    assert!(rt; is_excessive(&identity.unwrap_stanza(alloc, &stanza), 10, 6));
     identity.set_max_work_factor(10);
     assert!(rt; matches!(identity.unwrap_stanza(alloc, &stanza), Some(Ok(_))));
     Ok(())
+}
+
+// What an identity for a work factor of 5 answers to a stanza with this one, where its suite stretches nothing.
+fn unstretched(alloc: Global, factor: &str) -> Result<Option<Result<FileKey, DecryptError>>, Fail> {
+    let mut identity = Identity::<NeverStretches>::new(passphrase(alloc, "correct horse")?, 5);
+    let stanza = stanza(alloc, "scrypt", &[SALT, factor], &SEALED)?;
+    Ok(identity.unwrap_stanza(alloc, &stanza))
 }
 
 // A factor that is too large is refused by an identity whose suite stretches nothing, as are arguments that aren't those of the type: no
@@ -163,20 +158,10 @@ fn the_largest_work_factor_can_be_set(rt: HostRuntime) -> Result<(), Fail> {
 #[test]
 fn no_work_is_done_above_the_largest_factor(rt: HostRuntime) -> Result<(), Fail> {
     let alloc = rt.alloc();
-    let mut identity = Identity::<NeverStretches>::new(passphrase(alloc, "correct horse")?, 5);
-    let refused = identity.unwrap_stanza(alloc, &stanza(alloc, "scrypt", &[SALT, "10"], &SEALED)?);
-    assert!(rt;
-        matches!(
-            refused,
-            Some(Err(DecryptError::ExcessiveWork {
-                required: 10,
-                target: 5
-            }))
-        )
-    );
-    let bad = identity.unwrap_stanza(alloc, &stanza(alloc, "scrypt", &[SALT, "09"], &SEALED)?);
+    assert!(rt; is_excessive(&unstretched(alloc, "10")?, 10, 5));
+    let bad = unstretched(alloc, "09")?;
     assert!(rt; matches!(bad, Some(Err(DecryptError::InvalidHeader))));
-    let want = identity.unwrap_stanza(alloc, &stanza(alloc, "scrypt", &[SALT, "9"], &SEALED)?);
+    let want = unstretched(alloc, "9")?;
     assert!(rt; matches!(want, Some(Err(DecryptError::OutOfMemory))));
     Ok(())
 }
@@ -207,20 +192,33 @@ fn wraps<S: Suite>(
     Ok(())
 }
 
+// With the work factor 10, of so many random bytes so many are left.
 #[test]
 fn file_keys_are_wrapped(rt: HostRuntime) -> Result<(), Fail> {
     let alloc = rt.alloc();
+    let recipient = Recipient::<BenchSuite>::new(passphrase(alloc, "correct horse")?, 10);
     let expected = stanza(alloc, "scrypt", &[SALT, "10"], &SEALED)?;
-    let short = Err("random bytes ran out");
-    let mut recipient = Recipient::<BenchSuite>::new(passphrase(alloc, "correct horse")?, 10);
     wraps(&rt, alloc, &recipient, 40, Ok(&expected), 0)?;
     wraps(&rt, alloc, &recipient, 41, Ok(&expected), 1)?;
+    runs_out(&rt, alloc, &recipient)?;
+    a_factor_is_refused(&rt, alloc, recipient)
+}
+
+fn runs_out(rt: &impl Abort, alloc: Global, recipient: &Recipient<BenchSuite>) -> Result<(), Fail> {
     for (random, left) in [(0, 0), (15, 15), (16, 0), (39, 23)] {
-        wraps(&rt, alloc, &recipient, random, short, left)?;
+        wraps(rt, alloc, recipient, random, Err(SHORT), left)?;
     }
+    Ok(())
+}
+
+fn a_factor_is_refused(
+    rt: &impl Abort,
+    alloc: Global,
+    mut recipient: Recipient<BenchSuite>,
+) -> Result<(), Fail> {
     recipient.set_work_factor(21);
-    wraps(&rt, alloc, &recipient, 56, Err("work factor refused"), 16)?;
-    wraps(&rt, alloc, &recipient, 39, short, 23)
+    wraps(rt, alloc, &recipient, 56, Err("work factor refused"), 16)?;
+    wraps(rt, alloc, &recipient, 39, Err(SHORT), 23)
 }
 
 // All is drawn before a passphrase is stretched.
