@@ -2,11 +2,11 @@
 
 use crate::file_tests::grease;
 use age::draw::Draw;
-use age::format::Stanza;
 use age::io::{Bytes, write_all};
 use age::{Decryptor, Encryptor, Identity, Recipient};
 use age_bench::recipient::BenchRecipient;
 use age_bench::suite::BenchSuite;
+use age_try::fixtures::empty_stanza;
 use age_try::scripted::{Script, ScriptedIdentity, ScriptedRecipient};
 use std::alloc::{AllocError, Global};
 use std::collections::BTreeSet;
@@ -172,28 +172,44 @@ fn identity(script: Script) -> ScriptedIdentity {
     ScriptedIdentity { script, asked: 0 }
 }
 
-#[test]
-fn the_first_identity_that_answers_decides(rt: HostRuntime) -> Result<(), Fail> {
-    let alloc = rt.alloc();
-    let file = file_of(alloc, "tag")?;
+// One that answers nothing, one that refuses, and one that answers how often it was asked.
+fn three(alloc: Global) -> Result<Vec<Box<dyn Identity>>, AllocError> {
     let mut identities: Vec<Box<dyn Identity>> = Vec::new(alloc);
     identities.push(Box::new(alloc, identity(Script::Nothing))?)?;
     identities.push(Box::new(alloc, identity(Script::Refusal))?)?;
     identities.push(Box::new(alloc, identity(Script::TimesAsked))?)?;
-    let decryptor = Decryptor::<BenchSuite, Bytes>::new(alloc, Bytes::new(&file))?;
-    match decryptor.decrypt(alloc, &mut identities) {
+    Ok(identities)
+}
+
+// Decrypting with these is refused with this text.
+fn is_refused(
+    rt: &impl Abort,
+    alloc: Global,
+    file: &[u8],
+    identities: &mut [Box<dyn Identity>],
+    expected: &str,
+) -> Result<(), Fail> {
+    let decryptor = Decryptor::<BenchSuite, Bytes>::new(alloc, Bytes::new(file))?;
+    match decryptor.decrypt(alloc, identities) {
         Ok(_) => return Err(Fail::from("decrypted")),
-        Err(error) => assert_eq!(rt; error.to_string(alloc)?.as_str(), "decryption failed"),
+        Err(error) => assert_eq!(rt; error.to_string(alloc)?.as_str(), expected),
     }
-    // The third is asked for the first time now.
-    let tag = String::from_str(alloc, "tag")?;
-    let Some(stanza) = Stanza::new(tag, Vec::new(alloc), Vec::new(alloc)) else {
+    Ok(())
+}
+
+// The last of them is asked for the first time now.
+fn last_wasnt_asked(
+    rt: &impl Abort,
+    alloc: Global,
+    identities: &mut [Box<dyn Identity>],
+) -> Result<(), Fail> {
+    let Some(stanza) = empty_stanza(alloc, "tag")? else {
         return Err(Fail::from("no stanza"));
     };
-    let Some(third) = identities.last_mut() else {
+    let Some(last) = identities.last_mut() else {
         return Err(Fail::from("no identity"));
     };
-    let Some(answer) = third.unwrap_stanza(alloc, &stanza) else {
+    let Some(answer) = last.unwrap_stanza(alloc, &stanza) else {
         return Err(Fail::from("no answer"));
     };
     let key = answer?;
@@ -202,20 +218,31 @@ fn the_first_identity_that_answers_decides(rt: HostRuntime) -> Result<(), Fail> 
 }
 
 #[test]
+fn the_first_identity_that_answers_decides(rt: HostRuntime) -> Result<(), Fail> {
+    let alloc = rt.alloc();
+    let file = file_of(alloc, "tag")?;
+    let mut identities = three(alloc)?;
+    is_refused(&rt, alloc, &file, &mut identities, "decryption failed")?;
+    last_wasnt_asked(&rt, alloc, &mut identities)
+}
+
+// Decrypting with one of this script is refused with this text.
+fn one_is_refused(
+    rt: &impl Abort,
+    alloc: Global,
+    file: &[u8],
+    script: Script,
+    expected: &str,
+) -> Result<(), Fail> {
+    let mut identities: Vec<Box<dyn Identity>> = Vec::new(alloc);
+    identities.push(Box::new(alloc, identity(script))?)?;
+    is_refused(rt, alloc, file, &mut identities, expected)
+}
+
+#[test]
 fn no_identity_and_another_key(rt: HostRuntime) -> Result<(), Fail> {
     let alloc = rt.alloc();
     let file = file_of(alloc, "")?;
-    for (script, expected) in [
-        (Script::Nothing, "no matching keys"),
-        (Script::TimesAsked, "invalid header MAC"),
-    ] {
-        let mut identities: Vec<Box<dyn Identity>> = Vec::new(alloc);
-        identities.push(Box::new(alloc, identity(script))?)?;
-        let decryptor = Decryptor::<BenchSuite, Bytes>::new(alloc, Bytes::new(&file))?;
-        match decryptor.decrypt(alloc, &mut identities) {
-            Ok(_) => return Err(Fail::from("decrypted")),
-            Err(error) => assert_eq!(rt; error.to_string(alloc)?.as_str(), expected),
-        }
-    }
-    Ok(())
+    one_is_refused(&rt, alloc, &file, Script::Nothing, "no matching keys")?;
+    one_is_refused(&rt, alloc, &file, Script::TimesAsked, "invalid header MAC")
 }

@@ -133,89 +133,62 @@ fn answers(
     Ok(())
 }
 
+// It answers this to a stanza of the type with these arguments and this body.
+fn is_judged(
+    rt: &impl Abort,
+    alloc: Global,
+    arguments: &[&str],
+    body: &[u8],
+    expected: Option<Result<(), ()>>,
+) -> Result<(), Fail> {
+    answers(
+        rt,
+        alloc,
+        &stanza(alloc, "X25519", arguments, body)?,
+        expected,
+    )
+}
+
 #[test]
 fn stanzas_are_judged_in_order(rt: HostRuntime) -> Result<(), Fail> {
     let alloc = rt.alloc();
-    let bad = Some(Err(()));
+    is_judged(&rt, alloc, &[SHARE], &SEALED, Some(Ok(())))?;
+    other_types_are_passed_over(&rt, alloc)?;
+    shares_are_judged(&rt, alloc)?;
+    bodies_are_judged(&rt, alloc)
+}
+
+fn other_types_are_passed_over(rt: &impl Abort, alloc: Global) -> Result<(), Fail> {
     answers(
-        &rt,
-        alloc,
-        &stanza(alloc, "X25519", &[SHARE], &SEALED)?,
-        Some(Ok(())),
-    )?;
-    answers(
-        &rt,
+        rt,
         alloc,
         &stanza(alloc, "x25519", &[SHARE], &SEALED)?,
         None,
     )?;
-    answers(&rt, alloc, &stanza(alloc, "bench", &[], &[0; 16])?, None)?;
-    answers(&rt, alloc, &stanza(alloc, "X25519", &[], &SEALED)?, bad)?;
-    answers(
-        &rt,
-        alloc,
-        &stanza(alloc, "X25519", &[SHARE, SHARE], &SEALED)?,
-        bad,
-    )?;
-    answers(
-        &rt,
-        alloc,
-        &stanza(alloc, "X25519", &["WlpaWlpa"], &SEALED)?,
-        bad,
-    )?;
-    // A second spelling of the last byte, and padding.
-    answers(
-        &rt,
-        alloc,
-        &stanza(
-            alloc,
-            "X25519",
-            &["WlpaWlpaWlpaWlpaWlpaWlpaWlpaWlpaWlpaWlpaWlp"],
-            &SEALED,
-        )?,
-        bad,
-    )?;
-    answers(
-        &rt,
-        alloc,
-        &stanza(
-            alloc,
-            "X25519",
-            &["WlpaWlpaWlpaWlpaWlpaWlpaWlpaWlpaWlpaWlpaWlo="],
-            &SEALED,
-        )?,
-        bad,
-    )?;
-    answers(
-        &rt,
-        alloc,
-        &stanza(alloc, "X25519", &[SHARE], &[0; 31])?,
-        bad,
-    )?;
-    answers(
-        &rt,
-        alloc,
-        &stanza(alloc, "X25519", &[SHARE], &[0; 33])?,
-        bad,
-    )?;
-    answers(
-        &rt,
-        alloc,
-        &stanza(alloc, "X25519", &[SHARE], &[0; 32])?,
-        None,
-    )?;
-    // The identity's own public value as share: the shared secret is zero.
-    answers(
-        &rt,
-        alloc,
-        &stanza(
-            alloc,
-            "X25519",
-            &["WltYWV5fXF1SU1BRVldUVUpLSElOT0xNQkNAQUZHREU"],
-            &SEALED,
-        )?,
-        bad,
-    )
+    answers(rt, alloc, &stanza(alloc, "bench", &[], &[0; 16])?, None)
+}
+
+// None, two, a short one, a second spelling of the last byte, padding, and the identity's own public value, with which the shared secret
+// is zero.
+fn shares_are_judged(rt: &impl Abort, alloc: Global) -> Result<(), Fail> {
+    for arguments in [
+        [].as_slice(),
+        [SHARE, SHARE].as_slice(),
+        ["WlpaWlpa"].as_slice(),
+        ["WlpaWlpaWlpaWlpaWlpaWlpaWlpaWlpaWlpaWlpaWlp"].as_slice(),
+        ["WlpaWlpaWlpaWlpaWlpaWlpaWlpaWlpaWlpaWlpaWlo="].as_slice(),
+        ["WltYWV5fXF1SU1BRVldUVUpLSElOT0xNQkNAQUZHREU"].as_slice(),
+    ] {
+        is_judged(rt, alloc, arguments, &SEALED, Some(Err(())))?;
+    }
+    Ok(())
+}
+
+// Another length, and one that doesn't open.
+fn bodies_are_judged(rt: &impl Abort, alloc: Global) -> Result<(), Fail> {
+    is_judged(rt, alloc, &[SHARE], &[0; 31], Some(Err(())))?;
+    is_judged(rt, alloc, &[SHARE], &[0; 33], Some(Err(())))?;
+    is_judged(rt, alloc, &[SHARE], &[0; 32], None)
 }
 
 // A file key of zeros is wrapped with random bytes of which so many are left, or refused with this text.

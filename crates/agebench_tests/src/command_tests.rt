@@ -64,26 +64,32 @@ fn key_of(command: Option<Command>, to_seal: bool) -> Option<[u8; 32]> {
     }
 }
 
+// The key of this text is parsed, to seal and to open.
+fn key_is_parsed(rt: &impl Abort, alloc: Global, text: &str) -> Result<(), Fail> {
+    let seal = format!(in alloc; "seal {text}")?;
+    assert_eq!(rt; key_of(parsed(alloc, &seal)?, true), Some(KEY));
+    let open = format!(in alloc; "open {text}")?;
+    assert_eq!(rt; key_of(parsed(alloc, &open)?, false), Some(KEY));
+    Ok(())
+}
+
+// Random bytes are parsed in either case, and whether it is in armor.
+fn encryptions_are_parsed(rt: &impl Abort, alloc: Global) -> Result<(), Fail> {
+    let bare = parsed(alloc, "encrypt bench 0AbC")?;
+    assert!(rt; encrypts(bare, &[0x0a, 0xbc], false));
+    let armored = parsed(alloc, "encrypt bench 0AbC armor")?;
+    assert!(rt; encrypts(armored, &[0x0a, 0xbc], true));
+    Ok(())
+}
+
 #[test]
 fn commands_are_parsed(rt: HostRuntime) -> Result<(), Fail> {
     let alloc = rt.alloc();
     let lower = "000102030405060708090a0b0c0d0e0f101112131415161718191a1b1c1d1e1f";
     let upper = "000102030405060708090A0B0C0D0E0F101112131415161718191A1B1C1D1E1F";
-    for text in [lower, upper] {
-        let seal = format!(in alloc; "seal {text}")?;
-        assert_eq!(rt; key_of(parsed(alloc, &seal)?, true), Some(KEY));
-        let open = format!(in alloc; "open {text}")?;
-        assert_eq!(rt; key_of(parsed(alloc, &open)?, false), Some(KEY));
-    }
-    for (line, in_armor) in [
-        ("encrypt bench 0AbC", false),
-        ("encrypt bench 0AbC armor", true),
-    ] {
-        assert!(rt;
-            encrypts(parsed(alloc, line)?, &[0x0a, 0xbc], in_armor),
-            "at {line}"
-        );
-    }
+    key_is_parsed(&rt, alloc, lower)?;
+    key_is_parsed(&rt, alloc, upper)?;
+    encryptions_are_parsed(&rt, alloc)?;
     match parsed(alloc, "decrypt bench")? {
         Some(Command::Decrypt { with: With::Bench }) => Ok(()),
         _ => Err(Fail::from("another command")),
@@ -164,7 +170,18 @@ fn keys_are_named_by_their_texts(rt: HostRuntime) -> Result<(), Fail> {
     Ok(())
 }
 
-// A word that begins as a key but is none, a key of the other kind, of another length, and keys of plugins.
+// A word is neither TO nor WITH.
+fn names_nobody(rt: &impl Abort, alloc: Global, word: &str) -> Result<(), Fail> {
+    let to = format!(in alloc; "encrypt {word} 00")?;
+    assert!(rt; parsed(alloc, &to)?.is_none(), "at {to}");
+    let with = format!(in alloc; "decrypt {word}")?;
+    assert!(rt; parsed(alloc, &with)?.is_none(), "at {with}");
+    let part = format!(in alloc; "at {word} 0 1")?;
+    assert!(rt; parsed(alloc, &part)?.is_none(), "at {part}");
+    Ok(())
+}
+
+// A word that begins as a key but is none, a key of another length, and keys of plugins.
 #[test]
 fn other_words_name_nobody(rt: HostRuntime) -> Result<(), Fail> {
     let alloc = rt.alloc();
@@ -179,13 +196,12 @@ fn other_words_name_nobody(rt: HostRuntime) -> Result<(), Fail> {
         "AGE-SECRET-KEY-1GQ9778VQXMMJVE8SK7J6VT8UJ4HDQAJUVSFCWCM02D8GEWQ72PVQ2Y5J34",
         "AGE-PLUGIN-FOOBAR-1QVHULF",
     ] {
-        let to = format!(in alloc; "encrypt {word} 00")?;
-        assert!(rt; parsed(alloc, &to)?.is_none(), "at {to}");
-        let with = format!(in alloc; "decrypt {word}")?;
-        assert!(rt; parsed(alloc, &with)?.is_none(), "at {with}");
-        let part = format!(in alloc; "at {word} 0 1")?;
-        assert!(rt; parsed(alloc, &part)?.is_none(), "at {part}");
+        names_nobody(&rt, alloc, word)?;
     }
+    keys_of_the_other_kind_name_nobody(&rt, alloc)
+}
+
+fn keys_of_the_other_kind_name_nobody(rt: &impl Abort, alloc: Global) -> Result<(), Fail> {
     let to = format!(in alloc; "encrypt {IDENTITY} 00")?;
     assert!(rt; parsed(alloc, &to)?.is_none());
     let with = format!(in alloc; "decrypt {RECIPIENT}")?;

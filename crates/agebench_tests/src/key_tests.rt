@@ -45,28 +45,38 @@ fn random(alloc: Global, count: usize, place: usize) -> Result<Vec<u8>, Fail> {
     Ok(bytes)
 }
 
+// So many random bytes make the line of the identity.
+fn makes_key(rt: &impl Abort, alloc: Global, count: usize) -> Result<(), Fail> {
+    let mut line = Vec::new(alloc);
+    keygen(alloc, Draw::new(random(alloc, count, 0)?), &mut line)?;
+    assert_eq!(rt; line.len(), 75);
+    assert!(rt;
+        line.as_slice()
+            .strip_suffix(b"\n")
+            .is_some_and(|text| text == IDENTITY.as_bytes())
+    );
+    Ok(())
+}
+
+// So many are too few, and nothing is written.
+fn makes_none(rt: &impl Abort, alloc: Global, count: usize) -> Result<(), Fail> {
+    let mut line = Vec::new(alloc);
+    match keygen(alloc, Draw::new(random(alloc, count, 0)?), &mut line) {
+        Err(error) => assert_eq!(rt; error.to_string(alloc)?.as_str(), "random bytes ran out"),
+        Ok(()) => return Err(Fail::from("a key was made")),
+    }
+    assert_eq!(rt; line.len(), 0);
+    Ok(())
+}
+
 #[test]
 fn keys_are_made(rt: HostRuntime) -> Result<(), Fail> {
     let alloc = rt.alloc();
     for count in [32, 33, 64] {
-        let mut line = Vec::new(alloc);
-        keygen(alloc, Draw::new(random(alloc, count, 0)?), &mut line)?;
-        assert_eq!(rt; line.len(), 75);
-        assert!(rt;
-            line.as_slice()
-                .strip_suffix(b"\n")
-                .is_some_and(|text| text == IDENTITY.as_bytes())
-        );
+        makes_key(&rt, alloc, count)?;
     }
-    for count in [0, 31] {
-        let mut line = Vec::new(alloc);
-        match keygen(alloc, Draw::new(random(alloc, count, 0)?), &mut line) {
-            Err(error) => assert_eq!(rt; error.to_string(alloc)?.as_str(), "random bytes ran out"),
-            Ok(()) => return Err(Fail::from("a key was made")),
-        }
-        assert_eq!(rt; line.len(), 0);
-    }
-    Ok(())
+    makes_none(&rt, alloc, 0)?;
+    makes_none(&rt, alloc, 31)
 }
 
 // The recipient of the secret, by its text.
@@ -111,38 +121,46 @@ fn encrypted(
     }
 }
 
+// The identity gives the message back.
+fn comes_back(rt: &impl Abort, alloc: Global, file: &[u8]) -> Result<(), Fail> {
+    let mut plain = Vec::new(alloc);
+    let mut input = Bytes::new(file);
+    decrypt_with(alloc, identity(IDENTITY)?, &mut input, &mut plain)?;
+    assert_eq!(rt; plain.as_slice(), MESSAGE);
+    Ok(())
+}
+
+// And a part of it.
+fn part_comes_back(rt: &impl Abort, alloc: Global, file: &[u8]) -> Result<(), Fail> {
+    let mut part = Vec::new(alloc);
+    let mut input = Bytes::new(file);
+    at_with(alloc, identity(IDENTITY)?, 5, 3, &mut input, &mut part)?;
+    assert_eq!(rt; part.as_slice(), b"is ".as_slice());
+    Ok(())
+}
+
+// Another gives nothing.
+fn has_no_key(rt: &impl Abort, alloc: Global, other: With, file: &[u8]) -> Result<(), Fail> {
+    let mut nothing = Vec::new(alloc);
+    let mut input = Bytes::new(file);
+    match decrypt_with(alloc, other, &mut input, &mut nothing) {
+        Err(FileError::Decrypt(DecryptError::NoMatchingKeys)) => {}
+        _ => return Err(Fail::from("another answer")),
+    }
+    assert_eq!(rt; nothing.len(), 0);
+    Ok(())
+}
+
 #[test]
 fn files_for_a_key_are_decrypted_with_it(rt: HostRuntime) -> Result<(), Fail> {
     let alloc = rt.alloc();
     for (format, length) in [(Format::Binary, 256), (Format::AsciiArmor, 418)] {
         let file = encrypted(alloc, random(alloc, 64, 64)?, format)??;
         assert_eq!(rt; file.len(), length);
-        let mut plain = Vec::new(alloc);
-        decrypt_with(
-            alloc,
-            identity(IDENTITY)?,
-            &mut Bytes::new(&file),
-            &mut plain,
-        )?;
-        assert_eq!(rt; plain.as_slice(), MESSAGE);
-        let mut part = Vec::new(alloc);
-        at_with(
-            alloc,
-            identity(IDENTITY)?,
-            5,
-            3,
-            &mut Bytes::new(&file),
-            &mut part,
-        )?;
-        assert_eq!(rt; part.as_slice(), b"is ".as_slice());
-        for other in [identity(OTHER)?, With::Bench] {
-            let mut nothing = Vec::new(alloc);
-            match decrypt_with(alloc, other, &mut Bytes::new(&file), &mut nothing) {
-                Err(FileError::Decrypt(DecryptError::NoMatchingKeys)) => {}
-                _ => return Err(Fail::from("another answer")),
-            }
-            assert_eq!(rt; nothing.len(), 0);
-        }
+        comes_back(&rt, alloc, &file)?;
+        part_comes_back(&rt, alloc, &file)?;
+        has_no_key(&rt, alloc, identity(OTHER)?, &file)?;
+        has_no_key(&rt, alloc, With::Bench, &file)?;
     }
     Ok(())
 }

@@ -198,21 +198,24 @@ fn too_few_random_bytes_make_no_file(rt: HostRuntime) -> Result<(), Fail> {
     Ok(())
 }
 
+// A word is neither TO nor WITH.
+fn names_nobody(rt: &impl Abort, alloc: Global, word: &str) -> Result<(), Fail> {
+    let to = asked(alloc, &["encrypt", word, "00"])?;
+    assert!(rt; to.is_none(), "at {word}");
+    let with = asked(alloc, &["decrypt", word])?;
+    assert!(rt; with.is_none(), "at {word}");
+    let part = asked(alloc, &["at", word, "0", "1"])?;
+    assert!(rt; part.is_none(), "at {word}");
+    Ok(())
+}
+
 #[test]
 fn other_words_name_no_passphrase(rt: HostRuntime) -> Result<(), Fail> {
     let alloc = rt.alloc();
     for word in [
         "pass", "Pass=x", "PASS=x", " pass=x", "pass =x", "pass:x", "=x", "",
     ] {
-        assert!(rt;
-            asked(alloc, &["encrypt", word, "00"])?.is_none(),
-            "at {word}"
-        );
-        assert!(rt; asked(alloc, &["decrypt", word])?.is_none(), "at {word}");
-        assert!(rt;
-            asked(alloc, &["at", word, "0", "1"])?.is_none(),
-            "at {word}"
-        );
+        names_nobody(&rt, alloc, word)?;
     }
     Ok(())
 }
