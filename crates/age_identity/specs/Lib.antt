@@ -1,0 +1,3 @@
+pub mod Limiting
+pub mod LimitLaws
+pub mod Limited

@@ -1,0 +1,4 @@
+//! Files of identities.
+#![tactic(auto)]
+
+pub mod util;
