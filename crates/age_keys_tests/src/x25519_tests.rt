@@ -168,18 +168,18 @@ fn other_types_are_passed_over(rt: &impl Abort, alloc: Global) -> Result<(), Fai
     answers(rt, alloc, &stanza(alloc, "bench", &[], &[0; 16])?, None)
 }
 
-// None, two, a short one, a second spelling of the last byte, padding, and the identity's own public value, with which the shared secret
-// is zero.
+// None, two, and then a short one, a second spelling of the last byte, padding, and the identity's own public value, with which the shared
+// secret is zero.
 fn shares_are_judged(rt: &impl Abort, alloc: Global) -> Result<(), Fail> {
-    for arguments in [
-        [].as_slice(),
-        [SHARE, SHARE].as_slice(),
-        ["WlpaWlpa"].as_slice(),
-        ["WlpaWlpaWlpaWlpaWlpaWlpaWlpaWlpaWlpaWlpaWlp"].as_slice(),
-        ["WlpaWlpaWlpaWlpaWlpaWlpaWlpaWlpaWlpaWlpaWlo="].as_slice(),
-        ["WltYWV5fXF1SU1BRVldUVUpLSElOT0xNQkNAQUZHREU"].as_slice(),
+    is_judged(rt, alloc, &[], &SEALED, Some(Err(())))?;
+    is_judged(rt, alloc, &[SHARE, SHARE], &SEALED, Some(Err(())))?;
+    for share in [
+        "WlpaWlpa",
+        "WlpaWlpaWlpaWlpaWlpaWlpaWlpaWlpaWlpaWlpaWlp",
+        "WlpaWlpaWlpaWlpaWlpaWlpaWlpaWlpaWlpaWlpaWlo=",
+        "WltYWV5fXF1SU1BRVldUVUpLSElOT0xNQkNAQUZHREU",
     ] {
-        is_judged(rt, alloc, arguments, &SEALED, Some(Err(())))?;
+        is_judged(rt, alloc, &[share], &SEALED, Some(Err(())))?;
     }
     Ok(())
 }
