@@ -1,4 +1,5 @@
 //! What the tests share.
+ghost use Rattle.std.specs.Prelude.{◌≤◌};
 
 use age::draw::Draw;
 use age::format::{Grease, Stanza};
@@ -17,7 +18,9 @@ pub fn passphrase(alloc: Global, text: &str) -> Result<SecretString, AllocError>
 }
 
 /// The identity of `correct horse` for a work factor.
-pub fn horse(alloc: Global, target: u8) -> Result<scrypt::Identity<BenchSuite>, AllocError> {
+pub fn horse(alloc: Global, target: u8) -> Result<scrypt::Identity<BenchSuite>, AllocError>
+    requires { target ≤ 63 }
+{
     Ok(scrypt::Identity::new(passphrase(alloc, "correct horse")?, target))
 }
 
