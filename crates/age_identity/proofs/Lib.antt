@@ -1,1 +1,11 @@
 pub mod Within
+pub mod NoPlugin
+pub mod Judged
+pub mod Characters
+pub mod Cutting
+pub mod Commented
+pub mod Steps
+pub mod Waiting
+pub mod Named
+pub mod Writing
+pub mod Finishing

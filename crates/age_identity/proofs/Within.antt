@@ -1,20 +1,19 @@
 -- Steps of a reader with a limit.
-use Rattle.std.proofs.Common.{◌≡◌, ℕ, ◌+◌, ◌-◌, ◌≤◌, ◌<◌, Bool, true, false, ◌&&◌, IsTrue, Ok, Err, Result, Bor, subst, List, [], ◌++◌, length, take, drop, refl, arith, sym, ap, ◌∙◌, length-take-le, length-take, length-drop, length-append, inl, inr}
-use Rattle.std.specs.Prelude.{◌⊎◌, nat_le, min}
+use Rattle.std.proofs.Common.{◌≡◌, ℕ, ◌+◌, ◌-◌, ◌≤◌, ◌<◌, Bool, true, false, ◌&&◌, IsTrue, Ok, Err, Result, Bor, subst, List, [], ◌++◌, length, take, drop, refl, arith, sym, ap, ◌∙◌, length-take-le, length-take, length-append, inl, inr}
+use Rattle.std.specs.Prelude.{nat_le, min}
 use Rattle.std.proofs.Math.Seq.{drop-nil, take-nil, take-append-add, take-add}
 use Rattle.std.proofs.Math.Bool.{and-false}
 use Rattle.std.proofs.lemmas.Bool.{cases_lt, lt-leb, le-leb}
 use Rattle.std.proofs.lemmas.List.{take-take, drop-take, take_all, take-append-le}
 use Rattle.age_error.specs.declared.io.Error.{Error}
 use Rattle.age_error.specs.declared.io.Error.TheVariants.{LimitExceeded}
-use Rattle.age_io.specs.Stretch.{Stretch, nothing, stretch-ext, IsFault, IsCleanEnd}
+use Rattle.age_io.specs.Stretch.{Stretch, IsFault, IsCleanEnd}
 use Rattle.age_io.specs.Reading.{Reads, Delivers, StaysOrFails, AddsNoReason}
 use Rattle.age_io.specs.Filling.{Consumes, Fills, IsFront}
 use Rattle.age_io.specs.declared.traits.Read.{Ghosts}
-use Rattle.age_identity.specs.declared.util.LimitedReader.{LimitedReader}
-use Rattle.age_identity.specs.Limiting.{limited, rest_within, place_within, shown_within}
+use Rattle.age_identity.specs.Limiting.{limited, rest_within, shown_within}
 use Rattle.age_identity.specs.LimitLaws.{le_same, limited_nothing}
-use Rattle.age_identity.specs.Limited.{inner_of, is_past, left_of, content_of, place_of, rest_of, refuses_of, MeetsLimit, Limits}
+use Rattle.age_identity.specs.Limited.{inner_of, is_past, left_of, content_of, place_of, rest_of, refuses_of, Limits}
 
 true-false : true ≡ false → ⊥
 true-false is = cc
@@ -269,10 +268,10 @@ module _ {R : Type 0} (read : Ghosts R) (shown : R → List ℕ) (besides : R �
       (record { inner = old; left = 0; past = false }) (record { inner = new; left = 0; past = true }) (Err LimitExceeded)
   fills_past old middle new front some f took =
       let more : IsTrue (read.tells old) → 0 < length (read.rest old).bytes = λ told.
-          let d = took.bytes (f.same_tells ∙ told) in
-          let size : length (take 1 (shown middle)) ≡ 1 = length-take-le 1 (shown middle) (omega (arith, some, ap length f.shows)) in
-          let whole = ap length d.bytes ∙ length-append (take 1 (shown middle)) (read.rest new).bytes in
-          omega (arith, size, whole, ap (λ s. length s.bytes) (f.same_rest told)) in
+      let d = took.bytes (f.same_tells ∙ told) in
+      let size : length (take 1 (shown middle)) ≡ 1 = length-take-le 1 (shown middle) (omega (arith, some, ap length f.shows)) in
+      let whole = ap length d.bytes ∙ length-append (take 1 (shown middle)) (read.rest new).bytes in
+      omega (arith, size, whole, ap (λ s. length s.bytes) (f.same_rest told)) in
       record {
         same_tells = took.same_tells ∙ f.same_tells;
         same_steady = took.same_steady ∙ f.same_steady;
@@ -335,3 +334,9 @@ pub ends_within : (front : List ℕ) (rest : Stretch) (left m : ℕ) (past : Boo
 ends_within front rest left m true within is some ends none = absurd (true-false within)
 ends_within front rest left m false within is some ends none =
     end_within left rest (ends (omega (arith, is, length-take m front, none)))
+
+-- a byte that was read stood there
+pub byte_there : (part : List ℕ) (n : ℕ) (old new : Stretch) → n ≤ length part → 0 < n → Delivers (take n part) old new → 0 < length old.bytes
+byte_there part n old new within some d =
+    let size : length (take n part) ≡ n = length-take-le n part within in
+    omega (arith, size, ap length d.bytes, length-append (take n part) new.bytes, some)

@@ -1,3 +1,12 @@
 pub mod Limiting
 pub mod LimitLaws
 pub mod Limited
+pub mod Entries
+pub mod Files
+pub mod Judging
+pub mod Comments
+pub mod Progress
+pub mod Reading
+pub mod ConvertErrors
+pub mod Converting
+pub mod IdentityFile

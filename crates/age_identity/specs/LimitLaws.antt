@@ -1,5 +1,5 @@
 -- The laws of a reader with a limit.
-use Rattle.std.specs.Prelude.{◌≡◌, ℕ, ◌+◌, ◌-◌, ◌≤◌, ◌<◌, ◌^◌, Bool, true, false, ◌&&◌, IsTrue, nat_le, List, [], length, take, drop, ◌⊎◌, refl}
+use Rattle.std.specs.Prelude.{◌≡◌, ℕ, ◌+◌, ◌≤◌, ◌<◌, ◌^◌, Bool, true, false, ◌&&◌, IsTrue, nat_le, length, drop, ◌⊎◌, refl}
 use Rattle.std.proofs.Common.{arith, inl, inr, ap, ◌∙◌, sym, length-take, length-drop}
 use Rattle.std.proofs.Math.Seq.{take-nil}
 use Rattle.std.proofs.lemmas.List.{drop-take}

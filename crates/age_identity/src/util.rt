@@ -23,7 +23,7 @@ pub struct LimitedReader<R> {
 }
 
 impl<R: Read> LimitedReader<R> {
-    ghost use Rattle.age_identity.specs.Limited.{inner_of, left_of, is_past, place_of, rest_of, Limits};
+    ghost use Rattle.age_identity.specs.Limited.{inner_of, left_of, is_past, place_of, rest_of, Limits, ReadsWithin, Meets};
 
     /// A reader of the next `limit` bytes of the inner reader. It reads nothing yet, and takes no memory.
     pub fn new(inner: R, limit: usize) -> LimitedReader<R>
@@ -49,6 +49,8 @@ impl<R: Read> LimitedReader<R> {
         ensures limits { Limits R.refuses (λ n. n) self.old self.new result }
         ensures exact { IsTrue (R.tells (inner_of self.old)) → 0 < length (R.rest (inner_of self.old)).bytes → IfErr result (λ e. e ≢ OutOfMemory →
             IsQuiet (R.faults (inner_of self.old)) (R.faults (inner_of self.new)) → e ≡ LimitExceeded) }
+        ensures inner { (buf : List ℕ) → is_past self.new ≡ false → ReadsWithin ⟦<R as Read>⟧ R.refuses (inner_of self.old) (inner_of self.new) buf result }
+        ensures meets { is_past self.new ≡ true → Meets ⟦<R as Read>⟧ self.old self.new result }
     {
         let mut probe = [0u8; 1];
         match self.inner.read(&mut probe) {
@@ -63,7 +65,7 @@ impl<R: Read> LimitedReader<R> {
 }
 
 impl<R: Read> Read for LimitedReader<R> {
-    ghost use Rattle.age_identity.specs.Limited.{inner_of, left_of, is_past, place_of, content_of, rest_of, refuses_of, Limits};
+    ghost use Rattle.age_identity.specs.Limited.{inner_of, left_of, is_past, place_of, content_of, rest_of, refuses_of, Limits, ReadsWithin, Meets};
 
     ghost tells = { λ r. R.tells (inner_of r) };
 
@@ -105,6 +107,9 @@ impl<R: Read> Read for LimitedReader<R> {
         ensures empty { is_past self.old ≡ false → length buf.old ≡ 0 → (result ≡ Ok 0) × (self.new ≡ self.old) }
         ensures exact { IsTrue (R.tells (inner_of self.old)) → 0 < length (R.rest (inner_of self.old)).bytes → IfErr result (λ e. e ≢ OutOfMemory →
             IsQuiet (R.faults (inner_of self.old)) (R.faults (inner_of self.new)) → e ≡ LimitExceeded) }
+        ensures inner { is_past self.new ≡ false → 0 < length buf.old →
+            ReadsWithin ⟦<R as Read>⟧ R.refuses (inner_of self.old) (inner_of self.new) buf.new result }
+        ensures meets { is_past self.new ≡ true → is_past self.old ≡ false → Meets ⟦<R as Read>⟧ self.old self.new result }
     {
         if self.past {
             return Err(Error::LimitExceeded);

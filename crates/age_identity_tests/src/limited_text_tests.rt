@@ -1,4 +1,4 @@
-//! Readers with a limit.
+//! Texts within a limit and past it.
 
 use age_error::io::{Error, ErrorKind};
 use age_identity::util::LimitedReader;
