@@ -48,10 +48,12 @@ fn recipients_are_written_up_to_a_plugin(rt: HostRuntime) -> Result<(), Fail> {
     let file = file_of(alloc, b"@^AGE-PLUGIN-FOOBAR-1QVHULF^@")?;
     let mut output = Vec::new(alloc);
     match file.write_recipients_file(alloc, &mut output) {
-        Err(IdentityFileConvertError::IdentityFileContainsPlugin {
-            filename,
-            plugin_name,
-        }) => {
+        Err(
+            IdentityFileConvertError::IdentityFileContainsPlugin {
+                filename,
+                plugin_name,
+            },
+        ) => {
             assert!(rt; filename.is_none());
             assert_eq!(rt; plugin_name.as_str(), "foobar");
         }
@@ -89,7 +91,10 @@ fn a_fault_of_the_output_is_answered(rt: HostRuntime) -> Result<(), Fail> {
     };
     match file.write_recipients_file(alloc, &mut Std::new(sink)) {
         Err(IdentityFileConvertError::FailedToWriteOutput(e)) => {
-            assert_eq!(rt; e, Error::Device(age_error::io::ErrorKind::PermissionDenied));
+            assert_eq!(rt;
+                e,
+                Error::Device(age_error::io::ErrorKind::PermissionDenied)
+            );
         }
         _ => assert!(rt; false),
     }
@@ -107,7 +112,10 @@ fn missing(error: &ResolveError) -> &str {
 #[test]
 fn plugins_are_missing(rt: HostRuntime) -> Result<(), Fail> {
     let alloc = rt.alloc();
-    let file = file_of(alloc, b"@^AGE-PLUGIN-ZETA-1CEJWHN^AGE-PLUGIN-ALPHA-13DM6UT^")?;
+    let file = file_of(
+        alloc,
+        b"@^AGE-PLUGIN-ZETA-1CEJWHN^AGE-PLUGIN-ALPHA-13DM6UT^",
+    )?;
     let file = file.with_callbacks(NoCallbacks);
     match file.to_recipients(alloc) {
         Err(EncryptError::PluginResolve(e)) => assert_eq!(rt; missing(&e), "age-plugin-alpha"),
@@ -142,6 +150,9 @@ fn errors_have_their_texts(rt: HostRuntime) -> Result<(), Fail> {
         filename: Some(String::from_str(alloc, "keys.txt")?),
         plugin_name: String::from_str(alloc, "foobar")?,
     };
-    assert_eq!(rt; plugin.to_string(alloc)?.as_str(), "identity file contains a plugin identity: foobar");
+    assert_eq!(rt;
+        plugin.to_string(alloc)?.as_str(),
+        "identity file contains a plugin identity: foobar"
+    );
     Ok(())
 }

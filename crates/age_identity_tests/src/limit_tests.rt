@@ -20,7 +20,10 @@ fn reads(
     let mut got = Vec::new(alloc);
     assert_eq!(rt; read_to_end(alloc, &mut reader, &mut got), answer);
     assert_eq!(rt; got.as_slice(), b"abc".as_slice());
-    assert_eq!(rt; read_to_end(alloc, &mut reader, &mut got), answer.map(|_| 0));
+    assert_eq!(rt;
+        read_to_end(alloc, &mut reader, &mut got),
+        answer.map(|_| 0)
+    );
     assert_eq!(rt; got.as_slice(), b"abc".as_slice());
     Ok(())
 }
@@ -88,9 +91,15 @@ fn faults_below_are_passed_on(rt: HostRuntime) -> Result<(), Fail> {
     let mut reader = LimitedReader::new(Std::new(source), 2);
     let mut room = [0; 4];
     assert_eq!(rt; reader.read(&mut room), Ok(1));
-    assert_eq!(rt; reader.read(&mut room), Err(Error::Device(ErrorKind::PermissionDenied)));
+    assert_eq!(rt;
+        reader.read(&mut room),
+        Err(Error::Device(ErrorKind::PermissionDenied))
+    );
     assert_eq!(rt; reader.read(&mut room), Ok(1));
-    assert_eq!(rt; reader.read(&mut room), Err(Error::Device(ErrorKind::Interrupted)));
+    assert_eq!(rt;
+        reader.read(&mut room),
+        Err(Error::Device(ErrorKind::Interrupted))
+    );
     assert_eq!(rt; reader.read(&mut room), Err(Error::LimitExceeded));
     Ok(())
 }
@@ -102,7 +111,10 @@ fn a_buffer_may_stand_over_a_limit(rt: HostRuntime) -> Result<(), Fail> {
     let alloc = rt.alloc();
     let mut reader = BufReader::new(alloc, LimitedReader::new(Bytes::new(b"abcd"), 3))?;
     let mut got = Vec::new(alloc);
-    assert_eq!(rt; read_to_end(alloc, &mut reader, &mut got), Err(Error::LimitExceeded));
+    assert_eq!(rt;
+        read_to_end(alloc, &mut reader, &mut got),
+        Err(Error::LimitExceeded)
+    );
     assert_eq!(rt; got.as_slice(), b"abc".as_slice());
     Ok(())
 }

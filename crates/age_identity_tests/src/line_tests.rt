@@ -44,13 +44,7 @@ fn holds(
 }
 
 // A text is refused at its line of this number.
-fn bad(
-    rt: &impl Abort,
-    alloc: Global,
-    form: &[u8],
-    end: &[u8],
-    line: usize,
-) -> Result<(), Fail> {
+fn bad(rt: &impl Abort, alloc: Global, form: &[u8], end: &[u8], line: usize) -> Result<(), Fail> {
     let text = text_of(alloc, form, end)?;
     let answer = File::from_buffer(alloc, Bytes::new(text.as_slice()));
     assert_eq!(rt; answer.err(), Some(Error::NotIdentity { line }));

@@ -79,10 +79,25 @@ fn faults_of_the_device_are_answered(rt: HostRuntime) -> Result<(), Fail> {
     let interrupted = Step::Fail(StdKind::Interrupted);
     let fault = Err(Error::Device(ErrorKind::PermissionDenied));
     reads(&rt, alloc, &[], Ok(2))?;
-    reads(&rt, alloc, &[Step::Move(1), Step::Move(7), interrupted], Ok(2))?;
+    reads(
+        &rt,
+        alloc,
+        &[Step::Move(1), Step::Move(7), interrupted],
+        Ok(2),
+    )?;
     reads(&rt, alloc, &[denied], fault)?;
     reads(&rt, alloc, &[Step::Move(100), denied], fault)?;
-    reads(&rt, alloc, &[Step::Move(100), Step::Move(100), denied], fault)?;
+    reads(
+        &rt,
+        alloc,
+        &[Step::Move(100), Step::Move(100), denied],
+        fault,
+    )?;
     reads(&rt, alloc, &[interrupted; 16], Ok(2))?;
-    reads(&rt, alloc, &[interrupted; 17], Err(Error::Device(ErrorKind::Other)))
+    reads(
+        &rt,
+        alloc,
+        &[interrupted; 17],
+        Err(Error::Device(ErrorKind::Other)),
+    )
 }
