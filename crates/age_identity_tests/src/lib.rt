@@ -4,8 +4,12 @@
 #[cfg(test)]
 mod callback_tests;
 #[cfg(test)]
+mod convert_tests;
+#[cfg(test)]
 mod limit_tests;
 #[cfg(test)]
 mod limited_text_tests;
 #[cfg(test)]
 mod line_tests;
+#[cfg(test)]
+mod size_tests;
