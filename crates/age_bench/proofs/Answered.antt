@@ -1,9 +1,9 @@
 -- What the one identity that WITH names answers.
 use Rattle.std.specs.Prelude.{◌≡◌, ℕ, List, [], ◌∷◌, ◌++◌, Option, Some, None, refl}
-use Rattle.std.proofs.Common.{◌∙◌, sym, subst, inl, inr}
+use Rattle.std.proofs.Common.{sym, subst}
 use Rattle.age.specs.Stanza.{StanzaValue}
 use Rattle.age.specs.Unwrapping.{UnwrapAnswer, Steady, FirstOf, Then, Unwraps}
-use Rattle.age.specs.UnwrappingLaws.{singly}
+use Rattle.age.specs.UnwrappingLaws.{either_way}
 use Rattle.age.specs.Answering.{FirstThatAnswers}
 use Rattle.age.specs.Parts.{FirstAnswer, IsFileFor}
 use Rattle.age_bench.specs.Bench.{bench_seal}
@@ -16,28 +16,6 @@ first_same : {S : Type 0} (x y : S) (xs ys : List S) → x ∷ xs ≡ y ∷ ys �
 first_same x y xs ys is = Prim.cc
 
 module _ {S X A : Type 0} (asks : S → X → Option A → Type 0) where
-  -- the relation that says also who is there afterwards
-  abbrev Says : S → X → Option A → S → Type 0
-  Says = Steady asks
-
-  stays_on : (xs : List X) (first : Option A) (between : S) (answer : Option A) (after : S) → ((s : S) → FirstOf Says s xs answer after → after ≡ s)
-      → Then (λ s. FirstOf Says s xs) first between answer after → after ≡ between
-  stays_on xs None between answer after step h = step between h
-  stays_on xs (Some a) between answer after step h = h.1
-
-  stays : (before : S) (xs : List X) (answer : Option A) (after : S) → FirstOf Says before xs answer after → after ≡ before
-  stays before [] answer after h = h.1
-  stays before (x ∷ xs) answer after (first, between, asked, next) = stays_on xs first between answer after (λ s. stays s xs answer after) next ∙ asked.1
-
-  -- the one who is there afterwards is the same
-  pub in_order : (before : S) (xs : List X) (answer : Option A) (after : S) → FirstOf Says before xs answer after → FirstOf Says before xs answer before
-  in_order before xs answer after h = subst (λ s. FirstOf Says before xs answer s) (stays before xs answer after h) h
-
-  -- so it doesn't matter which of its calls is made
-  pub either_way : (before : S) (xs : List X) (answer : Option A) (after : S) → Unwraps (FirstOf Says) before xs answer after → FirstOf Says before xs answer before
-  either_way before xs answer after (inl h) = in_order before xs answer after h
-  either_way before xs answer after (inr h) = in_order before xs answer after (singly Says before xs answer after h)
-
   -- the one of a list of one that decides is that one
   decider : (before : S) (passed later : List S) (one : S) → before ∷ [] ≡ passed ++ one ∷ later → one ≡ before
   decider before [] later one is = sym (first_same before one [] later is)
@@ -46,11 +24,11 @@ module _ {S X A : Type 0} (asks : S → X → Option A → Type 0) where
 
   -- of a list of one
   pub first_of_one : (one : S) (xs : List X) (answer : Option A) (after : List S)
-      → FirstThatAnswers (λ s own then. Unwraps (FirstOf Says) s xs own then) (one ∷ []) answer after → FirstOf Says one xs answer one
+      → FirstThatAnswers (λ s own then. Unwraps (FirstOf (Steady asks)) s xs own then) (one ∷ []) answer after → FirstOf (Steady asks) one xs answer one
   first_of_one one xs None [] h = absurd h
-  first_of_one one xs None (next ∷ after) h = either_way one xs None next h.0
+  first_of_one one xs None (next ∷ after) h = either_way asks one xs None next h.0
   first_of_one one xs (Some a) after d =
-      subst (λ s. FirstOf Says s xs (Some a) s) (decider one d.passed d.later d.decider d.all_before) (either_way d.decider xs (Some a) d.decider_after d.answers)
+      subst (λ s. FirstOf (Steady asks) s xs (Some a) s) (decider one d.passed d.later d.decider d.all_before) (either_way asks d.decider xs (Some a) d.decider_after d.answers)
 
 module _ {S T X A : Type 0} (asks : S → X → Option A → Type 0) (others : T → X → Option A → Type 0) (one : S) (other : T)
     (same : (x : X) (answer : Option A) → asks one x answer → others other x answer) where

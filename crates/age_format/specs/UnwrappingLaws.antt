@@ -1,6 +1,7 @@
 -- Who is asked on a list and who is asked item by item.
-use Rattle.std.specs.Prelude.{List, [], ◌∷◌, Option, None, Some}
-use Rattle.age_format.specs.Unwrapping.{FirstOf, Then}
+use Rattle.std.specs.Prelude.{◌≡◌, List, [], ◌∷◌, Option, None, Some}
+use Rattle.std.proofs.Common.{◌∙◌, subst, inl, inr}
+use Rattle.age_format.specs.Unwrapping.{FirstOf, Steady, Then, Unwraps}
 
 module _ {S X A : Type 0} (asks : S → X → Option A → S → Type 0) where
   -- asking a list of one by the relation on lists is asking that one
@@ -23,3 +24,26 @@ module _ {S X A : Type 0} (asks : S → X → Option A → S → Type 0) where
       let (first, between, one, next) = h in
       let (own, then, asked, ended) = one in
       (first, between, one_asked before x own first then between asked ended, singly_then xs first between answer after (λ s more. singly s xs answer after more) next)
+
+-- of one who doesn't change, and answers to each item by itself
+module _ {S X A : Type 0} (asks : S → X → Option A → Type 0) where
+  stays_on : (xs : List X) (first : Option A) (between : S) (answer : Option A) (after : S)
+      → ((s : S) → FirstOf (Steady asks) s xs answer after → after ≡ s)
+      → Then (λ s. FirstOf (Steady asks) s xs) first between answer after → after ≡ between
+  stays_on xs None between answer after step h = step between h
+  stays_on xs (Some a) between answer after step h = h.1
+
+  stays : (before : S) (xs : List X) (answer : Option A) (after : S) → FirstOf (Steady asks) before xs answer after → after ≡ before
+  stays before [] answer after h = h.1
+  stays before (x ∷ xs) answer after (first, between, asked, next) = stays_on xs first between answer after (λ s. stays s xs answer after) next ∙ asked.1
+
+  -- the one who is there afterwards is the same
+  in_order : (before : S) (xs : List X) (answer : Option A) (after : S) → FirstOf (Steady asks) before xs answer after
+      → FirstOf (Steady asks) before xs answer before
+  in_order before xs answer after h = subst (λ s. FirstOf (Steady asks) before xs answer s) (stays before xs answer after h) h
+
+  -- so it doesn't matter which of its calls is made
+  pub either_way : (before : S) (xs : List X) (answer : Option A) (after : S) → Unwraps (FirstOf (Steady asks)) before xs answer after
+      → FirstOf (Steady asks) before xs answer before
+  either_way before xs answer after (inl h) = in_order before xs answer after h
+  either_way before xs answer after (inr h) = in_order before xs answer after (singly (Steady asks) before xs answer after h)

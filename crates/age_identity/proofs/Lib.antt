@@ -9,3 +9,4 @@ pub mod Waiting
 pub mod Named
 pub mod Writing
 pub mod Finishing
+pub mod Asked

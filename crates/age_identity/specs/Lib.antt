@@ -9,4 +9,5 @@ pub mod Progress
 pub mod Reading
 pub mod ConvertErrors
 pub mod Converting
+pub mod Asking
 pub mod IdentityFile

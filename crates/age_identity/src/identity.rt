@@ -2,12 +2,19 @@
 ghost use Rattle.std.specs.Prelude.{◌≡◌, ◌⊎◌, [], ◌∷◌, ◌++◌, OnOk, IfOk, IfErr, None, MatchOption, List, ℕ, map, string_bytes};
 ghost use Rattle.std.specs.Option.{option_map};
 ghost use Rattle.std.specs.Result.{result_map_both};
-ghost use Rattle.age_error.specs.DecryptErrors.{decrypt_refusal};
+ghost use Rattle.age_error.specs.DecryptErrors.{decrypt_refusal, PluginResolve};
+ghost use Rattle.age_error.specs.DecryptErrors.{OutOfMemory as no_memory};
+ghost use Rattle.age_error.specs.ResolveErrors.{MissingPlugin};
 ghost use Rattle.age_error.specs.EncryptErrors.{encrypt_refusal};
 ghost use Rattle.age_error.specs.declared.io.Error.TheVariants.{OutOfMemory as out_of_memory};
 ghost use Rattle.age_identity.specs.ConvertErrors.{convert_refusal, NoIdentities, IdentityFileContainsPlugin, FailedToWriteOutput};
 ghost use Rattle.age_identity.specs.Converting.{native_secrets, plugin_names, program_of, recipients_text, IsAtMost, IsLeast, RefusesRecipients, RefusesIdentities, Converts};
+ghost use Rattle.age_format.specs.Unwrapping.{unwrap_answer, Steady, FirstOf};
+ghost use Rattle.age_keys.specs.X25519.{UnwrapsBy};
+ghost use Rattle.age_identity.specs.Asking.{EntryAnswers, EntriesAnswer};
 ghost use Rattle.age_identity.specs.Entries.{entry_of};
+ghost use Rattle.age_identity.specs.IdentityFile.{entries_of, filename_of, callbacks_of};
+ghost use Rattle.age_identity.specs.Reading.{ReadsFile, most_bytes};
 
 use crate::callbacks::{Callbacks, NoCallbacks};
 use crate::entry::IdentityFileEntry;
@@ -17,8 +24,10 @@ use crate::util::LimitedReader;
 use age_error::io::Error;
 use age_error::resolve::ResolveError;
 use age_error::{DecryptError, EncryptError};
+use age_format::{Identity, Stanza};
 use age_io::{BufRead, Read, Write, write_all};
 use age_keys::x25519;
+use age_suite::secrecy::FileKey;
 use age_suite::suite::Suite;
 use std::alloc::{AllocError, Global};
 use std::cmp::Ordering;
@@ -39,9 +48,6 @@ pub struct IdentityFile<S, C> {
 }
 
 impl<S> IdentityFile<S, NoCallbacks> {
-    ghost use Rattle.age_identity.specs.IdentityFile.{entries_of, filename_of};
-    ghost use Rattle.age_identity.specs.Reading.{ReadsFile, most_bytes};
-
     /// Reads the file that a reader still has, to its end. It has at most 16 MiB (2^24 bytes). A line ends with LF or CRLF, the last one
     /// perhaps with the input. It takes memory for one line and for the identities.
     ///
@@ -58,21 +64,32 @@ impl<S> IdentityFile<S, NoCallbacks> {
         ensures reads { ReadsFile ⟦<R as Read>⟧ most_bytes (λ file. entries_of file) «data» result }
         ensures named { IfOk result (λ file. filename_of file ≡ None) }
     {
-        let mut reader = LimitedReader::new(data, IDENTITY_SIZE_LIMIT);
-        match read_entries(alloc, &mut reader) {
-            Err(e) => Err(e),
-            Ok(entries) => Ok(IdentityFile {
-                filename: None,
-                entries,
-                callbacks: NoCallbacks,
-            }),
-        }
+        read_file(alloc, data)
+    }
+}
+
+/// The file that a reader still has, as `IdentityFile::from_buffer` reads it, of a reader without a buffer of its own.
+///
+/// It reads 1,024 bytes at a time. The refusals are those of `from_buffer`. After a refusal the reader is gone.
+pub fn read_file<S, R: Read + Drop>(
+    alloc: Global,
+    data: R,
+) -> Result<IdentityFile<S, NoCallbacks>, Error>
+    ensures reads { ReadsFile ⟦<R as Read>⟧ most_bytes (λ file. entries_of file) «data» result }
+    ensures named { IfOk result (λ file. filename_of file ≡ None) }
+{
+    let mut reader = LimitedReader::new(data, IDENTITY_SIZE_LIMIT);
+    match read_entries(alloc, &mut reader) {
+        Err(e) => Err(e),
+        Ok(entries) => Ok(IdentityFile {
+            filename: None,
+            entries,
+            callbacks: NoCallbacks,
+        }),
     }
 }
 
 impl<S, C> IdentityFile<S, C> {
-    ghost use Rattle.age_identity.specs.IdentityFile.{entries_of, filename_of, callbacks_of};
-
     /// The same file with others to be asked. It takes no memory.
     pub fn with_callbacks<D: Callbacks>(self, callbacks: D) -> IdentityFile<S, D>
     where
@@ -134,8 +151,6 @@ impl<S, C> IdentityFile<S, C> {
 }
 
 impl<S: Suite, C> IdentityFile<S, C> {
-    ghost use Rattle.age_identity.specs.IdentityFile.{entries_of, filename_of};
-
     /// Writes the recipients of the identities, each with LF after it, in the order of the file, up to the first identity of a plugin.
     ///
     /// The text is made in memory and written in one go. An interruption of the output is tried again as in `write_all`.
@@ -199,8 +214,6 @@ impl<S: Suite, C> IdentityFile<S, C> {
 }
 
 impl<S, C: Drop> IdentityFile<S, C> {
-    ghost use Rattle.age_identity.specs.IdentityFile.{entries_of};
-
     /// The identities, in the order of the file.
     ///
     /// # Errors
@@ -213,14 +226,94 @@ impl<S, C: Drop> IdentityFile<S, C> {
     {
         let entries = self.entries.as_slice();
         if let Some(name) = first_plugin(entries) {
-            let binary_name = binary_name(alloc, name)?;
-            return Err(DecryptError::PluginResolve(ResolveError::MissingPlugin { binary_name }));
+            return Err(missing_plugin(alloc, name));
         }
         let mut identities = Vec::new(alloc);
         for entry in entries {
             add_identity(&mut identities, entry)?;
         }
         Ok(identities)
+    }
+}
+
+/// What the identities of a file answer to stanzas, asked in the order of the file, each for all of the stanzas: the first answer that
+/// isn't `None`, a refusal too. Those after it aren't asked.
+///
+/// A native identity answers as `x25519::Identity`, and one of a plugin with `PluginResolve(MissingPlugin)`, since no program of a plugin
+/// is run. `OutOfMemory` where memory is refused.
+pub fn answer_of<S: Suite, C>(
+    alloc: Global,
+    file: &IdentityFile<S, C>,
+    stanzas: &[Stanza],
+) -> Option<Result<FileKey, DecryptError>>
+    ensures { EntriesAnswer (UnwrapsBy S.opened S.shared_of S.public_of) (entries_of file.now) stanzas.now (unwrap_answer result) }
+{
+    let mut rest = file.entries.as_slice();
+    while let Some((entry, tail)) = rest.split_first() {
+        if let Some(answer) = ask(alloc, entry, stanzas) {
+            return Some(answer);
+        }
+        rest = tail;
+    }
+    None
+}
+
+/// Shows a message to the user of a file.
+pub fn show<S, C: Callbacks>(file: &mut IdentityFile<S, C>, message: &str)
+    ensures entries { entries_of file.new ≡ entries_of file.old }
+    ensures name { filename_of file.new ≡ filename_of file.old }
+    ensures shown { C.displays (callbacks_of file.old) message.now (callbacks_of file.new) }
+{
+    file.callbacks.display_message(message);
+}
+
+// What an entry answers.
+fn ask<S: Suite>(
+    alloc: Global,
+    entry: &IdentityFileEntry<S>,
+    stanzas: &[Stanza],
+) -> Option<Result<FileKey, DecryptError>>
+    ensures { EntryAnswers (UnwrapsBy S.opened S.shared_of S.public_of) stanzas.now (entry_of entry.now) (unwrap_answer result) }
+{
+    match entry {
+        IdentityFileEntry::Native(identity) => ask_native(alloc, identity, stanzas),
+        IdentityFileEntry::Plugin(key) => Some(Err(missing_plugin(alloc, key.plugin()))),
+    }
+}
+
+// What a native identity answers. A copy is asked, since whoever is asked may change; it takes no memory, and this one doesn't change.
+fn ask_native<S: Suite>(
+    alloc: Global,
+    identity: &x25519::Identity<S>,
+    stanzas: &[Stanza],
+) -> Option<Result<FileKey, DecryptError>>
+    ensures { FirstOf (Steady (UnwrapsBy S.opened S.shared_of S.public_of)) identity.now stanzas.now (unwrap_answer result) identity.now }
+{
+    match identity.clone() {
+        Ok(copy) => ask_copy(alloc, copy, stanzas),
+        Err(_) => unreachable!(),
+    }
+}
+
+// What it answers, and then it is gone.
+fn ask_copy<S: Suite>(
+    alloc: Global,
+    identity: x25519::Identity<S>,
+    stanzas: &[Stanza],
+) -> Option<Result<FileKey, DecryptError>>
+    ensures { FirstOf (Steady (UnwrapsBy S.opened S.shared_of S.public_of)) identity stanzas.now (unwrap_answer result) identity }
+{
+    let mut identity = identity;
+    identity.unwrap_stanzas(alloc, stanzas)
+}
+
+// That the program of a plugin isn't there.
+fn missing_plugin(alloc: Global, plugin: &str) -> DecryptError
+    ensures { let refusal = decrypt_refusal result in (refusal ≡ PluginResolve (MissingPlugin (program_of plugin.now))) ⊎ (refusal ≡ no_memory) }
+{
+    match binary_name(alloc, plugin) {
+        Ok(binary_name) => DecryptError::PluginResolve(ResolveError::MissingPlugin { binary_name }),
+        Err(_) => DecryptError::OutOfMemory,
     }
 }
 

@@ -1,6 +1,6 @@
 use Rattle.std.proofs.Common.{refl}
 use Rattle.age_identity.proofs.Finishing.{refused_file, read_of_file}
-use Rattle.age_identity.proofs.identity.IdentityFile+S+NoCallbacks.from_buffer.Goals as goal
+use Rattle.age_identity.proofs.identity.read_file.Goals as goal
 
 pub returns-in-Err-clause-reads : goal.returns-in-Err-clause-reads
 returns-in-Err-clause-reads g c = (
