@@ -1,5 +1,5 @@
 -- The first entry that answers decides.
-use Rattle.std.proofs.Common.{◌≡◌, refl, map, Result, List, ◌∷◌, ℕ, Some, None}
+use Rattle.std.proofs.Common.{◌≡◌, arith, refl, map, length, Result, List, [], ◌∷◌, ℕ, Some, None}
 use Rattle.age_error.specs.DecryptErrors.{DecryptRefusal}
 use Rattle.age_format.specs.Stanza.{StanzaValue}
 use Rattle.age_format.specs.Unwrapping.{UnwrapAnswer}
@@ -8,6 +8,11 @@ use Rattle.age_identity.specs.Entries.{Entry, entry_of}
 use Rattle.age_identity.specs.declared.entry.IdentityFileEntry.{IdentityFileEntry}
 
 module _ {S : Type 0} (asks : List ℕ → StanzaValue → UnwrapAnswer → Type 0) (stanzas : List StanzaValue) where
+
+  -- where there is none, there is no answer
+  pub none_answers : (entries : List (IdentityFileEntry S)) → length entries ≡ 0 → EntriesAnswer asks (map (λ e. entry_of e) entries) stanzas None
+  none_answers [] is = (refl, refl)
+  none_answers (first ∷ tail) is = absurd (omega (arith, is))
 
   -- where the first one answers, that is the answer
   pub first_answers : (entries tail : List (IdentityFileEntry S)) (first : IdentityFileEntry S) (own : Result (List ℕ) DecryptRefusal)
