@@ -1,13 +1,7 @@
 -- What a caller sees of an encrypted file of identities.
-use Rattle.std.specs.Prelude.{ℕ, ◌+◌, Option, Some, None}
 use Rattle.age_protocol.specs.Decryptor.{header_of, nonce_of, input_of}
-use Rattle.age_encrypted.specs.Protected.{Protected}
+use Rattle.age_encrypted.specs.Protected.{Protected, most_of}
 use Rattle.age_encrypted.specs.declared.encrypted_identity.EncryptedIdentity.{EncryptedIdentity}
-
--- the largest work factor that is taken: the one that was given, else four above the target
-abbrev pub most_of : ℕ → Option ℕ → ℕ
-most_of target None = target + 4
-most_of target (Some most) = most
 
 -- the file that it stands for
 abbrev pub protected_of : {S R C : Type 0} → EncryptedIdentity S R C → Protected R C

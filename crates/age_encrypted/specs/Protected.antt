@@ -1,5 +1,5 @@
 -- A file of identities that is encrypted with a passphrase, and what opening it comes to.
-use Rattle.std.specs.Prelude.{◌≡◌, ◌⊎◌, ℕ, List, ◌++◌, codes, Option, Some, None, Result, Ok, Err}
+use Rattle.std.specs.Prelude.{◌≡◌, ◌⊎◌, ℕ, ◌+◌, List, ◌++◌, codes, Option, Some, None, Result, Ok, Err}
 use Rattle.std.specs.Result.{result_map_both}
 use Rattle.age_error.specs.DecryptErrors.{DecryptRefusal, DecryptionFailed, KeyDecryptionFailed, OutOfMemory, decrypt_refusal, decrypt_of_io}
 use Rattle.age_error.specs.declared.decrypt.DecryptError.{DecryptError}
@@ -31,15 +31,32 @@ pub record Opened (C : Type 0) : Type 0 where
   pub entries : List Entry
   pub callbacks : C
 
+-- the largest work factor that is taken: the one that was given, else four above the target
+abbrev pub most_of : ℕ → Option ℕ → ℕ
+most_of target None = target + 4
+most_of target (Some most) = most
+
+-- the file with those who were asked
+abbrev pub opened_with : {C : Type 0} → C → List Entry → Opened C
+opened_with callbacks entries = record { entries = entries; callbacks = callbacks }
+
 -- what a user is told when the passphrase is asked for, of the file's name if it has one
 abbrev pub description : Option (List ℕ) → List ℕ
 description None = codes "passphrase for encrypted identity "
 description (Some name) = codes "passphrase for encrypted identity " ++ name
 
--- a wrong passphrase has a name of its own
+-- a passphrase that isn't that of the file has a refusal of its own
+abbrev pub own_refusal : DecryptRefusal → DecryptRefusal
+own_refusal DecryptionFailed = KeyDecryptionFailed
+own_refusal refusal = refusal
+
+-- a file key, or the refusal of the identity of a passphrase
 abbrev pub of_passphrase : Result (List ℕ) DecryptRefusal → Result (List ℕ) DecryptRefusal
-of_passphrase (Err DecryptionFailed) = Err KeyDecryptionFailed
-of_passphrase answer = answer
+of_passphrase answer = result_map_both (λ key. key) own_refusal answer
+
+-- the identity of a passphrase that the file is decrypted with
+abbrev pub identity_under : {R C : Type 0} → Protected R C → List ℕ → PassphraseIdentity
+identity_under file passphrase = record { passphrase = passphrase; target = file.target; most = file.most }
 
 module _ {S R : Type 0} (suite : SuiteMembers S) {read : ReadMembers R} (stream_read : ReadMembers (StreamReader S R suite read)) where
   -- What the file key, or the refusal, makes of the file: the entries of its plaintext, read as any identity file.
@@ -53,15 +70,10 @@ module _ {S R : Type 0} (suite : SuiteMembers S) {read : ReadMembers R} (stream_
     -- What a passphrase makes of the file: it is decrypted by the identity of the passphrase.
     pub record OpensUnder (file : Protected R C) (passphrase : List ℕ) (outcome : Result (List Entry) DecryptRefusal) : Type 0 where
       pub answer : UnwrapAnswer
-      pub asked : let identity = record { passphrase = passphrase; target = file.target; most = file.most } in
-          UnwrapsPassphrase suite identity file.header.stanzas answer identity
+      pub asked : UnwrapsPassphrase suite (identity_under file passphrase) file.header.stanzas answer (identity_under file passphrase)
       pub stream : Result (StreamReader S R suite read) DecryptError
       pub decrypts : Decrypts (of_passphrase (decided answer)) file.header file.nonce file.input stream
       pub entries : HoldsEntries stream outcome
-
-    -- the file with those who were asked
-    abbrev pub opened_with : C → List Entry → Opened C
-    opened_with callbacks entries = record { entries = entries; callbacks = callbacks }
 
     -- what the answer of those who are asked makes of it
     abbrev pub OpensBy : Protected R C → Option (List ℕ) → C → Result (Opened C) DecryptRefusal → Type 0

@@ -10,8 +10,7 @@ ghost use Rattle.age_protocol.specs.Decryptor.{header_of, nonce_of, input_of};
 ghost use Rattle.age_protocol.specs.OpeningFile.{Decrypts};
 ghost use Rattle.age_protocol.specs.Passphrases.{UnwrapsPassphrase};
 ghost use Rattle.age_identity.specs.IdentityFile.{entries_of, callbacks_of};
-ghost use Rattle.age_encrypted.specs.Protected.{Opens, OpensUnder, description, of_passphrase, opened_with};
-ghost use Rattle.age_encrypted.specs.EncryptedIdentity.{protected_of, most_of};
+ghost use Rattle.age_encrypted.specs.Protected.{Opens, OpensUnder, description, of_passphrase, own_refusal, opened_with, most_of};
 
 use age_error::DecryptError;
 use age_identity::identity::read_file;
@@ -32,9 +31,12 @@ pub struct EncryptedIdentity<S, R: Drop, C> {
     callbacks: C,
     target: u8,
     max_work_factor: Option<u8>,
+    ghost bounded: { target ≤ 63 },
 }
 
 impl<S, R: Drop, C: Callbacks> EncryptedIdentity<S, R, C> {
+    ghost use Rattle.age_encrypted.specs.EncryptedIdentity.{protected_of};
+
     /// The file whose front a decryptor has read, if it is one of a passphrase: if its header's only stanza has the tag `scrypt`
     /// (age-encryption.org/v1, section "The scrypt recipient type"). Else `None`, and all that was handed in is gone.
     ///
@@ -70,6 +72,8 @@ impl<S, R: Drop, C: Callbacks> EncryptedIdentity<S, R, C> {
 }
 
 impl<S: Suite, R: Read + Drop, C: Callbacks> EncryptedIdentity<S, R, C> {
+    ghost use Rattle.age_encrypted.specs.EncryptedIdentity.{protected_of};
+
     /// Asks for the passphrase, once, and reads the identities of the file to its end, as `IdentityFile::from_buffer` does. Whoever asks
     /// is told the name of the file, where there is one.
     ///
@@ -148,7 +152,16 @@ fn decrypted<S: Suite, R: Read + Drop>(
     let mut identity = identity;
     match decryptor.decrypt_one(alloc, &mut identity) {
         Ok(stream) => Ok(stream),
-        Err(DecryptError::DecryptionFailed) => Err(DecryptError::KeyDecryptionFailed),
-        Err(e) => Err(e),
+        Err(e) => Err(named(e)),
+    }
+}
+
+// The refusal of a passphrase that isn't that of the file, where it is one.
+fn named(e: DecryptError) -> DecryptError
+    ensures { decrypt_refusal result ≡ own_refusal (decrypt_refusal e) }
+{
+    match e {
+        DecryptError::DecryptionFailed => DecryptError::KeyDecryptionFailed,
+        other => other,
     }
 }
