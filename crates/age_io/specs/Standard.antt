@@ -1,12 +1,17 @@
--- The kind of an error of std, as this port sorts it, and how its errors are counted.
+-- The kind of an error of std, as this port sorts it, how its errors are counted, and what std is told of this port's.
 use Rattle.std.specs.Prelude.{◌≡◌, ℕ, ◌+◌, ◌^◌, ◌&&◌, ◌⊎◌, nat_lt, if◌then◌else◌, Option, Some, Result, Ok, Err, MatchResult}
 use Rattle.age_io.specs.Cursor.{sought}
-use Rattle.age_error.specs.Refusals.{IsDevice}
+use Rattle.age_error.specs.Refusals.{IsDevice, kind_of}
 use Rattle.age_error.specs.declared.io.Error.{Error}
 use Rattle.age_error.specs.declared.io.Error.TheVariants.{TooLong, Failed, WriteZero}
 use Rattle.age_error.specs.declared.io.SeekFrom.{SeekFrom}
+use Rattle.age_error.specs.declared.io.SeekFrom.TheVariants.{Start, End, Current}
+use Rattle.std.specs.IoError.{error_kind}
+use Rattle.std.specs.declared.io.Error.{Error as StandardError}
+use Rattle.std.specs.declared.io.traits.SeekFrom.{SeekFrom as StandardPlace}
+use Rattle.std.specs.declared.io.traits.SeekFrom.TheVariants.{Start as start, End as from_end, Current as current}
 use Rattle.std.specs.declared.io.ErrorKind.{ErrorKind as StandardKind}
-use Rattle.std.specs.declared.io.ErrorKind.TheVariants.{NotFound as not_found, PermissionDenied as permission_denied, Interrupted as interrupted, UnexpectedEof as unexpected_eof, WriteZero as write_zero, InvalidData as invalid_data, InvalidInput as invalid_input, OutOfMemory as out_of_memory}
+use Rattle.std.specs.declared.io.ErrorKind.TheVariants.{NotFound as not_found, PermissionDenied as permission_denied, Interrupted as interrupted, UnexpectedEof as unexpected_eof, WriteZero as write_zero, InvalidData as invalid_data, InvalidInput as invalid_input, OutOfMemory as out_of_memory, Other as other}
 use Rattle.age_error.specs.declared.io.ErrorKind.{ErrorKind}
 use Rattle.age_error.specs.declared.io.ErrorKind.TheVariants.{NotFound, PermissionDenied, Interrupted, UnexpectedEof, WriteZero, InvalidData, InvalidInput, OutOfMemory, Other}
 
@@ -21,6 +26,28 @@ kind_from invalid_data = InvalidData
 kind_from invalid_input = InvalidInput
 kind_from out_of_memory = OutOfMemory
 kind_from _ = Other
+
+-- the kind of std with the same name
+abbrev pub kind_into : ErrorKind → StandardKind
+kind_into NotFound = not_found
+kind_into PermissionDenied = permission_denied
+kind_into Interrupted = interrupted
+kind_into UnexpectedEof = unexpected_eof
+kind_into WriteZero = write_zero
+kind_into InvalidData = invalid_data
+kind_into InvalidInput = invalid_input
+kind_into OutOfMemory = out_of_memory
+kind_into Other = other
+
+-- the same place of a seek
+abbrev pub place_into : StandardPlace → SeekFrom
+place_into (start n) = Start n
+place_into (from_end d) = End d
+place_into (current d) = Current d
+
+-- An answer of this port of which this is so, told to std: the same success, or an error of the kind of its refusal.
+abbrev pub Tells : {T : Type 0} → (Result T Error → Type 0) → Result T StandardError → Type 0
+Tells IsSo result = MatchResult result (λ x. IsSo (Ok x)) (λ told. (e : Error) × IsSo (Err e) × (error_kind told ≡ kind_into (kind_of e)))
 
 -- a refusal is the device's, and is one fault more
 abbrev pub CountsFaults : {T : Type 0} → ℕ → ℕ → Result T Error → Type 0

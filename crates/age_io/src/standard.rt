@@ -66,7 +66,7 @@ impl<T> Std<T> {
         ensures kind { result ≡ Device (kind_from (error_kind error.now)) }
     {
         self.faults += 1;
-        Error::Device(kind_of(error.kind()))
+        device_error(error)
     }
 }
 
@@ -77,6 +77,13 @@ impl<T> fmt::Debug for Std<T> {
             .field("faults", &self.faults)
             .finish_non_exhaustive()
     }
+}
+
+/// This error of std as a fault of a device, `Device(kind)`: the kind of the same name, or `Other`. The text of the error is let go.
+pub fn device_error(error: &io::Error) -> Error
+    ensures { result ≡ Device (kind_from (error_kind error.now)) }
+{
+    Error::Device(kind_of(error.kind()))
 }
 
 // The kind of the same name, or `Other`.
