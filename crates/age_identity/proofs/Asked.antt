@@ -8,7 +8,6 @@ use Rattle.age_identity.specs.Entries.{Entry, entry_of}
 use Rattle.age_identity.specs.declared.entry.IdentityFileEntry.{IdentityFileEntry}
 
 module _ {S : Type 0} (asks : List ℕ → StanzaValue → UnwrapAnswer → Type 0) (stanzas : List StanzaValue) where
-
   -- where there is none, there is no answer
   pub none_answers : (entries : List (IdentityFileEntry S)) → length entries ≡ 0 → EntriesAnswer asks (map (λ e. entry_of e) entries) stanzas None
   none_answers [] is = (refl, refl)
