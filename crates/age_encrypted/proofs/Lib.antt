@@ -1,2 +1,0 @@
-pub mod Decrypted
-pub mod Opened

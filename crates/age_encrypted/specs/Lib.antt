@@ -1,2 +1,0 @@
-pub mod Protected
-pub mod EncryptedIdentity
