@@ -1,0 +1,66 @@
+-- What opening a file comes to, once a passphrase was given.
+use Rattle.std.specs.Prelude.{◌≡◌, ℕ, List, Option, Some, Result, Ok, Err, IsErrAnd, refl}
+use Rattle.std.specs.Result.{result_map_both}
+use Rattle.std.proofs.Common.{inr, subst, sym}
+use Rattle.age_error.specs.DecryptErrors.{DecryptRefusal, decrypt_refusal, decrypt_of_io}
+use Rattle.age_error.specs.declared.decrypt.DecryptError.{DecryptError}
+use Rattle.age_error.specs.declared.io.Error.{Error}
+use Rattle.age_suite.specs.declared.suite.Suite.{Ghosts as SuiteMembers}
+use Rattle.age_io.specs.declared.traits.Read.{Ghosts as ReadMembers}
+use Rattle.age_format.specs.Unwrapping.{UnwrapAnswer}
+use Rattle.age_keys.specs.Scrypt.{PassphraseIdentity}
+use Rattle.age_stream.specs.declared.reader.StreamReader.{StreamReader}
+use Rattle.age_protocol.specs.Answering.{decided}
+use Rattle.age_protocol.specs.OpeningFile.{Decrypts}
+use Rattle.age_protocol.specs.Passphrases.{UnwrapsPassphrase}
+use Rattle.age_identity.specs.Entries.{Entry}
+use Rattle.age_identity.specs.Reading.{ReadsFile, most_bytes}
+use Rattle.age_encrypted.specs.Protected.{Protected, Opened, Opens, HoldsEntries, identity_under, of_passphrase, opened_with, description}
+
+-- what was read as a value that has entries was read as these entries
+reads_entries : {R A : Type 0} (read : ReadMembers R) (limit : ℕ) (entries : A → List Entry) (input : R) (result : Result A Error)
+    → ReadsFile read limit entries input result → ReadsFile read limit (λ own. own) input (result_map_both entries (λ e. e) result)
+reads_entries read limit entries input (Ok file) (last, r) =
+    (last, record { faults = r.faults; device = tt; patient = tt; fits = r.fits; file = r.file; refused = tt })
+reads_entries read limit entries input (Err e) (last, r) =
+    (last, record { faults = r.faults; device = r.device; patient = r.patient; fits = λ told. tt; file = λ told. tt; refused = r.refused })
+
+module _ {S R : Type 0} (suite : SuiteMembers S) (read : ReadMembers R) (stream_read : ReadMembers (StreamReader S R suite read)) where
+  -- a plaintext was read, or refused, as an identity file
+  pub holds : {A : Type 0} (entries : A → List Entry) (stream : StreamReader S R suite read) (file : A)
+      → ReadsFile stream_read most_bytes entries stream (Ok file) → HoldsEntries suite stream_read (Ok stream) (Ok (entries file))
+  holds entries stream file reads = (Ok (entries file), reads_entries stream_read most_bytes entries stream (Ok file) reads, refl)
+
+  pub holds_none : {A : Type 0} (entries : A → List Entry) (stream : StreamReader S R suite read) (e : Error)
+      → ReadsFile stream_read most_bytes entries stream (Err e) → HoldsEntries suite stream_read (Ok stream) (Err (decrypt_refusal (decrypt_of_io e)))
+  holds_none entries stream e reads = (Err e, reads_entries stream_read most_bytes entries stream (Err e) reads, refl)
+
+  module _ {C : Type 0} (gives : C → List ℕ → Option (List ℕ) → C → Type 0) (filename : Option (List ℕ)) (file : Protected R C) where
+    pub given_opens : (words passphrase : List ℕ) (after : C) → words ≡ description filename → gives file.callbacks words (Some passphrase) after
+        → (identity : PassphraseIdentity) → identity ≡ identity_under file passphrase
+        → (stream : Result (StreamReader S R suite read) DecryptError)
+        → ((answer : UnwrapAnswer) × UnwrapsPassphrase suite identity file.header.stanzas answer identity
+        × Decrypts (of_passphrase (decided answer)) file.header file.nonce file.input stream)
+        → (entries : Result (List Entry) DecryptRefusal) → HoldsEntries suite stream_read stream entries
+        → Opens suite stream_read gives filename file (result_map_both (opened_with after) (λ e. e) entries)
+    given_opens words passphrase after words_are given identity is stream (answer, asked, decrypts) entries holds =
+        inr (
+          Some passphrase,
+          after,
+          rw words_are at given,
+          (entries, record { answer = answer; asked = rw is at asked; stream = stream; decrypts = decrypts; entries = holds }, refl),
+        )
+
+    -- the same where an error is answered
+    pub given_refuses : {A : Type 0} (words passphrase : List ℕ) (after : C) → words ≡ description filename → gives file.callbacks words (Some passphrase) after
+        → (identity : PassphraseIdentity) → identity ≡ identity_under file passphrase
+        → (stream : Result (StreamReader S R suite read) DecryptError)
+        → ((answer : UnwrapAnswer) × UnwrapsPassphrase suite identity file.header.stanzas answer identity
+        × Decrypts (of_passphrase (decided answer)) file.header file.nonce file.input stream)
+        → (f : A → Opened C) (result : Result A DecryptError) (e : DecryptError) → IsErrAnd result (λ x. x ≡ e)
+        → HoldsEntries suite stream_read stream (Err (decrypt_refusal e))
+        → Opens suite stream_read gives filename file (result_map_both f (λ own. decrypt_refusal own) result)
+    given_refuses words passphrase after words_are given identity is stream found f (Ok x) e same holds = absurd same
+    given_refuses words passphrase after words_are given identity is stream found f (Err x) e same holds =
+        subst (λ y. Opens suite stream_read gives filename file (Err (decrypt_refusal y))) (sym same)
+        (given_opens words passphrase after words_are given identity is stream found (Err (decrypt_refusal e)) holds)
