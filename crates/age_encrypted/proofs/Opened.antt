@@ -1,21 +1,26 @@
 -- What opening a file comes to, once a passphrase was given.
-use Rattle.std.specs.Prelude.{◌≡◌, ℕ, List, Option, Some, Result, Ok, Err, IsErrAnd, refl}
+use Rattle.std.specs.Prelude.{◌≡◌, ℕ, ◌≤◌, Bool, ◌&&◌, IsTrue, List, length, Option, None, Some, Result, Ok, Err, IsErrAnd, refl}
 use Rattle.std.specs.Result.{result_map_both}
-use Rattle.std.proofs.Common.{inr, subst, sym}
+use Rattle.std.proofs.Common.{◌∙◌, inl, inr, subst, sym}
+use Rattle.std.specs.Str.Lines.{lines}
 use Rattle.age_error.specs.DecryptErrors.{DecryptRefusal, decrypt_refusal, decrypt_of_io}
 use Rattle.age_error.specs.declared.decrypt.DecryptError.{DecryptError}
 use Rattle.age_error.specs.declared.io.Error.{Error}
 use Rattle.age_suite.specs.declared.suite.Suite.{Ghosts as SuiteMembers}
 use Rattle.age_io.specs.declared.traits.Read.{Ghosts as ReadMembers}
+use Rattle.age_io.specs.Stretch.{Stretch, whole}
+use Rattle.age_format.specs.HeaderV1.{HeaderValue, reads_legacy}
 use Rattle.age_format.specs.Unwrapping.{UnwrapAnswer}
 use Rattle.age_keys.specs.Scrypt.{PassphraseIdentity}
 use Rattle.age_stream.specs.declared.reader.StreamReader.{StreamReader}
+use Rattle.age_stream.specs.Reader.{tells_of, plain_rest_of}
 use Rattle.age_protocol.specs.Answering.{decided}
+use Rattle.age_protocol.specs.Decrypting.{ReadsFront}
 use Rattle.age_protocol.specs.OpeningFile.{Decrypts}
 use Rattle.age_protocol.specs.Passphrases.{UnwrapsPassphrase}
-use Rattle.age_identity.specs.Entries.{Entry}
+use Rattle.age_identity.specs.Entries.{Entry, AreEntries}
 use Rattle.age_identity.specs.Reading.{ReadsFile, most_bytes}
-use Rattle.age_encrypted.specs.Protected.{Protected, Opened, Opens, HoldsEntries, identity_under, of_passphrase, opened_with, description}
+use Rattle.age_encrypted.specs.Protected.{Protected, IsFileOfEntries, EntriesAreThose, Opened, Opens, HoldsEntries, identity_under, of_passphrase, opened_with, description}
 
 -- what was read as a value that has entries was read as these entries
 reads_entries : {R A : Type 0} (read : ReadMembers R) (limit : ℕ) (entries : A → List Entry) (input : R) (result : Result A Error)
@@ -24,6 +29,10 @@ reads_entries read limit entries input (Ok file) (last, r) =
     (last, record { faults = r.faults; device = tt; patient = tt; fits = r.fits; file = r.file; refused = tt })
 reads_entries read limit entries input (Err e) (last, r) =
     (last, record { faults = r.faults; device = r.device; patient = r.patient; fits = λ told. tt; file = λ told. tt; refused = r.refused })
+
+-- what ends well is the whole of its bytes
+is_whole : (well : Bool) (bytes : List ℕ) → IsTrue well → ◌≡◌ {A = Stretch} (record { bytes = bytes; ends_well = well }) (whole bytes)
+is_whole well bytes ends = subst (λ b. ◌≡◌ {A = Stretch} (record { bytes = bytes; ends_well = b }) (whole bytes)) (sym ends) refl
 
 module _ {S R : Type 0} (suite : SuiteMembers S) (read : ReadMembers R) (stream_read : ReadMembers (StreamReader S R suite read)) where
   -- a plaintext was read, or refused, as an identity file
@@ -34,6 +43,51 @@ module _ {S R : Type 0} (suite : SuiteMembers S) (read : ReadMembers R) (stream_
   pub holds_none : {A : Type 0} (entries : A → List Entry) (stream : StreamReader S R suite read) (e : Error)
       → ReadsFile stream_read most_bytes entries stream (Err e) → HoldsEntries suite stream_read (Ok stream) (Err (decrypt_refusal (decrypt_of_io e)))
   holds_none entries stream e reads = (Err e, reads_entries stream_read most_bytes entries stream (Err e) reads, refl)
+
+  -- of a stream that tells what its payload does, and delivers the plaintext
+  module _ (tells_same : (r : StreamReader S R suite read) → stream_read.tells r ≡ tells_of r)
+      (rest_same : (r : StreamReader S R suite read) → stream_read.rest r ≡ plain_rest_of r) where
+    -- what was read of the plaintext is all of it, and the file is one of that plaintext
+    plain_entries : {A : Type 0} (entries : A → List Entry) (h : HeaderValue) (nonce : List ℕ) (input : R) (identity : PassphraseIdentity)
+        (stream : StreamReader S R suite read) (x : A) → ReadsFile stream_read most_bytes entries stream (Ok x)
+        → IsTrue (read.tells input && read.steady input) → (start : Stretch) (place : ℕ)
+        → ReadsFront reads_legacy start (read.rest input) place (read.place input) h nonce
+        → (answer : UnwrapAnswer) → UnwrapsPassphrase suite identity h.stanzas answer identity
+        → Decrypts (of_passphrase (decided answer)) h nonce input (Ok stream)
+        → IsFileOfEntries suite stream_read h.stanzas start identity (entries x)
+    plain_entries entries h nonce input identity stream x reads told start place front None asked none = absurd none
+    plain_entries entries h nonce input identity stream x reads told start place front (Some (Err refusal)) asked none = absurd none
+    plain_entries entries h nonce input identity stream x reads told start place front (Some (Ok key)) asked (inl (wrong, none)) = absurd none
+    plain_entries entries h nonce input identity stream x (last, r) told start place front (Some (Ok key)) asked (inr (right, opens)) =
+        let stream_told : IsTrue (stream_read.tells stream) = subst (λ b. IsTrue b) (sym (tells_same stream ∙ opens.reader.tells)) told in
+        let own = r.file stream_told in
+        let well : IsTrue (plain_rest_of stream).ends_well = subst (λ s. IsTrue s.ends_well) (rest_same stream) own.well in
+        let made = opens.file told start place (plain_rest_of stream).bytes front (is_whole (plain_rest_of stream).ends_well (plain_rest_of stream).bytes well) in
+        record {
+          file_key = key;
+          plain = (plain_rest_of stream).bytes;
+          gives = asked;
+          well = made.0;
+          is_file = made.1;
+          fits = subst (λ s. length s.bytes ≤ most_bytes) (rest_same stream) (r.fits stream_told);
+          good = subst (λ s. AreEntries (lines s.bytes) (entries x)) (rest_same stream) own.good;
+        }
+
+    -- so they are those of the file, where a passphrase was given
+    pub those_entries : {A C : Type 0} (gives : C → List ℕ → Option (List ℕ) → C → Type 0) (filename : Option (List ℕ)) (file : Protected R C)
+        (words passphrase : List ℕ) (after : C) → words ≡ description filename → gives file.callbacks words (Some passphrase) after
+        → (identity : PassphraseIdentity) → identity ≡ identity_under file passphrase
+        → (stream : StreamReader S R suite read)
+        → ((answer : UnwrapAnswer) × UnwrapsPassphrase suite identity file.header.stanzas answer identity
+        × Decrypts (of_passphrase (decided answer)) file.header file.nonce file.input (Ok stream))
+        → (entries : A → List Entry) (x : A) → ReadsFile stream_read most_bytes entries stream (Ok x)
+        → EntriesAreThose suite stream_read gives filename file (opened_with after (entries x))
+    those_entries gives filename file words passphrase after words_are given identity is stream (answer, asked, decrypts) entries x reads =
+        λ told start place front. (
+          passphrase,
+          rw words_are at given,
+          plain_entries entries file.header file.nonce file.input (identity_under file passphrase) stream x reads told start place front answer (rw is at asked) decrypts,
+        )
 
   module _ {C : Type 0} (gives : C → List ℕ → Option (List ℕ) → C → Type 0) (filename : Option (List ℕ)) (file : Protected R C) where
     pub given_opens : (words passphrase : List ℕ) (after : C) → words ≡ description filename → gives file.callbacks words (Some passphrase) after

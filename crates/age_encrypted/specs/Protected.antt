@@ -1,19 +1,24 @@
 -- A file of identities that is encrypted with a passphrase, and what opening it comes to.
-use Rattle.std.specs.Prelude.{◌≡◌, ◌⊎◌, ℕ, ◌+◌, List, ◌++◌, codes, Option, Some, None, Result, Ok, Err}
+use Rattle.std.specs.Prelude.{◌≡◌, ◌⊎◌, ℕ, ◌+◌, ◌≤◌, ◌&&◌, IsTrue, List, ◌++◌, length, codes, Option, Some, None, Result, Ok, Err}
 use Rattle.std.specs.Result.{result_map_both}
+use Rattle.std.specs.Str.Lines.{lines}
 use Rattle.age_error.specs.DecryptErrors.{DecryptRefusal, DecryptionFailed, KeyDecryptionFailed, OutOfMemory, decrypt_refusal, decrypt_of_io}
 use Rattle.age_error.specs.declared.decrypt.DecryptError.{DecryptError}
 use Rattle.age_error.specs.declared.io.Error.{Error}
 use Rattle.age_suite.specs.declared.suite.Suite.{Ghosts as SuiteMembers}
 use Rattle.age_io.specs.declared.traits.Read.{Ghosts as ReadMembers}
-use Rattle.age_format.specs.HeaderV1.{HeaderValue}
+use Rattle.age_io.specs.Stretch.{Stretch}
+use Rattle.age_format.specs.HeaderV1.{HeaderValue, reads_legacy}
+use Rattle.age_format.specs.Stanza.{StanzaValue}
 use Rattle.age_format.specs.Unwrapping.{UnwrapAnswer}
 use Rattle.age_keys.specs.Scrypt.{PassphraseIdentity}
 use Rattle.age_stream.specs.declared.reader.StreamReader.{StreamReader}
 use Rattle.age_protocol.specs.Answering.{decided}
+use Rattle.age_protocol.specs.Decrypting.{ReadsFront}
+use Rattle.age_protocol.specs.File.{IsFileOf}
 use Rattle.age_protocol.specs.OpeningFile.{Decrypts}
 use Rattle.age_protocol.specs.Passphrases.{UnwrapsPassphrase}
-use Rattle.age_identity.specs.Entries.{Entry}
+use Rattle.age_identity.specs.Entries.{Entry, AreEntries}
 use Rattle.age_identity.specs.Reading.{ReadsFile, most_bytes}
 
 -- A file that isn't opened yet: its header and nonce, the reader of its payload, who is asked for the passphrase, and the work factor that
@@ -87,3 +92,21 @@ module _ {S R : Type 0} (suite : SuiteMembers S) {read : ReadMembers R} (stream_
     Opens gives filename file outcome =
         (outcome ≡ Err OutOfMemory)
         ⊎ ((given : Option (List ℕ)) × (after : C) × gives file.callbacks (description filename) given after × OpensBy file given after outcome)
+
+  -- Whatever was read before the payload: the file was one of a plaintext, under a file key that the identity of a passphrase got from its
+  -- stanzas, and these are the entries of the plaintext's lines.
+  pub record IsFileOfEntries (stanzas : List StanzaValue) (start : Stretch) (identity : PassphraseIdentity) (entries : List Entry) : Type 0 where
+    pub file_key : List ℕ
+    pub plain : List ℕ
+    pub gives : UnwrapsPassphrase suite identity stanzas (Some (Ok file_key)) identity
+    pub well : IsTrue start.ends_well
+    pub is_file : IsFileOf reads_legacy suite.seal_of file_key stanzas plain start.bytes
+    pub fits : length plain ≤ most_bytes
+    pub good : AreEntries (lines plain) entries
+
+  -- So it is where the reader tells its bytes and is steady, and the passphrase was given.
+  abbrev pub EntriesAreThose : {C : Type 0} → (C → List ℕ → Option (List ℕ) → C → Type 0) → Option (List ℕ) → Protected R C → Opened C → Type 0
+  EntriesAreThose gives filename file opened = IsTrue (read.tells file.input && read.steady file.input) → (start : Stretch) (place : ℕ)
+      → ReadsFront reads_legacy start (read.rest file.input) place (read.place file.input) file.header file.nonce
+      → (passphrase : List ℕ) × gives file.callbacks (description filename) (Some passphrase) opened.callbacks
+      × IsFileOfEntries file.header.stanzas start (identity_under file passphrase) opened.entries

@@ -10,7 +10,7 @@ ghost use Rattle.age_protocol.specs.Decryptor.{header_of, nonce_of, input_of};
 ghost use Rattle.age_protocol.specs.OpeningFile.{Decrypts};
 ghost use Rattle.age_protocol.specs.Passphrases.{UnwrapsPassphrase};
 ghost use Rattle.age_identity.specs.IdentityFile.{entries_of, callbacks_of};
-ghost use Rattle.age_encrypted.specs.Protected.{Opens, OpensUnder, description, of_passphrase, own_refusal, opened_with, most_of};
+ghost use Rattle.age_encrypted.specs.Protected.{Opens, EntriesAreThose, OpensUnder, description, of_passphrase, own_refusal, opened_with, most_of};
 
 use age_error::DecryptError;
 use age_identity::identity::read_file;
@@ -91,8 +91,10 @@ impl<S: Suite, R: Read + Drop, C: Callbacks> EncryptedIdentity<S, R, C> {
         alloc: Global,
         filename: Option<&str>,
     ) -> Result<IdentityFile<S, C>, DecryptError>
-        ensures { Opens ⟦<S as Suite>⟧ ⟦<StreamReader<S, R> as Read>⟧ C.gives_passphrase (option_map (λ name. name.now) filename.entry) (protected_of self)
+        ensures opens { Opens ⟦<S as Suite>⟧ ⟦<StreamReader<S, R> as Read>⟧ C.gives_passphrase (option_map (λ name. name.now) filename.entry) (protected_of self)
             (result_map_both (λ file. opened_with (callbacks_of file) (entries_of file)) (λ e. decrypt_refusal e) result) }
+        ensures entries { IfOk result (λ file. EntriesAreThose ⟦<S as Suite>⟧ ⟦<StreamReader<S, R> as Read>⟧ C.gives_passphrase
+            (option_map (λ name. name.now) filename.entry) (protected_of self) (opened_with (callbacks_of file) (entries_of file))) }
     {
         let EncryptedIdentity {
             decryptor,
