@@ -4,6 +4,7 @@ use Rattle.std.proofs.Common.{inl, sym, subst}
 use Rattle.age.specs.Belonging.{BelongsTo}
 use Rattle.age.specs.Stanza.{StanzaValue}
 use Rattle.age.specs.Unwrapping.{UnwrapAnswer, Steady, FirstOf}
+use Rattle.age.specs.UnwrappingLaws.{either_way}
 use Rattle.age.specs.X25519.{WrapsFor, UnwrapsBy}
 use Rattle.age.specs.X25519Laws as x25519
 use Rattle.age.specs.Scrypt.{PassphraseRecipient, PassphraseIdentity, WrapsUnder, UnwrapsUnder}
@@ -16,7 +17,7 @@ use Rattle.age_bench.specs.declared.names.To.{To}
 use Rattle.age_bench.specs.declared.names.To.TheVariants as to
 use Rattle.age_bench.specs.declared.names.With.{With}
 use Rattle.age_bench.specs.declared.names.With.TheVariants.{Bench, Key, Passphrase}
-use Rattle.age_bench.proofs.Answered.{either_way, as_other}
+use Rattle.age_bench.proofs.Answered.{as_other}
 
 -- it belongs to a recipient that it goes with
 abbrev pub IsPaired : To → With → Type 0
