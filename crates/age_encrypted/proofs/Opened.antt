@@ -20,15 +20,14 @@ use Rattle.age_protocol.specs.OpeningFile.{Decrypts}
 use Rattle.age_protocol.specs.Passphrases.{UnwrapsPassphrase}
 use Rattle.age_identity.specs.Entries.{Entry, AreEntries}
 use Rattle.age_identity.specs.Reading.{ReadsFile, most_bytes}
+use Rattle.age_identity.proofs.SameEntries.{reads_so, refuses_so}
 use Rattle.age_encrypted.specs.Protected.{Protected, IsFileOfEntries, EntriesAreThose, Opened, Opens, HoldsEntries, identity_under, of_passphrase, opened_with, description}
 
 -- what was read as a value that has entries was read as these entries
 reads_entries : {R A : Type 0} (read : ReadMembers R) (limit : ℕ) (entries : A → List Entry) (input : R) (result : Result A Error)
     → ReadsFile read limit entries input result → ReadsFile read limit (λ own. own) input (result_map_both entries (λ e. e) result)
-reads_entries read limit entries input (Ok file) (last, r) =
-    (last, record { faults = r.faults; device = tt; patient = tt; fits = r.fits; file = r.file; refused = tt })
-reads_entries read limit entries input (Err e) (last, r) =
-    (last, record { faults = r.faults; device = r.device; patient = r.patient; fits = λ told. tt; file = λ told. tt; refused = r.refused })
+reads_entries read limit entries input (Ok file) reads = reads_so read limit entries (λ own. own) input file (entries file) refl reads
+reads_entries read limit entries input (Err e) reads = refuses_so read limit entries (λ own. own) input e reads
 
 -- what ends well is the whole of its bytes
 is_whole : (well : Bool) (bytes : List ℕ) → IsTrue well → ◌≡◌ {A = Stretch} (record { bytes = bytes; ends_well = well }) (whole bytes)

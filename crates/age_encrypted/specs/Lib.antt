@@ -1,2 +1,4 @@
 pub mod Protected
 pub mod EncryptedIdentity
+pub mod ProtectedIdentity
+pub mod Identity

@@ -35,7 +35,7 @@ pub struct EncryptedIdentity<S, R: Drop, C> {
 }
 
 impl<S, R: Drop, C: Callbacks> EncryptedIdentity<S, R, C> {
-    ghost use Rattle.age_encrypted.specs.EncryptedIdentity.{protected_of};
+    ghost use Rattle.age_encrypted.specs.EncryptedIdentity.{protected_of, file_of};
 
     /// The file whose front a decryptor has read, if it is one of a passphrase: if its header's only stanza has the tag `scrypt`
     /// (age-encryption.org/v1, section "The scrypt recipient type"). Else `None`, and all that was handed in is gone.
@@ -50,14 +50,7 @@ impl<S, R: Drop, C: Callbacks> EncryptedIdentity<S, R, C> {
     ) -> Option<Self>
         requires { target ≤ 63 }
         ensures { MatchOption result (IsScrypt (header_of decryptor).stanzas → ⊥) (λ file. IsScrypt (header_of decryptor).stanzas
-            × (protected_of file ≡ record {
-              header = header_of decryptor;
-              nonce = nonce_of decryptor;
-              input = input_of decryptor;
-              callbacks = callbacks;
-              target = target;
-              most = most_of target max_work_factor;
-            })) }
+            × (protected_of file ≡ file_of decryptor callbacks target max_work_factor)) }
     {
         if !decryptor.is_scrypt() {
             return None;

@@ -2,5 +2,7 @@
 #![tactic(auto)]
 
 mod encrypted_identity;
+mod identity;
 
 pub use encrypted_identity::EncryptedIdentity;
+pub use identity::Identity;

@@ -4,6 +4,7 @@ pub mod Judged
 pub mod Characters
 pub mod Cutting
 pub mod Commented
+pub mod SameEntries
 pub mod Steps
 pub mod Waiting
 pub mod Named

@@ -51,3 +51,7 @@ pub record IsRead {R A : Type 0} (read : Ghosts R) (limit : ℕ) (entries : A �
 -- The same of a call that takes the reader: some state of it was the last.
 abbrev pub ReadsFile : {R A : Type 0} → Ghosts R → ℕ → (A → List Entry) → R → Result A Error → Type 0
 ReadsFile {R} read limit entries input result = (last : R) × IsRead read limit entries input last result
+
+-- The same of a reader of a device that has not failed yet.
+abbrev pub ReadsDevice : {R A : Type 0} → Ghosts R → (A → List Entry) → Result A Error → Type 0
+ReadsDevice {R} read entries result = (device : R) × (read.faults device ≡ 0) × ReadsFile read most_bytes entries device result

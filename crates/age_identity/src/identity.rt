@@ -1,5 +1,5 @@
 //! Files of identities.
-ghost use Rattle.std.specs.Prelude.{◌≡◌, ◌⊎◌, [], ◌∷◌, ◌++◌, OnOk, IfOk, IfErr, None, MatchOption, List, ℕ, map, string_bytes};
+ghost use Rattle.std.specs.Prelude.{◌≡◌, ◌⊎◌, [], ◌∷◌, ◌++◌, OnOk, IfOk, IfErr, IsErrAnd, None, Some, MatchOption, List, ℕ, map, string_bytes};
 ghost use Rattle.std.specs.Option.{option_map};
 ghost use Rattle.std.specs.Result.{result_map_both};
 ghost use Rattle.age_error.specs.DecryptErrors.{decrypt_refusal, PluginResolve};
@@ -14,7 +14,8 @@ ghost use Rattle.age_keys.specs.X25519.{UnwrapsBy};
 ghost use Rattle.age_identity.specs.Asking.{EntryAnswers, EntriesAnswer};
 ghost use Rattle.age_identity.specs.Entries.{entry_of};
 ghost use Rattle.age_identity.specs.IdentityFile.{entries_of, filename_of, callbacks_of};
-ghost use Rattle.age_identity.specs.Reading.{ReadsFile, most_bytes};
+ghost use Rattle.age_error.specs.Refusals.{IsDevice};
+ghost use Rattle.age_identity.specs.Reading.{ReadsDevice, ReadsFile, most_bytes};
 
 use crate::callbacks::{Callbacks, NoCallbacks};
 use crate::entry::IdentityFileEntry;
@@ -25,13 +26,14 @@ use age_error::io::Error;
 use age_error::resolve::ResolveError;
 use age_error::{DecryptError, EncryptError};
 use age_format::{Identity, Stanza};
-use age_io::{BufRead, Read, Write, write_all};
+use age_io::{BufRead, Read, Std, Write, device_error, write_all};
 use age_keys::x25519;
 use age_suite::secrecy::FileKey;
 use age_suite::suite::Suite;
 use std::alloc::{AllocError, Global};
 use std::cmp::Ordering;
 use std::fmt::Write as _;
+use std::fs::{File, Files};
 
 /// The most bytes that a file may have: 16 MiB.
 const IDENTITY_SIZE_LIMIT: usize = 16_777_216;
@@ -65,6 +67,23 @@ impl<S> IdentityFile<S, NoCallbacks> {
         ensures named { IfOk result (λ file. filename_of file ≡ None) }
     {
         read_file(alloc, data)
+    }
+
+    /// Reads the file of this name, to its end, as `from_buffer` does. It keeps the name.
+    ///
+    /// The refusals are those of `from_buffer`, and `Device(kind)` where the file isn't opened, `Device(NotFound)` where there is none.
+    /// Nothing is known of the bytes of a file on a device.
+    pub fn from_file<F: Files>(files: &F, alloc: Global, filename: String) -> Result<Self, Error>
+        ensures reads { IsErrAnd result IsDevice ⊎ ReadsDevice ⟦<Std<F::File> as Read>⟧ (λ file. entries_of file) result }
+        ensures named { IfOk result (λ file. filename_of file ≡ Some (string_bytes filename)) }
+    {
+        match File::open(files, filename.as_str()) {
+            Err(error) => Err(device_error(&error)),
+            Ok(device) => match read_file(alloc, Std::new(device)) {
+                Err(error) => Err(error),
+                Ok(file) => Ok(file.with_name(filename)),
+            },
+        }
     }
 }
 
@@ -108,6 +127,17 @@ impl<S, C> IdentityFile<S, C> {
             entries,
             callbacks,
         }
+    }
+
+    // The same file under a name.
+    fn with_name(self, filename: String) -> IdentityFile<S, C>
+        ensures entries { entries_of result ≡ entries_of self }
+        ensures name { filename_of result ≡ Some (string_bytes filename) }
+        ensures callbacks { callbacks_of result ≡ callbacks_of self }
+    {
+        let mut file = self;
+        file.filename = Some(filename);
+        file
     }
 
     // A copy of the file's name.

@@ -6,6 +6,8 @@ mod callback_tests;
 #[cfg(test)]
 mod convert_tests;
 #[cfg(test)]
+mod file_tests;
+#[cfg(test)]
 mod limit_tests;
 #[cfg(test)]
 mod limited_text_tests;
