@@ -14,6 +14,7 @@ pub use Rattle.age_io.specs.declared.operations.Op.TheVariants as OpVariants
 pub use Rattle.age_io.specs.declared.operations.Answer.TheVariants as AnswerVariants
 pub use Rattle.age_armor.specs.declared.format.Format.TheVariants as FormatVariants
 pub use Rattle.age_protocol.specs.declared.error.FileError.TheVariants as FileErrorVariants
+pub use Rattle.age_identity.specs.declared.error.IdentityFileConvertError.TheVariants as IdentityFileConvertErrorVariants
 -- bytes, and what refusals say: age_error
 pub use Rattle.age_error.specs.Bytes
 pub use Rattle.age_error.specs.Refusals
@@ -123,3 +124,19 @@ pub use Rattle.age_protocol.specs.Parts
 pub use Rattle.age_protocol.specs.Several
 pub use Rattle.age_protocol.specs.Passphrases
 pub use Rattle.age_protocol.specs.Laws as FileLaws
+-- identity files: age_identity
+pub use Rattle.age_identity.specs.Entries
+pub use Rattle.age_identity.specs.Files as IdentityFiles
+pub use Rattle.age_identity.specs.IdentityFile
+pub use Rattle.age_identity.specs.Reading as IdentityReading
+pub use Rattle.age_identity.specs.Limiting
+pub use Rattle.age_identity.specs.Limited
+pub use Rattle.age_identity.specs.LimitLaws
+pub use Rattle.age_identity.specs.ConvertErrors
+pub use Rattle.age_identity.specs.Converting
+pub use Rattle.age_identity.specs.Asking
+-- protected identity files: age_encrypted
+pub use Rattle.age_encrypted.specs.Protected
+pub use Rattle.age_encrypted.specs.EncryptedIdentity
+pub use Rattle.age_encrypted.specs.ProtectedIdentity
+pub use Rattle.age_encrypted.specs.Identity as EncryptedIdentities

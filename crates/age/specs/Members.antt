@@ -6,3 +6,4 @@ pub use Rattle.age_io.specs.declared.bufread.BufRead.{Ghosts as BufReadMembers}
 pub use Rattle.age_io.specs.declared.seeking.Seek.{Ghosts as SeekMembers}
 pub use Rattle.age_format.specs.declared.recipient.Recipient.{Ghosts as RecipientMembers}
 pub use Rattle.age_format.specs.declared.identity.Identity.{Ghosts as IdentityMembers}
+pub use Rattle.age_identity.specs.declared.callbacks.Callbacks.{Ghosts as CallbacksMembers}

@@ -12,6 +12,7 @@ pub use Rattle.age_suite.specs.declared.mac.HmacWriter.{HmacWriter}
 pub use Rattle.age_io.specs.declared.memory.Bytes.{Bytes}
 pub use Rattle.age_io.specs.declared.buffered.BufReader.{BufReader}
 pub use Rattle.age_io.specs.declared.standard.Std.{Std}
+pub use Rattle.age_io.specs.declared.into_std.IntoStd.{IntoStd}
 pub use Rattle.age_io.specs.declared.operations.Op.{Op}
 pub use Rattle.age_io.specs.declared.operations.Answer.{Answer}
 pub use Rattle.age_armor.specs.declared.format.Format.{Format}
@@ -21,3 +22,8 @@ pub use Rattle.age_stream.specs.declared.reader.StreamReader.{StreamReader}
 pub use Rattle.age_stream.specs.declared.writer.StreamWriter.{StreamWriter}
 pub use Rattle.age_protocol.specs.declared.error.FileError.{FileError}
 pub use Rattle.age_protocol.specs.declared.decryptor.Decryptor.{Decryptor}
+pub use Rattle.age_identity.specs.declared.callbacks.NoCallbacks.{NoCallbacks}
+pub use Rattle.age_identity.specs.declared.error.IdentityFileConvertError.{IdentityFileConvertError}
+pub use Rattle.age_identity.specs.declared.identity.IdentityFile.{IdentityFile}
+pub use Rattle.age_identity.specs.declared.util.LimitedReader.{LimitedReader}
+pub use Rattle.age_encrypted.specs.declared.encrypted_identity.EncryptedIdentity.{EncryptedIdentity}

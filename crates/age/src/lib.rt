@@ -8,6 +8,7 @@
 pub use age_error::decrypt::DecryptError;
 pub use age_error::encrypt::EncryptError;
 pub use age_format::{Identity, Recipient};
+pub use age_identity::{Callbacks, IdentityFile, IdentityFileConvertError, NoCallbacks};
 pub use age_protocol::decryptor::Decryptor;
 pub use age_protocol::encryptor::Encryptor;
 pub use age_protocol::simple::{decrypt, encrypt, encrypt_and_armor};
@@ -32,9 +33,10 @@ pub mod streaming {
 pub mod io {
     pub use age_error::io::{Error, ErrorKind, SeekFrom};
     pub use age_io::{
-        Answer, BufRead, BufReader, Bytes, Op, Read, Seek, Std, Write, copy_all, copy_some, fill,
-        flush_retrying, is_outside, place_at, read_exact, read_retrying, read_to_end, room_for,
-        run, seek_retrying, sought, unrefused, write_all, write_retrying,
+        Answer, BufRead, BufReader, Bytes, IntoStd, Op, Read, Seek, Std, Write, copy_all,
+        copy_some, device_error, fill, flush_retrying, is_outside, place_at, read_exact,
+        read_retrying, read_to_end, room_for, run, seek_retrying, sought, standard_error,
+        unrefused, write_all, write_retrying,
     };
 
     /// What is true of a cursor on a list, for proofs alone.
@@ -120,6 +122,16 @@ pub mod scrypt {
     pub mod laws {
         pub use age_keys::scrypt::scrypt_pair;
     }
+}
+
+/// Readers with a limit.
+pub mod util {
+    pub use age_identity::util::LimitedReader;
+}
+
+/// Identity files that are encrypted with a passphrase.
+pub mod encrypted {
+    pub use age_encrypted::{EncryptedIdentity, Identity};
 }
 
 /// Texts of the keys of plugins, and what a plugin's name is refused with.
