@@ -1,5 +1,5 @@
 #!/usr/bin/env bash
-# The whole gate: whether each edit can be applied, every proof from nothing, the edits that must be refused, the tests and
+# The whole gate: whether each edit can be applied and the public names are told, every proof from nothing, the edits that must be refused, the tests and
 # the program's stored run, and then that program on damaged input, with failing memory, reads and writes. The lines of the
 # long parts begin with the minutes and seconds since the start; the last line counts all of them.
 set -uo pipefail
@@ -16,6 +16,8 @@ stamped() {
 
 # Before the long part: `rt ci` passes over a line of an edit that it doesn't know, and would try less than the edit says.
 edits/run.sh --apply || exit 1
+# Whether the table of public names is complete.
+docs/names.py || exit 1
 if ! diff <(sed -n '/^```rust$/,/^```$/p' README.md | sed '1d;$d') <(grep -v '^//[!/]' crates/age_uses/src/there_and_back.rt); then
     echo "README's example isn't that of age_uses"
     echo "0 passed, 1 failed"

@@ -2,13 +2,15 @@
 """Whether the table of public names in FROM_AGE.md is complete, and says what is here.
 
 `docs/names.py` compares three lists, and takes a second: the names of the Rust crate (names.txt), those in the first column of the table,
-and what the crate `age` passes on (crates/age/src/lib.rt). Each name of the Rust crate has a row. Each path of `age` in the table or in the
-list after it is there, and what is there has its path in one of them. The last line is 'N passed, M failed'.
+and what the crate `age` passes on (crates/age/src/lib.rt). Each name of the Rust crate has a row, and stands in the sources here unless
+it is left out. Each path of `age` in the table or in the list after it is there, and what is there has its path in one of them. The last
+line is 'N passed, M failed'.
 
 `docs/names.py FOLDER` makes names.txt anew from the sources of the Rust crate: a folder with its `src`, or with the same files as text,
 `src--src--lib.rs.txt` for `src/lib.rs`. A name that only a feature brings has the feature's name beside it.
 """
 
+import glob
 import os
 import re
 import sys
@@ -129,12 +131,22 @@ def in_quotes(text):
     return re.findall(r"`([^`]+)`", text)
 
 
+def words_of_sources():
+    """Each word of the sources of the library."""
+    words = set()
+    for file in glob.glob(f"{TOP}/crates/age*/src/**/*.rt", recursive=True):
+        if not os.path.relpath(file, f"{TOP}/crates").split("/")[0].endswith("_tests"):
+            with open(file, encoding="utf-8") as it:
+                words |= set(re.findall(r"\w+", re.sub(r"//[^\n]*", "", it.read())))
+    return words
+
+
 def main():
     if len(sys.argv) > 1:
         with open(LIST, "w", encoding="utf-8") as it:
             it.write("\n".join(written(names_of_crate(sys.argv[1]))) + "\n")
         return 0
-    passed, faults = 0, []
+    faults = []
     with open(LIST, encoding="utf-8") as it:
         wanted = {line.split(" ")[0] for line in it.read().splitlines()}
     rows, rest = section()
@@ -142,6 +154,9 @@ def main():
     faults += [f"{name} has no row" for name in sorted(wanted - set(told))]
     faults += [f"{name} is no name of the Rust crate" for name in sorted(set(told) - wanted)]
     faults += [f"{name} has two rows" for name in sorted({name for name in told if told.count(name) > 1})]
+    kept = {name for first, second in rows if second != "left out" for name in in_quotes(first)}
+    words = words_of_sources()
+    faults += [f"{name} isn't here" for name in sorted(kept) if name.split("::")[-1] not in words]
     there = exports()
     paths = {re.sub(r"<.*?>", "", path) for path in in_quotes(" ".join(second for _, second in rows) + rest) if path.startswith("age::")}
     modules = {path.rsplit("::", 1)[0] for path in there}
@@ -150,7 +165,7 @@ def main():
             faults.append(f"{path} isn't passed on by age")
     # a path of a module stands for all that is in it
     faults += [f"{path} isn't told" for path in sorted(there) if path not in paths and path.rsplit("::", 1)[0] not in paths - {"age"}]
-    passed = len(wanted) + len(there) + len(paths) - len(faults)
+    passed = max(0, len(wanted) + len(kept) + len(there) + len(paths) - len(faults))
     for fault in faults:
         print(fault)
     print(f"{passed} passed, {len(faults)} failed")
