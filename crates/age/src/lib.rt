@@ -132,6 +132,11 @@ pub mod util {
 /// Identity files that are encrypted with a passphrase.
 pub mod encrypted {
     pub use age_encrypted::{EncryptedIdentity, Identity};
+
+    /// What is true of them, for proofs alone.
+    pub mod laws {
+        pub use age_encrypted::laws::opened_files;
+    }
 }
 
 /// Texts of the keys of plugins, and what a plugin's name is refused with.

@@ -1,2 +1,3 @@
 pub mod Decrypted
 pub mod Opened
+pub mod Refused

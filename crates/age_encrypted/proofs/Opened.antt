@@ -1,5 +1,5 @@
 -- What opening a file comes to, once a passphrase was given.
-use Rattle.std.specs.Prelude.{◌≡◌, ℕ, ◌≤◌, Bool, ◌&&◌, IsTrue, List, length, Option, None, Some, Result, Ok, Err, IsErrAnd, refl}
+use Rattle.std.specs.Prelude.{◌≡◌, ℕ, ◌≤◌, Bool, ◌&&◌, IsTrue, List, length, Option, None, Some, Result, Ok, Err, IsErrAnd, IfErr, IfOk, refl}
 use Rattle.std.specs.Result.{result_map_both}
 use Rattle.std.proofs.Common.{◌∙◌, inl, inr, subst, sym}
 use Rattle.std.specs.Str.Lines.{lines}
@@ -21,13 +21,17 @@ use Rattle.age_protocol.specs.Passphrases.{UnwrapsPassphrase}
 use Rattle.age_identity.specs.Entries.{Entry, AreEntries}
 use Rattle.age_identity.specs.Reading.{ReadsFile, most_bytes}
 use Rattle.age_identity.proofs.SameEntries.{reads_so, refuses_so}
-use Rattle.age_encrypted.specs.Protected.{Protected, IsFileOfEntries, EntriesAreThose, Opened, Opens, HoldsEntries, identity_under, of_passphrase, opened_with, description}
+use Rattle.age_encrypted.specs.Protected.{Protected, IsFileOfEntries, EntriesAreThose, Opened, Opens, HoldsEntries, OpensUnder, identity_under, of_passphrase, opened_with, description}
 
 -- what was read as a value that has entries was read as these entries
 reads_entries : {R A : Type 0} (read : ReadMembers R) (limit : ℕ) (entries : A → List Entry) (input : R) (result : Result A Error)
     → ReadsFile read limit entries input result → ReadsFile read limit (λ own. own) input (result_map_both entries (λ e. e) result)
 reads_entries read limit entries input (Ok file) reads = reads_so read limit entries (λ own. own) input file (entries file) refl reads
 reads_entries read limit entries input (Err e) reads = refuses_so read limit entries (λ own. own) input e reads
+
+-- it is this value, if it is one
+same_value : {A E : Type 0} (x : A) (r : Result A E) → Ok x ≡ r → IfOk r (λ y. x ≡ y)
+same_value x r is = subst (λ own. IfOk own (λ y. x ≡ y)) is refl
 
 -- what ends well is the whole of its bytes
 is_whole : (well : Bool) (bytes : List ℕ) → IsTrue well → ◌≡◌ {A = Stretch} (record { bytes = bytes; ends_well = well }) (whole bytes)
@@ -72,21 +76,45 @@ module _ {S R : Type 0} (suite : SuiteMembers S) (read : ReadMembers R) (stream_
           good = subst (λ s. AreEntries (lines s.bytes) (entries x)) (rest_same stream) own.good;
         }
 
-    -- so they are those of the file, where a passphrase was given
-    pub those_entries : {A C : Type 0} (gives : C → List ℕ → Option (List ℕ) → C → Type 0) (filename : Option (List ℕ)) (file : Protected R C)
-        (words passphrase : List ℕ) (after : C) → words ≡ description filename → gives file.callbacks words (Some passphrase) after
-        → (identity : PassphraseIdentity) → identity ≡ identity_under file passphrase
-        → (stream : StreamReader S R suite read)
-        → ((answer : UnwrapAnswer) × UnwrapsPassphrase suite identity file.header.stanzas answer identity
-        × Decrypts (of_passphrase (decided answer)) file.header file.nonce file.input (Ok stream))
-        → (entries : A → List Entry) (x : A) → ReadsFile stream_read most_bytes entries stream (Ok x)
-        → EntriesAreThose suite stream_read gives filename file (opened_with after (entries x))
-    those_entries gives filename file words passphrase after words_are given identity is stream (answer, asked, decrypts) entries x reads =
-        λ told start place front. (
-          passphrase,
-          rw words_are at given,
-          plain_entries entries file.header file.nonce file.input (identity_under file passphrase) stream x reads told start place front answer (rw is at asked) decrypts,
-        )
+    module _ {C : Type 0} (gives : C → List ℕ → Option (List ℕ) → C → Type 0) (filename : Option (List ℕ)) (file : Protected R C) where
+      -- so the entries that an opened stream held are those of the file
+      stream_entries : (passphrase : List ℕ) (after : C) → gives file.callbacks (description filename) (Some passphrase) after
+          → (answer : UnwrapAnswer) → UnwrapsPassphrase suite (identity_under file passphrase) file.header.stanzas answer (identity_under file passphrase)
+          → (stream : StreamReader S R suite read) → Decrypts (of_passphrase (decided answer)) file.header file.nonce file.input (Ok stream)
+          → (entries : List Entry) (own : Result (List Entry) Error) → ReadsFile stream_read most_bytes (λ all. all) stream own
+          → Ok entries ≡ result_map_both (λ all. all) (λ e. decrypt_refusal (decrypt_of_io e)) own
+          → EntriesAreThose suite stream_read gives filename file (opened_with after entries)
+      stream_entries passphrase after given answer asked stream decrypts entries (Err e) reads is = absurd (subst (λ r. IfErr r (λ _. ⊥)) is tt)
+      stream_entries passphrase after given answer asked stream decrypts entries (Ok own) reads is =
+          λ told start place front. (
+            passphrase,
+            given,
+            subst (λ all. IsFileOfEntries suite stream_read file.header.stanzas start (identity_under file passphrase) all) (sym (same_value entries (Ok own) is))
+                (plain_entries (λ all. all) file.header file.nonce file.input (identity_under file passphrase) stream own reads told start place front answer asked decrypts),
+          )
+
+      under_entries : (passphrase : List ℕ) (after : C) → gives file.callbacks (description filename) (Some passphrase) after
+          → (entries : List Entry) (answer : UnwrapAnswer)
+          → UnwrapsPassphrase suite (identity_under file passphrase) file.header.stanzas answer (identity_under file passphrase)
+          → (stream : Result (StreamReader S R suite read) DecryptError) → Decrypts (of_passphrase (decided answer)) file.header file.nonce file.input stream
+          → HoldsEntries suite stream_read stream (Ok entries)
+          → EntriesAreThose suite stream_read gives filename file (opened_with after entries)
+      under_entries passphrase after given entries answer asked (Err e) decrypts is = absurd (subst (λ r. IfErr r (λ _. ⊥)) is tt)
+      under_entries passphrase after given entries answer asked (Ok stream) decrypts (own, reads, is) =
+          stream_entries passphrase after given answer asked stream decrypts entries own reads is
+
+      given_entries : (passphrase : List ℕ) (after : C) → gives file.callbacks (description filename) (Some passphrase) after
+          → (entries : Result (List Entry) DecryptRefusal) → OpensUnder suite stream_read file passphrase entries
+          → IfOk (result_map_both (opened_with after) (λ e. e) entries) (λ opened. EntriesAreThose suite stream_read gives filename file opened)
+      given_entries passphrase after given (Err refusal) under = tt
+      given_entries passphrase after given (Ok entries) under = under_entries passphrase after given entries under.answer under.asked under.stream under.decrypts under.entries
+
+      -- so whatever opened the file, its entries are those of the file
+      pub opened_entries : (outcome : Result (Opened C) DecryptRefusal) → Opens suite stream_read gives filename file outcome
+          → IfOk outcome (λ opened. EntriesAreThose suite stream_read gives filename file opened)
+      opened_entries outcome (inl memory) = rw memory tt
+      opened_entries outcome (inr (None, after, given, none)) = rw none tt
+      opened_entries outcome (inr (Some passphrase, after, given, (entries, under, is))) = rw is (given_entries passphrase after given entries under)
 
   module _ {C : Type 0} (gives : C → List ℕ → Option (List ℕ) → C → Type 0) (filename : Option (List ℕ)) (file : Protected R C) where
     pub given_opens : (words passphrase : List ℕ) (after : C) → words ≡ description filename → gives file.callbacks words (Some passphrase) after

@@ -2,7 +2,7 @@
 use Rattle.std.specs.Prelude.{◌≡◌, ◌⊎◌, ℕ, ◌+◌, ◌≤◌, ◌&&◌, IsTrue, List, ◌++◌, length, codes, Option, Some, None, Result, Ok, Err}
 use Rattle.std.specs.Result.{result_map_both}
 use Rattle.std.specs.Str.Lines.{lines}
-use Rattle.age_error.specs.DecryptErrors.{DecryptRefusal, DecryptionFailed, KeyDecryptionFailed, OutOfMemory, decrypt_refusal, decrypt_of_io}
+use Rattle.age_error.specs.DecryptErrors.{DecryptRefusal, DecryptionFailed, HasText, KeyDecryptionFailed, OutOfMemory, decrypt_refusal, decrypt_of_io}
 use Rattle.age_error.specs.declared.decrypt.DecryptError.{DecryptError}
 use Rattle.age_error.specs.declared.io.Error.{Error}
 use Rattle.age_suite.specs.declared.suite.Suite.{Ghosts as SuiteMembers}
@@ -110,3 +110,13 @@ module _ {S R : Type 0} (suite : SuiteMembers S) {read : ReadMembers R} (stream_
       → ReadsFront reads_legacy start (read.rest file.input) place (read.place file.input) file.header file.nonce
       → (passphrase : List ℕ) × gives file.callbacks (description filename) (Some passphrase) opened.callbacks
       × IsFileOfEntries file.header.stanzas start (identity_under file passphrase) opened.entries
+
+  -- so it is of each file that opens
+  abbrev pub HoldsItsEntries : {C : Type 0} → (C → List ℕ → Option (List ℕ) → C → Type 0) → Type 0
+  HoldsItsEntries {C} gives = (filename : Option (List ℕ)) (file : Protected R C) (opened : Opened C) → Opens gives filename file (Ok opened)
+      → EntriesAreThose gives filename file opened
+
+  -- whatever is refused, a copy of it takes no memory
+  abbrev pub RefusesWithoutText : {C : Type 0} → (C → List ℕ → Option (List ℕ) → C → Type 0) → Type 0
+  RefusesWithoutText {C} gives = (filename : Option (List ℕ)) (file : Protected R C) (refusal : DecryptRefusal) → Opens gives filename file (Err refusal)
+      → HasText refusal → ⊥

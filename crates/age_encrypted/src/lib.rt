@@ -3,6 +3,7 @@
 
 mod encrypted_identity;
 mod identity;
+pub mod laws;
 
 pub use encrypted_identity::EncryptedIdentity;
 pub use identity::Identity;

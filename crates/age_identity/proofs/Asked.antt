@@ -4,7 +4,7 @@ use Rattle.age_error.specs.DecryptErrors.{DecryptRefusal}
 use Rattle.age_format.specs.Stanza.{StanzaValue}
 use Rattle.age_format.specs.Unwrapping.{UnwrapAnswer}
 use Rattle.age_identity.specs.Asking.{EntryAnswers, EntriesAnswer}
-use Rattle.age_identity.specs.Entries.{Entry, entry_of}
+use Rattle.age_identity.specs.Entries.{entry_of}
 use Rattle.age_identity.specs.declared.entry.IdentityFileEntry.{IdentityFileEntry}
 
 module _ {S : Type 0} (asks : List ℕ → StanzaValue → UnwrapAnswer → Type 0) (stanzas : List StanzaValue) where

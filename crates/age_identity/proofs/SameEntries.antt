@@ -1,5 +1,5 @@
 -- Reading a file says the same of whatever has its entries.
-use Rattle.std.specs.Prelude.{◌≡◌, ℕ, List, Result, Ok, Err}
+use Rattle.std.specs.Prelude.{◌≡◌, ℕ, List, Ok, Err}
 use Rattle.std.proofs.Common.{subst, sym}
 use Rattle.age_error.specs.declared.io.Error.{Error}
 use Rattle.age_io.specs.declared.traits.Read.{Ghosts}

@@ -1,7 +1,7 @@
 use Rattle.std.proofs.Common.{length, map}
-use Rattle.age_format.specs.Unwrapping.{UnwrapAnswer, FirstOf, Steady}
+use Rattle.age_format.specs.Unwrapping.{UnwrapAnswer}
 use Rattle.age_keys.specs.X25519.{UnwrapsBy}
-use Rattle.age_identity.specs.Asking.{EntryAnswers, EntriesAnswer}
+use Rattle.age_identity.specs.Asking.{EntriesAnswer}
 use Rattle.age_identity.specs.Entries.{entry_of}
 use Rattle.age_identity.specs.IdentityFile.{entries_of}
 use Rattle.age_identity.proofs.identity.answer_of.Given as goal

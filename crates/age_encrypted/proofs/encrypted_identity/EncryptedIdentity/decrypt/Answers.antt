@@ -4,7 +4,7 @@ use Rattle.age_error.specs.DecryptErrors.{decrypt_of_io}
 use Rattle.age_stream.specs.contracts.reader.StreamReaderRead.TheImpl.{ghosts}
 use Rattle.age_identity.specs.IdentityFile.{entries_of}
 use Rattle.age_encrypted.specs.EncryptedIdentity.{protected_of}
-use Rattle.age_encrypted.proofs.Opened.{holds, holds_none, given_opens, given_refuses, those_entries}
+use Rattle.age_encrypted.proofs.Opened.{holds, holds_none, given_opens, given_refuses, opened_entries}
 use Rattle.age_encrypted.proofs.encrypted_identity.EncryptedIdentity.decrypt.Goals as goal
 
 pub returns-in_err-stream-clause-opens : goal.returns-in_err-stream-clause-opens
@@ -32,8 +32,5 @@ returns-clause-opens g c =
 
 pub returns-clause-entries : goal.returns-clause-entries
 returns-clause-entries g c =
-    rw (c.with_callbacks.ensures.entries, c.with_callbacks.ensures.callbacks)
-    (those_entries g.S.Suite g.R.Read (ghosts g.row.S g.row.R g.S.Suite g.S.Suite-dict g.R.Read g.R.Read-dict) (λ r. refl) (λ r. refl)
-    g.C.Callbacks.gives_passphrase _ (protected_of c.args.self) c.as_str.result.now c.in-Some.passphrase c.request_passphrase.new.self
-    (c.as_str.ensures.value ∙ c.in_ok-description.ensures) c.in-Some.ensures c.identity_of-identity.result c.identity_of-identity.ensures
-    c.in_ok-stream.stream c.in_ok-stream.ensures (λ file. entries_of file) c.in_ok-file.file c.in_ok-file.ensures.reads)
+    opened_entries g.S.Suite g.R.Read (ghosts g.row.S g.row.R g.S.Suite g.S.Suite-dict g.R.Read g.R.Read-dict) (λ r. refl) (λ r. refl)
+    g.C.Callbacks.gives_passphrase _ (protected_of c.args.self) _ (returns-clause-opens g c)
