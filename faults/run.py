@@ -1,5 +1,6 @@
 #!/usr/bin/env python3
-"""Runs agebench where memory, reads and writes fail or fall short, and on damaged payloads, files and armor.
+"""Runs agebench where memory, reads and writes fail or fall short, and on damaged payloads, files and armor, and so a
+program that opens protected identity files (crates/protected_recipients).
 
 Each run must answer the right bytes, or a beginning of them and the refusal that belongs to the fault. The right
 bytes are those of a second implementation, `second.py`, written from the format's own words. Prints each run that
@@ -29,6 +30,7 @@ NO_KEYS = "no matching keys"
 NO_RANDOM = "random bytes ran out"
 ZERO_SHARED = "shared secret is zero"
 FAILED = "decryption failed"
+NO_KEY = "key decryption failed"
 PAST_END = "cannot seek past the end"
 BASE64 = "invalid base64 in armor"
 BEGIN_MARKER = "invalid armor begin marker"
@@ -58,6 +60,7 @@ def seal(number, last, plain):
 class Runs:
     def __init__(self, program, shim, folder):
         self.program, self.shim = program, shim
+        self.name = os.path.basename(program)
         self.mark = os.path.join(folder, "mark")
         self.passed = self.failed = 0
 
@@ -83,14 +86,15 @@ class Runs:
         got = self.run(words, given)
         self.judge(name, got[:3] == (0, want, ""), got)
 
-    def refuses(self, name, words, given, front, text):
+    def refuses(self, name, words, given, front, text, times=1):
         got = self.run(words, given)
-        self.judge(name, got[:3] == (1, front, f"agebench: {text}\n"), got)
+        self.judge(name, got[:3] == (1, front, f"{self.name}: {text}\n" * times), got)
 
-    def injected(self, name, words, given, want, inject, text):
+    def injected(self, name, words, given, want, inject, text, most=1):
         """The fault at each call in turn, until none is left: `text` is the refusal, or None for no refusal.
 
-        A request for memory that was refused may be made again for less, so that all goes well.
+        A request for memory that was refused may be made again for less, so that all goes well. The refusal may be told
+        so many times, where a later use answers it again.
         """
         at = 1
         while True:
@@ -99,7 +103,8 @@ class Runs:
             if not came:
                 break
             well = (status, out, err) == (0, want, "")
-            refused = status == 1 and want.startswith(out) and err == f"agebench: {text}\n"
+            lines = [f"{self.name}: {text}\n" * times for times in range(1, most + 1)]
+            refused = status == 1 and want.startswith(out) and err in lines
             right = well if text is None else refused or (inject == "alloc" and well)
             self.judge(f"{name}: {inject} {at}", right, got)
             at += 1
@@ -414,6 +419,46 @@ def injected_passphrases(runs):
             runs.injected(name, words, given, want, call, DEVICE)
 
 
+def protected(runs):
+    """Protected identity files: the recipients in them, printed by two uses, of which the first opens the file.
+
+    What the first is refused the second answers again, though nothing would fail any more, and nobody is asked twice.
+    """
+    identities = IDENTITY.encode() + b"\n# a comment\r\n\n" + second.bech32("age-secret-key-", KEY).upper().encode()
+    want = f"{RECIPIENT}\n{second.bech32('age', second.public(KEY))}\n".encode() * 2
+    word, draw = PASSPHRASE.encode(), LONG_DRAW
+    whole = second.encrypted_under(word, draw, identities)
+    for given in [whole, armor(whole), armor(whole, b"\r\n")]:
+        runs.answers("recipients of a protected file", [PASSPHRASE], given, want)
+    runs.answers("recipients of no identity", [PASSPHRASE], second.encrypted_under(word, draw, b"# nothing\n"), b"")
+    runs.answers("recipients of a factor that is taken", [PASSPHRASE], second.encrypted_under(word, draw, identities, 20), want)
+    for name, words, given, text in [
+            ("with another passphrase", ["x"], whole, NO_KEY), ("with no passphrase", [], whole, NO_KEY),
+            ("with too large a factor", [PASSPHRASE], second.encrypted_under(word, draw, identities, 23),
+             "excessive work factor 23, target 18"),
+            ("with a bad line", [PASSPHRASE], second.encrypted_under(word, draw, identities + b"\nx"),
+             "identity file contains non-identity data on line 5"),
+            ("with a plugin's identity", [PASSPHRASE], second.encrypted_under(word, draw, b"AGE-PLUGIN-FOOBAR-1QVHULF"),
+             "plugin not found: age-plugin-foobar"),
+            ("cut before its last byte", [PASSPHRASE], whole[:-1], BAD_CHUNK),
+            ("with a byte after it", [PASSPHRASE], whole + b"x", BAD_CHUNK)]:
+        runs.refuses(f"recipients of a protected file {name}", words, given, b"", text, 2)
+    runs.refuses("recipients of a file that isn't protected", [PASSPHRASE], second.encrypted(DRAW, identities), b"",
+                 "not a file of a passphrase")
+    for place in range(len(whole)):
+        changed = bytearray(whole)
+        changed[place] ^= 1
+        status, out, err, _ = got = runs.run([PASSPHRASE], bytes(changed))
+        runs.judge(f"recipients of a protected file changed at byte {place}", status == 1 and out == b"" and err, got)
+    for given in [whole, armor(whole)]:
+        runs.injected("recipients", [PASSPHRASE], given, want, "alloc", NO_MEMORY, 2)
+        for call in ["read", "write"]:
+            runs.injected("recipients", [PASSPHRASE], given, want, call, DEVICE, 2)
+            runs.injected("recipients", [PASSPHRASE], given, want, f"{call}-short", None)
+            runs.injected("recipients", [PASSPHRASE], given, want, f"{call}-interrupted", None)
+            runs.injected("recipients", [PASSPHRASE], given, want, f"{call}-interrupted-on", DEVICE, 2)
+
+
 def command_lines(runs):
     key = KEY.hex()
     lines = [[], ["--help"], ["seal"], ["open"], ["seal", key[:-1]], ["open", key + "0"], ["seal", key, "x"],
@@ -518,8 +563,12 @@ def main():
         injected_passphrases(runs)
         command_lines(runs)
         seek_memory(runs)
-    print(f"{runs.passed} passed, {runs.failed} failed")
-    sys.exit(1 if runs.failed else 0)
+        crates = os.path.dirname(os.path.dirname(os.path.dirname(program)))
+        others = Runs(os.path.join(crates, "protected_recipients", "out", "protected_recipients"), shim, folder)
+        protected(others)
+    failed = runs.failed + others.failed
+    print(f"{runs.passed + others.passed} passed, {failed} failed")
+    sys.exit(1 if failed else 0)
 
 
 main()
