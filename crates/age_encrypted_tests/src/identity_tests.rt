@@ -5,13 +5,14 @@ use crate::fixtures::{
     protected_by_nobody, secret, stanzas_for,
 };
 use age::armor::ArmoredReader;
-use age::io::{BufReader, Bytes, Read, Std};
+use age::io::{BufReader, Read, Std};
 use age::{DecryptError, EncryptError, Identity as _};
 use age_bench::suite::BenchSuite;
 use age_encrypted::Identity;
 use age_try::fixtures::{armored, message_file};
 use std::alloc::Global;
 use std::fs::File;
+use std::io::Cursor;
 use std::process::Abort;
 use std::test::Fail;
 use std::{env, fs, process};
@@ -46,6 +47,13 @@ fn identity_of<'a, R: Read + Drop>(
     }
 }
 
+// An input of these bytes that lends nothing.
+type Input = Std<Cursor<Vec<u8>>>;
+
+fn input_of(bytes: Vec<u8>) -> Input {
+    Std::new(Cursor::new(bytes))
+}
+
 const NEVER: Counts = Counts { asked: 0, shown: 0 };
 
 #[test]
@@ -54,12 +62,7 @@ fn a_file_is_opened_once(rt: HostRuntime) -> Result<(), Fail> {
     let bytes = protected(alloc, key_text(alloc)?.as_slice())?;
     let stanzas = stanzas_for(alloc, &own(alloc)?)?;
     let mut counts = NEVER;
-    let mut identity = identity_of(
-        alloc,
-        Bytes::new(bytes.as_slice()),
-        Some("foobar"),
-        &mut counts,
-    )?;
+    let mut identity = identity_of(alloc, input_of(bytes), Some("foobar"), &mut counts)?;
     for stanza in stanzas.as_slice() {
         assert!(rt; is_key(&identity.unwrap_stanza(alloc, stanza)));
         assert!(rt; is_key(&identity.unwrap_stanza(alloc, stanza)));
@@ -76,12 +79,7 @@ fn a_user_is_told_once_that_no_key_matches(rt: HostRuntime) -> Result<(), Fail> 
     let bytes = protected(alloc, key_text(alloc)?.as_slice())?;
     let stanzas = stanzas_for(alloc, &other(alloc)?)?;
     let mut counts = NEVER;
-    let mut identity = identity_of(
-        alloc,
-        Bytes::new(bytes.as_slice()),
-        Some("foobar"),
-        &mut counts,
-    )?;
+    let mut identity = identity_of(alloc, input_of(bytes), Some("foobar"), &mut counts)?;
     assert!(rt; identity.unwrap_stanzas(alloc, stanzas.as_slice()).is_none());
     assert!(rt; identity.unwrap_stanzas(alloc, stanzas.as_slice()).is_none());
     drop(identity);
@@ -95,12 +93,7 @@ fn nothing_is_shown_for_recipients(rt: HostRuntime) -> Result<(), Fail> {
     let bytes = protected(alloc, key_text(alloc)?.as_slice())?;
     let stanzas = stanzas_for(alloc, &other(alloc)?)?;
     let mut counts = NEVER;
-    let mut identity = identity_of(
-        alloc,
-        Bytes::new(bytes.as_slice()),
-        Some("foobar"),
-        &mut counts,
-    )?;
+    let mut identity = identity_of(alloc, input_of(bytes), Some("foobar"), &mut counts)?;
     let recipients = identity.recipients(alloc)?;
     assert_eq!(rt; recipients.len(), 1);
     for recipient in recipients.as_slice() {
@@ -116,10 +109,7 @@ fn nothing_is_shown_for_recipients(rt: HostRuntime) -> Result<(), Fail> {
 fn a_file_that_is_refused_stays_so(rt: HostRuntime) -> Result<(), Fail> {
     let alloc = rt.alloc();
     let text = protected_by_nobody(alloc)?;
-    let reader: ArmoredReader<BufReader<Bytes>> = ArmoredReader::new(
-        alloc,
-        Bytes::new(text.as_slice()),
-    )?;
+    let reader: ArmoredReader<BufReader<Input>> = ArmoredReader::new(alloc, input_of(text))?;
     let mut counts = NEVER;
     let mut identity = identity_of(alloc, reader, None, &mut counts)?;
     assert!(rt; is_closed(&identity.unwrap_stanzas(alloc, &[])));
@@ -136,12 +126,7 @@ fn a_wrong_passphrase_is_the_last(rt: HostRuntime) -> Result<(), Fail> {
     let bytes = protected(alloc, key_text(alloc)?.as_slice())?;
     let stanzas = stanzas_for(alloc, &own(alloc)?)?;
     let mut counts = NEVER;
-    let mut identity = identity_of(
-        alloc,
-        Bytes::new(bytes.as_slice()),
-        Some("foobaz"),
-        &mut counts,
-    )?;
+    let mut identity = identity_of(alloc, input_of(bytes), Some("foobaz"), &mut counts)?;
     is_for_nobody(&rt, alloc, &mut identity)?;
     assert!(rt; is_closed(&identity.unwrap_stanzas(alloc, stanzas.as_slice())));
     is_for_nobody(&rt, alloc, &mut identity)?;
@@ -174,12 +159,7 @@ fn a_plugin_of_a_protected_file_is_missing(rt: HostRuntime) -> Result<(), Fail> 
     let bytes = protected(alloc, text.as_slice())?;
     let stanzas = stanzas_for(alloc, &own(alloc)?)?;
     let mut counts = NEVER;
-    let mut identity = identity_of(
-        alloc,
-        Bytes::new(bytes.as_slice()),
-        Some("foobar"),
-        &mut counts,
-    )?;
+    let mut identity = identity_of(alloc, input_of(bytes), Some("foobar"), &mut counts)?;
     assert!(rt; is_missing_plugin(&identity.unwrap_stanzas(alloc, stanzas.as_slice())));
     let recipients = identity.recipients(alloc);
     assert!(rt; matches!(&recipients, Err(EncryptError::PluginResolve(_))));
@@ -199,9 +179,9 @@ fn a_file_of_no_passphrase_is_none(rt: HostRuntime) -> Result<(), Fail> {
         asked: &mut counts.asked,
         shown: &mut counts.shown,
     };
-    let made: Option<Identity<BenchSuite, Bytes, Knows>> = Identity::from_buffer(
+    let made: Option<Identity<BenchSuite, Input, Knows>> = Identity::from_buffer(
         alloc,
-        Bytes::new(bytes.as_slice()),
+        input_of(bytes),
         None,
         callbacks,
         18,
@@ -247,9 +227,9 @@ fn a_file_without_a_name_is_asked_for(rt: HostRuntime) -> Result<(), Fail> {
         asked: &mut counts.asked,
         shown: &mut counts.shown,
     };
-    let made: Option<Identity<BenchSuite, Bytes, Knows>> = Identity::from_buffer(
+    let made: Option<Identity<BenchSuite, Input, Knows>> = Identity::from_buffer(
         alloc,
-        Bytes::new(bytes.as_slice()),
+        input_of(bytes),
         None,
         callbacks,
         18,
