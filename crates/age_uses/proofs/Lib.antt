@@ -1,3 +1,4 @@
 pub mod Opened
 pub mod Places
 pub mod Alone
+pub mod ProtectedKeys

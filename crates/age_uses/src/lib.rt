@@ -5,6 +5,7 @@ pub mod keys;
 pub mod own;
 pub mod parts;
 pub mod passphrases;
+pub mod protected;
 pub mod several;
 pub mod streams;
 pub mod there_and_back;

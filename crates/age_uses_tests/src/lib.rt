@@ -12,6 +12,8 @@ mod parts_tests;
 #[cfg(test)]
 mod passphrases_tests;
 #[cfg(test)]
+mod protected_tests;
+#[cfg(test)]
 mod several_tests;
 #[cfg(test)]
 mod streams_tests;
