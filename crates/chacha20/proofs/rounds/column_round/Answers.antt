@@ -1,0 +1,13 @@
+use Rattle.std.proofs.Common.{refl}
+use Rattle.chacha20.specs.Rounds.{column_round}
+use Rattle.chacha20.proofs.rounds.column_round.Goals as goal
+
+pub returns : goal.returns
+unfolding column_round
+returns c =
+    rw (
+      c.quarter_round_on-4.ensures,
+      c.quarter_round_on-3.ensures,
+      c.quarter_round_on-2.ensures,
+      c.quarter_round_on.ensures,
+    ) refl

@@ -1,0 +1,13 @@
+use Rattle.std.proofs.Common.{refl}
+use Rattle.chacha20.specs.Rounds.{quarter_round}
+use Rattle.chacha20.proofs.rounds.quarter_round.Goals as goal
+
+pub returns : goal.returns
+unfolding quarter_round
+returns c =
+    rw (
+      c.rotate_left-b2.ensures,
+      c.rotate_left-d2.ensures,
+      c.rotate_left-b1.ensures,
+      c.rotate_left-d1.ensures,
+    ) refl

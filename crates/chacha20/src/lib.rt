@@ -1,0 +1,10 @@
+//! ChaCha20 with a nonce of 96 bits (RFC 8439, 2.1 to 2.4): the block function, and the key stream over bytes in place. Nothing
+//! here takes memory or refuses. No branch and no index depends on the key, the nonce or the bytes.
+#![tactic(auto)]
+
+mod block;
+mod rounds;
+mod stream;
+
+pub use block::chacha20_block;
+pub use stream::apply_keystream;
