@@ -1,4 +1,4 @@
--- The key stream over bytes: one byte more, lengths, ranges, and that encryption done twice gives the text back.
+-- The key stream over bytes: one byte more.
 use Rattle.std.proofs.Common.{◌≡◌, ℕ, ◌+◌, ◌<◌, List, [], ◌∷◌, ◌++◌, length, take, drop, bit_xor, set, get_or, refl, arith, add-zero, add_assoc}
 use Rattle.std.proofs.Math.Numerals.{one-add}
 use Rattle.std.proofs.lemmas.List.{length-take-le, drop_more, take_more, get_or_at, set_at, append_assoc}

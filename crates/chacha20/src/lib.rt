@@ -3,8 +3,10 @@
 #![tactic(auto)]
 
 mod block;
+mod laws;
 mod rounds;
 mod stream;
 
 pub use block::chacha20_block;
+pub use laws::chacha20_laws;
 pub use stream::apply_keystream;
