@@ -1,15 +1,13 @@
 -- Lengths and ranges, and that encryption done twice gives the text back.
-use Rattle.std.proofs.Common.{◌≡◌, ℕ, zero, suc, ◌+◌, ◌*◌, ◌/◌, ◌%◌, ◌^◌, ◌<◌, List, [], ◌∷◌, length, bit_xor, refl, arith, lit<, length-append, ◌∙◌}
-use Rattle.std.proofs.lemmas.List.{length-set}
+use Rattle.std.proofs.Common.{◌≡◌, ℕ, zero, suc, ◌+◌, ◌/◌, ◌%◌, ◌^◌, ◌<◌, List, [], ◌∷◌, length, bit_xor, refl, arith, lit<, ◌∙◌}
 use Rattle.std.proofs.lemmas.List.Elements.{All-nil, All-cons, All-head, All-tail, All-append, All-get_or}
 use Rattle.std.proofs.lemmas.Nat.{xor_lt, mod_below}
 use Rattle.std.specs.Prelude.{All}
 use Rattle.std.specs.Int.{w32, to_le_bytes, bytes_low_first, byte_at}
 use Rattle.std.specs.Int.Bits.{xor_self, xor_zero_r, xor_assoc}
-use Rattle.chacha20.specs.Rounds.{quarter_round_on, column_round, diagonal_round, double_rounds}
-use Rattle.chacha20.specs.Block.{added, serialized, initial_state, chacha20_block}
+use Rattle.chacha20.specs.Block.{serialized, block_words, chacha20_block}
 use Rattle.chacha20.specs.Encryption.{keystream_byte, encrypted_from, chacha20_encrypt}
-use Rattle.chacha20.proofs.Blocks.{length-added}
+use Rattle.chacha20.proofs.Blocks.{length-serialized, length-block_words}
 use Rattle.chacha20.proofs.Streams.{length-encrypted}
 
 -- a byte, as the laws say it
@@ -28,49 +26,15 @@ serialized-bytes : (words : List ℕ) → All IsByte (serialized words)
 serialized-bytes [] = All-nil IsByte
 serialized-bytes (word ∷ words) = All-append IsByte (to_le_bytes w32 word) (serialized words) (low_first-bytes 0 4 word) (serialized-bytes words)
 
-length-serialized : (words : List ℕ) → length (serialized words) ≡ 4 * length words
-length-serialized [] = refl
-length-serialized (word ∷ words) =
-    let rest = length-serialized words in
-    rw length-append (omega (arith, rest))
-
-length-quarter_round_on : (state : List ℕ) (x y z w : ℕ) → length (quarter_round_on state x y z w) ≡ length state
-length-quarter_round_on state x y z w = simp length-set
-
-length-column_round : (state : List ℕ) → length (column_round state) ≡ length state
-unfolding column_round
-length-column_round state = simp length-set
-
-length-diagonal_round : (state : List ℕ) → length (diagonal_round state) ≡ length state
-unfolding diagonal_round
-length-diagonal_round state = simp length-set
-
-length-double_rounds : (count : ℕ) (state : List ℕ) → length (double_rounds count state) ≡ length state
-unfolding double_rounds
-length-double_rounds zero state = refl
-length-double_rounds (suc count) state =
-    let before = double_rounds count state in
-    length-diagonal_round (column_round before) ∙ length-column_round before ∙ length-double_rounds count state
-
-length-initial_state : (key : List ℕ) (counter : ℕ) (nonce : List ℕ) → length (initial_state key counter nonce) ≡ 16
-unfolding initial_state
-length-initial_state key counter nonce = refl
-
 pub length-chacha20_block : (key : List ℕ) (counter : ℕ) (nonce : List ℕ) → length (chacha20_block key counter nonce) ≡ 64
 unfolding chacha20_block
 length-chacha20_block key counter nonce =
-    let initial = initial_state key counter nonce in
-    let after = double_rounds 10 initial in
-    let sixteen = length-initial_state key counter nonce in
-    let kept = length-double_rounds 10 initial in
-    let sum = length-added after initial kept in
-    length-serialized (added after initial) ∙ omega (arith, sum, kept, sixteen)
+    let words = block_words key counter nonce in
+    length-serialized words ∙ omega (arith, length-block_words key counter nonce)
 
 pub chacha20_block-bytes : (key : List ℕ) (counter : ℕ) (nonce : List ℕ) → All IsByte (chacha20_block key counter nonce)
 unfolding chacha20_block
-chacha20_block-bytes key counter nonce =
-    let initial = initial_state key counter nonce in
-    serialized-bytes (added (double_rounds 10 initial) initial)
+chacha20_block-bytes key counter nonce = serialized-bytes (block_words key counter nonce)
 
 xor_twice : (x m : ℕ) → bit_xor (bit_xor x m) m ≡ x
 xor_twice x m = rw (xor_assoc, xor_self, xor_zero_r) refl

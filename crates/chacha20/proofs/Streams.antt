@@ -1,7 +1,8 @@
 -- The key stream over bytes: one byte more.
-use Rattle.std.proofs.Common.{◌≡◌, ℕ, ◌+◌, ◌<◌, List, [], ◌∷◌, ◌++◌, length, take, drop, bit_xor, set, get_or, refl, arith, add-zero, add_assoc}
+use Rattle.std.proofs.Common.{◌≡◌, ◌∙◌, ap, ℕ, ◌+◌, ◌*◌, ◌/◌, ◌%◌, ◌^◌, ◌<◌, List, [], ◌∷◌, ◌++◌, length, take, drop, bit_xor, set, get_or, refl, arith, add-zero, add_assoc}
 use Rattle.std.proofs.Math.Numerals.{one-add}
 use Rattle.std.proofs.lemmas.List.{length-take-le, drop_more, take_more, get_or_at, set_at, append_assoc}
+use Rattle.chacha20.specs.Block.{chacha20_block}
 use Rattle.chacha20.specs.Encryption.{keystream_byte, encrypted_from, chacha20_encrypt}
 
 module _ (key : List ℕ) (counter : ℕ) (nonce : List ℕ) where
@@ -31,3 +32,11 @@ module _ (key : List ℕ) (counter : ℕ) (nonce : List ℕ) where
       let next : chacha20_encrypt key counter nonce (take (i + 1) xs) ≡ done ++ bit_xor x m ∷ [] =
       rw (take_more xs i 0 h, encrypted-push 0 (take i xs) x, place, f) refl in
       rw (now, next, get_or_at done x rest 0 i before, set_at done x rest (bit_xor x m) i before, append_assoc) refl
+
+  -- the key stream from a later block on
+  pub keystream_byte-later : (n k : ℕ) → keystream_byte key ((counter + 4 * n % 2 ^ 32) % 2 ^ 32) nonce k ≡ keystream_byte key counter nonce (256 * n + k)
+  keystream_byte-later n k =
+      let number : ((counter + 4 * n % 2 ^ 32) % 2 ^ 32 + k / 64) % 2 ^ 32 ≡ (counter + (256 * n + k) / 64) % 2 ^ 32 = omega arith in
+      let place : k % 64 ≡ (256 * n + k) % 64 = omega arith in
+      ap (λ m. get_or (chacha20_block key m nonce) (k % 64) 0) number
+      ∙ ap (λ i. get_or (chacha20_block key ((counter + (256 * n + k) / 64) % 2 ^ 32) nonce) i 0) place

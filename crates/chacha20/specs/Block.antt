@@ -23,12 +23,16 @@ added [] others = []
 added (word ∷ words) [] = []
 added (word ∷ words) (other ∷ others) = word_sum word other ∷ added words others
 
--- the words one after another, each with its low byte first (2.3)
+-- the words of a block: the state after 20 rounds, and the state before them added (2.3.1)
+unfoldable pub block_words : List ℕ → ℕ → List ℕ → List ℕ
+block_words key counter nonce =
+    let initial = initial_state key counter nonce in
+    added (double_rounds 10 initial) initial
+
+-- words one after another, each with its low byte first (2.3.1)
 abbrev pub serialized : List ℕ → List ℕ
 serialized words = flat_map (to_le_bytes w32) words
 
--- the block function: 20 rounds, the state before them added, and the sum as 64 bytes (2.3.1)
+-- the block function: the 64 bytes of a key of 32 bytes, a block counter and a nonce of 12 bytes (2.3.1)
 unfoldable pub chacha20_block : List ℕ → ℕ → List ℕ → List ℕ
-chacha20_block key counter nonce =
-    let initial = initial_state key counter nonce in
-    serialized (added (double_rounds 10 initial) initial)
+chacha20_block key counter nonce = serialized (block_words key counter nonce)

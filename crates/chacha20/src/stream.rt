@@ -2,7 +2,7 @@
 ghost use Rattle.std.specs.Prelude.{◌≡◌};
 ghost use Rattle.chacha20.specs.Encryption.{chacha20_encrypt};
 
-use crate::block::chacha20_block;
+use crate::block::keystream;
 
 /// Combines each byte by exclusive or with its byte of the key stream, in place: this encrypts, and done once more it decrypts
 /// (RFC 8439, 2.4). The key has 32 bytes, the nonce 12; the stream begins with the block of this counter. The bytes may be of any
@@ -13,11 +13,15 @@ pub fn apply_keystream(key: &[u8; 32], counter: u32, nonce: &[u8; 12], bytes: &m
     ensures { bytes.new ≡ chacha20_encrypt key.now counter nonce.now bytes.old }
 {
     let len = bytes.len();
-    'each: for n in 0..len / 64 + 1 {
-        let start = 64 * n;
-        let block = chacha20_block(key, counter.wrapping_add((n % 0x1_0000_0000) as u32), nonce);
-        'inner: for k in 0..(len - start).min(64) {
-            bytes[start + k] ^= block[k];
+    'each: for n in 0..len.div_ceil(256) {
+        let start = 256 * n;
+        let stream = keystream(
+            key,
+            counter.wrapping_add((4 * n % 0x1_0000_0000) as u32),
+            nonce,
+        );
+        'inner: for k in 0..(len - start).min(256) {
+            bytes[start + k] ^= stream[k];
         }
     }
 }

@@ -1,7 +1,7 @@
-use Rattle.std.proofs.Common.{◌≡◌, ◌*◌, length, take}
-use Rattle.chacha20.specs.Block.{added, serialized}
+use Rattle.std.proofs.Common.{◌≡◌, ◌<◌, ℕ, length}
+use Rattle.std.specs.Prelude.{slice_index}
 use Rattle.chacha20.proofs.block.chacha20_block.Given as goal
 
--- the words so far are written
-abbrev pub invariant-words : goal.invariant-words
-invariant-words l = (length l.block ≡ 64) × (take (4 * l.i) l.block ≡ serialized (take l.i (added l.state l.before)))
+-- the bytes so far are those of the stream
+abbrev pub invariant-places : goal.invariant-places
+invariant-places l = (length l.block ≡ 64) × ((k : ℕ) → k < l.i → slice_index l.block k ≡ slice_index l.stream k)

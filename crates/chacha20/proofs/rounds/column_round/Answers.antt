@@ -4,10 +4,10 @@ use Rattle.chacha20.proofs.rounds.column_round.Goals as goal
 
 pub returns : goal.returns
 unfolding column_round
-returns c =
+returns c j h =
     rw (
-      c.quarter_round_on-4.ensures,
-      c.quarter_round_on-3.ensures,
-      c.quarter_round_on-2.ensures,
-      c.quarter_round_on.ensures,
+      c.quarter_round_on-4.ensures j h,
+      c.quarter_round_on-3.ensures j h,
+      c.quarter_round_on-2.ensures j h,
+      c.quarter_round_on.ensures j h,
     ) refl

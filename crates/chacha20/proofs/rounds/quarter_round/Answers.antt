@@ -4,10 +4,14 @@ use Rattle.chacha20.proofs.rounds.quarter_round.Goals as goal
 
 pub returns : goal.returns
 unfolding quarter_round
-returns c =
+returns c j h =
     rw (
-      c.rotate_left-b2.ensures,
-      c.rotate_left-d2.ensures,
-      c.rotate_left-b1.ensures,
-      c.rotate_left-d1.ensures,
+      c.xor_rotate-b2.ensures j h,
+      c.sum-c2.ensures j h,
+      c.xor_rotate-d2.ensures j h,
+      c.sum-a2.ensures j h,
+      c.xor_rotate-b1.ensures j h,
+      c.sum-c1.ensures j h,
+      c.xor_rotate-d1.ensures j h,
+      c.sum-a1.ensures j h,
     ) refl

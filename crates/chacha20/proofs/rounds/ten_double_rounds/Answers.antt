@@ -4,14 +4,14 @@ use Rattle.chacha20.proofs.rounds.ten_double_rounds.Goals as goal
 
 pub rounds-init : goal.rounds-init
 unfolding double_rounds
-rounds-init c = refl
+rounds-init c j h = refl
 
 pub rounds-preserved : goal.rounds-preserved
 unfolding double_rounds
-rounds-preserved c =
-    rw add-one (c.diagonal_round.ensures ∙ ap diagonal_round (c.column_round.ensures ∙ ap column_round c.rounds.invariant))
+rounds-preserved c j h =
+    rw add-one (c.diagonal_round.ensures j h ∙ ap diagonal_round (c.column_round.ensures j h ∙ ap column_round (c.rounds.invariant j h)))
 
 pub returns : goal.returns
-returns c =
+returns c j h =
     let done : c.rounds._round ≡ 10 = omega arith in
-    rw done at c.rounds.invariant
+    rw done at (c.rounds.invariant j h)
