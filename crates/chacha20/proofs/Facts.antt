@@ -58,12 +58,15 @@ module _ (key : List ℕ) (counter : ℕ) (nonce : List ℕ) where
       (encrypted-bytes (i + 1) xs (All-tail IsByte x xs h))
 
 pub length-chacha20_encrypt : (key : List ℕ) (counter : ℕ) (nonce text : List ℕ) → length (chacha20_encrypt key counter nonce text) ≡ length text
+unfolding chacha20_encrypt
 length-chacha20_encrypt key counter nonce text = length-encrypted key counter nonce 0 text
 
 pub chacha20_encrypt-bytes : (key : List ℕ) (counter : ℕ) (nonce text : List ℕ) → All IsByte text → All IsByte (chacha20_encrypt key counter nonce text)
+unfolding chacha20_encrypt
 chacha20_encrypt-bytes key counter nonce text h = encrypted-bytes key counter nonce 0 text h
 
 -- encryption is also decryption
 pub chacha20_encrypt_twice : (key : List ℕ) (counter : ℕ) (nonce text : List ℕ)
     → chacha20_encrypt key counter nonce (chacha20_encrypt key counter nonce text) ≡ text
+unfolding chacha20_encrypt
 chacha20_encrypt_twice key counter nonce text = encrypted_twice key counter nonce 0 text

@@ -21,6 +21,7 @@ module _ (key : List ℕ) (counter : ℕ) (nonce : List ℕ) where
   pub encrypted_more : (xs ys : List ℕ) (i m : ℕ) → i < length xs
       → ys ≡ chacha20_encrypt key counter nonce (take i xs) ++ drop i xs → m ≡ keystream_byte key counter nonce i
       → set ys i (bit_xor (get_or ys i 0) m) ≡ chacha20_encrypt key counter nonce (take (i + 1) xs) ++ drop (i + 1) xs
+  unfolding chacha20_encrypt
   encrypted_more xs ys i m h e f =
       let x = get_or xs i 0 in
       let done = chacha20_encrypt key counter nonce (take i xs) in

@@ -7,7 +7,8 @@ use Rattle.chacha20.specs.Rounds.{word_sum, double_rounds}
 -- word i of these bytes: four of them, the low byte first (2.3)
 abbrev pub word : List ℕ → ℕ → ℕ
 word bytes i =
-    from_le_bytes w32 (slice_index bytes (4 * i) ∷ slice_index bytes (4 * i + 1) ∷ slice_index bytes (4 * i + 2) ∷ slice_index bytes (4 * i + 3) ∷ [])
+    from_le_bytes w32
+    (slice_index bytes (4 * i) ∷ slice_index bytes (4 * i + 1) ∷ slice_index bytes (4 * i + 2) ∷ slice_index bytes (4 * i + 3) ∷ [])
 
 -- the state before the rounds: four constants, the key, the block counter and the nonce (2.3)
 unfoldable pub initial_state : List ℕ → ℕ → List ℕ → List ℕ

@@ -14,5 +14,5 @@ encrypted_from key counter nonce i (byte ∷ bytes) =
     bit_xor byte (keystream_byte key counter nonce i) ∷ encrypted_from key counter nonce (i + 1) bytes
 
 -- encryption, which is also decryption: a key of 32 bytes, the first counter, a nonce of 12 bytes, and the text (2.4)
-abbrev pub chacha20_encrypt : List ℕ → ℕ → List ℕ → List ℕ → List ℕ
+unfoldable pub chacha20_encrypt : List ℕ → ℕ → List ℕ → List ℕ → List ℕ
 chacha20_encrypt key counter nonce text = encrypted_from key counter nonce 0 text

@@ -9,6 +9,7 @@ use crate::block::keystream;
 /// length, which stays. It takes no memory and never refuses.
 ///
 /// After block 2^32 - 1 the counter begins again at 0, and with it a stream that was used before: the RFC forbids such texts.
+#[tactic(auto, unfolding(crate::specs::Encryption::chacha20_encrypt))]
 pub fn apply_keystream(key: &[u8; 32], counter: u32, nonce: &[u8; 12], bytes: &mut [u8])
     ensures { bytes.new ≡ chacha20_encrypt key.now counter nonce.now bytes.old }
 {
