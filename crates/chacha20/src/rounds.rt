@@ -25,6 +25,7 @@ fn xor_rotate(d: u32x4, a: u32x4, n: u32) -> u32x4
 
 /// The quarter round on four words of each state.
 #[inline(always)]
+#[tactic(auto, unfolding(crate::specs::Rounds::quarter_round))]
 fn quarter_round(a0: u32x4, b0: u32x4, c0: u32x4, d0: u32x4) -> (u32x4, u32x4, u32x4, u32x4)
     ensures { (j : ℕ) → j < 4 →
         (slice_index result.0 j, slice_index result.1 j, slice_index result.2 j, slice_index result.3 j)
