@@ -6,7 +6,7 @@ use Rattle.std.proofs.lemmas.Grind.{flat_map-append}
 use Rattle.std.proofs.lemmas.Slice.{take-put_mid}
 use Rattle.std.specs.Int.{w32, to_le_bytes}
 use borrow.Rule.Slice.PartMut.{put_mid}
-use Rattle.chacha20.specs.Rounds.{word_sum, quarter_round_on, column_round, diagonal_round, double_rounds}
+use Rattle.chacha20.specs.Rounds.{word_sum, column_round, diagonal_round, double_rounds}
 use Rattle.chacha20.specs.Block.{initial_state, added, block_words, serialized, chacha20_block}
 use Rattle.chacha20.specs.Encryption.{keystream_byte}
 
@@ -42,9 +42,6 @@ length-serialized [] = refl
 length-serialized (word ∷ words) =
     let rest = length-serialized words in
     rw length-append (omega (arith, rest))
-
-length-quarter_round_on : (state : List ℕ) (x y z w : ℕ) → length (quarter_round_on state x y z w) ≡ length state
-length-quarter_round_on state x y z w = simp length-set
 
 length-column_round : (state : List ℕ) → length (column_round state) ≡ length state
 unfolding column_round
