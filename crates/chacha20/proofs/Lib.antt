@@ -1,0 +1,4 @@
+pub mod Blocks
+pub mod Facts
+pub mod Sides
+pub mod Streams

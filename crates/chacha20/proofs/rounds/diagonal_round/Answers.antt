@@ -1,0 +1,13 @@
+use Rattle.std.proofs.Common.{refl}
+use Rattle.chacha20.specs.Rounds.{diagonal_round}
+use Rattle.chacha20.proofs.rounds.diagonal_round.Goals as goal
+
+pub returns : goal.returns
+unfolding diagonal_round
+returns c j h =
+    rw (
+      c.quarter_round_on-4.ensures j h,
+      c.quarter_round_on-3.ensures j h,
+      c.quarter_round_on-2.ensures j h,
+      c.quarter_round_on.ensures j h,
+    ) refl

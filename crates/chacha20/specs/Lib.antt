@@ -1,0 +1,4 @@
+pub mod Rounds
+pub mod Block
+pub mod Encryption
+pub mod Lanes
