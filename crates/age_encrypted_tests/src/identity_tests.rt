@@ -87,6 +87,20 @@ fn a_user_is_told_once_that_no_key_matches(rt: HostRuntime) -> Result<(), Fail> 
     Ok(())
 }
 
+// The file has the recipient of `K` alone.
+fn is_for_k<R: Read + Drop>(
+    rt: &impl Abort,
+    alloc: Global,
+    identity: &mut Identity<BenchSuite, R, Knows>,
+) -> Result<(), Fail> {
+    let recipients = identity.recipients(alloc)?;
+    assert_eq!(rt; recipients.len(), 1);
+    for recipient in recipients.as_slice() {
+        assert_eq!(rt; recipient.to_string(alloc)?.as_str(), RECIPIENT);
+    }
+    Ok(())
+}
+
 #[test]
 fn nothing_is_shown_for_recipients(rt: HostRuntime) -> Result<(), Fail> {
     let alloc = rt.alloc();
@@ -94,15 +108,11 @@ fn nothing_is_shown_for_recipients(rt: HostRuntime) -> Result<(), Fail> {
     let stanzas = stanzas_for(alloc, &other(alloc)?)?;
     let mut counts = NEVER;
     let mut identity = identity_of(alloc, input_of(bytes), Some("foobar"), &mut counts)?;
-    let recipients = identity.recipients(alloc)?;
-    assert_eq!(rt; recipients.len(), 1);
-    for recipient in recipients.as_slice() {
-        assert_eq!(rt; recipient.to_string(alloc)?.as_str(), RECIPIENT);
-    }
+    let done = is_for_k(&rt, alloc, &mut identity);
     assert!(rt; identity.unwrap_stanzas(alloc, stanzas.as_slice()).is_none());
     drop(identity);
     assert_eq!(rt; counts, Counts { asked: 1, shown: 0 });
-    Ok(())
+    done
 }
 
 #[test]
@@ -127,9 +137,9 @@ fn a_wrong_passphrase_is_the_last(rt: HostRuntime) -> Result<(), Fail> {
     let stanzas = stanzas_for(alloc, &own(alloc)?)?;
     let mut counts = NEVER;
     let mut identity = identity_of(alloc, input_of(bytes), Some("foobaz"), &mut counts)?;
-    is_for_nobody(&rt, alloc, &mut identity)?;
+    is_for_nobody(&rt, alloc, &mut identity);
     assert!(rt; is_closed(&identity.unwrap_stanzas(alloc, stanzas.as_slice())));
-    is_for_nobody(&rt, alloc, &mut identity)?;
+    is_for_nobody(&rt, alloc, &mut identity);
     drop(identity);
     assert_eq!(rt; counts, Counts { asked: 1, shown: 0 });
     Ok(())
@@ -140,7 +150,7 @@ fn is_for_nobody<R: Read + Drop>(
     rt: &impl Abort,
     alloc: Global,
     identity: &mut Identity<BenchSuite, R, Knows>,
-) -> Result<(), Fail> {
+) {
     let answer = identity.recipients(alloc);
     assert!(rt;
         matches!(
@@ -148,7 +158,6 @@ fn is_for_nobody<R: Read + Drop>(
             Err(EncryptError::EncryptedIdentities(DecryptError::KeyDecryptionFailed))
         )
     );
-    Ok(())
 }
 
 #[test]
@@ -215,32 +224,31 @@ fn a_file_on_a_disk_is_opened_once(rt: HostRuntime) -> Result<(), Fail> {
     Ok(())
 }
 
-#[test]
-fn a_file_without_a_name_is_asked_for(rt: HostRuntime) -> Result<(), Fail> {
-    let alloc = rt.alloc();
-    let bytes = protected(alloc, key_text(alloc)?.as_slice())?;
-    let stanzas = stanzas_for(alloc, &own(alloc)?)?;
-    let mut counts = NEVER;
+// The identity of a file without a name, under `foobar`.
+fn nameless<'a>(
+    alloc: Global,
+    input: Input,
+    counts: &'a mut Counts,
+) -> Result<Identity<BenchSuite, Input, Knows<'a>>, Fail> {
     let callbacks = Knows {
         passphrase: secret(alloc, Some("foobar"))?,
         question: "passphrase for encrypted identity ",
         asked: &mut counts.asked,
         shown: &mut counts.shown,
     };
-    let made: Option<Identity<BenchSuite, Input, Knows>> = Identity::from_buffer(
-        alloc,
-        input_of(bytes),
-        None,
-        callbacks,
-        18,
-        Some(10),
-    )?;
-    match made {
-        None => panic!(rt; "the file isn't one of a passphrase"),
-        Some(identity) => {
-            let mut identity = identity;
-            assert!(rt; is_key(&identity.unwrap_stanzas(alloc, stanzas.as_slice())));
-        }
+    match Identity::from_buffer(alloc, input, None, callbacks, 18, Some(10))? {
+        Some(identity) => Ok(identity),
+        None => Err(Fail::from("the file isn't one of a passphrase")),
     }
+}
+
+#[test]
+fn a_file_without_a_name_is_asked_for(rt: HostRuntime) -> Result<(), Fail> {
+    let alloc = rt.alloc();
+    let bytes = protected(alloc, key_text(alloc)?.as_slice())?;
+    let stanzas = stanzas_for(alloc, &own(alloc)?)?;
+    let mut counts = NEVER;
+    let mut identity = nameless(alloc, input_of(bytes), &mut counts)?;
+    assert!(rt; is_key(&identity.unwrap_stanzas(alloc, stanzas.as_slice())));
     Ok(())
 }
