@@ -6,6 +6,7 @@ use crate::fixtures::{
 };
 use age::armor::ArmoredReader;
 use age::io::{BufReader, Read, Std};
+use age::x25519::Recipient;
 use age::{DecryptError, EncryptError, Identity as _};
 use age_bench::suite::BenchSuite;
 use age_encrypted::Identity;
@@ -87,15 +88,14 @@ fn a_user_is_told_once_that_no_key_matches(rt: HostRuntime) -> Result<(), Fail> 
     Ok(())
 }
 
-// The file has the recipient of `K` alone.
-fn is_for_k<R: Read + Drop>(
+// It is the recipient of `K` alone.
+fn is_that_of_k(
     rt: &impl Abort,
     alloc: Global,
-    identity: &mut Identity<BenchSuite, R, Knows>,
+    recipients: &[Recipient<BenchSuite>],
 ) -> Result<(), Fail> {
-    let recipients = identity.recipients(alloc)?;
     assert_eq!(rt; recipients.len(), 1);
-    for recipient in recipients.as_slice() {
+    for recipient in recipients {
         assert_eq!(rt; recipient.to_string(alloc)?.as_str(), RECIPIENT);
     }
     Ok(())
@@ -108,11 +108,11 @@ fn nothing_is_shown_for_recipients(rt: HostRuntime) -> Result<(), Fail> {
     let stanzas = stanzas_for(alloc, &other(alloc)?)?;
     let mut counts = NEVER;
     let mut identity = identity_of(alloc, input_of(bytes), Some("foobar"), &mut counts)?;
-    let done = is_for_k(&rt, alloc, &mut identity);
+    let answer = identity.recipients(alloc);
     assert!(rt; identity.unwrap_stanzas(alloc, stanzas.as_slice()).is_none());
     drop(identity);
     assert_eq!(rt; counts, Counts { asked: 1, shown: 0 });
-    done
+    is_that_of_k(&rt, alloc, answer?.as_slice())
 }
 
 #[test]
@@ -250,5 +250,7 @@ fn a_file_without_a_name_is_asked_for(rt: HostRuntime) -> Result<(), Fail> {
     let mut counts = NEVER;
     let mut identity = nameless(alloc, input_of(bytes), &mut counts)?;
     assert!(rt; is_key(&identity.unwrap_stanzas(alloc, stanzas.as_slice())));
+    drop(identity);
+    assert_eq!(rt; counts, Counts { asked: 1, shown: 0 });
     Ok(())
 }
