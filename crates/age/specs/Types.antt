@@ -8,7 +8,7 @@ pub use Rattle.age_error.specs.declared.encrypt.EncryptError.{EncryptError}
 pub use Rattle.age_error.specs.declared.decrypt.DecryptError.{DecryptError}
 pub use Rattle.age_error.specs.declared.resolve.ResolveError.{ResolveError}
 pub use Rattle.age_bech32.specs.declared.error.Bech32Error.{Bech32Error}
-pub use Rattle.age_suite.specs.declared.mac.HmacWriter.{HmacWriter}
+pub use Rattle.hmac_sha256.specs.declared.mac.HmacWriter.{HmacWriter}
 pub use Rattle.age_io.specs.declared.memory.Bytes.{Bytes}
 pub use Rattle.age_io.specs.declared.buffered.BufReader.{BufReader}
 pub use Rattle.age_io.specs.declared.standard.Std.{Std}

@@ -62,7 +62,7 @@ pub mod mac {
 
     /// What is true of MACs and derived keys, for proofs alone.
     pub mod laws {
-        pub use age_suite::mac::mac_laws;
+        pub use age_suite::mac::{hmac_laws, mac_laws};
     }
 }
 

@@ -5,8 +5,7 @@ use Rattle.age_error.specs.Bytes.{AreBytes, AreBytesOf}
 use Rattle.age_error.specs.EncryptErrors.{EncryptRefusal, ShortRandom, ZeroSharedSecret}
 use Rattle.age_error.specs.DecryptErrors.{OutOfMemory as out_of_memory}
 use Rattle.age_suite.specs.Suite.{IsCipher, IsAgreement}
-use Rattle.age_suite.specs.Mac.{hkdf_of}
-use Rattle.age_suite.proofs.Digests.{hmac_of-bytes}
+use Rattle.age_suite.proofs.Digests.{hkdf_of-bytes}
 use Rattle.age_base64.specs.Base64.{columns}
 use Rattle.age_base64.proofs.Columns.{columns_same}
 use Rattle.age_format.specs.Stanza.{StanzaValue}
@@ -39,8 +38,7 @@ one_share share other s b are h =
     columns_same other share h.bytes.bytes b same
 
 key-is_bytes : (share recipient shared : List ℕ) → AreBytesOf 32 (wrap_key share recipient shared)
-unfolding hkdf_of
-key-is_bytes share recipient shared = hmac_of-bytes _ _
+key-is_bytes share recipient shared = hkdf_of-bytes _ _ _
 
 module _ (seal_of : List ℕ → List ℕ → List ℕ → List ℕ) (opened : List ℕ → List ℕ → List ℕ → Option (List ℕ)) (shared_of : List ℕ → List ℕ → List ℕ)
     (public_of : List ℕ → List ℕ) (cipher : IsCipher seal_of opened) (agreement : IsAgreement shared_of public_of) where

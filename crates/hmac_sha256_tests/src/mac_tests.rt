@@ -1,6 +1,6 @@
 //! Values from outside: of RFC 4231 and RFC 5869.
 
-use age_suite::mac::{HmacWriter, hkdf, hmac};
+use hmac_sha256::{HmacWriter, hkdf, hmac};
 
 // The bytes 0, 1, .., 31.
 const KEY: [u8; 32] = [
