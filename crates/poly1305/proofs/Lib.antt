@@ -1,0 +1,3 @@
+pub mod Accumulating
+pub mod Numbering
+pub mod Tags

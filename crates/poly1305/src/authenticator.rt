@@ -1,0 +1,169 @@
+//! The tag of a text that is given piece by piece (RFC 8439, 2.5).
+ghost use Rattle.std.specs.Prelude.{◌≡◌, ℕ, ◌+◌, ◌/◌, ◌%◌, ◌^◌, ◌<◌, ◌↔◌, IsTrue, List, [], ◌++◌, length, take, Some, codes};
+ghost use Rattle.poly1305.specs.Mac.{accumulated, block_count, clamped, poly1305_mac, prime};
+ghost use Rattle.poly1305.specs.Limbs.{HasBits, number_of};
+
+use crate::blocks::{clamped, number, short_block, whole_block};
+use crate::limbs::{Limbs, absorbed, reduced};
+use std::fmt;
+
+/// The state of a tag: the key, and what was made of the text that was given so far. A key is for one text alone (RFC 8439, 2.5).
+#[derive(Drop)]
+pub struct Poly1305 {
+    // Of the whole blocks.
+    accumulator: Limbs,
+    r: Limbs,
+    s: u128,
+    // The block that is begun, and how many bytes of it were given.
+    block: [u8; 16],
+    filled: usize,
+    ghost carried: { HasBits accumulator 44 45 42 },
+    ghost clamped_bits: { HasBits r 44 44 44 },
+    ghost begun: { filled < 16 },
+}
+
+impl Poly1305 {
+    ghost use Rattle.poly1305.specs.Given.{WasGiven};
+
+    /// The state under a key of 32 bytes, with no text given yet.
+    pub fn new(key: &[u8; 32]) -> Poly1305
+        ensures { WasGiven result key.now [] }
+    {
+        Poly1305 {
+            accumulator: Limbs {
+                low: 0,
+                middle: 0,
+                high: 0,
+            },
+            r: clamped(&key[..16]),
+            s: number(&key[16..]),
+            block: [0; 16],
+            filled: 0,
+        }
+    }
+
+    /// Takes one block, where none is begun.
+    #[inline(always)]
+    fn take_block(&mut self, block: &[u8])
+        requires unbegun { self.old.filled ≡ 0 }
+        requires whole { length block.now ≡ 16 }
+        ensures given { (key text : List ℕ) → WasGiven self.old key text → WasGiven self.new key (text ++ block.now) }
+        ensures unbegun { self.new.filled ≡ 0 }
+    {
+        self.accumulator = absorbed(self.accumulator, self.r, whole_block(block));
+    }
+
+    /// Takes whole blocks, where none is begun.
+    fn take_blocks(&mut self, blocks: &[u8])
+        requires unbegun { self.old.filled ≡ 0 }
+        requires whole { length blocks.now % 16 ≡ 0 }
+        ensures given { (key text : List ℕ) → WasGiven self.old key text → WasGiven self.new key (text ++ blocks.now) }
+        ensures unbegun { self.new.filled ≡ 0 }
+    {
+        'each: for i in 0..blocks.len() / 16 {
+            self.take_block(&blocks[16 * i..16 * i + 16]);
+        }
+    }
+
+    /// Takes bytes that don't fill the block that is begun.
+    fn hold(&mut self, bytes: &[u8])
+        requires { self.old.filled + length bytes.now < 16 }
+        ensures { (key text : List ℕ) → WasGiven self.old key text → WasGiven self.new key (text ++ bytes.now) }
+    {
+        let end = self.filled + bytes.len();
+        self.block[self.filled..end].copy_from_slice(bytes);
+        self.filled = end;
+    }
+
+    /// Takes the bytes that fill the block that is begun.
+    fn complete(&mut self, bytes: &[u8])
+        requires { self.old.filled + length bytes.now ≡ 16 }
+        ensures given { (key text : List ℕ) → WasGiven self.old key text → WasGiven self.new key (text ++ bytes.now) }
+        ensures unbegun { self.new.filled ≡ 0 }
+    {
+        let mut block = self.block;
+        block[self.filled..].copy_from_slice(bytes);
+        self.accumulator = absorbed(self.accumulator, self.r, whole_block(&block));
+        self.filled = 0;
+    }
+
+    /// Gives the next bytes of the text, which may be none: they follow those given before. The tag depends on the pieces joined, and
+    /// not on how the text was cut into them.
+    pub fn update(&mut self, bytes: &[u8])
+        ensures { (key text : List ℕ) → WasGiven self.old key text → WasGiven self.new key (text ++ bytes.now) }
+    {
+        let free = 16 - self.filled;
+        if bytes.len() < free {
+            self.hold(bytes);
+        } else {
+            let (front, rest) = bytes.split_at(free);
+            let (blocks, last) = rest.split_at(rest.len() - rest.len() % 16);
+            self.complete(front);
+            self.take_blocks(blocks);
+            self.hold(last);
+        }
+    }
+
+    /// The accumulator of the whole text: of the block that is begun too.
+    fn last_accumulator(&self) -> Limbs
+        ensures value { (key text : List ℕ) → WasGiven self.now key text →
+            number_of result % prime ≡ accumulated (clamped (take 16 key)) text (block_count text) }
+        ensures bits { HasBits result 44 45 42 }
+    {
+        if self.filled == 0 {
+            self.accumulator
+        } else {
+            absorbed(
+                self.accumulator,
+                self.r,
+                short_block(&self.block[..self.filled]),
+            )
+        }
+    }
+
+    /// The tag of all the text that was given, 16 bytes (RFC 8439, 2.5).
+    pub fn finalize(self) -> [u8; 16]
+        ensures { (key text : List ℕ) → WasGiven self key text → result ≡ poly1305_mac key text }
+    {
+        reduced(self.last_accumulator())
+            .wrapping_add(self.s)
+            .to_le_bytes()
+    }
+
+    /// Whether these bytes are the tag of all the text that was given. They may be of any number: if they aren't 16, they are the tag
+    /// of no text. A difference doesn't end the comparison.
+    pub fn verify(self, tag: &[u8]) -> bool
+        ensures { (key text : List ℕ) → WasGiven self key text → IsTrue result ↔ (tag.now ≡ poly1305_mac key text) }
+    {
+        are_same(tag, &self.finalize())
+    }
+}
+
+/// Whether two slices hold the same bytes. A difference doesn't end the comparison.
+fn are_same(left: &[u8], right: &[u8]) -> bool
+    ensures { IsTrue result ↔ (left.now ≡ right.now) }
+{
+    let mut same = left.len() == right.len();
+    for (x, y) in left.iter().zip(right) {
+        same &= x == y;
+    }
+    same
+}
+
+impl fmt::Debug for Poly1305 {
+    // No byte of the key and of the text.
+    ghost debug_output = { λ _. Some (codes "Poly1305 { .. }") };
+
+    fn fmt<W: fmt::Write>(&self, f: &mut fmt::Formatter<W>) -> fmt::Result {
+        f.write_str("Poly1305 { .. }")
+    }
+}
+
+/// The tag of a text under a key of 32 bytes, `poly1305_mac` of RFC 8439, 2.5.1: 16 bytes. The text may be of any length.
+pub fn poly1305_mac(key: &[u8; 32], text: &[u8]) -> [u8; 16]
+    ensures { result ≡ poly1305_mac key.now text.now }
+{
+    let mut state = Poly1305::new(key);
+    state.update(text);
+    state.finalize()
+}

@@ -1,0 +1,63 @@
+//! Bytes as numbers: the first half of a key, and blocks (RFC 8439, 2.5).
+ghost use Rattle.std.specs.Prelude.{◌≡◌, ◌<◌, length};
+ghost use Rattle.std.specs.Int.{w128, from_le_bytes};
+ghost use Rattle.poly1305.specs.Mac.{block_number, clamped};
+ghost use Rattle.poly1305.specs.Limbs.{HasBits, number_of};
+
+use crate::limbs::{Limbs, limbs_of};
+
+/// 16 bytes as a number, the low byte first.
+#[inline(always)]
+pub fn number(bytes: &[u8]) -> u128
+    requires { length bytes.now ≡ 16 }
+    ensures { result ≡ from_le_bytes w128 bytes.now }
+{
+    let mut array = [0; 16];
+    array.copy_from_slice(bytes);
+    u128::from_le_bytes(array)
+}
+
+/// The first half of a key, clamped (RFC 8439, 2.5.1).
+#[inline(always)]
+pub fn clamped(half: &[u8]) -> Limbs
+    requires { length half.now ≡ 16 }
+    ensures value { number_of result ≡ clamped half.now }
+    ensures bits { HasBits result 44 44 40 }
+{
+    limbs_of(number(half) & 0x0fff_fffc_0fff_fffc_0fff_fffc_0fff_ffff)
+}
+
+/// The number of a whole block, with the bit beyond its bytes.
+#[inline(always)]
+pub fn whole_block(block: &[u8]) -> Limbs
+    requires { length block.now ≡ 16 }
+    ensures value { number_of result ≡ block_number block.now }
+    ensures bits { HasBits result 44 44 44 }
+{
+    let limbs = limbs_of(number(block));
+    Limbs {
+        low: limbs.low,
+        middle: limbs.middle,
+        high: limbs.high + 0x100_0000_0000,
+    }
+}
+
+/// A block of fewer than 16 bytes, a one, and zeros.
+fn padded(block: &[u8]) -> [u8; 16]
+    requires { length block.now < 16 }
+    ensures { from_le_bytes w128 result ≡ block_number block.now }
+{
+    let mut padded = [0; 16];
+    padded[..block.len()].copy_from_slice(block);
+    padded[block.len()] = 1;
+    padded
+}
+
+/// The number of a block that isn't whole, with the bit beyond its bytes.
+pub fn short_block(block: &[u8]) -> Limbs
+    requires { length block.now < 16 }
+    ensures value { number_of result ≡ block_number block.now }
+    ensures bits { HasBits result 44 44 44 }
+{
+    limbs_of(u128::from_le_bytes(padded(block)))
+}
