@@ -1,0 +1,3 @@
+pub mod Field
+pub mod Encoding
+pub mod X25519
