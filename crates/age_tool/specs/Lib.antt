@@ -1,0 +1,3 @@
+pub mod Recipients
+pub mod Passphrase
+pub mod Keygen

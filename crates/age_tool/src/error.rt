@@ -1,0 +1,34 @@
+//! What is wrong with a file of recipients or of a passphrase.
+
+use thiserror::Error;
+
+/// Why a text isn't that of a file of recipients.
+#[derive(Clone, Copy, Debug, Error, PartialEq, Eq)]
+pub enum RecipientsError {
+    /// It isn't UTF-8.
+    #[error("not UTF-8")]
+    NotText,
+    /// This line, counted from 1, is the text of no recipient, and isn't passed over.
+    #[error("line {line} is no recipient")]
+    NotRecipient { line: usize },
+    /// No line is the text of a recipient.
+    #[error("no recipient in it")]
+    NoRecipient,
+    /// Memory was refused.
+    #[error("out of memory")]
+    OutOfMemory,
+}
+
+/// Why a text isn't that of a file of a passphrase.
+#[derive(Clone, Copy, Debug, Error, PartialEq, Eq)]
+pub enum PassphraseError {
+    /// Its first line isn't UTF-8.
+    #[error("the passphrase isn't UTF-8")]
+    NotText,
+    /// Its first line is empty, or there is none.
+    #[error("the passphrase is empty")]
+    Empty,
+    /// Memory was refused.
+    #[error("out of memory")]
+    OutOfMemory,
+}

@@ -1,0 +1,9 @@
+//! What a program for real files is made of, over any suite: files of recipients and of passphrases, the file of a new key, and grease.
+#![tactic(auto)]
+
+pub mod callbacks;
+pub mod error;
+pub mod grease;
+pub mod keygen;
+pub mod passphrase;
+pub mod recipients;
