@@ -1,0 +1,61 @@
+//! What is wrong with a command line.
+ghost use Rattle.sazh_command.specs.Asked.{error_value};
+ghost use Rattle.sazh_command.specs.Messages.{message_of};
+
+use crate::options::{Operand, ValueOption};
+use std::error::Error;
+use std::fmt;
+
+/// Why the words are no command line of the program. `Display` says it in one line: a word is written as a literal of Rust is, in
+/// quotes, with its line ends escaped.
+#[derive(Debug, Drop)]
+pub enum UsageError {
+    /// There is no word.
+    NoCommand,
+    /// The first word names no command.
+    UnknownCommand(String),
+    /// This word is written as an option, and the command has none such.
+    UnknownOption(String),
+    /// The option is the last word, and its value is missing.
+    MissingValue(ValueOption),
+    /// The option may be given once, and is given again.
+    GivenTwice(ValueOption),
+    /// `encrypt` has `-p` beside `-r` or `-R`.
+    PassphraseBesideRecipients,
+    /// `encrypt` has none of `-r`, `-R` and `-p`.
+    NoRecipient,
+    /// `decrypt` or `part` has neither `-i` nor `-p`.
+    NoIdentity,
+    /// `part` lacks this operand.
+    MissingOperand(Operand),
+    /// The word in the place of PLACE or COUNT is no decimal number below 2^64.
+    NotANumber(Operand, String),
+    /// This operand is one more than the command takes.
+    ExtraOperand(String),
+}
+
+impl fmt::Display for UsageError {
+    ghost output = { λ error. message_of (error_value error) };
+
+    fn fmt<W: fmt::Write>(&self, f: &mut fmt::Formatter<W>) -> fmt::Result {
+        match self {
+            UsageError::NoCommand => write!(f, "no command is given"),
+            UsageError::UnknownCommand(word) => write!(f, "{word:?} is no command"),
+            UsageError::UnknownOption(word) => write!(f, "{word:?} is no option of the command"),
+            UsageError::MissingValue(option) => write!(f, "the option {option} lacks its value"),
+            UsageError::GivenTwice(option) => write!(f, "the option {option} is given twice"),
+            UsageError::PassphraseBesideRecipients => {
+                write!(f, "the option -p is given beside -r or -R")
+            }
+            UsageError::NoRecipient => write!(f, "no recipient is given: -r, -R or -p is needed"),
+            UsageError::NoIdentity => write!(f, "no identity is given: -i or -p is needed"),
+            UsageError::MissingOperand(operand) => write!(f, "{operand} is missing"),
+            UsageError::NotANumber(operand, word) => {
+                write!(f, "{operand} is {word:?}, and no decimal number below 2^64")
+            }
+            UsageError::ExtraOperand(word) => write!(f, "the word {word:?} is one too many"),
+        }
+    }
+}
+
+impl Error for UsageError {}

@@ -1,0 +1,55 @@
+//! The words of a command line as a whole.
+ghost use Rattle.std.specs.Prelude.{◌≡◌, IfOk, map, string_bytes};
+ghost use Rattle.sazh_command.specs.Asked.{answer_value, command_value};
+ghost use Rattle.sazh_command.specs.Synopsis.{command_of, named_command_of};
+
+use crate::command::Command;
+use crate::meaning::asked;
+use crate::mistakes::UsageError;
+use crate::options::{CommandName, command_named};
+use crate::reading::{asks_for_help, given_of};
+use std::alloc::{AllocError, Global};
+
+// The command that the first word names, and the words after it.
+fn parse_named(
+    alloc: Global,
+    word: &str,
+    command: Option<CommandName>,
+    words: &[String],
+) -> Result<Result<Command, UsageError>, AllocError>
+    ensures { IfOk result (λ answer. answer_value command_value answer ≡ named_command_of word.now command (map string_bytes words.now)) }
+{
+    let Some(command) = command else {
+        return Ok(Err(UsageError::UnknownCommand(String::from_str(alloc, word)?)));
+    };
+    match given_of(alloc, command, words)? {
+        Ok(given) => asked(alloc, command, given),
+        Err(error) => Ok(Err(error)),
+    }
+}
+
+/// What the words after the program's name ask for, or what is wrong with them. `USAGE` has what a command line may be.
+///
+/// The first word names the command, and its options and operands follow in any order. The value of an option is the next word,
+/// whatever it is. All words after `--` are operands. The word `-` is an operand too, and is kept as it is; where IN or OUT is not
+/// given, it is `-`. `--help` or `-h` asks for help, whatever else is wrong, but not after `--` and not as the value of an option of
+/// the command.
+///
+/// Where several things are wrong, one is told: the first word from the left that is an unknown option or is given once too often, or
+/// the last option, which lacks its value; then recipients or identities, of both kinds or of none; then operands, missing or one
+/// too many; then PLACE, and then COUNT.
+///
+/// `AllocError` where memory for the texts and lists of the answer is refused.
+pub fn parse(alloc: Global, words: &[String]) -> Result<Result<Command, UsageError>, AllocError>
+    ensures { IfOk result (λ answer. answer_value command_value answer ≡ command_of (map string_bytes words.now)) }
+{
+    let Some((word, more)) = words.split_first() else {
+        return Ok(Err(UsageError::NoCommand));
+    };
+    let word = word.as_str();
+    let command = command_named(word);
+    if asks_for_help(command, words) {
+        return Ok(Ok(Command::Help));
+    }
+    parse_named(alloc, word, command, more)
+}

@@ -1,0 +1,29 @@
+//! What command lines ask for, as texts.
+
+use sazh_command::parse;
+use std::alloc::{AllocError, Global};
+use std::process::Abort;
+use std::test::Fail;
+
+/// The words of a line, split at its spaces.
+pub fn words_of(alloc: Global, line: &str) -> Result<Vec<String>, AllocError> {
+    let mut words = Vec::new(alloc);
+    for word in line.split_whitespace() {
+        words.push(String::from_str(alloc, word)?)?;
+    }
+    Ok(words)
+}
+
+/// What these words ask for, or what is wrong, as `Debug` writes it.
+pub fn answer_of(alloc: Global, words: &[String]) -> Result<String, AllocError> {
+    let answer = parse(alloc, words)?;
+    format!(in alloc; "{answer:?}")
+}
+
+/// The words of a line ask for this, or are wrong so.
+pub fn asks(rt: &impl Abort, alloc: Global, line: &str, expected: &str) -> Result<(), Fail> {
+    let words = words_of(alloc, line)?;
+    let answer = answer_of(alloc, &words)?;
+    assert_eq!(rt; answer.as_str(), expected, "at {line}");
+    Ok(())
+}
