@@ -1,5 +1,6 @@
 #!/usr/bin/env python3
-"""Proves and builds agebench, with the libraries below it side by side, where something has changed since the last time.
+"""Proves and builds a program, with the libraries below it side by side, where something has changed since the last time:
+build.py PROGRAM WORD.., where the words are those of a run of it that succeeds.
 
 Says on standard error which crates it proves and how many are left, and nothing where there is nothing to do. Each crate
 is proved by `rt lib` over what earlier runs have kept, as soon as those that it uses are there, the one with the longest
@@ -17,7 +18,7 @@ import tempfile
 import time
 
 TOP = os.path.dirname(os.path.abspath(__file__))
-PROGRAM = "agebench"
+PROGRAM, WORDS = sys.argv[1], sys.argv[2:]
 STAMP = f"{TOP}/crates/{PROGRAM}/out/built_from"
 # What a job of a check takes, in GB.
 MEMORY = 1.5
@@ -79,7 +80,7 @@ class Run:
 
     def __init__(self, name, uses, jobs):
         self.name, self.jobs = name, jobs
-        self.room = tempfile.mkdtemp(prefix="agebench-")
+        self.room = tempfile.mkdtemp(prefix=f"{PROGRAM}-")
         libraries = below(name, uses)
         with open(f"{TOP}/crates.txt", encoding="utf-8") as file:
             lines = [line for line in file if line.partition(":")[0].strip() in {name, *libraries}]
@@ -92,7 +93,7 @@ class Run:
         shutil.copytree(f"{TOP}/crates/{name}", folder, copy_function=link)
         words = ["rt", "lib", "--jobs", str(jobs)]
         if name == PROGRAM:
-            words = ["rt", "run", "--jobs", str(jobs), "--", "seal", "00" * 32]
+            words = ["rt", "run", "--jobs", str(jobs), "--", *WORDS]
         self.log = f"{self.room}/log"
         with open(self.log, "wb") as log:
             self.process = subprocess.Popen(words, cwd=folder, stdin=subprocess.DEVNULL, stdout=log, stderr=log,

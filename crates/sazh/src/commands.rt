@@ -1,0 +1,200 @@
+//! The commands.
+
+use crate::failure::Failure;
+use crate::files::{open, random};
+use crate::jobs::{Decrypting, Encrypting, Job, To, flushed, run_job};
+use crate::keys::{
+    Holder, identities, passphrase_identity, passphrase_recipient, recipient, recipients,
+};
+use age::armor::Format;
+use age::draw::Draw;
+use age::io::{Read, Std, Write, write_all};
+use age::streaming::{FileError, open_text, write_part};
+use age::x25519;
+use age_standard::StandardSuite;
+use age_tool::grease::grease;
+use age_tool::keygen::new_key_file;
+use sazh_command::{Command, HELP, Identities, Recipient, Recipients};
+use std::fs::File;
+use std::io;
+
+const VERSION: &str = "sazh 0.1.0";
+
+// The permissions of a new file, before the user's mask: to read and to write for all, or for its owner alone.
+const FOR_ALL: u32 = 0o666;
+
+const FOR_ITS_OWNER: u32 = 0o600;
+
+// How many random bytes a file takes: its key and the nonce of its payload, and for each recipient an ephemeral secret, or for a
+// passphrase a salt and a label.
+const OF_A_FILE: usize = 32;
+
+const OF_A_RECIPIENT: usize = 32;
+
+const OF_A_PASSPHRASE: usize = 40;
+
+// How many random bytes are a secret.
+const OF_A_SECRET: usize = 32;
+
+// A text is written, and nothing is read.
+#[derive(Drop)]
+struct Writing {
+    text: Vec<u8>,
+}
+
+impl Job for Writing {
+    fn run<R: Read, W: Write>(
+        self,
+        _rt: &HostRuntime,
+        _reader: &mut R,
+        writer: &mut W,
+    ) -> Result<(), Failure> {
+        match write_all(writer, &self.text) {
+            Err(error) => Err(Failure::Whole(FileError::Io(error))),
+            Ok(()) => flushed(writer),
+        }
+    }
+}
+
+// The recipients of the words of a command line, in their order.
+fn all_recipients(
+    rt: &HostRuntime,
+    words: &[Recipient],
+) -> Result<Vec<x25519::Recipient<StandardSuite>>, Failure> {
+    let mut all = Vec::new(rt.alloc());
+    for word in words {
+        match word {
+            Recipient::Text(text) => all.push(recipient(rt, text)?)?,
+            Recipient::File(name) => {
+                for found in recipients(rt, name)? {
+                    all.push(found)?;
+                }
+            }
+        }
+    }
+    Ok(all)
+}
+
+// To whom is encrypted, and the random bytes for that.
+fn to(rt: &HostRuntime, recipients: &Recipients) -> Result<(To, Draw), Failure> {
+    match recipients {
+        Recipients::Listed(words) => {
+            let keys = all_recipients(rt, words)?;
+            let count = OF_A_RECIPIENT
+                .saturating_mul(keys.len())
+                .saturating_add(OF_A_FILE);
+            Ok((To::Keys(keys), Draw::new(random(rt, count)?)))
+        }
+        Recipients::PassphraseFile(name) => {
+            let recipient = passphrase_recipient(rt, name)?;
+            Ok((
+                To::Passphrase(recipient),
+                Draw::new(random(rt, OF_A_FILE + OF_A_PASSPHRASE)?),
+            ))
+        }
+    }
+}
+
+// Who decrypts.
+fn with(rt: &HostRuntime, asked: &Identities) -> Result<Vec<Holder>, Failure> {
+    match asked {
+        Identities::Files(names) => identities(rt, names, None),
+        Identities::ProtectedFiles(names, file) => identities(rt, names, Some(file.as_str())),
+        Identities::PassphraseFile(name) => {
+            let mut one: Vec<Holder> = Vec::new(rt.alloc());
+            one.push(Holder::Passphrase(passphrase_identity(rt, name)?))?;
+            Ok(one)
+        }
+    }
+}
+
+// So many bytes of a file's plaintext from a place on, to standard output.
+fn part(
+    rt: &HostRuntime,
+    asked: &Identities,
+    place: u64,
+    count: u64,
+    input: &str,
+) -> Result<(), Failure> {
+    let mut identities = with(rt, asked)?;
+    let mut stream = open_text::<StandardSuite, Holder, Std<File>>(
+        rt.alloc(),
+        &mut identities,
+        open(rt, input)?,
+    )?;
+    let mut writer = Std::new(io::writer(rt));
+    match write_part(rt.alloc(), &mut stream, place, count, &mut writer) {
+        Err(error) => Err(Failure::Whole(FileError::Io(error))),
+        Ok(()) => flushed(&mut writer),
+    }
+}
+
+// Writes a text and a line feed to standard output.
+fn print(rt: &HostRuntime, text: &str) -> Result<(), Failure> {
+    let mut line = Vec::from_slice(rt.alloc(), text.as_bytes())?;
+    line.push(b'\n')?;
+    Writing { text: line }.run(
+        rt,
+        &mut Std::new(rt.reader()),
+        &mut Std::new(io::writer(rt)),
+    )
+}
+
+// The file of a new key.
+fn new_key(rt: &HostRuntime) -> Result<Vec<u8>, Failure> {
+    let mut draw = Draw::new(random(rt, OF_A_SECRET)?);
+    match new_key_file::<StandardSuite>(rt.alloc(), &mut draw) {
+        Ok(text) => Ok(text),
+        Err(error) => Err(Failure::Whole(FileError::Encrypt(error))),
+    }
+}
+
+/// Does what a command line asks for.
+pub fn run(rt: &HostRuntime, command: Command) -> Result<(), Failure> {
+    match command {
+        Command::Help => print(rt, HELP),
+        Command::Version => print(rt, VERSION),
+        Command::Keygen { output } => {
+            let job = Writing { text: new_key(rt)? };
+            run_job(rt, job, "-", &output, FOR_ITS_OWNER)
+        }
+        Command::Encrypt {
+            recipients,
+            armored,
+            input,
+            output,
+        } => {
+            let (to, draw) = to(rt, &recipients)?;
+            let grease = match grease(rt.alloc()) {
+                Ok(grease) => grease,
+                Err(_) => return Err(Failure::OutOfMemory),
+            };
+            let format = if armored {
+                Format::AsciiArmor
+            } else {
+                Format::Binary
+            };
+            let job = Encrypting {
+                to,
+                draw,
+                grease,
+                format,
+            };
+            run_job(rt, job, &input, &output, FOR_ALL)
+        }
+        Command::Decrypt {
+            identities,
+            input,
+            output,
+        } => {
+            let identities = with(rt, &identities)?;
+            run_job(rt, Decrypting { identities }, &input, &output, FOR_ALL)
+        }
+        Command::Part {
+            identities,
+            place,
+            count,
+            input,
+        } => part(rt, &identities, place, count, &input),
+    }
+}

@@ -1,0 +1,232 @@
+//! Whom to encrypt to, and with what to decrypt.
+
+use crate::failure::Failure;
+use crate::files::{copied, open, read, refused};
+use age::armor::ArmoredReader;
+use age::format::Stanza;
+use age::io::{BufReader, Error, Std};
+use age::secrecy::{FileKey, SecretString};
+use age::streaming::FileError;
+use age::{DecryptError, Identity, IdentityFile, NoCallbacks, encrypted, scrypt, x25519};
+use age_standard::StandardSuite;
+use age_tool::callbacks::GivesOnce;
+use age_tool::passphrase::passphrase_of;
+use age_tool::recipients::recipients_of;
+use std::alloc::Global;
+use std::fs::File;
+use std::str::FromStr;
+
+// The work factor that a passphrase is stretched with, about a second's work.
+const WORK_FACTOR: u8 = 18;
+
+// A file of identities that is encrypted with a passphrase.
+type Protected = encrypted::Identity<StandardSuite, ArmoredReader<BufReader<Std<File>>>, GivesOnce>;
+
+/// One who decrypts.
+#[derive(Drop)]
+pub enum Holder {
+    /// Who has a key.
+    Key(x25519::Identity<StandardSuite>),
+    /// Who has the keys in an encrypted file.
+    File(Protected),
+    /// Who knows a passphrase.
+    Passphrase(scrypt::Identity<StandardSuite>),
+}
+
+// Each answers as what it holds; the contract says nothing of it.
+impl Identity for Holder {
+    ghost use Rattle.std.specs.Prelude.{⊤};
+
+    ghost unwraps = { λ _ _ _ _. ⊤ };
+
+    fn unwrap_stanza(
+        &mut self,
+        alloc: Global,
+        stanza: &Stanza,
+    ) -> Option<Result<FileKey, DecryptError>> {
+        match self {
+            Holder::Key(identity) => identity.unwrap_stanza(alloc, stanza),
+            Holder::File(identity) => identity.unwrap_stanza(alloc, stanza),
+            Holder::Passphrase(identity) => identity.unwrap_stanza(alloc, stanza),
+        }
+    }
+
+    fn unwrap_stanzas(
+        &mut self,
+        alloc: Global,
+        stanzas: &[Stanza],
+    ) -> Option<Result<FileKey, DecryptError>> {
+        match self {
+            Holder::Key(identity) => identity.unwrap_stanzas(alloc, stanzas),
+            Holder::File(identity) => identity.unwrap_stanzas(alloc, stanzas),
+            Holder::Passphrase(identity) => identity.unwrap_stanzas(alloc, stanzas),
+        }
+    }
+}
+
+// The passphrase that the file of this name gives.
+fn passphrase_in(rt: &HostRuntime, name: &str) -> Result<SecretString, Failure> {
+    let text = read(rt, name)?;
+    match passphrase_of(rt.alloc(), &text) {
+        Ok(passphrase) => Ok(passphrase),
+        Err(error) => Err(Failure::Passphrase {
+            name: copied(rt, name)?,
+            error,
+        }),
+    }
+}
+
+/// The recipient of the passphrase that the file of this name gives.
+pub fn passphrase_recipient(
+    rt: &HostRuntime,
+    name: &str,
+) -> Result<scrypt::Recipient<StandardSuite>, Failure> {
+    Ok(scrypt::Recipient::new(passphrase_in(rt, name)?, WORK_FACTOR))
+}
+
+/// The identity of the passphrase that the file of this name gives.
+pub fn passphrase_identity(
+    rt: &HostRuntime,
+    name: &str,
+) -> Result<scrypt::Identity<StandardSuite>, Failure> {
+    Ok(scrypt::Identity::new(passphrase_in(rt, name)?, WORK_FACTOR))
+}
+
+/// The recipient whose text a word is.
+pub fn recipient(
+    rt: &HostRuntime,
+    word: &str,
+) -> Result<x25519::Recipient<StandardSuite>, Failure> {
+    match x25519::Recipient::from_str(word) {
+        Ok(recipient) => Ok(recipient),
+        Err(why) => Err(Failure::Recipient {
+            word: copied(rt, word)?,
+            why,
+        }),
+    }
+}
+
+/// The recipients in the file of this name.
+pub fn recipients(
+    rt: &HostRuntime,
+    name: &str,
+) -> Result<Vec<x25519::Recipient<StandardSuite>>, Failure> {
+    let text = read(rt, name)?;
+    match recipients_of(rt.alloc(), &text) {
+        Ok(recipients) => Ok(recipients),
+        Err(error) => Err(Failure::Recipients {
+            name: copied(rt, name)?,
+            error,
+        }),
+    }
+}
+
+// That the file of this name has no identities that can be used.
+fn bad_identities(rt: &HostRuntime, name: &str, error: FileError) -> Failure {
+    match copied(rt, name) {
+        Ok(name) => Failure::Identities { name, error },
+        Err(failure) => failure,
+    }
+}
+
+// Adds the identities of a file that isn't encrypted.
+fn add_bare(
+    rt: &HostRuntime,
+    identities: &mut Vec<Holder>,
+    file: IdentityFile<StandardSuite, NoCallbacks>,
+    name: &str,
+) -> Result<(), Failure> {
+    match file.into_identities(rt.alloc()) {
+        Err(error) => Err(bad_identities(rt, name, FileError::Decrypt(error))),
+        Ok(found) => {
+            for identity in found {
+                identities.push(Holder::Key(identity))?;
+            }
+            Ok(())
+        }
+    }
+}
+
+// The identities in the encrypted file of this name, or `None` where it is no such file.
+fn protected(
+    rt: &HostRuntime,
+    name: &str,
+    passphrase: Option<SecretString>,
+) -> Result<Option<Protected>, Failure> {
+    let alloc = rt.alloc();
+    let Ok(text) = ArmoredReader::new(alloc, open(rt, name)?) else {
+        return Err(Failure::OutOfMemory);
+    };
+    match encrypted::Identity::from_buffer(
+        alloc,
+        text,
+        Some(copied(rt, name)?),
+        GivesOnce::new(passphrase),
+        WORK_FACTOR,
+        None,
+    ) {
+        Ok(found) => Ok(found),
+        Err(_) => Ok(None),
+    }
+}
+
+// Adds the identities in the file of this name, which is encrypted, or else refuses as its first bytes were refused.
+fn add_protected(
+    rt: &HostRuntime,
+    identities: &mut Vec<Holder>,
+    name: &str,
+    passphrase: Option<&str>,
+    error: Error,
+) -> Result<(), Failure> {
+    let given = match passphrase {
+        None => None,
+        Some(file) => Some(passphrase_in(rt, file)?),
+    };
+    let is_given = given.is_some();
+    match protected(rt, name, given)? {
+        None => Err(refused(rt, name, error)),
+        Some(identity) if is_given => {
+            identities.push(Holder::File(identity))?;
+            Ok(())
+        }
+        Some(_) => Err(Failure::IsProtected {
+            name: copied(rt, name)?,
+        }),
+    }
+}
+
+// Adds the identities in the file of this name.
+fn add_identities(
+    rt: &HostRuntime,
+    identities: &mut Vec<Holder>,
+    name: &str,
+    passphrase: Option<&str>,
+) -> Result<(), Failure> {
+    match IdentityFile::from_file(rt, rt.alloc(), copied(rt, name)?) {
+        Ok(file) => add_bare(rt, identities, file, name),
+        Err(Error::NotIdentity { line }) => {
+            add_protected(
+                rt,
+                identities,
+                name,
+                passphrase,
+                Error::NotIdentity { line },
+            )
+        }
+        Err(error) => Err(refused(rt, name, error)),
+    }
+}
+
+/// The identities in the files of these names, in their order. The passphrase of those that are encrypted is the one that the file of
+/// another name gives.
+pub fn identities(
+    rt: &HostRuntime,
+    names: &[String],
+    passphrase: Option<&str>,
+) -> Result<Vec<Holder>, Failure> {
+    let mut identities: Vec<Holder> = Vec::new(rt.alloc());
+    for name in names {
+        add_identities(rt, &mut identities, name, passphrase)?;
+    }
+    Ok(identities)
+}

@@ -1,0 +1,198 @@
+"""Runs the program `sazh` on real files: vectors that no code of the library made, files of its own, wrong words and damaged files.
+
+Each run has to end as it is said here, with this output, this status and, where it refuses, one line on standard error. The last line is
+'N passed, M failed'.
+"""
+
+import os
+import stat
+import subprocess
+import sys
+import tempfile
+
+VECTORS = os.path.join(os.path.dirname(os.path.dirname(os.path.abspath(__file__))), "vectors")
+IDENTITY_OF_THE_PROTECTED_FILE = b"AGE-SECRET-KEY-1YZ3PRM0AJDSQEWZVRM7NKJL58NQMG3DRAA0JKHX5UL6ND5DJ5P2QJCU2JK"
+RECIPIENT_OF_THE_PROTECTED_FILE = "age1ysxuaeqlk7xd8uqsh8lsnfwt9jzzjlqf49ruhpjrrj5yatlcuf7qke4pqe"
+SIZES = [0, 1, 65_535, 65_536, 65_537, 200_000]
+
+
+def plaintext(size):
+    return bytes(i * 7 % 251 for i in range(size))
+
+
+def read(name):
+    with open(name, "rb") as it:
+        return it.read()
+
+
+def write(name, given):
+    with open(name, "wb") as it:
+        it.write(given)
+
+
+class Runs:
+    """Counts the runs of the program that ended as they have to."""
+
+    def __init__(self, program, folder):
+        self.program, self.folder = os.path.abspath(program), folder
+        self.passed = self.failed = 0
+
+    def ends(self, what, good):
+        self.passed, self.failed = self.passed + good, self.failed + (not good)
+        if not good:
+            print(f"FAILED: {what}")
+
+    def path(self, name):
+        return os.path.join(self.folder, name)
+
+    def run(self, words, given=b""):
+        return subprocess.run([self.program, *words], input=given, capture_output=True, check=False, cwd=self.folder)
+
+    def gives(self, what, words, wanted, given=b""):
+        """It succeeds, and this is what standard output shows."""
+        done = self.run(words, given)
+        self.ends(f"{what}: status {done.returncode}, {done.stderr!r}", done.returncode == 0 and done.stdout == wanted and not done.stderr)
+
+    def refuses(self, what, words, given=b"", front=None, status=1, says=b""):
+        """It refuses with one line, or a wrong command line with its usage, after a beginning of this output, or none."""
+        done = self.run(words, given)
+        lines = done.stderr.splitlines()
+        good = done.returncode == status and len(lines) >= 1 and (status == 2 or len(lines) == 1)
+        good = good and lines[0].startswith(b"sazh: ") and says in done.stderr
+        good = good and (done.stdout == b"" if front is None else front.startswith(done.stdout))
+        self.ends(f"{what}: status {done.returncode}, {done.stderr!r}, {len(done.stdout)} bytes", good)
+
+
+def vectors(runs):
+    """What others made opens, whole, in parts, and not with a byte changed."""
+    at = lambda name: os.path.join(VECTORS, name)
+    key = ["-i", at("key.txt")]
+    protected = ["-i", at("protected_identity.age"), "-p", at("protected_identity.passphrase")]
+    opened = [
+        ("empty.age", key, 0),
+        ("one_byte.age", key, 1),
+        ("whole_chunk.age", key, 65_536),
+        ("one_byte_more.age", key, 65_537),
+        ("under_passphrase.age", ["-p", at("passphrase.txt")], 1_000),
+        ("to_protected.age", protected, 300),
+    ]
+    for name, who, size in opened:
+        plain, file = plaintext(size), read(at(name))
+        runs.gives(name, ["decrypt", *who, at(name)], plain)
+        runs.gives(f"{name} from standard input", ["decrypt", *who], plain, file)
+        for place, count in {(0, size), (size // 2, 3), (max(size - 1, 0), 5), (size, 1), (1, 0) if size else (0, 0)}:
+            runs.gives(f"{name} from {place}, {count} bytes", ["part", *who, str(place), str(count), at(name)], plain[place : place + count])
+        runs.refuses(f"{name} past its end", ["part", *who, str(size + 1), "1", at(name)])
+        step = 1 if len(file) < 800 and name != "under_passphrase.age" and who is not protected else max(len(file) // 60, 1)
+        for i in range(0, len(file), step):
+            changed = bytearray(file)
+            changed[i] ^= 1
+            runs.refuses(f"{name}, byte {i} changed", ["decrypt", *who], bytes(changed), plain)
+    name = "protected_identity.age"
+    done = runs.run(["decrypt", "-p", at("protected_identity.passphrase"), at(name)])
+    runs.ends(name, done.returncode == 0 and len(done.stdout) == 189 and done.stdout.splitlines()[-1] == IDENTITY_OF_THE_PROTECTED_FILE)
+    given = ["encrypt", "-r", RECIPIENT_OF_THE_PROTECTED_FILE]
+    file = runs.run(given, b"to its recipient").stdout
+    runs.gives(f"to the recipient of {name}", ["decrypt", *protected], b"to its recipient", file)
+    runs.refuses(f"{name} without its passphrase", ["decrypt", *protected[:2]], file, says=b"-p")
+    runs.refuses(f"{name} with another passphrase", ["decrypt", *protected[:3], at("passphrase.txt")], file)
+    runs.refuses("another's key", ["decrypt", *key], file)
+
+
+def files(runs):
+    """What it wrote, it reads."""
+    runs.gives("a key", ["keygen", "-o", "key"], b"")
+    text = read(runs.path("key"))
+    recipient = text.splitlines()[0].removeprefix(b"# public key: ").decode()
+    runs.ends("the key's file is its owner's alone", stat.S_IMODE(os.stat(runs.path("key")).st_mode) == 0o600)
+    runs.ends("two lines", len(text.splitlines()) == 2 and text.endswith(b"\n") and recipient.startswith("age1"))
+    runs.ends("another key each time", runs.run(["keygen"]).stdout != runs.run(["keygen"]).stdout)
+    write(runs.path("recipients"), f"# mine\r\n\r\n{recipient}\n".encode())
+    write(runs.path("passphrase"), "pässe\nand what follows it".encode())
+    ways = {
+        "to a recipient": (["-r", recipient], ["-i", "key"]),
+        "to two": (["-r", RECIPIENT_OF_THE_PROTECTED_FILE, "-R", "recipients"], ["-i", os.path.join(VECTORS, "key.txt"), "-i", "key"]),
+        "under a passphrase": (["-p", "passphrase"], ["-p", "passphrase"]),
+    }
+    for what, (to, who) in ways.items():
+        for size in SIZES if what != "under a passphrase" else SIZES[:2]:
+            plain = plaintext(size)
+            for armor in ([], ["-a"]):
+                file = runs.run(["encrypt", *to, *armor], plain).stdout
+                runs.ends("armor", file.startswith(b"-----BEGIN" if armor else b"age-encryption.org/v1\n"))
+                runs.gives(f"{what} {armor}, {size} bytes", ["decrypt", *who], plain, file)
+    write(runs.path("plain"), plaintext(100_000))
+    runs.gives("from a file to a file", ["encrypt", "-R", "recipients", "-o", "file", "plain"], b"")
+    runs.gives("back", ["decrypt", "-i", "key", "-o", "back", "file"], b"")
+    runs.ends("the same", read(runs.path("back")) == plaintext(100_000))
+    runs.gives("a part", ["part", "-i", "key", "70000", "100", "file"], plaintext(100_000)[70_000:70_100])
+    return recipient
+
+
+def outputs(runs):
+    """A file that is there stays, and one that doesn't become whole isn't there."""
+    before = read(runs.path("back"))
+    runs.refuses("a file that is there", ["decrypt", "-i", "key", "-o", "back", "file"], says=b"back")
+    runs.ends("it stays", read(runs.path("back")) == before)
+    runs.refuses("a file that is there, for a key", ["keygen", "-o", "key"], says=b"key")
+    write(runs.path("cut"), read(runs.path("file"))[:-1])
+    runs.refuses("a bad end", ["decrypt", "-i", "key", "-o", "never", "cut"])
+    runs.ends("no file", not os.path.exists(runs.path("never")))
+    runs.refuses("a bad end over a file", ["decrypt", "-i", "key", "-f", "-o", "back", "cut"])
+    runs.ends("the old file", read(runs.path("back")) == before)
+    write(runs.path("small"), b"small")
+    runs.gives("over a file", ["encrypt", "-R", "recipients", "-f", "-o", "back", "small"], b"")
+    runs.gives("which is the new one", ["decrypt", "-i", "key", "back"], b"small")
+    runs.ends("nothing is left beside", not [name for name in os.listdir(runs.folder) if name.endswith(".part")])
+    runs.refuses("a folder that isn't there", ["keygen", "-o", "none/key"], says=b"none/key")
+
+
+def refusals(runs, recipient):
+    write(runs.path("empty"), b"")
+    write(runs.path("bad"), f"{recipient}\n\nage1x\n".encode())
+    write(runs.path("latin"), b"p\xe4sse\n")
+    cases = {
+        "no such file": (["decrypt", "-i", "key", "none"], b"none: no such file"),
+        "no such identities": (["decrypt", "-i", "none", "file"], b"none: no such file"),
+        "no identities": (["decrypt", "-i", "recipients", "file"], b"recipients: identity file contains non-identity data on line 3"),
+        "no recipient": (["encrypt", "-r", "age1x"], b"age1x"),
+        "a bad file of recipients": (["encrypt", "-R", "bad"], b"bad: line 3"),
+        "an empty file of recipients": (["encrypt", "-R", "empty"], b"empty: "),
+        "no passphrase": (["encrypt", "-p", "empty"], b"empty: "),
+        "a passphrase that is no text": (["encrypt", "-p", "latin"], b"latin: "),
+        "no age file": (["decrypt", "-i", "key", "plain"], b"sazh: "),
+        "an empty file": (["decrypt", "-i", "key", "empty"], b"sazh: "),
+        "another key": (["decrypt", "-i", os.path.join(VECTORS, "key.txt"), "file"], b"sazh: "),
+    }
+    for what, (words, says) in cases.items():
+        runs.refuses(what, words, says=says)
+
+
+def command_lines(runs, recipient):
+    for words in (
+        [], ["no"], ["encrypt"], ["decrypt"], ["decrypt", "-x"], ["encrypt", "-r"], ["encrypt", "-r", recipient, "-p", "passphrase"],
+        ["encrypt", "-r", recipient, "-o", "a", "-o", "b"], ["decrypt", "-i", "key", "a", "b"], ["part", "-i", "key", "1", "file"],
+        ["part", "-i", "key", "x", "1", "file"], ["part", "-i", "key", "1", "-1", "file"], ["keygen", "more"],
+    ):
+        runs.refuses(f"{words}", words, status=2, says=b"usage: sazh")
+    for words in (["--help"], ["-h"], ["decrypt", "--help"]):
+        done = runs.run(words)
+        runs.ends(f"{words}", done.returncode == 0 and not done.stderr and b"sazh encrypt" in done.stdout)
+    done = runs.run(["--version"])
+    runs.ends("--version", done.returncode == 0 and done.stdout.startswith(b"sazh ") and not done.stderr)
+
+
+def main():
+    with tempfile.TemporaryDirectory() as folder:
+        runs = Runs(sys.argv[1], folder)
+        vectors(runs)
+        recipient = files(runs)
+        outputs(runs)
+        refusals(runs, recipient)
+        command_lines(runs, recipient)
+    print(f"{runs.passed} passed, {runs.failed} failed")
+    return 1 if runs.failed else 0
+
+
+if __name__ == "__main__":
+    sys.exit(main())
