@@ -1,7 +1,7 @@
 #!/usr/bin/env bash
-# The whole gate: whether each edit can be applied and the public names are told, every proof from nothing, the edits that must be refused, the tests and
-# the program's stored run, and then that program on damaged input, with failing memory, reads and writes. The lines of the
-# long parts begin with the minutes and seconds since the start; the last line counts all of them.
+# The whole gate: whether each edit can be applied, the public names are told and the generated proofs are what their script makes, every proof from nothing,
+# the edits that must be refused, the tests and the programs' stored runs, and then `sazh` on real files and `agebench` on damaged input, with failing
+# memory, reads and writes. The lines of the long parts begin with the minutes and seconds since the start; the last line counts all of them.
 set -uo pipefail
 cd "$(dirname "$0")"
 log=$(mktemp -d)
@@ -18,6 +18,11 @@ stamped() {
 edits/run.sh --apply || exit 1
 # Whether the table of public names is complete.
 docs/names.py || exit 1
+# Whether the certificates of the curve are what their script makes.
+if ! crates/curve25519/generate/certificates.py --check; then
+    echo "0 passed, 1 failed"
+    exit 1
+fi
 if ! diff <(sed -n '/^```rust$/,/^```$/p' README.md | sed '1d;$d') <(grep -v '^//[!/]' crates/age_uses/src/there_and_back.rt); then
     echo "README's example isn't that of age_uses"
     echo "0 passed, 1 failed"
@@ -28,22 +33,33 @@ rt ci 2>&1 | tee "$log/gate" | stamped || status=1
 gate=$(grep -E '^[0-9]+ passed, [0-9]+ failed$' "$log/gate" | tail -n 1)
 [ -n "$gate" ] || { gate='0 passed, 1 failed'; status=1; }
 
-# (the program that the gate built just now: it sets aside what stood there before)
-program=crates/agebench/out/agebench
-echo "The program with failing memory, reads and writes, and on damaged payloads:"
-if [ -x "$program" ]; then
-    python3 faults/run.py "$program" 2>&1 | tee "$log/faults" | stamped || status=1
-fi
-faults=$(grep -E '^[0-9]+ passed, [0-9]+ failed$' "$log/faults" 2>/dev/null | tail -n 1)
-[ -n "$faults" ] || { faults='0 passed, 1 failed'; status=1; }
+# What a script says of a program that the gate built just now: its last line, with each line stamped.
+runs() {
+    local name=$1 program=$2
+    shift 2
+    if [ -x "$program" ]; then
+        "$@" "$program" 2>&1 | tee "$log/$name" | stamped || status=1
+    fi
+    counted=$(grep -E '^[0-9]+ passed, [0-9]+ failed$' "$log/$name" 2>/dev/null | tail -n 1)
+    [ -n "$counted" ] || { counted='0 passed, 1 failed'; status=1; }
+}
+
+echo "sazh on real files:"
+runs files crates/sazh/out/sazh python3 tool/run.py
+files=$counted
+echo "agebench with failing memory, reads and writes, and on damaged payloads:"
+runs faults crates/agebench/out/agebench python3 faults/run.py
+faults=$counted
 
 read -r gate_passed _ gate_failed _ <<<"$gate"
+read -r files_passed _ files_failed _ <<<"$files"
 read -r faults_passed _ faults_failed _ <<<"$faults"
-failed=$((gate_failed + faults_failed))
+failed=$((gate_failed + files_failed + faults_failed))
 [ "$failed" -eq 0 ] || status=1
 [ "$status" -eq 0 ] || [ "$failed" -gt 0 ] || failed=1
 echo "gate: $gate"
+echo "files: $files"
 echo "faults: $faults"
 echo "$((SECONDS / 60)) minutes on $(nproc) processors"
-echo "$((gate_passed + faults_passed)) passed, $failed failed"
+echo "$((gate_passed + files_passed + faults_passed)) passed, $failed failed"
 exit "$status"
