@@ -82,6 +82,7 @@ def vectors(runs):
         runs.gives(f"{name} from standard input", ["decrypt", *who], plain, file)
         for place, count in {(0, size), (size // 2, 3), (max(size - 1, 0), 5), (size, 1), (1, 0) if size else (0, 0)}:
             runs.gives(f"{name} from {place}, {count} bytes", ["part", *who, str(place), str(count), at(name)], plain[place : place + count])
+        runs.gives(f"a part of {name} from standard input", ["part", *who, str(size // 2), "3", "-"], plain[size // 2 : size // 2 + 3], file)
         runs.refuses(f"{name} past its end", ["part", *who, str(size + 1), "1", at(name)])
         step = 1 if len(file) < 800 and name != "under_passphrase.age" and who is not protected else max(len(file) // 60, 1)
         for i in range(0, len(file), step):
@@ -144,6 +145,9 @@ def outputs(runs):
     runs.gives("over a file", ["encrypt", "-R", "recipients", "-f", "-o", "back", "small"], b"")
     runs.gives("which is the new one", ["decrypt", "-i", "key", "back"], b"small")
     runs.ends("nothing is left beside", not [name for name in os.listdir(runs.folder) if name.endswith(".part")])
+    runs.refuses("a device", ["keygen", "-f", "-o", "/dev/null"], says=b"/dev/null: no file")
+    os.mkdir(runs.path("folder"))
+    runs.refuses("a folder", ["keygen", "-o", "folder"], says=b"folder: no file")
     runs.refuses("a folder that isn't there", ["keygen", "-o", "none/key"], says=b"none/key")
 
 

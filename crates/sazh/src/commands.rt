@@ -9,7 +9,7 @@ use crate::keys::{
 use age::armor::Format;
 use age::draw::Draw;
 use age::io::{Read, Std, Write, write_all};
-use age::streaming::{FileError, open_text, write_part};
+use age::streaming::{FileError, at, open_text, write_part};
 use age::x25519;
 use age_standard::StandardSuite;
 use age_tool::grease::grease;
@@ -108,7 +108,8 @@ fn with(rt: &HostRuntime, asked: &Identities) -> Result<Vec<Holder>, Failure> {
     }
 }
 
-// So many bytes of a file's plaintext from a place on, to standard output.
+// So many bytes of a file's plaintext from a place on, to standard output. A file is sought in; standard input, in which nobody can seek, is
+// read into memory first.
 fn part(
     rt: &HostRuntime,
     asked: &Identities,
@@ -117,6 +118,18 @@ fn part(
     input: &str,
 ) -> Result<(), Failure> {
     let mut identities = with(rt, asked)?;
+    if input == "-" {
+        let mut writer = Std::new(io::writer(rt));
+        at::<StandardSuite, Holder, _, _>(
+            rt.alloc(),
+            &mut identities,
+            place,
+            count,
+            &mut Std::new(rt.reader()),
+            &mut writer,
+        )?;
+        return flushed(&mut writer);
+    }
     let mut stream = open_text::<StandardSuite, Holder, Std<File>>(
         rt.alloc(),
         &mut identities,

@@ -42,6 +42,10 @@ pub enum Failure {
     Exists {
         name: String,
     },
+    /// What has this name is no file that a new one may take the place of.
+    NotReplaced {
+        name: String,
+    },
     /// The system gave no random bytes.
     NoRandom,
     /// What was read or written refused, or nothing was encrypted or decrypted.
@@ -82,6 +86,12 @@ impl fmt::Display for Failure {
                 f,
                 "{name}: there is such a file already: -f writes over it"
             ),
+            Failure::NotReplaced { name } => {
+                write!(
+                    f,
+                    "{name}: no file, and so nothing that may be written over"
+                )
+            }
             Failure::NoRandom => f.write_str("the system gives no random bytes"),
             Failure::Whole(error) => write!(f, "{error}"),
             Failure::OutOfMemory => f.write_str("out of memory"),

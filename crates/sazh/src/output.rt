@@ -33,11 +33,24 @@ fn temporary_name(rt: &HostRuntime, name: &str) -> Result<String, Failure> {
     }
 }
 
-/// Begins the file that will have this name. It refuses where there is something of this name, unless that may be written over.
-pub fn create(rt: &HostRuntime, name: &str, over: bool, mode: u32) -> Result<NewFile, Failure> {
-    if !over && fs::symlink_metadata(rt, name).is_ok() {
-        return Err(exists(rt, name));
+// Whether the name is free, or what has it may be written over: that has to be a file or a link. A device, a pipe or a folder stays.
+fn free(rt: &HostRuntime, name: &str, over: bool) -> Result<(), Failure> {
+    let Ok(there) = fs::symlink_metadata(rt, name) else {
+        return Ok(());
+    };
+    let kind = there.file_type();
+    if !kind.is_file() && !kind.is_symlink() {
+        return Err(Failure::NotReplaced {
+            name: copied(rt, name)?,
+        });
     }
+    if over { Ok(()) } else { Err(exists(rt, name)) }
+}
+
+/// Begins the file that will have this name. It refuses where there is something of this name, unless that is a file that may be
+/// written over.
+pub fn create(rt: &HostRuntime, name: &str, over: bool, mode: u32) -> Result<NewFile, Failure> {
+    free(rt, name, over)?;
     let temporary = temporary_name(rt, name)?;
     let mut options = OpenOptions::new();
     options.write(true).create_new(true).mode(mode);
