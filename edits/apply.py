@@ -1,7 +1,7 @@
 #!/usr/bin/env python3
 """Whether each edit that must be refused can still be applied: those of the gate (crates/*/must-fail) and those kept here.
 
-An edit is lines 'file: ', 'old: ' and 'new: ', and nothing else. Each text after 'old: ' stands exactly once in its file, with
+An edit is lines 'file: ', 'old: ' and 'new: ', and nothing else. It bends code, or a definition where a crate has no code. Each text after 'old: ' stands exactly once in its file, with
 the pairs before it applied. It tries no edit, and takes a second. Its last line is 'N passed, M failed'.
 """
 
@@ -23,7 +23,7 @@ def fault(edit, crate):
     for number, line in enumerate(lines, 1):
         word, _, text = line.partition(":")
         text = text.removeprefix(" ")
-        if word == "file" and text.startswith("src/"):
+        if word == "file" and text.startswith(("src/", "specs/")):
             file = text
             if file not in texts:
                 if not os.path.isfile(f"{crate}/{file}"):
@@ -41,7 +41,7 @@ def fault(edit, crate):
             texts[file] = texts[file].replace(old, text)
             old, pairs = None, pairs + 1
         else:
-            return f"line {number} is no 'file: src/..', or no 'old: ' and 'new: ' that follow it"
+            return f"line {number} is no 'file: src/..' or 'file: specs/..', or no 'old: ' and 'new: ' that follow it"
     if old is not None or not pairs:
         return "an 'old: ' has no 'new: ', or there is none"
     return None

@@ -8,6 +8,7 @@ import shutil
 import subprocess
 import sys
 import tempfile
+from pathlib import Path
 
 import peer
 
@@ -67,20 +68,20 @@ class Python:
 
     @staticmethod
     def encrypt(recipients, armor, plain, file):
-        text = read(plain)
+        text = Path(plain).read_bytes()
         if recipients is None:
             made = peer.encrypt_under(PASSPHRASE.encode(), text, random.choice([1, 10, 14, 15]))
         else:
             made = peer.encrypt_to(recipients, text)
-        write(file, peer.armored(made) if armor else made)
+        Path(file).write_bytes(peer.armored(made) if armor else made)
 
     @staticmethod
     def decrypt(key, file, plain):
         with_key = PASSPHRASE.encode()
         if key is not None:
-            texts = [line for line in read(key).decode().splitlines() if not line.startswith("#")]
+            texts = [line for line in Path(key).read_bytes().decode().splitlines() if not line.startswith("#")]
             with_key = peer.Key.of(texts[0])
-        write(plain, peer.decrypt(with_key, read(file)))
+        Path(plain).write_bytes(peer.decrypt(with_key, Path(file).read_bytes()))
 
 
 class Sazh:
@@ -88,7 +89,7 @@ class Sazh:
 
     def __init__(self, path, folder):
         self.path, self.passphrase = path, f"{folder}/passphrase"
-        write(self.passphrase, PASSPHRASE.encode() + b"\n")
+        Path(self.passphrase).write_bytes(PASSPHRASE.encode() + b"\n")
 
     def encrypt(self, recipients, armor, plain, file):
         words = ["-p", self.passphrase] if recipients is None else [w for r in recipients for w in ("-r", r)]
@@ -97,16 +98,6 @@ class Sazh:
     def decrypt(self, key, file, plain):
         words = ["-p", self.passphrase] if key is None else ["-i", key]
         ran([self.path, "decrypt", *words, "-o", plain, file])
-
-
-def read(name):
-    with open(name, "rb") as it:
-        return it.read()
-
-
-def write(name, given):
-    with open(name, "wb") as it:
-        it.write(given)
 
 
 def cases():
@@ -126,11 +117,11 @@ def one_way(name, writer, reader, keys, folder):
             if os.path.exists(old):
                 os.remove(old)
         chosen = None if kind is None else random.sample(keys, kind)
-        write(plain, os.urandom(size))
+        Path(plain).write_bytes(os.urandom(size))
         try:
             writer.encrypt(None if chosen is None else [recipient for _, recipient in chosen], armor, plain, file)
             reader.decrypt(None if chosen is None else random.choice(chosen)[0], file, back)
-            good = read(back) == read(plain)
+            good = Path(back).read_bytes() == Path(plain).read_bytes()
             print(f"{what}: {'the same' if good else 'OTHER BYTES'}")
         except (peer.Refused, ValueError, OSError) as fault:
             good = False
@@ -149,10 +140,10 @@ def main():
         for i in range(6):
             name = f"{folder}/key{i}"
             if i % 2:
-                write(name, (peer.Key().text() + "\n").encode())
+                Path(name).write_bytes((peer.Key().text() + "\n").encode())
             else:
                 ran([path, "keygen", "-o", name])
-            texts = [line for line in read(name).decode().splitlines() if not line.startswith("#")]
+            texts = [line for line in Path(name).read_bytes().decode().splitlines() if not line.startswith("#")]
             keys.append((name, peer.Key.of(texts[0]).recipient()))
         there = one_way("from sazh", ours, other, keys, folder)
         back = one_way("to sazh", other, ours, keys, folder)

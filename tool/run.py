@@ -9,8 +9,9 @@ import stat
 import subprocess
 import sys
 import tempfile
+from pathlib import Path
 
-VECTORS = os.path.join(os.path.dirname(os.path.dirname(os.path.abspath(__file__))), "vectors")
+VECTORS = Path(__file__).resolve().parent.parent / "vectors"
 IDENTITY_OF_THE_PROTECTED_FILE = b"AGE-SECRET-KEY-1YZ3PRM0AJDSQEWZVRM7NKJL58NQMG3DRAA0JKHX5UL6ND5DJ5P2QJCU2JK"
 RECIPIENT_OF_THE_PROTECTED_FILE = "age1ysxuaeqlk7xd8uqsh8lsnfwt9jzzjlqf49ruhpjrrj5yatlcuf7qke4pqe"
 SIZES = [0, 1, 65_535, 65_536, 65_537, 200_000]
@@ -20,21 +21,11 @@ def plaintext(size):
     return bytes(i * 7 % 251 for i in range(size))
 
 
-def read(name):
-    with open(name, "rb") as it:
-        return it.read()
-
-
-def write(name, given):
-    with open(name, "wb") as it:
-        it.write(given)
-
-
 class Runs:
     """Counts the runs of the program that ended as they have to."""
 
     def __init__(self, program, folder):
-        self.program, self.folder = os.path.abspath(program), folder
+        self.program, self.folder = Path(program).resolve(), folder
         self.passed = self.failed = 0
 
     def ends(self, what, good):
@@ -43,7 +34,7 @@ class Runs:
             print(f"FAILED: {what}")
 
     def path(self, name):
-        return os.path.join(self.folder, name)
+        return Path(self.folder, name)
 
     def run(self, words, given=b""):
         return subprocess.run([self.program, *words], input=given, capture_output=True, check=False, cwd=self.folder)
@@ -65,7 +56,7 @@ class Runs:
 
 def vectors(runs):
     """What others made opens, whole, in parts, and not with a byte changed."""
-    at = lambda name: os.path.join(VECTORS, name)
+    at = lambda name: VECTORS / name
     key = ["-i", at("key.txt")]
     protected = ["-i", at("protected_identity.age"), "-p", at("protected_identity.passphrase")]
     opened = [
@@ -77,7 +68,7 @@ def vectors(runs):
         ("to_protected.age", protected, 300),
     ]
     for name, who, size in opened:
-        plain, file = plaintext(size), read(at(name))
+        plain, file = plaintext(size), at(name).read_bytes()
         runs.gives(name, ["decrypt", *who, at(name)], plain)
         runs.gives(f"{name} from standard input", ["decrypt", *who], plain, file)
         for place, count in {(0, size), (size // 2, 3), (max(size - 1, 0), 5), (size, 1), (1, 0) if size else (0, 0)}:
@@ -103,16 +94,16 @@ def vectors(runs):
 def files(runs):
     """What it wrote, it reads."""
     runs.gives("a key", ["keygen", "-o", "key"], b"")
-    text = read(runs.path("key"))
+    text = runs.path("key").read_bytes()
     recipient = text.splitlines()[0].removeprefix(b"# public key: ").decode()
-    runs.ends("the key's file is its owner's alone", stat.S_IMODE(os.stat(runs.path("key")).st_mode) == 0o600)
+    runs.ends("the key's file is its owner's alone", stat.S_IMODE(runs.path("key").stat().st_mode) == 0o600)
     runs.ends("two lines", len(text.splitlines()) == 2 and text.endswith(b"\n") and recipient.startswith("age1"))
     runs.ends("another key each time", runs.run(["keygen"]).stdout != runs.run(["keygen"]).stdout)
-    write(runs.path("recipients"), f"# mine\r\n\r\n{recipient}\n".encode())
-    write(runs.path("passphrase"), "pässe\nand what follows it".encode())
+    runs.path("recipients").write_bytes(f"# mine\r\n\r\n{recipient}\n".encode())
+    runs.path("passphrase").write_bytes("pässe\nand what follows it".encode())
     ways = {
         "to a recipient": (["-r", recipient], ["-i", "key"]),
-        "to two": (["-r", RECIPIENT_OF_THE_PROTECTED_FILE, "-R", "recipients"], ["-i", os.path.join(VECTORS, "key.txt"), "-i", "key"]),
+        "to two": (["-r", RECIPIENT_OF_THE_PROTECTED_FILE, "-R", "recipients"], ["-i", VECTORS / "key.txt", "-i", "key"]),
         "under a passphrase": (["-p", "passphrase"], ["-p", "passphrase"]),
     }
     for what, (to, who) in ways.items():
@@ -122,39 +113,39 @@ def files(runs):
                 file = runs.run(["encrypt", *to, *armor], plain).stdout
                 runs.ends("armor", file.startswith(b"-----BEGIN" if armor else b"age-encryption.org/v1\n"))
                 runs.gives(f"{what} {armor}, {size} bytes", ["decrypt", *who], plain, file)
-    write(runs.path("plain"), plaintext(100_000))
+    runs.path("plain").write_bytes(plaintext(100_000))
     runs.gives("from a file to a file", ["encrypt", "-R", "recipients", "-o", "file", "plain"], b"")
     runs.gives("back", ["decrypt", "-i", "key", "-o", "back", "file"], b"")
-    runs.ends("the same", read(runs.path("back")) == plaintext(100_000))
+    runs.ends("the same", runs.path("back").read_bytes() == plaintext(100_000))
     runs.gives("a part", ["part", "-i", "key", "70000", "100", "file"], plaintext(100_000)[70_000:70_100])
     return recipient
 
 
 def outputs(runs):
     """A file that is there stays, and one that doesn't become whole isn't there."""
-    before = read(runs.path("back"))
+    before = runs.path("back").read_bytes()
     runs.refuses("a file that is there", ["decrypt", "-i", "key", "-o", "back", "file"], says=b"back")
-    runs.ends("it stays", read(runs.path("back")) == before)
+    runs.ends("it stays", runs.path("back").read_bytes() == before)
     runs.refuses("a file that is there, for a key", ["keygen", "-o", "key"], says=b"key")
-    write(runs.path("cut"), read(runs.path("file"))[:-1])
+    runs.path("cut").write_bytes(runs.path("file").read_bytes()[:-1])
     runs.refuses("a bad end", ["decrypt", "-i", "key", "-o", "never", "cut"])
-    runs.ends("no file", not os.path.exists(runs.path("never")))
+    runs.ends("no file", not runs.path("never").exists())
     runs.refuses("a bad end over a file", ["decrypt", "-i", "key", "-f", "-o", "back", "cut"])
-    runs.ends("the old file", read(runs.path("back")) == before)
-    write(runs.path("small"), b"small")
+    runs.ends("the old file", runs.path("back").read_bytes() == before)
+    runs.path("small").write_bytes(b"small")
     runs.gives("over a file", ["encrypt", "-R", "recipients", "-f", "-o", "back", "small"], b"")
     runs.gives("which is the new one", ["decrypt", "-i", "key", "back"], b"small")
     runs.ends("nothing is left beside", not [name for name in os.listdir(runs.folder) if name.endswith(".part")])
     runs.refuses("a device", ["keygen", "-f", "-o", "/dev/null"], says=b"/dev/null: no file")
-    os.mkdir(runs.path("folder"))
+    runs.path("folder").mkdir()
     runs.refuses("a folder", ["keygen", "-o", "folder"], says=b"folder: no file")
     runs.refuses("a folder that isn't there", ["keygen", "-o", "none/key"], says=b"none/key")
 
 
 def refusals(runs, recipient):
-    write(runs.path("empty"), b"")
-    write(runs.path("bad"), f"{recipient}\n\nage1x\n".encode())
-    write(runs.path("latin"), b"p\xe4sse\n")
+    runs.path("empty").write_bytes(b"")
+    runs.path("bad").write_bytes(f"{recipient}\n\nage1x\n".encode())
+    runs.path("latin").write_bytes(b"p\xe4sse\n")
     cases = {
         "no such file": (["decrypt", "-i", "key", "none"], b"none: no such file"),
         "no such identities": (["decrypt", "-i", "none", "file"], b"none: no such file"),
@@ -166,7 +157,7 @@ def refusals(runs, recipient):
         "a passphrase that is no text": (["encrypt", "-p", "latin"], b"latin: "),
         "no age file": (["decrypt", "-i", "key", "plain"], b"sazh: "),
         "an empty file": (["decrypt", "-i", "key", "empty"], b"sazh: "),
-        "another key": (["decrypt", "-i", os.path.join(VECTORS, "key.txt"), "file"], b"sazh: "),
+        "another key": (["decrypt", "-i", VECTORS / "key.txt", "file"], b"sazh: "),
     }
     for what, (words, says) in cases.items():
         runs.refuses(what, words, says=says)

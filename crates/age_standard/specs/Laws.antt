@@ -1,6 +1,4 @@
 -- The laws of the suite, from those of its primitives.
-use Rattle.std.specs.Prelude.{ℕ, List}
-use Rattle.age_error.specs.Bytes.{AreBytesOf}
 use Rattle.age_suite.specs.Suite.{IsCipher, IsAgreement, IsStretching}
 use Rattle.chacha20poly1305.specs.Aead.{opened, seal_of}
 use Rattle.chacha20poly1305.proofs.Seals as aead

@@ -1,5 +1,5 @@
 -- One line more.
-use Rattle.std.proofs.Common.{◌≡◌, ◌∙◌, ℕ, ◌+◌, ◌<◌, List, [], ◌∷◌, ◌++◌, length, length-take-le, map, take, drop, get_or, refl, sym, ap, inl, inr, arith}
+use Rattle.std.proofs.Common.{◌∙◌, ℕ, ◌+◌, ◌<◌, List, [], ◌∷◌, ◌++◌, length, length-take-le, map, take, drop, get_or, refl, sym, ap, inl, inr, arith}
 use Rattle.std.proofs.lemmas.List.{drop_more, length-map, map-append, take-append-drop}
 use Rattle.age_tool.specs.Recipients.{AreRecipients, IsBad, IsFirstBad, IsPassedOver, IsRecipient}
 

@@ -2,7 +2,7 @@
 ghost use Rattle.std.specs.Prelude.{◌≡◌, ◌++◌, ℕ, List, [], ◌∷◌, MatchOption, MatchResult, IfOk, IfErr, map, true, false};
 ghost use Rattle.std.specs.Str.{IsUtf8};
 ghost use Rattle.std.specs.Str.Lines.{lines};
-ghost use Rattle.age_tool.specs.Recipients.{AreRecipients, IsBad, IsPassedOver, IsRecipient, RefusesBytes, RefusesLines, RefusesText};
+ghost use Rattle.age_tool.specs.Recipients.{AreRecipients, IsBad, IsPassedOver, RefusesBytes, RefusesLines, RefusesText};
 
 use crate::error::RecipientsError;
 use age::x25519::Recipient;

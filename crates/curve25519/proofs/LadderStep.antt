@@ -14,7 +14,7 @@ use Rattle.curve25519.proofs.AdditionIdentities.{subtraction, join_subtraction}
 use Rattle.curve25519.proofs.LadderIdentities.{differential_addition, join_differential_addition, doubling, join_doubling, doubled_ratio, doubled_zero, doubled_zero_constant, added_ratio, added_x_zero, added_z_zero, half_left, half_right, x_where_y_zero, y_where_x_zero, product_where_both_zero, factors_of_one}
 use Rattle.curve25519.proofs.EdwardsCurve.{x_denominator, y_denominator, x_numerator, y_numerator, OnCurve, IsSum, x_denominator_nonzero, y_denominator_nonzero, x_of, y_of, on_curve, multiples_add}
 
--- where S = P1 + P2, the y of S - P2 is that of P1
+-- where S is the sum of P and Q, the y of S - Q is that of P
 y_of_difference : (x1 y1 x2 y2 s t : ℕ) → OnCurve x1 y1 → OnCurve x2 y2 → IsSum x1 y1 x2 y2 s t
     → Congruent prime (y1 * x_denominator s t x2 y2) (t * y2 + s * x2)
 y_of_difference x1 y1 x2 y2 s t on1 on2 p =

@@ -4,48 +4,17 @@
 
 use age::armor::ArmoredReader;
 use age::encrypted::Identity;
-use age::io::{BufReader, Error, Std, write_all};
+use age::io::{Error, Std, write_all};
 use age::secrecy::SecretString;
 use age::streaming::FileError;
 use age::x25519::Recipient;
-use age::{Callbacks, EncryptError};
+use age::EncryptError;
 use age_bench::suite::BenchSuite;
+use age_tool::callbacks::GivesOnce;
 use std::alloc::Global;
 use std::fmt::Write as _;
 use std::process::ExitCode;
 use std::{env, io};
-
-// Gives a passphrase to whoever asks first, and to no other.
-#[derive(Drop)]
-struct Once {
-    passphrase: Option<SecretString>,
-}
-
-impl Callbacks for Once {
-    ghost use Rattle.std.specs.Prelude.{⊤};
-
-    ghost displays = { λ _ _ _. ⊤ };
-
-    ghost confirms = { λ _ _ _ _ _ _. ⊤ };
-
-    ghost gives_string = { λ _ _ _ _. ⊤ };
-
-    ghost gives_passphrase = { λ _ _ _ _. ⊤ };
-
-    fn display_message(&mut self, _message: &str) {}
-
-    fn confirm(&mut self, _message: &str, _yes: &str, _no: Option<&str>) -> Option<bool> {
-        None
-    }
-
-    fn request_public_string(&mut self, _description: &str) -> Option<String> {
-        None
-    }
-
-    fn request_passphrase(&mut self, _description: &str) -> Option<SecretString> {
-        self.passphrase.take()
-    }
-}
 
 // The word after the program's name, if there is one.
 fn passphrase(rt: &HostRuntime) -> Result<Option<SecretString>, FileError> {
@@ -85,11 +54,9 @@ fn show(
 // Whether both uses succeeded.
 fn run(rt: &HostRuntime) -> Result<bool, FileError> {
     let alloc = rt.alloc();
-    let callbacks = Once {
-        passphrase: passphrase(rt)?,
-    };
+    let callbacks = GivesOnce::new(passphrase(rt)?);
     let text = ArmoredReader::new(alloc, Std::new(rt.reader()))?;
-    let made: Option<Identity<BenchSuite, _, Once>> = Identity::from_buffer(
+    let made: Option<Identity<BenchSuite, _, GivesOnce>> = Identity::from_buffer(
         alloc, text, None, callbacks, 18, None,
     )?;
     let Some(identity) = made else {

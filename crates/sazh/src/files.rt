@@ -1,4 +1,5 @@
 //! Files that are read whole, and random bytes.
+ghost use Rattle.std.specs.Prelude.{◌≡◌, IfOk, length};
 
 use crate::failure::Failure;
 use age::io::{Error, Std, device_error, read_to_end};
@@ -41,7 +42,9 @@ pub fn read(rt: &HostRuntime, name: &str) -> Result<Vec<u8>, Failure> {
 }
 
 /// So many random bytes of the system.
-pub fn random(rt: &HostRuntime, count: usize) -> Result<Vec<u8>, Failure> {
+pub fn random(rt: &HostRuntime, count: usize) -> Result<Vec<u8>, Failure>
+    ensures { IfOk result (λ bytes. length bytes.items ≡ count) }
+{
     let mut bytes = Vec::new(rt.alloc());
     bytes.resize(count, 0)?;
     match rt.fill_bytes(&mut bytes) {

@@ -1,4 +1,6 @@
 //! Whom to encrypt to, and with what to decrypt.
+ghost use Rattle.std.specs.Prelude.{◌≡◌, IfOk};
+ghost use Rattle.age.specs.KeyTexts.{recipient_prefix, IsKeyText};
 
 use crate::failure::Failure;
 use crate::files::{copied, open, read, refused};
@@ -76,27 +78,47 @@ fn passphrase_in(rt: &HostRuntime, name: &str) -> Result<SecretString, Failure> 
     }
 }
 
+// The recipient of a passphrase.
+fn recipient_of(passphrase: SecretString) -> scrypt::Recipient<StandardSuite>
+    ensures { result ≡ record { passphrase = passphrase; factor = 18 } }
+{
+    scrypt::Recipient::new(passphrase, WORK_FACTOR)
+}
+
+// The identity of a passphrase, which takes 16 times the work.
+fn identity_of(passphrase: SecretString) -> scrypt::Identity<StandardSuite>
+    ensures { result ≡ record { passphrase = passphrase; target = 18; most = 22 } }
+{
+    scrypt::Identity::new(passphrase, WORK_FACTOR)
+}
+
 /// The recipient of the passphrase that the file of this name gives.
 pub fn passphrase_recipient(
     rt: &HostRuntime,
     name: &str,
-) -> Result<scrypt::Recipient<StandardSuite>, Failure> {
-    Ok(scrypt::Recipient::new(passphrase_in(rt, name)?, WORK_FACTOR))
+) -> Result<scrypt::Recipient<StandardSuite>, Failure>
+    ensures { IfOk result (λ recipient. recipient.factor ≡ 18) }
+{
+    Ok(recipient_of(passphrase_in(rt, name)?))
 }
 
 /// The identity of the passphrase that the file of this name gives.
 pub fn passphrase_identity(
     rt: &HostRuntime,
     name: &str,
-) -> Result<scrypt::Identity<StandardSuite>, Failure> {
-    Ok(scrypt::Identity::new(passphrase_in(rt, name)?, WORK_FACTOR))
+) -> Result<scrypt::Identity<StandardSuite>, Failure>
+    ensures { IfOk result (λ identity. identity.most ≡ 22) }
+{
+    Ok(identity_of(passphrase_in(rt, name)?))
 }
 
 /// The recipient whose text a word is.
 pub fn recipient(
     rt: &HostRuntime,
     word: &str,
-) -> Result<x25519::Recipient<StandardSuite>, Failure> {
+) -> Result<x25519::Recipient<StandardSuite>, Failure>
+    ensures { IfOk result (λ recipient. IsKeyText recipient_prefix word.now recipient) }
+{
     match x25519::Recipient::from_str(word) {
         Ok(recipient) => Ok(recipient),
         Err(why) => Err(Failure::Recipient {
