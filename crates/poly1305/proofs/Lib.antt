@@ -1,3 +1,5 @@
 pub mod Accumulating
+pub mod Clamping
+pub mod Multiplying
 pub mod Numbering
 pub mod Tags

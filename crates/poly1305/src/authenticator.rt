@@ -1,10 +1,10 @@
 //! The tag of a text that is given piece by piece (RFC 8439, 2.5).
-ghost use Rattle.std.specs.Prelude.{◌≡◌, ℕ, ◌+◌, ◌/◌, ◌%◌, ◌^◌, ◌<◌, ◌↔◌, IsTrue, List, [], ◌++◌, length, take, Some, codes};
+ghost use Rattle.std.specs.Prelude.{◌≡◌, ℕ, ◌+◌, ◌/◌, ◌%◌, ◌^◌, ◌<◌, ◌≤◌, ◌↔◌, IsTrue, List, [], ◌++◌, length, take, Some, codes};
 ghost use Rattle.poly1305.specs.Mac.{accumulated, block_count, clamped, poly1305_mac, prime};
-ghost use Rattle.poly1305.specs.Limbs.{HasBits, number_of};
+ghost use Rattle.poly1305.specs.Limbs.{number_of, IsFactor};
 
 use crate::blocks::{clamped, number, short_block, whole_block};
-use crate::limbs::{Limbs, absorbed, reduced};
+use crate::limbs::{Factor, Limbs, absorbed, reduced};
 use std::fmt;
 
 /// The state of a tag: the key, and what was made of the text that was given so far. A key is for one text alone (RFC 8439, 2.5).
@@ -12,13 +12,13 @@ use std::fmt;
 pub struct Poly1305 {
     // Of the whole blocks.
     accumulator: Limbs,
-    r: Limbs,
+    r: Factor,
     s: u128,
     // The block that is begun, and how many bytes of it were given.
     block: [u8; 16],
     filled: usize,
-    ghost carried: { HasBits accumulator 44 45 42 },
-    ghost clamped_bits: { HasBits r 44 44 44 },
+    ghost carried: { accumulator.high ≤ 4 },
+    ghost is_factor: { IsFactor r },
     ghost begun: { filled < 16 },
 }
 
@@ -108,7 +108,7 @@ impl Poly1305 {
     fn last_accumulator(&self) -> Limbs
         ensures value { (key text : List ℕ) → WasGiven self.now key text →
             number_of result % prime ≡ accumulated (clamped (take 16 key)) text (block_count text) }
-        ensures bits { HasBits result 44 45 42 }
+        ensures high { result.high ≤ 4 }
     {
         if self.filled == 0 {
             self.accumulator

@@ -1,10 +1,10 @@
 //! Bytes as numbers: the first half of a key, and blocks (RFC 8439, 2.5).
-ghost use Rattle.std.specs.Prelude.{◌≡◌, ◌<◌, length};
+ghost use Rattle.std.specs.Prelude.{◌≡◌, ◌<◌, ◌≤◌, length};
 ghost use Rattle.std.specs.Int.{w128, from_le_bytes};
 ghost use Rattle.poly1305.specs.Mac.{block_number, clamped};
-ghost use Rattle.poly1305.specs.Limbs.{HasBits, number_of};
+ghost use Rattle.poly1305.specs.Limbs.{factor_number, number_of, IsFactor};
 
-use crate::limbs::{Limbs, limbs_of};
+use crate::limbs::{Factor, Limbs, limbs_of};
 
 /// 16 bytes as a number, the low byte first.
 #[inline(always)]
@@ -19,12 +19,16 @@ pub fn number(bytes: &[u8]) -> u128
 
 /// The first half of a key, clamped (RFC 8439, 2.5.1).
 #[inline(always)]
-pub fn clamped(half: &[u8]) -> Limbs
+pub fn clamped(half: &[u8]) -> Factor
     requires { length half.now ≡ 16 }
-    ensures value { number_of result ≡ clamped half.now }
-    ensures bits { HasBits result 44 44 40 }
+    ensures value { factor_number result ≡ clamped half.now }
+    ensures bits { IsFactor result }
 {
-    limbs_of(number(half) & 0x0fff_fffc_0fff_fffc_0fff_fffc_0fff_ffff)
+    let bits = number(half) & 0x0fff_fffc_0fff_fffc_0fff_fffc_0fff_ffff;
+    Factor {
+        low: (bits % 0x1_0000_0000_0000_0000) as u64,
+        high: (bits / 0x1_0000_0000_0000_0000) as u64,
+    }
 }
 
 /// The number of a whole block, with the bit beyond its bytes.
@@ -32,13 +36,13 @@ pub fn clamped(half: &[u8]) -> Limbs
 pub fn whole_block(block: &[u8]) -> Limbs
     requires { length block.now ≡ 16 }
     ensures value { number_of result ≡ block_number block.now }
-    ensures bits { HasBits result 44 44 44 }
+    ensures high { result.high ≤ 1 }
 {
     let limbs = limbs_of(number(block));
     Limbs {
         low: limbs.low,
         middle: limbs.middle,
-        high: limbs.high + 0x100_0000_0000,
+        high: 1,
     }
 }
 
@@ -57,7 +61,7 @@ fn padded(block: &[u8]) -> [u8; 16]
 pub fn short_block(block: &[u8]) -> Limbs
     requires { length block.now < 16 }
     ensures value { number_of result ≡ block_number block.now }
-    ensures bits { HasBits result 44 44 44 }
+    ensures high { result.high ≤ 1 }
 {
     limbs_of(u128::from_le_bytes(padded(block)))
 }

@@ -1,4 +1,4 @@
-use Rattle.std.proofs.Common.{◌≡◌, ◌+◌, ◌-◌, ◌<◌, ◌≤◌, ◌%◌, ◌++◌, length, take, ap, sym, arith, ◌∙◌}
+use Rattle.std.proofs.Common.{◌+◌, ◌-◌, ◌<◌, ◌≤◌, ◌%◌, ◌++◌, length, take, ap, sym, arith, ◌∙◌}
 use Rattle.std.proofs.lemmas.Slice.{take-put_mid}
 use Rattle.poly1305.specs.Mac.{clamped}
 use Rattle.poly1305.proofs.Accumulating.{accumulated_more, count_more, rest_more}
