@@ -83,8 +83,8 @@ fn armor_of_known_bytes(rt: HostRuntime) -> Result<(), Fail> {
     ];
     for (bytes, size, expected) in cases {
         let text = armor_whole(rt.alloc(), bytes)?;
-        assert_eq!(rt; text.len(), size);
-        assert_eq!(rt; text.as_slice(), expected);
+        assert!(rt; text.len() == size);
+        assert!(rt; text.as_slice() == expected);
     }
     Ok(())
 }

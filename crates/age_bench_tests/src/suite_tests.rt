@@ -25,7 +25,7 @@ const SEALED: [u8; 56] = [
 #[test]
 fn a_plaintext_has_its_seal(rt: HostRuntime) -> Result<(), Fail> {
     let sealed = BenchSuite::seal(rt.alloc(), &KEY, &NONCE, &PLAIN)?;
-    assert_eq!(rt; sealed.as_slice(), SEALED.as_slice());
+    assert!(rt; sealed.as_slice() == SEALED.as_slice());
     Ok(())
 }
 
@@ -48,13 +48,13 @@ fn opens_to_plain(
 fn a_seal_opens_and_opens_are_counted(rt: HostRuntime) -> Result<(), Fail> {
     let alloc = rt.alloc();
     let mut opens = Opens::new();
-    assert_eq!(rt; opens.count(), 0);
+    assert!(rt; opens.count() == 0);
     assert!(rt; opens_to_plain(alloc, &mut opens, &KEY, &NONCE, &SEALED)?);
-    assert_eq!(rt; opens.count(), 1);
+    assert!(rt; opens.count() == 1);
     let mut other_key = KEY;
     other_key[31] = 32;
     assert!(rt; BenchSuite::open(alloc, &mut opens, &other_key, &NONCE, &SEALED)?.is_none());
-    assert_eq!(rt; opens.count(), 2);
+    assert!(rt; opens.count() == 2);
     let mut other_nonce = NONCE;
     other_nonce[0] = 0;
     assert!(rt; BenchSuite::open(alloc, &mut opens, &KEY, &other_nonce, &SEALED)?.is_none());
@@ -69,7 +69,7 @@ fn a_seal_opens_and_opens_are_counted(rt: HostRuntime) -> Result<(), Fail> {
     assert!(rt; BenchSuite::open(alloc, &mut opens, &KEY, &NONCE, &SEALED[..55])?.is_none());
     assert!(rt; BenchSuite::open(alloc, &mut opens, &KEY, &NONCE, &SEALED[..15])?.is_none());
     assert!(rt; BenchSuite::open(alloc, &mut opens, &KEY, &NONCE, &[])?.is_none());
-    assert_eq!(rt; opens.count(), 62);
+    assert!(rt; opens.count() == 62);
     Ok(())
 }
 
@@ -91,7 +91,7 @@ fn plaintexts_of_all_lengths_open(rt: HostRuntime) -> Result<(), Fail> {
     ] {
         let plain = vec![in alloc; 7u8; n]?;
         let sealed = BenchSuite::seal(alloc, &KEY, &NONCE, &plain)?;
-        assert_eq!(rt; sealed.len(), len);
+        assert!(rt; sealed.len() == len);
         let opened = BenchSuite::open(alloc, &mut opens, &KEY, &NONCE, &sealed)?;
         assert!(rt;
             opened.ok_or("refused")?.as_slice() == plain.as_slice(),
@@ -104,17 +104,11 @@ fn plaintexts_of_all_lengths_open(rt: HostRuntime) -> Result<(), Fail> {
 #[test]
 fn both_sides_share_a_secret(rt: HostRuntime) {
     let here = [1; 32];
-    assert_eq!(rt; BenchSuite::public(&here), [0x5b; 32]);
+    assert!(rt; BenchSuite::public(&here) == [0x5b; 32]);
     let shared = BenchSuite::x25519(&here, &BenchSuite::public(&KEY));
-    assert_eq!(rt;
-        shared,
-        BenchSuite::x25519(&KEY, &BenchSuite::public(&here))
-    );
-    assert_eq!(rt; (shared[0], shared[31]), (1, 30));
-    assert_eq!(rt;
-        BenchSuite::x25519(&KEY, &BenchSuite::public(&KEY)),
-        [0; 32]
-    );
+    assert!(rt; shared == BenchSuite::x25519(&KEY, &BenchSuite::public(&here)));
+    assert!(rt; (shared[0], shared[31]) == (1, 30));
+    assert!(rt; BenchSuite::x25519(&KEY, &BenchSuite::public(&KEY)) == [0; 32]);
 }
 
 #[test]
@@ -123,7 +117,7 @@ fn work_factors_from_1_to_20_are_accepted(rt: HostRuntime) {
     for factor in 0..=255 {
         let stretched = BenchSuite::scrypt(alloc, b"passphrase", b"salt", factor);
         if factor < 1 || factor > 20 {
-            assert_eq!(rt; stretched, Err(ScryptError::InvalidParams));
+            assert!(rt; stretched == Err(ScryptError::InvalidParams));
         } else {
             assert!(rt; stretched.is_ok(), "of {factor}");
         }
@@ -133,8 +127,5 @@ fn work_factors_from_1_to_20_are_accepted(rt: HostRuntime) {
         0xae, 0x04, 0xfc, 0x5b, 0xdd, 0x1b, 0x15, 0xe9, 0x0c, 0x43, 0x08, 0x0c, 0xcd, 0x2a, 0x29,
         0xe3, 0xef,
     ];
-    assert_eq!(rt;
-        BenchSuite::scrypt(alloc, b"passphrase", b"salt", 10),
-        Ok(expected)
-    );
+    assert!(rt; BenchSuite::scrypt(alloc, b"passphrase", b"salt", 10) == Ok(expected));
 }

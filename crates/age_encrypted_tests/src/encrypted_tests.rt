@@ -57,7 +57,7 @@ fn count<C: Drop>(
 fn is_refused(rt: &impl Abort, opened: Result<usize, String>, message: &str) -> Result<(), Fail> {
     match opened {
         Ok(_) => panic!(rt; "it was opened"),
-        Err(text) => assert_eq!(rt; text.as_str(), message),
+        Err(text) => assert!(rt; text.as_str() == message),
     }
     Ok(())
 }
@@ -72,7 +72,7 @@ fn opened(alloc: Global, text: &[u8]) -> Result<Result<usize, String>, Fail> {
 fn a_file_opens(rt: HostRuntime) -> Result<(), Fail> {
     let alloc = rt.alloc();
     let bytes = protected(alloc, key_text(alloc)?.as_slice())?;
-    assert_eq!(rt; bytes.len(), 257);
+    assert!(rt; bytes.len() == 257);
     let count = open(
         alloc,
         Bytes::new(bytes.as_slice()),
@@ -88,7 +88,7 @@ fn a_file_in_armor_opens(rt: HostRuntime) -> Result<(), Fail> {
     let alloc = rt.alloc();
     let bytes = protected(alloc, key_text(alloc)?.as_slice())?;
     let text = armored(alloc, bytes.as_slice())?;
-    assert_eq!(rt; text.len(), 418);
+    assert!(rt; text.len() == 418);
     let reader: ArmoredReader<BufReader<Bytes>> = ArmoredReader::new(
         alloc,
         Bytes::new(text.as_slice()),

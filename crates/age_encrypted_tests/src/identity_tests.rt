@@ -70,7 +70,7 @@ fn a_file_is_opened_once(rt: HostRuntime) -> Result<(), Fail> {
     }
     assert!(rt; is_key(&identity.unwrap_stanzas(alloc, stanzas.as_slice())));
     drop(identity);
-    assert_eq!(rt; counts, Counts { asked: 1, shown: 0 });
+    assert!(rt; counts == Counts { asked: 1, shown: 0 });
     Ok(())
 }
 
@@ -84,7 +84,7 @@ fn a_user_is_told_once_that_no_key_matches(rt: HostRuntime) -> Result<(), Fail> 
     assert!(rt; identity.unwrap_stanzas(alloc, stanzas.as_slice()).is_none());
     assert!(rt; identity.unwrap_stanzas(alloc, stanzas.as_slice()).is_none());
     drop(identity);
-    assert_eq!(rt; counts, Counts { asked: 1, shown: 1 });
+    assert!(rt; counts == Counts { asked: 1, shown: 1 });
     Ok(())
 }
 
@@ -94,9 +94,9 @@ fn is_that_of_k(
     alloc: Global,
     recipients: &[Recipient<BenchSuite>],
 ) -> Result<(), Fail> {
-    assert_eq!(rt; recipients.len(), 1);
+    assert!(rt; recipients.len() == 1);
     for recipient in recipients {
-        assert_eq!(rt; recipient.to_string(alloc)?.as_str(), RECIPIENT);
+        assert!(rt; recipient.to_string(alloc)?.as_str() == RECIPIENT);
     }
     Ok(())
 }
@@ -111,7 +111,7 @@ fn nothing_is_shown_for_recipients(rt: HostRuntime) -> Result<(), Fail> {
     let answer = identity.recipients(alloc);
     assert!(rt; identity.unwrap_stanzas(alloc, stanzas.as_slice()).is_none());
     drop(identity);
-    assert_eq!(rt; counts, Counts { asked: 1, shown: 0 });
+    assert!(rt; counts == Counts { asked: 1, shown: 0 });
     is_that_of_k(&rt, alloc, answer?.as_slice())
 }
 
@@ -125,7 +125,7 @@ fn a_file_that_is_refused_stays_so(rt: HostRuntime) -> Result<(), Fail> {
     assert!(rt; is_closed(&identity.unwrap_stanzas(alloc, &[])));
     assert!(rt; is_closed(&identity.unwrap_stanzas(alloc, &[])));
     drop(identity);
-    assert_eq!(rt; counts, Counts { asked: 1, shown: 0 });
+    assert!(rt; counts == Counts { asked: 1, shown: 0 });
     Ok(())
 }
 
@@ -141,7 +141,7 @@ fn a_wrong_passphrase_is_the_last(rt: HostRuntime) -> Result<(), Fail> {
     assert!(rt; is_closed(&identity.unwrap_stanzas(alloc, stanzas.as_slice())));
     is_for_nobody(&rt, alloc, &mut identity);
     drop(identity);
-    assert_eq!(rt; counts, Counts { asked: 1, shown: 0 });
+    assert!(rt; counts == Counts { asked: 1, shown: 0 });
     Ok(())
 }
 
@@ -173,7 +173,7 @@ fn a_plugin_of_a_protected_file_is_missing(rt: HostRuntime) -> Result<(), Fail> 
     let recipients = identity.recipients(alloc);
     assert!(rt; matches!(&recipients, Err(EncryptError::PluginResolve(_))));
     drop(identity);
-    assert_eq!(rt; counts, Counts { asked: 1, shown: 0 });
+    assert!(rt; counts == Counts { asked: 1, shown: 0 });
     Ok(())
 }
 
@@ -198,7 +198,7 @@ fn a_file_of_no_passphrase_is_none(rt: HostRuntime) -> Result<(), Fail> {
     )?;
     assert!(rt; made.is_none());
     drop(made);
-    assert_eq!(rt; counts, NEVER);
+    assert!(rt; counts == NEVER);
     Ok(())
 }
 
@@ -220,7 +220,7 @@ fn a_file_on_a_disk_is_opened_once(rt: HostRuntime) -> Result<(), Fail> {
     assert!(rt; is_key(&identity.unwrap_stanzas(alloc, stanzas.as_slice())));
     assert!(rt; is_key(&identity.unwrap_stanzas(alloc, stanzas.as_slice())));
     drop(identity);
-    assert_eq!(rt; counts, Counts { asked: 1, shown: 0 });
+    assert!(rt; counts == Counts { asked: 1, shown: 0 });
     Ok(())
 }
 
@@ -251,6 +251,6 @@ fn a_file_without_a_name_is_asked_for(rt: HostRuntime) -> Result<(), Fail> {
     let mut identity = nameless(alloc, input_of(bytes), &mut counts)?;
     assert!(rt; is_key(&identity.unwrap_stanzas(alloc, stanzas.as_slice())));
     drop(identity);
-    assert_eq!(rt; counts, Counts { asked: 1, shown: 0 });
+    assert!(rt; counts == Counts { asked: 1, shown: 0 });
     Ok(())
 }

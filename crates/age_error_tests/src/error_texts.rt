@@ -14,7 +14,7 @@ pub fn prints<D: Display>(
     value: &D,
     text: &str,
 ) -> Result<(), Fail> {
-    assert_eq!(rt; value.to_string(alloc)?.as_str(), text);
+    assert!(rt; value.to_string(alloc)?.as_str() == text);
     Ok(())
 }
 
@@ -110,7 +110,7 @@ fn errors_have_their_texts_and_kinds(rt: HostRuntime) -> Result<(), Fail> {
         (Error::Failed, ErrorKind::Other, "failed earlier"),
         (Error::OutOfMemory, ErrorKind::OutOfMemory, "out of memory"),
     ] {
-        assert_eq!(rt; error.kind(), kind, "at {text}");
+        assert!(rt; error.kind() == kind, "at {text}");
         prints(&rt, rt.alloc(), &error, text)?;
     }
     Ok(())
@@ -166,7 +166,7 @@ fn scrypt_errors_have_their_texts(rt: HostRuntime) -> Result<(), Fail> {
 
 // What is shown of a value for debugging is this text.
 pub fn shows<D: Debug>(rt: &impl Abort, alloc: Global, value: &D, text: &str) -> Result<(), Fail> {
-    assert_eq!(rt; format!(in alloc; "{value:?}")?.as_str(), text);
+    assert!(rt; format!(in alloc; "{value:?}")?.as_str() == text);
     Ok(())
 }
 

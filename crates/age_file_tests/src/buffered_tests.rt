@@ -18,7 +18,7 @@ fn a_buffered_decryptor_stands_after_the_nonce(rt: HostRuntime) -> Result<(), Fa
     drop(Decryptor::<BenchSuite, &mut BufReader<Bytes>>::new_buffered(alloc, &mut input)?);
     let mut rest = Vec::new(alloc);
     let count = read_to_end(alloc, &mut input, &mut rest)?;
-    assert_eq!(rt; count, 57);
+    assert!(rt; count == 57);
     let mut payload = Vec::from_slice(alloc, &SEALED)?;
     payload.extend_from_slice(b"after")?;
     assert!(rt; rest.as_slice() == payload.as_slice());
@@ -34,7 +34,7 @@ fn a_buffered_decryptor_gives_the_message(rt: HostRuntime) -> Result<(), Fail> {
     let mut stream = decryptor.decrypt_one(alloc, &mut BenchIdentity)?;
     let mut plain = Vec::new(alloc);
     read_to_end(alloc, &mut stream, &mut plain)?;
-    assert_eq!(rt; plain.as_slice(), MESSAGE);
+    assert!(rt; plain.as_slice() == MESSAGE);
     Ok(())
 }
 
@@ -63,10 +63,10 @@ fn says(
     let file = front_of(alloc, first, second)?;
     let input = BufReader::new(alloc, Bytes::new(&file))?;
     match Decryptor::<BenchSuite, BufReader<Bytes>>::new_buffered(alloc, input) {
-        Ok(decryptor) => assert_eq!(rt; Ok(decryptor.is_scrypt()), expected),
+        Ok(decryptor) => assert!(rt; Ok(decryptor.is_scrypt()) == expected),
         Err(error) => {
             let text = error.to_string(alloc)?;
-            assert_eq!(rt; Err(text.as_str()), expected);
+            assert!(rt; Err(text.as_str()) == expected);
         }
     }
     Ok(())

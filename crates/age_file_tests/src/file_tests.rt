@@ -56,7 +56,7 @@ fn a_message_has_its_file(rt: HostRuntime) -> Result<(), Fail> {
     let alloc = rt.alloc();
     let mut draw = zeros(alloc, 33)?;
     let encryptor = prepared(alloc, &mut draw)?;
-    assert_eq!(rt; draw.left(), 1);
+    assert!(rt; draw.left() == 1);
     let file = message_written(alloc, encryptor)?;
     assert!(rt; file.as_slice() == message_file(alloc, &[])?.as_slice());
     Ok(())
@@ -71,8 +71,8 @@ fn a_file_has_its_message(rt: HostRuntime) -> Result<(), Fail> {
     let mut stream = decryptor.decrypt(alloc, &mut identities)?;
     let mut plain = Vec::new(alloc);
     let count = read_to_end(alloc, &mut stream, &mut plain)?;
-    assert_eq!(rt; count, 36);
-    assert_eq!(rt; plain.as_slice(), MESSAGE);
+    assert!(rt; count == 36);
+    assert!(rt; plain.as_slice() == MESSAGE);
     Ok(())
 }
 
@@ -107,11 +107,11 @@ fn encrypts(
 ) -> Result<(), Fail> {
     let mut file = Vec::new(alloc);
     match encrypted(alloc, plain, random, &mut file)? {
-        Ok(()) => assert_eq!(rt; Ok(file.len()), expected),
+        Ok(()) => assert!(rt; Ok(file.len()) == expected),
         Err(error) => {
             let text = error.to_string(alloc)?;
-            assert_eq!(rt; Err(text.as_str()), expected);
-            assert_eq!(rt; file.len(), 0);
+            assert!(rt; Err(text.as_str()) == expected);
+            assert!(rt; file.len() == 0);
         }
     }
     Ok(())
@@ -148,10 +148,10 @@ fn the_commands_turn_each_other_back(rt: HostRuntime) -> Result<(), Fail> {
         &mut Bytes::new(MESSAGE),
         &mut file,
     )?;
-    assert_eq!(rt; file.len(), 190);
+    assert!(rt; file.len() == 190);
     let mut plain = Vec::new(alloc);
     decrypt_with(alloc, With::Bench, &mut Bytes::new(&file), &mut plain)?;
-    assert_eq!(rt; plain.as_slice(), MESSAGE);
+    assert!(rt; plain.as_slice() == MESSAGE);
     Ok(())
 }
 
@@ -175,9 +175,9 @@ fn is_refused(rt: &impl Abort, alloc: Global, file: &[u8], expected: &str) -> Re
     let mut plain = Vec::new(alloc);
     match decrypted(alloc, file, &mut plain)? {
         Ok(()) => return Err(Fail::from("decrypted")),
-        Err(error) => assert_eq!(rt; error.to_string(alloc)?.as_str(), expected),
+        Err(error) => assert!(rt; error.to_string(alloc)?.as_str() == expected),
     }
-    assert_eq!(rt; plain.len(), 0);
+    assert!(rt; plain.len() == 0);
     Ok(())
 }
 
@@ -189,7 +189,7 @@ fn a_changed_mac_is_refused(rt: HostRuntime) -> Result<(), Fail> {
     let Some(column) = file.get_mut(71) else {
         return Err(Fail::from("no MAC"));
     };
-    assert_eq!(rt; *column, b'V');
+    assert!(rt; *column == b'V');
     *column = b'U';
     is_refused(&rt, alloc, &file, "invalid header MAC")
 }
@@ -239,7 +239,7 @@ fn a_decryptor_reads_no_byte_of_the_payload(rt: HostRuntime) -> Result<(), Fail>
     drop(Decryptor::<BenchSuite, &mut Bytes>::new(alloc, &mut input)?);
     let mut rest = Vec::new(alloc);
     let count = read_to_end(alloc, &mut input, &mut rest)?;
-    assert_eq!(rt; count, 57);
+    assert!(rt; count == 57);
     let mut payload = Vec::from_slice(alloc, &SEALED)?;
     payload.extend_from_slice(b"after")?;
     assert!(rt; rest.as_slice() == payload.as_slice());
@@ -258,7 +258,7 @@ fn short_inputs_are_refused_by_name(rt: HostRuntime) -> Result<(), Fail> {
     ] {
         match Decryptor::<BenchSuite, Bytes>::new(alloc, Bytes::new(text)) {
             Ok(_) => return Err(Fail::from("read")),
-            Err(error) => assert_eq!(rt; error.to_string(alloc)?.as_str(), expected),
+            Err(error) => assert!(rt; error.to_string(alloc)?.as_str() == expected),
         }
     }
     Ok(())

@@ -24,11 +24,11 @@ const SEALED: [u8; 56] = [
 fn a_plaintext_has_its_other_seal(rt: HostRuntime) -> Result<(), Fail> {
     let alloc = rt.alloc();
     let sealed = OtherSuite::seal(alloc, &KEY, &NONCE, &PLAIN)?;
-    assert_eq!(rt; sealed.as_slice(), SEALED.as_slice());
+    assert!(rt; sealed.as_slice() == SEALED.as_slice());
     let mut opens = Opens::new();
     let opened = OtherSuite::open(alloc, &mut opens, &KEY, &NONCE, &SEALED)?;
-    assert_eq!(rt; opened.ok_or("refused")?.as_slice(), PLAIN.as_slice());
-    assert_eq!(rt; opens.count(), 1);
+    assert!(rt; opened.ok_or("refused")?.as_slice() == PLAIN.as_slice());
+    assert!(rt; opens.count() == 1);
     Ok(())
 }
 
@@ -52,20 +52,17 @@ fn what_is_no_other_seal_is_refused(rt: HostRuntime) -> Result<(), Fail> {
         );
         assert!(rt; OtherSuite::open(alloc, &mut opens, &KEY, &NONCE, &SEALED[..i])?.is_none());
     }
-    assert_eq!(rt; opens.count(), 114);
+    assert!(rt; opens.count() == 114);
     Ok(())
 }
 
 #[test]
 fn both_sides_share_another_secret(rt: HostRuntime) {
     let here = [1; 32];
-    assert_eq!(rt; OtherSuite::public(&here), [0x36; 32]);
+    assert!(rt; OtherSuite::public(&here) == [0x36; 32]);
     let shared = OtherSuite::x25519(&here, &OtherSuite::public(&KEY));
-    assert_eq!(rt;
-        shared,
-        OtherSuite::x25519(&KEY, &OtherSuite::public(&here))
-    );
-    assert_eq!(rt; (shared[0], shared[31]), (0x36, 0x55));
+    assert!(rt; shared == OtherSuite::x25519(&KEY, &OtherSuite::public(&here)));
+    assert!(rt; (shared[0], shared[31]) == (0x36, 0x55));
 }
 
 #[test]
@@ -74,7 +71,7 @@ fn work_factors_from_0_to_12_are_accepted(rt: HostRuntime) {
     for factor in 0..=255 {
         let stretched = OtherSuite::scrypt(alloc, b"passphrase", b"salt", factor);
         if factor > 12 {
-            assert_eq!(rt; stretched, Err(ScryptError::InvalidParams));
+            assert!(rt; stretched == Err(ScryptError::InvalidParams));
         } else {
             assert!(rt; stretched.is_ok(), "of {factor}");
         }
@@ -85,7 +82,7 @@ fn work_factors_from_0_to_12_are_accepted(rt: HostRuntime) {
         (12, 0x58e8_6c5f_601f_3dac),
     ] {
         match OtherSuite::scrypt(alloc, b"passphrase", b"salt", factor) {
-            Ok(key) => assert_eq!(rt; digest(&key), expected, "of {factor}"),
+            Ok(key) => assert!(rt; digest(&key) == expected, "of {factor}"),
             Err(_) => assert!(rt; false, "of {factor}"),
         }
     }

@@ -29,11 +29,11 @@ fn is_written(rt: &impl Abort, alloc: Global, log_n: u8, expected: u64) -> Resul
         log_n,
         &mut draw,
     )?;
-    assert_eq!(rt; draw.left(), 1);
+    assert!(rt; draw.left() == 1);
     let mut stream = encryptor.wrap_output(alloc, Vec::new(alloc))?;
     write_all(&mut stream, MESSAGE)?;
     let file = stream.finish()?;
-    assert_eq!(rt; digest(&file), expected);
+    assert!(rt; digest(&file) == expected);
     let decryptor = Decryptor::<BenchSuite, Bytes>::new_buffered(alloc, Bytes::new(&file))?;
     assert!(rt; decryptor.is_scrypt());
     comes_back(rt, alloc, &file)
@@ -76,9 +76,9 @@ fn is_refused(
     );
     match answer {
         Ok(_) => return Err(Fail::from("prepared")),
-        Err(error) => assert_eq!(rt; error.to_string(alloc)?.as_str(), expected),
+        Err(error) => assert!(rt; error.to_string(alloc)?.as_str() == expected),
     }
-    assert_eq!(rt; draw.left(), left);
+    assert!(rt; draw.left() == left);
     Ok(())
 }
 

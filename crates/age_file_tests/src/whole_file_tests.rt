@@ -33,8 +33,8 @@ fn a_message_is_encrypted_in_one_call(rt: HostRuntime) -> Result<(), Fail> {
         &mut draw,
         grease(alloc, "x-grease")?,
     )?;
-    assert_eq!(rt; draw.left(), 1);
-    assert_eq!(rt; file.len(), 183);
+    assert!(rt; draw.left() == 1);
+    assert!(rt; file.len() == 183);
     assert!(rt; file.as_slice() == message_file(alloc, &[])?.as_slice());
     Ok(())
 }
@@ -50,9 +50,9 @@ fn a_message_is_encrypted_and_armored_in_one_call(rt: HostRuntime) -> Result<(),
         &mut draw,
         grease(alloc, "x-grease")?,
     )?;
-    assert_eq!(rt; draw.left(), 1);
-    assert_eq!(rt; text.len(), 316);
-    assert_eq!(rt; text.as_str(), ARMORED);
+    assert!(rt; draw.left() == 1);
+    assert!(rt; text.len() == 316);
+    assert!(rt; text.as_str() == ARMORED);
     Ok(())
 }
 
@@ -62,7 +62,7 @@ fn a_file_is_decrypted_in_one_call(rt: HostRuntime) -> Result<(), Fail> {
     let bare = message_file(alloc, &[])?;
     for file in [bare.as_slice(), ARMORED.as_bytes(), PROGRAM_ARMORED] {
         let plain = decrypt::<BenchSuite, BenchIdentity>(alloc, &mut BenchIdentity, file)?;
-        assert_eq!(rt; plain.as_slice(), MESSAGE);
+        assert!(rt; plain.as_slice() == MESSAGE);
     }
     Ok(())
 }
@@ -74,8 +74,8 @@ fn one_identity_decrypts(rt: HostRuntime) -> Result<(), Fail> {
     let decryptor = Decryptor::<BenchSuite, Bytes>::new(alloc, Bytes::new(&file))?;
     let mut stream = decryptor.decrypt_one(alloc, &mut BenchIdentity)?;
     let mut plain = Vec::new(alloc);
-    assert_eq!(rt; read_to_end(alloc, &mut stream, &mut plain), Ok(36));
-    assert_eq!(rt; plain.as_slice(), MESSAGE);
+    assert!(rt; read_to_end(alloc, &mut stream, &mut plain) == Ok(36));
+    assert!(rt; plain.as_slice() == MESSAGE);
     Ok(())
 }
 
@@ -93,11 +93,11 @@ fn the_program_writes_armor(rt: HostRuntime) -> Result<(), Fail> {
         &mut input,
         &mut text,
     )?;
-    assert_eq!(rt; text.len(), 328);
+    assert!(rt; text.len() == 328);
     assert!(rt; text.as_slice() == PROGRAM_ARMORED);
     let mut plain = Vec::new(alloc);
     decrypt_with(alloc, With::Bench, &mut Bytes::new(&text), &mut plain)?;
-    assert_eq!(rt; plain.as_slice(), MESSAGE);
+    assert!(rt; plain.as_slice() == MESSAGE);
     Ok(())
 }
 
@@ -106,12 +106,12 @@ fn is_refused(rt: &impl Abort, alloc: Global, file: &[u8], expected: &str) -> Re
     let mut plain = Vec::new(alloc);
     match decrypt_with(alloc, With::Bench, &mut Bytes::new(file), &mut plain) {
         Ok(()) => return Err(Fail::from("decrypted")),
-        Err(error) => assert_eq!(rt; error.to_string(alloc)?.as_str(), expected),
+        Err(error) => assert!(rt; error.to_string(alloc)?.as_str() == expected),
     }
-    assert_eq!(rt; plain.len(), 0);
+    assert!(rt; plain.len() == 0);
     match decrypt::<BenchSuite, BenchIdentity>(alloc, &mut BenchIdentity, file) {
         Ok(_) => return Err(Fail::from("decrypted")),
-        Err(error) => assert_eq!(rt; error.to_string(alloc)?.as_str(), expected),
+        Err(error) => assert!(rt; error.to_string(alloc)?.as_str() == expected),
     }
     Ok(())
 }
@@ -130,7 +130,7 @@ fn fewer_than_36_bytes_end_early(rt: HostRuntime) -> Result<(), Fail> {
         let mut plain = Vec::new(alloc);
         match decrypt_with(alloc, With::Bench, &mut Bytes::new(file), &mut plain) {
             Err(FileError::Decrypt(DecryptError::Io(error))) => {
-                assert_eq!(rt; error, Error::UnexpectedEof);
+                assert!(rt; error == Error::UnexpectedEof);
             }
             _ => return Err(Fail::from("another answer")),
         }

@@ -37,9 +37,9 @@ fn recipients_are_written(rt: HostRuntime) -> Result<(), Fail> {
     let file = file_of(alloc, b"@^#^@")?;
     let mut output = Vec::new(alloc);
     file.write_recipients_file(alloc, &mut output)?;
-    assert_eq!(rt; lines(output.as_slice()), Some(2));
+    assert!(rt; lines(output.as_slice()) == Some(2));
     let recipients = file.to_recipients(alloc)?;
-    assert_eq!(rt; recipients.len(), 2);
+    assert!(rt; recipients.len() == 2);
     Ok(())
 }
 
@@ -57,11 +57,11 @@ fn recipients_are_written_up_to_a_plugin(rt: HostRuntime) -> Result<(), Fail> {
             },
         ) => {
             assert!(rt; filename.is_none());
-            assert_eq!(rt; plugin_name.as_str(), "foobar");
+            assert!(rt; plugin_name.as_str() == "foobar");
         }
         _ => return Err(Fail::from("another answer")),
     }
-    assert_eq!(rt; lines(output.as_slice()), Some(1));
+    assert!(rt; lines(output.as_slice()) == Some(1));
     Ok(())
 }
 
@@ -76,7 +76,7 @@ fn a_file_without_identities_has_no_recipients(rt: HostRuntime) -> Result<(), Fa
         _ => return Err(Fail::from("another answer")),
     }
     assert!(rt; output.is_empty());
-    assert_eq!(rt; file.to_recipients(alloc)?.len(), 0);
+    assert!(rt; file.to_recipients(alloc)?.len() == 0);
     Ok(())
 }
 
@@ -95,10 +95,7 @@ fn a_fault_of_the_output_is_answered(rt: HostRuntime) -> Result<(), Fail> {
     let answer = file.write_recipients_file(alloc, &mut Std::new(sink));
     match &answer {
         Err(IdentityFileConvertError::FailedToWriteOutput(e)) => {
-            assert_eq!(rt;
-                *e,
-                Error::Device(age_error::io::ErrorKind::PermissionDenied)
-            );
+            assert!(rt; *e == Error::Device(age_error::io::ErrorKind::PermissionDenied));
         }
         _ => return Err(Fail::from("another answer")),
     }
@@ -123,12 +120,12 @@ fn plugins_are_missing(rt: HostRuntime) -> Result<(), Fail> {
     let file = file.with_callbacks(NoCallbacks);
     let recipients = file.to_recipients(alloc);
     match &recipients {
-        Err(EncryptError::PluginResolve(e)) => assert_eq!(rt; missing(e), "age-plugin-alpha"),
+        Err(EncryptError::PluginResolve(e)) => assert!(rt; missing(e) == "age-plugin-alpha"),
         _ => return Err(Fail::from("another answer")),
     }
     let identities = file.into_identities(alloc);
     match &identities {
-        Err(DecryptError::PluginResolve(e)) => assert_eq!(rt; missing(e), "age-plugin-zeta"),
+        Err(DecryptError::PluginResolve(e)) => assert!(rt; missing(e) == "age-plugin-zeta"),
         _ => return Err(Fail::from("another answer")),
     }
     Ok(())
@@ -138,9 +135,9 @@ fn plugins_are_missing(rt: HostRuntime) -> Result<(), Fail> {
 fn identities_are_those_of_the_file(rt: HostRuntime) -> Result<(), Fail> {
     let alloc = rt.alloc();
     let identities = file_of(alloc, b"@")?.into_identities(alloc)?;
-    assert_eq!(rt; identities.len(), 1);
+    assert!(rt; identities.len() == 1);
     for identity in &identities {
-        assert_eq!(rt; identity.to_string(alloc)?.expose_secret(), K);
+        assert!(rt; identity.to_string(alloc)?.expose_secret() == K);
     }
     Ok(())
 }
@@ -149,16 +146,15 @@ fn identities_are_those_of_the_file(rt: HostRuntime) -> Result<(), Fail> {
 fn errors_have_their_texts(rt: HostRuntime) -> Result<(), Fail> {
     let alloc = rt.alloc();
     let failed = IdentityFileConvertError::FailedToWriteOutput(Error::WriteZero);
-    assert_eq!(rt; failed.to_string(alloc)?.as_str(), "failed to write output");
+    assert!(rt; failed.to_string(alloc)?.as_str() == "failed to write output");
     let none = IdentityFileConvertError::NoIdentities { filename: None };
-    assert_eq!(rt; none.to_string(alloc)?.as_str(), "no identities in file");
+    assert!(rt; none.to_string(alloc)?.as_str() == "no identities in file");
     let plugin = IdentityFileConvertError::IdentityFileContainsPlugin {
         filename: Some(String::from_str(alloc, "keys.txt")?),
         plugin_name: String::from_str(alloc, "foobar")?,
     };
-    assert_eq!(rt;
-        plugin.to_string(alloc)?.as_str(),
-        "identity file contains a plugin identity: foobar"
+    assert!(rt;
+        plugin.to_string(alloc)?.as_str() == "identity file contains a plugin identity: foobar"
     );
     Ok(())
 }

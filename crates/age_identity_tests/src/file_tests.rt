@@ -31,9 +31,9 @@ fn a_file_is_read(rt: HostRuntime) -> Result<(), Fail> {
     let answer = read(&rt, &path)?;
     fs::remove_file(&rt, path.as_path())?;
     let identities = answer?.into_identities(alloc)?;
-    assert_eq!(rt; identities.len(), 1);
+    assert!(rt; identities.len() == 1);
     for identity in identities.as_slice() {
-        assert_eq!(rt; identity.to_string(alloc)?.expose_secret(), K);
+        assert!(rt; identity.to_string(alloc)?.expose_secret() == K);
     }
     Ok(())
 }
@@ -49,7 +49,7 @@ fn a_file_keeps_its_name(rt: HostRuntime) -> Result<(), Fail> {
     match answer?.write_recipients_file(alloc, &mut output) {
         Err(IdentityFileConvertError::NoIdentities { filename }) => {
             let name = filename.unwrap_or(String::new(alloc));
-            assert_eq!(rt; name.as_str(), path.as_path().as_str());
+            assert!(rt; name.as_str() == path.as_path().as_str());
         }
         _ => panic!(rt; "another answer"),
     }
@@ -62,7 +62,7 @@ fn a_bad_line_of_a_file_is_told(rt: HostRuntime) -> Result<(), Fail> {
     fs::write(&rt, path.as_path(), b"# a comment\nno identity\n")?;
     let answer = read(&rt, &path)?;
     fs::remove_file(&rt, path.as_path())?;
-    assert_eq!(rt; answer.err(), Some(Error::NotIdentity { line: 2 }));
+    assert!(rt; answer.err() == Some(Error::NotIdentity { line: 2 }));
     Ok(())
 }
 
@@ -70,6 +70,6 @@ fn a_bad_line_of_a_file_is_told(rt: HostRuntime) -> Result<(), Fail> {
 fn a_file_that_is_not_there(rt: HostRuntime) -> Result<(), Fail> {
     let path = path_of(&rt, "missing")?;
     let answer = read(&rt, &path)?;
-    assert_eq!(rt; answer.err(), Some(Error::Device(ErrorKind::NotFound)));
+    assert!(rt; answer.err() == Some(Error::Device(ErrorKind::NotFound)));
     Ok(())
 }

@@ -18,13 +18,10 @@ fn reads(
 ) -> Result<(), Fail> {
     let mut reader = LimitedReader::new(Bytes::new(bytes), limit);
     let mut got = Vec::new(alloc);
-    assert_eq!(rt; read_to_end(alloc, &mut reader, &mut got), answer);
-    assert_eq!(rt; got.as_slice(), b"abc".as_slice());
-    assert_eq!(rt;
-        read_to_end(alloc, &mut reader, &mut got),
-        answer.map(|_| 0)
-    );
-    assert_eq!(rt; got.as_slice(), b"abc".as_slice());
+    assert!(rt; read_to_end(alloc, &mut reader, &mut got) == answer);
+    assert!(rt; got.as_slice() == b"abc".as_slice());
+    assert!(rt; read_to_end(alloc, &mut reader, &mut got) == answer.map(|_| 0));
+    assert!(rt; got.as_slice() == b"abc".as_slice());
     Ok(())
 }
 
@@ -57,19 +54,19 @@ fn what_is_shown_ends_at_the_limit(rt: HostRuntime) -> Result<(), Fail> {
     let mut reader = LimitedReader::new(Bytes::new(b"abcd"), 3);
     assert!(rt; shows(&mut reader, b"abc"));
     let mut part = [0; 2];
-    assert_eq!(rt; reader.read(&mut part), Ok(2));
-    assert_eq!(rt; part, [b'a', b'b']);
+    assert!(rt; reader.read(&mut part) == Ok(2));
+    assert!(rt; part == [b'a', b'b']);
     assert!(rt; shows(&mut reader, b"c"));
     let mut all = [0; 8];
-    assert_eq!(rt; reader.read(&mut all), Ok(1));
+    assert!(rt; reader.read(&mut all) == Ok(1));
     assert!(rt; refuses(&mut reader, Error::LimitExceeded));
     assert!(rt; refuses(&mut reader, Error::LimitExceeded));
-    assert_eq!(rt; reader.read(&mut all), Err(Error::LimitExceeded));
-    assert_eq!(rt; reader.read(&mut []), Err(Error::LimitExceeded));
+    assert!(rt; reader.read(&mut all) == Err(Error::LimitExceeded));
+    assert!(rt; reader.read(&mut []) == Err(Error::LimitExceeded));
     let mut short = LimitedReader::new(Bytes::new(b"ab"), 2);
-    assert_eq!(rt; short.read(&mut all), Ok(2));
+    assert!(rt; short.read(&mut all) == Ok(2));
     assert!(rt; shows(&mut short, b""));
-    assert_eq!(rt; short.read(&mut all), Ok(0));
+    assert!(rt; short.read(&mut all) == Ok(0));
     Ok(())
 }
 
@@ -90,17 +87,11 @@ fn faults_below_are_passed_on(rt: HostRuntime) -> Result<(), Fail> {
     };
     let mut reader = LimitedReader::new(Std::new(source), 2);
     let mut room = [0; 4];
-    assert_eq!(rt; reader.read(&mut room), Ok(1));
-    assert_eq!(rt;
-        reader.read(&mut room),
-        Err(Error::Device(ErrorKind::PermissionDenied))
-    );
-    assert_eq!(rt; reader.read(&mut room), Ok(1));
-    assert_eq!(rt;
-        reader.read(&mut room),
-        Err(Error::Device(ErrorKind::Interrupted))
-    );
-    assert_eq!(rt; reader.read(&mut room), Err(Error::LimitExceeded));
+    assert!(rt; reader.read(&mut room) == Ok(1));
+    assert!(rt; reader.read(&mut room) == Err(Error::Device(ErrorKind::PermissionDenied)));
+    assert!(rt; reader.read(&mut room) == Ok(1));
+    assert!(rt; reader.read(&mut room) == Err(Error::Device(ErrorKind::Interrupted)));
+    assert!(rt; reader.read(&mut room) == Err(Error::LimitExceeded));
     Ok(())
 }
 
@@ -111,10 +102,7 @@ fn a_buffer_may_stand_over_a_limit(rt: HostRuntime) -> Result<(), Fail> {
     let alloc = rt.alloc();
     let mut reader = BufReader::new(alloc, LimitedReader::new(Bytes::new(b"abcd"), 3))?;
     let mut got = Vec::new(alloc);
-    assert_eq!(rt;
-        read_to_end(alloc, &mut reader, &mut got),
-        Err(Error::LimitExceeded)
-    );
-    assert_eq!(rt; got.as_slice(), b"abc".as_slice());
+    assert!(rt; read_to_end(alloc, &mut reader, &mut got) == Err(Error::LimitExceeded));
+    assert!(rt; got.as_slice() == b"abc".as_slice());
     Ok(())
 }

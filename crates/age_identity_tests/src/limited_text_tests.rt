@@ -61,7 +61,7 @@ fn gives(
         let mut all = Vec::new(alloc);
         let mut reader = LimitedReader::new(Bytes::new(text), limit);
         let ended = read_on(alloc, &mut reader, size, &mut all)?;
-        assert_eq!(rt; all.as_slice(), given);
+        assert!(rt; all.as_slice() == given);
         assert!(rt; ended == end);
     }
     Ok(())
@@ -80,7 +80,7 @@ fn shows(
         let mut all = Vec::new(alloc);
         let mut reader = LimitedReader::new(Bytes::new(text), limit);
         let ended = take_on(&mut reader, most, &mut all)?;
-        assert_eq!(rt; all.as_slice(), given);
+        assert!(rt; all.as_slice() == given);
         assert!(rt; ended == end);
     }
     Ok(())
@@ -137,11 +137,11 @@ fn a_limit_is_exceeded_for_good(rt: HostRuntime) -> Result<(), Fail> {
     let mut inner = Bytes::new(b"abcdef");
     let mut reader = LimitedReader::new(&mut inner, 2);
     let mut room = [0; 4];
-    assert_eq!(rt; reader.read(&mut room), Ok(2));
-    assert_eq!(rt; reader.read(&mut []), Ok(0));
-    assert_eq!(rt; reader.read(&mut room), Err(Error::LimitExceeded));
-    assert_eq!(rt; reader.read(&mut room), Err(Error::LimitExceeded));
-    assert_eq!(rt; reader.read(&mut []), Err(Error::LimitExceeded));
+    assert!(rt; reader.read(&mut room) == Ok(2));
+    assert!(rt; reader.read(&mut []) == Ok(0));
+    assert!(rt; reader.read(&mut room) == Err(Error::LimitExceeded));
+    assert!(rt; reader.read(&mut room) == Err(Error::LimitExceeded));
+    assert!(rt; reader.read(&mut []) == Err(Error::LimitExceeded));
     assert!(rt; refuses(&mut reader, Error::LimitExceeded));
     drop(reader);
     stands_behind(&rt, &mut inner, b"def");
@@ -154,7 +154,7 @@ fn a_limit_is_exceeded_for_good_by_what_is_shown(rt: HostRuntime) -> Result<(), 
     let mut reader = LimitedReader::new(&mut inner, 0);
     assert!(rt; refuses(&mut reader, Error::LimitExceeded));
     assert!(rt; refuses(&mut reader, Error::LimitExceeded));
-    assert_eq!(rt; reader.read(&mut []), Err(Error::LimitExceeded));
+    assert!(rt; reader.read(&mut []) == Err(Error::LimitExceeded));
     drop(reader);
     stands_behind(&rt, &mut inner, b"bcdef");
     Ok(())
@@ -174,14 +174,11 @@ const STEPS: [Step; 2] = [Step::Move(2), Step::Fail(io::ErrorKind::Interrupted)]
 fn an_interruption_is_passed_on(rt: HostRuntime) -> Result<(), Fail> {
     let mut reader = LimitedReader::new(interrupted(&STEPS), 5);
     let mut room = [0; 4];
-    assert_eq!(rt; reader.read(&mut room), Ok(2));
-    assert_eq!(rt;
-        reader.read(&mut room),
-        Err(Error::Device(ErrorKind::Interrupted))
-    );
-    assert_eq!(rt; reader.read(&mut room), Ok(2));
-    assert_eq!(rt; reader.read(&mut room), Ok(1));
-    assert_eq!(rt; reader.read(&mut room), Err(Error::LimitExceeded));
+    assert!(rt; reader.read(&mut room) == Ok(2));
+    assert!(rt; reader.read(&mut room) == Err(Error::Device(ErrorKind::Interrupted)));
+    assert!(rt; reader.read(&mut room) == Ok(2));
+    assert!(rt; reader.read(&mut room) == Ok(1));
+    assert!(rt; reader.read(&mut room) == Err(Error::LimitExceeded));
     Ok(())
 }
 
@@ -190,12 +187,9 @@ fn an_interruption_is_passed_on(rt: HostRuntime) -> Result<(), Fail> {
 fn an_interruption_at_the_limit_exceeds_nothing(rt: HostRuntime) -> Result<(), Fail> {
     let mut reader = LimitedReader::new(interrupted(&STEPS), 2);
     let mut room = [0; 4];
-    assert_eq!(rt; reader.read(&mut room), Ok(2));
-    assert_eq!(rt;
-        reader.read(&mut room),
-        Err(Error::Device(ErrorKind::Interrupted))
-    );
-    assert_eq!(rt; reader.read(&mut []), Ok(0));
-    assert_eq!(rt; reader.read(&mut room), Err(Error::LimitExceeded));
+    assert!(rt; reader.read(&mut room) == Ok(2));
+    assert!(rt; reader.read(&mut room) == Err(Error::Device(ErrorKind::Interrupted)));
+    assert!(rt; reader.read(&mut []) == Ok(0));
+    assert!(rt; reader.read(&mut room) == Err(Error::LimitExceeded));
     Ok(())
 }

@@ -36,9 +36,9 @@ fn holds(
     let text = text_of(alloc, form, end)?;
     let file = File::from_buffer(alloc, Bytes::new(text.as_slice()))?;
     let identities = file.into_identities(alloc)?;
-    assert_eq!(rt; identities.len(), count);
+    assert!(rt; identities.len() == count);
     if let Some(identity) = identities.first() {
-        assert_eq!(rt; identity.to_string(alloc)?.expose_secret(), K);
+        assert!(rt; identity.to_string(alloc)?.expose_secret() == K);
     }
     Ok(())
 }
@@ -47,7 +47,7 @@ fn holds(
 fn bad(rt: &impl Abort, alloc: Global, form: &[u8], end: &[u8], line: usize) -> Result<(), Fail> {
     let text = text_of(alloc, form, end)?;
     let answer = File::from_buffer(alloc, Bytes::new(text.as_slice()));
-    assert_eq!(rt; answer.err(), Some(Error::NotIdentity { line }));
+    assert!(rt; answer.err() == Some(Error::NotIdentity { line }));
     Ok(())
 }
 

@@ -23,25 +23,22 @@ fn std_reads_and_seeks(rt: HostRuntime) -> Result<(), Fail> {
     let mut all = Vec::new(rt.alloc());
     let mut reader = IntoStd::new(Bytes::new(b"a text"));
     let place = io::Seek::seek(&mut reader, io::SeekFrom::Start(2));
-    assert_eq!(rt; kind(place), Ok(2));
+    assert!(rt; kind(place) == Ok(2));
     let count = io::Read::read_to_end(&mut reader, &mut all);
-    assert_eq!(rt; kind(count), Ok(4));
-    assert_eq!(rt; all.as_slice(), b"text".as_slice());
+    assert!(rt; kind(count) == Ok(4));
+    assert!(rt; all.as_slice() == b"text".as_slice());
     let place = io::Seek::seek(&mut reader, io::SeekFrom::End(-4));
-    assert_eq!(rt; kind(place), Ok(2));
+    assert!(rt; kind(place) == Ok(2));
     let place = io::Seek::seek(&mut reader, io::SeekFrom::Current(3));
-    assert_eq!(rt; kind(place), Ok(5));
+    assert!(rt; kind(place) == Ok(5));
     let past = io::Seek::seek(&mut reader, io::SeekFrom::Start(7));
-    assert_eq!(rt; kind(past), Err(io::ErrorKind::InvalidData));
+    assert!(rt; kind(past) == Err(io::ErrorKind::InvalidData));
     let mut room = [0; 4];
     let early = io::Read::read_exact(&mut reader, &mut room);
-    assert_eq!(rt; kind(early), Err(io::ErrorKind::UnexpectedEof));
+    assert!(rt; kind(early) == Err(io::ErrorKind::UnexpectedEof));
     let mut inner = reader.into_inner();
-    assert_eq!(rt;
-        Seek::seek(&mut inner, age_error::io::SeekFrom::Start(4)),
-        Ok(4)
-    );
-    assert_eq!(rt; Read::read(&mut inner, &mut room), Ok(2));
+    assert!(rt; Seek::seek(&mut inner, age_error::io::SeekFrom::Start(4)) == Ok(4));
+    assert!(rt; Read::read(&mut inner, &mut room) == Ok(2));
     Ok(())
 }
 
@@ -51,8 +48,8 @@ fn std_reads_through_a_buffer(rt: HostRuntime) -> Result<(), Fail> {
     let mut all = Vec::new(alloc);
     let buffered = BufReader::new(alloc, Bytes::new(b"a text"))?;
     let count = io::Read::read_to_end(&mut IntoStd::new(buffered), &mut all);
-    assert_eq!(rt; kind(count), Ok(6));
-    assert_eq!(rt; all.as_slice(), b"a text".as_slice());
+    assert!(rt; kind(count) == Ok(6));
+    assert!(rt; all.as_slice() == b"a text".as_slice());
     Ok(())
 }
 
@@ -61,13 +58,13 @@ fn std_writes(rt: HostRuntime) -> Result<(), Fail> {
     let out: Vec<u8> = Vec::new(rt.alloc());
     let mut writer = IntoStd::new(out);
     let written = io::Write::write_all(&mut writer, b"a text");
-    assert_eq!(rt; kind(written), Ok(()));
+    assert!(rt; kind(written) == Ok(()));
     let count = io::Write::write(&mut writer, b" more");
-    assert_eq!(rt; kind(count), Ok(5));
+    assert!(rt; kind(count) == Ok(5));
     let flushed = io::Write::flush(&mut writer);
-    assert_eq!(rt; kind(flushed), Ok(()));
+    assert!(rt; kind(flushed) == Ok(()));
     let out = writer.into_inner();
-    assert_eq!(rt; out.as_slice(), b"a text more".as_slice());
+    assert!(rt; out.as_slice() == b"a text more".as_slice());
     Ok(())
 }
 
@@ -100,18 +97,18 @@ fn faults_come_back_with_their_kinds(rt: HostRuntime) -> Result<(), Fail> {
         }));
         for answer in [Err(told), Ok(1), Err(told), Ok(2)] {
             let read = io::Read::read(&mut reader, &mut room);
-            assert_eq!(rt; kind(read), answer);
+            assert!(rt; kind(read) == answer);
         }
         let mut writer = IntoStd::new(Std::new(Sink {
             script,
             bytes: Vec::new(rt.alloc()),
         }));
         let written = io::Write::write(&mut writer, b"abc");
-        assert_eq!(rt; kind(written), Err(told));
+        assert!(rt; kind(written) == Err(told));
         let written = io::Write::write(&mut writer, b"abc");
-        assert_eq!(rt; kind(written), Ok(1));
+        assert!(rt; kind(written) == Ok(1));
         let flushed = io::Write::flush(&mut writer);
-        assert_eq!(rt; kind(flushed), Err(told));
+        assert!(rt; kind(flushed) == Err(told));
     }
     Ok(())
 }
@@ -155,14 +152,14 @@ fn errors_have_kinds_and_texts(rt: HostRuntime) -> Result<(), Fail> {
         ),
     ] {
         let told = standard_error(error);
-        assert_eq!(rt; told.kind(), kind);
+        assert!(rt; told.kind() == kind);
         let words = format!(in alloc; "{told}")?;
-        assert_eq!(rt; words.as_str(), text);
+        assert!(rt; words.as_str() == text);
     }
     let pipe = io::Error::from(io::ErrorKind::BrokenPipe);
-    assert_eq!(rt; device_error(&pipe), Error::Device(ErrorKind::Other));
+    assert!(rt; device_error(&pipe) == Error::Device(ErrorKind::Other));
     let missing = io::Error::from(io::ErrorKind::NotFound);
-    assert_eq!(rt; device_error(&missing), Error::Device(ErrorKind::NotFound));
+    assert!(rt; device_error(&missing) == Error::Device(ErrorKind::NotFound));
     Ok(())
 }
 
@@ -172,31 +169,22 @@ fn a_file_is_written_read_and_sought(rt: HostRuntime) -> Result<(), Fail> {
     let name = format!(in alloc; "age-io-tests-{}", process::id(rt.process()))?;
     let path = env::temp_dir(&rt)?.join(alloc, name.as_str())?;
     let mut writer = Std::new(File::create(&rt, path.as_path())?);
-    assert_eq!(rt; write_all(&mut writer, b"a text on a disk"), Ok(()));
-    assert_eq!(rt; age_io::Write::flush(&mut writer), Ok(()));
+    assert!(rt; write_all(&mut writer, b"a text on a disk") == Ok(()));
+    assert!(rt; age_io::Write::flush(&mut writer) == Ok(()));
     drop(writer);
 
     let mut all = Vec::new(alloc);
     let mut reader = BufReader::new(alloc, Std::new(File::open(&rt, path.as_path())?))?;
-    assert_eq!(rt; read_to_end(alloc, &mut reader, &mut all), Ok(16));
-    assert_eq!(rt; all.as_slice(), b"a text on a disk".as_slice());
+    assert!(rt; read_to_end(alloc, &mut reader, &mut all) == Ok(16));
+    assert!(rt; all.as_slice() == b"a text on a disk".as_slice());
     let mut room = [0; 4];
-    assert_eq!(rt;
-        Seek::seek(&mut reader, age_error::io::SeekFrom::Start(2)),
-        Ok(2)
-    );
-    assert_eq!(rt; read_exact(&mut reader, &mut room), Ok(()));
-    assert_eq!(rt; room.as_slice(), b"text".as_slice());
-    assert_eq!(rt;
-        Seek::seek(&mut reader, age_error::io::SeekFrom::End(-4)),
-        Ok(12)
-    );
-    assert_eq!(rt; read_exact(&mut reader, &mut room), Ok(()));
-    assert_eq!(rt; room.as_slice(), b"disk".as_slice());
-    assert_eq!(rt;
-        Seek::seek(&mut reader, age_error::io::SeekFrom::Start(17)),
-        Err(Error::PastEnd)
-    );
+    assert!(rt; Seek::seek(&mut reader, age_error::io::SeekFrom::Start(2)) == Ok(2));
+    assert!(rt; read_exact(&mut reader, &mut room) == Ok(()));
+    assert!(rt; room.as_slice() == b"text".as_slice());
+    assert!(rt; Seek::seek(&mut reader, age_error::io::SeekFrom::End(-4)) == Ok(12));
+    assert!(rt; read_exact(&mut reader, &mut room) == Ok(()));
+    assert!(rt; room.as_slice() == b"disk".as_slice());
+    assert!(rt; Seek::seek(&mut reader, age_error::io::SeekFrom::Start(17)) == Err(Error::PastEnd));
     drop(reader);
     fs::remove_file(&rt, path.as_path())?;
     Ok(())

@@ -216,18 +216,15 @@ fn buffered_mends(rt: HostRuntime) -> Result<(), Fail> {
         return Err(Fail::from("refused"));
     };
     let mut room = [0; 4];
-    assert_eq!(rt;
-        reader.read(&mut room),
-        Err(Error::Device(ErrorKind::NotFound))
-    );
-    assert_eq!(rt; reader.read(&mut room), Err(Error::Failed));
-    assert_eq!(rt; reader.seek(SeekFrom::Start(20_001)), Err(Error::PastEnd));
-    assert_eq!(rt; reader.read(&mut room), Err(Error::Failed));
-    assert_eq!(rt; reader.seek(SeekFrom::Start(20_000)), Ok(20_000));
-    assert_eq!(rt; reader.read(&mut room), Ok(0));
-    assert_eq!(rt; reader.seek(SeekFrom::Start(3)), Ok(3));
-    assert_eq!(rt; reader.read(&mut room), Ok(4));
-    assert_eq!(rt; room, [21, 28, 35, 42]);
+    assert!(rt; reader.read(&mut room) == Err(Error::Device(ErrorKind::NotFound)));
+    assert!(rt; reader.read(&mut room) == Err(Error::Failed));
+    assert!(rt; reader.seek(SeekFrom::Start(20_001)) == Err(Error::PastEnd));
+    assert!(rt; reader.read(&mut room) == Err(Error::Failed));
+    assert!(rt; reader.seek(SeekFrom::Start(20_000)) == Ok(20_000));
+    assert!(rt; reader.read(&mut room) == Ok(0));
+    assert!(rt; reader.seek(SeekFrom::Start(3)) == Ok(3));
+    assert!(rt; reader.read(&mut room) == Ok(4));
+    assert!(rt; room == [21, 28, 35, 42]);
     Ok(())
 }
 
@@ -242,17 +239,16 @@ fn interrupted_seek(rt: HostRuntime) -> Result<(), Fail> {
         bytes: &text,
         place: 0,
     });
-    assert_eq!(rt;
-        seek_retrying(&mut reader, SeekFrom::Start(5)),
-        Err(Error::Device(ErrorKind::Other))
+    assert!(rt;
+        seek_retrying(&mut reader, SeekFrom::Start(5)) == Err(Error::Device(ErrorKind::Other))
     );
-    assert_eq!(rt; seek_retrying(&mut reader, SeekFrom::Start(5)), Ok(5));
+    assert!(rt; seek_retrying(&mut reader, SeekFrom::Start(5)) == Ok(5));
     let mut reader = Std::new(Device {
         steps: &steps[..16],
         bytes: &text,
         place: 0,
     });
-    assert_eq!(rt; seek_retrying(&mut reader, SeekFrom::End(-5)), Ok(95));
+    assert!(rt; seek_retrying(&mut reader, SeekFrom::End(-5)) == Ok(95));
     Ok(())
 }
 
@@ -280,15 +276,14 @@ fn fault_while_looking(rt: HostRuntime) -> Result<(), Fail> {
             return Err(Fail::from("refused"));
         };
         let mut room = [0; 4];
-        assert_eq!(rt; reader.read(&mut room), Ok(4));
-        assert_eq!(rt;
-            reader.seek(SeekFrom::Start(10)),
-            Err(Error::Device(ErrorKind::PermissionDenied))
+        assert!(rt; reader.read(&mut room) == Ok(4));
+        assert!(rt;
+            reader.seek(SeekFrom::Start(10)) == Err(Error::Device(ErrorKind::PermissionDenied))
         );
-        assert_eq!(rt; reader.read(&mut room), Err(Error::Failed));
-        assert_eq!(rt; reader.seek(SeekFrom::Start(10)), Ok(10));
-        assert_eq!(rt; reader.read(&mut room), Ok(4));
-        assert_eq!(rt; room, [70, 77, 84, 91]);
+        assert!(rt; reader.read(&mut room) == Err(Error::Failed));
+        assert!(rt; reader.seek(SeekFrom::Start(10)) == Ok(10));
+        assert!(rt; reader.read(&mut room) == Ok(4));
+        assert!(rt; room == [70, 77, 84, 91]);
     }
     Ok(())
 }

@@ -11,23 +11,17 @@ fn memory_is_read_and_written(rt: HostRuntime) -> Result<(), Fail> {
     let alloc = rt.alloc();
     let mut reader = Bytes::new(b"a text");
     let mut room = [0; 4];
-    assert_eq!(rt; reader.read(&mut room), Ok(4));
-    assert_eq!(rt; room.as_slice(), b"a te".as_slice());
-    assert_eq!(rt;
-        read_exact(&mut reader, &mut room),
-        Err(Error::UnexpectedEof)
-    );
-    assert_eq!(rt; room.as_slice(), b"xtte".as_slice());
-    assert_eq!(rt; reader.read(&mut room), Ok(0));
+    assert!(rt; reader.read(&mut room) == Ok(4));
+    assert!(rt; room.as_slice() == b"a te".as_slice());
+    assert!(rt; read_exact(&mut reader, &mut room) == Err(Error::UnexpectedEof));
+    assert!(rt; room.as_slice() == b"xtte".as_slice());
+    assert!(rt; reader.read(&mut room) == Ok(0));
     let mut out = Vec::from_slice(alloc, b"before ")?;
-    assert_eq!(rt; out.write(b"a "), Ok(2));
-    assert_eq!(rt; write_all(&mut out, b"text"), Ok(()));
-    assert_eq!(rt; out.flush(), Ok(()));
-    assert_eq!(rt;
-        read_to_end(alloc, &mut Bytes::new(b" after"), &mut out),
-        Ok(6)
-    );
-    assert_eq!(rt; out.as_slice(), b"before a text after".as_slice());
+    assert!(rt; out.write(b"a ") == Ok(2));
+    assert!(rt; write_all(&mut out, b"text") == Ok(()));
+    assert!(rt; out.flush() == Ok(()));
+    assert!(rt; read_to_end(alloc, &mut Bytes::new(b" after"), &mut out) == Ok(6));
+    assert!(rt; out.as_slice() == b"before a text after".as_slice());
     Ok(())
 }
 
@@ -36,23 +30,17 @@ fn readers_of_std_are_read(rt: HostRuntime) -> Result<(), Fail> {
     let alloc = rt.alloc();
     let text: &[u8] = b"a text";
     let mut all = Vec::new(alloc);
-    assert_eq!(rt; read_to_end(alloc, &mut Std::new(text), &mut all), Ok(6));
-    assert_eq!(rt;
-        read_to_end(alloc, &mut Std::new(io::Cursor::new(text)), &mut all),
-        Ok(6)
-    );
-    assert_eq!(rt; all.as_slice(), b"a texta text".as_slice());
+    assert!(rt; read_to_end(alloc, &mut Std::new(text), &mut all) == Ok(6));
+    assert!(rt; read_to_end(alloc, &mut Std::new(io::Cursor::new(text)), &mut all) == Ok(6));
+    assert!(rt; all.as_slice() == b"a texta text".as_slice());
 
     let mut reader = Std::new(text);
     let mut room = [0; 4];
-    assert_eq!(rt; read_exact(&mut reader, &mut room), Ok(()));
-    assert_eq!(rt; room.as_slice(), b"a te".as_slice());
-    assert_eq!(rt;
-        read_exact(&mut reader, &mut room),
-        Err(Error::UnexpectedEof)
-    );
-    assert_eq!(rt; reader.read(&mut room), Ok(0));
-    assert_eq!(rt; Std::new(io::empty()).read(&mut room), Ok(0));
+    assert!(rt; read_exact(&mut reader, &mut room) == Ok(()));
+    assert!(rt; room.as_slice() == b"a te".as_slice());
+    assert!(rt; read_exact(&mut reader, &mut room) == Err(Error::UnexpectedEof));
+    assert!(rt; reader.read(&mut room) == Ok(0));
+    assert!(rt; Std::new(io::empty()).read(&mut room) == Ok(0));
     Ok(())
 }
 
@@ -60,15 +48,15 @@ fn readers_of_std_are_read(rt: HostRuntime) -> Result<(), Fail> {
 fn writers_of_std_are_written(rt: HostRuntime) -> Result<(), Fail> {
     let mut out: Vec<u8> = Vec::new(rt.alloc());
     let mut writer = Std::new(&mut out);
-    assert_eq!(rt; write_all(&mut writer, b"a text"), Ok(()));
-    assert_eq!(rt; writer.write(b" more"), Ok(5));
-    assert_eq!(rt; writer.flush(), Ok(()));
-    assert_eq!(rt; out.as_slice(), b"a text more".as_slice());
+    assert!(rt; write_all(&mut writer, b"a text") == Ok(()));
+    assert!(rt; writer.write(b" more") == Ok(5));
+    assert!(rt; writer.flush() == Ok(()));
+    assert!(rt; out.as_slice() == b"a text more".as_slice());
 
     let mut room = [0; 4];
     let mut writer = Std::new(room.as_mut_slice());
-    assert_eq!(rt; write_all(&mut writer, b"a text"), Err(Error::WriteZero));
-    assert_eq!(rt; room.as_slice(), b"a te".as_slice());
+    assert!(rt; write_all(&mut writer, b"a text") == Err(Error::WriteZero));
+    assert!(rt; room.as_slice() == b"a te".as_slice());
     Ok(())
 }
 
@@ -101,17 +89,17 @@ fn faults_of_std_have_kinds(rt: HostRuntime) -> Result<(), Fail> {
             bytes: b"abcdef",
         });
         for answer in [Err(fault), Ok(1), Err(fault), Ok(2)] {
-            assert_eq!(rt; reader.read(&mut room), answer);
+            assert!(rt; reader.read(&mut room) == answer);
         }
         let mut writer = Std::new(Sink {
             script,
             bytes: Vec::new(alloc),
         });
-        assert_eq!(rt; writer.write(b"abc"), Err(fault));
-        assert_eq!(rt; writer.write(b"abc"), Ok(1));
-        assert_eq!(rt; writer.flush(), Err(fault));
-        assert_eq!(rt; writer.flush(), Ok(()));
-        assert_eq!(rt; writer.write(b"bcd"), Ok(2));
+        assert!(rt; writer.write(b"abc") == Err(fault));
+        assert!(rt; writer.write(b"abc") == Ok(1));
+        assert!(rt; writer.flush() == Err(fault));
+        assert!(rt; writer.flush() == Ok(()));
+        assert!(rt; writer.write(b"bcd") == Ok(2));
     }
     Ok(())
 }

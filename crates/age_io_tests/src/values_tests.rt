@@ -11,7 +11,7 @@ use std::test::Fail;
 
 // What is shown of a value for debugging is this text.
 fn shows<D: Debug>(rt: &impl Abort, alloc: Global, value: &D, text: &str) -> Result<(), Fail> {
-    assert_eq!(rt; format!(in alloc; "{value:?}")?.as_str(), text);
+    assert!(rt; format!(in alloc; "{value:?}")?.as_str() == text);
     Ok(())
 }
 
@@ -36,14 +36,14 @@ fn a_slice_is_handed_back_whole(rt: HostRuntime) -> Result<(), Fail> {
         &reader,
         "Bytes { place: 0, length: 6, .. }",
     )?;
-    assert_eq!(rt; reader.seek(SeekFrom::Start(4)), Ok(4));
+    assert!(rt; reader.seek(SeekFrom::Start(4)) == Ok(4));
     shows(
         &rt,
         rt.alloc(),
         &reader,
         "Bytes { place: 4, length: 6, .. }",
     )?;
-    assert_eq!(rt; reader.into_inner(), b"abcdef".as_slice());
+    assert!(rt; reader.into_inner() == b"abcdef".as_slice());
     Ok(())
 }
 
@@ -71,13 +71,10 @@ fn reads_ahead(
 // The device fails once, and then gives what the buffer hasn't read.
 fn gives_the_rest(rt: &impl Abort, alloc: Global, inner: &mut Std<Source>) -> Result<(), Fail> {
     let mut room = [0; 4];
-    assert_eq!(rt;
-        inner.read(&mut room),
-        Err(Error::Device(ErrorKind::NotFound))
-    );
+    assert!(rt; inner.read(&mut room) == Err(Error::Device(ErrorKind::NotFound)));
     shows(rt, alloc, &*inner, "Std { faults: 1, .. }")?;
-    assert_eq!(rt; inner.read(&mut room), Ok(3));
-    assert_eq!(rt; room.as_slice(), b"fgh\0".as_slice());
+    assert!(rt; inner.read(&mut room) == Ok(3));
+    assert!(rt; room.as_slice() == b"fgh\0".as_slice());
     Ok(())
 }
 
@@ -98,7 +95,7 @@ fn what_was_read_ahead_is_lost(rt: HostRuntime) -> Result<(), Fail> {
     reads_ahead(&rt, alloc, &mut reader)?;
     let mut inner = reader.into_inner();
     gives_the_rest(&rt, alloc, &mut inner)?;
-    assert_eq!(rt; inner.into_inner().bytes, b"".as_slice());
+    assert!(rt; inner.into_inner().bytes == b"".as_slice());
     Ok(())
 }
 

@@ -38,7 +38,7 @@ fn file_for_three(rt: &impl Abort, alloc: Global) -> Result<Vec<u8>, Fail> {
         &mut Bytes::new(MESSAGE),
         &mut file,
     )?;
-    assert_eq!(rt; draw.left(), 0);
+    assert!(rt; draw.left() == 0);
     Ok(file)
 }
 

@@ -18,17 +18,17 @@ fn reads(
 ) -> Result<(), Fail> {
     match Recipient::from_str(alloc, text) {
         Ok(key) => {
-            assert_eq!(rt; Ok(key.plugin()), as_recipient);
-            assert_eq!(rt; key.clone()?.to_string(alloc)?.as_str(), text);
+            assert!(rt; Ok(key.plugin()) == as_recipient);
+            assert!(rt; key.clone()?.to_string(alloc)?.as_str() == text);
         }
-        Err(message) => assert_eq!(rt; Err(message), as_recipient),
+        Err(message) => assert!(rt; Err(message) == as_recipient),
     }
     match Identity::from_str(alloc, text) {
         Ok(key) => {
-            assert_eq!(rt; Ok(key.plugin()), as_identity);
-            assert_eq!(rt; key.clone()?.to_string(alloc)?.as_str(), text);
+            assert!(rt; Ok(key.plugin()) == as_identity);
+            assert!(rt; key.clone()?.to_string(alloc)?.as_str() == text);
         }
-        Err(message) => assert_eq!(rt; Err(message), as_identity),
+        Err(message) => assert!(rt; Err(message) == as_identity),
     }
     Ok(())
 }
@@ -98,11 +98,11 @@ fn defaults(
     match Identity::default_for_plugin(alloc, name) {
         Ok(key) => {
             let text = key.to_string(alloc)?;
-            assert_eq!(rt; Some((text.as_str(), key.plugin())), expected);
+            assert!(rt; Some((text.as_str(), key.plugin())) == expected);
         }
         Err(ResolveError::InvalidPluginName { name: refused }) => {
-            assert_eq!(rt; expected, None);
-            assert_eq!(rt; refused.as_str(), name);
+            assert!(rt; expected == None);
+            assert!(rt; refused.as_str() == name);
         }
         Err(_) => panic!(rt; "another refusal"),
     }
@@ -136,7 +136,7 @@ fn names_have_at_most_71_bytes(rt: HostRuntime) -> Result<(), Fail> {
     let alloc = rt.alloc();
     let name = letters(alloc, 71)?;
     match Identity::default_for_plugin(alloc, name.as_str()) {
-        Ok(key) => assert_eq!(rt; key.plugin(), name.as_str()),
+        Ok(key) => assert!(rt; key.plugin() == name.as_str()),
         Err(_) => panic!(rt; "no identity"),
     }
     defaults(&rt, alloc, letters(alloc, 72)?.as_str(), None)

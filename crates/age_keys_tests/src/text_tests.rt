@@ -24,8 +24,8 @@ fn a_recipient_prints_itself(rt: HostRuntime) -> Result<(), Fail> {
     for text in [RECIPIENT, UPPER] {
         match Recipient::<BenchSuite>::from_str(text) {
             Ok(recipient) => {
-                assert_eq!(rt; recipient.to_string(alloc)?.as_str(), RECIPIENT);
-                assert_eq!(rt; format!(in alloc; "{recipient:?}")?.as_str(), RECIPIENT);
+                assert!(rt; recipient.to_string(alloc)?.as_str() == RECIPIENT);
+                assert!(rt; format!(in alloc; "{recipient:?}")?.as_str() == RECIPIENT);
             }
             Err(_) => panic!(rt; "no recipient"),
         }
@@ -39,11 +39,8 @@ fn an_identity_prints_itself(rt: HostRuntime) -> Result<(), Fail> {
     for text in [IDENTITY, LOWER] {
         match Identity::<BenchSuite>::from_str(text) {
             Ok(identity) => {
-                assert_eq!(rt; identity.to_string(alloc)?.expose_secret(), IDENTITY);
-                assert_eq!(rt;
-                    identity.clone()?.to_string(alloc)?.expose_secret(),
-                    IDENTITY
-                );
+                assert!(rt; identity.to_string(alloc)?.expose_secret() == IDENTITY);
+                assert!(rt; identity.clone()?.to_string(alloc)?.expose_secret() == IDENTITY);
             }
             Err(_) => panic!(rt; "no identity"),
         }
@@ -59,11 +56,11 @@ fn a_generated_identity_prints_itself(rt: HostRuntime) -> Result<(), Fail> {
         panic!(rt; "too few random bytes");
     };
     let text = identity.to_string(alloc)?;
-    assert_eq!(rt;
-        text.expose_secret(),
-        "AGE-SECRET-KEY-1QQQQQQQQQQQQQQQQQQQQQQQQQQQQQQQQQQQQQQQQQQQQQQQQQQQQ8H00W3"
+    assert!(rt;
+        text.expose_secret()
+            == "AGE-SECRET-KEY-1QQQQQQQQQQQQQQQQQQQQQQQQQQQQQQQQQQQQQQQQQQQQQQQQQQQQ8H00W3"
     );
-    assert_eq!(rt; text.expose_secret().len(), 74);
+    assert!(rt; text.expose_secret().len() == 74);
     Ok(())
 }
 
@@ -71,11 +68,11 @@ fn a_generated_identity_prints_itself(rt: HostRuntime) -> Result<(), Fail> {
 fn refuses(rt: &impl Abort, text: &str, as_recipient: &str, as_identity: &str) {
     match Recipient::<BenchSuite>::from_str(text) {
         Ok(_) => assert!(rt; as_recipient.is_empty()),
-        Err(message) => assert_eq!(rt; message, as_recipient),
+        Err(message) => assert!(rt; message == as_recipient),
     }
     match Identity::<BenchSuite>::from_str(text) {
         Ok(_) => assert!(rt; as_identity.is_empty()),
-        Err(message) => assert_eq!(rt; message, as_identity),
+        Err(message) => assert!(rt; message == as_identity),
     }
 }
 
@@ -145,6 +142,6 @@ fn recipients_are_their_bytes(rt: HostRuntime) -> Result<(), Fail> {
         assert!(rt; recipient == recipient.clone()?);
         set.insert(recipient)?;
     }
-    assert_eq!(rt; set.len(), 2);
+    assert!(rt; set.len() == 2);
     Ok(())
 }

@@ -81,9 +81,9 @@ fn a_message_has_its_file(rt: HostRuntime) -> Result<(), Fail> {
         &mut draw,
         grease(alloc)?,
     )?;
-    assert_eq!(rt; file.len(), 249);
+    assert!(rt; file.len() == 249);
     assert!(rt; file.starts_with(HEADER));
-    assert_eq!(rt; digest(&file), 0xc316a2df6a3f83c8);
+    assert!(rt; digest(&file) == 0xc316a2df6a3f83c8);
     let plain = decrypt::<BenchSuite, Identity<BenchSuite>>(alloc, &mut identity, &file)?;
     assert!(rt; plain.as_slice() == MESSAGE);
     Ok(())
@@ -102,7 +102,7 @@ fn a_message_has_its_armor(rt: HostRuntime) -> Result<(), Fail> {
         &mut draw,
         grease(alloc)?,
     )?;
-    assert_eq!(rt; text.len(), 406);
+    assert!(rt; text.len() == 406);
     let plain = decrypt::<BenchSuite, Identity<BenchSuite>>(alloc, &mut identity, text.as_bytes())?;
     assert!(rt; plain.as_slice() == MESSAGE);
     let mut other = identity_of(&rt, alloc, &[9; 32])?;
@@ -122,11 +122,11 @@ fn answers(
     match identity.unwrap_stanza(alloc, stanza) {
         None => assert!(rt; expected.is_none()),
         Some(Ok(key)) => {
-            assert_eq!(rt; expected, Some(Ok(())));
+            assert!(rt; expected == Some(Ok(())));
             assert!(rt; *key.expose_secret() == [0; 16]);
         }
         Some(Err(error)) => {
-            assert_eq!(rt; expected, Some(Err(())));
+            assert!(rt; expected == Some(Err(())));
             assert!(rt; matches!(error, DecryptError::InvalidHeader));
         }
     }
@@ -203,14 +203,14 @@ fn wraps(
     let mut draw = Draw::new(Vec::from_slice(alloc, random)?);
     match recipient.wrap_file_key(alloc, &FileKey::new([0; 16]), &mut draw) {
         Ok((stanzas, labels)) => {
-            assert_eq!(rt; expected, Ok(()));
-            assert_eq!(rt; stanzas.len(), 1);
+            assert!(rt; expected == Ok(()));
+            assert!(rt; stanzas.len() == 1);
             assert!(rt; stanzas[0] == stanza(alloc, "X25519", &[SHARE], &SEALED)?);
             assert!(rt; labels.is_empty());
         }
-        Err(error) => assert_eq!(rt; expected, Err(error.to_string(alloc)?.as_str())),
+        Err(error) => assert!(rt; expected == Err(error.to_string(alloc)?.as_str())),
     }
-    assert_eq!(rt; draw.left(), left);
+    assert!(rt; draw.left() == left);
     Ok(())
 }
 
@@ -251,7 +251,7 @@ fn runs_out(rt: &impl Abort, alloc: Global, random: usize, left: usize) -> Resul
         grease(alloc)?,
     );
     assert!(rt; matches!(refused, Err(EncryptError::ShortRandom)));
-    assert_eq!(rt; draw.left(), left);
+    assert!(rt; draw.left() == left);
     Ok(())
 }
 
@@ -269,8 +269,8 @@ fn identities_take_32_random_bytes(rt: HostRuntime) -> Result<(), Fail> {
     let alloc = rt.alloc();
     let mut draw = zeros(alloc, 63)?;
     assert!(rt; Identity::<BenchSuite>::generate(&mut draw).is_some());
-    assert_eq!(rt; draw.left(), 31);
+    assert!(rt; draw.left() == 31);
     assert!(rt; Identity::<BenchSuite>::generate(&mut draw).is_none());
-    assert_eq!(rt; draw.left(), 31);
+    assert!(rt; draw.left() == 31);
     Ok(())
 }

@@ -65,10 +65,10 @@ fn a_file_answers_as_its_plaintext(rt: HostRuntime) -> Result<(), Fail> {
     let mut texts = armored_texts(alloc, &file)?;
     texts.push(file)?;
     let expected = run(alloc, &mut Bytes::new(&plain), &OPS)?;
-    assert_eq!(rt; expected.len(), 12);
+    assert!(rt; expected.len() == 12);
     for text in &texts {
         let answers = answers_with(alloc, With::Bench, &OPS, Bytes::new(text))?;
-        assert_eq!(rt; answers.len(), expected.len());
+        assert!(rt; answers.len() == expected.len());
         for (answer, other) in answers.iter().zip(expected.iter()) {
             assert!(rt; same(answer, other));
         }
@@ -94,7 +94,7 @@ fn what_is_no_file_for_the_identity_is_refused(rt: HostRuntime) -> Result<(), Fa
     ] {
         match answers_with(alloc, With::Bench, &OPS, Bytes::new(text)) {
             Err(FileError::Decrypt(error)) => {
-                assert_eq!(rt; error.to_string(alloc)?, expected.to_string(alloc)?);
+                assert!(rt; error.to_string(alloc)? == expected.to_string(alloc)?);
             }
             _ => return Err(Fail::from("another answer")),
         }

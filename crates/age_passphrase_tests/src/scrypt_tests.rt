@@ -40,10 +40,10 @@ fn answers(
     match horse(alloc, 18)?.unwrap_stanza(alloc, &stanza) {
         None => panic!(rt; "passed over"),
         Some(Ok(key)) => {
-            assert_eq!(rt; expected, Ok(()));
+            assert!(rt; expected == Ok(()));
             assert!(rt; *key.expose_secret() == [0; 16]);
         }
-        Some(Err(error)) => assert_eq!(rt; expected, Err(error.to_string(alloc)?.as_str())),
+        Some(Err(error)) => assert!(rt; expected == Err(error.to_string(alloc)?.as_str())),
     }
     Ok(())
 }
@@ -174,9 +174,9 @@ fn wraps<S: Suite>(
     let mut draw = Draw::new(vec![in alloc; 0; random]?);
     match recipient.wrap_file_key(alloc, &FileKey::new([0; 16]), &mut draw) {
         Ok((stanzas, labels)) => {
-            assert_eq!(rt; stanzas.len(), 1);
+            assert!(rt; stanzas.len() == 1);
             assert!(rt; matches!(expected, Ok(stanza) if stanzas[0] == *stanza));
-            assert_eq!(rt; labels.len(), 1);
+            assert!(rt; labels.len() == 1);
             assert!(rt; labels.iter().all(|label| label.as_str() == LABEL));
         }
         Err(error) => {
@@ -184,7 +184,7 @@ fn wraps<S: Suite>(
             assert!(rt; matches!(expected, Err(refusal) if text.as_str() == refusal));
         }
     }
-    assert_eq!(rt; draw.left(), left);
+    assert!(rt; draw.left() == left);
     Ok(())
 }
 

@@ -45,7 +45,7 @@ fn after_a_byte<'a>(
     };
     let mut reader = Reader::with_payload_key(alloc, KEY, Std::new(disk))?;
     reads(rt, &mut reader, 0);
-    assert_eq!(rt; reader.opens(), 1);
+    assert!(rt; reader.opens() == 1);
     Ok(reader)
 }
 
@@ -56,13 +56,13 @@ fn is_refused(
     reader: &mut Reader<'_>,
     to: SeekFrom,
 ) -> Result<(), Fail> {
-    assert_eq!(rt; reader.seek(to), Err(FAULT));
+    assert!(rt; reader.seek(to) == Err(FAULT));
     stays_failed(rt, reader);
-    assert_eq!(rt; reader.seek(SeekFrom::Current(-2)), Err(Error::BeforeStart));
+    assert!(rt; reader.seek(SeekFrom::Current(-2)) == Err(Error::BeforeStart));
     stays_failed(rt, reader);
     let text = format!(in alloc; "{reader:?}")?;
-    assert_eq!(rt; text.as_str(), "StreamReader { place: 1, .. }");
-    assert_eq!(rt; reader.opens(), 1);
+    assert!(rt; text.as_str() == "StreamReader { place: 1, .. }");
+    assert!(rt; reader.opens() == 1);
     Ok(())
 }
 
@@ -77,9 +77,9 @@ fn keeps_its_chunk(
     let steps = steps_before_a_fault(done);
     let mut reader = after_a_byte(rt, alloc, &steps, payload)?;
     is_refused(rt, alloc, &mut reader, to)?;
-    assert_eq!(rt; reader.seek(SeekFrom::Start(5)), Ok(5), "after {done}");
+    assert!(rt; reader.seek(SeekFrom::Start(5)) == Ok(5), "after {done}");
     reads(rt, &mut reader, 5);
-    assert_eq!(rt; reader.opens(), 1);
+    assert!(rt; reader.opens() == 1);
     Ok(())
 }
 
@@ -111,16 +111,15 @@ fn goes_where_it_should(
     let steps = steps_before_a_fault(done);
     let mut reader = after_a_byte(rt, alloc, &steps, payload)?;
     is_refused(rt, alloc, &mut reader, SeekFrom::End(0))?;
-    assert_eq!(rt;
-        reader.seek(SeekFrom::Start(70_000)),
-        Ok(70_000),
+    assert!(rt;
+        reader.seek(SeekFrom::Start(70_000)) == Ok(70_000),
         "after {done}"
     );
     reads(rt, &mut reader, 70_000);
-    assert_eq!(rt; reader.opens(), 2);
-    assert_eq!(rt; reader.seek(SeekFrom::End(0)), Ok(102_400));
-    assert_eq!(rt; reader.read(&mut [0]), Ok(0));
-    assert_eq!(rt; reader.opens(), 2);
+    assert!(rt; reader.opens() == 2);
+    assert!(rt; reader.seek(SeekFrom::End(0)) == Ok(102_400));
+    assert!(rt; reader.read(&mut [0]) == Ok(0));
+    assert!(rt; reader.opens() == 2);
     Ok(())
 }
 
@@ -144,10 +143,10 @@ fn is_done_before_a_fault(
     next: Result<usize, Error>,
     opens: u64,
 ) {
-    assert_eq!(rt; reader.seek(to), answer);
-    assert_eq!(rt; reader.read(&mut [0]), next);
-    assert_eq!(rt; reader.opens(), opens);
-    assert_eq!(rt; reader.seek(SeekFrom::End(-1)).is_ok(), next.is_err());
+    assert!(rt; reader.seek(to) == answer);
+    assert!(rt; reader.read(&mut [0]) == next);
+    assert!(rt; reader.opens() == opens);
+    assert!(rt; reader.seek(SeekFrom::End(-1)).is_ok() == next.is_err());
 }
 
 // The seek is done before the fault, and the next call that asks the device meets it.

@@ -25,19 +25,19 @@ type OtherReader<'a> = StreamReader<OtherSuite, Bytes<'a>>;
 /// A read of one byte, which is there.
 pub fn reads<S: Suite, R: Read>(rt: &impl Abort, reader: &mut StreamReader<S, R>, place: usize) {
     let mut byte = [255];
-    assert_eq!(rt; reader.read(&mut byte), Ok(1), "at {place}");
-    assert_eq!(rt; byte, [(place % 251) as u8], "at {place}");
+    assert!(rt; reader.read(&mut byte) == Ok(1), "at {place}");
+    assert!(rt; byte == [(place % 251) as u8], "at {place}");
 }
 
 // The clean end.
 fn ends<S: Suite, R: Read>(rt: &impl Abort, reader: &mut StreamReader<S, R>) {
-    assert_eq!(rt; reader.read(&mut [0]), Ok(0));
+    assert!(rt; reader.read(&mut [0]) == Ok(0));
 }
 
 /// A reader that has failed.
 pub fn stays_failed<S: Suite, R: Read>(rt: &impl Abort, reader: &mut StreamReader<S, R>) {
     for _read in 0..2 {
-        assert_eq!(rt; reader.read(&mut [0]), Err(Error::Failed));
+        assert!(rt; reader.read(&mut [0]) == Err(Error::Failed));
     }
 }
 
@@ -50,7 +50,7 @@ fn gives<S: Suite, R: Read>(
     error: Error,
 ) -> Result<(), Fail> {
     let mut read = Vec::new(alloc);
-    assert_eq!(rt; read_to_end(alloc, reader, &mut read), Err(error));
+    assert!(rt; read_to_end(alloc, reader, &mut read) == Err(error));
     assert!(rt; read.as_slice() == expected);
     stays_failed(rt, reader);
     Ok(())
@@ -58,39 +58,30 @@ fn gives<S: Suite, R: Read>(
 
 // Refused seeks in a payload of 102,400 bytes of plaintext, from its front on, and a read after each.
 fn stays_where_it_is<S: Suite, R: Seek>(rt: &impl Abort, reader: &mut StreamReader<S, R>) {
-    assert_eq!(rt; reader.seek(SeekFrom::Start(102_401)), Err(Error::PastEnd));
+    assert!(rt; reader.seek(SeekFrom::Start(102_401)) == Err(Error::PastEnd));
     reads(rt, reader, 0);
-    assert_eq!(rt; reader.seek(SeekFrom::Start(0)), Ok(0));
-    assert_eq!(rt; reader.seek(SeekFrom::Current(-1)), Err(Error::BeforeStart));
+    assert!(rt; reader.seek(SeekFrom::Start(0)) == Ok(0));
+    assert!(rt; reader.seek(SeekFrom::Current(-1)) == Err(Error::BeforeStart));
     reads(rt, reader, 0);
-    assert_eq!(rt; reader.seek(SeekFrom::Start(10)), Ok(10));
-    assert_eq!(rt;
-        reader.seek(SeekFrom::Current(i64::MAX)),
-        Err(Error::PastEnd)
-    );
+    assert!(rt; reader.seek(SeekFrom::Start(10)) == Ok(10));
+    assert!(rt; reader.seek(SeekFrom::Current(i64::MAX)) == Err(Error::PastEnd));
     reads(rt, reader, 10);
-    assert_eq!(rt;
-        reader.seek(SeekFrom::End(-102_401)),
-        Err(Error::BeforeStart)
-    );
-    assert_eq!(rt;
-        reader.seek(SeekFrom::Current(i64::MIN)),
-        Err(Error::BeforeStart)
-    );
+    assert!(rt; reader.seek(SeekFrom::End(-102_401)) == Err(Error::BeforeStart));
+    assert!(rt; reader.seek(SeekFrom::Current(i64::MIN)) == Err(Error::BeforeStart));
     reads(rt, reader, 11);
 }
 
 // Seeks in a payload of 102,400 bytes of plaintext, from its front on, and a read after each.
 fn moves_a_cursor<S: Suite, R: Seek>(rt: &impl Abort, reader: &mut StreamReader<S, R>) {
     stays_where_it_is(rt, reader);
-    assert_eq!(rt; reader.seek(SeekFrom::End(0)), Ok(102_400));
+    assert!(rt; reader.seek(SeekFrom::End(0)) == Ok(102_400));
     ends(rt, reader);
-    assert_eq!(rt; reader.seek(SeekFrom::Start(102_400)), Ok(102_400));
+    assert!(rt; reader.seek(SeekFrom::Start(102_400)) == Ok(102_400));
     ends(rt, reader);
-    assert_eq!(rt; reader.seek(SeekFrom::Start(65_536)), Ok(65_536));
-    assert_eq!(rt; reader.read(&mut []), Ok(0));
+    assert!(rt; reader.seek(SeekFrom::Start(65_536)) == Ok(65_536));
+    assert!(rt; reader.read(&mut []) == Ok(0));
     reads(rt, reader, 65_536);
-    assert_eq!(rt; reader.seek(SeekFrom::End(-1)), Ok(102_399));
+    assert!(rt; reader.seek(SeekFrom::End(-1)) == Ok(102_399));
     reads(rt, reader, 102_399);
     ends(rt, reader);
 }
@@ -110,7 +101,7 @@ fn is_a_cursor<S: Suite, R: Seek + Drop>(
 fn seeks_move_a_cursor(rt: HostRuntime) -> Result<(), Fail> {
     let alloc = rt.alloc();
     let payload = seal_whole::<BenchSuite>(alloc, &KEY, &plaintext(alloc, 102_400)?)?;
-    assert_eq!(rt; payload.len(), 102_432);
+    assert!(rt; payload.len() == 102_432);
     is_a_cursor::<BenchSuite, _>(&rt, alloc, Bytes::new(&payload))?;
     is_a_cursor::<BenchSuite, _>(&rt, alloc, BufReader::new(alloc, Bytes::new(&payload))?)?;
     for text in &armored_texts(alloc, &payload)? {
@@ -153,7 +144,7 @@ fn is_place(rt: &impl Abort, answer: &Answer, place: u64) -> Result<(), Fail> {
     let Answer::At(at) = answer else {
         return Err(Fail::from("no place"));
     };
-    assert_eq!(rt; *at, place);
+    assert!(rt; *at == place);
     Ok(())
 }
 
@@ -162,7 +153,7 @@ fn is_fault(rt: &impl Abort, answer: &Answer, refusal: Error) -> Result<(), Fail
         return Err(Fail::from("no refusal"));
     };
     assert!(rt; got.is_empty());
-    assert_eq!(rt; *error, refusal);
+    assert!(rt; *error == refusal);
     Ok(())
 }
 
@@ -203,9 +194,9 @@ fn lacks_its_end<S: Suite, R: Seek + Drop>(
 ) -> Result<(), Fail> {
     let mut reader = StreamReader::<S, R>::with_payload_key(alloc, KEY, inner)?;
     gives(rt, alloc, &mut reader, first, Error::Truncated)?;
-    assert_eq!(rt; reader.seek(SeekFrom::End(0)), Err(Error::BadEnd));
+    assert!(rt; reader.seek(SeekFrom::End(0)) == Err(Error::BadEnd));
     stays_failed(rt, &mut reader);
-    assert_eq!(rt; reader.seek(SeekFrom::Start(0)), Ok(0));
+    assert!(rt; reader.seek(SeekFrom::Start(0)) == Ok(0));
     gives(rt, alloc, &mut reader, first, Error::Truncated)
 }
 
@@ -236,12 +227,12 @@ fn has_no_length<S: Suite, R: Seek + Drop>(
     to: SeekFrom,
 ) -> Result<(), Fail> {
     let mut reader = StreamReader::<S, R>::with_payload_key(alloc, KEY, inner)?;
-    assert_eq!(rt; reader.seek(SeekFrom::Current(-1)), Err(Error::BeforeStart));
+    assert!(rt; reader.seek(SeekFrom::Current(-1)) == Err(Error::BeforeStart));
     reads(rt, &mut reader, 0);
-    assert_eq!(rt; reader.seek(to), Err(Error::BadEnd));
+    assert!(rt; reader.seek(to) == Err(Error::BadEnd));
     stays_failed(rt, &mut reader);
     // A target below 0 is told from the place alone.
-    assert_eq!(rt; reader.seek(SeekFrom::Current(-2)), Err(Error::BeforeStart));
+    assert!(rt; reader.seek(SeekFrom::Current(-2)) == Err(Error::BeforeStart));
     stays_failed(rt, &mut reader);
     Ok(())
 }
@@ -305,7 +296,7 @@ fn an_empty_last_chunk_after_a_full_one(rt: HostRuntime) -> Result<(), Fail> {
     let alloc = rt.alloc();
     let plain = plaintext(alloc, 65_536)?;
     let payload = chunks::<BenchSuite>(alloc, &FIRST_AS_MIDDLE, &plain, &[])?;
-    assert_eq!(rt; payload.len(), 65_568);
+    assert!(rt; payload.len() == 65_568);
     let other = chunks::<OtherSuite>(alloc, &FIRST_AS_MIDDLE, &plain, &[])?;
     let texts = armored_texts(alloc, &payload)?;
     for to in [
@@ -331,7 +322,7 @@ fn has_two_last_chunks<S: Suite, R: Seek + Drop>(
     let mut reader = StreamReader::<S, R>::with_payload_key(alloc, KEY, inner)?;
     gives(rt, alloc, &mut reader, plain, Error::AfterLast)?;
     // Reads that come through a part of it find the same.
-    assert_eq!(rt; reader.seek(SeekFrom::Start(65_535)), Ok(65_535));
+    assert!(rt; reader.seek(SeekFrom::Start(65_535)) == Ok(65_535));
     gives(
         rt,
         alloc,
@@ -340,10 +331,10 @@ fn has_two_last_chunks<S: Suite, R: Seek + Drop>(
         Error::AfterLast,
     )?;
     // Right after a seek the chunk at the place is judged by itself.
-    assert_eq!(rt; reader.seek(SeekFrom::Start(65_536)), Ok(65_536));
+    assert!(rt; reader.seek(SeekFrom::Start(65_536)) == Ok(65_536));
     reads(rt, &mut reader, 65_536);
     ends(rt, &mut reader);
-    assert_eq!(rt; reader.seek(SeekFrom::End(0)), Ok(65_537));
+    assert!(rt; reader.seek(SeekFrom::End(0)) == Ok(65_537));
     ends(rt, &mut reader);
     Ok(())
 }
@@ -379,7 +370,7 @@ fn is_left<S: Suite, R: Read>(
     expected: &[u8],
 ) -> Result<(), Fail> {
     let mut read = Vec::new(alloc);
-    assert_eq!(rt; read_to_end(alloc, reader, &mut read), Ok(expected.len()));
+    assert!(rt; read_to_end(alloc, reader, &mut read) == Ok(expected.len()));
     assert!(rt; read.as_slice() == expected);
     Ok(())
 }
@@ -400,11 +391,11 @@ fn passes_a_bad_chunk<S: Suite>(rt: &impl Abort, alloc: Global) -> Result<(), Fa
         part(&plain, 0, 65_536),
         Error::BadChunk,
     )?;
-    assert_eq!(rt; reader.seek(SeekFrom::Start(131_072)), Ok(131_072));
+    assert!(rt; reader.seek(SeekFrom::Start(131_072)) == Ok(131_072));
     is_left(rt, alloc, &mut reader, part(&plain, 131_072, 200_000))?;
-    assert_eq!(rt; reader.seek(SeekFrom::Start(100_000)), Ok(100_000));
+    assert!(rt; reader.seek(SeekFrom::Start(100_000)) == Ok(100_000));
     gives(rt, alloc, &mut reader, &[], Error::BadChunk)?;
-    assert_eq!(rt; reader.seek(SeekFrom::Start(5)), Ok(5));
+    assert!(rt; reader.seek(SeekFrom::Start(5)) == Ok(5));
     reads(rt, &mut reader, 5);
     Ok(())
 }
@@ -422,16 +413,16 @@ fn opens_nothing_but_at_the_end<S: Suite, R: Seek + Drop>(
     inner: R,
 ) -> Result<(), Fail> {
     let mut reader = StreamReader::<S, R>::with_payload_key(alloc, KEY, inner)?;
-    assert_eq!(rt; reader.opens(), 0);
-    assert_eq!(rt; reader.seek(SeekFrom::Start(655_360)), Ok(655_360));
-    assert_eq!(rt; reader.opens(), 0);
+    assert!(rt; reader.opens() == 0);
+    assert!(rt; reader.seek(SeekFrom::Start(655_360)) == Ok(655_360));
+    assert!(rt; reader.opens() == 0);
     reads(rt, &mut reader, 655_360);
-    assert_eq!(rt; reader.opens(), 1);
-    assert_eq!(rt; reader.seek(SeekFrom::End(0)), Ok(655_361));
-    assert_eq!(rt; reader.opens(), 1);
-    assert_eq!(rt; reader.seek(SeekFrom::Start(3)), Ok(3));
-    assert_eq!(rt; reader.seek(SeekFrom::End(0)), Ok(655_361));
-    assert_eq!(rt; reader.opens(), 2);
+    assert!(rt; reader.opens() == 1);
+    assert!(rt; reader.seek(SeekFrom::End(0)) == Ok(655_361));
+    assert!(rt; reader.opens() == 1);
+    assert!(rt; reader.seek(SeekFrom::Start(3)) == Ok(3));
+    assert!(rt; reader.seek(SeekFrom::End(0)) == Ok(655_361));
+    assert!(rt; reader.opens() == 2);
     Ok(())
 }
 
@@ -439,7 +430,7 @@ fn opens_nothing_but_at_the_end<S: Suite, R: Seek + Drop>(
 fn seeks_open_nothing_but_at_the_end(rt: HostRuntime) -> Result<(), Fail> {
     let alloc = rt.alloc();
     let payload = seal_whole::<BenchSuite>(alloc, &KEY, &plaintext(alloc, 655_361)?)?;
-    assert_eq!(rt; payload.len(), 655_537);
+    assert!(rt; payload.len() == 655_537);
     opens_nothing_but_at_the_end::<BenchSuite, _>(&rt, alloc, Bytes::new(&payload))?;
     let buffered = BufReader::new(alloc, Bytes::new(&payload))?;
     opens_nothing_but_at_the_end::<BenchSuite, _>(&rt, alloc, buffered)?;
@@ -470,8 +461,8 @@ fn a_chunk_is_kept_while_it_is_read(rt: HostRuntime) -> Result<(), Fail> {
     let mut reader = Reader::with_payload_key(alloc, KEY, Bytes::new(&payload))?;
     reads(&rt, &mut reader, 0);
     // As a middle chunk first, then as the last.
-    assert_eq!(rt; reader.opens(), 2);
-    assert_eq!(rt; reader.seek(SeekFrom::Start(0)), Ok(0));
+    assert!(rt; reader.opens() == 2);
+    assert!(rt; reader.seek(SeekFrom::Start(0)) == Ok(0));
     read_bytes(&rt, &mut reader, 65_536);
     assert!(rt; reader.opens() <= 7);
     Ok(())
@@ -489,9 +480,8 @@ fn is_read_at<S: Suite, R: Seek>(
 ) -> Result<(), Fail> {
     let before = reader.opens();
     let mut room = vec![in alloc; 0; length]?;
-    assert_eq!(rt;
-        reader.read_at(SeekFrom::Start(place), &mut room),
-        Ok(count),
+    assert!(rt;
+        reader.read_at(SeekFrom::Start(place), &mut room) == Ok(count),
         "at {place}"
     );
     assert!(rt;
@@ -499,20 +489,14 @@ fn is_read_at<S: Suite, R: Seek>(
         "at {place}"
     );
     for (i, byte) in room.iter().take(count).enumerate() {
-        assert_eq!(rt; *byte, ((place as usize).wrapping_add(i) % 251) as u8);
+        assert!(rt; *byte == (((place as usize).wrapping_add(i) % 251) as u8));
     }
     Ok(())
 }
 
 fn is_not_read_outside<S: Suite, R: Seek>(rt: &impl Abort, reader: &mut StreamReader<S, R>) {
-    assert_eq!(rt;
-        reader.read_at(SeekFrom::Start(200_001), &mut [0]),
-        Err(Error::PastEnd)
-    );
-    assert_eq!(rt;
-        reader.read_at(SeekFrom::End(-200_001), &mut [0]),
-        Err(Error::BeforeStart)
-    );
+    assert!(rt; reader.read_at(SeekFrom::Start(200_001), &mut [0]) == Err(Error::PastEnd));
+    assert!(rt; reader.read_at(SeekFrom::End(-200_001), &mut [0]) == Err(Error::BeforeStart));
 }
 
 fn is_read_at_places<S: Suite>(rt: &impl Abort, alloc: Global) -> Result<(), Fail> {
@@ -528,7 +512,7 @@ fn is_read_at_places<S: Suite>(rt: &impl Abort, alloc: Global) -> Result<(), Fai
         is_read_at(rt, alloc, &mut reader, place, length, count, opens)?;
     }
     is_not_read_outside(rt, &mut reader);
-    assert_eq!(rt; reader.read_at(SeekFrom::End(-1), &mut []), Ok(0));
+    assert!(rt; reader.read_at(SeekFrom::End(-1), &mut []) == Ok(0));
     reads(rt, &mut reader, 199_999);
     Ok(())
 }
@@ -553,14 +537,14 @@ fn reads_at_two_places_in_a_row(rt: HostRuntime) -> Result<(), Fail> {
         (SeekFrom::End(-36_860), 65_540),
         (SeekFrom::Current(0), 65_550),
     ] {
-        assert_eq!(rt; reader.read_at(to, &mut room), Ok(10), "from {start}");
+        assert!(rt; reader.read_at(to, &mut room) == Ok(10), "from {start}");
         assert!(rt;
             room.as_slice() == part(&plain, start, start.saturating_add(10)),
             "from {start}"
         );
     }
     let mut rest = Vec::new(alloc);
-    assert_eq!(rt; read_to_end(alloc, &mut reader, &mut rest), Ok(36_840));
+    assert!(rt; read_to_end(alloc, &mut reader, &mut rest) == Ok(36_840));
     assert!(rt; rest.as_slice() == part(&plain, 65_560, 102_400));
     Ok(())
 }

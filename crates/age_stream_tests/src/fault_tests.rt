@@ -57,15 +57,12 @@ fn reads_are_tried_17_times(rt: HostRuntime) -> Result<(), Fail> {
     ] {
         let steps = &steps[..count];
         let mut room = [0; 3];
-        assert_eq!(rt; read_exact(&mut source(steps, b"abc"), &mut room), exact);
+        assert!(rt; read_exact(&mut source(steps, b"abc"), &mut room) == exact);
         let mut all = Vec::new(alloc);
-        assert_eq!(rt;
-            read_to_end(alloc, &mut source(steps, b"abc"), &mut all),
-            count_read
-        );
+        assert!(rt; read_to_end(alloc, &mut source(steps, b"abc"), &mut all) == count_read);
         let mut reader = Reader::with_payload_key(alloc, KEY, source(steps, &payload))?;
-        assert_eq!(rt; reader.read(&mut room), count_read);
-        assert_eq!(rt; reader.read(&mut room), after);
+        assert!(rt; reader.read(&mut room) == count_read);
+        assert!(rt; reader.read(&mut room) == after);
     }
     Ok(())
 }
@@ -80,24 +77,21 @@ fn writes_are_tried_17_times(rt: HostRuntime) -> Result<(), Fail> {
         (17, Err(OTHER), Err(OTHER), Err(Error::Failed), Some(OTHER)),
     ] {
         let steps = &steps[..count];
-        assert_eq!(rt;
-            write_all(&mut Std::new(&mut sink(alloc, steps)), b"abc"),
-            all
-        );
+        assert!(rt; write_all(&mut Std::new(&mut sink(alloc, steps)), b"abc") == all);
 
         let mut out = sink(alloc, steps);
         let mut writer = Writer::with_payload_key(alloc, KEY, Std::new(&mut out))?;
-        assert_eq!(rt; writer.write(&plain), written);
-        assert_eq!(rt; writer.write(b"a"), after);
+        assert!(rt; writer.write(&plain) == written);
+        assert!(rt; writer.write(b"a") == after);
 
         let mut out = sink(alloc, steps);
         let mut writer = Writer::with_payload_key(alloc, KEY, Std::new(&mut out))?;
-        assert_eq!(rt; writer.flush(), all);
-        assert_eq!(rt; writer.write(b"a"), after);
+        assert!(rt; writer.flush() == all);
+        assert!(rt; writer.write(b"a") == after);
 
         let mut out = sink(alloc, steps);
         let writer = Writer::with_payload_key(alloc, KEY, Std::new(&mut out))?;
-        assert_eq!(rt; writer.finish().err(), refusal);
+        assert!(rt; writer.finish().err() == refusal);
     }
     Ok(())
 }
@@ -111,11 +105,11 @@ fn interruptions_are_counted_afresh_after_each_byte(rt: HostRuntime) -> Result<(
         steps[17 * i - 1] = Step::Move(1);
     }
     let mut room = [0; 3];
-    assert_eq!(rt; read_exact(&mut source(&steps, b"abc"), &mut room), Ok(()));
-    assert_eq!(rt; room.as_slice(), b"abc".as_slice());
+    assert!(rt; read_exact(&mut source(&steps, b"abc"), &mut room) == Ok(()));
+    assert!(rt; room.as_slice() == b"abc".as_slice());
     let mut out = sink(alloc, &steps);
-    assert_eq!(rt; write_all(&mut Std::new(&mut out), b"abc"), Ok(()));
-    assert_eq!(rt; out.bytes.as_slice(), b"abc".as_slice());
+    assert!(rt; write_all(&mut Std::new(&mut out), b"abc") == Ok(()));
+    assert!(rt; out.bytes.as_slice() == b"abc".as_slice());
     Ok(())
 }
 
@@ -132,9 +126,9 @@ fn pieces_of_one_byte_change_nothing(rt: HostRuntime) -> Result<(), Fail> {
         bytes: Vec::new(alloc),
     };
     let mut writer = Writer::with_payload_key(alloc, KEY, Std::new(&mut out))?;
-    assert_eq!(rt; writer.write(&plain), Ok(65_537));
-    assert_eq!(rt; writer.finish().err(), None);
-    assert_eq!(rt; digest(&out.bytes), 0x4c19_c88a_fe40_61bc);
+    assert!(rt; writer.write(&plain) == Ok(65_537));
+    assert!(rt; writer.finish().err() == None);
+    assert!(rt; digest(&out.bytes) == 0x4c19_c88a_fe40_61bc);
 
     let bytes = Std::new(Source {
         script,
@@ -142,7 +136,7 @@ fn pieces_of_one_byte_change_nothing(rt: HostRuntime) -> Result<(), Fail> {
     });
     let mut reader = Reader::with_payload_key(alloc, KEY, bytes)?;
     let mut read = Vec::new(alloc);
-    assert_eq!(rt; read_to_end(alloc, &mut reader, &mut read), Ok(65_537));
+    assert!(rt; read_to_end(alloc, &mut reader, &mut read) == Ok(65_537));
     assert!(rt; read.as_slice() == plain.as_slice());
     Ok(())
 }
@@ -157,7 +151,7 @@ fn answers(
     let mut room = vec![in alloc; 0; 65_536]?;
     let mut reader = Reader::with_payload_key(alloc, KEY, bytes)?;
     for answer in expected {
-        assert_eq!(rt; reader.read(&mut room), answer);
+        assert!(rt; reader.read(&mut room) == answer);
     }
     Ok(())
 }
@@ -193,10 +187,10 @@ fn a_fault_of_the_device_below_fails_a_reader(rt: HostRuntime) -> Result<(), Fai
 
 // A writer that refused stays failed, and sends nothing more.
 fn stays_failed(rt: &impl Abort, mut writer: Writer<'_, '_>) {
-    assert_eq!(rt; writer.write(b"a"), Err(Error::Failed));
-    assert_eq!(rt; writer.write(b""), Err(Error::Failed));
-    assert_eq!(rt; writer.flush(), Err(Error::Failed));
-    assert_eq!(rt; writer.finish().err(), Some(Error::Failed));
+    assert!(rt; writer.write(b"a") == Err(Error::Failed));
+    assert!(rt; writer.write(b"") == Err(Error::Failed));
+    assert!(rt; writer.flush() == Err(Error::Failed));
+    assert!(rt; writer.finish().err() == Some(Error::Failed));
 }
 
 #[test]
@@ -217,21 +211,21 @@ fn a_fault_of_the_device_below_fails_a_writer(rt: HostRuntime) -> Result<(), Fai
     ] {
         let mut out = sink(alloc, &steps);
         let mut writer = Writer::with_payload_key(alloc, KEY, Std::new(&mut out))?;
-        assert_eq!(rt; writer.write(&plain), Err(refusal));
+        assert!(rt; writer.write(&plain) == Err(refusal));
         stays_failed(&rt, writer);
         assert!(rt; payload.strip_prefix(out.bytes.as_slice()).is_some());
-        assert_eq!(rt; out.bytes.len(), sent);
+        assert!(rt; out.bytes.len() == sent);
     }
     let mut out = sink(alloc, &[GONE]);
     let mut writer = Writer::with_payload_key(alloc, KEY, Std::new(&mut out))?;
-    assert_eq!(rt; writer.flush(), Err(Error::Device(ErrorKind::NotFound)));
+    assert!(rt; writer.flush() == Err(Error::Device(ErrorKind::NotFound)));
     stays_failed(&rt, writer);
     for (step, refusal) in [(CLOSED, OTHER), (Step::Move(0), Error::WriteZero)] {
         let steps = [Step::Move(3), step];
         let mut out = sink(alloc, &steps);
         let writer = Writer::with_payload_key(alloc, KEY, Std::new(&mut out))?;
-        assert_eq!(rt; writer.finish().err(), Some(refusal));
-        assert_eq!(rt; out.bytes.len(), 3);
+        assert!(rt; writer.finish().err() == Some(refusal));
+        assert!(rt; out.bytes.len() == 3);
     }
     Ok(())
 }
@@ -250,10 +244,10 @@ fn commands_answer_the_faults_of_devices(rt: HostRuntime) -> Result<(), Fail> {
     ] {
         let mut sealed = Std::new(sink(alloc, &output));
         let done = seal_all(alloc, KEY, &mut source(&input, b"abc"), &mut sealed);
-        assert_eq!(rt; done.is_ok(), seals);
+        assert!(rt; done.is_ok() == seals);
         let mut opened = Std::new(sink(alloc, &output));
         let done = open_all(alloc, KEY, &mut source(&input, &payload), &mut opened);
-        assert_eq!(rt; done.is_ok(), opens);
+        assert!(rt; done.is_ok() == opens);
     }
     Ok(())
 }

@@ -29,12 +29,12 @@ fn answers<S: Suite>(
 ) -> Result<(), Fail> {
     let bytes = Bytes::new(payload);
     let mut reader = StreamReader::<S, Bytes>::with_payload_key(alloc, KEY, bytes)?;
-    assert_eq!(rt; reader.opens(), 0);
+    assert!(rt; reader.opens() == 0);
     let mut room = vec![in alloc; 0; READ]?;
     for i in 0..4 {
-        assert_eq!(rt; reader.read(&mut room), expected[i], "at read {i}");
+        assert!(rt; reader.read(&mut room) == expected[i], "at read {i}");
     }
-    assert_eq!(rt; reader.opens(), opens);
+    assert!(rt; reader.opens() == opens);
     Ok(())
 }
 
@@ -61,7 +61,7 @@ fn whole_payloads_end_cleanly(rt: HostRuntime) -> Result<(), Fail> {
 // A refusal in the second chunk, after which the reader stays failed.
 fn refuses_the_second_chunk<S: Suite>(rt: &impl Abort, alloc: Global) -> Result<(), Fail> {
     let mut payload = seal_whole::<S>(alloc, &KEY, &plaintext(alloc, 131_072)?)?;
-    assert_eq!(rt; payload.len(), 131_104);
+    assert!(rt; payload.len() == 131_104);
     for (length, error, opens) in [
         (65_552, Error::Truncated, 1),
         (65_553, Error::BadChunk, 2),
@@ -121,7 +121,7 @@ fn refuses_an_empty_last_chunk<S: Suite>(rt: &impl Abort, alloc: Global) -> Resu
     let plain = plaintext(alloc, 65_536)?;
     let mut payload = S::seal(alloc, &KEY, &FIRST_AS_MIDDLE, &plain)?;
     payload.extend_from_slice(&S::seal(alloc, &KEY, &SECOND_AS_LAST, &[])?)?;
-    assert_eq!(rt; payload.len(), 65_568);
+    assert!(rt; payload.len() == 65_568);
     let expected = [
         Ok(65_536),
         Err(Error::LastChunkEmpty),
@@ -142,7 +142,7 @@ fn refuses_a_byte_after_the_last<S: Suite>(rt: &impl Abort, alloc: Global) -> Re
     let plain = plaintext(alloc, 65_536)?;
     let mut payload = S::seal(alloc, &KEY, &FIRST_AS_LAST, &plain)?;
     payload.push(0)?;
-    assert_eq!(rt; payload.len(), 65_553);
+    assert!(rt; payload.len() == 65_553);
     let expected = [
         Ok(65_536),
         Err(Error::AfterLast),
@@ -175,11 +175,11 @@ fn bytes_after_the_last_chunk_are_not_opened(rt: HostRuntime) -> Result<(), Fail
         let bytes = Bytes::new(&payload);
         let mut reader = StreamReader::<BenchSuite, Bytes>::with_payload_key(alloc, KEY, bytes)?;
         let mut room = vec![in alloc; 0; READ]?;
-        assert_eq!(rt; reader.read(&mut room), Ok(65_536));
-        assert_eq!(rt; reader.opens(), 2);
+        assert!(rt; reader.read(&mut room) == Ok(65_536));
+        assert!(rt; reader.opens() == 2);
         for refusal in [Error::AfterLast, Error::Failed] {
-            assert_eq!(rt; reader.read(&mut room), Err(refusal));
-            assert_eq!(rt; reader.opens(), 2);
+            assert!(rt; reader.read(&mut room) == Err(refusal));
+            assert!(rt; reader.opens() == 2);
         }
     }
     Ok(())
@@ -193,8 +193,8 @@ fn opens_once(
     opens: u64,
 ) {
     for _read in 0..8u8 {
-        assert_eq!(rt; reader.read(room), Ok(8_192));
-        assert_eq!(rt; reader.opens(), opens);
+        assert!(rt; reader.read(room) == Ok(8_192));
+        assert!(rt; reader.opens() == opens);
     }
 }
 
@@ -205,12 +205,12 @@ fn a_chunk_that_is_held_is_not_opened_again(rt: HostRuntime) -> Result<(), Fail>
     let payload = seal_whole::<BenchSuite>(alloc, &KEY, &plaintext(alloc, 131_072)?)?;
     let bytes = Bytes::new(&payload);
     let mut reader = StreamReader::<BenchSuite, Bytes>::with_payload_key(alloc, KEY, bytes)?;
-    assert_eq!(rt; reader.read(&mut []), Ok(0));
-    assert_eq!(rt; reader.opens(), 0);
+    assert!(rt; reader.read(&mut []) == Ok(0));
+    assert!(rt; reader.opens() == 0);
     let mut room = [0; 8_192];
     opens_once(&rt, &mut reader, &mut room, 1);
     opens_once(&rt, &mut reader, &mut room, 3);
-    assert_eq!(rt; reader.read(&mut room), Ok(0));
-    assert_eq!(rt; reader.opens(), 3);
+    assert!(rt; reader.read(&mut room) == Ok(0));
+    assert!(rt; reader.opens() == 3);
     Ok(())
 }

@@ -35,8 +35,8 @@ fn is_written_and_read_back<S: Suite>(
 ) -> Result<(), Fail> {
     let plain = plaintext(alloc, length)?;
     let payload = written::<S>(alloc, &plain, 1 << 20)?;
-    assert_eq!(rt; payload.len(), payload_length);
-    assert_eq!(rt; digest(&payload), expected, "of {length} bytes");
+    assert!(rt; payload.len() == payload_length);
+    assert!(rt; digest(&payload) == expected, "of {length} bytes");
     assert!(rt; seal_whole::<S>(alloc, &KEY, &plain)?.as_slice() == payload.as_slice());
     let opened = open_whole::<S>(alloc, &mut Opens::new(), &KEY, &payload)?;
     assert!(rt; opened.as_slice() == plain.as_slice(), "of {length} bytes");
@@ -44,9 +44,9 @@ fn is_written_and_read_back<S: Suite>(
     let bytes = Bytes::new(&payload);
     let mut reader = StreamReader::<S, Bytes>::with_payload_key(alloc, KEY, bytes)?;
     let mut read = Vec::new(alloc);
-    assert_eq!(rt; read_to_end(alloc, &mut reader, &mut read)?, length);
+    assert!(rt; read_to_end(alloc, &mut reader, &mut read)? == length);
     assert!(rt; read.as_slice() == plain.as_slice(), "of {length} bytes");
-    assert_eq!(rt; reader.read(&mut [0]), Ok(0));
+    assert!(rt; reader.read(&mut [0]) == Ok(0));
     Ok(())
 }
 
@@ -71,11 +71,11 @@ fn a_last_chunk_opens_under_its_nonce(rt: HostRuntime) -> Result<(), Fail> {
     let alloc = rt.alloc();
     let plain = plaintext(alloc, 65_537)?;
     let payload = written::<BenchSuite>(alloc, &plain, 65_537)?;
-    assert_eq!(rt; payload.len(), 65_569);
+    assert!(rt; payload.len() == 65_569);
     let nonce = [0, 0, 0, 0, 0, 0, 0, 0, 0, 0, 1, 1];
     let last = BenchSuite::open(alloc, &mut Opens::new(), &KEY, &nonce, &payload[65_552..])?;
     // 65,536 is 25 more than a multiple of 251.
-    assert_eq!(rt; last.ok_or("refused")?.as_slice(), [25].as_slice());
+    assert!(rt; last.ok_or("refused")?.as_slice() == [25].as_slice());
     Ok(())
 }
 
@@ -85,16 +85,14 @@ fn how_a_plaintext_is_cut_into_writes_is_not_seen(rt: HostRuntime) -> Result<(),
     let plain = plaintext(alloc, 131_072)?;
     for piece in [1, 65_535, 65_536, 131_072] {
         let bench = written::<BenchSuite>(alloc, &plain, piece)?;
-        assert_eq!(rt; bench.len(), 131_104);
-        assert_eq!(rt;
-            digest(&bench),
-            0x5f42_35d1_0738_d687,
+        assert!(rt; bench.len() == 131_104);
+        assert!(rt;
+            digest(&bench) == 0x5f42_35d1_0738_d687,
             "in pieces of {piece}"
         );
         let other = written::<OtherSuite>(alloc, &plain, piece)?;
-        assert_eq!(rt;
-            digest(&other),
-            0x81c2_3405_d713_853f,
+        assert!(rt;
+            digest(&other) == 0x81c2_3405_d713_853f,
             "in pieces of {piece}"
         );
     }
@@ -110,11 +108,11 @@ fn the_inner_reader_is_handed_back_as_it_stands(rt: HostRuntime) -> Result<(), F
         let bytes = Bytes::new(&payload);
         let mut reader = StreamReader::<BenchSuite, Bytes>::with_payload_key(alloc, KEY, bytes)?;
         for _read in 0..reads {
-            assert_eq!(rt; reader.read(&mut [0]), Ok(1));
+            assert!(rt; reader.read(&mut [0]) == Ok(1));
         }
         let mut inner = reader.into_inner();
         let mut rest = Vec::new(alloc);
-        assert_eq!(rt; read_to_end(alloc, &mut inner, &mut rest)?, left);
+        assert!(rt; read_to_end(alloc, &mut inner, &mut rest)? == left);
         assert!(rt; payload.ends_with(&rest));
     }
     Ok(())
@@ -127,16 +125,16 @@ fn debug_prints_how_far_they_are(rt: HostRuntime) -> Result<(), Fail> {
     let out = Vec::new(alloc);
     let mut writer = StreamWriter::<BenchSuite, Vec<u8>>::with_payload_key(alloc, KEY, out)?;
     let text = format!(in alloc; "{writer:?}")?;
-    assert_eq!(rt; text.as_str(), "StreamWriter { taken: 0, .. }");
+    assert!(rt; text.as_str() == "StreamWriter { taken: 0, .. }");
     writer.write(&plain)?;
     let text = format!(in alloc; "{writer:?}")?;
-    assert_eq!(rt; text.as_str(), "StreamWriter { taken: 65537, .. }");
+    assert!(rt; text.as_str() == "StreamWriter { taken: 65537, .. }");
     let payload = writer.finish()?;
     let bytes = Bytes::new(&payload);
     let mut reader = StreamReader::<BenchSuite, Bytes>::with_payload_key(alloc, KEY, bytes)?;
     let mut read = Vec::new(alloc);
     read_to_end(alloc, &mut reader, &mut read)?;
     let text = format!(in alloc; "{reader:?}")?;
-    assert_eq!(rt; text.as_str(), "StreamReader { place: 65537, .. }");
+    assert!(rt; text.as_str() == "StreamReader { place: 65537, .. }");
     Ok(())
 }

@@ -1,10 +1,11 @@
-//! Files of a passphrase.
+//! Files of a passphrase, and who knows one.
 ghost use Rattle.std.specs.Prelude.{◌≡◌, ◌==◌, IfOk, IfErr};
 ghost use Rattle.std.specs.List.{before_first, position};
 ghost use Rattle.std.specs.Str.Lines.{strip_carriage_return};
 ghost use Rattle.age_tool.specs.Passphrase.{first_line, RefusesText};
 
 use crate::error::PassphraseError;
+use age::scrypt;
 use age::secrecy::SecretString;
 use std::alloc::Global;
 
@@ -57,4 +58,21 @@ pub fn passphrase_of(alloc: Global, text: &[u8]) -> Result<SecretString, Passphr
         Err(_) => Err(PassphraseError::OutOfMemory),
         Ok(passphrase) => Ok(SecretString::from(passphrase)),
     }
+}
+
+/// The work factor that a passphrase is stretched with, the logarithm to base 2 of scrypt's N: about a second's work.
+pub const WORK_FACTOR: u8 = 18;
+
+/// The recipient of a passphrase, with the work factor 18.
+pub fn recipient_of<S>(passphrase: SecretString) -> scrypt::Recipient<S>
+    ensures { result ≡ record { passphrase = passphrase; factor = 18 } }
+{
+    scrypt::Recipient::new(passphrase, WORK_FACTOR)
+}
+
+/// The identity of a passphrase. It takes work factors up to 22, which is 16 times the work of its own files.
+pub fn identity_of<S>(passphrase: SecretString) -> scrypt::Identity<S>
+    ensures { result ≡ record { passphrase = passphrase; target = 18; most = 22 } }
+{
+    scrypt::Identity::new(passphrase, WORK_FACTOR)
 }

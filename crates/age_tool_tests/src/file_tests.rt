@@ -43,10 +43,10 @@ fn passphrase_is_the_first_line(rt: HostRuntime) -> Result<(), Fail> {
 #[test]
 fn passphrase_is_a_text_that_is_not_empty(rt: HostRuntime) {
     let alloc = rt.alloc();
-    assert_eq!(rt; refusal(alloc, b""), Some(PassphraseError::Empty));
-    assert_eq!(rt; refusal(alloc, b"\nsecond"), Some(PassphraseError::Empty));
-    assert_eq!(rt; refusal(alloc, b"\r\n"), Some(PassphraseError::Empty));
-    assert_eq!(rt; refusal(alloc, b"p\xe4sse"), Some(PassphraseError::NotText));
+    assert!(rt; refusal(alloc, b"") == Some(PassphraseError::Empty));
+    assert!(rt; refusal(alloc, b"\nsecond") == Some(PassphraseError::Empty));
+    assert!(rt; refusal(alloc, b"\r\n") == Some(PassphraseError::Empty));
+    assert!(rt; refusal(alloc, b"p\xe4sse") == Some(PassphraseError::NotText));
 }
 
 #[test]
@@ -59,7 +59,7 @@ fn key_has_its_recipient_and_its_secret(rt: HostRuntime) -> Result<(), Fail> {
     let mut draw = Draw::new(bytes);
     let text = new_key_file::<BenchSuite>(alloc, &mut draw)?;
     assert!(rt; text.as_slice() == KEY_FILE);
-    assert_eq!(rt; draw.left(), 8);
+    assert!(rt; draw.left() == 8);
     Ok(())
 }
 

@@ -64,40 +64,28 @@ fn text_may_be_in_upper_case(rt: HostRuntime) -> Result<(), Fail> {
 fn first_bad_line_is_told(rt: HostRuntime) -> Result<(), Fail> {
     let alloc = rt.alloc();
     let bad = Some(RecipientsError::NotRecipient { line: 3 });
-    assert_eq!(rt; refusal(alloc, b"\n# no key\nage1x\nage1y\n"), bad);
-    assert_eq!(rt; refusal(alloc, b"\n\n "), bad);
+    assert!(rt; refusal(alloc, b"\n# no key\nage1x\nage1y\n") == bad);
+    assert!(rt; refusal(alloc, b"\n\n ") == bad);
     let mut text = String::from_str(alloc, "\n#\r\n")?;
     text.push_str(ZEROS)?;
     text.push_str("\r\r\n")?;
-    assert_eq!(rt; refusal(alloc, text.as_bytes()), bad);
+    assert!(rt; refusal(alloc, text.as_bytes()) == bad);
     Ok(())
 }
 
 #[test]
 fn an_identity_is_no_recipient(rt: HostRuntime) {
     let text = b"AGE-SECRET-KEY-1QQQSYQCYQ5RQWZQFPG9SCRGWPUGPZYSNZS23V9CCRYDPK8QARC0SWRYDWG\n";
-    assert_eq!(rt;
-        refusal(rt.alloc(), text),
-        Some(RecipientsError::NotRecipient { line: 1 })
-    );
+    assert!(rt; refusal(rt.alloc(), text) == Some(RecipientsError::NotRecipient { line: 1 }));
 }
 
 #[test]
 fn nobody_is_no_recipient(rt: HostRuntime) {
-    assert_eq!(rt;
-        refusal(rt.alloc(), b""),
-        Some(RecipientsError::NoRecipient)
-    );
-    assert_eq!(rt;
-        refusal(rt.alloc(), b"# none\n\n"),
-        Some(RecipientsError::NoRecipient)
-    );
+    assert!(rt; refusal(rt.alloc(), b"") == Some(RecipientsError::NoRecipient));
+    assert!(rt; refusal(rt.alloc(), b"# none\n\n") == Some(RecipientsError::NoRecipient));
 }
 
 #[test]
 fn other_bytes_are_no_text(rt: HostRuntime) {
-    assert_eq!(rt;
-        refusal(rt.alloc(), b"# \xe4\n"),
-        Some(RecipientsError::NotText)
-    );
+    assert!(rt; refusal(rt.alloc(), b"# \xe4\n") == Some(RecipientsError::NotText));
 }

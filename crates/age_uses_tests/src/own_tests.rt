@@ -46,16 +46,16 @@ fn the_message_is_decrypted_by_own_alone(rt: HostRuntime) -> Result<(), Fail> {
     let mut plain = Vec::new(alloc);
     let file = own_file(alloc)?;
     done(decrypted(alloc, &file, &mut plain))?;
-    assert_eq!(rt; plain.as_slice(), MESSAGE);
+    assert!(rt; plain.as_slice() == MESSAGE);
     let mut none = Vec::new(alloc);
     let other = message_file(alloc)?;
     match decrypted(alloc, &other, &mut none) {
         Err(FileError::Decrypt(error)) => {
             let expected = DecryptError::NoMatchingKeys.to_string(alloc)?;
-            assert_eq!(rt; error.to_string(alloc)?.as_str(), expected.as_str());
+            assert!(rt; error.to_string(alloc)?.as_str() == expected.as_str());
         }
         _ => return Err(Fail::from("another answer")),
     }
-    assert_eq!(rt; none.len(), 0);
+    assert!(rt; none.len() == 0);
     Ok(())
 }

@@ -49,12 +49,12 @@ fn decrypts<S: Suite, I: Identity>(
     match decrypted::<S, I>(alloc, &mut identity, file) {
         Ok(plain) => {
             assert!(rt; has_key);
-            assert_eq!(rt; plain.as_slice(), MESSAGE);
+            assert!(rt; plain.as_slice() == MESSAGE);
         }
         Err(error) => {
             assert!(rt; !has_key);
             let expected = DecryptError::NoMatchingKeys.to_string(alloc)?;
-            assert_eq!(rt; error.to_string(alloc)?.as_str(), expected.as_str());
+            assert!(rt; error.to_string(alloc)?.as_str() == expected.as_str());
         }
     }
     Ok(())
@@ -110,7 +110,7 @@ fn comes_back<S: Suite>(rt: &impl Abort, alloc: Global) -> Result<(), Fail> {
             grease(alloc)?,
             MESSAGE,
         ))?;
-        assert_eq!(rt; back.as_slice(), MESSAGE);
+        assert!(rt; back.as_slice() == MESSAGE);
     }
     Ok(())
 }
@@ -139,7 +139,7 @@ fn one_opens<S: Suite, I: Identity>(
             format,
             MESSAGE,
         ))?;
-        assert_eq!(rt; given.as_slice(), MESSAGE);
+        assert!(rt; given.as_slice() == MESSAGE);
     }
     Ok(())
 }

@@ -52,7 +52,7 @@ fn the_message_is_decrypted(rt: HostRuntime) -> Result<(), Fail> {
             &mut Bytes::new(text),
             &mut plain,
         ))?;
-        assert_eq!(rt; plain.as_slice(), MESSAGE);
+        assert!(rt; plain.as_slice() == MESSAGE);
     }
     Ok(())
 }
@@ -70,7 +70,7 @@ fn the_message_comes_back_over_the_other_suite(rt: HostRuntime) -> Result<(), Fa
             &mut Bytes::new(&text),
             &mut plain,
         ))?;
-        assert_eq!(rt; plain.as_slice(), MESSAGE);
+        assert!(rt; plain.as_slice() == MESSAGE);
         let part = done(part_of::<OtherSuite, BenchIdentity, Bytes>(
             alloc,
             &mut [BenchIdentity],
@@ -78,7 +78,7 @@ fn the_message_comes_back_over_the_other_suite(rt: HostRuntime) -> Result<(), Fa
             4,
             Bytes::new(&text),
         ))?;
-        assert_eq!(rt; part.as_slice(), b"test".as_slice());
+        assert!(rt; part.as_slice() == b"test".as_slice());
     }
     Ok(())
 }
@@ -99,8 +99,8 @@ fn the_message_comes_back_in_one_call(rt: HostRuntime) -> Result<(), Fail> {
             &mut Bytes::new(MESSAGE),
             &mut plain,
         ))?;
-        assert_eq!(rt; plain.as_slice(), MESSAGE);
-        assert_eq!(rt; draw.left(), 1);
+        assert!(rt; plain.as_slice() == MESSAGE);
+        assert!(rt; draw.left() == 1);
     }
     Ok(())
 }

@@ -67,9 +67,9 @@ fn key_of(command: Option<Command>, to_seal: bool) -> Option<[u8; 32]> {
 // The key of this text is parsed, to seal and to open.
 fn key_is_parsed(rt: &impl Abort, alloc: Global, text: &str) -> Result<(), Fail> {
     let seal = format!(in alloc; "seal {text}")?;
-    assert_eq!(rt; key_of(parsed(alloc, &seal)?, true), Some(KEY));
+    assert!(rt; key_of(parsed(alloc, &seal)?, true) == Some(KEY));
     let open = format!(in alloc; "open {text}")?;
-    assert_eq!(rt; key_of(parsed(alloc, &open)?, false), Some(KEY));
+    assert!(rt; key_of(parsed(alloc, &open)?, false) == Some(KEY));
     Ok(())
 }
 
@@ -127,7 +127,7 @@ fn is_to_recipient(rt: &impl Abort, alloc: Global, line: &str) -> Result<(), Fai
     match &to {
         Some(To::Key(recipient)) => {
             let text = recipient.to_string(alloc)?;
-            assert_eq!(rt; text.as_str(), RECIPIENT);
+            assert!(rt; text.as_str() == RECIPIENT);
             Ok(())
         }
         _ => Err(Fail::from("another command")),
@@ -213,7 +213,7 @@ fn keys_of_the_other_kind_name_nobody(rt: &impl Abort, alloc: Global) -> Result<
 fn keys_are_asked_for(rt: HostRuntime) -> Result<(), Fail> {
     let alloc = rt.alloc();
     match parsed(alloc, "keygen 0AbC")? {
-        Some(Command::Keygen { draw }) => assert_eq!(rt; draw.as_slice(), [0x0a, 0xbc].as_slice()),
+        Some(Command::Keygen { draw }) => assert!(rt; draw.as_slice() == [0x0a, 0xbc].as_slice()),
         _ => return Err(Fail::from("another command")),
     }
     for line in [
@@ -307,9 +307,9 @@ fn places_and_counts_are_decimal(rt: HostRuntime) -> Result<(), Fail> {
         ("\u{663}", None),
     ] {
         let as_place = asked(alloc, word, "2")?;
-        assert_eq!(rt; as_place, expected.map(|place| (place, 2)), "at {word}");
+        assert!(rt; as_place == expected.map(|place| (place, 2)), "at {word}");
         let as_count = asked(alloc, "3", word)?;
-        assert_eq!(rt; as_count, expected.map(|count| (3, count)), "at {word}");
+        assert!(rt; as_count == expected.map(|count| (3, count)), "at {word}");
     }
     Ok(())
 }

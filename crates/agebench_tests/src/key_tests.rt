@@ -49,7 +49,7 @@ fn random(alloc: Global, count: usize, place: usize) -> Result<Vec<u8>, Fail> {
 fn makes_key(rt: &impl Abort, alloc: Global, count: usize) -> Result<(), Fail> {
     let mut line = Vec::new(alloc);
     keygen(alloc, Draw::new(random(alloc, count, 0)?), &mut line)?;
-    assert_eq!(rt; line.len(), 75);
+    assert!(rt; line.len() == 75);
     assert!(rt;
         line.as_slice()
             .strip_suffix(b"\n")
@@ -62,10 +62,10 @@ fn makes_key(rt: &impl Abort, alloc: Global, count: usize) -> Result<(), Fail> {
 fn makes_none(rt: &impl Abort, alloc: Global, count: usize) -> Result<(), Fail> {
     let mut line = Vec::new(alloc);
     match keygen(alloc, Draw::new(random(alloc, count, 0)?), &mut line) {
-        Err(error) => assert_eq!(rt; error.to_string(alloc)?.as_str(), "random bytes ran out"),
+        Err(error) => assert!(rt; error.to_string(alloc)?.as_str() == "random bytes ran out"),
         Ok(()) => return Err(Fail::from("a key was made")),
     }
-    assert_eq!(rt; line.len(), 0);
+    assert!(rt; line.len() == 0);
     Ok(())
 }
 
@@ -126,7 +126,7 @@ fn comes_back(rt: &impl Abort, alloc: Global, file: &[u8]) -> Result<(), Fail> {
     let mut plain = Vec::new(alloc);
     let mut input = Bytes::new(file);
     decrypt_with(alloc, identity(IDENTITY)?, &mut input, &mut plain)?;
-    assert_eq!(rt; plain.as_slice(), MESSAGE);
+    assert!(rt; plain.as_slice() == MESSAGE);
     Ok(())
 }
 
@@ -135,7 +135,7 @@ fn part_comes_back(rt: &impl Abort, alloc: Global, file: &[u8]) -> Result<(), Fa
     let mut part = Vec::new(alloc);
     let mut input = Bytes::new(file);
     at_with(alloc, identity(IDENTITY)?, 5, 3, &mut input, &mut part)?;
-    assert_eq!(rt; part.as_slice(), b"is ".as_slice());
+    assert!(rt; part.as_slice() == b"is ".as_slice());
     Ok(())
 }
 
@@ -147,7 +147,7 @@ fn has_no_key(rt: &impl Abort, alloc: Global, other: With, file: &[u8]) -> Resul
         Err(FileError::Decrypt(DecryptError::NoMatchingKeys)) => {}
         _ => return Err(Fail::from("another answer")),
     }
-    assert_eq!(rt; nothing.len(), 0);
+    assert!(rt; nothing.len() == 0);
     Ok(())
 }
 
@@ -156,7 +156,7 @@ fn files_for_a_key_are_decrypted_with_it(rt: HostRuntime) -> Result<(), Fail> {
     let alloc = rt.alloc();
     for (format, length) in [(Format::Binary, 256), (Format::AsciiArmor, 418)] {
         let file = encrypted(alloc, random(alloc, 64, 64)?, format)??;
-        assert_eq!(rt; file.len(), length);
+        assert!(rt; file.len() == length);
         comes_back(&rt, alloc, &file)?;
         part_comes_back(&rt, alloc, &file)?;
         has_no_key(&rt, alloc, identity(OTHER)?, &file)?;

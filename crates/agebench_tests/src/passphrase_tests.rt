@@ -98,7 +98,7 @@ fn armored(alloc: Global, word: &str) -> Result<Vec<u8>, Fail> {
 #[test]
 fn a_message_has_its_file(rt: HostRuntime) -> Result<(), Fail> {
     let file = encrypted(rt.alloc(), WORD, 72)??;
-    assert_eq!(rt; file.len(), 218);
+    assert!(rt; file.len() == 218);
     assert!(rt; file.starts_with(HEADER));
     Ok(())
 }
@@ -111,11 +111,11 @@ fn there_and_back(
     file: &[u8],
     digest_of: u64,
 ) -> Result<(), Fail> {
-    assert_eq!(rt; digest(file), digest_of, "at {word}");
+    assert!(rt; digest(file) == digest_of, "at {word}");
     let plain = written(alloc, &["decrypt", word], file)??;
-    assert_eq!(rt; plain.as_slice(), MESSAGE);
+    assert!(rt; plain.as_slice() == MESSAGE);
     let part = written(alloc, &["at", word, "5", "3"], file)??;
-    assert_eq!(rt; part.as_slice(), b"is ".as_slice());
+    assert!(rt; part.as_slice() == b"is ".as_slice());
     Ok(())
 }
 
@@ -139,10 +139,10 @@ fn files_for_a_passphrase_are_decrypted_with_it(rt: HostRuntime) -> Result<(), F
         ),
     ] {
         let file = encrypted(alloc, word, 72)??;
-        assert_eq!(rt; file.len(), 218);
+        assert!(rt; file.len() == 218);
         there_and_back(&rt, alloc, word, &file, binary)?;
         let text = armored(alloc, word)?;
-        assert_eq!(rt; text.len(), 365);
+        assert!(rt; text.len() == 365);
         there_and_back(&rt, alloc, word, &text, ascii)?;
     }
     Ok(())
@@ -163,7 +163,7 @@ fn another_passphrase_fails(rt: HostRuntime) -> Result<(), Fail> {
             ["at", other, "5", "3"].as_slice(),
         ] {
             match written(alloc, words, &file)? {
-                Err(error) => assert_eq!(rt; error.to_string(alloc)?.as_str(), "decryption failed"),
+                Err(error) => assert!(rt; error.to_string(alloc)?.as_str() == "decryption failed"),
                 Ok(_) => return Err(Fail::from("it was decrypted")),
             }
         }
@@ -191,7 +191,7 @@ fn too_few_random_bytes_make_no_file(rt: HostRuntime) -> Result<(), Fail> {
     let alloc = rt.alloc();
     for count in [0, 15, 16, 31, 32, 55, 56, 71] {
         match encrypted(alloc, WORD, count)? {
-            Err(error) => assert_eq!(rt; error.to_string(alloc)?.as_str(), "random bytes ran out"),
+            Err(error) => assert!(rt; error.to_string(alloc)?.as_str() == "random bytes ran out"),
             Ok(_) => return Err(Fail::from("a file was made")),
         }
     }
@@ -248,9 +248,9 @@ fn with_factor(alloc: Global, factor: u8) -> Result<Result<Vec<u8>, FileError>, 
 fn a_work_factor_may_be_refused(rt: HostRuntime) -> Result<(), Fail> {
     let alloc = rt.alloc();
     let file = with_factor(alloc, 20)??;
-    assert_eq!(rt; digest(&file), 0xfccf_a006_8768_548a);
+    assert!(rt; digest(&file) == 0xfccf_a006_8768_548a);
     let plain = written(alloc, &["decrypt", WORD], &file)??;
-    assert_eq!(rt; plain.as_slice(), MESSAGE);
+    assert!(rt; plain.as_slice() == MESSAGE);
     match with_factor(alloc, 21)? {
         Err(FileError::Encrypt(EncryptError::WorkFactorRefused)) => Ok(()),
         _ => Err(Fail::from("another answer")),

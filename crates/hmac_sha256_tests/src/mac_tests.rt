@@ -16,7 +16,7 @@ fn hmac_of_a_short_key(rt: HostRuntime) {
         0x2b, 0x88, 0x1d, 0xc2, 0x00, 0xc9, 0x83, 0x3d, 0xa7, 0x26, 0xe9, 0x37, 0x6c, 0x2e, 0x32,
         0xcf, 0xf7,
     ];
-    assert_eq!(rt; hmac(&[0x0b; 20], b"Hi There"), expected);
+    assert!(rt; hmac(&[0x0b; 20], b"Hi There") == expected);
 }
 
 // RFC 4231, case 6: the key is longer than a block, and is hashed first.
@@ -28,12 +28,12 @@ fn hmac_of_a_long_key(rt: HostRuntime) {
         0x7f, 0x8e, 0x0b, 0xc6, 0x21, 0x37, 0x28, 0xc5, 0x14, 0x05, 0x46, 0x04, 0x0f, 0x0e, 0xe3,
         0x7f, 0x54,
     ];
-    assert_eq!(rt; hmac(&[0xaa; 131], text), expected);
+    assert!(rt; hmac(&[0xaa; 131], text) == expected);
     let mut writer = HmacWriter::new(&[0xaa; 131]);
     writer.update(b"Test Using Larger Than Block-Size Key");
     writer.update(b"");
     writer.update(b" - Hash Key First");
-    assert_eq!(rt; writer.finalize(), expected);
+    assert!(rt; writer.finalize() == expected);
 }
 
 // RFC 5869, case 1, whose output goes on for ten bytes more.
@@ -46,7 +46,7 @@ fn hkdf_of_a_salt_and_info(rt: HostRuntime) {
         0x2a, 0x2d, 0x2d, 0x0a, 0x90, 0xcf, 0x1a, 0x5a, 0x4c, 0x5d, 0xb0, 0x2d, 0x56, 0xec, 0xc4,
         0xc5, 0xbf,
     ];
-    assert_eq!(rt; hkdf(&salt, &info, &[0x0b; 22]), expected);
+    assert!(rt; hkdf(&salt, &info, &[0x0b; 22]) == expected);
 }
 
 #[test]
@@ -61,6 +61,6 @@ fn macs_are_verified(rt: HostRuntime) {
         let mut writer = HmacWriter::new(&KEY);
         writer.update(b"text");
         mac[31] ^= u8::from(changed);
-        assert_eq!(rt; writer.verify(&mac[..size]), expected, "of {size} bytes");
+        assert!(rt; writer.verify(&mac[..size]) == expected, "of {size} bytes");
     }
 }

@@ -12,14 +12,11 @@ use age::streaming::FileError;
 use age::{DecryptError, Identity, IdentityFile, NoCallbacks, encrypted, scrypt, x25519};
 use age_standard::StandardSuite;
 use age_tool::callbacks::GivesOnce;
-use age_tool::passphrase::passphrase_of;
+use age_tool::passphrase::{WORK_FACTOR, identity_of, passphrase_of, recipient_of};
 use age_tool::recipients::recipients_of;
 use std::alloc::Global;
 use std::fs::File;
 use std::str::FromStr;
-
-// The work factor that a passphrase is stretched with, about a second's work.
-const WORK_FACTOR: u8 = 18;
 
 // A file of identities that is encrypted with a passphrase.
 type Protected = encrypted::Identity<StandardSuite, ArmoredReader<BufReader<Std<File>>>, GivesOnce>;
@@ -78,20 +75,6 @@ fn passphrase_in(rt: &HostRuntime, name: &str) -> Result<SecretString, Failure> 
     }
 }
 
-// The recipient of a passphrase.
-fn recipient_of(passphrase: SecretString) -> scrypt::Recipient<StandardSuite>
-    ensures { result ≡ record { passphrase = passphrase; factor = 18 } }
-{
-    scrypt::Recipient::new(passphrase, WORK_FACTOR)
-}
-
-// The identity of a passphrase, which takes 16 times the work.
-fn identity_of(passphrase: SecretString) -> scrypt::Identity<StandardSuite>
-    ensures { result ≡ record { passphrase = passphrase; target = 18; most = 22 } }
-{
-    scrypt::Identity::new(passphrase, WORK_FACTOR)
-}
-
 /// The recipient of the passphrase that the file of this name gives.
 pub fn passphrase_recipient(
     rt: &HostRuntime,
@@ -113,10 +96,7 @@ pub fn passphrase_identity(
 }
 
 /// The recipient whose text a word is.
-pub fn recipient(
-    rt: &HostRuntime,
-    word: &str,
-) -> Result<x25519::Recipient<StandardSuite>, Failure>
+pub fn recipient(rt: &HostRuntime, word: &str) -> Result<x25519::Recipient<StandardSuite>, Failure>
     ensures { IfOk result (λ recipient. IsKeyText recipient_prefix word.now recipient) }
 {
     match x25519::Recipient::from_str(word) {

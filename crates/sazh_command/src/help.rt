@@ -24,7 +24,8 @@ keygen   makes a new identity, which decrypts. Its file must be kept secret.
 encrypt  encrypts IN to each of the recipients, or to who knows a passphrase.
 decrypt  decrypts IN, in armor or not.
 part     decrypts COUNT bytes of IN from byte PLACE on (0 is the first), or
-         fewer where the content ends, and writes them to standard output.
+         fewer where the content ends, and writes them to standard output. It
+         seeks in a file, and reads standard input into memory first.
 
 IN and OUT are names of files; -, or none, is standard input or output.
 

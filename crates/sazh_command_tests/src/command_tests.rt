@@ -206,9 +206,9 @@ fn empty_words(rt: HostRuntime) -> Result<(), Fail> {
         words.push(String::from_str(alloc, word)?)?;
     }
     let answer = answer_of(alloc, &words)?;
-    assert_eq!(rt;
-        answer.as_str(),
-        r#"Ok(Encrypt { recipients: Listed([Text("")]), armored: false, input: "", output: Output { name: "", overwrite: false } })"#
+    assert!(rt;
+        answer.as_str()
+            == r#"Ok(Encrypt { recipients: Listed([Text("")]), armored: false, input: "", output: Output { name: "", overwrite: false } })"#
     );
     Ok(())
 }

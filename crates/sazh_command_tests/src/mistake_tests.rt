@@ -162,7 +162,7 @@ fn mistakes_are_told(rt: HostRuntime) -> Result<(), Fail> {
         ("decrypt", "no identity is given: -i or -p is needed"),
     ] {
         let text = told(rt.alloc(), line)?;
-        assert_eq!(rt; text.as_str(), expected, "at {line}");
+        assert!(rt; text.as_str() == expected, "at {line}");
     }
     Ok(())
 }
@@ -184,7 +184,7 @@ fn wrong_operands_are_told(rt: HostRuntime) -> Result<(), Fail> {
         ("keygen key", r#"the word "key" is one too many"#),
     ] {
         let text = told(rt.alloc(), line)?;
-        assert_eq!(rt; text.as_str(), expected, "at {line}");
+        assert!(rt; text.as_str() == expected, "at {line}");
     }
     Ok(())
 }
@@ -199,9 +199,6 @@ fn control_characters_are_escaped(rt: HostRuntime) -> Result<(), Fail> {
         Ok(_command) => String::from_str(alloc, "nothing is wrong")?,
         Err(error) => format!(in alloc; "{error}")?,
     };
-    assert_eq!(rt;
-        text.as_str(),
-        r#""two\nlines\r\"quoted\"\u{1b}[2J" is no command"#
-    );
+    assert!(rt; text.as_str() == r#""two\nlines\r\"quoted\"\u{1b}[2J" is no command"#);
     Ok(())
 }

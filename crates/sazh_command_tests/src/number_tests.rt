@@ -27,12 +27,12 @@ fn decimal_numbers_are_taken(rt: HostRuntime) -> Result<(), Fail> {
             "Ok(Part {{ identities: Files([\"key\"]), place: {number}, count: 2, input: \"file\" }})"
         )?;
         let answer = part(alloc, word, "2")?;
-        assert_eq!(rt; answer.as_str(), expected.as_str(), "at {word}");
+        assert!(rt; answer.as_str() == expected.as_str(), "at {word}");
         let expected = format!(in alloc;
             "Ok(Part {{ identities: Files([\"key\"]), place: 3, count: {number}, input: \"file\" }})"
         )?;
         let answer = part(alloc, "3", word)?;
-        assert_eq!(rt; answer.as_str(), expected.as_str(), "at {word}");
+        assert!(rt; answer.as_str() == expected.as_str(), "at {word}");
     }
     Ok(())
 }
@@ -59,10 +59,10 @@ fn other_words_are_no_numbers(rt: HostRuntime) -> Result<(), Fail> {
     ] {
         let expected = format!(in alloc; "Err(NotANumber(Place, {word:?}))")?;
         let answer = part(alloc, word, "2")?;
-        assert_eq!(rt; answer.as_str(), expected.as_str(), "at {word}");
+        assert!(rt; answer.as_str() == expected.as_str(), "at {word}");
         let expected = format!(in alloc; "Err(NotANumber(Count, {word:?}))")?;
         let answer = part(alloc, "3", word)?;
-        assert_eq!(rt; answer.as_str(), expected.as_str(), "at {word}");
+        assert!(rt; answer.as_str() == expected.as_str(), "at {word}");
     }
     Ok(())
 }

@@ -5,9 +5,8 @@ use scrypt::{ScryptError, scrypt};
 #[test]
 fn factors_that_are_refused(rt: HostRuntime) {
     for log_n in [0, 64, 255] {
-        assert_eq!(rt;
-            scrypt(rt.alloc(), b"password", b"NaCl", log_n),
-            Err(ScryptError::InvalidParams),
+        assert!(rt;
+            scrypt(rt.alloc(), b"password", b"NaCl", log_n) == Err(ScryptError::InvalidParams),
             "at {log_n}"
         );
     }
@@ -17,9 +16,8 @@ fn factors_that_are_refused(rt: HostRuntime) {
 #[test]
 fn factors_of_more_memory_than_there_is(rt: HostRuntime) {
     for log_n in [50, 53, 63] {
-        assert_eq!(rt;
-            scrypt(rt.alloc(), b"password", b"NaCl", log_n),
-            Err(ScryptError::OutOfMemory),
+        assert!(rt;
+            scrypt(rt.alloc(), b"password", b"NaCl", log_n) == Err(ScryptError::OutOfMemory),
             "at {log_n}"
         );
     }
@@ -28,13 +26,9 @@ fn factors_of_more_memory_than_there_is(rt: HostRuntime) {
 #[test]
 fn what_refusals_print(rt: HostRuntime) -> Result<(), ScryptError> {
     let alloc = rt.alloc();
-    assert_eq!(rt;
-        format!(in alloc; "{}", ScryptError::InvalidParams)?.as_str(),
-        "invalid scrypt parameters"
+    assert!(rt;
+        format!(in alloc; "{}", ScryptError::InvalidParams)?.as_str() == "invalid scrypt parameters"
     );
-    assert_eq!(rt;
-        format!(in alloc; "{}", ScryptError::OutOfMemory)?.as_str(),
-        "out of memory"
-    );
+    assert!(rt; format!(in alloc; "{}", ScryptError::OutOfMemory)?.as_str() == "out of memory");
     Ok(())
 }
