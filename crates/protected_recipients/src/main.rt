@@ -2,13 +2,13 @@
 //! that is its one word, and does so twice: a probe of what the first use and a later one answer, also where memory and reads fail.
 #![tactic(auto)]
 
+use age::EncryptError;
 use age::armor::ArmoredReader;
 use age::encrypted::Identity;
 use age::io::{Error, Std, write_all};
 use age::secrecy::SecretString;
 use age::streaming::FileError;
 use age::x25519::Recipient;
-use age::EncryptError;
 use age_bench::suite::BenchSuite;
 use age_tool::callbacks::GivesOnce;
 use std::alloc::Global;
