@@ -1,6 +1,8 @@
-//! Tests of `age_armor`: texts of armor that are written and read, and seeks in them.
+//! Tests of `age_armor`: texts of armor that are written and read, their faults, and seeks in them.
 #![tactic(auto)]
 
+#[cfg(test)]
+mod armor_tests;
 #[cfg(test)]
 mod definition_tests;
 #[cfg(test)]

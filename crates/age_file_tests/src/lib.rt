@@ -1,4 +1,4 @@
-//! Tests of whole files.
+//! Tests of whole files, of the plaintext of a file that is opened, and of its parts.
 #![tactic(auto)]
 
 #[cfg(test)]
@@ -10,7 +10,11 @@ mod file_tests;
 #[cfg(test)]
 mod legacy_tests;
 #[cfg(test)]
+mod opening_tests;
+#[cfg(test)]
 mod other_suite_tests;
+#[cfg(test)]
+mod part_tests;
 #[cfg(test)]
 mod passphrase_tests;
 #[cfg(test)]

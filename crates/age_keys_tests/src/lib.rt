@@ -1,10 +1,16 @@
-//! Tests of keys.
+//! Tests of keys and of passphrases.
 #![tactic(auto)]
 
 #[cfg(test)]
 mod file_tests;
 #[cfg(test)]
+mod fixtures;
+#[cfg(test)]
+mod passphrase_tests;
+#[cfg(test)]
 mod plugin_tests;
+#[cfg(test)]
+mod scrypt_tests;
 #[cfg(test)]
 mod text_tests;
 #[cfg(test)]

@@ -1,4 +1,4 @@
-//! Tests of `agebench_command`, what command lines ask for, and of the commands with keys and passphrases.
+//! Tests of `agebench_command`, what command lines ask for, of the commands of `age_bench`, and of its suite.
 #![tactic(auto)]
 
 #[cfg(test)]
@@ -7,3 +7,7 @@ mod command_tests;
 mod key_tests;
 #[cfg(test)]
 mod passphrase_tests;
+#[cfg(test)]
+mod payload_tests;
+#[cfg(test)]
+mod suite_tests;
