@@ -4,8 +4,9 @@ build.py PROGRAM WORD.., where the words are those of a run of it that succeeds.
 
 Says on standard error which crates it proves and how many are left, and nothing where there is nothing to do. Each crate
 is proved by `rt lib` over what earlier runs have kept, as soon as those that it uses are there, the one with the longest
-chain above it first, by as many jobs as there are processors, four at most. `rt` locks a crate and all below it, so each
-is proved in a folder of its own, with the libraries below it beside it. Exit status 3 where a crate isn't proved.
+chain above it first and with most of the processors' time, by as many jobs as there are processors, four at most. `rt` locks a
+crate and all below it, so each is proved in a folder of its own, with the libraries below it beside it. Exit status 3 where a
+crate isn't proved.
 """
 import hashlib
 import os
@@ -78,7 +79,7 @@ def below(name, uses):
 class Run:
     """A crate that is proved in a folder of its own."""
 
-    def __init__(self, name, uses, jobs):
+    def __init__(self, name, uses, jobs, niceness):
         self.name, self.jobs = name, jobs
         self.room = tempfile.mkdtemp(prefix=f"{PROGRAM}-")
         libraries = below(name, uses)
@@ -91,7 +92,7 @@ class Run:
             shutil.copytree(f"{TOP}/crates/{it}", f"{self.room}/crates/{it}", ignore=kept, copy_function=link)
         folder = f"{self.room}/crates/{name}"
         shutil.copytree(f"{TOP}/crates/{name}", folder, copy_function=link)
-        words = ["rt", "lib", "--jobs", str(jobs)]
+        words = ["nice", f"-n{niceness}", "rt", "lib", "--jobs", str(jobs)]
         if name == PROGRAM:
             words = ["rt", "run", "--jobs", str(jobs), "--", *WORDS]
         self.log = f"{self.room}/log"
@@ -119,7 +120,9 @@ class Run:
 def build(uses):
     above = {name: [it for it in uses if name in uses[it]] for name in uses}
     weight = {name: sum(open(it, "rb").read().count(b"\n") for it in sources(name)) for name in uses}
-    order = sorted(uses, key=lambda name: -chain(name, above, weight))
+    chains = {name: chain(name, above, weight) for name in uses}
+    order = sorted(uses, key=lambda name: -chains[name])
+    longest = chains[order[0]]
     # (more processes than processors cost little, and a processor that waits for the longest crate much)
     lanes = max(1, min(len(os.sched_getaffinity(0)), int(free_memory() / MEMORY)))
     most = min(4, lanes)
@@ -130,10 +133,14 @@ def build(uses):
         while len(done) < len(uses):
             begun = done | {it.name for it in running}
             ready = [it for it in order if it not in begun and done.issuperset(uses[it])]
-            for name in ready[:max(lanes - len(running), 0)]:
-                if running and sum(it.jobs for it in running) + most > room:
+            left = max(chains[name] for name in uses if name not in done)
+            for name in ready:
+                # (a crate from which little hangs doesn't keep a longer chain waiting)
+                ahead = sum(chains[it.name] >= chains[name] for it in running)
+                jobs = most if chains[name] > 0.75 * left else max(1, most // 2)
+                if ahead >= lanes or (running and sum(it.jobs for it in running) + jobs > room):
                     break
-                running.append(Run(name, uses, most))
+                running.append(Run(name, uses, jobs, round(19 * (1 - chains[name] / longest))))
             time.sleep(0.2)
             for run in [it for it in running if it.process.poll() is not None]:
                 if run.process.returncode != 0:

@@ -2,8 +2,9 @@
 //! of Python's base64 between the two markers.
 
 use age::armor::{ArmoredReadError, ArmoredReader, ArmoredWriter, Format};
-use age::io::{BufReader, Bytes, Error, Read, Write, read_to_end, write_all};
-use age_try::fixtures::{armored, digest, plaintext};
+use age::io::{BufReader, Bytes, Error, Read, Write, write_all};
+use age_try::answers::{delivers, delivers_until};
+use age_try::fixtures::{armored, digest, part, plaintext};
 use std::alloc::Global;
 use std::process::Abort;
 use std::test::Fail;
@@ -15,12 +16,15 @@ const ALPHABET: [u8; 48] = [
     0xab, 0xb2, 0xdb, 0xaf, 0xc3, 0x1c, 0xb3, 0xd3, 0x5d, 0xb7, 0xe3, 0x9e, 0xbb, 0xf3, 0xdf, 0xbf,
 ];
 
-// What a text carries.
-fn carried(alloc: Global, text: &[u8]) -> Result<Vec<u8>, Error> {
+// Whether a text carries these bytes and ends well.
+fn carries(alloc: Global, text: &[u8], bytes: &[u8]) -> Result<bool, Error> {
     let mut reader = ArmoredReader::new(alloc, Bytes::new(text))?;
-    let mut bytes = Vec::new(alloc);
-    read_to_end(alloc, &mut reader, &mut bytes)?;
-    Ok(bytes)
+    Ok(delivers(alloc, &mut reader, bytes))
+}
+
+// Whether this text is their armor.
+fn has_armor(alloc: Global, bytes: &[u8], text: &[u8]) -> Result<bool, Error> {
+    Ok(armored(alloc, bytes)?.as_slice() == text)
 }
 
 #[test]
@@ -48,10 +52,15 @@ fn bytes_have_their_armor(rt: HostRuntime) -> Result<(), Fail> {
             b"-----BEGIN AGE ENCRYPTED FILE-----\nABCDEFGHIJKLMNOPQRSTUVWXYZabcdefghijklmnopqrstuvwxyz0123456789+/\n-----END AGE ENCRYPTED FILE-----\n".as_slice(),
         ),
     ] {
-        assert!(rt; armored(alloc, bytes)?.as_slice() == text);
-        assert!(rt; carried(alloc, text)?.as_slice() == bytes);
+        assert!(rt; has_armor(alloc, bytes, text)?);
+        assert!(rt; carries(alloc, text, bytes)?);
     }
     Ok(())
+}
+
+// Whether the armor of bytes carries them.
+fn is_read_back(alloc: Global, bytes: &[u8]) -> Result<bool, Error> {
+    carries(alloc, &armored(alloc, bytes)?, bytes)
 }
 
 // The bytes 0, 1, .., 255 again and again: so many of them and one more each time, armored and read back.
@@ -59,11 +68,7 @@ fn are_read_back(rt: &impl Abort, alloc: Global, least: usize, most: usize) -> R
     let mut bytes = Vec::new(alloc);
     for n in 0..=most {
         if n >= least {
-            let text = armored(alloc, &bytes)?;
-            assert!(rt;
-                carried(alloc, &text)?.as_slice() == bytes.as_slice(),
-                "of {n} bytes"
-            );
+            assert!(rt; is_read_back(alloc, &bytes)?, "of {n} bytes");
         }
         bytes.push((n % 256) as u8)?;
     }
@@ -110,20 +115,36 @@ fn up_to_2400_bytes_are_read_back(rt: HostRuntime) -> Result<(), Fail> {
     are_read_back(&rt, rt.alloc(), 2_101, 2_400)
 }
 
+// The text of bytes that are written one by one, with a flush after each; `None` where a write or a flush refuses.
+fn by_single_bytes(alloc: Global, bytes: &[u8]) -> Result<Option<Vec<u8>>, Error> {
+    let mut writer = ArmoredWriter::wrap_output(alloc, Vec::new(alloc), Format::AsciiArmor)?;
+    for byte in bytes {
+        if writer.write(&[*byte]) != Ok(1) || writer.flush() != Ok(()) {
+            return Ok(None);
+        }
+    }
+    Ok(Some(writer.finish()?))
+}
+
 #[test]
 fn single_bytes_and_flushes_change_no_text(rt: HostRuntime) -> Result<(), Fail> {
     let alloc = rt.alloc();
     let bytes = plaintext(alloc, 20_000)?;
-    let mut writer = ArmoredWriter::wrap_output(alloc, Vec::new(alloc), Format::AsciiArmor)?;
-    for byte in &bytes {
-        assert!(rt; writer.write(&[*byte]) == Ok(1));
-        assert!(rt; writer.flush() == Ok(()));
-    }
-    let text = writer.finish()?;
-    assert!(rt; text.len() == 27_153);
-    assert!(rt; digest(&text) == 0x975e_6058_0219_0eba);
-    assert!(rt; armored(alloc, &bytes)?.as_slice() == text.as_slice());
+    let text = by_single_bytes(alloc, &bytes)?.ok_or("refused")?;
+    assert!(rt; text.len() == 27_153 && digest(&text) == 0x975e_6058_0219_0eba);
+    assert!(rt; has_armor(alloc, &bytes, &text)?);
     Ok(())
+}
+
+// What stands behind some bytes once these were written there without armor; `None` where a flush refuses.
+fn in_binary(alloc: Global, before: &[u8], bytes: &[u8]) -> Result<Option<Vec<u8>>, Error> {
+    let output = Vec::from_slice(alloc, before)?;
+    let mut writer = ArmoredWriter::wrap_output(alloc, output, Format::Binary)?;
+    write_all(&mut writer, bytes)?;
+    if writer.flush() != Ok(()) {
+        return Ok(None);
+    }
+    Ok(Some(writer.finish()?))
 }
 
 // Without armor the bytes go out, and are read, as they are: 36 of them or more.
@@ -131,20 +152,20 @@ fn single_bytes_and_flushes_change_no_text(rt: HostRuntime) -> Result<(), Fail> 
 fn bytes_without_armor_stay_as_they_are(rt: HostRuntime) -> Result<(), Fail> {
     let alloc = rt.alloc();
     let bytes = plaintext(alloc, 20_000)?;
-    let before = Vec::from_slice(alloc, b"before")?;
-    let mut writer = ArmoredWriter::wrap_output(alloc, before, Format::Binary)?;
-    write_all(&mut writer, &bytes)?;
-    assert!(rt; writer.flush() == Ok(()));
-    let text = writer.finish()?;
+    let text = in_binary(alloc, b"before", &bytes)?.ok_or("refused")?;
     assert!(rt; text.strip_prefix(b"before") == Some(bytes.as_slice()));
     for length in [36, 37, 20_000] {
-        let (front, _) = bytes
-            .as_slice()
-            .split_at_checked(length)
-            .unwrap_or((&[], &[]));
-        assert!(rt; carried(alloc, front)?.as_slice() == front);
+        let front = part(&bytes, 0, length);
+        assert!(rt; front.len() == length && carries(alloc, front, front)?);
     }
     Ok(())
+}
+
+// Whether a text, read through a buffer of the library, carries these bytes.
+fn carries_through_a_buffer(alloc: Global, text: &[u8], bytes: &[u8]) -> Result<bool, Error> {
+    let buffered = BufReader::new(alloc, Bytes::new(text))?;
+    let mut reader = ArmoredReader::new_buffered(alloc, buffered)?;
+    Ok(delivers(alloc, &mut reader, bytes))
 }
 
 // With LF, CRLF or both, without the last line ending, and with white space after it.
@@ -157,46 +178,40 @@ fn lines_may_end_with_lf_or_crlf(rt: HostRuntime) -> Result<(), Fail> {
         b"-----BEGIN AGE ENCRYPTED FILE-----\r\nYQ==\n-----END AGE ENCRYPTED FILE-----\n   ",
         b"-----BEGIN AGE ENCRYPTED FILE-----\nYQ==\n-----END AGE ENCRYPTED FILE-----\r\n \t\n\x0c\r",
     ] {
-        assert!(rt; carried(alloc, text)?.as_slice() == b"a".as_slice());
-        let buffered = BufReader::new(alloc, Bytes::new(text))?;
-        let mut reader = ArmoredReader::new_buffered(alloc, buffered)?;
-        let mut bytes = Vec::new(alloc);
-        assert!(rt; read_to_end(alloc, &mut reader, &mut bytes) == Ok(1));
-        assert!(rt; bytes.as_slice() == b"a".as_slice());
+        assert!(rt; carries(alloc, text, b"a")?);
+        assert!(rt; carries_through_a_buffer(alloc, text, b"a")?);
     }
     Ok(())
 }
 
+// Whether a buffer gives the first five of these bytes to a short read, and then the rest.
+fn is_buffered(alloc: Global, bytes: &[u8]) -> Result<bool, Error> {
+    let mut reader = BufReader::new(alloc, Bytes::new(bytes))?;
+    let mut room = [0; 5];
+    Ok(
+        reader.read(&mut room) == Ok(5)
+            && room.as_slice() == part(bytes, 0, 5)
+            && delivers(alloc, &mut reader, part(bytes, 5, bytes.len())),
+    )
+}
+
 #[test]
 fn a_buffer_reads_what_its_reader_has(rt: HostRuntime) -> Result<(), Fail> {
-    let alloc = rt.alloc();
-    let bytes = plaintext(alloc, 20_000)?;
-    let mut reader = BufReader::new(alloc, Bytes::new(&bytes))?;
-    let mut room = [0; 5];
-    assert!(rt; reader.read(&mut room) == Ok(5));
-    assert!(rt; room == [0, 1, 2, 3, 4]);
-    let mut rest = Vec::from_slice(alloc, &room)?;
-    assert!(rt; read_to_end(alloc, &mut reader, &mut rest) == Ok(19_995));
-    assert!(rt; rest.as_slice() == bytes.as_slice());
+    let bytes = plaintext(rt.alloc(), 20_000)?;
+    assert!(rt; is_buffered(rt.alloc(), &bytes)?);
     Ok(())
 }
 
-// A text gives these bytes, then the fault, and `Failed` from then on.
-fn is_refused(
-    rt: &impl Abort,
-    alloc: Global,
-    text: &[u8],
-    given: &[u8],
-    fault: Error,
-) -> Result<(), Fail> {
-    let mut reader = ArmoredReader::new(alloc, Bytes::new(text))?;
-    let mut bytes = Vec::new(alloc);
-    assert!(rt; read_to_end(alloc, &mut reader, &mut bytes) == Err(fault));
-    assert!(rt; bytes.as_slice() == given);
+// Whether a reader refuses reads, of some bytes and of none, as one that failed earlier.
+fn has_failed<R: Read>(reader: &mut R) -> bool {
     let mut room = [0; 4];
-    assert!(rt; reader.read(&mut room) == Err(Error::Failed));
-    assert!(rt; reader.read(&mut room[..0]) == Err(Error::Failed));
-    Ok(())
+    reader.read(&mut room) == Err(Error::Failed) && reader.read(&mut []) == Err(Error::Failed)
+}
+
+// Whether a text gives these bytes, then the fault, and `Failed` from then on.
+fn fails_after(alloc: Global, text: &[u8], given: &[u8], fault: Error) -> Result<bool, Error> {
+    let mut reader = ArmoredReader::new(alloc, Bytes::new(text))?;
+    Ok(delivers_until(alloc, &mut reader, given, fault) && has_failed(&mut reader))
 }
 
 #[test]
@@ -211,7 +226,7 @@ fn fewer_than_36_bytes_end_early(rt: HostRuntime) -> Result<(), Fail> {
         b"-----BEGIN AGE ENCRYPTED FILE-----x",
         &[0xff; 35],
     ] {
-        is_refused(&rt, alloc, text, b"", Error::UnexpectedEof)?;
+        assert!(rt; fails_after(alloc, text, b"", Error::UnexpectedEof)?);
     }
     Ok(())
 }
@@ -245,7 +260,7 @@ fn each_fault_has_its_name(rt: HostRuntime) -> Result<(), Fail> {
             ArmoredReadError::Base64,
         ),
     ] {
-        is_refused(&rt, alloc, text, b"", Error::Armor(fault))?;
+        assert!(rt; fails_after(alloc, text, b"", Error::Armor(fault))?);
     }
     Ok(())
 }
@@ -275,7 +290,7 @@ fn what_stands_before_a_fault_is_given(rt: HostRuntime) -> Result<(), Fail> {
             ArmoredReadError::ShortLineInMiddle,
         ),
     ] {
-        is_refused(&rt, alloc, text, given, Error::Armor(fault))?;
+        assert!(rt; fails_after(alloc, text, given, Error::Armor(fault))?);
     }
     Ok(())
 }

@@ -4,22 +4,14 @@ use age_error::io::{ArmoredReadError, Error, ErrorKind, SeekFrom};
 use age_error::suite::ScryptError;
 use std::alloc::Global;
 use std::fmt::{Debug, Display};
-use std::process::Abort;
-use std::test::Fail;
 
-// What prints as this text.
-pub fn prints<D: Display>(
-    rt: &impl Abort,
-    alloc: Global,
-    value: &D,
-    text: &str,
-) -> Result<(), Fail> {
-    assert!(rt; value.to_string(alloc)?.as_str() == text);
-    Ok(())
+// Whether it prints as this text.
+pub fn prints<D: Display>(alloc: Global, value: &D, text: &str) -> bool {
+    value.to_string(alloc).is_ok_and(|it| it.as_str() == text)
 }
 
 #[test]
-fn errors_have_their_texts_and_kinds(rt: HostRuntime) -> Result<(), Fail> {
+fn errors_have_their_texts_and_kinds(rt: HostRuntime) {
     for (error, kind, text) in [
         (
             Error::Device(ErrorKind::NotFound),
@@ -111,14 +103,13 @@ fn errors_have_their_texts_and_kinds(rt: HostRuntime) -> Result<(), Fail> {
         (Error::OutOfMemory, ErrorKind::OutOfMemory, "out of memory"),
     ] {
         assert!(rt; error.kind() == kind, "at {text}");
-        prints(&rt, rt.alloc(), &error, text)?;
+        assert!(rt; prints(rt.alloc(), &error, text), "at {text}");
     }
-    Ok(())
 }
 
 // An armor fault prints alike by itself and as a refusal.
 #[test]
-fn armor_faults_have_their_texts(rt: HostRuntime) -> Result<(), Fail> {
+fn armor_faults_have_their_texts(rt: HostRuntime) {
     for (fault, text) in [
         (ArmoredReadError::Base64, "invalid base64 in armor"),
         (
@@ -147,55 +138,37 @@ fn armor_faults_have_their_texts(rt: HostRuntime) -> Result<(), Fail> {
             "invalid armor (non-whitespace characters after end marker)",
         ),
     ] {
-        prints(&rt, rt.alloc(), &fault, text)?;
-        prints(&rt, rt.alloc(), &Error::from(fault), text)?;
+        assert!(rt; prints(rt.alloc(), &fault, text), "at {text}");
+        assert!(rt; prints(rt.alloc(), &Error::from(fault), text), "at {text}");
     }
-    Ok(())
 }
 
 #[test]
-fn scrypt_errors_have_their_texts(rt: HostRuntime) -> Result<(), Fail> {
-    prints(
-        &rt,
-        rt.alloc(),
-        &ScryptError::InvalidParams,
-        "work factor refused",
-    )?;
-    prints(&rt, rt.alloc(), &ScryptError::OutOfMemory, "out of memory")
+fn scrypt_errors_have_their_texts(rt: HostRuntime) {
+    let alloc = rt.alloc();
+    assert!(rt; prints(alloc, &ScryptError::InvalidParams, "work factor refused"));
+    assert!(rt; prints(alloc, &ScryptError::OutOfMemory, "out of memory"));
 }
 
-// What is shown of a value for debugging is this text.
-pub fn shows<D: Debug>(rt: &impl Abort, alloc: Global, value: &D, text: &str) -> Result<(), Fail> {
-    assert!(rt; format!(in alloc; "{value:?}")?.as_str() == text);
-    Ok(())
+// Whether this text is what is shown of a value for debugging.
+pub fn shows<D: Debug>(alloc: Global, value: &D, text: &str) -> bool {
+    format!(in alloc; "{value:?}").is_ok_and(|it| it.as_str() == text)
 }
 
 // As Rust's derive writes them.
 #[test]
-fn values_are_shown_for_debugging(rt: HostRuntime) -> Result<(), Fail> {
+fn values_are_shown_for_debugging(rt: HostRuntime) {
     let alloc = rt.alloc();
-    shows(&rt, alloc, &Error::BadChunk, "BadChunk")?;
-    shows(
-        &rt,
-        alloc,
-        &Error::Device(ErrorKind::NotFound),
-        "Device(NotFound)",
-    )?;
-    shows(
-        &rt,
-        alloc,
-        &Error::NotIdentity { line: 3 },
-        "NotIdentity { line: 3 }",
-    )?;
-    shows(
-        &rt,
-        alloc,
-        &Error::Armor(ArmoredReadError::Base64),
-        "Armor(Base64)",
-    )?;
-    shows(&rt, alloc, &ErrorKind::InvalidData, "InvalidData")?;
-    shows(&rt, alloc, &SeekFrom::Start(5), "Start(5)")?;
-    shows(&rt, alloc, &SeekFrom::End(-1), "End(-1)")?;
-    shows(&rt, alloc, &ScryptError::InvalidParams, "InvalidParams")?;
-    Ok(())
+    for (error, text) in [
+        (Error::BadChunk, "BadChunk"),
+        (Error::Device(ErrorKind::NotFound), "Device(NotFound)"),
+        (Error::NotIdentity { line: 3 }, "NotIdentity { line: 3 }"),
+        (Error::Armor(ArmoredReadError::Base64), "Armor(Base64)"),
+    ] {
+        assert!(rt; shows(alloc, &error, text), "at {text}");
+    }
+    assert!(rt; shows(alloc, &ErrorKind::InvalidData, "InvalidData"));
+    assert!(rt; shows(alloc, &SeekFrom::Start(5), "Start(5)"));
+    assert!(rt; shows(alloc, &SeekFrom::End(-1), "End(-1)"));
+    assert!(rt; shows(alloc, &ScryptError::InvalidParams, "InvalidParams"));
 }

@@ -56,6 +56,23 @@ impl Job for Writing {
     }
 }
 
+// Adds the recipients of a word of a command line.
+fn add_recipients(
+    rt: &HostRuntime,
+    word: &Recipient,
+    all: &mut Vec<x25519::Recipient<StandardSuite>>,
+) -> Result<(), Failure> {
+    match word {
+        Recipient::Text(text) => all.push(recipient(rt, text)?)?,
+        Recipient::File(name) => {
+            for found in recipients(rt, name)? {
+                all.push(found)?;
+            }
+        }
+    }
+    Ok(())
+}
+
 // The recipients of the words of a command line, in their order.
 fn all_recipients(
     rt: &HostRuntime,
@@ -63,14 +80,7 @@ fn all_recipients(
 ) -> Result<Vec<x25519::Recipient<StandardSuite>>, Failure> {
     let mut all = Vec::new(rt.alloc());
     for word in words {
-        match word {
-            Recipient::Text(text) => all.push(recipient(rt, text)?)?,
-            Recipient::File(name) => {
-                for found in recipients(rt, name)? {
-                    all.push(found)?;
-                }
-            }
-        }
+        add_recipients(rt, word, &mut all)?;
     }
     Ok(all)
 }
@@ -95,21 +105,61 @@ fn to(rt: &HostRuntime, recipients: &Recipients) -> Result<(To, Draw), Failure> 
     }
 }
 
+// Who knows the passphrase that the file of this name gives, as the one who decrypts.
+fn passphrase_alone(rt: &HostRuntime, name: &str) -> Result<Vec<Holder>, Failure> {
+    let identity = passphrase_identity(rt, name)?;
+    let mut one: Vec<Holder> = Vec::new(rt.alloc());
+    one.push(Holder::Passphrase(identity))?;
+    Ok(one)
+}
+
 // Who decrypts.
 fn with(rt: &HostRuntime, asked: &Identities) -> Result<Vec<Holder>, Failure> {
     match asked {
         Identities::Files(names) => identities(rt, names, None),
         Identities::ProtectedFiles(names, file) => identities(rt, names, Some(file.as_str())),
-        Identities::PassphraseFile(name) => {
-            let mut one: Vec<Holder> = Vec::new(rt.alloc());
-            one.push(Holder::Passphrase(passphrase_identity(rt, name)?))?;
-            Ok(one)
-        }
+        Identities::PassphraseFile(name) => passphrase_alone(rt, name),
     }
 }
 
-// So many bytes of a file's plaintext from a place on, to standard output. A file is sought in; standard input, in which nobody can seek, is
-// read into memory first.
+// So many bytes of the plaintext of standard input, in which nobody can seek, from a place on, to standard output. It is read into memory
+// first.
+fn part_of_input(
+    rt: &HostRuntime,
+    identities: &mut [Holder],
+    place: u64,
+    count: u64,
+) -> Result<(), Failure> {
+    let mut writer = Std::new(io::writer(rt));
+    at::<StandardSuite, Holder, _, _>(
+        rt.alloc(),
+        identities,
+        place,
+        count,
+        &mut Std::new(rt.reader()),
+        &mut writer,
+    )?;
+    flushed(&mut writer)
+}
+
+// So many bytes of the plaintext of the file of this name, in which is sought, from a place on, to standard output.
+fn part_of_file(
+    rt: &HostRuntime,
+    identities: &mut [Holder],
+    place: u64,
+    count: u64,
+    name: &str,
+) -> Result<(), Failure> {
+    let text = open(rt, name)?;
+    let mut stream = open_text::<StandardSuite, Holder, Std<File>>(rt.alloc(), identities, text)?;
+    let mut writer = Std::new(io::writer(rt));
+    match write_part(rt.alloc(), &mut stream, place, count, &mut writer) {
+        Err(error) => Err(Failure::Whole(FileError::Io(error))),
+        Ok(()) => flushed(&mut writer),
+    }
+}
+
+// So many bytes of a file's plaintext from a place on, to standard output.
 fn part(
     rt: &HostRuntime,
     asked: &Identities,
@@ -119,26 +169,9 @@ fn part(
 ) -> Result<(), Failure> {
     let mut identities = with(rt, asked)?;
     if input == "-" {
-        let mut writer = Std::new(io::writer(rt));
-        at::<StandardSuite, Holder, _, _>(
-            rt.alloc(),
-            &mut identities,
-            place,
-            count,
-            &mut Std::new(rt.reader()),
-            &mut writer,
-        )?;
-        return flushed(&mut writer);
-    }
-    let mut stream = open_text::<StandardSuite, Holder, Std<File>>(
-        rt.alloc(),
-        &mut identities,
-        open(rt, input)?,
-    )?;
-    let mut writer = Std::new(io::writer(rt));
-    match write_part(rt.alloc(), &mut stream, place, count, &mut writer) {
-        Err(error) => Err(Failure::Whole(FileError::Io(error))),
-        Ok(()) => flushed(&mut writer),
+        part_of_input(rt, &mut identities, place, count)
+    } else {
+        part_of_file(rt, &mut identities, place, count, input)
     }
 }
 

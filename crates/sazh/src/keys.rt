@@ -149,26 +149,65 @@ fn add_bare(
     }
 }
 
+// What was found, or nothing where something else was.
+fn found_or_none<T, E: Drop>(answer: Result<Option<T>, E>) -> Option<T> {
+    match answer {
+        Ok(found) => found,
+        Err(_) => None,
+    }
+}
+
+// The text of the file of this name, bare or in armor.
+fn text_in(rt: &HostRuntime, name: &str) -> Result<ArmoredReader<BufReader<Std<File>>>, Failure> {
+    match ArmoredReader::new(rt.alloc(), open(rt, name)?) {
+        Ok(text) => Ok(text),
+        Err(_) => Err(Failure::OutOfMemory),
+    }
+}
+
 // The identities in the encrypted file of this name, or `None` where it is no such file.
 fn protected(
     rt: &HostRuntime,
     name: &str,
     passphrase: Option<SecretString>,
 ) -> Result<Option<Protected>, Failure> {
-    let alloc = rt.alloc();
-    let Ok(text) = ArmoredReader::new(alloc, open(rt, name)?) else {
-        return Err(Failure::OutOfMemory);
-    };
-    match encrypted::Identity::from_buffer(
-        alloc,
+    let text = text_in(rt, name)?;
+    let name = copied(rt, name)?;
+    Ok(found_or_none(encrypted::Identity::from_buffer(
+        rt.alloc(),
         text,
-        Some(copied(rt, name)?),
+        Some(name),
         GivesOnce::new(passphrase),
         WORK_FACTOR,
         None,
-    ) {
-        Ok(found) => Ok(found),
-        Err(_) => Ok(None),
+    )))
+}
+
+// The passphrase that the file of this name gives, where one is named.
+fn passphrase_if_named(
+    rt: &HostRuntime,
+    name: Option<&str>,
+) -> Result<Option<SecretString>, Failure> {
+    match name {
+        None => Ok(None),
+        Some(name) => Ok(Some(passphrase_in(rt, name)?)),
+    }
+}
+
+// What was found in the file of this name, which needs a passphrase; where nothing was, it is refused as its first bytes were.
+fn usable<T: Drop>(
+    rt: &HostRuntime,
+    found: Option<T>,
+    is_passphrase_given: bool,
+    name: &str,
+    error: Error,
+) -> Result<T, Failure> {
+    match found {
+        None => Err(refused(rt, name, error)),
+        Some(found) if is_passphrase_given => Ok(found),
+        Some(_) => Err(Failure::IsProtected {
+            name: copied(rt, name)?,
+        }),
     }
 }
 
@@ -180,21 +219,10 @@ fn add_protected(
     passphrase: Option<&str>,
     error: Error,
 ) -> Result<(), Failure> {
-    let given = match passphrase {
-        None => None,
-        Some(file) => Some(passphrase_in(rt, file)?),
-    };
-    let is_given = given.is_some();
-    match protected(rt, name, given)? {
-        None => Err(refused(rt, name, error)),
-        Some(identity) if is_given => {
-            identities.push(Holder::File(identity))?;
-            Ok(())
-        }
-        Some(_) => Err(Failure::IsProtected {
-            name: copied(rt, name)?,
-        }),
-    }
+    let found = protected(rt, name, passphrase_if_named(rt, passphrase)?)?;
+    let identity = usable(rt, found, passphrase.is_some(), name, error)?;
+    identities.push(Holder::File(identity))?;
+    Ok(())
 }
 
 // Adds the identities in the file of this name.

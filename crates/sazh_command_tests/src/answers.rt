@@ -20,10 +20,26 @@ pub fn answer_of(alloc: Global, words: &[String]) -> Result<String, AllocError> 
     format!(in alloc; "{answer:?}")
 }
 
-/// The words of a line ask for this, or are wrong so.
-pub fn asks(rt: &impl Abort, alloc: Global, line: &str, expected: &str) -> Result<(), Fail> {
+// Whether the words of a line ask for this, or are wrong so.
+fn is_asked(alloc: Global, line: &str, expected: &str) -> Result<bool, AllocError> {
     let words = words_of(alloc, line)?;
     let answer = answer_of(alloc, &words)?;
-    assert!(rt; answer.as_str() == expected, "at {line}");
+    Ok(answer.as_str() == expected)
+}
+
+/// The words of a line ask for this, or are wrong so.
+pub fn asks(rt: &impl Abort, alloc: Global, line: &str, expected: &str) -> Result<(), Fail> {
+    assert!(rt; is_asked(alloc, line, expected)?, "at {line}");
+    Ok(())
+}
+
+/// The words of each line ask for what stands behind it, or are wrong so. A row is `LINE => ANSWER`, or empty.
+pub fn all_ask(rt: &impl Abort, alloc: Global, rows: &str) -> Result<(), Fail> {
+    for row in rows.lines() {
+        match row.split_once(" => ") {
+            Some((line, expected)) => asks(rt, alloc, line, expected)?,
+            None => assert!(rt; row.is_empty(), "{row}"),
+        }
+    }
     Ok(())
 }

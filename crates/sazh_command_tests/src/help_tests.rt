@@ -1,6 +1,6 @@
 //! Where help is asked for, and what the texts hold.
 
-use crate::answers::asks;
+use crate::answers::{all_ask, asks};
 use sazh_command::{HELP, USAGE};
 use std::process::Abort;
 use std::test::Fail;
@@ -44,27 +44,19 @@ fn help_comes_before_mistakes(rt: HostRuntime) -> Result<(), Fail> {
 
 #[test]
 fn help_is_not_asked_for(rt: HostRuntime) -> Result<(), Fail> {
-    for (line, expected) in [
-        (
-            "encrypt -r --help",
-            r#"Ok(Encrypt { recipients: Listed([Text("--help")]), armored: false, input: "-", output: Output { name: "-", overwrite: false } })"#,
-        ),
-        (
-            "encrypt -r a -o -h",
-            r#"Ok(Encrypt { recipients: Listed([Text("a")]), armored: false, input: "-", output: Output { name: "-h", overwrite: false } })"#,
-        ),
-        (
-            "decrypt -i key -- --help",
-            r#"Ok(Decrypt { identities: Files(["key"]), input: "--help", output: Output { name: "-", overwrite: false } })"#,
-        ),
-        ("keygen -o -h -x", r#"Err(UnknownOption("-x"))"#),
-        ("-- --help", r#"Err(UnknownCommand("--"))"#),
-        ("help", r#"Err(UnknownCommand("help"))"#),
-        ("keygen -help", r#"Err(UnknownOption("-help"))"#),
-    ] {
-        asks(&rt, rt.alloc(), line, expected)?;
-    }
-    Ok(())
+    all_ask(
+        &rt,
+        rt.alloc(),
+        r#"
+encrypt -r --help => Ok(Encrypt { recipients: Listed([Text("--help")]), armored: false, input: "-", output: Output { name: "-", overwrite: false } })
+encrypt -r a -o -h => Ok(Encrypt { recipients: Listed([Text("a")]), armored: false, input: "-", output: Output { name: "-h", overwrite: false } })
+decrypt -i key -- --help => Ok(Decrypt { identities: Files(["key"]), input: "--help", output: Output { name: "-", overwrite: false } })
+keygen -o -h -x => Err(UnknownOption("-x"))
+-- --help => Err(UnknownCommand("--"))
+help => Err(UnknownCommand("help"))
+keygen -help => Err(UnknownOption("-help"))
+"#,
+    )
 }
 
 // A text has at most so many lines, of at most 80 characters of ASCII, and no line end at its end.

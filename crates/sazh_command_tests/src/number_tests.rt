@@ -13,9 +13,24 @@ fn part(alloc: Global, place: &str, count: &str) -> Result<String, AllocError> {
     answer_of(alloc, &words)
 }
 
+// Whether a word is taken as this PLACE.
+fn is_place(alloc: Global, word: &str, number: u64) -> Result<bool, AllocError> {
+    let expected = format!(in alloc;
+        "Ok(Part {{ identities: Files([\"key\"]), place: {number}, count: 2, input: \"file\" }})"
+    )?;
+    Ok(part(alloc, word, "2")? == expected)
+}
+
+// Whether a word is taken as this COUNT.
+fn is_count(alloc: Global, word: &str, number: u64) -> Result<bool, AllocError> {
+    let expected = format!(in alloc;
+        "Ok(Part {{ identities: Files([\"key\"]), place: 3, count: {number}, input: \"file\" }})"
+    )?;
+    Ok(part(alloc, "3", word)? == expected)
+}
+
 #[test]
 fn decimal_numbers_are_taken(rt: HostRuntime) -> Result<(), Fail> {
-    let alloc = rt.alloc();
     for (word, number) in [
         ("0", 0),
         ("7", 7),
@@ -23,23 +38,22 @@ fn decimal_numbers_are_taken(rt: HostRuntime) -> Result<(), Fail> {
         ("0000000000000000000000000123", 123),
         ("18446744073709551615", u64::MAX),
     ] {
-        let expected = format!(in alloc;
-            "Ok(Part {{ identities: Files([\"key\"]), place: {number}, count: 2, input: \"file\" }})"
-        )?;
-        let answer = part(alloc, word, "2")?;
-        assert!(rt; answer.as_str() == expected.as_str(), "at {word}");
-        let expected = format!(in alloc;
-            "Ok(Part {{ identities: Files([\"key\"]), place: 3, count: {number}, input: \"file\" }})"
-        )?;
-        let answer = part(alloc, "3", word)?;
-        assert!(rt; answer.as_str() == expected.as_str(), "at {word}");
+        assert!(rt; is_place(rt.alloc(), word, number)?, "at {word}");
+        assert!(rt; is_count(rt.alloc(), word, number)?, "at {word}");
     }
     Ok(())
 }
 
+// Whether a word is refused as PLACE and as COUNT.
+fn is_no_number(alloc: Global, word: &str) -> Result<bool, AllocError> {
+    let place = format!(in alloc; "Err(NotANumber(Place, {word:?}))")?;
+    let is_no_place = part(alloc, word, "2")? == place;
+    let count = format!(in alloc; "Err(NotANumber(Count, {word:?}))")?;
+    Ok(is_no_place && part(alloc, "3", word)? == count)
+}
+
 #[test]
 fn other_words_are_no_numbers(rt: HostRuntime) -> Result<(), Fail> {
-    let alloc = rt.alloc();
     for word in [
         "18446744073709551616",
         "18446744073709551620",
@@ -57,12 +71,7 @@ fn other_words_are_no_numbers(rt: HostRuntime) -> Result<(), Fail> {
         "1.0",
         "\u{663}",
     ] {
-        let expected = format!(in alloc; "Err(NotANumber(Place, {word:?}))")?;
-        let answer = part(alloc, word, "2")?;
-        assert!(rt; answer.as_str() == expected.as_str(), "at {word}");
-        let expected = format!(in alloc; "Err(NotANumber(Count, {word:?}))")?;
-        let answer = part(alloc, "3", word)?;
-        assert!(rt; answer.as_str() == expected.as_str(), "at {word}");
+        assert!(rt; is_no_number(rt.alloc(), word)?, "at {word}");
     }
     Ok(())
 }
