@@ -1,8 +1,11 @@
 //! The other suite against values of HMAC in Python.
 
+use crate::shared::gives;
 use age::suite::{Opens, ScryptError, Suite};
-use age_try::fixtures::{KEY, digest};
+use age_try::fixtures::{KEY, digest, part};
 use age_try::other_suite::OtherSuite;
+use std::alloc::{AllocError, Global};
+use std::process::Abort;
 use std::test::Fail;
 
 const NONCE: [u8; 12] = [100, 101, 102, 103, 104, 105, 106, 107, 108, 109, 110, 111];
@@ -20,15 +23,67 @@ const SEALED: [u8; 56] = [
     0x7e, 0xd0, 0x93, 0x95, 0xd5, 0x6c, 0x9b, 0x55,
 ];
 
+// Whether a plaintext under the key and the nonce has this seal.
+fn is_sealed_so(alloc: Global, plain: &[u8], sealed: &[u8]) -> bool {
+    gives(OtherSuite::seal(alloc, &KEY, &NONCE, plain), sealed)
+}
+
+// What a seal opens to.
+fn opened(
+    alloc: Global,
+    opens: &mut Opens,
+    key: &[u8; 32],
+    nonce: &[u8; 12],
+    sealed: &[u8],
+) -> Result<Option<Vec<u8>>, AllocError> {
+    OtherSuite::open(alloc, opens, key, nonce, sealed)
+}
+
 #[test]
 fn a_plaintext_has_its_other_seal(rt: HostRuntime) -> Result<(), Fail> {
     let alloc = rt.alloc();
-    let sealed = OtherSuite::seal(alloc, &KEY, &NONCE, &PLAIN)?;
-    assert!(rt; sealed.as_slice() == SEALED.as_slice());
+    assert!(rt; is_sealed_so(alloc, &PLAIN, &SEALED));
     let mut opens = Opens::new();
-    let opened = OtherSuite::open(alloc, &mut opens, &KEY, &NONCE, &SEALED)?;
-    assert!(rt; opened.ok_or("refused")?.as_slice() == PLAIN.as_slice());
+    let plain = opened(alloc, &mut opens, &KEY, &NONCE, &SEALED)?.ok_or("refused")?;
+    assert!(rt; plain.as_slice() == PLAIN.as_slice());
     assert!(rt; opens.count() == 1);
+    Ok(())
+}
+
+// Whether these bytes are no seal under the key and the nonce.
+fn is_no_seal(
+    alloc: Global,
+    opens: &mut Opens,
+    key: &[u8; 32],
+    nonce: &[u8; 12],
+    sealed: &[u8],
+) -> Result<bool, AllocError> {
+    Ok(opened(alloc, opens, key, nonce, sealed)?.is_none())
+}
+
+// The seal with a bit of this byte changed.
+fn changed_at(place: usize) -> [u8; 56] {
+    let mut changed = SEALED;
+    if let Some(byte) = changed.get_mut(place) {
+        *byte ^= 1;
+    }
+    changed
+}
+
+// No seal with a byte changed is opened, and none that is cut.
+fn no_changed_seal_is_opened(
+    rt: &impl Abort,
+    alloc: Global,
+    opens: &mut Opens,
+) -> Result<(), AllocError> {
+    for i in 0..SEALED.len() {
+        let changed = changed_at(i);
+        assert!(rt;
+            is_no_seal(alloc, opens, &KEY, &NONCE, &changed)?,
+            "at byte {i}"
+        );
+        assert!(rt; is_no_seal(alloc, opens, &KEY, &NONCE, part(&SEALED, 0, i))?);
+    }
     Ok(())
 }
 
@@ -39,19 +94,11 @@ fn what_is_no_other_seal_is_refused(rt: HostRuntime) -> Result<(), Fail> {
     let mut opens = Opens::new();
     let mut key = KEY;
     key[31] = 32;
-    assert!(rt; OtherSuite::open(alloc, &mut opens, &key, &NONCE, &SEALED)?.is_none());
+    assert!(rt; is_no_seal(alloc, &mut opens, &key, &NONCE, &SEALED)?);
     let mut nonce = NONCE;
     nonce[0] = 0;
-    assert!(rt; OtherSuite::open(alloc, &mut opens, &KEY, &nonce, &SEALED)?.is_none());
-    for i in 0..56 {
-        let mut changed = SEALED;
-        changed[i] ^= 1;
-        assert!(rt;
-            OtherSuite::open(alloc, &mut opens, &KEY, &NONCE, &changed)?.is_none(),
-            "at byte {i}"
-        );
-        assert!(rt; OtherSuite::open(alloc, &mut opens, &KEY, &NONCE, &SEALED[..i])?.is_none());
-    }
+    assert!(rt; is_no_seal(alloc, &mut opens, &KEY, &nonce, &SEALED)?);
+    no_changed_seal_is_opened(&rt, alloc, &mut opens)?;
     assert!(rt; opens.count() == 114);
     Ok(())
 }
@@ -65,25 +112,40 @@ fn both_sides_share_another_secret(rt: HostRuntime) {
     assert!(rt; (shared[0], shared[31]) == (0x36, 0x55));
 }
 
+// What the passphrase of these tests is stretched to.
+fn stretched(alloc: Global, factor: u8) -> Result<[u8; 32], ScryptError> {
+    OtherSuite::scrypt(alloc, b"passphrase", b"salt", factor)
+}
+
+// Whether a work factor is accepted, and refused by name where it is above 12.
+fn is_judged(alloc: Global, factor: u8) -> bool {
+    let stretched = stretched(alloc, factor);
+    if factor > 12 {
+        stretched == Err(ScryptError::InvalidParams)
+    } else {
+        stretched.is_ok()
+    }
+}
+
+// Whether a work factor is accepted, and gives bytes with this digest.
+fn has_digest(alloc: Global, factor: u8, expected: u64) -> bool {
+    match stretched(alloc, factor) {
+        Ok(key) => digest(&key) == expected,
+        Err(_) => false,
+    }
+}
+
 #[test]
 fn work_factors_from_0_to_12_are_accepted(rt: HostRuntime) {
     let alloc = rt.alloc();
     for factor in 0..=255 {
-        let stretched = OtherSuite::scrypt(alloc, b"passphrase", b"salt", factor);
-        if factor > 12 {
-            assert!(rt; stretched == Err(ScryptError::InvalidParams));
-        } else {
-            assert!(rt; stretched.is_ok(), "of {factor}");
-        }
+        assert!(rt; is_judged(alloc, factor), "of {factor}");
     }
     for (factor, expected) in [
         (0, 0x7b4a_42b2_4a55_11f4),
         (1, 0x702f_25ca_f0d6_f09a),
         (12, 0x58e8_6c5f_601f_3dac),
     ] {
-        match OtherSuite::scrypt(alloc, b"passphrase", b"salt", factor) {
-            Ok(key) => assert!(rt; digest(&key) == expected, "of {factor}"),
-            Err(_) => assert!(rt; false, "of {factor}"),
-        }
+        assert!(rt; has_digest(alloc, factor, expected), "of {factor}");
     }
 }
