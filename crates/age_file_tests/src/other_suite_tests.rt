@@ -10,13 +10,13 @@ use std::test::Fail;
 
 const NONCE: [u8; 12] = [100, 101, 102, 103, 104, 105, 106, 107, 108, 109, 110, 111];
 
-const PLAIN: [u8; 40] = [
+const PLAIN: &[u8] = &[
     200, 201, 202, 203, 204, 205, 206, 207, 208, 209, 210, 211, 212, 213, 214, 215, 216, 217, 218,
     219, 220, 221, 222, 223, 224, 225, 226, 227, 228, 229, 230, 231, 232, 233, 234, 235, 236, 237,
     238, 239,
 ];
 
-const SEALED: [u8; 56] = [
+const SEALED: &[u8] = &[
     0x8c, 0x7b, 0xa5, 0xde, 0x1a, 0xe3, 0xc6, 0xbc, 0x88, 0x42, 0x17, 0x84, 0xe4, 0x18, 0x8b, 0xea,
     0x87, 0xd4, 0x44, 0x7d, 0xa6, 0xaf, 0x65, 0xb5, 0xff, 0xe7, 0xc1, 0x40, 0x7e, 0x62, 0xe5, 0x2c,
     0x26, 0xab, 0xbb, 0x8e, 0x39, 0xae, 0x92, 0x1d, 0xb1, 0x74, 0xd9, 0x6c, 0xca, 0x46, 0x76, 0x24,
@@ -39,15 +39,22 @@ fn opened(
     OtherSuite::open(alloc, opens, key, nonce, sealed)
 }
 
+// Whether a seal opens to this plaintext.
+fn opens_to(alloc: Global, opens: &mut Opens, sealed: &[u8], plain: &[u8]) -> bool {
+    match opened(alloc, opens, &KEY, &NONCE, sealed) {
+        Ok(answer) => gives(answer.ok_or("refused"), plain),
+        Err(_) => false,
+    }
+}
+
 #[test]
-fn a_plaintext_has_its_other_seal(rt: HostRuntime) -> Result<(), Fail> {
+fn a_plaintext_has_its_other_seal(rt: HostRuntime) {
     let alloc = rt.alloc();
-    assert!(rt; is_sealed_so(alloc, &PLAIN, &SEALED));
+    assert!(rt; PLAIN.len() == 40 && SEALED.len() == 56);
+    assert!(rt; is_sealed_so(alloc, PLAIN, SEALED));
     let mut opens = Opens::new();
-    let plain = opened(alloc, &mut opens, &KEY, &NONCE, &SEALED)?.ok_or("refused")?;
-    assert!(rt; plain.as_slice() == PLAIN.as_slice());
+    assert!(rt; opens_to(alloc, &mut opens, SEALED, PLAIN));
     assert!(rt; opens.count() == 1);
-    Ok(())
 }
 
 // Whether these bytes are no seal under the key and the nonce.
@@ -57,34 +64,46 @@ fn is_no_seal(
     key: &[u8; 32],
     nonce: &[u8; 12],
     sealed: &[u8],
-) -> Result<bool, AllocError> {
-    Ok(opened(alloc, opens, key, nonce, sealed)?.is_none())
+) -> bool {
+    match opened(alloc, opens, key, nonce, sealed) {
+        Ok(plain) => plain.is_none(),
+        Err(_) => false,
+    }
+}
+
+// Whether the seal is none under the key with its last byte changed.
+fn is_no_seal_by_another_key(alloc: Global, opens: &mut Opens) -> bool {
+    let mut key = KEY;
+    key[31] = 32;
+    is_no_seal(alloc, opens, &key, &NONCE, SEALED)
+}
+
+// Whether the seal is none under the nonce with its first byte changed.
+fn is_no_seal_by_another_nonce(alloc: Global, opens: &mut Opens) -> bool {
+    let mut nonce = NONCE;
+    nonce[0] = 0;
+    is_no_seal(alloc, opens, &KEY, &nonce, SEALED)
 }
 
 // The seal with a bit of this byte changed.
-fn changed_at(place: usize) -> [u8; 56] {
-    let mut changed = SEALED;
-    if let Some(byte) = changed.get_mut(place) {
-        *byte ^= 1;
+fn changed(alloc: Global, place: usize) -> Result<Vec<u8>, Fail> {
+    let mut copy = Vec::from_slice(alloc, SEALED)?;
+    match copy.get_mut(place) {
+        Some(byte) => *byte ^= 1,
+        None => return Err(Fail::from("no such byte")),
     }
-    changed
+    Ok(copy)
 }
 
-// No seal with a byte changed is opened, and none that is cut.
-fn no_changed_seal_is_opened(
-    rt: &impl Abort,
-    alloc: Global,
-    opens: &mut Opens,
-) -> Result<(), AllocError> {
-    for i in 0..SEALED.len() {
-        let changed = changed_at(i);
-        assert!(rt;
-            is_no_seal(alloc, opens, &KEY, &NONCE, &changed)?,
-            "at byte {i}"
-        );
-        assert!(rt; is_no_seal(alloc, opens, &KEY, &NONCE, part(&SEALED, 0, i))?);
-    }
-    Ok(())
+// Whether the seal with a bit of this byte changed is none.
+fn is_no_seal_changed(alloc: Global, opens: &mut Opens, place: usize) -> Result<bool, Fail> {
+    let copy = changed(alloc, place)?;
+    Ok(is_no_seal(alloc, opens, &KEY, &NONCE, &copy))
+}
+
+// Whether the first bytes of the seal, so many of them, are none.
+fn is_no_seal_cut(alloc: Global, opens: &mut Opens, length: usize) -> bool {
+    is_no_seal(alloc, opens, &KEY, &NONCE, part(SEALED, 0, length))
 }
 
 // With another key, another nonce or another byte, and cut.
@@ -92,13 +111,12 @@ fn no_changed_seal_is_opened(
 fn what_is_no_other_seal_is_refused(rt: HostRuntime) -> Result<(), Fail> {
     let alloc = rt.alloc();
     let mut opens = Opens::new();
-    let mut key = KEY;
-    key[31] = 32;
-    assert!(rt; is_no_seal(alloc, &mut opens, &key, &NONCE, &SEALED)?);
-    let mut nonce = NONCE;
-    nonce[0] = 0;
-    assert!(rt; is_no_seal(alloc, &mut opens, &KEY, &nonce, &SEALED)?);
-    no_changed_seal_is_opened(&rt, alloc, &mut opens)?;
+    assert!(rt; is_no_seal_by_another_key(alloc, &mut opens));
+    assert!(rt; is_no_seal_by_another_nonce(alloc, &mut opens));
+    for i in 0..56 {
+        assert!(rt; is_no_seal_changed(alloc, &mut opens, i)?, "at byte {i}");
+        assert!(rt; is_no_seal_cut(alloc, &mut opens, i));
+    }
     assert!(rt; opens.count() == 114);
     Ok(())
 }

@@ -26,50 +26,65 @@ fn appends(
     )
 }
 
-// Whether a part of a file's plaintext is these bytes, or refused with this text after none.
-fn is_given(
-    alloc: Global,
-    file: &[u8],
-    place: u64,
-    count: u64,
-    expected: Result<&[u8], &str>,
-) -> bool {
+// Whether a part of a file's plaintext is these bytes.
+fn is_given(alloc: Global, file: &[u8], place: u64, count: u64, expected: &[u8]) -> bool {
     let mut got = Vec::new(alloc);
-    appends(alloc, file, place, count, &mut got, expected.err())
-        && got.as_slice() == expected.unwrap_or(&[])
+    appends(alloc, file, place, count, &mut got, None) && got.as_slice() == expected
 }
 
-const PAST_END: Result<&[u8], &str> = Err("cannot seek past the end");
+// Whether a part is refused since it begins past the end of a file's plaintext, and nothing is given.
+fn is_past_end(alloc: Global, file: &[u8], place: u64, count: u64) -> bool {
+    let mut got = Vec::new(alloc);
+    appends(
+        alloc,
+        file,
+        place,
+        count,
+        &mut got,
+        Some("cannot seek past the end"),
+    ) && got.is_empty()
+}
 
-const PARTS: [(u64, u64, Result<&[u8], &str>); 8] = [
-    (5, 3, Ok(b"is ")),
-    (30, 10, Ok(b"sting.")),
-    (36, 1, Ok(b"")),
-    (37, 1, PAST_END),
-    (37, 0, PAST_END),
-    (7, 0, Ok(b"")),
-    (0, u64::MAX, Ok(MESSAGE)),
-    (u64::MAX, u64::MAX, PAST_END),
-];
+// The message's file in this form has these parts.
+fn has_its_parts(rt: &impl Abort, alloc: Global, format: Format) -> Result<(), Fail> {
+    let file = commands_file(alloc, MESSAGE, format)?;
+    assert!(rt; has_parts_of_message(alloc, &file));
+    assert!(rt; has_no_parts_past_end(alloc, &file));
+    Ok(())
+}
 
-// A file of the message has these parts.
-fn has_its_parts(rt: &impl Abort, alloc: Global, file: &[u8]) {
-    for (place, count, expected) in PARTS {
-        assert!(rt; is_given(alloc, file, place, count, expected));
-    }
+// Whether a file has these parts of the message.
+fn has_parts_of_message(alloc: Global, file: &[u8]) -> bool {
+    is_given(alloc, file, 5, 3, b"is ")
+        && is_given(alloc, file, 30, 10, b"sting.")
+        && is_given(alloc, file, 36, 1, b"")
+        && is_given(alloc, file, 7, 0, b"")
+        && is_given(alloc, file, 0, u64::MAX, MESSAGE)
+}
+
+// Whether these parts of the message's file are past its end.
+fn has_no_parts_past_end(alloc: Global, file: &[u8]) -> bool {
+    is_past_end(alloc, file, 37, 1)
+        && is_past_end(alloc, file, 37, 0)
+        && is_past_end(alloc, file, u64::MAX, u64::MAX)
 }
 
 #[test]
 fn a_message_has_its_parts(rt: HostRuntime) -> Result<(), Fail> {
     let alloc = rt.alloc();
-    for format in [Format::Binary, Format::AsciiArmor] {
-        has_its_parts(&rt, alloc, &commands_file(alloc, MESSAGE, format)?);
-    }
-    Ok(())
+    has_its_parts(&rt, alloc, Format::Binary)?;
+    has_its_parts(&rt, alloc, Format::AsciiArmor)
 }
 
-// The parts of a file are those of its plaintext, as far as that reaches.
-fn has_parts_of(rt: &impl Abort, alloc: Global, file: &[u8], plain: &[u8]) {
+// Whether the part of a file's plaintext is that of these bytes, as far as they reach.
+fn is_part_of(alloc: Global, file: &[u8], plain: &[u8], place: usize, count: usize) -> bool {
+    let expected = part(plain, place, place.saturating_add(count));
+    is_given(alloc, file, place as u64, count as u64, expected)
+}
+
+// The file of a plaintext in this form has these parts.
+fn has_parts_of(rt: &impl Abort, alloc: Global, plain: &[u8], format: Format) -> Result<(), Fail> {
+    let file = commands_file(alloc, plain, format)?;
     for (place, count) in [
         (65_530, 12),
         (65_536, 1),
@@ -77,9 +92,9 @@ fn has_parts_of(rt: &impl Abort, alloc: Global, file: &[u8], plain: &[u8]) {
         (1, 262_145),
         (399_999, 9),
     ] {
-        let expected = part(plain, place, place.saturating_add(count));
-        assert!(rt; is_given(alloc, file, place as u64, count as u64, Ok(expected)));
+        assert!(rt; is_part_of(alloc, &file, plain, place, count));
     }
+    Ok(())
 }
 
 // Across the end of a chunk, and of a piece that is read at once.
@@ -87,10 +102,8 @@ fn has_parts_of(rt: &impl Abort, alloc: Global, file: &[u8], plain: &[u8]) {
 fn parts_go_over_the_ends_of_chunks(rt: HostRuntime) -> Result<(), Fail> {
     let alloc = rt.alloc();
     let plain = plaintext(alloc, 400_000)?;
-    for format in [Format::Binary, Format::AsciiArmor] {
-        has_parts_of(&rt, alloc, &commands_file(alloc, &plain, format)?, &plain);
-    }
-    Ok(())
+    has_parts_of(&rt, alloc, &plain, Format::Binary)?;
+    has_parts_of(&rt, alloc, &plain, Format::AsciiArmor)
 }
 
 // Changes a bit of the second chunk of a file whose plaintext has 200,000 bytes. Whether there is one.
@@ -110,15 +123,22 @@ fn ends_with_first_chunk(alloc: Global, file: &[u8], expected: Option<&[u8]>) ->
         && Some(got.as_slice()) == expected
 }
 
+// The file of a plaintext of 200,000 bytes, whose second chunk is bad.
+fn with_bad_chunk(alloc: Global, plain: &[u8]) -> Result<Vec<u8>, Fail> {
+    let mut file = commands_file(alloc, plain, Format::Binary)?;
+    if !harm_second_chunk(&mut file) {
+        return Err(Fail::from("no chunk"));
+    }
+    Ok(file)
+}
+
 // A chunk that is bad ends the part after the bytes of the chunks before it, and chunks that aren't asked for aren't looked at.
 #[test]
 fn a_bad_chunk_is_met_where_it_stands(rt: HostRuntime) -> Result<(), Fail> {
     let alloc = rt.alloc();
     let plain = plaintext(alloc, 200_000)?;
-    let mut file = commands_file(alloc, &plain, Format::Binary)?;
-    assert!(rt; harm_second_chunk(&mut file));
+    let file = with_bad_chunk(alloc, &plain)?;
     assert!(rt; ends_with_first_chunk(alloc, &file, plain.get(65_530..65_536)));
-    let last = plain.get(131_072..131_080).ok_or("no bytes")?;
-    assert!(rt; is_given(alloc, &file, 131_072, 8, Ok(last)));
+    assert!(rt; is_part_of(alloc, &file, &plain, 131_072, 8));
     Ok(())
 }

@@ -203,10 +203,10 @@ fn is_refused(
 }
 
 // Whether it is a file key of ones.
-fn is_ones<E: Drop>(answer: Option<Result<FileKey, E>>) -> bool {
+fn is_ones<E: Drop>(answer: Result<FileKey, E>) -> bool {
     match answer {
-        Some(Ok(key)) => *key.expose_secret() == [1; 16],
-        _ => false,
+        Ok(key) => *key.expose_secret() == [1; 16],
+        Err(_) => false,
     }
 }
 
@@ -216,7 +216,10 @@ fn last_wasnt_asked(alloc: Global, identities: &mut [Box<dyn Identity>]) -> Resu
     let Some(last) = identities.last_mut() else {
         return Err(Fail::from("no identity"));
     };
-    Ok(is_ones(last.unwrap_stanza(alloc, &stanza)))
+    let Some(answer) = last.unwrap_stanza(alloc, &stanza) else {
+        return Err(Fail::from("no answer"));
+    };
+    Ok(is_ones(answer))
 }
 
 // One that answers nothing, one that refuses, and one that answers how often it was asked.
