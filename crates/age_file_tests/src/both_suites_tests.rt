@@ -63,21 +63,51 @@ fn comes_back<S: Suite>(
     Ok(())
 }
 
+// A plaintext of so many bytes has the files with these digests, and comes back from them.
+fn come_back(
+    rt: &impl Abort,
+    alloc: Global,
+    length: usize,
+    bench: u64,
+    other: u64,
+) -> Result<(), Fail> {
+    comes_back::<BenchSuite>(rt, alloc, length, bench)?;
+    comes_back::<OtherSuite>(rt, alloc, length, other)
+}
+
 #[test]
 fn plaintexts_come_back(rt: HostRuntime) -> Result<(), Fail> {
     let alloc = rt.alloc();
-    for (length, bench, other) in [
-        (0, 0x64e6_ad25_d330_798a, 0xef70_5cc2_adbf_2cd6),
-        (1, 0x89ef_7bbc_598e_8d2c, 0x345f_0d5e_314d_00a8),
-        (65_535, 0x24c2_99ae_6117_c5bb, 0xf54a_2717_bb8d_7191),
-        (65_536, 0x3bff_655d_2c0a_d45d, 0xf218_ef6c_8579_9f2f),
-        (65_537, 0xf6a5_9c0a_9699_2eb5, 0x85e2_b367_c5f1_62fa),
-        (131_072, 0x1e1c_6c9b_de14_9e64, 0xb4d7_f8fc_1c15_dcb9),
-    ] {
-        comes_back::<BenchSuite>(&rt, alloc, length, bench)?;
-        comes_back::<OtherSuite>(&rt, alloc, length, other)?;
-    }
-    Ok(())
+    come_back(&rt, alloc, 0, 0x64e6_ad25_d330_798a, 0xef70_5cc2_adbf_2cd6)?;
+    come_back(&rt, alloc, 1, 0x89ef_7bbc_598e_8d2c, 0x345f_0d5e_314d_00a8)?;
+    come_back(
+        &rt,
+        alloc,
+        65_535,
+        0x24c2_99ae_6117_c5bb,
+        0xf54a_2717_bb8d_7191,
+    )?;
+    come_back(
+        &rt,
+        alloc,
+        65_536,
+        0x3bff_655d_2c0a_d45d,
+        0xf218_ef6c_8579_9f2f,
+    )?;
+    come_back(
+        &rt,
+        alloc,
+        65_537,
+        0xf6a5_9c0a_9699_2eb5,
+        0x85e2_b367_c5f1_62fa,
+    )?;
+    come_back(
+        &rt,
+        alloc,
+        131_072,
+        0x1e1c_6c9b_de14_9e64,
+        0xb4d7_f8fc_1c15_dcb9,
+    )
 }
 
 const OPS: [Op; 14] = [
@@ -200,11 +230,16 @@ fn has_front(alloc: Global, file: &[u8]) -> Result<bool, AllocError> {
     Ok(part(file, 0, FRONT) == part(&front, 0, FRONT))
 }
 
+// The file of a plaintext of so many bytes.
+fn file_of_length<S: Suite>(alloc: Global, length: usize) -> Result<Vec<u8>, Fail> {
+    let plain = plaintext(alloc, length)?;
+    file_of::<S>(alloc, &plain)
+}
+
 // The header doesn't hang on the suite, so it is opened; the first chunk is no seal of the other's.
 fn opens_no_chunk_of<S: Suite, T: Suite>(rt: &impl Abort, alloc: Global) -> Result<(), Fail> {
     for length in [0, 36, 65_536, 65_537] {
-        let plain = plaintext(alloc, length)?;
-        let file = file_of::<T>(alloc, &plain)?;
+        let file = file_of_length::<T>(alloc, length)?;
         assert!(rt; has_front(alloc, &file)?);
         assert!(rt; is_bad_after(alloc, opened::<S>(alloc, &file), &[]));
     }

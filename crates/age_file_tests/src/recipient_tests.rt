@@ -4,7 +4,6 @@ use crate::file_tests::recipients;
 use crate::shared::{grease, is_answered, written};
 use age::draw::Draw;
 use age::io::Bytes;
-use age::secrecy::FileKey;
 use age::{Decryptor, Encryptor, Identity, Recipient};
 use age_bench::suite::BenchSuite;
 use age_try::answers::is_refusal;
@@ -202,24 +201,24 @@ fn is_refused(
     Ok(is_refusal(alloc, decryptor.decrypt(alloc, identities), expected))
 }
 
-// Whether it is a file key of ones.
-fn is_ones<E: Drop>(answer: Result<FileKey, E>) -> bool {
-    match answer {
-        Ok(key) => *key.expose_secret() == [1; 16],
-        Err(_) => false,
-    }
-}
-
-// Whether the last of them is asked for the first time now.
-fn last_wasnt_asked(alloc: Global, identities: &mut [Box<dyn Identity>]) -> Result<bool, Fail> {
-    let stanza = empty_stanza(alloc, "tag")?.ok_or("no stanza")?;
+// The last of them is asked for the first time now.
+fn last_wasnt_asked(
+    rt: &impl Abort,
+    alloc: Global,
+    identities: &mut [Box<dyn Identity>],
+) -> Result<(), Fail> {
+    let Some(stanza) = empty_stanza(alloc, "tag")? else {
+        return Err(Fail::from("no stanza"));
+    };
     let Some(last) = identities.last_mut() else {
         return Err(Fail::from("no identity"));
     };
     let Some(answer) = last.unwrap_stanza(alloc, &stanza) else {
         return Err(Fail::from("no answer"));
     };
-    Ok(is_ones(answer))
+    let key = answer?;
+    assert!(rt; *key.expose_secret() == [1; 16]);
+    Ok(())
 }
 
 // One that answers nothing, one that refuses, and one that answers how often it was asked.
@@ -231,8 +230,7 @@ fn the_first_identity_that_answers_decides(rt: HostRuntime) -> Result<(), Fail> 
     let file = file_of(alloc, "tag")?;
     let mut identities = identities_of(alloc, &THREE)?;
     assert!(rt; is_refused(alloc, &file, &mut identities, "decryption failed")?);
-    assert!(rt; last_wasnt_asked(alloc, &mut identities)?);
-    Ok(())
+    last_wasnt_asked(&rt, alloc, &mut identities)
 }
 
 // Whether decrypting with one of this script is refused with this text.
