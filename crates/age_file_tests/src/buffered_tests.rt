@@ -1,13 +1,22 @@
 //! Decryptors of readers with a buffer, and what they say of a file of a passphrase.
 
-use age::Decryptor;
-use age::io::{BufReader, Bytes, read_to_end};
+use crate::shared::{gives_payload, is_answered, is_scrypt, opens_to};
+use age::io::{BufRead, BufReader, Bytes};
+use age::stream::StreamReader;
+use age::{DecryptError, Decryptor};
 use age_bench::recipient::BenchIdentity;
 use age_bench::suite::BenchSuite;
-use age_try::fixtures::{MESSAGE, SEALED, message_file};
+use age_try::answers::is_refusal;
+use age_try::fixtures::{MESSAGE, message_file};
 use std::alloc::{AllocError, Global};
 use std::process::Abort;
 use std::test::Fail;
+
+// Whether the front of a file is read.
+fn reads_front<R: BufRead + Drop>(alloc: Global, input: R) -> bool {
+    let decryptor = Decryptor::<BenchSuite, R>::new_buffered(alloc, input);
+    is_answered(alloc, decryptor, None)
+}
 
 // The buffer holds the whole file by then, and gives what follows the nonce.
 #[test]
@@ -15,14 +24,18 @@ fn a_buffered_decryptor_stands_after_the_nonce(rt: HostRuntime) -> Result<(), Fa
     let alloc = rt.alloc();
     let file = message_file(alloc, b"after")?;
     let mut input = BufReader::new(alloc, Bytes::new(&file))?;
-    drop(Decryptor::<BenchSuite, &mut BufReader<Bytes>>::new_buffered(alloc, &mut input)?);
-    let mut rest = Vec::new(alloc);
-    let count = read_to_end(alloc, &mut input, &mut rest)?;
-    assert!(rt; count == 57);
-    let mut payload = Vec::from_slice(alloc, &SEALED)?;
-    payload.extend_from_slice(b"after")?;
-    assert!(rt; rest.as_slice() == payload.as_slice());
+    assert!(rt; reads_front(alloc, &mut input));
+    assert!(rt; gives_payload(alloc, &mut input, b"after")?);
     Ok(())
+}
+
+// The reader of a file's plaintext.
+fn opened<R: BufRead + Drop>(
+    alloc: Global,
+    input: R,
+) -> Result<StreamReader<BenchSuite, R>, DecryptError> {
+    let decryptor = Decryptor::<BenchSuite, R>::new_buffered(alloc, input)?;
+    decryptor.decrypt_one(alloc, &mut BenchIdentity)
 }
 
 #[test]
@@ -30,11 +43,7 @@ fn a_buffered_decryptor_gives_the_message(rt: HostRuntime) -> Result<(), Fail> {
     let alloc = rt.alloc();
     let file = message_file(alloc, &[])?;
     let input = BufReader::new(alloc, Bytes::new(&file))?;
-    let decryptor = Decryptor::<BenchSuite, BufReader<Bytes>>::new_buffered(alloc, input)?;
-    let mut stream = decryptor.decrypt_one(alloc, &mut BenchIdentity)?;
-    let mut plain = Vec::new(alloc);
-    read_to_end(alloc, &mut stream, &mut plain)?;
-    assert!(rt; plain.as_slice() == MESSAGE);
+    assert!(rt; opens_to(alloc, opened(alloc, input), MESSAGE));
     Ok(())
 }
 
@@ -52,41 +61,41 @@ fn front_of(alloc: Global, first: &[u8], second: &[u8]) -> Result<Vec<u8>, Alloc
     Ok(file)
 }
 
-// Whether the file of these two texts is one of a passphrase, or the text of its refusal.
+// Whether the file of these two texts is one of a passphrase, or its refusal, is as expected.
 fn says(
-    rt: &impl Abort,
     alloc: Global,
     first: &[u8],
     second: &[u8],
     expected: Result<bool, &str>,
-) -> Result<(), Fail> {
+) -> Result<bool, Fail> {
     let file = front_of(alloc, first, second)?;
     let input = BufReader::new(alloc, Bytes::new(&file))?;
-    match Decryptor::<BenchSuite, BufReader<Bytes>>::new_buffered(alloc, input) {
-        Ok(decryptor) => assert!(rt; Ok(decryptor.is_scrypt()) == expected),
-        Err(error) => {
-            let text = error.to_string(alloc)?;
-            assert!(rt; Err(text.as_str()) == expected);
-        }
-    }
-    Ok(())
+    let answer = is_scrypt(alloc, input);
+    Ok(match expected {
+        Ok(is_one) => answer.ok() == Some(is_one),
+        Err(text) => is_refusal(alloc, answer, text),
+    })
 }
 
 #[test]
 fn a_lone_scrypt_stanza_is_one_of_a_passphrase(rt: HostRuntime) -> Result<(), Fail> {
     let alloc = rt.alloc();
-    says(&rt, alloc, PASSPHRASE, b"", Ok(true))?;
-    says(&rt, alloc, OTHER, b"", Ok(false))?;
-    says(&rt, alloc, OTHER, OTHER, Ok(false))?;
-    says(&rt, alloc, PASSPHRASE, OTHER, Err("invalid header"))?;
-    says(&rt, alloc, OTHER, PASSPHRASE, Err("invalid header"))
+    for (first, second, expected) in [
+        (PASSPHRASE, b"".as_slice(), Ok(true)),
+        (OTHER, b"", Ok(false)),
+        (OTHER, OTHER, Ok(false)),
+        (PASSPHRASE, OTHER, Err("invalid header")),
+        (OTHER, PASSPHRASE, Err("invalid header")),
+    ] {
+        assert!(rt; says(alloc, first, second, expected)?);
+    }
+    Ok(())
 }
 
 #[test]
 fn a_file_to_bench_is_none_of_a_passphrase(rt: HostRuntime) -> Result<(), Fail> {
     let alloc = rt.alloc();
     let file = message_file(alloc, &[])?;
-    let decryptor = Decryptor::<BenchSuite, Bytes>::new_buffered(alloc, Bytes::new(&file));
-    assert!(rt; !decryptor?.is_scrypt());
+    assert!(rt; is_scrypt(alloc, Bytes::new(&file)).ok() == Some(false));
     Ok(())
 }

@@ -1,22 +1,26 @@
 //! Whole files to `bench`. The expected bytes are those of Python, from the format's own words.
 
+use crate::shared::{
+    command_gives_message, commands_file, gives, gives_payload, grease, is_answered, opens_to,
+    replace, written,
+};
 use age::armor::Format;
 use age::draw::Draw;
 use age::format::Grease;
-use age::io::{Bytes, read_to_end, write_all};
+use age::io::Bytes;
+use age::stream::StreamReader;
 use age::streaming::{FileError, decrypt_all, encrypt_all};
-use age::{Decryptor, Encryptor, Identity, Recipient};
-use age_bench::file::{decrypt_with, encrypt_to};
-use age_bench::names::{To, With};
+use age::{DecryptError, Decryptor, Encryptor, Identity, Recipient};
 use age_bench::recipient::{BenchIdentity, BenchRecipient};
 use age_bench::suite::BenchSuite;
-use age_try::fixtures::{MESSAGE, SEALED, empty_stanza, message_file, zeros};
+use age_try::answers::is_refusal;
+use age_try::fixtures::{MESSAGE, message_file, part, zeros};
 use std::alloc::{AllocError, Global};
 use std::process::Abort;
 use std::test::Fail;
 
-// The recipient of `bench` alone.
-fn recipients(alloc: Global) -> Result<Vec<Box<dyn Recipient>>, AllocError> {
+/// The recipient of `bench` alone.
+pub fn recipients(alloc: Global) -> Result<Vec<Box<dyn Recipient>>, AllocError> {
     let mut recipients: Vec<Box<dyn Recipient>> = Vec::new(alloc);
     recipients.push(Box::new(alloc, BenchRecipient)?)?;
     Ok(recipients)
@@ -29,14 +33,6 @@ fn identities(alloc: Global) -> Result<Vec<Box<dyn Identity>>, AllocError> {
     Ok(identities)
 }
 
-/// A grease stanza of this tag, with nothing else in it.
-pub fn grease(alloc: Global, tag: &str) -> Result<Grease, Fail> {
-    match empty_stanza(alloc, tag)?.and_then(Grease::new) {
-        Some(grease) => Ok(grease),
-        None => Err(Fail::from("no grease")),
-    }
-}
-
 // An encryptor to `bench` whose grease stanza is `x-grease`.
 fn prepared(alloc: Global, draw: &mut Draw) -> Result<Encryptor<BenchSuite>, Fail> {
     let recipients = recipients(alloc)?;
@@ -44,93 +40,103 @@ fn prepared(alloc: Global, draw: &mut Draw) -> Result<Encryptor<BenchSuite>, Fai
     Ok(Encryptor::<BenchSuite>::with_recipients(alloc, &recipients, draw, grease)?)
 }
 
-// The file of the message, written in one piece.
-fn message_written(alloc: Global, encryptor: Encryptor<BenchSuite>) -> Result<Vec<u8>, Fail> {
-    let mut stream = encryptor.wrap_output(alloc, Vec::new(alloc))?;
-    write_all(&mut stream, MESSAGE)?;
-    Ok(stream.finish()?)
+// The file of the message by these random bytes, written in one piece.
+fn message_written(alloc: Global, draw: &mut Draw) -> Result<Vec<u8>, Fail> {
+    written(alloc, prepared(alloc, draw)?, MESSAGE)
 }
 
 #[test]
 fn a_message_has_its_file(rt: HostRuntime) -> Result<(), Fail> {
     let alloc = rt.alloc();
     let mut draw = zeros(alloc, 33)?;
-    let encryptor = prepared(alloc, &mut draw)?;
+    let file = message_written(alloc, &mut draw)?;
     assert!(rt; draw.left() == 1);
-    let file = message_written(alloc, encryptor)?;
-    assert!(rt; file.as_slice() == message_file(alloc, &[])?.as_slice());
+    assert!(rt; gives(message_file(alloc, &[]), &file));
     Ok(())
+}
+
+// The reader of a file's plaintext.
+fn opened<'a>(
+    alloc: Global,
+    file: &'a [u8],
+    identities: &mut [Box<dyn Identity>],
+) -> Result<StreamReader<BenchSuite, Bytes<'a>>, DecryptError> {
+    let decryptor = Decryptor::<BenchSuite, Bytes>::new(alloc, Bytes::new(file))?;
+    decryptor.decrypt(alloc, identities)
 }
 
 #[test]
 fn a_file_has_its_message(rt: HostRuntime) -> Result<(), Fail> {
     let alloc = rt.alloc();
+    assert!(rt; MESSAGE.len() == 36);
     let file = message_file(alloc, &[])?;
-    let decryptor = Decryptor::<BenchSuite, Bytes>::new(alloc, Bytes::new(&file))?;
     let mut identities = identities(alloc)?;
-    let mut stream = decryptor.decrypt(alloc, &mut identities)?;
-    let mut plain = Vec::new(alloc);
-    let count = read_to_end(alloc, &mut stream, &mut plain)?;
-    assert!(rt; count == 36);
-    assert!(rt; plain.as_slice() == MESSAGE);
+    assert!(rt; opens_to(alloc, opened(alloc, &file, &mut identities), MESSAGE));
     Ok(())
 }
 
-// Encrypts with so many random bytes, and says what that answers.
+// Encrypts, and says what that answers.
 fn encrypted(
     alloc: Global,
+    recipients: &[Box<dyn Recipient>],
+    draw: &mut Draw,
+    grease: Grease,
     plain: &[u8],
-    random: usize,
     file: &mut Vec<u8>,
-) -> Result<Result<(), FileError>, Fail> {
-    let recipients = recipients(alloc)?;
-    let grease = grease(alloc, "agebench-grease")?;
-    let mut draw = zeros(alloc, random)?;
-    Ok(encrypt_all::<BenchSuite, Box<dyn Recipient>, Bytes, Vec<u8>>(
+) -> Result<(), FileError> {
+    encrypt_all::<BenchSuite, Box<dyn Recipient>, Bytes, Vec<u8>>(
         alloc,
-        &recipients,
-        &mut draw,
+        recipients,
+        draw,
         grease,
         Format::Binary,
         &mut Bytes::new(plain),
         file,
-    ))
+    )
 }
 
-// Encrypting with so many random bytes gives so many bytes of file, or this text and nothing.
+// Appends the file of a plaintext by so many random bytes. Whether it succeeds, or, where a text is given, is refused with this text.
+fn appends(
+    alloc: Global,
+    plain: &[u8],
+    random: usize,
+    file: &mut Vec<u8>,
+    refusal: Option<&str>,
+) -> Result<bool, Fail> {
+    let recipients = recipients(alloc)?;
+    let mut draw = zeros(alloc, random)?;
+    let grease = grease(alloc, "agebench-grease")?;
+    let answer = encrypted(alloc, &recipients, &mut draw, grease, plain, file);
+    Ok(is_answered(alloc, answer, refusal))
+}
+
+// Whether encrypting with so many random bytes gives so many bytes of file, or this text and nothing.
 fn encrypts(
-    rt: &impl Abort,
     alloc: Global,
     plain: &[u8],
     random: usize,
     expected: Result<usize, &str>,
-) -> Result<(), Fail> {
+) -> Result<bool, Fail> {
     let mut file = Vec::new(alloc);
-    match encrypted(alloc, plain, random, &mut file)? {
-        Ok(()) => assert!(rt; Ok(file.len()) == expected),
-        Err(error) => {
-            let text = error.to_string(alloc)?;
-            assert!(rt; Err(text.as_str()) == expected);
-            assert!(rt; file.len() == 0);
-        }
-    }
-    Ok(())
+    let answered = appends(alloc, plain, random, &mut file, expected.err())?;
+    Ok(answered && file.len() == expected.unwrap_or(0))
 }
+
+const RAN_OUT: Result<usize, &str> = Err("random bytes ran out");
 
 #[test]
 fn files_have_their_lengths(rt: HostRuntime) -> Result<(), Fail> {
     let alloc = rt.alloc();
-    let ran_out = Err("random bytes ran out");
     for (plain, random, expected) in [
         (MESSAGE, 32, Ok(190)),
-        (b"".as_slice(), 32, Ok(154)),
+        (b"", 32, Ok(154)),
         (MESSAGE, 33, Ok(190)),
-        (MESSAGE, 31, ran_out),
-        (MESSAGE, 16, ran_out),
-        (MESSAGE, 15, ran_out),
-        (MESSAGE, 0, ran_out),
+        (MESSAGE, 31, RAN_OUT),
+        (MESSAGE, 16, RAN_OUT),
+        (MESSAGE, 15, RAN_OUT),
+        (MESSAGE, 0, RAN_OUT),
     ] {
-        encrypts(&rt, alloc, plain, random, expected)?;
+        assert!(rt; encrypts(alloc, plain, random, expected)?);
     }
     Ok(())
 }
@@ -138,47 +144,33 @@ fn files_have_their_lengths(rt: HostRuntime) -> Result<(), Fail> {
 #[test]
 fn the_commands_turn_each_other_back(rt: HostRuntime) -> Result<(), Fail> {
     let alloc = rt.alloc();
-    let draw = zeros(alloc, 32)?;
-    let mut file = Vec::new(alloc);
-    encrypt_to(
-        alloc,
-        To::Bench,
-        draw,
-        Format::Binary,
-        &mut Bytes::new(MESSAGE),
-        &mut file,
-    )?;
+    let file = commands_file(alloc, MESSAGE, Format::Binary)?;
     assert!(rt; file.len() == 190);
-    let mut plain = Vec::new(alloc);
-    decrypt_with(alloc, With::Bench, &mut Bytes::new(&file), &mut plain)?;
-    assert!(rt; plain.as_slice() == MESSAGE);
+    assert!(rt; command_gives_message(alloc, &file));
     Ok(())
 }
 
 // Decrypts, and says what that answers.
 fn decrypted(
     alloc: Global,
+    identities: &mut [Box<dyn Identity>],
     file: &[u8],
     plain: &mut Vec<u8>,
-) -> Result<Result<(), FileError>, Fail> {
-    let mut identities = identities(alloc)?;
-    Ok(decrypt_all::<BenchSuite, Box<dyn Identity>, Bytes, Vec<u8>>(
+) -> Result<(), FileError> {
+    decrypt_all::<BenchSuite, Box<dyn Identity>, Bytes, Vec<u8>>(
         alloc,
-        &mut identities,
+        identities,
         &mut Bytes::new(file),
         plain,
-    ))
+    )
 }
 
-// Decrypting is refused with this text, before anything is written.
-fn is_refused(rt: &impl Abort, alloc: Global, file: &[u8], expected: &str) -> Result<(), Fail> {
+// Whether decrypting is refused with this text, before anything is written.
+fn is_refused(alloc: Global, file: &[u8], expected: &str) -> Result<bool, AllocError> {
+    let mut identities = identities(alloc)?;
     let mut plain = Vec::new(alloc);
-    match decrypted(alloc, file, &mut plain)? {
-        Ok(()) => return Err(Fail::from("decrypted")),
-        Err(error) => assert!(rt; error.to_string(alloc)?.as_str() == expected),
-    }
-    assert!(rt; plain.len() == 0);
-    Ok(())
+    let answer = decrypted(alloc, &mut identities, file, &mut plain);
+    Ok(is_refusal(alloc, answer, expected) && plain.is_empty())
 }
 
 // One bit of the MAC, in a column that has no unused bits.
@@ -186,48 +178,50 @@ fn is_refused(rt: &impl Abort, alloc: Global, file: &[u8], expected: &str) -> Re
 fn a_changed_mac_is_refused(rt: HostRuntime) -> Result<(), Fail> {
     let alloc = rt.alloc();
     let mut file = message_file(alloc, &[])?;
-    let Some(column) = file.get_mut(71) else {
-        return Err(Fail::from("no MAC"));
-    };
-    assert!(rt; *column == b'V');
-    *column = b'U';
-    is_refused(&rt, alloc, &file, "invalid header MAC")
+    assert!(rt; replace(&mut file, 71, b'V', b'U'));
+    assert!(rt; is_refused(alloc, &file, "invalid header MAC")?);
+    Ok(())
 }
 
 #[test]
 fn files_cut_in_their_front_end_early(rt: HostRuntime) -> Result<(), Fail> {
     let alloc = rt.alloc();
+    let file = message_file(alloc, &[])?;
     for length in [0, 1, 21, 22, 70, 114, 115, 116, 130] {
-        let mut file = message_file(alloc, &[])?;
-        file.truncate(length);
-        is_refused(&rt, alloc, &file, "input ended early")?;
+        assert!(rt; is_refused(alloc, part(&file, 0, length), "input ended early")?);
     }
-    let mut file = message_file(alloc, &[])?;
-    file.truncate(131);
-    is_refused(&rt, alloc, &file, "age file is truncated")
+    assert!(rt; is_refused(alloc, part(&file, 0, 131), "age file is truncated")?);
+    Ok(())
 }
 
-// A stanza of a passphrase beside another, whose MAC is nobody's, and so many bytes after the header.
-fn beside_passphrase(alloc: Global, after: usize) -> Result<Vec<u8>, AllocError> {
+// Whether a file is refused with this text that has a stanza of a passphrase beside another, a MAC that is nobody's, and so many bytes
+// after the header, at most 16.
+fn is_refused_beside_passphrase(
+    alloc: Global,
+    after: usize,
+    expected: &str,
+) -> Result<bool, AllocError> {
     let mut file = Vec::from_slice(
         alloc,
         b"age-encryption.org/v1\n-> scrypt AAAA 10\nAAAA\n-> bench\nAAAAAAAAAAAAAAAAAAAAAA\n--- AAAAAAAAAAAAAAAAAAAAAAAAAAAAAAAAAAAAAAAAAAA\n",
     )?;
-    file.extend_from_slice(&vec![in alloc; 0; after]?)?;
-    Ok(file)
+    file.extend_from_slice(part(&[0; 16], 0, after))?;
+    is_refused(alloc, &file, expected)
 }
 
 // The nonce is read before the stanzas are looked at.
 #[test]
 fn a_passphrase_beside_others_is_refused_after_the_nonce(rt: HostRuntime) -> Result<(), Fail> {
     let alloc = rt.alloc();
-    is_refused(
-        &rt,
-        alloc,
-        &beside_passphrase(alloc, 15)?,
-        "input ended early",
-    )?;
-    is_refused(&rt, alloc, &beside_passphrase(alloc, 16)?, "invalid header")
+    assert!(rt; is_refused_beside_passphrase(alloc, 15, "input ended early")?);
+    assert!(rt; is_refused_beside_passphrase(alloc, 16, "invalid header")?);
+    Ok(())
+}
+
+// Whether the front of a file is read.
+fn reads_front(alloc: Global, input: &mut Bytes<'_>) -> bool {
+    let decryptor = Decryptor::<BenchSuite, &mut Bytes>::new(alloc, input);
+    is_answered(alloc, decryptor, None)
 }
 
 // Header and nonce, and no byte after them.
@@ -236,30 +230,30 @@ fn a_decryptor_reads_no_byte_of_the_payload(rt: HostRuntime) -> Result<(), Fail>
     let alloc = rt.alloc();
     let file = message_file(alloc, b"after")?;
     let mut input = Bytes::new(&file);
-    drop(Decryptor::<BenchSuite, &mut Bytes>::new(alloc, &mut input)?);
-    let mut rest = Vec::new(alloc);
-    let count = read_to_end(alloc, &mut input, &mut rest)?;
-    assert!(rt; count == 57);
-    let mut payload = Vec::from_slice(alloc, &SEALED)?;
-    payload.extend_from_slice(b"after")?;
-    assert!(rt; rest.as_slice() == payload.as_slice());
+    assert!(rt; reads_front(alloc, &mut input));
+    assert!(rt; gives_payload(alloc, &mut input, b"after")?);
     Ok(())
 }
+
+// Whether the front of a file is refused with this text.
+fn front_is_refused(alloc: Global, text: &[u8], expected: &str) -> bool {
+    let decryptor = Decryptor::<BenchSuite, Bytes>::new(alloc, Bytes::new(text));
+    is_refusal(alloc, decryptor, expected)
+}
+
+const SHORT: [(&[u8], &str); 5] = [
+    (b"", "input ended early"),
+    (b"age-encryption.org/v1", "input ended early"),
+    (b"hello", "invalid header"),
+    (b"age-encryption.org/v2\n", "unknown format"),
+    (b"age-encryption.org/v1\n--- \n", "invalid header"),
+];
 
 #[test]
 fn short_inputs_are_refused_by_name(rt: HostRuntime) -> Result<(), Fail> {
     let alloc = rt.alloc();
-    for (text, expected) in [
-        (b"".as_slice(), "input ended early"),
-        (b"age-encryption.org/v1", "input ended early"),
-        (b"hello", "invalid header"),
-        (b"age-encryption.org/v2\n", "unknown format"),
-        (b"age-encryption.org/v1\n--- \n", "invalid header"),
-    ] {
-        match Decryptor::<BenchSuite, Bytes>::new(alloc, Bytes::new(text)) {
-            Ok(_) => return Err(Fail::from("read")),
-            Err(error) => assert!(rt; error.to_string(alloc)?.as_str() == expected),
-        }
+    for (text, expected) in SHORT {
+        assert!(rt; front_is_refused(alloc, text, expected));
     }
     Ok(())
 }

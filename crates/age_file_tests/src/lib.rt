@@ -20,4 +20,6 @@ mod passphrase_tests;
 #[cfg(test)]
 mod recipient_tests;
 #[cfg(test)]
+mod shared;
+#[cfg(test)]
 mod whole_file_tests;

@@ -1,35 +1,109 @@
 //! The other suite against values of HMAC in Python.
 
+use crate::shared::gives;
 use age::suite::{Opens, ScryptError, Suite};
-use age_try::fixtures::{KEY, digest};
+use age_try::fixtures::{KEY, digest, part};
 use age_try::other_suite::OtherSuite;
+use std::alloc::{AllocError, Global};
+use std::process::Abort;
 use std::test::Fail;
 
 const NONCE: [u8; 12] = [100, 101, 102, 103, 104, 105, 106, 107, 108, 109, 110, 111];
 
-const PLAIN: [u8; 40] = [
+const PLAIN: &[u8] = &[
     200, 201, 202, 203, 204, 205, 206, 207, 208, 209, 210, 211, 212, 213, 214, 215, 216, 217, 218,
     219, 220, 221, 222, 223, 224, 225, 226, 227, 228, 229, 230, 231, 232, 233, 234, 235, 236, 237,
     238, 239,
 ];
 
-const SEALED: [u8; 56] = [
+const SEALED: &[u8] = &[
     0x8c, 0x7b, 0xa5, 0xde, 0x1a, 0xe3, 0xc6, 0xbc, 0x88, 0x42, 0x17, 0x84, 0xe4, 0x18, 0x8b, 0xea,
     0x87, 0xd4, 0x44, 0x7d, 0xa6, 0xaf, 0x65, 0xb5, 0xff, 0xe7, 0xc1, 0x40, 0x7e, 0x62, 0xe5, 0x2c,
     0x26, 0xab, 0xbb, 0x8e, 0x39, 0xae, 0x92, 0x1d, 0xb1, 0x74, 0xd9, 0x6c, 0xca, 0x46, 0x76, 0x24,
     0x7e, 0xd0, 0x93, 0x95, 0xd5, 0x6c, 0x9b, 0x55,
 ];
 
+// Whether a plaintext under the key and the nonce has this seal.
+fn is_sealed_so(alloc: Global, plain: &[u8], sealed: &[u8]) -> bool {
+    gives(OtherSuite::seal(alloc, &KEY, &NONCE, plain), sealed)
+}
+
+// What a seal opens to.
+fn opened(
+    alloc: Global,
+    opens: &mut Opens,
+    key: &[u8; 32],
+    nonce: &[u8; 12],
+    sealed: &[u8],
+) -> Result<Option<Vec<u8>>, AllocError> {
+    OtherSuite::open(alloc, opens, key, nonce, sealed)
+}
+
+// Whether a seal opens to this plaintext.
+fn opens_to(alloc: Global, opens: &mut Opens, sealed: &[u8], plain: &[u8]) -> bool {
+    match opened(alloc, opens, &KEY, &NONCE, sealed) {
+        Ok(answer) => gives(answer.ok_or("refused"), plain),
+        Err(_) => false,
+    }
+}
+
 #[test]
-fn a_plaintext_has_its_other_seal(rt: HostRuntime) -> Result<(), Fail> {
+fn a_plaintext_has_its_other_seal(rt: HostRuntime) {
     let alloc = rt.alloc();
-    let sealed = OtherSuite::seal(alloc, &KEY, &NONCE, &PLAIN)?;
-    assert!(rt; sealed.as_slice() == SEALED.as_slice());
+    assert!(rt; PLAIN.len() == 40 && SEALED.len() == 56);
+    assert!(rt; is_sealed_so(alloc, PLAIN, SEALED));
     let mut opens = Opens::new();
-    let opened = OtherSuite::open(alloc, &mut opens, &KEY, &NONCE, &SEALED)?;
-    assert!(rt; opened.ok_or("refused")?.as_slice() == PLAIN.as_slice());
+    assert!(rt; opens_to(alloc, &mut opens, SEALED, PLAIN));
     assert!(rt; opens.count() == 1);
-    Ok(())
+}
+
+// Whether these bytes are no seal under the key and the nonce.
+fn is_no_seal(
+    alloc: Global,
+    opens: &mut Opens,
+    key: &[u8; 32],
+    nonce: &[u8; 12],
+    sealed: &[u8],
+) -> bool {
+    match opened(alloc, opens, key, nonce, sealed) {
+        Ok(plain) => plain.is_none(),
+        Err(_) => false,
+    }
+}
+
+// Whether the seal is none under the key with its last byte changed.
+fn is_no_seal_by_another_key(alloc: Global, opens: &mut Opens) -> bool {
+    let mut key = KEY;
+    key[31] = 32;
+    is_no_seal(alloc, opens, &key, &NONCE, SEALED)
+}
+
+// Whether the seal is none under the nonce with its first byte changed.
+fn is_no_seal_by_another_nonce(alloc: Global, opens: &mut Opens) -> bool {
+    let mut nonce = NONCE;
+    nonce[0] = 0;
+    is_no_seal(alloc, opens, &KEY, &nonce, SEALED)
+}
+
+// The seal with a bit of this byte changed.
+fn changed(alloc: Global, place: usize) -> Result<Vec<u8>, Fail> {
+    let mut copy = Vec::from_slice(alloc, SEALED)?;
+    match copy.get_mut(place) {
+        Some(byte) => *byte ^= 1,
+        None => return Err(Fail::from("no such byte")),
+    }
+    Ok(copy)
+}
+
+// Whether the seal with a bit of this byte changed is none.
+fn is_no_seal_changed(alloc: Global, opens: &mut Opens, place: usize) -> Result<bool, Fail> {
+    let copy = changed(alloc, place)?;
+    Ok(is_no_seal(alloc, opens, &KEY, &NONCE, &copy))
+}
+
+// Whether the first bytes of the seal, so many of them, are none.
+fn is_no_seal_cut(alloc: Global, opens: &mut Opens, length: usize) -> bool {
+    is_no_seal(alloc, opens, &KEY, &NONCE, part(SEALED, 0, length))
 }
 
 // With another key, another nonce or another byte, and cut.
@@ -37,20 +111,11 @@ fn a_plaintext_has_its_other_seal(rt: HostRuntime) -> Result<(), Fail> {
 fn what_is_no_other_seal_is_refused(rt: HostRuntime) -> Result<(), Fail> {
     let alloc = rt.alloc();
     let mut opens = Opens::new();
-    let mut key = KEY;
-    key[31] = 32;
-    assert!(rt; OtherSuite::open(alloc, &mut opens, &key, &NONCE, &SEALED)?.is_none());
-    let mut nonce = NONCE;
-    nonce[0] = 0;
-    assert!(rt; OtherSuite::open(alloc, &mut opens, &KEY, &nonce, &SEALED)?.is_none());
+    assert!(rt; is_no_seal_by_another_key(alloc, &mut opens));
+    assert!(rt; is_no_seal_by_another_nonce(alloc, &mut opens));
     for i in 0..56 {
-        let mut changed = SEALED;
-        changed[i] ^= 1;
-        assert!(rt;
-            OtherSuite::open(alloc, &mut opens, &KEY, &NONCE, &changed)?.is_none(),
-            "at byte {i}"
-        );
-        assert!(rt; OtherSuite::open(alloc, &mut opens, &KEY, &NONCE, &SEALED[..i])?.is_none());
+        assert!(rt; is_no_seal_changed(alloc, &mut opens, i)?, "at byte {i}");
+        assert!(rt; is_no_seal_cut(alloc, &mut opens, i));
     }
     assert!(rt; opens.count() == 114);
     Ok(())
@@ -65,25 +130,40 @@ fn both_sides_share_another_secret(rt: HostRuntime) {
     assert!(rt; (shared[0], shared[31]) == (0x36, 0x55));
 }
 
+// What the passphrase of these tests is stretched to.
+fn stretched(alloc: Global, factor: u8) -> Result<[u8; 32], ScryptError> {
+    OtherSuite::scrypt(alloc, b"passphrase", b"salt", factor)
+}
+
+// Whether a work factor is accepted, and refused by name where it is above 12.
+fn is_judged(alloc: Global, factor: u8) -> bool {
+    let stretched = stretched(alloc, factor);
+    if factor > 12 {
+        stretched == Err(ScryptError::InvalidParams)
+    } else {
+        stretched.is_ok()
+    }
+}
+
+// Whether a work factor is accepted, and gives bytes with this digest.
+fn has_digest(alloc: Global, factor: u8, expected: u64) -> bool {
+    match stretched(alloc, factor) {
+        Ok(key) => digest(&key) == expected,
+        Err(_) => false,
+    }
+}
+
 #[test]
 fn work_factors_from_0_to_12_are_accepted(rt: HostRuntime) {
     let alloc = rt.alloc();
     for factor in 0..=255 {
-        let stretched = OtherSuite::scrypt(alloc, b"passphrase", b"salt", factor);
-        if factor > 12 {
-            assert!(rt; stretched == Err(ScryptError::InvalidParams));
-        } else {
-            assert!(rt; stretched.is_ok(), "of {factor}");
-        }
+        assert!(rt; is_judged(alloc, factor), "of {factor}");
     }
     for (factor, expected) in [
         (0, 0x7b4a_42b2_4a55_11f4),
         (1, 0x702f_25ca_f0d6_f09a),
         (12, 0x58e8_6c5f_601f_3dac),
     ] {
-        match OtherSuite::scrypt(alloc, b"passphrase", b"salt", factor) {
-            Ok(key) => assert!(rt; digest(&key) == expected, "of {factor}"),
-            Err(_) => assert!(rt; false, "of {factor}"),
-        }
+        assert!(rt; has_digest(alloc, factor, expected), "of {factor}");
     }
 }

@@ -1,77 +1,98 @@
 //! Parts of a file's plaintext, and the words that ask for them.
 
+use crate::shared::{commands_file, is_answered};
 use age::armor::Format;
 use age::io::Bytes;
-use age_bench::file::encrypt_to;
-use age_bench::names::{To, With};
+use age_bench::names::With;
 use age_bench::part::at_with;
-use age_try::fixtures::{MESSAGE, plaintext, zeros};
-use std::alloc::{AllocError, Global};
+use age_try::fixtures::{MESSAGE, part, plaintext};
+use std::alloc::Global;
 use std::process::Abort;
 use std::test::Fail;
 
-// A part of the file of a plaintext in this form: these bytes, or this text and nothing.
-fn is_given(
-    rt: &impl Abort,
+// Appends a part of a file's plaintext. Whether it succeeds, or, where a text is given, is refused with this text.
+fn appends(
     alloc: Global,
     file: &[u8],
     place: u64,
     count: u64,
-    expected: Result<&[u8], &str>,
-) -> Result<(), Fail> {
-    let mut part = Vec::new(alloc);
-    match at_with(
+    got: &mut Vec<u8>,
+    refusal: Option<&str>,
+) -> bool {
+    is_answered(
         alloc,
-        With::Bench,
+        at_with(alloc, With::Bench, place, count, &mut Bytes::new(file), got),
+        refusal,
+    )
+}
+
+// Whether a part of a file's plaintext is these bytes.
+fn is_given(alloc: Global, file: &[u8], place: u64, count: u64, expected: &[u8]) -> bool {
+    let mut got = Vec::new(alloc);
+    appends(alloc, file, place, count, &mut got, None) && got.as_slice() == expected
+}
+
+// Whether a part is refused since it begins past the end of a file's plaintext, and nothing is given.
+fn is_past_end(alloc: Global, file: &[u8], place: u64, count: u64) -> bool {
+    let mut got = Vec::new(alloc);
+    appends(
+        alloc,
+        file,
         place,
         count,
-        &mut Bytes::new(file),
-        &mut part,
-    ) {
-        Ok(()) => assert!(rt; Ok(part.as_slice()) == expected),
-        Err(error) => {
-            let text = error.to_string(alloc)?;
-            assert!(rt; Err(text.as_str()) == expected);
-            assert!(rt; part.len() == 0);
-        }
-    }
+        &mut got,
+        Some("cannot seek past the end"),
+    ) && got.is_empty()
+}
+
+// The message's file in this form has these parts.
+fn has_its_parts(rt: &impl Abort, alloc: Global, format: Format) -> Result<(), Fail> {
+    let file = commands_file(alloc, MESSAGE, format)?;
+    assert!(rt; has_parts_of_message(alloc, &file));
+    assert!(rt; has_no_parts_past_end(alloc, &file));
     Ok(())
 }
 
-// The file of a plaintext in this form.
-fn file_of(alloc: Global, plain: &[u8], format: Format) -> Result<Vec<u8>, Fail> {
-    let mut file = Vec::new(alloc);
-    let draw = zeros(alloc, 32)?;
-    encrypt_to(
-        alloc,
-        To::Bench,
-        draw,
-        format,
-        &mut Bytes::new(plain),
-        &mut file,
-    )?;
-    Ok(file)
+// Whether a file has these parts of the message.
+fn has_parts_of_message(alloc: Global, file: &[u8]) -> bool {
+    is_given(alloc, file, 5, 3, b"is ")
+        && is_given(alloc, file, 30, 10, b"sting.")
+        && is_given(alloc, file, 36, 1, b"")
+        && is_given(alloc, file, 7, 0, b"")
+        && is_given(alloc, file, 0, u64::MAX, MESSAGE)
 }
 
-const PAST_END: Result<&[u8], &str> = Err("cannot seek past the end");
+// Whether these parts of the message's file are past its end.
+fn has_no_parts_past_end(alloc: Global, file: &[u8]) -> bool {
+    is_past_end(alloc, file, 37, 1)
+        && is_past_end(alloc, file, 37, 0)
+        && is_past_end(alloc, file, u64::MAX, u64::MAX)
+}
 
 #[test]
 fn a_message_has_its_parts(rt: HostRuntime) -> Result<(), Fail> {
     let alloc = rt.alloc();
-    for format in [Format::Binary, Format::AsciiArmor] {
-        let file = file_of(alloc, MESSAGE, format)?;
-        for (place, count, expected) in [
-            (5, 3, Ok(b"is ".as_slice())),
-            (30, 10, Ok(b"sting.".as_slice())),
-            (36, 1, Ok(b"".as_slice())),
-            (37, 1, PAST_END),
-            (37, 0, PAST_END),
-            (7, 0, Ok(b"".as_slice())),
-            (0, u64::MAX, Ok(MESSAGE)),
-            (u64::MAX, u64::MAX, PAST_END),
-        ] {
-            is_given(&rt, alloc, &file, place, count, expected)?;
-        }
+    has_its_parts(&rt, alloc, Format::Binary)?;
+    has_its_parts(&rt, alloc, Format::AsciiArmor)
+}
+
+// Whether the part of a file's plaintext is that of these bytes, as far as they reach.
+fn is_part_of(alloc: Global, file: &[u8], plain: &[u8], place: usize, count: usize) -> bool {
+    let expected = part(plain, place, place.saturating_add(count));
+    is_given(alloc, file, place as u64, count as u64, expected)
+}
+
+// The file of a plaintext in this form has these parts.
+fn has_parts_of(rt: &impl Abort, alloc: Global, plain: &[u8], format: Format) -> Result<(), Fail> {
+    let file = commands_file(alloc, plain, format)?;
+    for (place, count) in [
+        (65_530, 12),
+        (65_536, 1),
+        (131_071, 2),
+        (1, 262_145),
+        (399_999, 9),
+    ] {
+        assert!(rt; is_part_of(alloc, &file, plain, place, count));
     }
     Ok(())
 }
@@ -81,21 +102,34 @@ fn a_message_has_its_parts(rt: HostRuntime) -> Result<(), Fail> {
 fn parts_go_over_the_ends_of_chunks(rt: HostRuntime) -> Result<(), Fail> {
     let alloc = rt.alloc();
     let plain = plaintext(alloc, 400_000)?;
-    for format in [Format::Binary, Format::AsciiArmor] {
-        let file = file_of(alloc, &plain, format)?;
-        for (place, count) in [
-            (65_530, 12),
-            (65_536, 1),
-            (131_071, 2),
-            (1, 262_145),
-            (399_999, 9),
-        ] {
-            let rest = plain.get(place..).ok_or("no place")?;
-            let expected = rest.get(..count).unwrap_or(rest);
-            is_given(&rt, alloc, &file, place as u64, count as u64, Ok(expected))?;
-        }
+    has_parts_of(&rt, alloc, &plain, Format::Binary)?;
+    has_parts_of(&rt, alloc, &plain, Format::AsciiArmor)
+}
+
+// Changes a bit of the second chunk of a file whose plaintext has 200,000 bytes. Whether there is one.
+fn harm_second_chunk(file: &mut [u8]) -> bool {
+    let start = file.len().saturating_sub(200_064);
+    let Some(byte) = file.get_mut(start.saturating_add(65_552)) else {
+        return false;
+    };
+    *byte ^= 1;
+    true
+}
+
+// Whether a part that begins six bytes before the second chunk is these bytes, and then a bad chunk.
+fn ends_with_first_chunk(alloc: Global, file: &[u8], expected: Option<&[u8]>) -> bool {
+    let mut got = Vec::new(alloc);
+    appends(alloc, file, 65_530, 20, &mut got, Some("decryption error"))
+        && Some(got.as_slice()) == expected
+}
+
+// The file of a plaintext of 200,000 bytes, whose second chunk is bad.
+fn with_bad_chunk(alloc: Global, plain: &[u8]) -> Result<Vec<u8>, Fail> {
+    let mut file = commands_file(alloc, plain, Format::Binary)?;
+    if !harm_second_chunk(&mut file) {
+        return Err(Fail::from("no chunk"));
     }
-    Ok(())
+    Ok(file)
 }
 
 // A chunk that is bad ends the part after the bytes of the chunks before it, and chunks that aren't asked for aren't looked at.
@@ -103,25 +137,8 @@ fn parts_go_over_the_ends_of_chunks(rt: HostRuntime) -> Result<(), Fail> {
 fn a_bad_chunk_is_met_where_it_stands(rt: HostRuntime) -> Result<(), Fail> {
     let alloc = rt.alloc();
     let plain = plaintext(alloc, 200_000)?;
-    let mut file = file_of(alloc, &plain, Format::Binary)?;
-    let start = file.len().saturating_sub(200_064);
-    let Some(byte) = file.get_mut(start.saturating_add(65_552)) else {
-        return Err(Fail::from("no chunk"));
-    };
-    *byte ^= 1;
-    let mut part = Vec::new(alloc);
-    match at_with(
-        alloc,
-        With::Bench,
-        65_530,
-        20,
-        &mut Bytes::new(&file),
-        &mut part,
-    ) {
-        Ok(()) => return Err(Fail::from("the bad chunk was given")),
-        Err(error) => assert!(rt; error.to_string(alloc)?.as_str() == "decryption error"),
-    }
-    assert!(rt; Some(part.as_slice()) == plain.get(65_530..65_536));
-    let last = plain.get(131_072..131_080).ok_or("no bytes")?;
-    is_given(&rt, alloc, &file, 131_072, 8, Ok(last))
+    let file = with_bad_chunk(alloc, &plain)?;
+    assert!(rt; ends_with_first_chunk(alloc, &file, plain.get(65_530..65_536)));
+    assert!(rt; is_part_of(alloc, &file, &plain, 131_072, 8));
+    Ok(())
 }

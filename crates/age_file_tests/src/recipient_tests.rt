@@ -1,11 +1,12 @@
 //! Several recipients and several identities: which refuses, who decides, and how many random bytes are left.
 
-use crate::file_tests::grease;
+use crate::file_tests::recipients;
+use crate::shared::{grease, is_answered, written};
 use age::draw::Draw;
-use age::io::{Bytes, write_all};
+use age::io::Bytes;
 use age::{Decryptor, Encryptor, Identity, Recipient};
-use age_bench::recipient::BenchRecipient;
 use age_bench::suite::BenchSuite;
+use age_try::answers::is_refusal;
 use age_try::fixtures::empty_stanza;
 use age_try::scripted::{Script, ScriptedIdentity, ScriptedRecipient};
 use std::alloc::{AllocError, Global};
@@ -13,59 +14,79 @@ use std::collections::BTreeSet;
 use std::process::Abort;
 use std::test::Fail;
 
-// A recipient of a tag, or without a stanza where the tag is empty, with these labels.
-fn scripted(
-    alloc: Global,
-    tag: &str,
-    draws: bool,
-    texts: &[&str],
-) -> Result<ScriptedRecipient, Fail> {
+// These labels.
+fn labels_of(alloc: Global, texts: &[&str]) -> Result<BTreeSet<String>, AllocError> {
     let mut labels = BTreeSet::new(alloc);
     for text in texts {
         labels.insert(String::from_str(alloc, text)?)?;
     }
-    let tag = if tag.is_empty() {
-        None
-    } else {
-        Some(String::from_str(alloc, tag)?)
-    };
-    Ok(ScriptedRecipient { tag, draws, labels })
+    Ok(labels)
 }
 
-// An encryption with so many random bytes succeeds, or is refused with this text, and so many are left.
+// This tag, or none where it is empty.
+fn tag_of(alloc: Global, tag: &str) -> Result<Option<String>, AllocError> {
+    if tag.is_empty() {
+        return Ok(None);
+    }
+    Ok(Some(String::from_str(alloc, tag)?))
+}
+
+// Adds a recipient of a tag, or without a stanza where the tag is empty, with these labels.
+fn add(
+    alloc: Global,
+    recipients: &mut Vec<Box<dyn Recipient>>,
+    tag: &str,
+    draws: bool,
+    texts: &[&str],
+) -> Result<(), AllocError> {
+    let tag = tag_of(alloc, tag)?;
+    let labels = labels_of(alloc, texts)?;
+    recipients.push(Box::new(alloc, ScriptedRecipient { tag, draws, labels })?)?;
+    Ok(())
+}
+
+// So many random bytes, all of them 7.
+fn sevens(alloc: Global, count: usize) -> Result<Draw, AllocError> {
+    Ok(Draw::new(vec![in alloc; 7; count]?))
+}
+
+// Whether an encryption with so many random bytes succeeds, or is refused with this text, and so many are left.
 fn prepares(
-    rt: &impl Abort,
     alloc: Global,
     recipients: &[Box<dyn Recipient>],
     random: usize,
     expected: Result<(), &str>,
     left: usize,
-) -> Result<(), Fail> {
-    let mut draw = Draw::new(vec![in alloc; 7; random]?);
+) -> Result<bool, Fail> {
+    let mut draw = sevens(alloc, random)?;
     let grease = grease(alloc, "x-grease")?;
-    match Encryptor::<BenchSuite>::with_recipients(alloc, recipients, &mut draw, grease) {
-        Ok(_) => assert!(rt; Ok(()) == expected),
-        Err(error) => assert!(rt; Err(error.to_string(alloc)?.as_str()) == expected),
-    }
-    assert!(rt; draw.left() == left);
+    let encryptor = Encryptor::<BenchSuite>::with_recipients(alloc, recipients, &mut draw, grease);
+    Ok(is_answered(alloc, encryptor, expected.err()) && draw.left() == left)
+}
+
+const RAN_OUT: Result<(), &str> = Err("random bytes ran out");
+
+// To no recipient nothing is encrypted.
+fn none_is_refused(rt: &impl Abort, alloc: Global) -> Result<(), Fail> {
+    let recipients = Vec::new(alloc);
+    assert!(rt; prepares(alloc, &recipients, 16, Err("no recipients"), 0)?);
+    assert!(rt; prepares(alloc, &recipients, 15, RAN_OUT, 15)?);
     Ok(())
 }
 
 #[test]
 fn one_recipient_or_none(rt: HostRuntime) -> Result<(), Fail> {
     let alloc = rt.alloc();
-    let mut recipients: Vec<Box<dyn Recipient>> = Vec::new(alloc);
-    prepares(&rt, alloc, &recipients, 16, Err("no recipients"), 0)?;
-    prepares(&rt, alloc, &recipients, 15, Err("random bytes ran out"), 15)?;
-    recipients.push(Box::new(alloc, BenchRecipient)?)?;
+    none_is_refused(&rt, alloc)?;
+    let recipients = recipients(alloc)?;
     for (random, expected, left) in [
-        (15, Err("random bytes ran out"), 15),
-        (16, Err("random bytes ran out"), 0),
-        (31, Err("random bytes ran out"), 15),
+        (15, RAN_OUT, 15),
+        (16, RAN_OUT, 0),
+        (31, RAN_OUT, 15),
         (32, Ok(()), 0),
         (40, Ok(()), 8),
     ] {
-        prepares(&rt, alloc, &recipients, random, expected, left)?;
+        assert!(rt; prepares(alloc, &recipients, random, expected, left)?);
     }
     Ok(())
 }
@@ -74,127 +95,110 @@ fn one_recipient_or_none(rt: HostRuntime) -> Result<(), Fail> {
 #[test]
 fn recipients_draw_in_turn(rt: HostRuntime) -> Result<(), Fail> {
     let alloc = rt.alloc();
-    let mut recipients: Vec<Box<dyn Recipient>> = Vec::new(alloc);
-    recipients.push(Box::new(alloc, BenchRecipient)?)?;
-    recipients.push(Box::new(alloc, scripted(alloc, "drawing", true, &[])?)?)?;
-    let ran_out = Err("random bytes ran out");
-    prepares(&rt, alloc, &recipients, 47, ran_out, 31)?;
-    prepares(&rt, alloc, &recipients, 63, ran_out, 15)?;
-    prepares(&rt, alloc, &recipients, 64, Ok(()), 0)
+    let mut recipients = recipients(alloc)?;
+    add(alloc, &mut recipients, "drawing", true, &[])?;
+    for (random, expected, left) in [(47, RAN_OUT, 31), (63, RAN_OUT, 15), (64, Ok(()), 0)] {
+        assert!(rt; prepares(alloc, &recipients, random, expected, left)?);
+    }
+    Ok(())
 }
 
-// Two recipients are refused with this text, or accepted.
-fn pairs(
-    rt: &impl Abort,
-    alloc: Global,
-    first: ScriptedRecipient,
-    second: ScriptedRecipient,
-    expected: Result<(), &str>,
-) -> Result<(), Fail> {
+// A tag and labels of a recipient, and of another beside it, and whether the two are accepted, or refused with this text.
+type Pair = (
+    &'static str,
+    &'static [&'static str],
+    &'static str,
+    &'static [&'static str],
+    Result<(), &'static str>,
+);
+
+const MIXED: Result<(), &str> = Err("a passphrase can't be used with other recipients");
+
+const PAIRS: [Pair; 9] = [
+    ("a", &["x", "y"], "b", &["y", "x"], Ok(())),
+    (
+        "a",
+        &["x", "y"],
+        "b",
+        &["z", "x"],
+        Err("recipients have different labels: x, y / x, z"),
+    ),
+    (
+        "a",
+        &[],
+        "b",
+        &["x y"],
+        Err("recipients have different labels:  / x y"),
+    ),
+    (
+        "a",
+        &["x y"],
+        "b",
+        &[],
+        Err("invalid recipient labels: x y"),
+    ),
+    ("a", &[], "scrypt", &["x"], MIXED),
+    ("scrypt", &["x"], "a", &[], MIXED),
+    ("scrypt", &["x"], "scrypt", &["y"], MIXED),
+    ("a", &[], "scrypt", &[], MIXED),
+    ("", &[], "", &[], Ok(())),
+];
+
+// Whether the two are accepted, or refused with this text.
+fn is_so(alloc: Global, pair: Pair) -> Result<bool, Fail> {
+    let (one, first, two, second, expected) = pair;
     let mut recipients: Vec<Box<dyn Recipient>> = Vec::new(alloc);
-    recipients.push(Box::new(alloc, first)?)?;
-    recipients.push(Box::new(alloc, second)?)?;
+    add(alloc, &mut recipients, one, false, first)?;
+    add(alloc, &mut recipients, two, false, second)?;
     let left = if expected.is_ok() { 0 } else { 16 };
-    prepares(rt, alloc, &recipients, 32, expected, left)
+    prepares(alloc, &recipients, 32, expected, left)
 }
 
 #[test]
 fn labels_must_agree(rt: HostRuntime) -> Result<(), Fail> {
     let alloc = rt.alloc();
-    let mixed = Err("a passphrase can't be used with other recipients");
-    for (one, first, two, second, expected) in [
-        (
-            "a",
-            ["x", "y"].as_slice(),
-            "b",
-            ["y", "x"].as_slice(),
-            Ok(()),
-        ),
-        (
-            "a",
-            ["x", "y"].as_slice(),
-            "b",
-            ["z", "x"].as_slice(),
-            Err("recipients have different labels: x, y / x, z"),
-        ),
-        (
-            "a",
-            [].as_slice(),
-            "b",
-            ["x y"].as_slice(),
-            Err("recipients have different labels:  / x y"),
-        ),
-        (
-            "a",
-            ["x y"].as_slice(),
-            "b",
-            [].as_slice(),
-            Err("invalid recipient labels: x y"),
-        ),
-        ("a", [].as_slice(), "scrypt", ["x"].as_slice(), mixed),
-        ("scrypt", ["x"].as_slice(), "a", [].as_slice(), mixed),
-        (
-            "scrypt",
-            ["x"].as_slice(),
-            "scrypt",
-            ["y"].as_slice(),
-            mixed,
-        ),
-        ("a", [].as_slice(), "scrypt", [].as_slice(), mixed),
-        ("", [].as_slice(), "", [].as_slice(), Ok(())),
-    ] {
-        let first = scripted(alloc, one, false, first)?;
-        let second = scripted(alloc, two, false, second)?;
-        pairs(&rt, alloc, first, second, expected)?;
+    for pair in PAIRS {
+        assert!(rt; is_so(alloc, pair)?);
     }
     Ok(())
+}
+
+// An encryptor to a recipient that answers one stanza of this tag, or none.
+fn prepared(alloc: Global, tag: &str) -> Result<Encryptor<BenchSuite>, Fail> {
+    let mut recipients: Vec<Box<dyn Recipient>> = Vec::new(alloc);
+    add(alloc, &mut recipients, tag, false, &[])?;
+    let mut draw = sevens(alloc, 32)?;
+    let grease = grease(alloc, "x-grease")?;
+    Ok(Encryptor::<BenchSuite>::with_recipients(alloc, &recipients, &mut draw, grease)?)
 }
 
 // The file of nothing, to a recipient that answers one stanza of this tag, or none.
 fn file_of(alloc: Global, tag: &str) -> Result<Vec<u8>, Fail> {
-    let mut recipients: Vec<Box<dyn Recipient>> = Vec::new(alloc);
-    recipients.push(Box::new(alloc, scripted(alloc, tag, false, &[])?)?)?;
-    let mut draw = Draw::new(vec![in alloc; 7; 32]?);
-    let grease = grease(alloc, "x-grease")?;
-    let encryptor = Encryptor::<BenchSuite>::with_recipients(
-        alloc,
-        &recipients,
-        &mut draw,
-        grease,
-    )?;
-    let mut stream = encryptor.wrap_output(alloc, Vec::new(alloc))?;
-    write_all(&mut stream, b"")?;
-    Ok(stream.finish()?)
+    written(alloc, prepared(alloc, tag)?, b"")
 }
 
-// An identity of this script that wasn't asked yet.
-fn identity(script: Script) -> ScriptedIdentity {
-    ScriptedIdentity { script, asked: 0 }
-}
-
-// One that answers nothing, one that refuses, and one that answers how often it was asked.
-fn three(alloc: Global) -> Result<Vec<Box<dyn Identity>>, AllocError> {
+// Identities of these scripts that weren't asked yet.
+fn identities_of(alloc: Global, scripts: &[Script]) -> Result<Vec<Box<dyn Identity>>, AllocError> {
     let mut identities: Vec<Box<dyn Identity>> = Vec::new(alloc);
-    identities.push(Box::new(alloc, identity(Script::Nothing))?)?;
-    identities.push(Box::new(alloc, identity(Script::Refusal))?)?;
-    identities.push(Box::new(alloc, identity(Script::TimesAsked))?)?;
+    for script in scripts {
+        let identity = ScriptedIdentity {
+            script: *script,
+            asked: 0,
+        };
+        identities.push(Box::new(alloc, identity)?)?;
+    }
     Ok(identities)
 }
 
-// Decrypting with these is refused with this text.
+// Whether decrypting with these is refused with this text.
 fn is_refused(
-    rt: &impl Abort,
     alloc: Global,
     file: &[u8],
     identities: &mut [Box<dyn Identity>],
     expected: &str,
-) -> Result<(), Fail> {
+) -> Result<bool, Fail> {
     let decryptor = Decryptor::<BenchSuite, Bytes>::new(alloc, Bytes::new(file))?;
-    match decryptor.decrypt(alloc, identities) {
-        Ok(_) => return Err(Fail::from("decrypted")),
-        Err(error) => assert!(rt; error.to_string(alloc)?.as_str() == expected),
-    }
-    Ok(())
+    Ok(is_refusal(alloc, decryptor.decrypt(alloc, identities), expected))
 }
 
 // The last of them is asked for the first time now.
@@ -217,32 +221,34 @@ fn last_wasnt_asked(
     Ok(())
 }
 
+// One that answers nothing, one that refuses, and one that answers how often it was asked.
+const THREE: [Script; 3] = [Script::Nothing, Script::Refusal, Script::TimesAsked];
+
 #[test]
 fn the_first_identity_that_answers_decides(rt: HostRuntime) -> Result<(), Fail> {
     let alloc = rt.alloc();
     let file = file_of(alloc, "tag")?;
-    let mut identities = three(alloc)?;
-    is_refused(&rt, alloc, &file, &mut identities, "decryption failed")?;
+    let mut identities = identities_of(alloc, &THREE)?;
+    assert!(rt; is_refused(alloc, &file, &mut identities, "decryption failed")?);
     last_wasnt_asked(&rt, alloc, &mut identities)
 }
 
-// Decrypting with one of this script is refused with this text.
+// Whether decrypting with one of this script is refused with this text.
 fn one_is_refused(
-    rt: &impl Abort,
     alloc: Global,
     file: &[u8],
     script: Script,
     expected: &str,
-) -> Result<(), Fail> {
-    let mut identities: Vec<Box<dyn Identity>> = Vec::new(alloc);
-    identities.push(Box::new(alloc, identity(script))?)?;
-    is_refused(rt, alloc, file, &mut identities, expected)
+) -> Result<bool, Fail> {
+    let mut identities = identities_of(alloc, &[script])?;
+    is_refused(alloc, file, &mut identities, expected)
 }
 
 #[test]
 fn no_identity_and_another_key(rt: HostRuntime) -> Result<(), Fail> {
     let alloc = rt.alloc();
     let file = file_of(alloc, "")?;
-    one_is_refused(&rt, alloc, &file, Script::Nothing, "no matching keys")?;
-    one_is_refused(&rt, alloc, &file, Script::TimesAsked, "invalid header MAC")
+    assert!(rt; one_is_refused(alloc, &file, Script::Nothing, "no matching keys")?);
+    assert!(rt; one_is_refused(alloc, &file, Script::TimesAsked, "invalid header MAC")?);
+    Ok(())
 }

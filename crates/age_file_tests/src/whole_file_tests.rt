@@ -1,15 +1,21 @@
 //! Whole files to `bench` in one call, bare and armored. The expected texts are those of Python, from the format's own words.
 
-use crate::file_tests::grease;
+use crate::shared::{
+    call_gives_message, command_decrypts, command_gives_message, commands_file, gives, grease,
+    is_error, opens_to,
+};
 use age::armor::Format;
-use age::io::{Bytes, Error, read_to_end};
+use age::draw::Draw;
+use age::io::Bytes;
+use age::stream::StreamReader;
 use age::streaming::FileError;
 use age::{DecryptError, Decryptor, decrypt, encrypt, encrypt_and_armor};
-use age_bench::file::{decrypt_with, encrypt_to};
-use age_bench::names::{To, With};
+use age_bench::file::decrypt_with;
+use age_bench::names::With;
 use age_bench::recipient::{BenchIdentity, BenchRecipient};
 use age_bench::suite::BenchSuite;
-use age_try::fixtures::{MESSAGE, message_file, zeros};
+use age_try::answers::is_refusal;
+use age_try::fixtures::{MESSAGE, message_file, part, zeros};
 use std::alloc::Global;
 use std::process::Abort;
 use std::test::Fail;
@@ -22,34 +28,40 @@ const ARMORED: &str =
 const PROGRAM_ARMORED: &[u8] =
     b"-----BEGIN AGE ENCRYPTED FILE-----\nYWdlLWVuY3J5cHRpb24ub3JnL3YxCi0+IGJlbmNoCkFBQUFBQUFBQUFBQUFBQUFB\nQUFBQUEKLT4gYWdlYmVuY2gtZ3JlYXNlCgotLS0gcVpoZjcxY2dRZmlYV01uejM2\nOFlOQTNvQkwxK0cvQUd3SVd5MUEyN2pmawoAAAAAAAAAAAAAAAAAAAAAfmDE9txr\ntwpw7Nkb7RnAPsRD/YVRpLEUkfEIupJuXBpDZsqraD0l8+3tQqLDL0/s0WzREg==\n-----END AGE ENCRYPTED FILE-----\n";
 
+// The file of the message by these random bytes.
+fn encrypted(alloc: Global, draw: &mut Draw) -> Result<Vec<u8>, Fail> {
+    let grease = grease(alloc, "x-grease")?;
+    Ok(encrypt::<BenchSuite, BenchRecipient>(alloc, &BenchRecipient, MESSAGE, draw, grease)?)
+}
+
 #[test]
 fn a_message_is_encrypted_in_one_call(rt: HostRuntime) -> Result<(), Fail> {
     let alloc = rt.alloc();
     let mut draw = zeros(alloc, 33)?;
-    let file = encrypt::<BenchSuite, BenchRecipient>(
+    let file = encrypted(alloc, &mut draw)?;
+    assert!(rt; draw.left() == 1);
+    assert!(rt; file.len() == 183);
+    assert!(rt; gives(message_file(alloc, &[]), &file));
+    Ok(())
+}
+
+// The armor of the file of the message by these random bytes.
+fn encrypted_and_armored(alloc: Global, draw: &mut Draw) -> Result<String, Fail> {
+    let grease = grease(alloc, "x-grease")?;
+    Ok(encrypt_and_armor::<BenchSuite, BenchRecipient>(
         alloc,
         &BenchRecipient,
         MESSAGE,
-        &mut draw,
-        grease(alloc, "x-grease")?,
-    )?;
-    assert!(rt; draw.left() == 1);
-    assert!(rt; file.len() == 183);
-    assert!(rt; file.as_slice() == message_file(alloc, &[])?.as_slice());
-    Ok(())
+        draw,
+        grease,
+    )?)
 }
 
 #[test]
 fn a_message_is_encrypted_and_armored_in_one_call(rt: HostRuntime) -> Result<(), Fail> {
     let alloc = rt.alloc();
     let mut draw = zeros(alloc, 33)?;
-    let text = encrypt_and_armor::<BenchSuite, BenchRecipient>(
-        alloc,
-        &BenchRecipient,
-        MESSAGE,
-        &mut draw,
-        grease(alloc, "x-grease")?,
-    )?;
+    let text = encrypted_and_armored(alloc, &mut draw)?;
     assert!(rt; draw.left() == 1);
     assert!(rt; text.len() == 316);
     assert!(rt; text.as_str() == ARMORED);
@@ -60,104 +72,113 @@ fn a_message_is_encrypted_and_armored_in_one_call(rt: HostRuntime) -> Result<(),
 fn a_file_is_decrypted_in_one_call(rt: HostRuntime) -> Result<(), Fail> {
     let alloc = rt.alloc();
     let bare = message_file(alloc, &[])?;
-    for file in [bare.as_slice(), ARMORED.as_bytes(), PROGRAM_ARMORED] {
-        let plain = decrypt::<BenchSuite, BenchIdentity>(alloc, &mut BenchIdentity, file)?;
-        assert!(rt; plain.as_slice() == MESSAGE);
-    }
+    assert!(rt; call_gives_message(alloc, &bare));
+    assert!(rt; call_gives_message(alloc, ARMORED.as_bytes()));
+    assert!(rt; call_gives_message(alloc, PROGRAM_ARMORED));
     Ok(())
+}
+
+// The reader of a file's plaintext.
+fn opened<'a>(
+    alloc: Global,
+    file: &'a [u8],
+) -> Result<StreamReader<BenchSuite, Bytes<'a>>, DecryptError> {
+    let decryptor = Decryptor::<BenchSuite, Bytes>::new(alloc, Bytes::new(file))?;
+    decryptor.decrypt_one(alloc, &mut BenchIdentity)
 }
 
 #[test]
 fn one_identity_decrypts(rt: HostRuntime) -> Result<(), Fail> {
     let alloc = rt.alloc();
+    assert!(rt; MESSAGE.len() == 36);
     let file = message_file(alloc, &[])?;
-    let decryptor = Decryptor::<BenchSuite, Bytes>::new(alloc, Bytes::new(&file))?;
-    let mut stream = decryptor.decrypt_one(alloc, &mut BenchIdentity)?;
-    let mut plain = Vec::new(alloc);
-    assert!(rt; read_to_end(alloc, &mut stream, &mut plain) == Ok(36));
-    assert!(rt; plain.as_slice() == MESSAGE);
+    assert!(rt; opens_to(alloc, opened(alloc, &file), MESSAGE));
     Ok(())
 }
 
 #[test]
 fn the_program_writes_armor(rt: HostRuntime) -> Result<(), Fail> {
     let alloc = rt.alloc();
-    let draw = zeros(alloc, 32)?;
-    let mut text = Vec::new(alloc);
-    let mut input = Bytes::new(MESSAGE);
-    encrypt_to(
-        alloc,
-        To::Bench,
-        draw,
-        Format::AsciiArmor,
-        &mut input,
-        &mut text,
-    )?;
+    let text = commands_file(alloc, MESSAGE, Format::AsciiArmor)?;
     assert!(rt; text.len() == 328);
     assert!(rt; text.as_slice() == PROGRAM_ARMORED);
-    let mut plain = Vec::new(alloc);
-    decrypt_with(alloc, With::Bench, &mut Bytes::new(&text), &mut plain)?;
-    assert!(rt; plain.as_slice() == MESSAGE);
+    assert!(rt; command_gives_message(alloc, &text));
     Ok(())
+}
+
+// Whether decrypting these bytes is refused with this text by the command, which writes nothing.
+fn command_refuses(alloc: Global, file: &[u8], expected: &str) -> bool {
+    let mut plain = Vec::new(alloc);
+    command_decrypts(alloc, file, &mut plain, Some(expected)) && plain.is_empty()
+}
+
+// Whether decrypting these bytes is refused with this text by the one call.
+fn call_refuses(alloc: Global, file: &[u8], expected: &str) -> bool {
+    let answer = decrypt::<BenchSuite, BenchIdentity>(alloc, &mut BenchIdentity, file);
+    is_refusal(alloc, answer, expected)
 }
 
 // Decrypting these bytes is refused with this text by the command, which writes nothing, and by the one call.
-fn is_refused(rt: &impl Abort, alloc: Global, file: &[u8], expected: &str) -> Result<(), Fail> {
-    let mut plain = Vec::new(alloc);
-    match decrypt_with(alloc, With::Bench, &mut Bytes::new(file), &mut plain) {
-        Ok(()) => return Err(Fail::from("decrypted")),
-        Err(error) => assert!(rt; error.to_string(alloc)?.as_str() == expected),
-    }
-    assert!(rt; plain.len() == 0);
-    match decrypt::<BenchSuite, BenchIdentity>(alloc, &mut BenchIdentity, file) {
-        Ok(_) => return Err(Fail::from("decrypted")),
-        Err(error) => assert!(rt; error.to_string(alloc)?.as_str() == expected),
-    }
-    Ok(())
+fn is_refused(rt: &impl Abort, alloc: Global, file: &[u8], expected: &str) {
+    assert!(rt; command_refuses(alloc, file, expected));
+    assert!(rt; call_refuses(alloc, file, expected));
 }
 
+// What the command answers to these bytes.
+fn commanded(alloc: Global, file: &[u8]) -> Result<(), FileError> {
+    let mut plain = Vec::new(alloc);
+    decrypt_with(alloc, With::Bench, &mut Bytes::new(file), &mut plain)
+}
+
+// Whether the command refuses these bytes since they end early.
+fn ends_early(alloc: Global, file: &[u8]) -> bool {
+    is_error(alloc, commanded(alloc, file), "Decrypt(Io(UnexpectedEof))")
+}
+
+const EARLY: [&[u8]; 5] = [
+    b"",
+    b"hello",
+    b"age-encryption.org/v2\n",
+    b"-----BEGIN AGE ENCRYPTED FILE-----\n",
+    &[0; 35],
+];
+
 #[test]
-fn fewer_than_36_bytes_end_early(rt: HostRuntime) -> Result<(), Fail> {
+fn fewer_than_36_bytes_end_early(rt: HostRuntime) {
     let alloc = rt.alloc();
-    for file in [
-        b"".as_slice(),
-        b"hello",
-        b"age-encryption.org/v2\n",
-        b"-----BEGIN AGE ENCRYPTED FILE-----\n",
-        &[0; 35],
-    ] {
-        is_refused(&rt, alloc, file, "input ended early")?;
-        let mut plain = Vec::new(alloc);
-        match decrypt_with(alloc, With::Bench, &mut Bytes::new(file), &mut plain) {
-            Err(FileError::Decrypt(DecryptError::Io(error))) => {
-                assert!(rt; error == Error::UnexpectedEof);
-            }
-            _ => return Err(Fail::from("another answer")),
-        }
+    for file in EARLY {
+        is_refused(&rt, alloc, file, "input ended early");
+        assert!(rt; ends_early(alloc, file));
     }
-    is_refused(&rt, alloc, &[0; 36], "invalid header")
+    is_refused(&rt, alloc, &[0; 36], "invalid header");
+}
+
+const TRAILING: &str = "invalid armor (non-whitespace characters after end marker)";
+
+const PADDING: &str = "invalid armor (last line is missing padding)";
+
+const UNWRAPPED: &str = "invalid armor (not wrapped at 64 characters)";
+
+// The armor with a byte after it.
+fn armor_and_more(alloc: Global) -> Result<String, Fail> {
+    let mut text = String::from_str(alloc, ARMORED)?;
+    text.push('x')?;
+    Ok(text)
 }
 
 // A fault of the armor behind the payload, before the payload's end, and in the header.
 #[test]
 fn damaged_armor_is_refused(rt: HostRuntime) -> Result<(), Fail> {
     let alloc = rt.alloc();
-    let mut text = String::from_str(alloc, ARMORED)?;
-    text.push('x')?;
-    let trailing = "invalid armor (non-whitespace characters after end marker)";
-    is_refused(&rt, alloc, text.as_bytes(), trailing)?;
-    let unwrapped = "invalid armor (not wrapped at 64 characters)";
-    for length in [36, 100, 165, 230] {
-        let (front, _) = ARMORED
-            .as_bytes()
-            .split_at_checked(length)
-            .unwrap_or((&[], &[]));
-        let expected = if length == 36 {
-            "invalid armor (last line is missing padding)"
-        } else {
-            unwrapped
-        };
-        is_refused(&rt, alloc, front, expected)?;
+    let text = armor_and_more(alloc)?;
+    is_refused(&rt, alloc, text.as_bytes(), TRAILING);
+    for (length, expected) in [
+        (36, PADDING),
+        (100, UNWRAPPED),
+        (165, UNWRAPPED),
+        (230, UNWRAPPED),
+    ] {
+        is_refused(&rt, alloc, part(ARMORED.as_bytes(), 0, length), expected);
     }
     Ok(())
 }

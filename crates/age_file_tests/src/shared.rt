@@ -1,0 +1,175 @@
+//! What the tests of this crate share: files, and what came of a call as a `bool`, so that no test holds an error, whose parts are
+//! many, beside its own values.
+
+use age::armor::Format;
+use age::format::Grease;
+use age::io::{Answer, BufRead, Bytes, Error, Read, write_all};
+use age::suite::Suite;
+use age::{DecryptError, Decryptor, Encryptor, decrypt};
+use age_bench::file::{decrypt_with, encrypt_to};
+use age_bench::names::{To, With};
+use age_bench::recipient::BenchIdentity;
+use age_bench::suite::BenchSuite;
+use age_try::answers::{delivers, delivers_until, ends, is_refusal, read_refuses};
+use age_try::fixtures::{MESSAGE, SEALED, empty_stanza, zeros};
+use std::alloc::{AllocError, Global};
+use std::fmt::{Debug, Display};
+use std::process::Abort;
+use std::test::Fail;
+
+/// A grease stanza of this tag, with nothing else in it.
+pub fn grease(alloc: Global, tag: &str) -> Result<Grease, Fail> {
+    match empty_stanza(alloc, tag)?.and_then(Grease::new) {
+        Some(grease) => Ok(grease),
+        None => Err(Fail::from("no grease")),
+    }
+}
+
+/// The file that the command writes of a plaintext in this form, where each random byte is 0.
+pub fn commands_file(alloc: Global, plain: &[u8], format: Format) -> Result<Vec<u8>, Fail> {
+    let mut file = Vec::new(alloc);
+    let draw = zeros(alloc, 32)?;
+    encrypt_to(
+        alloc,
+        To::Bench,
+        draw,
+        format,
+        &mut Bytes::new(plain),
+        &mut file,
+    )?;
+    Ok(file)
+}
+
+/// The file of a plaintext, written in one piece.
+pub fn written<S: Suite>(
+    alloc: Global,
+    encryptor: Encryptor<S>,
+    plain: &[u8],
+) -> Result<Vec<u8>, Fail> {
+    let mut stream = encryptor.wrap_output(alloc, Vec::new(alloc))?;
+    write_all(&mut stream, plain)?;
+    Ok(stream.finish()?)
+}
+
+/// Puts a byte in the place of another. Whether that one stood there.
+pub fn replace(bytes: &mut [u8], place: usize, from: u8, to: u8) -> bool {
+    let Some(byte) = bytes.get_mut(place) else {
+        return false;
+    };
+    if *byte != from {
+        return false;
+    }
+    *byte = to;
+    true
+}
+
+/// Whether it is a success, or, where a text is given, a refusal with this text.
+pub fn is_answered<T: Drop, E: Display + Drop>(
+    alloc: Global,
+    answer: Result<T, E>,
+    refusal: Option<&str>,
+) -> bool {
+    match refusal {
+        Some(text) => is_refusal(alloc, answer, text),
+        None => answer.is_ok(),
+    }
+}
+
+/// Whether it is a refusal with the error that `Debug` writes so.
+pub fn is_error<T: Drop, E: Debug + Drop>(
+    alloc: Global,
+    answer: Result<T, E>,
+    error: &str,
+) -> bool {
+    match answer {
+        Ok(_) => false,
+        Err(it) => format!(in alloc; "{it:?}").is_ok_and(|text| text.as_str() == error),
+    }
+}
+
+/// Whether it is a success with these bytes.
+pub fn gives<E: Drop>(answer: Result<Vec<u8>, E>, bytes: &[u8]) -> bool {
+    match answer {
+        Ok(got) => got.as_slice() == bytes,
+        Err(_) => false,
+    }
+}
+
+/// Two lists of answers say the same.
+pub fn are_same(rt: &impl Abort, answers: &[Answer], expected: &[Answer]) {
+    assert!(rt; answers.len() == expected.len());
+    for (i, (answer, other)) in answers.iter().zip(expected.iter()).enumerate() {
+        assert!(rt; answer == other, "at {i}");
+    }
+}
+
+/// Whether it is a success with a reader of these bytes, which stands at a clean end after them.
+pub fn opens_to<R: Read + Drop, E: Drop>(
+    alloc: Global,
+    opened: Result<R, E>,
+    plain: &[u8],
+) -> bool {
+    match opened {
+        Ok(mut reader) => delivers(alloc, &mut reader, plain) && ends(&mut reader),
+        Err(_) => false,
+    }
+}
+
+/// Whether it is a success with a reader of these bytes and then a bad chunk, which has failed after it.
+pub fn is_bad_after<R: Read + Drop, E: Drop>(
+    alloc: Global,
+    opened: Result<R, E>,
+    front: &[u8],
+) -> bool {
+    match opened {
+        Ok(mut reader) => {
+            delivers_until(alloc, &mut reader, front, Error::BadChunk)
+                && read_refuses(&mut reader, Error::Failed)
+        }
+        Err(_) => false,
+    }
+}
+
+/// Whether a reader still has the payload of the message's file and these bytes.
+pub fn gives_payload<R: Read>(
+    alloc: Global,
+    reader: &mut R,
+    more: &[u8],
+) -> Result<bool, AllocError> {
+    let mut payload = Vec::from_slice(alloc, &SEALED)?;
+    payload.extend_from_slice(more)?;
+    Ok(delivers(alloc, reader, &payload))
+}
+
+/// Appends what the command decrypts of a file. Whether it succeeds, or, where a text is given, is refused with this text.
+pub fn command_decrypts(
+    alloc: Global,
+    file: &[u8],
+    plain: &mut Vec<u8>,
+    refusal: Option<&str>,
+) -> bool {
+    is_answered(
+        alloc,
+        decrypt_with(alloc, With::Bench, &mut Bytes::new(file), plain),
+        refusal,
+    )
+}
+
+/// Whether the command decrypts a file to the message.
+pub fn command_gives_message(alloc: Global, file: &[u8]) -> bool {
+    let mut plain = Vec::new(alloc);
+    command_decrypts(alloc, file, &mut plain, None) && plain.as_slice() == MESSAGE
+}
+
+/// Whether one call decrypts a file to the message.
+pub fn call_gives_message(alloc: Global, file: &[u8]) -> bool {
+    gives(
+        decrypt::<BenchSuite, BenchIdentity>(alloc, &mut BenchIdentity, file),
+        MESSAGE,
+    )
+}
+
+/// Whether what an input holds is a file of a passphrase.
+pub fn is_scrypt<R: BufRead + Drop>(alloc: Global, input: R) -> Result<bool, DecryptError> {
+    Ok(Decryptor::<BenchSuite, R>::new_buffered(alloc, input)?.is_scrypt())
+}
