@@ -1,12 +1,10 @@
 //! Seeks over a device that fails in one of their steps: the answer, the state after it, and what seeks and reads give then.
 
-use crate::seek_tests::{reads, stays_failed};
+use crate::fixtures::{ends, goes, has_opened, reader_of, reads, refuses, sealed, stays_failed};
 use age::io::{Error, ErrorKind, Read, Seek, SeekFrom, Std};
 use age::stream::StreamReader;
 use age_bench::suite::BenchSuite;
 use age_try::fakes::{Disk, Script, Step};
-use age_try::fixtures::{KEY, plaintext};
-use age_try::whole::seal_whole;
 use std::alloc::Global;
 use std::io;
 use std::process::Abort;
@@ -43,10 +41,16 @@ fn after_a_byte<'a>(
         bytes: payload,
         place: 0,
     };
-    let mut reader = Reader::with_payload_key(alloc, KEY, Std::new(disk))?;
+    let mut reader = reader_of::<BenchSuite, Std<Disk>>(alloc, Std::new(disk))?;
     reads(rt, &mut reader, 0);
-    assert!(rt; reader.opens() == 1);
+    has_opened(rt, &reader, 1);
     Ok(reader)
+}
+
+// Whether the reader shows that it stands before the second byte.
+fn shows_its_place(alloc: Global, reader: &Reader<'_>) -> Result<bool, Fail> {
+    let text = format!(in alloc; "{reader:?}")?;
+    Ok(text.as_str() == "StreamReader { place: 1, .. }")
 }
 
 // The seek meets the fault: the reader has failed at its place, and opened nothing.
@@ -56,13 +60,12 @@ fn is_refused(
     reader: &mut Reader<'_>,
     to: SeekFrom,
 ) -> Result<(), Fail> {
-    assert!(rt; reader.seek(to) == Err(FAULT));
+    refuses(rt, reader, to, FAULT);
     stays_failed(rt, reader);
-    assert!(rt; reader.seek(SeekFrom::Current(-2)) == Err(Error::BeforeStart));
+    refuses(rt, reader, SeekFrom::Current(-2), Error::BeforeStart);
     stays_failed(rt, reader);
-    let text = format!(in alloc; "{reader:?}")?;
-    assert!(rt; text.as_str() == "StreamReader { place: 1, .. }");
-    assert!(rt; reader.opens() == 1);
+    assert!(rt; shows_its_place(alloc, reader)?);
+    has_opened(rt, reader, 1);
     Ok(())
 }
 
@@ -79,7 +82,7 @@ fn keeps_its_chunk(
     is_refused(rt, alloc, &mut reader, to)?;
     assert!(rt; reader.seek(SeekFrom::Start(5)) == Ok(5), "after {done}");
     reads(rt, &mut reader, 5);
-    assert!(rt; reader.opens() == 1);
+    has_opened(rt, &reader, 1);
     Ok(())
 }
 
@@ -88,7 +91,7 @@ fn keeps_its_chunk(
 #[test]
 fn a_seek_meets_a_fault_in_each_of_its_steps(rt: HostRuntime) -> Result<(), Fail> {
     let alloc = rt.alloc();
-    let payload = seal_whole::<BenchSuite>(alloc, &KEY, &plaintext(alloc, 102_400)?)?;
+    let payload = sealed::<BenchSuite>(alloc, 102_400)?;
     for (to, calls) in [
         (SeekFrom::Start(70_000), 9),
         (SeekFrom::Start(102_401), 9),
@@ -116,10 +119,10 @@ fn goes_where_it_should(
         "after {done}"
     );
     reads(rt, &mut reader, 70_000);
-    assert!(rt; reader.opens() == 2);
-    assert!(rt; reader.seek(SeekFrom::End(0)) == Ok(102_400));
-    assert!(rt; reader.read(&mut [0]) == Ok(0));
-    assert!(rt; reader.opens() == 2);
+    has_opened(rt, &reader, 2);
+    goes(rt, &mut reader, SeekFrom::End(0), 102_400);
+    ends(rt, &mut reader);
+    has_opened(rt, &reader, 2);
     Ok(())
 }
 
@@ -127,11 +130,16 @@ fn goes_where_it_should(
 #[test]
 fn a_seek_after_a_fault_is_exact(rt: HostRuntime) -> Result<(), Fail> {
     let alloc = rt.alloc();
-    let payload = seal_whole::<BenchSuite>(alloc, &KEY, &plaintext(alloc, 102_400)?)?;
+    let payload = sealed::<BenchSuite>(alloc, 102_400)?;
     for done in [0, 1, 3, 4, 6, 7, 8, 9, 10] {
         goes_where_it_should(&rt, alloc, &payload, done)?;
     }
     Ok(())
+}
+
+// Whether a read of one byte answers this.
+fn gives(reader: &mut Reader<'_>, answer: Result<usize, Error>) -> bool {
+    reader.read(&mut [0]) == answer
 }
 
 // What a seek and the read after it answer, and how many chunks were opened then.
@@ -143,9 +151,9 @@ fn is_done_before_a_fault(
     next: Result<usize, Error>,
     opens: u64,
 ) {
-    assert!(rt; reader.seek(to) == answer);
-    assert!(rt; reader.read(&mut [0]) == next);
-    assert!(rt; reader.opens() == opens);
+    assert!(rt; reader.seek(to) == answer, "{to:?}");
+    assert!(rt; gives(reader, next), "after {to:?}");
+    has_opened(rt, reader, opens);
     assert!(rt; reader.seek(SeekFrom::End(-1)).is_ok() == next.is_err());
 }
 
@@ -153,7 +161,7 @@ fn is_done_before_a_fault(
 #[test]
 fn a_seek_asks_no_more_than_its_steps(rt: HostRuntime) -> Result<(), Fail> {
     let alloc = rt.alloc();
-    let payload = seal_whole::<BenchSuite>(alloc, &KEY, &plaintext(alloc, 102_400)?)?;
+    let payload = sealed::<BenchSuite>(alloc, 102_400)?;
     for (to, calls, answer, next, opens) in [
         (SeekFrom::Start(70_000), 9, Ok(70_000), Err(FAULT), 1),
         (SeekFrom::Start(9), 9, Ok(9), Ok(1), 1),

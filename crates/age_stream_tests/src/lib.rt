@@ -7,6 +7,8 @@ mod device_tests;
 #[cfg(test)]
 mod fault_tests;
 #[cfg(test)]
+mod fixtures;
+#[cfg(test)]
 mod refusal_tests;
 #[cfg(test)]
 mod seek_tests;

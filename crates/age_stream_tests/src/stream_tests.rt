@@ -2,14 +2,17 @@
 
 ghost use Rattle.std.specs.Prelude.{◌<◌};
 
-use age::io::{Bytes, Error, Read, Write, read_exact, read_to_end};
-use age::stream::{StreamReader, StreamWriter};
+use crate::fixtures::{SECOND_AS_LAST, reader_of};
+use age::io::{Bytes, Error, Read, Write, read_to_end};
+use age::stream::StreamWriter;
 use age::suite::{Opens, Suite};
 use age_bench::suite::BenchSuite;
+use age_try::answers::{delivers, ends};
 use age_try::fixtures::{KEY, digest, plaintext};
 use age_try::other_suite::OtherSuite;
 use age_try::whole::{open_whole, seal_whole};
 use std::alloc::Global;
+use std::fmt::Debug;
 use std::process::Abort;
 use std::test::Fail;
 
@@ -25,6 +28,23 @@ fn written<S: Suite>(alloc: Global, plain: &[u8], piece: usize) -> Result<Vec<u8
     writer.finish()
 }
 
+// Whether the definition gives this payload for this plaintext.
+fn is_payload_of<S: Suite>(alloc: Global, payload: &[u8], plain: &[u8]) -> Result<bool, Fail> {
+    Ok(seal_whole::<S>(alloc, &KEY, plain)?.as_slice() == payload)
+}
+
+// Whether the definition opens this payload to this plaintext.
+fn opens_to<S: Suite>(alloc: Global, payload: &[u8], plain: &[u8]) -> Result<bool, Fail> {
+    let opened = open_whole::<S>(alloc, &mut Opens::new(), &KEY, payload)?;
+    Ok(opened.as_slice() == plain)
+}
+
+// Whether a reader gives this plaintext and its clean end.
+fn is_read_to<S: Suite>(alloc: Global, payload: &[u8], plain: &[u8]) -> Result<bool, Fail> {
+    let mut reader = reader_of::<S, Bytes>(alloc, Bytes::new(payload))?;
+    Ok(delivers(alloc, &mut reader, plain) && ends(&mut reader))
+}
+
 // A plaintext of so many bytes has the payload with this digest, and is read back from it.
 fn is_written_and_read_back<S: Suite>(
     rt: &impl Abort,
@@ -37,16 +57,15 @@ fn is_written_and_read_back<S: Suite>(
     let payload = written::<S>(alloc, &plain, 1 << 20)?;
     assert!(rt; payload.len() == payload_length);
     assert!(rt; digest(&payload) == expected, "of {length} bytes");
-    assert!(rt; seal_whole::<S>(alloc, &KEY, &plain)?.as_slice() == payload.as_slice());
-    let opened = open_whole::<S>(alloc, &mut Opens::new(), &KEY, &payload)?;
-    assert!(rt; opened.as_slice() == plain.as_slice(), "of {length} bytes");
-
-    let bytes = Bytes::new(&payload);
-    let mut reader = StreamReader::<S, Bytes>::with_payload_key(alloc, KEY, bytes)?;
-    let mut read = Vec::new(alloc);
-    assert!(rt; read_to_end(alloc, &mut reader, &mut read)? == length);
-    assert!(rt; read.as_slice() == plain.as_slice(), "of {length} bytes");
-    assert!(rt; reader.read(&mut [0]) == Ok(0));
+    assert!(rt; is_payload_of::<S>(alloc, &payload, &plain)?);
+    assert!(rt;
+        opens_to::<S>(alloc, &payload, &plain)?,
+        "of {length} bytes"
+    );
+    assert!(rt;
+        is_read_to::<S>(alloc, &payload, &plain)?,
+        "of {length} bytes"
+    );
     Ok(())
 }
 
@@ -65,6 +84,12 @@ fn payloads_are_written_and_read_back(rt: HostRuntime) -> Result<(), Fail> {
     Ok(())
 }
 
+// Whether this seal of the second chunk opens as the last to these bytes.
+fn last_opens_to(alloc: Global, seal: &[u8], expected: &[u8]) -> Result<bool, Fail> {
+    let last = BenchSuite::open(alloc, &mut Opens::new(), &KEY, &SECOND_AS_LAST, seal)?;
+    Ok(last.ok_or("refused")?.as_slice() == expected)
+}
+
 // The last chunk of a plaintext of 65,537 bytes has number 1.
 #[test]
 fn a_last_chunk_opens_under_its_nonce(rt: HostRuntime) -> Result<(), Fail> {
@@ -72,10 +97,8 @@ fn a_last_chunk_opens_under_its_nonce(rt: HostRuntime) -> Result<(), Fail> {
     let plain = plaintext(alloc, 65_537)?;
     let payload = written::<BenchSuite>(alloc, &plain, 65_537)?;
     assert!(rt; payload.len() == 65_569);
-    let nonce = [0, 0, 0, 0, 0, 0, 0, 0, 0, 0, 1, 1];
-    let last = BenchSuite::open(alloc, &mut Opens::new(), &KEY, &nonce, &payload[65_552..])?;
     // 65,536 is 25 more than a multiple of 251.
-    assert!(rt; last.ok_or("refused")?.as_slice() == [25].as_slice());
+    assert!(rt; last_opens_to(alloc, &payload[65_552..], &[25])?);
     Ok(())
 }
 
@@ -99,42 +122,64 @@ fn how_a_plaintext_is_cut_into_writes_is_not_seen(rt: HostRuntime) -> Result<(),
     Ok(())
 }
 
+// Whether the inner reader still has the end of the payload, of that length.
+fn has_left(alloc: Global, inner: &mut Bytes, payload: &[u8], left: usize) -> Result<bool, Fail> {
+    let mut rest = Vec::new(alloc);
+    let count = read_to_end(alloc, inner, &mut rest)?;
+    Ok(count == left && payload.ends_with(&rest))
+}
+
+// After so many reads of a byte the inner reader has so much left.
+fn is_handed_back(
+    rt: &impl Abort,
+    alloc: Global,
+    payload: &[u8],
+    reads: u8,
+    left: usize,
+) -> Result<(), Fail> {
+    let mut reader = reader_of::<BenchSuite, Bytes>(alloc, Bytes::new(payload))?;
+    for _read in 0..reads {
+        assert!(rt; reader.read(&mut [0]) == Ok(1));
+    }
+    let mut inner = reader.into_inner();
+    assert!(rt; has_left(alloc, &mut inner, payload, left)?, "not {left}");
+    Ok(())
+}
+
 // It has read the first chunk whole for one byte of it.
 #[test]
 fn the_inner_reader_is_handed_back_as_it_stands(rt: HostRuntime) -> Result<(), Fail> {
     let alloc = rt.alloc();
     let payload = written::<BenchSuite>(alloc, &plaintext(alloc, 65_537)?, 65_537)?;
-    for (reads, left) in [(0, 65_569), (1, 17)] {
-        let bytes = Bytes::new(&payload);
-        let mut reader = StreamReader::<BenchSuite, Bytes>::with_payload_key(alloc, KEY, bytes)?;
-        for _read in 0..reads {
-            assert!(rt; reader.read(&mut [0]) == Ok(1));
-        }
-        let mut inner = reader.into_inner();
-        let mut rest = Vec::new(alloc);
-        assert!(rt; read_to_end(alloc, &mut inner, &mut rest)? == left);
-        assert!(rt; payload.ends_with(&rest));
-    }
-    Ok(())
+    is_handed_back(&rt, alloc, &payload, 0, 65_569)?;
+    is_handed_back(&rt, alloc, &payload, 1, 17)
+}
+
+type Writer = StreamWriter<BenchSuite, Vec<u8>>;
+
+// Whether a value is shown as this text.
+fn is_shown<T: Debug>(alloc: Global, value: &T, text: &str) -> Result<bool, Fail> {
+    let shown = format!(in alloc; "{value:?}")?;
+    Ok(shown.as_str() == text)
+}
+
+// The payload of 65,537 bytes by a writer that shows how many it has taken.
+fn written_and_shown(rt: &impl Abort, alloc: Global) -> Result<Vec<u8>, Fail> {
+    let plain = plaintext(alloc, 65_537)?;
+    let mut writer = Writer::with_payload_key(alloc, KEY, Vec::new(alloc))?;
+    assert!(rt; is_shown(alloc, &writer, "StreamWriter { taken: 0, .. }")?);
+    writer.write(&plain)?;
+    assert!(rt; is_shown(alloc, &writer, "StreamWriter { taken: 65537, .. }")?);
+    Ok(writer.finish()?)
 }
 
 #[test]
 fn debug_prints_how_far_they_are(rt: HostRuntime) -> Result<(), Fail> {
     let alloc = rt.alloc();
-    let plain = plaintext(alloc, 65_537)?;
-    let out = Vec::new(alloc);
-    let mut writer = StreamWriter::<BenchSuite, Vec<u8>>::with_payload_key(alloc, KEY, out)?;
-    let text = format!(in alloc; "{writer:?}")?;
-    assert!(rt; text.as_str() == "StreamWriter { taken: 0, .. }");
-    writer.write(&plain)?;
-    let text = format!(in alloc; "{writer:?}")?;
-    assert!(rt; text.as_str() == "StreamWriter { taken: 65537, .. }");
-    let payload = writer.finish()?;
-    let bytes = Bytes::new(&payload);
-    let mut reader = StreamReader::<BenchSuite, Bytes>::with_payload_key(alloc, KEY, bytes)?;
+    let payload = written_and_shown(&rt, alloc)?;
+    let mut reader = reader_of::<BenchSuite, Bytes>(alloc, Bytes::new(&payload))?;
     let mut read = Vec::new(alloc);
     read_to_end(alloc, &mut reader, &mut read)?;
-    let text = format!(in alloc; "{reader:?}")?;
-    assert!(rt; text.as_str() == "StreamReader { place: 65537, .. }");
+    assert!(rt; is_shown(alloc, &reader, "StreamReader { place: 65537, .. }")?);
     Ok(())
 }

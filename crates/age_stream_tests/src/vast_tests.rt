@@ -1,13 +1,17 @@
 //! Seeks in a payload that is too long to be held anywhere.
 
-use age::io::{Error, Read, Seek, SeekFrom, Std};
+use crate::fixtures::{goes, has_opened, reader_of, refuses};
+use age::io::{Error, Read, SeekFrom, Std};
 use age::stream::StreamReader;
 use age::suite::Suite;
 use age_bench::suite::BenchSuite;
 use age_try::fixtures::{KEY, part};
 use std::alloc::Global;
 use std::io;
+use std::process::Abort;
 use std::test::Fail;
+
+type Reader<'a> = StreamReader<BenchSuite, Std<Vast<'a>>>;
 
 // 2^40 bytes of plaintext, all of them 0, in 2^24 chunks.
 const PLAIN: u64 = 1 << 40;
@@ -65,6 +69,35 @@ impl<'a> io::Seek for Vast<'a> {
     }
 }
 
+// A seek to this place opens no chunk, and the read of a byte after it no more than two.
+fn is_read_after(rt: &impl Abort, reader: &mut Reader<'_>, to: SeekFrom, place: u64) {
+    refuses(rt, reader, SeekFrom::Start(PLAIN + 1), Error::PastEnd);
+    goes(rt, reader, to, place);
+    has_opened(rt, reader, 0);
+    assert!(rt; reads_a_zero(reader), "{to:?}");
+    assert!(rt; reader.opens() <= 2, "{to:?}");
+}
+
+// Whether the next byte is a 0.
+fn reads_a_zero(reader: &mut Reader<'_>) -> bool {
+    let mut byte = [1];
+    reader.read(&mut byte) == Ok(1) && byte == [0]
+}
+
+// How many bytes the device gave for that.
+fn given_for(rt: &impl Abort, alloc: Global, to: SeekFrom, place: u64) -> Result<u64, Fail> {
+    let mut given = 0;
+    let device = Vast {
+        alloc,
+        place: 0,
+        given: &mut given,
+    };
+    let mut reader = reader_of::<BenchSuite, Std<Vast>>(alloc, Std::new(device))?;
+    is_read_after(rt, &mut reader, to, place);
+    drop(reader);
+    Ok(given)
+}
+
 #[test]
 fn a_seek_reads_nothing_and_a_read_one_chunk(rt: HostRuntime) -> Result<(), Fail> {
     let alloc = rt.alloc();
@@ -73,24 +106,7 @@ fn a_seek_reads_nothing_and_a_read_one_chunk(rt: HostRuntime) -> Result<(), Fail
         (SeekFrom::Current(70_000), 70_000),
         (SeekFrom::End(-1), PLAIN - 1),
     ] {
-        let mut given = 0;
-        let device = Std::new(Vast {
-            alloc,
-            place: 0,
-            given: &mut given,
-        });
-        let mut reader = StreamReader::<BenchSuite, Std<Vast>>::with_payload_key(
-            alloc, KEY, device,
-        )?;
-        assert!(rt; reader.seek(SeekFrom::Start(PLAIN + 1)) == Err(Error::PastEnd));
-        assert!(rt; reader.seek(to) == Ok(place));
-        assert!(rt; reader.opens() == 0);
-        let mut byte = [1];
-        assert!(rt; reader.read(&mut byte) == Ok(1));
-        assert!(rt; byte == [0]);
-        assert!(rt; reader.opens() <= 2);
-        drop(reader);
-        assert!(rt; given == 65_552);
+        assert!(rt; given_for(&rt, alloc, to, place)? == 65_552, "{to:?}");
     }
     Ok(())
 }

@@ -1,84 +1,111 @@
 //! Files to recipients of two kinds, which each kind of identity decrypts alone, over both suites.
 
-use crate::fixtures::{MESSAGE, done, grease};
+use crate::fixtures::{
+    Kind, MESSAGE, comes_back, done, grease, identities, is_refused, recipients, sevens,
+};
 use age::armor::Format;
-use age::draw::Draw;
-use age::io::{Bytes, read_to_end, write_all};
+use age::io::{Bytes, Read, read_to_end, write_all};
+use age::stream::StreamReader;
 use age::suite::Suite;
 use age::{DecryptError, Decryptor, Encryptor, Identity, Recipient};
-use age_bench::recipient::{BenchIdentity, BenchRecipient};
+use age_bench::recipient::BenchIdentity;
 use age_bench::suite::BenchSuite;
 use age_try::other_suite::OtherSuite;
-use age_uses::own::{OwnIdentity, OwnRecipient};
+use age_uses::own::OwnIdentity;
 use age_uses::several::opened_by_one;
-use age_uses::there_and_back::there_and_back;
 use std::alloc::Global;
 use std::process::Abort;
 use std::test::Fail;
 
-// The message's file to these recipients.
-fn file_to<S: Suite>(alloc: Global, recipients: &[Box<dyn Recipient>]) -> Result<Vec<u8>, Fail> {
-    let mut draw = Draw::new(vec![in alloc; 7; 32]?);
-    let encryptor = Encryptor::<S>::with_recipients(alloc, recipients, &mut draw, grease(alloc)?)?;
-    let mut stream = encryptor.wrap_output(alloc, Vec::new(alloc))?;
+// An encryptor to recipients of these kinds.
+fn encryptor<S: Suite>(alloc: Global, kinds: &[Kind]) -> Result<Encryptor<S>, Fail> {
+    let recipients = recipients(alloc, kinds)?;
+    let grease = grease(alloc)?;
+    let mut draw = sevens(alloc, 32)?;
+    done(Encryptor::<S>::with_recipients(alloc, &recipients, &mut draw, grease))
+}
+
+// The message's file to recipients of these kinds.
+fn file_to<S: Suite>(alloc: Global, kinds: &[Kind]) -> Result<Vec<u8>, Fail> {
+    let encryptor = encryptor::<S>(alloc, kinds)?;
+    let mut stream = done(encryptor.wrap_output(alloc, Vec::new(alloc)))?;
     write_all(&mut stream, MESSAGE)?;
     Ok(stream.finish()?)
 }
 
-// What one identity alone makes of a file.
-fn decrypted<S: Suite, I: Identity>(
+// What one identity alone opens a file to.
+fn opened<'a, S: Suite, I: Identity>(
+    alloc: Global,
+    identity: &mut I,
+    file: &'a [u8],
+) -> Result<StreamReader<S, Bytes<'a>>, DecryptError> {
+    Decryptor::<S, Bytes>::new(alloc, Bytes::new(file))?.decrypt_one(alloc, identity)
+}
+
+// Whether the message is left, and the clean end.
+fn gives_the_message<R: Read>(alloc: Global, stream: &mut R) -> Result<bool, Fail> {
+    let mut plain = Vec::new(alloc);
+    read_to_end(alloc, stream, &mut plain)?;
+    Ok(plain.as_slice() == MESSAGE)
+}
+
+// Whether the identity decrypts the message's file.
+fn decrypts<S: Suite, I: Identity>(
     alloc: Global,
     identity: &mut I,
     file: &[u8],
-) -> Result<Vec<u8>, DecryptError> {
-    let decryptor = Decryptor::<S, Bytes>::new(alloc, Bytes::new(file))?;
-    let mut stream = decryptor.decrypt_one(alloc, identity)?;
-    let mut plain = Vec::new(alloc);
-    read_to_end(alloc, &mut stream, &mut plain)?;
-    Ok(plain)
+) -> Result<bool, Fail> {
+    let mut stream = done(opened::<S, I>(alloc, identity, file))?;
+    gives_the_message(alloc, &mut stream)
+}
+
+// Whether the identity has no key of a file.
+fn has_no_key<S: Suite, I: Identity>(
+    alloc: Global,
+    identity: &mut I,
+    file: &[u8],
+) -> Result<bool, Fail> {
+    is_refused(
+        alloc,
+        opened::<S, I>(alloc, identity, file),
+        "NoMatchingKeys",
+    )
 }
 
 // The identity decrypts the message's file, or it has no key of it.
-fn decrypts<S: Suite, I: Identity>(
-    rt: &impl Abort,
+fn answers<S: Suite, I: Identity>(
     alloc: Global,
-    mut identity: I,
+    identity: &mut I,
     file: &[u8],
     has_key: bool,
-) -> Result<(), Fail> {
-    match decrypted::<S, I>(alloc, &mut identity, file) {
-        Ok(plain) => {
-            assert!(rt; has_key);
-            assert!(rt; plain.as_slice() == MESSAGE);
-        }
-        Err(error) => {
-            assert!(rt; !has_key);
-            let expected = DecryptError::NoMatchingKeys.to_string(alloc)?;
-            assert!(rt; error.to_string(alloc)?.as_str() == expected.as_str());
-        }
+) -> Result<bool, Fail> {
+    if has_key {
+        decrypts::<S, I>(alloc, identity, file)
+    } else {
+        has_no_key::<S, I>(alloc, identity, file)
     }
+}
+
+// The file to recipients of these kinds is decrypted by an identity of each kind, or not.
+fn is_decrypted<S: Suite>(
+    rt: &impl Abort,
+    alloc: Global,
+    kinds: &[Kind],
+    by_bench: bool,
+    by_own: bool,
+) -> Result<(), Fail> {
+    let file = file_to::<S>(alloc, kinds)?;
+    assert!(rt; answers::<S, BenchIdentity>(alloc, &mut BenchIdentity, &file, by_bench)?);
+    assert!(rt; answers::<S, OwnIdentity>(alloc, &mut OwnIdentity, &file, by_own)?);
     Ok(())
 }
 
 // Files to one kind, to the other, and to both in either order.
 fn each_kind_decrypts_its_files<S: Suite>(rt: &impl Abort, alloc: Global) -> Result<(), Fail> {
-    let mut recipients: Vec<Box<dyn Recipient>> = Vec::new(alloc);
-    recipients.push(Box::new(alloc, BenchRecipient)?)?;
-    let bench = file_to::<S>(alloc, &recipients)?;
-    decrypts::<S, BenchIdentity>(rt, alloc, BenchIdentity, &bench, true)?;
-    decrypts::<S, OwnIdentity>(rt, alloc, OwnIdentity, &bench, false)?;
-    recipients.push(Box::new(alloc, OwnRecipient)?)?;
-    let both = file_to::<S>(alloc, &recipients)?;
-    decrypts::<S, BenchIdentity>(rt, alloc, BenchIdentity, &both, true)?;
-    decrypts::<S, OwnIdentity>(rt, alloc, OwnIdentity, &both, true)?;
-    recipients.remove(0);
-    let own = file_to::<S>(alloc, &recipients)?;
-    decrypts::<S, BenchIdentity>(rt, alloc, BenchIdentity, &own, false)?;
-    decrypts::<S, OwnIdentity>(rt, alloc, OwnIdentity, &own, true)?;
-    recipients.push(Box::new(alloc, BenchRecipient)?)?;
-    let turned = file_to::<S>(alloc, &recipients)?;
-    decrypts::<S, BenchIdentity>(rt, alloc, BenchIdentity, &turned, true)?;
-    decrypts::<S, OwnIdentity>(rt, alloc, OwnIdentity, &turned, true)
+    is_decrypted::<S>(rt, alloc, &[Kind::Bench], true, false)?;
+    is_decrypted::<S>(rt, alloc, &[Kind::Bench, Kind::Own], true, true)?;
+    is_decrypted::<S>(rt, alloc, &[Kind::Own], false, true)?;
+    is_decrypted::<S>(rt, alloc, &[Kind::Own, Kind::Bench], true, true)
 }
 
 #[test]
@@ -87,59 +114,51 @@ fn each_kind_of_identity_decrypts_alone(rt: HostRuntime) -> Result<(), Fail> {
     each_kind_decrypts_its_files::<OtherSuite>(&rt, rt.alloc())
 }
 
+// Whether the message comes back from both kinds by a list of identities of these kinds.
+fn comes_back_by<S: Suite>(alloc: Global, kinds: &[Kind]) -> Result<bool, Fail> {
+    let recipients = recipients(alloc, &[Kind::Own, Kind::Bench])?;
+    let mut identities = identities(alloc, kinds)?;
+    let mut draw = sevens(alloc, 32)?;
+    comes_back::<S>(alloc, &recipients, &mut identities, &mut draw)
+}
+
 // To both kinds, and back by a list of identities of both, in either order.
-fn comes_back<S: Suite>(rt: &impl Abort, alloc: Global) -> Result<(), Fail> {
-    let mut recipients: Vec<Box<dyn Recipient>> = Vec::new(alloc);
-    recipients.push(Box::new(alloc, OwnRecipient)?)?;
-    recipients.push(Box::new(alloc, BenchRecipient)?)?;
-    for own_first in [true, false] {
-        let mut identities: Vec<Box<dyn Identity>> = Vec::new(alloc);
-        if own_first {
-            identities.push(Box::new(alloc, OwnIdentity)?)?;
-        }
-        identities.push(Box::new(alloc, BenchIdentity)?)?;
-        if !own_first {
-            identities.push(Box::new(alloc, OwnIdentity)?)?;
-        }
-        let mut draw = Draw::new(vec![in alloc; 7; 32]?);
-        let back = done(there_and_back::<S>(
-            alloc,
-            &recipients,
-            &mut identities,
-            &mut draw,
-            grease(alloc)?,
-            MESSAGE,
-        ))?;
-        assert!(rt; back.as_slice() == MESSAGE);
-    }
+fn comes_back_by_both<S: Suite>(rt: &impl Abort, alloc: Global) -> Result<(), Fail> {
+    assert!(rt; comes_back_by::<S>(alloc, &[Kind::Own, Kind::Bench])?);
+    assert!(rt; comes_back_by::<S>(alloc, &[Kind::Bench, Kind::Own])?);
     Ok(())
 }
 
 #[test]
 fn the_message_comes_back_from_both_kinds(rt: HostRuntime) -> Result<(), Fail> {
-    comes_back::<BenchSuite>(&rt, rt.alloc())?;
-    comes_back::<OtherSuite>(&rt, rt.alloc())
+    comes_back_by_both::<BenchSuite>(&rt, rt.alloc())?;
+    comes_back_by_both::<OtherSuite>(&rt, rt.alloc())
 }
 
-// To these recipients in either form, and back by one identity.
+// Whether the message comes back from these recipients in that form by one identity.
+fn opens<S: Suite, I: Identity>(
+    alloc: Global,
+    recipients: &[Box<dyn Recipient>],
+    identity: &mut I,
+    format: Format,
+) -> Result<bool, Fail> {
+    let grease = grease(alloc)?;
+    let mut draw = sevens(alloc, 32)?;
+    let given = done(opened_by_one::<S, Box<dyn Recipient>, I>(
+        alloc, recipients, identity, &mut draw, grease, format, MESSAGE,
+    ))?;
+    Ok(given.as_slice() == MESSAGE)
+}
+
+// To recipients of both kinds in either form, and back by one identity.
 fn one_opens<S: Suite, I: Identity>(
     rt: &impl Abort,
     alloc: Global,
-    recipients: &[Box<dyn Recipient>],
-    mut identity: I,
+    identity: &mut I,
 ) -> Result<(), Fail> {
+    let recipients = recipients(alloc, &[Kind::Own, Kind::Bench, Kind::Own])?;
     for format in [Format::Binary, Format::AsciiArmor] {
-        let mut draw = Draw::new(vec![in alloc; 7; 32]?);
-        let given = done(opened_by_one::<S, Box<dyn Recipient>, I>(
-            alloc,
-            recipients,
-            &mut identity,
-            &mut draw,
-            grease(alloc)?,
-            format,
-            MESSAGE,
-        ))?;
-        assert!(rt; given.as_slice() == MESSAGE);
+        assert!(rt; opens::<S, I>(alloc, &recipients, identity, format)?);
     }
     Ok(())
 }
@@ -147,12 +166,8 @@ fn one_opens<S: Suite, I: Identity>(
 #[test]
 fn one_identity_opens_what_is_for_both_kinds(rt: HostRuntime) -> Result<(), Fail> {
     let alloc = rt.alloc();
-    let mut recipients: Vec<Box<dyn Recipient>> = Vec::new(alloc);
-    recipients.push(Box::new(alloc, OwnRecipient)?)?;
-    recipients.push(Box::new(alloc, BenchRecipient)?)?;
-    recipients.push(Box::new(alloc, OwnRecipient)?)?;
-    one_opens::<BenchSuite, BenchIdentity>(&rt, alloc, &recipients, BenchIdentity)?;
-    one_opens::<BenchSuite, OwnIdentity>(&rt, alloc, &recipients, OwnIdentity)?;
-    one_opens::<OtherSuite, BenchIdentity>(&rt, alloc, &recipients, BenchIdentity)?;
-    one_opens::<OtherSuite, OwnIdentity>(&rt, alloc, &recipients, OwnIdentity)
+    one_opens::<BenchSuite, BenchIdentity>(&rt, alloc, &mut BenchIdentity)?;
+    one_opens::<BenchSuite, OwnIdentity>(&rt, alloc, &mut OwnIdentity)?;
+    one_opens::<OtherSuite, BenchIdentity>(&rt, alloc, &mut BenchIdentity)?;
+    one_opens::<OtherSuite, OwnIdentity>(&rt, alloc, &mut OwnIdentity)
 }
