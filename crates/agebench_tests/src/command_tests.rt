@@ -3,7 +3,7 @@
 use crate::words::{asked, is_no_command, names_nobody};
 use age::armor::Format;
 use age_bench::names::{To, With};
-use agebench_command::command::{Command, parse};
+use agebench_command::command::Command;
 use std::alloc::{AllocError, Global};
 use std::process::Abort;
 use std::test::Fail;
@@ -14,18 +14,13 @@ const KEY: [u8; 32] = [
     26, 27, 28, 29, 30, 31,
 ];
 
-// What a command line, split at its spaces, asks for.
-fn parsed(alloc: Global, line: &str) -> Result<Option<Command>, AllocError> {
+// Whether a command line, split at its spaces, is no command.
+fn is_no_command_line(alloc: Global, line: &str) -> Result<bool, AllocError> {
     let mut words = Vec::new(alloc);
     for word in line.split_whitespace() {
-        words.push(String::from_str(alloc, word)?)?;
+        words.push(word)?;
     }
-    parse(alloc, &words)
-}
-
-// Whether a command line is of no command.
-fn is_no_command_line(alloc: Global, line: &str) -> bool {
-    matches!(parsed(alloc, line), Ok(None))
+    Ok(is_no_command(alloc, &words))
 }
 
 // Whether a format is armor.
@@ -61,19 +56,19 @@ fn no_random_bytes_are_parsed(rt: HostRuntime) -> Result<(), Fail> {
     Ok(())
 }
 
-// Whether a command line seals, or opens, with the key.
-fn has_key(alloc: Global, line: &str, to_seal: bool) -> bool {
-    match &parsed(alloc, line) {
+// Whether the command of these words seals, or opens, with the key.
+fn has_key(alloc: Global, words: &[&str], to_seal: bool) -> bool {
+    match &asked(alloc, words) {
         Ok(Some(Command::Seal { key })) => to_seal && *key == KEY,
         Ok(Some(Command::Open { key })) => !to_seal && *key == KEY,
         _ => false,
     }
 }
 
-// Whether a command line decrypts with `bench`.
-fn decrypts(alloc: Global, line: &str) -> bool {
+// Whether the command of these words decrypts with `bench`.
+fn decrypts(alloc: Global, words: &[&str]) -> bool {
     matches!(
-        &parsed(alloc, line),
+        &asked(alloc, words),
         Ok(Some(Command::Decrypt { with: With::Bench }))
     )
 }
@@ -81,24 +76,19 @@ fn decrypts(alloc: Global, line: &str) -> bool {
 #[test]
 fn commands_are_parsed(rt: HostRuntime) -> Result<(), Fail> {
     let alloc = rt.alloc();
-    let seal = "seal 000102030405060708090a0b0c0d0e0f101112131415161718191a1b1c1d1e1f";
-    let open = "open 000102030405060708090a0b0c0d0e0f101112131415161718191a1b1c1d1e1f";
-    assert!(rt; has_key(alloc, seal, true));
-    assert!(rt; has_key(alloc, open, false));
-    let seal = "seal 000102030405060708090A0B0C0D0E0F101112131415161718191A1B1C1D1E1F";
-    let open = "open 000102030405060708090A0B0C0D0E0F101112131415161718191A1B1C1D1E1F";
-    assert!(rt; has_key(alloc, seal, true));
-    assert!(rt; has_key(alloc, open, false));
-    assert!(rt; encrypts(alloc, &["encrypt", "bench", "0AbC"], &[0x0a, 0xbc], false));
-    assert!(rt;
-        encrypts(
-            alloc,
-            &["encrypt", "bench", "0AbC", "armor"],
-            &[0x0a, 0xbc],
-            true
-        )
-    );
-    assert!(rt; decrypts(alloc, "decrypt bench"));
+    for digits in [
+        "000102030405060708090a0b0c0d0e0f101112131415161718191a1b1c1d1e1f",
+        "000102030405060708090A0B0C0D0E0F101112131415161718191A1B1C1D1E1F",
+    ] {
+        assert!(rt; has_key(alloc, &["seal", digits], true), "seal {digits}");
+        assert!(rt; has_key(alloc, &["open", digits], false), "open {digits}");
+    }
+    let random = [0x0a, 0xbc];
+    let bare = ["encrypt", "bench", "0AbC"];
+    assert!(rt; encrypts(alloc, &bare, &random, false));
+    let armored = ["encrypt", "bench", "0AbC", "armor"];
+    assert!(rt; encrypts(alloc, &armored, &random, true));
+    assert!(rt; decrypts(alloc, &["decrypt", "bench"]));
     Ok(())
 }
 
@@ -194,9 +184,9 @@ fn other_words_name_nobody(rt: HostRuntime) -> Result<(), Fail> {
     Ok(())
 }
 
-// Whether a command line makes a key with these random bytes.
-fn makes_key(alloc: Global, line: &str, random: &[u8]) -> bool {
-    match &parsed(alloc, line) {
+// Whether the command of these words makes a key with these random bytes.
+fn makes_key(alloc: Global, words: &[&str], random: &[u8]) -> bool {
+    match &asked(alloc, words) {
         Ok(Some(Command::Keygen { draw })) => draw.as_slice() == random,
         _ => false,
     }
@@ -205,7 +195,7 @@ fn makes_key(alloc: Global, line: &str, random: &[u8]) -> bool {
 #[test]
 fn keys_are_asked_for(rt: HostRuntime) -> Result<(), Fail> {
     let alloc = rt.alloc();
-    assert!(rt; makes_key(alloc, "keygen 0AbC", &[0x0a, 0xbc]));
+    assert!(rt; makes_key(alloc, &["keygen", "0AbC"], &[0x0a, 0xbc]));
     for line in [
         "keygen",
         "keygen 0",
@@ -213,7 +203,7 @@ fn keys_are_asked_for(rt: HostRuntime) -> Result<(), Fail> {
         "keygen 00 00",
         "Keygen 00",
     ] {
-        assert!(rt; is_no_command_line(alloc, line), "at {line}");
+        assert!(rt; is_no_command_line(alloc, line)?, "at {line}");
     }
     Ok(())
 }
@@ -250,7 +240,7 @@ fn wrong_command_lines_are_refused(rt: HostRuntime) -> Result<(), Fail> {
         "decrypt bench armor",
         "at bench",
     ] {
-        assert!(rt; is_no_command_line(alloc, line), "at {line}");
+        assert!(rt; is_no_command_line(alloc, line)?, "at {line}");
     }
     Ok(())
 }
