@@ -1,8 +1,9 @@
 //! What command lines ask for.
 
+use crate::words::{asked, is_no_command, names_nobody};
 use age::armor::Format;
 use age_bench::names::{To, With};
-use agebench_command::command::{Command, parse};
+use agebench_command::command::Command;
 use std::alloc::{AllocError, Global};
 use std::process::Abort;
 use std::test::Fail;
@@ -13,87 +14,82 @@ const KEY: [u8; 32] = [
     26, 27, 28, 29, 30, 31,
 ];
 
-// What a command line, split at its spaces, asks for.
-fn parsed(alloc: Global, line: &str) -> Result<Option<Command>, AllocError> {
+// Whether a command line, split at its spaces, is no command.
+fn is_no_command_line(alloc: Global, line: &str) -> Result<bool, AllocError> {
     let mut words = Vec::new(alloc);
     for word in line.split_whitespace() {
-        words.push(String::from_str(alloc, word)?)?;
+        words.push(word)?;
     }
-    parse(alloc, &words)
+    Ok(is_no_command(alloc, &words))
 }
 
-// Whether a command encrypts to `bench` with these random bytes, in armor or not.
-fn encrypts(command: Option<Command>, random: &[u8], in_armor: bool) -> bool {
-    let Some(
-        Command::Encrypt {
-            to: To::Bench,
-            draw,
-            format,
-        },
-    ) = command
-    else {
-        return false;
-    };
-    let armor = match format {
+// Whether a format is armor.
+fn is_armor(format: &Format) -> bool {
+    match format {
         Format::Binary => false,
         Format::AsciiArmor => true,
-    };
-    draw.as_slice() == random && armor == in_armor
+    }
+}
+
+// Whether the command of these words encrypts to `bench` with these random bytes, in armor or not.
+fn encrypts(alloc: Global, words: &[&str], random: &[u8], in_armor: bool) -> bool {
+    match &asked(alloc, words) {
+        Ok(
+            Some(
+                Command::Encrypt {
+                    to: To::Bench,
+                    draw,
+                    format,
+                },
+            ),
+        ) => draw.as_slice() == random && is_armor(format) == in_armor,
+        _ => false,
+    }
 }
 
 // An empty word is no random bytes at all.
 #[test]
 fn no_random_bytes_are_parsed(rt: HostRuntime) -> Result<(), Fail> {
     let alloc = rt.alloc();
-    let mut words = Vec::new(alloc);
-    for word in ["encrypt", "bench", ""] {
-        words.push(String::from_str(alloc, word)?)?;
-    }
-    assert!(rt; encrypts(parse(alloc, &words)?, &[], false));
-    words.push(String::from_str(alloc, "armor")?)?;
-    assert!(rt; encrypts(parse(alloc, &words)?, &[], true));
+    assert!(rt; encrypts(alloc, &["encrypt", "bench", ""], &[], false));
+    assert!(rt; encrypts(alloc, &["encrypt", "bench", "", "armor"], &[], true));
     Ok(())
 }
 
-// The key of a command that seals, or of one that opens.
-fn key_of(command: Option<Command>, to_seal: bool) -> Option<[u8; 32]> {
-    match command {
-        Some(Command::Seal { key }) if to_seal => Some(key),
-        Some(Command::Open { key }) if !to_seal => Some(key),
-        _ => None,
+// Whether the command of these words seals, or opens, with the key.
+fn has_key(alloc: Global, words: &[&str], to_seal: bool) -> bool {
+    match &asked(alloc, words) {
+        Ok(Some(Command::Seal { key })) => to_seal && *key == KEY,
+        Ok(Some(Command::Open { key })) => !to_seal && *key == KEY,
+        _ => false,
     }
 }
 
-// The key of this text is parsed, to seal and to open.
-fn key_is_parsed(rt: &impl Abort, alloc: Global, text: &str) -> Result<(), Fail> {
-    let seal = format!(in alloc; "seal {text}")?;
-    assert!(rt; key_of(parsed(alloc, &seal)?, true) == Some(KEY));
-    let open = format!(in alloc; "open {text}")?;
-    assert!(rt; key_of(parsed(alloc, &open)?, false) == Some(KEY));
-    Ok(())
-}
-
-// Random bytes are parsed in either case, and whether it is in armor.
-fn encryptions_are_parsed(rt: &impl Abort, alloc: Global) -> Result<(), Fail> {
-    let bare = parsed(alloc, "encrypt bench 0AbC")?;
-    assert!(rt; encrypts(bare, &[0x0a, 0xbc], false));
-    let armored = parsed(alloc, "encrypt bench 0AbC armor")?;
-    assert!(rt; encrypts(armored, &[0x0a, 0xbc], true));
-    Ok(())
+// Whether the command of these words decrypts with `bench`.
+fn decrypts(alloc: Global, words: &[&str]) -> bool {
+    matches!(
+        &asked(alloc, words),
+        Ok(Some(Command::Decrypt { with: With::Bench }))
+    )
 }
 
 #[test]
 fn commands_are_parsed(rt: HostRuntime) -> Result<(), Fail> {
     let alloc = rt.alloc();
-    let lower = "000102030405060708090a0b0c0d0e0f101112131415161718191a1b1c1d1e1f";
-    let upper = "000102030405060708090A0B0C0D0E0F101112131415161718191A1B1C1D1E1F";
-    key_is_parsed(&rt, alloc, lower)?;
-    key_is_parsed(&rt, alloc, upper)?;
-    encryptions_are_parsed(&rt, alloc)?;
-    match parsed(alloc, "decrypt bench")? {
-        Some(Command::Decrypt { with: With::Bench }) => Ok(()),
-        _ => Err(Fail::from("another command")),
+    for digits in [
+        "000102030405060708090a0b0c0d0e0f101112131415161718191a1b1c1d1e1f",
+        "000102030405060708090A0B0C0D0E0F101112131415161718191A1B1C1D1E1F",
+    ] {
+        assert!(rt; has_key(alloc, &["seal", digits], true), "seal {digits}");
+        assert!(rt; has_key(alloc, &["open", digits], false), "open {digits}");
     }
+    let random = [0x0a, 0xbc];
+    let bare = ["encrypt", "bench", "0AbC"];
+    assert!(rt; encrypts(alloc, &bare, &random, false));
+    let armored = ["encrypt", "bench", "0AbC", "armor"];
+    assert!(rt; encrypts(alloc, &armored, &random, true));
+    assert!(rt; decrypts(alloc, &["decrypt", "bench"]));
+    Ok(())
 }
 
 // The recipient of a public value, its text and that text in the other case.
@@ -107,47 +103,33 @@ const IDENTITY: &str = "AGE-SECRET-KEY-1GQ9778VQXMMJVE8SK7J6VT8UJ4HDQAJUVSFCWCM0
 const IDENTITY_LOWER: &str =
     "age-secret-key-1gq9778vqxmmjve8sk7j6vt8uj4hdqajuvsfcwcm02d8gewq72pvq2y5j33";
 
-// To whom a command encrypts.
-fn asked_to(command: Option<Command>) -> Option<To> {
-    match command {
-        Some(
-            Command::Encrypt {
-                to,
-                draw: _draw,
-                format: _format,
-            },
-        ) => Some(to),
-        _ => None,
+// Whether TO is the recipient.
+fn is_recipient(alloc: Global, to: &To) -> Result<bool, AllocError> {
+    match to {
+        To::Key(recipient) => Ok(recipient.to_string(alloc)?.as_str() == RECIPIENT),
+        To::Bench | To::Passphrase(_) => Ok(false),
     }
 }
 
-// The command of these words encrypts to the recipient.
-fn is_to_recipient(rt: &impl Abort, alloc: Global, line: &str) -> Result<(), Fail> {
-    let to = asked_to(parsed(alloc, line)?);
-    match &to {
-        Some(To::Key(recipient)) => {
-            let text = recipient.to_string(alloc)?;
-            assert!(rt; text.as_str() == RECIPIENT);
-            Ok(())
-        }
-        _ => Err(Fail::from("another command")),
+// Whether the command of these words encrypts to the recipient.
+fn encrypts_to_recipient(alloc: Global, words: &[&str]) -> Result<bool, AllocError> {
+    match &asked(alloc, words)? {
+        Some(Command::Encrypt { to, .. }) => is_recipient(alloc, to),
+        _ => Ok(false),
     }
 }
 
 // Whether WITH is the identity.
 fn is_identity(alloc: Global, with: &With) -> Result<bool, AllocError> {
     match with {
-        With::Key(identity) => {
-            let text = identity.to_string(alloc)?;
-            Ok(text.expose_secret() == IDENTITY)
-        }
+        With::Key(identity) => Ok(identity.to_string(alloc)?.expose_secret() == IDENTITY),
         With::Bench | With::Passphrase(_) => Ok(false),
     }
 }
 
-// Whether a command decrypts with the identity.
-fn asks_with_identity(alloc: Global, command: &Option<Command>) -> Result<bool, AllocError> {
-    match command {
+// Whether the command of these words decrypts with the identity.
+fn decrypts_with_identity(alloc: Global, words: &[&str]) -> Result<bool, AllocError> {
+    match &asked(alloc, words)? {
         Some(Command::Decrypt { with }) => is_identity(alloc, with),
         Some(Command::At { with, .. }) => is_identity(alloc, with),
         _ => Ok(false),
@@ -158,26 +140,25 @@ fn asks_with_identity(alloc: Global, command: &Option<Command>) -> Result<bool, 
 fn keys_are_named_by_their_texts(rt: HostRuntime) -> Result<(), Fail> {
     let alloc = rt.alloc();
     for text in [RECIPIENT, RECIPIENT_UPPER] {
-        is_to_recipient(&rt, alloc, &format!(in alloc; "encrypt {text} 00")?)?;
-        is_to_recipient(&rt, alloc, &format!(in alloc; "encrypt {text} 00 armor")?)?;
+        assert!(rt;
+            encrypts_to_recipient(alloc, &["encrypt", text, "00"])?,
+            "to {text}"
+        );
+        assert!(rt;
+            encrypts_to_recipient(alloc, &["encrypt", text, "00", "armor"])?,
+            "to {text}"
+        );
     }
     for text in [IDENTITY, IDENTITY_LOWER] {
-        let whole = parsed(alloc, &format!(in alloc; "decrypt {text}")?)?;
-        assert!(rt; asks_with_identity(alloc, &whole)?, "whole by {text}");
-        let part = parsed(alloc, &format!(in alloc; "at {text} 1 2")?)?;
-        assert!(rt; asks_with_identity(alloc, &part)?, "part by {text}");
+        assert!(rt;
+            decrypts_with_identity(alloc, &["decrypt", text])?,
+            "whole by {text}"
+        );
+        assert!(rt;
+            decrypts_with_identity(alloc, &["at", text, "1", "2"])?,
+            "part by {text}"
+        );
     }
-    Ok(())
-}
-
-// A word is neither TO nor WITH.
-fn names_nobody(rt: &impl Abort, alloc: Global, word: &str) -> Result<(), Fail> {
-    let to = format!(in alloc; "encrypt {word} 00")?;
-    assert!(rt; parsed(alloc, &to)?.is_none(), "at {to}");
-    let with = format!(in alloc; "decrypt {word}")?;
-    assert!(rt; parsed(alloc, &with)?.is_none(), "at {with}");
-    let part = format!(in alloc; "at {word} 0 1")?;
-    assert!(rt; parsed(alloc, &part)?.is_none(), "at {part}");
     Ok(())
 }
 
@@ -196,26 +177,25 @@ fn other_words_name_nobody(rt: HostRuntime) -> Result<(), Fail> {
         "AGE-SECRET-KEY-1GQ9778VQXMMJVE8SK7J6VT8UJ4HDQAJUVSFCWCM02D8GEWQ72PVQ2Y5J34",
         "AGE-PLUGIN-FOOBAR-1QVHULF",
     ] {
-        names_nobody(&rt, alloc, word)?;
+        names_nobody(&rt, alloc, word);
     }
-    keys_of_the_other_kind_name_nobody(&rt, alloc)
+    assert!(rt; is_no_command(alloc, &["encrypt", IDENTITY, "00"]));
+    assert!(rt; is_no_command(alloc, &["decrypt", RECIPIENT]));
+    Ok(())
 }
 
-fn keys_of_the_other_kind_name_nobody(rt: &impl Abort, alloc: Global) -> Result<(), Fail> {
-    let to = format!(in alloc; "encrypt {IDENTITY} 00")?;
-    assert!(rt; parsed(alloc, &to)?.is_none());
-    let with = format!(in alloc; "decrypt {RECIPIENT}")?;
-    assert!(rt; parsed(alloc, &with)?.is_none());
-    Ok(())
+// Whether the command of these words makes a key with these random bytes.
+fn makes_key(alloc: Global, words: &[&str], random: &[u8]) -> bool {
+    match &asked(alloc, words) {
+        Ok(Some(Command::Keygen { draw })) => draw.as_slice() == random,
+        _ => false,
+    }
 }
 
 #[test]
 fn keys_are_asked_for(rt: HostRuntime) -> Result<(), Fail> {
     let alloc = rt.alloc();
-    match parsed(alloc, "keygen 0AbC")? {
-        Some(Command::Keygen { draw }) => assert!(rt; draw.as_slice() == [0x0a, 0xbc].as_slice()),
-        _ => return Err(Fail::from("another command")),
-    }
+    assert!(rt; makes_key(alloc, &["keygen", "0AbC"], &[0x0a, 0xbc]));
     for line in [
         "keygen",
         "keygen 0",
@@ -223,7 +203,7 @@ fn keys_are_asked_for(rt: HostRuntime) -> Result<(), Fail> {
         "keygen 00 00",
         "Keygen 00",
     ] {
-        assert!(rt; parsed(alloc, line)?.is_none(), "at {line}");
+        assert!(rt; is_no_command_line(alloc, line)?, "at {line}");
     }
     Ok(())
 }
@@ -260,27 +240,43 @@ fn wrong_command_lines_are_refused(rt: HostRuntime) -> Result<(), Fail> {
         "decrypt bench armor",
         "at bench",
     ] {
-        assert!(rt; parsed(alloc, line)?.is_none(), "at {line}");
+        assert!(rt; is_no_command_line(alloc, line)?, "at {line}");
     }
     Ok(())
 }
 
 // What `at bench` and these two words ask for.
-fn asked(alloc: Global, place: &str, count: &str) -> Result<Option<(u64, u64)>, AllocError> {
-    let mut words = Vec::new(alloc);
-    for word in ["at", "bench", place, count] {
-        words.push(String::from_str(alloc, word)?)?;
-    }
-    Ok(match parse(alloc, &words)? {
+fn asked_part(alloc: Global, place: &str, count: &str) -> Result<Option<(u64, u64)>, AllocError> {
+    Ok(match &asked(alloc, &["at", "bench", place, count])? {
         Some(
             Command::At {
                 with: With::Bench,
                 place,
                 count,
             },
-        ) => Some((place, count)),
+        ) => Some((*place, *count)),
         _ => None,
     })
+}
+
+// Whether a word is this number, or none, as a place and as a count.
+fn is_number(
+    rt: &impl Abort,
+    alloc: Global,
+    word: &str,
+    expected: Option<u64>,
+) -> Result<(), Fail> {
+    let place = match expected {
+        Some(number) => Some((number, 2)),
+        None => None,
+    };
+    assert!(rt; asked_part(alloc, word, "2")? == place, "at {word}");
+    let count = match expected {
+        Some(number) => Some((3, number)),
+        None => None,
+    };
+    assert!(rt; asked_part(alloc, "3", word)? == count, "at {word}");
+    Ok(())
 }
 
 #[test]
@@ -306,10 +302,7 @@ fn places_and_counts_are_decimal(rt: HostRuntime) -> Result<(), Fail> {
         ("1a", None),
         ("\u{663}", None),
     ] {
-        let as_place = asked(alloc, word, "2")?;
-        assert!(rt; as_place == expected.map(|place| (place, 2)), "at {word}");
-        let as_count = asked(alloc, "3", word)?;
-        assert!(rt; as_count == expected.map(|count| (3, count)), "at {word}");
+        is_number(&rt, alloc, word, expected)?;
     }
     Ok(())
 }

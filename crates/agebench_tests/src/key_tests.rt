@@ -11,6 +11,7 @@ use age_bench::keygen::keygen;
 use age_bench::names::{To, With};
 use age_bench::part::at_with;
 use age_bench::suite::BenchSuite;
+use age_try::answers::is_refusal;
 use std::alloc::Global;
 use std::process::Abort;
 use std::str::FromStr;
@@ -45,148 +46,164 @@ fn random(alloc: Global, count: usize, place: usize) -> Result<Vec<u8>, Fail> {
     Ok(bytes)
 }
 
-// So many random bytes make the line of the identity.
-fn makes_key(rt: &impl Abort, alloc: Global, count: usize) -> Result<(), Fail> {
-    let mut line = Vec::new(alloc);
-    keygen(alloc, Draw::new(random(alloc, count, 0)?), &mut line)?;
-    assert!(rt; line.len() == 75);
-    assert!(rt;
-        line.as_slice()
-            .strip_suffix(b"\n")
-            .is_some_and(|text| text == IDENTITY.as_bytes())
-    );
-    Ok(())
+// What makes a key of so many random bytes.
+fn draw(alloc: Global, count: usize) -> Result<Draw, Fail> {
+    Ok(Draw::new(random(alloc, count, 0)?))
 }
 
-// So many are too few, and nothing is written.
-fn makes_none(rt: &impl Abort, alloc: Global, count: usize) -> Result<(), Fail> {
+// Whether so many random bytes make the line of the identity.
+fn makes_key(alloc: Global, count: usize) -> Result<bool, Fail> {
+    let draw = draw(alloc, count)?;
     let mut line = Vec::new(alloc);
-    match keygen(alloc, Draw::new(random(alloc, count, 0)?), &mut line) {
-        Err(error) => assert!(rt; error.to_string(alloc)?.as_str() == "random bytes ran out"),
-        Ok(()) => return Err(Fail::from("a key was made")),
-    }
-    assert!(rt; line.len() == 0);
-    Ok(())
+    let is_made = keygen(alloc, draw, &mut line).is_ok();
+    Ok(is_made && line.len() == 75 && line.strip_suffix(b"\n") == Some(IDENTITY.as_bytes()))
+}
+
+// Whether so many are too few, and nothing is written.
+fn makes_none(alloc: Global, count: usize) -> Result<bool, Fail> {
+    let draw = draw(alloc, count)?;
+    let mut line = Vec::new(alloc);
+    let is_refused = is_refusal(
+        alloc,
+        keygen(alloc, draw, &mut line),
+        "random bytes ran out",
+    );
+    Ok(is_refused && line.is_empty())
 }
 
 #[test]
 fn keys_are_made(rt: HostRuntime) -> Result<(), Fail> {
     let alloc = rt.alloc();
     for count in [32, 33, 64] {
-        makes_key(&rt, alloc, count)?;
+        assert!(rt; makes_key(alloc, count)?, "of {count} bytes");
     }
-    makes_none(&rt, alloc, 0)?;
-    makes_none(&rt, alloc, 31)
+    assert!(rt; makes_none(alloc, 0)?);
+    assert!(rt; makes_none(alloc, 31)?);
+    Ok(())
 }
 
 // The recipient of the secret, by its text.
 fn recipient() -> Result<To, Fail> {
-    match Recipient::<BenchSuite>::from_str(RECIPIENT) {
-        Ok(recipient) => Ok(To::Key(recipient)),
-        Err(message) => Err(Fail::from(message)),
-    }
+    Ok(To::Key(Recipient::<BenchSuite>::from_str(RECIPIENT)?))
 }
 
 // The identity of a text.
 fn identity(text: &str) -> Result<With, Fail> {
-    match Identity::<BenchSuite>::from_str(text) {
-        Ok(identity) => Ok(With::Key(identity)),
-        Err(message) => Err(Fail::from(message)),
-    }
+    Ok(With::Key(Identity::<BenchSuite>::from_str(text)?))
 }
 
-// The message encrypted to that recipient in this form, with these random bytes.
+// What comes of encrypting the message to that recipient in this form, with so many random bytes in which the secret
+// stands at a place.
 fn encrypted(
     alloc: Global,
-    draw: Vec<u8>,
+    count: usize,
+    place: usize,
     format: Format,
-) -> Result<Result<Vec<u8>, FileError>, Fail> {
+    file: &mut Vec<u8>,
+) -> Result<Result<(), FileError>, Fail> {
+    let draw = Draw::new(random(alloc, count, place)?);
+    let to = recipient()?;
+    Ok(encrypt_to(alloc, to, draw, format, &mut Bytes::new(MESSAGE), file))
+}
+
+// The message encrypted to it in this form.
+fn file_in(alloc: Global, format: Format) -> Result<Vec<u8>, Fail> {
     let mut file = Vec::new(alloc);
-    let mut input = Bytes::new(MESSAGE);
-    match encrypt_to(
-        alloc,
-        recipient()?,
-        Draw::new(draw),
-        format,
-        &mut input,
-        &mut file,
-    ) {
-        Ok(()) => Ok(Ok(file)),
-        Err(error) => {
-            if !file.is_empty() {
-                return Err(Fail::from("something was written"));
-            }
-            Ok(Err(error))
-        }
+    if encrypted(alloc, 64, 64, format, &mut file)?.is_err() {
+        return Err(Fail::from("it wasn't encrypted"));
     }
+    Ok(file)
 }
 
-// The identity gives the message back.
-fn comes_back(rt: &impl Abort, alloc: Global, file: &[u8]) -> Result<(), Fail> {
+// Whether the identity gives the message back.
+fn comes_back(alloc: Global, file: &[u8]) -> Result<bool, Fail> {
+    let with = identity(IDENTITY)?;
     let mut plain = Vec::new(alloc);
-    let mut input = Bytes::new(file);
-    decrypt_with(alloc, identity(IDENTITY)?, &mut input, &mut plain)?;
-    assert!(rt; plain.as_slice() == MESSAGE);
-    Ok(())
+    let is_opened = decrypt_with(alloc, with, &mut Bytes::new(file), &mut plain).is_ok();
+    Ok(is_opened && plain.as_slice() == MESSAGE)
 }
 
-// And a part of it.
-fn part_comes_back(rt: &impl Abort, alloc: Global, file: &[u8]) -> Result<(), Fail> {
+// Whether it gives a part of it.
+fn part_comes_back(alloc: Global, file: &[u8]) -> Result<bool, Fail> {
+    let with = identity(IDENTITY)?;
     let mut part = Vec::new(alloc);
-    let mut input = Bytes::new(file);
-    at_with(alloc, identity(IDENTITY)?, 5, 3, &mut input, &mut part)?;
-    assert!(rt; part.as_slice() == b"is ".as_slice());
-    Ok(())
+    let is_opened = at_with(alloc, with, 5, 3, &mut Bytes::new(file), &mut part).is_ok();
+    Ok(is_opened && part.as_slice() == b"is ".as_slice())
 }
 
-// Another gives nothing.
-fn has_no_key(rt: &impl Abort, alloc: Global, other: With, file: &[u8]) -> Result<(), Fail> {
+// Whether no identity had the key.
+fn found_no_key(answer: Result<(), FileError>) -> bool {
+    matches!(
+        answer,
+        Err(FileError::Decrypt(DecryptError::NoMatchingKeys))
+    )
+}
+
+// Whether another has no key, and gives nothing.
+fn has_no_key(alloc: Global, other: With, file: &[u8]) -> bool {
     let mut nothing = Vec::new(alloc);
-    let mut input = Bytes::new(file);
-    match decrypt_with(alloc, other, &mut input, &mut nothing) {
-        Err(FileError::Decrypt(DecryptError::NoMatchingKeys)) => {}
-        _ => return Err(Fail::from("another answer")),
-    }
-    assert!(rt; nothing.len() == 0);
+    let answer = decrypt_with(alloc, other, &mut Bytes::new(file), &mut nothing);
+    found_no_key(answer) && nothing.is_empty()
+}
+
+// A file of this length is decrypted with the identity, and with no other.
+fn is_decrypted(rt: &impl Abort, alloc: Global, file: &[u8], length: usize) -> Result<(), Fail> {
+    assert!(rt; file.len() == length);
+    assert!(rt; comes_back(alloc, file)?);
+    assert!(rt; part_comes_back(alloc, file)?);
+    assert!(rt; has_no_key(alloc, identity(OTHER)?, file));
+    assert!(rt; has_no_key(alloc, With::Bench, file));
     Ok(())
 }
 
 #[test]
 fn files_for_a_key_are_decrypted_with_it(rt: HostRuntime) -> Result<(), Fail> {
     let alloc = rt.alloc();
-    for (format, length) in [(Format::Binary, 256), (Format::AsciiArmor, 418)] {
-        let file = encrypted(alloc, random(alloc, 64, 64)?, format)??;
-        assert!(rt; file.len() == length);
-        comes_back(&rt, alloc, &file)?;
-        part_comes_back(&rt, alloc, &file)?;
-        has_no_key(&rt, alloc, identity(OTHER)?, &file)?;
-        has_no_key(&rt, alloc, With::Bench, &file)?;
-    }
-    Ok(())
+    is_decrypted(&rt, alloc, &file_in(alloc, Format::Binary)?, 256)?;
+    is_decrypted(&rt, alloc, &file_in(alloc, Format::AsciiArmor)?, 418)
+}
+
+// Whether random bytes ran out.
+fn ran_out(answer: Result<(), FileError>) -> bool {
+    matches!(answer, Err(FileError::Encrypt(EncryptError::ShortRandom)))
+}
+
+// Whether so many random bytes are too few, and nothing is written.
+fn are_too_few(alloc: Global, count: usize) -> Result<bool, Fail> {
+    let mut file = Vec::new(alloc);
+    let answer = encrypted(alloc, count, 64, Format::Binary, &mut file)?;
+    Ok(ran_out(answer) && file.is_empty())
 }
 
 // An X25519 recipient wants 64 random bytes in all, of which 32 are its ephemeral secret.
 #[test]
 fn too_few_random_bytes_make_no_file(rt: HostRuntime) -> Result<(), Fail> {
-    let alloc = rt.alloc();
     for count in [0, 15, 16, 47, 48, 63] {
-        match encrypted(alloc, random(alloc, count, 64)?, Format::Binary)? {
-            Err(FileError::Encrypt(EncryptError::ShortRandom)) => {}
-            _ => return Err(Fail::from("another answer")),
-        }
+        assert!(rt; are_too_few(rt.alloc(), count)?, "of {count} bytes");
     }
     Ok(())
+}
+
+// Whether the shared secret was zero.
+fn was_shared(answer: Result<(), FileError>) -> bool {
+    matches!(
+        answer,
+        Err(FileError::Encrypt(EncryptError::ZeroSharedSecret))
+    )
+}
+
+// Whether so many random bytes, with the secret in them, share it with everybody, and nothing is written.
+fn are_shared(alloc: Global, count: usize) -> Result<bool, Fail> {
+    let mut file = Vec::new(alloc);
+    let answer = encrypted(alloc, count, 16, Format::AsciiArmor, &mut file)?;
+    Ok(was_shared(answer) && file.is_empty())
 }
 
 // The bench suite's shared secret is zero where both secrets are the same.
 #[test]
 fn a_secret_that_everybody_shares_makes_no_file(rt: HostRuntime) -> Result<(), Fail> {
-    let alloc = rt.alloc();
     for count in [48, 64] {
-        match encrypted(alloc, random(alloc, count, 16)?, Format::AsciiArmor)? {
-            Err(FileError::Encrypt(EncryptError::ZeroSharedSecret)) => {}
-            _ => return Err(Fail::from("another answer")),
-        }
+        assert!(rt; are_shared(rt.alloc(), count)?, "of {count} bytes");
     }
     Ok(())
 }

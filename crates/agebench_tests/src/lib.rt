@@ -11,3 +11,5 @@ mod passphrase_tests;
 mod payload_tests;
 #[cfg(test)]
 mod suite_tests;
+#[cfg(test)]
+mod words;

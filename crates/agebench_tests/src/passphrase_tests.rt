@@ -1,5 +1,6 @@
 //! The commands with a passphrase, by the words of a command line. The expected bytes are those of Python, from the format's own words.
 
+use crate::words::{asked, names_nobody};
 use age::armor::Format;
 use age::draw::Draw;
 use age::io::Bytes;
@@ -12,8 +13,9 @@ use age_bench::keygen::keygen;
 use age_bench::names::To;
 use age_bench::part::at_with;
 use age_bench::payload::{open_all, seal_all};
+use age_try::answers::is_refusal;
 use age_try::fixtures::{MESSAGE, digest, zeros};
-use agebench_command::command::{Command, parse};
+use agebench_command::command::Command;
 use std::alloc::Global;
 use std::process::Abort;
 use std::test::Fail;
@@ -48,30 +50,35 @@ fn ran(
     }
 }
 
-// What these words ask for, or nothing.
-fn asked(alloc: Global, words: &[&str]) -> Result<Option<Command>, Fail> {
-    let mut line = Vec::new(alloc);
-    for word in words {
-        line.push(String::from_str(alloc, word)?)?;
+// What these words ask for.
+fn command(alloc: Global, words: &[&str]) -> Result<Command, Fail> {
+    match asked(alloc, words)? {
+        Some(command) => Ok(command),
+        None => Err(Fail::from("a wrong command line")),
     }
-    Ok(parse(alloc, &line)?)
 }
 
-// What the command of these words writes. A refusal has to leave nothing written.
-fn written(
-    alloc: Global,
-    words: &[&str],
-    input: &[u8],
-) -> Result<Result<Vec<u8>, FileError>, Fail> {
-    let Some(command) = asked(alloc, words)? else {
-        return Err(Fail::from("a wrong command line"));
-    };
+// What the command of these words writes.
+fn written(alloc: Global, words: &[&str], input: &[u8]) -> Result<Vec<u8>, Fail> {
+    let command = command(alloc, words)?;
     let mut output = Vec::new(alloc);
-    match ran(alloc, command, input, &mut output) {
-        Ok(()) => Ok(Ok(output)),
-        Err(_) if !output.is_empty() => Err(Fail::from("something was written")),
-        Err(error) => Ok(Err(error)),
+    if ran(alloc, command, input, &mut output).is_err() {
+        return Err(Fail::from("a refusal"));
     }
+    Ok(output)
+}
+
+// Whether the command of these words writes this.
+fn writes(alloc: Global, words: &[&str], input: &[u8], output: &[u8]) -> Result<bool, Fail> {
+    Ok(written(alloc, words, input)?.as_slice() == output)
+}
+
+// Whether the command of these words refuses with this text, and writes nothing.
+fn refuses(alloc: Global, words: &[&str], input: &[u8], text: &str) -> Result<bool, Fail> {
+    let command = command(alloc, words)?;
+    let mut output = Vec::new(alloc);
+    let is_refused = is_refusal(alloc, ran(alloc, command, input, &mut output), text);
+    Ok(is_refused && output.is_empty())
 }
 
 // So many random bytes that are zero, in hexadecimal.
@@ -83,39 +90,46 @@ fn zero_digits(alloc: Global, count: usize) -> Result<String, Fail> {
     Ok(digits)
 }
 
-// The message encrypted to a word, with so many random bytes.
-fn encrypted(alloc: Global, word: &str, count: usize) -> Result<Result<Vec<u8>, FileError>, Fail> {
-    let draw = zero_digits(alloc, count)?;
+// The message encrypted to a word.
+fn encrypted(alloc: Global, word: &str) -> Result<Vec<u8>, Fail> {
+    let draw = zero_digits(alloc, 72)?;
     written(alloc, &["encrypt", word, draw.as_str()], MESSAGE)
 }
 
 // The same in armor.
 fn armored(alloc: Global, word: &str) -> Result<Vec<u8>, Fail> {
     let draw = zero_digits(alloc, 72)?;
-    Ok(written(alloc, &["encrypt", word, draw.as_str(), "armor"], MESSAGE)??)
+    written(alloc, &["encrypt", word, draw.as_str(), "armor"], MESSAGE)
 }
 
 #[test]
 fn a_message_has_its_file(rt: HostRuntime) -> Result<(), Fail> {
-    let file = encrypted(rt.alloc(), WORD, 72)??;
-    assert!(rt; file.len() == 218);
-    assert!(rt; file.starts_with(HEADER));
+    let file = encrypted(rt.alloc(), WORD)?;
+    assert!(rt; file.len() == 218 && file.starts_with(HEADER));
     Ok(())
 }
 
-// The file and its armor are these, and give the message back to the same word.
+// A file has this length and these bytes, and gives the message back to the same word.
 fn there_and_back(
     rt: &impl Abort,
     alloc: Global,
     word: &str,
     file: &[u8],
+    length: usize,
     digest_of: u64,
 ) -> Result<(), Fail> {
-    assert!(rt; digest(file) == digest_of, "at {word}");
-    let plain = written(alloc, &["decrypt", word], file)??;
-    assert!(rt; plain.as_slice() == MESSAGE);
-    let part = written(alloc, &["at", word, "5", "3"], file)??;
-    assert!(rt; part.as_slice() == b"is ".as_slice());
+    assert!(rt;
+        file.len() == length && digest(file) == digest_of,
+        "at {word}"
+    );
+    assert!(rt;
+        writes(alloc, &["decrypt", word], file, MESSAGE)?,
+        "at {word}"
+    );
+    assert!(rt;
+        writes(alloc, &["at", word, "5", "3"], file, b"is ")?,
+        "at {word}"
+    );
     Ok(())
 }
 
@@ -138,37 +152,54 @@ fn files_for_a_passphrase_are_decrypted_with_it(rt: HostRuntime) -> Result<(), F
             0xa401_1371_c027_9b05,
         ),
     ] {
-        let file = encrypted(alloc, word, 72)??;
-        assert!(rt; file.len() == 218);
-        there_and_back(&rt, alloc, word, &file, binary)?;
-        let text = armored(alloc, word)?;
-        assert!(rt; text.len() == 365);
-        there_and_back(&rt, alloc, word, &text, ascii)?;
+        there_and_back(&rt, alloc, word, &encrypted(alloc, word)?, 218, binary)?;
+        there_and_back(&rt, alloc, word, &armored(alloc, word)?, 365, ascii)?;
     }
+    Ok(())
+}
+
+// A file isn't decrypted with this word, nor a part of it.
+fn fails_with(rt: &impl Abort, alloc: Global, word: &str, file: &[u8]) -> Result<(), Fail> {
+    let text = "decryption failed";
+    assert!(rt;
+        refuses(alloc, &["decrypt", word], file, text)?,
+        "at {word}"
+    );
+    assert!(rt;
+        refuses(alloc, &["at", word, "5", "3"], file, text)?,
+        "at {word}"
+    );
     Ok(())
 }
 
 #[test]
 fn another_passphrase_fails(rt: HostRuntime) -> Result<(), Fail> {
-    let alloc = rt.alloc();
-    let file = encrypted(alloc, WORD, 72)??;
+    let file = encrypted(rt.alloc(), WORD)?;
     for other in [
         "pass=correct horse ",
         "pass=Correct horse",
         "pass=correct hors",
         "pass=",
     ] {
-        for words in [
-            ["decrypt", other].as_slice(),
-            ["at", other, "5", "3"].as_slice(),
-        ] {
-            match written(alloc, words, &file)? {
-                Err(error) => assert!(rt; error.to_string(alloc)?.as_str() == "decryption failed"),
-                Ok(_) => return Err(Fail::from("it was decrypted")),
-            }
-        }
+        fails_with(&rt, rt.alloc(), other, &file)?;
     }
     Ok(())
+}
+
+// Whether no identity had the key.
+fn found_no_key(answer: Result<(), FileError>) -> bool {
+    matches!(
+        answer,
+        Err(FileError::Decrypt(DecryptError::NoMatchingKeys))
+    )
+}
+
+// Whether the command of these words finds no key, and writes nothing.
+fn finds_no_key(alloc: Global, words: &[&str], input: &[u8]) -> Result<bool, Fail> {
+    let command = command(alloc, words)?;
+    let mut output = Vec::new(alloc);
+    let answer = ran(alloc, command, input, &mut output);
+    Ok(found_no_key(answer) && output.is_empty())
 }
 
 // A file of another kind has no stanza for a passphrase, and one for a passphrase none for others.
@@ -176,83 +207,90 @@ fn another_passphrase_fails(rt: HostRuntime) -> Result<(), Fail> {
 fn other_kinds_of_files_dont_match(rt: HostRuntime) -> Result<(), Fail> {
     let alloc = rt.alloc();
     for (to, with) in [("bench", WORD), (WORD, "bench"), (WORD, IDENTITY)] {
-        let file = encrypted(alloc, to, 72)??;
-        match written(alloc, &["decrypt", with], &file)? {
-            Err(FileError::Decrypt(DecryptError::NoMatchingKeys)) => {}
-            _ => return Err(Fail::from("another answer")),
-        }
+        let file = encrypted(alloc, to)?;
+        assert!(rt;
+            finds_no_key(alloc, &["decrypt", with], &file)?,
+            "to {to} with {with}"
+        );
     }
     Ok(())
+}
+
+// Whether so many random bytes are too few.
+fn are_too_few(alloc: Global, count: usize) -> Result<bool, Fail> {
+    let draw = zero_digits(alloc, count)?;
+    let words = ["encrypt", WORD, draw.as_str()];
+    refuses(alloc, &words, MESSAGE, "random bytes ran out")
 }
 
 // 16 random bytes for the file key, 16 for the salt, 24 for the label, 16 for the nonce.
 #[test]
 fn too_few_random_bytes_make_no_file(rt: HostRuntime) -> Result<(), Fail> {
-    let alloc = rt.alloc();
     for count in [0, 15, 16, 31, 32, 55, 56, 71] {
-        match encrypted(alloc, WORD, count)? {
-            Err(error) => assert!(rt; error.to_string(alloc)?.as_str() == "random bytes ran out"),
-            Ok(_) => return Err(Fail::from("a file was made")),
-        }
+        assert!(rt; are_too_few(rt.alloc(), count)?, "of {count} bytes");
     }
-    Ok(())
-}
-
-// A word is neither TO nor WITH.
-fn names_nobody(rt: &impl Abort, alloc: Global, word: &str) -> Result<(), Fail> {
-    let to = asked(alloc, &["encrypt", word, "00"])?;
-    assert!(rt; to.is_none(), "at {word}");
-    let with = asked(alloc, &["decrypt", word])?;
-    assert!(rt; with.is_none(), "at {word}");
-    let part = asked(alloc, &["at", word, "0", "1"])?;
-    assert!(rt; part.is_none(), "at {word}");
     Ok(())
 }
 
 #[test]
 fn other_words_name_no_passphrase(rt: HostRuntime) -> Result<(), Fail> {
-    let alloc = rt.alloc();
     for word in [
         "pass", "Pass=x", "PASS=x", " pass=x", "pass =x", "pass:x", "=x", "",
     ] {
-        names_nobody(&rt, alloc, word)?;
+        names_nobody(&rt, rt.alloc(), word);
     }
     Ok(())
 }
 
-// The message encrypted to the passphrase with this work factor.
-fn with_factor(alloc: Global, factor: u8) -> Result<Result<Vec<u8>, FileError>, Fail> {
+// Whom the passphrase names with this work factor.
+fn to_passphrase(alloc: Global, factor: u8) -> Result<To, Fail> {
     if factor < 1 || factor > 63 {
         return Err(Fail::from("no work factor"));
     }
     let passphrase = SecretString::from(String::from_str(alloc, "correct horse")?);
-    let to = To::Passphrase(Recipient::new(passphrase, factor));
+    Ok(To::Passphrase(Recipient::new(passphrase, factor)))
+}
+
+// What comes of encrypting the message to the passphrase with this work factor.
+fn with_factor(
+    alloc: Global,
+    factor: u8,
+    file: &mut Vec<u8>,
+) -> Result<Result<(), FileError>, Fail> {
+    let draw = zeros(alloc, 72)?;
+    let to = to_passphrase(alloc, factor)?;
     let mut input = Bytes::new(MESSAGE);
+    Ok(encrypt_to(alloc, to, draw, Format::Binary, &mut input, file))
+}
+
+// Whether a file with this work factor has these bytes, and gives the message back.
+fn is_accepted(alloc: Global, factor: u8, digest_of: u64) -> Result<bool, Fail> {
     let mut file = Vec::new(alloc);
-    match encrypt_to(
-        alloc,
-        to,
-        zeros(alloc, 72)?,
-        Format::Binary,
-        &mut input,
-        &mut file,
-    ) {
-        Ok(()) => Ok(Ok(file)),
-        Err(_) if !file.is_empty() => Err(Fail::from("something was written")),
-        Err(error) => Ok(Err(error)),
+    if with_factor(alloc, factor, &mut file)?.is_err() {
+        return Ok(false);
     }
+    Ok(digest(&file) == digest_of && writes(alloc, &["decrypt", WORD], &file, MESSAGE)?)
+}
+
+// Whether the work factor was refused.
+fn was_too_much(answer: Result<(), FileError>) -> bool {
+    matches!(
+        answer,
+        Err(FileError::Encrypt(EncryptError::WorkFactorRefused))
+    )
+}
+
+// Whether this work factor is refused, and nothing is written.
+fn is_too_much(alloc: Global, factor: u8) -> Result<bool, Fail> {
+    let mut file = Vec::new(alloc);
+    let answer = with_factor(alloc, factor, &mut file)?;
+    Ok(was_too_much(answer) && file.is_empty())
 }
 
 // The bench suite accepts work factors up to 20.
 #[test]
 fn a_work_factor_may_be_refused(rt: HostRuntime) -> Result<(), Fail> {
-    let alloc = rt.alloc();
-    let file = with_factor(alloc, 20)??;
-    assert!(rt; digest(&file) == 0xfccf_a006_8768_548a);
-    let plain = written(alloc, &["decrypt", WORD], &file)??;
-    assert!(rt; plain.as_slice() == MESSAGE);
-    match with_factor(alloc, 21)? {
-        Err(FileError::Encrypt(EncryptError::WorkFactorRefused)) => Ok(()),
-        _ => Err(Fail::from("another answer")),
-    }
+    assert!(rt; is_accepted(rt.alloc(), 20, 0xfccf_a006_8768_548a)?);
+    assert!(rt; is_too_much(rt.alloc(), 21)?);
+    Ok(())
 }

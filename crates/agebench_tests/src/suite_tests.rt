@@ -5,6 +5,7 @@ use age_error::suite::ScryptError;
 use age_suite::suite::{Opens, Suite};
 use age_try::fixtures::KEY;
 use std::alloc::{AllocError, Global};
+use std::process::Abort;
 use std::test::Fail;
 
 const NONCE: [u8; 12] = [100, 101, 102, 103, 104, 105, 106, 107, 108, 109, 110, 111];
@@ -29,18 +30,34 @@ fn a_plaintext_has_its_seal(rt: HostRuntime) -> Result<(), Fail> {
     Ok(())
 }
 
-// What a text opens to is the plaintext.
-fn opens_to_plain(
+// Whether a text opens to this plaintext.
+fn opens_to(alloc: Global, opens: &mut Opens, key: &[u8; 32], sealed: &[u8], plain: &[u8]) -> bool {
+    match BenchSuite::open(alloc, opens, key, &NONCE, sealed) {
+        Ok(Some(opened)) => opened.as_slice() == plain,
+        _ => false,
+    }
+}
+
+// Whether a text doesn't open.
+fn is_refused(
     alloc: Global,
     opens: &mut Opens,
     key: &[u8; 32],
     nonce: &[u8; 12],
     sealed: &[u8],
-) -> Result<bool, AllocError> {
-    let opened = BenchSuite::open(alloc, opens, key, nonce, sealed)?;
-    match opened {
-        Some(plain) => Ok(plain.as_slice() == PLAIN.as_slice()),
-        None => Ok(false),
+) -> bool {
+    matches!(BenchSuite::open(alloc, opens, key, nonce, sealed), Ok(None))
+}
+
+// The seal doesn't open with a bit of any byte changed.
+fn no_changed_seal_opens(rt: &impl Abort, alloc: Global, opens: &mut Opens) {
+    for i in 0..56 {
+        let mut changed = SEALED;
+        changed[i] ^= 1;
+        assert!(rt;
+            is_refused(alloc, opens, &KEY, &NONCE, &changed),
+            "at byte {i}"
+        );
     }
 }
 
@@ -49,28 +66,33 @@ fn a_seal_opens_and_opens_are_counted(rt: HostRuntime) -> Result<(), Fail> {
     let alloc = rt.alloc();
     let mut opens = Opens::new();
     assert!(rt; opens.count() == 0);
-    assert!(rt; opens_to_plain(alloc, &mut opens, &KEY, &NONCE, &SEALED)?);
+    assert!(rt; opens_to(alloc, &mut opens, &KEY, &SEALED, &PLAIN));
     assert!(rt; opens.count() == 1);
     let mut other_key = KEY;
     other_key[31] = 32;
-    assert!(rt; BenchSuite::open(alloc, &mut opens, &other_key, &NONCE, &SEALED)?.is_none());
+    assert!(rt; is_refused(alloc, &mut opens, &other_key, &NONCE, &SEALED));
     assert!(rt; opens.count() == 2);
     let mut other_nonce = NONCE;
     other_nonce[0] = 0;
-    assert!(rt; BenchSuite::open(alloc, &mut opens, &KEY, &other_nonce, &SEALED)?.is_none());
-    for i in 0..56 {
-        let mut changed = SEALED;
-        changed[i] ^= 1;
-        assert!(rt;
-            BenchSuite::open(alloc, &mut opens, &KEY, &NONCE, &changed)?.is_none(),
-            "at byte {i}"
-        );
-    }
-    assert!(rt; BenchSuite::open(alloc, &mut opens, &KEY, &NONCE, &SEALED[..55])?.is_none());
-    assert!(rt; BenchSuite::open(alloc, &mut opens, &KEY, &NONCE, &SEALED[..15])?.is_none());
-    assert!(rt; BenchSuite::open(alloc, &mut opens, &KEY, &NONCE, &[])?.is_none());
+    assert!(rt; is_refused(alloc, &mut opens, &KEY, &other_nonce, &SEALED));
+    no_changed_seal_opens(&rt, alloc, &mut opens);
+    assert!(rt; is_refused(alloc, &mut opens, &KEY, &NONCE, &SEALED[..55]));
+    assert!(rt; is_refused(alloc, &mut opens, &KEY, &NONCE, &SEALED[..15]));
+    assert!(rt; is_refused(alloc, &mut opens, &KEY, &NONCE, &[]));
     assert!(rt; opens.count() == 62);
     Ok(())
+}
+
+// Whether so many bytes have a seal of this length that opens to them.
+fn are_sealed_and_open(
+    alloc: Global,
+    opens: &mut Opens,
+    count: usize,
+    length: usize,
+) -> Result<bool, AllocError> {
+    let plain = vec![in alloc; 7u8; count]?;
+    let sealed = BenchSuite::seal(alloc, &KEY, &NONCE, &plain)?;
+    Ok(sealed.len() == length && opens_to(alloc, opens, &KEY, &sealed, &plain))
 }
 
 // Of lengths about whole masks.
@@ -89,12 +111,8 @@ fn plaintexts_of_all_lengths_open(rt: HostRuntime) -> Result<(), Fail> {
         (65, 81),
         (1000, 1016),
     ] {
-        let plain = vec![in alloc; 7u8; n]?;
-        let sealed = BenchSuite::seal(alloc, &KEY, &NONCE, &plain)?;
-        assert!(rt; sealed.len() == len);
-        let opened = BenchSuite::open(alloc, &mut opens, &KEY, &NONCE, &sealed)?;
         assert!(rt;
-            opened.ok_or("refused")?.as_slice() == plain.as_slice(),
+            are_sealed_and_open(alloc, &mut opens, n, len)?,
             "of {n} bytes"
         );
     }
@@ -111,15 +129,29 @@ fn both_sides_share_a_secret(rt: HostRuntime) {
     assert!(rt; BenchSuite::x25519(&KEY, &BenchSuite::public(&KEY)) == [0; 32]);
 }
 
+// What a passphrase is stretched to with this work factor.
+fn stretched(alloc: Global, factor: u8) -> Result<[u8; 32], ScryptError> {
+    BenchSuite::scrypt(alloc, b"passphrase", b"salt", factor)
+}
+
+// Whether this work factor is refused.
+fn is_invalid(alloc: Global, factor: u8) -> bool {
+    stretched(alloc, factor) == Err(ScryptError::InvalidParams)
+}
+
+// Whether this work factor is accepted.
+fn is_accepted(alloc: Global, factor: u8) -> bool {
+    stretched(alloc, factor).is_ok()
+}
+
 #[test]
 fn work_factors_from_1_to_20_are_accepted(rt: HostRuntime) {
     let alloc = rt.alloc();
     for factor in 0..=255 {
-        let stretched = BenchSuite::scrypt(alloc, b"passphrase", b"salt", factor);
         if factor < 1 || factor > 20 {
-            assert!(rt; stretched == Err(ScryptError::InvalidParams));
+            assert!(rt; is_invalid(alloc, factor), "of {factor}");
         } else {
-            assert!(rt; stretched.is_ok(), "of {factor}");
+            assert!(rt; is_accepted(alloc, factor), "of {factor}");
         }
     }
     let expected = [
@@ -127,5 +159,5 @@ fn work_factors_from_1_to_20_are_accepted(rt: HostRuntime) {
         0xae, 0x04, 0xfc, 0x5b, 0xdd, 0x1b, 0x15, 0xe9, 0x0c, 0x43, 0x08, 0x0c, 0xcd, 0x2a, 0x29,
         0xe3, 0xef,
     ];
-    assert!(rt; BenchSuite::scrypt(alloc, b"passphrase", b"salt", 10) == Ok(expected));
+    assert!(rt; stretched(alloc, 10) == Ok(expected));
 }
