@@ -116,7 +116,7 @@ fn faults_as_it_reads<R: Read>(rt: &impl Abort, reader: &mut R, fault: Error) {
     }
 }
 
-// Whether a write and a flush of it refuse so, where a write between them takes a byte.
+// A writer refuses so, takes a byte and refuses a flush so, and then takes all.
 fn faults_as_it_writes<W: Write>(rt: &impl Abort, writer: &mut W, fault: Error) {
     assert!(rt; writer.write(b"abc") == Err(fault));
     assert!(rt; takes(writer, b"abc", 1));
