@@ -1,12 +1,17 @@
 //! Readers and writers of this port that std reads and writes, and a file on a disk.
 
-use age_error::io::{ArmoredReadError, Error, ErrorKind};
+use crate::fixtures::{buffered, fills, gives, leads, leads_nowhere};
+use age_error::io::{ArmoredReadError, Error, ErrorKind, SeekFrom};
 use age_io::{
-    BufReader, Bytes, IntoStd, Read, Seek, Std, device_error, read_exact, read_to_end,
-    standard_error, write_all,
+    BufReader, Bytes, IntoStd, Read, Seek, Std, Write, device_error, read_to_end, standard_error,
+    write_all,
 };
+use age_try::answers::is_refusal;
 use age_try::fakes::{Script, Sink, Source, Step};
+use std::alloc::Global;
 use std::fs::File;
+use std::path::{Path, PathBuf};
+use std::process::Abort;
 use std::test::Fail;
 use std::{env, fs, io, process};
 
@@ -18,54 +23,120 @@ fn kind<T: Drop>(answer: io::Result<T>) -> Result<T, io::ErrorKind> {
     }
 }
 
+// What a read into this room answers.
+fn read_by_std<R: io::Read>(reader: &mut R, room: &mut [u8]) -> Result<usize, io::ErrorKind> {
+    kind(io::Read::read(reader, room))
+}
+
+// Whether a reader still has these bytes and a clean end after them.
+fn delivers_to_std<R: io::Read>(alloc: Global, reader: &mut R, bytes: &[u8]) -> bool {
+    let mut all = Vec::new(alloc);
+    let count = io::Read::read_to_end(reader, &mut all);
+    kind(count) == Ok(bytes.len()) && all.as_slice() == bytes
+}
+
+// Whether it ends before this room is full.
+fn ends_early<R: io::Read>(reader: &mut R, room: &mut [u8]) -> bool {
+    kind(io::Read::read_exact(reader, room)) == Err(io::ErrorKind::UnexpectedEof)
+}
+
+// What a seek answers.
+fn sought_by_std<R: io::Seek>(reader: &mut R, to: io::SeekFrom) -> Result<u64, io::ErrorKind> {
+    kind(io::Seek::seek(reader, to))
+}
+
+// Whether it leads to this place.
+fn leads_std<R: io::Seek>(reader: &mut R, to: io::SeekFrom, place: u64) -> bool {
+    sought_by_std(reader, to) == Ok(place)
+}
+
+// A reader of the bytes `a text` is read and sought.
+fn is_read_and_sought<R: io::Read + io::Seek>(rt: &impl Abort, alloc: Global, reader: &mut R) {
+    assert!(rt; leads_std(reader, io::SeekFrom::Start(2), 2));
+    assert!(rt; delivers_to_std(alloc, reader, b"text"));
+    assert!(rt; leads_std(reader, io::SeekFrom::End(-4), 2));
+    assert!(rt; leads_std(reader, io::SeekFrom::Current(3), 5));
+    let past = sought_by_std(reader, io::SeekFrom::Start(7));
+    assert!(rt; past == Err(io::ErrorKind::InvalidData));
+    assert!(rt; ends_early(reader, &mut [0; 4]));
+}
+
 #[test]
 fn std_reads_and_seeks(rt: HostRuntime) -> Result<(), Fail> {
-    let mut all = Vec::new(rt.alloc());
     let mut reader = IntoStd::new(Bytes::new(b"a text"));
-    let place = io::Seek::seek(&mut reader, io::SeekFrom::Start(2));
-    assert!(rt; kind(place) == Ok(2));
-    let count = io::Read::read_to_end(&mut reader, &mut all);
-    assert!(rt; kind(count) == Ok(4));
-    assert!(rt; all.as_slice() == b"text".as_slice());
-    let place = io::Seek::seek(&mut reader, io::SeekFrom::End(-4));
-    assert!(rt; kind(place) == Ok(2));
-    let place = io::Seek::seek(&mut reader, io::SeekFrom::Current(3));
-    assert!(rt; kind(place) == Ok(5));
-    let past = io::Seek::seek(&mut reader, io::SeekFrom::Start(7));
-    assert!(rt; kind(past) == Err(io::ErrorKind::InvalidData));
-    let mut room = [0; 4];
-    let early = io::Read::read_exact(&mut reader, &mut room);
-    assert!(rt; kind(early) == Err(io::ErrorKind::UnexpectedEof));
+    is_read_and_sought(&rt, rt.alloc(), &mut reader);
     let mut inner = reader.into_inner();
-    assert!(rt; Seek::seek(&mut inner, age_error::io::SeekFrom::Start(4)) == Ok(4));
-    assert!(rt; Read::read(&mut inner, &mut room) == Ok(2));
+    assert!(rt; leads(&mut inner, SeekFrom::Start(4), 4));
+    assert!(rt; gives(&mut inner, &mut [0; 4], 2));
     Ok(())
 }
 
 #[test]
 fn std_reads_through_a_buffer(rt: HostRuntime) -> Result<(), Fail> {
-    let alloc = rt.alloc();
-    let mut all = Vec::new(alloc);
-    let buffered = BufReader::new(alloc, Bytes::new(b"a text"))?;
-    let count = io::Read::read_to_end(&mut IntoStd::new(buffered), &mut all);
-    assert!(rt; kind(count) == Ok(6));
-    assert!(rt; all.as_slice() == b"a text".as_slice());
+    let mut reader = IntoStd::new(buffered(rt.alloc(), Bytes::new(b"a text"))?);
+    assert!(rt; delivers_to_std(rt.alloc(), &mut reader, b"a text"));
     Ok(())
+}
+
+// What a write of these bytes answers.
+fn written_by_std<W: io::Write>(writer: &mut W, bytes: &[u8]) -> Result<usize, io::ErrorKind> {
+    kind(io::Write::write(writer, bytes))
+}
+
+// What a flush answers.
+fn flushed_by_std<W: io::Write>(writer: &mut W) -> Result<(), io::ErrorKind> {
+    kind(io::Write::flush(writer))
+}
+
+// A writer takes the bytes `a text more`, and a flush.
+fn is_written<W: io::Write>(rt: &impl Abort, writer: &mut W) {
+    let written = io::Write::write_all(writer, b"a text");
+    assert!(rt; kind(written) == Ok(()));
+    assert!(rt; written_by_std(writer, b" more") == Ok(5));
+    assert!(rt; flushed_by_std(writer) == Ok(()));
 }
 
 #[test]
 fn std_writes(rt: HostRuntime) -> Result<(), Fail> {
     let out: Vec<u8> = Vec::new(rt.alloc());
     let mut writer = IntoStd::new(out);
-    let written = io::Write::write_all(&mut writer, b"a text");
-    assert!(rt; kind(written) == Ok(()));
-    let count = io::Write::write(&mut writer, b" more");
-    assert!(rt; kind(count) == Ok(5));
-    let flushed = io::Write::flush(&mut writer);
-    assert!(rt; kind(flushed) == Ok(()));
-    let out = writer.into_inner();
-    assert!(rt; out.as_slice() == b"a text more".as_slice());
+    is_written(&rt, &mut writer);
+    assert!(rt; writer.into_inner().as_slice() == b"a text more".as_slice());
     Ok(())
+}
+
+// A reader refuses so, gives a byte, refuses so again and gives two bytes.
+fn faults_as_it_reads<R: io::Read>(rt: &impl Abort, reader: &mut R, told: io::ErrorKind) {
+    let mut room = [0; 4];
+    for answer in [Err(told), Ok(1), Err(told), Ok(2)] {
+        assert!(rt; read_by_std(reader, &mut room) == answer);
+    }
+}
+
+// A writer refuses so, takes a byte and refuses a flush so.
+fn faults_as_it_writes<W: io::Write>(rt: &impl Abort, writer: &mut W, told: io::ErrorKind) {
+    assert!(rt; written_by_std(writer, b"abc") == Err(told));
+    assert!(rt; written_by_std(writer, b"abc") == Ok(1));
+    assert!(rt; flushed_by_std(writer) == Err(told));
+}
+
+// A fault of the first kind comes back as one of the second.
+fn comes_back_as(rt: &impl Abort, alloc: Global, given: io::ErrorKind, told: io::ErrorKind) {
+    let steps = [Step::Fail(given), Step::Move(1), Step::Fail(given)];
+    let script = Script {
+        steps: &steps,
+        most: 2,
+    };
+    let source = Source {
+        script,
+        bytes: b"abcdef",
+    };
+    faults_as_it_reads(rt, &mut IntoStd::new(Std::new(source)), told);
+    let sink = Sink {
+        script,
+        bytes: Vec::new(alloc),
+    };
+    faults_as_it_writes(rt, &mut IntoStd::new(Std::new(sink)), told);
 }
 
 // A fault goes there and back: std's, this port's, and std's again.
@@ -85,37 +156,24 @@ fn faults_come_back_with_their_kinds(rt: HostRuntime) -> Result<(), Fail> {
         (io::ErrorKind::OutOfMemory, io::ErrorKind::OutOfMemory),
         (io::ErrorKind::BrokenPipe, io::ErrorKind::Other),
     ] {
-        let steps = [Step::Fail(given), Step::Move(1), Step::Fail(given)];
-        let script = Script {
-            steps: &steps,
-            most: 2,
-        };
-        let mut room = [0; 4];
-        let mut reader = IntoStd::new(Std::new(Source {
-            script,
-            bytes: b"abcdef",
-        }));
-        for answer in [Err(told), Ok(1), Err(told), Ok(2)] {
-            let read = io::Read::read(&mut reader, &mut room);
-            assert!(rt; kind(read) == answer);
-        }
-        let mut writer = IntoStd::new(Std::new(Sink {
-            script,
-            bytes: Vec::new(rt.alloc()),
-        }));
-        let written = io::Write::write(&mut writer, b"abc");
-        assert!(rt; kind(written) == Err(told));
-        let written = io::Write::write(&mut writer, b"abc");
-        assert!(rt; kind(written) == Ok(1));
-        let flushed = io::Write::flush(&mut writer);
-        assert!(rt; kind(flushed) == Err(told));
+        comes_back_as(&rt, rt.alloc(), given, told);
     }
     Ok(())
 }
 
+// Whether an error is one of this kind and this text to std.
+fn is_told(alloc: Global, error: Error, kind: io::ErrorKind, text: &str) -> bool {
+    standard_error(error).kind() == kind
+        && is_refusal(alloc, Err::<(), io::Error>(standard_error(error)), text)
+}
+
+// Whether a fault of this kind is this error here.
+fn is_heard(kind: io::ErrorKind, error: Error) -> bool {
+    device_error(&io::Error::from(kind)) == error
+}
+
 #[test]
 fn errors_have_kinds_and_texts(rt: HostRuntime) -> Result<(), Fail> {
-    let alloc = rt.alloc();
     for (error, kind, text) in [
         (Error::Failed, io::ErrorKind::Other, "failed earlier"),
         (
@@ -151,41 +209,59 @@ fn errors_have_kinds_and_texts(rt: HostRuntime) -> Result<(), Fail> {
             "identity file contains non-identity data on line 18446744073709551615",
         ),
     ] {
-        let told = standard_error(error);
-        assert!(rt; told.kind() == kind);
-        let words = format!(in alloc; "{told}")?;
-        assert!(rt; words.as_str() == text);
+        assert!(rt; is_told(rt.alloc(), error, kind, text), "{text}");
     }
-    let pipe = io::Error::from(io::ErrorKind::BrokenPipe);
-    assert!(rt; device_error(&pipe) == Error::Device(ErrorKind::Other));
-    let missing = io::Error::from(io::ErrorKind::NotFound);
-    assert!(rt; device_error(&missing) == Error::Device(ErrorKind::NotFound));
+    assert!(rt; is_heard(io::ErrorKind::BrokenPipe, Error::Device(ErrorKind::Other)));
+    assert!(rt; is_heard(io::ErrorKind::NotFound, Error::Device(ErrorKind::NotFound)));
     Ok(())
+}
+
+// The path of a file for this process alone.
+fn own_path(rt: &HostRuntime) -> Result<PathBuf, Fail> {
+    let alloc = rt.alloc();
+    let name = format!(in alloc; "age-io-tests-{}", process::id(rt.process()))?;
+    Ok(env::temp_dir(rt)?.join(alloc, name.as_str())?)
+}
+
+// Whether a writer takes these bytes, and a flush.
+fn takes<W: Write>(writer: &mut W, bytes: &[u8]) -> bool {
+    write_all(writer, bytes) == Ok(()) && writer.flush() == Ok(())
+}
+
+// Whether the next four bytes are these.
+fn gives_four<R: Read>(reader: &mut R, bytes: &[u8; 4]) -> bool {
+    let mut room = [0; 4];
+    fills(reader, &mut room) && room == *bytes
+}
+
+// A reader of the bytes below is read and sought.
+fn reads_and_seeks<R: Seek>(rt: &impl Abort, alloc: Global, reader: &mut R) {
+    let mut all = Vec::new(alloc);
+    assert!(rt; read_to_end(alloc, reader, &mut all) == Ok(16));
+    assert!(rt; all.as_slice() == b"a text on a disk".as_slice());
+    assert!(rt; leads(reader, SeekFrom::Start(2), 2));
+    assert!(rt; gives_four(reader, b"text"));
+    assert!(rt; leads(reader, SeekFrom::End(-4), 12));
+    assert!(rt; gives_four(reader, b"disk"));
+    assert!(rt; leads_nowhere(reader, SeekFrom::Start(17), Error::PastEnd));
+}
+
+// Whether the file of this path takes them.
+fn is_file_written(rt: &HostRuntime, path: Path) -> Result<bool, Fail> {
+    let mut writer = Std::new(File::create(rt, path)?);
+    Ok(takes(&mut writer, b"a text on a disk"))
+}
+
+// A reader of the file of this path.
+fn opened(rt: &HostRuntime, path: Path) -> Result<BufReader<Std<File>>, Fail> {
+    buffered(rt.alloc(), Std::new(File::open(rt, path)?))
 }
 
 #[test]
 fn a_file_is_written_read_and_sought(rt: HostRuntime) -> Result<(), Fail> {
-    let alloc = rt.alloc();
-    let name = format!(in alloc; "age-io-tests-{}", process::id(rt.process()))?;
-    let path = env::temp_dir(&rt)?.join(alloc, name.as_str())?;
-    let mut writer = Std::new(File::create(&rt, path.as_path())?);
-    assert!(rt; write_all(&mut writer, b"a text on a disk") == Ok(()));
-    assert!(rt; age_io::Write::flush(&mut writer) == Ok(()));
-    drop(writer);
-
-    let mut all = Vec::new(alloc);
-    let mut reader = BufReader::new(alloc, Std::new(File::open(&rt, path.as_path())?))?;
-    assert!(rt; read_to_end(alloc, &mut reader, &mut all) == Ok(16));
-    assert!(rt; all.as_slice() == b"a text on a disk".as_slice());
-    let mut room = [0; 4];
-    assert!(rt; Seek::seek(&mut reader, age_error::io::SeekFrom::Start(2)) == Ok(2));
-    assert!(rt; read_exact(&mut reader, &mut room) == Ok(()));
-    assert!(rt; room.as_slice() == b"text".as_slice());
-    assert!(rt; Seek::seek(&mut reader, age_error::io::SeekFrom::End(-4)) == Ok(12));
-    assert!(rt; read_exact(&mut reader, &mut room) == Ok(()));
-    assert!(rt; room.as_slice() == b"disk".as_slice());
-    assert!(rt; Seek::seek(&mut reader, age_error::io::SeekFrom::Start(17)) == Err(Error::PastEnd));
-    drop(reader);
+    let path = own_path(&rt)?;
+    assert!(rt; is_file_written(&rt, path.as_path())?);
+    reads_and_seeks(&rt, rt.alloc(), &mut opened(&rt, path.as_path())?);
     fs::remove_file(&rt, path.as_path())?;
     Ok(())
 }

@@ -4,6 +4,8 @@
 #[cfg(test)]
 mod buffered_tests;
 #[cfg(test)]
+mod fixtures;
+#[cfg(test)]
 mod into_std_tests;
 #[cfg(test)]
 mod io_seek_tests;

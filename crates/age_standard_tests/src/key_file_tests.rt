@@ -17,49 +17,55 @@ AGE-SECRET-KEY-1QQQSYQCYQ5RQWZQFPG9SCRGWPUGPZYSNZS23V9CCRYDPK8QARC0SWRYDWG
 ";
 
 // Whether a file's text gives this passphrase.
-fn gives(alloc: Global, text: &[u8], wanted: &str) -> Result<bool, Fail> {
-    let secret = passphrase_of(alloc, text)?;
-    Ok(secret.expose_secret() == wanted)
+fn gives(alloc: Global, text: &[u8], wanted: &str) -> bool {
+    match passphrase_of(alloc, text) {
+        Ok(secret) => secret.expose_secret() == wanted,
+        Err(_) => false,
+    }
 }
 
-// What a text is refused with.
-fn refusal(alloc: Global, text: &[u8]) -> Option<PassphraseError> {
+// Whether a text is refused so.
+fn is_refused(alloc: Global, text: &[u8], wanted: PassphraseError) -> bool {
     match passphrase_of(alloc, text) {
-        Ok(_) => None,
-        Err(error) => Some(error),
+        Ok(_) => false,
+        Err(error) => error == wanted,
     }
 }
 
 #[test]
 fn passphrase_is_the_first_line(rt: HostRuntime) -> Result<(), Fail> {
     let alloc = rt.alloc();
-    assert!(rt; gives(alloc, b"a pass phrase", "a pass phrase")?);
-    assert!(rt; gives(alloc, b" a\t\nb\n", " a\t")?);
-    assert!(rt; gives(alloc, b"a\r\r\n", "a\r")?);
-    assert!(rt; gives(alloc, b"a\r\n\xff", "a")?);
+    assert!(rt; gives(alloc, b"a pass phrase", "a pass phrase"));
+    assert!(rt; gives(alloc, b" a\t\nb\n", " a\t"));
+    assert!(rt; gives(alloc, b"a\r\r\n", "a\r"));
+    assert!(rt; gives(alloc, b"a\r\n\xff", "a"));
     Ok(())
 }
 
 #[test]
 fn passphrase_is_a_text_that_is_not_empty(rt: HostRuntime) {
     let alloc = rt.alloc();
-    assert!(rt; refusal(alloc, b"") == Some(PassphraseError::Empty));
-    assert!(rt; refusal(alloc, b"\nsecond") == Some(PassphraseError::Empty));
-    assert!(rt; refusal(alloc, b"\r\n") == Some(PassphraseError::Empty));
-    assert!(rt; refusal(alloc, b"p\xe4sse") == Some(PassphraseError::NotText));
+    assert!(rt; is_refused(alloc, b"", PassphraseError::Empty));
+    assert!(rt; is_refused(alloc, b"\nsecond", PassphraseError::Empty));
+    assert!(rt; is_refused(alloc, b"\r\n", PassphraseError::Empty));
+    assert!(rt; is_refused(alloc, b"p\xe4sse", PassphraseError::NotText));
+}
+
+// What a key is made of here: the bytes 0 to 39.
+fn draw(alloc: Global) -> Result<Draw, Fail> {
+    let mut bytes = Vec::new(alloc);
+    for byte in 0u8..40 {
+        bytes.push(byte)?;
+    }
+    Ok(Draw::new(bytes))
 }
 
 #[test]
 fn key_has_its_recipient_and_its_secret(rt: HostRuntime) -> Result<(), Fail> {
     let alloc = rt.alloc();
-    let mut bytes = Vec::new(alloc);
-    for byte in 0u8..40 {
-        bytes.push(byte)?;
-    }
-    let mut draw = Draw::new(bytes);
+    let mut draw = draw(alloc)?;
     let text = new_key_file::<BenchSuite>(alloc, &mut draw)?;
-    assert!(rt; text.as_slice() == KEY_FILE);
-    assert!(rt; draw.left() == 8);
+    assert!(rt; text.as_slice() == KEY_FILE && draw.left() == 8);
     Ok(())
 }
 

@@ -5,10 +5,11 @@ use age::encrypted::Identity;
 use age::io::{BufReader, Bytes};
 use age::secrecy::SecretString;
 use age::streaming::{FileError, decrypt_all};
+use age::x25519::Recipient;
 use age::{EncryptError, scrypt};
 use age_standard::StandardSuite;
 use age_tool::callbacks::GivesOnce;
-use std::alloc::Global;
+use std::alloc::{AllocError, Global};
 use std::process::Abort;
 use std::test::Fail;
 
@@ -33,73 +34,109 @@ const LAST_LINE: &[u8] =
 // An identity in a text that is lent.
 type Protected<'a> = Identity<StandardSuite, ArmoredReader<BufReader<Bytes<'a>>>, GivesOnce>;
 
+// A secret of this text.
 fn secret(alloc: Global, text: &str) -> Result<SecretString, Fail> {
     Ok(SecretString::from(String::from_str(alloc, text)?))
 }
 
-fn identity<'a>(alloc: Global, text: &str) -> Result<Protected<'a>, Fail> {
+// The identity that the file protects, for one who gives this passphrase.
+fn identity<'a>(alloc: Global, passphrase: SecretString) -> Result<Protected<'a>, Fail> {
     let input = ArmoredReader::new(alloc, Bytes::new(FILE))?;
-    let callbacks = GivesOnce::new(Some(secret(alloc, text)?));
+    let callbacks = GivesOnce::new(Some(passphrase));
     match Identity::from_buffer(alloc, input, None, callbacks, 18, None)? {
         Some(identity) => Ok(identity),
         None => Err(Fail::from("the file isn't one of a passphrase")),
     }
 }
 
-// What the file is decrypted to.
-fn opened(alloc: Global, passphrase: SecretString, file: &[u8]) -> Result<Vec<u8>, FileError> {
-    let mut plain = Vec::new(alloc);
+// What comes of decrypting a file with a passphrase.
+fn decrypted(
+    alloc: Global,
+    passphrase: SecretString,
+    file: &[u8],
+    plain: &mut Vec<u8>,
+) -> Result<(), FileError> {
     let knows = scrypt::Identity::new(passphrase, 18);
     decrypt_all::<StandardSuite, scrypt::Identity<StandardSuite>, Bytes, Vec<u8>>(
         alloc,
         &mut [knows],
         &mut Bytes::new(file),
-        &mut plain,
-    )?;
-    Ok(plain)
+        plain,
+    )
+}
+
+// Whether a file is refused with this passphrase.
+fn is_refused(alloc: Global, passphrase: &str, file: &[u8]) -> Result<bool, Fail> {
+    let passphrase = secret(alloc, passphrase)?;
+    Ok(decrypted(alloc, passphrase, file, &mut Vec::new(alloc)).is_err())
 }
 
 #[test]
 fn passphrase_opens_it(rt: HostRuntime) -> Result<(), Fail> {
-    let plain = opened(rt.alloc(), secret(rt.alloc(), "foobar")?, FILE)?;
-    assert!(rt; plain.len() == 189);
-    assert!(rt; plain.as_slice().ends_with(LAST_LINE));
+    let passphrase = secret(rt.alloc(), "foobar")?;
+    let mut plain = Vec::new(rt.alloc());
+    assert!(rt; decrypted(rt.alloc(), passphrase, FILE, &mut plain).is_ok());
+    assert!(rt; plain.len() == 189 && plain.as_slice().ends_with(LAST_LINE));
     Ok(())
 }
 
 #[test]
 fn another_passphrase_does_not(rt: HostRuntime) -> Result<(), Fail> {
-    let another = secret(rt.alloc(), "foobaz")?;
-    assert!(rt; opened(rt.alloc(), another, FILE).is_err());
+    assert!(rt; is_refused(rt.alloc(), "foobaz", FILE)?);
     Ok(())
+}
+
+// The file with a bit of the byte changed that stands 40 places before its end.
+fn changed_file(alloc: Global) -> Result<Vec<u8>, Fail> {
+    let mut file = Vec::from_slice(alloc, FILE)?;
+    let place = file.len() - 40;
+    file[place] ^= 1;
+    Ok(file)
 }
 
 #[test]
 fn changed_file_is_refused(rt: HostRuntime) -> Result<(), Fail> {
-    let mut file = Vec::from_slice(rt.alloc(), FILE)?;
-    let place = file.len() - 40;
-    file[place] ^= 1;
-    let passphrase = secret(rt.alloc(), "foobar")?;
-    assert!(rt; opened(rt.alloc(), passphrase, &file).is_err());
+    let file = changed_file(rt.alloc())?;
+    assert!(rt; is_refused(rt.alloc(), "foobar", &file)?);
     Ok(())
+}
+
+// Whether the recipients are one alone, and this text is that of it.
+fn is_one(
+    alloc: Global,
+    recipients: &[Recipient<StandardSuite>],
+    text: &str,
+) -> Result<bool, AllocError> {
+    match recipients {
+        [recipient] => Ok(recipient.to_string(alloc)?.as_str() == text),
+        _ => Ok(false),
+    }
+}
+
+// The recipients of an identity.
+fn recipients(
+    alloc: Global,
+    mut identity: Protected,
+) -> Result<Vec<Recipient<StandardSuite>>, EncryptError> {
+    identity.recipients(alloc)
 }
 
 #[test]
 fn recipient_is_that_of_its_identity(rt: HostRuntime) -> Result<(), Fail> {
-    let mut identity = identity(rt.alloc(), "foobar")?;
-    let recipients = identity.recipients(rt.alloc())?;
-    assert!(rt; recipients.len() == 1);
-    for recipient in recipients {
-        let text = recipient.to_string(rt.alloc())?;
-        assert!(rt; text.as_str() == RECIPIENT);
-    }
+    let identity = identity(rt.alloc(), secret(rt.alloc(), "foobar")?)?;
+    let found = recipients(rt.alloc(), identity)?;
+    assert!(rt; is_one(rt.alloc(), &found, RECIPIENT)?);
     Ok(())
+}
+
+// Whether an encrypted file of identities didn't open.
+fn stayed_closed<T: Drop>(answer: Result<T, EncryptError>) -> bool {
+    matches!(answer, Err(EncryptError::EncryptedIdentities(_)))
 }
 
 #[test]
 fn its_identities_stay_closed(rt: HostRuntime) -> Result<(), Fail> {
-    let mut identity = identity(rt.alloc(), "foobaz")?;
-    let answer = identity.recipients(rt.alloc());
-    assert!(rt; matches!(answer, Err(EncryptError::EncryptedIdentities(_))));
+    let identity = identity(rt.alloc(), secret(rt.alloc(), "foobaz")?)?;
+    assert!(rt; stayed_closed(recipients(rt.alloc(), identity)));
     Ok(())
 }

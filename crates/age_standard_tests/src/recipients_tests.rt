@@ -14,24 +14,29 @@ const ZEROS: &str = "age1qqqqqqqqqqqqqqqqqqqqqqqqqqqqqqqqqqqqqqqqqqqqqqqqqqqq5cu
 
 const ONES: &str = "age1qyqszqgpqyqszqgpqyqszqgpqyqszqgpqyqszqgpqyqszqgpqyqs3290gq";
 
+// Whether a recipient is that of this text.
+fn is_that_of(recipient: &Recipient<BenchSuite>, text: &str) -> bool {
+    match Recipient::<BenchSuite>::from_str(text) {
+        Ok(other) => *recipient == other,
+        Err(_) => false,
+    }
+}
+
 // Whether a text names these recipients, each told by its text.
 fn names(alloc: Global, text: &[u8], wanted: &[&str]) -> Result<bool, Fail> {
     let found: Vec<Recipient<BenchSuite>> = recipients_of(alloc, text)?;
     let mut same = found.len() == wanted.len();
     for (recipient, text) in found.iter().zip(wanted) {
-        match Recipient::<BenchSuite>::from_str(text) {
-            Ok(other) => same &= *recipient == other,
-            Err(_) => same = false,
-        }
+        same &= is_that_of(recipient, text);
     }
     Ok(same)
 }
 
-// What a text is refused with.
-fn refusal(alloc: Global, text: &[u8]) -> Option<RecipientsError> {
+// Whether a text is refused so.
+fn is_refused(alloc: Global, text: &[u8], wanted: RecipientsError) -> bool {
     match recipients_of::<BenchSuite>(alloc, text) {
-        Ok(_) => None,
-        Err(error) => Some(error),
+        Ok(_) => false,
+        Err(error) => error == wanted,
     }
 }
 
@@ -43,13 +48,8 @@ fn one_line_is_one_recipient(rt: HostRuntime) -> Result<(), Fail> {
 
 #[test]
 fn lines_keep_their_order(rt: HostRuntime) -> Result<(), Fail> {
-    let alloc = rt.alloc();
-    let mut text = String::from_str(alloc, "# two of them\r\n\n")?;
-    text.push_str(ONES)?;
-    text.push_str("\r\n#\n")?;
-    text.push_str(ZEROS)?;
-    text.push('\n')?;
-    assert!(rt; names(alloc, text.as_bytes(), &[ONES, ZEROS])?);
+    let text = format!(in rt.alloc(); "# two of them\r\n\n{ONES}\r\n#\n{ZEROS}\n")?;
+    assert!(rt; names(rt.alloc(), text.as_bytes(), &[ONES, ZEROS])?);
     Ok(())
 }
 
@@ -60,32 +60,34 @@ fn text_may_be_in_upper_case(rt: HostRuntime) -> Result<(), Fail> {
     Ok(())
 }
 
+// Whether the third line is told as bad.
+fn third_is_bad(alloc: Global, text: &[u8]) -> bool {
+    is_refused(alloc, text, RecipientsError::NotRecipient { line: 3 })
+}
+
 #[test]
 fn first_bad_line_is_told(rt: HostRuntime) -> Result<(), Fail> {
     let alloc = rt.alloc();
-    let bad = Some(RecipientsError::NotRecipient { line: 3 });
-    assert!(rt; refusal(alloc, b"\n# no key\nage1x\nage1y\n") == bad);
-    assert!(rt; refusal(alloc, b"\n\n ") == bad);
-    let mut text = String::from_str(alloc, "\n#\r\n")?;
-    text.push_str(ZEROS)?;
-    text.push_str("\r\r\n")?;
-    assert!(rt; refusal(alloc, text.as_bytes()) == bad);
+    assert!(rt; third_is_bad(alloc, b"\n# no key\nage1x\nage1y\n"));
+    assert!(rt; third_is_bad(alloc, b"\n\n "));
+    let text = format!(in alloc; "\n#\r\n{ZEROS}\r\r\n")?;
+    assert!(rt; third_is_bad(alloc, text.as_bytes()));
     Ok(())
 }
 
 #[test]
 fn an_identity_is_no_recipient(rt: HostRuntime) {
     let text = b"AGE-SECRET-KEY-1QQQSYQCYQ5RQWZQFPG9SCRGWPUGPZYSNZS23V9CCRYDPK8QARC0SWRYDWG\n";
-    assert!(rt; refusal(rt.alloc(), text) == Some(RecipientsError::NotRecipient { line: 1 }));
+    assert!(rt; is_refused(rt.alloc(), text, RecipientsError::NotRecipient { line: 1 }));
 }
 
 #[test]
 fn nobody_is_no_recipient(rt: HostRuntime) {
-    assert!(rt; refusal(rt.alloc(), b"") == Some(RecipientsError::NoRecipient));
-    assert!(rt; refusal(rt.alloc(), b"# none\n\n") == Some(RecipientsError::NoRecipient));
+    assert!(rt; is_refused(rt.alloc(), b"", RecipientsError::NoRecipient));
+    assert!(rt; is_refused(rt.alloc(), b"# none\n\n", RecipientsError::NoRecipient));
 }
 
 #[test]
 fn other_bytes_are_no_text(rt: HostRuntime) {
-    assert!(rt; refusal(rt.alloc(), b"# \xe4\n") == Some(RecipientsError::NotText));
+    assert!(rt; is_refused(rt.alloc(), b"# \xe4\n", RecipientsError::NotText));
 }
