@@ -102,39 +102,38 @@ fn misses_plugin<I: age::Identity>(alloc: Global, identity: &mut I, stanzas: &[S
     is_missing_plugin(&identity.unwrap_stanzas(alloc, stanzas))
 }
 
-// Whether the key is found each time that it is asked for, under `foobar`.
-fn is_found_again(alloc: Global, counts: &mut Counts) -> Result<bool, Fail> {
-    let stanzas = own_stanzas(alloc)?;
-    let mut identity = key_identity(alloc, "foobar", counts)?;
-    Ok(
-        finds_in_each(alloc, &mut identity, stanzas.as_slice())
-            && finds(alloc, &mut identity, stanzas.as_slice()),
-    )
+// Whether the key is found each time that it is asked for, under `foobar`, which is asked for once.
+fn is_found_again(alloc: Global, stanzas: &[Stanza]) -> Result<bool, Fail> {
+    let mut counts = NEVER;
+    let mut identity = key_identity(alloc, "foobar", &mut counts)?;
+    let found = finds_in_each(alloc, &mut identity, stanzas)
+        && finds(alloc, &mut identity, stanzas);
+    drop(identity);
+    Ok(found && counted(&counts, 1, 0))
 }
 
 #[test]
 fn a_file_is_opened_once(rt: HostRuntime) -> Result<(), Fail> {
-    let mut counts = NEVER;
-    assert!(rt; is_found_again(rt.alloc(), &mut counts)?);
-    assert!(rt; counted(&counts, 1, 0));
+    let alloc = rt.alloc();
+    let stanzas = own_stanzas(alloc)?;
+    assert!(rt; is_found_again(alloc, stanzas.as_slice())?);
     Ok(())
 }
 
-// Whether others pass over twice what isn't for `K`.
-fn passes_twice(alloc: Global, counts: &mut Counts) -> Result<bool, Fail> {
-    let stanzas = other_stanzas(alloc)?;
-    let mut identity = key_identity(alloc, "foobar", counts)?;
-    Ok(
-        passes(alloc, &mut identity, stanzas.as_slice())
-            && passes(alloc, &mut identity, stanzas.as_slice()),
-    )
+// Whether stanzas are passed over twice, under `foobar`, which is asked for once, and it is shown once that no key matches.
+fn passes_twice(alloc: Global, stanzas: &[Stanza]) -> Result<bool, Fail> {
+    let mut counts = NEVER;
+    let mut identity = key_identity(alloc, "foobar", &mut counts)?;
+    let passed = passes(alloc, &mut identity, stanzas) && passes(alloc, &mut identity, stanzas);
+    drop(identity);
+    Ok(passed && counted(&counts, 1, 1))
 }
 
 #[test]
 fn a_user_is_told_once_that_no_key_matches(rt: HostRuntime) -> Result<(), Fail> {
-    let mut counts = NEVER;
-    assert!(rt; passes_twice(rt.alloc(), &mut counts)?);
-    assert!(rt; counted(&counts, 1, 1));
+    let alloc = rt.alloc();
+    let stanzas = other_stanzas(alloc)?;
+    assert!(rt; passes_twice(alloc, stanzas.as_slice())?);
     Ok(())
 }
 
@@ -151,49 +150,48 @@ fn is_that_of_k(alloc: Global, recipients: &[Recipient<BenchSuite>]) -> Result<b
     }
 }
 
-// The recipients of a file that is opened so, which passes over what isn't for `K` afterwards.
-fn recipients_before(
-    alloc: Global,
-    counts: &mut Counts,
-) -> Result<Vec<Recipient<BenchSuite>>, Fail> {
-    let stanzas = other_stanzas(alloc)?;
-    let mut identity = key_identity(alloc, "foobar", counts)?;
-    let recipients = identity.recipients(alloc)?;
-    if passes(alloc, &mut identity, stanzas.as_slice()) {
-        Ok(recipients)
-    } else {
-        Err(Fail::from("the stanzas of another are answered"))
-    }
+// What an identity answers whose recipients are asked for.
+type Recipients = Result<Vec<Recipient<BenchSuite>>, EncryptError>;
+
+// Whether they are the recipient of `K` alone.
+fn is_recipient(alloc: Global, answer: Recipients) -> Result<bool, Fail> {
+    is_that_of_k(alloc, answer?.as_slice())
+}
+
+// Whether the recipient of `K` is that of its file, which then passes over stanzas. The passphrase is asked for once, and nothing is shown.
+fn has_recipient(alloc: Global, stanzas: &[Stanza]) -> Result<bool, Fail> {
+    let mut counts = NEVER;
+    let mut identity = key_identity(alloc, "foobar", &mut counts)?;
+    let is_there = is_recipient(alloc, identity.recipients(alloc))?;
+    let passed = passes(alloc, &mut identity, stanzas);
+    drop(identity);
+    Ok(is_there && passed && counted(&counts, 1, 0))
 }
 
 #[test]
 fn nothing_is_shown_for_recipients(rt: HostRuntime) -> Result<(), Fail> {
     let alloc = rt.alloc();
-    let mut counts = NEVER;
-    let recipients = recipients_before(alloc, &mut counts)?;
-    assert!(rt; counted(&counts, 1, 0));
-    assert!(rt; is_that_of_k(alloc, recipients.as_slice())?);
+    let stanzas = other_stanzas(alloc)?;
+    assert!(rt; has_recipient(alloc, stanzas.as_slice())?);
     Ok(())
 }
 
-// Whether a file in armor that nobody has the passphrase of is closed twice.
-fn is_closed_twice(alloc: Global, counts: &mut Counts) -> Result<bool, Fail> {
-    let text = protected_by_nobody(alloc)?;
+// Whether a file in armor is closed twice to one who has no passphrase and is asked once.
+fn is_closed_twice(alloc: Global, text: Vec<u8>) -> Result<bool, Fail> {
     let reader: ArmoredReader<BufReader<Input>> = ArmoredReader::new(alloc, input_of(text))?;
-    let mut identity = identity_of(alloc, reader, None, counts)?;
-    Ok(stays_closed(alloc, &mut identity, &[]) && stays_closed(alloc, &mut identity, &[]))
+    let mut counts = NEVER;
+    let mut identity = identity_of(alloc, reader, None, &mut counts)?;
+    let closed = stays_closed(alloc, &mut identity, &[]) && stays_closed(alloc, &mut identity, &[]);
+    drop(identity);
+    Ok(closed && counted(&counts, 1, 0))
 }
 
 #[test]
 fn a_file_that_is_refused_stays_so(rt: HostRuntime) -> Result<(), Fail> {
-    let mut counts = NEVER;
-    assert!(rt; is_closed_twice(rt.alloc(), &mut counts)?);
-    assert!(rt; counted(&counts, 1, 0));
+    let alloc = rt.alloc();
+    assert!(rt; is_closed_twice(alloc, protected_by_nobody(alloc)?)?);
     Ok(())
 }
-
-// What an identity answers whose recipients are asked for.
-type Recipients = Result<Vec<Recipient<BenchSuite>>, EncryptError>;
 
 // Whether there are no recipients, since the file isn't to be opened.
 fn is_unopened(answer: &Recipients) -> bool {
@@ -208,23 +206,23 @@ fn is_for_nobody<R: Read + Drop>(alloc: Global, identity: &mut Opens<R>) -> bool
     is_unopened(&identity.recipients(alloc))
 }
 
-// Whether a file is closed to stanzas for `K`, and for nobody before and after, under `foobaz`.
-fn is_closed_for_good(alloc: Global, counts: &mut Counts) -> Result<bool, Fail> {
-    let stanzas = own_stanzas(alloc)?;
-    let mut identity = key_identity(alloc, "foobaz", counts)?;
-    Ok(
-        is_for_nobody(alloc, &mut identity)
-            && stays_closed(alloc, &mut identity, stanzas.as_slice())
-            && is_for_nobody(alloc, &mut identity),
-    )
+// Whether a file is closed to stanzas, and for nobody before and after, under `foobaz`, where one is asked once.
+fn is_closed_for_good(alloc: Global, stanzas: &[Stanza]) -> Result<bool, Fail> {
+    let mut counts = NEVER;
+    let mut identity = key_identity(alloc, "foobaz", &mut counts)?;
+    let closed = is_for_nobody(alloc, &mut identity)
+        && stays_closed(alloc, &mut identity, stanzas)
+        && is_for_nobody(alloc, &mut identity);
+    drop(identity);
+    Ok(closed && counted(&counts, 1, 0))
 }
 
 // The second time the passphrase would be the right one, but nobody asks for it.
 #[test]
 fn a_wrong_passphrase_is_the_last(rt: HostRuntime) -> Result<(), Fail> {
-    let mut counts = NEVER;
-    assert!(rt; is_closed_for_good(rt.alloc(), &mut counts)?);
-    assert!(rt; counted(&counts, 1, 0));
+    let alloc = rt.alloc();
+    let stanzas = own_stanzas(alloc)?;
+    assert!(rt; is_closed_for_good(alloc, stanzas.as_slice())?);
     Ok(())
 }
 
@@ -240,43 +238,50 @@ fn is_without_plugin(answer: &Recipients) -> bool {
     matches!(answer, Err(EncryptError::PluginResolve(_)))
 }
 
-// Whether the plugin of that file is missing for stanzas and for recipients.
-fn plugin_is_missing(alloc: Global, counts: &mut Counts) -> Result<bool, Fail> {
-    let stanzas = own_stanzas(alloc)?;
-    let input = input_of(plugin_and_key(alloc)?);
-    let mut identity = identity_of(alloc, input, Some("foobar"), counts)?;
-    Ok(
-        misses_plugin(alloc, &mut identity, stanzas.as_slice())
-            && is_without_plugin(&identity.recipients(alloc)),
-    )
+// The same of an identity.
+fn lacks_plugin<R: Read + Drop>(alloc: Global, identity: &mut Opens<R>) -> bool {
+    is_without_plugin(&identity.recipients(alloc))
+}
+
+// Whether a plugin of a file is missing for stanzas and for recipients, where one is asked once.
+fn plugin_is_missing(alloc: Global, input: Input, stanzas: &[Stanza]) -> Result<bool, Fail> {
+    let mut counts = NEVER;
+    let mut identity = identity_of(alloc, input, Some("foobar"), &mut counts)?;
+    let missing = misses_plugin(alloc, &mut identity, stanzas)
+        && lacks_plugin(alloc, &mut identity);
+    drop(identity);
+    Ok(missing && counted(&counts, 1, 0))
 }
 
 #[test]
 fn a_plugin_of_a_protected_file_is_missing(rt: HostRuntime) -> Result<(), Fail> {
-    let mut counts = NEVER;
-    assert!(rt; plugin_is_missing(rt.alloc(), &mut counts)?);
-    assert!(rt; counted(&counts, 1, 0));
+    let alloc = rt.alloc();
+    let stanzas = own_stanzas(alloc)?;
+    let input = input_of(plugin_and_key(alloc)?);
+    assert!(rt; plugin_is_missing(alloc, input, stanzas.as_slice())?);
     Ok(())
-}
-
-// Whether the message's file has no identity, since no passphrase is asked for.
-fn has_no_identity(alloc: Global, counts: &mut Counts) -> Result<bool, Fail> {
-    let callbacks = Knows {
-        passphrase: None,
-        question: QUESTION,
-        counts,
-    };
-    let input = input_of(message_file(alloc, b"")?);
-    let made: Option<Opens<Input>> = Identity::from_buffer(
-        alloc, input, None, callbacks, 18, None,
-    )?;
-    Ok(made.is_none())
 }
 
 #[test]
 fn a_file_of_no_passphrase_is_none(rt: HostRuntime) -> Result<(), Fail> {
+    let alloc = rt.alloc();
+    let bytes = message_file(alloc, b"")?;
     let mut counts = NEVER;
-    assert!(rt; has_no_identity(rt.alloc(), &mut counts)?);
+    let callbacks = Knows {
+        passphrase: None,
+        question: QUESTION,
+        counts: &mut counts,
+    };
+    let made: Option<Opens<Input>> = Identity::from_buffer(
+        alloc,
+        input_of(bytes),
+        None,
+        callbacks,
+        18,
+        None,
+    )?;
+    assert!(rt; made.is_none());
+    drop(made);
     assert!(rt; counted(&counts, 0, 0));
     Ok(())
 }
@@ -339,16 +344,19 @@ fn nameless<'a>(alloc: Global, counts: &'a mut Counts) -> Result<Opens<'a, Input
     )
 }
 
-// Whether that identity finds the key.
-fn nameless_finds(alloc: Global, counts: &mut Counts) -> Result<bool, Fail> {
-    let stanzas = own_stanzas(alloc)?;
-    Ok(finds(alloc, &mut nameless(alloc, counts)?, stanzas.as_slice()))
+// Whether that identity finds the key, and one is asked once.
+fn nameless_finds(alloc: Global, stanzas: &[Stanza]) -> Result<bool, Fail> {
+    let mut counts = NEVER;
+    let mut identity = nameless(alloc, &mut counts)?;
+    let found = finds(alloc, &mut identity, stanzas);
+    drop(identity);
+    Ok(found && counted(&counts, 1, 0))
 }
 
 #[test]
 fn a_file_without_a_name_is_asked_for(rt: HostRuntime) -> Result<(), Fail> {
-    let mut counts = NEVER;
-    assert!(rt; nameless_finds(rt.alloc(), &mut counts)?);
-    assert!(rt; counted(&counts, 1, 0));
+    let alloc = rt.alloc();
+    let stanzas = own_stanzas(alloc)?;
+    assert!(rt; nameless_finds(alloc, stanzas.as_slice())?);
     Ok(())
 }
