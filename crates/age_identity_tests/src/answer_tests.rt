@@ -1,16 +1,13 @@
 //! What the identities of a file answer to stanzas.
 
-use crate::fixtures::{K, is_key, is_missing_plugin, other, own, stanzas_for};
+use crate::fixtures::{File, K, is_key, is_missing_plugin, other_stanzas, own_stanzas};
+use age::format::Stanza;
 use age::io::Bytes;
-use age_bench::suite::BenchSuite;
 use age_identity::identity::answer_of;
-use age_identity::{IdentityFile, NoCallbacks};
 use std::alloc::Global;
 use std::test::Fail;
 
 const PLUGIN: &str = "AGE-PLUGIN-FOOBAR-1QVHULF";
-
-type File = IdentityFile<BenchSuite, NoCallbacks>;
 
 // A file of these lines.
 fn file_of(alloc: Global, first: &str, second: &str) -> Result<File, Fail> {
@@ -20,32 +17,50 @@ fn file_of(alloc: Global, first: &str, second: &str) -> Result<File, Fail> {
     Ok(File::from_buffer(alloc, Bytes::new(text.as_slice()))?)
 }
 
+// Whether a file answers the file key of sevens.
+fn gives_key(alloc: Global, file: &File, stanzas: &[Stanza]) -> bool {
+    is_key(&answer_of(alloc, file, stanzas))
+}
+
+// Whether a file answers that a plugin's program is missing.
+fn misses_plugin(alloc: Global, file: &File, stanzas: &[Stanza]) -> bool {
+    is_missing_plugin(&answer_of(alloc, file, stanzas))
+}
+
+// Whether a file answers nothing.
+fn passes(alloc: Global, file: &File, stanzas: &[Stanza]) -> bool {
+    answer_of(alloc, file, stanzas).is_none()
+}
+
 #[test]
 fn the_identity_of_a_stanza_answers(rt: HostRuntime) -> Result<(), Fail> {
     let alloc = rt.alloc();
-    let file = file_of(alloc, "# a comment", K)?;
-    let stanzas = stanzas_for(alloc, &own(alloc)?)?;
-    assert!(rt; is_key(&answer_of(alloc, &file, stanzas.as_slice())));
+    let stanzas = own_stanzas(alloc)?;
+    assert!(rt;
+        gives_key(
+            alloc,
+            &file_of(alloc, "# a comment", K)?,
+            stanzas.as_slice()
+        )
+    );
     Ok(())
 }
 
 #[test]
 fn others_answer_nothing(rt: HostRuntime) -> Result<(), Fail> {
     let alloc = rt.alloc();
+    let stanzas = other_stanzas(alloc)?;
     let file = file_of(alloc, K, "")?;
-    let stanzas = stanzas_for(alloc, &other(alloc)?)?;
-    assert!(rt; answer_of(alloc, &file, stanzas.as_slice()).is_none());
-    assert!(rt; answer_of(alloc, &file, &[]).is_none());
+    assert!(rt; passes(alloc, &file, stanzas.as_slice()));
+    assert!(rt; passes(alloc, &file, &[]));
     Ok(())
 }
 
 #[test]
 fn the_first_that_answers_decides(rt: HostRuntime) -> Result<(), Fail> {
     let alloc = rt.alloc();
-    let stanzas = stanzas_for(alloc, &own(alloc)?)?;
-    let file = file_of(alloc, K, PLUGIN)?;
-    assert!(rt; is_key(&answer_of(alloc, &file, stanzas.as_slice())));
-    let file = file_of(alloc, PLUGIN, K)?;
-    assert!(rt; is_missing_plugin(&answer_of(alloc, &file, stanzas.as_slice())));
+    let stanzas = own_stanzas(alloc)?;
+    assert!(rt; gives_key(alloc, &file_of(alloc, K, PLUGIN)?, stanzas.as_slice()));
+    assert!(rt; misses_plugin(alloc, &file_of(alloc, PLUGIN, K)?, stanzas.as_slice()));
     Ok(())
 }

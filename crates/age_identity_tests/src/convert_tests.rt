@@ -1,15 +1,19 @@
 //! What is made of identity files. The recipient of `K` under the bench suite was computed by a program of our own after BIP 173.
 
-use crate::line_tests::{File, K, text_of};
-use age_error::io::Error;
+use crate::fixtures::{File, count};
+use crate::line_tests::text_of;
+use age::io::Write;
+use age::x25519::Recipient;
+use age_bench::suite::BenchSuite;
+use age_error::EncryptError;
+use age_error::io::{Error, ErrorKind};
 use age_error::resolve::ResolveError;
-use age_error::{DecryptError, EncryptError};
 use age_identity::{IdentityFileConvertError, NoCallbacks};
 use age_io::{Bytes, Std};
+use age_try::answers::is_refusal;
 use age_try::fakes::{Script, Sink, Step};
 use std::alloc::Global;
 use std::io::ErrorKind as StdKind;
-use std::process::Abort;
 use std::test::Fail;
 
 const RECIPIENT_LINE: &[u8] = b"age1rfgm2376djkhc042ahllca4xeu6g5tqx8eya6wf4py2ddcjypgpquw0u5y\n";
@@ -31,16 +35,46 @@ fn lines(output: &[u8]) -> Option<usize> {
     None
 }
 
+// How many recipients are written of a file, and nothing else.
+fn written(alloc: Global, file: &File) -> Result<Option<usize>, Fail> {
+    let mut output = Vec::new(alloc);
+    file.write_recipients_file(alloc, &mut output)?;
+    Ok(lines(output.as_slice()))
+}
+
+// How many recipients a file has.
+fn recipients(alloc: Global, file: &File) -> Result<usize, Fail> {
+    Ok(file.to_recipients(alloc)?.len())
+}
+
 #[test]
 fn recipients_are_written(rt: HostRuntime) -> Result<(), Fail> {
     let alloc = rt.alloc();
     let file = file_of(alloc, b"@^#^@")?;
-    let mut output = Vec::new(alloc);
-    file.write_recipients_file(alloc, &mut output)?;
-    assert!(rt; lines(output.as_slice()) == Some(2));
-    let recipients = file.to_recipients(alloc)?;
-    assert!(rt; recipients.len() == 2);
+    assert!(rt; written(alloc, &file)? == Some(2));
+    assert!(rt; recipients(alloc, &file)? == 2);
     Ok(())
+}
+
+// What writing the recipients of a file answers.
+type Written = Result<(), IdentityFileConvertError>;
+
+// Whether nothing is written of a plugin `foobar` in a file without a name.
+fn names_plugin(answer: &Written) -> bool {
+    match answer {
+        Err(
+            IdentityFileConvertError::IdentityFileContainsPlugin {
+                filename,
+                plugin_name,
+            },
+        ) => filename.is_none() && plugin_name.as_str() == "foobar",
+        _ => false,
+    }
+}
+
+// Whether the recipients of a file are written up to that plugin.
+fn stops_at_plugin(alloc: Global, file: &File, output: &mut Vec<u8>) -> bool {
+    names_plugin(&file.write_recipients_file(alloc, output))
 }
 
 #[test]
@@ -48,36 +82,44 @@ fn recipients_are_written_up_to_a_plugin(rt: HostRuntime) -> Result<(), Fail> {
     let alloc = rt.alloc();
     let file = file_of(alloc, b"@^AGE-PLUGIN-FOOBAR-1QVHULF^@")?;
     let mut output = Vec::new(alloc);
-    let answer = file.write_recipients_file(alloc, &mut output);
-    match &answer {
-        Err(
-            IdentityFileConvertError::IdentityFileContainsPlugin {
-                filename,
-                plugin_name,
-            },
-        ) => {
-            assert!(rt; filename.is_none());
-            assert!(rt; plugin_name.as_str() == "foobar");
-        }
-        _ => return Err(Fail::from("another answer")),
-    }
+    assert!(rt; stops_at_plugin(alloc, &file, &mut output));
     assert!(rt; lines(output.as_slice()) == Some(1));
     Ok(())
+}
+
+// Whether a file without a name has no identities.
+fn is_empty(answer: &Written) -> bool {
+    match answer {
+        Err(IdentityFileConvertError::NoIdentities { filename }) => filename.is_none(),
+        _ => false,
+    }
+}
+
+// Whether no recipients are written since there are none.
+fn writes_none(alloc: Global, file: &File, output: &mut Vec<u8>) -> bool {
+    is_empty(&file.write_recipients_file(alloc, output)) && output.is_empty()
 }
 
 #[test]
 fn a_file_without_identities_has_no_recipients(rt: HostRuntime) -> Result<(), Fail> {
     let alloc = rt.alloc();
     let file = file_of(alloc, b"")?;
-    let mut output = Vec::new(alloc);
-    let answer = file.write_recipients_file(alloc, &mut output);
-    match &answer {
-        Err(IdentityFileConvertError::NoIdentities { filename }) => assert!(rt; filename.is_none()),
-        _ => return Err(Fail::from("another answer")),
-    }
-    assert!(rt; output.is_empty());
-    assert!(rt; file.to_recipients(alloc)?.len() == 0);
+    assert!(rt; writes_none(alloc, &file, &mut Vec::new(alloc)));
+    assert!(rt; recipients(alloc, &file)? == 0);
     Ok(())
+}
+
+// Whether the output refused so.
+fn is_fault(answer: &Written, fault: Error) -> bool {
+    match answer {
+        Err(IdentityFileConvertError::FailedToWriteOutput(error)) => *error == fault,
+        _ => false,
+    }
+}
+
+// Whether writing the recipients of a file to an output fails so.
+fn fails<W: Write>(alloc: Global, file: &File, output: &mut W, fault: Error) -> bool {
+    is_fault(&file.write_recipients_file(alloc, output), fault)
 }
 
 #[test]
@@ -92,69 +134,60 @@ fn a_fault_of_the_output_is_answered(rt: HostRuntime) -> Result<(), Fail> {
         },
         bytes: Vec::new(alloc),
     };
-    let answer = file.write_recipients_file(alloc, &mut Std::new(sink));
-    match &answer {
-        Err(IdentityFileConvertError::FailedToWriteOutput(e)) => {
-            assert!(rt; *e == Error::Device(age_error::io::ErrorKind::PermissionDenied));
-        }
-        _ => return Err(Fail::from("another answer")),
-    }
+    let fault = Error::Device(ErrorKind::PermissionDenied);
+    assert!(rt; fails(alloc, &file, &mut Std::new(sink), fault));
     Ok(())
 }
 
-// The program that is missing.
-fn missing(error: &ResolveError) -> &str {
-    match error {
-        ResolveError::MissingPlugin { binary_name } => binary_name.as_str(),
-        _ => "",
+// Whether recipients are refused since this program is missing.
+fn misses(answer: &Result<Vec<Recipient<BenchSuite>>, EncryptError>, program: &str) -> bool {
+    match answer {
+        Err(EncryptError::PluginResolve(ResolveError::MissingPlugin { binary_name })) => {
+            binary_name.as_str() == program
+        }
+        _ => false,
     }
 }
 
 #[test]
 fn plugins_are_missing(rt: HostRuntime) -> Result<(), Fail> {
     let alloc = rt.alloc();
-    let file = file_of(
-        alloc,
-        b"@^AGE-PLUGIN-ZETA-1CEJWHN^AGE-PLUGIN-ALPHA-13DM6UT^",
-    )?;
-    let file = file.with_callbacks(NoCallbacks);
-    let recipients = file.to_recipients(alloc);
-    match &recipients {
-        Err(EncryptError::PluginResolve(e)) => assert!(rt; missing(e) == "age-plugin-alpha"),
-        _ => return Err(Fail::from("another answer")),
-    }
-    let identities = file.into_identities(alloc);
-    match &identities {
-        Err(DecryptError::PluginResolve(e)) => assert!(rt; missing(e) == "age-plugin-zeta"),
-        _ => return Err(Fail::from("another answer")),
-    }
+    let form = b"@^AGE-PLUGIN-ZETA-1CEJWHN^AGE-PLUGIN-ALPHA-13DM6UT^";
+    let file = file_of(alloc, form)?.with_callbacks(NoCallbacks);
+    assert!(rt; misses(&file.to_recipients(alloc), "age-plugin-alpha"));
+    let refusal = "plugin not found: age-plugin-zeta";
+    assert!(rt; is_refusal(alloc, file.into_identities(alloc), refusal));
     Ok(())
 }
 
 #[test]
 fn identities_are_those_of_the_file(rt: HostRuntime) -> Result<(), Fail> {
     let alloc = rt.alloc();
-    let identities = file_of(alloc, b"@")?.into_identities(alloc)?;
-    assert!(rt; identities.len() == 1);
-    for identity in &identities {
-        assert!(rt; identity.to_string(alloc)?.expose_secret() == K);
-    }
+    assert!(rt; count(alloc, file_of(alloc, b"@")?)? == 1);
     Ok(())
+}
+
+// Whether an error has this text.
+fn says(alloc: Global, error: IdentityFileConvertError, text: &str) -> Result<bool, Fail> {
+    Ok(error.to_string(alloc)?.as_str() == text)
+}
+
+// The error of a plugin `foobar` in the file `keys.txt`.
+fn plugin_in_file(alloc: Global) -> Result<IdentityFileConvertError, Fail> {
+    Ok(IdentityFileConvertError::IdentityFileContainsPlugin {
+        filename: Some(String::from_str(alloc, "keys.txt")?),
+        plugin_name: String::from_str(alloc, "foobar")?,
+    })
 }
 
 #[test]
 fn errors_have_their_texts(rt: HostRuntime) -> Result<(), Fail> {
     let alloc = rt.alloc();
     let failed = IdentityFileConvertError::FailedToWriteOutput(Error::WriteZero);
-    assert!(rt; failed.to_string(alloc)?.as_str() == "failed to write output");
+    assert!(rt; says(alloc, failed, "failed to write output")?);
     let none = IdentityFileConvertError::NoIdentities { filename: None };
-    assert!(rt; none.to_string(alloc)?.as_str() == "no identities in file");
-    let plugin = IdentityFileConvertError::IdentityFileContainsPlugin {
-        filename: Some(String::from_str(alloc, "keys.txt")?),
-        plugin_name: String::from_str(alloc, "foobar")?,
-    };
-    assert!(rt;
-        plugin.to_string(alloc)?.as_str() == "identity file contains a plugin identity: foobar"
-    );
+    assert!(rt; says(alloc, none, "no identities in file")?);
+    let plugin = "identity file contains a plugin identity: foobar";
+    assert!(rt; says(alloc, plugin_in_file(alloc)?, plugin)?);
     Ok(())
 }

@@ -1,8 +1,9 @@
 //! Identity files on a disk.
 
-use crate::line_tests::{File, K};
+use crate::fixtures::{File, K, count};
 use age_error::io::{Error, ErrorKind};
 use age_identity::IdentityFileConvertError;
+use std::alloc::Global;
 use std::path::PathBuf;
 use std::test::Fail;
 use std::{env, fs, process};
@@ -14,54 +15,70 @@ fn path_of(rt: &HostRuntime, test: &str) -> Result<PathBuf, Fail> {
     Ok(env::temp_dir(rt)?.join(alloc, name.as_str())?)
 }
 
+// What reading a file of these bytes answers, which is there no more.
+fn read(rt: &HostRuntime, path: &PathBuf, bytes: &[u8]) -> Result<Result<File, Error>, Fail> {
+    fs::write(rt, path.as_path(), bytes)?;
+    let answer = read_there(rt, path)?;
+    fs::remove_file(rt, path.as_path())?;
+    Ok(answer)
+}
+
 // What reading the file of a name answers.
-fn read(rt: &HostRuntime, path: &PathBuf) -> Result<Result<File, Error>, Fail> {
+fn read_there(rt: &HostRuntime, path: &PathBuf) -> Result<Result<File, Error>, Fail> {
     let alloc = rt.alloc();
     let name = String::from_str(alloc, path.as_path().as_str())?;
     Ok(File::from_file(rt, alloc, name))
 }
 
+// `K` after a comment.
+fn key_after_comment(alloc: Global) -> Result<Vec<u8>, Fail> {
+    let mut text = Vec::from_slice(alloc, b"# a comment\n")?;
+    text.extend_from_slice(K.as_bytes())?;
+    Ok(text)
+}
+
 #[test]
 fn a_file_is_read(rt: HostRuntime) -> Result<(), Fail> {
     let alloc = rt.alloc();
-    let path = path_of(&rt, "read")?;
-    let mut text = Vec::from_slice(alloc, b"# a comment\n")?;
-    text.extend_from_slice(K.as_bytes())?;
-    fs::write(&rt, path.as_path(), text.as_slice())?;
-    let answer = read(&rt, &path)?;
-    fs::remove_file(&rt, path.as_path())?;
-    let identities = answer?.into_identities(alloc)?;
-    assert!(rt; identities.len() == 1);
-    for identity in identities.as_slice() {
-        assert!(rt; identity.to_string(alloc)?.expose_secret() == K);
-    }
+    let text = key_after_comment(alloc)?;
+    let file = read(&rt, &path_of(&rt, "read")?, text.as_slice())??;
+    assert!(rt; count(alloc, file)? == 1);
     Ok(())
+}
+
+// Whether writing the recipients of a file refuses since it has no identities, and names it so.
+fn is_named(answer: &Result<(), IdentityFileConvertError>, name: &str) -> bool {
+    match answer {
+        Err(
+            IdentityFileConvertError::NoIdentities {
+                filename: Some(filename),
+            },
+        ) => { filename.as_str() == name }
+        _ => false,
+    }
+}
+
+// Whether a file without identities has this name.
+fn keeps(alloc: Global, file: &File, name: &str) -> bool {
+    is_named(
+        &file.write_recipients_file(alloc, &mut Vec::new(alloc)),
+        name,
+    )
 }
 
 #[test]
 fn a_file_keeps_its_name(rt: HostRuntime) -> Result<(), Fail> {
     let alloc = rt.alloc();
     let path = path_of(&rt, "name")?;
-    fs::write(&rt, path.as_path(), b"")?;
-    let answer = read(&rt, &path)?;
-    fs::remove_file(&rt, path.as_path())?;
-    let mut output = Vec::new(alloc);
-    match answer?.write_recipients_file(alloc, &mut output) {
-        Err(IdentityFileConvertError::NoIdentities { filename }) => {
-            let name = filename.unwrap_or(String::new(alloc));
-            assert!(rt; name.as_str() == path.as_path().as_str());
-        }
-        _ => panic!(rt; "another answer"),
-    }
+    let file = read(&rt, &path, b"")??;
+    assert!(rt; keeps(alloc, &file, path.as_path().as_str()));
     Ok(())
 }
 
 #[test]
 fn a_bad_line_of_a_file_is_told(rt: HostRuntime) -> Result<(), Fail> {
     let path = path_of(&rt, "line")?;
-    fs::write(&rt, path.as_path(), b"# a comment\nno identity\n")?;
-    let answer = read(&rt, &path)?;
-    fs::remove_file(&rt, path.as_path())?;
+    let answer = read(&rt, &path, b"# a comment\nno identity\n")?;
     assert!(rt; answer.err() == Some(Error::NotIdentity { line: 2 }));
     Ok(())
 }
@@ -69,7 +86,7 @@ fn a_bad_line_of_a_file_is_told(rt: HostRuntime) -> Result<(), Fail> {
 #[test]
 fn a_file_that_is_not_there(rt: HostRuntime) -> Result<(), Fail> {
     let path = path_of(&rt, "missing")?;
-    let answer = read(&rt, &path)?;
+    let answer = read_there(&rt, &path)?;
     assert!(rt; answer.err() == Some(Error::Device(ErrorKind::NotFound)));
     Ok(())
 }

@@ -2,12 +2,12 @@
 
 use age::draw::Draw;
 use age::format::Stanza;
-use age::io::write_all;
+use age::io::{BufRead, Bytes, Error, Read, write_all};
 use age::secrecy::{FileKey, SecretString};
 use age::x25519::Identity;
 use age::{DecryptError, Encryptor, Recipient as _};
 use age_bench::suite::BenchSuite;
-use age_identity::Callbacks;
+use age_identity::{Callbacks, IdentityFile, NoCallbacks};
 use age_try::fixtures::{armored, plaintext};
 use std::alloc::{AllocError, Global};
 use std::str::FromStr;
@@ -16,8 +16,26 @@ use std::test::Fail;
 /// An identity that the crate `age` has in its own tests.
 pub const K: &str = "AGE-SECRET-KEY-1GQ9778VQXMMJVE8SK7J6VT8UJ4HDQAJUVSFCWCM02D8GEWQ72PVQ2Y5J33";
 
+/// A file of identities.
+pub type File = IdentityFile<BenchSuite, NoCallbacks>;
+
 /// What is asked of whoever knows the passphrase of a file of this name.
 pub const QUESTION: &str = "passphrase for encrypted identity key.age";
+
+/// How often one who knows a passphrase was asked, and how often it was shown that no key matches.
+#[derive(Clone, Copy)]
+pub struct Counts {
+    pub asked: u8,
+    pub shown: u8,
+}
+
+/// The counts at first.
+pub const NEVER: Counts = Counts { asked: 0, shown: 0 };
+
+/// Whether the counts are these.
+pub fn counted(counts: &Counts, asked: u8, shown: u8) -> bool {
+    counts.asked == asked && counts.shown == shown
+}
 
 /// One who gives a passphrase, if it has one, the first time that it is asked this question, and nothing else. It counts what is asked
 /// and what is shown.
@@ -25,8 +43,7 @@ pub const QUESTION: &str = "passphrase for encrypted identity key.age";
 pub struct Knows<'a> {
     pub passphrase: Option<SecretString>,
     pub question: &'static str,
-    pub asked: &'a mut u8,
-    pub shown: &'a mut u8,
+    pub counts: &'a mut Counts,
 }
 
 impl<'a> Callbacks for Knows<'a> {
@@ -42,7 +59,7 @@ impl<'a> Callbacks for Knows<'a> {
 
     fn display_message(&mut self, message: &str) {
         if message == "no key of the encrypted identity matches" {
-            *self.shown = self.shown.saturating_add(1);
+            self.counts.shown = self.counts.shown.saturating_add(1);
         }
     }
 
@@ -55,7 +72,7 @@ impl<'a> Callbacks for Knows<'a> {
     }
 
     fn request_passphrase(&mut self, description: &str) -> Option<SecretString> {
-        *self.asked = self.asked.saturating_add(1);
+        self.counts.asked = self.counts.asked.saturating_add(1);
         if description != self.question {
             return None;
         }
@@ -71,23 +88,25 @@ pub fn secret(alloc: Global, text: Option<&str>) -> Result<Option<SecretString>,
     }
 }
 
-/// A text under the passphrase `foobar` with the work factor 10.
-pub fn protected(alloc: Global, text: &[u8]) -> Result<Vec<u8>, Fail> {
+// What encrypts for the passphrase `foobar` with the work factor 10.
+fn encryptor(alloc: Global) -> Result<Encryptor<BenchSuite>, Fail> {
     let mut draw = Draw::new(plaintext(alloc, 72)?);
     let passphrase = SecretString::from(String::from_str(alloc, "foobar")?);
-    let encryptor: Encryptor<BenchSuite> = Encryptor::with_user_passphrase(
-        alloc, passphrase, 10, &mut draw,
-    )?;
-    let mut writer = encryptor.wrap_output(alloc, Vec::new(alloc))?;
+    Ok(Encryptor::with_user_passphrase(alloc, passphrase, 10, &mut draw)?)
+}
+
+/// A text under the passphrase `foobar` with the work factor 10.
+pub fn protected(alloc: Global, text: &[u8]) -> Result<Vec<u8>, Fail> {
+    let mut writer = encryptor(alloc)?.wrap_output(alloc, Vec::new(alloc))?;
     write_all(&mut writer, text)?;
     Ok(writer.finish()?)
 }
 
-/// `K` and LF.
-pub fn key_text(alloc: Global) -> Result<Vec<u8>, AllocError> {
+/// `K` and LF under that passphrase.
+pub fn protected_key(alloc: Global) -> Result<Vec<u8>, Fail> {
     let mut text = Vec::from_slice(alloc, K.as_bytes())?;
     text.push(b'\n')?;
-    Ok(text)
+    protected(alloc, text.as_slice())
 }
 
 // Its stanza has the work factor 10. Nobody knows the passphrase.
@@ -101,8 +120,13 @@ pub fn protected_by_nobody(alloc: Global) -> Result<Vec<u8>, Fail> {
     Ok(armored(alloc, bytes.as_slice())?)
 }
 
-/// Stanzas of a file key of sevens for the recipient of an identity.
-pub fn stanzas_for(alloc: Global, identity: &Identity<BenchSuite>) -> Result<Vec<Stanza>, Fail> {
+/// Whether a text is refused so as a file.
+pub fn refuses_file(alloc: Global, text: &[u8], error: Error) -> bool {
+    File::from_buffer(alloc, Bytes::new(text)).err() == Some(error)
+}
+
+// Stanzas of a file key of sevens for the recipient of an identity.
+fn stanzas_for(alloc: Global, identity: &Identity<BenchSuite>) -> Result<Vec<Stanza>, Fail> {
     let mut draw = Draw::new(Vec::from_slice(alloc, &[9; 32])?);
     let file_key = FileKey::new([7; 16]);
     let (stanzas, _labels) = identity
@@ -111,25 +135,44 @@ pub fn stanzas_for(alloc: Global, identity: &Identity<BenchSuite>) -> Result<Vec
     Ok(stanzas)
 }
 
-/// The identity of `K`.
-pub fn own(alloc: Global) -> Result<Identity<BenchSuite>, Fail> {
+/// Those for the recipient of `K`.
+pub fn own_stanzas(alloc: Global) -> Result<Vec<Stanza>, Fail> {
     match Identity::from_str(K) {
-        Ok(identity) => Ok(identity),
+        Ok(identity) => stanzas_for(alloc, &identity),
         Err(text) => Err(Fail::from(text)),
     }
 }
 
-/// The identity of a secret of ones.
-pub fn other(alloc: Global) -> Result<Identity<BenchSuite>, Fail> {
+/// Those for the recipient of a secret of ones.
+pub fn other_stanzas(alloc: Global) -> Result<Vec<Stanza>, Fail> {
     let mut draw = Draw::new(Vec::from_slice(alloc, &[1; 32])?);
     match Identity::generate(&mut draw) {
-        Some(identity) => Ok(identity),
+        Some(identity) => stanzas_for(alloc, &identity),
         None => Err(Fail::from("too few random bytes")),
     }
 }
 
+// Whether an identity prints `K`.
+fn prints_k(alloc: Global, identity: &Identity<BenchSuite>) -> Result<bool, Fail> {
+    Ok(identity.to_string(alloc)?.expose_secret() == K)
+}
+
+/// How many identities a file has, each of which prints `K`.
+pub fn count<C: Drop>(alloc: Global, file: IdentityFile<BenchSuite, C>) -> Result<usize, Fail> {
+    let identities = file.into_identities(alloc)?;
+    for identity in identities.as_slice() {
+        if !prints_k(alloc, identity)? {
+            return Err(Fail::from("another identity"));
+        }
+    }
+    Ok(identities.len())
+}
+
+/// What an identity answers to stanzas.
+pub type Answer = Option<Result<FileKey, DecryptError>>;
+
 /// Whether an answer is the file key of sevens.
-pub fn is_key(answer: &Option<Result<FileKey, DecryptError>>) -> bool {
+pub fn is_key(answer: &Answer) -> bool {
     match answer {
         Some(Ok(file_key)) => file_key.expose_secret() == &[7; 16],
         _ => false,
@@ -137,11 +180,32 @@ pub fn is_key(answer: &Option<Result<FileKey, DecryptError>>) -> bool {
 }
 
 /// Whether an answer is that the file isn't opened by what was given.
-pub fn is_closed(answer: &Option<Result<FileKey, DecryptError>>) -> bool {
+pub fn is_closed(answer: &Answer) -> bool {
     matches!(answer, Some(Err(DecryptError::KeyDecryptionFailed)))
 }
 
 /// Whether an answer is that a plugin's program is missing.
-pub fn is_missing_plugin(answer: &Option<Result<FileKey, DecryptError>>) -> bool {
+pub fn is_missing_plugin(answer: &Answer) -> bool {
     matches!(answer, Some(Err(DecryptError::PluginResolve(_))))
+}
+
+/// Whether a read into some room answers this.
+pub fn reads<R: Read>(reader: &mut R, room: &mut [u8], answer: Result<usize, Error>) -> bool {
+    reader.read(room) == answer
+}
+
+/// Whether a reader that shows refuses with this.
+pub fn refuses<R: BufRead>(reader: &mut R, error: Error) -> bool {
+    match reader.fill_buf() {
+        Ok(_) => false,
+        Err(refusal) => refusal == error,
+    }
+}
+
+/// Whether a reader shows these bytes.
+pub fn shows<R: BufRead>(reader: &mut R, bytes: &[u8]) -> bool {
+    match reader.fill_buf() {
+        Ok(front) => front == bytes,
+        Err(_) => false,
+    }
 }

@@ -1,150 +1,139 @@
 //! Texts within a limit and past it.
 
+use crate::fixtures::{reads, refuses, shows};
 use age_error::io::{Error, ErrorKind};
 use age_identity::util::LimitedReader;
 use age_io::{BufRead, Bytes, Read, Std};
 use age_try::fakes::{Script, Source, Step};
-use std::alloc::Global;
 use std::io;
-use std::process::Abort;
 use std::test::Fail;
 
-// Reads on by at most `size` bytes in a call, until the end or a refusal.
-fn read_on<R: Read>(
-    alloc: Global,
+// Whether a reader gives these bytes, by at most 20 reads into some room, and then answers so.
+fn gives<R: Read>(
     reader: &mut R,
-    size: usize,
-    all: &mut Vec<u8>,
-) -> Result<Option<Error>, Fail> {
-    let mut room = vec![in alloc; 0; size]?;
+    room: &mut [u8],
+    given: &[u8],
+    end: Result<usize, Error>,
+) -> bool {
+    let mut rest = given;
     for _call in 0..20 {
-        match reader.read(&mut room) {
-            Ok(0) => return Ok(None),
-            Ok(count) => all.extend_from_slice(&room[..count])?,
-            Err(error) => return Ok(Some(error)),
+        match reader.read(room) {
+            Ok(0) => return rest.is_empty() && end == Ok(0),
+            Ok(count) => match rest.strip_prefix(&room[..count]) {
+                Some(tail) => rest = tail,
+                None => return false,
+            },
+            Err(error) => return rest.is_empty() && end == Err(error),
         }
     }
-    Err(Fail::from("no end"))
+    false
 }
 
-// Takes on what is shown, at most `most` bytes of it in a call.
-fn take_on<R: BufRead>(
+// Whether a reader shows these bytes, of which at most `most` are taken on in a call, and then answers so.
+fn shows_on<R: BufRead>(
     reader: &mut R,
     most: usize,
-    all: &mut Vec<u8>,
-) -> Result<Option<Error>, Fail> {
+    given: &[u8],
+    end: Result<usize, Error>,
+) -> bool {
+    let mut rest = given;
     for _call in 0..20 {
         let amount = match reader.fill_buf() {
-            Ok([]) => return Ok(None),
+            Ok([]) => return rest.is_empty() && end == Ok(0),
             Ok(front) => {
                 let amount = front.len().min(most);
-                all.extend_from_slice(&front[..amount])?;
+                match rest.strip_prefix(&front[..amount]) {
+                    Some(tail) => rest = tail,
+                    None => return false,
+                }
                 amount
             }
-            Err(error) => return Ok(Some(error)),
+            Err(error) => return rest.is_empty() && end == Err(error),
         };
         reader.consume(amount);
     }
-    Err(Fail::from("no end"))
+    false
 }
 
-// Of this text a reader with this limit gives these bytes, and then ends, or says that there are more.
-fn gives(
-    rt: &impl Abort,
-    alloc: Global,
-    text: &[u8],
-    limit: usize,
-    given: &[u8],
-    end: Option<Error>,
-) -> Result<(), Fail> {
-    for size in [1, 2, 10] {
-        let mut all = Vec::new(alloc);
-        let mut reader = LimitedReader::new(Bytes::new(text), limit);
-        let ended = read_on(alloc, &mut reader, size, &mut all)?;
-        assert!(rt; all.as_slice() == given);
-        assert!(rt; ended == end);
-    }
-    Ok(())
+// A reader of a text with this limit.
+fn limited<'a>(text: &'a [u8], limit: usize) -> LimitedReader<Bytes<'a>> {
+    LimitedReader::new(Bytes::new(text), limit)
 }
 
-// It shows them too.
-fn shows(
-    rt: &impl Abort,
-    alloc: Global,
-    text: &[u8],
-    limit: usize,
-    given: &[u8],
-    end: Option<Error>,
-) -> Result<(), Fail> {
+// Whether of this text a reader with this limit gives these bytes, by 1, 2 or 10 in a read, and then answers so.
+fn is_given(text: &[u8], limit: usize, given: &[u8], end: Result<usize, Error>) -> bool {
+    gives(&mut limited(text, limit), &mut [0; 1], given, end)
+        && gives(&mut limited(text, limit), &mut [0; 2], given, end)
+        && gives(&mut limited(text, limit), &mut [0; 10], given, end)
+}
+
+// Whether it shows them too.
+fn is_shown(text: &[u8], limit: usize, given: &[u8], end: Result<usize, Error>) -> bool {
     for most in [1, 2, 10] {
-        let mut all = Vec::new(alloc);
-        let mut reader = LimitedReader::new(Bytes::new(text), limit);
-        let ended = take_on(&mut reader, most, &mut all)?;
-        assert!(rt; all.as_slice() == given);
-        assert!(rt; ended == end);
+        if !shows_on(&mut limited(text, limit), most, given, end) {
+            return false;
+        }
     }
-    Ok(())
+    true
 }
 
 #[test]
 fn a_text_within_its_limit_ends(rt: HostRuntime) -> Result<(), Fail> {
-    let alloc = rt.alloc();
     for (text, limit) in [
-        (b"".as_slice(), 0),
-        (b"".as_slice(), 5),
-        (b"abc".as_slice(), 3),
-        (b"abc".as_slice(), 4),
-        (b"abc".as_slice(), usize::MAX),
+        ("", 0),
+        ("", 5),
+        ("abc", 3),
+        ("abc", 4),
+        ("abc", usize::MAX),
     ] {
-        gives(&rt, alloc, text, limit, text, None)?;
-        shows(&rt, alloc, text, limit, text, None)?;
+        let bytes = text.as_bytes();
+        assert!(rt;
+            is_given(bytes, limit, bytes, Ok(0)),
+            "{text} within {limit}"
+        );
+        assert!(rt;
+            is_shown(bytes, limit, bytes, Ok(0)),
+            "{text} within {limit}"
+        );
     }
     Ok(())
 }
 
 #[test]
 fn a_longer_text_is_cut_and_refused(rt: HostRuntime) -> Result<(), Fail> {
-    let alloc = rt.alloc();
-    for (limit, given) in [
-        (0, b"".as_slice()),
-        (1, b"a".as_slice()),
-        (2, b"ab".as_slice()),
-    ] {
-        gives(&rt, alloc, b"abc", limit, given, Some(Error::LimitExceeded))?;
-        shows(&rt, alloc, b"abc", limit, given, Some(Error::LimitExceeded))?;
+    let refusal = Err(Error::LimitExceeded);
+    for (limit, given) in [(0, ""), (1, "a"), (2, "ab")] {
+        assert!(rt;
+            is_given(b"abc", limit, given.as_bytes(), refusal),
+            "within {limit}"
+        );
+        assert!(rt;
+            is_shown(b"abc", limit, given.as_bytes(), refusal),
+            "within {limit}"
+        );
     }
     Ok(())
 }
 
-// Whether it refuses to show anything, so.
-fn refuses<R: BufRead>(reader: &mut R, expected: Error) -> bool {
-    match reader.fill_buf() {
-        Ok(_) => false,
-        Err(error) => error == expected,
-    }
-}
-
-// The byte that was one too many was taken from the inner reader, and no other.
-fn stands_behind(rt: &impl Abort, inner: &mut Bytes, expected: &[u8]) {
-    match inner.fill_buf() {
-        Ok(front) => assert!(rt; front == expected),
-        Err(_) => panic!(rt; "refused"),
-    }
+// Whether a reader with a limit refuses for good, to each who reads and to each who looks.
+fn refuses_for_good<R: BufRead>(reader: &mut R) -> bool {
+    let refusal = Err(Error::LimitExceeded);
+    let mut room = [0; 4];
+    reads(reader, &mut room, refusal)
+        && reads(reader, &mut room, refusal)
+        && reads(reader, &mut [], refusal)
+        && refuses(reader, Error::LimitExceeded)
 }
 
 #[test]
 fn a_limit_is_exceeded_for_good(rt: HostRuntime) -> Result<(), Fail> {
     let mut inner = Bytes::new(b"abcdef");
     let mut reader = LimitedReader::new(&mut inner, 2);
-    let mut room = [0; 4];
-    assert!(rt; reader.read(&mut room) == Ok(2));
-    assert!(rt; reader.read(&mut []) == Ok(0));
-    assert!(rt; reader.read(&mut room) == Err(Error::LimitExceeded));
-    assert!(rt; reader.read(&mut room) == Err(Error::LimitExceeded));
-    assert!(rt; reader.read(&mut []) == Err(Error::LimitExceeded));
-    assert!(rt; refuses(&mut reader, Error::LimitExceeded));
+    assert!(rt; reads(&mut reader, &mut [0; 4], Ok(2)) && reads(&mut reader, &mut [], Ok(0)));
+    assert!(rt; refuses_for_good(&mut reader));
     drop(reader);
-    stands_behind(&rt, &mut inner, b"def");
+    // The byte that was one too many was taken from the inner reader, and no other.
+    assert!(rt; shows(&mut inner, b"def"));
     Ok(())
 }
 
@@ -154,9 +143,9 @@ fn a_limit_is_exceeded_for_good_by_what_is_shown(rt: HostRuntime) -> Result<(), 
     let mut reader = LimitedReader::new(&mut inner, 0);
     assert!(rt; refuses(&mut reader, Error::LimitExceeded));
     assert!(rt; refuses(&mut reader, Error::LimitExceeded));
-    assert!(rt; reader.read(&mut []) == Err(Error::LimitExceeded));
+    assert!(rt; reads(&mut reader, &mut [], Err(Error::LimitExceeded)));
     drop(reader);
-    stands_behind(&rt, &mut inner, b"bcdef");
+    assert!(rt; shows(&mut inner, b"bcdef"));
     Ok(())
 }
 
@@ -170,15 +159,21 @@ fn interrupted<'a>(steps: &'a [Step]) -> Std<Source<'a>> {
 
 const STEPS: [Step; 2] = [Step::Move(2), Step::Fail(io::ErrorKind::Interrupted)];
 
+const INTERRUPTED: Error = Error::Device(ErrorKind::Interrupted);
+
 #[test]
 fn an_interruption_is_passed_on(rt: HostRuntime) -> Result<(), Fail> {
     let mut reader = LimitedReader::new(interrupted(&STEPS), 5);
     let mut room = [0; 4];
-    assert!(rt; reader.read(&mut room) == Ok(2));
-    assert!(rt; reader.read(&mut room) == Err(Error::Device(ErrorKind::Interrupted)));
-    assert!(rt; reader.read(&mut room) == Ok(2));
-    assert!(rt; reader.read(&mut room) == Ok(1));
-    assert!(rt; reader.read(&mut room) == Err(Error::LimitExceeded));
+    for (number, answer) in [
+        (1, Ok(2)),
+        (2, Err(INTERRUPTED)),
+        (3, Ok(2)),
+        (4, Ok(1)),
+        (5, Err(Error::LimitExceeded)),
+    ] {
+        assert!(rt; reads(&mut reader, &mut room, answer), "read {number}");
+    }
     Ok(())
 }
 
@@ -187,9 +182,9 @@ fn an_interruption_is_passed_on(rt: HostRuntime) -> Result<(), Fail> {
 fn an_interruption_at_the_limit_exceeds_nothing(rt: HostRuntime) -> Result<(), Fail> {
     let mut reader = LimitedReader::new(interrupted(&STEPS), 2);
     let mut room = [0; 4];
-    assert!(rt; reader.read(&mut room) == Ok(2));
-    assert!(rt; reader.read(&mut room) == Err(Error::Device(ErrorKind::Interrupted)));
-    assert!(rt; reader.read(&mut []) == Ok(0));
-    assert!(rt; reader.read(&mut room) == Err(Error::LimitExceeded));
+    assert!(rt; reads(&mut reader, &mut room, Ok(2)));
+    assert!(rt; reads(&mut reader, &mut room, Err(INTERRUPTED)));
+    assert!(rt; reads(&mut reader, &mut [], Ok(0)));
+    assert!(rt; reads(&mut reader, &mut room, Err(Error::LimitExceeded)));
     Ok(())
 }

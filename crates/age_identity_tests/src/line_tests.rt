@@ -1,69 +1,54 @@
 //! The lines of identity files. `K` is the identity that the crate `age` has in its own tests.
 
-use age_bench::suite::BenchSuite;
+use crate::fixtures::{File, K, count, refuses_file};
 use age_error::io::Error;
-use age_identity::{IdentityFile, NoCallbacks};
 use age_io::Bytes;
 use std::alloc::Global;
-use std::process::Abort;
 use std::test::Fail;
 
-pub const K: &str = "AGE-SECRET-KEY-1GQ9778VQXMMJVE8SK7J6VT8UJ4HDQAJUVSFCWCM02D8GEWQ72PVQ2Y5J33";
-
-pub type File = IdentityFile<BenchSuite, NoCallbacks>;
-
-// Parts of a text, where `@` stands for `K` and `^` for the end of a line.
+/// Parts of a text, where `@` stands for `K` and `^` for the end of a line.
 pub fn text_of(alloc: Global, form: &[u8], end: &[u8]) -> Result<Vec<u8>, Fail> {
     let mut text = Vec::new(alloc);
     for byte in form {
-        match *byte {
-            b'@' => text.extend_from_slice(K.as_bytes())?,
-            b'^' => text.extend_from_slice(end)?,
-            other => text.push(other)?,
-        }
+        let part = match *byte {
+            b'@' => K.as_bytes(),
+            b'^' => end,
+            _ => std::slice::from_ref(byte),
+        };
+        text.extend_from_slice(part)?;
     }
     Ok(text)
 }
 
-// A text is a file of so many native identities, the first of which prints `K`.
-fn holds(
-    rt: &impl Abort,
-    alloc: Global,
-    form: &[u8],
-    end: &[u8],
-    count: usize,
-) -> Result<(), Fail> {
-    let text = text_of(alloc, form, end)?;
+// Whether a text is a file of so many native identities, each of which prints `K`.
+fn holds(alloc: Global, form: &str, end: &str, expected: usize) -> Result<bool, Fail> {
+    let text = text_of(alloc, form.as_bytes(), end.as_bytes())?;
     let file = File::from_buffer(alloc, Bytes::new(text.as_slice()))?;
-    let identities = file.into_identities(alloc)?;
-    assert!(rt; identities.len() == count);
-    if let Some(identity) = identities.first() {
-        assert!(rt; identity.to_string(alloc)?.expose_secret() == K);
-    }
-    Ok(())
+    Ok(count(alloc, file)? == expected)
 }
 
-// A text is refused at its line of this number.
-fn bad(rt: &impl Abort, alloc: Global, form: &[u8], end: &[u8], line: usize) -> Result<(), Fail> {
-    let text = text_of(alloc, form, end)?;
-    let answer = File::from_buffer(alloc, Bytes::new(text.as_slice()));
-    assert!(rt; answer.err() == Some(Error::NotIdentity { line }));
-    Ok(())
+// Whether a text is refused at its line of this number.
+fn is_bad(alloc: Global, form: &[u8], end: &str, line: usize) -> Result<bool, Fail> {
+    let text = text_of(alloc, form, end.as_bytes())?;
+    Ok(refuses_file(alloc, text.as_slice(), Error::NotIdentity { line }))
 }
 
 #[test]
 fn lines_that_are_good(rt: HostRuntime) -> Result<(), Fail> {
     let alloc = rt.alloc();
-    for end in [b"\n".as_slice(), b"\r\n".as_slice()] {
-        holds(&rt, alloc, b"@", end, 1)?;
-        holds(&rt, alloc, b"@^", end, 1)?;
-        holds(&rt, alloc, b"@^@", end, 2)?;
-        holds(&rt, alloc, b"# Foo bar baz^@", end, 1)?;
-        holds(&rt, alloc, b"@^# Foo bar baz", end, 1)?;
-        holds(&rt, alloc, b"^^@", end, 1)?;
-        holds(&rt, alloc, b"", end, 0)?;
-        holds(&rt, alloc, b"#^#", end, 0)?;
-        holds(&rt, alloc, "# \u{e9}\u{20ac}\u{1d11e}^@".as_bytes(), end, 1)?;
+    for (form, expected) in [
+        ("@", 1),
+        ("@^", 1),
+        ("@^@", 2),
+        ("# Foo bar baz^@", 1),
+        ("@^# Foo bar baz", 1),
+        ("^^@", 1),
+        ("", 0),
+        ("#^#", 0),
+        ("# \u{e9}\u{20ac}\u{1d11e}^@", 1),
+    ] {
+        assert!(rt; holds(alloc, form, "\n", expected)?, "{form}");
+        assert!(rt; holds(alloc, form, "\r\n", expected)?, "{form}");
     }
     Ok(())
 }
@@ -71,12 +56,15 @@ fn lines_that_are_good(rt: HostRuntime) -> Result<(), Fail> {
 #[test]
 fn lines_that_are_bad(rt: HostRuntime) -> Result<(), Fail> {
     let alloc = rt.alloc();
-    for end in [b"\n".as_slice(), b"\r\n".as_slice()] {
-        bad(&rt, alloc, b"AGE-", end, 1)?;
-        bad(&rt, alloc, b"@^AGE-^@", end, 2)?;
-        bad(&rt, alloc, b"^#^ @^AGE-^", end, 3)?;
-        bad(&rt, alloc, b"@@", end, 1)?;
-        bad(&rt, alloc, b"@^@ ^", end, 2)?;
+    for (form, line) in [
+        ("AGE-", 1),
+        ("@^AGE-^@", 2),
+        ("^#^ @^AGE-^", 3),
+        ("@@", 1),
+        ("@^@ ^", 2),
+    ] {
+        assert!(rt; is_bad(alloc, form.as_bytes(), "\n", line)?, "{form}");
+        assert!(rt; is_bad(alloc, form.as_bytes(), "\r\n", line)?, "{form}");
     }
     Ok(())
 }
@@ -84,23 +72,26 @@ fn lines_that_are_bad(rt: HostRuntime) -> Result<(), Fail> {
 #[test]
 fn ends_of_lines_are_taken_off_once(rt: HostRuntime) -> Result<(), Fail> {
     let alloc = rt.alloc();
-    bad(&rt, alloc, b"@\r", b"\n", 1)?;
-    bad(&rt, alloc, b"@\r\r\n", b"\n", 1)?;
-    bad(&rt, alloc, b"\r", b"\n", 1)?;
-    bad(&rt, alloc, b"@\n\r", b"\n", 2)?;
-    holds(&rt, alloc, b"\r\n@", b"\n", 1)?;
-    holds(&rt, alloc, b"#\r", b"\n", 0)?;
+    for (form, line) in [("@\r", 1), ("@\r\r\n", 1), ("\r", 1), ("@\n\r", 2)] {
+        assert!(rt; is_bad(alloc, form.as_bytes(), "\n", line)?, "{form}");
+    }
+    assert!(rt; holds(alloc, "\r\n@", "\n", 1)?);
+    assert!(rt; holds(alloc, "#\r", "\n", 0)?);
     Ok(())
 }
 
 #[test]
 fn lines_that_are_no_text_are_bad(rt: HostRuntime) -> Result<(), Fail> {
     let alloc = rt.alloc();
-    bad(&rt, alloc, b"@^# \xff^AGE-", b"\n", 2)?;
-    bad(&rt, alloc, b"# \xe2\x82", b"\n", 1)?;
-    bad(&rt, alloc, b"# \xe2\x82^", b"\n", 1)?;
-    bad(&rt, alloc, b"# \xe2\x82\xacx\xed\xa0\x80^", b"\n", 1)?;
-    bad(&rt, alloc, b"#\xf4\x90\x80\x80\x80 more^", b"\n", 1)?;
-    bad(&rt, alloc, b"\xff", b"\n", 1)?;
+    assert!(rt; is_bad(alloc, b"@^# \xff^AGE-", "\n", 2)?);
+    for form in [
+        b"# \xe2\x82".as_slice(),
+        b"# \xe2\x82^",
+        b"# \xe2\x82\xacx\xed\xa0\x80^",
+        b"#\xf4\x90\x80\x80\x80 more^",
+        b"\xff",
+    ] {
+        assert!(rt; is_bad(alloc, form, "\n", 1)?, "{form:?}");
+    }
     Ok(())
 }

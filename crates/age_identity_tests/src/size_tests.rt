@@ -1,8 +1,8 @@
 //! The limit of identity files.
 
-use crate::line_tests::{File, K};
+use crate::fixtures::{File, K, refuses_file};
 use age_error::io::{Error, ErrorKind};
-use age_io::{BufReader, Bytes, Std};
+use age_io::{BufRead, BufReader, Bytes, Std};
 use age_try::fakes::{Script, Source, Step};
 use std::alloc::Global;
 use std::io::ErrorKind as StdKind;
@@ -27,17 +27,24 @@ fn long_text(alloc: Global, first: &[u8], size: usize) -> Result<Vec<u8>, Fail> 
 fn a_file_may_have_so_many_bytes(rt: HostRuntime) -> Result<(), Fail> {
     let alloc = rt.alloc();
     let text = long_text(alloc, K.as_bytes(), LIMIT)?;
-    let file = File::from_buffer(alloc, Bytes::new(text.as_slice()))?;
-    assert!(rt; file.into_identities(alloc)?.len() == 1);
+    assert!(rt; identities(alloc, Bytes::new(text.as_slice()))? == 1);
     Ok(())
+}
+
+// How many identities a reader has.
+fn identities<R: BufRead + Drop>(alloc: Global, reader: R) -> Result<usize, Fail> {
+    Ok(
+        File::from_buffer(alloc, reader)?
+            .into_identities(alloc)?
+            .len(),
+    )
 }
 
 #[test]
 fn a_file_may_have_no_more(rt: HostRuntime) -> Result<(), Fail> {
     let alloc = rt.alloc();
     let text = long_text(alloc, K.as_bytes(), LIMIT + 1)?;
-    let answer = File::from_buffer(alloc, Bytes::new(text.as_slice()));
-    assert!(rt; answer.err() == Some(Error::LimitExceeded));
+    assert!(rt; refuses_file(alloc, text.as_slice(), Error::LimitExceeded));
     Ok(())
 }
 
@@ -45,59 +52,64 @@ fn a_file_may_have_no_more(rt: HostRuntime) -> Result<(), Fail> {
 fn a_bad_line_comes_before_the_limit(rt: HostRuntime) -> Result<(), Fail> {
     let alloc = rt.alloc();
     let text = long_text(alloc, b"AGE-", LIMIT + 1)?;
-    let answer = File::from_buffer(alloc, Bytes::new(text.as_slice()));
-    assert!(rt; answer.err() == Some(Error::NotIdentity { line: 1 }));
+    assert!(rt; refuses_file(alloc, text.as_slice(), Error::NotIdentity { line: 1 }));
     Ok(())
 }
 
-// What reading `K` and LF twice answers, from a device that does these steps.
-fn reads(
-    rt: &impl Abort,
-    alloc: Global,
-    steps: &[Step],
-    answer: Result<usize, Error>,
-) -> Result<(), Fail> {
+// `K`, LF, and `K`.
+fn key_twice(alloc: Global) -> Result<Vec<u8>, Fail> {
     let mut text = Vec::from_slice(alloc, K.as_bytes())?;
     text.push(b'\n')?;
     text.extend_from_slice(K.as_bytes())?;
+    Ok(text)
+}
+
+// A text on a device that does these steps.
+fn device<'a>(
+    alloc: Global,
+    text: &'a [u8],
+    steps: &'a [Step],
+) -> Result<BufReader<Std<Source<'a>>>, Fail> {
     let source = Source {
         script: Script { steps, most: 100 },
-        bytes: text.as_slice(),
+        bytes: text,
     };
-    let got = match File::from_buffer(alloc, BufReader::new(alloc, Std::new(source))?) {
-        Ok(file) => Ok(file.into_identities(alloc)?.len()),
-        Err(e) => Err(e),
-    };
-    assert!(rt; got == answer);
-    Ok(())
+    Ok(BufReader::new(alloc, Std::new(source))?)
+}
+
+// How many identities that text has on a device that does these steps.
+fn read(alloc: Global, text: &[u8], steps: &[Step]) -> Result<usize, Fail> {
+    identities(alloc, device(alloc, text, steps)?)
+}
+
+// Whether it is refused so.
+fn refuses(alloc: Global, text: &[u8], steps: &[Step], kind: ErrorKind) -> Result<bool, Fail> {
+    let answer = File::from_buffer(alloc, device(alloc, text, steps)?);
+    Ok(answer.err() == Some(Error::Device(kind)))
 }
 
 #[test]
 fn faults_of_the_device_are_answered(rt: HostRuntime) -> Result<(), Fail> {
     let alloc = rt.alloc();
+    let text = key_twice(alloc)?;
+    interruptions_are_passed_over(&rt, alloc, text.as_slice())?;
     let denied = Step::Fail(StdKind::PermissionDenied);
-    let interrupted = Step::Fail(StdKind::Interrupted);
-    let fault = Err(Error::Device(ErrorKind::PermissionDenied));
-    reads(&rt, alloc, &[], Ok(2))?;
-    reads(
-        &rt,
-        alloc,
-        &[Step::Move(1), Step::Move(7), interrupted],
-        Ok(2),
-    )?;
-    reads(&rt, alloc, &[denied], fault)?;
-    reads(&rt, alloc, &[Step::Move(100), denied], fault)?;
-    reads(
-        &rt,
-        alloc,
+    for steps in [
+        [denied].as_slice(),
+        &[Step::Move(100), denied],
         &[Step::Move(100), Step::Move(100), denied],
-        fault,
-    )?;
-    reads(&rt, alloc, &[interrupted; 16], Ok(2))?;
-    reads(
-        &rt,
-        alloc,
-        &[interrupted; 17],
-        Err(Error::Device(ErrorKind::Other)),
-    )
+    ] {
+        assert!(rt; refuses(alloc, text.as_slice(), steps, ErrorKind::PermissionDenied)?);
+    }
+    Ok(())
+}
+
+// At most 16 of them together.
+fn interruptions_are_passed_over(rt: &impl Abort, alloc: Global, text: &[u8]) -> Result<(), Fail> {
+    let interrupted = Step::Fail(StdKind::Interrupted);
+    assert!(rt; read(alloc, text, &[])? == 2);
+    assert!(rt; read(alloc, text, &[Step::Move(1), Step::Move(7), interrupted])? == 2);
+    assert!(rt; read(alloc, text, &[interrupted; 16])? == 2);
+    assert!(rt; refuses(alloc, text, &[interrupted; 17], ErrorKind::Other)?);
+    Ok(())
 }

@@ -4,12 +4,14 @@ ghost use Rattle.std.specs.Prelude.{◌≤◌};
 use age::draw::Draw;
 use age::format::{Grease, Stanza};
 use age::secrecy::{FileKey, SecretString};
-use age::x25519::{Identity, Recipient};
-use age::{DecryptError, scrypt};
+use age::suite::Suite;
+use age::{DecryptError, Identity, Recipient, decrypt, scrypt, x25519};
 use age_bench::suite::BenchSuite;
-use age_try::fixtures::empty_stanza;
+use age_try::answers::is_refusal;
+use age_try::fixtures::{MESSAGE, empty_stanza};
 use std::alloc::{AllocError, Global};
-use std::process::Abort;
+use std::collections::BTreeSet;
+use std::fmt::Display;
 use std::test::Fail;
 
 /// A passphrase.
@@ -24,13 +26,18 @@ pub fn horse(alloc: Global, target: u8) -> Result<scrypt::Identity<BenchSuite>, 
     Ok(scrypt::Identity::new(passphrase(alloc, "correct horse")?, target))
 }
 
-/// The X25519 recipient of a secret of ones.
-pub fn key_recipient(rt: &impl Abort, alloc: Global) -> Result<Recipient<BenchSuite>, AllocError> {
-    let mut draw = Draw::new(Vec::from_slice(alloc, &[1; 32])?);
-    match Identity::<BenchSuite>::generate(&mut draw) {
-        Some(identity) => Ok(identity.to_public()),
-        None => panic!(rt; "too few random bytes"),
+/// The X25519 identity of a secret.
+pub fn identity_of(alloc: Global, secret: &[u8]) -> Result<x25519::Identity<BenchSuite>, Fail> {
+    let mut draw = Draw::new(Vec::from_slice(alloc, secret)?);
+    match x25519::Identity::generate(&mut draw) {
+        Some(identity) => Ok(identity),
+        None => Err(Fail::from("too few random bytes")),
     }
+}
+
+/// The X25519 recipient of a secret.
+pub fn recipient_of(alloc: Global, secret: &[u8]) -> Result<x25519::Recipient<BenchSuite>, Fail> {
+    Ok(identity_of(alloc, secret)?.to_public())
 }
 
 /// A grease stanza.
@@ -60,12 +67,106 @@ pub fn stanza(alloc: Global, tag: &str, arguments: &[&str], body: &[u8]) -> Resu
     }
 }
 
-/// Whether an answer is that this work factor is too large for this target.
-pub fn is_excessive(answer: &Option<Result<FileKey, DecryptError>>, factor: u8, bound: u8) -> bool {
+/// What an identity answers to a stanza.
+pub type Answer = Option<Result<FileKey, DecryptError>>;
+
+// Whether an answer is a key of zeros.
+fn is_zeros(answer: &Answer) -> bool {
     match answer {
-        Some(Err(DecryptError::ExcessiveWork { required, target })) => {
-            *required == factor && *target == bound
-        }
+        Some(Ok(key)) => *key.expose_secret() == [0; 16],
         _ => false,
     }
+}
+
+/// Whether an identity answers a key of zeros to a stanza.
+pub fn gives_zeros<I: Identity>(alloc: Global, identity: &mut I, stanza: &Stanza) -> bool {
+    is_zeros(&identity.unwrap_stanza(alloc, stanza))
+}
+
+/// Whether an identity passes over a stanza.
+pub fn passes_over<I: Identity>(alloc: Global, identity: &mut I, stanza: &Stanza) -> bool {
+    identity.unwrap_stanza(alloc, stanza).is_none()
+}
+
+// Whether an answer is a refusal with this text.
+fn is_refused<T: Drop, E: Display + Drop>(
+    alloc: Global,
+    answer: Option<Result<T, E>>,
+    refusal: &str,
+) -> bool {
+    match answer {
+        Some(answer) => is_refusal(alloc, answer, refusal),
+        None => false,
+    }
+}
+
+/// Whether an identity refuses a stanza with this text.
+pub fn refuses<I: Identity>(
+    alloc: Global,
+    identity: &mut I,
+    stanza: &Stanza,
+    refusal: &str,
+) -> bool {
+    is_refused(alloc, identity.unwrap_stanza(alloc, stanza), refusal)
+}
+
+/// Whether an identity decrypts a file, or its armor, to the message.
+pub fn opens<I: Identity>(alloc: Global, identity: &mut I, file: &[u8]) -> Result<bool, Fail> {
+    Ok(decrypt::<BenchSuite, I>(alloc, identity, file)?.as_slice() == MESSAGE)
+}
+
+/// Whether an identity refuses a file, or its armor, with this text.
+pub fn refuses_file<S: Suite, I: Identity>(
+    alloc: Global,
+    identity: &mut I,
+    file: &[u8],
+    refusal: &str,
+) -> bool {
+    is_refusal(alloc, decrypt::<S, I>(alloc, identity, file), refusal)
+}
+
+// Whether they are this one stanza.
+fn is_only(stanzas: &[Stanza], expected: &Stanza) -> bool {
+    match stanzas {
+        [stanza] => stanza == expected,
+        _ => false,
+    }
+}
+
+// Whether they are this label, or none.
+fn are_labels(labels: &BTreeSet<String>, expected: Option<&str>) -> bool {
+    match expected {
+        None => labels.is_empty(),
+        Some(text) => labels.len() == 1 && labels.iter().all(|label| label.as_str() == text),
+    }
+}
+
+/// Whether a recipient wraps a file key of zeros in this stanza, with this label or none, and leaves so many random bytes.
+pub fn wraps<R: Recipient>(
+    alloc: Global,
+    recipient: &R,
+    mut draw: Draw,
+    expected: &Stanza,
+    label: Option<&str>,
+    left: usize,
+) -> Result<bool, Fail> {
+    let (stanzas, labels) = recipient.wrap_file_key(alloc, &FileKey::new([0; 16]), &mut draw)?;
+    Ok(is_only(stanzas.as_slice(), expected) && are_labels(&labels, label) && draw.left() == left)
+}
+
+/// Whether a recipient refuses to wrap it with this text, and leaves so many random bytes.
+pub fn refuses_to_wrap<R: Recipient>(
+    alloc: Global,
+    recipient: &R,
+    mut draw: Draw,
+    refusal: &str,
+    left: usize,
+) -> bool {
+    let answer = recipient.wrap_file_key(alloc, &FileKey::new([0; 16]), &mut draw);
+    is_refusal(alloc, answer, refusal) && draw.left() == left
+}
+
+/// Whether a value has this text.
+pub fn prints<T: Display>(alloc: Global, value: &T, text: &str) -> Result<bool, Fail> {
+    Ok(value.to_string(alloc)?.as_str() == text)
 }

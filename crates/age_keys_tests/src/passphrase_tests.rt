@@ -1,22 +1,21 @@
 //! Files for a passphrase, and passphrases beside other recipients. The expected bytes are those of Python, from the format's own words.
 
-use crate::fixtures::{grease, horse, is_excessive, key_recipient, passphrase};
+use crate::fixtures::{grease, horse, opens, passphrase, recipient_of, refuses, refuses_file};
 use age::armor::ArmoredReader;
 use age::draw::Draw;
 use age::format::{HeaderV1, Stanza};
 use age::io::Bytes;
 use age::scrypt::{Identity, Recipient};
 use age::{
-    DecryptError, EncryptError, Encryptor, Identity as _, Recipient as AnyRecipient, decrypt,
-    encrypt, encrypt_and_armor,
+    DecryptError, Encryptor, Recipient as AnyRecipient, decrypt, encrypt, encrypt_and_armor,
 };
 use age_bench::suite::BenchSuite;
+use age_try::answers::is_refusal;
 use age_try::fixtures::{MESSAGE, zeros};
 use age_try::never_stretches::NeverStretches;
 use age_try::scripted::ScriptedRecipient;
 use std::alloc::{AllocError, Global};
 use std::collections::BTreeSet;
-use std::process::Abort;
 use std::test::Fail;
 
 // The header of the message's file for `correct horse` with the work factor 10 and random bytes that are zero.
@@ -27,27 +26,31 @@ fn recipient(alloc: Global) -> Result<Recipient<BenchSuite>, AllocError> {
     Ok(Recipient::new(passphrase(alloc, "correct horse")?, 10))
 }
 
-// The identity of the passphrase decrypts a file, or its armor, to the message.
-fn comes_back(rt: &impl Abort, alloc: Global, file: &[u8]) -> Result<(), Fail> {
-    let plain = decrypt::<BenchSuite, Identity<BenchSuite>>(alloc, &mut horse(alloc, 18)?, file)?;
-    assert!(rt; plain.as_slice() == MESSAGE);
-    Ok(())
+// The message's file.
+fn encrypted(alloc: Global) -> Result<Vec<u8>, Fail> {
+    Ok(encrypt::<BenchSuite, Recipient<BenchSuite>>(
+        alloc,
+        &recipient(alloc)?,
+        MESSAGE,
+        &mut zeros(alloc, 72)?,
+        grease(alloc)?,
+    )?)
+}
+
+// Whether the identity of the passphrase decrypts a file, or its armor, to the message.
+fn comes_back(alloc: Global, file: &[u8]) -> Result<bool, Fail> {
+    opens(alloc, &mut horse(alloc, 18)?, file)
 }
 
 // The file has no grease, since the stanza of a passphrase stands alone.
 #[test]
 fn a_message_has_its_file(rt: HostRuntime) -> Result<(), Fail> {
     let alloc = rt.alloc();
-    let file = encrypt::<BenchSuite, Recipient<BenchSuite>>(
-        alloc,
-        &recipient(alloc)?,
-        MESSAGE,
-        &mut zeros(alloc, 72)?,
-        grease(alloc)?,
-    )?;
+    let file = encrypted(alloc)?;
     assert!(rt; file.len() == 218);
     assert!(rt; file.starts_with(HEADER));
-    comes_back(&rt, alloc, &file)
+    assert!(rt; comes_back(alloc, file.as_slice())?);
+    Ok(())
 }
 
 // The armor of the message's file.
@@ -61,88 +64,97 @@ fn armored(alloc: Global) -> Result<String, Fail> {
     )?)
 }
 
+// Whether the passphrase with a space after it fails.
+fn another_fails(alloc: Global, file: &[u8]) -> Result<bool, Fail> {
+    let mut other = Identity::<BenchSuite>::new(passphrase(alloc, "correct horse ")?, 18);
+    Ok(refuses_file::<BenchSuite, _>(alloc, &mut other, file, "decryption failed"))
+}
+
 #[test]
 fn another_passphrase_fails(rt: HostRuntime) -> Result<(), Fail> {
     let alloc = rt.alloc();
     let text = armored(alloc)?;
     assert!(rt; text.len() == 365);
-    comes_back(&rt, alloc, text.as_bytes())?;
-    let mut other = Identity::<BenchSuite>::new(passphrase(alloc, "correct horse ")?, 18);
-    let refused = decrypt::<BenchSuite, Identity<BenchSuite>>(alloc, &mut other, text.as_bytes());
-    assert!(rt; matches!(refused, Err(DecryptError::DecryptionFailed)));
+    assert!(rt; comes_back(alloc, text.as_bytes())?);
+    assert!(rt; another_fails(alloc, text.as_bytes())?);
     Ok(())
 }
 
-// Recipients are refused since a passphrase is among them and others are, and so many of 104 random bytes are left.
-fn mixed(
-    rt: &impl Abort,
+// Two recipients.
+fn pair(
     alloc: Global,
-    recipients: &[Box<dyn AnyRecipient>],
-    left: usize,
-) -> Result<(), Fail> {
-    let mut draw = Draw::new(vec![in alloc; 0; 104]?);
-    let refused = Encryptor::<BenchSuite>::with_recipients(
-        alloc,
-        recipients,
-        &mut draw,
-        grease(alloc)?,
-    );
-    assert!(rt; matches!(refused, Err(EncryptError::MixedRecipientAndPassphrase)));
-    assert!(rt; draw.left() == left);
-    Ok(())
+    first: Box<dyn AnyRecipient>,
+    second: Box<dyn AnyRecipient>,
+) -> Result<Vec<Box<dyn AnyRecipient>>, Fail> {
+    let mut recipients = Vec::new(alloc);
+    recipients.push(first)?;
+    recipients.push(second)?;
+    Ok(recipients)
+}
+
+// The X25519 recipient of a secret of ones.
+fn key(alloc: Global) -> Result<Box<dyn AnyRecipient>, Fail> {
+    Ok(Box::new(alloc, recipient_of(alloc, &[1; 32])?)?)
+}
+
+// The recipient of the passphrase.
+fn of_passphrase(alloc: Global) -> Result<Box<dyn AnyRecipient>, Fail> {
+    Ok(Box::new(alloc, recipient(alloc)?)?)
 }
 
 // A recipient without labels whose one stanza has the tag `scrypt`.
-fn unlabelled(alloc: Global) -> Result<ScriptedRecipient, AllocError> {
-    Ok(ScriptedRecipient {
+fn unlabelled(alloc: Global) -> Result<Box<dyn AnyRecipient>, Fail> {
+    let recipient = ScriptedRecipient {
         tag: Some(String::from_str(alloc, "scrypt")?),
         draws: false,
         labels: BTreeSet::new(alloc),
-    })
+    };
+    Ok(Box::new(alloc, recipient)?)
+}
+
+// Whether recipients are refused with these random bytes since a passphrase is among them and others are.
+fn are_mixed(
+    alloc: Global,
+    recipients: &[Box<dyn AnyRecipient>],
+    draw: &mut Draw,
+) -> Result<bool, Fail> {
+    let grease = grease(alloc)?;
+    let answer = Encryptor::<BenchSuite>::with_recipients(alloc, recipients, draw, grease);
+    Ok(is_refusal(
+        alloc,
+        answer,
+        "a passphrase can't be used with other recipients",
+    ))
+}
+
+// Whether two are refused so, and so many of 104 random bytes are left.
+fn mixed(
+    alloc: Global,
+    first: Box<dyn AnyRecipient>,
+    second: Box<dyn AnyRecipient>,
+    left: usize,
+) -> Result<bool, Fail> {
+    let recipients = pair(alloc, first, second)?;
+    let mut draw = zeros(alloc, 104)?;
+    Ok(are_mixed(alloc, recipients.as_slice(), &mut draw)? && draw.left() == left)
 }
 
 // 16 bytes go to the file key, 32 to an X25519 recipient, 40 to a passphrase.
 #[test]
 fn a_passphrase_stands_alone(rt: HostRuntime) -> Result<(), Fail> {
     let alloc = rt.alloc();
-    passphrase_after_key(&rt, alloc)?;
-    passphrase_before_key(&rt, alloc)
+    assert!(rt; mixed(alloc, key(alloc)?, of_passphrase(alloc)?, 16)?);
+    assert!(rt; mixed(alloc, of_passphrase(alloc)?, key(alloc)?, 16)?);
+    Ok(())
 }
 
-fn passphrase_after_key(rt: &impl Abort, alloc: Global) -> Result<(), Fail> {
-    let mut recipients: Vec<Box<dyn AnyRecipient>> = Vec::new(alloc);
-    recipients.push(Box::new(alloc, key_recipient(rt, alloc)?)?)?;
-    recipients.push(Box::new(alloc, recipient(alloc)?)?)?;
-    mixed(rt, alloc, &recipients, 16)
-}
-
-fn passphrase_before_key(rt: &impl Abort, alloc: Global) -> Result<(), Fail> {
-    let mut recipients: Vec<Box<dyn AnyRecipient>> = Vec::new(alloc);
-    recipients.push(Box::new(alloc, recipient(alloc)?)?)?;
-    recipients.push(Box::new(alloc, key_recipient(rt, alloc)?)?)?;
-    mixed(rt, alloc, &recipients, 16)
-}
-
+// (Random bytes that are all zero give both passphrases the same label.)
 #[test]
 fn two_passphrases_are_mixed(rt: HostRuntime) -> Result<(), Fail> {
     let alloc = rt.alloc();
-    passphrase_twice(&rt, alloc)?;
-    unlabelled_after_key(&rt, alloc)
-}
-
-// (Random bytes that are all zero give both the same label.)
-fn passphrase_twice(rt: &impl Abort, alloc: Global) -> Result<(), Fail> {
-    let mut recipients: Vec<Box<dyn AnyRecipient>> = Vec::new(alloc);
-    recipients.push(Box::new(alloc, recipient(alloc)?)?)?;
-    recipients.push(Box::new(alloc, recipient(alloc)?)?)?;
-    mixed(rt, alloc, &recipients, 8)
-}
-
-fn unlabelled_after_key(rt: &impl Abort, alloc: Global) -> Result<(), Fail> {
-    let mut recipients: Vec<Box<dyn AnyRecipient>> = Vec::new(alloc);
-    recipients.push(Box::new(alloc, key_recipient(rt, alloc)?)?)?;
-    recipients.push(Box::new(alloc, unlabelled(alloc)?)?)?;
-    mixed(rt, alloc, &recipients, 56)
+    assert!(rt; mixed(alloc, of_passphrase(alloc)?, of_passphrase(alloc)?, 8)?);
+    assert!(rt; mixed(alloc, key(alloc)?, unlabelled(alloc)?, 56)?);
+    Ok(())
 }
 
 // The armor of a header whose one stanza has the type scrypt and the work factor 10, with a MAC that is nobody's, and 32 zeros after it.
@@ -153,28 +165,52 @@ const ARMORED: &[u8] =
 const TWICE: &[u8] =
     b"age-encryption.org/v1\n-> scrypt skb8GKz/cKOk8piHM4FF1Q 10\nAAAAAAAAAAAAAAAAAAAAAAAAAAAAAAAAAAAAAAAAAAA\n-> scrypt skb8GKz/cKOk8piHM4FF1Q 10\nAAAAAAAAAAAAAAAAAAAAAAAAAAAAAAAAAAAAAAAAAAA\n--- AAAAAAAAAAAAAAAAAAAAAAAAAAAAAAAAAAAAAAAAAAA\n\0\0\0\0\0\0\0\0\0\0\0\0\0\0\0\0\0\0\0\0\0\0\0\0\0\0\0\0\0\0\0\0";
 
+// The header that the armor carries.
+fn header(alloc: Global) -> Result<HeaderV1, Fail> {
+    let mut reader = ArmoredReader::new_buffered(alloc, Bytes::new(ARMORED))?;
+    Ok(HeaderV1::read(alloc, &mut reader)?)
+}
+
+// Whether a stanza has these two arguments.
+fn has_arguments(stanza: &Stanza, first: &str, second: &str) -> bool {
+    match stanza.args() {
+        [salt, factor] => salt.as_str() == first && factor.as_str() == second,
+        _ => false,
+    }
+}
+
+// Whether an identity for a work factor of 5 finds that of a stanza too large.
+fn is_excessive(alloc: Global, stanza: &Stanza) -> Result<bool, Fail> {
+    let mut identity = Identity::<BenchSuite>::new(passphrase(alloc, "p")?, 5);
+    Ok(refuses(
+        alloc,
+        &mut identity,
+        stanza,
+        "excessive work factor 10, target 5",
+    ))
+}
+
 #[test]
 fn a_stanza_is_read_through_armor(rt: HostRuntime) -> Result<(), Fail> {
     let alloc = rt.alloc();
-    let mut reader = ArmoredReader::new_buffered(alloc, Bytes::new(ARMORED))?;
-    let header = HeaderV1::read(alloc, &mut reader)?;
+    let header = header(alloc)?;
     let [stanza] = header.stanzas() else {
         return Err(Fail::from("not one stanza"));
     };
     assert!(rt; stanza.tag() == "scrypt");
-    has_arguments(&rt, stanza)?;
-    let mut identity = Identity::<BenchSuite>::new(passphrase(alloc, "p")?, 5);
-    assert!(rt; is_excessive(&identity.unwrap_stanza(alloc, stanza), 10, 5));
+    assert!(rt; has_arguments(stanza, "skb8GKz/cKOk8piHM4FF1Q", "10"));
+    assert!(rt; is_excessive(alloc, stanza)?);
     Ok(())
 }
 
-fn has_arguments(rt: &impl Abort, stanza: &Stanza) -> Result<(), Fail> {
-    let [salt, factor] = stanza.args() else {
-        return Err(Fail::from("not two arguments"));
-    };
-    assert!(rt; salt.as_str() == "skb8GKz/cKOk8piHM4FF1Q");
-    assert!(rt; factor.as_str() == "10");
-    Ok(())
+// Whether memory is refused.
+fn is_out_of_memory(answer: &Result<Vec<u8>, DecryptError>) -> bool {
+    matches!(answer, Err(DecryptError::OutOfMemory))
+}
+
+// Whether an identity would stretch its passphrase for a file.
+fn would_stretch(alloc: Global, identity: &mut Identity<NeverStretches>, file: &[u8]) -> bool {
+    is_out_of_memory(&decrypt::<NeverStretches, Identity<NeverStretches>>(alloc, identity, file))
 }
 
 // Two stanzas of passphrases break the rule, and no passphrase is stretched: the suite would have no memory for it, as it hasn't for one.
@@ -182,9 +218,7 @@ fn has_arguments(rt: &impl Abort, stanza: &Stanza) -> Result<(), Fail> {
 fn no_work_is_done_where_the_rule_is_broken(rt: HostRuntime) -> Result<(), Fail> {
     let alloc = rt.alloc();
     let mut identity = Identity::<NeverStretches>::new(passphrase(alloc, "correct horse")?, 18);
-    let want = decrypt::<NeverStretches, Identity<NeverStretches>>(alloc, &mut identity, ARMORED);
-    assert!(rt; matches!(want, Err(DecryptError::OutOfMemory)));
-    let refused = decrypt::<NeverStretches, Identity<NeverStretches>>(alloc, &mut identity, TWICE);
-    assert!(rt; matches!(refused, Err(DecryptError::InvalidHeader)));
+    assert!(rt; would_stretch(alloc, &mut identity, ARMORED));
+    assert!(rt; refuses_file::<NeverStretches, _>(alloc, &mut identity, TWICE, "invalid header"));
     Ok(())
 }

@@ -1,125 +1,160 @@
 //! Texts of the keys of plugins. Those of `foobar` are as other programs print them.
 
+use crate::fixtures::prints;
 use age::bech32::encode;
 use age::plugin::{Identity, Recipient, ResolveError};
 use std::alloc::Global;
-use std::process::Abort;
 use std::test::Fail;
 
 const IDENTITY: &str = "AGE-PLUGIN-FOOBAR-1QVHULF";
 
-// A text is refused as a recipient with the first message, and as an identity with the second; with none it is read and printed.
+// Whether a text is refused as a recipient with a message, or read as that of a plugin and printed.
+fn reads_recipient(alloc: Global, text: &str, expected: Result<&str, &str>) -> Result<bool, Fail> {
+    match Recipient::from_str(alloc, text) {
+        Ok(key) => Ok(Ok(key.plugin()) == expected && prints(alloc, &key.clone()?, text)?),
+        Err(message) => Ok(Err(message) == expected),
+    }
+}
+
+// The same as an identity.
+fn reads_identity(alloc: Global, text: &str, expected: Result<&str, &str>) -> Result<bool, Fail> {
+    match Identity::from_str(alloc, text) {
+        Ok(key) => Ok(Ok(key.plugin()) == expected && copy_prints(alloc, &key, text)?),
+        Err(message) => Ok(Err(message) == expected),
+    }
+}
+
+// Whether a copy of an identity has this text.
+fn copy_prints(alloc: Global, key: &Identity, text: &str) -> Result<bool, Fail> {
+    Ok(key.clone()?.to_string(alloc)?.as_str() == text)
+}
+
+// Whether a text is refused as a recipient with the first message, and as an identity with the second; with none it is read and printed.
 fn reads(
-    rt: &impl Abort,
     alloc: Global,
     text: &str,
     as_recipient: Result<&str, &str>,
     as_identity: Result<&str, &str>,
-) -> Result<(), Fail> {
-    match Recipient::from_str(alloc, text) {
-        Ok(key) => {
-            assert!(rt; Ok(key.plugin()) == as_recipient);
-            assert!(rt; key.clone()?.to_string(alloc)?.as_str() == text);
-        }
-        Err(message) => assert!(rt; Err(message) == as_recipient),
-    }
-    match Identity::from_str(alloc, text) {
-        Ok(key) => {
-            assert!(rt; Ok(key.plugin()) == as_identity);
-            assert!(rt; key.clone()?.to_string(alloc)?.as_str() == text);
-        }
-        Err(message) => assert!(rt; Err(message) == as_identity),
-    }
-    Ok(())
+) -> Result<bool, Fail> {
+    Ok(reads_recipient(alloc, text, as_recipient)? && reads_identity(alloc, text, as_identity)?)
 }
+
+const PREFIX: Result<&str, &str> = Err("invalid HRP");
+
+const NAME: Result<&str, &str> = Err("invalid plugin name");
+
+const BAD: Result<&str, &str> = Err("invalid Bech32 encoding");
 
 #[test]
 fn texts_are_read_in_their_case(rt: HostRuntime) -> Result<(), Fail> {
     let alloc = rt.alloc();
-    let prefix = Err("invalid HRP");
-    reads(&rt, alloc, IDENTITY, prefix, Ok("foobar"))?;
-    reads(&rt, alloc, "age-plugin-foobar-1qvhulf", prefix, prefix)?;
-    // 32 bytes, each 1.
-    reads(
-        &rt,
-        alloc,
-        "age1foobar1qyqszqgpqyqszqgpqyqszqgpqyqszqgpqyqszqgpqyqszqgpqyqs7k6xzx",
-        Ok("foobar"),
-        prefix,
-    )?;
-    let bad = Err("invalid Bech32 encoding");
-    reads(&rt, alloc, "", bad, bad)?;
-    reads(&rt, alloc, "AGE-PLUGIN-FOOBAR-1QVHULG", bad, bad)
+    for (text, as_recipient, as_identity) in [
+        (IDENTITY, PREFIX, Ok("foobar")),
+        ("age-plugin-foobar-1qvhulf", PREFIX, PREFIX),
+        // 32 bytes, each 1.
+        (
+            "age1foobar1qyqszqgpqyqszqgpqyqszqgpqyqszqgpqyqszqgpqyqszqgpqyqs7k6xzx",
+            Ok("foobar"),
+            PREFIX,
+        ),
+        ("", BAD, BAD),
+        ("AGE-PLUGIN-FOOBAR-1QVHULG", BAD, BAD),
+    ] {
+        assert!(rt; reads(alloc, text, as_recipient, as_identity)?, "{text}");
+    }
+    Ok(())
 }
 
 // The text of a prefix and three bytes.
-fn of_prefix(
-    rt: &impl Abort,
+fn text_of(alloc: Global, prefix: &str) -> Result<String, Fail> {
+    match encode(alloc, prefix, b"key") {
+        Ok(text) => Ok(text),
+        Err(_) => Err(Fail::from("no text")),
+    }
+}
+
+// Whether that text is read, or refused, so.
+fn reads_prefix(
     alloc: Global,
     prefix: &str,
     as_recipient: Result<&str, &str>,
     as_identity: Result<&str, &str>,
-) -> Result<(), Fail> {
-    match encode(alloc, prefix, b"key") {
-        Ok(text) => reads(rt, alloc, text.as_str(), as_recipient, as_identity),
-        Err(_) => Err(Fail::from("no text")),
-    }
+) -> Result<bool, Fail> {
+    reads(
+        alloc,
+        text_of(alloc, prefix)?.as_str(),
+        as_recipient,
+        as_identity,
+    )
 }
 
 #[test]
 fn names_follow_the_front_of_a_prefix(rt: HostRuntime) -> Result<(), Fail> {
     let alloc = rt.alloc();
-    let prefix = Err("invalid HRP");
-    let name = Err("invalid plugin name");
-    of_prefix(&rt, alloc, "age1foobar", Ok("foobar"), prefix)?;
-    of_prefix(&rt, alloc, "age1a+b-c.d_9", Ok("a+b-c.d_9"), prefix)?;
-    of_prefix(&rt, alloc, "age11", Ok("1"), prefix)?;
-    of_prefix(&rt, alloc, "age1", prefix, prefix)?;
-    of_prefix(&rt, alloc, "age", prefix, prefix)?;
-    of_prefix(&rt, alloc, "AGE1FOOBAR", prefix, prefix)?;
-    of_prefix(&rt, alloc, "age1foo/bar", name, prefix)?;
-    of_prefix(&rt, alloc, "AGE-PLUGIN-FOO-BAR-", prefix, Ok("foo-bar"))?;
-    of_prefix(&rt, alloc, "AGE-PLUGIN-FOO---", prefix, Ok("foo"))?;
-    of_prefix(&rt, alloc, "AGE-PLUGIN-FOO", prefix, prefix)?;
-    of_prefix(&rt, alloc, "AGE-PLUGIN-", prefix, prefix)?;
-    of_prefix(&rt, alloc, "AGE-PLUGIN--", prefix, name)?;
-    of_prefix(&rt, alloc, "AGE-PLUGIN----", prefix, name)?;
-    of_prefix(&rt, alloc, "AGE-PLUGIN-FOO/BAR-", prefix, name)?;
-    of_prefix(&rt, alloc, "age-plugin-foo-", prefix, prefix)
-}
-
-// A plugin has a default identity of this text and name, or the name is refused.
-fn defaults(
-    rt: &impl Abort,
-    alloc: Global,
-    name: &str,
-    expected: Option<(&str, &str)>,
-) -> Result<(), Fail> {
-    match Identity::default_for_plugin(alloc, name) {
-        Ok(key) => {
-            let text = key.to_string(alloc)?;
-            assert!(rt; Some((text.as_str(), key.plugin())) == expected);
-        }
-        Err(ResolveError::InvalidPluginName { name: refused }) => {
-            assert!(rt; expected == None);
-            assert!(rt; refused.as_str() == name);
-        }
-        Err(_) => panic!(rt; "another refusal"),
+    for (prefix, as_recipient, as_identity) in [
+        ("age1foobar", Ok("foobar"), PREFIX),
+        ("age1a+b-c.d_9", Ok("a+b-c.d_9"), PREFIX),
+        ("age11", Ok("1"), PREFIX),
+        ("age1", PREFIX, PREFIX),
+        ("age", PREFIX, PREFIX),
+        ("AGE1FOOBAR", PREFIX, PREFIX),
+        ("age1foo/bar", NAME, PREFIX),
+        ("AGE-PLUGIN-FOO-BAR-", PREFIX, Ok("foo-bar")),
+        ("AGE-PLUGIN-FOO---", PREFIX, Ok("foo")),
+        ("AGE-PLUGIN-FOO", PREFIX, PREFIX),
+        ("AGE-PLUGIN-", PREFIX, PREFIX),
+        ("AGE-PLUGIN--", PREFIX, NAME),
+        ("AGE-PLUGIN----", PREFIX, NAME),
+        ("AGE-PLUGIN-FOO/BAR-", PREFIX, NAME),
+        ("age-plugin-foo-", PREFIX, PREFIX),
+    ] {
+        assert!(rt;
+            reads_prefix(alloc, prefix, as_recipient, as_identity)?,
+            "{prefix}"
+        );
     }
     Ok(())
+}
+
+// Whether a plugin of this name has a default identity of this text and name.
+fn defaults(alloc: Global, name: &str, text: &str, plugin: &str) -> Result<bool, Fail> {
+    let key = Identity::default_for_plugin(alloc, name)?;
+    Ok(key.plugin() == plugin && prints(alloc, &key, text)?)
+}
+
+// Whether it is refused that a plugin has this name.
+fn is_name_refused(answer: &Result<Identity, ResolveError>, name: &str) -> bool {
+    match answer {
+        Err(ResolveError::InvalidPluginName { name: refused }) => refused.as_str() == name,
+        _ => false,
+    }
+}
+
+// Whether no plugin has this name.
+fn is_no_name(alloc: Global, name: &str) -> bool {
+    is_name_refused(&Identity::default_for_plugin(alloc, name), name)
 }
 
 #[test]
 fn plugins_have_default_identities(rt: HostRuntime) -> Result<(), Fail> {
     let alloc = rt.alloc();
-    defaults(&rt, alloc, "foobar", Some((IDENTITY, "foobar")))?;
-    defaults(&rt, alloc, "FooBar", Some((IDENTITY, "foobar")))?;
-    defaults(&rt, alloc, "foo-", Some(("AGE-PLUGIN-FOO--1P2YWJ7", "foo")))?;
-    defaults(&rt, alloc, "", None)?;
-    defaults(&rt, alloc, "-", None)?;
-    defaults(&rt, alloc, "--", None)?;
-    defaults(&rt, alloc, "foo bar", None)?;
-    defaults(&rt, alloc, "foobar/../../../../../../../usr/bin/echo", None)
+    for (name, text, plugin) in [
+        ("foobar", IDENTITY, "foobar"),
+        ("FooBar", IDENTITY, "foobar"),
+        ("foo-", "AGE-PLUGIN-FOO--1P2YWJ7", "foo"),
+    ] {
+        assert!(rt; defaults(alloc, name, text, plugin)?, "{name}");
+    }
+    for name in [
+        "",
+        "-",
+        "--",
+        "foo bar",
+        "foobar/../../../../../../../usr/bin/echo",
+    ] {
+        assert!(rt; is_no_name(alloc, name), "{name}");
+    }
+    Ok(())
 }
 
 // So many letters `a`.
@@ -131,13 +166,15 @@ fn letters(alloc: Global, count: usize) -> Result<String, Fail> {
     Ok(name)
 }
 
+// Whether a plugin of this name has a default identity of that name.
+fn is_name(alloc: Global, name: &str) -> Result<bool, Fail> {
+    Ok(Identity::default_for_plugin(alloc, name)?.plugin() == name)
+}
+
 #[test]
 fn names_have_at_most_71_bytes(rt: HostRuntime) -> Result<(), Fail> {
     let alloc = rt.alloc();
-    let name = letters(alloc, 71)?;
-    match Identity::default_for_plugin(alloc, name.as_str()) {
-        Ok(key) => assert!(rt; key.plugin() == name.as_str()),
-        Err(_) => panic!(rt; "no identity"),
-    }
-    defaults(&rt, alloc, letters(alloc, 72)?.as_str(), None)
+    assert!(rt; is_name(alloc, letters(alloc, 71)?.as_str())?);
+    assert!(rt; is_no_name(alloc, letters(alloc, 72)?.as_str()));
+    Ok(())
 }

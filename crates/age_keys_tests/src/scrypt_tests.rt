@@ -1,13 +1,13 @@
 //! Recipients and identities of a passphrase. The expected bytes are those of Python, from the format's own words.
 
-use crate::fixtures::{horse, is_excessive, passphrase, stanza};
-use age::draw::Draw;
+use crate::fixtures::{
+    Answer, gives_zeros, horse, passes_over, passphrase, refuses, refuses_to_wrap, stanza, wraps,
+};
 use age::format::Stanza;
 use age::scrypt::{Identity, Recipient};
-use age::secrecy::FileKey;
-use age::suite::Suite;
-use age::{DecryptError, Identity as _, Recipient as _};
+use age::{DecryptError, Identity as _};
 use age_bench::suite::BenchSuite;
+use age_try::fixtures::zeros;
 use age_try::never_stretches::NeverStretches;
 use std::alloc::Global;
 use std::process::Abort;
@@ -27,40 +27,40 @@ const SHORT: &str = "random bytes ran out";
 // 24 zeros in base64.
 const LABEL: &str = "AAAAAAAAAAAAAAAAAAAAAAAAAAAAAAAA";
 
-// What an identity that is meant for a work factor of 18 answers to a stanza of the type with these arguments and this body: nothing, a
-// key of zeros, or a refusal with this text.
-fn answers(
-    rt: &impl Abort,
-    alloc: Global,
-    arguments: &[&str],
-    body: &[u8],
-    expected: Result<(), &str>,
-) -> Result<(), Fail> {
+// Whether an identity that is meant for a work factor of 18 answers a key of zeros to a stanza of the type with these arguments and this
+// body.
+fn opens(alloc: Global, arguments: &[&str], body: &[u8]) -> Result<bool, Fail> {
     let stanza = stanza(alloc, "scrypt", arguments, body)?;
-    match horse(alloc, 18)?.unwrap_stanza(alloc, &stanza) {
-        None => panic!(rt; "passed over"),
-        Some(Ok(key)) => {
-            assert!(rt; expected == Ok(()));
-            assert!(rt; *key.expose_secret() == [0; 16]);
-        }
-        Some(Err(error)) => assert!(rt; expected == Err(error.to_string(alloc)?.as_str())),
-    }
-    Ok(())
+    Ok(gives_zeros(alloc, &mut horse(alloc, 18)?, &stanza))
+}
+
+// Whether it refuses it with this text.
+fn fails(alloc: Global, arguments: &[&str], body: &[u8], refusal: &str) -> Result<bool, Fail> {
+    let stanza = stanza(alloc, "scrypt", arguments, body)?;
+    Ok(refuses(alloc, &mut horse(alloc, 18)?, &stanza, refusal))
 }
 
 #[test]
 fn a_stanza_opens(rt: HostRuntime) -> Result<(), Fail> {
     let alloc = rt.alloc();
-    answers(&rt, alloc, &[SALT, "10"], &SEALED, Ok(()))?;
+    assert!(rt; opens(alloc, &[SALT, "10"], &SEALED)?);
     // Another factor or body.
-    answers(&rt, alloc, &[SALT, "9"], &SEALED, Err("decryption failed"))?;
-    answers(
-        &rt,
+    assert!(rt; fails(alloc, &[SALT, "9"], &SEALED, "decryption failed")?);
+    assert!(rt; fails(alloc, &[SALT, "10"], &[0; 32], "decryption failed")?);
+    Ok(())
+}
+
+// Whether it passes over a stanza of this type.
+fn passes_over_type(
+    alloc: Global,
+    identity: &mut Identity<BenchSuite>,
+    tag: &str,
+) -> Result<bool, Fail> {
+    Ok(passes_over(
         alloc,
-        &[SALT, "10"],
-        &[0; 32],
-        Err("decryption failed"),
-    )
+        identity,
+        &stanza(alloc, tag, &[SALT, "10"], &SEALED)?,
+    ))
 }
 
 #[test]
@@ -68,32 +68,31 @@ fn other_types_are_passed_over(rt: HostRuntime) -> Result<(), Fail> {
     let alloc = rt.alloc();
     let mut identity = horse(alloc, 18)?;
     for tag in ["Scrypt", "scrypt2", "X25519"] {
-        let stanza = stanza(alloc, tag, &[SALT, "10"], &SEALED)?;
-        assert!(rt; identity.unwrap_stanza(alloc, &stanza).is_none());
+        assert!(rt; passes_over_type(alloc, &mut identity, tag)?, "{tag}");
     }
     Ok(())
 }
 
-// A stanza of the type with these arguments and this body is a bad one.
-fn is_bad(rt: &impl Abort, alloc: Global, arguments: &[&str], body: &[u8]) -> Result<(), Fail> {
-    answers(rt, alloc, arguments, body, Err("invalid header"))
+// Whether a stanza of the type with these arguments and this body is a bad one.
+fn is_bad(alloc: Global, arguments: &[&str], body: &[u8]) -> Result<bool, Fail> {
+    fails(alloc, arguments, body, "invalid header")
 }
 
 #[test]
 fn arguments_are_judged(rt: HostRuntime) -> Result<(), Fail> {
     let alloc = rt.alloc();
     for factor in ["0", "010", "10x", "256", "+10", "-1", "1e1", "1000"] {
-        is_bad(&rt, alloc, &[SALT, factor], &SEALED)?;
+        assert!(rt; is_bad(alloc, &[SALT, factor], &SEALED)?, "{factor}");
     }
     other_counts_are_bad(&rt, alloc)
 }
 
 // None, one, three, and two in the other order.
 fn other_counts_are_bad(rt: &impl Abort, alloc: Global) -> Result<(), Fail> {
-    is_bad(rt, alloc, &[], &SEALED)?;
-    is_bad(rt, alloc, &[SALT], &SEALED)?;
-    is_bad(rt, alloc, &[SALT, "10", "10"], &SEALED)?;
-    is_bad(rt, alloc, &["10", SALT], &SEALED)
+    for arguments in [[].as_slice(), &[SALT], &[SALT, "10", "10"], &["10", SALT]] {
+        assert!(rt; is_bad(alloc, arguments, &SEALED)?, "{arguments:?}");
+    }
+    Ok(())
 }
 
 // 21 columns, 15 bytes, 17 bytes, padding, and unused bits that aren't zero.
@@ -107,10 +106,11 @@ fn salts_and_bodies_are_judged(rt: HostRuntime) -> Result<(), Fail> {
         "AAAAAAAAAAAAAAAAAAAAAA==",
         "AAAAAAAAAAAAAAAAAAAAAB",
     ] {
-        is_bad(&rt, alloc, &[salt, "10"], &SEALED)?;
+        assert!(rt; is_bad(alloc, &[salt, "10"], &SEALED)?, "{salt}");
     }
-    is_bad(&rt, alloc, &[SALT, "10"], &[0; 31])?;
-    is_bad(&rt, alloc, &[SALT, "10"], &[0; 33])
+    assert!(rt; is_bad(alloc, &[SALT, "10"], &[0; 31])?);
+    assert!(rt; is_bad(alloc, &[SALT, "10"], &[0; 33])?);
+    Ok(())
 }
 
 // 22 is the largest that is taken, and the bench suite accepts 20 at most.
@@ -123,7 +123,10 @@ fn large_work_factors_are_refused(rt: HostRuntime) -> Result<(), Fail> {
         ("25", "excessive work factor 25, target 18"),
         ("255", "excessive work factor 255, target 18"),
     ] {
-        answers(&rt, alloc, &[SALT, factor], &SEALED, Err(refusal))?;
+        assert!(rt;
+            fails(alloc, &[SALT, factor], &SEALED, refusal)?,
+            "{factor}"
+        );
     }
     Ok(())
 }
@@ -134,19 +137,41 @@ fn the_largest_work_factor_can_be_set(rt: HostRuntime) -> Result<(), Fail> {
     let alloc = rt.alloc();
     let stanza = stanza(alloc, "scrypt", &[SALT, "10"], &SEALED)?;
     let mut identity = horse(alloc, 6)?;
-    assert!(rt; matches!(identity.unwrap_stanza(alloc, &stanza), Some(Ok(_))));
+    assert!(rt; gives_zeros(alloc, &mut identity, &stanza));
     identity.set_max_work_factor(9);
-    assert!(rt; is_excessive(&identity.unwrap_stanza(alloc, &stanza), 10, 6));
+    assert!(rt;
+        refuses(
+            alloc,
+            &mut identity,
+            &stanza,
+            "excessive work factor 10, target 6"
+        )
+    );
     identity.set_max_work_factor(10);
-    assert!(rt; matches!(identity.unwrap_stanza(alloc, &stanza), Some(Ok(_))));
+    assert!(rt; gives_zeros(alloc, &mut identity, &stanza));
     Ok(())
 }
 
-// What an identity for a work factor of 5 answers to a stanza with this one, where its suite stretches nothing.
-fn unstretched(alloc: Global, factor: &str) -> Result<Option<Result<FileKey, DecryptError>>, Fail> {
-    let mut identity = Identity::<NeverStretches>::new(passphrase(alloc, "correct horse")?, 5);
+// An identity for a work factor of 5 whose suite stretches nothing.
+fn never_stretching(alloc: Global) -> Result<Identity<NeverStretches>, Fail> {
+    Ok(Identity::new(passphrase(alloc, "correct horse")?, 5))
+}
+
+// Whether it refuses a stanza with this work factor so.
+fn is_unstretched(alloc: Global, factor: &str, refusal: &str) -> Result<bool, Fail> {
     let stanza = stanza(alloc, "scrypt", &[SALT, factor], &SEALED)?;
-    Ok(identity.unwrap_stanza(alloc, &stanza))
+    Ok(refuses(alloc, &mut never_stretching(alloc)?, &stanza, refusal))
+}
+
+// Whether memory is refused.
+fn is_out_of_memory(answer: &Answer) -> bool {
+    matches!(answer, Some(Err(DecryptError::OutOfMemory)))
+}
+
+// Whether it would stretch its passphrase for a stanza with this work factor.
+fn would_stretch(alloc: Global, factor: &str) -> Result<bool, Fail> {
+    let stanza = stanza(alloc, "scrypt", &[SALT, factor], &SEALED)?;
+    Ok(is_out_of_memory(&never_stretching(alloc)?.unwrap_stanza(alloc, &stanza)))
 }
 
 // A factor that is too large is refused by an identity whose suite stretches nothing, as are arguments that aren't those of the type: no
@@ -154,38 +179,28 @@ fn unstretched(alloc: Global, factor: &str) -> Result<Option<Result<FileKey, Dec
 #[test]
 fn no_work_is_done_above_the_largest_factor(rt: HostRuntime) -> Result<(), Fail> {
     let alloc = rt.alloc();
-    assert!(rt; is_excessive(&unstretched(alloc, "10")?, 10, 5));
-    let bad = unstretched(alloc, "09")?;
-    assert!(rt; matches!(bad, Some(Err(DecryptError::InvalidHeader))));
-    let want = unstretched(alloc, "9")?;
-    assert!(rt; matches!(want, Some(Err(DecryptError::OutOfMemory))));
+    assert!(rt; is_unstretched(alloc, "10", "excessive work factor 10, target 5")?);
+    assert!(rt; is_unstretched(alloc, "09", "invalid header")?);
+    assert!(rt; would_stretch(alloc, "9")?);
     Ok(())
 }
 
-// A file key of zeros is wrapped with random bytes that are zero, of which so many are left, or refused with this text.
-fn wraps<S: Suite>(
-    rt: &impl Abort,
+// Whether a file key of zeros is wrapped with so many random bytes that are zero, of which so many are left.
+fn is_wrapped(
     alloc: Global,
-    recipient: &Recipient<S>,
+    recipient: &Recipient<BenchSuite>,
     random: usize,
-    expected: Result<&Stanza, &str>,
     left: usize,
-) -> Result<(), Fail> {
-    let mut draw = Draw::new(vec![in alloc; 0; random]?);
-    match recipient.wrap_file_key(alloc, &FileKey::new([0; 16]), &mut draw) {
-        Ok((stanzas, labels)) => {
-            assert!(rt; stanzas.len() == 1);
-            assert!(rt; matches!(expected, Ok(stanza) if stanzas[0] == *stanza));
-            assert!(rt; labels.len() == 1);
-            assert!(rt; labels.iter().all(|label| label.as_str() == LABEL));
-        }
-        Err(error) => {
-            let text = error.to_string(alloc)?;
-            assert!(rt; matches!(expected, Err(refusal) if text.as_str() == refusal));
-        }
-    }
-    assert!(rt; draw.left() == left);
-    Ok(())
+) -> Result<bool, Fail> {
+    let expected = stanza(alloc, "scrypt", &[SALT, "10"], &SEALED)?;
+    wraps(
+        alloc,
+        recipient,
+        zeros(alloc, random)?,
+        &expected,
+        Some(LABEL),
+        left,
+    )
 }
 
 // With the work factor 10, of so many random bytes so many are left.
@@ -193,16 +208,18 @@ fn wraps<S: Suite>(
 fn file_keys_are_wrapped(rt: HostRuntime) -> Result<(), Fail> {
     let alloc = rt.alloc();
     let recipient = Recipient::<BenchSuite>::new(passphrase(alloc, "correct horse")?, 10);
-    let expected = stanza(alloc, "scrypt", &[SALT, "10"], &SEALED)?;
-    wraps(&rt, alloc, &recipient, 40, Ok(&expected), 0)?;
-    wraps(&rt, alloc, &recipient, 41, Ok(&expected), 1)?;
+    assert!(rt; is_wrapped(alloc, &recipient, 40, 0)?);
+    assert!(rt; is_wrapped(alloc, &recipient, 41, 1)?);
     runs_out(&rt, alloc, &recipient)?;
     a_factor_is_refused(&rt, alloc, recipient)
 }
 
 fn runs_out(rt: &impl Abort, alloc: Global, recipient: &Recipient<BenchSuite>) -> Result<(), Fail> {
     for (random, left) in [(0, 0), (15, 15), (16, 0), (39, 23)] {
-        wraps(rt, alloc, recipient, random, Err(SHORT), left)?;
+        assert!(rt;
+            refuses_to_wrap(alloc, recipient, zeros(alloc, random)?, SHORT, left),
+            "with {random}"
+        );
     }
     Ok(())
 }
@@ -213,8 +230,10 @@ fn a_factor_is_refused(
     mut recipient: Recipient<BenchSuite>,
 ) -> Result<(), Fail> {
     recipient.set_work_factor(21);
-    wraps(rt, alloc, &recipient, 56, Err("work factor refused"), 16)?;
-    wraps(rt, alloc, &recipient, 39, Err(SHORT), 23)
+    let refusal = "work factor refused";
+    assert!(rt; refuses_to_wrap(alloc, &recipient, zeros(alloc, 56)?, refusal, 16));
+    assert!(rt; refuses_to_wrap(alloc, &recipient, zeros(alloc, 39)?, SHORT, 23));
+    Ok(())
 }
 
 // All is drawn before a passphrase is stretched.
@@ -222,6 +241,7 @@ fn a_factor_is_refused(
 fn draws_come_before_the_work(rt: HostRuntime) -> Result<(), Fail> {
     let alloc = rt.alloc();
     let recipient = Recipient::<NeverStretches>::new(passphrase(alloc, "correct horse")?, 10);
-    wraps(&rt, alloc, &recipient, 39, Err("random bytes ran out"), 23)?;
-    wraps(&rt, alloc, &recipient, 40, Err("out of memory"), 0)
+    assert!(rt; refuses_to_wrap(alloc, &recipient, zeros(alloc, 39)?, SHORT, 23));
+    assert!(rt; refuses_to_wrap(alloc, &recipient, zeros(alloc, 40)?, "out of memory", 0));
+    Ok(())
 }

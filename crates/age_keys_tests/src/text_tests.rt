@@ -1,11 +1,11 @@
 //! Texts of X25519 recipients and identities.
 
-use age::draw::Draw;
+use crate::fixtures::{prints, recipient_of};
 use age::x25519::{Identity, Recipient};
 use age_bench::suite::BenchSuite;
 use age_try::fixtures::zeros;
+use std::alloc::Global;
 use std::collections::HashSet;
-use std::process::Abort;
 use std::str::FromStr;
 use std::test::Fail;
 
@@ -18,32 +18,40 @@ const IDENTITY: &str = "AGE-SECRET-KEY-1GQ9778VQXMMJVE8SK7J6VT8UJ4HDQAJUVSFCWCM0
 
 const LOWER: &str = "age-secret-key-1gq9778vqxmmjve8sk7j6vt8uj4hdqajuvsfcwcm02d8gewq72pvq2y5j33";
 
+// Whether a text is that of a recipient which prints `RECIPIENT`, for a user and for whoever looks for faults.
+fn prints_recipient(alloc: Global, text: &str) -> Result<bool, Fail> {
+    let recipient = Recipient::<BenchSuite>::from_str(text)?;
+    Ok(
+        prints(alloc, &recipient, RECIPIENT)?
+            && format!(in alloc; "{recipient:?}")?.as_str() == RECIPIENT,
+    )
+}
+
 #[test]
 fn a_recipient_prints_itself(rt: HostRuntime) -> Result<(), Fail> {
     let alloc = rt.alloc();
     for text in [RECIPIENT, UPPER] {
-        match Recipient::<BenchSuite>::from_str(text) {
-            Ok(recipient) => {
-                assert!(rt; recipient.to_string(alloc)?.as_str() == RECIPIENT);
-                assert!(rt; format!(in alloc; "{recipient:?}")?.as_str() == RECIPIENT);
-            }
-            Err(_) => panic!(rt; "no recipient"),
-        }
+        assert!(rt; prints_recipient(alloc, text)?, "{text}");
     }
     Ok(())
+}
+
+// Whether an identity prints this text of a secret.
+fn tells(alloc: Global, identity: &Identity<BenchSuite>, text: &str) -> Result<bool, Fail> {
+    Ok(identity.to_string(alloc)?.expose_secret() == text)
+}
+
+// Whether a text is that of an identity which prints `IDENTITY`, as its copy does.
+fn prints_identity(alloc: Global, text: &str) -> Result<bool, Fail> {
+    let identity = Identity::<BenchSuite>::from_str(text)?;
+    Ok(tells(alloc, &identity, IDENTITY)? && tells(alloc, &identity.clone()?, IDENTITY)?)
 }
 
 #[test]
 fn an_identity_prints_itself(rt: HostRuntime) -> Result<(), Fail> {
     let alloc = rt.alloc();
     for text in [IDENTITY, LOWER] {
-        match Identity::<BenchSuite>::from_str(text) {
-            Ok(identity) => {
-                assert!(rt; identity.to_string(alloc)?.expose_secret() == IDENTITY);
-                assert!(rt; identity.clone()?.to_string(alloc)?.expose_secret() == IDENTITY);
-            }
-            Err(_) => panic!(rt; "no identity"),
-        }
+        assert!(rt; prints_identity(alloc, text)?, "{text}");
     }
     Ok(())
 }
@@ -53,80 +61,91 @@ fn an_identity_prints_itself(rt: HostRuntime) -> Result<(), Fail> {
 fn a_generated_identity_prints_itself(rt: HostRuntime) -> Result<(), Fail> {
     let alloc = rt.alloc();
     let Some(identity) = Identity::<BenchSuite>::generate(&mut zeros(alloc, 32)?) else {
-        panic!(rt; "too few random bytes");
+        return Err(Fail::from("too few random bytes"));
     };
-    let text = identity.to_string(alloc)?;
-    assert!(rt;
-        text.expose_secret()
-            == "AGE-SECRET-KEY-1QQQQQQQQQQQQQQQQQQQQQQQQQQQQQQQQQQQQQQQQQQQQQQQQQQQQ8H00W3"
-    );
-    assert!(rt; text.expose_secret().len() == 74);
+    let text = "AGE-SECRET-KEY-1QQQQQQQQQQQQQQQQQQQQQQQQQQQQQQQQQQQQQQQQQQQQQQQQQQQQ8H00W3";
+    assert!(rt; text.len() == 74);
+    assert!(rt; tells(alloc, &identity, text)?);
     Ok(())
 }
 
-// A text is refused as a recipient with the first message, and as an identity with the second.
-fn refuses(rt: &impl Abort, text: &str, as_recipient: &str, as_identity: &str) {
+// Whether a text is refused as a recipient with this message, or read where there is none.
+fn refuses_recipient(text: &str, message: &str) -> bool {
     match Recipient::<BenchSuite>::from_str(text) {
-        Ok(_) => assert!(rt; as_recipient.is_empty()),
-        Err(message) => assert!(rt; message == as_recipient),
-    }
-    match Identity::<BenchSuite>::from_str(text) {
-        Ok(_) => assert!(rt; as_identity.is_empty()),
-        Err(message) => assert!(rt; message == as_identity),
+        Ok(_) => message.is_empty(),
+        Err(refusal) => refusal == message,
     }
 }
+
+// The same as an identity.
+fn refuses_identity(text: &str, message: &str) -> bool {
+    match Identity::<BenchSuite>::from_str(text) {
+        Ok(_) => message.is_empty(),
+        Err(refusal) => refusal == message,
+    }
+}
+
+const BAD: &str = "invalid Bech32 encoding";
+
+const PREFIX: &str = "incorrect HRP";
+
+const RECIPIENT_SIZE: &str = "incorrect pubkey length";
+
+const IDENTITY_SIZE: &str = "incorrect identity length";
 
 #[test]
 fn other_texts_are_refused_in_order(rt: HostRuntime) -> Result<(), Fail> {
-    let bad = "invalid Bech32 encoding";
-    let prefix = "incorrect HRP";
-    refuses(&rt, "", bad, bad);
-    refuses(&rt, "age1", bad, bad);
-    refuses(&rt, RECIPIENT, "", prefix);
-    refuses(&rt, IDENTITY, prefix, "");
-    refuses(&rt, "A12UEL5L", prefix, prefix);
-    // One letter raised, one symbol changed.
-    refuses(
-        &rt,
-        "age1T7rxyev2z3rw82stdlrrepyc39nvn86l5078zqkf5uasdy86jp6svpy7pa",
-        bad,
-        bad,
-    );
-    refuses(
-        &rt,
-        "age1t7rxyev2z3rw82stdlrrepyc39nvn86l5078zqkf5uasdy86jp6svpy7pq",
-        bad,
-        bad,
-    );
-    // 31 and 33 bytes, and none.
-    let size = "incorrect pubkey length";
-    refuses(
-        &rt,
-        "age1qqqqqqqqqqqqqqqqqqqqqqqqqqqqqqqqqqqqqqqqqqqqqqqqqqar9jk6",
-        size,
-        prefix,
-    );
-    refuses(
-        &rt,
-        "age1qqqqqqqqqqqqqqqqqqqqqqqqqqqqqqqqqqqqqqqqqqqqqqqqqqqqqzhlqeg",
-        size,
-        prefix,
-    );
-    refuses(&rt, "age19l388n", size, prefix);
-    let size = "incorrect identity length";
-    refuses(
-        &rt,
-        "AGE-SECRET-KEY-1QQQQQQQQQQQQQQQQQQQQQQQQQQQQQQQQQQQQQQQQQQQQQQQQQQ6J6TAE",
-        prefix,
-        size,
-    );
-    refuses(
-        &rt,
-        "AGE-SECRET-KEY-1QQQQQQQQQQQQQQQQQQQQQQQQQQQQQQQQQQQQQQQQQQQQQQQQQQQQQKKC73Y",
-        prefix,
-        size,
-    );
+    for (text, as_recipient, as_identity) in [
+        ("", BAD, BAD),
+        ("age1", BAD, BAD),
+        (RECIPIENT, "", PREFIX),
+        (IDENTITY, PREFIX, ""),
+        ("A12UEL5L", PREFIX, PREFIX),
+        // One letter raised, one symbol changed.
+        (
+            "age1T7rxyev2z3rw82stdlrrepyc39nvn86l5078zqkf5uasdy86jp6svpy7pa",
+            BAD,
+            BAD,
+        ),
+        (
+            "age1t7rxyev2z3rw82stdlrrepyc39nvn86l5078zqkf5uasdy86jp6svpy7pq",
+            BAD,
+            BAD,
+        ),
+        // 31 and 33 bytes, and none.
+        (
+            "age1qqqqqqqqqqqqqqqqqqqqqqqqqqqqqqqqqqqqqqqqqqqqqqqqqqar9jk6",
+            RECIPIENT_SIZE,
+            PREFIX,
+        ),
+        (
+            "age1qqqqqqqqqqqqqqqqqqqqqqqqqqqqqqqqqqqqqqqqqqqqqqqqqqqqqzhlqeg",
+            RECIPIENT_SIZE,
+            PREFIX,
+        ),
+        ("age19l388n", RECIPIENT_SIZE, PREFIX),
+        (
+            "AGE-SECRET-KEY-1QQQQQQQQQQQQQQQQQQQQQQQQQQQQQQQQQQQQQQQQQQQQQQQQQQ6J6TAE",
+            PREFIX,
+            IDENTITY_SIZE,
+        ),
+        (
+            "AGE-SECRET-KEY-1QQQQQQQQQQQQQQQQQQQQQQQQQQQQQQQQQQQQQQQQQQQQQQQQQQQQQKKC73Y",
+            PREFIX,
+            IDENTITY_SIZE,
+        ),
+    ] {
+        assert!(rt;
+            refuses_recipient(text, as_recipient) && refuses_identity(text, as_identity),
+            "{text}"
+        );
+    }
     Ok(())
+}
+
+// Whether a recipient equals its copy.
+fn equals_its_copy(recipient: &Recipient<BenchSuite>) -> Result<bool, Fail> {
+    Ok(*recipient == recipient.clone()?)
 }
 
 #[test]
@@ -134,12 +153,8 @@ fn recipients_are_their_bytes(rt: HostRuntime) -> Result<(), Fail> {
     let alloc = rt.alloc();
     let mut set = HashSet::new(alloc);
     for secret in [[1; 32], [2; 32], [1; 32]] {
-        let mut draw = Draw::new(Vec::from_slice(alloc, &secret)?);
-        let Some(identity) = Identity::<BenchSuite>::generate(&mut draw) else {
-            panic!(rt; "too few random bytes");
-        };
-        let recipient = identity.to_public();
-        assert!(rt; recipient == recipient.clone()?);
+        let recipient = recipient_of(alloc, &secret)?;
+        assert!(rt; equals_its_copy(&recipient)?);
         set.insert(recipient)?;
     }
     assert!(rt; set.len() == 2);

@@ -1,15 +1,16 @@
 //! X25519 recipients and identities. The expected bytes are those of Python, from the format's own words.
 
-use age::draw::Draw;
-use age::format::{Grease, Stanza};
-use age::secrecy::FileKey;
-use age::x25519::{Identity, Recipient};
-use age::{
-    DecryptError, EncryptError, Identity as _, Recipient as _, decrypt, encrypt, encrypt_and_armor,
+use crate::fixtures::{
+    gives_zeros, grease, identity_of, opens, passes_over, recipient_of, refuses, refuses_file,
+    refuses_to_wrap, stanza, wraps,
 };
+use age::draw::Draw;
+use age::x25519::{Identity, Recipient};
+use age::{encrypt, encrypt_and_armor};
 use age_bench::suite::BenchSuite;
-use age_try::fixtures::{MESSAGE, digest, empty_stanza, zeros};
-use std::alloc::{AllocError, Global};
+use age_try::answers::is_refusal;
+use age_try::fixtures::{KEY, MESSAGE, digest, zeros};
+use std::alloc::Global;
 use std::process::Abort;
 use std::test::Fail;
 
@@ -26,240 +27,165 @@ const SEALED: [u8; 32] = [
 const HEADER: &[u8] =
     b"age-encryption.org/v1\n-> X25519 WlpaWlpaWlpaWlpaWlpaWlpaWlpaWlpaWlpaWlpaWlo\n8YTqiaR+AGskezrb0qlKIRgOyNRiXDZoyGHuvoArL9k\n-> x-grease\n\n--- C94eH/KHckOUH2UEVHxqtCs9Jhhpv0tTWSL3QORypWU\n";
 
-/// The identity of a secret.
-pub fn identity_of(
-    rt: &impl Abort,
-    alloc: Global,
-    secret: &[u8],
-) -> Result<Identity<BenchSuite>, AllocError> {
-    let mut draw = Draw::new(Vec::from_slice(alloc, secret)?);
-    match Identity::generate(&mut draw) {
-        Some(identity) => Ok(identity),
-        None => panic!(rt; "too few random bytes"),
-    }
-}
-
 // The identity whose secret is the bytes 0, 1, .., 31.
-fn counting(rt: &impl Abort, alloc: Global) -> Result<Identity<BenchSuite>, AllocError> {
-    identity_of(rt, alloc, &age_try::fixtures::KEY)
+fn counting(alloc: Global) -> Result<Identity<BenchSuite>, Fail> {
+    identity_of(alloc, &KEY)
 }
 
-/// A grease stanza.
-pub fn grease(alloc: Global) -> Result<Grease, Fail> {
-    match empty_stanza(alloc, "x-grease")?.and_then(Grease::new) {
-        Some(grease) => Ok(grease),
-        None => Err(Fail::from("no grease")),
-    }
-}
-
-/// A stanza of a tag, with these arguments and this body.
-pub fn stanza(alloc: Global, tag: &str, arguments: &[&str], body: &[u8]) -> Result<Stanza, Fail> {
-    let mut args = Vec::new(alloc);
-    for argument in arguments {
-        args.push(String::from_str(alloc, argument)?)?;
-    }
-    match Stanza::new(
-        String::from_str(alloc, tag)?,
-        args,
-        Vec::from_slice(alloc, body)?,
-    ) {
-        Some(stanza) => Ok(stanza),
-        None => Err(Fail::from("no stanza")),
-    }
+// The message's file for that identity, with random bytes that are zero.
+fn encrypted(alloc: Global) -> Result<Vec<u8>, Fail> {
+    Ok(encrypt::<BenchSuite, Recipient<BenchSuite>>(
+        alloc,
+        &recipient_of(alloc, &KEY)?,
+        MESSAGE,
+        &mut zeros(alloc, 64)?,
+        grease(alloc)?,
+    )?)
 }
 
 #[test]
 fn a_message_has_its_file(rt: HostRuntime) -> Result<(), Fail> {
     let alloc = rt.alloc();
-    let mut identity = counting(&rt, alloc)?;
-    let recipient = identity.to_public();
-    let mut draw = zeros(alloc, 64)?;
-    let file = encrypt::<BenchSuite, Recipient<BenchSuite>>(
-        alloc,
-        &recipient,
-        MESSAGE,
-        &mut draw,
-        grease(alloc)?,
-    )?;
+    let file = encrypted(alloc)?;
     assert!(rt; file.len() == 249);
     assert!(rt; file.starts_with(HEADER));
     assert!(rt; digest(&file) == 0xc316a2df6a3f83c8);
-    let plain = decrypt::<BenchSuite, Identity<BenchSuite>>(alloc, &mut identity, &file)?;
-    assert!(rt; plain.as_slice() == MESSAGE);
+    assert!(rt; opens(alloc, &mut counting(alloc)?, file.as_slice())?);
     Ok(())
+}
+
+// Its armor.
+fn armored(alloc: Global) -> Result<String, Fail> {
+    Ok(encrypt_and_armor::<BenchSuite, Recipient<BenchSuite>>(
+        alloc,
+        &recipient_of(alloc, &KEY)?,
+        MESSAGE,
+        &mut zeros(alloc, 64)?,
+        grease(alloc)?,
+    )?)
+}
+
+// Whether the identity of the secret of nines is none of a file.
+fn nines_fail(alloc: Global, file: &[u8]) -> Result<bool, Fail> {
+    let mut other = identity_of(alloc, &[9; 32])?;
+    Ok(refuses_file::<BenchSuite, _>(alloc, &mut other, file, "no matching keys"))
 }
 
 #[test]
 fn a_message_has_its_armor(rt: HostRuntime) -> Result<(), Fail> {
     let alloc = rt.alloc();
-    let mut identity = counting(&rt, alloc)?;
-    let recipient = identity.to_public();
-    let mut draw = zeros(alloc, 64)?;
-    let text = encrypt_and_armor::<BenchSuite, Recipient<BenchSuite>>(
-        alloc,
-        &recipient,
-        MESSAGE,
-        &mut draw,
-        grease(alloc)?,
-    )?;
+    let text = armored(alloc)?;
     assert!(rt; text.len() == 406);
-    let plain = decrypt::<BenchSuite, Identity<BenchSuite>>(alloc, &mut identity, text.as_bytes())?;
-    assert!(rt; plain.as_slice() == MESSAGE);
-    let mut other = identity_of(&rt, alloc, &[9; 32])?;
-    let refused = decrypt::<BenchSuite, Identity<BenchSuite>>(alloc, &mut other, text.as_bytes());
-    assert!(rt; matches!(refused, Err(DecryptError::NoMatchingKeys)));
+    assert!(rt; opens(alloc, &mut counting(alloc)?, text.as_bytes())?);
+    assert!(rt; nines_fail(alloc, text.as_bytes())?);
     Ok(())
 }
 
-// What an identity answers to a stanza: nothing, a key of zeros, or that the header is bad.
-fn answers(
-    rt: &impl Abort,
-    alloc: Global,
-    stanza: &Stanza,
-    expected: Option<Result<(), ()>>,
-) -> Result<(), Fail> {
-    let mut identity = counting(rt, alloc)?;
-    match identity.unwrap_stanza(alloc, stanza) {
-        None => assert!(rt; expected.is_none()),
-        Some(Ok(key)) => {
-            assert!(rt; expected == Some(Ok(())));
-            assert!(rt; *key.expose_secret() == [0; 16]);
-        }
-        Some(Err(error)) => {
-            assert!(rt; expected == Some(Err(())));
-            assert!(rt; matches!(error, DecryptError::InvalidHeader));
-        }
-    }
-    Ok(())
+// Whether the identity answers a key of zeros to a stanza of the type with this share and the sealed file key.
+fn is_opened(alloc: Global) -> Result<bool, Fail> {
+    let stanza = stanza(alloc, "X25519", &[SHARE], &SEALED)?;
+    Ok(gives_zeros(alloc, &mut counting(alloc)?, &stanza))
 }
 
-// It answers this to a stanza of the type with these arguments and this body.
-fn is_judged(
-    rt: &impl Abort,
-    alloc: Global,
-    arguments: &[&str],
-    body: &[u8],
-    expected: Option<Result<(), ()>>,
-) -> Result<(), Fail> {
-    answers(
-        rt,
-        alloc,
-        &stanza(alloc, "X25519", arguments, body)?,
-        expected,
-    )
+// Whether it finds a stanza of the type with these arguments and this body bad.
+fn is_bad(alloc: Global, arguments: &[&str], body: &[u8]) -> Result<bool, Fail> {
+    let stanza = stanza(alloc, "X25519", arguments, body)?;
+    Ok(refuses(alloc, &mut counting(alloc)?, &stanza, "invalid header"))
+}
+
+// Whether it passes over a stanza of a tag with these arguments and this body.
+fn is_passed(alloc: Global, tag: &str, arguments: &[&str], body: &[u8]) -> Result<bool, Fail> {
+    let stanza = stanza(alloc, tag, arguments, body)?;
+    Ok(passes_over(alloc, &mut counting(alloc)?, &stanza))
 }
 
 #[test]
 fn stanzas_are_judged_in_order(rt: HostRuntime) -> Result<(), Fail> {
     let alloc = rt.alloc();
-    is_judged(&rt, alloc, &[SHARE], &SEALED, Some(Ok(())))?;
-    other_types_are_passed_over(&rt, alloc)?;
+    assert!(rt; is_opened(alloc)?);
+    assert!(rt; is_passed(alloc, "x25519", &[SHARE], &SEALED)?);
+    assert!(rt; is_passed(alloc, "bench", &[], &[0; 16])?);
     shares_are_judged(&rt, alloc)?;
     bodies_are_judged(&rt, alloc)
-}
-
-fn other_types_are_passed_over(rt: &impl Abort, alloc: Global) -> Result<(), Fail> {
-    answers(
-        rt,
-        alloc,
-        &stanza(alloc, "x25519", &[SHARE], &SEALED)?,
-        None,
-    )?;
-    answers(rt, alloc, &stanza(alloc, "bench", &[], &[0; 16])?, None)
 }
 
 // None, two, and then a short one, a second spelling of the last byte, padding, and the identity's own public value, with which the shared
 // secret is zero.
 fn shares_are_judged(rt: &impl Abort, alloc: Global) -> Result<(), Fail> {
-    is_judged(rt, alloc, &[], &SEALED, Some(Err(())))?;
-    is_judged(rt, alloc, &[SHARE, SHARE], &SEALED, Some(Err(())))?;
+    assert!(rt; is_bad(alloc, &[], &SEALED)?);
+    assert!(rt; is_bad(alloc, &[SHARE, SHARE], &SEALED)?);
     for share in [
         "WlpaWlpa",
         "WlpaWlpaWlpaWlpaWlpaWlpaWlpaWlpaWlpaWlpaWlp",
         "WlpaWlpaWlpaWlpaWlpaWlpaWlpaWlpaWlpaWlpaWlo=",
         "WltYWV5fXF1SU1BRVldUVUpLSElOT0xNQkNAQUZHREU",
     ] {
-        is_judged(rt, alloc, &[share], &SEALED, Some(Err(())))?;
+        assert!(rt; is_bad(alloc, &[share], &SEALED)?, "{share}");
     }
     Ok(())
 }
 
 // Another length, and one that doesn't open.
 fn bodies_are_judged(rt: &impl Abort, alloc: Global) -> Result<(), Fail> {
-    is_judged(rt, alloc, &[SHARE], &[0; 31], Some(Err(())))?;
-    is_judged(rt, alloc, &[SHARE], &[0; 33], Some(Err(())))?;
-    is_judged(rt, alloc, &[SHARE], &[0; 32], None)
+    assert!(rt; is_bad(alloc, &[SHARE], &[0; 31])?);
+    assert!(rt; is_bad(alloc, &[SHARE], &[0; 33])?);
+    assert!(rt; is_passed(alloc, "X25519", &[SHARE], &[0; 32])?);
+    Ok(())
 }
 
-// A file key of zeros is wrapped with random bytes of which so many are left, or refused with this text.
-fn wraps(
-    rt: &impl Abort,
-    alloc: Global,
-    recipient: &Recipient<BenchSuite>,
-    random: &[u8],
-    expected: Result<(), &str>,
-    left: usize,
-) -> Result<(), Fail> {
-    let mut draw = Draw::new(Vec::from_slice(alloc, random)?);
-    match recipient.wrap_file_key(alloc, &FileKey::new([0; 16]), &mut draw) {
-        Ok((stanzas, labels)) => {
-            assert!(rt; expected == Ok(()));
-            assert!(rt; stanzas.len() == 1);
-            assert!(rt; stanzas[0] == stanza(alloc, "X25519", &[SHARE], &SEALED)?);
-            assert!(rt; labels.is_empty());
-        }
-        Err(error) => assert!(rt; expected == Err(error.to_string(alloc)?.as_str())),
-    }
-    assert!(rt; draw.left() == left);
-    Ok(())
+// Whether a file key of zeros is wrapped with random bytes that are zero, of which so many are left.
+fn is_wrapped(alloc: Global, random: usize, left: usize) -> Result<bool, Fail> {
+    let expected = stanza(alloc, "X25519", &[SHARE], &SEALED)?;
+    let recipient = recipient_of(alloc, &KEY)?;
+    wraps(
+        alloc,
+        &recipient,
+        zeros(alloc, random)?,
+        &expected,
+        None,
+        left,
+    )
+}
+
+// Whether it is refused to wrap it with these random bytes, of which so many are left.
+fn is_refused(alloc: Global, random: &[u8], refusal: &str, left: usize) -> Result<bool, Fail> {
+    let recipient = recipient_of(alloc, &KEY)?;
+    let draw = Draw::new(Vec::from_slice(alloc, random)?);
+    Ok(refuses_to_wrap(alloc, &recipient, draw, refusal, left))
 }
 
 #[test]
 fn file_keys_are_wrapped(rt: HostRuntime) -> Result<(), Fail> {
     let alloc = rt.alloc();
-    let recipient = counting(&rt, alloc)?.to_public();
-    wraps(&rt, alloc, &recipient, &[0; 32], Ok(()), 0)?;
-    wraps(&rt, alloc, &recipient, &[0; 40], Ok(()), 8)?;
-    wraps(
-        &rt,
-        alloc,
-        &recipient,
-        &[0; 31],
-        Err("random bytes ran out"),
-        31,
-    )?;
-    wraps(&rt, alloc, &recipient, &[], Err("random bytes ran out"), 0)?;
-    wraps(
-        &rt,
-        alloc,
-        &recipient,
-        &age_try::fixtures::KEY,
-        Err("shared secret is zero"),
-        0,
-    )
+    assert!(rt; is_wrapped(alloc, 32, 0)?);
+    assert!(rt; is_wrapped(alloc, 40, 8)?);
+    assert!(rt; is_refused(alloc, &[0; 31], "random bytes ran out", 31)?);
+    assert!(rt; is_refused(alloc, &[], "random bytes ran out", 0)?);
+    assert!(rt; is_refused(alloc, &KEY, "shared secret is zero", 0)?);
+    Ok(())
 }
 
-// An encryption with so many random bytes is refused, and so many are left.
-fn runs_out(rt: &impl Abort, alloc: Global, random: usize, left: usize) -> Result<(), Fail> {
-    let recipient = counting(rt, alloc)?.to_public();
-    let mut draw = zeros(alloc, random)?;
-    let refused = encrypt::<BenchSuite, Recipient<BenchSuite>>(
-        alloc,
-        &recipient,
-        MESSAGE,
-        &mut draw,
-        grease(alloc)?,
+// Whether an encryption is refused since random bytes ran out.
+fn is_short(alloc: Global, draw: &mut Draw) -> Result<bool, Fail> {
+    let recipient = recipient_of(alloc, &KEY)?;
+    let grease = grease(alloc)?;
+    let answer = encrypt::<BenchSuite, Recipient<BenchSuite>>(
+        alloc, &recipient, MESSAGE, draw, grease,
     );
-    assert!(rt; matches!(refused, Err(EncryptError::ShortRandom)));
-    assert!(rt; draw.left() == left);
-    Ok(())
+    Ok(is_refusal(alloc, answer, "random bytes ran out"))
+}
+
+// Whether an encryption with so many random bytes is refused so, and so many are left.
+fn runs_out(alloc: Global, random: usize, left: usize) -> Result<bool, Fail> {
+    let mut draw = zeros(alloc, random)?;
+    Ok(is_short(alloc, &mut draw)? && draw.left() == left)
 }
 
 #[test]
 fn random_bytes_run_out(rt: HostRuntime) -> Result<(), Fail> {
     let alloc = rt.alloc();
     for (random, left) in [(0, 0), (15, 15), (16, 0), (47, 31), (48, 0), (63, 15)] {
-        runs_out(&rt, alloc, random, left)?;
+        assert!(rt; runs_out(alloc, random, left)?, "with {random}");
     }
     Ok(())
 }
