@@ -98,10 +98,10 @@ pub fn passphrase(alloc: Global, text: &str) -> Result<SecretString, AllocError>
     Ok(SecretString::from(String::from_str(alloc, text)?))
 }
 
-/// The message's file to this recipient in one of the forms, where each random byte is 0.
-pub fn encrypted<S: Suite, T: Recipient + Drop>(
+/// The message's file to these recipients in one of the forms, where each random byte is 0.
+pub fn encrypted<S: Suite, T: Recipient>(
     alloc: Global,
-    recipient: T,
+    recipients: &[T],
     format: Format,
 ) -> Result<Vec<u8>, Fail> {
     let grease = grease(alloc)?;
@@ -109,7 +109,7 @@ pub fn encrypted<S: Suite, T: Recipient + Drop>(
     let mut file = Vec::new(alloc);
     done(encrypt_all::<S, T, Bytes, Vec<u8>>(
         alloc,
-        &[recipient],
+        recipients,
         &mut draw,
         grease,
         format,
@@ -119,24 +119,24 @@ pub fn encrypted<S: Suite, T: Recipient + Drop>(
     Ok(file)
 }
 
-/// What this identity makes of a file, with the plaintext handed out after what is there.
-pub fn decrypted<S: Suite, I: Identity + Drop>(
+/// What these identities make of a file, with the plaintext handed out after what is there.
+pub fn decrypted<S: Suite, I: Identity>(
     alloc: Global,
-    identity: I,
+    identities: &mut [I],
     file: &[u8],
     plain: &mut Vec<u8>,
 ) -> Result<(), FileError> {
-    decrypt_all::<S, I, Bytes, Vec<u8>>(alloc, &mut [identity], &mut Bytes::new(file), plain)
+    decrypt_all::<S, I, Bytes, Vec<u8>>(alloc, identities, &mut Bytes::new(file), plain)
 }
 
-/// Whether this identity decrypts a file to the message.
-pub fn is_decrypted<S: Suite, I: Identity + Drop>(
+/// Whether these identities decrypt a file to the message.
+pub fn is_decrypted<S: Suite, I: Identity>(
     alloc: Global,
-    identity: I,
+    identities: &mut [I],
     file: &[u8],
 ) -> Result<bool, Fail> {
     let mut plain = Vec::new(alloc);
-    done(decrypted::<S, I>(alloc, identity, file, &mut plain))?;
+    done(decrypted::<S, I>(alloc, identities, file, &mut plain))?;
     Ok(plain.as_slice() == MESSAGE)
 }
 

@@ -10,7 +10,7 @@ use std::test::Fail;
 fn the_message_is_encrypted_to_own(rt: HostRuntime) -> Result<(), Fail> {
     let alloc = rt.alloc();
     let expected = own_file(alloc)?;
-    let file = encrypted::<BenchSuite, OwnRecipient>(alloc, OwnRecipient, Format::Binary)?;
+    let file = encrypted::<BenchSuite, OwnRecipient>(alloc, &[OwnRecipient], Format::Binary)?;
     assert!(rt; file.as_slice() == expected.as_slice());
     Ok(())
 }
@@ -19,10 +19,10 @@ fn the_message_is_encrypted_to_own(rt: HostRuntime) -> Result<(), Fail> {
 fn the_message_is_decrypted_by_own_alone(rt: HostRuntime) -> Result<(), Fail> {
     let alloc = rt.alloc();
     let file = own_file(alloc)?;
-    assert!(rt; is_decrypted::<BenchSuite, OwnIdentity>(alloc, OwnIdentity, &file)?);
+    assert!(rt; is_decrypted::<BenchSuite, OwnIdentity>(alloc, &mut [OwnIdentity], &file)?);
     let other = message_file(alloc)?;
     let mut none = Vec::new(alloc);
-    let answer = decrypted::<BenchSuite, OwnIdentity>(alloc, OwnIdentity, &other, &mut none);
+    let answer = decrypted::<BenchSuite, OwnIdentity>(alloc, &mut [OwnIdentity], &other, &mut none);
     assert!(rt; is_refused(alloc, answer, "Decrypt(NoMatchingKeys)")?);
     assert!(rt; none.len() == 0);
     Ok(())

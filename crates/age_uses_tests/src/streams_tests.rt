@@ -15,7 +15,7 @@ use std::test::Fail;
 
 // Whether the message's file in one of the forms is this one.
 fn is_encrypted(alloc: Global, format: Format, expected: &[u8]) -> Result<bool, Fail> {
-    let file = encrypted::<BenchSuite, BenchRecipient>(alloc, BenchRecipient, format)?;
+    let file = encrypted::<BenchSuite, BenchRecipient>(alloc, &[BenchRecipient], format)?;
     Ok(file.as_slice() == expected)
 }
 
@@ -32,8 +32,8 @@ fn the_message_is_encrypted(rt: HostRuntime) -> Result<(), Fail> {
 fn the_message_is_decrypted(rt: HostRuntime) -> Result<(), Fail> {
     let alloc = rt.alloc();
     let file = message_file(alloc)?;
-    assert!(rt; is_decrypted::<BenchSuite, BenchIdentity>(alloc, BenchIdentity, &file)?);
-    assert!(rt; is_decrypted::<BenchSuite, BenchIdentity>(alloc, BenchIdentity, ARMORED)?);
+    assert!(rt; is_decrypted::<BenchSuite, BenchIdentity>(alloc, &mut [BenchIdentity], &file)?);
+    assert!(rt; is_decrypted::<BenchSuite, BenchIdentity>(alloc, &mut [BenchIdentity], ARMORED)?);
     Ok(())
 }
 
@@ -42,8 +42,8 @@ fn the_message_is_decrypted(rt: HostRuntime) -> Result<(), Fail> {
 fn the_message_comes_back_over_the_other_suite(rt: HostRuntime) -> Result<(), Fail> {
     let alloc = rt.alloc();
     for format in [Format::Binary, Format::AsciiArmor] {
-        let text = encrypted::<OtherSuite, BenchRecipient>(alloc, BenchRecipient, format)?;
-        assert!(rt; is_decrypted::<OtherSuite, BenchIdentity>(alloc, BenchIdentity, &text)?);
+        let text = encrypted::<OtherSuite, BenchRecipient>(alloc, &[BenchRecipient], format)?;
+        assert!(rt; is_decrypted::<OtherSuite, BenchIdentity>(alloc, &mut [BenchIdentity], &text)?);
         assert!(rt; has_part::<OtherSuite>(alloc, 10, 4, &text, b"test")?);
     }
     Ok(())
