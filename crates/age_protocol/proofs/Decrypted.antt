@@ -27,7 +27,7 @@ module _ {S R : Type 0} {suite : SuiteMembers S} {read : ReadMembers R} where
   refused_key (Err own) h nonce input (Err e) d = d
   refused_key (Ok key) h nonce input (Ok r) d = tt
   refused_key (Ok key) h nonce input (Err e) (inl wrong) = inl wrong
-  refused_key (Ok key) h nonce input (Err e) (inr right) = inr right.1
+  refused_key (Ok key) h nonce input (Err e) (inr right) = inr right
 
 -- two facts that stay stay together
 pub both_told : (a b a' b' : Bool) → a' ≡ a → b' ≡ b → IsTrue (a && b) → IsTrue (a' && b')

@@ -1,8 +1,7 @@
 -- What was read of a file, and what the identity's answer came to.
-use Rattle.std.proofs.Common.{◌≡◌, ◌≢◌, ◌⊎◌, ◌∙◌, refl, sym, ap, inl, inr, ℕ, true, false, List, IsTrue, Some, None, Ok, Err, Result, IfErr, arith}
+use Rattle.std.proofs.Common.{◌≡◌, ◌≢◌, ◌⊎◌, ◌∙◌, refl, sym, ap, inl, inr, ℕ, true, false, List, IsTrue, Some, None, Ok, Err, Result, arith}
 use Rattle.age_error.specs.Refusals.{IsDevice}
 use Rattle.age_error.specs.DecryptErrors.{DecryptRefusal, IfIoRefusal, decrypt_refusal, decrypt_of_io}
-use Rattle.age_error.specs.declared.decrypt.DecryptError.{DecryptError}
 use Rattle.age_error.specs.declared.io.Error.{Error}
 use Rattle.age_error.specs.declared.io.Error.TheVariants as io
 use Rattle.age_suite.specs.declared.suite.Suite.{Ghosts as SuiteGhosts}
@@ -11,6 +10,7 @@ use Rattle.age_io.specs.Stretch.{Stretch, whole}
 use Rattle.age_format.specs.HeaderV1.{HeaderValue}
 use Rattle.age_format.specs.Unwrapping.{UnwrapAnswer}
 use Rattle.age_armor.specs.Refusing.{IsTextRefusal}
+use Rattle.age_stream.specs.Payload.{Seal}
 use Rattle.age_stream.specs.Keeping.{Stops}
 use Rattle.age_stream.specs.Reader.{plain_rest_of}
 use Rattle.age_stream.specs.declared.reader.StreamReader.{StreamReader}
@@ -18,6 +18,7 @@ use Rattle.age_protocol.specs.Answering.{decided}
 use Rattle.age_protocol.specs.Decrypting.{RefusesFront}
 use Rattle.age_protocol.specs.File.{payload_key}
 use Rattle.age_protocol.specs.OpeningFile.{Decrypts, OpensFile}
+use Rattle.age_protocol.specs.Texts.{RefusesKey}
 use Rattle.age_protocol.specs.WholeFiles.{LacksFront, RefusesPayload, RefusesRest}
 
 -- of a reader whose device never fails
@@ -41,25 +42,6 @@ module _ {S R : Type 0} {suite : SuiteGhosts S} {read : Ghosts R} where
   decided_key (Some (Ok key)) h nonce input r (inl wrong) = absurd wrong.1
   decided_key (Some (Ok key)) h nonce input r (inr right) = (key, refl, right.1)
 
-  -- no reader was given
-  pub refuses_rest : (key : Result (List ℕ) DecryptRefusal) (h : HeaderValue) (nonce : List ℕ) (input : R)
-      (result : Result (StreamReader S R suite read) DecryptError) → Decrypts key h nonce input result
-      → IfErr result (λ e. RefusesRest suite.seal_of key h nonce (read.rest input) (decrypt_refusal e))
-  refuses_rest (Err own) h nonce input (Ok r) d = tt
-  refuses_rest (Err own) h nonce input (Err e) d = d
-  refuses_rest (Ok key) h nonce input (Ok r) d = tt
-  refuses_rest (Ok key) h nonce input (Err e) (inl wrong) = inl wrong
-  refuses_rest (Ok key) h nonce input (Err e) (inr right) = inr (
-    right.0,
-    record {
-      error = io.OutOfMemory;
-      is = right.1;
-      no_device = λ device. device;
-      named = inl tt;
-      bad = λ other. absurd (other refl);
-    },
-  )
-
   -- the reader that was given met an end that isn't clean
   pub refuses_payload : (file_key : List ℕ) (h : HeaderValue) (nonce : List ℕ) (input : R) (r : StreamReader S R suite read) (e : Error)
       → OpensFile file_key h nonce input r → (IsDevice e → ⊥) → (e ≢ io.OutOfMemory → (plain_rest_of r).ends_well ≡ false)
@@ -75,3 +57,19 @@ module _ {S R : Type 0} {suite : SuiteGhosts S} {read : Ghosts R} where
         let well : true ≡ false = sym (ap (λ s. s.ends_well) all) ∙ badly other in
         absurd (Prim.cc);
   }
+
+-- no reader was given
+pub rest_of_key : (seal_of : Seal) (key : Result (List ℕ) DecryptRefusal) (h : HeaderValue) (nonce : List ℕ) (left : Stretch) (e : DecryptRefusal)
+    → RefusesKey key h e → RefusesRest seal_of key h nonce left e
+rest_of_key seal_of (Err own) h nonce left e why = why
+rest_of_key seal_of (Ok key) h nonce left e (inl wrong) = inl wrong
+rest_of_key seal_of (Ok key) h nonce left e (inr right) = inr (
+  right.0,
+  record {
+    error = io.OutOfMemory;
+    is = right.1;
+    no_device = λ device. device;
+    named = inl tt;
+    bad = λ other. absurd (other refl);
+  },
+)

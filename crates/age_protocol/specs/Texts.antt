@@ -30,7 +30,8 @@ pub record BeginsText {R : Type 0} (tells : R → Bool) (rest : R → Stretch) (
 abbrev pub Begins : Stretch → ℕ → HeaderValue → List ℕ → Stretch → Type 0
 Begins start start_place h nonce left = (place : ℕ) × ReadsFront reads_legacy start left start_place place h nonce
 
--- after the identity that decides has answered: its own refusal, or the header's MAC is wrong under its file key, or memory was refused
+-- after the identity that decides has answered: its own refusal, or the header's MAC is wrong under its file key, or it is right and memory was refused
 abbrev pub RefusesKey : Result (List ℕ) DecryptRefusal → HeaderValue → DecryptRefusal → Type 0
 RefusesKey (Err own) h refusal = refusal ≡ own
-RefusesKey (Ok file_key) h refusal = ((h.mac ≢ header_mac file_key h.covered) × (refusal ≡ InvalidMac)) ⊎ (refusal ≡ OutOfMemory)
+RefusesKey (Ok file_key) h refusal =
+    ((h.mac ≢ header_mac file_key h.covered) × (refusal ≡ InvalidMac)) ⊎ ((h.mac ≡ header_mac file_key h.covered) × (refusal ≡ OutOfMemory))

@@ -1,5 +1,5 @@
 //! Files opened, and reads and seeks on their plaintext.
-ghost use Rattle.std.specs.Prelude.{◌≡◌, ◌&&◌, ℕ, ◌≤◌, IsTrue, List, All, map, IfOk, IfErr, MatchResult};
+ghost use Rattle.std.specs.Prelude.{◌≡◌, ◌&&◌, ℕ, ◌≤◌, IsTrue, List, [], ◌∷◌, All, map, IfOk, IfErr, MatchResult};
 ghost use Rattle.age_error.specs.DecryptErrors.{OutOfMemory, decrypt_refusal};
 ghost use Rattle.age_io.specs.Replies.{seen, replies, IsNoWant};
 ghost use Rattle.age_armor.specs.Armor.{Carries};
@@ -47,6 +47,33 @@ pub fn open_file<S: Suite, I: Identity, T: Read + Drop>(
     match Decryptor::<S, T>::new(alloc, bytes) {
         Err(error) => Err(error),
         Ok(decryptor) => decryptor.decrypt(alloc, identities),
+    }
+}
+
+/// `open_file` with one identity: its answer decides.
+///
+/// It takes the identity itself, also where its type is a type parameter, of which no list of one can be made without memory.
+pub fn open_file_by_one<S: Suite, I: Identity, T: Read + Drop>(
+    alloc: Global,
+    identity: &mut I,
+    bytes: T,
+) -> Result<StreamReader<S, T>, DecryptError>
+    ensures tells { let reader = ⟦<StreamReader<S, T> as Read>⟧ in IfOk result (λ stream. reader.tells stream ≡ (T.tells bytes && T.steady bytes)) }
+    ensures faults { let reader = ⟦<StreamReader<S, T> as Read>⟧ in IfOk result (λ stream. T.faults bytes ≤ reader.faults stream) }
+    // Of any bytes.
+    ensures opened { IfOk result (λ stream. IsOpened I.unwraps (identity.old ∷ []) (identity.new ∷ []) bytes stream) }
+    ensures refused { IfErr result (λ e.
+        IsNotOpened I.unwraps ⟦<T as Read>⟧ (identity.old ∷ []) (identity.new ∷ []) bytes (decrypt_refusal e)) }
+    // Of a file for the identity.
+    ensures plaintext { IsTrue (T.tells bytes && T.steady bytes) → IsTrue (T.rest bytes).ends_well → (plain : List ℕ) →
+        IsFileFor S.seal_of (FirstAnswer I.unwraps (identity.old ∷ [])) plain (T.rest bytes).bytes →
+        MatchResult result (λ stream. StandsBefore plain stream) (λ e. ((t : T) → T.faults t ≡ 0) → decrypt_refusal e ≡ OutOfMemory) }
+{
+    front_is_accepted::<T>();
+    file_opens::<S, T>();
+    match Decryptor::<S, T>::new(alloc, bytes) {
+        Err(error) => Err(error),
+        Ok(decryptor) => decryptor.decrypt_one(alloc, identity),
     }
 }
 

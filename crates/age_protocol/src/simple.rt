@@ -9,9 +9,9 @@ ghost use Rattle.age_protocol.specs.Encrypting.{Prepared, Prepares};
 ghost use Rattle.age_protocol.specs.Parts.{FirstAnswer, IsFileFor};
 ghost use Rattle.age_protocol.specs.WholeFiles.{Encrypts, Decrypts, Refuses};
 
-use crate::decryptor::Decryptor;
 use crate::error::FileError;
 use crate::laws::carried_files;
+use crate::opening::open_file_by_one;
 use crate::whole::encrypt_all;
 use age_armor::{ArmoredReader, Format, armor_is_text};
 use age_error::bytes::known_bytes;
@@ -102,8 +102,8 @@ pub fn encrypt_and_armor<S: Suite, T: Recipient>(
     }
 }
 
-// Reads the file to its end.
-fn open_file<S: Suite, I: Identity>(
+// The plaintext of a file that is read to its end.
+fn plaintext_of<S: Suite, I: Identity>(
     alloc: Global,
     identity: &mut I,
     file: &[u8],
@@ -113,8 +113,7 @@ fn open_file<S: Suite, I: Identity>(
 {
     known_bytes(file);
     let input = ArmoredReader::new_buffered(alloc, Bytes::new(file))?;
-    let decryptor = Decryptor::<S, ArmoredReader<Bytes>>::new_buffered(alloc, input)?;
-    let mut reader = decryptor.decrypt_one(alloc, identity)?;
+    let mut reader = open_file_by_one::<S, I, ArmoredReader<Bytes>>(alloc, identity, input)?;
     let mut plaintext = Vec::new(alloc);
     read_to_end(alloc, &mut reader, &mut plaintext)?;
     known_bytes(&plaintext);
@@ -126,7 +125,7 @@ fn open_file<S: Suite, I: Identity>(
 /// A success says that the bytes carry a file of exactly this plaintext, under the file key that the identity got from the
 /// header's stanzas, with the right MAC. The refusals, in the order in which they are looked for:
 ///
-/// - those of `Decryptor::new_buffered`; the identity isn't asked then. Fewer than 36 bytes are `Io(UnexpectedEof)`, whatever they
+/// - those of `Decryptor::new`; the identity isn't asked then. Fewer than 36 bytes are `Io(UnexpectedEof)`, whatever they
 ///   are. `Io(Armor(..))` where the armor has a fault before the nonce ends.
 /// - the identity's own, `NoMatchingKeys` where it answers `None`, and `InvalidMac` where the header's MAC is wrong under
 ///   its file key.
@@ -146,5 +145,5 @@ pub fn decrypt<S: Suite, I: Identity>(
         MatchResult result (λ given. given.items ≡ plain) (λ e. decrypt_refusal e ≡ OutOfMemory) }
 {
     carried_files::<S, I>();
-    open_file::<S, I>(alloc, identity, file)
+    plaintext_of::<S, I>(alloc, identity, file)
 }
