@@ -4,9 +4,9 @@ build.py PROGRAM WORD.., where the words are those of a run of it that succeeds.
 
 Says on standard error which crates it proves and how many are left, and nothing where there is nothing to do. Each crate
 is proved by `rt lib` over what earlier runs have kept, as soon as those that it uses are there, the one with the longest
-chain above it first and with most of the processors' time, by as many jobs as there are processors, four at most. `rt` locks a
-crate and all below it, so each is proved in a folder of its own, with the libraries below it beside it. Exit status 3 where a
-crate isn't proved.
+chain above it first, with most of the processors' time and by as many jobs as there are processors, four at most, the others by
+one. `rt` locks a crate and all below it, so each is proved in a folder of its own, with the libraries below it beside it. Exit
+status 3 where a crate isn't proved.
 """
 import hashlib
 import os
@@ -97,8 +97,8 @@ class Run:
             words = ["rt", "run", "--jobs", str(jobs), "--", *WORDS]
         self.log = f"{self.room}/log"
         with open(self.log, "wb") as log:
-            self.process = subprocess.Popen(words, cwd=folder, stdin=subprocess.DEVNULL, stdout=log, stderr=log,
-                                            start_new_session=True)
+            # (a group and no session of its own: between sessions Linux shares the processors out whatever `nice` says)
+            self.process = subprocess.Popen(words, cwd=folder, stdin=subprocess.DEVNULL, stdout=log, stderr=log, preexec_fn=os.setpgrp)
 
     def keep(self):
         """Puts what was built into its place."""
@@ -135,9 +135,9 @@ def build(uses):
             ready = [it for it in order if it not in begun and done.issuperset(uses[it])]
             left = max(chains[name] for name in uses if name not in done)
             for name in ready:
-                # (a crate from which little hangs doesn't keep a longer chain waiting)
+                # (a crate from which little hangs doesn't keep a longer chain waiting; each job reads what stands below anew)
                 ahead = sum(chains[it.name] >= chains[name] for it in running)
-                jobs = most if chains[name] > 0.75 * left else max(1, most // 2)
+                jobs = most if chains[name] == left else 1
                 if ahead >= lanes or (running and sum(it.jobs for it in running) + jobs > room):
                     break
                 running.append(Run(name, uses, jobs, round(19 * (1 - chains[name] / longest))))
