@@ -76,10 +76,10 @@ module _ {I S T : Type 0} (suite : SuiteMembers S) (read : ReadMembers T) (unwra
       let (stanzas_are, right, nonce_is, left, end) = opens (read.rest text) (read.rest is.input) (read.place text) (read.place is.input) is.h is.nonce for.file_key for.stanzas plain front for.is_file in
       let key = same_key is.file_key (for.right (Some (Ok is.file_key)) (new, rw stanzas_are at asks.first)) in
       is_content (read.rest text) (read.place text) is.h is.nonce for.file_key for.stanzas plain is.input stream front for.is_file for.bytes for.within for.last well
-          (both_told _ _ _ _ asks.same.tells asks.same.steady told) (rw key at is.opens)
+      (both_told _ _ _ _ asks.same.tells asks.same.steady told) (rw key at is.opens)
   stands_or_want (Err e) none (inl (same, (last, refuses))) = λ still.
       accepted text last (decrypt_refusal e) _ _ _ _ _ refuses (and-left _ _ told) (never_fails read.faults text last still)
-          (begins suite.seal_of for.file_key for.stanzas plain (read.rest text).bytes for.is_file)
+      (begins suite.seal_of for.file_key for.stanzas plain (read.rest text).bytes for.is_file)
   stands_or_want (Err e) none (inr (h, nonce, input, answer, asks, why)) = λ still.
       let front = asks.front (and-left _ _ told) in
       let (stanzas_are, right, nonce_is, left, end) = opens (read.rest text) (read.rest input) (read.place text) (read.place input) h nonce for.file_key for.stanzas plain front for.is_file in
