@@ -1,31 +1,31 @@
 //! The words of a command line as a whole.
 ghost use Rattle.std.specs.Prelude.{◌≡◌, IfOk, map, string_bytes};
-ghost use Rattle.sazh_command.specs.Asked.{answer_value, command_value};
+ghost use Rattle.sazh_command.specs.Asked.{IsAnswer, answer_value, command_value};
 ghost use Rattle.sazh_command.specs.Synopsis.{command_of, named_command_of};
 
 use crate::command::Command;
 use crate::meaning::asked;
-use crate::mistakes::UsageError;
+use crate::mistakes::{Stop, UsageError};
 use crate::options::{CommandName, command_named};
 use crate::reading::{asks_for_help, given_of};
 use std::alloc::{AllocError, Global};
 
 // The command that the first word names, and the words after it.
+#[tactic(auto, using(crate::proofs::Stops::and_then_stops))]
 fn parse_named(
     alloc: Global,
     word: &str,
     command: Option<CommandName>,
     words: &[String],
-) -> Result<Result<Command, UsageError>, AllocError>
-    ensures { IfOk result (λ answer. answer_value command_value answer ≡ named_command_of word.now command (map string_bytes words.now)) }
+) -> Result<Command, Stop>
+    ensures { IsAnswer command_value result (named_command_of word.now command (map string_bytes words.now)) }
 {
     let Some(command) = command else {
-        return Ok(Err(UsageError::UnknownCommand(String::from_str(alloc, word)?)));
+        let word = String::from_str(alloc, word)?;
+        return Err(Stop::Usage(UsageError::UnknownCommand(word)));
     };
-    match given_of(alloc, command, words)? {
-        Ok(given) => asked(alloc, command, given),
-        Err(error) => Ok(Err(error)),
-    }
+    let mut given = given_of(alloc, command, words)?;
+    asked(alloc, command, &mut given)
 }
 
 /// What the words after the program's name ask for, or what is wrong with them. `USAGE` has what a command line may be.
@@ -51,5 +51,11 @@ pub fn parse(alloc: Global, words: &[String]) -> Result<Result<Command, UsageErr
     if asks_for_help(command, words) {
         return Ok(Ok(Command::Help));
     }
-    parse_named(alloc, word, command, more)
+    match parse_named(alloc, word, command, more) {
+        Ok(command) => Ok(Ok(command)),
+        Err(stop) => match stop {
+            Stop::Usage(error) => Ok(Err(error)),
+            Stop::Memory => Err(AllocError),
+        },
+    }
 }
