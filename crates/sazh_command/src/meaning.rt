@@ -193,7 +193,8 @@ fn asked_of_version(alloc: Global, given: &Given) -> Result<Command, Stop>
     Ok(Command::Version)
 }
 
-/// What a command asks for, where its options and operands are these, which it takes out of `given`.
+/// What a command asks for, where its options and operands are these. It takes what it needs out of `given`, so that all else of it is
+/// dropped in one place, by who has it.
 pub fn asked(alloc: Global, command: CommandName, given: &mut Given) -> Result<Command, Stop>
     ensures { IsAnswer command_value result (asked command (given_value given.old)) }
 {

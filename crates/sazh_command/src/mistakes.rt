@@ -36,14 +36,19 @@ pub enum UsageError {
     ExtraOperand(String),
 }
 
+// A word in quotes, and what is said of it.
+fn quoted<W: fmt::Write>(f: &mut fmt::Formatter<W>, word: &str, what: &str) -> fmt::Result {
+    write!(f, "{word:?}{what}")
+}
+
 impl fmt::Display for UsageError {
     ghost output = { λ error. message_of (error_value error) };
 
     fn fmt<W: fmt::Write>(&self, f: &mut fmt::Formatter<W>) -> fmt::Result {
         match self {
             UsageError::NoCommand => f.write_str("no command is given"),
-            UsageError::UnknownCommand(word) => write!(f, "{word:?} is no command"),
-            UsageError::UnknownOption(word) => write!(f, "{word:?} is no option of the command"),
+            UsageError::UnknownCommand(word) => quoted(f, word, " is no command"),
+            UsageError::UnknownOption(word) => quoted(f, word, " is no option of the command"),
             UsageError::MissingValue(option) => write!(f, "the option {option} lacks its value"),
             UsageError::GivenTwice(option) => write!(f, "the option {option} is given twice"),
             UsageError::PassphraseBesideRecipients => {
@@ -55,7 +60,10 @@ impl fmt::Display for UsageError {
             UsageError::NotANumber(operand, word) => {
                 write!(f, "{operand} is {word:?}, and no decimal number below 2^64")
             }
-            UsageError::ExtraOperand(word) => write!(f, "the word {word:?} is one too many"),
+            UsageError::ExtraOperand(word) => {
+                f.write_str("the word ")?;
+                quoted(f, word, " is one too many")
+            }
         }
     }
 }

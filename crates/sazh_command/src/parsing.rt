@@ -1,6 +1,6 @@
 //! The words of a command line as a whole.
-ghost use Rattle.std.specs.Prelude.{◌≡◌, IfOk, map, string_bytes};
-ghost use Rattle.sazh_command.specs.Asked.{IsAnswer, answer_value, command_value};
+ghost use Rattle.std.specs.Prelude.{◌≡◌, IfOk, Result, map, string_bytes};
+ghost use Rattle.sazh_command.specs.Asked.{IsAnswer, CommandValue, UsageErrorValue, answer_value, command_value};
 ghost use Rattle.sazh_command.specs.Synopsis.{command_of, named_command_of};
 
 use crate::command::Command;
@@ -28,6 +28,19 @@ fn parse_named(
     asked(alloc, command, &mut given)
 }
 
+// The same, where a mistake is an answer.
+fn answer_of(command: Result<Command, Stop>) -> Result<Result<Command, UsageError>, AllocError>
+    ensures { IfOk result (λ answer. (due : Result CommandValue UsageErrorValue) → IsAnswer command_value command due → answer_value command_value answer ≡ due) }
+{
+    match command {
+        Ok(command) => Ok(Ok(command)),
+        Err(stop) => match stop {
+            Stop::Usage(error) => Ok(Err(error)),
+            Stop::Memory => Err(AllocError),
+        },
+    }
+}
+
 /// What the words after the program's name ask for, or what is wrong with them. `USAGE` has what a command line may be.
 ///
 /// The first word names the command, and its options and operands follow in any order. The value of an option is the next word,
@@ -51,11 +64,5 @@ pub fn parse(alloc: Global, words: &[String]) -> Result<Result<Command, UsageErr
     if asks_for_help(command, words) {
         return Ok(Ok(Command::Help));
     }
-    match parse_named(alloc, word, command, more) {
-        Ok(command) => Ok(Ok(command)),
-        Err(stop) => match stop {
-            Stop::Usage(error) => Ok(Err(error)),
-            Stop::Memory => Err(AllocError),
-        },
-    }
+    answer_of(parse_named(alloc, word, command, more))
 }

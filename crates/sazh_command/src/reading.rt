@@ -136,18 +136,22 @@ fn with_word(alloc: Global, command: CommandName, given: &mut Given, word: &str)
     }
 }
 
-// All words, up to the first mistake.
+// More words, up to the first mistake.
 #[tactic(auto, using(crate::proofs::Stops::and_then_stops))]
-fn with_words(alloc: Global, command: CommandName, words: &[String]) -> Result<Given, Stop>
-    ensures { IsAnswer given_value result (with_words command (map string_bytes words.now) nothing) }
+fn with_words(
+    alloc: Global,
+    command: CommandName,
+    given: &mut Given,
+    words: &[String],
+) -> Result<(), Stop>
+    ensures { IsAnswer (λ _. given_value given.new) result (with_words command (map string_bytes words.now) (given_value given.old)) }
 {
-    let mut given = nothing(alloc);
     let mut rest = words;
     'words: while let Some((word, tail)) = rest.split_first() {
-        with_word(alloc, command, &mut given, word.as_str())?;
+        with_word(alloc, command, given, word.as_str())?;
         rest = tail;
     }
-    Ok(given)
+    Ok(())
 }
 
 /// What the words after the command's name give.
@@ -155,7 +159,8 @@ fn with_words(alloc: Global, command: CommandName, words: &[String]) -> Result<G
 pub fn given_of(alloc: Global, command: CommandName, words: &[String]) -> Result<Given, Stop>
     ensures { IsAnswer given_value result (given_of command (map string_bytes words.now)) }
 {
-    let given = with_words(alloc, command, words)?;
+    let mut given = nothing(alloc);
+    with_words(alloc, command, &mut given, words)?;
     match given.next {
         Next::Value(option) => Err(Stop::Usage(UsageError::MissingValue(option))),
         Next::Any | Next::Operand => Ok(given),
