@@ -4,11 +4,11 @@ use Rattle.sazh_command.specs.declared.options.Operand.{Operand}
 use Rattle.sazh_command.specs.declared.options.Operand.TheVariants as operand
 use Rattle.sazh_command.specs.declared.options.CommandName.{CommandName}
 use Rattle.sazh_command.specs.declared.options.CommandName.TheVariants as name
-use Rattle.sazh_command.specs.Asked.{RecipientValue, IdentitiesValue, CommandValue, Help, Version, Keygen, Part, UsageErrorValue}
+use Rattle.sazh_command.specs.Asked.{RecipientValue, CommandValue, Help, UsageErrorValue}
 use Rattle.sazh_command.specs.Decimal.{number_of}
 use Rattle.sazh_command.specs.Options.{command_named}
 use Rattle.sazh_command.specs.Reading.{GivenValue, and_then, given_of, asks_for_help}
-use Rattle.sazh_command.specs.Synopsis.{recipients_of, identities_of, input_of, without_operand, number_or_error, part_of, asked, named_command_of, command_of}
+use Rattle.sazh_command.specs.Synopsis.{recipients_of, identities_of, input_of, no_operand, number_or_error, range_of, asked, named_command_of, command_of}
 use Rattle.sazh_command.specs.Written.{HasRecipient, HasIdentity, IsAskable}
 use Rattle.sazh_command.proofs.Numbers.{number_of-small}
 
@@ -36,36 +36,28 @@ identities_of-ok [] (Some file) = tt
 identities_of-ok (first ∷ more) None = tt
 identities_of-ok (first ∷ more) (Some file) = tt
 
-without_operand-ok : (command : CommandValue) (operands : List (List ℕ)) → IsAskable command → IfOk (without_operand command operands) IsAskable
-without_operand-ok command [] askable = askable
-without_operand-ok command (word ∷ more) askable = tt
-
 number_or_error-ok : (operand : Operand) (word : List ℕ) (number : Option ℕ) → IfSome number (λ n. n < 2 ^ 64)
     → IfOk (number_or_error operand word number) (λ n. n < 2 ^ 64)
 number_or_error-ok operand word (Some n) small = small
 number_or_error-ok operand word None small = tt
 
--- of two numbers that were read
-numbers-ok : (identities : IdentitiesValue) (input : List ℕ) (place count : Result ℕ UsageErrorValue) → HasIdentity identities
-    → IfOk place (λ n. n < 2 ^ 64) → IfOk count (λ n. n < 2 ^ 64)
-    → IfOk (and_then (λ start. and_then (λ size. Ok (Part identities start size input)) count) place) IsAskable
-numbers-ok identities input (Ok start) (Ok size) known small_start small_size = (known, small_start, small_size)
-numbers-ok identities input (Ok start) (Err error) known small_start small_size = tt
-numbers-ok identities input (Err error) count known small_start small_size = tt
+abbrev IsSmall : ℕ × ℕ × List ℕ → Type 0
+IsSmall range = (range.0 < 2 ^ 64) × (range.1 < 2 ^ 64)
 
-part_of-ok : (identities : IdentitiesValue) (operands : List (List ℕ)) → HasIdentity identities → IfOk (part_of identities operands) IsAskable
-part_of-ok identities [] known = tt
-part_of-ok identities (place ∷ []) known = tt
-part_of-ok identities (place ∷ count ∷ []) known = tt
-part_of-ok identities (place ∷ count ∷ input ∷ []) known =
-    numbers-ok identities input (number_or_error operand.Place place (number_of place)) (number_or_error operand.Count count (number_of count)) known
-    (number_or_error-ok operand.Place place (number_of place) (number_of-small place))
-    (number_or_error-ok operand.Count count (number_of count) (number_of-small count))
-part_of-ok identities (place ∷ count ∷ input ∷ word ∷ more) known = tt
+range_of-ok : (operands : List (List ℕ)) → IfOk (range_of operands) IsSmall
+range_of-ok [] = tt
+range_of-ok (place ∷ []) = tt
+range_of-ok (place ∷ count ∷ []) = tt
+range_of-ok (place ∷ count ∷ input ∷ []) =
+    and_then-ok (λ n. n < 2 ^ 64) IsSmall _ (number_or_error operand.Place place (number_of place))
+    (number_or_error-ok operand.Place place (number_of place) (number_of-small place)) (λ start small_start.
+    and_then-ok (λ n. n < 2 ^ 64) IsSmall _ (number_or_error operand.Count count (number_of count))
+    (number_or_error-ok operand.Count count (number_of count) (number_of-small count)) (λ size small_size. (small_start, small_size)))
+range_of-ok (place ∷ count ∷ input ∷ word ∷ more) = tt
 
 asked-ok : (command : CommandName) (given : GivenValue) → IfOk (asked command given) IsAskable
-asked-ok name.Version given = without_operand-ok Version given.operands tt
-asked-ok name.Keygen given = without_operand-ok (Keygen _) given.operands tt
+asked-ok name.Version given = always IsAskable _ (no_operand given.operands) (λ none. tt)
+asked-ok name.Keygen given = always IsAskable _ (no_operand given.operands) (λ none. tt)
 asked-ok name.Encrypt given =
     and_then-ok HasRecipient IsAskable _ (recipients_of given.recipients given.passphrase_file)
     (recipients_of-ok given.recipients given.passphrase_file) (λ recipients known. always IsAskable _ (input_of given.operands) (λ input. known))
@@ -74,7 +66,8 @@ asked-ok name.Decrypt given =
     (identities_of-ok given.identity_files given.passphrase_file) (λ identities known. always IsAskable _ (input_of given.operands) (λ input. known))
 asked-ok name.Part given =
     and_then-ok HasIdentity IsAskable _ (identities_of given.identity_files given.passphrase_file)
-    (identities_of-ok given.identity_files given.passphrase_file) (λ identities known. part_of-ok identities given.operands known)
+    (identities_of-ok given.identity_files given.passphrase_file) (λ identities known.
+    and_then-ok IsSmall IsAskable _ (range_of given.operands) (range_of-ok given.operands) (λ range small. (known, small.0, small.1)))
 
 named_command_of-ok : (word : List ℕ) (command : Option CommandName) (words : List (List ℕ)) → IfOk (named_command_of word command words) IsAskable
 named_command_of-ok word None words = tt

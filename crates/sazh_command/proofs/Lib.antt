@@ -1,3 +1,4 @@
 pub mod Numbers
 pub mod RoundTrip
 pub mod Askable
+pub mod Stops

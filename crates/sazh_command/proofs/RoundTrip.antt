@@ -8,7 +8,7 @@ use Rattle.sazh_command.specs.declared.options.CommandName.TheVariants as name
 use Rattle.sazh_command.specs.declared.reading.Next.TheVariants.{Operand}
 use Rattle.sazh_command.specs.Asked.{RecipientValue, Text, File, Listed, ToPassphraseFile, IdentitiesValue, Files, ProtectedFiles, WithPassphraseFile, CommandValue, Help, Version, Keygen, Encrypt, Decrypt, Part}
 use Rattle.sazh_command.specs.Reading.{GivenValue, nothing, and_then, with_words, finished, asks_for_help}
-use Rattle.sazh_command.specs.Synopsis.{asked, named_command_of, part_of, command_of}
+use Rattle.sazh_command.specs.Synopsis.{asked, named_command_of, range_of, command_of}
 use Rattle.sazh_command.specs.Written.{switch_words, listed_words, files_words, words_of, IsAskable}
 use Rattle.sazh_command.proofs.Numbers.{number_of-decimal}
 
@@ -111,7 +111,8 @@ keygen_written false output = refl
 
 -- PLACE and COUNT, as they are written
 part_written : (identities : IdentitiesValue) (place count : ℕ) (input : List ℕ) → place < 2 ^ 64 → count < 2 ^ 64
-    → part_of identities (decimal place ∷ decimal count ∷ input ∷ []) ≡ Ok (Part identities place count input)
+    → and_then (λ range. Ok (Part identities range.0 range.1 range.2)) (range_of (decimal place ∷ decimal count ∷ input ∷ []))
+    ≡ Ok (Part identities place count input)
 part_written identities place count input small_place small_count = rw (number_of-decimal place small_place, number_of-decimal count small_count) refl
 
 -- each command is asked for by its words

@@ -1,5 +1,5 @@
 -- What a command line asks for, and what is wrong with one, apart from where the bytes of the words lie in memory.
-use Rattle.std.specs.Prelude.{ℕ, Bool, List, map, string_bytes, Result, Ok, Err}
+use Rattle.std.specs.Prelude.{◌≡◌, ℕ, Bool, List, map, string_bytes, Result, Ok, Err, ⊤}
 use Rattle.sazh_command.specs.declared.options.ValueOption.{ValueOption}
 use Rattle.sazh_command.specs.declared.options.Operand.{Operand}
 use Rattle.sazh_command.specs.declared.command.Recipient.{Recipient}
@@ -13,6 +13,8 @@ use Rattle.sazh_command.specs.declared.command.Command.{Command}
 use Rattle.sazh_command.specs.declared.command.Command.TheVariants as command
 use Rattle.sazh_command.specs.declared.mistakes.UsageError.{UsageError}
 use Rattle.sazh_command.specs.declared.mistakes.UsageError.TheVariants as mistake
+use Rattle.sazh_command.specs.declared.mistakes.Stop.{Stop}
+use Rattle.sazh_command.specs.declared.mistakes.Stop.TheVariants.{Usage, Memory}
 
 -- a recipient by its text, or the recipients in a file
 pub data RecipientValue : Type 0 where
@@ -102,3 +104,14 @@ error_value (mistake.ExtraOperand word) = ExtraOperand (string_bytes word)
 abbrev pub answer_value : {T U : Type 0} → (T → U) → Result T UsageError → Result U UsageErrorValue
 answer_value value (Ok found) = Ok (value found)
 answer_value value (Err error) = Err (error_value error)
+
+-- Inside the program a step may also stop for want of memory, which says nothing of what the words ask for.
+
+abbrev pub StopsAt : {U : Type 0} → Stop → Result U UsageErrorValue → Type 0
+StopsAt (Usage error) due = due ≡ Err (error_value error)
+StopsAt Memory due = ⊤
+
+-- the answer is the one that is due, or memory was refused
+abbrev pub IsAnswer : {T U : Type 0} → (T → U) → Result T Stop → Result U UsageErrorValue → Type 0
+IsAnswer value (Ok found) due = due ≡ Ok (value found)
+IsAnswer value (Err stop) due = StopsAt stop due

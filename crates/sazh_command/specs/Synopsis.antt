@@ -1,6 +1,6 @@
 -- What a command line asks for, command by command, and which mistake counts where there are several: reading goes word by word from the
 -- left, and then come the recipients or identities, the operands, and the numbers, in this order. A word is a list of bytes.
-use Rattle.std.specs.Prelude.{ℕ, Bool, false, List, [], ◌∷◌, codes, if◌then◌else◌, Option, Some, None, unwrap_or, Result, Ok, Err}
+use Rattle.std.specs.Prelude.{ℕ, Bool, false, List, [], ◌∷◌, codes, if◌then◌else◌, Option, Some, None, unwrap_or, Result, Ok, Err, ⊤}
 use Rattle.sazh_command.specs.declared.options.Operand.{Operand}
 use Rattle.sazh_command.specs.declared.options.Operand.TheVariants as operand
 use Rattle.sazh_command.specs.declared.options.CommandName.{CommandName}
@@ -29,15 +29,14 @@ identities_of (first ∷ more) None = Ok (Files (first ∷ more))
 identities_of (first ∷ more) (Some file) = Ok (ProtectedFiles (first ∷ more) file)
 
 -- no operand
-abbrev pub without_operand : CommandValue → List (List ℕ) → Result CommandValue UsageErrorValue
-without_operand command [] = Ok command
-without_operand command (word ∷ more) = Err (ExtraOperand word)
+abbrev pub no_operand : List (List ℕ) → Result ⊤ UsageErrorValue
+no_operand [] = Ok tt
+no_operand (word ∷ more) = Err (ExtraOperand word)
 
 -- [IN]: the standard input where no IN is given
 abbrev pub input_of : List (List ℕ) → Result (List ℕ) UsageErrorValue
 input_of [] = Ok (codes "-")
-input_of (input ∷ []) = Ok input
-input_of (input ∷ word ∷ more) = Err (ExtraOperand word)
+input_of (input ∷ more) = and_then (λ none. Ok input) (no_operand more)
 
 -- PLACE and COUNT
 abbrev pub number_or_error : Operand → List ℕ → Option ℕ → Result ℕ UsageErrorValue
@@ -45,21 +44,20 @@ number_or_error operand word (Some number) = Ok number
 number_or_error operand word None = Err (NotANumber operand word)
 
 -- PLACE COUNT IN
-abbrev pub part_of : IdentitiesValue → List (List ℕ) → Result CommandValue UsageErrorValue
-part_of identities [] = Err (MissingOperand operand.Place)
-part_of identities (place ∷ []) = Err (MissingOperand operand.Count)
-part_of identities (place ∷ count ∷ []) = Err (MissingOperand operand.Input)
-part_of identities (place ∷ count ∷ input ∷ []) =
-    and_then (λ start. and_then (λ size. Ok (Part identities start size input)) (number_or_error operand.Count count (number_of count)))
-    (number_or_error operand.Place place (number_of place))
-part_of identities (place ∷ count ∷ input ∷ word ∷ more) = Err (ExtraOperand word)
+abbrev pub range_of : List (List ℕ) → Result (ℕ × ℕ × List ℕ) UsageErrorValue
+range_of [] = Err (MissingOperand operand.Place)
+range_of (place ∷ []) = Err (MissingOperand operand.Count)
+range_of (place ∷ count ∷ []) = Err (MissingOperand operand.Input)
+range_of (place ∷ count ∷ input ∷ more) =
+    and_then (λ none. and_then (λ start. and_then (λ size. Ok (start, size, input)) (number_or_error operand.Count count (number_of count)))
+    (number_or_error operand.Place place (number_of place))) (no_operand more)
 
 -- what a command asks for, given this
 abbrev pub asked : CommandName → GivenValue → Result CommandValue UsageErrorValue
 -- sazh --version
-asked name.Version given = without_operand Version given.operands
+asked name.Version given = and_then (λ none. Ok Version) (no_operand given.operands)
 -- sazh keygen [-f] [-o OUT]
-asked name.Keygen given = without_operand (Keygen (output_of given.output given.overwrite)) given.operands
+asked name.Keygen given = and_then (λ none. Ok (Keygen (output_of given.output given.overwrite))) (no_operand given.operands)
 -- sazh encrypt (-r RECIPIENT | -R FILE).. [-a] [-f] [-o OUT] [IN]
 -- sazh encrypt -p FILE [-a] [-f] [-o OUT] [IN]
 asked name.Encrypt given =
@@ -70,7 +68,9 @@ asked name.Decrypt given =
     and_then (λ identities. and_then (λ input. Ok (Decrypt identities input (output_of given.output given.overwrite)))
     (input_of given.operands)) (identities_of given.identity_files given.passphrase_file)
 -- sazh part (-i FILE.. [-p FILE] | -p FILE) PLACE COUNT IN
-asked name.Part given = and_then (λ identities. part_of identities given.operands) (identities_of given.identity_files given.passphrase_file)
+asked name.Part given =
+    and_then (λ identities. and_then (λ range. Ok (Part identities range.0 range.1 range.2)) (range_of given.operands))
+    (identities_of given.identity_files given.passphrase_file)
 
 -- the command that the first word names, and the words after it
 abbrev pub named_command_of : List ℕ → Option CommandName → List (List ℕ) → Result CommandValue UsageErrorValue

@@ -1,16 +1,17 @@
 //! What a command asks for, once its words are read.
 ghost use Rattle.std.specs.Prelude.{◌≡◌, IfOk, map, string_bytes, option_map};
-ghost use Rattle.sazh_command.specs.Asked.{answer_value, recipient_value, recipients_value, identities_value, output_value, command_value};
+ghost use Rattle.sazh_command.specs.Asked.{IsAnswer, answer_value, recipient_value, recipients_value, identities_value, output_value, command_value};
 ghost use Rattle.sazh_command.specs.Reading.{given_value};
 ghost use Rattle.sazh_command.specs.Decimal.{number_of};
-ghost use Rattle.sazh_command.specs.Synopsis.{output_of, recipients_of, identities_of, without_operand, input_of, number_or_error, part_of, asked};
+ghost use Rattle.sazh_command.specs.Synopsis.{output_of, recipients_of, identities_of, no_operand, input_of, number_or_error, range_of, asked};
 
 use crate::command::{Command, Identities, Output, Recipient, Recipients};
-use crate::mistakes::UsageError;
+use crate::mistakes::{Stop, UsageError};
 use crate::number::parse_number;
 use crate::options::{CommandName, Operand};
 use crate::reading::Given;
 use std::alloc::{AllocError, Global};
+use std::mem;
 
 // The output of this name, or the standard output.
 fn output_of(alloc: Global, name: Option<String>, overwrite: bool) -> Result<Output, AllocError>
@@ -65,156 +66,140 @@ fn identities_of(
     }
 }
 
-// The command, which takes no operand.
-fn without_operand(
-    alloc: Global,
-    command: Command,
-    operands: &[String],
-) -> Result<Result<Command, UsageError>, AllocError>
-    ensures { IfOk result (λ answer. answer_value command_value answer ≡ without_operand (command_value command) (map string_bytes operands.now)) }
+// That there is no operand.
+fn no_operand(alloc: Global, operands: &[String]) -> Result<(), Stop>
+    ensures { IsAnswer (λ none. none) result (no_operand (map string_bytes operands.now)) }
 {
     match operands.first() {
-        Some(word) => Ok(Err(UsageError::ExtraOperand(String::from_str(alloc, word.as_str())?))),
-        None => Ok(Ok(command)),
+        Some(word) => {
+            let word = String::from_str(alloc, word.as_str())?;
+            Err(Stop::Usage(UsageError::ExtraOperand(word)))
+        }
+        None => Ok(()),
     }
 }
 
 // The input that the operands name, or the standard input.
-fn input_of(alloc: Global, operands: &[String]) -> Result<Result<String, UsageError>, AllocError>
-    ensures { IfOk result (λ answer. answer_value string_bytes answer ≡ input_of (map string_bytes operands.now)) }
+#[tactic(auto, using(crate::proofs::Stops::and_then_stops))]
+fn input_of(alloc: Global, operands: &[String]) -> Result<String, Stop>
+    ensures { IsAnswer string_bytes result (input_of (map string_bytes operands.now)) }
 {
     let Some((input, more)) = operands.split_first() else {
-        return Ok(Ok(String::from_str(alloc, "-")?));
+        return Ok(String::from_str(alloc, "-")?);
     };
-    if let Some((word, _)) = more.split_first() {
-        let word = String::from_str(alloc, word.as_str())?;
-        return Ok(Err(UsageError::ExtraOperand(word)));
-    }
-    Ok(Ok(String::from_str(alloc, input.as_str())?))
+    no_operand(alloc, more)?;
+    Ok(String::from_str(alloc, input.as_str())?)
 }
 
 // The number that an operand is, or that it is none.
-fn number_or_error(
-    alloc: Global,
-    operand: Operand,
-    word: &str,
-) -> Result<Result<u64, UsageError>, AllocError>
-    ensures { IfOk result (λ answer. answer_value (λ number. number) answer ≡ number_or_error operand word.now (number_of word.now)) }
+fn number_or_error(alloc: Global, operand: Operand, word: &str) -> Result<u64, Stop>
+    ensures { IsAnswer (λ number. number) result (number_or_error operand word.now (number_of word.now)) }
 {
     match parse_number(word) {
-        Some(number) => Ok(Ok(number)),
-        None => Ok(Err(UsageError::NotANumber(operand, String::from_str(alloc, word)?))),
+        Some(number) => Ok(number),
+        None => {
+            let word = String::from_str(alloc, word)?;
+            Err(Stop::Usage(UsageError::NotANumber(operand, word)))
+        }
     }
 }
 
-// `part`, with its operands PLACE, COUNT and IN.
-fn part(
-    alloc: Global,
-    identities: Identities,
-    operands: &[String],
-) -> Result<Result<Command, UsageError>, AllocError>
-    ensures { IfOk result (λ answer. answer_value command_value answer ≡ part_of (identities_value identities) (map string_bytes operands.now)) }
+// PLACE, COUNT and IN, which are the operands of `part`.
+#[tactic(auto, using(crate::proofs::Stops::and_then_stops))]
+fn range_of(alloc: Global, operands: &[String]) -> Result<(u64, u64, String), Stop>
+    ensures { IsAnswer (λ range. (range.0, range.1, string_bytes range.2)) result (range_of (map string_bytes operands.now)) }
 {
     let Some((place, more)) = operands.split_first() else {
-        return Ok(Err(UsageError::MissingOperand(Operand::Place)));
+        return Err(Stop::Usage(UsageError::MissingOperand(Operand::Place)));
     };
     let Some((count, more)) = more.split_first() else {
-        return Ok(Err(UsageError::MissingOperand(Operand::Count)));
+        return Err(Stop::Usage(UsageError::MissingOperand(Operand::Count)));
     };
     let Some((input, more)) = more.split_first() else {
-        return Ok(Err(UsageError::MissingOperand(Operand::Input)));
+        return Err(Stop::Usage(UsageError::MissingOperand(Operand::Input)));
     };
-    if let Some((word, _)) = more.split_first() {
-        let word = String::from_str(alloc, word.as_str())?;
-        return Ok(Err(UsageError::ExtraOperand(word)));
-    }
-    let place = match number_or_error(alloc, Operand::Place, place.as_str())? {
-        Ok(place) => place,
-        Err(error) => return Ok(Err(error)),
-    };
-    let count = match number_or_error(alloc, Operand::Count, count.as_str())? {
-        Ok(count) => count,
-        Err(error) => return Ok(Err(error)),
-    };
+    no_operand(alloc, more)?;
+    let place = number_or_error(alloc, Operand::Place, place.as_str())?;
+    let count = number_or_error(alloc, Operand::Count, count.as_str())?;
     let input = String::from_str(alloc, input.as_str())?;
-    Ok(Ok(Command::Part {
+    Ok((place, count, input))
+}
+
+// `keygen`.
+#[tactic(auto, using(crate::proofs::Stops::and_then_stops))]
+fn asked_of_keygen(alloc: Global, given: &mut Given) -> Result<Command, Stop>
+    ensures { IsAnswer command_value result (asked CommandName.Keygen (given_value given.old)) }
+{
+    no_operand(alloc, given.operands.as_slice())?;
+    let output = output_of(alloc, given.output.take(), given.overwrite)?;
+    Ok(Command::Keygen { output })
+}
+
+// `encrypt`.
+#[tactic(auto, using(crate::proofs::Stops::and_then_stops))]
+fn asked_of_encrypt(alloc: Global, given: &mut Given) -> Result<Command, Stop>
+    ensures { IsAnswer command_value result (asked CommandName.Encrypt (given_value given.old)) }
+{
+    let listed = mem::replace(&mut given.recipients, Vec::new(alloc));
+    let recipients = recipients_of(listed, given.passphrase_file.take())?;
+    let input = input_of(alloc, given.operands.as_slice())?;
+    let output = output_of(alloc, given.output.take(), given.overwrite)?;
+    Ok(Command::Encrypt {
+        recipients,
+        armored: given.armored,
+        input,
+        output,
+    })
+}
+
+// `decrypt`.
+#[tactic(auto, using(crate::proofs::Stops::and_then_stops))]
+fn asked_of_decrypt(alloc: Global, given: &mut Given) -> Result<Command, Stop>
+    ensures { IsAnswer command_value result (asked CommandName.Decrypt (given_value given.old)) }
+{
+    let files = mem::replace(&mut given.identity_files, Vec::new(alloc));
+    let identities = identities_of(files, given.passphrase_file.take())?;
+    let input = input_of(alloc, given.operands.as_slice())?;
+    let output = output_of(alloc, given.output.take(), given.overwrite)?;
+    Ok(Command::Decrypt {
+        identities,
+        input,
+        output,
+    })
+}
+
+// `part`.
+#[tactic(auto, using(crate::proofs::Stops::and_then_stops))]
+fn asked_of_part(alloc: Global, given: &mut Given) -> Result<Command, Stop>
+    ensures { IsAnswer command_value result (asked CommandName.Part (given_value given.old)) }
+{
+    let files = mem::replace(&mut given.identity_files, Vec::new(alloc));
+    let identities = identities_of(files, given.passphrase_file.take())?;
+    let (place, count, input) = range_of(alloc, given.operands.as_slice())?;
+    Ok(Command::Part {
         identities,
         place,
         count,
         input,
-    }))
+    })
 }
 
-// `keygen`.
-fn asked_of_keygen(alloc: Global, given: Given) -> Result<Result<Command, UsageError>, AllocError>
-    ensures { IfOk result (λ answer. answer_value command_value answer ≡ asked CommandName.Keygen (given_value given)) }
+// `--version`.
+#[tactic(auto, using(crate::proofs::Stops::and_then_stops))]
+fn asked_of_version(alloc: Global, given: &Given) -> Result<Command, Stop>
+    ensures { IsAnswer command_value result (asked CommandName.Version (given_value given.now)) }
 {
-    let output = output_of(alloc, given.output, given.overwrite)?;
-    without_operand(alloc, Command::Keygen { output }, given.operands.as_slice())
+    no_operand(alloc, given.operands.as_slice())?;
+    Ok(Command::Version)
 }
 
-// `encrypt`.
-fn asked_of_encrypt(alloc: Global, given: Given) -> Result<Result<Command, UsageError>, AllocError>
-    ensures { IfOk result (λ answer. answer_value command_value answer ≡ asked CommandName.Encrypt (given_value given)) }
-{
-    let recipients = match recipients_of(given.recipients, given.passphrase_file) {
-        Ok(recipients) => recipients,
-        Err(error) => return Ok(Err(error)),
-    };
-    let input = match input_of(alloc, given.operands.as_slice())? {
-        Ok(input) => input,
-        Err(error) => return Ok(Err(error)),
-    };
-    let output = output_of(alloc, given.output, given.overwrite)?;
-    let armored = given.armored;
-    Ok(Ok(Command::Encrypt {
-        recipients,
-        armored,
-        input,
-        output,
-    }))
-}
-
-// `decrypt`.
-fn asked_of_decrypt(alloc: Global, given: Given) -> Result<Result<Command, UsageError>, AllocError>
-    ensures { IfOk result (λ answer. answer_value command_value answer ≡ asked CommandName.Decrypt (given_value given)) }
-{
-    let identities = match identities_of(given.identity_files, given.passphrase_file) {
-        Ok(identities) => identities,
-        Err(error) => return Ok(Err(error)),
-    };
-    let input = match input_of(alloc, given.operands.as_slice())? {
-        Ok(input) => input,
-        Err(error) => return Ok(Err(error)),
-    };
-    let output = output_of(alloc, given.output, given.overwrite)?;
-    Ok(Ok(Command::Decrypt {
-        identities,
-        input,
-        output,
-    }))
-}
-
-// `part`.
-fn asked_of_part(alloc: Global, given: Given) -> Result<Result<Command, UsageError>, AllocError>
-    ensures { IfOk result (λ answer. answer_value command_value answer ≡ asked CommandName.Part (given_value given)) }
-{
-    match identities_of(given.identity_files, given.passphrase_file) {
-        Ok(identities) => part(alloc, identities, given.operands.as_slice()),
-        Err(error) => Ok(Err(error)),
-    }
-}
-
-/// What a command asks for, where its options and operands are these.
-pub fn asked(
-    alloc: Global,
-    command: CommandName,
-    given: Given,
-) -> Result<Result<Command, UsageError>, AllocError>
-    ensures { IfOk result (λ answer. answer_value command_value answer ≡ asked command (given_value given)) }
+/// What a command asks for, where its options and operands are these. It takes what it needs out of `given`, so that all else of it is
+/// dropped in one place, by who has it.
+pub fn asked(alloc: Global, command: CommandName, given: &mut Given) -> Result<Command, Stop>
+    ensures { IsAnswer command_value result (asked command (given_value given.old)) }
 {
     match command {
-        CommandName::Version => without_operand(alloc, Command::Version, given.operands.as_slice()),
+        CommandName::Version => asked_of_version(alloc, given),
         CommandName::Keygen => asked_of_keygen(alloc, given),
         CommandName::Encrypt => asked_of_encrypt(alloc, given),
         CommandName::Decrypt => asked_of_decrypt(alloc, given),

@@ -24,13 +24,13 @@ impl fmt::Display for ValueOption {
     ghost output = { λ option. Some (option_text option) };
 
     fn fmt<W: fmt::Write>(&self, f: &mut fmt::Formatter<W>) -> fmt::Result {
-        match self {
-            ValueOption::Recipient => write!(f, "-r"),
-            ValueOption::RecipientsFile => write!(f, "-R"),
-            ValueOption::IdentityFile => write!(f, "-i"),
-            ValueOption::PassphraseFile => write!(f, "-p"),
-            ValueOption::Output => write!(f, "-o"),
-        }
+        f.write_str(match self {
+            ValueOption::Recipient => "-r",
+            ValueOption::RecipientsFile => "-R",
+            ValueOption::IdentityFile => "-i",
+            ValueOption::PassphraseFile => "-p",
+            ValueOption::Output => "-o",
+        })
     }
 }
 
@@ -49,11 +49,11 @@ impl fmt::Display for Operand {
     ghost output = { λ operand. Some (operand_text operand) };
 
     fn fmt<W: fmt::Write>(&self, f: &mut fmt::Formatter<W>) -> fmt::Result {
-        match self {
-            Operand::Place => write!(f, "PLACE"),
-            Operand::Count => write!(f, "COUNT"),
-            Operand::Input => write!(f, "IN"),
-        }
+        f.write_str(match self {
+            Operand::Place => "PLACE",
+            Operand::Count => "COUNT",
+            Operand::Input => "IN",
+        })
     }
 }
 

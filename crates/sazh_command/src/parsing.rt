@@ -1,30 +1,43 @@
 //! The words of a command line as a whole.
-ghost use Rattle.std.specs.Prelude.{◌≡◌, IfOk, map, string_bytes};
-ghost use Rattle.sazh_command.specs.Asked.{answer_value, command_value};
+ghost use Rattle.std.specs.Prelude.{◌≡◌, IfOk, Result, map, string_bytes};
+ghost use Rattle.sazh_command.specs.Asked.{IsAnswer, CommandValue, UsageErrorValue, answer_value, command_value};
 ghost use Rattle.sazh_command.specs.Synopsis.{command_of, named_command_of};
 
 use crate::command::Command;
 use crate::meaning::asked;
-use crate::mistakes::UsageError;
+use crate::mistakes::{Stop, UsageError};
 use crate::options::{CommandName, command_named};
 use crate::reading::{asks_for_help, given_of};
 use std::alloc::{AllocError, Global};
 
 // The command that the first word names, and the words after it.
+#[tactic(auto, using(crate::proofs::Stops::and_then_stops))]
 fn parse_named(
     alloc: Global,
     word: &str,
     command: Option<CommandName>,
     words: &[String],
-) -> Result<Result<Command, UsageError>, AllocError>
-    ensures { IfOk result (λ answer. answer_value command_value answer ≡ named_command_of word.now command (map string_bytes words.now)) }
+) -> Result<Command, Stop>
+    ensures { IsAnswer command_value result (named_command_of word.now command (map string_bytes words.now)) }
 {
     let Some(command) = command else {
-        return Ok(Err(UsageError::UnknownCommand(String::from_str(alloc, word)?)));
+        let word = String::from_str(alloc, word)?;
+        return Err(Stop::Usage(UsageError::UnknownCommand(word)));
     };
-    match given_of(alloc, command, words)? {
-        Ok(given) => asked(alloc, command, given),
-        Err(error) => Ok(Err(error)),
+    let mut given = given_of(alloc, command, words)?;
+    asked(alloc, command, &mut given)
+}
+
+// The same, where a mistake is an answer.
+fn answer_of(command: Result<Command, Stop>) -> Result<Result<Command, UsageError>, AllocError>
+    ensures { IfOk result (λ answer. (due : Result CommandValue UsageErrorValue) → IsAnswer command_value command due → answer_value command_value answer ≡ due) }
+{
+    match command {
+        Ok(command) => Ok(Ok(command)),
+        Err(stop) => match stop {
+            Stop::Usage(error) => Ok(Err(error)),
+            Stop::Memory => Err(AllocError),
+        },
     }
 }
 
@@ -51,5 +64,5 @@ pub fn parse(alloc: Global, words: &[String]) -> Result<Result<Command, UsageErr
     if asks_for_help(command, words) {
         return Ok(Ok(Command::Help));
     }
-    parse_named(alloc, word, command, more)
+    answer_of(parse_named(alloc, word, command, more))
 }

@@ -1,10 +1,10 @@
 //! What the options and operands of a command line give, word by word.
-ghost use Rattle.std.specs.Prelude.{◌≡◌, ◌&&◌, false, not, IfOk, map, string_bytes, bytes_eq, codes};
-ghost use Rattle.sazh_command.specs.Asked.{answer_value};
+ghost use Rattle.std.specs.Prelude.{◌≡◌, ◌&&◌, false, not, OnOk, Ok, map, string_bytes, bytes_eq, codes};
+ghost use Rattle.sazh_command.specs.Asked.{IsAnswer};
 ghost use Rattle.sazh_command.specs.Reading.{given_value, nothing, with_operand, with_value, has_value, with_option, with_any, with_word, with_words, given_of, asks_for_help, is_help, takes_value};
 
 use crate::command::Recipient;
-use crate::mistakes::UsageError;
+use crate::mistakes::{Stop, UsageError};
 use crate::options::{CommandName, CommandOption, ValueOption, looks_like_option, option_of};
 use std::alloc::{AllocError, Global};
 
@@ -49,21 +49,21 @@ fn nothing(alloc: Global) -> Given
 }
 
 // An operand more.
-fn with_operand(alloc: Global, mut given: Given, word: &str) -> Result<Given, AllocError>
-    ensures { IfOk result (λ more. given_value more ≡ with_operand word.now (given_value given)) }
+fn with_operand(alloc: Global, given: &mut Given, word: &str) -> Result<(), AllocError>
+    ensures { OnOk result (given_value given.new ≡ with_operand word.now (given_value given.old)) }
 {
     given.operands.push(String::from_str(alloc, word)?)?;
-    Ok(given)
+    Ok(())
 }
 
 // The value of this option more.
 fn with_value(
     alloc: Global,
     option: ValueOption,
-    mut given: Given,
+    given: &mut Given,
     word: &str,
-) -> Result<Given, AllocError>
-    ensures { IfOk result (λ more. given_value more ≡ with_value option word.now (given_value given)) }
+) -> Result<(), AllocError>
+    ensures { OnOk result (given_value given.new ≡ with_value option word.now (given_value given.old)) }
 {
     let value = String::from_str(alloc, word)?;
     given.next = Next::Any;
@@ -74,7 +74,7 @@ fn with_value(
         ValueOption::PassphraseFile => given.passphrase_file = Some(value),
         ValueOption::Output => given.output = Some(value),
     }
-    Ok(given)
+    Ok(())
 }
 
 // Whether an option that may be given once has its value.
@@ -89,95 +89,81 @@ fn has_value(option: ValueOption, given: &Given) -> bool
 }
 
 // An option more.
-fn with_option(option: CommandOption, mut given: Given) -> Result<Given, UsageError>
-    ensures { answer_value given_value result ≡ with_option option (given_value given) }
+fn with_option(option: CommandOption, given: &mut Given) -> Result<(), Stop>
+    ensures { IsAnswer (λ _. given_value given.new) result (with_option option (given_value given.old)) }
 {
     match option {
         CommandOption::Armor => given.armored = true,
         CommandOption::Overwrite => given.overwrite = true,
         CommandOption::Valued(option) => {
-            if has_value(option, &given) {
-                return Err(UsageError::GivenTwice(option));
+            if has_value(option, given) {
+                return Err(Stop::Usage(UsageError::GivenTwice(option)));
             }
             given.next = Next::Value(option);
         }
     }
-    Ok(given)
+    Ok(())
 }
 
 // A word that is no value of an option and has no `--` before it.
-fn with_any(
-    alloc: Global,
-    command: CommandName,
-    mut given: Given,
-    word: &str,
-) -> Result<Result<Given, UsageError>, AllocError>
-    ensures { IfOk result (λ answer. answer_value given_value answer ≡ with_any command word.now (given_value given)) }
+fn with_any(alloc: Global, command: CommandName, given: &mut Given, word: &str) -> Result<(), Stop>
+    ensures { IsAnswer (λ _. given_value given.new) result (with_any command word.now (given_value given.old)) }
 {
     if word == "--" {
         given.next = Next::Operand;
-        return Ok(Ok(given));
+        return Ok(());
     }
     if !looks_like_option(word) {
-        return Ok(Ok(with_operand(alloc, given, word)?));
+        return Ok(with_operand(alloc, given, word)?);
     }
     match option_of(command, word) {
-        Some(option) => Ok(with_option(option, given)),
-        None => Ok(Err(UsageError::UnknownOption(String::from_str(alloc, word)?))),
+        Some(option) => with_option(option, given),
+        None => {
+            let word = String::from_str(alloc, word)?;
+            Err(Stop::Usage(UsageError::UnknownOption(word)))
+        }
     }
 }
 
 // A word more.
-fn with_word(
-    alloc: Global,
-    command: CommandName,
-    given: Given,
-    word: &str,
-) -> Result<Result<Given, UsageError>, AllocError>
-    ensures { IfOk result (λ answer. answer_value given_value answer ≡ with_word given.next command word.now (given_value given)) }
+fn with_word(alloc: Global, command: CommandName, given: &mut Given, word: &str) -> Result<(), Stop>
+    ensures { IsAnswer (λ _. given_value given.new) result (with_word given.old.next command word.now (given_value given.old)) }
 {
     match given.next {
         Next::Any => with_any(alloc, command, given, word),
-        Next::Value(option) => Ok(Ok(with_value(alloc, option, given, word)?)),
-        Next::Operand => Ok(Ok(with_operand(alloc, given, word)?)),
+        Next::Value(option) => Ok(with_value(alloc, option, given, word)?),
+        Next::Operand => Ok(with_operand(alloc, given, word)?),
     }
 }
 
-// All words, up to the first mistake.
+// More words, up to the first mistake.
+#[tactic(auto, using(crate::proofs::Stops::and_then_stops))]
 fn with_words(
     alloc: Global,
     command: CommandName,
+    given: &mut Given,
     words: &[String],
-) -> Result<Result<Given, UsageError>, AllocError>
-    ensures { IfOk result (λ answer. answer_value given_value answer ≡ with_words command (map string_bytes words.now) nothing) }
+) -> Result<(), Stop>
+    ensures { IsAnswer (λ _. given_value given.new) result (with_words command (map string_bytes words.now) (given_value given.old)) }
 {
-    let mut given = nothing(alloc);
     let mut rest = words;
     'words: while let Some((word, tail)) = rest.split_first() {
-        given = match with_word(alloc, command, given, word.as_str())? {
-            Ok(more) => more,
-            Err(error) => return Ok(Err(error)),
-        };
+        with_word(alloc, command, given, word.as_str())?;
         rest = tail;
     }
-    Ok(Ok(given))
+    Ok(())
 }
 
 /// What the words after the command's name give.
-pub fn given_of(
-    alloc: Global,
-    command: CommandName,
-    words: &[String],
-) -> Result<Result<Given, UsageError>, AllocError>
-    ensures { IfOk result (λ answer. answer_value given_value answer ≡ given_of command (map string_bytes words.now)) }
+#[tactic(auto, using(crate::proofs::Stops::and_then_stops))]
+pub fn given_of(alloc: Global, command: CommandName, words: &[String]) -> Result<Given, Stop>
+    ensures { IsAnswer given_value result (given_of command (map string_bytes words.now)) }
 {
-    let given = match with_words(alloc, command, words)? {
-        Ok(given) => given,
-        Err(error) => return Ok(Err(error)),
-    };
+    let mut given = nothing(alloc);
+    with_words(alloc, command, &mut given, words)?;
     match given.next {
-        Next::Value(option) => Ok(Err(UsageError::MissingValue(option))),
-        Next::Any | Next::Operand => Ok(Ok(given)),
+        Next::Value(option) => Err(Stop::Usage(UsageError::MissingValue(option))),
+        Next::Any | Next::Operand => Ok(given),
     }
 }
 
