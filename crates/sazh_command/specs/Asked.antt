@@ -105,7 +105,7 @@ abbrev pub answer_value : {T U : Type 0} → (T → U) → Result T UsageError �
 answer_value value (Ok found) = Ok (value found)
 answer_value value (Err error) = Err (error_value error)
 
--- Inside the program a step may also stop for want of memory, which says nothing of what the words ask for.
+-- Inside the crate a step may also stop for want of memory, which says nothing of what the words ask for.
 
 abbrev pub StopsAt : {U : Type 0} → Stop → Result U UsageErrorValue → Type 0
 StopsAt (Usage error) due = due ≡ Err (error_value error)
