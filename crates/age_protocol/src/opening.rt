@@ -50,9 +50,12 @@ pub fn open_file<S: Suite, I: Identity, T: Read + Drop>(
     }
 }
 
-/// `open_file` with one identity: its answer decides.
+/// Opens the bare file that `bytes` gives from where it stands, which this identity decrypts: the reader of its plaintext.
 ///
-/// It takes the identity itself, also where its type is a type parameter, of which no list of one can be made without memory.
+/// It is `open_file` over a list of one, for where no list can be made: of a value of a type parameter it would take memory.
+/// Where what the bytes give ends well and is a file for the identity, the reader stands before the file's plaintext, and it is
+/// refused only for want of memory or after a fault of the device. It refuses as `Decryptor::new`, and then the identity wasn't
+/// asked, and as `Decryptor::decrypt_one`; the bytes are gone then, and the identity is as its answer left it.
 pub fn open_file_by_one<S: Suite, I: Identity, T: Read + Drop>(
     alloc: Global,
     identity: &mut I,

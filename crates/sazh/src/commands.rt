@@ -14,7 +14,7 @@ use age::x25519;
 use age_standard::StandardSuite;
 use age_tool::grease::grease;
 use age_tool::keygen::new_key_file;
-use sazh_command::{Command, HELP, Identities, Recipient, Recipients};
+use sazh_command::{Command, HELP, Identities, Output, Recipient, Recipients};
 use std::fs::File;
 use std::io;
 
@@ -195,52 +195,76 @@ fn new_key(rt: &HostRuntime) -> Result<Vec<u8>, Failure> {
     }
 }
 
+// Writes a new key to an output.
+fn keygen(rt: &HostRuntime, output: &Output) -> Result<(), Failure> {
+    let job = Writing { text: new_key(rt)? };
+    run_job(rt, job, "-", output, FOR_ITS_OWNER)
+}
+
+// The form of a file, which is armor where that is asked for.
+fn format(armored: bool) -> Format {
+    if armored {
+        Format::AsciiArmor
+    } else {
+        Format::Binary
+    }
+}
+
+// Encrypts an input to an output.
+fn encrypt(
+    rt: &HostRuntime,
+    recipients: &Recipients,
+    format: Format,
+    input: &str,
+    output: &Output,
+) -> Result<(), Failure> {
+    let (to, draw) = to(rt, recipients)?;
+    let grease = match grease(rt.alloc()) {
+        Ok(grease) => grease,
+        Err(_) => return Err(Failure::OutOfMemory),
+    };
+    let job = Encrypting {
+        to,
+        draw,
+        grease,
+        format,
+    };
+    run_job(rt, job, input, output, FOR_ALL)
+}
+
+// Decrypts an input to an output.
+fn decrypt(
+    rt: &HostRuntime,
+    asked: &Identities,
+    input: &str,
+    output: &Output,
+) -> Result<(), Failure> {
+    let identities = with(rt, asked)?;
+    run_job(rt, Decrypting { identities }, input, output, FOR_ALL)
+}
+
 /// Does what a command line asks for.
-pub fn run(rt: &HostRuntime, command: Command) -> Result<(), Failure> {
+pub fn run(rt: &HostRuntime, command: &Command) -> Result<(), Failure> {
     match command {
         Command::Help => print(rt, HELP),
         Command::Version => print(rt, VERSION),
-        Command::Keygen { output } => {
-            let job = Writing { text: new_key(rt)? };
-            run_job(rt, job, "-", &output, FOR_ITS_OWNER)
-        }
+        Command::Keygen { output } => keygen(rt, output),
         Command::Encrypt {
             recipients,
             armored,
             input,
             output,
-        } => {
-            let (to, draw) = to(rt, &recipients)?;
-            let grease = match grease(rt.alloc()) {
-                Ok(grease) => grease,
-                Err(_) => return Err(Failure::OutOfMemory),
-            };
-            let format = if armored {
-                Format::AsciiArmor
-            } else {
-                Format::Binary
-            };
-            let job = Encrypting {
-                to,
-                draw,
-                grease,
-                format,
-            };
-            run_job(rt, job, &input, &output, FOR_ALL)
-        }
+        } => encrypt(rt, recipients, format(*armored), input, output),
         Command::Decrypt {
             identities,
             input,
             output,
-        } => {
-            let identities = with(rt, &identities)?;
-            run_job(rt, Decrypting { identities }, &input, &output, FOR_ALL)
-        }
+        } => decrypt(rt, identities, input, output),
         Command::Part {
             identities,
             place,
             count,
             input,
-        } => part(rt, &identities, place, count, &input),
+        } => part(rt, identities, *place, *count, input),
     }
 }

@@ -51,7 +51,7 @@ fn asked(rt: &HostRuntime) -> Result<Result<Command, Wrong>, Failure> {
 
 fn main(rt: HostRuntime) -> ExitCode {
     let done = match asked(&rt) {
-        Ok(Ok(command)) => run(&rt, command),
+        Ok(Ok(command)) => run(&rt, &command),
         Ok(Err(Wrong::NotText)) => {
             let _ = eprintln!(rt; "sazh: a word isn't UTF-8\n{USAGE}");
             return ExitCode::from(2);
