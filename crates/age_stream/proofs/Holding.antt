@@ -40,7 +40,7 @@ front_of before after text took = elim (cases_lt (length text) 65552) [
 ]
 
 -- a reader that gave a text hadn't failed: it stood after the bytes that were taken
-stood-taken : (content rest after : Stretch) (place taken : ℕ) (text : List ℕ) → StandsIn content place rest → taken ≤ place → TookText rest after text →
+pub stood-taken : (content rest after : Stretch) (place taken : ℕ) (text : List ℕ) → StandsIn content place rest → taken ≤ place → TookText rest after text →
     rest ≡ from_place taken (payload_at place taken content)
 stood-taken content rest after place taken text stands fits took = elim (taken-rest content rest place taken stands fits) [
   | inl is ↦ is

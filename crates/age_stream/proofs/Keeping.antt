@@ -1,5 +1,5 @@
 -- Steps that keep the payload, and what they are to a caller of the reader.
-use Rattle.std.specs.Prelude.{◌≡◌, ◌≢◌, ℕ, ◌&&◌, ◌⊎◌, Bool, true, false, IsTrue, List, Result, OnOk, Ok, Err}
+use Rattle.std.specs.Prelude.{◌≡◌, ◌≢◌, ℕ, ◌<◌, ◌&&◌, ◌⊎◌, Bool, true, false, IsTrue, List, Result, IfOk, IfErr, OnOk, OnErr, Ok, Err}
 use Rattle.std.proofs.Common.{◌≤◌, arith, ap, ◌∙◌, refl, sym, subst, inl, inr}
 use Rattle.age_error.specs.Refusals.{IsDevice}
 use Rattle.age_error.specs.declared.io.Error.{Error}
@@ -7,7 +7,7 @@ use Rattle.age_error.specs.declared.io.Error.TheVariants.{OutOfMemory, Failed, B
 use Rattle.age_error.specs.declared.io.SeekFrom.{SeekFrom}
 use Rattle.age_suite.specs.declared.suite.Suite.{Ghosts as SuiteGhosts}
 use Rattle.age_io.specs.declared.traits.Read.{Ghosts}
-use Rattle.age_io.specs.Reading.{IsQuiet, AddsNoReason, Reads, TriedAgain}
+use Rattle.age_io.specs.Reading.{IsQuiet, AddsNoReason, Reads, TriedAgain, most_faults}
 use Rattle.age_io.specs.Cursor.{Seeks, IsOutside, IsSeekRefusal}
 use Rattle.age_io.specs.Keeping.{SameReader, KeepsReader}
 use Rattle.age_io.proofs.Keeping.{keeps-done, keeps-refused, keeps-later, keeps-more}
@@ -18,7 +18,7 @@ use Rattle.age_stream.specs.Reader.{payload_of, tells_of, steady_of, content_of,
 use Rattle.age_stream.specs.Reading.{payload_at}
 use Rattle.age_stream.specs.Keeping.{IsPayloadSeekRefusal, OwnOrInner, KeepsPayload}
 use Rattle.std.proofs.lemmas.Bool.{true≢false}
-use Rattle.age_io.specs.Stretch.{IsFault}
+use Rattle.age_io.specs.Stretch.{IsCleanEnd, IsFault}
 use Rattle.age_stream.proofs.Holding.{rest_failed}
 use Rattle.age_stream.proofs.Sound.{same-steady, inner-well}
 
@@ -157,9 +157,40 @@ module _ {S R : Type 0} {suite : SuiteGhosts S} {read : Ghosts R} where
         moves = λ _. tt;
         end = λ _. tt;
         stays = λ _. place;
-        left = λ _. inr (rest_failed suite.opened new.key new.failed new.held new.at new.chunk.items new.last new.number (read.rest new.inner) failed);
+        left = λ _. inr (rest_failed suite.opened new.key new.failed new.held new.at new.cache.chunk.items new.cache.last new.number (read.rest new.inner) failed);
         interrupted = λ _ i. absurd (keeps.inner.patient i);
         cause = cause;
+      }
+
+  -- A read after the last chunk.
+  pub read-at-end : (old new : StreamReader S R suite read) (buf : List ℕ) (result : Result ℕ Error) →
+      KeepsPayload read (stops_of old) old.inner old.taken new.inner new.taken result → new.key ≡ old.key → place_of new ≡ place_of old →
+      OnOk result (read.faults new.inner < most_faults) → IfOk result (λ n. n ≡ 0) →
+      (IsTrue (tells_of old) → OnOk result (IsCleanEnd (plain_rest_of old) × (plain_rest_of new ≡ plain_rest_of old))) →
+      OnErr result (new.failed ≡ true) → OnOk result (new.failed ≡ false) →
+      (IsTrue (tells_of old) → IfErr result (λ e. e ≢ OutOfMemory → IsQuiet (read.faults old.inner) (read.faults new.inner) → IsFault (plain_rest_of old))) →
+      Reads tells_of steady_of content_of place_of plain_rest_of faults_of refuses_of old new buf result
+  read-at-end old new buf (Err e) keeps key place unspent none end failed good cause =
+      read-refused old new buf e (payload-refused read old.inner new.inner old.taken new.taken e keeps) key place failed cause
+  read-at-end old new buf (Ok n) keeps key place unspent none end failed good cause =
+      record {
+        count = omega (arith, none);
+        same_tells = (stream-kept old new keeps key).0;
+        same_steady = (stream-kept old new keeps key).1;
+        no_fewer_faults = keeps.inner.same.faults;
+        device = tt;
+        unspent = λ _. unspent;
+        why = tt;
+        narrows = stream_narrows new.failed old new (λ is. absurd (true≢false (sym is ∙ good))) keeps key;
+        again = tt;
+        same_content = content-kept old new keeps key;
+        bytes = λ told. rw none (record { bytes = ap (λ s. s.bytes) (sym (end told).1); end = ap (λ s. s.ends_well) (end told).1 });
+        moves = λ _. omega (arith, none, place);
+        end = λ told _ _. (end told).0;
+        stays = λ _. tt;
+        left = λ _. tt;
+        interrupted = λ _. tt;
+        cause = λ _. tt;
       }
 
   -- why a seek is refused, told of the reader itself

@@ -79,7 +79,7 @@ module _ (opened : List ℕ → List ℕ → List ℕ → Option (List ℕ)) (ke
 
   module _ (law : Shorter opened key) where
     -- how long the text of the chunk that is held is
-    text-held : (payload : Stretch) (number at : ℕ) (last : Bool) (chunk : List ℕ) → AreBytes payload.bytes → IsHeld opened key payload number last at chunk →
+    pub text-held : (payload : Stretch) (number at : ℕ) (last : Bool) (chunk : List ℕ) → AreBytes payload.bytes → IsHeld opened key payload number last at chunk →
         length chunk + 16 ≡ length (text_at number payload)
     text-held payload number at last chunk bytes held = law number last (text_at number payload) chunk
         (All-take (λ x. x < 2 ^ 8) 65552 (drop (65552 * number) payload.bytes) (All-drop (λ x. x < 2 ^ 8) (65552 * number) payload.bytes bytes)) held.opens

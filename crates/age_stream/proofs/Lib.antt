@@ -12,6 +12,7 @@ pub mod Shortened
 pub mod Lengths
 pub mod Inner
 pub mod Last
+pub mod Cached
 pub mod Moving
 pub mod Sound
 pub mod Keeping

@@ -47,6 +47,30 @@ module _ (opened : List ℕ → List ℕ → List ℕ → Option (List ℕ)) (ke
     front = λ unsought. absurd (true≢false unsought);
   }
 
+  -- a reader that has failed holds no chunk
+  pub sound-shut : (new_chunk : List ℕ) (new_last : Bool) → failed ≡ true → IsSound opened key failed false at new_chunk new_last sought number taken place content rest
+  sound-shut new_chunk new_last is = record {
+    fits = sound.fits;
+    inside = sound.inside;
+    before = λ good. absurd (true≢false (sym is ∙ good));
+    is_held = λ held_now. absurd (true≢false (sym held_now));
+    is_past = λ good. absurd (true≢false (sym is ∙ good));
+    front = λ _ good. absurd (true≢false (sym is ∙ good));
+  }
+
+  -- the inner reader was put after a chunk that is opened by the verdict on it, and the place is in it
+  pub sound-resumed : (law : Shorter opened key) (new_number new_at : ℕ) (new_chunk : List ℕ) (new_last : Bool) → AreBytes content.bytes → sought ≡ true → new_at ≤ length new_chunk →
+      IsHeld opened key (payload_at place taken content) new_number new_last 0 new_chunk → IsPast (payload_at place taken content) new_number new_last taken rest →
+      IsSound opened key false true new_at new_chunk new_last sought new_number taken place content rest
+  sound-resumed law new_number new_at new_chunk new_last bytes is_sought within was past = record {
+    fits = sound.fits;
+    inside = inside-held opened key law (payload_at place taken content) new_number 0 new_at new_last new_chunk (All-drop (λ x. x < 2 ^ 8) (place - taken) content.bytes bytes) was within;
+    before = λ _ shut. absurd (true≢false shut);
+    is_held = λ _. record { opens = was.opens; judged = λ _. was.judged (λ e. absurd (omega (arith, e.full))); whole = was.whole; some = was.some };
+    is_past = λ _ _. past;
+    front = λ unsought. absurd (true≢false (sym is_sought ∙ unsought));
+  }
+
   -- the inner reader was put after the chunk that is held, and the place is in it
   pub sound-kept : (law : Shorter opened key) (new_at : ℕ) → AreBytes content.bytes → held ≡ true → sought ≡ true → new_at ≤ length chunk →
       ((IsAtFullEnd (length (payload_at place taken content).bytes) number new_at last → ⊥) → IsAtFullEnd (length (payload_at place taken content).bytes) number at last → ⊥) →

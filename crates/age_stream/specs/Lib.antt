@@ -8,6 +8,8 @@ pub mod WellLaws
 pub mod SizeLaws
 pub mod Answering
 pub mod Reading
+pub mod Wholeness
+pub mod Cache
 pub mod Keeping
 pub mod TextLaws
 pub mod ReadingLaws

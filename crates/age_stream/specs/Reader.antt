@@ -1,5 +1,5 @@
 -- What a caller sees of a `StreamReader`, and what it means as a reader.
-use Rattle.std.specs.Prelude.{◌≡◌, ℕ, ◌+◌, ◌*◌, ◌<◌, ◌&&◌, ◌⊎◌, Bool, true, IsTrue, cond, List, ◌++◌, length, codes}
+use Rattle.std.specs.Prelude.{◌≡◌, ℕ, ◌+◌, ◌*◌, ◌<◌, ◌&&◌, ◌⊎◌, Bool, true, false, IsTrue, cond, Option, None, List, ◌++◌, length, codes}
 use Rattle.std.specs.Fmt.{decimal}
 use Rattle.age_suite.specs.declared.suite.Suite.{Ghosts as SuiteGhosts}
 use Rattle.age_io.specs.declared.traits.Read.{Ghosts}
@@ -11,6 +11,7 @@ use Rattle.age_stream.specs.declared.reader.StreamReader.{StreamReader}
 use Rattle.age_stream.specs.Payload.{final_chunk}
 use Rattle.age_stream.specs.Chunks.{delivered}
 use Rattle.age_stream.specs.Reading.{payload_at, rest_of}
+use Rattle.age_stream.specs.Cache.{has_number, last_used, HasLast, HasOne}
 
 module _ {S R : Type 0} {suite : SuiteGhosts S} {read : Ghosts R} where
   -- its payload: what the inner reader's content had from its place on when this reader was made
@@ -31,7 +32,7 @@ module _ {S R : Type 0} {suite : SuiteGhosts S} {read : Ghosts R} where
   -- how many bytes it asks the inner reader for when it has given what it holds: after the last chunk one, which must
   -- not come, else a full sealed chunk
   abbrev pub wanted_of : StreamReader S R suite read → ℕ
-  wanted_of r = cond (r.held && r.last) 1 65552
+  wanted_of r = cond (r.held && r.cache.last) 1 65552
 
   -- it answers `Failed` to every read
   abbrev pub HasFailed : StreamReader S R suite read → Type 0
@@ -41,17 +42,32 @@ module _ {S R : Type 0} {suite : SuiteGhosts S} {read : Ghosts R} where
   abbrev pub HasSought : StreamReader S R suite read → Type 0
   HasSought r = r.sought ≡ true
 
-  -- it holds a byte of the chunk at the place
+  -- it has the chunk of this number opened
+  abbrev pub HasChunk : StreamReader S R suite read → ℕ → Type 0
+  HasChunk r number = (r.failed ≡ false) × HasOne r.cache number
+
+  -- the number of the chunk that a read or a seek to the end used last, where it has it
+  abbrev pub last_used_of : StreamReader S R suite read → Option ℕ
+  last_used_of r = cond r.failed None (last_used r.cache)
+
+  -- it comes to a chunk next that it has opened
+  abbrev pub ComesToOpened : StreamReader S R suite read → Type 0
+  ComesToOpened r = (r.held ≡ true → (r.cache.last ≡ false) × (r.at ≡ length r.cache.chunk.items))
+      × (has_number (cond r.held (r.number + 1) r.number) r.cache.other ≡ true)
+
+  -- it has the chunk at the place opened
   abbrev pub IsHolding : StreamReader S R suite read → Type 0
-  IsHolding r = (r.held ≡ true) × (r.at < length r.chunk.items)
+  IsHolding r = (r.failed ≡ false) × (((r.held ≡ true) × (r.at < length r.cache.chunk.items)) ⊎ ComesToOpened r)
 
   -- it has come through a chunk that it holds as the last
   abbrev pub IsAfterLast : StreamReader S R suite read → Type 0
-  IsAfterLast r = (r.held ≡ true) × (r.last ≡ true) × (r.at ≡ length r.chunk.items)
+  IsAfterLast r = (r.held ≡ true) × (r.cache.last ≡ true) × (r.at ≡ length r.cache.chunk.items)
 
-  -- it holds the payload's last chunk as the last
+  -- it has the payload's last chunk opened as the last
   abbrev pub HoldsEnd : StreamReader S R suite read → Type 0
-  HoldsEnd r = (r.held ≡ true) × (r.last ≡ true) × (r.number ≡ final_chunk (length (payload_of r).bytes))
+  HoldsEnd r =
+      let final = final_chunk (length (payload_of r).bytes) in
+      (r.failed ≡ false) × (((r.held ≡ true) × (r.cache.last ≡ true) × (r.number ≡ final)) ⊎ HasLast r.cache final)
 
   -- how often it opened a chunk
   abbrev pub opens_of : StreamReader S R suite read → ℕ
@@ -81,7 +97,7 @@ module _ {S R : Type 0} {suite : SuiteGhosts S} {read : Ghosts R} where
 
   -- the plaintext that its reads can still deliver
   abbrev pub plain_rest_of : StreamReader S R suite read → Stretch
-  plain_rest_of r = rest_of suite.opened r.key r.failed r.held r.at r.chunk.items r.last r.number (read.rest r.inner)
+  plain_rest_of r = rest_of suite.opened r.key r.failed r.held r.at r.cache.chunk.items r.cache.last r.number (read.rest r.inner)
 
   -- how often the inner reader's device failed
   abbrev pub faults_of : StreamReader S R suite read → ℕ

@@ -2,6 +2,7 @@
 #![tactic(auto)]
 
 mod access;
+mod cache;
 mod debug;
 pub mod laws;
 pub mod nonce;

@@ -1,5 +1,5 @@
 //! Reading a payload.
-ghost use Rattle.std.specs.Prelude.{◌≡◌, ◌≢◌, ℕ, ◌+◌, ◌-◌, ◌*◌, ◌^◌, ◌<◌, ◌≤◌, ◌⊎◌, ◌&&◌, Option, Some, None, option_map, vec_items, IfSome, Bool, true, false, IsTrue, min, List, [], ◌++◌, length, take, drop, MatchResult, IfOk, IfErr, OnOk, OnErr, Ok, Err};
+ghost use Rattle.std.specs.Prelude.{◌≡◌, ◌≢◌, ℕ, ◌+◌, ◌-◌, ◌*◌, ◌/◌, ◌^◌, ◌<◌, ◌≤◌, ◌⊎◌, ◌&&◌, Option, Some, None, option_map, vec_items, IfSome, Bool, true, false, IsTrue, min, List, [], ◌++◌, length, take, drop, MatchResult, IfOk, IfErr, OnOk, OnErr, Ok, Err};
 ghost use Rattle.std.proofs.Common.{arith, refl};
 ghost use Rattle.age_error.specs.Bytes.{AreBytes, AreBytesOf};
 ghost use Rattle.age_error.specs.Refusals.{IsDevice, IsInterruption};
@@ -12,11 +12,14 @@ ghost use Rattle.age_stream.specs.Answering.{Gives, Refuses, RefusesItself, IsEn
 ghost use Rattle.age_stream.specs.Chunks.{allowed, chunk_of, delivered};
 ghost use Rattle.age_stream.specs.Keeping.{IsPayloadRefusal, KeepsPayload, OwnOrInner, Stops};
 ghost use Rattle.age_stream.specs.Reading.{payload_at, spare, IsSound};
+ghost use Rattle.age_stream.specs.Cache.{has_number, last_used, HasOne, IsKept};
+ghost use Rattle.age_stream.specs.Wholeness.{IsUnjudged};
 ghost use Rattle.age_suite.specs.Suite.{one_more};
 ghost use Rattle.age_stream.specs.ReadingLaws.{and-left, and-right, both-true, stream_stands, stream_spent};
 ghost use Rattle.age_stream.specs.OpeningLaws.{shorter, opens_bytes};
 ghost use Rattle.age_stream.specs.SizeLaws.{delivered-bytes, delivered-short};
 
+use crate::cache::Cache;
 use crate::nonce::nonce_of;
 use crate::sizes::{CHUNK, MOST_CHUNKS};
 use age_error::bytes::{known_array, known_bytes};
@@ -30,8 +33,9 @@ use std::marker::PhantomData;
 ///
 /// The payload is that of age-encryption.org/v1, "Payload": the plaintext in chunks of 65,536 bytes, each sealed under
 /// the payload key and a nonce that counts the chunks and says of the last one that it is (STREAM). A sealed chunk has
-/// 16 bytes more. Each chunk is opened whole before a byte of it is given, and one is held at a time. It seeks where the
-/// inner reader does.
+/// 16 bytes more. Each chunk is opened whole before a byte of it is given. The two that were used last, by a read or by a
+/// seek to the end, are kept, so back and forth between two places opens nothing anew; a reader that has failed keeps none.
+/// It seeks where the inner reader does.
 pub struct StreamReader<S: Suite, R: Read> {
     pub(crate) alloc: Global,
     pub(crate) key: [u8; 32],
@@ -41,10 +45,9 @@ pub struct StreamReader<S: Suite, R: Read> {
     // The place is `at` in this chunk of the plaintext.
     pub(crate) number: u64,
     pub(crate) at: usize,
-    // Whether the plaintext of that chunk is held, and whether it is held as the last.
+    // Whether that chunk is held: it is the first of those that were opened.
     pub(crate) held: bool,
-    pub(crate) chunk: Vec<u8>,
-    pub(crate) last: bool,
+    pub(crate) cache: Cache,
     // How many bytes were taken from the inner reader.
     pub(crate) taken: u64,
     pub(crate) failed: bool,
@@ -56,18 +59,21 @@ pub struct StreamReader<S: Suite, R: Read> {
     ghost room: { length sealed.items ≡ 65552 },
     ghost offset: { at ≤ 65536 },
     ghost limit: { number ≤ 2 ^ 44 },
-    ghost in_chunk: { held ≡ true → at ≤ length chunk.items },
-    ghost small: { held ≡ true → length chunk.items ≤ 65536 },
+    ghost in_chunk: { held ≡ true → at ≤ length cache.chunk.items },
+    ghost small: { held ≡ true → length cache.chunk.items ≤ 65536 },
     ghost more: { held ≡ true → number < 2 ^ 44 },
-    ghost full: { held ≡ true → last ≡ false → length chunk.items ≡ 65536 },
+    ghost full: { held ≡ true → cache.last ≡ false → length cache.chunk.items ≡ 65536 },
+    ghost first: { held ≡ true → cache.number ≡ number },
+    ghost unjudged: { held ≡ true → cache.judged ≡ false → IsUnjudged at cache.last cache.chunk.items },
     ghost count_fits: { opens < 2 ^ 64 },
     ghost unspent: { failed ≡ false → held ≡ true → R.faults inner < most_faults },
+    ghost kept: { IsTrue (R.tells inner && R.steady inner) → IsKept S.opened key (payload_at (R.place inner) taken (R.content inner)) cache },
     ghost sound: { IsTrue (R.tells inner && R.steady inner) →
-        IsSound S.opened key failed held at chunk.items last sought number taken (R.place inner) (R.content inner) (R.rest inner) },
+        IsSound S.opened key failed held at cache.chunk.items cache.last sought number taken (R.place inner) (R.content inner) (R.rest inner) },
 }
 
 impl<S: Suite, R: Read> Read for StreamReader<S, R> {
-    ghost use Rattle.age_stream.specs.Reader.{payload_of, key_of, inner_rest_of, wanted_of, HasFailed, HasSought, IsHolding, IsAfterLast, opens_of};
+    ghost use Rattle.age_stream.specs.Reader.{payload_of, key_of, inner_rest_of, wanted_of, HasChunk, HasFailed, HasSought, IsHolding, IsAfterLast, last_used_of, opens_of};
     ghost use Rattle.age_stream.specs.Reader.{tells_of, steady_of, content_of, place_of, plain_rest_of, faults_of, refuses_of};
 
     ghost tells = { tells_of };
@@ -87,13 +93,13 @@ impl<S: Suite, R: Read> Read for StreamReader<S, R> {
     ghost faults_fit = { λ r. R.faults_fit r.inner };
 
     ghost spent = { λ r told is. stream_spent S.opened r.key (shorter S.seal_of S.opened S.cipher r.key r.key_bytes)
-        r.failed r.held r.at r.chunk.items r.last r.number (R.rest r.inner)
+        r.failed r.held r.at r.cache.chunk.items r.cache.last r.number (R.rest r.inner)
         (λ good held. Prim.omega (arith, is, r.unspent good held)) (R.spent r.inner (and-left _ _ told) is) };
 
     ghost well = { λ r told well. both-true _ _ told well };
 
     ghost stands = { λ r told steady. stream_stands S.opened r.key (shorter S.seal_of S.opened S.cipher r.key r.key_bytes)
-        r.failed r.held r.at r.chunk.items r.last r.sought r.number r.taken (R.place r.inner) (R.content r.inner) (R.rest r.inner)
+        r.failed r.held r.at r.cache.chunk.items r.cache.last r.sought r.number r.taken (R.place r.inner) (R.content r.inner) (R.rest r.inner)
         (R.are_bytes r.inner (and-left _ _ told)) r.offset r.in_chunk (r.sound told)
         (R.stands r.inner (and-left _ _ told) (and-right _ _ told)) (and-right _ _ steady) };
 
@@ -112,9 +118,9 @@ impl<S: Suite, R: Read> Read for StreamReader<S, R> {
     ///
     /// An empty buffer changes nothing, and the answer is 0. Else 0 is the end: the place is the plaintext's length, as
     /// the payload's own length gives it, and the last chunk is one. Where no seek was made, the payload was then that of
-    /// exactly the plaintext. Where no byte is held the chunk at the place is read and opened, a full one as a middle
-    /// chunk and then as the last, a shorter one, after which the inner reader ends well, only as the last. So a read
-    /// opens a chunk at most twice. It seeks nothing. A refusal is
+    /// exactly the plaintext. Where no byte is held the chunk at the place is read and, unless it is one of the two that are
+    /// kept, opened, a full one as a middle chunk and then as the last, a shorter one, after which the inner reader ends
+    /// well, only as the last. So a read opens a chunk at most twice. It seeks nothing. A refusal is
     ///
     /// - `Truncated`: no byte is left, and no chunk was the last; or fewer than a seek found, which an inner reader that
     ///   tells its bytes never has.
@@ -175,6 +181,10 @@ impl<S: Suite, R: Read> Read for StreamReader<S, R> {
         ensures held { IsHolding self.old → opens_of self.new ≡ opens_of self.old }
         ensures at_end { IsAfterLast self.old → opens_of self.new ≡ opens_of self.old }
         ensures opened { (IsHolding self.old → ⊥) → IfOk result (λ n. 0 < n → one_more (opens_of self.old) ≤ opens_of self.new) }
+
+        // Of the opened chunks it has the one that it reads, and the one that was used last before.
+        ensures uses { IfOk result (λ n. 0 < n → last_used_of self.new ≡ Some (place_of self.old / 65536)) }
+        ensures keeps_last { OnOk result ((b : ℕ) → last_used_of self.old ≡ Some b → HasChunk self.new b) }
     {
         if self.failed {
             return Err(Error::Failed);
@@ -194,7 +204,7 @@ impl<S: Suite, R: Read> StreamReader<S, R> {
     ///
     /// It reads nothing and opens nothing yet. It takes memory for one sealed chunk, 65,552 bytes, which serves for the
     /// whole payload, and answers `OutOfMemory` where it is refused that. A chunk's plaintext is memory of its own, for
-    /// as long as it is held.
+    /// as long as it is held or kept: of two chunks at most, the one that is being opened among them.
     pub fn with_payload_key(alloc: Global, key: [u8; 32], inner: R) -> Result<Self, Error>
     where
         R: Drop,
@@ -231,8 +241,7 @@ impl<S: Suite, R: Read> StreamReader<S, R> {
             number: 0,
             at: 0,
             held: false,
-            chunk: Vec::new(alloc),
-            last: false,
+            cache: Cache::new(alloc),
             taken: 0,
             failed: false,
             sought: false,
@@ -261,8 +270,7 @@ impl<S: Suite, R: Read> StreamReader<S, R> {
             number: _,
             at: _,
             held: _,
-            chunk: _,
-            last: _,
+            cache: _,
             taken: _,
             failed: _,
             sought: _,
@@ -306,13 +314,15 @@ impl<S: Suite, R: Read> StreamReader<S, R> {
         ensures held { IsHolding self.old → self.new.opens ≡ self.old.opens }
         ensures at_end { IsAfterLast self.old → self.new.opens ≡ self.old.opens }
         ensures opened { (IsHolding self.old → ⊥) → IfOk result (λ n. 0 < n → one_more self.old.opens ≤ self.new.opens) }
+        ensures uses { IfOk result (λ n. 0 < n → last_used self.new.cache ≡ Some ((65536 * self.old.number + self.old.at) / 65536)) }
+        ensures keeps_last { OnOk result ((b : ℕ) → last_used self.old.cache ≡ Some b → HasOne self.new.cache b) }
         ensures placed { IfOk result (λ n. 65536 * self.new.number + self.new.at ≡ 65536 * self.old.number + self.old.at + n) }
         ensures stayed { OnErr result (65536 * self.new.number + self.new.at ≡ 65536 * self.old.number + self.old.at) }
-        ensures spared { OnOk result (self.new.opens + spare self.new.held self.new.last + self.old.number
-            ≤ self.old.opens + spare self.old.held self.old.last + self.new.number) }
-        ensures spent { self.new.opens + self.old.number ≤ self.old.opens + spare self.old.held self.old.last + self.new.number }
+        ensures spared { OnOk result (self.new.opens + spare self.new.held self.new.cache.last + self.old.number
+            ≤ self.old.opens + spare self.old.held self.old.cache.last + self.new.number) }
+        ensures spent { self.new.opens + self.old.number ≤ self.old.opens + spare self.old.held self.old.cache.last + self.new.number }
     {
-        if self.held && self.last && self.at == self.chunk.len() {
+        if self.held && self.cache.last && self.at == self.cache.chunk.len() {
             return self.end();
         }
         match self.hold() {
@@ -324,7 +334,7 @@ impl<S: Suite, R: Read> StreamReader<S, R> {
     // Holds a byte of the chunk at the place, or the last chunk, which is empty.
     fn hold(&mut self) -> Result<(), Error>
         requires good { self.old.failed ≡ false }
-        requires more { self.old.held ≡ true → self.old.last ≡ true → self.old.at < length self.old.chunk.items }
+        requires more { self.old.held ≡ true → self.old.cache.last ≡ true → self.old.at < length self.old.cache.chunk.items }
         ensures keeps { KeepsPayload ⟦<R as Read>⟧ (stops_of self.old) self.old.inner self.old.taken self.new.inner self.new.taken result }
         ensures key { self.new.key ≡ self.old.key }
         ensures sought { self.new.sought ≡ self.old.sought }
@@ -333,9 +343,9 @@ impl<S: Suite, R: Read> StreamReader<S, R> {
         ensures rest { let reader = ⟦<StreamReader<S, R> as Read>⟧ in IsTrue (reader.tells self.old) → OnOk result
             (reader.rest self.new ≡ reader.rest self.old) }
         ensures end { let reader = ⟦<StreamReader<S, R> as Read>⟧ in IsTrue (reader.tells self.old) → OnOk result
-            (self.new.at ≡ length self.new.chunk.items → IsCleanEnd (reader.rest self.old)) }
+            (self.new.at ≡ length self.new.cache.chunk.items → IsCleanEnd (reader.rest self.old)) }
         ensures ended { let reader = ⟦<StreamReader<S, R> as Read>⟧ in IsTrue (reader.tells self.old) → OnOk result
-            (self.new.at ≡ length self.new.chunk.items → IsGoodEnd S.seal_of self.old.key (payload_of self.old) (reader.place self.old)) }
+            (self.new.at ≡ length self.new.cache.chunk.items → IsGoodEnd S.seal_of self.old.key (payload_of self.old) (reader.place self.old)) }
         ensures fails { OnErr result (self.new.failed ≡ true) }
         ensures cause { let reader = ⟦<StreamReader<S, R> as Read>⟧ in IsTrue (reader.tells self.old) → IfErr result (λ e. e ≢ OutOfMemory →
             IsQuiet (R.faults self.old.inner) (R.faults self.new.inner) → IsFault (reader.rest self.old)) }
@@ -348,9 +358,10 @@ impl<S: Suite, R: Read> StreamReader<S, R> {
         ensures opens { self.new.opens ≤ self.old.opens + 2 }
         ensures held { IsHolding self.old → self.new.opens ≡ self.old.opens }
         ensures opened { (IsHolding self.old → ⊥) → OnOk result (one_more self.old.opens ≤ self.new.opens) }
-        ensures spared { OnOk result (self.new.opens + spare self.new.held self.new.last + self.old.number
-            ≤ self.old.opens + spare self.old.held self.old.last + self.new.number) }
-        ensures spent { self.new.opens + self.old.number ≤ self.old.opens + spare self.old.held self.old.last + self.new.number }
+        ensures keeps_last { OnOk result ((b : ℕ) → last_used self.old.cache ≡ Some b → HasOne self.new.cache b) }
+        ensures spared { OnOk result (self.new.opens + spare self.new.held self.new.cache.last + self.old.number
+            ≤ self.old.opens + spare self.old.held self.old.cache.last + self.new.number) }
+        ensures spent { self.new.opens + self.old.number ≤ self.old.opens + spare self.old.held self.old.cache.last + self.new.number }
     {
         self.pass();
         if self.held {
@@ -362,14 +373,16 @@ impl<S: Suite, R: Read> StreamReader<S, R> {
     // After a middle chunk that was given whole the place is the front of the next.
     fn pass(&mut self)
         requires good { self.old.failed ≡ false }
-        requires more { self.old.held ≡ true → self.old.last ≡ true → self.old.at < length self.old.chunk.items }
+        requires more { self.old.held ≡ true → self.old.cache.last ≡ true → self.old.at < length self.old.cache.chunk.items }
         ensures good { self.new.failed ≡ false }
-        ensures left { self.new.held ≡ true → self.new.at < length self.new.chunk.items }
-        ensures still { IsHolding self.old → self.new.held ≡ true }
+        ensures left { self.new.held ≡ true → self.new.at < length self.new.cache.chunk.items }
+        ensures still { IsHolding self.old → self.new.held ≡ false → has_number self.new.number self.new.cache.other ≡ true }
         ensures was { self.new.held ≡ true → IsHolding self.old }
+        ensures next { self.new.held ≡ false → has_number self.new.number self.new.cache.other ≡ true → IsHolding self.old }
+        ensures cache { self.new.cache ≡ self.old.cache }
         ensures wanted { wanted_of self.new ≡ wanted_of self.old }
-        ensures spared { self.new.opens + spare self.new.held self.new.last + self.old.number
-            ≤ self.old.opens + spare self.old.held self.old.last + self.new.number }
+        ensures spared { self.new.opens + spare self.new.held self.new.cache.last + self.old.number
+            ≤ self.old.opens + spare self.old.held self.old.cache.last + self.new.number }
         ensures inner { self.new.inner ≡ self.old.inner }
         ensures taken { self.new.taken ≡ self.old.taken }
         ensures key { self.new.key ≡ self.old.key }
@@ -378,7 +391,7 @@ impl<S: Suite, R: Read> StreamReader<S, R> {
         ensures rest { ⟦<StreamReader<S, R> as Read>⟧.rest self.new ≡ ⟦<StreamReader<S, R> as Read>⟧.rest self.old }
         ensures opens { self.new.opens ≡ self.old.opens }
     {
-        if self.held && self.at == self.chunk.len() {
+        if self.held && self.at == self.cache.chunk.len() {
             self.number += 1;
             self.at = 0;
             self.held = false;
@@ -389,8 +402,8 @@ impl<S: Suite, R: Read> StreamReader<S, R> {
     fn end(&mut self) -> Result<usize, Error>
         requires good { self.old.failed ≡ false }
         requires held { self.old.held ≡ true }
-        requires last { self.old.last ≡ true }
-        requires given { self.old.at ≡ length self.old.chunk.items }
+        requires last { self.old.cache.last ≡ true }
+        requires given { self.old.at ≡ length self.old.cache.chunk.items }
         ensures keeps { KeepsPayload ⟦<R as Read>⟧ (stops_of self.old) self.old.inner self.old.taken self.new.inner self.new.taken result }
         ensures unspent { OnOk result (R.faults self.new.inner < most_faults) }
         ensures none { IfOk result (λ n. n ≡ 0) }
@@ -412,7 +425,7 @@ impl<S: Suite, R: Read> StreamReader<S, R> {
             IsQuiet (R.faults self.old.inner) (R.faults self.new.inner) → EndsEarly 1 (R.rest self.old.inner) ⊎ (e ≡ AfterLast)) }
         ensures inner_end { IsTrue (⟦<StreamReader<S, R> as Read>⟧.tells self.old) → OnOk result
             ((R.rest self.new.inner).ends_well ≡ (R.rest self.old.inner).ends_well) }
-        ensures same { (self.new.number ≡ self.old.number) × (self.new.held ≡ self.old.held) × (self.new.last ≡ self.old.last) }
+        ensures same { (self.new.number ≡ self.old.number) × (self.new.held ≡ self.old.held) × (self.new.cache ≡ self.old.cache) }
         ensures opens { self.new.opens ≡ self.old.opens }
     {
         // It stays so on each way out but the last.
@@ -446,9 +459,9 @@ impl<S: Suite, R: Read> StreamReader<S, R> {
         ensures rest { let reader = ⟦<StreamReader<S, R> as Read>⟧ in IsTrue (reader.tells self.old) → OnOk result
             (reader.rest self.new ≡ reader.rest self.old) }
         ensures end { let reader = ⟦<StreamReader<S, R> as Read>⟧ in IsTrue (reader.tells self.old) → OnOk result
-            (self.new.at ≡ length self.new.chunk.items → IsCleanEnd (reader.rest self.old)) }
+            (self.new.at ≡ length self.new.cache.chunk.items → IsCleanEnd (reader.rest self.old)) }
         ensures ended { let reader = ⟦<StreamReader<S, R> as Read>⟧ in IsTrue (reader.tells self.old) → OnOk result
-            (self.new.at ≡ length self.new.chunk.items → IsGoodEnd S.seal_of self.old.key (payload_of self.old) (reader.place self.old)) }
+            (self.new.at ≡ length self.new.cache.chunk.items → IsGoodEnd S.seal_of self.old.key (payload_of self.old) (reader.place self.old)) }
         ensures fails { OnErr result (self.new.failed ≡ true) }
         ensures cause { let reader = ⟦<StreamReader<S, R> as Read>⟧ in IsTrue (reader.tells self.old) → IfErr result (λ e. e ≢ OutOfMemory →
             IsQuiet (R.faults self.old.inner) (R.faults self.new.inner) → IsFault (reader.rest self.old)) }
@@ -458,10 +471,12 @@ impl<S: Suite, R: Read> StreamReader<S, R> {
         ensures inner_end { IsTrue (⟦<StreamReader<S, R> as Read>⟧.tells self.old) → OnOk result
             ((R.rest self.new.inner).ends_well ≡ (R.rest self.old.inner).ends_well) }
         ensures number { self.new.number ≡ self.old.number }
-        ensures spared { OnOk result (self.new.opens + spare self.new.held self.new.last ≤ self.old.opens + 2) }
+        ensures spared { OnOk result (self.new.opens + spare self.new.held self.new.cache.last ≤ self.old.opens + 2) }
         ensures counts { self.old.opens ≤ self.new.opens }
         ensures opens { self.new.opens ≤ self.old.opens + 2 }
-        ensures opened { OnOk result (one_more self.old.opens ≤ self.new.opens) }
+        ensures found { has_number self.old.number self.old.cache.other ≡ true → self.new.opens ≡ self.old.opens }
+        ensures opened { (has_number self.old.number self.old.cache.other ≡ true → ⊥) → OnOk result (one_more self.old.opens ≤ self.new.opens) }
+        ensures keeps_last { OnOk result ((b : ℕ) → last_used self.old.cache ≡ Some b → HasOne self.new.cache b) }
     {
         // It stays so on each way out but the last.
         self.failed = true;
@@ -472,7 +487,7 @@ impl<S: Suite, R: Read> StreamReader<S, R> {
             Err(e) => return Err(e),
             Ok(()) => {}
         }
-        match open_chunk::<S>(
+        match self.cache.bring::<S>(
             self.alloc,
             &mut self.opens,
             &self.key,
@@ -480,13 +495,11 @@ impl<S: Suite, R: Read> StreamReader<S, R> {
             &self.sealed[..count],
         ) {
             Err(e) => Err(e),
-            Ok((chunk, last)) => {
+            Ok(()) => {
                 // Only where the inner reader has fewer bytes than a seek found.
-                if self.at > chunk.len() {
+                if self.at > self.cache.chunk.len() {
                     return Err(Error::Truncated);
                 }
-                self.chunk = chunk;
-                self.last = last;
                 self.held = true;
                 self.failed = false;
                 Ok(())
@@ -498,25 +511,28 @@ impl<S: Suite, R: Read> StreamReader<S, R> {
     fn give(&mut self, buf: &mut [u8]) -> usize
         requires good { self.old.failed ≡ false }
         requires held { self.old.held ≡ true }
-        ensures count { result ≡ min (length buf.old) (length self.old.chunk.items - self.old.at) }
+        ensures count { result ≡ min (length buf.old) (length self.old.cache.chunk.items - self.old.at) }
         ensures good { self.new.failed ≡ false }
         ensures inner { self.new.inner ≡ self.old.inner }
         ensures taken { self.new.taken ≡ self.old.taken }
         ensures key { self.new.key ≡ self.old.key }
         ensures sought { self.new.sought ≡ self.old.sought }
-        ensures front { take result buf.new ≡ take result (drop self.old.at self.old.chunk.items) }
+        ensures front { take result buf.new ≡ take result (drop self.old.at self.old.cache.chunk.items) }
         ensures beyond { drop result buf.new ≡ drop result buf.old }
         ensures bytes { Delivers (take result buf.new)
             (⟦<StreamReader<S, R> as Read>⟧.rest self.old) (⟦<StreamReader<S, R> as Read>⟧.rest self.new) }
         ensures moves { ⟦<StreamReader<S, R> as Read>⟧.place self.new ≡ ⟦<StreamReader<S, R> as Read>⟧.place self.old + result }
         ensures gives { let reader = ⟦<StreamReader<S, R> as Read>⟧ in IsTrue (reader.tells self.old) → 0 < result →
             Gives S.seal_of self.old.key (payload_of self.old) (reader.place self.old) (length buf.old) (take result buf.new) }
-        ensures same { (self.new.number ≡ self.old.number) × (self.new.held ≡ self.old.held) × (self.new.last ≡ self.old.last) }
+        ensures same { (self.new.number ≡ self.old.number) × (self.new.held ≡ self.old.held) × (self.new.cache.last ≡ self.old.cache.last) }
+        ensures uses { 0 < result → last_used self.new.cache ≡ Some self.old.number }
+        ensures has { (b : ℕ) → HasOne self.old.cache b → HasOne self.new.cache b }
         ensures opens { self.new.opens ≡ self.old.opens }
     {
-        let count = buf.len().min(self.chunk.len() - self.at);
-        buf[..count].copy_from_slice(&self.chunk[self.at..self.at + count]);
+        let count = buf.len().min(self.cache.chunk.len() - self.at);
+        buf[..count].copy_from_slice(&self.cache.chunk[self.at..self.at + count]);
         self.at += count;
+        self.cache.used = true;
         count
     }
 }
@@ -531,8 +547,7 @@ impl<S: Suite, R: Read + Drop> Drop for StreamReader<S, R> {
             number: _,
             at: _,
             held: _,
-            chunk: _,
-            last: _,
+            cache: _,
             taken: _,
             failed: _,
             sought: _,
@@ -562,7 +577,7 @@ pub(crate) fn open_as<S: Suite>(
 
 // Opens a chunk, as middle or as last.
 #[tactic(auto, unfolding(crate::specs::Chunks::chunk_of))]
-fn open_chunk<S: Suite>(
+pub(crate) fn open_chunk<S: Suite>(
     alloc: Global,
     opens: &mut Opens,
     key: &[u8; 32],

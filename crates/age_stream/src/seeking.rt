@@ -9,6 +9,7 @@ ghost use Rattle.age_stream.specs.Payload;
 ghost use Rattle.age_stream.specs.Payload.{nonce, final_chunk, EndsAsLast};
 ghost use Rattle.age_stream.specs.Keeping.{IsPayloadSeekRefusal, KeepsPayload};
 ghost use Rattle.age_stream.specs.Reading.{text_at, IsLastChunk};
+ghost use Rattle.age_stream.specs.Cache.{last_used, HasLast, HasOne};
 ghost use Rattle.age_stream.specs.Targets.{below_start, in_length, sought_in, IsToEnd, IsRefusedTarget};
 
 use crate::reader::{StreamReader, open_as};
@@ -85,14 +86,6 @@ fn find(to: SeekFrom, place: u64, size: u64) -> Result<(u64, u64), Error>
     }
 }
 
-// Whether a chunk that is held so, with the place there in it, was found to be so by the verdict on it. A seek to the end
-// opens the last chunk as the last, and doesn't ask whether it opens as a middle one.
-fn is_judged(last: bool, at: usize) -> bool
-    ensures { IsTrue result → last ≡ true → at < 65536 }
-{
-    !last || at < PIECE
-}
-
 impl<S: Suite, R: Seek> StreamReader<S, R> {
     ghost use Rattle.age_stream.specs.Reader.{payload_of, key_of, IsAfterLast};
 
@@ -100,7 +93,7 @@ impl<S: Suite, R: Seek> StreamReader<S, R> {
     fn look(&mut self) -> Result<(u64, u64), Error>
         requires failed { self.old.failed ≡ true }
         ensures same { (self.new.number ≡ self.old.number) × (self.new.at ≡ self.old.at) × (self.new.held ≡ self.old.held)
-            × (self.new.chunk ≡ self.old.chunk) × (self.new.last ≡ self.old.last) × (self.new.key ≡ self.old.key)
+            × (self.new.cache ≡ self.old.cache) × (self.new.key ≡ self.old.key)
             × (self.new.opens ≡ self.old.opens) × (self.new.failed ≡ true) × (self.new.sought ≡ self.old.sought) }
         ensures keeps { KeepsPayload ⟦<R as Read>⟧ IsPayloadSeekRefusal self.old.inner self.old.taken self.new.inner self.new.taken result }
         ensures refusal { IfErr result (λ e. IsOutside e → ⊥) }
@@ -132,7 +125,7 @@ impl<S: Suite, R: Seek> StreamReader<S, R> {
         requires start { IsTrue (R.tells self.old.inner && R.steady self.old.inner) → start ≡ R.place self.old.inner - self.old.taken }
         requires within { IsTrue (R.tells self.old.inner && R.steady self.old.inner) → place ≤ length (payload_of self.old).bytes }
         ensures same { (self.new.number ≡ self.old.number) × (self.new.at ≡ self.old.at) × (self.new.held ≡ self.old.held)
-            × (self.new.chunk ≡ self.old.chunk) × (self.new.last ≡ self.old.last) × (self.new.key ≡ self.old.key)
+            × (self.new.cache ≡ self.old.cache) × (self.new.key ≡ self.old.key)
             × (self.new.opens ≡ self.old.opens) × (self.new.failed ≡ true) × (self.new.sought ≡ self.old.sought) }
         ensures keeps { KeepsPayload ⟦<R as Read>⟧ IsPayloadSeekRefusal self.old.inner self.old.taken self.new.inner self.new.taken result }
         ensures refusal { IfErr result (λ e. IsOutside e → ⊥) }
@@ -155,9 +148,8 @@ impl<S: Suite, R: Seek> StreamReader<S, R> {
         }
     }
 
-    // Goes to a place before the end. A chunk that is held stays so where the place is in it, unless only a seek to the end
-    // may have found it to be the last.
-    fn enter(&mut self, start: u64, size: u64, place: u64) -> Result<(), Error>
+    // Goes to a place before the end. The chunk there is held then if it is opened by the verdict on it.
+    fn enter(&mut self, start: u64, size: u64, place: u64, was_failed: bool) -> Result<(), Error>
         requires failed { self.old.failed ≡ true }
         requires sought { self.old.sought ≡ true }
         requires limit { place < 2 ^ 60 }
@@ -177,21 +169,26 @@ impl<S: Suite, R: Seek> StreamReader<S, R> {
         ensures rest { IsTrue (R.tells self.old.inner && R.steady self.old.inner) → OnOk result (R.rest self.new.inner ≡ from_place self.new.taken (payload_of self.old)) }
         ensures more { OnOk result (self.new.held ≡ false → 65552 * self.new.number < size) }
         ensures opens { self.new.opens ≡ self.old.opens }
+        ensures has { was_failed ≡ false → OnOk result ((b : ℕ) → HasOne self.old.cache b → HasOne self.new.cache b) }
+        ensures same_last { was_failed ≡ false → OnOk result (last_used self.new.cache ≡ last_used self.old.cache) }
+        ensures none { was_failed ≡ true → OnOk result ((self.new.held ≡ false) × ((b : ℕ) → HasOne self.new.cache b → ⊥)) }
+        ensures finds { IsTrue (R.tells self.old.inner && R.steady self.old.inner) → was_failed ≡ false → OnOk result
+            (HasOne self.old.cache (place / 65536) → (self.new.held ≡ true) × (self.new.at < length self.new.cache.chunk.items)) }
         ensures cause { IsTrue (R.tells self.old.inner && R.steady self.old.inner) → IsTrue (payload_of self.old).ends_well →
             IfErr result (λ e. e ≢ OutOfMemory → IsQuiet (R.faults self.old.inner) (R.faults self.new.inner) → ⊥) }
     {
         let number = place / PIECE as u64;
         let at = (place % PIECE as u64) as usize;
-        if self.held
-            && self.number == number
-            && at < self.chunk.len()
-            && is_judged(self.last, self.at)
-        {
+        self.held = false;
+        self.cache.keep_if(self.alloc, !was_failed);
+        if self.cache.find(self.alloc, number, at) {
             let past = (CHUNK as u64 * number + CHUNK as u64).min(size);
             match self.stand(start, past) {
                 Err(e) => Err(e),
                 Ok(()) => {
+                    self.number = number;
                     self.at = at;
+                    self.held = true;
                     self.failed = false;
                     Ok(())
                 }
@@ -202,7 +199,6 @@ impl<S: Suite, R: Seek> StreamReader<S, R> {
                 Ok(()) => {
                     self.number = number;
                     self.at = at;
-                    self.held = false;
                     self.failed = false;
                     Ok(())
                 }
@@ -213,6 +209,7 @@ impl<S: Suite, R: Seek> StreamReader<S, R> {
     // Reads and opens the chunk before which the inner reader stands, as the last.
     fn open_last(&mut self, number: u64) -> Result<(), Error>
         requires failed { self.old.failed ≡ true }
+        requires unheld { self.old.held ≡ false }
         requires sought { self.old.sought ≡ true }
         requires limit { number < 2 ^ 44 }
         requires stands { IsTrue (R.tells self.old.inner && R.steady self.old.inner) → (self.old.taken ≡ 65552 * number)
@@ -222,7 +219,7 @@ impl<S: Suite, R: Seek> StreamReader<S, R> {
         ensures refusal { IfErr result (λ e. IsOutside e → ⊥) }
         ensures key { self.new.key ≡ self.old.key }
         ensures sought { self.new.sought ≡ true }
-        ensures good { OnOk result ((self.new.failed ≡ false) × (self.new.held ≡ true) × (self.new.last ≡ true) × (self.new.number ≡ number)) }
+        ensures good { OnOk result ((self.new.failed ≡ false) × (self.new.held ≡ true) × (self.new.cache.last ≡ true) × (self.new.number ≡ number)) }
         ensures fails { OnErr result (self.new.failed ≡ true) }
         ensures arrives { IsTrue (R.tells self.old.inner && R.steady self.old.inner) → OnOk result (65536 * self.new.number + self.new.at ≡ length (payload_of self.old).bytes - 16 * (number + 1)) }
         ensures stays { OnErr result ((self.new.number ≡ self.old.number) × (self.new.at ≡ self.old.at)) }
@@ -231,10 +228,14 @@ impl<S: Suite, R: Seek> StreamReader<S, R> {
         ensures inner_end { IsTrue (R.tells self.old.inner && R.steady self.old.inner) → OnOk result
             ((R.rest self.new.inner).ends_well ≡ (payload_of self.old).ends_well) }
         ensures opens { self.new.opens ≤ self.old.opens + 1 }
+        ensures used { OnOk result ((self.new.cache.used ≡ true) × (self.new.cache.number ≡ number)) }
+        ensures had { OnOk result ((b : ℕ) → HasOne self.new.cache b → (b ≡ number) ⊎ HasOne self.old.cache b) }
+        ensures keeps_last { OnOk result ((b : ℕ) → last_used self.old.cache ≡ Some b → HasOne self.new.cache b) }
         ensures cause { IsTrue (R.tells self.old.inner && R.steady self.old.inner) → IsTrue (payload_of self.old).ends_well →
             IfErr result (λ e. e ≢ OutOfMemory → IsQuiet (R.faults self.old.inner) (R.faults self.new.inner) →
             (e ≡ BadEnd) × (S.opened self.old.key (nonce number true) (text_at number (payload_of self.old)) ≡ None)) }
     {
+        self.cache.make_room(self.alloc);
         let mut count = 0;
         let answer = fill(&mut self.inner, &mut self.sealed, &mut count);
         self.taken = self.taken.saturating_add(count as u64);
@@ -251,10 +252,10 @@ impl<S: Suite, R: Seek> StreamReader<S, R> {
                 Err(_) => Err(Error::OutOfMemory),
                 Ok(None) => Err(Error::BadEnd),
                 Ok(Some(chunk)) => {
-                    self.at = chunk.len();
-                    self.chunk = chunk;
+                    let len = chunk.len();
+                    self.cache.put(self.alloc, number, chunk, true, len < PIECE);
                     self.number = number;
-                    self.last = true;
+                    self.at = len;
                     self.held = true;
                     self.failed = false;
                     Ok(())
@@ -264,7 +265,7 @@ impl<S: Suite, R: Seek> StreamReader<S, R> {
     }
 
     // Goes to the end. The last chunk is opened as the last, unless it is held so.
-    fn enter_end(&mut self, start: u64, size: u64, len: u64) -> Result<(), Error>
+    fn enter_end(&mut self, start: u64, size: u64, len: u64, was_failed: bool) -> Result<(), Error>
         requires failed { self.old.failed ≡ true }
         requires sought { self.old.sought ≡ true }
         requires start { IsTrue (R.tells self.old.inner && R.steady self.old.inner) → start ≡ R.place self.old.inner - self.old.taken }
@@ -276,7 +277,7 @@ impl<S: Suite, R: Seek> StreamReader<S, R> {
         ensures refusal { IfErr result (λ e. IsOutside e → ⊥) }
         ensures key { self.new.key ≡ self.old.key }
         ensures sought { self.new.sought ≡ true }
-        ensures good { OnOk result ((self.new.failed ≡ false) × (self.new.held ≡ true) × (self.new.last ≡ true) × (self.new.number ≡ final_chunk size)) }
+        ensures good { OnOk result ((self.new.failed ≡ false) × (self.new.held ≡ true) × (self.new.cache.last ≡ true) × (self.new.number ≡ final_chunk size)) }
         ensures fails { OnErr result (self.new.failed ≡ true) }
         ensures arrives { IsTrue (R.tells self.old.inner && R.steady self.old.inner) → OnOk result (65536 * self.new.number + self.new.at ≡ len) }
         ensures stays { OnErr result ((self.new.number ≡ self.old.number) × (self.new.at ≡ self.old.at)) }
@@ -285,39 +286,60 @@ impl<S: Suite, R: Seek> StreamReader<S, R> {
         ensures inner_end { IsTrue (R.tells self.old.inner && R.steady self.old.inner) → OnOk result
             ((R.rest self.new.inner).ends_well ≡ (payload_of self.old).ends_well) }
         ensures opens { self.new.opens ≤ self.old.opens + 1 }
-        ensures held { self.old.held ≡ true → self.old.last ≡ true → self.old.number ≡ final_chunk size → self.new.opens ≡ self.old.opens }
+        ensures held { was_failed ≡ false → self.old.held ≡ true → self.old.cache.last ≡ true → self.old.number ≡ final_chunk size → self.new.opens ≡ self.old.opens }
+        ensures kept { was_failed ≡ false → HasLast self.old.cache (final_chunk size) → self.new.opens ≡ self.old.opens }
+        ensures alone { was_failed ≡ true → OnOk result ((b : ℕ) → HasOne self.new.cache b → b ≡ final_chunk size) }
+        ensures uses { OnOk result (self.new.cache.judged ≡ true → last_used self.new.cache ≡ Some (final_chunk size)) }
+        ensures keeps_last { was_failed ≡ false → OnOk result ((b : ℕ) → last_used self.old.cache ≡ Some b → HasOne self.new.cache b) }
         ensures cause { IsTrue (R.tells self.old.inner && R.steady self.old.inner) → IsTrue (payload_of self.old).ends_well →
             IfErr result (λ e. e ≢ OutOfMemory → IsQuiet (R.faults self.old.inner) (R.faults self.new.inner) →
             (e ≡ BadEnd) × (S.opened self.old.key (nonce (final_chunk size) true) (text_at (final_chunk size) (payload_of self.old)) ≡ None)) }
     {
         let number = (size - 1) / CHUNK as u64;
-        if self.held && self.last && self.number == number {
+        if !was_failed && self.held && self.cache.last && self.number == number {
             match self.stand(start, size) {
                 Err(e) => Err(e),
                 Ok(()) => {
-                    self.at = self.chunk.len();
+                    self.at = self.cache.chunk.len();
+                    self.cache.used = true;
                     self.failed = false;
                     Ok(())
                 }
             }
         } else {
-            match self.stand(start, CHUNK as u64 * number) {
-                Err(e) => Err(e),
-                Ok(()) => self.open_last(number),
+            self.held = false;
+            self.cache.keep_if(self.alloc, !was_failed);
+            if self.cache.find_last(self.alloc, number) {
+                match self.stand(start, size) {
+                    Err(e) => Err(e),
+                    Ok(()) => {
+                        self.number = number;
+                        self.at = self.cache.chunk.len();
+                        self.cache.used = true;
+                        self.held = true;
+                        self.failed = false;
+                        Ok(())
+                    }
+                }
+            } else {
+                match self.stand(start, CHUNK as u64 * number) {
+                    Err(e) => Err(e),
+                    Ok(()) => self.open_last(number),
+                }
             }
         }
     }
 }
 
 impl<S: Suite, R: Seek> Seek for StreamReader<S, R> {
-    ghost use Rattle.age_stream.specs.Reader.{payload_of, key_of, inner_of, inner_rest_of, wanted_of, place_of, HasFailed, IsHolding, IsAfterLast, HoldsEnd, opens_of};
+    ghost use Rattle.age_stream.specs.Reader.{payload_of, key_of, inner_of, inner_rest_of, wanted_of, place_of, HasChunk, HasFailed, IsHolding, IsAfterLast, HoldsEnd, last_used_of, opens_of};
 
     /// Moves to a target from 0 to the plaintext's length, counted in bytes of the plaintext, and answers the new place. A
     /// success makes a failed reader good again.
     ///
     /// The plaintext's length is what the payload's own length gives, whatever its chunks are. A target before the end opens
-    /// nothing: the chunk there is opened, and judged by itself, when it is read. A target at the end opens the last chunk as
-    /// the last, unless it is held as such. The tests come in this order:
+    /// nothing: the chunk there is opened, and judged by itself, when it is read, unless it is one of the two that are kept. A
+    /// target at the end opens the last chunk as the last, unless it is held or kept as such. The tests come in this order:
     ///
     /// - `BeforeStart`: the target is reckoned from the place, and below 0.
     /// - `BadEnd`: the payload's length is that of no plaintext.
@@ -378,6 +400,23 @@ impl<S: Suite, R: Seek> Seek for StreamReader<S, R> {
         ensures end { IsTrue (⟦<StreamReader<S, R> as Read>⟧.tells self.old) →
             (IsToEnd (length (payload_of self.old).bytes) to (place_of self.old) → ⊥) → opens_of self.new ≡ opens_of self.old }
         ensures held { IsTrue (⟦<StreamReader<S, R> as Read>⟧.tells self.old) → HoldsEnd self.old → opens_of self.new ≡ opens_of self.old }
+
+        // The opened chunks stay, and a read at a place in one of them opens nothing. At the end the one that was used last stays beside the
+        // last chunk.
+        ensures keeps { IsTrue (⟦<StreamReader<S, R> as Read>⟧.tells self.old) → OnOk result
+            ((IsToEnd (length (payload_of self.old).bytes) to (place_of self.old) → ⊥) → (b : ℕ) → HasChunk self.old b → HasChunk self.new b) }
+        ensures unmoved_chunks { IfErr result (λ e. IsOutside e →
+            (last_used_of self.new ≡ last_used_of self.old) × ((b : ℕ) → HasChunk self.old b → HasChunk self.new b)) }
+        ensures same_last { IsTrue (⟦<StreamReader<S, R> as Read>⟧.tells self.old) → OnOk result
+            ((IsToEnd (length (payload_of self.old).bytes) to (place_of self.old) → ⊥) → (b : ℕ) → last_used_of self.old ≡ Some b → last_used_of self.new ≡ Some b) }
+        ensures keeps_last { OnOk result ((b : ℕ) → last_used_of self.old ≡ Some b → HasChunk self.new b) }
+        // One that had failed has none but the last chunk, where that was the target.
+        ensures none { IsTrue (⟦<StreamReader<S, R> as Read>⟧.tells self.old) → HasFailed self.old → OnOk result ((b : ℕ) → HasChunk self.new b →
+            IsToEnd (length (payload_of self.old).bytes) to (place_of self.old) × (b ≡ final_chunk (length (payload_of self.old).bytes))) }
+        ensures unheld { IsTrue (⟦<StreamReader<S, R> as Read>⟧.tells self.old) → HasFailed self.old → OnOk result
+            ((IsToEnd (length (payload_of self.old).bytes) to (place_of self.old) → ⊥) → IsHolding self.new → ⊥) }
+        ensures finds { IsTrue (⟦<StreamReader<S, R> as Read>⟧.tells self.old) → IfOk result (λ n.
+            (IsToEnd (length (payload_of self.old).bytes) to (place_of self.old) → ⊥) → HasChunk self.old (n / 65536) → IsHolding self.new) }
     {
         let place = PIECE as u64 * self.number + self.at as u64;
         if is_below_start(to, place) {
@@ -405,12 +444,12 @@ impl<S: Suite, R: Seek> Seek for StreamReader<S, R> {
                 }
                 Ok((target, len)) => {
                     if target == len {
-                        match self.enter_end(start, size, len) {
+                        match self.enter_end(start, size, len, was_failed) {
                             Err(e) => Err(e),
                             Ok(()) => Ok(target),
                         }
                     } else {
-                        match self.enter(start, size, target) {
+                        match self.enter(start, size, target, was_failed) {
                             Err(e) => Err(e),
                             Ok(()) => Ok(target),
                         }

@@ -9,6 +9,8 @@ mod fault_tests;
 #[cfg(test)]
 mod fixtures;
 #[cfg(test)]
+mod kept_tests;
+#[cfg(test)]
 mod refusal_tests;
 #[cfg(test)]
 mod seek_tests;

@@ -454,8 +454,15 @@ fn opens_nothing_but_at_the_end<S: Suite, R: Seek + Drop>(
     reads(rt, &mut reader, 655_360);
     has_opened(rt, &reader, 1);
     goes_with(rt, &mut reader, SeekFrom::End(0), 655_361, 1);
+    // The last chunk is kept until two others were read.
     goes(rt, &mut reader, SeekFrom::Start(3), 3);
-    goes_with(rt, &mut reader, SeekFrom::End(0), 655_361, 2);
+    goes_with(rt, &mut reader, SeekFrom::End(0), 655_361, 1);
+    for (place, opens) in [(3, 2), (70_000, 3)] {
+        goes(rt, &mut reader, SeekFrom::Start(place), place);
+        reads(rt, &mut reader, place as usize);
+        has_opened(rt, &reader, opens);
+    }
+    goes_with(rt, &mut reader, SeekFrom::End(0), 655_361, 4);
     Ok(())
 }
 

@@ -1,56 +1,86 @@
-use Rattle.std.proofs.Common.{◌≡◌, ◌≤◌, ◌<◌, ◌-◌, ◌%◌, ◌^◌, ◌∙◌, arith, length, sym, ap}
+use Rattle.std.proofs.Common.{◌≡◌, ◌≤◌, ◌<◌, ◌-◌, ◌*◌, ◌/◌, ◌%◌, ◌^◌, ◌∙◌, arith, length, sym, ap, subst, refl, inl}
+use Rattle.std.proofs.lemmas.Bool.{true≢false}
 use Rattle.std.proofs.lemmas.List.Elements.{All-drop}
 use Rattle.age_io.specs.Stretch.{from_place}
+use Rattle.age_stream.specs.Cache.{HasOne}
 use Rattle.age_stream.specs.OpeningLaws.{shorter}
-use Rattle.age_stream.specs.Reading.{payload_at}
+use Rattle.age_stream.specs.Reading.{payload_at, IsHeld}
 use Rattle.age_stream.specs.ReadingLaws.{and-left}
 use Rattle.age_stream.proofs.Inner.{past-kept}
 use Rattle.age_stream.proofs.Keeping.{told-before}
-use Rattle.age_stream.proofs.Last.{inside-held}
-use Rattle.age_stream.proofs.Moving.{sound-kept}
+use Rattle.age_stream.proofs.Last.{inside-held, text-held}
+use Rattle.age_stream.proofs.Moving.{sound-resumed}
+use Rattle.age_stream.proofs.TextLengths.{length-text}
 use Rattle.age_stream.proofs.reader.StreamReader.enter.Goals as goal
 
-pub invariant_of-self : goal.invariant_of-self
-invariant_of-self g c =
+pub invariant_of-self-in-Ok : goal.invariant_of-self-in-Ok
+invariant_of-self-in-Ok g c =
     let self = c.args.self.now in
     let read = g.R.Read in
     let mid = c.stand.new.self in
     let done = c.in-Ok.ensures in
-    let is_held = done.same.2 ∙ c.if-self.true in
+    let found = c.find.ensures.found c.if-find.true in
+    let number : mid.cache.number ≡ c.args.place / 65536 = ap (λ k. k.number) done.same.3 ∙ found.1 in
+    let judged = ap (λ k. k.judged) done.same.3 ∙ found.0 in
+    let long : length mid.cache.chunk.items ≡ length c.find.new.self.chunk.items = ap (λ k. length k.chunk.items) done.same.3 in
+    let within : c.args.place % 65536 ≤ length mid.cache.chunk.items = omega (arith, found.2, long) in
+    let whole = mid.cache.whole judged in
     let law = shorter g.S.Suite.seal_of g.S.Suite.opened g.met.S.Suite.cipher mid.key mid.key_bytes in
     let before = told-before read self.inner mid.inner done.keeps.inner.same in
     let payload = payload_at (read.place mid.inner) mid.taken (read.content mid.inner) in
-    let chunk_same : length mid.chunk.items ≡ length self.chunk.items = ap (λ v. length v.items) done.same.3 in
-    let within : c.args.place % 65536 ≤ length mid.chunk.items = omega (arith, c.if-at-len.true, c.len.ensures, self.chunk.ok.0, chunk_same) in
     record {
       key_bytes = mid.key_bytes;
       room = mid.room;
       offset = omega arith;
-      limit = mid.limit;
+      limit = omega (arith, c.requires.limit);
       in_chunk = λ _. within;
-      small = mid.small;
-      more = mid.more;
-      full = mid.full;
+      small = λ _. whole.small;
+      more = λ _. omega (arith, c.requires.limit);
+      full = λ _. whole.full;
+      first = λ _. number;
+      unjudged = λ _ none. absurd (true≢false (sym judged ∙ none));
       count_fits = mid.count_fits;
       unspent = λ _ _. done.unspent;
+      kept = mid.kept;
       sound = λ told.
           let told_before = before told in
           let placed = done.stands told_before in
           let same = done.keeps.payload told_before in
           let size : c.args.size ≡ length payload.bytes = c.requires.size told_before ∙ ap (λ p. length p.bytes) (sym same) in
-          let number : mid.number ≡ self.number = done.same.0 in
           let bytes = g.met.R.Read.are_bytes mid.inner (and-left (read.tells mid.inner) (read.steady mid.inner) told) in
-          let past = past-kept payload (read.rest mid.inner) mid.number mid.taken c.min-past.result c.args.size mid.last
-          size (omega (arith, c.min-past.ensures, number, c.if-self-number.true))
+          let held = subst (λ n. IsHeld g.S.Suite.opened mid.key payload n mid.cache.last 0 mid.cache.chunk.items) number ((mid.kept told).first judged) in
+          let past = past-kept payload (read.rest mid.inner) (c.args.place / 65536) mid.taken c.min-past.result c.args.size mid.cache.last
+          size (omega (arith, c.min-past.ensures))
           placed.0 (placed.1 ∙ ap (from_place c.min-past.result) (sym same))
           (λ middle.
-          let whole = mid.full is_held middle in
-          let in_it = inside-held g.S.Suite.opened mid.key law payload mid.number mid.at (length mid.chunk.items) mid.last mid.chunk.items
-          (All-drop (λ x. x < 2 ^ 8) (read.place mid.inner - mid.taken) (read.content mid.inner).bytes bytes)
-          ((mid.sound told).is_held is_held) (omega arith) in
-          omega (arith, in_it.inside (omega (arith, whole)), whole, size)) in
-          sound-kept g.S.Suite.opened mid.key mid.failed mid.held mid.at mid.chunk.items mid.last mid.sought mid.number mid.taken
+          let full = whole.full middle in
+          let in_it = inside-held g.S.Suite.opened mid.key law payload (c.args.place / 65536) 0 (length mid.cache.chunk.items) mid.cache.last mid.cache.chunk.items
+          (All-drop (λ x. x < 2 ^ 8) (read.place mid.inner - mid.taken) (read.content mid.inner).bytes bytes) held (omega arith) in
+          omega (arith, in_it.inside (omega (arith, full)), full, size)) in
+          sound-resumed g.S.Suite.opened mid.key mid.failed mid.held mid.at mid.cache.chunk.items mid.cache.last mid.sought mid.number mid.taken
           (read.place mid.inner) (read.content mid.inner) (read.rest mid.inner) (mid.sound told)
-          law (c.args.place % 65536) bytes is_held (done.same.8 ∙ c.requires.sought) within
-          (λ _ e. absurd (omega (arith, e.full, done.same.1, c.is_judged.ensures c.if-is_judged.true (sym done.same.4 ∙ e.is_last)))) past;
+          law (c.args.place / 65536) (c.args.place % 65536) mid.cache.chunk.items mid.cache.last bytes (done.same.7 ∙ c.requires.sought) within held past;
     }
+
+pub returns-in-Ok-clause-none : goal.returns-in-Ok-clause-none
+returns-in-Ok-clause-none g c = λ failed.
+    let found = c.find.ensures.found c.if-find.true in
+    absurd (c.keep_if.ensures.none (rw failed refl) (c.args.place / 65536) (c.find.ensures.had (c.args.place / 65536) (inl (found.0, found.1))))
+
+pub returns-in-Ok-stand-clause-none : goal.returns-in-Ok-stand-clause-none
+returns-in-Ok-stand-clause-none g c = λ failed.
+    let done = c.in-Ok-stand.ensures in
+    (done.same.2, λ b has. c.keep_if.ensures.none (rw failed refl) b (c.find.ensures.had b (subst (λ k. HasOne k b) done.same.3 has)))
+
+pub returns-in-Ok-stand-clause-finds : goal.returns-in-Ok-stand-clause-finds
+returns-in-Ok-stand-clause-finds g c = λ told good has.
+    let self = c.args.self.now in
+    let read = g.R.Read in
+    let payload = payload_at (read.place self.inner) self.taken (read.content self.inner) in
+    let cache = c.find.new.self in
+    let law = shorter g.S.Suite.seal_of g.S.Suite.opened g.met.S.Suite.cipher self.key self.key_bytes in
+    let there = c.find.ensures.none c.if-find.false (subst (λ k. HasOne k (c.args.place / 65536)) (sym (c.keep_if.ensures.same (rw good refl))) has) in
+    let kept = c.find.ensures.kept g.S.Suite.opened self.key payload (c.keep_if.ensures.kept g.S.Suite.opened self.key payload (self.kept told)) in
+    let bytes = All-drop (λ x. x < 2 ^ 8) (read.place self.inner - self.taken) (read.content self.inner).bytes (g.met.R.Read.are_bytes self.inner (and-left _ _ told)) in
+    let longer = text-held g.S.Suite.opened self.key law payload cache.number 0 cache.last cache.chunk.items bytes (kept.first there.0) in
+    absurd (omega (arith, there.1, there.2, longer, length-text 65552 (65552 * cache.number) payload.bytes, c.requires.size told, c.requires.before))

@@ -20,11 +20,11 @@ returns-clause-refused g c = λ told.
 pub returns-clause-spent : goal.returns-clause-spent
 returns-clause-spent g c =
     let mid = c.pass.new.self in
-    let none = spare-none mid.held mid.last c.if-self.false in
+    let none = spare-none mid.held mid.cache.last c.if-self.false in
     omega (arith, c.pass.ensures.spared, c.open.ensures.opens, c.open.ensures.number, none)
 
 pub returns-clause-spared : goal.returns-clause-spared
 returns-clause-spared g c =
     let mid = c.pass.new.self in
-    let none = spare-none mid.held mid.last c.if-self.false in
+    let none = spare-none mid.held mid.cache.last c.if-self.false in
     on_ok_weaker c.open.result (λ after. omega (arith, c.pass.ensures.spared, after, c.open.ensures.number, none)) c.open.ensures.spared

@@ -2,6 +2,7 @@ use Rattle.std.proofs.Common.{◌≡◌, ◌-◌, ◌+◌, ◌∙◌, arith, len
 use Rattle.std.proofs.lemmas.Bool.{true≢false}
 use Rattle.age_stream.specs.Reading.{payload_at}
 use Rattle.age_stream.specs.ReadingLaws.{and-left, and-right}
+use Rattle.age_stream.proofs.Cached.{kept-same}
 use Rattle.age_stream.proofs.Inner.{current-zero, end-zero, same-payload}
 use Rattle.age_stream.proofs.Moving.{sound-moved, sound-missed}
 use Rattle.age_stream.proofs.reader.StreamReader.look.Goals as goal
@@ -21,12 +22,20 @@ invariant_of-self g c =
       small = self.small;
       more = self.more;
       full = self.full;
+      first = self.first;
+      unjudged = self.unjudged;
       count_fits = self.count_fits;
       unspent = λ good. absurd (true≢false (sym c.requires.failed ∙ good));
+      kept = λ told.
+          let told_before : IsTrue (read.tells self.inner && read.steady self.inner) = rw (seek.same_tells, seek.same_steady) at told in
+          let t = and-left (read.tells self.inner) (read.steady self.inner) told_before in
+          kept-same g.S.Suite.opened self.key self.cache (payload_at (read.place self.inner) self.taken (read.content self.inner)) (payload_at (read.place after) self.taken (read.content after))
+          (same-payload (read.content self.inner) (read.content after) (read.place self.inner) (read.place after) self.taken self.taken (seek.same_content t) (omega (arith, seek.stays t)))
+          (self.kept told_before);
       sound = λ told.
           let told_before : IsTrue (read.tells self.inner && read.steady self.inner) = rw (seek.same_tells, seek.same_steady) at told in
           let t = and-left (read.tells self.inner) (read.steady self.inner) told_before in
-          sound-missed g.S.Suite.opened self.key self.failed self.held self.at self.chunk.items self.last self.sought self.number self.taken
+          sound-missed g.S.Suite.opened self.key self.failed self.held self.at self.cache.chunk.items self.cache.last self.sought self.number self.taken
           (read.place self.inner) (read.content self.inner) (read.rest self.inner) (self.sound told_before)
           (read.place after) (read.content after) (read.rest after) c.requires.failed (seek.stays t) (seek.same_content t);
     }
@@ -80,9 +89,12 @@ invariant_of-self-in-Err-seek_retrying-2 g c =
       small = self.small;
       more = self.more;
       full = self.full;
+      first = self.first;
+      unjudged = self.unjudged;
       count_fits = self.count_fits;
       unspent = λ good. absurd (true≢false (sym c.requires.failed ∙ good));
-      sound = λ told. sound-moved g.S.Suite.opened self.key self.failed self.held self.at self.chunk.items self.last self.sought self.number self.taken
+      kept = λ told. kept-same g.S.Suite.opened self.key self.cache _ _ (same (before told)) (self.kept (before told));
+      sound = λ told. sound-moved g.S.Suite.opened self.key self.failed self.held self.at self.cache.chunk.items self.cache.last self.sought self.number self.taken
           (read.place self.inner) (read.content self.inner) (read.rest self.inner) (self.sound (before told)) self.failed self.sought
           self.taken (read.place after) (read.content after) (read.rest after) c.requires.failed (same (before told))
           (omega (arith, same_place (before told), (self.sound (before told)).fits));
@@ -121,9 +133,12 @@ invariant_of-self-in-Ok-seek_retrying g c =
       small = self.small;
       more = self.more;
       full = self.full;
+      first = self.first;
+      unjudged = self.unjudged;
       count_fits = self.count_fits;
       unspent = λ good. absurd (true≢false (sym c.requires.failed ∙ good));
-      sound = λ told. sound-moved g.S.Suite.opened self.key self.failed self.held self.at self.chunk.items self.last self.sought self.number self.taken
+      kept = λ told. kept-same g.S.Suite.opened self.key self.cache _ _ (same (before told)) (self.kept (before told));
+      sound = λ told. sound-moved g.S.Suite.opened self.key self.failed self.held self.at self.cache.chunk.items self.cache.last self.sought self.number self.taken
           (read.place self.inner) (read.content self.inner) (read.rest self.inner) (self.sound (before told)) self.failed self.sought
           size (read.place after) (read.content after) (read.rest after) c.requires.failed (same (before told)) (omega (arith, taken (before told)));
     }

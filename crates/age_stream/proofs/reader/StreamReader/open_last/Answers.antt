@@ -1,4 +1,5 @@
-use Rattle.std.proofs.Common.{◌≡◌, ◌≤◌, ◌+◌, ◌∙◌, arith, length, take, sym, ap, IsTrue, ◌&&◌, refl, length-take-le, Some, None, true}
+use Rattle.std.proofs.lemmas.Bool.{cases_lt, lt-ltb, ltb-true}
+use Rattle.std.proofs.Common.{◌≡◌, ◌≤◌, ◌+◌, ◌∙◌, subst, inl, inr, arith, length, take, sym, ap, IsTrue, ◌&&◌, refl, length-take-le, Some, None, true}
 use Rattle.std.proofs.lemmas.Bool.{true≢false}
 use Rattle.age_io.proofs.Delivering.{refilled}
 use Rattle.age_io.proofs.Keeping.{keeps-done}
@@ -7,8 +8,10 @@ use Rattle.age_stream.specs.Payload.{nonce}
 use Rattle.age_stream.specs.Reading.{payload_at}
 use Rattle.age_stream.specs.ReadingLaws.{and-left}
 use Rattle.age_stream.proofs.Holding.{TookText, took-text, payload-read}
-use Rattle.age_stream.proofs.Last.{last-text, last-none}
-use Rattle.age_stream.proofs.Moving.{sound-moved, sound-last}
+use Rattle.age_stream.proofs.Cached.{kept-read, kept-same}
+use Rattle.age_stream.specs.Reading.{IsSound}
+use Rattle.age_stream.proofs.Last.{last-held, last-text, last-none}
+use Rattle.age_stream.proofs.Moving.{sound-moved, sound-last, sound-shut}
 use Rattle.age_stream.proofs.reader.StreamReader.open_last.Goals as goal
 
 pub invariant_of-self : goal.invariant_of-self
@@ -25,21 +28,33 @@ invariant_of-self g c =
       room = omega (arith, c.fill-answer.auto.buf, c.deref_mut.ensures.len, self.room, self.sealed.ok.0, ap length filled, size);
       offset = self.offset;
       limit = self.limit;
-      in_chunk = self.in_chunk;
-      small = self.small;
-      more = self.more;
-      full = self.full;
+      in_chunk = λ held. absurd (true≢false (sym held ∙ c.requires.unheld));
+      small = λ held. absurd (true≢false (sym held ∙ c.requires.unheld));
+      more = λ held. absurd (true≢false (sym held ∙ c.requires.unheld));
+      full = λ held. absurd (true≢false (sym held ∙ c.requires.unheld));
+      first = λ held. absurd (true≢false (sym held ∙ c.requires.unheld));
+      unjudged = λ held. absurd (true≢false (sym held ∙ c.requires.unheld));
       count_fits = self.count_fits;
       unspent = λ good. absurd (true≢false (sym c.requires.failed ∙ good));
+      kept = λ told.
+          let t = and-left (read.tells self.inner) (read.steady self.inner) (before told) in
+          kept-read g.S.Suite.opened self.key c.make_room.new.self (read.content self.inner) (read.content after) (read.place self.inner) (read.place after)
+          self.taken c.saturating_add-self.result c.fill-answer.new.filled (c.in-Err.ensures.keeps.same.content t) (c.in-Err.ensures.moves t) (g.met.R.Read.place_fits after (and-left _ _ told))
+          c.saturating_add-self.ensures (self.sound (before told)).fits (c.make_room.ensures.kept g.S.Suite.opened self.key
+          (payload_at (read.place self.inner) self.taken (read.content self.inner)) (self.kept (before told)));
       sound = λ told.
           let t = and-left (read.tells self.inner) (read.steady self.inner) (before told) in
           let fits = (self.sound (before told)).fits in
           let moved = c.in-Err.ensures.moves t in
           let same = payload-read (read.content self.inner) (read.content after) (read.place self.inner) (read.place after) self.taken c.saturating_add-self.result c.fill-answer.new.filled
           (c.in-Err.ensures.keeps.same.content t) moved (g.met.R.Read.place_fits after (and-left _ _ told)) c.saturating_add-self.ensures fits in
-          sound-moved g.S.Suite.opened self.key self.failed self.held self.at self.chunk.items self.last self.sought self.number self.taken
+          let moved_sound = sound-moved g.S.Suite.opened self.key self.failed self.held self.at self.cache.chunk.items self.cache.last self.sought self.number self.taken
           (read.place self.inner) (read.content self.inner) (read.rest self.inner) (self.sound (before told)) self.failed self.sought
-          c.saturating_add-self.result (read.place after) (read.content after) (read.rest after) c.requires.failed same.1 (omega (arith, same.0, moved, fits));
+          c.saturating_add-self.result (read.place after) (read.content after) (read.rest after) c.requires.failed same.1 (omega (arith, same.0, moved, fits)) in
+          subst (λ h. IsSound g.S.Suite.opened self.key self.failed h self.at c.make_room.new.self.chunk.items c.make_room.new.self.last self.sought self.number
+          c.saturating_add-self.result (read.place after) (read.content after) (read.rest after)) (sym c.requires.unheld)
+          (sound-shut g.S.Suite.opened self.key self.failed self.held self.at self.cache.chunk.items self.cache.last self.sought self.number
+          c.saturating_add-self.result (read.place after) (read.content after) (read.rest after) moved_sound c.make_room.new.self.chunk.items c.make_room.new.self.last c.requires.failed);
     }
 
 pub invariant_of-self-in-Ok-None : goal.invariant_of-self-in-Ok-None
@@ -56,21 +71,76 @@ invariant_of-self-in-Ok-None g c =
       room = omega (arith, c.fill-answer.auto.buf, c.deref_mut.ensures.len, self.room, self.sealed.ok.0, ap length filled, size);
       offset = self.offset;
       limit = self.limit;
-      in_chunk = self.in_chunk;
-      small = self.small;
-      more = self.more;
-      full = self.full;
+      in_chunk = λ held. absurd (true≢false (sym held ∙ c.requires.unheld));
+      small = λ held. absurd (true≢false (sym held ∙ c.requires.unheld));
+      more = λ held. absurd (true≢false (sym held ∙ c.requires.unheld));
+      full = λ held. absurd (true≢false (sym held ∙ c.requires.unheld));
+      first = λ held. absurd (true≢false (sym held ∙ c.requires.unheld));
+      unjudged = λ held. absurd (true≢false (sym held ∙ c.requires.unheld));
       count_fits = omega (arith, self.count_fits, c.open_as.ensures.opens);
       unspent = λ good. absurd (true≢false (sym c.requires.failed ∙ good));
+      kept = λ told.
+          let t = and-left (read.tells self.inner) (read.steady self.inner) (before told) in
+          kept-read g.S.Suite.opened self.key c.make_room.new.self (read.content self.inner) (read.content after) (read.place self.inner) (read.place after)
+          self.taken c.saturating_add-self.result c.fill-answer.new.filled (c.in-Ok.ensures.keeps.same.content t) (c.in-Ok.ensures.moves t) (g.met.R.Read.place_fits after (and-left _ _ told))
+          c.saturating_add-self.ensures (self.sound (before told)).fits (c.make_room.ensures.kept g.S.Suite.opened self.key
+          (payload_at (read.place self.inner) self.taken (read.content self.inner)) (self.kept (before told)));
       sound = λ told.
           let t = and-left (read.tells self.inner) (read.steady self.inner) (before told) in
           let fits = (self.sound (before told)).fits in
           let moved = c.in-Ok.ensures.moves t in
           let same = payload-read (read.content self.inner) (read.content after) (read.place self.inner) (read.place after) self.taken c.saturating_add-self.result c.fill-answer.new.filled
           (c.in-Ok.ensures.keeps.same.content t) moved (g.met.R.Read.place_fits after (and-left _ _ told)) c.saturating_add-self.ensures fits in
-          sound-moved g.S.Suite.opened self.key self.failed self.held self.at self.chunk.items self.last self.sought self.number self.taken
+          let moved_sound = sound-moved g.S.Suite.opened self.key self.failed self.held self.at self.cache.chunk.items self.cache.last self.sought self.number self.taken
           (read.place self.inner) (read.content self.inner) (read.rest self.inner) (self.sound (before told)) self.failed self.sought
-          c.saturating_add-self.result (read.place after) (read.content after) (read.rest after) c.requires.failed same.1 (omega (arith, same.0, moved, fits));
+          c.saturating_add-self.result (read.place after) (read.content after) (read.rest after) c.requires.failed same.1 (omega (arith, same.0, moved, fits)) in
+          subst (λ h. IsSound g.S.Suite.opened self.key self.failed h self.at c.make_room.new.self.chunk.items c.make_room.new.self.last self.sought self.number
+          c.saturating_add-self.result (read.place after) (read.content after) (read.rest after)) (sym c.requires.unheld)
+          (sound-shut g.S.Suite.opened self.key self.failed self.held self.at self.cache.chunk.items self.cache.last self.sought self.number
+          c.saturating_add-self.result (read.place after) (read.content after) (read.rest after) moved_sound c.make_room.new.self.chunk.items c.make_room.new.self.last c.requires.failed);
+    }
+
+pub invariant_of-self-in-Err-open_as : goal.invariant_of-self-in-Err-open_as
+invariant_of-self-in-Err-open_as g c =
+    let self = c.args.self.now in
+    let read = g.R.Read in
+    let after = c.fill-answer.new.reader in
+    let before : IsTrue (read.tells after && read.steady after) → IsTrue (read.tells self.inner && read.steady self.inner) =
+    λ told. rw (c.in-Ok.ensures.keeps.same.tells, c.in-Ok.ensures.keeps.same.steady) at told in
+    let size : length c.fill-answer.new.buf ≡ 65552 = omega (arith, c.fill-answer.auto.buf, c.deref_mut.ensures.len, self.room, self.sealed.ok.0) in
+    let filled = refilled self.sealed.items c.fill-answer.new.buf self.sealed.len self.sealed.ok.0 (omega (arith, size, self.room)) in
+    record {
+      key_bytes = self.key_bytes;
+      room = omega (arith, c.fill-answer.auto.buf, c.deref_mut.ensures.len, self.room, self.sealed.ok.0, ap length filled, size);
+      offset = self.offset;
+      limit = self.limit;
+      in_chunk = λ held. absurd (true≢false (sym held ∙ c.requires.unheld));
+      small = λ held. absurd (true≢false (sym held ∙ c.requires.unheld));
+      more = λ held. absurd (true≢false (sym held ∙ c.requires.unheld));
+      full = λ held. absurd (true≢false (sym held ∙ c.requires.unheld));
+      first = λ held. absurd (true≢false (sym held ∙ c.requires.unheld));
+      unjudged = λ held. absurd (true≢false (sym held ∙ c.requires.unheld));
+      count_fits = omega (arith, self.count_fits, c.open_as.ensures.opens);
+      unspent = λ good. absurd (true≢false (sym c.requires.failed ∙ good));
+      kept = λ told.
+          let t = and-left (read.tells self.inner) (read.steady self.inner) (before told) in
+          kept-read g.S.Suite.opened self.key c.make_room.new.self (read.content self.inner) (read.content after) (read.place self.inner) (read.place after)
+          self.taken c.saturating_add-self.result c.fill-answer.new.filled (c.in-Ok.ensures.keeps.same.content t) (c.in-Ok.ensures.moves t) (g.met.R.Read.place_fits after (and-left _ _ told))
+          c.saturating_add-self.ensures (self.sound (before told)).fits (c.make_room.ensures.kept g.S.Suite.opened self.key
+          (payload_at (read.place self.inner) self.taken (read.content self.inner)) (self.kept (before told)));
+      sound = λ told.
+          let t = and-left (read.tells self.inner) (read.steady self.inner) (before told) in
+          let fits = (self.sound (before told)).fits in
+          let moved = c.in-Ok.ensures.moves t in
+          let same = payload-read (read.content self.inner) (read.content after) (read.place self.inner) (read.place after) self.taken c.saturating_add-self.result c.fill-answer.new.filled
+          (c.in-Ok.ensures.keeps.same.content t) moved (g.met.R.Read.place_fits after (and-left _ _ told)) c.saturating_add-self.ensures fits in
+          let moved_sound = sound-moved g.S.Suite.opened self.key self.failed self.held self.at self.cache.chunk.items self.cache.last self.sought self.number self.taken
+          (read.place self.inner) (read.content self.inner) (read.rest self.inner) (self.sound (before told)) self.failed self.sought
+          c.saturating_add-self.result (read.place after) (read.content after) (read.rest after) c.requires.failed same.1 (omega (arith, same.0, moved, fits)) in
+          subst (λ h. IsSound g.S.Suite.opened self.key self.failed h self.at c.make_room.new.self.chunk.items c.make_room.new.self.last self.sought self.number
+          c.saturating_add-self.result (read.place after) (read.content after) (read.rest after)) (sym c.requires.unheld)
+          (sound-shut g.S.Suite.opened self.key self.failed self.held self.at self.cache.chunk.items self.cache.last self.sought self.number
+          c.saturating_add-self.result (read.place after) (read.content after) (read.rest after) moved_sound c.make_room.new.self.chunk.items c.make_room.new.self.last c.requires.failed);
     }
 
 pub returns-in-Ok-None-clause-cause : goal.returns-in-Ok-None-clause-cause
@@ -117,7 +187,7 @@ returns-in-Ok-Some-clause-arrives g c = λ told.
     took-text c.fill-answer.new.buf c.fill-answer.new.filled _ _ size c.in-Ok.ensures.count (c.in-Ok.ensures.bytes t) (c.in-Ok.ensures.end t) in
     let whole = last-text payload (read.rest self.inner) (read.rest after) c.args.number text (c.requires.stands told).1 (c.requires.last told) took in
     let longer : length c.in-Ok-Some.chunk.items + 16 ≡ length text = rw (c.deref.ensures.value, filled, c.in-Ok-Some.field-0-is) at c.in-Ok-Some.ensures.length in
-    omega (arith, whole.long, longer, c.len-self.ensures, c.in-Ok-Some.chunk.ok.0, (c.requires.last told).enough)
+    omega (arith, whole.long, longer, c.len-len.ensures, c.in-Ok-Some.chunk.ok.0, (c.requires.last told).enough)
 
 pub invariant_of-self-in-Ok-Some : goal.invariant_of-self-in-Ok-Some
 invariant_of-self-in-Ok-Some g c =
@@ -133,31 +203,58 @@ invariant_of-self-in-Ok-Some g c =
     let plain = c.in-Ok-Some.chunk in
     let longer : length plain.items + 16 ≡ length text = rw (c.deref.ensures.value, filled, c.in-Ok-Some.field-0-is) at c.in-Ok-Some.ensures.length in
     let some : Some plain.items ≡ g.S.Suite.opened self.key (nonce c.args.number true) text = rw (c.deref.ensures.value, filled, c.in-Ok-Some.field-0-is) at c.in-Ok-Some.ensures.opened in
-    let there : c.len-self.result ≡ length plain.items = omega (arith, c.len-self.ensures, plain.ok.0) in
+    let there : c.len-len.result ≡ length plain.items = omega (arith, c.len-len.ensures, plain.ok.0) in
     let short : length plain.items ≤ 65536 = omega (arith, longer, long, c.in-Ok.ensures.count, size) in
     let payload = payload_at (read.place self.inner) self.taken (read.content self.inner) in
+    let first = c.put.ensures.first in
+    let as_long : length c.put.new.self.chunk.items ≡ length plain.items = ap (λ v. length v.items) first.1 in
+    let before_last = λ (told : IsTrue (read.tells after && read.steady after)).
+    let b = before told in
+    let t = and-left (read.tells self.inner) (read.steady self.inner) b in
+    last-text payload (read.rest self.inner) (read.rest after) c.args.number text (c.requires.stands b).1 (c.requires.last b)
+    (took-text c.fill-answer.new.buf c.fill-answer.new.filled _ _ size c.in-Ok.ensures.count (c.in-Ok.ensures.bytes t) (c.in-Ok.ensures.end t)) in
     record {
       key_bytes = self.key_bytes;
       room = omega (arith, c.fill-answer.auto.buf, c.deref_mut.ensures.len, self.room, self.sealed.ok.0, ap length filled, size);
       offset = omega (arith, short, there);
       limit = omega (arith, c.requires.limit);
-      in_chunk = λ _. omega (arith, there);
-      small = λ _. short;
+      in_chunk = λ _. omega (arith, there, as_long);
+      small = λ _. omega (arith, short, as_long);
       more = λ _. c.requires.limit;
-      full = λ _ middle. absurd (true≢false middle);
+      full = λ _ middle. absurd (true≢false (sym first.2 ∙ middle));
+      first = λ _. first.0;
+      unjudged = λ _ none.
+          let whole : length plain.items ≡ 65536 = elim (cases_lt (length plain.items) 65536) [
+            | inl less ↦ absurd (true≢false (sym (lt-ltb c.len-len.result 65536 (omega (arith, there, less))) ∙ sym first.3 ∙ none))
+            | inr full ↦ omega (arith, full, short)
+          ] in
+          record { end = omega (arith, there, whole); is_last = first.2; full = omega (arith, as_long, whole) };
       count_fits = omega (arith, self.count_fits, c.open_as.ensures.opens);
       unspent = λ _ _. c.in-Ok.ensures.unspent (omega (arith, self.room));
+      kept = λ told.
+          let b = before told in
+          let t = and-left (read.tells self.inner) (read.steady self.inner) b in
+          let same = payload-read (read.content self.inner) (read.content after) (read.place self.inner) (read.place after) self.taken c.saturating_add-self.result c.fill-answer.new.filled
+          (c.in-Ok.ensures.keeps.same.content t) (c.in-Ok.ensures.moves t) (g.met.R.Read.place_fits after (and-left _ _ told)) c.saturating_add-self.ensures (self.sound b).fits in
+          kept-same g.S.Suite.opened self.key c.put.new.self payload (payload_at (read.place after) c.saturating_add-self.result (read.content after)) same.1
+          (c.put.ensures.kept g.S.Suite.opened self.key payload (c.make_room.ensures.kept g.S.Suite.opened self.key payload (self.kept b))
+          (λ judged.
+          let held = last-held g.S.Suite.opened self.key payload (read.rest after) c.args.number (length plain.items) text plain.items (before_last told) (c.requires.last b)
+          c.requires.limit longer refl (sym some) in
+          record {
+            opens = held.opens;
+            judged = λ _. held.judged (λ e. absurd (omega (arith, e.full, there, ltb-true c.len-len.result 65536 judged)));
+            whole = held.whole;
+            some = held.some;
+          }));
       sound = λ told.
           let b = before told in
           let t = and-left (read.tells self.inner) (read.steady self.inner) b in
-          let took : TookText (read.rest self.inner) (read.rest after) text =
-          took-text c.fill-answer.new.buf c.fill-answer.new.filled _ _ size c.in-Ok.ensures.count (c.in-Ok.ensures.bytes t) (c.in-Ok.ensures.end t) in
-          let whole = last-text payload (read.rest self.inner) (read.rest after) c.args.number text (c.requires.stands b).1 (c.requires.last b) took in
-          sound-last g.S.Suite.opened self.key self.failed self.held self.at self.chunk.items self.last self.sought self.number self.taken
+          rw (first.1, first.2) (sound-last g.S.Suite.opened self.key self.failed self.held self.at self.cache.chunk.items self.cache.last self.sought self.number self.taken
           (read.place self.inner) (read.content self.inner) (read.rest self.inner) (self.sound b)
-          c.saturating_add-self.result (read.place after) c.fill-answer.new.filled (read.content after) (read.rest after) c.args.number c.len-self.result text plain.items
+          c.saturating_add-self.result (read.place after) c.fill-answer.new.filled (read.content after) (read.rest after) c.args.number c.len-len.result text plain.items
           (c.in-Ok.ensures.keeps.same.content t) (c.in-Ok.ensures.moves t) (g.met.R.Read.place_fits after (and-left _ _ told)) c.saturating_add-self.ensures
-          c.requires.sought (c.requires.stands b).0 long whole (c.requires.last b) c.requires.limit longer there (sym some);
+          c.requires.sought (c.requires.stands b).0 long (before_last told) (c.requires.last b) c.requires.limit longer there (sym some));
     }
 
 pub returns-in-Ok-Some-clause-inner_end : goal.returns-in-Ok-Some-clause-inner_end

@@ -5,23 +5,23 @@ use Rattle.age_stream.proofs.reader.StreamReader.pass.Goals as goal
 pub returns-then-self-len-clause-rest : goal.returns-then-self-len-clause-rest
 returns-then-self-len-clause-rest g c =
     let self = c.args.self.now in
-    let given : self.at ≡ length self.chunk.items = omega (arith, c.if-self-len.true, c.len.ensures, self.chunk.ok.0) in
-    rest-passed g.S.Suite.opened self.key self.failed self.held self.last self.at self.chunk.items self.number (g.R.Read.rest self.inner)
-    c.requires.good c.if-self.true (middle-by self.last self.at (length self.chunk.items) (c.requires.more c.if-self.true) (omega (arith, given))) given
+    let given : self.at ≡ length self.cache.chunk.items = omega (arith, c.if-self-len.true, c.len.ensures, self.cache.chunk.ok.0) in
+    rest-passed g.S.Suite.opened self.key self.failed self.held self.cache.last self.at self.cache.chunk.items self.number (g.R.Read.rest self.inner)
+    c.requires.good c.if-self.true (middle-by self.cache.last self.at (length self.cache.chunk.items) (c.requires.more c.if-self.true) (omega (arith, given))) given
 
 pub invariant_of-self-clause-sound : goal.invariant_of-self-clause-sound
 invariant_of-self-clause-sound g c = λ told.
     let self = c.args.self.now in
     let inner = g.R.Read in
-    let given : self.at ≡ length self.chunk.items = omega (arith, c.if-self-len.true, c.len.ensures, self.chunk.ok.0) in
-    let middle : self.last ≡ false = middle-by self.last self.at (length self.chunk.items) (c.requires.more c.if-self.true) (omega (arith, given)) in
-    sound-passed g.S.Suite.opened self.key self.failed self.held self.at self.chunk.items self.last self.sought self.number self.taken
+    let given : self.at ≡ length self.cache.chunk.items = omega (arith, c.if-self-len.true, c.len.ensures, self.cache.chunk.ok.0) in
+    let middle : self.cache.last ≡ false = middle-by self.cache.last self.at (length self.cache.chunk.items) (c.requires.more c.if-self.true) (omega (arith, given)) in
+    sound-passed g.S.Suite.opened self.key self.failed self.held self.at self.cache.chunk.items self.cache.last self.sought self.number self.taken
     (inner.place self.inner) (inner.content self.inner) (inner.rest self.inner) (self.sound told)
     c.requires.good c.if-self.true middle given (self.full c.if-self.true middle)
 
 pub returns-then-self-len-clause-spared : goal.returns-then-self-len-clause-spared
 returns-then-self-len-clause-spared g c =
     let self = c.args.self.now in
-    let given : self.at ≡ length self.chunk.items = omega (arith, c.if-self-len.true, c.len.ensures, self.chunk.ok.0) in
-    let middle : self.last ≡ false = middle-by self.last self.at (length self.chunk.items) (c.requires.more c.if-self.true) (omega (arith, given)) in
+    let given : self.at ≡ length self.cache.chunk.items = omega (arith, c.if-self-len.true, c.len.ensures, self.cache.chunk.ok.0) in
+    let middle : self.cache.last ≡ false = middle-by self.cache.last self.at (length self.cache.chunk.items) (c.requires.more c.if-self.true) (omega (arith, given)) in
     rw (c.if-self.true, middle) (omega arith)

@@ -1,6 +1,6 @@
 use Rattle.std.proofs.Common.{◌≡◌, arith, length}
 use Rattle.age_stream.proofs.Answered.{refuses-widened}
-use Rattle.age_stream.proofs.Keeping.{payload-done, read-refused}
+use Rattle.age_stream.proofs.Keeping.{payload-done, read-at-end, read-refused}
 use Rattle.age_stream.proofs.reader.StreamReader.read_on.Goals as goal
 
 pub returns-in-Err-clause-reads : goal.returns-in-Err-clause-reads
@@ -26,5 +26,10 @@ returns-in-Ok-clause-inner_end g c = λ told.
 pub returns-in-Ok-clause-ended : goal.returns-in-Ok-clause-ended
 returns-in-Ok-clause-ended g c = λ told none.
     let mid = c.hold.new.self in
-    let given : mid.at ≡ length mid.chunk.items = omega (arith, c.give.ensures.count, none, c.requires.some, mid.in_chunk c.in-Ok.ensures.good.1) in
+    let given : mid.at ≡ length mid.cache.chunk.items = omega (arith, c.give.ensures.count, none, c.requires.some, mid.in_chunk c.in-Ok.ensures.good.1) in
     c.in-Ok.ensures.ended told given
+
+pub returns-then-self-len-clause-reads : goal.returns-then-self-len-clause-reads
+returns-then-self-len-clause-reads g c =
+    let done = c.end.ensures in
+    read-at-end c.args.self.now c.end.new.self c.args.buf.now c.end.result done.keeps done.key done.place done.unspent done.none done.end done.fails done.good done.cause

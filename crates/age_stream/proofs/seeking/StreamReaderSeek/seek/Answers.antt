@@ -1,11 +1,14 @@
-use Rattle.std.proofs.Common.{◌≡◌, ◌<◌, ◌-◌, ◌+◌, ◌*◌, ◌^◌, ◌∙◌, arith, length, sym, subst, ap, IsTrue, ◌&&◌, refl, length-drop, true, Some, None, inl, inr, Ok, Err}
+use Rattle.std.specs.Prelude.{cond}
+use Rattle.std.proofs.Common.{◌≡◌, ◌<◌, ◌-◌, ◌+◌, ◌*◌, ◌/◌, ◌^◌, ◌∙◌, arith, length, sym, subst, ap, IsTrue, ◌&&◌, refl, length-drop, true, Some, None, inl, inr, Ok, Err}
 use Rattle.std.proofs.lemmas.Bool.{true≢false}
 use Rattle.std.proofs.lemmas.List.Elements.{All-drop}
 use Rattle.age_io.specs.Stretch.{from_place}
 use Rattle.age_stream.specs.Payload.{nonce, final_chunk, plain_len}
 use Rattle.age_stream.specs.Chunks.{delivered}
 use Rattle.age_stream.specs.OpeningLaws.{shorter}
+use Rattle.age_stream.specs.Cache.{last_used, HasLast, HasOne}
 use Rattle.age_stream.specs.Reading.{payload_at, text_at}
+use Rattle.age_stream.proofs.Cached.{used-good, used-there}
 use Rattle.age_stream.specs.ReadingLaws.{and-left, and-right, taken-rest}
 use Rattle.age_stream.proofs.Ending.{err-well, ok-well, last-opens, sought-refuses, not-both, in_length-leads, is-end, not-end}
 use Rattle.age_stream.proofs.Inner.{payload-place}
@@ -48,7 +51,7 @@ returns-in-Err-clause-seeks g c =
     let done = c.in-Err.ensures in
     seeks-failed self c.look.new.self c.args.to c.in-Err.e
     (payload-refused g.R.Read self.inner c.look.new.self.inner self.taken c.look.new.self.taken c.in-Err.e done.keeps)
-    done.same.5 (omega (arith, done.same.0, done.same.1)) done.refusal (λ told well plain memory quiet. done.cause told well memory quiet)
+    done.same.4 (omega (arith, done.same.0, done.same.1)) done.refusal (λ told well plain memory quiet. done.cause told well memory quiet)
 
 pub returns-then-not-is_outside-clause-seeks : goal.returns-then-not-is_outside-clause-seeks
 returns-then-not-is_outside-clause-seeks g c =
@@ -63,7 +66,7 @@ returns-then-not-is_outside-clause-seeks g c =
     let other = c.if-not-is_outside.ensures.no refl in
     seeks-failed self mid c.args.to c.in-Err-find.e
     (payload-ended read self.inner mid.inner self.taken mid.taken c.in-Err-find.e done.keeps c.in-Err-find.ensures.not_device c.in-Err-find.ensures.named)
-    done.same.5 (omega (arith, done.same.0, done.same.1)) other
+    done.same.4 (omega (arith, done.same.0, done.same.1)) other
     (λ told whole well memory quiet.
     let are = All-drop (λ x. x < 2 ^ 8) (read.place self.inner - self.taken) (read.content self.inner).bytes
     (g.met.R.Read.are_bytes self.inner (and-left (read.tells self.inner) (read.steady self.inner) told)) in
@@ -82,7 +85,7 @@ returns-in-Err-stand-clause-seeks g c =
     seeks-failed self new c.args.to c.in-Err-stand.fault
     (payload-later read (Err c.in-Err-stand.fault) self.inner mid.inner new.inner self.taken mid.taken new.taken look.keeps
     (payload-refused read mid.inner new.inner mid.taken new.taken c.in-Err-stand.fault done.keeps))
-    (done.same.5 ∙ look.same.5) (omega (arith, look.same.0, look.same.1, done.same.0, done.same.1)) done.refusal
+    (done.same.4 ∙ look.same.4) (omega (arith, look.same.0, look.same.1, done.same.0, done.same.1)) done.refusal
     (λ told well plain memory quiet. done.cause (told-later read self.inner mid.inner look.keeps.inner.same told)
     (ap (λ p. p.ends_well) (look.keeps.payload told) ∙ well) memory
     (quiet-later _ _ _ look.keeps.inner.same.faults done.keeps.inner.same.faults quiet))
@@ -98,7 +101,7 @@ returns-in-Err-enter-clause-seeks g c =
     seeks-failed self new c.args.to c.in-Err-enter.e
     (payload-later read (Err c.in-Err-enter.e) self.inner mid.inner new.inner self.taken mid.taken new.taken look.keeps
     (payload-refused read mid.inner new.inner mid.taken new.taken c.in-Err-enter.e done.keeps))
-    (done.key ∙ look.same.5) (omega (arith, look.same.0, look.same.1, done.stays.0, done.stays.1)) done.refusal
+    (done.key ∙ look.same.4) (omega (arith, look.same.0, look.same.1, done.stays.0, done.stays.1)) done.refusal
     (λ told well plain memory quiet. done.cause (told-later read self.inner mid.inner look.keeps.inner.same told)
     (ap (λ p. p.ends_well) (look.keeps.payload told) ∙ well) memory
     (quiet-later _ _ _ look.keeps.inner.same.faults done.keeps.inner.same.faults quiet))
@@ -117,7 +120,7 @@ returns-in-Err-enter_end-clause-seeks g c =
     seeks-failed self new c.args.to c.in-Err-enter_end.e
     (payload-later read (Err c.in-Err-enter_end.e) self.inner mid.inner new.inner self.taken mid.taken new.taken look.keeps
     (payload-refused read mid.inner new.inner mid.taken new.taken c.in-Err-enter_end.e done.keeps))
-    (done.key ∙ look.same.5) (omega (arith, look.same.0, look.same.1, done.stays.0, done.stays.1)) done.refusal
+    (done.key ∙ look.same.4) (omega (arith, look.same.0, look.same.1, done.stays.0, done.stays.1)) done.refusal
     (λ told whole well memory quiet.
     let are = All-drop (λ x. x < 2 ^ 8) (read.place self.inner - self.taken) (read.content self.inner).bytes
     (g.met.R.Read.are_bytes self.inner (and-left (read.tells self.inner) (read.steady self.inner) told)) in
@@ -126,7 +129,7 @@ returns-in-Err-enter_end-clause-seeks g c =
     let size : c.in-Ok.size ≡ length payload.bytes = (look.found told).2 in
     let num = final_chunk c.in-Ok.size in
     let moved = subst (λ p. suite.opened mid.key (nonce num true) (text_at num p) ≡ None) (look.keeps.payload told) none in
-    let same = subst (λ k. suite.opened k (nonce num true) (text_at num payload) ≡ None) look.same.5 moved in
+    let same = subst (λ k. suite.opened k (nonce num true) (text_at num payload) ≡ None) look.same.4 moved in
     last-opens suite.opened self.key law payload are well
     (subst (λ n. suite.opened self.key (nonce (final_chunk n) true) (text_at (final_chunk n) payload) ≡ None) size same))
 
@@ -143,8 +146,8 @@ returns-in-Ok-enter-clause-seeks g c =
     let new = c.enter.new.self in
     let later = told-later read self.inner mid.inner look.keeps.inner.same in
     let keeps = payload-later read (Ok c.in-Ok-enter.field-0) self.inner mid.inner new.inner self.taken mid.taken new.taken look.keeps done.keeps in
-    let kept = stream-kept self new keeps (done.key ∙ look.same.5) in
-    let content = content-kept self new keeps (done.key ∙ look.same.5) in
+    let kept = stream-kept self new keeps (done.key ∙ look.same.4) in
+    let content = content-kept self new keeps (done.key ∙ look.same.4) in
     record {
       same_tells = kept.0;
       same_steady = kept.1;
@@ -152,7 +155,7 @@ returns-in-Ok-enter-clause-seeks g c =
       device = tt;
       unspent = done.unspent;
       why = tt;
-      narrows = stream_narrows new.failed self new (λ is. absurd (true≢false (sym is ∙ done.good))) keeps (done.key ∙ look.same.5);
+      narrows = stream_narrows new.failed self new (λ is. absurd (true≢false (sym is ∙ done.good))) keeps (done.key ∙ look.same.4);
       again = tt;
       missed = tt;
       same_content = content;
@@ -171,7 +174,7 @@ returns-in-Ok-enter-clause-seeks g c =
           let law_new = shorter suite.seal_of suite.opened g.met.S.Suite.cipher new.key new.key_bytes in
           let are_new = All-drop (λ x. x < 2 ^ 8) (read.place new.inner - new.taken) (read.content new.inner).bytes
           (g.met.R.Read.are_bytes new.inner (and-left (read.tells new.inner) (read.steady new.inner) after)) in
-          let sound = now-sound suite.opened new.key law_new new.failed new.held new.at new.chunk.items new.last new.sought new.number new.taken (read.place new.inner) (read.content new.inner) (read.rest new.inner)
+          let sound = now-sound suite.opened new.key law_new new.failed new.held new.at new.cache.chunk.items new.cache.last new.sought new.number new.taken (read.place new.inner) (read.content new.inner) (read.rest new.inner)
           are_new (ap (λ d. d.ends_well) (content told) ∙ well) done.good new.in_chunk (new.sound after)
           (λ shut. (done.rest (later told) ∙ ap (from_place new.taken) (sym (done.keeps.payload (later told))), omega (arith, done.more shut, size, ap (λ p. length p.bytes) same))) in (
             ok-well suite.opened self.key law payload are well c.args.to place _ (rw size at c.in-Ok-find.ensures.ok),
@@ -195,8 +198,8 @@ returns-in-Ok-enter_end-clause-seeks g c =
     let new = c.enter_end.new.self in
     let later = told-later read self.inner mid.inner look.keeps.inner.same in
     let keeps = payload-later read (Ok c.in-Ok-enter_end.field-0) self.inner mid.inner new.inner self.taken mid.taken new.taken look.keeps done.keeps in
-    let kept = stream-kept self new keeps (done.key ∙ look.same.5) in
-    let content = content-kept self new keeps (done.key ∙ look.same.5) in
+    let kept = stream-kept self new keeps (done.key ∙ look.same.4) in
+    let content = content-kept self new keeps (done.key ∙ look.same.4) in
     record {
       same_tells = kept.0;
       same_steady = kept.1;
@@ -204,7 +207,7 @@ returns-in-Ok-enter_end-clause-seeks g c =
       device = tt;
       unspent = done.unspent;
       why = tt;
-      narrows = stream_narrows new.failed self new (λ is. absurd (true≢false (sym is ∙ done.good.0))) keeps (done.key ∙ look.same.5);
+      narrows = stream_narrows new.failed self new (λ is. absurd (true≢false (sym is ∙ done.good.0))) keeps (done.key ∙ look.same.4);
       again = tt;
       missed = tt;
       same_content = content;
@@ -223,7 +226,7 @@ returns-in-Ok-enter_end-clause-seeks g c =
           let law_new = shorter suite.seal_of suite.opened g.met.S.Suite.cipher new.key new.key_bytes in
           let are_new = All-drop (λ x. x < 2 ^ 8) (read.place new.inner - new.taken) (read.content new.inner).bytes
           (g.met.R.Read.are_bytes new.inner (and-left (read.tells new.inner) (read.steady new.inner) after)) in
-          let sound = now-sound suite.opened new.key law_new new.failed new.held new.at new.chunk.items new.last new.sought new.number new.taken (read.place new.inner) (read.content new.inner) (read.rest new.inner)
+          let sound = now-sound suite.opened new.key law_new new.failed new.held new.at new.cache.chunk.items new.cache.last new.sought new.number new.taken (read.place new.inner) (read.content new.inner) (read.rest new.inner)
           are_new (ap (λ d. d.ends_well) (content told) ∙ well) done.good.0 new.in_chunk (new.sound after)
           (λ shut. absurd (true≢false (sym done.good.1 ∙ shut))) in (
             ok-well suite.opened self.key law payload are well c.args.to place _ (rw size at c.in-Ok-find.ensures.ok),
@@ -248,7 +251,7 @@ returns-in-Ok-stand-clause-seeks g c =
     let refusal = c.if-not-is_outside.ensures.yes refl in
     let later = told-later read self.inner mid.inner look.keeps.inner.same in
     let keeps = payload-later read (Ok c.in-Ok-stand.field-0) self.inner mid.inner new.inner self.taken mid.taken new.taken look.keeps done.keeps in
-    let kept = stream-kept self new keeps (done.same.5 ∙ look.same.5) in
+    let kept = stream-kept self new keeps (done.same.4 ∙ look.same.4) in
     record {
       same_tells = kept.0;
       same_steady = kept.1;
@@ -258,8 +261,8 @@ returns-in-Ok-stand-clause-seeks g c =
       why = sought-why self c.in-Err-find.e (inl c.in-Err-find.ensures.named);
       narrows = tt;
       again = λ i. absurd (not-both c.in-Err-find.e refusal i);
-      missed = λ _. stream_narrows self.failed self new (λ is. is) keeps (done.same.5 ∙ look.same.5);
-      same_content = content-kept self new keeps (done.same.5 ∙ look.same.5);
+      missed = λ _. stream_narrows self.failed self new (λ is. is) keeps (done.same.4 ∙ look.same.4);
+      same_content = content-kept self new keeps (done.same.4 ∙ look.same.4);
       arrives = λ _. tt;
       leads = λ _. tt;
       stays = λ _. omega (arith, look.same.0, look.same.1, done.same.0, done.same.1);
@@ -270,10 +273,10 @@ returns-in-Ok-stand-clause-seeks g c =
           let t = and-left (read.tells self.inner) (read.steady self.inner) told in
           let s = and-right (read.tells self.inner) (read.steady self.inner) told in
           let back = (done.stands (later told)).1 ∙ ap (from_place self.taken) (look.keeps.payload told) in
-          let kept = rest-kept suite.opened self.key self.failed self.held self.last self.at self.chunk.items self.number place self.taken
+          let kept = rest-kept suite.opened self.key self.failed self.held self.cache.last self.at self.cache.chunk.items self.number place self.taken
           (delivered suite.opened self.key 0 payload) payload (read.rest self.inner) (read.rest new.inner) sound well
           (taken-rest (read.content self.inner) (read.rest self.inner) (read.place self.inner) self.taken (g.met.R.Read.stands self.inner t s) (self.sound told).fits) back in
-          rw (done.same.0 ∙ look.same.0, done.same.1 ∙ look.same.1, done.same.2 ∙ look.same.2, done.same.3 ∙ look.same.3, done.same.4 ∙ look.same.4, done.same.5 ∙ look.same.5) kept;
+          rw (done.same.0 ∙ look.same.0, done.same.1 ∙ look.same.1, done.same.2 ∙ look.same.2, done.same.3 ∙ look.same.3, done.same.4 ∙ look.same.4) kept;
       refused = λ told well r.
           let law = shorter suite.seal_of suite.opened g.met.S.Suite.cipher self.key self.key_bytes in
           let are = All-drop (λ x. x < 2 ^ 8) (read.place self.inner - self.taken) (read.content self.inner).bytes
@@ -304,7 +307,12 @@ returns-in-Err-enter_end-clause-held g c =
     let payload = payload_at (read.place self.inner) self.taken (read.content self.inner) in
     let look = c.in-Ok.ensures in
     let size : c.in-Ok.size ≡ length payload.bytes = (look.found told).2 in
-    c.in-Err-enter_end.ensures.held (look.same.2 ∙ holds.0) (look.same.4 ∙ holds.1) (look.same.0 ∙ holds.2 ∙ sym (ap final_chunk size)) ∙ look.same.6
+    let final = ap final_chunk size in
+    elim holds.1 [
+      | inl h ↦ c.in-Err-enter_end.ensures.held holds.0 (look.same.2 ∙ h.0) (ap (λ k. k.last) look.same.3 ∙ h.1) (look.same.0 ∙ h.2 ∙ sym final) ∙ look.same.5
+      | inr h ↦ c.in-Err-enter_end.ensures.kept holds.0 (subst (λ n. HasLast c.look.new.self.cache n) (sym final) (subst (λ k. HasLast k (final_chunk (length payload.bytes))) (sym look.same.3) h))
+          ∙ look.same.5
+    ]
 
 pub returns-in-Ok-enter_end-clause-end : goal.returns-in-Ok-enter_end-clause-end
 returns-in-Ok-enter_end-clause-end g c =
@@ -327,7 +335,12 @@ returns-in-Ok-enter_end-clause-held g c =
     let payload = payload_at (read.place self.inner) self.taken (read.content self.inner) in
     let look = c.in-Ok.ensures in
     let size : c.in-Ok.size ≡ length payload.bytes = (look.found told).2 in
-    c.in-Ok-enter_end.ensures.held (look.same.2 ∙ holds.0) (look.same.4 ∙ holds.1) (look.same.0 ∙ holds.2 ∙ sym (ap final_chunk size)) ∙ look.same.6
+    let final = ap final_chunk size in
+    elim holds.1 [
+      | inl h ↦ c.in-Ok-enter_end.ensures.held holds.0 (look.same.2 ∙ h.0) (ap (λ k. k.last) look.same.3 ∙ h.1) (look.same.0 ∙ h.2 ∙ sym final) ∙ look.same.5
+      | inr h ↦ c.in-Ok-enter_end.ensures.kept holds.0 (subst (λ n. HasLast c.look.new.self.cache n) (sym final) (subst (λ k. HasLast k (final_chunk (length payload.bytes))) (sym look.same.3) h))
+          ∙ look.same.5
+    ]
 
 pub returns-in-Ok-enter_end-clause-judges : goal.returns-in-Ok-enter_end-clause-judges
 returns-in-Ok-enter_end-clause-judges g c =
@@ -373,11 +386,11 @@ returns-in-Ok-enter_end-clause-ends g c =
     let after = told-later read mid.inner new.inner done.keeps.inner.same (later told) in
     let same = done.keeps.payload (later told) ∙ look.keeps.payload told in
     let held = (new.sound after).is_held done.good.1 in
-    let opens = subst (λ p. suite.opened new.key (nonce new.number new.last) (text_at new.number p) ≡ Some new.chunk.items) same held.opens in
+    let opens = subst (λ p. suite.opened new.key (nonce new.number new.cache.last) (text_at new.number p) ≡ Some new.cache.chunk.items) same held.opens in
     let number : new.number ≡ final_chunk (length payload.bytes) = done.good.3 ∙ ap final_chunk size in
-    ends_last suite.seal_of suite.opened g.met.S.Suite.cipher self.key self.key_bytes payload.bytes (are told) new.number new.chunk.items number
-    (subst (λ k. suite.opened k (nonce new.number true) (text_at new.number payload) ≡ Some new.chunk.items) (done.key ∙ look.same.5)
-    (subst (λ b. suite.opened new.key (nonce new.number b) (text_at new.number payload) ≡ Some new.chunk.items) done.good.2 opens))
+    ends_last suite.seal_of suite.opened g.met.S.Suite.cipher self.key self.key_bytes payload.bytes (are told) new.number new.cache.chunk.items number
+    (subst (λ k. suite.opened k (nonce new.number true) (text_at new.number payload) ≡ Some new.cache.chunk.items) (done.key ∙ look.same.4)
+    (subst (λ b. suite.opened new.key (nonce new.number b) (text_at new.number payload) ≡ Some new.cache.chunk.items) done.good.2 opens))
 
 pub returns-then-not-is_outside-clause-bad : goal.returns-then-not-is_outside-clause-bad
 returns-then-not-is_outside-clause-bad g c = λ told well memory quiet.
@@ -408,7 +421,7 @@ returns-in-Err-enter_end-clause-bad g c =
     let bad = done.cause (later told) inner memory calm in
     let num = final_chunk c.in-Ok.size in
     let moved = subst (λ p. suite.opened mid.key (nonce num true) (text_at num p) ≡ None) (look.keeps.payload told) bad.1 in
-    let same = subst (λ k. suite.opened k (nonce num true) (text_at num payload) ≡ None) look.same.5 moved in
+    let same = subst (λ k. suite.opened k (nonce num true) (text_at num payload) ≡ None) look.same.4 moved in
     inr (
       bad.0,
       record {
@@ -457,3 +470,111 @@ returns-in-Ok-stand-clause-inner_rest g c = λ told asked refusal.
     (c.in-Ok-stand.ensures.stands later).1 ∙ ap (from_place self.taken) (look.keeps.payload told)
     ∙ sym (payload-place (read.content self.inner) (place - self.taken) place self.taken refl self.taken)
     ∙ ap (λ n. from_place n (read.content self.inner)) back
+
+pub returns-in-Ok-enter-clause-keeps : goal.returns-in-Ok-enter-clause-keeps
+returns-in-Ok-enter-clause-keeps g c = λ told other b has.
+    let done = c.in-Ok-enter.ensures in
+    (done.good, done.has has.0 b (subst (λ k. HasOne k b) (sym c.in-Ok.ensures.same.3) has.1))
+
+pub returns-in-Ok-enter_end-clause-keeps : goal.returns-in-Ok-enter_end-clause-keeps
+returns-in-Ok-enter_end-clause-keeps g c = λ told other.
+    let self = c.args.self.now in
+    let read = g.R.Read in
+    let place = 65536 * self.number + self.at in
+    let payload = payload_at (read.place self.inner) self.taken (read.content self.inner) in
+    let look = c.in-Ok.ensures in
+    let size : c.in-Ok.size ≡ length payload.bytes = (look.found told).2 in
+    absurd (other (is-end c.args.to place (length payload.bytes) c.in-Ok-find.target c.in-Ok-find.len (rw size at c.in-Ok-find.ensures.plain)
+    (sym c.is_below_start.ensures ∙ c.if-is_below_start.false) (rw size at c.in-Ok-find.ensures.ok) c.if-target-len.true))
+
+pub returns-in-Ok-enter-clause-same_last : goal.returns-in-Ok-enter-clause-same_last
+returns-in-Ok-enter-clause-same_last g c = λ told other b is.
+    let self = c.args.self.now in
+    let done = c.in-Ok-enter.ensures in
+    let used = used-good self.failed (last_used self.cache) b is in
+    rw done.good (done.same_last used.0 ∙ ap last_used c.in-Ok.ensures.same.3 ∙ used.1)
+
+pub returns-in-Ok-enter_end-clause-same_last : goal.returns-in-Ok-enter_end-clause-same_last
+returns-in-Ok-enter_end-clause-same_last g c = λ told other.
+    let self = c.args.self.now in
+    let read = g.R.Read in
+    let place = 65536 * self.number + self.at in
+    let payload = payload_at (read.place self.inner) self.taken (read.content self.inner) in
+    let look = c.in-Ok.ensures in
+    let size : c.in-Ok.size ≡ length payload.bytes = (look.found told).2 in
+    absurd (other (is-end c.args.to place (length payload.bytes) c.in-Ok-find.target c.in-Ok-find.len (rw size at c.in-Ok-find.ensures.plain)
+    (sym c.is_below_start.ensures ∙ c.if-is_below_start.false) (rw size at c.in-Ok-find.ensures.ok) c.if-target-len.true))
+
+pub returns-in-Ok-enter-clause-keeps_last : goal.returns-in-Ok-enter-clause-keeps_last
+returns-in-Ok-enter-clause-keeps_last g c = λ b is.
+    let self = c.args.self.now in
+    let done = c.in-Ok-enter.ensures in
+    let used = used-good self.failed (last_used self.cache) b is in
+    (done.good, done.has used.0 b (subst (λ k. HasOne k b) (sym c.in-Ok.ensures.same.3) (used-there self.cache b used.1)))
+
+pub returns-in-Ok-enter_end-clause-keeps_last : goal.returns-in-Ok-enter_end-clause-keeps_last
+returns-in-Ok-enter_end-clause-keeps_last g c = λ b is.
+    let self = c.args.self.now in
+    let done = c.in-Ok-enter_end.ensures in
+    let used = used-good self.failed (last_used self.cache) b is in
+    (done.good.0, done.keeps_last used.0 b (ap last_used c.in-Ok.ensures.same.3 ∙ used.1))
+
+pub returns-in-Ok-enter-clause-finds : goal.returns-in-Ok-enter-clause-finds
+returns-in-Ok-enter-clause-finds g c = λ told other has.
+    let self = c.args.self.now in
+    let look = c.in-Ok.ensures in
+    let done = c.in-Ok-enter.ensures in
+    let later = told-later g.R.Read self.inner c.look.new.self.inner look.keeps.inner.same told in
+    (done.good, inl (done.finds later has.0 (subst (λ k. HasOne k (c.in-Ok-find.target / 65536)) (sym look.same.3) has.1)))
+
+pub returns-in-Ok-enter_end-clause-finds : goal.returns-in-Ok-enter_end-clause-finds
+returns-in-Ok-enter_end-clause-finds g c = λ told other.
+    let self = c.args.self.now in
+    let read = g.R.Read in
+    let place = 65536 * self.number + self.at in
+    let payload = payload_at (read.place self.inner) self.taken (read.content self.inner) in
+    let look = c.in-Ok.ensures in
+    let size : c.in-Ok.size ≡ length payload.bytes = (look.found told).2 in
+    absurd (other (is-end c.args.to place (length payload.bytes) c.in-Ok-find.target c.in-Ok-find.len (rw size at c.in-Ok-find.ensures.plain)
+    (sym c.is_below_start.ensures ∙ c.if-is_below_start.false) (rw size at c.in-Ok-find.ensures.ok) c.if-target-len.true))
+
+pub returns-in-Ok-enter-clause-none : goal.returns-in-Ok-enter-clause-none
+returns-in-Ok-enter-clause-none g c = λ told failed b has. absurd ((c.in-Ok-enter.ensures.none failed).1 b has.1)
+
+pub returns-in-Ok-enter_end-clause-none : goal.returns-in-Ok-enter_end-clause-none
+returns-in-Ok-enter_end-clause-none g c = λ told failed b has.
+    let self = c.args.self.now in
+    let read = g.R.Read in
+    let place = 65536 * self.number + self.at in
+    let payload = payload_at (read.place self.inner) self.taken (read.content self.inner) in
+    let look = c.in-Ok.ensures in
+    let size : c.in-Ok.size ≡ length payload.bytes = (look.found told).2 in (
+      (is-end c.args.to place (length payload.bytes) c.in-Ok-find.target c.in-Ok-find.len (rw size at c.in-Ok-find.ensures.plain)
+          (sym c.is_below_start.ensures ∙ c.if-is_below_start.false) (rw size at c.in-Ok-find.ensures.ok) c.if-target-len.true),
+      c.in-Ok-enter_end.ensures.alone failed b has.1 ∙ ap final_chunk size,
+    )
+
+pub returns-in-Ok-enter-clause-unheld : goal.returns-in-Ok-enter-clause-unheld
+returns-in-Ok-enter-clause-unheld g c = λ told failed other holding.
+    let none = c.in-Ok-enter.ensures.none failed in
+    elim holding.1 [
+      | inl held ↦ absurd (true≢false (sym held.0 ∙ none.0))
+      | inr next ↦ absurd (none.1 _ (inr next.1))
+    ]
+
+pub returns-in-Ok-enter_end-clause-unheld : goal.returns-in-Ok-enter_end-clause-unheld
+returns-in-Ok-enter_end-clause-unheld g c = λ told failed other.
+    let self = c.args.self.now in
+    let read = g.R.Read in
+    let place = 65536 * self.number + self.at in
+    let payload = payload_at (read.place self.inner) self.taken (read.content self.inner) in
+    let look = c.in-Ok.ensures in
+    let size : c.in-Ok.size ≡ length payload.bytes = (look.found told).2 in
+    absurd (other (is-end c.args.to place (length payload.bytes) c.in-Ok-find.target c.in-Ok-find.len (rw size at c.in-Ok-find.ensures.plain)
+    (sym c.is_below_start.ensures ∙ c.if-is_below_start.false) (rw size at c.in-Ok-find.ensures.ok) c.if-target-len.true))
+
+pub returns-in-Ok-stand-clause-unmoved_chunks : goal.returns-in-Ok-stand-clause-unmoved_chunks
+returns-in-Ok-stand-clause-unmoved_chunks g c = λ refusal.
+    let self = c.args.self.now in
+    let same = c.in-Ok-stand.ensures.same.3 ∙ c.in-Ok.ensures.same.3 in
+    (ap (λ k. cond self.failed None (last_used k)) same, λ b has. (has.0, subst (λ k. HasOne k b) (sym same) has.1))

@@ -1,0 +1,88 @@
+-- The chunks that a reader has opened stay those of its payload.
+use Rattle.std.specs.Prelude.{◌≡◌, ℕ, ◌+◌, ◌-◌, ◌*◌, ◌^◌, ◌<◌, ◌≤◌, Bool, true, false, cond, Option, Some, None, option_map, Ok, List, length, min}
+use Rattle.std.proofs.Common.{◌∙◌, ap, arith, inl, inr, refl, sym, subst}
+use Rattle.std.proofs.lemmas.Bool.{eq-eqb}
+use Rattle.age_error.specs.Bytes.{AreBytes}
+use Rattle.age_io.specs.Stretch.{Stretch}
+use Rattle.age_io.specs.Reading.{StandsIn}
+use Rattle.age_stream.specs.declared.cache.Cache.{Cache}
+use Rattle.age_stream.specs.declared.cache.Opened.{Opened}
+use Rattle.age_stream.specs.Cache.{last_used, HasOne, IsKept, IsText}
+use Rattle.age_stream.specs.Chunks.{chunk_of}
+use Rattle.age_stream.specs.OpeningLaws.{Shorter}
+use Rattle.age_stream.specs.Payload.{nonce}
+use Rattle.age_stream.specs.Reading.{payload_at, IsHeld}
+use Rattle.age_stream.specs.WellLaws.{accepted}
+use Rattle.age_stream.proofs.Holding.{payload-read, stood-taken, text-read, TookText}
+use Rattle.age_stream.proofs.Last.{text-held}
+use Rattle.age_stream.proofs.TextLengths.{some-within}
+
+-- a reader that tells which chunk it used last hasn't failed
+pub used-good : (failed : Bool) (used : Option ℕ) (b : ℕ) → cond failed None used ≡ Some b → (failed ≡ false) × (used ≡ Some b)
+used-good true used b is = cc
+used-good false used b is = (refl, is)
+
+some-same : (a b : ℕ) → Some a ≡ Some b → a ≡ b
+some-same a b is = cc
+
+-- the chunk that was used last is there
+pub used-there : (cache : Cache) (b : ℕ) → last_used cache ≡ Some b → HasOne cache b
+used-there cache b is = by cache.used cache.judged cache.other cache.number b is refl refl refl
+  where
+    by : (used judged : Bool) (other : Option Opened) (number b : ℕ) → cond used (cond judged (Some number) None) (option_map (λ it. it.number) other) ≡ Some b →
+        cache.judged ≡ judged → cache.number ≡ number → cache.other ≡ other → HasOne cache b
+    by true true other number b is judged same there = inl (judged, same ∙ some-same number b is)
+    by true false other number b is judged same there = cc
+    by false judged None number b is first same there = cc
+    by false judged (Some it) number b is first same there = inr (rw there (eq-eqb it.number b (some-same it.number b is)))
+
+-- the verdict on the text of a chunk that was read
+pub held-read : (opened : List ℕ → List ℕ → List ℕ → Option (List ℕ)) (key : List ℕ) (payload : Stretch) (number : ℕ) (text plain : List ℕ) (last : Bool) →
+    IsText payload number text → (length text < 65552 → last ≡ true) → chunk_of opened key number text ≡ Ok (plain, last) → IsHeld opened key payload number last 0 plain
+held-read opened key payload number text plain last read short ok =
+    let a = accepted opened key number text plain last ok in
+    record {
+      opens = ap (opened key (nonce number last)) read.is ∙ a.opens;
+      judged = λ _. ap (chunk_of opened key number) read.is ∙ ok;
+      whole = λ less. let few = subst (λ (xs : List ℕ). length xs < 65552) read.is less in (read.ended few, short few);
+      some = some-within 65552 (65552 * number) payload.bytes (omega (arith, a.some, ap length read.is));
+    }
+
+-- what was read is the text of the chunk
+pub is-text : (content rest after : Stretch) (place taken number : ℕ) (text : List ℕ) → StandsIn content place rest → taken ≤ place → taken ≡ 65552 * number →
+    TookText rest after text → IsText (payload_at place taken content) number text
+is-text content rest after place taken number text stands fits stood took = record {
+  is = text-read content rest after place taken number text stands fits stood took;
+  ended = λ less. sym (ap (λ s. s.ends_well) (stood-taken content rest after place taken text stands fits took)) ∙ sym took.came.end ∙ (took.ended less).ends_well;
+}
+
+-- what is known of a text that was opened
+pub record IsOpenedText (opened : List ℕ → List ℕ → List ℕ → Option (List ℕ)) (key : List ℕ) (number : ℕ) (text plain : List ℕ) (last : Bool) : Type 0 where
+  pub ok : chunk_of opened key number text ≡ Ok (plain, last)
+  pub short : length text < 65552 → last ≡ true
+  pub longer : length plain + 16 ≡ length text
+
+-- the first chunk is that of the text that was read
+pub brought : (opened : List ℕ → List ℕ → List ℕ → Option (List ℕ)) (key : List ℕ) (law : Shorter opened key) (payload : Stretch) (number : ℕ) (text : List ℕ) (cache : Cache) →
+    AreBytes payload.bytes → IsText payload number text → (cache.judged ≡ true) × (cache.number ≡ number) × (cache.used ≡ true) →
+    (IsText payload number text → IsKept opened key payload cache) → IsOpenedText opened key number text cache.chunk.items cache.last
+brought opened key law payload number text cache bytes read first kept =
+    let held = subst (λ n. IsHeld opened key payload n cache.last 0 cache.chunk.items) first.1 ((kept read).first first.0) in
+    record {
+      ok = ap (chunk_of opened key number) (sym read.is) ∙ held.judged (λ e. absurd (omega (arith, e.full)));
+      short = λ less. (held.whole (subst (λ (xs : List ℕ). length xs < 65552) (sym read.is) less)).1;
+      longer = text-held opened key law payload number 0 cache.last cache.chunk.items bytes held ∙ ap length read.is;
+    }
+
+module _ (opened : List ℕ → List ℕ → List ℕ → Option (List ℕ)) (key : List ℕ) (cache : Cache) where
+  -- the payload is the same
+  pub kept-same : (old new : Stretch) → new ≡ old → IsKept opened key old cache → IsKept opened key new cache
+  kept-same old new same kept = subst (λ p. IsKept opened key p cache) (sym same) kept
+
+  -- the inner reader was read
+  pub kept-read : (content new_content : Stretch) (place new_place taken new_taken count : ℕ) → new_content ≡ content → new_place ≡ place + count → new_place < 2 ^ 63 →
+      new_taken ≡ min (taken + count) (2 ^ 64 - 1) → taken ≤ place → IsKept opened key (payload_at place taken content) cache →
+      IsKept opened key (payload_at new_place new_taken new_content) cache
+  kept-read content new_content place new_place taken new_taken count same moved short took fits =
+      kept-same (payload_at place taken content) (payload_at new_place new_taken new_content)
+      (payload-read content new_content place new_place taken new_taken count same moved short took fits).1

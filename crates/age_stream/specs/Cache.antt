@@ -1,0 +1,38 @@
+-- The chunks that a reader has opened.
+use Rattle.std.specs.Prelude.{◌≡◌, ℕ, ◌<◌, ◌==◌, ◌&&◌, ◌⊎◌, Bool, true, false, cond, Option, Some, None, option_map, List, length}
+use Rattle.age_io.specs.Stretch.{Stretch}
+use Rattle.age_stream.specs.declared.cache.Cache.{Cache}
+use Rattle.age_stream.specs.declared.cache.Opened.{Opened}
+use Rattle.age_stream.specs.Reading.{text_at, IsHeld}
+
+-- it is the chunk of this number
+abbrev pub has_number : ℕ → Option Opened → Bool
+has_number number None = false
+has_number number (Some opened) = opened.number == number
+
+-- and it was opened as the last
+abbrev pub has_last : ℕ → Option Opened → Bool
+has_last number None = false
+has_last number (Some opened) = (opened.number == number) && opened.last
+
+-- one of the two is the chunk of this number, by the verdict on it
+abbrev pub HasOne : Cache → ℕ → Type 0
+HasOne cache number = ((cache.judged ≡ true) × (cache.number ≡ number)) ⊎ (has_number number cache.other ≡ true)
+
+-- and as the last
+abbrev pub HasLast : Cache → ℕ → Type 0
+HasLast cache number = ((cache.judged ≡ true) × (cache.number ≡ number) × (cache.last ≡ true)) ⊎ (has_last number cache.other ≡ true)
+
+-- the number of the chunk that was used last, where it is there
+abbrev pub last_used : Cache → Option ℕ
+last_used cache = cond cache.used (cond cache.judged (Some cache.number) None) (option_map (λ it. it.number) cache.other)
+
+-- Both are chunks of the payload, by the verdict on them.
+pub record IsKept (opened : List ℕ → List ℕ → List ℕ → Option (List ℕ)) (key : List ℕ) (payload : Stretch) (cache : Cache) : Type 0 where
+  pub first : cache.judged ≡ true → IsHeld opened key payload cache.number cache.last 0 cache.chunk.items
+  pub other : (it : Opened) → cache.other ≡ Some it → IsHeld opened key payload it.number it.last 0 it.chunk.items
+
+-- The text of this chunk was read.
+pub record IsText (payload : Stretch) (number : ℕ) (text : List ℕ) : Type 0 where
+  pub is : text_at number payload ≡ text
+  pub ended : length text < 65552 → payload.ends_well ≡ true
