@@ -2,7 +2,7 @@
 use Rattle.std.proofs.Common.{◌≡◌, ℕ, zero, suc, ◌+◌, ◌-◌, ◌*◌, ◌/◌, ◌%◌, ◌^◌, ◌<◌, ◌≤◌, ◌≢◌, List, [], ◌++◌, length, take, drop, refl, sym, ap, ◌∙◌, arith, length-append, length-drop, take-add}
 use Rattle.std.proofs.lemmas.List.{append-nil, append_assoc, take-append-le, drop-append-le, take_all, drop_all}
 use Rattle.std.proofs.lemmas.Nat.{mul-mod_first}
-use Rattle.std.proofs.Math.Nat.{mod-add-mod}
+use Rattle.std.proofs.Math.Nat.{mod-add-mod, mod-mod}
 use borrow.Rule.Slice.PartMut.{put_mid}
 use Rattle.poly1305.specs.Mac.{accumulated, block_count, block_number, prime, text_block}
 
@@ -73,6 +73,19 @@ module _ (text more : List ℕ) where
 
   pub rest_filled : length text % 16 + length more ≡ 16 → [] ≡ rest (text ++ more)
   rest_filled fills = sym (rest_of_whole (text ++ more) (sym (count_filled fills)))
+
+-- a whole block more, where none is begun
+pub accumulated_whole : (r : ℕ) (text block : List ℕ) → length text % 16 ≡ 0 → length block ≡ 16
+    → accumulated r (text ++ block) (length (text ++ block) / 16) ≡ ((accumulated r text (length text / 16) + block_number block) * r) % prime
+accumulated_whole r text block whole size =
+    accumulated_filled text block r (omega (arith, whole, size))
+    ∙ ap (λ rest. ((accumulated r text (length text / 16) + block_number (rest ++ block)) * r) % prime) (rest_of_whole text whole)
+
+-- an accumulator is below the prime
+pub accumulated-mod : (r : ℕ) (text : List ℕ) (count : ℕ) → accumulated r text count % prime ≡ accumulated r text count
+unfolding accumulated
+accumulated-mod r text zero = refl
+accumulated-mod r text (suc count) = mod-mod ((accumulated r text count + block_number (text_block count text)) * r) prime
 
 -- the last block, where it isn't whole
 pub accumulated_last : (r : ℕ) (text : List ℕ) → length text % 16 ≢ 0

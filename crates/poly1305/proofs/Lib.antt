@@ -1,5 +1,6 @@
 pub mod Accumulating
 pub mod Clamping
+pub mod Grouping
 pub mod Multiplying
 pub mod Numbering
 pub mod Tags

@@ -1,3 +1,4 @@
 pub mod Mac
 pub mod Limbs
+pub mod Groups
 pub mod Given

@@ -3,9 +3,13 @@ ghost use Rattle.std.specs.Prelude.{◌≡◌, ℕ, ◌+◌, ◌/◌, ◌%◌, �
 ghost use Rattle.poly1305.specs.Mac.{accumulated, block_count, clamped, poly1305_mac, prime};
 ghost use Rattle.poly1305.specs.Limbs.{number_of, IsFactor};
 
-use crate::blocks::{clamped, number, short_block, whole_block};
+use crate::blocks::{clamped, completed, number, short_block, whole_block};
+use crate::groups::{GROUP, groups_absorbed};
 use crate::limbs::{Factor, Limbs, absorbed, reduced};
 use std::fmt;
+
+// From so many bytes on blocks are taken in groups: fewer don't make up for the powers of r that are made first.
+const LONG: usize = 4096;
 
 /// The state of a tag: the key, and what was made of the text that was given so far. A key is for one text alone (RFC 8439, 2.5).
 #[derive(Drop)]
@@ -53,8 +57,8 @@ impl Poly1305 {
         self.accumulator = absorbed(self.accumulator, self.r, whole_block(block));
     }
 
-    /// Takes whole blocks, where none is begun.
-    fn take_blocks(&mut self, blocks: &[u8])
+    /// Takes whole blocks one by one, where none is begun.
+    fn take_each(&mut self, blocks: &[u8])
         requires unbegun { self.old.filled ≡ 0 }
         requires whole { length blocks.now % 16 ≡ 0 }
         ensures given { (key text : List ℕ) → WasGiven self.old key text → WasGiven self.new key (text ++ blocks.now) }
@@ -62,6 +66,32 @@ impl Poly1305 {
     {
         'each: for i in 0..blocks.len() / 16 {
             self.take_block(&blocks[16 * i..16 * i + 16]);
+        }
+    }
+
+    /// Takes groups of whole blocks, where none is begun.
+    fn take_groups(&mut self, groups: &[u8])
+        requires unbegun { self.old.filled ≡ 0 }
+        requires whole { length groups.now % GROUP ≡ 0 }
+        ensures given { (key text : List ℕ) → WasGiven self.old key text → WasGiven self.new key (text ++ groups.now) }
+        ensures unbegun { self.new.filled ≡ 0 }
+    {
+        self.accumulator = groups_absorbed(self.accumulator, self.r, groups);
+    }
+
+    /// Takes whole blocks, where none is begun.
+    fn take_blocks(&mut self, blocks: &[u8])
+        requires unbegun { self.old.filled ≡ 0 }
+        requires whole { length blocks.now % 16 ≡ 0 }
+        ensures given { (key text : List ℕ) → WasGiven self.old key text → WasGiven self.new key (text ++ blocks.now) }
+        ensures unbegun { self.new.filled ≡ 0 }
+    {
+        if blocks.len() < LONG {
+            self.take_each(blocks);
+        } else {
+            let (groups, last) = blocks.split_at(blocks.len() - blocks.len() % GROUP);
+            self.take_groups(groups);
+            self.take_each(last);
         }
     }
 
@@ -81,8 +111,7 @@ impl Poly1305 {
         ensures given { (key text : List ℕ) → WasGiven self.old key text → WasGiven self.new key (text ++ bytes.now) }
         ensures unbegun { self.new.filled ≡ 0 }
     {
-        let mut block = self.block;
-        block[self.filled..].copy_from_slice(bytes);
+        let block = completed(&self.block, self.filled, bytes);
         self.accumulator = absorbed(self.accumulator, self.r, whole_block(&block));
         self.filled = 0;
     }

@@ -1,5 +1,5 @@
 //! Bytes as numbers: the first half of a key, and blocks (RFC 8439, 2.5).
-ghost use Rattle.std.specs.Prelude.{◌≡◌, ◌<◌, ◌≤◌, length};
+ghost use Rattle.std.specs.Prelude.{◌≡◌, ◌+◌, ◌<◌, ◌≤◌, ◌++◌, length, take};
 ghost use Rattle.std.specs.Int.{w128, from_le_bytes};
 ghost use Rattle.poly1305.specs.Mac.{block_number, clamped};
 ghost use Rattle.poly1305.specs.Limbs.{factor_number, number_of, IsFactor};
@@ -44,6 +44,16 @@ pub fn whole_block(block: &[u8]) -> Limbs
         middle: limbs.middle,
         high: 1,
     }
+}
+
+/// A block that is begun, and the bytes that fill it.
+pub fn completed(begun: &[u8; 16], filled: usize, bytes: &[u8]) -> [u8; 16]
+    requires { filled + length bytes.now ≡ 16 }
+    ensures { result ≡ take filled begun.now ++ bytes.now }
+{
+    let mut block = *begun;
+    block[filled..].copy_from_slice(bytes);
+    block
 }
 
 /// A block of fewer than 16 bytes, a one, and zeros.

@@ -6,6 +6,7 @@
 
 mod authenticator;
 mod blocks;
+mod groups;
 mod laws;
 mod limbs;
 

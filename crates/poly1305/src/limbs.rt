@@ -1,7 +1,7 @@
 //! Numbers modulo 2^130 - 5 in three limbs of 64 bits, of which the third is small.
 //!
 //! `/` and `%` by powers of two are compiled to shifts and masks: 0x1_0000_0000_0000_0000 is 2^64.
-ghost use Rattle.std.specs.Prelude.{◌≡◌, ◌+◌, ◌*◌, ◌%◌, ◌^◌, ◌<◌, ◌≤◌};
+ghost use Rattle.std.specs.Prelude.{◌≡◌, ◌+◌, ◌-◌, ◌*◌, ◌%◌, ◌^◌, ◌<◌, ◌≤◌};
 ghost use Rattle.poly1305.specs.Mac.{prime};
 ghost use Rattle.poly1305.specs.Limbs.{column_number, factor_number, number_of, AreBounded, IsFactor};
 
@@ -30,20 +30,18 @@ struct Columns {
     high: u64,
 }
 
-/// The product of a limb and a half of a factor, or what is made of one. It says the one bound that isn't linear, so that all others
-/// follow.
+/// The product of two limbs. It says the one bound that isn't linear, so that all others follow.
 #[inline(always)]
-fn product(a: u64, b: u64) -> u128
-    requires { b < 2 ^ 61 }
+pub fn product(a: u64, b: u64) -> u128
     ensures value { result ≡ a * b }
-    ensures bound { result < 2 ^ 125 }
+    ensures bound { result ≤ (2 ^ 64 - 1) * b }
 {
     u128::from(a) * u128::from(b)
 }
 
-/// The product of a third limb and a half of a factor, or what is made of one.
+/// The product of a third limb and a limb of a factor.
 #[inline(always)]
-fn small_product(a: u64, b: u64) -> u64
+pub fn small_product(a: u64, b: u64) -> u64
     requires left { a < 8 }
     requires right { b < 2 ^ 61 }
     ensures value { result ≡ a * b }
@@ -91,7 +89,7 @@ fn carried(columns: Columns) -> Limbs
 
 /// The sum of two numbers.
 #[inline(always)]
-fn sum(a: Limbs, b: Limbs) -> Limbs
+pub fn sum(a: Limbs, b: Limbs) -> Limbs
     requires left { a.high ≤ 4 }
     requires right { b.high ≤ 1 }
     ensures value { number_of result ≡ number_of a + number_of b }
@@ -116,6 +114,20 @@ pub fn absorbed(accumulator: Limbs, r: Factor, block: Limbs) -> Limbs
     ensures high { result.high ≤ 4 }
 {
     carried(columns_of(sum(accumulator, block), r))
+}
+
+/// A number times 2^64, modulo the prime. 2^130 is 5 there, so what the second limb has above its lowest two bits counts 5 in the first,
+/// and what the third has counts 5 * 2^62.
+pub fn shifted(number: Limbs) -> Limbs
+    requires { number.high ≤ 4 }
+    ensures value { number_of result % prime ≡ (2 ^ 64 * number_of number) % prime }
+    ensures high { result.high ≤ 4 }
+{
+    carried(Columns {
+        low: u128::from(number.middle / 4) * 5 + u128::from(number.high) * 0x1_4000_0000_0000_0000,
+        middle: u128::from(number.low),
+        high: number.middle % 4,
+    })
 }
 
 /// The limbs of a number.

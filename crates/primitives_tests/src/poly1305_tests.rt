@@ -1,6 +1,7 @@
 //! The tag: RFC 8439, 2.5.2 and A.3. Each text is given whole, and in two pieces at each place.
 
 use poly1305::{Poly1305, poly1305_mac};
+use std::test::Fail;
 
 // Whether a text that is given in two pieces has this tag, and one that differs from it in a bit isn't its tag.
 fn has_tag_in_pieces(key: &[u8; 32], text: &[u8], at: usize, tag: &[u8; 16]) -> bool {
@@ -230,6 +231,53 @@ fn a_key_with_two_bits_and_three_blocks(rt: HostRuntime) {
         0x00,
     ];
     assert!(rt; has_tag(&key, &text, &tag));
+}
+
+// The key of 2.5.2, and texts of ones that are so long that their blocks are taken in groups: the tags are OpenSSL's.
+#[test]
+fn long_texts(rt: HostRuntime) -> Result<(), Fail> {
+    let key = [
+        0x85, 0xd6, 0xbe, 0x78, 0x57, 0x55, 0x6d, 0x33, 0x7f, 0x44, 0x52, 0xfe, 0x42, 0xd5, 0x06,
+        0xa8, 0x01, 0x03, 0x80, 0x8a, 0xfb, 0x0d, 0xb2, 0xfd, 0x4a, 0xbf, 0xf6, 0xaf, 0x41, 0x49,
+        0xf5, 0x1b,
+    ];
+    for (length, tag) in [
+        (
+            4_095,
+            [
+                0x48, 0x3a, 0x5b, 0xa2, 0xb3, 0x17, 0xf6, 0xdf, 0xb9, 0x81, 0x12, 0xd5, 0xbd, 0x63,
+                0x70, 0x4b,
+            ],
+        ),
+        (
+            4_096,
+            [
+                0x7b, 0x75, 0x22, 0x66, 0xb0, 0xdb, 0x7e, 0xb2, 0x44, 0x5f, 0xbc, 0xd8, 0xc8, 0x67,
+                0x6d, 0x55,
+            ],
+        ),
+        (
+            4_624,
+            [
+                0xb0, 0x87, 0x93, 0xd9, 0x31, 0xaa, 0x53, 0x46, 0x39, 0x5b, 0xbf, 0xa5, 0x7a, 0xe0,
+                0x74, 0x30,
+            ],
+        ),
+        (
+            10_000,
+            [
+                0x0e, 0x1a, 0x8a, 0x4f, 0xcd, 0x6a, 0xa9, 0xe5, 0xdf, 0x1c, 0x4d, 0xac, 0xa8, 0x34,
+                0x63, 0x6e,
+            ],
+        ),
+    ] {
+        let text = vec![in rt.alloc(); 255; length]?;
+        assert!(rt; poly1305_mac(&key, &text) == tag);
+        for at in [1, 15, 4_000] {
+            assert!(rt; has_tag_in_pieces(&key, &text, at, &tag));
+        }
+    }
+    Ok(())
 }
 
 // No block: the tag is s.

@@ -1,18 +1,13 @@
-use Rattle.std.proofs.Common.{◌≡◌, ◌+◌, ◌-◌, ◌≤◌, ◌%◌, ◌++◌, length, take, ap, sym, arith, ◌∙◌}
+use Rattle.std.proofs.Common.{◌≡◌, ◌+◌, ◌%◌, ◌++◌, length, take, ap, sym, ◌∙◌}
 use Rattle.poly1305.specs.Mac.{block_number, clamped}
-use Rattle.poly1305.proofs.Accumulating.{put_to_end, accumulated_filled, count_filled, rest_filled, step}
+use Rattle.poly1305.proofs.Accumulating.{accumulated_filled, count_filled, rest_filled, step}
 use Rattle.poly1305.proofs.authenticator.Poly1305.complete.Goals as goal
 
 pub returns-clause-given : goal.returns-clause-given
 returns-clause-given c = λ key text given.
     let bytes = c.args.bytes.now in
-    let filled = c.args.self.now.filled in
-    let begun = c.args.self.now.block in
-    let fills : length text % 16 + length bytes ≡ 16 = omega (arith, given.count, c.requires) in
-    let size : length begun ≤ filled + (16 - filled) = omega arith in
-    let block = put_to_end filled (16 - filled) begun c.copy_from_slice.new.self size
-    ∙ ap (λ l. take filled begun ++ l) c.copy_from_slice.ensures.after
-    ∙ ap (λ l. l ++ bytes) given.begun in
+    let fills : length text % 16 + length bytes ≡ 16 = ap (λ n. n + length bytes) (sym given.count) ∙ c.requires in
+    let block = c.completed-block.ensures ∙ ap (λ l. l ++ bytes) given.begun in
     let number = c.whole_block.ensures.value ∙ ap block_number block in
     record {
       factor = given.factor;

@@ -1,23 +1,11 @@
-use Rattle.std.proofs.Common.{◌*◌, arith}
-use Rattle.std.proofs.lemmas.List.{take_all, append-nil, append_assoc}
-use Rattle.poly1305.proofs.Accumulating.{take_more_block}
+use Rattle.std.proofs.Common.{◌≡◌, ◌++◌}
+use Rattle.std.proofs.lemmas.List.{append_assoc, take-append-drop}
 use Rattle.poly1305.proofs.authenticator.Poly1305.take_blocks.Goals as goal
 
-pub each-init : goal.each-init
-each-init c = record {
-  given = λ key text given. rw append-nil given;
-  unbegun = c.requires.unbegun;
-}
-
-pub each-preserved : goal.each-preserved
-each-preserved c = record {
-  given = λ key text given.
-      let more = c.take_block.ensures.given key _ (c.each.invariant.given key text given) in
-      rw (append_assoc, take_more_block c.args.blocks.now c.each.i) at more;
-  unbegun = c.take_block.ensures.unbegun;
-}
-
-pub returns-clause-given : goal.returns-clause-given
-returns-clause-given c = λ key text given.
-    let all = take_all (16 * c.each.i) c.args.blocks.now (omega arith) in
-    rw all at c.each.invariant.given key text given
+pub returns-else-blocks-lt-LONG-clause-given : goal.returns-else-blocks-lt-LONG-clause-given
+returns-else-blocks-lt-LONG-clause-given c = λ key text given.
+    let groups = c.split_at.result.0.now in
+    let last = c.split_at.result.1.now in
+    let whole : groups ++ last ≡ c.args.blocks.now = rw (c.split_at.ensures.front, c.split_at.ensures.back) (take-append-drop _ _) in
+    let all = c.take_each-else-blocks-lt-LONG.ensures.given key _ (c.take_groups.ensures.given key text given) in
+    rw (append_assoc, whole) at all

@@ -1,6 +1,6 @@
 use Rattle.std.proofs.Common.{◌≡◌, ◌*◌, List, ℕ, ◌++◌, take}
 use Rattle.poly1305.specs.Given.{WasGiven}
-use Rattle.poly1305.proofs.authenticator.Poly1305.take_blocks.Given as goal
+use Rattle.poly1305.proofs.authenticator.Poly1305.take_each.Given as goal
 
 -- the blocks so far are given, and none is begun
 abbrev pub invariant-each : goal.invariant-each

@@ -1,0 +1,24 @@
+use Rattle.std.proofs.Common.{◌*◌, arith}
+use Rattle.std.proofs.lemmas.List.{take_all, append-nil, append_assoc}
+use Rattle.poly1305.proofs.Grouping.{take_more_group}
+use Rattle.poly1305.proofs.groups.groups_absorbed.Goals as goal
+
+pub each-init : goal.each-init
+each-init c = record {
+  value = λ text given. rw append-nil given;
+  high = c.requires.accumulator;
+}
+
+pub each-preserved : goal.each-preserved
+each-preserved c = record {
+  value = λ text given.
+      let before = c.each.invariant.value text given in
+      let more = c.group_absorbed-next.ensures.value _ _ c.powers_of-powers.ensures.powers before in
+      rw (append_assoc, take_more_group c.args.groups.now c.each.i) at more;
+  high = c.group_absorbed-next.ensures.high;
+}
+
+pub returns-clause-value : goal.returns-clause-value
+returns-clause-value c = λ text given.
+    let all = take_all (512 * c.each.i) c.args.groups.now (omega arith) in
+    rw all at c.each.invariant.value text given

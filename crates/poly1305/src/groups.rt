@@ -1,0 +1,211 @@
+//! Thirty-two blocks in one step. Block by block the accumulator h becomes (..((h + a) r + b) r + ..) r (RFC 8439, 2.5), where each
+//! product waits for the one before. This is h r^32 + a r^32 + b r^31 + .., whose products wait for nothing, and are summed before their
+//! carries are taken once.
+//!
+//! What is multiplied has limbs of 64 bits, as the accumulator and blocks have them. The powers of r have short limbs, of 44 bits, so that
+//! the sums stay below 2^128. `/` and `%` by powers of two are compiled to shifts and masks: 0x400_0000_0000 is 2^42,
+//! 0x1000_0000_0000 is 2^44, 0x1_0000_0000_0000_0000 is 2^64.
+ghost use Rattle.std.specs.Prelude.{◌≡◌, ℕ, ◌+◌, ◌-◌, ◌*◌, ◌%◌, ◌^◌, ◌<◌, ◌≤◌, List, ◌++◌, Some, length, slice_get};
+ghost use Rattle.poly1305.specs.Mac.{prime};
+ghost use Rattle.poly1305.specs.Limbs.{factor_number, number_of, IsFactor};
+ghost use Rattle.poly1305.specs.Groups.{multiplier_number, short_column_number, short_number, AreBelow, AreMultipliers, ArePowers, AreShort, IsAccumulator, IsMultiplier};
+
+use crate::blocks::whole_block;
+use crate::limbs::{Factor, Limbs, product, shifted, small_product};
+
+/// How many bytes the blocks of a group have.
+pub const GROUP: usize = 512;
+
+/// A number in short limbs: their sum, of which the second counts 2^44 and the third 2^88.
+#[derive(Clone, Copy)]
+struct ShortLimbs {
+    low: u64,
+    middle: u64,
+    high: u64,
+}
+
+/// The sums of products of a limb and a short limb, before their carries: as with short limbs, the second counts 2^44 and the third
+/// 2^88.
+#[derive(Clone, Copy)]
+struct ShortColumns {
+    low: u128,
+    middle: u128,
+    high: u128,
+}
+
+/// What a number is multiplied by: its low limb by the first part, its second limb by the second part, which is 2^64 times as much
+/// modulo the prime.
+#[derive(Clone, Copy)]
+struct Multiplier {
+    low: ShortLimbs,
+    middle: ShortLimbs,
+}
+
+/// The short limbs of a number.
+fn short_limbs_of(number: Limbs) -> ShortLimbs
+    requires { number.high ≤ 4 }
+    ensures value { short_number result ≡ number_of number }
+    ensures short { AreShort result }
+{
+    ShortLimbs {
+        low: number.low % 0x1000_0000_0000,
+        middle: number.low / 0x1000_0000_0000 + number.middle % 0x100_0000 * 0x10_0000,
+        high: number.middle / 0x100_0000 + number.high * 0x100_0000_0000,
+    }
+}
+
+/// Makes a number one that others are multiplied by.
+fn multiplier_of(number: Limbs) -> Multiplier
+    requires { number.high ≤ 4 }
+    ensures value { multiplier_number result ≡ number_of number }
+    ensures multiplier { IsMultiplier result }
+{
+    Multiplier {
+        low: short_limbs_of(number),
+        middle: short_limbs_of(shifted(number)),
+    }
+}
+
+/// A column and what a product adds to it. The third limb counts 2^64 times as much as the second.
+#[inline(always)]
+fn column(sum: u128, number: Limbs, low: u64, middle: u64) -> u128
+    requires sum { sum < 2 ^ 120 }
+    requires number { number.high < 8 }
+    requires low { low < 2 ^ 44 }
+    requires middle { middle < 2 ^ 44 }
+    ensures value { result ≡ sum + (number.low * low + number.middle * middle + 2 ^ 64 * (number.high * middle)) }
+    ensures bound { result < sum + 2 ^ 112 }
+{
+    sum + product(number.low, low)
+        + product(number.middle, middle)
+        + u128::from(small_product(number.high, middle)) * 0x1_0000_0000_0000_0000
+}
+
+/// Columns and what the product of two numbers modulo the prime adds to them.
+#[inline(always)]
+fn with_product(columns: ShortColumns, number: Limbs, by: Multiplier) -> ShortColumns
+    requires columns { AreBelow (2 ^ 120) columns }
+    requires number { number.high < 8 }
+    requires by { IsMultiplier by }
+    ensures value { short_column_number result % prime ≡ (short_column_number columns + number_of number * multiplier_number by) % prime }
+    ensures low { result.low < columns.low + 2 ^ 112 }
+    ensures middle { result.middle < columns.middle + 2 ^ 112 }
+    ensures high { result.high < columns.high + 2 ^ 112 }
+{
+    ShortColumns {
+        low: column(columns.low, number, by.low.low, by.middle.low),
+        middle: column(columns.middle, number, by.low.middle, by.middle.middle),
+        high: column(columns.high, number, by.low.high, by.middle.high),
+    }
+}
+
+/// The product of two numbers modulo the prime, before its carries.
+#[inline(always)]
+fn columns_of(number: Limbs, by: Multiplier) -> ShortColumns
+    requires number { number.high < 8 }
+    requires by { IsMultiplier by }
+    ensures value { short_column_number result % prime ≡ (number_of number * multiplier_number by) % prime }
+    ensures bounds { AreBelow (2 ^ 112) result }
+{
+    let none = ShortColumns {
+        low: 0,
+        middle: 0,
+        high: 0,
+    };
+    with_product(none, number, by)
+}
+
+/// A number modulo the prime, by the carries from each column to the next, and from bit 130 to the first, which counts 5 there.
+#[inline(always)]
+fn carried(columns: ShortColumns) -> Limbs
+    requires { AreBelow (2 ^ 120) columns }
+    ensures value { number_of result % prime ≡ short_column_number columns % prime }
+    ensures high { result.high ≤ 4 }
+{
+    let middle = columns.middle + columns.low / 0x1000_0000_0000;
+    let high = columns.high + middle / 0x1000_0000_0000;
+    let low = columns.low % 0x1000_0000_0000
+        + middle % 0x1000_0000_0000 * 0x1000_0000_0000
+        + high / 0x400_0000_0000 * 5;
+    let next = low / 0x1_0000_0000_0000_0000 + high % 0x400_0000_0000 * 0x100_0000;
+    Limbs {
+        low: (low % 0x1_0000_0000_0000_0000) as u64,
+        middle: (next % 0x1_0000_0000_0000_0000) as u64,
+        high: (next / 0x1_0000_0000_0000_0000) as u64,
+    }
+}
+
+/// The product of two numbers modulo the prime.
+fn multiplied(number: Limbs, by: Multiplier) -> Limbs
+    requires number { number.high ≤ 4 }
+    requires by { IsMultiplier by }
+    ensures value { number_of result % prime ≡ (number_of number * multiplier_number by) % prime }
+    ensures high { result.high ≤ 4 }
+{
+    carried(columns_of(number, by))
+}
+
+/// The powers of a factor, from its thirty-second down to its first.
+fn powers_of(r: Factor) -> [Multiplier; 32]
+    requires { IsFactor r }
+    ensures multipliers { AreMultipliers result }
+    ensures powers { ArePowers (factor_number r) result }
+{
+    let mut power = Limbs {
+        low: r.low,
+        middle: r.high,
+        high: 0,
+    };
+    let first = multiplier_of(power);
+    let mut powers = [first; 32];
+    'each: for i in 1..32usize {
+        power = multiplied(power, first);
+        powers[31 - i] = multiplier_of(power);
+    }
+    powers
+}
+
+/// The power of r that block `i` of a group is multiplied by.
+#[inline(always)]
+fn power_at(powers: &[Multiplier; 32], i: usize) -> Multiplier
+    requires { i < 32 }
+    ensures { slice_get powers.now i ≡ Some result }
+{
+    powers[i]
+}
+
+/// The accumulator after one more group of a text. The powers are those of r.
+// (compiled on its own, so that its loop has all registers)
+#[inline(never)]
+fn group_absorbed(accumulator: Limbs, powers: &[Multiplier; 32], group: &[u8]) -> Limbs
+    requires accumulator { accumulator.high ≤ 4 }
+    requires multipliers { AreMultipliers powers.now }
+    requires group { length group.now ≡ GROUP }
+    ensures value { (r : ℕ) (text : List ℕ) → ArePowers r powers.now → IsAccumulator r (number_of accumulator % prime) text
+        → IsAccumulator r (number_of result % prime) (text ++ group.now) }
+    ensures high { result.high ≤ 4 }
+{
+    let mut columns = columns_of(accumulator, power_at(powers, 0));
+    'each: for i in 0..32usize {
+        let block = whole_block(&group[16 * i..16 * i + 16]);
+        columns = with_product(columns, block, power_at(powers, i));
+    }
+    carried(columns)
+}
+
+/// The accumulator after more groups of a text (RFC 8439, 2.5).
+pub fn groups_absorbed(accumulator: Limbs, r: Factor, groups: &[u8]) -> Limbs
+    requires accumulator { accumulator.high ≤ 4 }
+    requires factor { IsFactor r }
+    requires groups { length groups.now % GROUP ≡ 0 }
+    ensures value { (text : List ℕ) → IsAccumulator (factor_number r) (number_of accumulator % prime) text
+        → IsAccumulator (factor_number r) (number_of result % prime) (text ++ groups.now) }
+    ensures high { result.high ≤ 4 }
+{
+    let powers = powers_of(r);
+    let mut next = accumulator;
+    'each: for i in 0..groups.len() / GROUP {
+        next = group_absorbed(next, &powers, &groups[GROUP * i..GROUP * i + GROUP]);
+    }
+    next
+}
