@@ -410,6 +410,12 @@ impl<S: Suite, R: Seek> Seek for StreamReader<S, R> {
         ensures same_last { IsTrue (⟦<StreamReader<S, R> as Read>⟧.tells self.old) → OnOk result
             ((IsToEnd (length (payload_of self.old).bytes) to (place_of self.old) → ⊥) → (b : ℕ) → last_used_of self.old ≡ Some b → last_used_of self.new ≡ Some b) }
         ensures keeps_last { OnOk result ((b : ℕ) → last_used_of self.old ≡ Some b → HasChunk self.new b) }
+        // A target at the end uses the last chunk. A full one may be held without the verdict on it, and isn't one of the two then.
+        ensures holds_end { IsTrue (⟦<StreamReader<S, R> as Read>⟧.tells self.old) → OnOk result
+            (IsToEnd (length (payload_of self.old).bytes) to (place_of self.old) → HoldsEnd self.new) }
+        ensures uses_end { IsTrue (⟦<StreamReader<S, R> as Read>⟧.tells self.old) → OnOk result
+            (IsToEnd (length (payload_of self.old).bytes) to (place_of self.old) → (length (payload_of self.old).bytes % 65552 ≡ 0 → ⊥) →
+            last_used_of self.new ≡ Some (final_chunk (length (payload_of self.old).bytes))) }
         // One that had failed has none but the last chunk, where that was the target.
         ensures none { IsTrue (⟦<StreamReader<S, R> as Read>⟧.tells self.old) → HasFailed self.old → OnOk result ((b : ℕ) → HasChunk self.new b →
             IsToEnd (length (payload_of self.old).bytes) to (place_of self.old) × (b ≡ final_chunk (length (payload_of self.old).bytes))) }

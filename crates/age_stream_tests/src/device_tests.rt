@@ -69,8 +69,8 @@ fn is_refused(
     Ok(())
 }
 
-// The chunk that is held is no worse for it.
-fn keeps_its_chunk(
+// A reader that has failed keeps no chunk: the one that it held is opened anew.
+fn opens_its_chunk_anew(
     rt: &impl Abort,
     alloc: Global,
     payload: &[u8],
@@ -82,7 +82,7 @@ fn keeps_its_chunk(
     is_refused(rt, alloc, &mut reader, to)?;
     assert!(rt; reader.seek(SeekFrom::Start(5)) == Ok(5), "after {done}");
     reads(rt, &mut reader, 5);
-    has_opened(rt, &reader, 1);
+    has_opened(rt, &reader, 2);
     Ok(())
 }
 
@@ -98,7 +98,7 @@ fn a_seek_meets_a_fault_in_each_of_its_steps(rt: HostRuntime) -> Result<(), Fail
         (SeekFrom::End(0), 11),
     ] {
         for done in 0..calls {
-            keeps_its_chunk(&rt, alloc, &payload, done, to)?;
+            opens_its_chunk_anew(&rt, alloc, &payload, done, to)?;
         }
     }
     Ok(())

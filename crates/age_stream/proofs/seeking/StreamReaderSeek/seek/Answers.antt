@@ -1,6 +1,6 @@
 use Rattle.std.specs.Prelude.{cond}
 use Rattle.std.proofs.Common.{◌≡◌, ◌<◌, ◌-◌, ◌+◌, ◌*◌, ◌/◌, ◌^◌, ◌∙◌, arith, length, sym, subst, ap, IsTrue, ◌&&◌, refl, length-drop, true, Some, None, inl, inr, Ok, Err}
-use Rattle.std.proofs.lemmas.Bool.{true≢false}
+use Rattle.std.proofs.lemmas.Bool.{true≢false, true_from_ne_false}
 use Rattle.std.proofs.lemmas.List.Elements.{All-drop}
 use Rattle.age_io.specs.Stretch.{from_place}
 use Rattle.age_stream.specs.Payload.{nonce, final_chunk, plain_len}
@@ -578,3 +578,47 @@ returns-in-Ok-stand-clause-unmoved_chunks g c = λ refusal.
     let self = c.args.self.now in
     let same = c.in-Ok-stand.ensures.same.3 ∙ c.in-Ok.ensures.same.3 in
     (ap (λ k. cond self.failed None (last_used k)) same, λ b has. (has.0, subst (λ k. HasOne k b) (sym same) has.1))
+
+pub returns-in-Ok-enter-clause-holds_end : goal.returns-in-Ok-enter-clause-holds_end
+returns-in-Ok-enter-clause-holds_end g c = λ told end.
+    let self = c.args.self.now in
+    let read = g.R.Read in
+    let place = 65536 * self.number + self.at in
+    let payload = payload_at (read.place self.inner) self.taken (read.content self.inner) in
+    let size : c.in-Ok.size ≡ length payload.bytes = (c.in-Ok.ensures.found told).2 in
+    absurd (not-end c.args.to place (length payload.bytes) c.in-Ok-find.target c.in-Ok-find.len (rw size at c.in-Ok-find.ensures.plain)
+    (sym c.is_below_start.ensures ∙ c.if-is_below_start.false) (rw size at c.in-Ok-find.ensures.ok) (λ same. c.if-target-len.false same) end)
+
+pub returns-in-Ok-enter_end-clause-holds_end : goal.returns-in-Ok-enter_end-clause-holds_end
+returns-in-Ok-enter_end-clause-holds_end g c = λ told end.
+    let self = c.args.self.now in
+    let look = c.in-Ok.ensures in
+    let done = c.in-Ok-enter_end.ensures in
+    let later = told-later g.R.Read self.inner c.look.new.self.inner look.keeps.inner.same told in
+    let same = ap (λ p. length p.bytes) (done.keeps.payload later ∙ look.keeps.payload told) in
+    (done.good.0, inl (done.good.1, done.good.2, done.good.3 ∙ ap final_chunk ((look.found told).2 ∙ sym same)))
+
+pub returns-in-Ok-enter-clause-uses_end : goal.returns-in-Ok-enter-clause-uses_end
+returns-in-Ok-enter-clause-uses_end g c = λ told end.
+    let self = c.args.self.now in
+    let read = g.R.Read in
+    let place = 65536 * self.number + self.at in
+    let payload = payload_at (read.place self.inner) self.taken (read.content self.inner) in
+    let size : c.in-Ok.size ≡ length payload.bytes = (c.in-Ok.ensures.found told).2 in
+    absurd (not-end c.args.to place (length payload.bytes) c.in-Ok-find.target c.in-Ok-find.len (rw size at c.in-Ok-find.ensures.plain)
+    (sym c.is_below_start.ensures ∙ c.if-is_below_start.false) (rw size at c.in-Ok-find.ensures.ok) (λ same. c.if-target-len.false same) end)
+
+pub returns-in-Ok-enter_end-clause-uses_end : goal.returns-in-Ok-enter_end-clause-uses_end
+returns-in-Ok-enter_end-clause-uses_end g c = λ told end apart.
+    let self = c.args.self.now in
+    let read = g.R.Read in
+    let look = c.in-Ok.ensures in
+    let done = c.in-Ok-enter_end.ensures in
+    let new = c.enter_end.new.self in
+    let payload = payload_at (read.place self.inner) self.taken (read.content self.inner) in
+    let later = told-later read self.inner c.look.new.self.inner look.keeps.inner.same told in
+    let size : c.in-Ok.size ≡ length payload.bytes = (look.found told).2 in
+    let number : new.number ≡ final_chunk c.in-Ok.size = done.good.3 in
+    let whole = (plain_len_says c.in-Ok.size c.in-Ok-find.len c.in-Ok-find.ensures.plain).whole in
+    let judged = true_from_ne_false new.cache.judged (λ none. apart (omega (arith, (new.unjudged done.good.1 none).end, done.arrives later, number, whole, size))) in
+    rw done.good.0 (done.uses judged ∙ ap (λ n. Some (final_chunk n)) size)
