@@ -1,13 +1,13 @@
 -- The chunks that a reader has opened stay those of its payload.
-use Rattle.std.specs.Prelude.{◌≡◌, ℕ, ◌+◌, ◌-◌, ◌*◌, ◌^◌, ◌<◌, ◌≤◌, Bool, true, false, cond, Option, Some, None, option_map, Ok, List, length, min}
+use Rattle.std.specs.Prelude.{◌≡◌, ℕ, ◌+◌, ◌-◌, ◌*◌, ◌/◌, ◌^◌, ◌<◌, ◌≤◌, ◌⊎◌, Bool, true, false, cond, Option, Some, None, option_map, Ok, List, length, min}
 use Rattle.std.proofs.Common.{◌∙◌, ap, arith, inl, inr, refl, sym, subst}
-use Rattle.std.proofs.lemmas.Bool.{eq-eqb}
+use Rattle.std.proofs.lemmas.Bool.{cases_lt, eq-eqb, false_from_ne_true}
 use Rattle.age_error.specs.Bytes.{AreBytes}
 use Rattle.age_io.specs.Stretch.{Stretch}
 use Rattle.age_io.specs.Reading.{StandsIn}
 use Rattle.age_stream.specs.declared.cache.Cache.{Cache}
 use Rattle.age_stream.specs.declared.cache.Opened.{Opened}
-use Rattle.age_stream.specs.Cache.{last_used, HasOne, IsKept, IsText}
+use Rattle.age_stream.specs.Cache.{has_number, last_used, HasOne, IsKept, IsText}
 use Rattle.age_stream.specs.Chunks.{chunk_of}
 use Rattle.age_stream.specs.OpeningLaws.{Shorter}
 use Rattle.age_stream.specs.Payload.{nonce}
@@ -35,6 +35,23 @@ used-there cache b is = by cache.used cache.judged cache.other cache.number b is
     by true false other number b is judged same there = cc
     by false judged None number b is first same there = cc
     by false judged (Some it) number b is first same there = inr (rw there (eq-eqb it.number b (some-same it.number b is)))
+
+-- A reader that holds a chunk, and isn't after the last one, comes to the chunk at its place next where it has that opened.
+pub comes : (held : Bool) (number at : ℕ) (cache : Cache) → held ≡ true → at ≤ length cache.chunk.items → length cache.chunk.items ≤ 65536 →
+    (cache.last ≡ false → length cache.chunk.items ≡ 65536) → cache.number ≡ number → ((held ≡ true) × (cache.last ≡ true) × (at ≡ length cache.chunk.items) → ⊥) →
+    HasOne cache ((65536 * number + at) / 65536) → ((held ≡ true) × (at < length cache.chunk.items)) ⊎
+    ((held ≡ true → (cache.last ≡ false) × (at ≡ length cache.chunk.items)) × (has_number (cond held (number + 1) number) cache.other ≡ true))
+comes held number at cache is inside small full first apart has = elim (cases_lt at (length cache.chunk.items)) [
+  | inl less ↦ inl (is, less)
+  | inr more ↦
+      let given : at ≡ length cache.chunk.items = omega (arith, inside, more) in
+      let middle = false_from_ne_true cache.last (λ last. apart (is, last, given)) in
+      let next : (65536 * number + at) / 65536 ≡ number + 1 = omega (arith, given, full middle) in
+      inr ((λ _. (middle, given)), elim (subst (HasOne cache) next has) [
+        | inl one ↦ absurd (omega (arith, one.1, first))
+        | inr other ↦ rw is other
+      ])
+]
 
 -- the verdict on the text of a chunk that was read
 pub held-read : (opened : List ℕ → List ℕ → List ℕ → Option (List ℕ)) (key : List ℕ) (payload : Stretch) (number : ℕ) (text plain : List ℕ) (last : Bool) →

@@ -228,6 +228,7 @@ impl Cache {
         ensures itself { IfErr result (λ e. e ≢ AfterLast) }
         ensures named { IfErr result IsPayloadRefusal }
         ensures keeps_last { OnOk result ((b : ℕ) → last_used self.old ≡ Some b → HasOne self.new b) }
+        ensures keeps { has_number number self.old.other ≡ true → OnOk result ((b : ℕ) → HasOne self.old b → HasOne self.new b) }
         ensures fits { opens.old < 2 ^ 64 → opens.new < 2 ^ 64 }
         ensures counts { opens.old < 2 ^ 64 → opens.old ≤ opens.new }
         ensures opens { opens.new ≤ opens.old + 2 }

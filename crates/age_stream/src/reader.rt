@@ -182,9 +182,13 @@ impl<S: Suite, R: Read> Read for StreamReader<S, R> {
         ensures at_end { IsAfterLast self.old → opens_of self.new ≡ opens_of self.old }
         ensures opened { (IsHolding self.old → ⊥) → IfOk result (λ n. 0 < n → one_more (opens_of self.old) ≤ opens_of self.new) }
 
-        // Of the opened chunks it has the one that it reads, and the one that was used last before.
+        // Of the opened chunks it has the one that it reads, and the one that was used last before; both where it opens none.
         ensures uses { IfOk result (λ n. 0 < n → last_used_of self.new ≡ Some (place_of self.old / 65536)) }
         ensures keeps_last { OnOk result ((b : ℕ) → last_used_of self.old ≡ Some b → HasChunk self.new b) }
+        ensures keeps { IsHolding self.old ⊎ IsAfterLast self.old → OnOk result ((b : ℕ) → HasChunk self.old b → HasChunk self.new b) }
+        ensures same_last { IsAfterLast self.old → OnOk result (last_used_of self.new ≡ last_used_of self.old) }
+        // One that comes to the end of a chunk has the next one where that is opened.
+        ensures finds { IfOk result (λ n. 0 < n → (IsAfterLast self.new → ⊥) → HasChunk self.new (place_of self.new / 65536) → IsHolding self.new) }
     {
         if self.failed {
             return Err(Error::Failed);
@@ -316,6 +320,10 @@ impl<S: Suite, R: Read> StreamReader<S, R> {
         ensures opened { (IsHolding self.old → ⊥) → IfOk result (λ n. 0 < n → one_more self.old.opens ≤ self.new.opens) }
         ensures uses { IfOk result (λ n. 0 < n → last_used self.new.cache ≡ Some ((65536 * self.old.number + self.old.at) / 65536)) }
         ensures keeps_last { OnOk result ((b : ℕ) → last_used self.old.cache ≡ Some b → HasOne self.new.cache b) }
+        ensures has { IsHolding self.old ⊎ IsAfterLast self.old → OnOk result ((b : ℕ) → HasOne self.old.cache b → HasOne self.new.cache b) }
+        ensures same_last { IsAfterLast self.old → OnOk result (last_used self.new.cache ≡ last_used self.old.cache) }
+        ensures finds { IfOk result (λ n. 0 < n → (IsAfterLast self.new → ⊥) → HasOne self.new.cache ((65536 * self.new.number + self.new.at) / 65536) →
+            IsHolding self.new) }
         ensures placed { IfOk result (λ n. 65536 * self.new.number + self.new.at ≡ 65536 * self.old.number + self.old.at + n) }
         ensures stayed { OnErr result (65536 * self.new.number + self.new.at ≡ 65536 * self.old.number + self.old.at) }
         ensures spared { OnOk result (self.new.opens + spare self.new.held self.new.cache.last + self.old.number
@@ -359,6 +367,7 @@ impl<S: Suite, R: Read> StreamReader<S, R> {
         ensures held { IsHolding self.old → self.new.opens ≡ self.old.opens }
         ensures opened { (IsHolding self.old → ⊥) → OnOk result (one_more self.old.opens ≤ self.new.opens) }
         ensures keeps_last { OnOk result ((b : ℕ) → last_used self.old.cache ≡ Some b → HasOne self.new.cache b) }
+        ensures has { IsHolding self.old → OnOk result ((b : ℕ) → HasOne self.old.cache b → HasOne self.new.cache b) }
         ensures spared { OnOk result (self.new.opens + spare self.new.held self.new.cache.last + self.old.number
             ≤ self.old.opens + spare self.old.held self.old.cache.last + self.new.number) }
         ensures spent { self.new.opens + self.old.number ≤ self.old.opens + spare self.old.held self.old.cache.last + self.new.number }
@@ -477,6 +486,7 @@ impl<S: Suite, R: Read> StreamReader<S, R> {
         ensures found { has_number self.old.number self.old.cache.other ≡ true → self.new.opens ≡ self.old.opens }
         ensures opened { (has_number self.old.number self.old.cache.other ≡ true → ⊥) → OnOk result (one_more self.old.opens ≤ self.new.opens) }
         ensures keeps_last { OnOk result ((b : ℕ) → last_used self.old.cache ≡ Some b → HasOne self.new.cache b) }
+        ensures has { has_number self.old.number self.old.cache.other ≡ true → OnOk result ((b : ℕ) → HasOne self.old.cache b → HasOne self.new.cache b) }
     {
         // It stays so on each way out but the last.
         self.failed = true;

@@ -291,6 +291,8 @@ impl<S: Suite, R: Seek> StreamReader<S, R> {
         ensures alone { was_failed ≡ true → OnOk result ((b : ℕ) → HasOne self.new.cache b → b ≡ final_chunk size) }
         ensures uses { OnOk result (self.new.cache.judged ≡ true → last_used self.new.cache ≡ Some (final_chunk size)) }
         ensures keeps_last { was_failed ≡ false → OnOk result ((b : ℕ) → last_used self.old.cache ≡ Some b → HasOne self.new.cache b) }
+        ensures has { was_failed ≡ false → ((self.old.held ≡ true) × (self.old.cache.last ≡ true) × (self.old.number ≡ final_chunk size)) ⊎ HasLast self.old.cache (final_chunk size) →
+            OnOk result ((b : ℕ) → HasOne self.old.cache b → HasOne self.new.cache b) }
         ensures cause { IsTrue (R.tells self.old.inner && R.steady self.old.inner) → IsTrue (payload_of self.old).ends_well →
             IfErr result (λ e. e ≢ OutOfMemory → IsQuiet (R.faults self.old.inner) (R.faults self.new.inner) →
             (e ≡ BadEnd) × (S.opened self.old.key (nonce (final_chunk size) true) (text_at (final_chunk size) (payload_of self.old)) ≡ None)) }
@@ -401,10 +403,10 @@ impl<S: Suite, R: Seek> Seek for StreamReader<S, R> {
             (IsToEnd (length (payload_of self.old).bytes) to (place_of self.old) → ⊥) → opens_of self.new ≡ opens_of self.old }
         ensures held { IsTrue (⟦<StreamReader<S, R> as Read>⟧.tells self.old) → HoldsEnd self.old → opens_of self.new ≡ opens_of self.old }
 
-        // The opened chunks stay, and a read at a place in one of them opens nothing. At the end the one that was used last stays beside the
-        // last chunk.
+        // The opened chunks stay, and a read at a place in one of them opens nothing. Where the last chunk has to be opened, the one that was
+        // used last stays beside it.
         ensures keeps { IsTrue (⟦<StreamReader<S, R> as Read>⟧.tells self.old) → OnOk result
-            ((IsToEnd (length (payload_of self.old).bytes) to (place_of self.old) → ⊥) → (b : ℕ) → HasChunk self.old b → HasChunk self.new b) }
+            ((IsToEnd (length (payload_of self.old).bytes) to (place_of self.old) → HoldsEnd self.old) → (b : ℕ) → HasChunk self.old b → HasChunk self.new b) }
         ensures unmoved_chunks { IfErr result (λ e. IsOutside e →
             (last_used_of self.new ≡ last_used_of self.old) × ((b : ℕ) → HasChunk self.old b → HasChunk self.new b)) }
         ensures same_last { IsTrue (⟦<StreamReader<S, R> as Read>⟧.tells self.old) → OnOk result

@@ -1,5 +1,6 @@
-use Rattle.std.proofs.Common.{◌≡◌, arith, length}
+use Rattle.std.proofs.Common.{◌≡◌, ◌∙◌, arith, length, true}
 use Rattle.age_stream.proofs.Answered.{refuses-widened}
+use Rattle.age_stream.proofs.Cached.{comes}
 use Rattle.age_stream.proofs.Keeping.{payload-done, read-at-end, read-refused}
 use Rattle.age_stream.proofs.reader.StreamReader.read_on.Goals as goal
 
@@ -33,3 +34,9 @@ pub returns-then-self-len-clause-reads : goal.returns-then-self-len-clause-reads
 returns-then-self-len-clause-reads g c =
     let done = c.end.ensures in
     read-at-end c.args.self.now c.end.new.self c.args.buf.now c.end.result done.keeps done.key done.place done.unspent done.none done.end done.fails done.good done.cause
+
+pub returns-in-Ok-clause-finds : goal.returns-in-Ok-clause-finds
+returns-in-Ok-clause-finds g c = λ some apart has.
+    let new = c.give.new.self in
+    let held : new.held ≡ true = c.give.ensures.same.1 ∙ c.in-Ok.ensures.good.1 in
+    (c.give.ensures.good, comes new.held new.number new.at new.cache held (new.in_chunk held) (new.small held) (new.full held) (new.first held) apart has)

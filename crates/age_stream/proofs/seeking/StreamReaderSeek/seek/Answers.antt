@@ -1,5 +1,5 @@
 use Rattle.std.specs.Prelude.{cond}
-use Rattle.std.proofs.Common.{◌≡◌, ◌<◌, ◌-◌, ◌+◌, ◌*◌, ◌/◌, ◌^◌, ◌∙◌, arith, length, sym, subst, ap, IsTrue, ◌&&◌, refl, length-drop, true, Some, None, inl, inr, Ok, Err}
+use Rattle.std.proofs.Common.{◌≡◌, ◌<◌, ◌-◌, ◌+◌, ◌*◌, ◌/◌, ◌^◌, ◌∙◌, ◌⊎◌, arith, length, sym, subst, ap, IsTrue, ◌&&◌, refl, length-drop, true, Some, None, inl, inr, Ok, Err}
 use Rattle.std.proofs.lemmas.Bool.{true≢false, true_from_ne_false}
 use Rattle.std.proofs.lemmas.List.Elements.{All-drop}
 use Rattle.age_io.specs.Stretch.{from_place}
@@ -477,15 +477,23 @@ returns-in-Ok-enter-clause-keeps g c = λ told other b has.
     (done.good, done.has has.0 b (subst (λ k. HasOne k b) (sym c.in-Ok.ensures.same.3) has.1))
 
 pub returns-in-Ok-enter_end-clause-keeps : goal.returns-in-Ok-enter_end-clause-keeps
-returns-in-Ok-enter_end-clause-keeps g c = λ told other.
+returns-in-Ok-enter_end-clause-keeps g c = λ told holds b has.
     let self = c.args.self.now in
     let read = g.R.Read in
     let place = 65536 * self.number + self.at in
     let payload = payload_at (read.place self.inner) self.taken (read.content self.inner) in
     let look = c.in-Ok.ensures in
+    let mid = c.look.new.self in
+    let done = c.in-Ok-enter_end.ensures in
     let size : c.in-Ok.size ≡ length payload.bytes = (look.found told).2 in
-    absurd (other (is-end c.args.to place (length payload.bytes) c.in-Ok-find.target c.in-Ok-find.len (rw size at c.in-Ok-find.ensures.plain)
-    (sym c.is_below_start.ensures ∙ c.if-is_below_start.false) (rw size at c.in-Ok-find.ensures.ok) c.if-target-len.true))
+    let final = final_chunk c.in-Ok.size in
+    let was = holds (is-end c.args.to place (length payload.bytes) c.in-Ok-find.target c.in-Ok-find.len (rw size at c.in-Ok-find.ensures.plain)
+    (sym c.is_below_start.ensures ∙ c.if-is_below_start.false) (rw size at c.in-Ok-find.ensures.ok) c.if-target-len.true) in
+    let end : ((mid.held ≡ true) × (mid.cache.last ≡ true) × (mid.number ≡ final)) ⊎ HasLast mid.cache final = elim was.1 [
+      | inl is ↦ inl (look.same.2 ∙ is.0, ap (λ k. k.last) look.same.3 ∙ is.1, look.same.0 ∙ is.2 ∙ ap final_chunk (sym size))
+      | inr is ↦ inr (subst (λ k. HasLast k final) (sym look.same.3) (subst (λ n. HasLast self.cache (final_chunk n)) (sym size) is))
+    ] in
+    (done.good.0, done.has was.0 end b (subst (λ k. HasOne k b) (sym look.same.3) has.1))
 
 pub returns-in-Ok-enter-clause-same_last : goal.returns-in-Ok-enter-clause-same_last
 returns-in-Ok-enter-clause-same_last g c = λ told other b is.
