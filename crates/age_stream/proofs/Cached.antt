@@ -47,10 +47,13 @@ comes held number at cache is inside small full first apart has = elim (cases_lt
       let given : at ≡ length cache.chunk.items = omega (arith, inside, more) in
       let middle = false_from_ne_true cache.last (λ last. apart (is, last, given)) in
       let next : (65536 * number + at) / 65536 ≡ number + 1 = omega (arith, given, full middle) in
-      inr ((λ _. (middle, given)), elim (subst (HasOne cache) next has) [
-        | inl one ↦ absurd (omega (arith, one.1, first))
-        | inr other ↦ rw is other
-      ])
+      inr (
+        (λ _. (middle, given)),
+        elim (subst (HasOne cache) next has) [
+          | inl one ↦ absurd (omega (arith, one.1, first))
+          | inr other ↦ rw is other
+        ],
+      )
 ]
 
 -- the verdict on the text of a chunk that was read

@@ -24,6 +24,16 @@ returns-in-Ok-read_full-clause-cursor g c = λ told well.
           (length-take-le c.read_full.new.filled c.read_full.new.buf read.count) read.count (λ less. (read.end told_mid less).bytes),
     )
 
+pub returns-in-Err-read_full-clause-payload : goal.returns-in-Err-read_full-clause-payload
+returns-in-Err-read_full-clause-payload g c = λ told.
+    let seek = c.in-Ok.ensures in
+    c.in-Err-read_full.ensures.keeps.payload (seek.seeks.same_tells ∙ told) ∙ seek.payload told
+
+pub returns-in-Ok-read_full-clause-payload : goal.returns-in-Ok-read_full-clause-payload
+returns-in-Ok-read_full-clause-payload g c = λ told.
+    let seek = c.in-Ok.ensures in
+    c.in-Ok-read_full.ensures.keeps.payload (seek.seeks.same_tells ∙ told) ∙ seek.payload told
+
 pub returns-in-Err-clause-refused : goal.returns-in-Err-clause-refused
 returns-in-Err-clause-refused g c = λ told well memory quiet. inl (c.in-Err.ensures.bad told well memory quiet)
 
