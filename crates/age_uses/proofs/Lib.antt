@@ -2,3 +2,4 @@ pub mod Opened
 pub mod Places
 pub mod Alone
 pub mod ProtectedKeys
+pub mod BeforeEnd

@@ -13,7 +13,7 @@ start_by true place start same = Prim.cc
 start_by false place start same = absurd (Prim.cc)
 
 -- it leads where it says
-start_is : (place len start : ℕ) → sought (Start place) 0 len ≡ Ok start → start ≡ place
+pub start_is : (place len start : ℕ) → sought (Start place) 0 len ≡ Ok start → start ≡ place
 start_is place len start same = start_by (nat_le place len) place start same
 
 refused_by : (within : Bool) (place : ℕ) (e : Error) → ◌≡◌ {A = Result ℕ Error} (if within then Ok place else Err PastEnd) (Err e)

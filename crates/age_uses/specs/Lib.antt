@@ -1,3 +1,4 @@
 pub mod Keys
 pub mod Own
 pub mod ProtectedKeys
+pub mod Turns

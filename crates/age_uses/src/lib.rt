@@ -9,3 +9,4 @@ pub mod protected;
 pub mod several;
 pub mod streams;
 pub mod there_and_back;
+pub mod turns;

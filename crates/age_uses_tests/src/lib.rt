@@ -19,3 +19,5 @@ mod several_tests;
 mod streams_tests;
 #[cfg(test)]
 mod there_and_back_tests;
+#[cfg(test)]
+mod turns_tests;

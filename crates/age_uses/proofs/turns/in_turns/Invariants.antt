@@ -1,0 +1,16 @@
+use Rattle.std.proofs.Common.{◌≡◌, ◌+◌, ◌/◌, ◌≤◌, IsTrue, Some}
+use Rattle.age.specs.StreamReader.{payload_of, opens_of, last_used_of, tells_of, HasChunk}
+use Rattle.age_uses.specs.Turns.{HasPlace}
+use Rattle.age_uses.proofs.turns.in_turns.Given as goal
+
+abbrev pub invariant-turns : goal.invariant-turns
+invariant-turns g l = record {
+  same_tells : tells_of l.reader ≡ tells_of l.fn.reader;
+  same_payload : IsTrue (tells_of l.fn.reader) → payload_of l.reader ≡ payload_of l.fn.reader;
+  first : IsTrue (tells_of l.fn.reader) → HasPlace (payload_of l.fn.reader) l.second → HasChunk l.reader (l.first / 65536);
+  second : IsTrue (tells_of l.fn.reader) → last_used_of l.reader ≡ Some (l.second / 65536);
+  opened : IsTrue (tells_of l.fn.reader) → HasPlace (payload_of l.fn.reader) l.first → HasPlace (payload_of l.fn.reader) l.second → opens_of l.reader ≤ opens_of l.fn.reader + 4;
+}
+
+abbrev pub decreases-turns : goal.decreases-turns
+decreases-turns g l = l.left

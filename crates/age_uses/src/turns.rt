@@ -1,0 +1,62 @@
+//! Two places of one plaintext in turn.
+ghost use Rattle.std.specs.Prelude.{◌≡◌, ◌+◌, ◌/◌, ◌≤◌, ℕ, IsTrue, Some, OnOk};
+ghost use Rattle.age.specs.StreamReader.{payload_of, opens_of, last_used_of, HasChunk};
+ghost use Rattle.age_uses.specs.Turns.{HasPlace};
+
+use age::io::{Error, Read, Seek, SeekFrom};
+use age::stream::StreamReader;
+use age::suite::Suite;
+
+// The byte at this place.
+fn byte_at<S: Suite, R: Seek>(reader: &mut StreamReader<S, R>, place: u64) -> Result<u8, Error>
+    ensures tells { ⟦<StreamReader<S, R> as Read>⟧.tells reader.new ≡ ⟦<StreamReader<S, R> as Read>⟧.tells reader.old }
+    ensures payload { IsTrue (⟦<StreamReader<S, R> as Read>⟧.tells reader.old) → payload_of reader.new ≡ payload_of reader.old }
+    ensures uses { IsTrue (⟦<StreamReader<S, R> as Read>⟧.tells reader.old) → OnOk result (last_used_of reader.new ≡ Some (place / 65536)) }
+    ensures keeps_last { IsTrue (⟦<StreamReader<S, R> as Read>⟧.tells reader.old) → HasPlace (payload_of reader.old) place →
+        OnOk result ((b : ℕ) → last_used_of reader.old ≡ Some b → HasChunk reader.new b) }
+    ensures opens { IsTrue (⟦<StreamReader<S, R> as Read>⟧.tells reader.old) → HasPlace (payload_of reader.old) place →
+        OnOk result (opens_of reader.new ≤ opens_of reader.old + 2) }
+    ensures found { IsTrue (⟦<StreamReader<S, R> as Read>⟧.tells reader.old) → HasPlace (payload_of reader.old) place →
+        HasChunk reader.old (place / 65536) → OnOk result (opens_of reader.new ≡ opens_of reader.old) }
+{
+    match reader.seek(SeekFrom::Start(place)) {
+        Err(error) => Err(error),
+        Ok(_) => {
+            let mut byte = [0];
+            match reader.read(&mut byte) {
+                Err(error) => Err(error),
+                Ok(count) => {
+                    if count == 0 {
+                        return Err(Error::UnexpectedEof);
+                    }
+                    let [byte] = byte;
+                    Ok(byte)
+                }
+            }
+        }
+    }
+}
+
+/// The bytes of the plaintext at two places, read in turn so many times and once before. However often, at most four chunks are opened for it,
+/// and none after the first turn, since the two that hold the places are kept.
+///
+/// It refuses as `StreamReader::seek` and `read` do, and with `UnexpectedEof` where a place is the end of the plaintext.
+pub fn in_turns<S: Suite, R: Seek>(
+    reader: &mut StreamReader<S, R>,
+    first: u64,
+    second: u64,
+    times: u64,
+) -> Result<(u8, u8), Error>
+    ensures opens { IsTrue (⟦<StreamReader<S, R> as Read>⟧.tells reader.old) → HasPlace (payload_of reader.old) first →
+        HasPlace (payload_of reader.old) second → OnOk result (opens_of reader.new ≤ opens_of reader.old + 4) }
+{
+    let mut one = byte_at(reader, first)?;
+    let mut other = byte_at(reader, second)?;
+    let mut left = times;
+    'turns: while left > 0 {
+        one = byte_at(reader, first)?;
+        other = byte_at(reader, second)?;
+        left -= 1;
+    }
+    Ok((one, other))
+}
