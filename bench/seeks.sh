@@ -47,7 +47,7 @@ def run(words, places):
 
 
 print(f"{size} MiB, least of three runs:")
-for form, words, count in [("bare", [name("bare")], 10000), ("armored", ["armor", name("armored")], 100)]:
+for form, words, count in [("bare", [name("bare")], 10000), ("armored", ["armor", name("armored")], 20)]:
     start = min(run(words, [])[0] for _ in range(3))
     for pattern, places in [("at random", [chance.randrange(length) for _ in range(count)]), ("a walk over 4 chunks", walk(count)),
                             ("back and forth", [0, piece] * (count // 2))]:
