@@ -67,22 +67,22 @@ module _ {R : Type 0} (read : Ghosts R) where
     unspent = tt;
   }
 
-  -- a walk from the front of the content
+  -- a walk along the content
   pub record Walks (old new : R) : Type 0 where
     pub same : SameReader read old new
     pub stands : IsTrue (read.tells old) → IsTrue (read.steady old) → read.rest new ≡ from_place (read.place new) (read.content old)
     pub within : IsTrue (read.tells old) → IsTrue (read.steady old) → read.place new ≤ length (read.content old).bytes
 
-  pub walks : (old front new : R) → SameReader read old front → read.place front ≡ 0 →
-      (IsTrue (read.tells old) → IsTrue (read.steady old) → read.rest front ≡ from_place 0 (read.content old)) → SameReader read front new →
+  pub walks : (old front new : R) → SameReader read old front →
+      (IsTrue (read.tells old) → IsTrue (read.steady old) → read.rest front ≡ from_place (read.place front) (read.content old)) → SameReader read front new →
       (IsTrue (read.tells front) → read.rest front ≡ from_place (read.place front) (read.content front) → read.rest new ≡ from_place (read.place new) (read.content front)) →
       (IsTrue (read.tells new) → IsTrue (read.steady new) → read.place new ≤ length (read.content new).bytes) → Walks old new
-  walks old front new back at begins on along inside =
+  walks old front new back begins on along inside =
       let same = same-later read old front new back on in
       record {
         same = same;
         stands = λ told steady.
-            along (back.tells ∙ told) (rw (at, back.content told) (begins told steady)) ∙ ap (from_place (read.place new)) (back.content told);
+            along (back.tells ∙ told) (rw (back.content told) (begins told steady)) ∙ ap (from_place (read.place new)) (back.content told);
         within = λ told steady. subst (λ s. read.place new ≤ length s.bytes) (same.content told) (inside (same.tells ∙ told) (same.steady ∙ steady));
       }
 

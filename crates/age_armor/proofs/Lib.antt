@@ -25,3 +25,5 @@ pub mod Keeping
 pub mod Aiming
 pub mod Forms
 pub mod Flushing
+pub mod Marking
+pub mod Resuming

@@ -13,6 +13,7 @@ pub mod Showing
 pub mod Refusing
 pub mod Counting
 pub mod Stages
+pub mod Marks
 pub mod Ahead
 pub mod ReaderLaws
 pub mod Ending

@@ -18,9 +18,12 @@ ghost use Rattle.age_armor.specs.declared.stages.Stage.TheVariants.{Binary};
 ghost use Rattle.age_armor.specs.Ahead.{outcome_ahead, rest_ahead, shown_ahead};
 ghost use Rattle.age_armor.specs.DeliveredLaws.{content_of, content_bytes, content_short, stands_by};
 ghost use Rattle.age_armor.specs.ReaderLaws.{spent_ahead, well_inner};
+ghost use Rattle.age_armor.specs.Marks.{Knows};
+ghost use Rattle.age_armor.specs.Seeking.{text_outcome};
 
 use crate::counted::Counted;
 use crate::decoding::Decoder;
+use crate::marks::Marks;
 use crate::stages::{Stage, advance};
 use age_error::io::Error;
 use age_io::{BufRead, BufReader, Read};
@@ -46,6 +49,7 @@ pub struct ArmoredReader<R: BufRead> {
     pub(crate) filled: usize,
     pub(crate) place: u64,
     pub(crate) failed: bool,
+    pub(crate) marks: Marks,
     ghost room: { length bytes ≡ 48 },
     ghost order: { given ≤ filled },
     ghost within: { filled ≤ 48 },
@@ -62,6 +66,12 @@ pub struct ArmoredReader<R: BufRead> {
         (rest_ahead failed bytes given filled stage (R.Read.rest source.inner) ≡ nothing → ⊥) →
         rest_ahead failed bytes given filled stage (R.Read.rest source.inner)
         ≡ from_place place (content_of (R.Read.content source.inner) (R.Read.place source.inner - source.taken)) },
+    ghost ends: { IsTrue (R.Read.tells source.inner) → IsTrue (R.Read.steady source.inner) →
+        (rest_ahead failed bytes given filled stage (R.Read.rest source.inner) ≡ nothing → ⊥) →
+        (outcome_ahead bytes given filled stage (R.Read.rest source.inner)).ending
+        ≡ (text_outcome (R.Read.content source.inner) (R.Read.place source.inner - source.taken)).ending },
+    ghost known: { IsTrue (R.Read.tells source.inner) → Knows (R.Read.steady source.inner)
+        (from_place (R.Read.place source.inner - source.taken) (R.Read.content source.inner)) marks },
 }
 
 impl<R: BufRead> Read for ArmoredReader<R> {
@@ -197,6 +207,7 @@ impl<R: BufRead> ArmoredReader<R> {
             filled: 0,
             place: 0,
             failed: false,
+            marks: Marks::new(alloc),
         })
     }
 
@@ -287,6 +298,7 @@ impl<R: BufRead> ArmoredReader<R> {
     {
         match self.source.read(buf) {
             Ok(count) => {
+                self.marks.learn(Stage::Binary, self.place, 0, count);
                 self.place = self.place.saturating_add(count as u64);
                 Ok(count)
             }
@@ -332,6 +344,7 @@ impl<R: BufRead> ArmoredReader<R> {
         }
         // Read apart: a refusal leaves the reader's bytes as they are.
         let mut bytes = self.bytes;
+        let taken = self.source.taken;
         match advance(
             &mut self.source,
             &self.decoder,
@@ -340,6 +353,7 @@ impl<R: BufRead> ArmoredReader<R> {
             &mut bytes,
         ) {
             Ok(piece) => {
+                self.marks.learn(self.stage, self.place, taken, piece.count);
                 self.bytes = bytes;
                 self.stage = piece.next;
                 self.given = 0;

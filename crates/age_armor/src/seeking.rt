@@ -12,7 +12,6 @@ ghost use Rattle.age_armor.specs.Stages.{IsNamed};
 
 use crate::counted::Counted;
 use crate::reader::ArmoredReader;
-use crate::stages::Stage;
 use age_error::io::{Error, SeekFrom};
 use age_io::{BufRead, Read, Seek, distance_back, is_outside, place_at, seek_retrying, unrefused};
 
@@ -36,29 +35,45 @@ fn from_end(len: u64, distance: i64) -> Result<u64, Error>
     }
 }
 
+// The distance from one place to another.
+fn distance(from: u64, to: u64) -> i64
+    requires from { from < 2 ^ 63 }
+    requires to { to < 2 ^ 63 }
+    ensures { (place : ℕ) → from ≤ place → place_by place result ≡ Some (place - from + to) }
+{
+    if from <= to {
+        (to - from) as i64
+    } else {
+        distance_back(from - to)
+    }
+}
+
 impl<R: BufRead + Seek> Counted<R> {
-    /// Goes back to where nothing had been taken.
+    /// Goes to where so many bytes of the text had been taken.
     #[tactic(auto, using(crate::proofs::AheadLines::ahead_none))]
-    pub(crate) fn rewind(&mut self) -> Result<(), Error>
+    pub(crate) fn go(&mut self, taken: u64) -> Result<(), Error>
         ensures goes { Goes ⟦<R as Read>⟧ (OrSeek (TriedAgain R.Read.refuses)) self.old.inner self.new.inner result }
-        ensures start { OnOk result (self.new.taken ≡ 0) }
+        ensures taken { OnOk result (self.new.taken ≡ taken) }
         ensures stays { OnErr result (self.new.taken ≡ self.old.taken) }
         ensures origin { IsTrue (R.Read.tells self.old.inner) →
             R.Read.place self.new.inner - self.new.taken ≡ R.Read.place self.old.inner - self.old.taken }
         ensures rest { IsTrue (R.Read.tells self.old.inner) → IsTrue (R.Read.steady self.old.inner) → OnOk result
-            (R.Read.rest self.new.inner ≡ from_place (R.Read.place self.old.inner - self.old.taken) (R.Read.content self.old.inner)) }
+            (R.Read.rest self.new.inner ≡ from_place (R.Read.place self.old.inner - self.old.taken + taken) (R.Read.content self.old.inner)) }
         ensures other { IfErr result (λ e. IsOutside e → ⊥) }
         ensures cause { IsTrue (R.Read.tells self.old.inner) → IsTrue (R.Read.content self.old.inner).ends_well →
+            R.Read.place self.old.inner - self.old.taken + taken ≤ length (R.Read.content self.old.inner).bytes →
             IfErr result (λ e. e ≢ OutOfMemory → IsQuiet (R.Read.faults self.old.inner) (R.Read.faults self.new.inner) → ⊥) }
     {
         self.left = 0;
-        if self.taken > i64::MAX as u64 {
+        if self.taken > i64::MAX as u64 || taken > i64::MAX as u64 {
             return Err(Error::TooLong);
         }
-        let back = distance_back(self.taken);
-        match seek_retrying(&mut self.inner, SeekFrom::Current(back)) {
+        match seek_retrying(
+            &mut self.inner,
+            SeekFrom::Current(distance(self.taken, taken)),
+        ) {
             Ok(_place) => {
-                self.taken = 0;
+                self.taken = taken;
                 Ok(())
             }
             Err(e) => Err(unrefused(e)),
@@ -69,32 +84,33 @@ impl<R: BufRead + Seek> Counted<R> {
 impl<R: BufRead + Seek> ArmoredReader<R> {
     ghost use Rattle.age_armor.specs.Reader.{inner_of, text_of, outcome_of, text_outcome_of, armored_content, armored_rest};
 
-    // Back to the front of the text.
-    fn restart(&mut self) -> Result<(), Error>
+    // Goes to the last mark that isn't after a place, or to the front of the text.
+    fn approach(&mut self, target: u64) -> Result<(), Error>
         ensures goes { let reader = ⟦<ArmoredReader<R> as Read>⟧ in Goes reader (OrSeek reader.refuses) self.old self.new result }
-        ensures front { OnOk result (self.new.place ≡ 0) }
+        ensures before { OnOk result (self.new.place ≤ target) }
         ensures same_text { IsTrue (R.Read.tells (inner_of self.old)) → text_of self.new ≡ text_of self.old }
         ensures stays { OnErr result (self.new.place ≡ self.old.place) }
         ensures good { OnOk result (self.new.failed ≡ false) }
         ensures fails { OnErr result (self.new.failed ≡ true) }
-        ensures outcome { IsTrue (R.Read.tells (inner_of self.old)) → IsTrue (R.Read.steady (inner_of self.old)) → OnOk result
-            (outcome_of self.new ≡ text_outcome_of self.old) }
+        ensures ending { IsTrue (R.Read.tells (inner_of self.old)) → IsTrue (R.Read.steady (inner_of self.old)) → OnOk result
+            ((outcome_of self.new).ending ≡ (text_outcome_of self.old).ending) }
         ensures rest { IsTrue (R.Read.tells (inner_of self.old)) → IsTrue (R.Read.steady (inner_of self.old)) → OnOk result
-            (armored_rest self.new ≡ from_place 0 (armored_content self.old)) }
+            (armored_rest self.new ≡ from_place self.new.place (armored_content self.old)) }
         ensures other { IfErr result (λ e. IsOutside e → ⊥) }
         ensures cause { IsTrue (R.Read.tells (inner_of self.old)) → IsTrue (R.Read.content (inner_of self.old)).ends_well →
             IfErr result (λ e. e ≢ OutOfMemory → IsQuiet (R.Read.faults (inner_of self.old)) (R.Read.faults (inner_of self.new)) → ⊥) }
     {
-        match self.source.rewind() {
+        let mark = self.marks.last(target);
+        match self.source.go(mark.taken) {
             Err(e) => {
                 self.failed = true;
                 Err(e)
             }
             Ok(()) => {
-                self.stage = Stage::Start;
+                self.stage = mark.stage;
                 self.given = 0;
                 self.filled = 0;
-                self.place = 0;
+                self.place = mark.place;
                 self.failed = false;
                 Ok(())
             }
@@ -144,7 +160,7 @@ impl<R: BufRead> ArmoredReader<R> {
 impl<R: BufRead + Seek> ArmoredReader<R> {
     ghost use Rattle.age_armor.specs.Reader.{inner_of, text_of, outcome_of, text_outcome_of, armored_content, armored_rest};
 
-    // Goes to a place from the front of the text.
+    // Goes to a place.
     fn go_to(&mut self, target: u64) -> Result<u64, Error>
         ensures goes { let reader = ⟦<ArmoredReader<R> as Read>⟧ in Goes reader (OrSeek reader.refuses) self.old self.new result }
         ensures missed { IfErr result (λ e. IsOutside e → AddsNoReason ⟦<ArmoredReader<R> as Read>⟧.refuses self.old self.new) }
@@ -162,7 +178,7 @@ impl<R: BufRead + Seek> ArmoredReader<R> {
         ensures ending { IsTrue (R.Read.tells (inner_of self.old)) → IsTrue (R.Read.steady (inner_of self.old)) → OnOk result
             ((outcome_of self.new).ending ≡ (text_outcome_of self.old).ending) }
     {
-        match self.restart() {
+        match self.approach(target) {
             Err(e) => return Err(e),
             Ok(()) => {}
         }
@@ -197,7 +213,7 @@ impl<R: BufRead + Seek> ArmoredReader<R> {
         ensures ending { IsTrue (R.Read.tells (inner_of self.old)) → IsTrue (R.Read.steady (inner_of self.old)) → OnOk result
             ((outcome_of self.new).ending ≡ (text_outcome_of self.old).ending) }
     {
-        match self.restart() {
+        match self.approach(u64::MAX) {
             Err(e) => return Err(e),
             Ok(()) => {}
         }

@@ -17,6 +17,8 @@ invariant_of-self g c =
       fits = c.requires.fits;
       inside = c.requires.inside;
       follows = λ told steady some. absurd (some (rest_failed before.bytes before.given before.filled before.stage (g.R.Read.rest before.source.inner)));
+      ends = λ told steady some. absurd (some (rest_failed before.bytes before.given before.filled before.stage (g.R.Read.rest before.source.inner)));
+      known = before.known;
     }
 
 pub returns-clause-rest : goal.returns-clause-rest

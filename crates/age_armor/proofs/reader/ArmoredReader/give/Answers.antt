@@ -1,4 +1,4 @@
-use Rattle.std.proofs.Common.{◌≡◌, ◌+◌, ◌-◌, ◌≤◌, arith, drop, take, length, length-take-le, sym, IsTrue, refl}
+use Rattle.std.proofs.Common.{◌≡◌, ◌∙◌, ◌+◌, ◌-◌, ◌≤◌, arith, drop, take, length, length-take-le, sym, IsTrue, refl}
 use Rattle.std.proofs.lemmas.Grind.{common_steps}
 use Rattle.age_io.specs.Reading.{StandsIn}
 use Rattle.age_io.specs.Buffering.{held}
@@ -6,6 +6,7 @@ use Rattle.age_io.proofs.Holding.{copied-held, length-held}
 use Rattle.age_armor.specs.Ahead.{rest_ahead}
 use Rattle.age_armor.specs.DeliveredLaws.{content_of, stands_by, stands_follows}
 use Rattle.age_armor.proofs.Ahead.{given_stands, gives_front, shown_further, ending_same}
+use Rattle.age_armor.proofs.Resuming.{some_before}
 use Rattle.age_armor.proofs.reader.ArmoredReader.give.Goals as goal
 
 pub invariant_of-self : goal.invariant_of-self
@@ -38,6 +39,10 @@ invariant_of-self g c =
       fits = λ told. omega (arith, before.counted told c.requires, place told, fits, before.source.behind told, g.met.R.Read.place_fits before.source.inner told);
       inside = λ told steady. (stands told steady).within;
       follows = λ told steady some. stands_follows content new c.saturating_add-self.result (stands told steady) some;
+      ends = λ told steady some.
+          ending_same before.bytes before.given before.filled (before.given + n) before.stage (reader.rest before.source.inner)
+          ∙ before.ends told steady (some_before rest new front d some);
+      known = before.known;
     }
 
 pub returns-clause-shown : goal.returns-clause-shown

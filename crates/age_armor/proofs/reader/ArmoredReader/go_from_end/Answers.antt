@@ -25,7 +25,7 @@ returns-in-Err-clause-named g c = λ told well own other quiet. absurd (c.in-Err
 pub returns-in-Err-walk-clause-goes : goal.returns-in-Err-walk-clause-goes
 returns-in-Err-walk-clause-goes g c =
     let back = c.in-Ok.ensures.goes.keeps in
-    goes-later _ _ _ c.args.self.now c.restart.new.self c.walk.new.self back.same back.narrows (seeks-plain c.args.self.now c.restart.new.self back.narrows)
+    goes-later _ _ _ c.args.self.now c.approach.new.self c.walk.new.self back.same back.narrows (seeks-plain c.args.self.now c.approach.new.self back.narrows)
     (goes-unrefused _ refuses_of _ _ c.in-Err-walk.e c.unrefused.result c.unrefused.ensures.kept (goes-seeking _ refuses_of _ _ _ c.in-Err-walk.ensures.goes))
 
 pub returns-in-Err-clause-missed : goal.returns-in-Err-clause-missed
@@ -42,7 +42,7 @@ returns-in-Err-from_end-clause-missed g c = λ refusal.
     armor-plain c.args.self.now c.walk.new.self (λ e h. c.in-Ok.ensures.goes.keeps.narrows e (c.in-Ok-walk.ensures.goes.keeps.narrows e h))
 
 pub returns-in-Err-from_end-clause-goes : goal.returns-in-Err-from_end-clause-goes
-returns-in-Err-from_end-clause-goes g c = goes-refused armored_reader _ c.args.self.now c.restart.new.self c.walk.new.self c.in-Err-from_end.e
+returns-in-Err-from_end-clause-goes g c = goes-refused armored_reader _ c.args.self.now c.approach.new.self c.walk.new.self c.in-Err-from_end.e
     c.in-Ok.ensures.goes.keeps.same c.in-Ok-walk.ensures.goes.keeps.same c.in-Err-from_end.ensures.other (inl c.in-Err-from_end.ensures.why)
 
 pub returns-in-Err-walk-clause-refused : goal.returns-in-Err-walk-clause-refused
@@ -58,11 +58,11 @@ returns-in-Err-walk-clause-named g c = λ told well own other quiet.
     let fine : c.in-Err-walk.e ≢ OutOfMemory = λ is. other (c.unrefused.ensures.same (λ refusal. rw is at refusal) ∙ is) in
     let calm = quiet_after _ _ _ back.faults last.goes.keeps.same.faults quiet in
     let named : IsNamed _ c.in-Err-walk.e =
-    subst (λ o. IsNamed o.ending c.in-Err-walk.e) (first.outcome told steady) (last.named (back.tells ∙ told) fine calm) in
+    subst (λ o. IsNamed o c.in-Err-walk.e) (first.ending told steady) (last.named (back.tells ∙ told) fine calm) in
     still_named _ _ c.in-Err-walk.e c.unrefused.result named c.unrefused.ensures.same
 
 pub returns-then-there-clause-goes : goal.returns-then-there-clause-goes
-returns-then-there-clause-goes g c = goes-refused armored_reader _ c.args.self.now c.restart.new.self c.walk.new.self TooLong
+returns-then-there-clause-goes g c = goes-refused armored_reader _ c.args.self.now c.approach.new.self c.walk.new.self TooLong
     c.in-Ok.ensures.goes.keeps.same c.in-Ok-walk.ensures.goes.keeps.same (λ device. device) (inl (inr (inl refl)))
 
 pub returns-then-there-clause-named : goal.returns-then-there-clause-named
@@ -79,7 +79,7 @@ returns-in-Err-from_end-clause-refused g c = λ told steady place refusal.
     let first = c.in-Ok.ensures in
     let back = first.goes.keeps.same in
     let last = c.in-Ok-walk.ensures in
-    let w = walks armored_reader before c.restart.new.self new back first.front first.rest last.goes.keeps.same last.rest new.inside in
+    let w = walks armored_reader before c.approach.new.self new back first.rest last.goes.keeps.same last.rest new.inside in
     let out = walks-out armored_reader before new w told steady (last.end (back.tells ∙ told) c.if-there.false).0 in
     let fits : new.place < 2 ^ 63 = new.fits (w.same.tells ∙ told) in
     let answer = from-end _ c.args.distance new.place _ (Err c.in-Err-from_end.e) (to_z-of_z {w = w64} c.ranges.distance) (c.from_end.ensures.exact fits) c.in-Err-from_end.is in
@@ -101,7 +101,7 @@ returns-else-target-len g c =
     let back = first.goes.keeps.same in
     let last = c.in-Ok-walk.ensures in
     let now = c.go_to.ensures in
-    let w = walks armored_reader before c.restart.new.self new back first.front first.rest last.goes.keeps.same last.rest new.inside in
+    let w = walks armored_reader before c.approach.new.self new back first.rest last.goes.keeps.same last.rest new.inside in
     let same = w.same in
     let narrows : AddsNoReason (TriedAgain refuses_of) before new = λ e h. first.goes.keeps.narrows e (last.goes.keeps.narrows e h) in
     let out : (IsTrue (armored_reader.tells before) → IsTrue (armored_reader.steady before) →
@@ -157,7 +157,7 @@ returns-then-target-len g c =
     let first = c.in-Ok.ensures in
     let back = first.goes.keeps.same in
     let last = c.in-Ok-walk.ensures in
-    let w = walks armored_reader before c.restart.new.self new back first.front first.rest last.goes.keeps.same last.rest new.inside in
+    let w = walks armored_reader before c.approach.new.self new back first.rest last.goes.keeps.same last.rest new.inside in
     let out : (IsTrue (armored_reader.tells before) → IsTrue (armored_reader.steady before) →
     IsTrue (armored_content before).ends_well × (new.place ≡ length (armored_content before).bytes)) = λ told steady.
     walks-out armored_reader before new w told steady (last.end (back.tells ∙ told) c.if-there.false).0 in
@@ -177,5 +177,5 @@ returns-then-target-len g c =
       refused = λ told steady place. tt;
       named = λ told well. tt;
       same_text = λ told. last.same_text (back.tells ∙ told) ∙ first.same_text told;
-      ending = λ told steady. last.ending (back.tells ∙ told) ∙ ap (λ o. o.ending) (first.outcome told steady);
+      ending = λ told steady. last.ending (back.tells ∙ told) ∙ first.ending told steady;
     }

@@ -1,4 +1,4 @@
-use Rattle.std.proofs.Common.{◌≡◌, ◌≢◌, ◌∙◌, ◌<◌, ◌≤◌, arith, length, ap, subst, refl, inl}
+use Rattle.std.proofs.Common.{◌≡◌, ◌≢◌, ◌∙◌, ◌<◌, ◌≤◌, arith, length, ap, sym, subst, refl, inl}
 use Rattle.age_error.specs.declared.io.Error.TheVariants.{OutOfMemory, PastEnd}
 use Rattle.age_io.specs.Stretch.{from_place}
 use Rattle.age_io.proofs.Keeping.{keeps-done}
@@ -18,7 +18,7 @@ returns-in-Err-clause-named g c = λ told well own other quiet. absurd (c.in-Err
 pub returns-in-Err-walk-clause-goes : goal.returns-in-Err-walk-clause-goes
 returns-in-Err-walk-clause-goes g c =
     let back = c.in-Ok.ensures.goes.keeps in
-    goes-later _ _ _ c.args.self.now c.restart.new.self c.walk.new.self back.same back.narrows (seeks-plain c.args.self.now c.restart.new.self back.narrows)
+    goes-later _ _ _ c.args.self.now c.approach.new.self c.walk.new.self back.same back.narrows (seeks-plain c.args.self.now c.approach.new.self back.narrows)
     (goes-unrefused _ refuses_of _ _ c.in-Err-walk.e c.unrefused.result c.unrefused.ensures.kept (goes-seeking _ refuses_of _ _ _ c.in-Err-walk.ensures.goes))
 
 pub returns-in-Err-walk-clause-past : goal.returns-in-Err-walk-clause-past
@@ -27,7 +27,7 @@ returns-in-Err-walk-clause-past g c = λ told steady refusal. absurd (c.unrefuse
 pub returns-in-Err-walk-clause-named : goal.returns-in-Err-walk-clause-named
 returns-in-Err-walk-clause-named g c = λ told well own other quiet.
     let before = c.args.self.now in
-    let middle = c.restart.new.self in
+    let middle = c.approach.new.self in
     let first = c.in-Ok.ensures in
     let back = first.goes.keeps.same in
     let last = c.in-Err-walk.ensures in
@@ -36,9 +36,10 @@ returns-in-Err-walk-clause-named g c = λ told well own other quiet.
     let fine : c.in-Err-walk.e ≢ OutOfMemory = λ is. other (c.unrefused.ensures.same (λ refusal. rw is at refusal) ∙ is) in
     let calm = quiet_after _ _ _ back.faults last.goes.keeps.same.faults quiet in
     let same : armored_content middle ≡ armored_content before = back.content told in
-    let stands : armored_rest middle ≡ from_place middle.place (armored_content middle) = rw (first.front, same) (first.rest told steady) in
+    let stands : armored_rest middle ≡ from_place middle.place (armored_content middle) =
+    first.rest told steady ∙ ap (from_place middle.place) (sym same) in
     let short = last.short told_middle (back.steady ∙ steady) stands fine calm in
-    let named : IsNamed _ c.in-Err-walk.e = subst (λ o. IsNamed o.ending c.in-Err-walk.e) (first.outcome told steady) (last.named told_middle fine calm) in (
+    let named : IsNamed _ c.in-Err-walk.e = subst (λ o. IsNamed o c.in-Err-walk.e) (first.ending told steady) (last.named told_middle fine calm) in (
       still_named _ _ c.in-Err-walk.e c.unrefused.result named c.unrefused.ensures.same,
       subst (λ s. length s.bytes < c.args.target) same short.1,
     )
@@ -49,7 +50,7 @@ returns-then-there g c =
     let first = c.in-Ok.ensures in
     let back = first.goes.keeps.same in
     let last = c.in-Ok-walk.ensures in
-    let w = walks armored_reader before c.restart.new.self c.walk.new.self back first.front first.rest last.goes.keeps.same last.rest c.walk.new.self.inside in
+    let w = walks armored_reader before c.approach.new.self c.walk.new.self back first.rest last.goes.keeps.same last.rest c.walk.new.self.inside in
     record {
       goes = record { keeps = keeps-done _ _ _ _ w.same (λ e h. first.goes.keeps.narrows e (last.goes.keeps.narrows e h)); unspent = last.goes.unspent };
       missed = tt;
@@ -64,11 +65,11 @@ returns-then-there g c =
       past = λ told steady. tt;
       named = λ told well. tt;
       same_text = λ told. last.same_text (back.tells ∙ told) ∙ first.same_text told;
-      ending = λ told steady. last.ending (back.tells ∙ told) ∙ ap (λ o. o.ending) (first.outcome told steady);
+      ending = λ told steady. last.ending (back.tells ∙ told) ∙ first.ending told steady;
     }
 
 pub returns-else-there-clause-goes : goal.returns-else-there-clause-goes
-returns-else-there-clause-goes g c = goes-refused armored_reader _ c.args.self.now c.restart.new.self c.walk.new.self PastEnd
+returns-else-there-clause-goes g c = goes-refused armored_reader _ c.args.self.now c.approach.new.self c.walk.new.self PastEnd
     c.in-Ok.ensures.goes.keeps.same c.in-Ok-walk.ensures.goes.keeps.same (λ device. device) (inl (inl tt))
 
 pub returns-in-Err-clause-missed : goal.returns-in-Err-clause-missed
@@ -89,7 +90,7 @@ returns-else-there-clause-past g c = λ told steady refusal.
     let back = first.goes.keeps.same in
     let last = c.in-Ok-walk.ensures in
     let end = last.end (back.tells ∙ told) c.if-there.false in
-    let w = walks armored_reader before c.restart.new.self new back first.front first.rest last.goes.keeps.same last.rest new.inside in
+    let w = walks armored_reader before c.approach.new.self new back first.rest last.goes.keeps.same last.rest new.inside in
     let out = walks-out armored_reader before new w told steady end.0 in
     let at : new.place ≡ length (armored_content before).bytes = out.1 in
     (out.0, omega (arith, at, end.1), refl)

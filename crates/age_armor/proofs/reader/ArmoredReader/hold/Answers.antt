@@ -1,11 +1,13 @@
-use Rattle.std.proofs.Common.{◌≡◌, ◌∙◌, ◌-◌, ◌≤◌, [], arith, length, sym, ap, subst, IsTrue}
+use Rattle.std.proofs.Common.{◌≡◌, ◌∙◌, ◌-◌, ◌≤◌, [], arith, length, length-take-le, take, sym, ap, subst, IsTrue}
 use Rattle.std.proofs.lemmas.Bool.{true≢false}
 use Rattle.age_io.specs.Reading.{StandsIn}
 use Rattle.age_armor.specs.Ahead.{rest_ahead, shown_ahead}
 use Rattle.age_armor.specs.DeliveredLaws.{content_of, stands_by, stands_follows}
 use Rattle.age_armor.proofs.Keeping.{same-text, armor-done, armor-refused}
 use Rattle.age_armor.proofs.Ahead.{kept_stands, rest_failed, hold_rest, hold_ending, hold_end, hold_fault, hold_named, ended_clean, shown_none}
-use Rattle.age_armor.specs.Stages.{is_armored}
+use Rattle.age_armor.specs.Delivered.{delivered}
+use Rattle.age_armor.specs.Stages.{is_start, is_armored}
+use Rattle.age_armor.proofs.Resuming.{knows_later, resumes_line, length_at_end}
 use Rattle.age_armor.proofs.Forms.{form_held, form_kept}
 use Rattle.age_armor.proofs.reader.ArmoredReader.hold.Goals as goal
 
@@ -53,6 +55,26 @@ invariant_of-self g c =
       fits = λ told. before.fits (same.told told);
       inside = λ told steady. (stands told steady).within;
       follows = λ told steady some. stands_follows other new before.place (stands told steady) some;
+      ends = λ told steady some.
+          hold_ending before.bytes bytes before.given before.filled piece.count before.stage piece.next (reader.rest before.source.inner) (reader.rest source.inner)
+          (now.bytes (same.told told))
+          ∙ before.ends (same.told told) (same.steady steady) (λ gone. some (kept told ∙ gone)) ∙ sym (ap (λ t. (delivered t.bytes t.ends_well).ending) (same.text told));
+      known = λ told.
+          let told_before = same.told told in
+          let front = take piece.count bytes in
+          let size : length front ≡ piece.count = length-take-le piece.count bytes (omega (arith, now.fits, c.advance.array_long)) in
+          knows_later (reader.steady before.source.inner) _ _ _ _ same.steady (same.text told)
+          (c.learn.ensures (reader.steady before.source.inner) _ (before.known told_before)
+          (λ none steady. length_at_end (reader.content before.source.inner) rest _ before.place
+          (hold_end before.failed before.bytes before.given before.filled before.stage (reader.rest before.source.inner) c.requires all empty (now.end told_before none))
+          (before.inside told_before steady) (before.follows told_before steady))
+          (λ some lines. (
+            omega (arith, before.counted told_before c.requires, empty, before.order),
+            λ steady. resumes_line (reader.content before.source.inner) (reader.rest before.source.inner) _ before.source.taken before.place before.bytes before.given before.filled
+            before.stage _ front lines (before.source.behind told_before) (g.met.R.Read.stands before.source.inner told_before steady) all empty (now.bytes told_before)
+            (omega (arith, size, some)) (before.inside told_before steady) (rw c.requires at (before.follows told_before steady)) (rw c.requires at (before.ends told_before steady))
+            (before.form told_before steady (ap is_start lines)),
+          )));
     }
 
 pub invariant_of-self-in-Err : goal.invariant_of-self-in-Err
@@ -74,6 +96,8 @@ invariant_of-self-in-Err g c =
       fits = λ told. before.fits (same.told told);
       inside = λ told steady. subst (λ s. before.place ≤ length s.bytes) (sym (same.content told)) (before.inside (same.told told) (same.steady steady));
       follows = λ told steady some. absurd (some (rest_failed before.bytes before.given before.filled before.stage (reader.rest source.inner)));
+      ends = λ told steady some. absurd (some (rest_failed before.bytes before.given before.filled before.stage (reader.rest source.inner)));
+      known = λ told. knows_later _ _ _ _ _ same.steady (same.text told) (before.known (same.told told));
     }
 
 pub returns-in-Ok-clause-rest : goal.returns-in-Ok-clause-rest

@@ -1,4 +1,4 @@
-use Rattle.std.proofs.Common.{◌≡◌, ◌-◌, ◌^◌, ◌<◌, ◌≤◌, ◌∙◌, arith, refl, IsTrue, false}
+use Rattle.std.proofs.Common.{◌≡◌, ◌-◌, ◌^◌, ◌<◌, ◌≤◌, ◌∙◌, arith, ap, refl, IsTrue, false}
 use Rattle.std.proofs.lemmas.Bool.{true≢false}
 use Rattle.age_io.specs.Reading.{StandsIn}
 use Rattle.age_armor.specs.declared.stages.Stage.TheVariants.{Start}
@@ -7,6 +7,9 @@ use Rattle.age_armor.specs.DeliveredLaws.{content_of, stands_follows}
 use Rattle.age_armor.proofs.Ahead.{starts, starts_rest, starts_outcome, starts_shown}
 use Rattle.age_armor.proofs.AheadLines.{ahead_none}
 use Rattle.age_armor.proofs.Whole.{rest_carries, carried_rest}
+use Rattle.age_io.specs.Stretch.{from_place}
+use Rattle.age_armor.specs.Delivered.{delivered}
+use Rattle.age_armor.proofs.Resuming.{starts_at}
 use Rattle.age_armor.proofs.reader.ArmoredReader.new_buffered.Goals as goal
 
 pub invariant_of-result-2 : goal.invariant_of-result-2
@@ -31,6 +34,10 @@ invariant_of-result-2 g c =
       fits = λ told. let h : 0 < 2 ^ 63 = omega arith in h;
       inside = λ told steady. (stands told steady).within;
       follows = λ told steady some. stands_follows content rest 0 (stands told steady) some;
+      ends = λ told steady some.
+          let at : reader.rest inner ≡ from_place place (reader.content inner) = starts_at (reader.content inner) (reader.rest inner) place _ (rw zero (g.met.R.Read.stands inner told steady)) some in
+          ap (λ o. o.ending) (starts_outcome _ (reader.rest inner)) ∙ ap (λ s. (delivered s.bytes s.ends_well).ending) at;
+      known = λ told. c.new-3.ensures (reader.steady inner) _;
     }
 
 pub returns-clause-shown : goal.returns-clause-shown

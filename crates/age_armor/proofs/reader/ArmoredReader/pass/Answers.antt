@@ -6,6 +6,8 @@ use Rattle.age_armor.specs.DeliveredLaws.{content_of, stands_by, stands_follows}
 use Rattle.age_armor.proofs.Keeping.{same-text, armor-done, armor-refused}
 use Rattle.age_armor.proofs.Ahead.{given_stands, rest_failed, pass_delivers, pass_end, pass_fault, pass_named, pass_ending, shown_none}
 use Rattle.age_armor.specs.Stages.{is_start, is_armored}
+use Rattle.age_armor.specs.Delivered.{delivered}
+use Rattle.age_armor.proofs.Resuming.{knows_later, some_before, length_at_end, not_binary}
 use Rattle.age_armor.proofs.Forms.{form_kept}
 use Rattle.age_armor.proofs.reader.ArmoredReader.pass.Goals as goal
 
@@ -42,6 +44,20 @@ invariant_of-self g c =
       fits = λ told. omega (arith, before.counted (same.told told) c.requires.good, place told, now.taken (same.told told), source.behind told, g.met.R.Read.place_fits source.inner told);
       inside = λ told steady. (stands told steady).within;
       follows = λ told steady some. stands_follows other new c.saturating_add-self.result (stands told steady) some;
+      ends = λ told steady some.
+          let told_before = same.told told in
+          pass_ending before.bytes _ before.given before.filled before.stage _ _ c.requires.binary (now.bytes told_before)
+          ∙ before.ends told_before (same.steady steady) (some_before rest new front
+          (pass_delivers before.failed before.bytes front before.given before.filled before.stage _ _ c.requires.good c.requires.binary all c.requires.given (now.bytes told_before)) some)
+          ∙ sym (ap (λ t. (delivered t.bytes t.ends_well).ending) (same.text told));
+      known = λ told.
+          let told_before = same.told told in
+          knows_later (reader.steady before.source.inner) _ _ _ _ same.steady (same.text told)
+          (c.learn.ensures (reader.steady before.source.inner) _ (before.known told_before)
+          (λ none steady. length_at_end (reader.content before.source.inner) rest _ before.place
+          (pass_end before.failed before.bytes before.given before.filled before.stage _ c.requires.good c.requires.binary all c.requires.given (now.end told_before none))
+          (before.inside told_before steady) (before.follows told_before steady))
+          (λ some lines. not_binary lines));
     }
 
 pub returns-in-Ok-clause-bytes : goal.returns-in-Ok-clause-bytes
@@ -91,6 +107,8 @@ invariant_of-self-in-Err g c =
       fits = λ told. before.fits (same.told told);
       inside = λ told steady. subst (λ s. before.place ≤ length s.bytes) (sym (same.content told)) (before.inside (same.told told) (same.steady steady));
       follows = λ told steady some. absurd (some (rest_failed before.bytes before.given before.filled before.stage (reader.rest source.inner)));
+      ends = λ told steady some. absurd (some (rest_failed before.bytes before.given before.filled before.stage (reader.rest source.inner)));
+      known = λ told. knows_later _ _ _ _ _ same.steady (same.text told) (before.known (same.told told));
     }
 
 pub returns-in-Ok-clause-shown : goal.returns-in-Ok-clause-shown

@@ -1,9 +1,10 @@
-use Rattle.std.proofs.Common.{inl, inr, ◌≡◌, ◌+◌, ◌-◌, ◌≤◌, arith, take, length, IsTrue, refl}
+use Rattle.std.proofs.Common.{inl, inr, ◌≡◌, ◌∙◌, ◌+◌, ◌-◌, ◌≤◌, arith, take, length, IsTrue, refl}
 use Rattle.std.proofs.lemmas.Bool.{cases_Bool}
 use Rattle.age_io.specs.Reading.{StandsIn}
 use Rattle.age_armor.specs.Ahead.{rest_ahead, shown_ahead}
 use Rattle.age_armor.specs.DeliveredLaws.{content_of, stands_by, stands_follows}
 use Rattle.age_armor.proofs.Ahead.{given_stands, gives_shown, shown_fits, shown_gone, length_shown, shown_further, ending_same}
+use Rattle.age_armor.proofs.Resuming.{some_before}
 use Rattle.age_armor.proofs.reader.ArmoredReaderBufRead.consume.Goals as goal
 
 pub overflow_add-self : goal.overflow_add-self
@@ -45,6 +46,10 @@ invariant_of-self g c =
       ];
       inside = λ told steady. (stands told steady).within;
       follows = λ told steady some. stands_follows content new c.saturating_add-self.result (stands told steady) some;
+      ends = λ told steady some.
+          ending_same before.bytes before.given before.filled (before.given + n) before.stage (reader.rest before.source.inner)
+          ∙ before.ends told steady (some_before rest new _ d some);
+      known = before.known;
     }
 
 pub returns-clause-consumes : goal.returns-clause-consumes

@@ -1,0 +1,108 @@
+-- What a reader knows of its text, and how it is read on from a mark.
+use Rattle.std.proofs.Common.{◌≡◌, ◌∙◌, ℕ, ◌+◌, ◌-◌, ◌<◌, ◌≤◌, Bool, true, false, IsTrue, List, [], ◌++◌, length, take, drop, refl, arith, ap, sym, subst, length-append, length-drop, inl, inr}
+use Rattle.std.proofs.lemmas.Bool.{true≢false}
+use Rattle.std.proofs.lemmas.List.{drop-drop, nil_from_length}
+use Rattle.age_io.specs.Stretch.{Stretch, nothing, from_place, stretch-ext, IsCleanEnd}
+use Rattle.age_io.specs.Reading.{Delivers, StandsIn}
+use Rattle.age_io.specs.BehindLaws.{held-empty}
+use Rattle.age_armor.specs.declared.marks.Marks.{Marks}
+use Rattle.age_armor.specs.declared.stages.Stage.{Stage}
+use Rattle.age_armor.specs.declared.stages.Stage.TheVariants.{Start, Binary, Lines}
+use Rattle.age_armor.specs.Stages.{ahead, Advances, is_armored}
+use Rattle.age_armor.specs.Ahead.{outcome_ahead, rest_ahead}
+use Rattle.age_armor.specs.Delivered.{Outcome, prepend, stretch_of, delivered, begins_armor}
+use Rattle.age_armor.specs.DeliveredLaws.{content_of, stands_follows}
+use Rattle.age_armor.specs.Marks.{Resumes, IsLength, CanResume, Knows, carried}
+use Rattle.age_armor.specs.ReaderLaws.{nothing_delivered}
+use Rattle.age_armor.proofs.Walking.{ends_at}
+
+-- what is known stays known of the same text
+pub knows_later : (old new : Bool) (text same : Stretch) (marks : Marks) → (IsTrue new → IsTrue old) → same ≡ text → Knows old text marks → Knows new same marks
+knows_later old new text same marks steady is knows = rw is (record {
+  each = λ index taken at. let mark = knows.each index taken at in (mark.0, λ now. mark.1 (steady now));
+  end = λ n at now. knows.end n at (steady now);
+})
+
+-- where something is left after bytes that were read, something was left before them
+pub some_before : (rest new : Stretch) (front : List ℕ) → Delivers front rest new → (new ≡ nothing → ⊥) → rest ≡ nothing → ⊥
+some_before rest new front d some gone =
+    let none : [] ≡ front ++ new.bytes = ap (λ s. s.bytes) (sym gone) ∙ d.bytes in
+    some (stretch-ext new nothing (nil_from_length new.bytes (omega (arith, ap length none, length-append front new.bytes))) (d.end ∙ ap (λ s. s.ends_well) gone))
+
+-- the text behind the bytes that were taken is the content behind the place
+pub behind_taken : (content : Stretch) (place taken : ℕ) → taken ≤ place → from_place taken (from_place (place - taken) content) ≡ from_place place content
+behind_taken content place taken behind =
+    let origin : place - taken + taken ≡ place = omega (arith, behind) in
+    ap (λ bytes. stretch bytes content.ends_well) (drop-drop taken (place - taken) content.bytes ∙ ap (λ n. drop n content.bytes) origin)
+  where
+    stretch : List ℕ → Bool → Stretch
+    stretch bytes ends_well = record { bytes = bytes; ends_well = ends_well }
+
+-- ---- a line that was read can be read again
+
+module _ (content rest : Stretch) (at taken : ℕ) (place : ℕ) (bytes : List ℕ) (given filled : ℕ) where
+  pub resumes_line : (stage : Stage) (after : Outcome) (front : List ℕ) → stage ≡ Lines false → taken ≤ at → StandsIn content at rest → filled ≤ length bytes → filled ≤ given →
+      Advances (ahead stage rest) front after → 0 < length front → place ≤ length (content_of content (at - taken)).bytes →
+      ((rest_ahead false bytes given filled stage rest ≡ nothing → ⊥) → rest_ahead false bytes given filled stage rest ≡ from_place place (content_of content (at - taken))) →
+      ((rest_ahead false bytes given filled stage rest ≡ nothing → ⊥) →
+      (outcome_ahead bytes given filled stage rest).ending ≡ (delivered (drop (at - taken) content.bytes) content.ends_well).ending) →
+      is_armored stage ≡ begins_armor (from_place (at - taken) content).bytes →
+      Resumes (from_place (at - taken) content) (Lines false) place taken
+  unfolding rest_ahead outcome_ahead
+  resumes_line stage after front lines behind stands full empty advances some within follows ends form =
+      let none = held-empty bytes given filled full empty in
+      let bytes_ahead : (ahead (Lines false) rest).bytes ≡ front ++ after.bytes = ap (λ o. o.bytes) (subst (λ s. ahead s rest ≡ prepend front after) lines advances.same) in
+      let left : (stretch_of (ahead (Lines false) rest) ≡ nothing → ⊥) = λ gone.
+      let no_bytes : [] ≡ front ++ after.bytes = ap (λ s. s.bytes) (sym gone) ∙ bytes_ahead in
+      omega (arith, ap length no_bytes, length-append front after.bytes, some) in
+      let here : rest ≡ from_place at content = stands_follows content rest at stands (λ gone. left (rw gone refl)) in
+      let same : from_place taken (from_place (at - taken) content) ≡ rest = behind_taken content at taken behind ∙ sym here in
+      record {
+        rest = ap (λ s. stretch_of (ahead (Lines false) s)) same ∙ (rw (lines, none) at follows) left;
+        ending = ap (λ s. (ahead (Lines false) s).ending) same ∙ (rw (lines, none) at ends) left;
+        within = within;
+        reaches = omega (arith, length-drop (at - taken) content.bytes, stands.within, behind);
+        form = λ begun. rw lines at form;
+      }
+
+-- ---- the end of a text
+
+pub length_at_end : (content rest : Stretch) (origin place : ℕ) → IsCleanEnd rest → place ≤ length (content_of content origin).bytes →
+    ((rest ≡ nothing → ⊥) → rest ≡ from_place place (content_of content origin)) → IsLength (from_place origin content) place
+length_at_end content rest origin place clean within follows =
+    let some : (rest ≡ nothing → ⊥) = λ gone. true≢false (sym clean.ends_well ∙ ap (λ s. s.ends_well) gone) in
+    let end = ends_at (content_of content origin) rest place (follows some) clean within in
+    record { well = end.0; same = end.1 }
+
+-- a line of armor isn't binary
+pub not_binary : {X : Type 0} → Binary ≡ Lines false → X
+not_binary is = absurd (true≢false (sym (ap is_armored is)))
+
+-- ---- a new reader
+
+pub starts_at : (content rest : Stretch) (place : ℕ) (bytes : List ℕ) → StandsIn content place rest → (rest_ahead false bytes 0 0 Start rest ≡ nothing → ⊥) →
+    rest ≡ from_place place content
+unfolding rest_ahead
+starts_at content rest place bytes stands some =
+    stands_follows content rest place stands (λ gone. some (ap (λ s. stretch_of (delivered s.bytes s.ends_well)) gone ∙ nothing_delivered))
+
+-- ---- a reader that is taken to a mark
+
+-- behind the front and so many bytes, or behind these bytes of the text
+along_text : (content : Stretch) (origin taken : ℕ) → from_place (origin + taken) content ≡ from_place taken (from_place origin content)
+along_text content origin taken = ap (λ bytes. stretch bytes content.ends_well) (sym (drop-drop taken origin content.bytes))
+  where
+    stretch : List ℕ → Bool → Stretch
+    stretch bytes ends_well = record { bytes = bytes; ends_well = ends_well }
+
+pub resumed_rest : (content rest : Stretch) (origin place taken : ℕ) (stage : Stage) (bytes : List ℕ) → Resumes (from_place origin content) stage place taken →
+    rest ≡ from_place (origin + taken) content → rest_ahead false bytes 0 0 stage rest ≡ from_place place (content_of content origin)
+unfolding rest_ahead
+resumed_rest content rest origin place taken stage bytes resumes here =
+    ap (λ s. stretch_of (ahead stage s)) (here ∙ along_text content origin taken) ∙ resumes.rest
+
+pub resumed_ending : (content rest : Stretch) (origin place taken : ℕ) (stage : Stage) (bytes : List ℕ) → Resumes (from_place origin content) stage place taken →
+    rest ≡ from_place (origin + taken) content → (outcome_ahead bytes 0 0 stage rest).ending ≡ (delivered (drop origin content.bytes) content.ends_well).ending
+unfolding outcome_ahead
+resumed_ending content rest origin place taken stage bytes resumes here =
+    ap (λ s. (ahead stage s).ending) (here ∙ along_text content origin taken) ∙ resumes.ending

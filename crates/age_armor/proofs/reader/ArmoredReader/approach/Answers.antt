@@ -1,0 +1,102 @@
+use Rattle.std.proofs.Common.{◌∙◌, ◌≡◌, ◌-◌, ◌+◌, ◌^◌, ◌<◌, ◌≤◌, arith, length, length-drop, sym, ap, subst, refl, IsTrue}
+use Rattle.std.proofs.lemmas.Bool.{true≢false}
+use Rattle.age_io.specs.Stretch.{from_place}
+use Rattle.age_armor.specs.Delivered.{delivered}
+use Rattle.age_armor.specs.Marks.{CanResume}
+use Rattle.age_armor.specs.Stages.{is_armored}
+use Rattle.age_armor.proofs.Keeping.{same-text, rewound, rewind-refused}
+use Rattle.age_armor.proofs.Ahead.{rest_failed}
+use Rattle.age_armor.proofs.Forms.{form_kept}
+use Rattle.age_armor.proofs.Resuming.{knows_later, resumed_rest, resumed_ending}
+use Rattle.age_armor.proofs.reader.ArmoredReader.approach.Goals as goal
+
+pub invariant_of-self : goal.invariant_of-self
+invariant_of-self g c =
+    let before = c.args.self.now in
+    let reader = g.R.Read in
+    let now = c.in-Err.ensures in
+    let source = c.go.new.self in
+    let same = same-text reader before.source.inner before.source.taken source.inner source.taken now.goes.keeps.same now.origin in
+    record {
+      room = before.room;
+      order = before.order;
+      within = before.within;
+      fresh = before.fresh;
+      untaken = λ good. absurd (true≢false good);
+      form = λ told steady begun. form_kept (is_armored before.stage) _ _ (before.form (same.told told) (same.steady steady) begun) (same.text told);
+      unspent = λ good. absurd (true≢false good);
+      counted = λ told good. absurd (true≢false good);
+      fits = λ told. before.fits (same.told told);
+      inside = λ told steady. subst (λ s. before.place ≤ length s.bytes) (sym (same.content told)) (before.inside (same.told told) (same.steady steady));
+      follows = λ told steady some. absurd (some (rest_failed before.bytes before.given before.filled before.stage (reader.rest source.inner)));
+      ends = λ told steady some. absurd (some (rest_failed before.bytes before.given before.filled before.stage (reader.rest source.inner)));
+      known = λ told. knows_later _ _ _ _ _ same.steady (same.text told) (before.known (same.told told));
+    }
+
+pub invariant_of-self-in-Ok : goal.invariant_of-self-in-Ok
+invariant_of-self-in-Ok g c =
+    let before = c.args.self.now in
+    let reader = g.R.Read in
+    let now = c.in-Ok.ensures in
+    let source = c.go.new.self in
+    let mark = c.last-mark.result in
+    let origin = reader.place before.source.inner - before.source.taken in
+    let content = reader.content before.source.inner in
+    let steady_then = reader.steady before.source.inner in
+    let same = same-text reader before.source.inner before.source.taken source.inner source.taken now.goes.keeps.same now.origin in
+    let can : (IsTrue (reader.tells source.inner) → CanResume steady_then (from_place origin content) mark.stage mark.place mark.taken) = λ told.
+    c.last-mark.ensures.each steady_then (from_place origin content) (before.known (same.told told)) in
+    record {
+      room = before.room;
+      order = let h : 0 ≤ 0 = omega arith in h;
+      within = let h : 0 ≤ 48 = omega arith in h;
+      fresh = λ start. refl;
+      untaken = λ good start. now.taken ∙ c.last-mark.ensures.front start;
+      form = λ told steady begun. form_kept (is_armored mark.stage) _ _ (((can told).1 (same.steady steady)).form begun) (same.text told);
+      unspent = λ good begun. now.goes.unspent;
+      counted = λ told good. omega (arith, (can told).0, now.taken);
+      fits = λ told. omega (arith, (can told).0, now.taken, source.behind told, g.met.R.Read.place_fits source.inner told);
+      inside = λ told steady. subst (λ s. mark.place ≤ length s.bytes) (sym (same.content told)) ((can told).1 (same.steady steady)).within;
+      follows = λ told steady some.
+          resumed_rest content (reader.rest source.inner) origin mark.place mark.taken mark.stage before.bytes ((can told).1 (same.steady steady))
+          (now.rest (same.told told) (same.steady steady)) ∙ ap (from_place mark.place) (sym (same.content told));
+      ends = λ told steady some.
+          resumed_ending content (reader.rest source.inner) origin mark.place mark.taken mark.stage before.bytes ((can told).1 (same.steady steady))
+          (now.rest (same.told told) (same.steady steady)) ∙ sym (ap (λ t. (delivered t.bytes t.ends_well).ending) (same.text told));
+      known = λ told. knows_later _ _ _ _ _ same.steady (same.text told) (before.known (same.told told));
+    }
+
+pub returns-in-Ok-clause-ending : goal.returns-in-Ok-clause-ending
+returns-in-Ok-clause-ending g c = λ told steady.
+    let before = c.args.self.now in
+    let reader = g.R.Read in
+    let origin = reader.place before.source.inner - before.source.taken in
+    let can = c.last-mark.ensures.each (reader.steady before.source.inner) (from_place origin (reader.content before.source.inner)) (before.known told) in
+    resumed_ending (reader.content before.source.inner) (reader.rest c.go.new.self.inner) origin c.last-mark.result.place c.last-mark.result.taken c.last-mark.result.stage before.bytes (can.1 steady)
+    (c.in-Ok.ensures.rest told steady)
+
+pub returns-in-Ok-clause-rest : goal.returns-in-Ok-clause-rest
+returns-in-Ok-clause-rest g c = λ told steady.
+    let before = c.args.self.now in
+    let reader = g.R.Read in
+    let origin = reader.place before.source.inner - before.source.taken in
+    let can = c.last-mark.ensures.each (reader.steady before.source.inner) (from_place origin (reader.content before.source.inner)) (before.known told) in
+    resumed_rest (reader.content before.source.inner) (reader.rest c.go.new.self.inner) origin c.last-mark.result.place c.last-mark.result.taken c.last-mark.result.stage before.bytes (can.1 steady)
+    (c.in-Ok.ensures.rest told steady)
+
+pub returns-in-Ok-clause-goes : goal.returns-in-Ok-clause-goes
+returns-in-Ok-clause-goes g c = rewound _ _ c.in-Ok.ensures.goes c.in-Ok.ensures.origin refl
+
+pub returns-in-Err-clause-goes : goal.returns-in-Err-clause-goes
+returns-in-Err-clause-goes g c = rewind-refused _ _ c.in-Err.e c.in-Err.ensures.goes c.in-Err.ensures.origin
+
+pub returns-in-Err-clause-cause : goal.returns-in-Err-clause-cause
+returns-in-Err-clause-cause g c = λ told well.
+    let before = c.args.self.now in
+    let reader = g.R.Read in
+    let origin = reader.place before.source.inner - before.source.taken in
+    let content = reader.content before.source.inner in
+    let steady = g.met.R.Read.well before.source.inner told well in
+    let can = c.last-mark.ensures.each (reader.steady before.source.inner) (from_place origin content) (before.known told) in
+    c.in-Err.ensures.cause told well
+    (omega (arith, (can.1 steady).reaches, length-drop origin content.bytes, (g.met.R.Read.stands before.source.inner told steady).within))
