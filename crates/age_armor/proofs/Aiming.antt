@@ -1,5 +1,5 @@
 -- Where a seek in a text leads, over plain variables.
-use Rattle.std.proofs.Common.{◌≡◌, ◌≢◌, ◌⊎◌, ◌∙◌, ℕ, ◌<◌, ◌≤◌, ℤ, Bool, true, false, IsTrue, Result, Ok, Err, IfOk, OnOk, Option, Some, None, length, arith, sym, ap, subst, refl, inl, inr, nat_le, if◌then◌else◌, le-leb, leb-true}
+use Rattle.std.proofs.Common.{◌≡◌, ◌≢◌, ◌⊎◌, ◌∙◌, ℕ, ◌^◌, ◌<◌, ◌≤◌, ℤ, Bool, true, false, IsTrue, Result, Ok, Err, IfOk, OnOk, Option, Some, None, length, arith, sym, ap, subst, refl, inl, inr, nat_le, if◌then◌else◌, le-leb, leb-true}
 use Rattle.std.proofs.lemmas.Bool.{cases_Bool, true≢false}
 use Rattle.std.proofs.lemmas.Result.{IfOk-weaker, IfErr-weaker}
 use Rattle.age_error.specs.Refusals.{IsDevice, IsInterruption}
@@ -67,6 +67,12 @@ arrives-within P (Err e) o len target rest content other moved same there at = t
 pub from-end : (d e : ℤ) (len : ℕ) (r answer : Result ℕ Error) → d ≡ e → ((place : ℕ) → r ≡ sought (End d) place len) → r ≡ answer →
     (place : ℕ) → sought (End e) place len ≡ answer
 from-end d e len r answer same exact is place = subst (λ d. sought (End d) place len ≡ answer) same (sym (exact place) ∙ is)
+
+-- the same, where the length was known
+pub from-known-end : (d e : ℤ) (known len : ℕ) (r answer : Result ℕ Error) → d ≡ e → known ≡ len → len < 2 ^ 63 → (known < 2 ^ 63 → (place : ℕ) → r ≡ sought (End d) place known) →
+    r ≡ answer → (place : ℕ) → sought (End e) place len ≡ answer
+from-known-end d e known len r answer same is fits exact answers place =
+    subst (λ n. sought (End e) place n ≡ answer) is (from-end d e known r answer same (exact (omega (arith, is, fits))) answers place)
 
 -- ---- errors
 

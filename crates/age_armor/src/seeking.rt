@@ -195,7 +195,7 @@ impl<R: BufRead + Seek> ArmoredReader<R> {
     }
 
     // Goes to a place counted from the end, once the whole text was read. At the end itself it stands then already.
-    fn go_from_end(&mut self, distance: i64) -> Result<u64, Error>
+    fn look_from_end(&mut self, distance: i64) -> Result<u64, Error>
         ensures goes { let reader = ⟦<ArmoredReader<R> as Read>⟧ in Goes reader (OrSeek reader.refuses) self.old self.new result }
         ensures missed { IfErr result (λ e. IsOutside e → AddsNoReason ⟦<ArmoredReader<R> as Read>⟧.refuses self.old self.new) }
         ensures well { IsTrue (R.Read.tells (inner_of self.old)) → IsTrue (R.Read.steady (inner_of self.old)) →
@@ -234,6 +234,34 @@ impl<R: BufRead + Seek> ArmoredReader<R> {
                 }
                 self.go_to(target)
             }
+        }
+    }
+
+    // Goes to a place counted from the end.
+    fn go_from_end(&mut self, distance: i64) -> Result<u64, Error>
+        ensures goes { let reader = ⟦<ArmoredReader<R> as Read>⟧ in Goes reader (OrSeek reader.refuses) self.old self.new result }
+        ensures missed { IfErr result (λ e. IsOutside e → AddsNoReason ⟦<ArmoredReader<R> as Read>⟧.refuses self.old self.new) }
+        ensures well { IsTrue (R.Read.tells (inner_of self.old)) → IsTrue (R.Read.steady (inner_of self.old)) →
+            OnOk result (IsTrue (armored_content self.old).ends_well) }
+        ensures place { IsTrue (R.Read.tells (inner_of self.old)) → IfOk result (λ n. self.new.place ≡ n) }
+        ensures good { OnOk result (self.new.failed ≡ false) }
+        ensures exact { IsTrue (R.Read.tells (inner_of self.old)) → IsTrue (R.Read.steady (inner_of self.old)) → (place : ℕ) → IfOk result (λ n.
+            (sought_by (End distance) place (length (armored_content self.old).bytes) ≡ Ok n) × (armored_rest self.new ≡ from_place n (armored_content self.old))) }
+        ensures refused { IsTrue (R.Read.tells (inner_of self.old)) → IsTrue (R.Read.steady (inner_of self.old)) → (place : ℕ) → IfErr result (λ e. IsOutside e →
+            IsTrue (armored_content self.old).ends_well × (sought_by (End distance) place (length (armored_content self.old).bytes) ≡ Err e)) }
+        ensures named { IsTrue (R.Read.tells (inner_of self.old)) → IsTrue (R.Read.content (inner_of self.old)).ends_well →
+            IfErr result (λ e. (IsOutside e → ⊥) → e ≢ OutOfMemory → IsQuiet (R.Read.faults (inner_of self.old)) (R.Read.faults (inner_of self.new)) →
+            IsNamed (text_outcome_of self.old).ending e) }
+        ensures same_text { IsTrue (R.Read.tells (inner_of self.old)) → text_of self.new ≡ text_of self.old }
+        ensures ending { IsTrue (R.Read.tells (inner_of self.old)) → IsTrue (R.Read.steady (inner_of self.old)) → OnOk result
+            ((outcome_of self.new).ending ≡ (text_outcome_of self.old).ending) }
+    {
+        match self.marks.length() {
+            None => self.look_from_end(distance),
+            Some(len) => match from_end(len, distance) {
+                Err(e) => Err(e),
+                Ok(target) => self.go_to(target),
+            },
         }
     }
 }

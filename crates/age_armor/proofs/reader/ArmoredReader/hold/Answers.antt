@@ -71,9 +71,9 @@ invariant_of-self g c =
           (λ some lines. (
             omega (arith, before.counted told_before c.requires, empty, before.order),
             λ steady. resumes_line (reader.content before.source.inner) (reader.rest before.source.inner) _ before.source.taken before.place before.bytes before.given before.filled
-            before.stage _ front lines (before.source.behind told_before) (g.met.R.Read.stands before.source.inner told_before steady) all empty (now.bytes told_before)
-            (omega (arith, size, some)) (before.inside told_before steady) (rw c.requires at (before.follows told_before steady)) (rw c.requires at (before.ends told_before steady))
-            (before.form told_before steady (ap is_start lines)),
+                before.stage _ front lines (before.source.behind told_before) (g.met.R.Read.stands before.source.inner told_before steady) all empty (now.bytes told_before)
+                (omega (arith, size, some)) (before.inside told_before steady) (rw c.requires at (before.follows told_before steady)) (rw c.requires at (before.ends told_before steady))
+                (before.form told_before steady (ap is_start lines)),
           )));
     }
 
