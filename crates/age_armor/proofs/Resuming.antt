@@ -1,5 +1,5 @@
 -- What a reader knows of its text, and how it is read on from a mark.
-use Rattle.std.proofs.Common.{◌≡◌, ◌∙◌, ℕ, ◌+◌, ◌-◌, ◌<◌, ◌≤◌, Bool, true, false, IsTrue, List, [], ◌++◌, length, take, drop, refl, arith, ap, sym, subst, length-append, length-drop, inl, inr}
+use Rattle.std.proofs.Common.{◌≡◌, ◌∙◌, ℕ, ◌+◌, ◌-◌, ◌<◌, ◌≤◌, Bool, false, IsTrue, List, [], ◌++◌, length, drop, refl, arith, ap, sym, subst, length-append, length-drop}
 use Rattle.std.proofs.lemmas.Bool.{true≢false}
 use Rattle.std.proofs.lemmas.List.{drop-drop, nil_from_length}
 use Rattle.age_io.specs.Stretch.{Stretch, nothing, from_place, stretch-ext, IsCleanEnd}
@@ -12,7 +12,7 @@ use Rattle.age_armor.specs.Stages.{ahead, Advances, is_armored}
 use Rattle.age_armor.specs.Ahead.{outcome_ahead, rest_ahead}
 use Rattle.age_armor.specs.Delivered.{Outcome, prepend, stretch_of, delivered, begins_armor}
 use Rattle.age_armor.specs.DeliveredLaws.{content_of, stands_follows}
-use Rattle.age_armor.specs.Marks.{Resumes, IsLength, CanResume, Knows, carried}
+use Rattle.age_armor.specs.Marks.{Resumes, IsLength, Knows}
 use Rattle.age_armor.specs.ReaderLaws.{nothing_delivered}
 use Rattle.age_armor.proofs.Walking.{ends_at}
 

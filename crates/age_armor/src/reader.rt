@@ -35,7 +35,9 @@ use std::fmt;
 ///
 /// The text begins where the inner reader stands when this one is made, and places count from there. The first read
 /// finds out which of the two it is. One line is held at a time. Up to 16 lines that the inner reader shows are decoded in
-/// one call, each is taken from it only when it is asked for.
+/// one call, each is taken from it only when it is asked for. Of each 1,024 full lines that were read a mark is kept, in 8
+/// bytes, from which seeks read on, and the length of what the text carries once its end was read. Where memory for a mark is
+/// refused, none is kept from then on, and the answers are the same.
 #[derive(Drop)]
 pub struct ArmoredReader<R: BufRead> {
     pub(crate) source: Counted<R>,

@@ -194,7 +194,7 @@ impl<R: BufRead + Seek> ArmoredReader<R> {
         }
     }
 
-    // Goes to a place counted from the end, once the whole text was read. At the end itself it stands then already.
+    // Goes to a place counted from the end, where the text wasn't read to its end yet. At the end itself it stands then already.
     fn look_from_end(&mut self, distance: i64) -> Result<u64, Error>
         ensures goes { let reader = ⟦<ArmoredReader<R> as Read>⟧ in Goes reader (OrSeek reader.refuses) self.old self.new result }
         ensures missed { IfErr result (λ e. IsOutside e → AddsNoReason ⟦<ArmoredReader<R> as Read>⟧.refuses self.old self.new) }
@@ -375,8 +375,9 @@ impl<R: BufRead + Seek> Seek for ArmoredReader<R> {
 
     /// Moves within what the text carries, and answers the new place in bytes from its front.
     ///
-    /// The text is read from its front as far as the target asks, and to its end for `SeekFrom::End`. So a target that
-    /// stands before the first fault of the text is moved to, and makes a failed reader good again. A refusal is
+    /// The text is read on from the last mark that isn't after the target, or else from its front, as far as the target asks,
+    /// and for `SeekFrom::End` once to its end. So a target that stands before the first fault of the text is moved to, and
+    /// makes a failed reader good again. A refusal is
     ///
     /// - `BeforeStart`: the target is below 0. For `SeekFrom::Current` nothing is read to find that out.
     /// - `PastEnd`: the text carries bytes, and their count is below the target.
@@ -390,6 +391,8 @@ impl<R: BufRead + Seek> Seek for ArmoredReader<R> {
     ///
     /// Every refusal leaves the place. After `BeforeStart` and `PastEnd` the reader stands there as before; one that had
     /// failed stays so. After any other it has failed.
+    ///
+    /// Marks and the length are kept from the first reading on: of a file that changes meanwhile nothing is said.
     fn seek(&mut self, to: SeekFrom) -> Result<u64, Error>
         ensures seeks { let reader = ⟦<ArmoredReader<R> as Read>⟧ in
             Seeks reader.tells reader.steady reader.content reader.place reader.rest reader.faults reader.refuses self.old self.new to result }

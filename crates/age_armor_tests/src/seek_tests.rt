@@ -113,6 +113,88 @@ fn seeks_lead_to_their_targets(rt: HostRuntime) -> Result<(), Fail> {
     Ok(())
 }
 
+// Seeks and reads in 100,000 bytes, 2,084 lines, once they were read to their end: near the marks behind 1,024 lines and 2,048,
+// and from the end, whose place is known.
+const AFTER_ALL: [(Op, Expected); 19] = [
+    (Op::Read(100_000), Expected::Front(0, 100_000)),
+    (Op::Read(1), Expected::Front(100_000, 0)),
+    (Op::Seek(SeekFrom::Start(98_303)), Expected::Place(98_303)),
+    (Op::Read(1), Expected::Front(98_303, 1)),
+    (Op::Seek(SeekFrom::Start(99_000)), Expected::Place(99_000)),
+    (Op::Read(1), Expected::Front(99_000, 1)),
+    (Op::Seek(SeekFrom::End(0)), Expected::Place(100_000)),
+    (Op::Read(1), Expected::Front(100_000, 0)),
+    (Op::Seek(SeekFrom::End(-50_848)), Expected::Place(49_152)),
+    (Op::Read(100), Expected::Front(49_152, 100)),
+    (Op::Seek(SeekFrom::Current(-101)), Expected::Place(49_151)),
+    (Op::Read(2), Expected::Front(49_151, 2)),
+    (
+        Op::Seek(SeekFrom::Start(100_001)),
+        Expected::Refusal(Error::PastEnd),
+    ),
+    (
+        Op::Seek(SeekFrom::End(1)),
+        Expected::Refusal(Error::PastEnd),
+    ),
+    (
+        Op::Seek(SeekFrom::End(-100_001)),
+        Expected::Refusal(Error::BeforeStart),
+    ),
+    (Op::Read(1), Expected::Front(49_153, 1)),
+    (Op::Seek(SeekFrom::Start(0)), Expected::Place(0)),
+    (Op::Read(49_153), Expected::Front(0, 49_153)),
+    (Op::Read(1), Expected::Front(49_153, 1)),
+];
+
+// The same, where they weren't: marks are noted on the way.
+const ON_THE_WAY: [(Op, Expected); 10] = [
+    (Op::Seek(SeekFrom::Start(49_152)), Expected::Place(49_152)),
+    (Op::Seek(SeekFrom::Start(49_152)), Expected::Place(49_152)),
+    (Op::Read(1), Expected::Front(49_152, 1)),
+    (Op::Seek(SeekFrom::Start(49_152)), Expected::Place(49_152)),
+    (Op::Read(50), Expected::Front(49_152, 50)),
+    (Op::Seek(SeekFrom::Start(5)), Expected::Place(5)),
+    (Op::Seek(SeekFrom::Start(99_999)), Expected::Place(99_999)),
+    (Op::Read(2), Expected::Front(99_999, 1)),
+    (Op::Seek(SeekFrom::Start(98_304)), Expected::Place(98_304)),
+    (Op::Read(48), Expected::Front(98_304, 48)),
+];
+
+#[test]
+fn seeks_near_marks_lead_to_their_targets(rt: HostRuntime) -> Result<(), Fail> {
+    let alloc = rt.alloc();
+    let data = counting(alloc, 100_000)?;
+    for feed in [b"\n".as_slice(), b"\r\n"] {
+        let text = armored(alloc, &data, feed)?;
+        assert!(rt; both_answer(alloc, &text, &data, &AFTER_ALL)?);
+        assert!(rt; both_answer(alloc, &text, &data, &ON_THE_WAY)?);
+    }
+    assert!(rt; both_answer(alloc, &data, &data, &AFTER_ALL)?);
+    Ok(())
+}
+
+// A fault behind 1,024 full lines is met by each seek beyond them, also once the line before it is a mark.
+#[test]
+fn a_fault_behind_a_mark_is_met_again(rt: HostRuntime) -> Result<(), Fail> {
+    let alloc = rt.alloc();
+    let data = counting(alloc, 49_200)?;
+    let mut text = armored(alloc, &data, b"\n")?;
+    text.truncate(text.len() - END.len());
+    text.extend_from_slice(b"Y\rQ=\n")?;
+    let fault = Error::Armor(ArmoredReadError::LineContainsCr);
+    let steps = [
+        (Op::Read(49_200), Expected::Front(0, 49_200)),
+        (Op::Read(1), Expected::Refusal(fault)),
+        (Op::Seek(SeekFrom::Start(49_201)), Expected::Refusal(fault)),
+        (Op::Seek(SeekFrom::End(0)), Expected::Refusal(fault)),
+        (Op::Seek(SeekFrom::Start(49_199)), Expected::Place(49_199)),
+        (Op::Read(1), Expected::Front(49_199, 1)),
+        (Op::Read(1), Expected::Refusal(fault)),
+    ];
+    assert!(rt; both_answer(alloc, &text, &data, &steps)?);
+    Ok(())
+}
+
 #[test]
 fn space_after_the_end_marker_is_no_part_of_the_content(rt: HostRuntime) -> Result<(), Fail> {
     let alloc = rt.alloc();

@@ -1,4 +1,4 @@
-use Rattle.std.proofs.Common.{◌≡◌, ℕ, ◌+◌, ◌*◌, ◌-◌, false, arith, length, slice_get, Some, refl, subst}
+use Rattle.std.proofs.Common.{◌≡◌, ◌+◌, ◌*◌, ◌-◌, false, arith, length, slice_get, Some, refl, subst}
 use Rattle.std.proofs.lemmas.Option.{slice_get_read}
 use Rattle.age_armor.specs.declared.stages.Stage.TheVariants.{Lines}
 use Rattle.age_armor.specs.Marks.{CanResume}

@@ -1,4 +1,4 @@
-use Rattle.std.proofs.Common.{◌≡◌, ℕ, ◌+◌, ◌*◌, false, arith, length, slice_get, Some, subst}
+use Rattle.std.proofs.Common.{◌≡◌, ◌+◌, ◌*◌, false, arith, length, slice_get, Some, subst}
 use Rattle.age_armor.specs.declared.stages.Stage.TheVariants.{Lines}
 use Rattle.age_armor.specs.Marks.{CanResume}
 use Rattle.age_armor.proofs.Marking.{each_of_longer}

@@ -1,4 +1,4 @@
-use Rattle.std.proofs.Common.{◌∙◌, ◌≡◌, ◌-◌, ◌+◌, ◌^◌, ◌<◌, ◌≤◌, arith, length, length-drop, sym, ap, subst, refl, IsTrue}
+use Rattle.std.proofs.Common.{◌∙◌, ◌-◌, ◌≤◌, arith, length, length-drop, sym, ap, subst, refl, IsTrue}
 use Rattle.std.proofs.lemmas.Bool.{true≢false}
 use Rattle.age_io.specs.Stretch.{from_place}
 use Rattle.age_armor.specs.Delivered.{delivered}
