@@ -1,4 +1,4 @@
-//! What is wrong with a file of recipients or of a passphrase.
+//! What is wrong with a file of recipients or of a passphrase, and with a source of random bytes.
 
 use thiserror::Error;
 
@@ -28,6 +28,17 @@ pub enum PassphraseError {
     /// Its first line is empty, or there is none.
     #[error("the passphrase is empty")]
     Empty,
+    /// Memory was refused.
+    #[error("out of memory")]
+    OutOfMemory,
+}
+
+/// Why there are no random bytes.
+#[derive(Clone, Copy, Debug, Error, PartialEq, Eq)]
+pub enum RandomError {
+    /// The source gave none.
+    #[error("the system gives no random bytes")]
+    NoRandom,
     /// Memory was refused.
     #[error("out of memory")]
     OutOfMemory,

@@ -1,4 +1,4 @@
-//! What a program for real files is made of, over any suite: files of recipients and of passphrases, the file of a new key, and grease.
+//! What a program for real files is made of, over any suite: files of recipients and of passphrases, the file of a new key, random bytes, and grease.
 #![tactic(auto)]
 
 pub mod callbacks;
@@ -6,4 +6,5 @@ pub mod error;
 pub mod grease;
 pub mod keygen;
 pub mod passphrase;
+pub mod random;
 pub mod recipients;

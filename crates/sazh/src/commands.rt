@@ -1,7 +1,7 @@
 //! The commands.
 
 use crate::failure::Failure;
-use crate::files::{open, random};
+use crate::files::open;
 use crate::jobs::{Decrypting, Encrypting, Job, To, flushed, run_job};
 use crate::keys::{
     Holder, identities, passphrase_identity, passphrase_recipient, recipient, recipients,
@@ -14,6 +14,7 @@ use age::x25519;
 use age_standard::StandardSuite;
 use age_tool::grease::grease;
 use age_tool::keygen::new_key_file;
+use age_tool::random::random;
 use sazh_command::{Command, HELP, Identities, Output, Recipient, Recipients};
 use std::fs::File;
 use std::io;
@@ -93,13 +94,13 @@ fn to(rt: &HostRuntime, recipients: &Recipients) -> Result<(To, Draw), Failure> 
             let count = OF_A_RECIPIENT
                 .saturating_mul(keys.len())
                 .saturating_add(OF_A_FILE);
-            Ok((To::Keys(keys), Draw::new(random(rt, count)?)))
+            Ok((To::Keys(keys), Draw::new(random(rt.alloc(), rt, count)?)))
         }
         Recipients::PassphraseFile(name) => {
             let recipient = passphrase_recipient(rt, name)?;
             Ok((
                 To::Passphrase(recipient),
-                Draw::new(random(rt, OF_A_FILE + OF_A_PASSPHRASE)?),
+                Draw::new(random(rt.alloc(), rt, OF_A_FILE + OF_A_PASSPHRASE)?),
             ))
         }
     }
@@ -188,7 +189,7 @@ fn print(rt: &HostRuntime, text: &str) -> Result<(), Failure> {
 
 // The file of a new key.
 fn new_key(rt: &HostRuntime) -> Result<Vec<u8>, Failure> {
-    let mut draw = Draw::new(random(rt, OF_A_SECRET)?);
+    let mut draw = Draw::new(random(rt.alloc(), rt, OF_A_SECRET)?);
     match new_key_file::<StandardSuite>(rt.alloc(), &mut draw) {
         Ok(text) => Ok(text),
         Err(error) => Err(Failure::Whole(FileError::Encrypt(error))),

@@ -2,7 +2,7 @@
 
 use age::io::{Error, ErrorKind};
 use age::streaming::FileError;
-use age_tool::error::{PassphraseError, RecipientsError};
+use age_tool::error::{PassphraseError, RandomError, RecipientsError};
 use std::alloc::{AllocError, AllocFailed};
 use std::fmt;
 
@@ -108,6 +108,15 @@ impl From<AllocError> for Failure {
 impl<T: Drop> From<AllocFailed<T>> for Failure {
     fn from(_: AllocFailed<T>) -> Failure {
         Failure::OutOfMemory
+    }
+}
+
+impl From<RandomError> for Failure {
+    fn from(error: RandomError) -> Failure {
+        match error {
+            RandomError::NoRandom => Failure::NoRandom,
+            RandomError::OutOfMemory => Failure::OutOfMemory,
+        }
     }
 }
 

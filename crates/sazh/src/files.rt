@@ -1,5 +1,4 @@
-//! Files that are read whole, and random bytes.
-ghost use Rattle.std.specs.Prelude.{◌≡◌, IfOk, length};
+//! Files that are read whole, and a random number.
 
 use crate::failure::Failure;
 use age::io::{Error, Std, device_error, read_to_end};
@@ -38,18 +37,6 @@ pub fn read(rt: &HostRuntime, name: &str) -> Result<Vec<u8>, Failure> {
     match read_to_end(rt.alloc(), &mut reader, &mut text) {
         Ok(_) => Ok(text),
         Err(error) => Err(refused(rt, name, error)),
-    }
-}
-
-/// So many random bytes of the system.
-pub fn random(rt: &HostRuntime, count: usize) -> Result<Vec<u8>, Failure>
-    ensures { IfOk result (λ bytes. length bytes.items ≡ count) }
-{
-    let mut bytes = Vec::new(rt.alloc());
-    bytes.resize(count, 0)?;
-    match rt.fill_bytes(&mut bytes) {
-        Ok(()) => Ok(bytes),
-        Err(_) => Err(Failure::NoRandom),
     }
 }
 
