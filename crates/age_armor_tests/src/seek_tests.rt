@@ -179,7 +179,7 @@ fn a_fault_behind_a_mark_is_met_again(rt: HostRuntime) -> Result<(), Fail> {
     let alloc = rt.alloc();
     let data = counting(alloc, 49_200)?;
     let mut text = armored(alloc, &data, b"\n")?;
-    text.truncate(text.len() - END.len());
+    text.truncate(text.len().saturating_sub(END.len()));
     text.extend_from_slice(b"Y\rQ=\n")?;
     let fault = Error::Armor(ArmoredReadError::LineContainsCr);
     let steps = [
