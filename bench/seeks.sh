@@ -1,7 +1,7 @@
 #!/usr/bin/env bash
 # Seeks in a payload, each with a read of one byte: seconds, and how many chunks were opened for a read. Places at random, a random
 # walk over 4 chunks, and back and forth between two chunks, on the payload of so many MiB (the argument, else 64) bare and in armor.
-# In armor the first seek reads the text to its end, and each later one at most 1,024 lines. The least of three runs, less that of a run
+# In armor the first seek reads the text to its end, and each later one reads on from marks. The least of three runs, less that of a run
 # with one place.
 set -euo pipefail
 size=${1:-64}
