@@ -551,6 +551,8 @@ def main():
                 runs.injected(name, words, given, want, f"{call}-interrupted", None)
                 runs.injected(name, words, given, want, f"{call}-interrupted-on", DEVICE)
             devices(runs, words, given)
+        # A mark of armor that is refused memory changes no answer: two are noted on the way, each of 1,024 lines.
+        runs.injected("at in armor", ["at", "bench", "98303", "700"], text, plain[98303:99003], "alloc", NO_MEMORY)
         plain = draw.randbytes(200000)
         damaged(runs, open_words, plain, payload(plain))
         files(runs)

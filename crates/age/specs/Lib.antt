@@ -67,6 +67,7 @@ pub use Rattle.age_armor.specs.DeliveredLaws as ArmorDeliveredLaws
 pub use Rattle.age_armor.specs.Stages as ArmorStages
 pub use Rattle.age_armor.specs.Ending as ArmorEnding
 pub use Rattle.age_armor.specs.Refusing as ArmorRefusing
+pub use Rattle.age_armor.specs.Marks as ArmorMarks
 pub use Rattle.age_armor.specs.Reader as ArmorReader
 pub use Rattle.age_armor.specs.Seeking as ArmorSeeking
 pub use Rattle.age_armor.specs.Writing as ArmorWriting

@@ -1,5 +1,5 @@
 -- Where a seek in a text leads, over plain variables.
-use Rattle.std.proofs.Common.{◌≡◌, ◌≢◌, ◌⊎◌, ◌∙◌, ℕ, ◌^◌, ◌<◌, ◌≤◌, ℤ, Bool, true, false, IsTrue, Result, Ok, Err, IfOk, OnOk, Option, Some, None, length, arith, sym, ap, subst, refl, inl, inr, nat_le, if◌then◌else◌, le-leb, leb-true}
+use Rattle.std.proofs.Common.{◌≡◌, ◌≢◌, ◌⊎◌, ◌∙◌, ℕ, ◌^◌, ◌<◌, ◌≤◌, ℤ, Bool, true, false, IsTrue, Result, Ok, Err, IfOk, IfErr, OnOk, Option, Some, None, length, arith, sym, ap, subst, refl, inl, inr, nat_le, if◌then◌else◌, le-leb, leb-true}
 use Rattle.std.proofs.lemmas.Bool.{cases_Bool, true≢false}
 use Rattle.std.proofs.lemmas.Result.{IfOk-weaker, IfErr-weaker}
 use Rattle.age_error.specs.Refusals.{IsDevice, IsInterruption}
@@ -69,10 +69,19 @@ pub from-end : (d e : ℤ) (len : ℕ) (r answer : Result ℕ Error) → d ≡ e
 from-end d e len r answer same exact is place = subst (λ d. sought (End d) place len ≡ answer) same (sym (exact place) ∙ is)
 
 -- the same, where the length was known
-pub from-known-end : (d e : ℤ) (known len : ℕ) (r answer : Result ℕ Error) → d ≡ e → known ≡ len → len < 2 ^ 63 → (known < 2 ^ 63 → (place : ℕ) → r ≡ sought (End d) place known) →
-    r ≡ answer → (place : ℕ) → sought (End e) place len ≡ answer
-from-known-end d e known len r answer same is fits exact answers place =
-    subst (λ n. sought (End e) place n ≡ answer) is (from-end d e known r answer same (exact (omega (arith, is, fits))) answers place)
+pub from-known-end : (d e : ℤ) (known len : ℕ) (r : Result ℕ Error) → d ≡ e → known ≡ len → len < 2 ^ 63 → (known < 2 ^ 63 → (place : ℕ) → r ≡ sought (End d) place known) →
+    (place : ℕ) → r ≡ sought (End e) place len
+from-known-end d e known len r same is fits exact place =
+    subst (λ n. r ≡ sought (End e) place n) is (sym (from-end d e known r r same (exact (omega (arith, is, fits))) refl place))
+
+-- a target that was moved to is within, and any other is outside
+pub aims_within : (r : Result ℕ Error) (t : Option ℕ) (len : ℕ) → r ≡ moved_to t len → IfOk r (λ n. n ≤ len)
+aims_within (Ok n) t len is = within-moved t n len (sym is)
+aims_within (Err e) t len is = tt
+
+pub aims_outside : (r : Result ℕ Error) (t : Option ℕ) (len : ℕ) → r ≡ moved_to t len → IfErr r IsOutside
+aims_outside (Ok n) t len is = tt
+aims_outside (Err e) t len is = moved-refusal t len e (sym is)
 
 -- ---- errors
 

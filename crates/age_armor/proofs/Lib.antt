@@ -20,6 +20,7 @@ pub mod ReaderSteps
 pub mod Walking
 pub mod OwnEndings
 pub mod Asking
+pub mod Pacing
 pub mod Refusing
 pub mod Keeping
 pub mod Aiming

@@ -21,3 +21,8 @@ left_err (Err e) old new h = inr h
 pub patient_err : (result : Result ℕ Error) (P : Type 0) → IfErr result (λ e. IsInterruption e → ⊥) → IfErr result (λ e. IsInterruption e → P)
 patient_err (Ok n) P h = tt
 patient_err (Err e) P h = λ again. absurd (h again)
+
+-- what holds of each answer holds where there is one
+pub on_if : (result : Result ℕ Error) (P : ℕ → Type 0) (Q : Type 0) → ((n : ℕ) → P n → Q) → IfOk result P → OnOk result Q
+on_if (Ok n) P Q from h = from n h
+on_if (Err e) P Q from h = tt

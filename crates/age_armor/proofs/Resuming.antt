@@ -1,5 +1,5 @@
 -- What a reader knows of its text, and how it is read on from a mark.
-use Rattle.std.proofs.Common.{◌≡◌, ◌∙◌, ℕ, ◌+◌, ◌-◌, ◌<◌, ◌≤◌, Bool, false, IsTrue, List, [], ◌++◌, length, drop, refl, arith, ap, sym, subst, length-append, length-drop}
+use Rattle.std.proofs.Common.{◌≡◌, ◌∙◌, inl, inr, ℕ, ◌+◌, ◌-◌, ◌%◌, ◌<◌, ◌≤◌, ◌⊎◌, Bool, true, false, IsTrue, List, [], ◌∷◌, ◌++◌, length, drop, refl, arith, ap, sym, subst, length-append, length-drop}
 use Rattle.std.proofs.lemmas.Bool.{true≢false}
 use Rattle.std.proofs.lemmas.List.{drop-drop, nil_from_length}
 use Rattle.age_io.specs.Stretch.{Stretch, nothing, from_place, stretch-ext, IsCleanEnd}
@@ -7,13 +7,14 @@ use Rattle.age_io.specs.Reading.{Delivers, StandsIn}
 use Rattle.age_io.specs.BehindLaws.{held-empty}
 use Rattle.age_armor.specs.declared.marks.Marks.{Marks}
 use Rattle.age_armor.specs.declared.stages.Stage.{Stage}
-use Rattle.age_armor.specs.declared.stages.Stage.TheVariants.{Start, Binary, Lines}
-use Rattle.age_armor.specs.Stages.{ahead, Advances, is_armored}
+use Rattle.age_armor.specs.declared.stages.Stage.TheVariants.{Start, Binary, Lines, Ended}
+use Rattle.age_armor.specs.Stages.{ahead, Advances, is_start, is_armored, is_ended}
 use Rattle.age_armor.specs.Ahead.{outcome_ahead, rest_ahead}
-use Rattle.age_armor.specs.Delivered.{Outcome, prepend, stretch_of, delivered, begins_armor}
+use Rattle.age_armor.specs.Delivered.{Outcome, prepend, stretch_of, raw_lines, delivered, begins_armor}
 use Rattle.age_armor.specs.DeliveredLaws.{content_of, stands_follows}
 use Rattle.age_armor.specs.Marks.{Resumes, IsLength, Knows}
 use Rattle.age_armor.specs.ReaderLaws.{nothing_delivered}
+use Rattle.age_armor.proofs.Staging.{none_after_short}
 use Rattle.age_armor.proofs.Walking.{ends_at}
 
 -- what is known stays known of the same text
@@ -21,6 +22,10 @@ pub knows_later : (old new : Bool) (text same : Stretch) (marks : Marks) → (Is
 knows_later old new text same marks steady is knows = rw is (record {
   each = λ index taken at. let mark = knows.each index taken at in (mark.0, λ now. mark.1 (steady now));
   end = λ n at now. knows.end n at (steady now);
+  met = knows.met;
+  passed = knows.passed;
+  inside = λ now. knows.inside (steady now);
+  near = λ now. knows.near (steady now);
 })
 
 -- where something is left after bytes that were read, something was left before them
@@ -64,6 +69,52 @@ module _ (content rest : Stretch) (at taken : ℕ) (place : ℕ) (bytes : List �
         reaches = omega (arith, length-drop (at - taken) content.bytes, stands.within, behind);
         form = λ begun. rw lines at form;
       }
+
+-- ---- how far a reader comes
+
+-- what begins with bytes, or is a clean end, isn't nothing
+pub not_nothing : (rest : Stretch) (front more : List ℕ) (count : ℕ) → rest.bytes ≡ front ++ more → length front ≡ count → (count ≡ 0 → IsCleanEnd rest) → rest ≡ nothing → ⊥
+not_nothing rest [] more count bytes size clean gone = true≢false (sym (clean (sym size)).ends_well ∙ ap (λ s. s.ends_well) gone)
+not_nothing rest (b ∷ front) more count bytes size clean gone =
+    let none : [] ≡ b ∷ front ++ more = ap (λ s. s.bytes) (sym gone) ∙ bytes in
+    omega (arith, ap length none)
+
+-- bytes that were read from a place stand in the content
+pub reaches_content : (content rest : Stretch) (place count : ℕ) (front more : List ℕ) → place ≤ length content.bytes →
+    ((rest ≡ nothing → ⊥) → rest ≡ from_place place content) → rest.bytes ≡ front ++ more → length front ≡ count → place + count ≤ length content.bytes
+reaches_content content rest place count [] more within follows bytes size = omega (arith, within, size)
+reaches_content content rest place count (b ∷ front) more within follows bytes size =
+    let some = not_nothing rest (b ∷ front) more count bytes size (λ none. absurd (omega (arith, size, none))) in
+    let here : drop place content.bytes ≡ (b ∷ front) ++ more = ap (λ s. s.bytes) (sym (follows some)) ∙ bytes in
+    omega (arith, within, size, ap length here, length-append (b ∷ front) more, length-drop place content.bytes)
+
+-- after a short line none come
+pub none_after : (stage : Stage) (rest : Stretch) (front : List ℕ) (count : ℕ) (after : Outcome) → Advances (ahead stage rest) front after → length front ≡ count →
+    stage ≡ Lines true → count ≡ 0
+none_after stage rest front count after advances size short =
+    let bytes : (ahead (Lines true) rest).bytes ≡ front ++ after.bytes = ap (λ o. o.bytes) (subst (λ s. ahead s rest ≡ prepend front after) short advances.same) in
+    let none : [] ≡ front ++ after.bytes = sym (none_after_short (raw_lines rest.bytes) rest.ends_well) ∙ bytes in
+    omega (arith, size, ap length none, length-append front after.bytes)
+
+-- full lines are behind full ones alone
+pub still_full : (stage next : Stage) (place count : ℕ) → is_ended stage ≡ false → (is_start stage ≡ false → is_armored next ≡ is_armored stage) →
+    (is_start stage ≡ true → place ≡ 0) → (stage ≡ Lines false → place % 48 ≡ 0) → (stage ≡ Lines true → count ≡ 0) → (next ≡ Lines false → count ≡ 48) →
+    next ≡ Lines false → (place + count) % 48 ≡ 0
+still_full Start next place count opens form first lines short full is = omega (arith, first refl, full is)
+still_full Binary next place count opens form first lines short full is = absurd (true≢false (sym (ap is_armored is) ∙ form refl))
+still_full (Lines true) next place count opens form first lines short full is = absurd (omega (arith, short refl, full is))
+still_full (Lines false) next place count opens form first lines short full is = omega (arith, lines refl, full is)
+still_full Ended next place count opens form first lines short full is = absurd (true≢false opens)
+
+-- in armor bytes come at the front, or after full lines
+pub after_full : (stage : Stage) (place count : ℕ) (text : List ℕ) → is_ended stage ≡ false → (is_start stage ≡ false → is_armored stage ≡ begins_armor text) →
+    (is_start stage ≡ true → place ≡ 0) → (stage ≡ Lines false → place % 48 ≡ 0) → (stage ≡ Lines true → count ≡ 0) → count ≤ 48 →
+    IsTrue (begins_armor text) → 0 < count → (place % 48 ≡ 0) × (count ≤ 48) × ((stage ≡ Lines false) ⊎ (place ≡ 0))
+after_full Start place count text opens form first lines short fits armored some = (omega (arith, first refl), fits, inr (first refl))
+after_full Binary place count text opens form first lines short fits armored some = absurd (true≢false (sym armored ∙ sym (form refl)))
+after_full (Lines true) place count text opens form first lines short fits armored some = absurd (omega (arith, short refl, some))
+after_full (Lines false) place count text opens form first lines short fits armored some = (lines refl, fits, inl refl)
+after_full Ended place count text opens form first lines short fits armored some = absurd (true≢false opens)
 
 -- ---- the end of a text
 

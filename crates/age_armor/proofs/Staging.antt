@@ -1,10 +1,10 @@
 -- The next bytes of armor.
 use Rattle.std.proofs.Common.{◌≡◌, ◌≢◌, ℕ, suc, zero, ◌≤◌, ◌<◌, Bool, true, false, ◌||◌, List, [], ◌∷◌, ◌++◌, length, take, drop, refl, ap, sym, subst, arith, ◌∙◌, append_assoc, length-append, nat_lt, nat_eq}
 use Rattle.std.specs.Prelude.{slice_index}
-use Rattle.std.specs.List.{starts_with}
-use Rattle.std.proofs.lemmas.Bool.{false_from_ne_true, le-ltb, lt-ltb, or_right}
+use Rattle.std.specs.List.{concat, starts_with}
+use Rattle.std.proofs.lemmas.Bool.{cases_Bool, false_from_ne_true, le-ltb, lt-ltb, or_right, true≢false}
 use Rattle.std.proofs.lemmas.List.{append-nil, take-append-le, drop-append-le, length-take-le}
-use Rattle.std.proofs.Common.{inl}
+use Rattle.std.proofs.Common.{inl, inr}
 use Rattle.age_io.specs.Stretch.{Stretch, IsCleanEnd, IsFault}
 use Rattle.age_io.specs.Reading.{Delivers}
 use Rattle.age_error.specs.declared.io.Error.{Error}
@@ -14,12 +14,12 @@ use Rattle.age_base64.specs.Lines.{Lacks}
 use Rattle.age_armor.specs.Armor.{begin_marker}
 use Rattle.age_base64.specs.Base64.{padded_columns}
 use Rattle.age_base64.proofs.PaddedColumns.{padded_columns-nil, Lacks_padded_columns, length-padded_columns}
-use Rattle.age_armor.specs.LineVerdict.{Refuses, Ends, Holds, verdict, is_short, line_columns, last_is, IsLineVerdict}
+use Rattle.age_armor.specs.LineVerdict.{LineVerdict, Refuses, Ends, Holds, verdict, is_short, line_columns, last_is, IsLineVerdict}
 use Rattle.age_armor.specs.Delivered.{Outcome, Ending, Clean, Refused, InnerFault, ends, at_end, raw_lines, section, trailing, after_line, after_marker, delivered}
 use Rattle.age_armor.specs.Counting.{TakesLine, IsFew, IsCutShort}
 use Rattle.age_armor.specs.Showing.{TakesFull}
 use Rattle.age_armor.specs.Stages.{Advances, Stops, FindsForm, IsNamed}
-use Rattle.age_armor.proofs.RawLines.{raw_lines_ended, columns_lf, last_is_end, full_not_short}
+use Rattle.age_armor.proofs.RawLines.{raw_lines_ended, columns_lf, last_is_end, full_not_short, not_short_full}
 use Rattle.age_armor.specs.DeliveredLaws.{length_line_columns, concat_raw}
 use Rattle.age_armor.proofs.Verdicts.{one_verdict}
 use Rattle.age_armor.proofs.Delivering.{good_line}
@@ -190,3 +190,24 @@ holds_count s raw bytes n v size fits =
     let small = held_small s raw (take n bytes) v in
     let all : length (take n bytes) ≡ n = length-take-le n bytes (omega (arith, size, fits)) in
     (omega (arith, some, all), omega (arith, small, all))
+
+-- a line that isn't short stands for 48 bytes
+pub held_full : (s : Bool) (raw bytes : List ℕ) (n : ℕ) → verdict s raw ≡ Holds (take n bytes) → length bytes ≡ 48 → n ≤ 48 → is_short (line_columns raw) ≡ false → n ≡ 48
+held_full s raw bytes n v size fits full =
+    let is : IsLineVerdict s raw (Holds (take n bytes)) = subst (IsLineVerdict s raw) v (one_verdict s raw) in
+    let most : length (padded_columns (take n bytes)) ≤ 64 = omega (arith, is.2, ap length is.4) in
+    let all : length (take n bytes) ≡ 48 = not_short_full (take n bytes) most (subst (λ l. is_short l ≡ false) is.4 full) in
+    omega (arith, all, length-take-le n bytes (omega (arith, size, fits)))
+
+none_held : (raw : List ℕ) (v : LineVerdict) (next : Outcome) (end : Ending) → IsLineVerdict true raw v → (after_line v next end).bytes ≡ []
+none_held raw (Refuses e) next end is = refl
+none_held raw Ends next end is = refl
+none_held raw (Holds b) next end is = absurd (true≢false is.0.2)
+
+-- after a short line nothing comes
+pub none_after_short : (ls : List (List ℕ)) (w : Bool) → (section true ls w).bytes ≡ []
+none_after_short [] w = refl
+none_after_short (raw ∷ more) w = elim (cases_Bool (w || last_is 10 raw)) [
+  | inl e ↦ rw e (none_held raw (verdict true raw) (section (is_short (line_columns raw)) more w) (trailing (concat more) w) (one_verdict true raw))
+  | inr e ↦ rw e refl
+]

@@ -1,10 +1,13 @@
 -- A reader of which bytes are taken and counted.
-use Rattle.std.specs.Prelude.{◌≡◌, ℕ, ◌-◌, ◌≤◌, ◌<◌, Bool, true, ◌||◌, IsTrue, List, ◌∷◌, length, Result, OnOk}
+use Rattle.std.specs.Prelude.{◌≡◌, ℕ, ◌+◌, ◌-◌, ◌*◌, ◌^◌, ◌≤◌, ◌<◌, Bool, true, false, ◌||◌, IsTrue, List, ◌∷◌, length, min, Result, OnOk}
 use Rattle.age_io.specs.Stretch.{Stretch, IsCleanEnd}
 use Rattle.age_io.specs.Reading.{most_faults}
 use Rattle.age_io.specs.Keeping.{KeepsReader}
 use Rattle.age_io.specs.declared.traits.Read.{Ghosts}
 use Rattle.age_error.specs.declared.io.Error.{Error}
+use Rattle.age_armor.specs.declared.stages.Stage.{Stage}
+use Rattle.age_armor.specs.declared.stages.Stage.TheVariants.{Lines}
+use Rattle.age_armor.specs.Stages.{is_start, is_armored, is_open}
 use Rattle.age_armor.specs.LineVerdict.{last_is}
 use Rattle.age_armor.specs.Refusing.{OrText}
 use Rattle.age_armor.specs.Delivered.{raw_lines, section, ends, InnerFault}
@@ -32,3 +35,26 @@ IsCutShort rest = (after_short : Bool) → section after_short (raw_lines rest.b
 pub record IsFew (count : ℕ) (ends_well : Bool) (rest : Stretch) : Type 0 where
   pub few : length rest.bytes < count
   pub end : rest.ends_well ≡ ends_well
+
+-- ---- how many lines were taken
+
+-- one more, as far as the number goes
+abbrev pub one_line_more : ℕ → ℕ
+one_line_more lines = min (lines + 1) (2 ^ 64 - 1)
+
+-- How a read that found bytes changes a reader of armor: its stage, its place, how many bytes it holds, and how many lines were taken.
+pub record TakesLines (old new : Stage) (old_place old_held old_lines new_place new_held new_lines : ℕ) : Type 0 where
+  -- what is held is given, and no line is taken
+  pub held : 0 < old_held → (new ≡ old) × (new_lines ≡ old_lines) × (new_place + new_held ≡ old_place + old_held)
+  -- else one is taken at most, and a full one stands for 48 bytes
+  pub more : new_lines ≤ old_lines + 1
+  pub full : old_held ≡ 0 → new ≡ Lines false → new_place + new_held ≡ old_place + 48
+  -- of a binary text none
+  pub bare : is_armored new ≡ false → new_lines ≡ old_lines
+  pub begun : is_start new ≡ false
+  pub on : old_place ≤ new_place
+
+-- How many lines were taken on the way from a place, so many having been taken before, towards a target: each but the last stands for 48 bytes.
+pub record IsCounted (stage : Stage) (start counted target place held lines : ℕ) : Type 0 where
+  pub at_most : is_open stage ≡ true → 48 * lines + start ≤ 48 * counted + place + held
+  pub bound : 48 * lines + start < 48 * counted + target + 48

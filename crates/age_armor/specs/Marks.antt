@@ -1,5 +1,5 @@
 -- What is known of a text that was read before: where some of its lines begin, and how many bytes it carries.
-use Rattle.std.specs.Prelude.{◌≡◌, ℕ, ◌+◌, ◌*◌, ◌≤◌, Bool, false, IsTrue, length, Some, slice_get}
+use Rattle.std.specs.Prelude.{◌≡◌, ℕ, ◌+◌, ◌*◌, ◌%◌, ◌≤◌, ◌<◌, Bool, true, false, IsTrue, length, Option, Some, None, slice_get}
 use Rattle.age_io.specs.Stretch.{Stretch, from_place}
 use Rattle.age_armor.specs.declared.stages.Stage.{Stage}
 use Rattle.age_armor.specs.declared.stages.Stage.TheVariants.{Lines}
@@ -28,8 +28,37 @@ pub record IsLength (text : Stretch) (n : ℕ) : Type 0 where
 abbrev pub CanResume : Bool → Stretch → Stage → ℕ → ℕ → Type 0
 CanResume steady text stage place taken = (place ≤ taken) × (IsTrue steady → Resumes text stage place taken)
 
+abbrev pub is_known : Option ℕ → Bool
+is_known None = false
+is_known (Some n) = true
+
+-- the end is known, and stands before a place
+abbrev pub EndsBefore : Option ℕ → ℕ → Type 0
+EndsBefore None place = ⊥
+EndsBefore (Some n) place = n < place
+
+-- how far so many marks reach: 1,024 full lines behind the last of them, or behind the front
+abbrev pub reach : ℕ → ℕ
+reach count = 49152 * (count + 1)
+
 -- What a reader knows of its text: it can be resumed at each mark, of which the k-th is of the line that begins after 1,024 k full ones, and
--- has the length that is kept.
+-- has the length that is kept. The furthest place that was come to is behind each mark, and, as long as marks are noted, near the last.
 pub record Knows (steady : Bool) (text : Stretch) (marks : Marks) : Type 0 where
   pub each : (index taken : ℕ) → slice_get marks.taken.items index ≡ Some taken → CanResume steady text (Lines false) (49152 * (index + 1)) taken
   pub end : (n : ℕ) → marks.length ≡ Some n → IsTrue steady → IsLength text n
+  pub met : (n : ℕ) → marks.length ≡ Some n → n ≤ marks.furthest
+  pub passed : 49152 * length marks.taken.items ≤ marks.furthest
+  pub inside : IsTrue steady → marks.furthest ≤ length (carried text).bytes
+  pub near : IsTrue steady → marks.noting ≡ true → IsTrue (begins_armor text.bytes) → marks.furthest ≤ reach (length marks.taken.items)
+
+-- what is known of a text only grows, and once memory for a mark was refused none is noted
+pub record LearnsMore (old new : Marks) : Type 0 where
+  pub further : old.furthest ≤ new.furthest
+  pub end : IsTrue (is_known old.length) → IsTrue (is_known new.length)
+  pub noting : IsTrue new.noting → IsTrue old.noting
+
+-- how a reader gets on: it holds nothing beyond the furthest place, and a full line is behind full ones alone
+pub record IsPaced (stage : Stage) (place held furthest : ℕ) : Type 0 where
+  pub within : place + held ≤ furthest
+  pub first : is_start stage ≡ true → place ≡ 0
+  pub lines : stage ≡ Lines false → (place + held) % 48 ≡ 0

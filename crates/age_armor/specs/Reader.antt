@@ -1,5 +1,5 @@
 -- What a caller sees of an `ArmoredReader`, and what it means as a reader.
-use Rattle.std.specs.Prelude.{◌≡◌, ℕ, ◌-◌, ◌⊎◌, Bool, true, List}
+use Rattle.std.specs.Prelude.{◌≡◌, ℕ, ◌+◌, ◌-◌, ◌≤◌, ◌⊎◌, Bool, true, false, IsTrue, List, length, Result, OnOk}
 use Rattle.age_error.specs.declared.io.Error.{Error}
 use Rattle.age_error.specs.declared.io.Error.TheVariants.{Failed}
 use Rattle.age_io.specs.declared.traits.Read as readers
@@ -7,8 +7,10 @@ use Rattle.age_io.specs.declared.bufread.BufRead as buffered
 use Rattle.age_io.specs.Stretch.{Stretch, from_place}
 use Rattle.age_io.specs.Reading.{TriedAgain}
 use Rattle.age_armor.specs.declared.reader.ArmoredReader.{ArmoredReader}
-use Rattle.age_armor.specs.Delivered.{Outcome}
+use Rattle.age_armor.specs.Delivered.{Outcome, begins_armor}
 use Rattle.age_armor.specs.Stages.{is_armored}
+use Rattle.age_armor.specs.declared.marks.Marks.{Marks}
+use Rattle.age_armor.specs.Marks.{is_known, LearnsMore}
 use Rattle.age_armor.specs.Refusing.{IsTextRefusal}
 use Rattle.age_armor.specs.Seeking.{text_outcome}
 use Rattle.age_armor.specs.Ahead.{outcome_ahead, rest_ahead, shown_ahead}
@@ -42,6 +44,26 @@ module _ {R : Type 0} {buf : buffered.Ghosts R} {read : readers.Ghosts R} where
   -- what the whole text delivers, and how it ends
   abbrev pub text_outcome_of : ArmoredReader R buf read → Outcome
   text_outcome_of r = text_outcome (read.content r.source.inner) (read.place r.source.inner - r.source.taken)
+
+  -- how many lines were taken of it
+  abbrev pub lines_of : ArmoredReader R buf read → ℕ
+  lines_of r = r.source.lines
+
+  -- what it knows of the text
+  abbrev pub marks_of : ArmoredReader R buf read → Marks
+  marks_of r = r.marks
+
+  -- the furthest place in what the text carries up to which it was read
+  abbrev pub furthest_of : ArmoredReader R buf read → ℕ
+  furthest_of r = r.marks.furthest
+
+  -- whether memory for a mark was never refused
+  abbrev pub notes_all : ArmoredReader R buf read → Bool
+  notes_all r = r.marks.noting
+
+  -- whether the text was read to its end
+  abbrev pub knows_end : ArmoredReader R buf read → Bool
+  knows_end r = is_known r.marks.length
 
   -- ---- its members as a reader
 
@@ -79,3 +101,11 @@ module _ {R : Type 0} {buf : buffered.Ghosts R} {read : readers.Ghosts R} where
   -- what it shows: the rest of the line that it holds
   abbrev pub shown_of : ArmoredReader R buf read → List ℕ
   shown_of r = shown_ahead r.failed r.bytes r.given r.filled
+
+  -- What a read or a look comes to know: all that it holds is before the furthest place, it takes one line at most, and of a binary text none.
+  pub record Learns {A : Type 0} (old new : ArmoredReader R buf read) (result : Result A Error) : Type 0 where
+    pub more : LearnsMore (marks_of old) (marks_of new)
+    pub reaches : IsTrue (read.tells (inner_of old)) → OnOk result (place_of new + length (shown_of new) ≤ furthest_of new)
+    pub lines : lines_of new ≤ lines_of old + 1
+    pub bare : IsTrue (read.tells (inner_of old)) → IsTrue (read.steady (inner_of old)) → begins_armor (text_of old).bytes ≡ false →
+        OnOk result (lines_of new ≡ lines_of old)

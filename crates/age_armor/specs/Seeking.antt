@@ -1,5 +1,5 @@
 -- What seeks in armor do.
-use Rattle.std.specs.Prelude.{◌≡◌, ◌≢◌, ℕ, ◌<◌, ◌⊎◌, Bool, true, false, IsTrue, length, drop, Some, None, Result, Err, IfErr, OnOk, ⊤}
+use Rattle.std.specs.Prelude.{◌≡◌, ◌≢◌, ℕ, ◌≤◌, ◌<◌, ◌⊎◌, Bool, true, false, IsTrue, length, drop, Some, None, Result, Err, IfErr, OnOk, ⊤}
 use Rattle.age_io.specs.Stretch.{Stretch, nothing, from_place}
 use Rattle.age_io.specs.Reading.{IsQuiet, AddsNoReason, most_faults}
 use Rattle.age_io.specs.declared.traits.Read.{Ghosts}
@@ -39,6 +39,18 @@ abbrev pub IsFromEnd : SeekFrom → Type 0
 IsFromEnd (Start n) = ⊥
 IsFromEnd (End d) = ⊤
 IsFromEnd (Current d) = ⊥
+
+-- The target is known not to lie beyond the furthest place that was come to: by itself, by the place, or, once the end was read, by the end.
+abbrev pub IsNear : SeekFrom → ℕ → ℕ → Bool → Type 0
+IsNear (Start n) place furthest ended = n ≤ furthest
+IsNear (End d) place furthest ended = ended ≡ true
+IsNear (Current d) place furthest ended = (n : ℕ) → place_at place d ≡ Some n → n ≤ furthest
+
+-- the target is this place, which it is counted from, or by itself
+abbrev pub IsTo : SeekFrom → ℕ → Type 0
+IsTo (Start n) place = n ≡ place
+IsTo (End d) place = ⊥
+IsTo (Current d) place = place_at place d ≡ Some place
 
 -- What a seek in a text does. The bool says whether the reader that gives the text ends well, the ending how the text does.
 pub record SeeksText {R : Type 0} (read : Ghosts R) (failed : R → Bool) (old new : R) (to : SeekFrom) (ends_well : Bool) (ending : Ending)

@@ -1,5 +1,5 @@
 -- What a reader of armor has before it, by what it has found so far.
-use Rattle.std.specs.Prelude.{◌≡◌, ℕ, ◌<◌, Bool, true, false, List, [], length}
+use Rattle.std.specs.Prelude.{◌≡◌, ℕ, ◌<◌, Bool, true, false, not, List, [], length}
 use Rattle.age_io.specs.Stretch.{Stretch}
 use Rattle.age_error.specs.declared.io.Error.{Error}
 use Rattle.age_armor.specs.declared.stages.Stage.{Stage}
@@ -29,6 +29,12 @@ is_armored _ = false
 abbrev pub is_ended : Stage → Bool
 is_ended Ended = true
 is_ended _ = false
+
+-- bytes may come next: neither a short line was found nor the end
+abbrev pub is_open : Stage → Bool
+is_open (Lines after_short) = not after_short
+is_open Ended = false
+is_open _ = true
 
 -- the bytes come first
 pub record Advances (before : Outcome) (bytes : List ℕ) (after : Outcome) : Type 0 where

@@ -1,5 +1,5 @@
 //! A reader whose taken bytes are counted.
-ghost use Rattle.std.specs.Prelude.{◌≡◌, ◌≢◌, ℕ, ◌+◌, ◌≤◌, ◌<◌, Bool, true, false, IsTrue, List, [], ◌∷◌, ◌++◌, length, take, IfOk, IfErr, OnOk, OnErr, Ok};
+ghost use Rattle.std.specs.Prelude.{◌≡◌, ◌≢◌, ℕ, ◌+◌, ◌≤◌, ◌<◌, Bool, true, false, IsTrue, List, [], ◌∷◌, ◌++◌, if◌then◌else◌, length, take, IfOk, IfErr, OnOk, OnErr, Ok};
 ghost use Rattle.age_error.specs.Refusals.{IsInterruption};
 ghost use Rattle.age_error.specs.declared.io.Error.TheVariants.{OutOfMemory};
 ghost use Rattle.age_io.specs.Stretch.{IsCleanEnd, IsFault};
@@ -15,11 +15,13 @@ use age_error::bytes::known_bytes;
 use age_error::io::{ArmoredReadError, Error};
 use age_io::{BufRead, Read, fill, read_retrying};
 
-/// A reader of a text, and how many bytes were taken from it.
+/// A reader of a text, and how many bytes and lines were taken from it.
 #[derive(Drop)]
 pub(crate) struct Counted<R: BufRead> {
     pub(crate) inner: R,
     pub(crate) taken: u64,
+    // How many lines were taken, as far as the number goes.
+    pub(crate) lines: u64,
     // The bytes of lines that the inner reader shows first and that aren't taken yet: `left` lines, from `next` on.
     pub(crate) ahead: [u8; 768],
     pub(crate) next: usize,
@@ -51,7 +53,7 @@ fn are_spaces(bytes: &[u8]) -> bool
 }
 
 impl<R: BufRead> Counted<R> {
-    ghost use Rattle.age_armor.specs.Counting.{Kept, TakesLine, IsCutShort, IsFew};
+    ghost use Rattle.age_armor.specs.Counting.{Kept, TakesLine, IsCutShort, IsFew, one_line_more};
     ghost use Rattle.age_armor.specs.Showing.{TakesFull};
     ghost use Rattle.age_armor.specs.Stages.{IsNamed};
     ghost use Rattle.age_armor.specs.Delivered.{trailing, Clean};
@@ -60,6 +62,7 @@ impl<R: BufRead> Counted<R> {
     #[tactic(auto, using(crate::proofs::AheadLines::ahead_none))]
     pub(crate) fn is_at_end(&mut self) -> Result<bool, Error>
         ensures kept { Kept ⟦<R as Read>⟧ self.old.inner self.old.taken self.new.inner self.new.taken result }
+        ensures lines { self.new.lines ≡ self.old.lines }
         ensures taken { self.new.taken ≡ self.old.taken }
         ensures same { IsTrue (R.Read.tells self.old.inner) → OnOk result (R.Read.rest self.new.inner ≡ R.Read.rest self.old.inner) }
         ensures some { IsTrue (R.Read.tells self.old.inner) → IfOk result (λ is. is ≡ false → 0 < length (R.Read.rest self.old.inner).bytes) }
@@ -76,6 +79,7 @@ impl<R: BufRead> Counted<R> {
     pub(crate) fn read(&mut self, buf: &mut [u8]) -> Result<usize, Error>
         requires { 0 < length buf.old }
         ensures kept { Kept ⟦<R as Read>⟧ self.old.inner self.old.taken self.new.inner self.new.taken result }
+        ensures lines { self.new.lines ≡ self.old.lines }
         ensures count { IfOk result (λ n. n ≤ length buf.new) }
         ensures taken { IsTrue (R.Read.tells self.old.inner) → IfOk result (λ n. self.new.taken ≡ self.old.taken + n) }
         ensures bytes { IsTrue (R.Read.tells self.old.inner) → IfOk result (λ n. Delivers (take n buf.new) (R.Read.rest self.old.inner) (R.Read.rest self.new.inner)) }
@@ -98,6 +102,7 @@ impl<R: BufRead> Counted<R> {
     pub(crate) fn take_front(&mut self, front: &mut [u8]) -> Result<bool, Error>
         requires { 0 < length front.old }
         ensures kept { Kept ⟦<R as Read>⟧ self.old.inner self.old.taken self.new.inner self.new.taken result }
+        ensures lines { self.new.lines ≡ self.old.lines }
         ensures taken { IsTrue (R.Read.tells self.old.inner) → IfOk result (λ whole. IsTrue whole → self.new.taken ≡ self.old.taken + length front.new) }
         ensures bytes { IsTrue (R.Read.tells self.old.inner) → IfOk result (λ whole. IsTrue whole → Delivers front.new (R.Read.rest self.old.inner) (R.Read.rest self.new.inner)) }
         ensures few { IsTrue (R.Read.tells self.old.inner) → IfOk result (λ whole. whole ≡ false → IsFew (length front.new) true (R.Read.rest self.old.inner)) }
@@ -118,6 +123,7 @@ impl<R: BufRead> Counted<R> {
     #[tactic(auto, using(crate::proofs::AheadLines::ahead_none))]
     fn look_ahead(&mut self, decoder: &Decoder) -> Result<(), Error>
         ensures kept { Kept ⟦<R as Read>⟧ self.old.inner self.old.taken self.new.inner self.new.taken result }
+        ensures lines { self.new.lines ≡ self.old.lines }
         ensures same { IsTrue (R.Read.tells self.old.inner) → OnOk result (R.Read.rest self.new.inner ≡ R.Read.rest self.old.inner) }
         ensures taken { self.new.taken ≡ self.old.taken }
         ensures cause { IsTrue (R.Read.tells self.old.inner) → IfErr result (λ e. e ≢ OutOfMemory → IsQuiet (R.Read.faults self.old.inner) (R.Read.faults self.new.inner) →
@@ -144,11 +150,13 @@ impl<R: BufRead> Counted<R> {
         ensures kept { Kept ⟦<R as Read>⟧ self.old.inner self.old.taken self.new.inner self.new.taken result }
         ensures full { IsTrue (R.Read.tells self.old.inner) → TakesFull bytes.new (R.Read.rest self.old.inner) (R.Read.rest self.new.inner) }
         ensures taken { IsTrue (R.Read.tells self.old.inner) → self.new.taken ≡ self.old.taken + 65 }
+        ensures lines { self.new.lines ≡ one_line_more self.old.lines }
     {
         bytes.copy_from_slice(&self.ahead[self.next..self.next + LINE]);
         known_bytes(bytes);
         self.inner.consume(LINE_TEXT);
         self.taken = self.taken.saturating_add(65);
+        self.lines = self.lines.saturating_add(1);
         self.next += LINE;
         self.left -= 1;
         Ok(true)
@@ -165,6 +173,8 @@ impl<R: BufRead> Counted<R> {
         ensures none { IsTrue (R.Read.tells self.old.inner) → IfOk result (λ is. is ≡ false → R.Read.rest self.new.inner ≡ R.Read.rest self.old.inner) }
         ensures full { IsTrue (R.Read.tells self.old.inner) → IfOk result (λ is. IsTrue is → TakesFull bytes.new (R.Read.rest self.old.inner) (R.Read.rest self.new.inner)) }
         ensures taken { IsTrue (R.Read.tells self.old.inner) → IfOk result (λ is. IsTrue is → self.new.taken ≡ self.old.taken + 65) }
+        ensures lines { IfOk result (λ is. self.new.lines ≡ (if is then one_line_more self.old.lines else self.old.lines)) }
+        ensures none_taken { OnErr result (self.new.lines ≡ self.old.lines) }
         ensures cause { IsTrue (R.Read.tells self.old.inner) → IfErr result (λ e. e ≢ OutOfMemory → IsQuiet (R.Read.faults self.old.inner) (R.Read.faults self.new.inner) →
             IsFault (R.Read.rest self.old.inner)) }
     {
@@ -181,6 +191,9 @@ impl<R: BufRead> Counted<R> {
     /// Takes a line up to its LF, or to the end, and puts it in `line`. It is empty at a clean end alone.
     pub(crate) fn take_line(&mut self, line: &mut Vec<u8>) -> Result<(), Error>
         ensures kept { Kept ⟦<R as Read>⟧ self.old.inner self.old.taken self.new.inner self.new.taken result }
+        ensures lines { OnOk result (0 < length line.new.items → self.new.lines ≡ one_line_more self.old.lines) }
+        ensures no_line { OnOk result (length line.new.items ≡ 0 → self.new.lines ≡ self.old.lines) }
+        ensures none_taken { OnErr result (self.new.lines ≡ self.old.lines) }
         ensures taken { IsTrue (R.Read.tells self.old.inner) → OnOk result (self.new.taken ≡ self.old.taken + length line.new.items) }
         ensures line { IsTrue (R.Read.tells self.old.inner) → OnOk result (TakesLine line.new.items (R.Read.rest self.old.inner) (R.Read.rest self.new.inner)) }
         ensures cause { IsTrue (R.Read.tells self.old.inner) → IfErr result (λ e. e ≢ OutOfMemory → IsQuiet (R.Read.faults self.old.inner) (R.Read.faults self.new.inner) →
@@ -196,8 +209,17 @@ impl<R: BufRead> Counted<R> {
                 Err(e) => return Err(e),
                 Ok(run) => match run {
                     Run::Open => {}
-                    Run::Nothing => return Ok(()),
-                    Run::Ended => return Ok(()),
+                    Run::Nothing => {
+                        if line.is_empty() {
+                            return Ok(());
+                        }
+                        self.lines = self.lines.saturating_add(1);
+                        return Ok(());
+                    }
+                    Run::Ended => {
+                        self.lines = self.lines.saturating_add(1);
+                        return Ok(());
+                    }
                 },
             }
         }
@@ -206,6 +228,7 @@ impl<R: BufRead> Counted<R> {
     /// Takes what follows the end marker's line: white space and then a clean end. `room` is room to read into.
     pub(crate) fn take_trailing(&mut self, room: &mut [u8; 48]) -> Result<(), Error>
         ensures kept { Kept ⟦<R as Read>⟧ self.old.inner self.old.taken self.new.inner self.new.taken result }
+        ensures lines { self.new.lines ≡ self.old.lines }
         ensures clean { IsTrue (R.Read.tells self.old.inner) → OnOk result (trailing (R.Read.rest self.old.inner).bytes (R.Read.rest self.old.inner).ends_well ≡ Clean) }
         ensures cause { IsTrue (R.Read.tells self.old.inner) → IfErr result (λ e. e ≢ OutOfMemory → IsQuiet (R.Read.faults self.old.inner) (R.Read.faults self.new.inner) →
             IsNamed (trailing (R.Read.rest self.old.inner).bytes (R.Read.rest self.old.inner).ends_well) e) }

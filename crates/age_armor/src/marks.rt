@@ -1,9 +1,10 @@
 //! What is known of a text that was read before.
-ghost use Rattle.std.specs.Prelude.{◌≡◌, ℕ, ◌≤◌, ◌<◌, Bool, true, false, IsTrue};
+ghost use Rattle.std.specs.Prelude.{◌≡◌, ℕ, ◌+◌, ◌%◌, ◌^◌, ◌≤◌, ◌<◌, ◌⊎◌, Bool, true, false, IsTrue, length, Some, None};
 ghost use Rattle.age_io.specs.Stretch.{Stretch};
 ghost use Rattle.age_armor.specs.declared.stages.Stage.TheVariants.{Lines};
-ghost use Rattle.age_armor.specs.Stages.{is_start};
-ghost use Rattle.age_armor.specs.Marks.{CanResume, IsLength, Knows};
+ghost use Rattle.age_armor.specs.Stages.{is_start, is_ended};
+ghost use Rattle.age_armor.specs.Delivered.{begins_armor};
+ghost use Rattle.age_armor.specs.Marks.{carried, CanResume, IsLength, Knows, LearnsMore, EndsBefore, reach};
 
 use crate::stages::Stage;
 use std::alloc::Global;
@@ -27,39 +28,65 @@ pub(crate) struct Marks {
     // Whether memory for a mark was never refused. Once it was, no further one is noted.
     noting: bool,
     length: Option<u64>,
+    // Up to where the text was read, as a place in what it carries.
+    furthest: u64,
+}
+
+// Whether a line comes next that follows on full ones alone.
+fn is_after_full(stage: Stage) -> bool
+    ensures yes { IsTrue result → stage ≡ Lines false }
+    ensures no { result ≡ false → stage ≡ Lines false → ⊥ }
+{
+    matches!(stage, Stage::Lines(false))
 }
 
 impl Marks {
     /// Of a text of which nothing was read. It takes no memory.
     pub(crate) fn new(alloc: Global) -> Marks
-        ensures { (steady : Bool) (text : Stretch) → Knows steady text result }
+        ensures knows { (steady : Bool) (text : Stretch) → Knows steady text result }
+        ensures none { (result.furthest ≡ 0) × (result.noting ≡ true) × (result.length ≡ None) }
     {
         Marks {
             taken: Vec::new(alloc),
             noting: true,
             length: None,
+            furthest: 0,
         }
     }
 
     /// Takes note that so many bytes were read at this stage, place and number of bytes of the text. None are read at the text's end alone.
     pub(crate) fn learn(&mut self, stage: Stage, place: u64, taken: u64, count: usize)
-        ensures { (steady : Bool) (text : Stretch) → Knows steady text self.old → (count ≡ 0 → IsTrue steady → IsLength text place) →
-            (0 < count → stage ≡ Lines false → CanResume steady text (Lines false) place taken) → Knows steady text self.new }
+        ensures knows { (steady : Bool) (text : Stretch) → Knows steady text self.old → place ≤ self.old.furthest →
+            (count ≡ 0 → IsTrue steady → IsLength text place) →
+            (0 < count → stage ≡ Lines false → CanResume steady text (Lines false) place taken) →
+            (IsTrue steady → place + count ≤ length (carried text).bytes) →
+            (IsTrue steady → IsTrue (begins_armor text.bytes) → 0 < count → (place % 48 ≡ 0) × (count ≤ 48) × ((stage ≡ Lines false) ⊎ (place ≡ 0))) →
+            Knows steady text self.new }
+        ensures reaches { place + count < 2 ^ 64 → place ≤ self.old.furthest → place + count ≤ self.new.furthest }
+        ensures more { LearnsMore self.old self.new }
+        ensures ends { count ≡ 0 → self.new.length ≡ Some place }
     {
         if count == 0 {
             self.length = Some(place);
             return;
         }
-        match stage {
-            Stage::Lines(false) => self.note(place, taken),
-            _ => {}
-        }
+        self.note(stage, place, taken);
+        self.furthest = self.furthest.max(place.saturating_add(count as u64));
     }
 
-    // Notes a full line, or the first, where it is the next of those that are noted.
-    fn note(&mut self, place: u64, taken: u64)
-        ensures { (steady : Bool) (text : Stretch) → Knows steady text self.old → CanResume steady text (Lines false) place taken → Knows steady text self.new }
+    // Notes the place, where it is the next of those that are noted.
+    fn note(&mut self, stage: Stage, place: u64, taken: u64)
+        ensures knows { (steady : Bool) (text : Stretch) → Knows steady text self.old → place ≤ self.old.furthest →
+            (stage ≡ Lines false → CanResume steady text (Lines false) place taken) → Knows steady text self.new }
+        ensures next { IsTrue self.new.noting → stage ≡ Lines false → place % 48 ≡ 0 → place ≤ reach (length self.old.taken.items) →
+            place + 48 ≤ reach (length self.new.taken.items) }
+        ensures furthest { self.new.furthest ≡ self.old.furthest }
+        ensures length { self.new.length ≡ self.old.length }
+        ensures stops { IsTrue self.new.noting → IsTrue self.old.noting }
     {
+        if !is_after_full(stage) {
+            return;
+        }
         if !self.noting || place % SPAN != 0 || place / SPAN != self.taken.len() as u64 + 1 {
             return;
         }
@@ -71,9 +98,13 @@ impl Marks {
 
     /// The last mark that isn't after a place, or the front of the text.
     pub(crate) fn last(&self, place: u64) -> Mark
-        ensures each { (steady : Bool) (text : Stretch) → Knows steady text self.now → CanResume steady text result.stage result.place result.taken }
+        ensures each { (steady : Bool) (text : Stretch) → Knows steady text self.now →
+            CanResume steady text result.stage result.place result.taken × (result.place ≤ self.now.furthest) }
         ensures before { result.place ≤ place }
-        ensures front { is_start result.stage ≡ true → result.taken ≡ 0 }
+        ensures near { place ≤ reach (length self.now.taken.items) → place ≤ result.place + 49152 }
+        ensures front { is_start result.stage ≡ true → (result.taken ≡ 0) × (result.place ≡ 0) }
+        ensures going { is_ended result.stage ≡ false }
+        ensures whole { result.place % 48 ≡ 0 }
     {
         let front = Mark {
             stage: Stage::Start,
@@ -91,6 +122,17 @@ impl Marks {
                 place: SPAN * count,
                 taken: *taken,
             },
+        }
+    }
+
+    /// Whether the text's end was read, and stands before a place.
+    pub(crate) fn ends_before(&self, place: u64) -> bool
+        ensures yes { IsTrue result → EndsBefore self.now.length place }
+        ensures no { result ≡ false → (n : ℕ) → self.now.length ≡ Some n → place ≤ n }
+    {
+        match self.length {
+            None => false,
+            Some(length) => length < place,
         }
     }
 

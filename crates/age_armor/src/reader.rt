@@ -18,7 +18,8 @@ ghost use Rattle.age_armor.specs.declared.stages.Stage.TheVariants.{Binary};
 ghost use Rattle.age_armor.specs.Ahead.{outcome_ahead, rest_ahead, shown_ahead};
 ghost use Rattle.age_armor.specs.DeliveredLaws.{content_of, content_bytes, content_short, stands_by};
 ghost use Rattle.age_armor.specs.ReaderLaws.{spent_ahead, well_inner};
-ghost use Rattle.age_armor.specs.Marks.{Knows};
+ghost use Rattle.age_armor.specs.Counting.{TakesLines};
+ghost use Rattle.age_armor.specs.Marks.{Knows, IsPaced, LearnsMore, is_known};
 ghost use Rattle.age_armor.specs.Seeking.{text_outcome};
 
 use crate::counted::Counted;
@@ -74,10 +75,17 @@ pub struct ArmoredReader<R: BufRead> {
         ≡ (text_outcome (R.Read.content source.inner) (R.Read.place source.inner - source.taken)).ending },
     ghost known: { IsTrue (R.Read.tells source.inner) → Knows (R.Read.steady source.inner)
         (from_place (R.Read.place source.inner - source.taken) (R.Read.content source.inner)) marks },
+    ghost done: { is_ended stage ≡ true → is_known marks.length ≡ true },
+    ghost here: { IsTrue (R.Read.tells source.inner) → IsTrue (R.Read.steady source.inner) → failed ≡ false → is_start stage ≡ false →
+        (rest_ahead failed bytes given filled stage (R.Read.rest source.inner)
+        ≡ from_place place (content_of (R.Read.content source.inner) (R.Read.place source.inner - source.taken)))
+        × ((outcome_ahead bytes given filled stage (R.Read.rest source.inner)).ending
+        ≡ (text_outcome (R.Read.content source.inner) (R.Read.place source.inner - source.taken)).ending) },
+    ghost paced: { IsTrue (R.Read.tells source.inner) → failed ≡ false → IsPaced stage place (filled - given) marks.furthest },
 }
 
 impl<R: BufRead> Read for ArmoredReader<R> {
-    ghost use Rattle.age_armor.specs.Reader.{inner_of, has_failed, has_armor, text_of, outcome_of, text_outcome_of, armored_content, place_of, armored_rest, refuses_of, shown_of};
+    ghost use Rattle.age_armor.specs.Reader.{inner_of, has_failed, has_armor, text_of, outcome_of, text_outcome_of, knows_end, armored_content, place_of, armored_rest, refuses_of, shown_of, Learns};
 
     ghost tells = { λ r. R.Read.tells (inner_of r) };
 
@@ -150,6 +158,10 @@ impl<R: BufRead> Read for ArmoredReader<R> {
         ensures spared { IsTrue (R.Read.tells (inner_of self.old)) → IsTrue (R.Read.steady (inner_of self.old)) →
             IsTrue (begins_armor (text_of self.old).bytes) → OnErr result (buf.new ≡ buf.old) }
 
+        // What it knows of the text only grows, and of its end it knows once it answers 0.
+        ensures learns { Learns self.old self.new result }
+        ensures knows { 0 < length buf.old → IfOk result (λ n. n ≡ 0 → IsTrue (knows_end self.new)) }
+
         ensures failed { IsTrue (has_failed self.old) → (result ≡ Err Failed) × (self.new ≡ self.old) }
         ensures empty { has_failed self.old ≡ false → length buf.old ≡ 0 → (result ≡ Ok 0) × (self.new ≡ self.old) }
     {
@@ -164,7 +176,7 @@ impl<R: BufRead> Read for ArmoredReader<R> {
 }
 
 impl<R: BufRead> ArmoredReader<R> {
-    ghost use Rattle.age_armor.specs.Reader.{inner_of, has_failed, has_armor, taken_of, text_of, outcome_of, text_outcome_of, armored_content, place_of, armored_rest, shown_of};
+    ghost use Rattle.age_armor.specs.Reader.{inner_of, has_failed, has_armor, taken_of, text_of, outcome_of, text_outcome_of, lines_of, furthest_of, notes_all, knows_end, armored_content, place_of, armored_rest, shown_of, Learns};
     ghost use Rattle.age_armor.specs.Seeking.{Goes, text_outcome};
 
     /// A reader of what the text carries that begins where `inner` stands.
@@ -183,6 +195,7 @@ impl<R: BufRead> ArmoredReader<R> {
         ensures whole { IfOk result (λ r. text_outcome_of r ≡ text_outcome (R.Read.content inner) (R.Read.place inner)) }
         ensures form { IfOk result (λ r. has_armor r ≡ false) }
         ensures rest { IfOk result (λ r. armored_rest r ≡ stretch_of (delivered (R.Read.rest inner).bytes (R.Read.rest inner).ends_well)) }
+        ensures marks { IfOk result (λ r. (lines_of r ≡ 0) × (furthest_of r ≡ 0) × (notes_all r ≡ true) × (knows_end r ≡ false)) }
 
         // What it delivers to a clean end is what the inner reader's rest carries, and the other way.
         ensures carries { IsTrue (R.Read.tells inner) → IfOk result (λ r. IsTrue (armored_rest r).ends_well →
@@ -197,6 +210,7 @@ impl<R: BufRead> ArmoredReader<R> {
             source: Counted {
                 inner,
                 taken: 0,
+                lines: 0,
                 ahead: [0; 768],
                 next: 0,
                 left: 0,
@@ -229,6 +243,14 @@ impl<R: BufRead> ArmoredReader<R> {
         self.source.inner
     }
 
+    /// How many lines were taken so far: one for each line after the begin marker's, up to and with the end marker's, that a read,
+    /// a look or a seek took, each time that it did. It is 0 of a binary text, and stays at 2^64 - 1.
+    pub fn lines(&self) -> u64
+        ensures { result ≡ lines_of self.now }
+    {
+        self.source.lines
+    }
+
     // A read of a good reader into a buffer that isn't empty.
     #[tactic(auto, using(crate::proofs::Ahead::rest_failed, crate::proofs::Ahead::shown_small))]
     pub(crate) fn read_on(&mut self, buf: &mut [u8]) -> Result<usize, Error>
@@ -249,6 +271,10 @@ impl<R: BufRead> ArmoredReader<R> {
             OnOk result (has_armor self.new ≡ begins_armor (text_of self.old).bytes) }
         ensures spared { IsTrue (R.Read.tells self.old.source.inner) → IsTrue (R.Read.steady self.old.source.inner) →
             IsTrue (begins_armor (text_of self.old).bytes) → OnErr result (buf.new ≡ buf.old) }
+        ensures counts { IsTrue (R.Read.tells self.old.source.inner) → OnOk result (TakesLines self.old.stage self.new.stage
+            self.old.place (self.old.filled - self.old.given) self.old.source.lines self.new.place (self.new.filled - self.new.given) self.new.source.lines) }
+        ensures learns { Learns self.old self.new result }
+        ensures knows { IfOk result (λ n. n ≡ 0 → IsTrue (knows_end self.new)) }
         ensures fails { OnErr result (self.new.failed ≡ true) }
         ensures good { OnOk result (self.new.failed ≡ false) }
     {
@@ -295,6 +321,10 @@ impl<R: BufRead> ArmoredReader<R> {
         ensures shown { shown_of self.old ≡ [] }
         ensures binary { has_armor self.new ≡ false }
         ensures stage { self.new.stage ≡ Binary }
+        ensures lines { self.new.source.lines ≡ self.old.source.lines }
+        ensures holds { (self.new.given ≡ self.old.given) × (self.new.filled ≡ self.old.filled) }
+        ensures learns { LearnsMore self.old.marks self.new.marks }
+        ensures knows { IfOk result (λ n. n ≡ 0 → IsTrue (knows_end self.new)) }
         ensures fails { OnErr result (self.new.failed ≡ true) }
         ensures good { OnOk result (self.new.failed ≡ false) }
     {
@@ -335,6 +365,11 @@ impl<R: BufRead> ArmoredReader<R> {
         ensures ending { IsTrue (R.Read.tells self.old.source.inner) → OnOk result ((outcome_of self.new).ending ≡ (outcome_of self.old).ending) }
         ensures same { 0 < length (shown_of self.old) → (result ≡ Ok tt) × (shown_of self.new ≡ shown_of self.old) }
         ensures begun { OnOk result (is_start self.new.stage ≡ false) }
+        ensures counts { IsTrue (R.Read.tells self.old.source.inner) → OnOk result (TakesLines self.old.stage self.new.stage
+            self.old.place (self.old.filled - self.old.given) self.old.source.lines self.new.place (self.new.filled - self.new.given) self.new.source.lines) }
+        ensures lines { self.new.source.lines ≤ self.old.source.lines + 1 }
+        ensures learns { LearnsMore self.old.marks self.new.marks }
+        ensures knows { OnOk result (self.new.given ≡ self.new.filled → IsTrue (knows_end self.new)) }
         ensures failed { OnErr result (self.new.failed ≡ true) }
         ensures cause { IsTrue (R.Read.tells self.old.source.inner) → IfErr result (λ e. e ≢ OutOfMemory →
             IsQuiet (R.Read.faults self.old.source.inner) (R.Read.faults self.new.source.inner) → IsFault (armored_rest self.old)) }
@@ -380,7 +415,10 @@ impl<R: BufRead> ArmoredReader<R> {
         ensures bytes { Delivers (take result buf.new) (armored_rest self.old) (armored_rest self.new) }
         ensures beyond { drop result buf.new ≡ drop result buf.old }
         ensures ending { (outcome_of self.new).ending ≡ (outcome_of self.old).ending }
+        ensures marks { self.new.marks ≡ self.old.marks }
         ensures moves { IsTrue (R.Read.tells self.old.source.inner) → self.new.place ≡ self.old.place + result }
+        ensures sum { IsTrue (R.Read.tells self.old.source.inner) →
+            self.new.place + (self.new.filled - self.new.given) ≡ self.old.place + (self.old.filled - self.old.given) }
     {
         let count = buf.len().min(self.filled - self.given);
         buf[..count].copy_from_slice(&self.bytes[self.given..self.given + count]);
@@ -410,7 +448,7 @@ impl<R: BufRead> fmt::Debug for ArmoredReader<R> {
 }
 
 impl<R: BufRead> BufRead for ArmoredReader<R> {
-    ghost use Rattle.age_armor.specs.Reader.{inner_of, has_failed, has_armor, text_of, outcome_of, text_outcome_of, shown_of};
+    ghost use Rattle.age_armor.specs.Reader.{inner_of, has_failed, has_armor, text_of, outcome_of, text_outcome_of, lines_of, marks_of, knows_end, shown_of, Learns};
 
     ghost shown = { shown_of };
 
@@ -419,7 +457,9 @@ impl<R: BufRead> BufRead for ArmoredReader<R> {
         (outcome_of old).ending (outcome_of new).ending result
         × (IsTrue (R.Read.tells (inner_of old)) → text_outcome_of new ≡ text_outcome_of old)
         × (IsTrue (R.Read.tells (inner_of old)) → text_of new ≡ text_of old)
-        × (IsTrue (R.Read.tells (inner_of old)) → IsTrue (R.Read.steady (inner_of old)) → OnOk result (has_armor new ≡ begins_armor (text_of old).bytes)) };
+        × (IsTrue (R.Read.tells (inner_of old)) → IsTrue (R.Read.steady (inner_of old)) → OnOk result (has_armor new ≡ begins_armor (text_of old).bytes))
+        × Learns old new result
+        × OnOk result (shown_of new ≡ [] → IsTrue (knows_end new)) };
 
     /// Shows what is held of a line, or the next line's bytes where nothing is held.
     ///
@@ -445,6 +485,8 @@ impl<R: BufRead> BufRead for ArmoredReader<R> {
         ensures whole { text_outcome_of self.new ≡ text_outcome_of self.old }
         ensures same_text { text_of self.new ≡ text_of self.old }
         ensures form { has_armor self.new ≡ has_armor self.old }
+        ensures marks { marks_of self.new ≡ marks_of self.old }
+        ensures lines { lines_of self.new ≡ lines_of self.old }
     {
         self.given += amount;
         self.place = self.place.saturating_add(amount as u64);
@@ -452,7 +494,7 @@ impl<R: BufRead> BufRead for ArmoredReader<R> {
 }
 
 impl<R: Read> ArmoredReader<BufReader<R>> {
-    ghost use Rattle.age_armor.specs.Reader.{has_failed, has_armor, text_of, outcome_of, text_outcome_of, armored_content, place_of, armored_rest, shown_of};
+    ghost use Rattle.age_armor.specs.Reader.{has_failed, has_armor, text_of, outcome_of, text_outcome_of, lines_of, furthest_of, notes_all, knows_end, armored_content, place_of, armored_rest, shown_of};
     ghost use Rattle.age_armor.specs.Seeking.{text_outcome};
 
     /// A reader of what the text carries that begins where `inner` stands, over a buffer of its own.
@@ -473,6 +515,7 @@ impl<R: Read> ArmoredReader<BufReader<R>> {
         ensures whole { IfOk result (λ r. text_outcome_of r ≡ text_outcome (R.content inner) (R.place inner)) }
         ensures form { IfOk result (λ r. has_armor r ≡ false) }
         ensures rest { IfOk result (λ r. armored_rest r ≡ stretch_of (delivered (R.rest inner).bytes (R.rest inner).ends_well)) }
+        ensures marks { IfOk result (λ r. (lines_of r ≡ 0) × (furthest_of r ≡ 0) × (notes_all r ≡ true) × (knows_end r ≡ false)) }
         ensures carries { IsTrue (R.tells inner) → IfOk result (λ r. IsTrue (armored_rest r).ends_well →
             IsTrue (R.rest inner).ends_well × (AreBytes (R.rest inner).bytes → Carries (R.rest inner).bytes (armored_rest r).bytes)) }
         ensures honest { (bytes : List ℕ) → IsTrue (R.rest inner).ends_well → Carries (R.rest inner).bytes bytes →

@@ -1,5 +1,5 @@
 //! Seeks in armor.
-ghost use Rattle.std.specs.Prelude.{◌≡◌, ◌≢◌, ℕ, ◌+◌, ◌-◌, ◌^◌, ◌≤◌, ◌<◌, Bool, true, false, IsTrue, List, [], length, Result, IfOk, IfErr, OnOk, OnErr, Ok, Err, Some, None, IfSome};
+ghost use Rattle.std.specs.Prelude.{◌≡◌, ◌≢◌, ℕ, ◌+◌, ◌*◌, ◌-◌, ◌^◌, ◌≤◌, ◌<◌, Bool, true, false, IsTrue, List, [], length, Result, IfOk, IfErr, OnOk, OnErr, Ok, Err, Some, None, IfSome};
 ghost use Rattle.age_error.specs.Refusals.{IsDevice, IsInterruption};
 ghost use Rattle.age_error.specs.declared.io.Error.TheVariants.{OutOfMemory, BeforeStart, PastEnd};
 ghost use Rattle.age_error.specs.declared.io.SeekFrom.TheVariants.{Start, End, Current};
@@ -7,11 +7,14 @@ ghost use Rattle.age_io.specs.Stretch.{Stretch, nothing, from_place, IsCleanEnd}
 ghost use Rattle.age_io.specs.Reading.{IsQuiet, AddsNoReason, TriedAgain, most_faults};
 ghost use Rattle.age_io.specs.Keeping.{OrSeek};
 ghost use Rattle.age_io.specs.Cursor.{Seeks, IsOutside, IsSeekRefusal, place_at as place_by, sought as sought_by};
-ghost use Rattle.age_armor.specs.Seeking.{Goes, AsksPast, IsEarly, IsFromEnd, SeeksText, ComesBack};
-ghost use Rattle.age_armor.specs.Stages.{IsNamed};
+ghost use Rattle.age_armor.specs.Delivered.{begins_armor};
+ghost use Rattle.age_armor.specs.Seeking.{Goes, AsksPast, IsEarly, IsFromEnd, IsNear, IsTo, SeeksText, ComesBack};
+ghost use Rattle.age_armor.specs.Marks.{LearnsMore};
+ghost use Rattle.age_armor.specs.Stages.{IsNamed, is_start};
 
 use crate::counted::Counted;
 use crate::reader::ArmoredReader;
+use crate::stages::Stage;
 use age_error::io::{Error, SeekFrom};
 use age_io::{BufRead, Read, Seek, distance_back, is_outside, place_at, seek_retrying, unrefused};
 
@@ -48,6 +51,14 @@ fn distance(from: u64, to: u64) -> i64
     }
 }
 
+// Whether anything was read.
+fn has_begun(stage: Stage) -> bool
+    ensures yes { IsTrue result → is_start stage ≡ false }
+    ensures no { result ≡ false → is_start stage ≡ true }
+{
+    !matches!(stage, Stage::Start)
+}
+
 impl<R: BufRead + Seek> Counted<R> {
     /// Goes to where so many bytes of the text had been taken.
     #[tactic(auto, using(crate::proofs::AheadLines::ahead_none))]
@@ -55,6 +66,7 @@ impl<R: BufRead + Seek> Counted<R> {
         ensures goes { Goes ⟦<R as Read>⟧ (OrSeek (TriedAgain R.Read.refuses)) self.old.inner self.new.inner result }
         ensures taken { OnOk result (self.new.taken ≡ taken) }
         ensures stays { OnErr result (self.new.taken ≡ self.old.taken) }
+        ensures lines { self.new.lines ≡ self.old.lines }
         ensures origin { IsTrue (R.Read.tells self.old.inner) →
             R.Read.place self.new.inner - self.new.taken ≡ R.Read.place self.old.inner - self.old.taken }
         ensures rest { IsTrue (R.Read.tells self.old.inner) → IsTrue (R.Read.steady self.old.inner) → OnOk result
@@ -82,7 +94,7 @@ impl<R: BufRead + Seek> Counted<R> {
 }
 
 impl<R: BufRead + Seek> ArmoredReader<R> {
-    ghost use Rattle.age_armor.specs.Reader.{inner_of, text_of, outcome_of, text_outcome_of, armored_content, armored_rest};
+    ghost use Rattle.age_armor.specs.Reader.{inner_of, text_of, outcome_of, text_outcome_of, furthest_of, notes_all, knows_end, armored_content, armored_rest};
 
     // Goes to the last mark that isn't after a place, or to the front of the text.
     fn approach(&mut self, target: u64) -> Result<(), Error>
@@ -97,6 +109,10 @@ impl<R: BufRead + Seek> ArmoredReader<R> {
         ensures rest { IsTrue (R.Read.tells (inner_of self.old)) → IsTrue (R.Read.steady (inner_of self.old)) → OnOk result
             (armored_rest self.new ≡ from_place self.new.place (armored_content self.old)) }
         ensures other { IfErr result (λ e. IsOutside e → ⊥) }
+        ensures lines { self.new.source.lines ≡ self.old.source.lines }
+        ensures marks { self.new.marks ≡ self.old.marks }
+        ensures near { IsTrue (R.Read.tells (inner_of self.old)) → IsTrue (R.Read.steady (inner_of self.old)) → IsTrue (notes_all self.old) →
+            IsTrue (begins_armor (text_of self.old).bytes) → target ≤ furthest_of self.old → OnOk result (target ≤ self.new.place + 49152) }
         ensures cause { IsTrue (R.Read.tells (inner_of self.old)) → IsTrue (R.Read.content (inner_of self.old)).ends_well →
             IfErr result (λ e. e ≢ OutOfMemory → IsQuiet (R.Read.faults (inner_of self.old)) (R.Read.faults (inner_of self.new)) → ⊥) }
     {
@@ -119,7 +135,7 @@ impl<R: BufRead + Seek> ArmoredReader<R> {
 }
 
 impl<R: BufRead> ArmoredReader<R> {
-    ghost use Rattle.age_armor.specs.Reader.{inner_of, text_of, outcome_of, text_outcome_of, armored_content, armored_rest};
+    ghost use Rattle.age_armor.specs.Reader.{inner_of, text_of, outcome_of, text_outcome_of, furthest_of, notes_all, knows_end, armored_content, armored_rest};
 
     // Reads on to a place, or to a clean end before it, and tells whether it came to the place.
     fn walk(&mut self, target: u64) -> Result<bool, Error>
@@ -142,6 +158,15 @@ impl<R: BufRead> ArmoredReader<R> {
             IsQuiet (R.Read.faults (inner_of self.old)) (R.Read.faults (inner_of self.new)) → IsNamed (outcome_of self.old).ending e) }
         ensures ending { IsTrue (R.Read.tells (inner_of self.old)) → OnOk result ((outcome_of self.new).ending ≡ (outcome_of self.old).ending) }
         ensures same_text { IsTrue (R.Read.tells (inner_of self.old)) → text_of self.new ≡ text_of self.old }
+
+        // Each line but the last that it takes stands for 48 bytes on the way, and of a binary text it takes none.
+        ensures lines { IsTrue (R.Read.tells (inner_of self.old)) → IsTrue (R.Read.steady (inner_of self.old)) →
+            armored_rest self.old ≡ from_place self.old.place (armored_content self.old) → target ≤ length (armored_content self.old).bytes →
+            IfOk result (λ there. IsTrue there → 48 * self.new.source.lines + self.old.place < 48 * self.old.source.lines + target + 48) }
+        ensures bare { IsTrue (R.Read.tells (inner_of self.old)) → IsTrue (R.Read.steady (inner_of self.old)) → begins_armor (text_of self.old).bytes ≡ false →
+            OnOk result (self.new.source.lines ≡ self.old.source.lines) }
+        ensures learns { LearnsMore self.old.marks self.new.marks }
+        ensures knows { IfOk result (λ there. there ≡ false → IsTrue (knows_end self.new)) }
     {
         let mut room = [0; 1024];
         let mut left = target - self.place;
@@ -158,9 +183,20 @@ impl<R: BufRead> ArmoredReader<R> {
 }
 
 impl<R: BufRead + Seek> ArmoredReader<R> {
-    ghost use Rattle.age_armor.specs.Reader.{inner_of, text_of, outcome_of, text_outcome_of, armored_content, armored_rest};
+    ghost use Rattle.age_armor.specs.Reader.{inner_of, text_of, outcome_of, text_outcome_of, furthest_of, notes_all, knows_end, armored_content, armored_rest};
 
-    // Goes to a place.
+    // Whether a reader that has begun, and hasn't failed, stands at a place.
+    fn is_at(&self, place: u64) -> bool
+        ensures yes { IsTrue result → (self.now.failed ≡ false) × (is_start self.now.stage ≡ false) × (self.now.place ≡ place) }
+        ensures no { result ≡ false → self.now.failed ≡ false → is_start self.now.stage ≡ false → self.now.place ≡ place → ⊥ }
+    {
+        if self.failed || self.place != place {
+            return false;
+        }
+        has_begun(self.stage)
+    }
+
+    // Goes to a place. Nothing is read where it stands there, or where the text is known to end before it.
     fn go_to(&mut self, target: u64) -> Result<u64, Error>
         ensures goes { let reader = ⟦<ArmoredReader<R> as Read>⟧ in Goes reader (OrSeek reader.refuses) self.old self.new result }
         ensures missed { IfErr result (λ e. IsOutside e → AddsNoReason ⟦<ArmoredReader<R> as Read>⟧.refuses self.old self.new) }
@@ -177,7 +213,22 @@ impl<R: BufRead + Seek> ArmoredReader<R> {
         ensures same_text { IsTrue (R.Read.tells (inner_of self.old)) → text_of self.new ≡ text_of self.old }
         ensures ending { IsTrue (R.Read.tells (inner_of self.old)) → IsTrue (R.Read.steady (inner_of self.old)) → OnOk result
             ((outcome_of self.new).ending ≡ (text_outcome_of self.old).ending) }
+        ensures lines { IsTrue (R.Read.tells (inner_of self.old)) → IsTrue (R.Read.steady (inner_of self.old)) → IsTrue (notes_all self.old) →
+            target ≤ furthest_of self.old → OnOk result (self.new.source.lines ≤ self.old.source.lines + 1024) }
+        ensures learns { LearnsMore self.old.marks self.new.marks }
+        ensures outside { IsTrue (R.Read.tells (inner_of self.old)) → IsTrue (R.Read.steady (inner_of self.old)) → IsTrue (knows_end self.old) →
+            IfErr result (λ e. IsOutside e → self.new ≡ self.old) }
+        ensures still { self.old.failed ≡ false → is_start self.old.stage ≡ false → self.old.place ≡ target →
+            (result ≡ Ok target) × (self.new ≡ self.old) }
+        ensures unmoved { IsTrue (R.Read.tells (inner_of self.old)) → IsTrue (R.Read.steady (inner_of self.old)) → self.old.failed ≡ false → self.old.place ≡ target →
+            OnOk result (self.new.source.lines ≤ self.old.source.lines) }
     {
+        if self.is_at(target) {
+            return Ok(target);
+        }
+        if self.marks.ends_before(target) {
+            return Err(Error::PastEnd);
+        }
         match self.approach(target) {
             Err(e) => return Err(e),
             Ok(()) => {}
@@ -210,6 +261,8 @@ impl<R: BufRead + Seek> ArmoredReader<R> {
             IfErr result (λ e. (IsOutside e → ⊥) → e ≢ OutOfMemory → IsQuiet (R.Read.faults (inner_of self.old)) (R.Read.faults (inner_of self.new)) →
             IsNamed (text_outcome_of self.old).ending e) }
         ensures same_text { IsTrue (R.Read.tells (inner_of self.old)) → text_of self.new ≡ text_of self.old }
+        ensures learns { LearnsMore self.old.marks self.new.marks }
+        ensures knows { OnOk result (IsTrue (knows_end self.new)) }
         ensures ending { IsTrue (R.Read.tells (inner_of self.old)) → IsTrue (R.Read.steady (inner_of self.old)) → OnOk result
             ((outcome_of self.new).ending ≡ (text_outcome_of self.old).ending) }
     {
@@ -237,6 +290,21 @@ impl<R: BufRead + Seek> ArmoredReader<R> {
         }
     }
 
+    // The target at a distance from the end, which is known.
+    fn target_from_end(&self, len: u64, distance: i64) -> Result<u64, Error>
+        requires { self.now.marks.length ≡ Some len }
+        ensures well { IsTrue (R.Read.tells (inner_of self.now)) → IsTrue (R.Read.steady (inner_of self.now)) → IsTrue (armored_content self.now).ends_well }
+        ensures exact { IsTrue (R.Read.tells (inner_of self.now)) → IsTrue (R.Read.steady (inner_of self.now)) → (place : ℕ) →
+            result ≡ sought_by (End distance) place (length (armored_content self.now).bytes) }
+        ensures within { IsTrue (R.Read.tells (inner_of self.now)) → IsTrue (R.Read.steady (inner_of self.now)) →
+            IfOk result (λ n. (n ≤ length (armored_content self.now).bytes) × (n ≤ furthest_of self.now)) }
+        ensures outside { IsTrue (R.Read.tells (inner_of self.now)) → IsTrue (R.Read.steady (inner_of self.now)) → IfErr result IsOutside }
+        ensures other { IfErr result (λ e. IsDevice e → ⊥) }
+        ensures why { IfErr result IsSeekRefusal }
+    {
+        from_end(len, distance)
+    }
+
     // Goes to a place counted from the end.
     fn go_from_end(&mut self, distance: i64) -> Result<u64, Error>
         ensures goes { let reader = ⟦<ArmoredReader<R> as Read>⟧ in Goes reader (OrSeek reader.refuses) self.old self.new result }
@@ -255,10 +323,16 @@ impl<R: BufRead + Seek> ArmoredReader<R> {
         ensures same_text { IsTrue (R.Read.tells (inner_of self.old)) → text_of self.new ≡ text_of self.old }
         ensures ending { IsTrue (R.Read.tells (inner_of self.old)) → IsTrue (R.Read.steady (inner_of self.old)) → OnOk result
             ((outcome_of self.new).ending ≡ (text_outcome_of self.old).ending) }
+        ensures lines { IsTrue (R.Read.tells (inner_of self.old)) → IsTrue (R.Read.steady (inner_of self.old)) → IsTrue (notes_all self.old) →
+            IsTrue (knows_end self.old) → OnOk result (self.new.source.lines ≤ self.old.source.lines + 1024) }
+        ensures learns { LearnsMore self.old.marks self.new.marks }
+        ensures knows { OnOk result (IsTrue (knows_end self.new)) }
+        ensures outside { IsTrue (R.Read.tells (inner_of self.old)) → IsTrue (R.Read.steady (inner_of self.old)) → IsTrue (knows_end self.old) →
+            IfErr result (λ e. IsOutside e → self.new ≡ self.old) }
     {
         match self.marks.length() {
             None => self.look_from_end(distance),
-            Some(len) => match from_end(len, distance) {
+            Some(len) => match self.target_from_end(len, distance) {
                 Err(e) => Err(e),
                 Ok(target) => self.go_to(target),
             },
@@ -275,6 +349,7 @@ impl<R: BufRead> ArmoredReader<R> {
         requires fits { IsTrue (R.Read.tells (inner_of self.old)) → place < 2 ^ 63 }
         requires inside { IsTrue (R.Read.tells (inner_of self.old)) → IsTrue (R.Read.steady (inner_of self.old)) → place ≤ length (armored_content self.old).bytes }
         ensures source { self.new.source ≡ self.old.source }
+        ensures marks { self.new.marks ≡ self.old.marks }
         ensures failed { self.new.failed ≡ true }
         ensures place { self.new.place ≡ place }
         ensures rest { armored_rest self.new ≡ nothing }
@@ -285,7 +360,7 @@ impl<R: BufRead> ArmoredReader<R> {
 }
 
 impl<R: BufRead + Seek> ArmoredReader<R> {
-    ghost use Rattle.age_armor.specs.Reader.{inner_of, has_failed, text_of, outcome_of, text_outcome_of, armored_content, place_of, armored_rest};
+    ghost use Rattle.age_armor.specs.Reader.{inner_of, has_failed, text_of, outcome_of, text_outcome_of, lines_of, marks_of, furthest_of, notes_all, knows_end, armored_content, place_of, armored_rest, shown_of};
 
     // Back to where it stood, once a seek was refused. After any other error it has failed there, and so has one that had
     // failed before.
@@ -294,6 +369,9 @@ impl<R: BufRead + Seek> ArmoredReader<R> {
         requires inside { IsTrue (R.Read.tells (inner_of self.old)) → IsTrue (R.Read.steady (inner_of self.old)) → place ≤ length (armored_content self.old).bytes }
         ensures back { ComesBack ⟦<ArmoredReader<R> as Read>⟧ (λ r. has_failed r) self.old self.new place failed error result }
         ensures same_text { IsTrue (R.Read.tells (inner_of self.old)) → text_of self.new ≡ text_of self.old }
+        ensures learns { LearnsMore self.old.marks self.new.marks }
+        ensures lines { IsTrue (R.Read.tells (inner_of self.old)) → IsTrue (R.Read.steady (inner_of self.old)) → self.old.failed ≡ failed → self.old.place ≡ place →
+            IsOutside result → self.new.source.lines ≤ self.old.source.lines }
         ensures ending { IsTrue (R.Read.tells (inner_of self.old)) → IsTrue (R.Read.steady (inner_of self.old)) → has_failed self.new ≡ false →
             (outcome_of self.new).ending ≡ (text_outcome_of self.old).ending }
     {
@@ -319,6 +397,13 @@ impl<R: BufRead + Seek> ArmoredReader<R> {
         ensures text { SeeksText ⟦<ArmoredReader<R> as Read>⟧ (λ r. has_failed r) self.old self.new (Start target)
             (R.Read.content (inner_of self.old)).ends_well (text_outcome_of self.old).ending result }
         ensures same_text { IsTrue (R.Read.tells (inner_of self.old)) → text_of self.new ≡ text_of self.old }
+        ensures lines { IsTrue (R.Read.tells (inner_of self.old)) → IsTrue (R.Read.steady (inner_of self.old)) → IsTrue (notes_all self.old) →
+            target ≤ furthest_of self.old → OnOk result (self.new.source.lines ≤ self.old.source.lines + 1024) }
+        ensures learns { LearnsMore self.old.marks self.new.marks }
+        ensures outside { IsTrue (R.Read.tells (inner_of self.old)) → IsTrue (R.Read.steady (inner_of self.old)) → IsTrue (knows_end self.old) →
+            IfErr result (λ e. IsOutside e → self.new.source.lines ≤ self.old.source.lines) }
+        ensures still { self.old.failed ≡ false → is_start self.old.stage ≡ false → self.old.place ≡ target →
+            (result ≡ Ok target) × (self.new ≡ self.old) }
         ensures ending { IsTrue (R.Read.tells (inner_of self.old)) → IsTrue (R.Read.steady (inner_of self.old)) → has_failed self.new ≡ false →
             (outcome_of self.new).ending ≡ (text_outcome_of self.old).ending }
     {
@@ -337,6 +422,12 @@ impl<R: BufRead + Seek> ArmoredReader<R> {
         ensures well { IsTrue (R.Read.tells (inner_of self.old)) → IsTrue (R.Read.steady (inner_of self.old)) →
             OnOk result (IsTrue (armored_content self.old).ends_well) }
         ensures same_text { IsTrue (R.Read.tells (inner_of self.old)) → text_of self.new ≡ text_of self.old }
+        ensures lines { IsTrue (R.Read.tells (inner_of self.old)) → IsTrue (R.Read.steady (inner_of self.old)) → IsTrue (notes_all self.old) →
+            IsTrue (knows_end self.old) → OnOk result (self.new.source.lines ≤ self.old.source.lines + 1024) }
+        ensures learns { LearnsMore self.old.marks self.new.marks }
+        ensures knows { OnOk result (IsTrue (knows_end self.new)) }
+        ensures outside { IsTrue (R.Read.tells (inner_of self.old)) → IsTrue (R.Read.steady (inner_of self.old)) → IsTrue (knows_end self.old) →
+            IfErr result (λ e. IsOutside e → self.new.source.lines ≤ self.old.source.lines) }
         ensures ending { IsTrue (R.Read.tells (inner_of self.old)) → IsTrue (R.Read.steady (inner_of self.old)) → has_failed self.new ≡ false →
             (outcome_of self.new).ending ≡ (text_outcome_of self.old).ending }
     {
@@ -353,6 +444,13 @@ impl<R: BufRead + Seek> ArmoredReader<R> {
         ensures text { SeeksText ⟦<ArmoredReader<R> as Read>⟧ (λ r. has_failed r) self.old self.new (Current distance)
             (R.Read.content (inner_of self.old)).ends_well (text_outcome_of self.old).ending result }
         ensures same_text { IsTrue (R.Read.tells (inner_of self.old)) → text_of self.new ≡ text_of self.old }
+        ensures lines { IsTrue (R.Read.tells (inner_of self.old)) → IsTrue (R.Read.steady (inner_of self.old)) → IsTrue (notes_all self.old) →
+            ((n : ℕ) → place_by self.old.place distance ≡ Some n → n ≤ furthest_of self.old) → OnOk result (self.new.source.lines ≤ self.old.source.lines + 1024) }
+        ensures learns { LearnsMore self.old.marks self.new.marks }
+        ensures outside { IsTrue (R.Read.tells (inner_of self.old)) → IsTrue (R.Read.steady (inner_of self.old)) → IsTrue (knows_end self.old) →
+            IfErr result (λ e. IsOutside e → self.new.source.lines ≤ self.old.source.lines) }
+        ensures still { IsTrue (R.Read.tells (inner_of self.old)) → self.old.failed ≡ false → is_start self.old.stage ≡ false →
+            place_by self.old.place distance ≡ Some self.old.place → (result ≡ Ok self.old.place) × (self.new ≡ self.old) }
         ensures ending { IsTrue (R.Read.tells (inner_of self.old)) → IsTrue (R.Read.steady (inner_of self.old)) →
             (IsEarly (Current distance) (place_of self.old) → ⊥) → has_failed self.new ≡ false →
             (outcome_of self.new).ending ≡ (text_outcome_of self.old).ending }
@@ -371,13 +469,15 @@ impl<R: BufRead + Seek> ArmoredReader<R> {
 }
 
 impl<R: BufRead + Seek> Seek for ArmoredReader<R> {
-    ghost use Rattle.age_armor.specs.Reader.{inner_of, has_failed, text_of, outcome_of, text_outcome_of, armored_content, place_of, armored_rest};
+    ghost use Rattle.age_armor.specs.Reader.{inner_of, has_failed, text_of, outcome_of, text_outcome_of, lines_of, marks_of, furthest_of, notes_all, knows_end, armored_content, place_of, armored_rest, shown_of};
 
     /// Moves within what the text carries, and answers the new place in bytes from its front.
     ///
     /// The text is read on from the last mark that isn't after the target, or else from its front, as far as the target asks,
     /// and for `SeekFrom::End` once to its end. So a target that stands before the first fault of the text is moved to, and
-    /// makes a failed reader good again. A refusal is
+    /// makes a failed reader good again. A target not beyond the furthest place that was come to takes at most 1,024 lines, as
+    /// `lines` counts them. Nothing is read for the place at which a reader stands that has begun, nor, once the end was read,
+    /// for a target outside of what the text carries. A refusal is
     ///
     /// - `BeforeStart`: the target is below 0. For `SeekFrom::Current` nothing is read to find that out.
     /// - `PastEnd`: the text carries bytes, and their count is below the target.
@@ -414,6 +514,19 @@ impl<R: BufRead + Seek> Seek for ArmoredReader<R> {
         // How the text ends stays the same, and a reader that hasn't failed comes to that end, unless nothing was looked for.
         ensures whole { IsTrue (R.Read.tells (inner_of self.old)) → text_outcome_of self.new ≡ text_outcome_of self.old }
         ensures same_text { IsTrue (R.Read.tells (inner_of self.old)) → text_of self.new ≡ text_of self.old }
+
+        // Where each mark had memory, a seek to where the text was read before takes at most 1,024 lines.
+        ensures marks { IsTrue (R.Read.tells (inner_of self.old)) → IsTrue (R.Read.steady (inner_of self.old)) → IsTrue (notes_all self.old) →
+            IsNear to (place_of self.old) (furthest_of self.old) (knows_end self.old) → OnOk result (lines_of self.new ≤ lines_of self.old + 1024) }
+        // Once the end was read, one to outside of what the text carries takes none, and where bytes are held, one to the place itself
+        // changes nothing.
+        ensures outside { IsTrue (R.Read.tells (inner_of self.old)) → IsTrue (R.Read.steady (inner_of self.old)) → IsTrue (knows_end self.old) →
+            IfErr result (λ e. IsOutside e → lines_of self.new ≤ lines_of self.old) }
+        ensures still { IsTrue (R.Read.tells (inner_of self.old)) → 0 < length (shown_of self.old) → IsTo to (place_of self.old) →
+            (result ≡ Ok (place_of self.old)) × (self.new ≡ self.old) }
+        ensures learns { LearnsMore (marks_of self.old) (marks_of self.new) }
+        ensures knows { IsFromEnd to → OnOk result (IsTrue (knows_end self.new)) }
+        ensures reaches { IsTrue (R.Read.tells (inner_of self.old)) → OnOk result (place_of self.new + length (shown_of self.new) ≤ furthest_of self.new) }
         ensures ending { IsTrue (R.Read.tells (inner_of self.old)) → IsTrue (R.Read.steady (inner_of self.old)) →
             (IsEarly to (place_of self.old) → ⊥) → has_failed self.new ≡ false →
             (outcome_of self.new).ending ≡ (text_outcome_of self.old).ending }

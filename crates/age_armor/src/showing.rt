@@ -5,7 +5,7 @@ ghost use Rattle.age_io.specs.Stretch.{IsCleanEnd};
 ghost use Rattle.age_io.specs.Reading.{TriedAgain};
 ghost use Rattle.age_base64.specs.Lines.{Lacks};
 ghost use Rattle.age_armor.specs.Showing.{Asks, IsAhead, TakesRun, IsLineEnd};
-ghost use Rattle.age_armor.specs.declared.showing.Run.TheVariants.{Open as open_run};
+ghost use Rattle.age_armor.specs.declared.showing.Run.TheVariants.{Open as open_run, Ended as ended_run};
 
 use crate::decoding::Decoder;
 use crate::gathering::decode_ahead;
@@ -93,6 +93,7 @@ fn run_once<B: BufRead>(reader: &mut B, line: &mut Vec<u8>) -> Result<Run, Error
     ensures asks { Asks ⟦<B as Read>⟧ B.Read.refuses reader.old reader.new result }
     ensures longer { vec_len line.old ≤ vec_len line.new }
     ensures grows { IfOk result (λ run. run ≡ open_run → vec_len line.old < vec_len line.new) }
+    ensures ended { IfOk result (λ run. run ≡ ended_run → vec_len line.old < vec_len line.new) }
     ensures kept { OnErr result (line.new.items ≡ line.old.items) }
     ensures run { IsTrue (B.Read.tells reader.old) → IfOk result (λ run.
         TakesRun run line.old.items line.new.items (B.Read.rest reader.old) (B.Read.rest reader.new)) }
@@ -124,6 +125,7 @@ pub(crate) fn take_run<B: BufRead>(reader: &mut B, line: &mut Vec<u8>) -> Result
     ensures patient { IfErr result (λ e. IsInterruption e → ⊥) }
     ensures longer { vec_len line.old ≤ vec_len line.new }
     ensures grows { IfOk result (λ run. run ≡ open_run → vec_len line.old < vec_len line.new) }
+    ensures ended { IfOk result (λ run. run ≡ ended_run → vec_len line.old < vec_len line.new) }
     ensures kept { OnErr result (line.new.items ≡ line.old.items) }
     ensures run { IsTrue (B.Read.tells reader.old) → IfOk result (λ run.
         TakesRun run line.old.items line.new.items (B.Read.rest reader.old) (B.Read.rest reader.new)) }

@@ -33,11 +33,12 @@ pub(crate) struct Piece {
 }
 
 ghost use Rattle.age_armor.specs.Stages.{ahead, Advances, Stops, IsFound, FindsForm, is_start, is_armored, is_ended};
-ghost use Rattle.age_armor.specs.declared.stages.Stage.TheVariants.{Start, Binary};
+ghost use Rattle.age_armor.specs.declared.stages.Stage.TheVariants.{Start, Binary, Lines};
 
 /// Reads the first 35 bytes and looks at the next; takes the begin marker's line, where it stands there.
 fn detect<R: BufRead>(source: &mut Counted<R>, bytes: &mut [u8; 48]) -> Result<Piece, Error>
     ensures kept { Kept ⟦<R as Read>⟧ source.old.inner source.old.taken source.new.inner source.new.taken result }
+    ensures counts { source.new.lines ≡ source.old.lines }
     ensures fits { IfOk result (λ piece. piece.count ≤ 48) }
     ensures taken { IsTrue (R.Read.tells source.old.inner) → IfOk result (λ piece. source.old.taken + piece.count ≤ source.new.taken) }
     ensures bytes { IsTrue (R.Read.tells source.old.inner) → IfOk result (λ piece.
@@ -69,6 +70,7 @@ fn after_front<R: BufRead>(
 ) -> Result<Piece, Error>
     requires { R.Read.faults source.old.inner < most_faults }
     ensures kept { Kept ⟦<R as Read>⟧ source.old.inner source.old.taken source.new.inner source.new.taken result }
+    ensures counts { source.new.lines ≡ source.old.lines }
     ensures fits { IfOk result (λ piece. piece.count ≤ 35) }
     ensures found { IfOk result (λ piece. IsFound piece) }
     ensures form { IsTrue (R.Read.tells source.old.inner) → (all : Stretch) → Delivers front.now all (R.Read.rest source.old.inner) →
@@ -122,6 +124,9 @@ fn next_line<R: BufRead>(
 ) -> Result<Piece, Error>
     ensures kept { Kept ⟦<R as Read>⟧ source.old.inner source.old.taken source.new.inner source.new.taken result }
     ensures fits { IfOk result (λ piece. piece.count ≤ 48) }
+    ensures counts { source.new.lines ≤ source.old.lines + 1 }
+    ensures full { IfOk result (λ piece. piece.next ≡ Lines false → piece.count ≡ 48) }
+    ensures ended { IfOk result (λ piece. is_ended piece.next ≡ true → piece.count ≡ 0) }
     ensures begun { IfOk result (λ piece. is_start piece.next ≡ false) }
     ensures lines { IfOk result (λ piece. is_armored piece.next ≡ true) }
     ensures taken { IsTrue (R.Read.tells source.old.inner) → IfOk result (λ piece. source.old.taken + piece.count ≤ source.new.taken) }
@@ -158,6 +163,9 @@ fn any_line<R: BufRead>(
 ) -> Result<Piece, Error>
     ensures kept { Kept ⟦<R as Read>⟧ source.old.inner source.old.taken source.new.inner source.new.taken result }
     ensures fits { IfOk result (λ piece. piece.count ≤ 48) }
+    ensures counts { source.new.lines ≤ source.old.lines + 1 }
+    ensures full { IfOk result (λ piece. piece.next ≡ Lines false → piece.count ≡ 48) }
+    ensures ended { IfOk result (λ piece. is_ended piece.next ≡ true → piece.count ≡ 0) }
     ensures begun { IfOk result (λ piece. is_start piece.next ≡ false) }
     ensures lines { IfOk result (λ piece. is_armored piece.next ≡ true) }
     ensures taken { IsTrue (R.Read.tells source.old.inner) → IfOk result (λ piece. source.old.taken + piece.count ≤ source.new.taken) }
@@ -200,6 +208,10 @@ fn first<R: BufRead>(
 ) -> Result<Piece, Error>
     ensures kept { Kept ⟦<R as Read>⟧ source.old.inner source.old.taken source.new.inner source.new.taken result }
     ensures fits { IfOk result (λ piece. piece.count ≤ 48) }
+    ensures counts { source.new.lines ≤ source.old.lines + 1 }
+    ensures full { IfOk result (λ piece. piece.next ≡ Lines false → piece.count ≡ 48) }
+    ensures ended { IfOk result (λ piece. is_ended piece.next ≡ true → piece.count ≡ 0) }
+    ensures bare { IfOk result (λ piece. is_armored piece.next ≡ false → source.new.lines ≡ source.old.lines) }
     ensures begun { IfOk result (λ piece. is_start piece.next ≡ false) }
     ensures form { IsTrue (R.Read.tells source.old.inner) → IfOk result (λ piece. FindsForm (is_armored piece.next) (R.Read.rest source.old.inner).bytes) }
     ensures taken { IsTrue (R.Read.tells source.old.inner) → IfOk result (λ piece. source.old.taken + piece.count ≤ source.new.taken) }
@@ -222,6 +234,7 @@ fn first<R: BufRead>(
 // Reads bytes of a binary text.
 fn next_bytes<R: BufRead>(source: &mut Counted<R>, bytes: &mut [u8; 48]) -> Result<Piece, Error>
     ensures kept { Kept ⟦<R as Read>⟧ source.old.inner source.old.taken source.new.inner source.new.taken result }
+    ensures counts { source.new.lines ≡ source.old.lines }
     ensures fits { IfOk result (λ piece. piece.count ≤ 48) }
     ensures begun { IfOk result (λ piece. is_start piece.next ≡ false) }
     ensures binary { IfOk result (λ piece. is_armored piece.next ≡ false) }
@@ -254,6 +267,10 @@ pub(crate) fn advance<R: BufRead>(
     requires { is_ended stage ≡ false }
     ensures kept { Kept ⟦<R as Read>⟧ source.old.inner source.old.taken source.new.inner source.new.taken result }
     ensures fits { IfOk result (λ piece. piece.count ≤ 48) }
+    ensures counts { source.new.lines ≤ source.old.lines + 1 }
+    ensures full { IfOk result (λ piece. piece.next ≡ Lines false → piece.count ≡ 48) }
+    ensures ended { IfOk result (λ piece. is_ended piece.next ≡ true → piece.count ≡ 0) }
+    ensures bare { IfOk result (λ piece. is_armored piece.next ≡ false → source.new.lines ≡ source.old.lines) }
     ensures begun { IfOk result (λ piece. is_start piece.next ≡ false) }
     ensures form { IsTrue (R.Read.tells source.old.inner) → is_start stage ≡ true →
         IfOk result (λ piece. FindsForm (is_armored piece.next) (R.Read.rest source.old.inner).bytes) }

@@ -4,6 +4,7 @@ use crate::reader_tests::{BEGIN, END, armored, counting, joined};
 use age_armor::ArmoredReader;
 use age_error::io::{ArmoredReadError, Error, SeekFrom};
 use age_io::{Answer, BufRead, Bytes, Op, Read, Seek, run};
+use age_try::fixtures::armored_texts;
 use std::alloc::Global;
 use std::test::Fail;
 
@@ -170,6 +171,101 @@ fn seeks_near_marks_lead_to_their_targets(rt: HostRuntime) -> Result<(), Fail> {
         assert!(rt; both_answer(alloc, &text, &data, &ON_THE_WAY)?);
     }
     assert!(rt; both_answer(alloc, &data, &data, &AFTER_ALL)?);
+    Ok(())
+}
+
+// How many lines a seek to a place and a read of the byte there take, or `None` where another byte comes.
+fn lines_of_a_look<R: BufRead + Seek>(
+    alloc: Global,
+    reader: &mut ArmoredReader<R>,
+    whole: &[u8],
+    place: usize,
+) -> Result<Option<u64>, Error> {
+    let before = reader.lines();
+    let steps = [
+        (
+            Op::Seek(SeekFrom::Start(place as u64)),
+            Expected::Place(place as u64),
+        ),
+        (Op::Read(1), Expected::Front(place, 1)),
+    ];
+    if !answers(alloc, reader, whole, &steps)? {
+        return Ok(None);
+    }
+    Ok(reader.lines().checked_sub(before))
+}
+
+// Whether a reader that was read to its end took so many lines for that, and takes so many for looks at two places, and none for the way
+// to its end, back to where it stands, and to outside of the text.
+fn takes_lines<R: BufRead + Seek>(
+    alloc: Global,
+    reader: &mut ArmoredReader<R>,
+    whole: &[u8],
+    counts: [u64; 3],
+) -> Result<bool, Error> {
+    let [all, first, second] = counts;
+    let steps = [
+        (Op::Read(100_000), Expected::Front(0, 100_000)),
+        (Op::Read(1), Expected::Front(100_000, 0)),
+    ];
+    if reader.lines() != 0 || !answers(alloc, reader, whole, &steps)? || reader.lines() != all {
+        return Ok(false);
+    }
+    if lines_of_a_look(alloc, reader, whole, 98_303)? != Some(first)
+        || lines_of_a_look(alloc, reader, whole, 99_000)? != Some(second)
+    {
+        return Ok(false);
+    }
+    let so_far = reader.lines();
+    let still = [
+        (Op::Seek(SeekFrom::Current(0)), Expected::Place(99_001)),
+        (Op::Seek(SeekFrom::Start(99_001)), Expected::Place(99_001)),
+        (
+            Op::Seek(SeekFrom::Start(100_001)),
+            Expected::Refusal(Error::PastEnd),
+        ),
+        (
+            Op::Seek(SeekFrom::End(1)),
+            Expected::Refusal(Error::PastEnd),
+        ),
+        (
+            Op::Seek(SeekFrom::End(-100_001)),
+            Expected::Refusal(Error::BeforeStart),
+        ),
+    ];
+    if !answers(alloc, reader, whole, &still)? || reader.lines() != so_far {
+        return Ok(false);
+    }
+    let end = [
+        (Op::Seek(SeekFrom::End(0)), Expected::Place(100_000)),
+        (Op::Seek(SeekFrom::Current(0)), Expected::Place(100_000)),
+    ];
+    answers(alloc, reader, whole, &end)
+}
+
+fn both_take_lines(
+    alloc: Global,
+    text: &[u8],
+    whole: &[u8],
+    counts: [u64; 3],
+) -> Result<bool, Error> {
+    let mut bare = ArmoredReader::new_buffered(alloc, Bytes::new(text))?;
+    if !takes_lines(alloc, &mut bare, whole, counts)? {
+        return Ok(false);
+    }
+    let mut buffered = ArmoredReader::new(alloc, Bytes::new(text))?;
+    takes_lines(alloc, &mut buffered, whole, counts)
+}
+
+// 100,000 bytes are 2,084 lines; with the end marker's 2,085 are taken. Lines end in LF, in CRLF, and in both in turn.
+#[test]
+fn seeks_take_lines_from_the_mark_before(rt: HostRuntime) -> Result<(), Fail> {
+    let alloc = rt.alloc();
+    let data = counting(alloc, 100_000)?;
+    for text in armored_texts(alloc, &data)?.as_slice() {
+        assert!(rt; both_take_lines(alloc, text, &data, [2_085, 1_024, 15])?);
+    }
+    assert!(rt; both_take_lines(alloc, &data, &data, [0, 0, 0])?);
     Ok(())
 }
 

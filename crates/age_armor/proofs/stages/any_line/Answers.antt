@@ -1,6 +1,6 @@
-use Rattle.std.proofs.Common.{◌∙◌, arith, refl, sym}
+use Rattle.std.proofs.Common.{◌≡◌, ◌∙◌, arith, false, refl, sym}
 use Rattle.std.proofs.lemmas.Bool.{eqb-false, eqb-true}
-use Rattle.age_armor.proofs.Staging.{advances_none, cut_line, empty_line, holds_count, line_ends, line_refuses, line_trails}
+use Rattle.age_armor.proofs.Staging.{advances_none, cut_line, empty_line, held_full, holds_count, line_ends, line_refuses, line_trails}
 use Rattle.age_armor.proofs.Refusing.{kept-later, kept-as, kept-error}
 use Rattle.age_armor.proofs.Taking.{quiet_after}
 use Rattle.age_armor.proofs.stages.any_line.Goals as goal
@@ -58,3 +58,9 @@ pub returns-in-Err-take_trailing-clause-kept : goal.returns-in-Err-take_trailing
 returns-in-Err-take_trailing-clause-kept g c =
     kept-error _ _ _ _ _ c.in-Err-take_trailing.e
     (kept-later _ _ c.args.source.now.inner c.take_line.new.self.inner _ _ _ _ c.in-Ok.ensures.kept c.in-Err-take_trailing.ensures.kept)
+
+pub returns-in-Holds-clause-full : goal.returns-in-Holds-clause-full
+returns-in-Holds-clause-full g c = λ full.
+    let h = rw c.deref.ensures.value at (rw c.in-Holds.is at c.judge.ensures) in
+    let same : c.in-Holds.short ≡ false = cc full in
+    held_full c.args.after_short c.take_line.new.line.items c.judge.new.bytes c.in-Holds.count h.0 (omega arith) h.2 (sym h.1 ∙ same)

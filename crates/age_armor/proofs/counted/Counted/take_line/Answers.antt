@@ -30,8 +30,14 @@ returns-in-Ended-clause-line g c = λ told.
 pub invariant_of-self-clause-shows : goal.invariant_of-self-clause-shows
 invariant_of-self-clause-shows g c = ahead_none _ _ _
 
-pub invariant_of-self-in-runs-clause-shows : goal.invariant_of-self-in-runs-clause-shows
-invariant_of-self-in-runs-clause-shows g c = rw c.runs.invariant.none (ahead_none c.runs.self.ahead _ c.runs.self.next)
+pub invariant_of-self-in-Ok-clause-shows : goal.invariant_of-self-in-Ok-clause-shows
+invariant_of-self-in-Ok-clause-shows g c = rw c.runs.invariant.none (ahead_none c.runs.self.ahead _ c.runs.self.next)
+
+pub invariant_of-self-in-Ended-clause-shows : goal.invariant_of-self-in-Ended-clause-shows
+invariant_of-self-in-Ended-clause-shows g c = rw c.runs.invariant.none (ahead_none c.runs.self.ahead _ c.runs.self.next)
+
+pub invariant_of-self-in-Nothing-clause-shows : goal.invariant_of-self-in-Nothing-clause-shows
+invariant_of-self-in-Nothing-clause-shows g c = rw c.runs.invariant.none (ahead_none c.runs.self.ahead _ c.runs.self.next)
 
 pub returns-in-Err-clause-kept : goal.returns-in-Err-clause-kept
 returns-in-Err-clause-kept g c =
@@ -63,6 +69,23 @@ returns-in-Nothing-clause-kept g c =
 
 pub returns-in-Ended-clause-kept : goal.returns-in-Ended-clause-kept
 returns-in-Ended-clause-kept g c =
+    let loop = c.runs.invariant in
+    let asks = c.in-Ok.ensures.asks in
+    record {
+      keeps = keeps-done _ _ _ _ (same-later _ _ _ _ loop.same asks.same) (λ e h. loop.narrows e (asks.narrows e h));
+      unspent = asks.unspent;
+      origin = search rules;
+      more = search rules;
+    }
+
+pub returns-then-is_empty-clause-line : goal.returns-then-is_empty-clause-line
+returns-then-is_empty-clause-line g c = λ told.
+    let loop = c.runs.invariant in
+    taken_none c.runs.line.items c.take_run-answer.new.line.items (g.R.Read.rest c.args.self.now.inner) (g.R.Read.rest c.runs.self.inner) (g.R.Read.rest c.take_run-answer.new.reader)
+    (loop.unended told) (loop.so_far told) (rw c.in-Nothing.is at (c.in-Ok.ensures.run (loop.same.tells ∙ told)))
+
+pub returns-then-is_empty-clause-kept : goal.returns-then-is_empty-clause-kept
+returns-then-is_empty-clause-kept g c =
     let loop = c.runs.invariant in
     let asks = c.in-Ok.ensures.asks in
     record {

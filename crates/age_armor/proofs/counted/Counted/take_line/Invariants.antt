@@ -9,6 +9,7 @@ invariant-runs g l =
     let reader = g.R.Read in
     record {
       none : l.self.left ≡ 0;
+      lines : l.self.lines ≡ l.fn.self.lines;
       same : SameReader reader l.fn.self.inner l.self.inner;
       narrows : AddsNoReason (TriedAgain reader.refuses) l.fn.self.inner l.self.inner;
       origin : IsTrue (reader.tells l.fn.self.inner) → reader.place l.self.inner - l.self.taken ≡ reader.place l.fn.self.inner - l.fn.self.taken;

@@ -15,6 +15,7 @@ loop-count-preserved g c =
     let loop = c.loop-count.invariant in
     let kept = c.in-Ok.ensures.kept in
     record {
+      lines = c.in-Ok.ensures.lines ∙ loop.lines;
       same = same-later g.R.Read c.args.self.now.inner c.loop-count.self.inner c.read.new.self.inner loop.same kept.keeps.same;
       narrows = λ e h. loop.narrows e (kept.keeps.narrows e h);
       origin = λ told. kept.origin (loop.same.tells ∙ told) ∙ loop.origin told;

@@ -8,6 +8,7 @@ abbrev pub invariant-loop-count : goal.invariant-loop-count
 invariant-loop-count g l =
     let reader = g.R.Read in
     record {
+      lines : l.self.lines ≡ l.fn.self.lines;
       same : SameReader reader l.fn.self.inner l.self.inner;
       narrows : AddsNoReason (TriedAgain reader.refuses) l.fn.self.inner l.self.inner;
       origin : IsTrue (reader.tells l.fn.self.inner) → reader.place l.self.inner - l.self.taken ≡ reader.place l.fn.self.inner - l.fn.self.taken;

@@ -1,6 +1,9 @@
-use Rattle.std.proofs.Common.{◌∙◌, ◌-◌, ◌≤◌, arith, length, length-drop, sym, ap, subst, refl, IsTrue}
+use Rattle.std.proofs.Common.{◌∙◌, ◌-◌, ◌≤◌, ◌≡◌, false, arith, length, length-drop, sym, ap, subst, refl, IsTrue}
 use Rattle.std.proofs.lemmas.Bool.{true≢false}
 use Rattle.age_io.specs.Stretch.{from_place}
+use Rattle.age_armor.specs.Ahead.{outcome_ahead, rest_ahead}
+use Rattle.age_armor.specs.DeliveredLaws.{content_of}
+use Rattle.age_armor.specs.Seeking.{text_outcome}
 use Rattle.age_armor.specs.Delivered.{delivered}
 use Rattle.age_armor.specs.Marks.{CanResume}
 use Rattle.age_armor.specs.Stages.{is_armored}
@@ -31,6 +34,9 @@ invariant_of-self g c =
       follows = λ told steady some. absurd (some (rest_failed before.bytes before.given before.filled before.stage (reader.rest source.inner)));
       ends = λ told steady some. absurd (some (rest_failed before.bytes before.given before.filled before.stage (reader.rest source.inner)));
       known = λ told. knows_later _ _ _ _ _ same.steady (same.text told) (before.known (same.told told));
+      done = before.done;
+      here = λ told steady good. absurd (true≢false good);
+      paced = λ told good. absurd (true≢false good);
     }
 
 pub invariant_of-self-in-Ok : goal.invariant_of-self-in-Ok
@@ -44,26 +50,42 @@ invariant_of-self-in-Ok g c =
     let content = reader.content before.source.inner in
     let steady_then = reader.steady before.source.inner in
     let same = same-text reader before.source.inner before.source.taken source.inner source.taken now.goes.keeps.same now.origin in
-    let can : (IsTrue (reader.tells source.inner) → CanResume steady_then (from_place origin content) mark.stage mark.place mark.taken) = λ told.
+    let found : (IsTrue (reader.tells source.inner) →
+    CanResume steady_then (from_place origin content) mark.stage mark.place mark.taken × (mark.place ≤ before.marks.furthest)) = λ told.
     c.last-mark.ensures.each steady_then (from_place origin content) (before.known (same.told told)) in
+    let can : (IsTrue (reader.tells source.inner) → CanResume steady_then (from_place origin content) mark.stage mark.place mark.taken) = λ told. (found told).0 in
+    let here : (IsTrue (reader.tells source.inner) → IsTrue (reader.steady source.inner) →
+    (rest_ahead false before.bytes 0 0 mark.stage (reader.rest source.inner)
+    ≡ from_place mark.place (content_of (reader.content source.inner) (reader.place source.inner - source.taken)))
+    × ((outcome_ahead before.bytes 0 0 mark.stage (reader.rest source.inner)).ending
+    ≡ (text_outcome (reader.content source.inner) (reader.place source.inner - source.taken)).ending)) = λ told steady.
+    let there = now.rest (same.told told) (same.steady steady) in
+    let resumes = (can told).1 (same.steady steady) in (
+      resumed_rest content (reader.rest source.inner) origin mark.place mark.taken mark.stage before.bytes resumes there ∙ ap (from_place mark.place) (sym (same.content told)),
+      resumed_ending content (reader.rest source.inner) origin mark.place mark.taken mark.stage before.bytes resumes there
+          ∙ sym (ap (λ t. (delivered t.bytes t.ends_well).ending) (same.text told)),
+    ) in
     record {
       room = before.room;
       order = let h : 0 ≤ 0 = omega arith in h;
       within = let h : 0 ≤ 48 = omega arith in h;
       fresh = λ start. refl;
-      untaken = λ good start. now.taken ∙ c.last-mark.ensures.front start;
+      untaken = λ good start. now.taken ∙ (c.last-mark.ensures.front start).0;
       form = λ told steady begun. form_kept (is_armored mark.stage) _ _ (((can told).1 (same.steady steady)).form begun) (same.text told);
       unspent = λ good begun. now.goes.unspent;
       counted = λ told good. omega (arith, (can told).0, now.taken);
       fits = λ told. omega (arith, (can told).0, now.taken, source.behind told, g.met.R.Read.place_fits source.inner told);
       inside = λ told steady. subst (λ s. mark.place ≤ length s.bytes) (sym (same.content told)) ((can told).1 (same.steady steady)).within;
-      follows = λ told steady some.
-          resumed_rest content (reader.rest source.inner) origin mark.place mark.taken mark.stage before.bytes ((can told).1 (same.steady steady))
-          (now.rest (same.told told) (same.steady steady)) ∙ ap (from_place mark.place) (sym (same.content told));
-      ends = λ told steady some.
-          resumed_ending content (reader.rest source.inner) origin mark.place mark.taken mark.stage before.bytes ((can told).1 (same.steady steady))
-          (now.rest (same.told told) (same.steady steady)) ∙ sym (ap (λ t. (delivered t.bytes t.ends_well).ending) (same.text told));
+      follows = λ told steady some. (here told steady).0;
+      ends = λ told steady some. (here told steady).1;
       known = λ told. knows_later _ _ _ _ _ same.steady (same.text told) (before.known (same.told told));
+      done = λ ended. absurd (true≢false (sym ended ∙ c.last-mark.ensures.going));
+      here = λ told steady good begun. here told steady;
+      paced = λ told good. record {
+        within = omega (arith, (found told).1);
+        first = λ start. (c.last-mark.ensures.front start).1;
+        lines = λ full. omega (arith, c.last-mark.ensures.whole);
+      };
     }
 
 pub returns-in-Ok-clause-ending : goal.returns-in-Ok-clause-ending
@@ -71,7 +93,7 @@ returns-in-Ok-clause-ending g c = λ told steady.
     let before = c.args.self.now in
     let reader = g.R.Read in
     let origin = reader.place before.source.inner - before.source.taken in
-    let can = c.last-mark.ensures.each (reader.steady before.source.inner) (from_place origin (reader.content before.source.inner)) (before.known told) in
+    let can = (c.last-mark.ensures.each (reader.steady before.source.inner) (from_place origin (reader.content before.source.inner)) (before.known told)).0 in
     resumed_ending (reader.content before.source.inner) (reader.rest c.go.new.self.inner) origin c.last-mark.result.place c.last-mark.result.taken c.last-mark.result.stage before.bytes (can.1 steady)
     (c.in-Ok.ensures.rest told steady)
 
@@ -80,7 +102,7 @@ returns-in-Ok-clause-rest g c = λ told steady.
     let before = c.args.self.now in
     let reader = g.R.Read in
     let origin = reader.place before.source.inner - before.source.taken in
-    let can = c.last-mark.ensures.each (reader.steady before.source.inner) (from_place origin (reader.content before.source.inner)) (before.known told) in
+    let can = (c.last-mark.ensures.each (reader.steady before.source.inner) (from_place origin (reader.content before.source.inner)) (before.known told)).0 in
     resumed_rest (reader.content before.source.inner) (reader.rest c.go.new.self.inner) origin c.last-mark.result.place c.last-mark.result.taken c.last-mark.result.stage before.bytes (can.1 steady)
     (c.in-Ok.ensures.rest told steady)
 
@@ -97,6 +119,10 @@ returns-in-Err-clause-cause g c = λ told well.
     let origin = reader.place before.source.inner - before.source.taken in
     let content = reader.content before.source.inner in
     let steady = g.met.R.Read.well before.source.inner told well in
-    let can = c.last-mark.ensures.each (reader.steady before.source.inner) (from_place origin content) (before.known told) in
+    let can = (c.last-mark.ensures.each (reader.steady before.source.inner) (from_place origin content) (before.known told)).0 in
     c.in-Err.ensures.cause told well
     (omega (arith, (can.1 steady).reaches, length-drop origin content.bytes, (g.met.R.Read.stands before.source.inner told steady).within))
+
+pub returns-in-Ok-clause-near : goal.returns-in-Ok-clause-near
+returns-in-Ok-clause-near g c = λ told steady noting armored behind.
+    c.last-mark.ensures.near (omega (arith, behind, (c.args.self.now.known told).near steady noting armored))

@@ -1,9 +1,10 @@
-use Rattle.std.proofs.Common.{◌∙◌, ◌-◌, ◌<◌, ◌≤◌, length, arith, sym, subst, inl, inr}
+use Rattle.std.proofs.Common.{◌∙◌, ◌-◌, ◌<◌, ◌≤◌, ap, length, arith, sym, subst, inl, inr}
 use Rattle.std.proofs.lemmas.Bool.{true≢false}
 use Rattle.age_armor.specs.Reader.{armored_content}
 use Rattle.age_armor.specs.ReaderLaws.{well_inner}
 use Rattle.age_armor.proofs.Keeping.{same-source, same-source-text, source-narrows, armor-plain}
 use Rattle.age_armor.proofs.Aiming.{refusal_or_not, stays-failed, came, lost}
+use Rattle.age_armor.proofs.Pacing.{learns_later, learns_none}
 use Rattle.age_armor.proofs.reader.ArmoredReader.come_back.Goals as goal
 
 pub returns-then-failed : goal.returns-then-failed
@@ -13,6 +14,8 @@ returns-then-failed g c =
       back = stays-failed _ _ _ _ _ _ _ (same-source _ _ now.source) now.place now.failed now.rest (source-narrows c.args.self.now c.fail_at.new.self now.source) (inl c.if-failed.true);
       same_text = λ told. same-source-text _ _ now.source;
       ending = λ told steady good. absurd (true≢false (sym now.failed ∙ good));
+      learns = learns_none _ _ now.marks;
+      lines = λ told steady had at refusal. omega (arith, ap (λ s. s.lines) now.source);
     }
 
 pub returns-then-not-is_outside : goal.returns-then-not-is_outside
@@ -22,6 +25,8 @@ returns-then-not-is_outside g c =
       back = stays-failed _ _ _ _ _ _ _ (same-source _ _ now.source) now.place now.failed now.rest (source-narrows c.args.self.now c.fail_at-then-not-is_outside.new.self now.source) (inr (c.is_outside.ensures.no c.if-not-is_outside.true));
       same_text = λ told. same-source-text _ _ now.source;
       ending = λ told steady good. absurd (true≢false (sym now.failed ∙ good));
+      learns = learns_none _ _ now.marks;
+      lines = λ told steady had at refusal. omega (arith, ap (λ s. s.lines) now.source);
     }
 
 pub fail_at-requires-in-Err-clause-fits : goal.fail_at-requires-in-Err-clause-fits
@@ -41,6 +46,8 @@ returns-in-Ok g c =
           (c.is_outside.ensures.yes c.if-not-is_outside.false) (armor-plain c.args.self.now c.go_to.new.self now.goes.keeps.narrows);
       same_text = now.same_text;
       ending = λ told steady good. now.ending told steady;
+      learns = now.learns;
+      lines = λ told steady had at refusal. now.unmoved told steady (had ∙ c.if-failed.false) at;
     }
 
 pub returns-in-Err : goal.returns-in-Err
@@ -65,4 +72,6 @@ returns-in-Err g c =
           ]);
       same_text = λ told. same-source-text _ _ now.source ∙ missed.same_text told;
       ending = λ told steady good. absurd (true≢false (sym now.failed ∙ good));
+      learns = learns_later _ c.go_to.new.self.marks c.fail_at-in-Err.new.self.marks missed.learns (learns_none _ _ now.marks);
+      lines = λ told steady had at refusal. absurd (made.other refusal);
     }

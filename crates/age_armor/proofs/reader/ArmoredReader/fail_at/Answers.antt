@@ -19,6 +19,9 @@ invariant_of-self g c =
       follows = λ told steady some. absurd (some (rest_failed before.bytes before.given before.filled before.stage (g.R.Read.rest before.source.inner)));
       ends = λ told steady some. absurd (some (rest_failed before.bytes before.given before.filled before.stage (g.R.Read.rest before.source.inner)));
       known = before.known;
+      done = before.done;
+      here = λ told steady good. absurd (true≢false good);
+      paced = λ told good. absurd (true≢false good);
     }
 
 pub returns-clause-rest : goal.returns-clause-rest

@@ -1,13 +1,17 @@
-use Rattle.std.proofs.Common.{◌≡◌, ◌∙◌, ◌-◌, ◌≤◌, [], arith, length, length-take-le, take, sym, ap, subst, IsTrue}
+use Rattle.std.proofs.Common.{◌≡◌, ◌∙◌, ◌-◌, ◌≤◌, [], true, arith, drop, length, length-take-le, take, sym, ap, subst, IsTrue}
+use Rattle.age_armor.specs.declared.stages.Stage.TheVariants.{Lines}
 use Rattle.std.proofs.lemmas.Bool.{true≢false}
 use Rattle.age_io.specs.Reading.{StandsIn}
-use Rattle.age_armor.specs.Ahead.{rest_ahead, shown_ahead}
-use Rattle.age_armor.specs.DeliveredLaws.{content_of, stands_by, stands_follows}
+use Rattle.age_armor.specs.Ahead.{outcome_ahead, rest_ahead, shown_ahead}
+use Rattle.age_armor.specs.Marks.{is_known}
+use Rattle.age_armor.specs.Seeking.{text_outcome}
+use Rattle.age_io.specs.Stretch.{from_place}
+use Rattle.age_armor.specs.DeliveredLaws.{content_of, stands_by}
 use Rattle.age_armor.proofs.Keeping.{same-text, armor-done, armor-refused}
-use Rattle.age_armor.proofs.Ahead.{kept_stands, rest_failed, hold_rest, hold_ending, hold_end, hold_fault, hold_named, ended_clean, shown_none}
+use Rattle.age_armor.proofs.Ahead.{kept_stands, rest_failed, hold_rest, hold_ending, hold_end, hold_fault, hold_named, ended_clean, shown_none, front_held}
 use Rattle.age_armor.specs.Delivered.{delivered}
 use Rattle.age_armor.specs.Stages.{is_start, is_armored}
-use Rattle.age_armor.proofs.Resuming.{knows_later, resumes_line, length_at_end}
+use Rattle.age_armor.proofs.Resuming.{knows_later, resumes_line, length_at_end, not_nothing, reaches_content, none_after, still_full, after_full}
 use Rattle.age_armor.proofs.Forms.{form_held, form_kept}
 use Rattle.age_armor.proofs.reader.ArmoredReader.hold.Goals as goal
 
@@ -39,6 +43,22 @@ invariant_of-self g c =
     let stands : (IsTrue (reader.tells source.inner) → IsTrue (reader.steady source.inner) → StandsIn other before.place new) = λ told steady.
     kept_stands content other rest new before.place (same.content told) (kept told)
     (stands_by content rest before.place (before.inside (same.told told) (same.steady steady)) (before.follows (same.told told) (same.steady steady))) in
+    let front = take piece.count bytes in
+    let size : length front ≡ piece.count = length-take-le piece.count bytes (omega (arith, now.fits, c.advance.array_long)) in
+    let short : (IsTrue (reader.tells before.source.inner) → before.stage ≡ Lines true → piece.count ≡ 0) = λ told.
+    none_after before.stage (reader.rest before.source.inner) front piece.count _ (now.bytes told) size in
+    let here : (IsTrue (reader.tells source.inner) → IsTrue (reader.steady source.inner) →
+    (new ≡ from_place before.place other)
+    × ((outcome_ahead bytes 0 piece.count piece.next (reader.rest source.inner)).ending
+    ≡ (text_outcome (reader.content source.inner) (reader.place source.inner - source.taken)).ending)) = λ told steady.
+    let told_before = same.told told in
+    let held = front_held before.failed bytes 0 piece.count piece.next (reader.rest source.inner) c.requires in
+    let some = not_nothing rest front held.more piece.count (ap (λ s. s.bytes) (sym (kept told)) ∙ held.bytes) size
+    (λ none. hold_end before.failed before.bytes before.given before.filled before.stage (reader.rest before.source.inner) c.requires all empty (now.end told_before none)) in (
+      kept told ∙ before.follows told_before (same.steady steady) some ∙ ap (from_place before.place) (sym (same.content told)),
+      hold_ending before.bytes bytes before.given before.filled piece.count before.stage piece.next (reader.rest before.source.inner) (reader.rest source.inner) (now.bytes told_before)
+          ∙ before.ends told_before (same.steady steady) some ∙ sym (ap (λ t. (delivered t.bytes t.ends_well).ending) (same.text told)),
+    ) in
     record {
       room = c.advance.array_long;
       order = let h : 0 ≤ piece.count = omega arith in h;
@@ -54,17 +74,13 @@ invariant_of-self g c =
       counted = λ told good. omega (arith, before.counted (same.told told) c.requires, now.taken (same.told told));
       fits = λ told. before.fits (same.told told);
       inside = λ told steady. (stands told steady).within;
-      follows = λ told steady some. stands_follows other new before.place (stands told steady) some;
-      ends = λ told steady some.
-          hold_ending before.bytes bytes before.given before.filled piece.count before.stage piece.next (reader.rest before.source.inner) (reader.rest source.inner)
-          (now.bytes (same.told told))
-          ∙ before.ends (same.told told) (same.steady steady) (λ gone. some (kept told ∙ gone)) ∙ sym (ap (λ t. (delivered t.bytes t.ends_well).ending) (same.text told));
+      follows = λ told steady some. (here told steady).0;
+      ends = λ told steady some. (here told steady).1;
       known = λ told.
           let told_before = same.told told in
-          let front = take piece.count bytes in
-          let size : length front ≡ piece.count = length-take-le piece.count bytes (omega (arith, now.fits, c.advance.array_long)) in
+          let pace = before.paced told_before c.requires in
           knows_later (reader.steady before.source.inner) _ _ _ _ same.steady (same.text told)
-          (c.learn.ensures (reader.steady before.source.inner) _ (before.known told_before)
+          (c.learn.ensures.knows (reader.steady before.source.inner) _ (before.known told_before) (omega (arith, pace.within))
           (λ none steady. length_at_end (reader.content before.source.inner) rest _ before.place
           (hold_end before.failed before.bytes before.given before.filled before.stage (reader.rest before.source.inner) c.requires all empty (now.end told_before none))
           (before.inside told_before steady) (before.follows told_before steady))
@@ -74,7 +90,27 @@ invariant_of-self g c =
                 before.stage _ front lines (before.source.behind told_before) (g.met.R.Read.stands before.source.inner told_before steady) all empty (now.bytes told_before)
                 (omega (arith, size, some)) (before.inside told_before steady) (rw c.requires at (before.follows told_before steady)) (rw c.requires at (before.ends told_before steady))
                 (before.form told_before steady (ap is_start lines)),
-          )));
+          ))
+          (λ steady. reaches_content content rest before.place piece.count front
+          (front_held before.failed bytes 0 piece.count piece.next (reader.rest source.inner) c.requires).more
+          (before.inside told_before steady) (before.follows told_before steady)
+          (ap (λ s. s.bytes) (sym (kept told)) ∙ (front_held before.failed bytes 0 piece.count piece.next (reader.rest source.inner) c.requires).bytes) size)
+          (λ steady. after_full before.stage before.place piece.count (drop (reader.place before.source.inner - before.source.taken) (reader.content before.source.inner).bytes)
+          (c.is_ready.ensures.more c.if-is_ready.false) (before.form told_before steady) pace.first (λ full. omega (arith, pace.lines full, empty)) (short told_before) now.fits));
+      done = λ ended. ap is_known (c.learn.ensures.ends (now.ended ended));
+      here = λ told steady good begun. here told steady;
+      paced = λ told good.
+          let told_before = same.told told in
+          let pace = before.paced told_before c.requires in
+          record {
+            within = omega (arith, c.learn.ensures.reaches (omega (arith, before.fits told_before, now.fits)) (omega (arith, pace.within)));
+            first = λ start. absurd (true≢false (sym start ∙ now.begun));
+            lines = λ full. omega (
+              arith,
+              still_full before.stage piece.next before.place piece.count (c.is_ready.ensures.more c.if-is_ready.false) now.kept_form
+                  pace.first (λ is. omega (arith, pace.lines is, empty)) (short told_before) now.full full,
+            );
+          };
     }
 
 pub invariant_of-self-in-Err : goal.invariant_of-self-in-Err
@@ -98,6 +134,9 @@ invariant_of-self-in-Err g c =
       follows = λ told steady some. absurd (some (rest_failed before.bytes before.given before.filled before.stage (reader.rest source.inner)));
       ends = λ told steady some. absurd (some (rest_failed before.bytes before.given before.filled before.stage (reader.rest source.inner)));
       known = λ told. knows_later _ _ _ _ _ same.steady (same.text told) (before.known (same.told told));
+      done = before.done;
+      here = λ told steady good. absurd (true≢false good);
+      paced = λ told good. absurd (true≢false good);
     }
 
 pub returns-in-Ok-clause-rest : goal.returns-in-Ok-clause-rest
@@ -151,3 +190,12 @@ returns-in-Ok-clause-goes g c = armor-done _ _ c.in-Ok.ensures.kept c.requires
 
 pub returns-in-Err-clause-goes : goal.returns-in-Err-clause-goes
 returns-in-Err-clause-goes g c = armor-refused _ _ c.in-Err.e c.in-Err.ensures.kept
+
+pub returns-then-is_ready-clause-knows : goal.returns-then-is_ready-clause-knows
+returns-then-is_ready-clause-knows g c = λ none. c.args.self.now.done (c.is_ready.ensures.end c.if-is_ready.true none)
+
+pub returns-in-Ok-clause-knows : goal.returns-in-Ok-clause-knows
+returns-in-Ok-clause-knows g c = λ none. ap is_known (c.learn.ensures.ends (sym none))
+
+pub returns-in-Ok-clause-learns : goal.returns-in-Ok-clause-learns
+returns-in-Ok-clause-learns g c = c.learn.ensures.more

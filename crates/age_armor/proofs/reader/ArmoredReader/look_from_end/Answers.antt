@@ -12,6 +12,7 @@ use Rattle.age_armor.specs.Stages.{IsNamed}
 use Rattle.age_armor.specs.Reader.{refuses_of, armored_reader, armored_content, armored_rest}
 use Rattle.age_armor.proofs.Keeping.{goes-later, goes-refused, goes-seeking, goes-unrefused, walks, walks-out, armor-plain, seeks-plain}
 use Rattle.age_armor.proofs.OwnEndings.{still_named}
+use Rattle.age_armor.proofs.Pacing.{learns_later, learns_none}
 use Rattle.age_armor.proofs.Taking.{quiet_after}
 use Rattle.age_armor.proofs.Aiming.{within-moved, moved-refusal, arrives, arrives-within, from-end}
 use Rattle.age_armor.proofs.reader.ArmoredReader.look_from_end.Goals as goal
@@ -140,6 +141,8 @@ returns-else-target-len g c =
       ending = λ told steady.
           on_ok_weaker c.go_to.result (λ is. is ∙ ap (λ t. (delivered t.bytes t.ends_well).ending) (last.same_text (back.tells ∙ told) ∙ first.same_text told))
           (now.ending (same.tells ∙ told) (same.steady ∙ steady));
+      knows = on_ok_weaker c.go_to.result (λ good. now.learns.end (last.knows c.if-there.false)) now.good;
+      learns = learns_later _ new.marks c.go_to.new.self.marks (learns_later _ c.approach.new.self.marks new.marks (learns_none _ _ first.marks) last.learns) now.learns;
     }
 
 pub returns-in-Err-walk-clause-same_text : goal.returns-in-Err-walk-clause-same_text
@@ -178,4 +181,18 @@ returns-then-target-len g c =
       named = λ told well. tt;
       same_text = λ told. last.same_text (back.tells ∙ told) ∙ first.same_text told;
       ending = λ told steady. last.ending (back.tells ∙ told) ∙ first.ending told steady;
+      knows = last.knows c.if-there.false;
+      learns = learns_later _ c.approach.new.self.marks new.marks (learns_none _ _ first.marks) last.learns;
     }
+
+pub returns-in-Err-walk-clause-learns : goal.returns-in-Err-walk-clause-learns
+returns-in-Err-walk-clause-learns g c = learns_later _ c.approach.new.self.marks c.walk.new.self.marks (learns_none _ _ c.in-Ok.ensures.marks) c.in-Err-walk.ensures.learns
+
+pub returns-then-there-clause-learns : goal.returns-then-there-clause-learns
+returns-then-there-clause-learns g c = learns_later _ c.approach.new.self.marks c.walk.new.self.marks (learns_none _ _ c.in-Ok.ensures.marks) c.in-Ok-walk.ensures.learns
+
+pub returns-in-Err-from_end-clause-learns : goal.returns-in-Err-from_end-clause-learns
+returns-in-Err-from_end-clause-learns g c = learns_later _ c.approach.new.self.marks c.walk.new.self.marks (learns_none _ _ c.in-Ok.ensures.marks) c.in-Ok-walk.ensures.learns
+
+pub returns-in-Err-clause-learns : goal.returns-in-Err-clause-learns
+returns-in-Err-clause-learns g c = learns_none _ _ c.in-Err.ensures.marks

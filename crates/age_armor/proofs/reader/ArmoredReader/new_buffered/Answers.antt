@@ -1,4 +1,4 @@
-use Rattle.std.proofs.Common.{◌≡◌, ◌-◌, ◌^◌, ◌<◌, ◌≤◌, ◌∙◌, arith, ap, refl, IsTrue, false}
+use Rattle.std.proofs.Common.{◌≡◌, ◌-◌, ◌^◌, ◌<◌, ◌≤◌, ◌∙◌, arith, ap, sym, refl, IsTrue, false}
 use Rattle.std.proofs.lemmas.Bool.{true≢false}
 use Rattle.age_io.specs.Reading.{StandsIn}
 use Rattle.age_armor.specs.declared.stages.Stage.TheVariants.{Start}
@@ -9,6 +9,7 @@ use Rattle.age_armor.proofs.AheadLines.{ahead_none}
 use Rattle.age_armor.proofs.Whole.{rest_carries, carried_rest}
 use Rattle.age_io.specs.Stretch.{from_place}
 use Rattle.age_armor.specs.Delivered.{delivered}
+use Rattle.age_armor.specs.Stages.{is_start}
 use Rattle.age_armor.proofs.Resuming.{starts_at}
 use Rattle.age_armor.proofs.reader.ArmoredReader.new_buffered.Goals as goal
 
@@ -37,7 +38,14 @@ invariant_of-result-2 g c =
       ends = λ told steady some.
           let at : reader.rest inner ≡ from_place place (reader.content inner) = starts_at (reader.content inner) (reader.rest inner) place _ (rw zero (g.met.R.Read.stands inner told steady)) some in
           ap (λ o. o.ending) (starts_outcome _ (reader.rest inner)) ∙ ap (λ s. (delivered s.bytes s.ends_well).ending) at;
-      known = λ told. c.new-3.ensures (reader.steady inner) _;
+      known = λ told. c.new-3.ensures.knows (reader.steady inner) _;
+      done = λ ended. absurd (true≢false (sym ended));
+      here = λ told steady good begun. absurd (true≢false begun);
+      paced = λ told good. record {
+        within = let h : 0 ≤ c.new-3.result.furthest = omega arith in h;
+        first = λ start. refl;
+        lines = λ full. absurd (true≢false (ap is_start full));
+      };
     }
 
 pub returns-clause-shown : goal.returns-clause-shown

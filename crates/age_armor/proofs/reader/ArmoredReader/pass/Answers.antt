@@ -1,13 +1,17 @@
 use Rattle.std.proofs.Common.{◌≡◌, ◌∙◌, ◌+◌, ◌-◌, ◌≤◌, arith, take, length, length-take-le, sym, ap, subst, IsTrue}
 use Rattle.std.proofs.lemmas.Bool.{true≢false}
 use Rattle.age_io.specs.Reading.{StandsIn}
-use Rattle.age_armor.specs.Ahead.{rest_ahead}
-use Rattle.age_armor.specs.DeliveredLaws.{content_of, stands_by, stands_follows}
+use Rattle.age_io.specs.Stretch.{from_place}
+use Rattle.age_armor.specs.Ahead.{outcome_ahead, rest_ahead}
+use Rattle.age_armor.specs.Marks.{is_known}
+use Rattle.age_armor.specs.Seeking.{text_outcome}
+use Rattle.age_armor.proofs.Walking.{further}
+use Rattle.age_armor.specs.DeliveredLaws.{content_of, stands_by}
 use Rattle.age_armor.proofs.Keeping.{same-text, armor-done, armor-refused}
 use Rattle.age_armor.proofs.Ahead.{given_stands, rest_failed, pass_delivers, pass_end, pass_fault, pass_named, pass_ending, shown_none}
-use Rattle.age_armor.specs.Stages.{is_start, is_armored}
+use Rattle.age_armor.specs.Stages.{is_start, is_armored, is_ended}
 use Rattle.age_armor.specs.Delivered.{delivered}
-use Rattle.age_armor.proofs.Resuming.{knows_later, some_before, length_at_end, not_binary}
+use Rattle.age_armor.proofs.Resuming.{knows_later, length_at_end, not_binary, reaches_content}
 use Rattle.age_armor.proofs.Forms.{form_kept}
 use Rattle.age_armor.proofs.reader.ArmoredReader.pass.Goals as goal
 
@@ -32,6 +36,18 @@ invariant_of-self g c =
     rw (place told, same.content told) (given_stands content rest new before.place n front size
     (pass_delivers before.failed before.bytes front before.given before.filled before.stage _ _ c.requires.good c.requires.binary all c.requires.given (now.bytes (same.told told)))
     (stands_by content rest before.place (before.inside (same.told told) (same.steady steady)) (before.follows (same.told told) (same.steady steady)))) in
+    let here : (IsTrue (reader.tells source.inner) → IsTrue (reader.steady source.inner) →
+    (new ≡ from_place c.saturating_add-self.result other)
+    × ((outcome_ahead before.bytes before.given before.filled before.stage (reader.rest source.inner)).ending
+    ≡ (text_outcome (reader.content source.inner) (reader.place source.inner - source.taken)).ending)) = λ told steady.
+    let told_before = same.told told in
+    let at = before.here told_before (same.steady steady) c.requires.good (ap is_start c.requires.binary) in (
+      further content rest new before.place _ n front at.0
+          (pass_delivers before.failed before.bytes front before.given before.filled before.stage _ _ c.requires.good c.requires.binary all c.requires.given (now.bytes told_before))
+          size (place told) ∙ ap (from_place c.saturating_add-self.result) (sym (same.content told)),
+      pass_ending before.bytes _ before.given before.filled before.stage _ _ c.requires.binary (now.bytes told_before)
+          ∙ at.1 ∙ sym (ap (λ t. (delivered t.bytes t.ends_well).ending) (same.text told)),
+    ) in
     record {
       room = before.room;
       order = before.order;
@@ -43,21 +59,37 @@ invariant_of-self g c =
       counted = λ told good. omega (arith, before.counted (same.told told) c.requires.good, place told, now.taken (same.told told));
       fits = λ told. omega (arith, before.counted (same.told told) c.requires.good, place told, now.taken (same.told told), source.behind told, g.met.R.Read.place_fits source.inner told);
       inside = λ told steady. (stands told steady).within;
-      follows = λ told steady some. stands_follows other new c.saturating_add-self.result (stands told steady) some;
-      ends = λ told steady some.
-          let told_before = same.told told in
-          pass_ending before.bytes _ before.given before.filled before.stage _ _ c.requires.binary (now.bytes told_before)
-          ∙ before.ends told_before (same.steady steady) (some_before rest new front
-          (pass_delivers before.failed before.bytes front before.given before.filled before.stage _ _ c.requires.good c.requires.binary all c.requires.given (now.bytes told_before)) some)
-          ∙ sym (ap (λ t. (delivered t.bytes t.ends_well).ending) (same.text told));
+      follows = λ told steady some. (here told steady).0;
+      ends = λ told steady some. (here told steady).1;
       known = λ told.
           let told_before = same.told told in
+          let pace = before.paced told_before c.requires.good in
           knows_later (reader.steady before.source.inner) _ _ _ _ same.steady (same.text told)
-          (c.learn.ensures (reader.steady before.source.inner) _ (before.known told_before)
+          (c.learn.ensures.knows (reader.steady before.source.inner) _ (before.known told_before) (omega (arith, pace.within))
           (λ none steady. length_at_end (reader.content before.source.inner) rest _ before.place
           (pass_end before.failed before.bytes before.given before.filled before.stage _ c.requires.good c.requires.binary all c.requires.given (now.end told_before none))
           (before.inside told_before steady) (before.follows told_before steady))
-          (λ some lines. not_binary lines));
+          (λ some lines. not_binary lines)
+          (λ steady. reaches_content content rest before.place n front new.bytes (before.inside told_before steady) (before.follows told_before steady)
+          (pass_delivers before.failed before.bytes front before.given before.filled before.stage _ _ c.requires.good c.requires.binary all c.requires.given (now.bytes told_before)).bytes
+          (sym size))
+          (λ steady armored. absurd (true≢false (sym armored ∙ sym (before.form told_before steady (ap is_start c.requires.binary)) ∙ ap is_armored c.requires.binary))));
+      done = λ ended. absurd (true≢false (sym ended ∙ ap is_ended c.requires.binary));
+      here = λ told steady good begun. here told steady;
+      paced = λ told good.
+          let told_before = same.told told in
+          let pace = before.paced told_before c.requires.good in
+          record {
+            within = omega (
+              arith,
+              c.requires.given,
+              place told,
+              c.learn.ensures.reaches
+                  (omega (arith, before.counted told_before c.requires.good, now.taken told_before, source.behind told, g.met.R.Read.place_fits source.inner told)) (omega (arith, pace.within)),
+            );
+            first = λ start. absurd (true≢false (sym start ∙ ap is_start c.requires.binary));
+            lines = λ full. not_binary (sym c.requires.binary ∙ full);
+          };
     }
 
 pub returns-in-Ok-clause-bytes : goal.returns-in-Ok-clause-bytes
@@ -109,6 +141,9 @@ invariant_of-self-in-Err g c =
       follows = λ told steady some. absurd (some (rest_failed before.bytes before.given before.filled before.stage (reader.rest source.inner)));
       ends = λ told steady some. absurd (some (rest_failed before.bytes before.given before.filled before.stage (reader.rest source.inner)));
       known = λ told. knows_later _ _ _ _ _ same.steady (same.text told) (before.known (same.told told));
+      done = before.done;
+      here = λ told steady good. absurd (true≢false good);
+      paced = λ told good. absurd (true≢false good);
     }
 
 pub returns-in-Ok-clause-shown : goal.returns-in-Ok-clause-shown
@@ -138,3 +173,9 @@ returns-in-Ok-clause-goes g c = armor-done _ _ c.in-Ok.ensures.kept c.requires.g
 
 pub returns-in-Err-clause-goes : goal.returns-in-Err-clause-goes
 returns-in-Err-clause-goes g c = armor-refused _ _ c.in-Err.e c.in-Err.ensures.kept
+
+pub returns-in-Ok-clause-knows : goal.returns-in-Ok-clause-knows
+returns-in-Ok-clause-knows g c = λ none. ap is_known (c.learn.ensures.ends none)
+
+pub returns-in-Ok-clause-learns : goal.returns-in-Ok-clause-learns
+returns-in-Ok-clause-learns g c = c.learn.ensures.more

@@ -4,7 +4,10 @@ use Rattle.age_armor.specs.Ahead.{rest_ahead, shown_ahead}
 use Rattle.age_armor.specs.DeliveredLaws.{content_of}
 use Rattle.age_armor.proofs.Ahead.{rest_gone, length_held, shown_small}
 use Rattle.age_armor.proofs.Keeping.{armor-plain, still-narrows}
-use Rattle.age_armor.proofs.ReaderSteps.{unspent_ok, ends_ok, left_err, patient_err}
+use Rattle.age_armor.proofs.ReaderSteps.{unspent_ok, ends_ok, left_err, patient_err, on_if}
+use Rattle.age_armor.specs.Marks.{is_known}
+use Rattle.age_armor.proofs.Pacing.{shown_reached, learns_later, learns_none}
+use Rattle.age_armor.proofs.Resuming.{not_binary}
 use Rattle.age_armor.specs.Stages.{is_start, is_armored}
 use Rattle.age_armor.proofs.Forms.{form_kept, binary_form}
 use Rattle.std.proofs.lemmas.Result.{on_ok_weaker}
@@ -133,3 +136,80 @@ returns-in-Ok-clause-form g c = λ told steady.
     let after = c.give.new.self in
     ap is_armored c.give.ensures.stage ∙ form_kept (is_armored held.stage) (text_of held) (text_of c.args.self.now)
     (held.form (now.goes.keeps.same.tells ∙ told) (now.goes.keeps.same.steady ∙ steady) now.begun) (sym (now.same_text told))
+
+pub returns-then-is_passing-clause-counts : goal.returns-then-is_passing-clause-counts
+returns-then-is_passing-clause-counts g c = λ told.
+    let before = c.args.self.now in
+    let now = c.pass.ensures in
+    let passing = c.is_passing.ensures c.if-is_passing.true in
+    on_if c.pass.result _ _ (λ n moves. record {
+      held = λ some. absurd (omega (arith, some, passing.1));
+      more = omega (arith, now.lines);
+      full = λ none full. not_binary (sym now.stage ∙ full);
+      bare = λ is. now.lines;
+      begun = ap is_start now.stage;
+      on = omega (arith, moves);
+    }) (now.moves told)
+
+pub returns-in-Ok-clause-counts : goal.returns-in-Ok-clause-counts
+returns-in-Ok-clause-counts g c = λ told.
+    let taken = c.in-Ok.ensures.counts told in
+    let given = c.give.ensures in
+    let told_held = c.in-Ok.ensures.goes.keeps.same.tells ∙ told in
+    let lines = ap (λ s. s.lines) given.source in
+    let sum = given.sum told_held in
+    record {
+      held = λ some. let same = taken.held some in (given.stage ∙ same.0, lines ∙ same.1, sum ∙ same.2);
+      more = omega (arith, lines, taken.more);
+      full = λ none full. omega (arith, sum, taken.full none (sym given.stage ∙ full));
+      bare = λ is. lines ∙ taken.bare (sym (ap is_armored given.stage) ∙ is);
+      begun = ap is_start given.stage ∙ taken.begun;
+      on = omega (arith, taken.on, given.moves told_held);
+    }
+
+pub returns-then-is_passing-clause-learns : goal.returns-then-is_passing-clause-learns
+returns-then-is_passing-clause-learns g c =
+    let now = c.pass.ensures in
+    let after = c.pass.new.self in
+    let all : after.filled ≤ length after.bytes = omega (arith, after.within, after.room) in
+    record {
+      more = now.learns;
+      reaches = λ told. on_ok_weaker c.pass.result (λ good. shown_reached after.failed after.bytes after.given after.filled after.place after.marks.furthest after.stage all good
+          (after.paced (now.goes.keeps.same.tells ∙ told) good)) now.good;
+      lines = omega (arith, now.lines);
+      bare = λ told steady plain. on_ok_weaker c.pass.result (λ good. now.lines) now.good;
+    }
+
+pub returns-in-Err-clause-learns : goal.returns-in-Err-clause-learns
+returns-in-Err-clause-learns g c = record {
+  more = c.in-Err.ensures.learns;
+  reaches = λ told. tt;
+  lines = c.in-Err.ensures.lines;
+  bare = λ told steady plain. tt;
+}
+
+pub returns-in-Ok-clause-learns : goal.returns-in-Ok-clause-learns
+returns-in-Ok-clause-learns g c =
+    let now = c.in-Ok.ensures in
+    let given = c.give.ensures in
+    let held = c.hold.new.self in
+    let after = c.give.new.self in
+    let lines = ap (λ s. s.lines) given.source in
+    let all : after.filled ≤ length after.bytes = omega (arith, after.within, after.room) in
+    record {
+      more = learns_later _ held.marks after.marks now.learns (learns_none held.marks after.marks given.marks);
+      reaches = λ told.
+          let told_after = ap (λ s. g.R.Read.tells s.inner) given.source ∙ now.goes.keeps.same.tells ∙ told in
+          shown_reached after.failed after.bytes after.given after.filled after.place after.marks.furthest after.stage all given.fresh (after.paced told_after given.fresh);
+      lines = omega (arith, lines, now.lines);
+      bare = λ told steady plain.
+          lines ∙ (now.counts told).bare
+          (form_kept (is_armored held.stage) (text_of held) (text_of c.args.self.now)
+          (held.form (now.goes.keeps.same.tells ∙ told) (now.goes.keeps.same.steady ∙ steady) now.begun) (sym (now.same_text told)) ∙ plain);
+    }
+
+pub returns-in-Ok-clause-knows : goal.returns-in-Ok-clause-knows
+returns-in-Ok-clause-knows g c = λ none.
+    let held = c.hold.new.self in
+    let empty : held.given ≡ held.filled = omega (arith, none, c.give.ensures.count, c.requires.some, held.order) in
+    ap (λ m. is_known m.length) c.give.ensures.marks ∙ c.in-Ok.ensures.knows empty

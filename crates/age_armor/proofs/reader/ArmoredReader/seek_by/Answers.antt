@@ -1,7 +1,8 @@
-use Rattle.std.proofs.Common.{◌≡◌, ◌∙◌, ◌<◌, ◌^◌, Some, None, arith, sym, subst, w64, to_z-of_z, refl}
+use Rattle.std.proofs.Common.{◌≡◌, ◌∙◌, ◌<◌, ◌^◌, Some, None, Ok, ap, arith, sym, subst, w64, to_z-of_z, refl}
 use Rattle.std.proofs.lemmas.Bool.{true≢false}
 use Rattle.age_io.specs.Cursor.{place_at}
 use Rattle.age_armor.proofs.Keeping.{same-source, same-source-text}
+use Rattle.age_armor.proofs.Pacing.{learns_none}
 use Rattle.age_armor.proofs.Aiming.{too-long, too-early, counted-on}
 use Rattle.age_armor.proofs.reader.ArmoredReader.seek_by.Goals as goal
 
@@ -15,6 +16,10 @@ returns-then-self g c =
       at_once = λ told early. let fits : before.place < 2 ^ 63 = before.fits told in absurd (omega (arith, fits, c.if-self.true));
       same_text = λ told. same-source-text _ _ now.source;
       ending = λ told steady later good. absurd (true≢false (sym now.failed ∙ good));
+      learns = learns_none _ _ now.marks;
+      outside = λ told steady known refusal. absurd refusal;
+      still = λ told good begun same. let fits : before.place < 2 ^ 63 = before.fits told in absurd (omega (arith, fits, c.if-self.true));
+      lines = λ told steady noting near. tt;
     }
 
 pub returns-in-None : goal.returns-in-None
@@ -27,6 +32,10 @@ returns-in-None g c =
       at_once = λ told early. (refl, refl);
       same_text = λ told. refl;
       ending = λ told steady later good. absurd (later none);
+      learns = learns_none _ _ refl;
+      outside = λ told steady known refusal. omega arith;
+      still = λ told good begun same. absurd (cc (sym none ∙ same));
+      lines = λ told steady noting near. tt;
     }
 
 pub returns-in-Some : goal.returns-in-Some
@@ -39,4 +48,11 @@ returns-in-Some g c =
       at_once = λ told early. absurd (cc (sym early ∙ some));
       same_text = c.seek_to.ensures.same_text;
       ending = λ told steady later good. c.seek_to.ensures.ending told steady good;
+      learns = c.seek_to.ensures.learns;
+      outside = c.seek_to.ensures.outside;
+      still = λ told good begun same.
+          let target : c.in-Some.target ≡ before.place = cc (sym some ∙ same) in
+          let still = c.seek_to.ensures.still good begun (sym target) in
+          (still.0 ∙ ap Ok target, still.1);
+      lines = λ told steady noting near. c.seek_to.ensures.lines told steady noting (near c.in-Some.target some);
     }

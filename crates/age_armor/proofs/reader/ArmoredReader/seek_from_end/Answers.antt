@@ -1,4 +1,4 @@
-use Rattle.std.proofs.Common.{◌≡◌, ◌∙◌, ◌-◌, Ok, Err, length, ap, subst, w64, to_z-of_z, refl, inl}
+use Rattle.std.proofs.Common.{◌≡◌, ◌∙◌, ◌-◌, Ok, Err, length, arith, ap, subst, w64, to_z-of_z, refl, inl}
 use Rattle.age_error.specs.declared.io.SeekFrom.TheVariants.{End}
 use Rattle.age_io.specs.Cursor.{sought}
 use Rattle.age_armor.specs.Delivered.{delivered}
@@ -6,6 +6,7 @@ use Rattle.age_armor.specs.Reader.{armored_content}
 use Rattle.age_armor.specs.ReaderLaws.{well_inner}
 use Rattle.age_armor.proofs.Ahead.{rest_gone}
 use Rattle.age_armor.proofs.Keeping.{armor-plain}
+use Rattle.age_armor.proofs.Pacing.{learns_later}
 use Rattle.age_armor.proofs.Aiming.{clean-unnamed, arrived, missed}
 use Rattle.age_armor.proofs.reader.ArmoredReader.seek_from_end.Goals as goal
 
@@ -23,6 +24,10 @@ returns-in-Ok g c =
       well = now.well;
       same_text = now.same_text;
       ending = λ told steady good. now.ending told steady;
+      learns = now.learns;
+      knows = now.knows;
+      outside = λ told steady known. tt;
+      lines = now.lines;
     }
 
 pub returns-in-Err : goal.returns-in-Err
@@ -53,4 +58,14 @@ returns-in-Err g c =
       ending = λ told steady good.
           c.come_back.ensures.ending (now.goes.keeps.same.tells ∙ told) (now.goes.keeps.same.steady ∙ steady) good
           ∙ ap (λ t. (delivered t.bytes t.ends_well).ending) (now.same_text told);
+      knows = tt;
+      learns = learns_later _ c.go_from_end.new.self.marks c.come_back.new.self.marks now.learns c.come_back.ensures.learns;
+      outside = λ told steady known refusal.
+          let same = now.outside told steady known (c.come_back.ensures.back.unmoved refusal).0 in
+          omega (
+            arith,
+            ap (λ r. r.source.lines) same,
+            c.come_back.ensures.lines (now.goes.keeps.same.tells ∙ told) (now.goes.keeps.same.steady ∙ steady) (ap (λ r. r.failed) same) (ap (λ r. r.place) same) refusal,
+          );
+      lines = λ told steady noting known. tt;
     }

@@ -1,9 +1,10 @@
-use Rattle.std.proofs.Common.{◌∙◌, ◌-◌, Err, length, ap, sym, refl, inl}
+use Rattle.std.proofs.Common.{◌∙◌, ◌-◌, Err, length, arith, ap, sym, refl, inl}
 use Rattle.age_armor.specs.Delivered.{delivered}
 use Rattle.age_armor.specs.Reader.{armored_content}
 use Rattle.age_armor.specs.ReaderLaws.{well_inner}
 use Rattle.age_armor.proofs.Ahead.{rest_gone}
 use Rattle.age_armor.proofs.Keeping.{armor-plain}
+use Rattle.age_armor.proofs.Pacing.{learns_later}
 use Rattle.age_armor.proofs.Aiming.{clean-unnamed, moved-within, moved-past, arrived, missed}
 use Rattle.age_armor.proofs.reader.ArmoredReader.seek_to.Goals as goal
 
@@ -18,6 +19,10 @@ returns-in-Ok g c =
           (rw now.there (moved-within c.args.target (length (armored_content c.args.self.now).bytes) within.0), rw now.there within.1));
       same_text = now.same_text;
       ending = λ told steady good. now.ending told steady;
+      learns = now.learns;
+      outside = λ told steady known. tt;
+      still = λ good begun at. (sym c.in-Ok.is ∙ (c.go_to.ensures.still good begun at).0, (c.go_to.ensures.still good begun at).1);
+      lines = now.lines;
     }
 
 pub returns-in-Err : goal.returns-in-Err
@@ -45,4 +50,14 @@ returns-in-Err g c =
       ending = λ told steady good.
           c.come_back.ensures.ending (now.goes.keeps.same.tells ∙ told) (now.goes.keeps.same.steady ∙ steady) good
           ∙ ap (λ t. (delivered t.bytes t.ends_well).ending) (now.same_text told);
+      learns = learns_later _ c.go_to.new.self.marks c.come_back.new.self.marks now.learns c.come_back.ensures.learns;
+      outside = λ told steady known refusal.
+          let same = now.outside told steady known (c.come_back.ensures.back.unmoved refusal).0 in
+          omega (
+            arith,
+            ap (λ r. r.source.lines) same,
+            c.come_back.ensures.lines (now.goes.keeps.same.tells ∙ told) (now.goes.keeps.same.steady ∙ steady) (ap (λ r. r.failed) same) (ap (λ r. r.place) same) refusal,
+          );
+      still = λ good begun at. absurd (cc (sym c.in-Err.is ∙ (c.go_to.ensures.still good begun at).0));
+      lines = λ told steady noting behind. tt;
     }

@@ -1,4 +1,6 @@
-use Rattle.std.proofs.Common.{rules, ◌≡◌, ◌∙◌, arith, take, length, length-take, length-take-le, sym}
+use Rattle.std.proofs.Common.{rules, ◌≡◌, ◌∙◌, arith, ap, take, length, length-take, length-take-le, sym}
+use Rattle.age_armor.specs.Delivered.{begins_armor}
+use Rattle.age_armor.proofs.Pacing.{open_stage, counted_on, learns_later}
 use Rattle.age_io.proofs.Keeping.{same-later, same-read, keeps-done, keeps-later}
 use Rattle.age_io.proofs.Retrying.{tried-narrows}
 use Rattle.age_armor.specs.Reader.{armored_reader, refuses_of}
@@ -88,6 +90,20 @@ reads-preserved g c =
           (reads.bytes (loop.same.tells ∙ told)) (sym (length-take-le n c.read_on.new.buf reads.count)) (reads.moves (loop.same.tells ∙ told));
       ending = λ told. c.in-Ok.ensures.ending (loop.same.tells ∙ told) ∙ loop.ending told;
       same_text = λ told. c.in-Ok.ensures.same_text (loop.same.tells ∙ told) ∙ loop.same_text told;
+      learns = learns_later _ c.reads.self.marks c.read_on.new.self.marks loop.learns c.in-Ok.ensures.learns.more;
+      counted = λ told steady stands inside.
+          let told_now = loop.same.tells ∙ told in
+          let now = c.reads.self in
+          let front = take n c.read_on.new.buf in
+          let size : length front ≡ n = length-take-le n c.read_on.new.buf reads.count in
+          counted_on _ _ _ _ _ _ _ _ _ _ _ (c.in-Ok.ensures.counts told_now) (loop.counted told steady stands inside) (omega (arith, loop.place told, c.reads-test.true))
+          (λ none. open_stage now.failed now.bytes now.given now.filled now.stage (g.R.Read.rest now.source.inner) _ front loop.good (omega (arith, now.within, now.room))
+          (omega (arith, none)) (reads.bytes told_now) (omega (arith, size, c.in-Ok.count-test)));
+      bare = λ told steady plain.
+          let told_now = loop.same.tells ∙ told in
+          (c.in-Ok.ensures.counts told_now).bare
+          (c.in-Ok.ensures.form told_now (loop.same.steady ∙ steady) ∙ ap (λ t. begins_armor t.bytes) (loop.same_text told) ∙ plain)
+          ∙ loop.bare told steady plain;
     }
 
 pub returns-in-Err-clause-same_text : goal.returns-in-Err-clause-same_text
@@ -98,3 +114,20 @@ returns-in-Ok-eq0-clause-same_text g c = λ told. c.in-Ok-eq0.ensures.same_text 
 
 pub returns-in-Ok-eq0-clause-ending : goal.returns-in-Ok-eq0-clause-ending
 returns-in-Ok-eq0-clause-ending g c = λ told. c.in-Ok-eq0.ensures.ending (c.reads.invariant.same.tells ∙ told) ∙ c.reads.invariant.ending told
+
+pub returns-in-Ok-eq0-clause-bare : goal.returns-in-Ok-eq0-clause-bare
+returns-in-Ok-eq0-clause-bare g c = λ told steady plain.
+    let loop = c.reads.invariant in
+    let told_now = loop.same.tells ∙ told in
+    (c.in-Ok-eq0.ensures.counts told_now).bare
+    (c.in-Ok-eq0.ensures.form told_now (loop.same.steady ∙ steady) ∙ ap (λ t. begins_armor t.bytes) (loop.same_text told) ∙ plain)
+    ∙ loop.bare told steady plain
+
+pub returns-clause-lines : goal.returns-clause-lines
+returns-clause-lines g c = λ told steady stands inside there. (c.reads.invariant.counted told steady stands inside).bound
+
+pub returns-in-Err-clause-learns : goal.returns-in-Err-clause-learns
+returns-in-Err-clause-learns g c = learns_later _ c.reads.self.marks c.read_on.new.self.marks c.reads.invariant.learns c.in-Err.ensures.learns.more
+
+pub returns-in-Ok-eq0-clause-learns : goal.returns-in-Ok-eq0-clause-learns
+returns-in-Ok-eq0-clause-learns g c = learns_later _ c.reads.self.marks c.read_on.new.self.marks c.reads.invariant.learns c.in-Ok-eq0.ensures.learns.more

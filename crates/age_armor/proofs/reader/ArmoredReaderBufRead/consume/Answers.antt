@@ -4,6 +4,7 @@ use Rattle.age_io.specs.Reading.{StandsIn}
 use Rattle.age_armor.specs.Ahead.{rest_ahead, shown_ahead}
 use Rattle.age_armor.specs.DeliveredLaws.{content_of, stands_by, stands_follows}
 use Rattle.age_armor.proofs.Ahead.{given_stands, gives_shown, shown_fits, shown_gone, length_shown, shown_further, ending_same}
+use Rattle.age_armor.proofs.Walking.{further}
 use Rattle.age_armor.proofs.Resuming.{some_before}
 use Rattle.age_armor.proofs.reader.ArmoredReaderBufRead.consume.Goals as goal
 
@@ -50,6 +51,20 @@ invariant_of-self g c =
           ending_same before.bytes before.given before.filled (before.given + n) before.stage (reader.rest before.source.inner)
           ∙ before.ends told steady (some_before rest new _ d some);
       known = before.known;
+      done = before.done;
+      here = λ told steady good begun.
+          let at = before.here told steady good begun in (
+            further content rest new before.place _ n (take n (shown_ahead before.failed before.bytes before.given before.filled)) at.0 d size (place told),
+            ending_same before.bytes before.given before.filled (before.given + n) before.stage (reader.rest before.source.inner) ∙ at.1,
+          );
+      paced = λ told good.
+          let pace = before.paced told good in
+          let same : c.saturating_add-self.result + (before.filled - (before.given + n)) ≡ before.place + (before.filled - before.given) = omega (arith, place told, fits) in
+          record {
+            within = omega (arith, same, pace.within);
+            first = λ start. omega (arith, pace.first start, before.fresh start, fits, place told);
+            lines = λ full. omega (arith, same, pace.lines full);
+          };
     }
 
 pub returns-clause-consumes : goal.returns-clause-consumes

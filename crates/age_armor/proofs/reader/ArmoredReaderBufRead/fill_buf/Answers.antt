@@ -1,7 +1,8 @@
-use Rattle.std.proofs.Common.{◌∙◌, arith, refl, ap, sym, subst, inl, inr}
+use Rattle.std.proofs.Common.{◌≤◌, ◌∙◌, arith, length, refl, ap, sym, subst, inl, inr}
 use Rattle.std.proofs.lemmas.Bool.{true≢false}
 use Rattle.age_io.specs.Filling.{IsFront}
-use Rattle.age_armor.proofs.Ahead.{fault_gone, rest_gone}
+use Rattle.age_armor.proofs.Ahead.{fault_gone, rest_gone, length_held}
+use Rattle.age_armor.proofs.Pacing.{shown_reached, learns_none}
 use Rattle.age_armor.specs.Delivered.{delivered}
 use Rattle.age_armor.specs.Stages.{is_armored}
 use Rattle.age_armor.specs.Reader.{text_of}
@@ -39,6 +40,8 @@ returns-then-self g c =
             λ told. refl,
             λ told. refl,
             λ told steady. tt,
+            record { more = learns_none _ _ refl; reaches = λ told. tt; lines = omega arith; bare = λ told steady plain. tt },
+            tt,
           );
           same_content = λ told. refl;
           stays = λ told. refl;
@@ -82,6 +85,8 @@ returns-in-Err g c =
             λ told. ap (λ t. delivered t.bytes t.ends_well) (now.same_text told),
             now.same_text,
             λ told steady. tt,
+            record { more = now.learns; reaches = λ told. tt; lines = now.lines; bare = λ told steady plain. tt },
+            tt,
           );
           same_content = now.goes.keeps.same.content;
           stays = λ told. now.place;
@@ -98,7 +103,8 @@ pub returns-in-Ok : goal.returns-in-Ok
 returns-in-Ok g c =
     let now = c.in-Ok.ensures in
     let after = c.hold.new.self in
-    let held = c.as_held.ensures in (
+    let held = c.as_held.ensures in
+    let all : after.filled ≤ length after.bytes = omega (arith, after.within, after.room) in (
       (
         refl,
         λ r. tt,
@@ -128,6 +134,18 @@ returns-in-Ok g c =
             λ told steady.
                 form_kept (is_armored after.stage) (text_of after) (text_of c.args.self.now)
                 (after.form (now.goes.keeps.same.tells ∙ told) (now.goes.keeps.same.steady ∙ steady) now.begun) (sym (now.same_text told)),
+            record {
+              more = now.learns;
+              reaches = λ told.
+                  shown_reached after.failed after.bytes after.given after.filled after.place after.marks.furthest after.stage all now.fresh
+                  (after.paced (now.goes.keeps.same.tells ∙ told) now.fresh);
+              lines = now.lines;
+              bare = λ told steady plain.
+                  (now.counts told).bare
+                  (form_kept (is_armored after.stage) (text_of after) (text_of c.args.self.now)
+                  (after.form (now.goes.keeps.same.tells ∙ told) (now.goes.keeps.same.steady ∙ steady) now.begun) (sym (now.same_text told)) ∙ plain);
+            },
+            λ none. now.knows (omega (arith, ap length none, length_held after.failed after.bytes after.given after.filled all now.fresh, after.order)),
           );
           same_content = now.goes.keeps.same.content;
           stays = λ told. now.place;

@@ -1,4 +1,5 @@
-use Rattle.std.proofs.Common.{◌≡◌, ◌∙◌, arith, refl, ap, sym, inl, length}
+use Rattle.std.proofs.Common.{◌≡◌, ◌≤◌, ◌∙◌, arith, refl, ap, sym, inl, length}
+use Rattle.age_armor.proofs.Pacing.{shown_reached, learns_none}
 use Rattle.std.proofs.lemmas.Bool.{true≢false, eqb-true}
 use Rattle.age_armor.proofs.Ahead.{fault_gone, shown_small}
 use Rattle.age_armor.specs.Delivered.{delivered}
@@ -72,3 +73,34 @@ returns-clause-ending g c = record {
 
 pub returns-clause-whole : goal.returns-clause-whole
 returns-clause-whole g c = λ told. ap (λ t. delivered t.bytes t.ends_well) (c.read_on.ensures.same_text told)
+
+pub returns-then-self-clause-learns : goal.returns-then-self-clause-learns
+returns-then-self-clause-learns g c = record {
+  more = learns_none _ _ refl;
+  reaches = λ told. tt;
+  lines = omega arith;
+  bare = λ told steady plain. tt;
+}
+
+pub returns-then-is_empty-clause-learns : goal.returns-then-is_empty-clause-learns
+returns-then-is_empty-clause-learns g c =
+    let before = c.args.self.now in
+    let all : before.filled ≤ length before.bytes = omega (arith, before.within, before.room) in
+    record {
+      more = learns_none _ _ refl;
+      reaches = λ told.
+          shown_reached before.failed before.bytes before.given before.filled before.place before.marks.furthest before.stage all c.if-self.false (before.paced told c.if-self.false);
+      lines = omega arith;
+      bare = λ told steady plain. refl;
+    }
+
+pub returns-then-is_empty-clause-knows : goal.returns-then-is_empty-clause-knows
+returns-then-is_empty-clause-knows g c = λ some zero.
+    let none : length c.args.buf.now ≡ 0 = eqb-true (length c.args.buf.now) 0 (sym c.is_empty.ensures ∙ c.if-is_empty.true) in
+    absurd (omega (arith, none, some))
+
+pub returns-clause-learns : goal.returns-clause-learns
+returns-clause-learns g c = c.read_on.ensures.learns
+
+pub returns-clause-knows : goal.returns-clause-knows
+returns-clause-knows g c = λ some. c.read_on.ensures.knows

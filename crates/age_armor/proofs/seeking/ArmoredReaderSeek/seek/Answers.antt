@@ -1,4 +1,7 @@
-use Rattle.std.proofs.Common.{rules, ◌≡◌, SFits, to_z, of_z, to_z-of_z, w64, ap}
+use Rattle.std.proofs.lemmas.Result.{on_ok_weaker}
+use Rattle.age_armor.proofs.Pacing.{shown_reached, shown_begun}
+use Rattle.std.proofs.Common.{rules, ◌≡◌, ◌≤◌, ◌∙◌, Ok, arith, length, sym, Some, SFits, to_z, of_z, to_z-of_z, w64, ap, subst}
+use Rattle.age_io.specs.Cursor.{place_at}
 use Rattle.age_armor.specs.Delivered.{delivered}
 use Rattle.age_armor.proofs.seeking.ArmoredReaderSeek.seek.Goals as goal
 
@@ -82,3 +85,84 @@ returns-in-End-clause-whole g c = λ told. ap (λ t. delivered t.bytes t.ends_we
 
 pub returns-in-Current-clause-whole : goal.returns-in-Current-clause-whole
 returns-in-Current-clause-whole g c = λ told. ap (λ t. delivered t.bytes t.ends_well) (c.seek_by.ensures.same_text told)
+
+pub returns-in-Start-clause-marks : goal.returns-in-Start-clause-marks
+returns-in-Start-clause-marks g c = λ told steady noting near. c.seek_to.ensures.lines told steady noting (rw c.in-Start.is at near)
+
+pub returns-in-End-clause-marks : goal.returns-in-End-clause-marks
+returns-in-End-clause-marks g c = λ told steady noting near. c.seek_from_end.ensures.lines told steady noting (rw c.in-End.is at near)
+
+pub returns-in-Current-clause-marks : goal.returns-in-Current-clause-marks
+returns-in-Current-clause-marks g c = λ told steady noting near.
+    let before = c.args.self.now in
+    let fits : SFits w64 c.in-Current.distance = search rules in
+    let same : to_z w64 (of_z w64 c.in-Current.distance) ≡ c.in-Current.distance = to_z-of_z {w = w64} fits in
+    let near_by = rw c.in-Current.is at near in
+    c.seek_by.ensures.lines told steady noting (λ n is. near_by n (subst (λ d. place_at before.place d ≡ Some n) same is))
+
+pub returns-in-Start-clause-reaches : goal.returns-in-Start-clause-reaches
+returns-in-Start-clause-reaches g c = λ told.
+    let after = c.seek_to.new.self in
+    let all : after.filled ≤ length after.bytes = omega (arith, after.within, after.room) in
+    on_ok_weaker c.seek_to.result (λ good. shown_reached after.failed after.bytes after.given after.filled after.place after.marks.furthest after.stage all good
+    (after.paced (c.seek_to.ensures.text.seeks.same_tells ∙ told) good)) c.seek_to.ensures.text.good
+
+pub returns-in-Start-clause-learns : goal.returns-in-Start-clause-learns
+returns-in-Start-clause-learns g c = c.seek_to.ensures.learns
+
+pub returns-in-Start-clause-outside : goal.returns-in-Start-clause-outside
+returns-in-Start-clause-outside g c = c.seek_to.ensures.outside
+
+pub returns-in-End-clause-reaches : goal.returns-in-End-clause-reaches
+returns-in-End-clause-reaches g c = λ told.
+    let after = c.seek_from_end.new.self in
+    let all : after.filled ≤ length after.bytes = omega (arith, after.within, after.room) in
+    on_ok_weaker c.seek_from_end.result (λ good. shown_reached after.failed after.bytes after.given after.filled after.place after.marks.furthest after.stage all good
+    (after.paced (c.seek_from_end.ensures.text.seeks.same_tells ∙ told) good)) c.seek_from_end.ensures.text.good
+
+pub returns-in-End-clause-learns : goal.returns-in-End-clause-learns
+returns-in-End-clause-learns g c = c.seek_from_end.ensures.learns
+
+pub returns-in-End-clause-outside : goal.returns-in-End-clause-outside
+returns-in-End-clause-outside g c = c.seek_from_end.ensures.outside
+
+pub returns-in-Current-clause-reaches : goal.returns-in-Current-clause-reaches
+returns-in-Current-clause-reaches g c = λ told.
+    let after = c.seek_by.new.self in
+    let all : after.filled ≤ length after.bytes = omega (arith, after.within, after.room) in
+    on_ok_weaker c.seek_by.result (λ good. shown_reached after.failed after.bytes after.given after.filled after.place after.marks.furthest after.stage all good
+    (after.paced (c.seek_by.ensures.text.seeks.same_tells ∙ told) good)) c.seek_by.ensures.text.good
+
+pub returns-in-Current-clause-learns : goal.returns-in-Current-clause-learns
+returns-in-Current-clause-learns g c = c.seek_by.ensures.learns
+
+pub returns-in-Current-clause-outside : goal.returns-in-Current-clause-outside
+returns-in-Current-clause-outside g c = c.seek_by.ensures.outside
+
+pub returns-in-Start-clause-still : goal.returns-in-Start-clause-still
+returns-in-Start-clause-still g c = λ told some here.
+    let before = c.args.self.now in
+    let holds = shown_begun before.failed before.bytes before.given before.filled before.stage before.order (omega (arith, before.within, before.room)) before.fresh some in
+    let at = rw c.in-Start.is at here in
+    let still = c.seek_to.ensures.still holds.0 holds.1 (sym at) in
+    (still.0 ∙ ap Ok at, still.1)
+
+pub returns-in-End-clause-still : goal.returns-in-End-clause-still
+returns-in-End-clause-still g c = λ told some here. absurd (rw c.in-End.is at here)
+
+pub returns-in-Current-clause-still : goal.returns-in-Current-clause-still
+returns-in-Current-clause-still g c = λ told some here.
+    let before = c.args.self.now in
+    let holds = shown_begun before.failed before.bytes before.given before.filled before.stage before.order (omega (arith, before.within, before.room)) before.fresh some in
+    let fits : SFits w64 c.in-Current.distance = search rules in
+    let same : to_z w64 (of_z w64 c.in-Current.distance) ≡ c.in-Current.distance = to_z-of_z {w = w64} fits in
+    c.seek_by.ensures.still told holds.0 holds.1 (subst (λ d. place_at before.place d ≡ Some before.place) (sym same) (rw c.in-Current.is at here))
+
+pub returns-in-Start-clause-knows : goal.returns-in-Start-clause-knows
+returns-in-Start-clause-knows g c = λ asked. absurd (rw c.in-Start.is at asked)
+
+pub returns-in-End-clause-knows : goal.returns-in-End-clause-knows
+returns-in-End-clause-knows g c = λ asked. c.seek_from_end.ensures.knows
+
+pub returns-in-Current-clause-knows : goal.returns-in-Current-clause-knows
+returns-in-Current-clause-knows g c = λ asked. absurd (rw c.in-Current.is at asked)

@@ -1,0 +1,95 @@
+-- How many lines a walk takes.
+use Rattle.std.proofs.Common.{◌≡◌, ◌∙◌, inl, inr, ℕ, ◌+◌, ◌*◌, ◌-◌, ◌<◌, ◌≤◌, Bool, true, false, List, [], ◌++◌, length, refl, arith, ap, sym, subst, length-append, Option, Some, None}
+use Rattle.std.proofs.lemmas.Bool.{true≢false, cases_Bool, cases_lt}
+use Rattle.age_io.specs.Stretch.{Stretch}
+use Rattle.age_io.specs.Reading.{Delivers}
+use Rattle.age_io.specs.BehindLaws.{held-empty}
+use Rattle.age_armor.specs.declared.stages.Stage.{Stage}
+use Rattle.age_armor.specs.declared.stages.Stage.TheVariants.{Start, Binary, Lines, Ended}
+use Rattle.age_armor.specs.Stages.{ahead, is_start, is_open}
+use Rattle.age_armor.specs.Ahead.{rest_ahead, shown_ahead}
+use Rattle.age_armor.specs.declared.marks.Marks.{Marks}
+use Rattle.age_armor.specs.Marks.{EndsBefore, IsPaced, LearnsMore, is_known}
+use Rattle.age_armor.proofs.Ahead.{length_held}
+use Rattle.age_armor.specs.Delivered.{raw_lines}
+use Rattle.age_armor.specs.Counting.{TakesLines, IsCounted}
+use Rattle.age_armor.proofs.Staging.{none_after_short}
+
+opens_next : (stage : Stage) (rest : Stretch) (front more : List ℕ) → (ahead stage rest).bytes ≡ front ++ more → 0 < length front → is_open stage ≡ true
+opens_next Start rest front more bytes some = refl
+opens_next Binary rest front more bytes some = refl
+opens_next (Lines false) rest front more bytes some = refl
+opens_next (Lines true) rest front more bytes some =
+    let none : [] ≡ front ++ more = sym (none_after_short (raw_lines rest.bytes) rest.ends_well) ∙ bytes in
+    absurd (omega (arith, some, ap length none, length-append front more))
+opens_next Ended rest front more bytes some = absurd (omega (arith, some, ap length bytes, length-append front more))
+
+-- where bytes were found and none were held, neither a short line nor the end came before
+pub open_stage : (failed : Bool) (bytes : List ℕ) (given filled : ℕ) (stage : Stage) (rest new : Stretch) (front : List ℕ) → failed ≡ false → filled ≤ length bytes →
+    filled ≤ given → Delivers front (rest_ahead failed bytes given filled stage rest) new → 0 < length front → is_open stage ≡ true
+unfolding rest_ahead
+open_stage failed bytes given filled stage rest new front good full empty delivers some =
+    opens_next stage rest front new.bytes ((rw (good, held-empty bytes given filled full empty) at delivers).bytes) some
+
+-- what a read takes on the way to the target is counted
+pub counted_on : (old new : Stage) (start counted target place held lines next still more : ℕ) → TakesLines old new place held lines next still more →
+    IsCounted old start counted target place held lines → place < target → (held ≡ 0 → is_open old ≡ true) → IsCounted new start counted target next still more
+counted_on old new start counted target place held lines next still more takes before short opens = elim (cases_lt 0 held) [
+  | inl some ↦
+      let same = takes.held some in
+      record {
+        at_most = λ is. omega (arith, before.at_most (subst (λ s. is_open s ≡ true) same.0 is), same.1, same.2);
+        bound = omega (arith, before.bound, same.1);
+      }
+  | inr none ↦
+      let empty : held ≡ 0 = omega (arith, none) in
+      let so_far = before.at_most (opens empty) in
+      record {
+        at_most = λ is. reached new so_far empty is takes;
+        bound = omega (arith, so_far, empty, takes.more, short);
+      }
+]
+  where
+    reached : (new : Stage) → 48 * lines + start ≤ 48 * counted + place + held → held ≡ 0 → is_open new ≡ true → TakesLines old new place held lines next still more →
+        48 * more + start ≤ 48 * counted + next + still
+    reached Start so_far empty is takes = absurd (true≢false takes.begun)
+    reached Binary so_far empty is takes = omega (arith, so_far, empty, takes.bare refl, takes.on)
+    reached (Lines false) so_far empty is takes = omega (arith, so_far, empty, takes.more, takes.full empty refl)
+    reached (Lines true) so_far empty is takes = absurd (true≢false (sym is))
+    reached Ended so_far empty is takes = absurd (true≢false (sym is))
+
+-- ---- what is known of the text
+
+pub learns_later : (old middle new : Marks) → LearnsMore old middle → LearnsMore middle new → LearnsMore old new
+learns_later old middle new first last = record {
+  further = omega (arith, first.further, last.further);
+  end = λ known. last.end (first.end known);
+  noting = λ noting. first.noting (last.noting noting);
+}
+
+pub learns_none : (old new : Marks) → new ≡ old → LearnsMore old new
+learns_none old new same = rw same (record { further = omega arith; end = λ known. known; noting = λ noting. noting })
+
+-- what is shown is held
+pub shown_reached : (failed : Bool) (bytes : List ℕ) (given filled place furthest : ℕ) (stage : Stage) → filled ≤ length bytes → failed ≡ false →
+    IsPaced stage place (filled - given) furthest → place + length (shown_ahead failed bytes given filled) ≤ furthest
+shown_reached failed bytes given filled place furthest stage all good pace =
+    omega (arith, pace.within, length_held failed bytes given filled all good)
+
+pub known_length : (length : Option ℕ) (place : ℕ) → EndsBefore length place → (n : ℕ) × (length ≡ Some n) × (n < place)
+known_length None place ends = absurd ends
+known_length (Some n) place ends = (n, refl, ends)
+
+pub some_length : (length : Option ℕ) → is_known length ≡ true → (n : ℕ) × (length ≡ Some n)
+some_length None known = absurd (true≢false (sym known))
+some_length (Some n) known = (n, refl)
+
+-- a reader that holds bytes has begun, and hasn't failed
+pub shown_begun : (failed : Bool) (bytes : List ℕ) (given filled : ℕ) (stage : Stage) → given ≤ filled → filled ≤ length bytes →
+    (is_start stage ≡ true → given ≡ filled) → 0 < length (shown_ahead failed bytes given filled) → (failed ≡ false) × (is_start stage ≡ false)
+unfolding shown_ahead
+shown_begun true bytes given filled stage order all fresh some = absurd (omega (arith, some))
+shown_begun false bytes given filled stage order all fresh some = elim (cases_Bool (is_start stage)) [
+  | inl start ↦ absurd (omega (arith, some, fresh start, length_held false bytes given filled all refl))
+  | inr begun ↦ (refl, begun)
+]
