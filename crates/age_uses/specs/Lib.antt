@@ -1,4 +1,5 @@
 pub mod Keys
+pub mod Looks
 pub mod Own
 pub mod ProtectedKeys
 pub mod Turns

@@ -2,6 +2,7 @@
 #![tactic(auto)]
 
 pub mod keys;
+pub mod looks;
 pub mod own;
 pub mod parts;
 pub mod passphrases;

@@ -6,6 +6,8 @@ mod fixtures;
 #[cfg(test)]
 mod keys_tests;
 #[cfg(test)]
+mod looks_tests;
+#[cfg(test)]
 mod own_tests;
 #[cfg(test)]
 mod parts_tests;

@@ -1,0 +1,20 @@
+use Rattle.std.proofs.Common.{◌≡◌, ◌+◌, ◌*◌, ◌≤◌, IsTrue, length}
+use Rattle.age.specs.ArmorReader.{inner_of, lines_of, furthest_of, notes_all}
+use Rattle.age_uses.specs.Looks.{AreWithin}
+use Rattle.age_uses.proofs.looks.bytes_at.Given as goal
+
+abbrev pub invariant-looks : goal.invariant-looks
+invariant-looks g l =
+    let reader = g.R.Read in
+    record {
+      tells : reader.tells (inner_of l.reader) ≡ reader.tells (inner_of l.fn.reader);
+      steady : reader.steady (inner_of l.reader) ≡ reader.steady (inner_of l.fn.reader);
+      further : furthest_of l.fn.reader ≤ furthest_of l.reader;
+      within : AreWithin (furthest_of l.fn.reader) l.places → AreWithin (furthest_of l.fn.reader) l.rest;
+      lines : IsTrue (reader.tells (inner_of l.fn.reader)) → IsTrue (reader.steady (inner_of l.fn.reader)) → IsTrue (notes_all l.reader) →
+          AreWithin (furthest_of l.fn.reader) l.places →
+          lines_of l.reader + 1025 * length l.rest ≤ lines_of l.fn.reader + 1025 * length l.places;
+    }
+
+abbrev pub decreases-looks : goal.decreases-looks
+decreases-looks g l = length l.rest
