@@ -1,5 +1,5 @@
 -- The file that random bytes come to for the bench recipient.
-use Rattle.std.specs.Prelude.{◌≡◌, ◌≤◌, ℕ, Bool, true, false, List, [], ◌∷◌, length, take, drop, nat_le, Option, Some, None, Result, Ok, Err, if◌then◌else◌, refl}
+use Rattle.std.specs.Prelude.{◌≡◌, ◌≤◌, ℕ, Bool, true, false, List, [], ◌∷◌, length, take, drop, nat_le, Option, Some, None, Result, Ok, if◌then◌else◌, refl}
 use Rattle.std.specs.Result.{result_map_both}
 use Rattle.std.proofs.Common.{◌∙◌, sym, ap, subst, arith, length-drop}
 use Rattle.std.proofs.lemmas.Bool.{leb-true}

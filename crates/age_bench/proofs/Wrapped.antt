@@ -1,13 +1,12 @@
 -- What a file comes to that is encrypted to the one recipient that TO names.
-use Rattle.std.specs.Prelude.{◌≡◌, ◌⊎◌, ℕ, ◌<◌, Bool, true, false, ◌&&◌, List, [], ◌∷◌, ◌++◌, length, take, drop, nat_le, bytes_eq, Option, Some, None, Result, Ok, Err, if◌then◌else◌, MatchOption, refl}
-use Rattle.std.specs.List.{AllByRecursion, list_all}
+use Rattle.std.specs.Prelude.{◌≡◌, ◌⊎◌, ℕ, Bool, true, false, List, [], ◌∷◌, ◌++◌, length, take, drop, nat_le, bytes_eq, Option, Some, None, Result, Ok, Err, if◌then◌else◌, MatchOption, refl}
+use Rattle.std.specs.List.{list_all}
 use Rattle.std.specs.Result.{result_map_both}
 use Rattle.std.proofs.Common.{◌∙◌, sym, ap, subst, inl, inr, arith}
-use Rattle.std.proofs.lemmas.Bool.{false≢true, le-leb, lt-ltb}
+use Rattle.std.proofs.lemmas.Bool.{false≢true}
 use Rattle.age.specs.Bytes.{AreBytesOf}
 use Rattle.age.specs.Base64.{columns}
-use Rattle.age.proofs.Columns.{IsSymbol, columns_symbols, length-columns}
-use Rattle.age.specs.FormatBytes.{is_graphic, is_string_of}
+use Rattle.age.specs.FormatBytes.{is_string_of}
 use Rattle.age.specs.EncryptErrors.{EncryptRefusal, OutOfMemory, ShortRandom, ZeroSharedSecret, WorkFactorRefused, InvalidRecipientLabels, encrypt_refusal}
 use Rattle.age.specs.FileErrors.{EncryptsUnless}
 use Rattle.age.specs.FileErrorVariants.{Io, Encrypt, Decrypt}

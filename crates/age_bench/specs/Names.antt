@@ -1,5 +1,5 @@
 -- What those answer whom the words of a command line name.
-use Rattle.std.specs.Prelude.{◌≡◌, ⊤, ℕ, Bool, List, ◌++◌, Option, Some, None, Result, Ok, Err}
+use Rattle.std.specs.Prelude.{◌≡◌, ⊤, ℕ, Bool, List, ◌++◌, Some, Result, Ok}
 use Rattle.std.specs.Result.{result_map_both}
 use Rattle.age.specs.EncryptErrors.{EncryptRefusal}
 use Rattle.age.specs.Draw.{taken, left_after}

@@ -1,7 +1,6 @@
-use Rattle.std.specs.Prelude.{◌≡◌, ◌≢◌, ℕ, Bool, true, false, not, List, [], Ok, Err, Result, IsTrue, bytes_eq, codes}
+use Rattle.std.specs.Prelude.{◌≡◌, ℕ, List, [], Ok, codes}
 use Rattle.std.proofs.Common.{◌∙◌, ap, inl, inr}
 use Rattle.age.specs.EncryptErrors.{OutOfMemory}
-use Rattle.age.specs.Stanza.{StanzaValue}
 use Rattle.age.specs.Wrapping.{Wrapped}
 use Rattle.age.specs.Unwrapping.{Steady, FirstOf}
 use Rattle.age.specs.Belonging.{BelongsTo}
