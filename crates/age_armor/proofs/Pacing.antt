@@ -46,7 +46,7 @@ counted_on old new start counted target place held lines next still more takes b
       let so_far = before.at_most (opens empty) in
       record {
         at_most = λ is. reached new so_far empty is takes;
-        bound = omega (arith, so_far, empty, takes.more, short);
+        bound = omega (arith, so_far, empty, takes.more.1, short);
       }
 ]
   where
@@ -54,7 +54,7 @@ counted_on old new start counted target place held lines next still more takes b
         48 * more + start ≤ 48 * counted + next + still
     reached Start so_far empty is takes = absurd (true≢false takes.begun)
     reached Binary so_far empty is takes = omega (arith, so_far, empty, takes.bare refl, takes.on)
-    reached (Lines false) so_far empty is takes = omega (arith, so_far, empty, takes.more, takes.full empty refl)
+    reached (Lines false) so_far empty is takes = omega (arith, so_far, empty, takes.more.1, takes.full empty refl)
     reached (Lines true) so_far empty is takes = absurd (true≢false (sym is))
     reached Ended so_far empty is takes = absurd (true≢false (sym is))
 

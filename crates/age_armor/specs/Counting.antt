@@ -47,7 +47,7 @@ pub record TakesLines (old new : Stage) (old_place old_held old_lines new_place 
   -- what is held is given, and no line is taken
   pub held : 0 < old_held → (new ≡ old) × (new_lines ≡ old_lines) × (new_place + new_held ≡ old_place + old_held)
   -- else one is taken at most, and a full one stands for 48 bytes
-  pub more : new_lines ≤ old_lines + 1
+  pub more : (old_lines ≤ new_lines) × (new_lines ≤ old_lines + 1)
   pub full : old_held ≡ 0 → new ≡ Lines false → new_place + new_held ≡ old_place + 48
   -- of a binary text none
   pub bare : is_armored new ≡ false → new_lines ≡ old_lines

@@ -106,6 +106,6 @@ module _ {R : Type 0} {buf : buffered.Ghosts R} {read : readers.Ghosts R} where
   pub record Learns {A : Type 0} (old new : ArmoredReader R buf read) (result : Result A Error) : Type 0 where
     pub more : LearnsMore (marks_of old) (marks_of new)
     pub reaches : IsTrue (read.tells (inner_of old)) → OnOk result (place_of new + length (shown_of new) ≤ furthest_of new)
-    pub lines : lines_of new ≤ lines_of old + 1
+    pub lines : (lines_of old ≤ lines_of new) × (lines_of new ≤ lines_of old + 1)
     pub bare : IsTrue (read.tells (inner_of old)) → IsTrue (read.steady (inner_of old)) → begins_armor (text_of old).bytes ≡ false →
         OnOk result (lines_of new ≡ lines_of old)

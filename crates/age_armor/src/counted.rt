@@ -151,6 +151,7 @@ impl<R: BufRead> Counted<R> {
         ensures full { IsTrue (R.Read.tells self.old.inner) → TakesFull bytes.new (R.Read.rest self.old.inner) (R.Read.rest self.new.inner) }
         ensures taken { IsTrue (R.Read.tells self.old.inner) → self.new.taken ≡ self.old.taken + 65 }
         ensures lines { self.new.lines ≡ one_line_more self.old.lines }
+        ensures counts { self.old.lines ≤ self.new.lines }
     {
         bytes.copy_from_slice(&self.ahead[self.next..self.next + LINE]);
         known_bytes(bytes);
@@ -175,6 +176,7 @@ impl<R: BufRead> Counted<R> {
         ensures taken { IsTrue (R.Read.tells self.old.inner) → IfOk result (λ is. IsTrue is → self.new.taken ≡ self.old.taken + 65) }
         ensures lines { IfOk result (λ is. self.new.lines ≡ (if is then one_line_more self.old.lines else self.old.lines)) }
         ensures none_taken { OnErr result (self.new.lines ≡ self.old.lines) }
+        ensures counts { self.old.lines ≤ self.new.lines }
         ensures cause { IsTrue (R.Read.tells self.old.inner) → IfErr result (λ e. e ≢ OutOfMemory → IsQuiet (R.Read.faults self.old.inner) (R.Read.faults self.new.inner) →
             IsFault (R.Read.rest self.old.inner)) }
     {
@@ -194,6 +196,7 @@ impl<R: BufRead> Counted<R> {
         ensures lines { OnOk result (0 < length line.new.items → self.new.lines ≡ one_line_more self.old.lines) }
         ensures no_line { OnOk result (length line.new.items ≡ 0 → self.new.lines ≡ self.old.lines) }
         ensures none_taken { OnErr result (self.new.lines ≡ self.old.lines) }
+        ensures counts { self.old.lines ≤ self.new.lines }
         ensures taken { IsTrue (R.Read.tells self.old.inner) → OnOk result (self.new.taken ≡ self.old.taken + length line.new.items) }
         ensures line { IsTrue (R.Read.tells self.old.inner) → OnOk result (TakesLine line.new.items (R.Read.rest self.old.inner) (R.Read.rest self.new.inner)) }
         ensures cause { IsTrue (R.Read.tells self.old.inner) → IfErr result (λ e. e ≢ OutOfMemory → IsQuiet (R.Read.faults self.old.inner) (R.Read.faults self.new.inner) →

@@ -367,7 +367,7 @@ impl<R: BufRead> ArmoredReader<R> {
         ensures begun { OnOk result (is_start self.new.stage ≡ false) }
         ensures counts { IsTrue (R.Read.tells self.old.source.inner) → OnOk result (TakesLines self.old.stage self.new.stage
             self.old.place (self.old.filled - self.old.given) self.old.source.lines self.new.place (self.new.filled - self.new.given) self.new.source.lines) }
-        ensures lines { self.new.source.lines ≤ self.old.source.lines + 1 }
+        ensures lines { (self.old.source.lines ≤ self.new.source.lines) × (self.new.source.lines ≤ self.old.source.lines + 1) }
         ensures learns { LearnsMore self.old.marks self.new.marks }
         ensures knows { OnOk result (self.new.given ≡ self.new.filled → IsTrue (knows_end self.new)) }
         ensures failed { OnErr result (self.new.failed ≡ true) }

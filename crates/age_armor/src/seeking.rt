@@ -166,6 +166,7 @@ impl<R: BufRead> ArmoredReader<R> {
         ensures bare { IsTrue (R.Read.tells (inner_of self.old)) → IsTrue (R.Read.steady (inner_of self.old)) → begins_armor (text_of self.old).bytes ≡ false →
             OnOk result (self.new.source.lines ≡ self.old.source.lines) }
         ensures learns { LearnsMore self.old.marks self.new.marks }
+        ensures counts { self.old.source.lines ≤ self.new.source.lines }
         ensures knows { IfOk result (λ there. there ≡ false → IsTrue (knows_end self.new)) }
     {
         let mut room = [0; 1024];
@@ -216,6 +217,7 @@ impl<R: BufRead + Seek> ArmoredReader<R> {
         ensures lines { IsTrue (R.Read.tells (inner_of self.old)) → IsTrue (R.Read.steady (inner_of self.old)) → IsTrue (notes_all self.old) →
             target ≤ furthest_of self.old → OnOk result (self.new.source.lines ≤ self.old.source.lines + 1024) }
         ensures learns { LearnsMore self.old.marks self.new.marks }
+        ensures counts { self.old.source.lines ≤ self.new.source.lines }
         ensures outside { IsTrue (R.Read.tells (inner_of self.old)) → IsTrue (R.Read.steady (inner_of self.old)) → IsTrue (knows_end self.old) →
             IfErr result (λ e. IsOutside e → self.new ≡ self.old) }
         ensures still { self.old.failed ≡ false → is_start self.old.stage ≡ false → self.old.place ≡ target →
@@ -262,6 +264,7 @@ impl<R: BufRead + Seek> ArmoredReader<R> {
             IsNamed (text_outcome_of self.old).ending e) }
         ensures same_text { IsTrue (R.Read.tells (inner_of self.old)) → text_of self.new ≡ text_of self.old }
         ensures learns { LearnsMore self.old.marks self.new.marks }
+        ensures counts { self.old.source.lines ≤ self.new.source.lines }
         ensures knows { OnOk result (IsTrue (knows_end self.new)) }
         ensures ending { IsTrue (R.Read.tells (inner_of self.old)) → IsTrue (R.Read.steady (inner_of self.old)) → OnOk result
             ((outcome_of self.new).ending ≡ (text_outcome_of self.old).ending) }
@@ -326,6 +329,7 @@ impl<R: BufRead + Seek> ArmoredReader<R> {
         ensures lines { IsTrue (R.Read.tells (inner_of self.old)) → IsTrue (R.Read.steady (inner_of self.old)) → IsTrue (notes_all self.old) →
             IsTrue (knows_end self.old) → OnOk result (self.new.source.lines ≤ self.old.source.lines + 1024) }
         ensures learns { LearnsMore self.old.marks self.new.marks }
+        ensures counts { self.old.source.lines ≤ self.new.source.lines }
         ensures knows { OnOk result (IsTrue (knows_end self.new)) }
         ensures outside { IsTrue (R.Read.tells (inner_of self.old)) → IsTrue (R.Read.steady (inner_of self.old)) → IsTrue (knows_end self.old) →
             IfErr result (λ e. IsOutside e → self.new ≡ self.old) }
@@ -370,6 +374,7 @@ impl<R: BufRead + Seek> ArmoredReader<R> {
         ensures back { ComesBack ⟦<ArmoredReader<R> as Read>⟧ (λ r. has_failed r) self.old self.new place failed error result }
         ensures same_text { IsTrue (R.Read.tells (inner_of self.old)) → text_of self.new ≡ text_of self.old }
         ensures learns { LearnsMore self.old.marks self.new.marks }
+        ensures counts { self.old.source.lines ≤ self.new.source.lines }
         ensures lines { IsTrue (R.Read.tells (inner_of self.old)) → IsTrue (R.Read.steady (inner_of self.old)) → self.old.failed ≡ failed → self.old.place ≡ place →
             IsOutside result → self.new.source.lines ≤ self.old.source.lines }
         ensures ending { IsTrue (R.Read.tells (inner_of self.old)) → IsTrue (R.Read.steady (inner_of self.old)) → has_failed self.new ≡ false →
@@ -400,6 +405,7 @@ impl<R: BufRead + Seek> ArmoredReader<R> {
         ensures lines { IsTrue (R.Read.tells (inner_of self.old)) → IsTrue (R.Read.steady (inner_of self.old)) → IsTrue (notes_all self.old) →
             target ≤ furthest_of self.old → OnOk result (self.new.source.lines ≤ self.old.source.lines + 1024) }
         ensures learns { LearnsMore self.old.marks self.new.marks }
+        ensures counts { self.old.source.lines ≤ self.new.source.lines }
         ensures outside { IsTrue (R.Read.tells (inner_of self.old)) → IsTrue (R.Read.steady (inner_of self.old)) → IsTrue (knows_end self.old) →
             IfErr result (λ e. IsOutside e → self.new.source.lines ≤ self.old.source.lines) }
         ensures still { self.old.failed ≡ false → is_start self.old.stage ≡ false → self.old.place ≡ target →
@@ -425,6 +431,7 @@ impl<R: BufRead + Seek> ArmoredReader<R> {
         ensures lines { IsTrue (R.Read.tells (inner_of self.old)) → IsTrue (R.Read.steady (inner_of self.old)) → IsTrue (notes_all self.old) →
             IsTrue (knows_end self.old) → OnOk result (self.new.source.lines ≤ self.old.source.lines + 1024) }
         ensures learns { LearnsMore self.old.marks self.new.marks }
+        ensures counts { self.old.source.lines ≤ self.new.source.lines }
         ensures knows { OnOk result (IsTrue (knows_end self.new)) }
         ensures outside { IsTrue (R.Read.tells (inner_of self.old)) → IsTrue (R.Read.steady (inner_of self.old)) → IsTrue (knows_end self.old) →
             IfErr result (λ e. IsOutside e → self.new.source.lines ≤ self.old.source.lines) }
@@ -447,6 +454,7 @@ impl<R: BufRead + Seek> ArmoredReader<R> {
         ensures lines { IsTrue (R.Read.tells (inner_of self.old)) → IsTrue (R.Read.steady (inner_of self.old)) → IsTrue (notes_all self.old) →
             ((n : ℕ) → place_by self.old.place distance ≡ Some n → n ≤ furthest_of self.old) → OnOk result (self.new.source.lines ≤ self.old.source.lines + 1024) }
         ensures learns { LearnsMore self.old.marks self.new.marks }
+        ensures counts { self.old.source.lines ≤ self.new.source.lines }
         ensures outside { IsTrue (R.Read.tells (inner_of self.old)) → IsTrue (R.Read.steady (inner_of self.old)) → IsTrue (knows_end self.old) →
             IfErr result (λ e. IsOutside e → self.new.source.lines ≤ self.old.source.lines) }
         ensures still { IsTrue (R.Read.tells (inner_of self.old)) → self.old.failed ≡ false → is_start self.old.stage ≡ false →
@@ -525,6 +533,7 @@ impl<R: BufRead + Seek> Seek for ArmoredReader<R> {
         ensures still { IsTrue (R.Read.tells (inner_of self.old)) → 0 < length (shown_of self.old) → IsTo to (place_of self.old) →
             (result ≡ Ok (place_of self.old)) × (self.new ≡ self.old) }
         ensures learns { LearnsMore (marks_of self.old) (marks_of self.new) }
+        ensures counts { lines_of self.old ≤ lines_of self.new }
         ensures knows { IsFromEnd to → OnOk result (IsTrue (knows_end self.new)) }
         ensures reaches { IsTrue (R.Read.tells (inner_of self.old)) → OnOk result (place_of self.new + length (shown_of self.new) ≤ furthest_of self.new) }
         ensures ending { IsTrue (R.Read.tells (inner_of self.old)) → IsTrue (R.Read.steady (inner_of self.old)) →

@@ -124,7 +124,7 @@ fn next_line<R: BufRead>(
 ) -> Result<Piece, Error>
     ensures kept { Kept ⟦<R as Read>⟧ source.old.inner source.old.taken source.new.inner source.new.taken result }
     ensures fits { IfOk result (λ piece. piece.count ≤ 48) }
-    ensures counts { source.new.lines ≤ source.old.lines + 1 }
+    ensures counts { (source.old.lines ≤ source.new.lines) × (source.new.lines ≤ source.old.lines + 1) }
     ensures full { IfOk result (λ piece. piece.next ≡ Lines false → piece.count ≡ 48) }
     ensures ended { IfOk result (λ piece. is_ended piece.next ≡ true → piece.count ≡ 0) }
     ensures begun { IfOk result (λ piece. is_start piece.next ≡ false) }
@@ -163,7 +163,7 @@ fn any_line<R: BufRead>(
 ) -> Result<Piece, Error>
     ensures kept { Kept ⟦<R as Read>⟧ source.old.inner source.old.taken source.new.inner source.new.taken result }
     ensures fits { IfOk result (λ piece. piece.count ≤ 48) }
-    ensures counts { source.new.lines ≤ source.old.lines + 1 }
+    ensures counts { (source.old.lines ≤ source.new.lines) × (source.new.lines ≤ source.old.lines + 1) }
     ensures full { IfOk result (λ piece. piece.next ≡ Lines false → piece.count ≡ 48) }
     ensures ended { IfOk result (λ piece. is_ended piece.next ≡ true → piece.count ≡ 0) }
     ensures begun { IfOk result (λ piece. is_start piece.next ≡ false) }
@@ -208,7 +208,7 @@ fn first<R: BufRead>(
 ) -> Result<Piece, Error>
     ensures kept { Kept ⟦<R as Read>⟧ source.old.inner source.old.taken source.new.inner source.new.taken result }
     ensures fits { IfOk result (λ piece. piece.count ≤ 48) }
-    ensures counts { source.new.lines ≤ source.old.lines + 1 }
+    ensures counts { (source.old.lines ≤ source.new.lines) × (source.new.lines ≤ source.old.lines + 1) }
     ensures full { IfOk result (λ piece. piece.next ≡ Lines false → piece.count ≡ 48) }
     ensures ended { IfOk result (λ piece. is_ended piece.next ≡ true → piece.count ≡ 0) }
     ensures bare { IfOk result (λ piece. is_armored piece.next ≡ false → source.new.lines ≡ source.old.lines) }
@@ -267,7 +267,7 @@ pub(crate) fn advance<R: BufRead>(
     requires { is_ended stage ≡ false }
     ensures kept { Kept ⟦<R as Read>⟧ source.old.inner source.old.taken source.new.inner source.new.taken result }
     ensures fits { IfOk result (λ piece. piece.count ≤ 48) }
-    ensures counts { source.new.lines ≤ source.old.lines + 1 }
+    ensures counts { (source.old.lines ≤ source.new.lines) × (source.new.lines ≤ source.old.lines + 1) }
     ensures full { IfOk result (λ piece. piece.next ≡ Lines false → piece.count ≡ 48) }
     ensures ended { IfOk result (λ piece. is_ended piece.next ≡ true → piece.count ≡ 0) }
     ensures bare { IfOk result (λ piece. is_armored piece.next ≡ false → source.new.lines ≡ source.old.lines) }

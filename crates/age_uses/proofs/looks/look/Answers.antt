@@ -14,5 +14,5 @@ returns-in-Ok-clause-learns g c =
 
 pub returns-in-Ok-clause-lines : goal.returns-in-Ok-clause-lines
 returns-in-Ok-clause-lines g c = λ told steady noting behind.
-    on_ok_weaker c.read.result (λ reached. omega (arith, c.in-Ok.ensures.marks told steady noting behind, c.read.ensures.learns.lines))
+    on_ok_weaker c.read.result (λ reached. omega (arith, c.in-Ok.ensures.marks told steady noting behind, c.read.ensures.learns.lines.1))
     (c.read.ensures.learns.reaches (c.in-Ok.ensures.seeks.same_tells ∙ told))

@@ -15,6 +15,7 @@ returns-then-failed g c =
       same_text = λ told. same-source-text _ _ now.source;
       ending = λ told steady good. absurd (true≢false (sym now.failed ∙ good));
       learns = learns_none _ _ now.marks;
+      counts = omega (arith, ap (λ s. s.lines) now.source);
       lines = λ told steady had at refusal. omega (arith, ap (λ s. s.lines) now.source);
     }
 
@@ -26,6 +27,7 @@ returns-then-not-is_outside g c =
       same_text = λ told. same-source-text _ _ now.source;
       ending = λ told steady good. absurd (true≢false (sym now.failed ∙ good));
       learns = learns_none _ _ now.marks;
+      counts = omega (arith, ap (λ s. s.lines) now.source);
       lines = λ told steady had at refusal. omega (arith, ap (λ s. s.lines) now.source);
     }
 
@@ -47,6 +49,7 @@ returns-in-Ok g c =
       same_text = now.same_text;
       ending = λ told steady good. now.ending told steady;
       learns = now.learns;
+      counts = now.counts;
       lines = λ told steady had at refusal. now.unmoved told steady (had ∙ c.if-failed.false) at;
     }
 
@@ -73,5 +76,6 @@ returns-in-Err g c =
       same_text = λ told. same-source-text _ _ now.source ∙ missed.same_text told;
       ending = λ told steady good. absurd (true≢false (sym now.failed ∙ good));
       learns = learns_later _ c.go_to.new.self.marks c.fail_at-in-Err.new.self.marks missed.learns (learns_none _ _ now.marks);
+      counts = omega (arith, missed.counts, ap (λ s. s.lines) now.source);
       lines = λ told steady had at refusal. absurd (made.other refusal);
     }

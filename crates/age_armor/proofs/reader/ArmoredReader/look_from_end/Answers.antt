@@ -142,6 +142,7 @@ returns-else-target-len g c =
           on_ok_weaker c.go_to.result (λ is. is ∙ ap (λ t. (delivered t.bytes t.ends_well).ending) (last.same_text (back.tells ∙ told) ∙ first.same_text told))
           (now.ending (same.tells ∙ told) (same.steady ∙ steady));
       knows = on_ok_weaker c.go_to.result (λ good. now.learns.end (last.knows c.if-there.false)) now.good;
+      counts = omega (arith, first.lines, last.counts, now.counts);
       learns = learns_later _ new.marks c.go_to.new.self.marks (learns_later _ c.approach.new.self.marks new.marks (learns_none _ _ first.marks) last.learns) now.learns;
     }
 
@@ -182,6 +183,7 @@ returns-then-target-len g c =
       same_text = λ told. last.same_text (back.tells ∙ told) ∙ first.same_text told;
       ending = λ told steady. last.ending (back.tells ∙ told) ∙ first.ending told steady;
       knows = last.knows c.if-there.false;
+      counts = omega (arith, first.lines, last.counts);
       learns = learns_later _ c.approach.new.self.marks new.marks (learns_none _ _ first.marks) last.learns;
     }
 

@@ -144,7 +144,7 @@ returns-then-is_passing-clause-counts g c = λ told.
     let passing = c.is_passing.ensures c.if-is_passing.true in
     on_if c.pass.result _ _ (λ n moves. record {
       held = λ some. absurd (omega (arith, some, passing.1));
-      more = omega (arith, now.lines);
+      more = (omega (arith, now.lines), omega (arith, now.lines));
       full = λ none full. not_binary (sym now.stage ∙ full);
       bare = λ is. now.lines;
       begun = ap is_start now.stage;
@@ -160,7 +160,7 @@ returns-in-Ok-clause-counts g c = λ told.
     let sum = given.sum told_held in
     record {
       held = λ some. let same = taken.held some in (given.stage ∙ same.0, lines ∙ same.1, sum ∙ same.2);
-      more = omega (arith, lines, taken.more);
+      more = (omega (arith, lines, taken.more.0), omega (arith, lines, taken.more.1));
       full = λ none full. omega (arith, sum, taken.full none (sym given.stage ∙ full));
       bare = λ is. lines ∙ taken.bare (sym (ap is_armored given.stage) ∙ is);
       begun = ap is_start given.stage ∙ taken.begun;
@@ -176,7 +176,7 @@ returns-then-is_passing-clause-learns g c =
       more = now.learns;
       reaches = λ told. on_ok_weaker c.pass.result (λ good. shown_reached after.failed after.bytes after.given after.filled after.place after.marks.furthest after.stage all good
           (after.paced (now.goes.keeps.same.tells ∙ told) good)) now.good;
-      lines = omega (arith, now.lines);
+      lines = (omega (arith, now.lines), omega (arith, now.lines));
       bare = λ told steady plain. on_ok_weaker c.pass.result (λ good. now.lines) now.good;
     }
 
@@ -201,7 +201,7 @@ returns-in-Ok-clause-learns g c =
       reaches = λ told.
           let told_after = ap (λ s. g.R.Read.tells s.inner) given.source ∙ now.goes.keeps.same.tells ∙ told in
           shown_reached after.failed after.bytes after.given after.filled after.place after.marks.furthest after.stage all given.fresh (after.paced told_after given.fresh);
-      lines = omega (arith, lines, now.lines);
+      lines = (omega (arith, lines, now.lines.0), omega (arith, lines, now.lines.1));
       bare = λ told steady plain.
           lines ∙ (now.counts told).bare
           (form_kept (is_armored held.stage) (text_of held) (text_of c.args.self.now)

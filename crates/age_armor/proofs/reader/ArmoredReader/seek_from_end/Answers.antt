@@ -25,6 +25,7 @@ returns-in-Ok g c =
       same_text = now.same_text;
       ending = λ told steady good. now.ending told steady;
       learns = now.learns;
+      counts = now.counts;
       knows = now.knows;
       outside = λ told steady known. tt;
       lines = now.lines;
@@ -60,6 +61,7 @@ returns-in-Err g c =
           ∙ ap (λ t. (delivered t.bytes t.ends_well).ending) (now.same_text told);
       knows = tt;
       learns = learns_later _ c.go_from_end.new.self.marks c.come_back.new.self.marks now.learns c.come_back.ensures.learns;
+      counts = omega (arith, now.counts, c.come_back.ensures.counts);
       outside = λ told steady known refusal.
           let same = now.outside told steady known (c.come_back.ensures.back.unmoved refusal).0 in
           omega (

@@ -20,6 +20,7 @@ returns-in-Ok g c =
       same_text = now.same_text;
       ending = λ told steady good. now.ending told steady;
       learns = now.learns;
+      counts = now.counts;
       outside = λ told steady known. tt;
       still = λ good begun at. (sym c.in-Ok.is ∙ (c.go_to.ensures.still good begun at).0, (c.go_to.ensures.still good begun at).1);
       lines = now.lines;
@@ -51,6 +52,7 @@ returns-in-Err g c =
           c.come_back.ensures.ending (now.goes.keeps.same.tells ∙ told) (now.goes.keeps.same.steady ∙ steady) good
           ∙ ap (λ t. (delivered t.bytes t.ends_well).ending) (now.same_text told);
       learns = learns_later _ c.go_to.new.self.marks c.come_back.new.self.marks now.learns c.come_back.ensures.learns;
+      counts = omega (arith, now.counts, c.come_back.ensures.counts);
       outside = λ told steady known refusal.
           let same = now.outside told steady known (c.come_back.ensures.back.unmoved refusal).0 in
           omega (

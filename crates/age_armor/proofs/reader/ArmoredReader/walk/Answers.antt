@@ -90,6 +90,7 @@ reads-preserved g c =
           (reads.bytes (loop.same.tells ∙ told)) (sym (length-take-le n c.read_on.new.buf reads.count)) (reads.moves (loop.same.tells ∙ told));
       ending = λ told. c.in-Ok.ensures.ending (loop.same.tells ∙ told) ∙ loop.ending told;
       same_text = λ told. c.in-Ok.ensures.same_text (loop.same.tells ∙ told) ∙ loop.same_text told;
+      taken = omega (arith, loop.taken, c.in-Ok.ensures.learns.lines.0);
       learns = learns_later _ c.reads.self.marks c.read_on.new.self.marks loop.learns c.in-Ok.ensures.learns.more;
       counted = λ told steady stands inside.
           let told_now = loop.same.tells ∙ told in

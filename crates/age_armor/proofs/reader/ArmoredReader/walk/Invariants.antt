@@ -22,6 +22,7 @@ invariant-reads g l =
           armored_rest l.self ≡ from_place l.self.place (armored_content l.fn.self);
       ending : IsTrue (reader.tells l.fn.self.source.inner) → (outcome_of l.self).ending ≡ (outcome_of l.fn.self).ending;
       same_text : IsTrue (reader.tells l.fn.self.source.inner) → text_of l.self ≡ text_of l.fn.self;
+      taken : l.fn.self.source.lines ≤ l.self.source.lines;
       learns : LearnsMore l.fn.self.marks l.self.marks;
       counted : IsTrue (reader.tells l.fn.self.source.inner) → IsTrue (reader.steady l.fn.self.source.inner) →
           armored_rest l.fn.self ≡ from_place l.fn.self.place (armored_content l.fn.self) → l.target ≤ length (armored_content l.fn.self).bytes →

@@ -40,7 +40,7 @@ returns-then-self g c =
             λ told. refl,
             λ told. refl,
             λ told steady. tt,
-            record { more = learns_none _ _ refl; reaches = λ told. tt; lines = omega arith; bare = λ told steady plain. tt },
+            record { more = learns_none _ _ refl; reaches = λ told. tt; lines = (omega arith, omega arith); bare = λ told steady plain. tt },
             tt,
           );
           same_content = λ told. refl;

@@ -78,7 +78,7 @@ pub returns-then-self-clause-learns : goal.returns-then-self-clause-learns
 returns-then-self-clause-learns g c = record {
   more = learns_none _ _ refl;
   reaches = λ told. tt;
-  lines = omega arith;
+  lines = (omega arith, omega arith);
   bare = λ told steady plain. tt;
 }
 
@@ -90,7 +90,7 @@ returns-then-is_empty-clause-learns g c =
       more = learns_none _ _ refl;
       reaches = λ told.
           shown_reached before.failed before.bytes before.given before.filled before.place before.marks.furthest before.stage all c.if-self.false (before.paced told c.if-self.false);
-      lines = omega arith;
+      lines = (omega arith, omega arith);
       bare = λ told steady plain. refl;
     }
 

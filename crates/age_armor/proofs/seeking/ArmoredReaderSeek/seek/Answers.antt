@@ -166,3 +166,12 @@ returns-in-End-clause-knows g c = λ asked. c.seek_from_end.ensures.knows
 
 pub returns-in-Current-clause-knows : goal.returns-in-Current-clause-knows
 returns-in-Current-clause-knows g c = λ asked. absurd (rw c.in-Current.is at asked)
+
+pub returns-in-Start-clause-counts : goal.returns-in-Start-clause-counts
+returns-in-Start-clause-counts g c = c.seek_to.ensures.counts
+
+pub returns-in-End-clause-counts : goal.returns-in-End-clause-counts
+returns-in-End-clause-counts g c = c.seek_from_end.ensures.counts
+
+pub returns-in-Current-clause-counts : goal.returns-in-Current-clause-counts
+returns-in-Current-clause-counts g c = c.seek_by.ensures.counts
