@@ -11,6 +11,7 @@ import random
 import subprocess
 import sys
 import tempfile
+from concurrent.futures import ProcessPoolExecutor
 
 import second
 from second import BEGIN, END, PIECE, VERSION, armor, stanza
@@ -45,6 +46,8 @@ SECRET, KEY_DRAW = bytes(range(50, 82)), bytes(range(100, 164))
 RECIPIENT = second.bech32("age", second.public(SECRET))
 IDENTITY = second.bech32("age-secret-key-", SECRET).upper()
 PASSPHRASE, LONG_DRAW = "correct horse", bytes(range(100, 172))
+SEAL, OPEN = ["seal", KEY.hex()], ["open", KEY.hex().upper()]
+ENCRYPT, DECRYPT = ["encrypt", "bench", DRAW.hex()], ["decrypt", "bench"]
 USAGE = ("usage: agebench seal|open KEY, encrypt TO DRAW [armor], decrypt WITH, at WITH PLACE COUNT, "
          "keygen DRAW\n")
 
@@ -495,7 +498,7 @@ def devices(runs, words, given):
     runs.judge("a closed pipe", got[:3] == (1, b"", f"agebench: {DEVICE}\n"), got)
 
 
-def seek_memory(runs):
+def seek_memory(runs, number):
     """A seek to the last of eleven chunks and a read there make fewer than ten requests for memory.
 
     So the answers are the same where the tenth is refused, and `out of memory` where the first is. A reader that opened
@@ -504,73 +507,97 @@ def seek_memory(runs):
     here = os.path.dirname(os.path.abspath(__file__))
     crate = os.path.join(os.path.dirname(here), "crates", "seek_memory")
     plain = bytes(i % 251 for i in range(10 * PIECE + 1))
-    answers = f"0 opened, at {10 * PIECE}, 1 read: {plain[-1]}, 1 opened"
-    for number, want in [(1, "seek_memory: out of memory"), (10, answers)]:
-        done = subprocess.run(["rt", "try", "--fail-alloc", str(number)], cwd=crate, input=payload(plain),
-                              capture_output=True, timeout=900)
-        lines = done.stdout.decode().splitlines() + done.stderr.decode().splitlines()
-        runs.judge(f"a seek and a read, request {number} for memory refused", want in lines,
-                   (done.returncode, done.stdout, done.stderr.decode(), False))
+    want = {1: "seek_memory: out of memory", 10: f"0 opened, at {10 * PIECE}, 1 read: {plain[-1]}, 1 opened"}[number]
+    done = subprocess.run(["rt", "try", "--fail-alloc", str(number)], cwd=crate, input=payload(plain),
+                          capture_output=True, timeout=900)
+    lines = done.stdout.decode().splitlines() + done.stderr.decode().splitlines()
+    runs.judge(f"a seek and a read, request {number} for memory refused", want in lines,
+               (done.returncode, done.stdout, done.stderr.decode(), False))
+
+
+def sealing(runs):
+    draw = random.Random(1)
+    for size in [0, 1, 16, 65535, 65536, 65537, 131072, 131073, 1000003]:
+        plain = draw.randbytes(size)
+        runs.answers(f"seal {size} bytes", SEAL, plain, payload(plain))
+        runs.answers(f"open {size} bytes", OPEN, payload(plain), plain)
+
+
+def messages(runs):
+    """A short message where memory is refused."""
+    short = b"This is a test message. For testing."
+    whole = second.encrypted(DRAW, short)
+    runs.injected("encrypt a message", ENCRYPT, short, whole, "alloc", NO_MEMORY)
+    runs.injected("decrypt a message", DECRYPT, whole, short, "alloc", NO_MEMORY)
+    armored = armor(whole)
+    runs.injected("encrypt a message in armor", ENCRYPT + ["armor"], short, armored, "alloc", NO_MEMORY)
+    runs.injected("decrypt a message in armor", DECRYPT, armored, short, "alloc", NO_MEMORY)
+    other = second.encrypted(bytes(32), short, stanza([b"x-grease"], b""))
+    runs.injected("decrypt a message with other grease", DECRYPT, other, short, "alloc", NO_MEMORY)
+
+
+def faulty(runs, name):
+    """One of the commands where memory, reads and writes fail or fall short."""
+    plain = random.Random(2).randbytes(100000)
+    sealed, whole = payload(plain), second.encrypted(DRAW, plain)
+    text = armor(whole)
+    words, given, want = {
+        "seal": (SEAL, plain, sealed), "open": (OPEN, sealed, plain),
+        "encrypt": (ENCRYPT, plain, whole), "decrypt": (DECRYPT, whole, plain),
+        "encrypt in armor": (ENCRYPT + ["armor"], plain, text), "decrypt armor": (DECRYPT, text, plain)}[name]
+    runs.injected(name, words, given, want, "alloc", NO_MEMORY)
+    for call in ["read", "write"]:
+        runs.injected(name, words, given, want, call, DEVICE)
+        runs.injected(name, words, given, want, f"{call}-short", None)
+        runs.injected(name, words, given, want, f"{call}-interrupted", None)
+        runs.injected(name, words, given, want, f"{call}-interrupted-on", DEVICE)
+    devices(runs, words, given)
+
+
+def marked(runs):
+    """A mark of armor that is refused memory changes no answer: two are noted on the way, each of 1,024 lines."""
+    plain = random.Random(2).randbytes(100000)
+    text = armor(second.encrypted(DRAW, plain))
+    runs.injected("at in armor", ["at", "bench", "98303", "700"], text, plain[98303:99003], "alloc", NO_MEMORY)
+
+
+def damaged_payloads(runs):
+    plain = random.Random(3).randbytes(200000)
+    damaged(runs, OPEN, plain, payload(plain))
+
+
+FAULTY = ["seal", "open", "encrypt", "decrypt", "encrypt in armor", "decrypt armor"]
+# The long ones first: they are run side by side.
+PARTS = [(seek_memory, 1), (seek_memory, 10), (marked,), *[(faulty, name) for name in reversed(FAULTY)], (protected,), (injected_keys,), (injected_passphrases,),
+         (messages,), (damaged_armor,), (armored_files,), (files,), (parts,), (keys,), (passphrases,), (damaged_payloads,), (sealing,),
+         (command_lines,)]
+
+
+def judged(program, shim, folder, part, *about):
+    """How many runs of a part passed and failed."""
+    os.mkdir(folder)
+    runs = Runs(program, shim, folder)
+    part(runs, *about)
+    return runs.passed, runs.failed
 
 
 def main():
     program = os.path.abspath(sys.argv[1])
     here = os.path.dirname(os.path.abspath(__file__))
-    draw = random.Random(1)
+    crates = os.path.dirname(os.path.dirname(os.path.dirname(program)))
+    other = os.path.join(crates, "protected_recipients", "out", "protected_recipients")
     with tempfile.TemporaryDirectory() as folder:
         shim = os.path.join(folder, "inject.so")
         compiler = os.environ.get("CC", "cc")
         subprocess.run([compiler, "-O1", "-shared", "-fPIC", "-o", shim, os.path.join(here, "inject.c")], check=True)
-        runs = Runs(program, shim, folder)
-        seal_words, open_words = ["seal", KEY.hex()], ["open", KEY.hex().upper()]
-        for size in [0, 1, 16, 65535, 65536, 65537, 131072, 131073, 1000003]:
-            plain = draw.randbytes(size)
-            runs.answers(f"seal {size} bytes", seal_words, plain, payload(plain))
-            runs.answers(f"open {size} bytes", open_words, payload(plain), plain)
-        plain = draw.randbytes(100000)
-        sealed = payload(plain)
-        whole = second.encrypted(DRAW, plain)
-        short = b"This is a test message. For testing."
-        encrypt_words, decrypt_words = ["encrypt", "bench", DRAW.hex()], ["decrypt", "bench"]
-        armor_words, text = encrypt_words + ["armor"], armor(whole)
-        runs.injected("encrypt a message", encrypt_words, short, second.encrypted(DRAW, short), "alloc", NO_MEMORY)
-        runs.injected("decrypt a message", decrypt_words, second.encrypted(DRAW, short), short, "alloc", NO_MEMORY)
-        armored = armor(second.encrypted(DRAW, short))
-        runs.injected("encrypt a message in armor", armor_words, short, armored, "alloc", NO_MEMORY)
-        runs.injected("decrypt a message in armor", decrypt_words, armored, short, "alloc", NO_MEMORY)
-        other = second.encrypted(bytes(32), short, stanza([b"x-grease"], b""))
-        runs.injected("decrypt a message with other grease", decrypt_words, other, short, "alloc", NO_MEMORY)
-        for name, words, given, want in [
-                ("seal", seal_words, plain, sealed), ("open", open_words, sealed, plain),
-                ("encrypt", encrypt_words, plain, whole), ("decrypt", decrypt_words, whole, plain),
-                ("encrypt in armor", armor_words, plain, text), ("decrypt armor", decrypt_words, text, plain)]:
-            runs.injected(name, words, given, want, "alloc", NO_MEMORY)
-            for call in ["read", "write"]:
-                runs.injected(name, words, given, want, call, DEVICE)
-                runs.injected(name, words, given, want, f"{call}-short", None)
-                runs.injected(name, words, given, want, f"{call}-interrupted", None)
-                runs.injected(name, words, given, want, f"{call}-interrupted-on", DEVICE)
-            devices(runs, words, given)
-        # A mark of armor that is refused memory changes no answer: two are noted on the way, each of 1,024 lines.
-        runs.injected("at in armor", ["at", "bench", "98303", "700"], text, plain[98303:99003], "alloc", NO_MEMORY)
-        plain = draw.randbytes(200000)
-        damaged(runs, open_words, plain, payload(plain))
-        files(runs)
-        armored_files(runs)
-        damaged_armor(runs)
-        parts(runs)
-        keys(runs)
-        injected_keys(runs)
-        passphrases(runs)
-        injected_passphrases(runs)
-        command_lines(runs)
-        seek_memory(runs)
-        crates = os.path.dirname(os.path.dirname(os.path.dirname(program)))
-        others = Runs(os.path.join(crates, "protected_recipients", "out", "protected_recipients"), shim, folder)
-        protected(others)
-    failed = runs.failed + others.failed
-    print(f"{runs.passed + others.passed} passed, {failed} failed")
+        with ProcessPoolExecutor(len(os.sched_getaffinity(0))) as pool:
+            started = [pool.submit(judged, other if part[0] is protected else program, shim, os.path.join(folder, str(number)), *part)
+                       for number, part in enumerate(PARTS)]
+            counts = [it.result() for it in started]
+    passed, failed = (sum(it) for it in zip(*counts))
+    print(f"{passed} passed, {failed} failed")
     sys.exit(1 if failed else 0)
 
 
-main()
+if __name__ == "__main__":
+    main()
