@@ -8,12 +8,12 @@ size=${1:-64}
 top=$(cd "$(dirname "$0")/.." && pwd)
 key=000102030405060708090a0b0c0d0e0f101112131415161718191a1b1c1d1e1f
 "$top/agebench" seal "$key" </dev/null >/dev/null
-python3 "$top/build.py" seeks "$top/crates/seeks/data/payload" </dev/null
+python3 "$top/build.py" probe seeks "$top/crates/probe/data/payload" </dev/null
 folder=$(mktemp -d -p "${TMPDIR:-/dev/shm}")
 trap 'rm -rf "$folder"' EXIT
-python3 - "$folder" "$top/crates/seeks/out/seeks" "$top/crates/agebench/out/agebench" "$key" "$size" <<'PYTHON'
+python3 - "$folder" "$top/crates/probe/out/probe" "$top/crates/agebench/out/agebench" "$key" "$size" <<'PYTHON'
 import os, random, subprocess, sys, time
-folder, seeks, agebench, key, size = sys.argv[1:]
+folder, probe, agebench, key, size = sys.argv[1:]
 name = lambda it: os.path.join(folder, it)
 length, piece, chance = int(size) << 20, 65536, random.Random(1)
 plain = os.urandom(length)
@@ -38,7 +38,7 @@ def walk(count):
 def run(words, places):
     """The seconds that a run takes, and how many chunks it opens. It reads the right bytes."""
     start = time.perf_counter()
-    done = subprocess.run([seeks, *words], input="".join(f"{it}\n" for it in places).encode(), capture_output=True, check=True)
+    done = subprocess.run([probe, "seeks", *words], input="".join(f"{it}\n" for it in places).encode(), capture_output=True, check=True)
     took = time.perf_counter() - start
     told = done.stdout.decode().split()
     want = [str(len(places)), "read,", str(sum(plain[it] for it in places)), "in", "all,"]

@@ -1,6 +1,6 @@
 #!/usr/bin/env python3
 """Runs agebench where memory, reads and writes fail or fall short, and on damaged payloads, files and armor, and so a
-program that opens protected identity files (crates/protected_recipients).
+program that opens protected identity files (crates/probe).
 
 Each run must answer the right bytes, or a beginning of them and the refusal that belongs to the fault. The right
 bytes are those of a second implementation, `second.py`, written from the format's own words. Prints each run that
@@ -429,37 +429,37 @@ def protected(runs):
     """
     identities = IDENTITY.encode() + b"\n# a comment\r\n\n" + second.bech32("age-secret-key-", KEY).upper().encode()
     want = f"{RECIPIENT}\n{second.bech32('age', second.public(KEY))}\n".encode() * 2
-    word, draw = PASSPHRASE.encode(), LONG_DRAW
+    word, draw, asked = PASSPHRASE.encode(), LONG_DRAW, ["recipients", PASSPHRASE]
     whole = second.encrypted_under(word, draw, identities)
     for given in [whole, armor(whole), armor(whole, b"\r\n")]:
-        runs.answers("recipients of a protected file", [PASSPHRASE], given, want)
-    runs.answers("recipients of no identity", [PASSPHRASE], second.encrypted_under(word, draw, b"# nothing\n"), b"")
-    runs.answers("recipients of a factor that is taken", [PASSPHRASE], second.encrypted_under(word, draw, identities, 20), want)
+        runs.answers("recipients of a protected file", asked, given, want)
+    runs.answers("recipients of no identity", asked, second.encrypted_under(word, draw, b"# nothing\n"), b"")
+    runs.answers("recipients of a factor that is taken", asked, second.encrypted_under(word, draw, identities, 20), want)
     for name, words, given, text in [
-            ("with another passphrase", ["x"], whole, NO_KEY), ("with no passphrase", [], whole, NO_KEY),
-            ("with too large a factor", [PASSPHRASE], second.encrypted_under(word, draw, identities, 23),
+            ("with another passphrase", ["recipients", "x"], whole, NO_KEY), ("with no passphrase", asked[:1], whole, NO_KEY),
+            ("with too large a factor", asked, second.encrypted_under(word, draw, identities, 23),
              "excessive work factor 23, target 18"),
-            ("with a bad line", [PASSPHRASE], second.encrypted_under(word, draw, identities + b"\nx"),
+            ("with a bad line", asked, second.encrypted_under(word, draw, identities + b"\nx"),
              "identity file contains non-identity data on line 5"),
-            ("with a plugin's identity", [PASSPHRASE], second.encrypted_under(word, draw, b"AGE-PLUGIN-FOOBAR-1QVHULF"),
+            ("with a plugin's identity", asked, second.encrypted_under(word, draw, b"AGE-PLUGIN-FOOBAR-1QVHULF"),
              "plugin not found: age-plugin-foobar"),
-            ("cut before its last byte", [PASSPHRASE], whole[:-1], BAD_CHUNK),
-            ("with a byte after it", [PASSPHRASE], whole + b"x", BAD_CHUNK)]:
+            ("cut before its last byte", asked, whole[:-1], BAD_CHUNK),
+            ("with a byte after it", asked, whole + b"x", BAD_CHUNK)]:
         runs.refuses(f"recipients of a protected file {name}", words, given, b"", text, 2)
-    runs.refuses("recipients of a file that isn't protected", [PASSPHRASE], second.encrypted(DRAW, identities), b"",
+    runs.refuses("recipients of a file that isn't protected", asked, second.encrypted(DRAW, identities), b"",
                  "not a file of a passphrase")
     for place in range(len(whole)):
         changed = bytearray(whole)
         changed[place] ^= 1
-        status, out, err, _ = got = runs.run([PASSPHRASE], bytes(changed))
+        status, out, err, _ = got = runs.run(asked, bytes(changed))
         runs.judge(f"recipients of a protected file changed at byte {place}", status == 1 and out == b"" and err, got)
     for given in [whole, armor(whole)]:
-        runs.injected("recipients", [PASSPHRASE], given, want, "alloc", NO_MEMORY, 2)
+        runs.injected("recipients", asked, given, want, "alloc", NO_MEMORY, 2)
         for call in ["read", "write"]:
-            runs.injected("recipients", [PASSPHRASE], given, want, call, DEVICE, 2)
-            runs.injected("recipients", [PASSPHRASE], given, want, f"{call}-short", None)
-            runs.injected("recipients", [PASSPHRASE], given, want, f"{call}-interrupted", None)
-            runs.injected("recipients", [PASSPHRASE], given, want, f"{call}-interrupted-on", DEVICE, 2)
+            runs.injected("recipients", asked, given, want, call, DEVICE, 2)
+            runs.injected("recipients", asked, given, want, f"{call}-short", None)
+            runs.injected("recipients", asked, given, want, f"{call}-interrupted", None)
+            runs.injected("recipients", asked, given, want, f"{call}-interrupted-on", DEVICE, 2)
 
 
 def command_lines(runs):
@@ -585,7 +585,7 @@ def main():
     program = os.path.abspath(sys.argv[1])
     here = os.path.dirname(os.path.abspath(__file__))
     crates = os.path.dirname(os.path.dirname(os.path.dirname(program)))
-    other = os.path.join(crates, "protected_recipients", "out", "protected_recipients")
+    other = os.path.join(crates, "probe", "out", "probe")
     with tempfile.TemporaryDirectory() as folder:
         shim = os.path.join(folder, "inject.so")
         compiler = os.environ.get("CC", "cc")

@@ -1,4 +1,4 @@
-//! Tests of whole files, of the plaintext of a file that is opened, and of its parts.
+//! Tests of whole files, of the plaintext of a file that is opened, of its parts, and of the uses of `age`.
 #![tactic(auto)]
 
 #[cfg(test)]
@@ -21,5 +21,7 @@ mod passphrase_tests;
 mod recipient_tests;
 #[cfg(test)]
 mod shared;
+#[cfg(test)]
+mod uses;
 #[cfg(test)]
 mod whole_file_tests;

@@ -1,10 +1,12 @@
-//! Tests of keys and of passphrases.
+//! Tests of headers, of keys and of passphrases.
 #![tactic(auto)]
 
 #[cfg(test)]
 mod file_tests;
 #[cfg(test)]
 mod fixtures;
+#[cfg(test)]
+mod header_tests;
 #[cfg(test)]
 mod passphrase_tests;
 #[cfg(test)]

@@ -1,6 +1,6 @@
 //! Files under a passphrase come back over both suites, and to no other passphrase.
 
-use crate::fixtures::{MESSAGE, done, is_refused, passphrase, sevens};
+use crate::uses::fixtures::{MESSAGE, done, is_refused, passphrase, sevens};
 use age::draw::Draw;
 use age::scrypt::Identity;
 use age::streaming::FileError;

@@ -1,6 +1,6 @@
 //! The recipients of protected identity files. Those that are expected were computed by a program of our own after BIP 173.
 
-use crate::fixtures::{done, passphrase, sevens};
+use crate::uses::fixtures::{done, passphrase, sevens};
 use age::io::{Bytes, write_all};
 use age::secrecy::SecretString;
 use age::streaming::FileError;

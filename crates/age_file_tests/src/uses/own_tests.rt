@@ -1,6 +1,8 @@
 //! The message for a recipient and an identity of one's own.
 
-use crate::fixtures::{decrypted, encrypted, is_decrypted, is_refused, message_file, own_file};
+use crate::uses::fixtures::{
+    decrypted, encrypted, is_decrypted, is_refused, message_file, own_file,
+};
 use age::armor::Format;
 use age_bench::suite::BenchSuite;
 use age_uses::own::{OwnIdentity, OwnRecipient};

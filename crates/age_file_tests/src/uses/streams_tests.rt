@@ -1,6 +1,6 @@
 //! The message encrypted and decrypted as a stream.
 
-use crate::fixtures::{
+use crate::uses::fixtures::{
     ARMORED, MESSAGE, done, encrypted, grease, has_part, is_decrypted, message_file, sevens,
 };
 use age::armor::Format;

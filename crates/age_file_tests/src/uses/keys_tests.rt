@@ -1,6 +1,6 @@
 //! Files to one's own X25519 key come back, in both forms and over both suites.
 
-use crate::fixtures::{MESSAGE, done, grease, sevens};
+use crate::uses::fixtures::{MESSAGE, done, grease, sevens};
 use age::armor::Format;
 use age::draw::Draw;
 use age::suite::Suite;

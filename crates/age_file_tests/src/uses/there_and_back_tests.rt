@@ -1,6 +1,6 @@
 //! A message encrypted and decrypted in memory.
 
-use crate::fixtures::{Kind, back, comes_back, identities, is_refused, recipients, sevens};
+use crate::uses::fixtures::{Kind, back, comes_back, identities, is_refused, recipients, sevens};
 use age_bench::suite::BenchSuite;
 use std::test::Fail;
 

@@ -1,7 +1,7 @@
 //! Prints the recipients of the identities in a protected identity file, bare or in armor, that standard input gives, under the passphrase
-//! that is its one word, and does so twice: a probe of what the first use and a later one answer, also where memory and reads fail.
-#![tactic(auto)]
+//! that is the one word, and does so twice: what the first use and a later one answer, also where memory and reads fail.
 
+use crate::Outcome;
 use age::EncryptError;
 use age::armor::ArmoredReader;
 use age::encrypted::Identity;
@@ -13,16 +13,7 @@ use age_bench::suite::BenchSuite;
 use age_tool::callbacks::GivesOnce;
 use std::alloc::Global;
 use std::fmt::Write as _;
-use std::process::ExitCode;
-use std::{env, io};
-
-// The word after the program's name, if there is one.
-fn passphrase(rt: &HostRuntime) -> Result<Option<SecretString>, FileError> {
-    match env::args(rt) {
-        Ok(all) => Ok(all.skip(1).next().map(SecretString::from)),
-        Err(_) => Err(FileError::Io(Error::OutOfMemory)),
-    }
-}
+use std::io;
 
 // The texts of recipients, each with LF.
 fn lines_of(alloc: Global, recipients: &[Recipient<BenchSuite>]) -> Result<String, Error> {
@@ -45,22 +36,30 @@ fn show(
             Ok(true)
         }
         Err(error) => {
-            let _ = eprintln!(rt; "protected_recipients: {error}");
+            let _ = eprintln!(rt; "probe: {error}");
             Ok(false)
         }
     }
 }
 
+// The passphrase that a word is, if there is one.
+fn passphrase(alloc: Global, word: Option<&str>) -> Result<Option<SecretString>, Error> {
+    match word {
+        None => Ok(None),
+        Some(word) => Ok(Some(SecretString::from(String::from_str(alloc, word)?))),
+    }
+}
+
 // Whether both uses succeeded.
-fn run(rt: &HostRuntime) -> Result<bool, FileError> {
+fn print_twice(rt: &HostRuntime, word: Option<&str>) -> Result<bool, FileError> {
     let alloc = rt.alloc();
-    let callbacks = GivesOnce::new(passphrase(rt)?);
+    let callbacks = GivesOnce::new(passphrase(alloc, word)?);
     let text = ArmoredReader::new(alloc, Std::new(rt.reader()))?;
     let made: Option<Identity<BenchSuite, _, GivesOnce>> = Identity::from_buffer(
         alloc, text, None, callbacks, 18, None,
     )?;
     let Some(identity) = made else {
-        let _ = eprintln!(rt; "protected_recipients: not a file of a passphrase");
+        let _ = eprintln!(rt; "probe: not a file of a passphrase");
         return Ok(false);
     };
     let mut identity = identity;
@@ -69,13 +68,19 @@ fn run(rt: &HostRuntime) -> Result<bool, FileError> {
     Ok(first && second)
 }
 
-fn main(rt: HostRuntime) -> ExitCode {
-    match run(&rt) {
-        Ok(true) => ExitCode::SUCCESS,
-        Ok(false) => ExitCode::FAILURE,
+/// Does what the words ask for.
+pub fn probe(rt: &HostRuntime, words: &[String]) -> Outcome {
+    let printed = match words {
+        [] => print_twice(rt, None),
+        [word] => print_twice(rt, Some(word)),
+        _ => return Outcome::Usage,
+    };
+    match printed {
+        Ok(true) => Outcome::Done,
+        Ok(false) => Outcome::Refused,
         Err(error) => {
-            let _ = eprintln!(rt; "protected_recipients: {error}");
-            ExitCode::FAILURE
+            let _ = eprintln!(rt; "probe: {error}");
+            Outcome::Refused
         }
     }
 }

@@ -1,6 +1,6 @@
 //! Parts of the message, and lists of reads and seeks on it.
 
-use crate::fixtures::{ARMORED, MESSAGE, done, has_part, is_refused, message_file, part};
+use crate::uses::fixtures::{ARMORED, MESSAGE, done, has_part, is_refused, message_file, part};
 use age::io::{Answer, Bytes, Error, Op, SeekFrom};
 use age::streaming::answers;
 use age_bench::recipient::BenchIdentity;

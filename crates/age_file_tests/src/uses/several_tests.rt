@@ -1,6 +1,6 @@
 //! Files to recipients of two kinds, which each kind of identity decrypts alone, over both suites.
 
-use crate::fixtures::{
+use crate::uses::fixtures::{
     Kind, MESSAGE, comes_back, done, grease, identities, is_refused, recipients, sevens,
 };
 use age::armor::Format;

@@ -1,23 +1,20 @@
 //! Reads one byte of a payload at each of the places that standard input names, one a line: what `bench/seeks.sh` times. The payload stands in
 //! the file of the last word, under the key 0, 1, .., 31 and the bench suite; the word `armor` before it says that it is in armor. Prints how many
 //! bytes were read, their sum, and how many chunks were opened for them.
-#![tactic(auto)]
 
+use crate::Outcome;
 use age::armor::ArmoredReader;
 use age::io::{Error, Read, Seek, SeekFrom, Std, device_error, read_to_end};
 use age::stream::StreamReader;
 use age_bench::suite::BenchSuite;
 use std::alloc::Global;
 use std::fs::File;
-use std::process::ExitCode;
-use std::{env, str};
+use std::str;
 
 const KEY: [u8; 32] = [
     0, 1, 2, 3, 4, 5, 6, 7, 8, 9, 10, 11, 12, 13, 14, 15, 16, 17, 18, 19, 20, 21, 22, 23, 24, 25,
     26, 27, 28, 29, 30, 31,
 ];
-
-const USAGE: &str = "usage: seeks [armor] FILE, with a place a line on standard input";
 
 // What the reader came to.
 struct Walk {
@@ -41,6 +38,13 @@ fn places_of(alloc: Global, text: &[u8]) -> Result<Option<Vec<u64>>, Error> {
     Ok(Some(places))
 }
 
+// The places that standard input names.
+fn places(rt: &HostRuntime) -> Result<Option<Vec<u64>>, Error> {
+    let mut text = Vec::new(rt.alloc());
+    read_to_end(rt.alloc(), &mut Std::new(rt.reader()), &mut text)?;
+    places_of(rt.alloc(), &text)
+}
+
 // Reads a byte at each place. At the end of the plaintext none comes.
 fn visit<R: Seek + Drop>(alloc: Global, inner: R, places: &[u64]) -> Result<Walk, Error> {
     let mut reader = StreamReader::<BenchSuite, R>::with_payload_key(alloc, KEY, inner)?;
@@ -58,33 +62,6 @@ fn visit<R: Seek + Drop>(alloc: Global, inner: R, places: &[u64]) -> Result<Walk
     Ok(Walk { reads, sum, opens })
 }
 
-// What the words after the program's name ask for, or `None` where they are no command line.
-fn run(rt: &HostRuntime) -> Result<Option<Walk>, Error> {
-    let alloc = rt.alloc();
-    let mut text = Vec::new(alloc);
-    read_to_end(alloc, &mut Std::new(rt.reader()), &mut text)?;
-    let Some(places) = places_of(alloc, &text)? else {
-        return Ok(None);
-    };
-    let Ok(words) = env::args(rt) else {
-        return Err(Error::OutOfMemory);
-    };
-    let mut words = words.skip(1);
-    let Some(first) = words.next() else {
-        return Ok(None);
-    };
-    match words.next() {
-        None => Ok(Some(visit(alloc, open(rt, &first)?, &places)?)),
-        Some(name) => {
-            if first.as_str() != "armor" || words.next().is_some() {
-                return Ok(None);
-            }
-            let inner = ArmoredReader::new(alloc, open(rt, &name)?)?;
-            Ok(Some(visit(alloc, inner, &places)?))
-        }
-    }
-}
-
 // The file of this name.
 fn open(rt: &HostRuntime, name: &str) -> Result<Std<File>, Error> {
     match File::open(rt, name) {
@@ -93,19 +70,35 @@ fn open(rt: &HostRuntime, name: &str) -> Result<Std<File>, Error> {
     }
 }
 
-fn main(rt: HostRuntime) -> ExitCode {
-    match run(&rt) {
+// What the reader of the file of this name came to, or `None` where standard input names no places.
+fn walk_in(rt: &HostRuntime, armored: bool, name: &str) -> Result<Option<Walk>, Error> {
+    let Some(places) = places(rt)? else {
+        return Ok(None);
+    };
+    let file = open(rt, name)?;
+    if armored {
+        Ok(Some(visit(rt.alloc(), ArmoredReader::new(rt.alloc(), file)?, &places)?))
+    } else {
+        Ok(Some(visit(rt.alloc(), file, &places)?))
+    }
+}
+
+/// Does what the words ask for.
+pub fn probe(rt: &HostRuntime, words: &[String]) -> Outcome {
+    let walked = match words {
+        [name] => walk_in(rt, false, name),
+        [form, name] if form.as_str() == "armor" => walk_in(rt, true, name),
+        _ => return Outcome::Usage,
+    };
+    match walked {
         Ok(Some(Walk { reads, sum, opens })) => {
             let _ = println!(rt; "{reads} read, {sum} in all, {opens} opened");
-            ExitCode::SUCCESS
+            Outcome::Done
         }
-        Ok(None) => {
-            let _ = eprintln!(rt; "{USAGE}");
-            ExitCode::from(2)
-        }
+        Ok(None) => Outcome::Usage,
         Err(error) => {
-            let _ = eprintln!(rt; "seeks: {error}");
-            ExitCode::FAILURE
+            let _ = eprintln!(rt; "probe: {error}");
+            Outcome::Refused
         }
     }
 }

@@ -1,5 +1,0 @@
-//! Tests of `age_format`: headers.
-#![tactic(auto)]
-
-#[cfg(test)]
-mod header_tests;
