@@ -1,6 +1,6 @@
 //! The commands.
 
-use crate::failure::Failure;
+use crate::failure::{Failure, done};
 use crate::files::open;
 use crate::jobs::{Decrypting, Encrypting, Job, To, flushed, run_job};
 use crate::keys::{
@@ -9,7 +9,7 @@ use crate::keys::{
 use age::armor::Format;
 use age::draw::Draw;
 use age::io::{Read, Std, Write, write_all};
-use age::streaming::{FileError, at, open_text, write_part};
+use age::streaming::{at, open_text, write_part};
 use age::x25519;
 use age_standard::StandardSuite;
 use age_tool::grease::grease;
@@ -46,14 +46,12 @@ struct Writing {
 impl Job for Writing {
     fn run<R: Read, W: Write>(
         self,
-        _rt: &HostRuntime,
+        rt: &HostRuntime,
         _reader: &mut R,
         writer: &mut W,
     ) -> Result<(), Failure> {
-        match write_all(writer, &self.text) {
-            Err(error) => Err(Failure::Whole(FileError::Io(error))),
-            Ok(()) => flushed(writer),
-        }
+        done(rt, write_all(writer, &self.text))?;
+        flushed(rt, writer)
     }
 }
 
@@ -86,6 +84,11 @@ fn all_recipients(
     Ok(all)
 }
 
+// So many random bytes.
+fn drawn(rt: &HostRuntime, count: usize) -> Result<Draw, Failure> {
+    Ok(Draw::new(done(rt, random(rt.alloc(), rt, count))?))
+}
+
 // To whom is encrypted, and the random bytes for that.
 fn to(rt: &HostRuntime, recipients: &Recipients) -> Result<(To, Draw), Failure> {
     match recipients {
@@ -94,13 +97,13 @@ fn to(rt: &HostRuntime, recipients: &Recipients) -> Result<(To, Draw), Failure> 
             let count = OF_A_RECIPIENT
                 .saturating_mul(keys.len())
                 .saturating_add(OF_A_FILE);
-            Ok((To::Keys(keys), Draw::new(random(rt.alloc(), rt, count)?)))
+            Ok((To::Keys(keys), drawn(rt, count)?))
         }
         Recipients::PassphraseFile(name) => {
             let recipient = passphrase_recipient(rt, name)?;
             Ok((
                 To::Passphrase(recipient),
-                Draw::new(random(rt.alloc(), rt, OF_A_FILE + OF_A_PASSPHRASE)?),
+                drawn(rt, OF_A_FILE + OF_A_PASSPHRASE)?,
             ))
         }
     }
@@ -132,15 +135,18 @@ fn part_of_input(
     count: u64,
 ) -> Result<(), Failure> {
     let mut writer = Std::new(io::writer(rt));
-    at::<StandardSuite, Holder, _, _>(
-        rt.alloc(),
-        identities,
-        place,
-        count,
-        &mut Std::new(rt.reader()),
-        &mut writer,
+    done(
+        rt,
+        at::<StandardSuite, Holder, _, _>(
+            rt.alloc(),
+            identities,
+            place,
+            count,
+            &mut Std::new(rt.reader()),
+            &mut writer,
+        ),
     )?;
-    flushed(&mut writer)
+    flushed(rt, &mut writer)
 }
 
 // So many bytes of the plaintext of the file of this name, in which is sought, from a place on, to standard output.
@@ -152,12 +158,16 @@ fn part_of_file(
     name: &str,
 ) -> Result<(), Failure> {
     let text = open(rt, name)?;
-    let mut stream = open_text::<StandardSuite, Holder, Std<File>>(rt.alloc(), identities, text)?;
+    let mut stream = done(
+        rt,
+        open_text::<StandardSuite, Holder, Std<File>>(rt.alloc(), identities, text),
+    )?;
     let mut writer = Std::new(io::writer(rt));
-    match write_part(rt.alloc(), &mut stream, place, count, &mut writer) {
-        Err(error) => Err(Failure::Whole(FileError::Io(error))),
-        Ok(()) => flushed(&mut writer),
-    }
+    done(
+        rt,
+        write_part(rt.alloc(), &mut stream, place, count, &mut writer),
+    )?;
+    flushed(rt, &mut writer)
 }
 
 // So many bytes of a file's plaintext from a place on, to standard output.
@@ -189,11 +199,10 @@ fn print(rt: &HostRuntime, text: &str) -> Result<(), Failure> {
 
 // The file of a new key.
 fn new_key(rt: &HostRuntime) -> Result<Vec<u8>, Failure> {
-    let mut draw = Draw::new(random(rt.alloc(), rt, OF_A_SECRET)?);
-    match new_key_file::<StandardSuite>(rt.alloc(), &mut draw) {
-        Ok(text) => Ok(text),
-        Err(error) => Err(Failure::Whole(FileError::Encrypt(error))),
-    }
+    done(
+        rt,
+        new_key_file::<StandardSuite>(rt.alloc(), &mut drawn(rt, OF_A_SECRET)?),
+    )
 }
 
 // Writes a new key to an output.
@@ -220,14 +229,10 @@ fn encrypt(
     output: &Output,
 ) -> Result<(), Failure> {
     let (to, draw) = to(rt, recipients)?;
-    let grease = match grease(rt.alloc()) {
-        Ok(grease) => grease,
-        Err(_) => return Err(Failure::OutOfMemory),
-    };
     let job = Encrypting {
         to,
         draw,
-        grease,
+        grease: done(rt, grease(rt.alloc()))?,
         format,
     };
     run_job(rt, job, input, output, FOR_ALL)

@@ -1,100 +1,71 @@
 //! Why a command was refused.
 
 use age::io::{Error, ErrorKind};
-use age::streaming::FileError;
-use age_tool::error::{PassphraseError, RandomError, RecipientsError};
 use std::alloc::{AllocError, AllocFailed};
 use std::fmt;
+use std::fmt::Display;
 
 /// Why a command was refused. Its text is one line, without the program's name.
 #[derive(Drop)]
 pub enum Failure {
-    /// The file of this name can't be opened, read or written.
-    File {
-        name: String,
-        error: Error,
-    },
-    /// The file of this name is no file of recipients.
-    Recipients {
-        name: String,
-        error: RecipientsError,
-    },
-    /// The file of this name is no file of a passphrase.
-    Passphrase {
-        name: String,
-        error: PassphraseError,
-    },
-    /// The file of this name is no file of identities, or it is encrypted and can't be opened.
-    Identities {
-        name: String,
-        error: FileError,
-    },
-    /// The file of this name is encrypted, and no passphrase was given.
-    IsProtected {
-        name: String,
-    },
-    /// A word of the command line is the text of no recipient.
-    Recipient {
-        word: String,
-        why: &'static str,
-    },
-    /// There is a file of this name already.
-    Exists {
-        name: String,
-    },
-    /// What has this name is no file that a new one may take the place of.
-    NotReplaced {
-        name: String,
-    },
-    /// The system gave no random bytes.
-    NoRandom,
-    /// What was read or written refused, or nothing was encrypted or decrypted.
-    Whole(FileError),
     /// Memory was refused.
     OutOfMemory,
+    /// As this text says.
+    Said(String),
 }
 
-/// Why a device refused, in a user's words.
-#[derive(Drop)]
-struct Why(Error);
+/// That something was refused for this reason.
+pub fn said<E: Display>(rt: &HostRuntime, why: &E) -> Failure {
+    told(format!(in rt.alloc(); "{why}"))
+}
 
-impl fmt::Display for Why {
-    fn fmt<W: fmt::Write>(&self, f: &mut fmt::Formatter<W>) -> fmt::Result {
-        match self.0 {
-            Error::Device(ErrorKind::NotFound) => f.write_str("no such file"),
-            Error::Device(ErrorKind::PermissionDenied) => f.write_str("permission denied"),
-            error => write!(f, "{error}"),
-        }
+/// That what has this name was refused for this reason.
+pub fn named<E: Display>(rt: &HostRuntime, name: &str, why: &E) -> Failure {
+    told(format!(in rt.alloc(); "{name}: {why}"))
+}
+
+/// That the file of this name can't be opened, read or written.
+pub fn refused(rt: &HostRuntime, name: &str, error: Error) -> Failure {
+    match error {
+        Error::Device(ErrorKind::NotFound) => named(rt, name, &"no such file"),
+        Error::Device(ErrorKind::PermissionDenied) => named(rt, name, &"permission denied"),
+        error => named(rt, name, &error),
+    }
+}
+
+/// What was answered, or that it was refused.
+pub fn done<T, E: Display + Drop>(rt: &HostRuntime, answer: Result<T, E>) -> Result<T, Failure> {
+    match answer {
+        Ok(value) => Ok(value),
+        Err(error) => Err(said(rt, &error)),
+    }
+}
+
+/// What was answered, or that what has this name was refused.
+pub fn done_with<T, E: Display + Drop>(
+    rt: &HostRuntime,
+    name: &str,
+    answer: Result<T, E>,
+) -> Result<T, Failure> {
+    match answer {
+        Ok(value) => Ok(value),
+        Err(error) => Err(named(rt, name, &error)),
+    }
+}
+
+/// What a text says, or that there was no memory for it.
+pub fn told(text: Result<String, AllocError>) -> Failure {
+    match text {
+        Ok(text) => Failure::Said(text),
+        Err(_) => Failure::OutOfMemory,
     }
 }
 
 impl fmt::Display for Failure {
     fn fmt<W: fmt::Write>(&self, f: &mut fmt::Formatter<W>) -> fmt::Result {
         match self {
-            Failure::File { name, error } => write!(f, "{name}: {}", Why(*error)),
-            Failure::Recipients { name, error } => write!(f, "{name}: {error}"),
-            Failure::Passphrase { name, error } => write!(f, "{name}: {error}"),
-            Failure::Identities { name, error } => write!(f, "{name}: {error}"),
-            Failure::IsProtected { name } => {
-                write!(
-                    f,
-                    "{name}: it is encrypted with a passphrase: give that by -p FILE"
-                )
-            }
-            Failure::Recipient { word, why } => write!(f, "{word}: no recipient: {why}"),
-            Failure::Exists { name } => write!(
-                f,
-                "{name}: there is such a file already: -f writes over it"
-            ),
-            Failure::NotReplaced { name } => {
-                write!(
-                    f,
-                    "{name}: no file, and so nothing that may be written over"
-                )
-            }
-            Failure::NoRandom => f.write_str("the system gives no random bytes"),
-            Failure::Whole(error) => write!(f, "{error}"),
             Failure::OutOfMemory => f.write_str("out of memory"),
+            Failure::Said(text) => f.write_str(text),
         }
     }
 }
@@ -108,20 +79,5 @@ impl From<AllocError> for Failure {
 impl<T: Drop> From<AllocFailed<T>> for Failure {
     fn from(_: AllocFailed<T>) -> Failure {
         Failure::OutOfMemory
-    }
-}
-
-impl From<RandomError> for Failure {
-    fn from(error: RandomError) -> Failure {
-        match error {
-            RandomError::NoRandom => Failure::NoRandom,
-            RandomError::OutOfMemory => Failure::OutOfMemory,
-        }
-    }
-}
-
-impl From<FileError> for Failure {
-    fn from(error: FileError) -> Failure {
-        Failure::Whole(error)
     }
 }

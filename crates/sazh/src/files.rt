@@ -1,8 +1,9 @@
 //! Files that are read whole, and a random number.
 
-use crate::failure::Failure;
-use age::io::{Error, Std, device_error, read_to_end};
+use crate::failure::{Failure, refused, said};
+use age::io::{Std, device_error, read_to_end};
 use age::util::LimitedReader;
+use age_tool::error::RandomError;
 use std::fs::File;
 use std::random::RandomSource;
 
@@ -12,14 +13,6 @@ const MOST_BYTES: usize = 16_777_216;
 /// A copy of a word.
 pub fn copied(rt: &HostRuntime, word: &str) -> Result<String, Failure> {
     Ok(String::from_str(rt.alloc(), word)?)
-}
-
-/// That the file of this name refused so.
-pub fn refused(rt: &HostRuntime, name: &str, error: Error) -> Failure {
-    match copied(rt, name) {
-        Ok(name) => Failure::File { name, error },
-        Err(failure) => failure,
-    }
 }
 
 /// Opens the file of this name to read it.
@@ -45,6 +38,6 @@ pub fn random_number(rt: &HostRuntime) -> Result<u32, Failure> {
     let mut bytes = [0; 4];
     match rt.fill_bytes(&mut bytes) {
         Ok(()) => Ok(u32::from_le_bytes(bytes)),
-        Err(_) => Err(Failure::NoRandom),
+        Err(_) => Err(said(rt, &RandomError::NoRandom)),
     }
 }

@@ -1,6 +1,6 @@
 //! What is done from an input to an output.
 
-use crate::failure::Failure;
+use crate::failure::{Failure, done};
 use crate::files::open;
 use crate::keys::Holder;
 use crate::output::{create, finish, give_up};
@@ -8,7 +8,7 @@ use age::armor::Format;
 use age::draw::Draw;
 use age::format::Grease;
 use age::io::{Read, Std, Write, flush_retrying};
-use age::streaming::{FileError, decrypt_all, encrypt_all};
+use age::streaming::{decrypt_all, encrypt_all};
 use age::{scrypt, x25519};
 use age_standard::StandardSuite;
 use sazh_command::Output;
@@ -24,11 +24,8 @@ pub enum To {
 }
 
 /// Flushes a writer.
-pub fn flushed<W: Write>(writer: &mut W) -> Result<(), Failure> {
-    match flush_retrying(writer) {
-        Ok(()) => Ok(()),
-        Err(error) => Err(Failure::Whole(FileError::Io(error))),
-    }
+pub fn flushed<W: Write>(rt: &HostRuntime, writer: &mut W) -> Result<(), Failure> {
+    done(rt, flush_retrying(writer))
 }
 
 /// Something that is done from an input to an output.
@@ -65,37 +62,34 @@ impl Job for Encrypting {
             format,
         } = self;
         let mut draw = draw;
+        let alloc = rt.alloc();
         match to {
-            To::Keys(recipients) => encrypt_all::<
-                StandardSuite,
-                x25519::Recipient<StandardSuite>,
-                R,
-                W,
-            >(
-                rt.alloc(),
-                recipients.as_slice(),
-                &mut draw,
-                grease,
-                format,
-                reader,
-                writer,
+            To::Keys(recipients) => done(
+                rt,
+                encrypt_all::<StandardSuite, x25519::Recipient<StandardSuite>, R, W>(
+                    alloc,
+                    &recipients,
+                    &mut draw,
+                    grease,
+                    format,
+                    reader,
+                    writer,
+                ),
             )?,
-            To::Passphrase(recipient) => encrypt_all::<
-                StandardSuite,
-                scrypt::Recipient<StandardSuite>,
-                R,
-                W,
-            >(
-                rt.alloc(),
-                &[recipient],
-                &mut draw,
-                grease,
-                format,
-                reader,
-                writer,
+            To::Passphrase(recipient) => done(
+                rt,
+                encrypt_all::<StandardSuite, scrypt::Recipient<StandardSuite>, R, W>(
+                    alloc,
+                    &[recipient],
+                    &mut draw,
+                    grease,
+                    format,
+                    reader,
+                    writer,
+                ),
             )?,
         }
-        flushed(writer)
+        flushed(rt, writer)
     }
 }
 
@@ -113,8 +107,11 @@ impl Job for Decrypting {
         writer: &mut W,
     ) -> Result<(), Failure> {
         let mut identities = self.identities;
-        decrypt_all::<StandardSuite, Holder, R, W>(rt.alloc(), &mut identities, reader, writer)?;
-        flushed(writer)
+        done(
+            rt,
+            decrypt_all::<StandardSuite, Holder, R, W>(rt.alloc(), &mut identities, reader, writer),
+        )?;
+        flushed(rt, writer)
     }
 }
 

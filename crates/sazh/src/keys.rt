@@ -2,13 +2,12 @@
 ghost use Rattle.std.specs.Prelude.{◌≡◌, IfOk};
 ghost use Rattle.age.specs.KeyTexts.{recipient_prefix, IsKeyText};
 
-use crate::failure::Failure;
-use crate::files::{copied, open, read, refused};
+use crate::failure::{Failure, done_with, named, refused, told};
+use crate::files::{copied, open, read};
 use age::armor::ArmoredReader;
 use age::format::Stanza;
 use age::io::{BufReader, Error, Std};
 use age::secrecy::{FileKey, SecretString};
-use age::streaming::FileError;
 use age::{DecryptError, Identity, IdentityFile, NoCallbacks, encrypted, scrypt, x25519};
 use age_standard::StandardSuite;
 use age_tool::callbacks::GivesOnce;
@@ -66,13 +65,7 @@ impl Identity for Holder {
 // The passphrase that the file of this name gives.
 fn passphrase_in(rt: &HostRuntime, name: &str) -> Result<SecretString, Failure> {
     let text = read(rt, name)?;
-    match passphrase_of(rt.alloc(), &text) {
-        Ok(passphrase) => Ok(passphrase),
-        Err(error) => Err(Failure::Passphrase {
-            name: copied(rt, name)?,
-            error,
-        }),
-    }
+    done_with(rt, name, passphrase_of(rt.alloc(), &text))
 }
 
 /// The recipient of the passphrase that the file of this name gives.
@@ -101,10 +94,7 @@ pub fn recipient(rt: &HostRuntime, word: &str) -> Result<x25519::Recipient<Stand
 {
     match x25519::Recipient::from_str(word) {
         Ok(recipient) => Ok(recipient),
-        Err(why) => Err(Failure::Recipient {
-            word: copied(rt, word)?,
-            why,
-        }),
+        Err(why) => Err(told(format!(in rt.alloc(); "{word}: no recipient: {why}"))),
     }
 }
 
@@ -114,21 +104,7 @@ pub fn recipients(
     name: &str,
 ) -> Result<Vec<x25519::Recipient<StandardSuite>>, Failure> {
     let text = read(rt, name)?;
-    match recipients_of(rt.alloc(), &text) {
-        Ok(recipients) => Ok(recipients),
-        Err(error) => Err(Failure::Recipients {
-            name: copied(rt, name)?,
-            error,
-        }),
-    }
-}
-
-// That the file of this name has no identities that can be used.
-fn bad_identities(rt: &HostRuntime, name: &str, error: FileError) -> Failure {
-    match copied(rt, name) {
-        Ok(name) => Failure::Identities { name, error },
-        Err(failure) => failure,
-    }
+    done_with(rt, name, recipients_of(rt.alloc(), &text))
 }
 
 // Adds the identities of a file that isn't encrypted.
@@ -138,15 +114,10 @@ fn add_bare(
     file: IdentityFile<StandardSuite, NoCallbacks>,
     name: &str,
 ) -> Result<(), Failure> {
-    match file.into_identities(rt.alloc()) {
-        Err(error) => Err(bad_identities(rt, name, FileError::Decrypt(error))),
-        Ok(found) => {
-            for identity in found {
-                identities.push(Holder::Key(identity))?;
-            }
-            Ok(())
-        }
+    for identity in done_with(rt, name, file.into_identities(rt.alloc()))? {
+        identities.push(Holder::Key(identity))?;
     }
+    Ok(())
 }
 
 // What was found, or nothing where something else was.
@@ -205,9 +176,11 @@ fn usable<T: Drop>(
     match found {
         None => Err(refused(rt, name, error)),
         Some(found) if is_passphrase_given => Ok(found),
-        Some(_) => Err(Failure::IsProtected {
-            name: copied(rt, name)?,
-        }),
+        Some(_) => Err(named(
+            rt,
+            name,
+            &"it is encrypted with a passphrase: give that by -p FILE",
+        )),
     }
 }
 

@@ -1,9 +1,8 @@
 //! Where output goes: standard output, or a new file that stands beside its name until it is whole.
 
-use crate::failure::Failure;
-use crate::files::{copied, random_number, refused};
+use crate::failure::{Failure, named, refused};
+use crate::files::random_number;
 use age::io::{Std, device_error};
-use std::fmt::Write as _;
 use std::fs::{File, OpenOptions};
 use std::os::unix::fs::OpenOptionsExt;
 use std::{fs, io};
@@ -17,20 +16,13 @@ pub struct NewFile {
 
 // That there is something of this name already.
 fn exists(rt: &HostRuntime, name: &str) -> Failure {
-    match copied(rt, name) {
-        Ok(name) => Failure::Exists { name },
-        Err(failure) => failure,
-    }
+    named(rt, name, &"there is such a file already: -f writes over it")
 }
 
 // The name under which a file is written until it is whole.
 fn temporary_name(rt: &HostRuntime, name: &str) -> Result<String, Failure> {
     let number = random_number(rt)?;
-    let mut temporary = String::new(rt.alloc());
-    match write!(temporary, "{name}.{number:08x}.part") {
-        Ok(()) => Ok(temporary),
-        Err(_) => Err(Failure::OutOfMemory),
-    }
+    Ok(format!(in rt.alloc(); "{name}.{number:08x}.part")?)
 }
 
 // Whether the name is free, or what has it may be written over: that has to be a file or a link. A device, a pipe or a folder stays.
@@ -40,9 +32,11 @@ fn free(rt: &HostRuntime, name: &str, over: bool) -> Result<(), Failure> {
     };
     let kind = there.file_type();
     if !kind.is_file() && !kind.is_symlink() {
-        return Err(Failure::NotReplaced {
-            name: copied(rt, name)?,
-        });
+        return Err(named(
+            rt,
+            name,
+            &"no file, and so nothing that may be written over",
+        ));
     }
     if over { Ok(()) } else { Err(exists(rt, name)) }
 }
