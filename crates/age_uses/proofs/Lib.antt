@@ -3,3 +3,4 @@ pub mod Places
 pub mod Alone
 pub mod ProtectedKeys
 pub mod BeforeEnd
+pub mod Looked

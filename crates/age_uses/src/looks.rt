@@ -1,14 +1,17 @@
 //! Looks at places of an armored text that was read before.
-ghost use Rattle.std.specs.Prelude.{◌≡◌, ◌+◌, ◌*◌, ◌≤◌, ℕ, IsTrue, length, OnOk};
+ghost use Rattle.std.specs.Prelude.{◌≡◌, ◌+◌, ◌*◌, ◌≤◌, ◌⊎◌, ℕ, IsTrue, length, map, Some, slice_get, IfOk, IfErr, OnOk};
 ghost use Rattle.age.specs.ArmorMarks.{LearnsMore};
-ghost use Rattle.age.specs.ArmorReader.{inner_of, lines_of, furthest_of, notes_all, marks_of};
-ghost use Rattle.age_uses.specs.Looks.{AreWithin};
+ghost use Rattle.age.specs.ArmorReader.{inner_of, armored_content, lines_of, furthest_of, notes_all, marks_of};
+ghost use Rattle.age.specs.Cursor.{IsSeekRefusal};
+ghost use Rattle.age.specs.ErrorVariants.{OutOfMemory, UnexpectedEof};
+ghost use Rattle.age.specs.Reading.{AddsNoReason};
+ghost use Rattle.age_uses.specs.Looks.{AreWithin, IsLook, IsOneOutside};
 
 use age::armor::ArmoredReader;
 use age::io::{BufRead, Error, Read, Seek, SeekFrom};
 use std::alloc::Global;
 
-// Reads a byte at this place.
+// Reads the byte at this place, if there is one.
 fn look<R: BufRead + Seek>(
     reader: &mut ArmoredReader<R>,
     place: u64,
@@ -19,6 +22,11 @@ fn look<R: BufRead + Seek>(
     ensures learns { LearnsMore (marks_of reader.old) (marks_of reader.new) }
     ensures lines { IsTrue (R.Read.tells (inner_of reader.old)) → IsTrue (R.Read.steady (inner_of reader.old)) → IsTrue (notes_all reader.old) →
         place ≤ furthest_of reader.old → OnOk result (lines_of reader.new ≤ lines_of reader.old + 1025) }
+    ensures content { IsTrue (R.Read.tells (inner_of reader.old)) → armored_content reader.new ≡ armored_content reader.old }
+    ensures byte { IsTrue (R.Read.tells (inner_of reader.old)) → IsTrue (R.Read.steady (inner_of reader.old)) →
+        IfOk result (λ n. IsLook (armored_content reader.old).bytes place n byte.new) }
+    ensures why { IfErr result (λ e. IsSeekRefusal e ⊎ ⟦<ArmoredReader<R> as Read>⟧.refuses reader.old e) }
+    ensures narrows { OnOk result (AddsNoReason ⟦<ArmoredReader<R> as Read>⟧.refuses reader.old reader.new) }
 {
     match reader.seek(SeekFrom::Start(place)) {
         Err(error) => Err(error),
@@ -26,8 +34,8 @@ fn look<R: BufRead + Seek>(
     }
 }
 
-/// The bytes of an armored text at these places. Where it was read before up to each of them, each look takes at most 1,025 lines of
-/// it, wherever they are, as long as no memory for a mark is refused.
+/// The bytes of what an armored text carries at these places, in their order. Where the text was read before up to each of them, each look
+/// takes at most 1,025 lines of it, wherever they are, as long as no memory for a mark is refused.
 ///
 /// It refuses as `ArmoredReader::seek` and `read` do, with `UnexpectedEof` where a place is the end of what the text carries, and
 /// with `OutOfMemory`.
@@ -36,15 +44,24 @@ pub fn bytes_at<R: BufRead + Seek>(
     reader: &mut ArmoredReader<R>,
     places: &[u64],
 ) -> Result<Vec<u8>, Error>
-    ensures { IsTrue (R.Read.tells (inner_of reader.old)) → IsTrue (R.Read.steady (inner_of reader.old)) → IsTrue (notes_all reader.new) →
+    ensures bytes { IsTrue (R.Read.tells (inner_of reader.old)) → IsTrue (R.Read.steady (inner_of reader.old)) →
+        IfOk result (λ bytes. map (slice_get (armored_content reader.old).bytes) places.now ≡ map Some bytes.items) }
+    ensures why { IfErr result (λ e. (e ≡ OutOfMemory) ⊎ IsSeekRefusal e ⊎ ⟦<ArmoredReader<R> as Read>⟧.refuses reader.old e ⊎ ((e ≡ UnexpectedEof)
+        × (IsTrue (R.Read.tells (inner_of reader.old)) → IsTrue (R.Read.steady (inner_of reader.old)) → IsOneOutside (armored_content reader.old).bytes places.now))) }
+    ensures lines { IsTrue (R.Read.tells (inner_of reader.old)) → IsTrue (R.Read.steady (inner_of reader.old)) → IsTrue (notes_all reader.new) →
         AreWithin (furthest_of reader.old) places.now → OnOk result (lines_of reader.new ≤ lines_of reader.old + 1025 * length places.now) }
 {
     let mut bytes = Vec::new(alloc);
     let mut rest = places;
     'looks: while let Some((place, tail)) = rest.split_first() {
         let mut byte = [0];
-        if look(reader, *place, &mut byte)? == 0 {
-            return Err(Error::UnexpectedEof);
+        match look(reader, *place, &mut byte) {
+            Err(error) => return Err(error),
+            Ok(count) => {
+                if count == 0 {
+                    return Err(Error::UnexpectedEof);
+                }
+            }
         }
         bytes.extend_from_slice(&byte)?;
         rest = tail;

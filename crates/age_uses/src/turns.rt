@@ -1,5 +1,8 @@
 //! Two places of one plaintext in turn.
-ghost use Rattle.std.specs.Prelude.{◌≡◌, ◌+◌, ◌/◌, ◌≤◌, ℕ, IsTrue, Some, OnOk};
+ghost use Rattle.std.specs.Prelude.{◌≡◌, ◌+◌, ◌/◌, ◌≤◌, ◌⊎◌, ℕ, IsTrue, Some, None, slice_get, IfOk, IfErr, OnOk};
+ghost use Rattle.age.specs.Cursor.{IsSeekRefusal};
+ghost use Rattle.age.specs.ErrorVariants.{UnexpectedEof};
+ghost use Rattle.age.specs.Reading.{AddsNoReason};
 ghost use Rattle.age.specs.StreamReader.{payload_of, opens_of, last_used_of, HasChunk};
 ghost use Rattle.age_uses.specs.Turns.{HasPlace};
 
@@ -18,6 +21,13 @@ fn byte_at<S: Suite, R: Seek>(reader: &mut StreamReader<S, R>, place: u64) -> Re
         OnOk result (opens_of reader.new ≤ opens_of reader.old + 2) }
     ensures found { IsTrue (⟦<StreamReader<S, R> as Read>⟧.tells reader.old) → HasPlace (payload_of reader.old) place →
         HasChunk reader.old (place / 65536) → OnOk result (opens_of reader.new ≡ opens_of reader.old) }
+    ensures steady { ⟦<StreamReader<S, R> as Read>⟧.steady reader.new ≡ ⟦<StreamReader<S, R> as Read>⟧.steady reader.old }
+    ensures content { let read = ⟦<StreamReader<S, R> as Read>⟧ in IsTrue (read.tells reader.old) → read.content reader.new ≡ read.content reader.old }
+    ensures byte { let read = ⟦<StreamReader<S, R> as Read>⟧ in IsTrue (read.tells reader.old) → IsTrue (read.steady reader.old) →
+        IfOk result (λ byte. slice_get (read.content reader.old).bytes place ≡ Some byte) }
+    ensures why { let read = ⟦<StreamReader<S, R> as Read>⟧ in IfErr result (λ e. IsSeekRefusal e ⊎ read.refuses reader.old e ⊎ ((e ≡ UnexpectedEof)
+        × (IsTrue (read.tells reader.old) → IsTrue (read.steady reader.old) → slice_get (read.content reader.old).bytes place ≡ None))) }
+    ensures narrows { OnOk result (AddsNoReason ⟦<StreamReader<S, R> as Read>⟧.refuses reader.old reader.new) }
 {
     match reader.seek(SeekFrom::Start(place)) {
         Err(error) => Err(error),
@@ -47,6 +57,11 @@ pub fn in_turns<S: Suite, R: Seek>(
     second: u64,
     times: u64,
 ) -> Result<(u8, u8), Error>
+    ensures bytes { let read = ⟦<StreamReader<S, R> as Read>⟧ in IsTrue (read.tells reader.old) → IsTrue (read.steady reader.old) →
+        IfOk result (λ found. (slice_get (read.content reader.old).bytes first ≡ Some found.0) × (slice_get (read.content reader.old).bytes second ≡ Some found.1)) }
+    ensures why { let read = ⟦<StreamReader<S, R> as Read>⟧ in IfErr result (λ e. IsSeekRefusal e ⊎ read.refuses reader.old e ⊎ ((e ≡ UnexpectedEof)
+        × (IsTrue (read.tells reader.old) → IsTrue (read.steady reader.old) →
+        (slice_get (read.content reader.old).bytes first ≡ None) ⊎ (slice_get (read.content reader.old).bytes second ≡ None)))) }
     ensures opens { IsTrue (⟦<StreamReader<S, R> as Read>⟧.tells reader.old) → HasPlace (payload_of reader.old) first →
         HasPlace (payload_of reader.old) second → OnOk result (opens_of reader.new ≤ opens_of reader.old + 4) }
 {

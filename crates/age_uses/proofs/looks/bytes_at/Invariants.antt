@@ -1,6 +1,7 @@
-use Rattle.std.proofs.Common.{◌≡◌, ◌+◌, ◌*◌, ◌≤◌, IsTrue, length}
-use Rattle.age.specs.ArmorReader.{inner_of, lines_of, furthest_of, notes_all}
-use Rattle.age_uses.specs.Looks.{AreWithin}
+use Rattle.std.proofs.Common.{◌≡◌, ◌+◌, ◌*◌, ◌≤◌, ◌++◌, IsTrue, length, map, Some, slice_get}
+use Rattle.age.specs.ArmorReader.{inner_of, armored_content, lines_of, furthest_of, notes_all, refuses_of}
+use Rattle.age.specs.Reading.{AddsNoReason}
+use Rattle.age_uses.specs.Looks.{AreWithin, IsOneOutside}
 use Rattle.age_uses.proofs.looks.bytes_at.Given as goal
 
 abbrev pub invariant-looks : goal.invariant-looks
@@ -14,6 +15,11 @@ invariant-looks g l =
       lines : IsTrue (reader.tells (inner_of l.fn.reader)) → IsTrue (reader.steady (inner_of l.fn.reader)) → IsTrue (notes_all l.reader) →
           AreWithin (furthest_of l.fn.reader) l.places →
           lines_of l.reader + 1025 * length l.rest ≤ lines_of l.fn.reader + 1025 * length l.places;
+      content : IsTrue (reader.tells (inner_of l.fn.reader)) → armored_content l.reader ≡ armored_content l.fn.reader;
+      bytes : IsTrue (reader.tells (inner_of l.fn.reader)) → IsTrue (reader.steady (inner_of l.fn.reader)) →
+          map (slice_get (armored_content l.fn.reader).bytes) l.places ≡ map Some l.bytes.items ++ map (slice_get (armored_content l.fn.reader).bytes) l.rest;
+      outside : IsOneOutside (armored_content l.fn.reader).bytes l.rest → IsOneOutside (armored_content l.fn.reader).bytes l.places;
+      narrows : AddsNoReason (λ r. refuses_of r) l.fn.reader l.reader;
     }
 
 abbrev pub decreases-looks : goal.decreases-looks

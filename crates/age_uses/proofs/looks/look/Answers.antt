@@ -1,5 +1,8 @@
-use Rattle.std.proofs.Common.{◌∙◌, arith}
-use Rattle.std.proofs.lemmas.Result.{on_ok_weaker}
+use Rattle.std.proofs.Common.{◌∙◌, arith, ap, inr}
+use Rattle.std.proofs.lemmas.Result.{on_ok_weaker, IfErr-weaker}
+use Rattle.age.specs.ArmorReader.{armored_content, armored_rest}
+use Rattle.age.specs.Stretch.{from_place}
+use Rattle.age_uses.proofs.Looked.{look}
 use Rattle.age_uses.proofs.looks.look.Goals as goal
 
 pub returns-in-Ok-clause-learns : goal.returns-in-Ok-clause-learns
@@ -16,3 +19,24 @@ pub returns-in-Ok-clause-lines : goal.returns-in-Ok-clause-lines
 returns-in-Ok-clause-lines g c = λ told steady noting behind.
     on_ok_weaker c.read.result (λ reached. omega (arith, c.in-Ok.ensures.marks told steady noting behind, c.read.ensures.learns.lines.1))
     (c.read.ensures.learns.reaches (c.in-Ok.ensures.seeks.same_tells ∙ told))
+
+pub returns-in-Ok-clause-content : goal.returns-in-Ok-clause-content
+returns-in-Ok-clause-content g c = λ told.
+    let seek = c.in-Ok.ensures.seeks in
+    c.read.ensures.reads.same_content (seek.same_tells ∙ told) ∙ seek.same_content told
+
+pub returns-in-Ok-clause-byte : goal.returns-in-Ok-clause-byte
+returns-in-Ok-clause-byte g c = λ told steady.
+    let seek = c.in-Ok.ensures.seeks in
+    let read = c.read.ensures.reads in
+    let told_then = seek.same_tells ∙ told in
+    let at = (seek.moves told steady).1 ∙ ap (λ n. from_place n (armored_content c.args.reader.now)) (seek.leads told) in
+    look (armored_content c.args.reader.now) (armored_rest c.seek.new.self) (armored_rest c.read.new.self) c.args.place _ c.read.result
+    (omega (arith, c.read.auto.buf, c.fits-byte, c.told-byte)) at read.count (read.bytes told_then) (read.end told_then)
+
+pub returns-in-Ok-clause-why : goal.returns-in-Ok-clause-why
+returns-in-Ok-clause-why g c = IfErr-weaker c.read.result _ _ (λ e why. inr (c.in-Ok.ensures.seeks.narrows e why)) c.read.ensures.reads.why
+
+pub returns-in-Ok-clause-narrows : goal.returns-in-Ok-clause-narrows
+returns-in-Ok-clause-narrows g c =
+    on_ok_weaker c.read.result (λ narrows e why. c.in-Ok.ensures.seeks.narrows e (narrows e why)) c.read.ensures.reads.narrows

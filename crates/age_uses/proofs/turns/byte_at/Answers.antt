@@ -1,6 +1,8 @@
-use Rattle.std.proofs.Common.{◌≡◌, ◌/◌, ◌∙◌, sym, subst}
-use Rattle.age.specs.StreamReader.{payload_of, place_of, HasChunk}
+use Rattle.std.proofs.Common.{◌≡◌, ◌/◌, ◌∙◌, ap, arith, inl, inr, length, refl, sym, subst}
+use Rattle.age.specs.StreamReader.{payload_of, place_of, content_of, plain_rest_of, HasChunk}
+use Rattle.age.specs.Stretch.{from_place}
 use Rattle.age_uses.proofs.BeforeEnd.{before_end}
+use Rattle.age_uses.proofs.Looked.{found, looked, missing}
 use Rattle.age_uses.proofs.turns.byte_at.Goals as goal
 
 pub returns-else-count-eq0-clause-keeps_last : goal.returns-else-count-eq0-clause-keeps_last
@@ -16,3 +18,44 @@ returns-else-count-eq0-clause-found g c = λ told has there.
     let apart = before_end (payload_of reader) c.args.place (place_of reader) has in
     let leads : c.in-Ok.field-0 ≡ c.args.place = seek.seeks.leads told in
     c.in-Ok-read.ensures.held (seek.finds told apart (subst (λ n. HasChunk reader (n / 65536)) (sym leads) there)) ∙ seek.end told apart
+
+pub returns-else-count-eq0-clause-byte : goal.returns-else-count-eq0-clause-byte
+returns-else-count-eq0-clause-byte g c = λ told steady.
+    let seek = c.in-Ok.ensures.seeks in
+    let read = c.in-Ok-read.ensures.reads in
+    let told_then = seek.same_tells ∙ told in
+    let content = content_of c.args.reader.now in
+    let room = c.read.new.buf in
+    let at = (seek.moves told steady).1 ∙ ap (λ n. from_place n content) (seek.leads told) in
+    let one : length room ≡ 1 = omega (arith, c.read.auto.buf) in
+    found content.bytes c.args.place c.in-Ok-read.count room
+    (looked content (plain_rest_of c.seek.new.self) (plain_rest_of c.read.new.self) c.args.place c.in-Ok-read.count room one read.count at (read.bytes told_then) (read.end told_then))
+    c.if-count-eq0.false one
+
+pub returns-in-Err-clause-why : goal.returns-in-Err-clause-why
+returns-in-Err-clause-why g c = elim c.in-Err.ensures.seeks.why [
+  | inl outside ↦ inl outside
+  | inr why ↦ inr (inl why)
+]
+
+pub returns-in-Err-read-clause-why : goal.returns-in-Err-read-clause-why
+returns-in-Err-read-clause-why g c = inr (inl (c.in-Ok.ensures.seeks.narrows c.in-Err-read.error c.in-Err-read.ensures.reads.why))
+
+pub returns-then-count-eq0-clause-why : goal.returns-then-count-eq0-clause-why
+returns-then-count-eq0-clause-why g c = inr (inr (
+  refl,
+  λ told steady.
+      let seek = c.in-Ok.ensures.seeks in
+      let read = c.in-Ok-read.ensures.reads in
+      let told_then = seek.same_tells ∙ told in
+      let content = content_of c.args.reader.now in
+      let room = c.read.new.buf in
+      let at = (seek.moves told steady).1 ∙ ap (λ n. from_place n content) (seek.leads told) in
+      let one : length room ≡ 1 = omega (arith, c.read.auto.buf) in
+      missing content.bytes c.args.place c.in-Ok-read.count room
+      (looked content (plain_rest_of c.seek.new.self) (plain_rest_of c.read.new.self) c.args.place c.in-Ok-read.count room one read.count at (read.bytes told_then) (read.end told_then))
+      c.if-count-eq0.true,
+))
+
+pub returns-else-count-eq0-clause-narrows : goal.returns-else-count-eq0-clause-narrows
+returns-else-count-eq0-clause-narrows g c = λ e why. c.in-Ok.ensures.seeks.narrows e (c.in-Ok-read.ensures.reads.narrows e why)
