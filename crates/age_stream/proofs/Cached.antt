@@ -82,12 +82,13 @@ pub record IsOpenedText (opened : List ℕ → List ℕ → List ℕ → Option 
   pub short : length text < 65552 → last ≡ true
   pub longer : length plain + 16 ≡ length text
 
--- the first chunk is that of the text that was read
-pub brought : (opened : List ℕ → List ℕ → List ℕ → Option (List ℕ)) (key : List ℕ) (law : Shorter opened key) (payload : Stretch) (number : ℕ) (text : List ℕ) (cache : Cache) →
-    AreBytes payload.bytes → IsText payload number text → (cache.judged ≡ true) × (cache.number ≡ number) × (cache.used ≡ true) →
-    (IsText payload number text → IsKept opened key payload cache) → IsOpenedText opened key number text cache.chunk.items cache.last
-brought opened key law payload number text cache bytes read first kept =
-    let held = subst (λ n. IsHeld opened key payload n cache.last 0 cache.chunk.items) first.1 ((kept read).first first.0) in
+-- The first chunk is that of the text that was read, in whatever way it was given.
+pub brought : (opened : List ℕ → List ℕ → List ℕ → Option (List ℕ)) (key : List ℕ) (law : Shorter opened key) (payload : Stretch) (number : ℕ) (given text : List ℕ) (cache : Cache) →
+    given ≡ text → AreBytes payload.bytes → IsText payload number text → (cache.judged ≡ true) × (cache.number ≡ number) × (cache.used ≡ true) →
+    (IsText payload number given → IsKept opened key payload cache) → IsOpenedText opened key number text cache.chunk.items cache.last
+brought opened key law payload number given text cache same bytes read first kept =
+    let has = kept (subst (IsText payload number) (sym same) read) in
+    let held = subst (λ n. IsHeld opened key payload n cache.last 0 cache.chunk.items) first.1 (has.first first.0) in
     record {
       ok = ap (chunk_of opened key number) (sym read.is) ∙ held.judged (λ e. absurd (omega (arith, e.full)));
       short = λ less. (held.whole (subst (λ (xs : List ℕ). length xs < 65552) (sym read.is) less)).1;

@@ -7,6 +7,7 @@ use Rattle.age_stream.specs.Reader.{wanted_of}
 use Rattle.std.proofs.lemmas.List.Elements.{All-drop}
 use Rattle.age_stream.specs.OpeningLaws.{shorter}
 use Rattle.age_stream.proofs.Answered.{refuses-chunk, good-opened}
+use Rattle.age_stream.specs.Cache.{IsText}
 use Rattle.age_stream.proofs.Cached.{brought, is-text, kept-read}
 use Rattle.age_stream.proofs.Holding.{payload-read, TookText, took-text, open-early, open-refused, opened-before, rest-opened, clean-opened, sound-opened, sound-failed, spare-opened}
 use Rattle.age_error.specs.declared.io.Error.TheVariants.{OutOfMemory, Truncated}
@@ -102,9 +103,9 @@ returns-then-self-len-clause-cause g c = λ told memory quiet.
     let payload = payload_at (g.R.Read.place self.inner) self.taken (g.R.Read.content self.inner) in
     let read_text = is-text (g.R.Read.content self.inner) (g.R.Read.rest self.inner) (g.R.Read.rest c.fill-answer.new.reader) (g.R.Read.place self.inner) self.taken self.number text
     (g.met.R.Read.stands self.inner t (and-right _ _ told)) (self.sound told).fits ((self.sound told).before c.requires.good c.requires.closed).stood took in
-    let is = brought g.S.Suite.opened self.key (shorter g.S.Suite.seal_of g.S.Suite.opened g.met.S.Suite.cipher self.key self.key_bytes) payload self.number text c.bring.new.self
+    let is = brought g.S.Suite.opened self.key (shorter g.S.Suite.seal_of g.S.Suite.opened g.met.S.Suite.cipher self.key self.key_bytes) payload self.number _ text c.bring.new.self (ap (take c.fill-answer.new.filled) (c.deref.ensures.value ∙ filled))
     (All-drop (λ x. x < 2 ^ 8) (g.R.Read.place self.inner - self.taken) (g.R.Read.content self.inner).bytes (g.met.R.Read.are_bytes self.inner t))
-    read_text c.in-Ok-bring.ensures.first (rw (c.deref.ensures.value, filled) at (c.bring.ensures.kept payload (self.kept told))) in
+    read_text c.in-Ok-bring.ensures.first (c.bring.ensures.kept payload (self.kept told)) in
     let longer = is.longer in
     let past : length plain.items < self.at = omega (arith, c.if-self-len.true, c.len.ensures, plain.ok.0) in
     absurd (omega (
@@ -129,9 +130,9 @@ returns-then-self-len-clause-refused g c = λ told memory quiet.
     let payload = payload_at (g.R.Read.place self.inner) self.taken (g.R.Read.content self.inner) in
     let read_text = is-text (g.R.Read.content self.inner) (g.R.Read.rest self.inner) (g.R.Read.rest c.fill-answer.new.reader) (g.R.Read.place self.inner) self.taken self.number text
     (g.met.R.Read.stands self.inner t (and-right _ _ told)) (self.sound told).fits ((self.sound told).before c.requires.good c.requires.closed).stood took in
-    let is = brought g.S.Suite.opened self.key (shorter g.S.Suite.seal_of g.S.Suite.opened g.met.S.Suite.cipher self.key self.key_bytes) payload self.number text c.bring.new.self
+    let is = brought g.S.Suite.opened self.key (shorter g.S.Suite.seal_of g.S.Suite.opened g.met.S.Suite.cipher self.key self.key_bytes) payload self.number _ text c.bring.new.self (ap (take c.fill-answer.new.filled) (c.deref.ensures.value ∙ filled))
     (All-drop (λ x. x < 2 ^ 8) (g.R.Read.place self.inner - self.taken) (g.R.Read.content self.inner).bytes (g.met.R.Read.are_bytes self.inner t))
-    read_text c.in-Ok-bring.ensures.first (rw (c.deref.ensures.value, filled) at (c.bring.ensures.kept payload (self.kept told))) in
+    read_text c.in-Ok-bring.ensures.first (c.bring.ensures.kept payload (self.kept told)) in
     let longer = is.longer in
     let past : length plain.items < self.at = omega (arith, c.if-self-len.true, c.len.ensures, plain.ok.0) in
     absurd (omega (
@@ -154,9 +155,9 @@ returns-else-self-len-clause-rest g c = λ told.
     let payload = payload_at (g.R.Read.place self.inner) self.taken (g.R.Read.content self.inner) in
     let read_text = is-text (g.R.Read.content self.inner) (g.R.Read.rest self.inner) (g.R.Read.rest c.fill-answer.new.reader) (g.R.Read.place self.inner) self.taken self.number text
     (g.met.R.Read.stands self.inner t (and-right _ _ told)) (self.sound told).fits ((self.sound told).before c.requires.good c.requires.closed).stood took in
-    let is = brought g.S.Suite.opened self.key (shorter g.S.Suite.seal_of g.S.Suite.opened g.met.S.Suite.cipher self.key self.key_bytes) payload self.number text c.bring.new.self
+    let is = brought g.S.Suite.opened self.key (shorter g.S.Suite.seal_of g.S.Suite.opened g.met.S.Suite.cipher self.key self.key_bytes) payload self.number _ text c.bring.new.self (ap (take c.fill-answer.new.filled) (c.deref.ensures.value ∙ filled))
     (All-drop (λ x. x < 2 ^ 8) (g.R.Read.place self.inner - self.taken) (g.R.Read.content self.inner).bytes (g.met.R.Read.are_bytes self.inner t))
-    read_text c.in-Ok-bring.ensures.first (rw (c.deref.ensures.value, filled) at (c.bring.ensures.kept payload (self.kept told))) in
+    read_text c.in-Ok-bring.ensures.first (c.bring.ensures.kept payload (self.kept told)) in
     let ok = is.ok in
     rest-opened g.S.Suite.opened self.key self.failed self.held self.cache.last c.bring.new.self.last self.at self.cache.chunk.items plain.items self.number (g.R.Read.rest self.inner)
     (g.R.Read.rest c.fill-answer.new.reader) text c.requires.good c.requires.closed took
@@ -177,9 +178,9 @@ returns-else-self-len-clause-end g c = λ told given.
     let payload = payload_at (g.R.Read.place self.inner) self.taken (g.R.Read.content self.inner) in
     let read_text = is-text (g.R.Read.content self.inner) (g.R.Read.rest self.inner) (g.R.Read.rest c.fill-answer.new.reader) (g.R.Read.place self.inner) self.taken self.number text
     (g.met.R.Read.stands self.inner t (and-right _ _ told)) (self.sound told).fits ((self.sound told).before c.requires.good c.requires.closed).stood took in
-    let is = brought g.S.Suite.opened self.key (shorter g.S.Suite.seal_of g.S.Suite.opened g.met.S.Suite.cipher self.key self.key_bytes) payload self.number text c.bring.new.self
+    let is = brought g.S.Suite.opened self.key (shorter g.S.Suite.seal_of g.S.Suite.opened g.met.S.Suite.cipher self.key self.key_bytes) payload self.number _ text c.bring.new.self (ap (take c.fill-answer.new.filled) (c.deref.ensures.value ∙ filled))
     (All-drop (λ x. x < 2 ^ 8) (g.R.Read.place self.inner - self.taken) (g.R.Read.content self.inner).bytes (g.met.R.Read.are_bytes self.inner t))
-    read_text c.in-Ok-bring.ensures.first (rw (c.deref.ensures.value, filled) at (c.bring.ensures.kept payload (self.kept told))) in
+    read_text c.in-Ok-bring.ensures.first (c.bring.ensures.kept payload (self.kept told)) in
     let ok = is.ok in
     let longer = is.longer in
     clean-opened g.S.Suite.opened self.key self.failed self.held self.cache.last c.bring.new.self.last self.at self.cache.chunk.items plain.items self.number (g.R.Read.rest self.inner)
@@ -205,9 +206,9 @@ returns-else-self-len-clause-ended g c = λ told given.
     let payload = payload_at (g.R.Read.place self.inner) self.taken (g.R.Read.content self.inner) in
     let read_text = is-text (g.R.Read.content self.inner) (g.R.Read.rest self.inner) (g.R.Read.rest c.fill-answer.new.reader) (g.R.Read.place self.inner) self.taken self.number text
     (g.met.R.Read.stands self.inner t (and-right _ _ told)) (self.sound told).fits ((self.sound told).before c.requires.good c.requires.closed).stood took in
-    let is = brought g.S.Suite.opened self.key (shorter g.S.Suite.seal_of g.S.Suite.opened g.met.S.Suite.cipher self.key self.key_bytes) payload self.number text c.bring.new.self
+    let is = brought g.S.Suite.opened self.key (shorter g.S.Suite.seal_of g.S.Suite.opened g.met.S.Suite.cipher self.key self.key_bytes) payload self.number _ text c.bring.new.self (ap (take c.fill-answer.new.filled) (c.deref.ensures.value ∙ filled))
     (All-drop (λ x. x < 2 ^ 8) (g.R.Read.place self.inner - self.taken) (g.R.Read.content self.inner).bytes (g.met.R.Read.are_bytes self.inner t))
-    read_text c.in-Ok-bring.ensures.first (rw (c.deref.ensures.value, filled) at (c.bring.ensures.kept payload (self.kept told))) in
+    read_text c.in-Ok-bring.ensures.first (c.bring.ensures.kept payload (self.kept told)) in
     let ok = is.ok in
     let longer = is.longer in
     let stands = g.met.R.Read.stands self.inner t (and-right _ _ told) in
@@ -236,7 +237,7 @@ invariant_of-self-in-Err-bring g c =
     let kept = λ (told : IsTrue (read.tells after && read.steady after)). let b = before told in
     kept-read g.S.Suite.opened self.key c.bring.new.self (read.content self.inner) (read.content after) (read.place self.inner) (read.place after) self.taken c.saturating_add-self.result
     c.fill-answer.new.filled (c.in-Ok.ensures.keeps.same.content (and-left _ _ b)) (c.in-Ok.ensures.moves (and-left _ _ b)) (g.met.R.Read.place_fits after (and-left _ _ told)) c.saturating_add-self.ensures
-    (self.sound b).fits ((rw (c.deref.ensures.value, filled) at (c.bring.ensures.kept payload (self.kept b))) (read_text b)) in
+    (self.sound b).fits (c.bring.ensures.kept payload (self.kept b) (subst (IsText payload self.number) (sym (ap (take c.fill-answer.new.filled) (c.deref.ensures.value ∙ filled))) (read_text b))) in
     record {
       key_bytes = self.key_bytes;
       room = omega (arith, c.fill-answer.auto.buf, c.deref_mut.ensures.len, self.room, self.sealed.ok.0, ap length filled, size);
@@ -281,7 +282,7 @@ invariant_of-self-then-self-len g c =
     let kept = λ (told : IsTrue (read.tells after && read.steady after)). let b = before told in
     kept-read g.S.Suite.opened self.key c.bring.new.self (read.content self.inner) (read.content after) (read.place self.inner) (read.place after) self.taken c.saturating_add-self.result
     c.fill-answer.new.filled (c.in-Ok.ensures.keeps.same.content (and-left _ _ b)) (c.in-Ok.ensures.moves (and-left _ _ b)) (g.met.R.Read.place_fits after (and-left _ _ told)) c.saturating_add-self.ensures
-    (self.sound b).fits ((rw (c.deref.ensures.value, filled) at (c.bring.ensures.kept payload (self.kept b))) (read_text b)) in
+    (self.sound b).fits (c.bring.ensures.kept payload (self.kept b) (subst (IsText payload self.number) (sym (ap (take c.fill-answer.new.filled) (c.deref.ensures.value ∙ filled))) (read_text b))) in
     record {
       key_bytes = self.key_bytes;
       room = omega (arith, c.fill-answer.auto.buf, c.deref_mut.ensures.len, self.room, self.sealed.ok.0, ap length filled, size);
@@ -326,7 +327,7 @@ invariant_of-self-in-Ok-bring-2 g c =
     let kept = λ (told : IsTrue (read.tells after && read.steady after)). let b = before told in
     kept-read g.S.Suite.opened self.key c.bring.new.self (read.content self.inner) (read.content after) (read.place self.inner) (read.place after) self.taken c.saturating_add-self.result
     c.fill-answer.new.filled (c.in-Ok.ensures.keeps.same.content (and-left _ _ b)) (c.in-Ok.ensures.moves (and-left _ _ b)) (g.met.R.Read.place_fits after (and-left _ _ told)) c.saturating_add-self.ensures
-    (self.sound b).fits ((rw (c.deref.ensures.value, filled) at (c.bring.ensures.kept payload (self.kept b))) (read_text b)) in
+    (self.sound b).fits (c.bring.ensures.kept payload (self.kept b) (subst (IsText payload self.number) (sym (ap (take c.fill-answer.new.filled) (c.deref.ensures.value ∙ filled))) (read_text b))) in
     let plain = c.bring.new.self.chunk in
     let first = c.in-Ok-bring.ensures.first in
     let whole = c.bring.new.self.whole first.0 in
@@ -345,9 +346,9 @@ invariant_of-self-in-Ok-bring-2 g c =
       unspent = λ _ _. c.in-Ok.ensures.unspent (omega (arith, self.room));
       kept = λ told. let k = kept told in record { first = k.first; other = k.other };
       sound = λ told. let b = before told in let t = and-left (read.tells self.inner) (read.steady self.inner) b in
-          let is = brought g.S.Suite.opened self.key (shorter g.S.Suite.seal_of g.S.Suite.opened g.met.S.Suite.cipher self.key self.key_bytes) payload self.number text c.bring.new.self
+          let is = brought g.S.Suite.opened self.key (shorter g.S.Suite.seal_of g.S.Suite.opened g.met.S.Suite.cipher self.key self.key_bytes) payload self.number _ text c.bring.new.self (ap (take c.fill-answer.new.filled) (c.deref.ensures.value ∙ filled))
           (All-drop (λ x. x < 2 ^ 8) (read.place self.inner - self.taken) (read.content self.inner).bytes (g.met.R.Read.are_bytes self.inner t))
-          (read_text b) first (rw (c.deref.ensures.value, filled) at (c.bring.ensures.kept payload (self.kept b))) in
+          (read_text b) first (c.bring.ensures.kept payload (self.kept b)) in
           sound-opened g.S.Suite.opened self.key self.failed self.held self.at self.cache.chunk.items self.cache.last self.sought self.number self.taken
           (read.place self.inner) (read.content self.inner) (read.rest self.inner) (self.sound b)
           c.saturating_add-self.result (read.place after) c.fill-answer.new.filled (read.content after) (read.rest after) text plain.items c.bring.new.self.last
@@ -451,9 +452,9 @@ returns-then-self-len-clause-keeps g c =
           let payload = payload_at (g.R.Read.place self.inner) self.taken (g.R.Read.content self.inner) in
           let read_text = is-text (g.R.Read.content self.inner) (g.R.Read.rest self.inner) (g.R.Read.rest c.fill-answer.new.reader) (g.R.Read.place self.inner) self.taken self.number text
           (g.met.R.Read.stands self.inner t (and-right _ _ told)) (self.sound told).fits ((self.sound told).before c.requires.good c.requires.closed).stood took in
-          let is = brought g.S.Suite.opened self.key (shorter g.S.Suite.seal_of g.S.Suite.opened g.met.S.Suite.cipher self.key self.key_bytes) payload self.number text c.bring.new.self
+          let is = brought g.S.Suite.opened self.key (shorter g.S.Suite.seal_of g.S.Suite.opened g.met.S.Suite.cipher self.key self.key_bytes) payload self.number _ text c.bring.new.self (ap (take c.fill-answer.new.filled) (c.deref.ensures.value ∙ whole))
           (All-drop (λ x. x < 2 ^ 8) (g.R.Read.place self.inner - self.taken) (g.R.Read.content self.inner).bytes (g.met.R.Read.are_bytes self.inner t))
-          read_text c.in-Ok-bring.ensures.first (rw (c.deref.ensures.value, whole) at (c.bring.ensures.kept payload (self.kept told))) in
+          read_text c.in-Ok-bring.ensures.first (c.bring.ensures.kept payload (self.kept told)) in
           let longer = is.longer in
           let past : length plain.items < self.at = omega (arith, c.if-self-len.true, c.len.ensures, plain.ok.0) in
           absurd (omega (
