@@ -1,10 +1,15 @@
 -- What a seek and a read of one byte say of the byte at a place.
-use Rattle.std.specs.Prelude.{◌≡◌, ℕ, zero, suc, ◌<◌, ◌≤◌, List, [], ◌∷◌, ◌++◌, length, map, take, drop, Option, Some, None, slice_get, slice_index_or, Result, Ok, Err, IfOk}
+use Rattle.std.specs.Prelude.{◌≡◌, ℕ, IsTrue, true, false, zero, suc, ◌<◌, ◌≤◌, List, [], ◌∷◌, ◌++◌, length, map, take, drop, Option, Some, None, slice_get, slice_index_or, Result, Ok, Err, IfOk}
 use Rattle.std.proofs.Common.{◌∙◌, ap, arith, refl, sym, subst, inl}
 use Rattle.std.proofs.lemmas.List.{map-append, append-nil, append_assoc}
-use Rattle.age.specs.Reading.{Delivers}
-use Rattle.age.specs.Stretch.{Stretch, from_place, IsCleanEnd}
+use Rattle.std.proofs.lemmas.Option.{slice_get_past}
+use Rattle.age.specs.Cursor.{sought}
+use Rattle.age.specs.Reading.{Delivers, IsQuiet}
+use Rattle.age.specs.SeekFromVariants.{Start}
+use Rattle.age.specs.Stretch.{Stretch, from_place, IsCleanEnd, IsFault}
+use Rattle.age.specs.Types.{Error}
 use Rattle.age_uses.specs.Looks.{IsLook, IsOneOutside}
+use Rattle.age_uses.proofs.Places.{refused_is}
 
 -- the byte at the front of what follows a place
 got : (xs : List ℕ) (place byte : ℕ) (more : List ℕ) → drop place xs ≡ byte ∷ more → slice_get xs place ≡ Some byte
@@ -71,3 +76,22 @@ found bytes place (suc n) (byte ∷ other ∷ room) look some one = absurd (omeg
 pub missing : (bytes : List ℕ) (place n : ℕ) (room : List ℕ) → IsLook bytes place n room → n ≡ 0 → slice_get bytes place ≡ None
 missing bytes place zero room look none = look
 missing bytes place (suc n) room look none = absurd (omega (arith, none))
+
+-- a seek that is refused was to a place that has no byte
+pub refused : (bytes : List ℕ) (place : ℕ) (e : Error) → sought (Start place) 0 (length bytes) ≡ Err e → slice_get bytes place ≡ None
+refused bytes place e is =
+    let past = (refused_is place (length bytes) e is).1 in
+    slice_get_past bytes place (omega (arith, past))
+
+-- and what ends well has no fault at any place
+pub sound : (content rest : Stretch) (place : ℕ) → IsTrue content.ends_well → rest ≡ from_place place content → IsFault rest → ⊥
+sound content rest place well at fault =
+    let same : rest.ends_well ≡ content.ends_well = ap (λ s. s.ends_well) at in
+    differ (sym well ∙ sym same ∙ fault.ends_badly)
+  where
+    differ : true ≡ false → ⊥
+    differ is = absurd (cc)
+
+-- what was quiet all along was quiet at its end
+pub quiet_from : {a b c : ℕ} → a ≤ b → b ≤ c → IsQuiet a c → IsQuiet b c
+quiet_from first second quiet = record { same = omega (arith, first, second, quiet.same); below = quiet.below }

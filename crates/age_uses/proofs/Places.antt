@@ -22,7 +22,7 @@ refused_by true place e same = absurd (Prim.cc)
 refused_by false place e same = (refl, Prim.cc)
 
 -- and is refused past the end alone
-refused_is : (place len : ℕ) (e : Error) → sought (Start place) 0 len ≡ Err e → (e ≡ PastEnd) × (len < place)
+pub refused_is : (place len : ℕ) (e : Error) → sought (Start place) 0 len ≡ Err e → (e ≡ PastEnd) × (len < place)
 refused_is place len e same =
     let (past, is) = refused_by (nat_le place len) place e same in
     (is, leb-false place len past)

@@ -1,10 +1,10 @@
 //! Looks at places of an armored text that was read before.
-ghost use Rattle.std.specs.Prelude.{◌≡◌, ◌+◌, ◌*◌, ◌≤◌, ◌⊎◌, ℕ, IsTrue, length, map, Some, slice_get, IfOk, IfErr, OnOk};
+ghost use Rattle.std.specs.Prelude.{◌≡◌, ◌≢◌, ◌+◌, ◌*◌, ◌≤◌, ◌⊎◌, ℕ, IsTrue, length, map, Some, slice_get, None, IfOk, IfErr, OnOk};
 ghost use Rattle.age.specs.ArmorMarks.{LearnsMore};
 ghost use Rattle.age.specs.ArmorReader.{inner_of, armored_content, lines_of, furthest_of, notes_all, marks_of};
 ghost use Rattle.age.specs.Cursor.{IsSeekRefusal};
 ghost use Rattle.age.specs.ErrorVariants.{OutOfMemory, UnexpectedEof};
-ghost use Rattle.age.specs.Reading.{AddsNoReason};
+ghost use Rattle.age.specs.Reading.{AddsNoReason, IsQuiet};
 ghost use Rattle.age_uses.specs.Looks.{AreWithin, IsLook, IsOneOutside};
 
 use age::armor::ArmoredReader;
@@ -19,6 +19,7 @@ fn look<R: BufRead + Seek>(
 ) -> Result<usize, Error>
     ensures tells { R.Read.tells (inner_of reader.new) ≡ R.Read.tells (inner_of reader.old) }
     ensures steady { R.Read.steady (inner_of reader.new) ≡ R.Read.steady (inner_of reader.old) }
+    ensures faults { R.Read.faults (inner_of reader.old) ≤ R.Read.faults (inner_of reader.new) }
     ensures learns { LearnsMore (marks_of reader.old) (marks_of reader.new) }
     ensures lines { IsTrue (R.Read.tells (inner_of reader.old)) → IsTrue (R.Read.steady (inner_of reader.old)) → IsTrue (notes_all reader.old) →
         place ≤ furthest_of reader.old → OnOk result (lines_of reader.new ≤ lines_of reader.old + 1025) }
@@ -27,6 +28,9 @@ fn look<R: BufRead + Seek>(
         IfOk result (λ n. IsLook (armored_content reader.old).bytes place n byte.new) }
     ensures why { IfErr result (λ e. IsSeekRefusal e ⊎ ⟦<ArmoredReader<R> as Read>⟧.refuses reader.old e) }
     ensures narrows { OnOk result (AddsNoReason ⟦<ArmoredReader<R> as Read>⟧.refuses reader.old reader.new) }
+    ensures cause { IsTrue (R.Read.tells (inner_of reader.old)) → IsTrue (R.Read.steady (inner_of reader.old)) → IsTrue (armored_content reader.old).ends_well →
+        IfErr result (λ e. e ≢ OutOfMemory → IsQuiet (R.Read.faults (inner_of reader.old)) (R.Read.faults (inner_of reader.new)) →
+        slice_get (armored_content reader.old).bytes place ≡ None) }
 {
     match reader.seek(SeekFrom::Start(place)) {
         Err(error) => Err(error),
@@ -37,8 +41,9 @@ fn look<R: BufRead + Seek>(
 /// The bytes of what an armored text carries at these places, in their order. Where the text was read before up to each of them, each look
 /// takes at most 1,025 lines of it, wherever they are, as long as no memory for a mark is refused.
 ///
-/// It refuses as `ArmoredReader::seek` and `read` do, with `UnexpectedEof` where a place is the end of what the text carries, and
-/// with `OutOfMemory`.
+/// It refuses as `ArmoredReader::seek` and `read` do, with `PastEnd` where a place is past the end of what the text carries, with
+/// `UnexpectedEof` where it is the end, and with `OutOfMemory`, which alone it may refuse with where the text and its reader are sound
+/// and there is a byte at each place. After a refusal the reader is as the call that refused leaves it.
 pub fn bytes_at<R: BufRead + Seek>(
     alloc: Global,
     reader: &mut ArmoredReader<R>,
@@ -50,6 +55,9 @@ pub fn bytes_at<R: BufRead + Seek>(
         × (IsTrue (R.Read.tells (inner_of reader.old)) → IsTrue (R.Read.steady (inner_of reader.old)) → IsOneOutside (armored_content reader.old).bytes places.now))) }
     ensures lines { IsTrue (R.Read.tells (inner_of reader.old)) → IsTrue (R.Read.steady (inner_of reader.old)) → IsTrue (notes_all reader.new) →
         AreWithin (furthest_of reader.old) places.now → OnOk result (lines_of reader.new ≤ lines_of reader.old + 1025 * length places.now) }
+    ensures cause { IsTrue (R.Read.tells (inner_of reader.old)) → IsTrue (R.Read.steady (inner_of reader.old)) → IsTrue (armored_content reader.old).ends_well →
+        IfErr result (λ e. e ≢ OutOfMemory → IsQuiet (R.Read.faults (inner_of reader.old)) (R.Read.faults (inner_of reader.new)) →
+        IsOneOutside (armored_content reader.old).bytes places.now) }
 {
     let mut bytes = Vec::new(alloc);
     let mut rest = places;

@@ -1,7 +1,7 @@
-use Rattle.std.proofs.Common.{◌≡◌, ◌∙◌, ◌∷◌, ◌++◌, arith, ap, inl, inr, length, map, refl, slice_get, Some, subst, sym}
+use Rattle.std.proofs.Common.{◌≡◌, ◌∙◌, ◌∷◌, ◌++◌, arith, ap, inl, inr, length, map, None, refl, slice_get, Some, subst, sym}
 use Rattle.age.specs.ArmorReader.{armored_content, furthest_of}
 use Rattle.age_uses.specs.Looks.{AreWithin, IsLook, IsOneOutside}
-use Rattle.age_uses.proofs.Looked.{behind, ended, grown}
+use Rattle.age_uses.proofs.Looked.{behind, ended, grown, quiet_from}
 use Rattle.age_uses.proofs.looks.bytes_at.Goals as goal
 
 pub looks-preserved : goal.looks-preserved
@@ -12,6 +12,7 @@ looks-preserved g c =
     record {
       tells = now.tells ∙ loop.tells;
       steady = now.steady ∙ loop.steady;
+      faults = omega (arith, loop.faults, now.faults);
       further = omega (arith, loop.further, now.learns.further);
       within = λ within. (subst (λ ps. AreWithin (furthest_of c.args.reader.now) ps) front (loop.within within)).1;
       lines = λ told steady noting within.
@@ -49,3 +50,20 @@ returns-then-count-eq0-clause-why g c = inr (inr (inr (
 pub returns-clause-bytes : goal.returns-clause-bytes
 returns-clause-bytes g c = λ told steady.
     ended (armored_content c.args.reader.now).bytes c.args.places.now c.looks.rest.now c.looks.bytes.items c.in_default.ensures.cases (c.looks.invariant.bytes told steady)
+
+pub returns-in-Err-clause-cause : goal.returns-in-Err-clause-cause
+returns-in-Err-clause-cause g c = λ told steady well memory quiet.
+    let loop = c.looks.invariant in
+    let now = c.in-Err.ensures in
+    let sound = ap (λ s. s.ends_well) (loop.content told) ∙ well in
+    let none = now.cause (loop.tells ∙ told) (loop.steady ∙ steady) sound memory (quiet_from loop.faults now.faults quiet) in
+    let bytes = (armored_content c.args.reader.now).bytes in
+    loop.outside (subst (IsOneOutside bytes) (sym c.in-Some.ensures.cases.0) (inl (subst (λ s. slice_get s.bytes c.in-Some.place.now ≡ None) (loop.content told) none)))
+
+pub returns-then-count-eq0-clause-cause : goal.returns-then-count-eq0-clause-cause
+returns-then-count-eq0-clause-cause g c = λ told steady well memory quiet.
+    let loop = c.looks.invariant in
+    let reader = c.args.reader.now in
+    let look = subst (λ s. IsLook s.bytes c.in-Some.place.now c.in-Ok.count c.look.new.byte) (loop.content told) (c.in-Ok.ensures.byte (loop.tells ∙ told) (loop.steady ∙ steady)) in
+    loop.outside (behind (armored_content reader).bytes c.looks.rest.now c.in-Some.tail.now c.in-Some.place.now c.in-Ok.count c.look.new.byte look c.if-count-eq0.true
+    c.in-Some.ensures.cases.0)

@@ -10,6 +10,7 @@ invariant-looks g l =
     record {
       tells : reader.tells (inner_of l.reader) ≡ reader.tells (inner_of l.fn.reader);
       steady : reader.steady (inner_of l.reader) ≡ reader.steady (inner_of l.fn.reader);
+      faults : reader.faults (inner_of l.fn.reader) ≤ reader.faults (inner_of l.reader);
       further : furthest_of l.fn.reader ≤ furthest_of l.reader;
       within : AreWithin (furthest_of l.fn.reader) l.places → AreWithin (furthest_of l.fn.reader) l.rest;
       lines : IsTrue (reader.tells (inner_of l.fn.reader)) → IsTrue (reader.steady (inner_of l.fn.reader)) → IsTrue (notes_all l.reader) →

@@ -2,7 +2,8 @@ use Rattle.std.proofs.Common.{◌∙◌, arith, ap, inr}
 use Rattle.std.proofs.lemmas.Result.{on_ok_weaker, IfErr-weaker}
 use Rattle.age.specs.ArmorReader.{armored_content, armored_rest}
 use Rattle.age.specs.Stretch.{from_place}
-use Rattle.age_uses.proofs.Looked.{look}
+use Rattle.age.specs.Reading.{IsQuiet}
+use Rattle.age_uses.proofs.Looked.{look, quiet_from, refused, sound}
 use Rattle.age_uses.proofs.looks.look.Goals as goal
 
 pub returns-in-Ok-clause-learns : goal.returns-in-Ok-clause-learns
@@ -40,3 +41,16 @@ returns-in-Ok-clause-why g c = IfErr-weaker c.read.result _ _ (λ e why. inr (c.
 pub returns-in-Ok-clause-narrows : goal.returns-in-Ok-clause-narrows
 returns-in-Ok-clause-narrows g c =
     on_ok_weaker c.read.result (λ narrows e why. c.in-Ok.ensures.seeks.narrows e (narrows e why)) c.read.ensures.reads.narrows
+
+pub returns-in-Err-clause-cause : goal.returns-in-Err-clause-cause
+returns-in-Err-clause-cause g c = λ told steady well memory quiet.
+    let seek = c.in-Err.ensures.seeks in
+    refused (armored_content c.args.reader.now).bytes c.args.place c.in-Err.error (seek.refused told well (seek.cause told well memory quiet))
+
+pub returns-in-Ok-clause-cause : goal.returns-in-Ok-clause-cause
+returns-in-Ok-clause-cause g c = λ told steady well.
+    let seek = c.in-Ok.ensures.seeks in
+    let read = c.read.ensures.reads in
+    let at = (seek.moves told steady).1 ∙ ap (λ n. from_place n (armored_content c.args.reader.now)) (seek.leads told) in
+    IfErr-weaker c.read.result _ _ (λ e cause memory quiet. absurd (sound (armored_content c.args.reader.now) (armored_rest c.seek.new.self) c.args.place well at
+    (cause memory (quiet_from seek.no_fewer_faults read.no_fewer_faults quiet)))) (read.cause (seek.same_tells ∙ told))

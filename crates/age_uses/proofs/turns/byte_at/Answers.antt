@@ -2,7 +2,7 @@ use Rattle.std.proofs.Common.{◌≡◌, ◌/◌, ◌∙◌, ap, arith, inl, inr
 use Rattle.age.specs.StreamReader.{payload_of, place_of, content_of, plain_rest_of, HasChunk}
 use Rattle.age.specs.Stretch.{from_place}
 use Rattle.age_uses.proofs.BeforeEnd.{before_end}
-use Rattle.age_uses.proofs.Looked.{found, looked, missing}
+use Rattle.age_uses.proofs.Looked.{found, looked, missing, quiet_from, refused, sound}
 use Rattle.age_uses.proofs.turns.byte_at.Goals as goal
 
 pub returns-else-count-eq0-clause-keeps_last : goal.returns-else-count-eq0-clause-keeps_last
@@ -59,3 +59,30 @@ returns-then-count-eq0-clause-why g c = inr (inr (
 
 pub returns-else-count-eq0-clause-narrows : goal.returns-else-count-eq0-clause-narrows
 returns-else-count-eq0-clause-narrows g c = λ e why. c.in-Ok.ensures.seeks.narrows e (c.in-Ok-read.ensures.reads.narrows e why)
+
+pub returns-in-Err-clause-cause : goal.returns-in-Err-clause-cause
+returns-in-Err-clause-cause g c = λ told steady well memory quiet.
+    let seek = c.in-Err.ensures.seeks in
+    refused (content_of c.args.reader.now).bytes c.args.place c.in-Err.error (seek.refused told well (seek.cause told well memory quiet))
+
+pub returns-in-Err-read-clause-cause : goal.returns-in-Err-read-clause-cause
+returns-in-Err-read-clause-cause g c = λ told steady well memory quiet.
+    let seek = c.in-Ok.ensures.seeks in
+    let read = c.in-Err-read.ensures.reads in
+    let content = content_of c.args.reader.now in
+    let at = (seek.moves told steady).1 ∙ ap (λ n. from_place n content) (seek.leads told) in
+    let fault = read.cause (seek.same_tells ∙ told) memory (quiet_from seek.no_fewer_faults read.no_fewer_faults quiet) in
+    absurd (sound content (plain_rest_of c.seek.new.self) c.args.place well at fault)
+
+pub returns-then-count-eq0-clause-cause : goal.returns-then-count-eq0-clause-cause
+returns-then-count-eq0-clause-cause g c = λ told steady well memory quiet.
+    let seek = c.in-Ok.ensures.seeks in
+    let read = c.in-Ok-read.ensures.reads in
+    let told_then = seek.same_tells ∙ told in
+    let content = content_of c.args.reader.now in
+    let room = c.read.new.buf in
+    let at = (seek.moves told steady).1 ∙ ap (λ n. from_place n content) (seek.leads told) in
+    let one : length room ≡ 1 = omega (arith, c.read.auto.buf) in
+    missing content.bytes c.args.place c.in-Ok-read.count room
+    (looked content (plain_rest_of c.seek.new.self) (plain_rest_of c.read.new.self) c.args.place c.in-Ok-read.count room one read.count at (read.bytes told_then) (read.end told_then))
+    c.if-count-eq0.true

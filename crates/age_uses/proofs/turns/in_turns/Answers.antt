@@ -1,7 +1,8 @@
 use Rattle.std.specs.Prelude.{Result, Ok, Err, IfErr, IsErrAnd}
-use Rattle.std.proofs.Common.{◌≡◌, ◌/◌, ◌∙◌, arith, inl, inr, slice_get, sym, subst, IsTrue, None, Some}
+use Rattle.std.proofs.Common.{◌≡◌, ◌/◌, ◌∙◌, ap, arith, inl, inr, slice_get, sym, subst, IsTrue, None, Some}
 use Rattle.age.specs.StreamReader.{tells_of}
 use Rattle.age_uses.specs.Turns.{HasPlace}
+use Rattle.age_uses.proofs.Looked.{quiet_from}
 use Rattle.age_uses.proofs.turns.in_turns.Goals as goal
 
 -- what holds of the error that is answered
@@ -20,6 +21,7 @@ turns-init g c =
       first = λ told has. two.keeps_last (told_two told) (subst (λ p. HasPlace p c.args.second) (sym (one.payload told)) has) (c.args.first / 65536) (one.uses told);
       second = λ told. two.uses (told_two told);
       same_steady = two.steady ∙ one.steady;
+      more_faults = omega (arith, one.faults, two.faults);
       same_content = λ told. two.content (told_two told) ∙ one.content told;
       bytes = λ told steady. (
         one.byte told steady,
@@ -45,6 +47,7 @@ turns-preserved g c =
       first = λ told has. two.keeps_last (told_two told) (subst (λ p. HasPlace p c.args.second) (sym (same told)) has) (c.args.first / 65536) (one.uses (told_one told));
       second = λ told. two.uses (told_two told);
       same_steady = two.steady ∙ one.steady ∙ kept.same_steady;
+      more_faults = omega (arith, kept.more_faults, one.faults, two.faults);
       same_content = λ told. two.content (told_two told) ∙ one.content (told_one told) ∙ kept.same_content told;
       bytes = λ told steady.
           let content = kept.same_content told in
@@ -106,3 +109,37 @@ returns-in_err-other-2-clause-why g c =
             (end.1 (one.tells ∙ kept.same_tells ∙ told) (one.steady ∙ kept.same_steady ∙ steady))),
       ))
     ])
+
+pub returns-in_err-one-clause-cause : goal.returns-in_err-one-clause-cause
+returns-in_err-one-clause-cause g c = λ told steady well.
+    of_error _ c.from_residual.result c.in_err-one.field-0.0 c.from_residual.ensures.1
+    (λ memory quiet. inl (c.in_err-one.ensures.cause told steady well memory quiet))
+
+pub returns-in_err-other-clause-cause : goal.returns-in_err-other-clause-cause
+returns-in_err-other-clause-cause g c = λ told steady well.
+    let one = c.in_ok-one.ensures in
+    let two = c.in_err-other.ensures in
+    let same = one.content told in
+    of_error _ c.from_residual-in_err-other.result c.in_err-other.field-0.0 c.from_residual-in_err-other.ensures.1
+    (λ memory quiet. inr (subst (λ s. slice_get s.bytes c.args.second ≡ None) same
+    (two.cause (one.tells ∙ told) (one.steady ∙ steady) (ap (λ s. s.ends_well) same ∙ well) memory (quiet_from one.faults two.faults quiet))))
+
+pub returns-in_err-one-2-clause-cause : goal.returns-in_err-one-2-clause-cause
+returns-in_err-one-2-clause-cause g c = λ told steady well.
+    let kept = c.turns.invariant in
+    let one = c.in_err-one-2.ensures in
+    let same = kept.same_content told in
+    of_error _ c.from_residual-in_err-one-2.result c.in_err-one-2.field-0.0 c.from_residual-in_err-one-2.ensures.1
+    (λ memory quiet. inl (subst (λ s. slice_get s.bytes c.args.first ≡ None) same
+    (one.cause (kept.same_tells ∙ told) (kept.same_steady ∙ steady) (ap (λ s. s.ends_well) same ∙ well) memory (quiet_from kept.more_faults one.faults quiet))))
+
+pub returns-in_err-other-2-clause-cause : goal.returns-in_err-other-2-clause-cause
+returns-in_err-other-2-clause-cause g c = λ told steady well.
+    let kept = c.turns.invariant in
+    let one = c.in_ok-one-2.ensures in
+    let two = c.in_err-other-2.ensures in
+    let same = one.content (kept.same_tells ∙ told) ∙ kept.same_content told in
+    of_error _ c.from_residual-in_err-other-2.result c.in_err-other-2.field-0.0 c.from_residual-in_err-other-2.ensures.1
+    (λ memory quiet. inr (subst (λ s. slice_get s.bytes c.args.second ≡ None) same
+    (two.cause (one.tells ∙ kept.same_tells ∙ told) (one.steady ∙ kept.same_steady ∙ steady) (ap (λ s. s.ends_well) same ∙ well) memory
+    (quiet_from one.faults two.faults (quiet_from kept.more_faults (omega (arith, one.faults, two.faults)) quiet)))))
