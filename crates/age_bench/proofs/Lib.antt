@@ -6,3 +6,7 @@ pub mod BothForms
 pub mod Answered
 pub mod BenchFiles
 pub mod NamedPairs
+pub mod Hex
+pub mod Words
+pub mod Numbers
+pub mod Keys

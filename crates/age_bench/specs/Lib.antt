@@ -4,3 +4,5 @@ pub mod Recipient
 pub mod Names
 pub mod FileLaws
 pub mod Files
+pub mod Command
+pub mod Decimal

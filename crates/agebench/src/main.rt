@@ -4,11 +4,11 @@
 use age::draw::Draw;
 use age::io::{Error, Std};
 use age::streaming::FileError;
+use age_bench::command::{Command, parse};
 use age_bench::file::{decrypt_with, encrypt_to};
 use age_bench::keygen::keygen;
 use age_bench::part::at_with;
 use age_bench::payload::{open_all, seal_all};
-use agebench_command::command::{Command, parse};
 use std::process::ExitCode;
 use std::{env, io};
 

@@ -1,4 +1,0 @@
-pub mod Hex
-pub mod Words
-pub mod Numbers
-pub mod Keys

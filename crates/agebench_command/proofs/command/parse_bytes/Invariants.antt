@@ -1,8 +1,0 @@
-use Rattle.std.proofs.Common.{◌≡◌, ◌*◌, drop}
-use Rattle.agebench_command.specs.Command.{bytes_of}
-use Rattle.agebench_command.proofs.Hex.{prepended}
-use Rattle.agebench_command.proofs.command.parse_bytes.Given as goal
-
--- the text writes the bytes so far, and then what the rest of it writes
-abbrev pub invariant-loop-i : goal.invariant-loop-i
-invariant-loop-i l = bytes_of l.text ≡ prepended l.bytes.items (bytes_of (drop (2 * l.i) l.text))

@@ -1,0 +1,135 @@
+//! Command lines of the synopsis.
+
+use crate::sazh_words::answers::{all_ask, answer_of};
+use std::test::Fail;
+
+#[test]
+fn keygen(rt: HostRuntime) -> Result<(), Fail> {
+    all_ask(
+        &rt,
+        rt.alloc(),
+        r#"
+keygen => Ok(Keygen { output: Output { name: "-", overwrite: false } })
+keygen -f => Ok(Keygen { output: Output { name: "-", overwrite: true } })
+keygen -o key => Ok(Keygen { output: Output { name: "key", overwrite: false } })
+keygen -o key -f => Ok(Keygen { output: Output { name: "key", overwrite: true } })
+keygen -f -o key -f => Ok(Keygen { output: Output { name: "key", overwrite: true } })
+keygen -o - => Ok(Keygen { output: Output { name: "-", overwrite: false } })
+keygen -- => Ok(Keygen { output: Output { name: "-", overwrite: false } })
+"#,
+    )
+}
+
+#[test]
+fn encrypt_to_recipients(rt: HostRuntime) -> Result<(), Fail> {
+    all_ask(
+        &rt,
+        rt.alloc(),
+        r#"
+encrypt -r age1a => Ok(Encrypt { recipients: Listed([Text("age1a")]), armored: false, input: "-", output: Output { name: "-", overwrite: false } })
+encrypt -R team plain => Ok(Encrypt { recipients: Listed([File("team")]), armored: false, input: "plain", output: Output { name: "-", overwrite: false } })
+encrypt -r age1a -a -f -o file plain => Ok(Encrypt { recipients: Listed([Text("age1a")]), armored: true, input: "plain", output: Output { name: "file", overwrite: true } })
+encrypt plain -o file -a -a -r age1a - => Err(ExtraOperand("-"))
+encrypt - -f -r age1a => Ok(Encrypt { recipients: Listed([Text("age1a")]), armored: false, input: "-", output: Output { name: "-", overwrite: true } })
+"#,
+    )
+}
+
+#[test]
+fn recipients_stay_in_order(rt: HostRuntime) -> Result<(), Fail> {
+    all_ask(
+        &rt,
+        rt.alloc(),
+        r#"
+encrypt -r b -R c -r a -r b in -R a => Ok(Encrypt { recipients: Listed([Text("b"), File("c"), Text("a"), Text("b"), File("a")]), armored: false, input: "in", output: Output { name: "-", overwrite: false } })
+encrypt -R c -r b => Ok(Encrypt { recipients: Listed([File("c"), Text("b")]), armored: false, input: "-", output: Output { name: "-", overwrite: false } })
+"#,
+    )
+}
+
+#[test]
+fn encrypt_to_a_passphrase(rt: HostRuntime) -> Result<(), Fail> {
+    all_ask(
+        &rt,
+        rt.alloc(),
+        r#"
+encrypt -p secret => Ok(Encrypt { recipients: PassphraseFile("secret"), armored: false, input: "-", output: Output { name: "-", overwrite: false } })
+encrypt -a plain -o file -p secret => Ok(Encrypt { recipients: PassphraseFile("secret"), armored: true, input: "plain", output: Output { name: "file", overwrite: false } })
+"#,
+    )
+}
+
+#[test]
+fn decrypt(rt: HostRuntime) -> Result<(), Fail> {
+    all_ask(
+        &rt,
+        rt.alloc(),
+        r#"
+decrypt -i key => Ok(Decrypt { identities: Files(["key"]), input: "-", output: Output { name: "-", overwrite: false } })
+decrypt -i b file -i a -f -o plain => Ok(Decrypt { identities: Files(["b", "a"]), input: "file", output: Output { name: "plain", overwrite: true } })
+decrypt -i b -p secret -i a file => Ok(Decrypt { identities: ProtectedFiles(["b", "a"], "secret"), input: "file", output: Output { name: "-", overwrite: false } })
+decrypt -p secret - => Ok(Decrypt { identities: PassphraseFile("secret"), input: "-", output: Output { name: "-", overwrite: false } })
+"#,
+    )
+}
+
+#[test]
+fn part(rt: HostRuntime) -> Result<(), Fail> {
+    all_ask(
+        &rt,
+        rt.alloc(),
+        r#"
+part -i key 7 20 file => Ok(Part { identities: Files(["key"]), place: 7, count: 20, input: "file" })
+part 7 -i b 20 -i a - => Ok(Part { identities: Files(["b", "a"]), place: 7, count: 20, input: "-" })
+part -p secret -i key 7 20 file => Ok(Part { identities: ProtectedFiles(["key"], "secret"), place: 7, count: 20, input: "file" })
+part 0 18446744073709551615 file -p secret => Ok(Part { identities: PassphraseFile("secret"), place: 0, count: 18446744073709551615, input: "file" })
+"#,
+    )
+}
+
+#[test]
+fn version(rt: HostRuntime) -> Result<(), Fail> {
+    all_ask(
+        &rt,
+        rt.alloc(),
+        r#"
+--version => Ok(Version)
+--version -- => Ok(Version)
+--version --version => Err(UnknownOption("--version"))
+--version plain => Err(ExtraOperand("plain"))
+"#,
+    )
+}
+
+// What follows `--` are operands, and what follows an option that takes a value is its value, whatever it is.
+#[test]
+fn words_that_begin_with_a_dash(rt: HostRuntime) -> Result<(), Fail> {
+    all_ask(
+        &rt,
+        rt.alloc(),
+        r#"
+encrypt -r a -- -a => Ok(Encrypt { recipients: Listed([Text("a")]), armored: false, input: "-a", output: Output { name: "-", overwrite: false } })
+encrypt -r a -- -- => Ok(Encrypt { recipients: Listed([Text("a")]), armored: false, input: "--", output: Output { name: "-", overwrite: false } })
+encrypt -r -r -o -- -R -a -- => Ok(Encrypt { recipients: Listed([Text("-r"), File("-a")]), armored: false, input: "-", output: Output { name: "--", overwrite: false } })
+decrypt -i -i -i - -o -f => Ok(Decrypt { identities: Files(["-i", "-"]), input: "-", output: Output { name: "-f", overwrite: false } })
+part -p -p -- 1 2 -o => Ok(Part { identities: PassphraseFile("-p"), place: 1, count: 2, input: "-o" })
+part -p -p -- 1 -2 -o => Err(NotANumber(Count, "-2"))
+"#,
+    )
+}
+
+// An empty word is a value or an operand as any other.
+#[test]
+fn empty_words(rt: HostRuntime) -> Result<(), Fail> {
+    let alloc = rt.alloc();
+    let mut words = Vec::new(alloc);
+    for word in ["encrypt", "-r", "", "", "-o", ""] {
+        words.push(String::from_str(alloc, word)?)?;
+    }
+    let answer = answer_of(alloc, &words)?;
+    assert!(rt;
+        answer.as_str()
+            == r#"Ok(Encrypt { recipients: Listed([Text("")]), armored: false, input: "", output: Output { name: "", overwrite: false } })"#
+    );
+    Ok(())
+}
