@@ -1,5 +1,6 @@
 -- A text carries at most one list of bytes, and its armor carries it.
-use Rattle.std.proofs.Common.{◌≡◌, ℕ, suc, zero, ◌/◌, ◌⊎◌, inl, inr, List, [], ◌∷◌, ◌++◌, length, take, drop, refl, ap, sym, arith, append_assoc, subst, ◌∙◌}
+use Rattle.std.proofs.Common.{◌≡◌, ◌≢◌, ℕ, suc, zero, ◌/◌, ◌⊎◌, inl, inr, List, [], ◌∷◌, ◌++◌, length, take, drop, refl, ap, sym, arith, append_assoc, subst}
+use Rattle.std.proofs.Common.{◌∙◌}
 use Rattle.std.proofs.lemmas.List.{append-nil, take-append-drop}
 use Rattle.std.specs.List.{AllByRecursion, flat_map, concat}
 use Rattle.age_error.specs.Bytes.{AreBytes}
@@ -70,20 +71,18 @@ pub lacks_feed : (l k : List ℕ) → Lacks 10 l → (k ≡ l) ⊎ (k ≡ l ++ 1
 lacks_feed l k h (inl e) = subst (Lacks 10) (sym e) h
 lacks_feed l k h (inr e) = subst (Lacks 10) (sym e) (Lacks-append 10 l (13 ∷ []) h (λ x. omega arith, tt))
 
--- a line without a hyphen, ended, doesn't begin with one
-no_hyphen : (l k rest : List ℕ) → Lacks 45 l → (k ≡ l) ⊎ (k ≡ l ++ 13 ∷ []) → (u v : List ℕ) → k ++ 10 ∷ u ≡ 45 ∷ v → ⊥
-no_hyphen l k rest h c u v e = elim c [
-  | inl a ↦ start l u h (ap (λ x. x ++ 10 ∷ u) (sym a) ∙ e)
-  | inr a ↦ start_cr l u h (ap (λ x. x ++ 10 ∷ u) (sym a) ∙ e)
-]
-  where
-    start : (l u : List ℕ) → Lacks 45 l → l ++ 10 ∷ u ≡ 45 ∷ v → ⊥
-    start [] u h e = let bad : 10 ∷ u ≡ 45 ∷ v = e in cc
-    start (c ∷ l) u h e = let same : c ≡ 45 = cc in h.0 same
+first_same : (x y : ℕ) (xs ys : List ℕ) → x ∷ xs ≡ y ∷ ys → x ≡ y
+first_same x y xs ys e = cc
 
-    start_cr : (l u : List ℕ) → Lacks 45 l → (l ++ 13 ∷ []) ++ 10 ∷ u ≡ 45 ∷ v → ⊥
-    start_cr [] u h e = let bad : 13 ∷ (10 ∷ u) ≡ 45 ∷ v = e in cc
-    start_cr (c ∷ l) u h e = let same : c ≡ 45 = cc in h.0 same
+other_first : (l u v : List ℕ) (x : ℕ) → x ≢ 45 → Lacks 45 l → l ++ x ∷ u ≡ 45 ∷ v → ⊥
+other_first [] u v x other h e = other (first_same x 45 u v e)
+other_first (y ∷ l) u v x other h e = h.0 (first_same y 45 (l ++ x ∷ u) v e)
+
+-- a line without a hyphen, ended, doesn't begin with one
+no_hyphen : (l k : List ℕ) → Lacks 45 l → (k ≡ l) ⊎ (k ≡ l ++ 13 ∷ []) → (u v : List ℕ) → k ++ 10 ∷ u ≡ 45 ∷ v → ⊥
+no_hyphen l k h (inl a) u v e = other_first l u v 10 (λ x. omega arith) h (ap (λ x. x ++ 10 ∷ u) (sym a) ∙ e)
+no_hyphen l k h (inr a) u v e =
+    other_first l (10 ∷ u) v 13 (λ x. omega arith) h (sym (append_assoc l (13 ∷ []) (10 ∷ u)) ∙ ap (λ x. x ++ 10 ∷ u) (sym a) ∙ e)
 
 pub record AreLines (ls : List (List ℕ)) : Type 0 where
   pub feeds : AllByRecursion (Lacks 10) ls
@@ -99,11 +98,11 @@ same_lines [] [] a b u v u' v' hl hm ha hb eu ev e = refl
 same_lines [] (m ∷ ms) a b u v u' v' hl hm ha (first, rest, parts, here, more) eu ev e =
     let f = up_to_feed m first here in
     let g : f.0 ++ 10 ∷ (rest ++ v) ≡ 45 ∷ u' = sym (regroup f.0 rest v) ∙ ap (λ x. (x ++ rest) ++ v) (sym f.1) ∙ ap (λ x. x ++ v) (sym parts) ∙ sym e ∙ ap (λ x. x ++ u) ha ∙ eu in
-    absurd (no_hyphen m f.0 [] hm.hyphens.0 f.2 (rest ++ v) u' g)
+    absurd (no_hyphen m f.0 hm.hyphens.0 f.2 (rest ++ v) u' g)
 same_lines (l ∷ ls) [] a b u v u' v' hl hm (first, rest, parts, here, more) hb eu ev e =
     let f = up_to_feed l first here in
     let g : f.0 ++ 10 ∷ (rest ++ u) ≡ 45 ∷ v' = sym (regroup f.0 rest u) ∙ ap (λ x. (x ++ rest) ++ u) (sym f.1) ∙ ap (λ x. x ++ u) (sym parts) ∙ e ∙ ap (λ x. x ++ v) hb ∙ ev in
-    absurd (no_hyphen l f.0 [] hl.hyphens.0 f.2 (rest ++ u) v' g)
+    absurd (no_hyphen l f.0 hl.hyphens.0 f.2 (rest ++ u) v' g)
 same_lines (l ∷ ls) (m ∷ ms) a b u v u' v' hl hm (first, rest, parts, here, more) (first', rest', parts', here', more') eu ev e =
     let f = up_to_feed l first here in
     let g = up_to_feed m first' here' in
@@ -113,7 +112,7 @@ same_lines (l ∷ ls) (m ∷ ms) a b u v u' v' hl hm (first, rest, parts, here, 
     let one : l ≡ m = same_line l m f.0 g.0 hl.returns.0 hm.returns.0 f.2 g.2 s.0 in
     let others : ls ≡ ms = same_lines ls ms rest rest' u v u' v'
     (record { feeds = hl.feeds.1; returns = hl.returns.1; hyphens = hl.hyphens.1 }) (record { feeds = hm.feeds.1; returns = hm.returns.1; hyphens = hm.hyphens.1 }) more more' eu ev s.1 in
-    cc
+    ap (λ x. x ∷ ls) one ∙ ap (λ xs. m ∷ xs) others
 
 end_start : (t : List ℕ) → IsEnd t → (rest : List ℕ) × (t ≡ 45 ∷ rest)
 end_start t (inl e) = (_, e)

@@ -1,14 +1,14 @@
 -- Why reading a text refuses, over a step.
-use Rattle.std.proofs.Common.{◌≡◌, ◌≢◌, ◌⊎◌, ◌∙◌, ◌-◌, ◌≤◌, ℕ, Bool, IsTrue, Ok, Err, Result, inl, inr, refl, sym, ap, subst, arith}
+use Rattle.std.proofs.Common.{◌≡◌, ◌≢◌, ◌⊎◌, ◌∙◌, ◌-◌, ◌≤◌, ◌<◌, ℕ, Bool, IsTrue, Ok, Err, Result, inl, inr, refl, sym, ap, subst, arith}
 use Rattle.std.proofs.lemmas.Bool.{true≢false}
 use Rattle.age_error.specs.Refusals.{IsDevice, IsInterruption}
 use Rattle.age_error.specs.declared.io.Error.{Error}
 use Rattle.age_error.specs.declared.io.Error.TheVariants.{Device, UnexpectedEof, TooLong, Armor, OutOfMemory, Failed}
 use Rattle.age_error.specs.declared.io.ErrorKind.TheVariants.{Interrupted}
-use Rattle.age_io.specs.Reading.{AddsNoReason, TriedAgain, StandsIn}
+use Rattle.age_io.specs.Reading.{AddsNoReason, TriedAgain, StandsIn, most_faults}
 use Rattle.age_io.specs.Keeping.{SameReader}
 use Rattle.age_io.specs.declared.traits.Read.{Ghosts}
-use Rattle.age_io.proofs.Keeping.{keeps-later, keeps-refused}
+use Rattle.age_io.proofs.Keeping.{keeps-done, keeps-later, keeps-refused, same-self}
 use Rattle.age_armor.specs.Counting.{Kept}
 use Rattle.age_armor.specs.Refusing.{IsTextRefusal, OrText}
 
@@ -68,6 +68,15 @@ module _ {R : Type 0} (read : Ghosts R) where
   pub kept-later : {A B : Type 0} {x : A} (result : Result B Error) (a b c : R) (k l m : ℕ) → Kept read a k b l (Ok x) → Kept read b l c m result →
       Kept read a k c m result
   kept-later result a b c k l m first second = kept-on result a b c k l m first.keeps.same first.keeps.narrows first.origin first.more second
+
+  -- no step
+  pub kept-still : {A : Type 0} (x : A) (a : R) (k : ℕ) → read.faults a < most_faults → Kept read a k a k (Ok x)
+  kept-still x a k few = record {
+    keeps = keeps-done read (OrText read) a a (same-self read a) (λ e h. h);
+    unspent = few;
+    origin = λ told. refl;
+    more = λ told. omega arith;
+  }
 
   -- the same answer by another name
   pub kept-as : {A B : Type 0} {x : A} {y : B} (a b : R) (k l : ℕ) → Kept read a k b l (Ok x) → Kept read a k b l (Ok y)

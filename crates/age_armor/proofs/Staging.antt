@@ -126,6 +126,9 @@ detects_bad_next front old mid new b size d some begins no_lf next other =
 
 -- ---- a line
 
+pub found_none : (before after : Outcome) (count : ℕ) (bytes : List ℕ) → Advances before (take count bytes) after → count ≡ 0 → before ≡ after
+found_none before after count bytes on none = rw none at on.same
+
 pub line_step : (s : Bool) (raw : List ℕ) (old mid : Stretch) → TakesLine raw old mid → 0 < length raw → section s (raw_lines old.bytes) old.ends_well
     ≡ after_line (verdict s raw) (section (is_short (line_columns raw)) (raw_lines mid.bytes) mid.ends_well) (trailing mid.bytes mid.ends_well)
 line_step s raw old mid t some = rw (t.first some, t.whole some, ← t.end, concat_raw mid.bytes) refl
@@ -141,6 +144,11 @@ line_trails s raw old mid e t some v named = stops_of _ _ (trailing mid.bytes mi
 pub line_refuses : (s : Bool) (raw : List ℕ) (old mid : Stretch) (e : Error) (f : _) → TakesLine raw old mid → 0 < length raw → verdict s raw ≡ Refuses f → e ≡ Armor f →
     Stops (section s (raw_lines old.bytes) old.ends_well) e
 line_refuses s raw old mid e f t some v named = stops_of _ _ (Refused (Armor f)) (line_step s raw old mid t some ∙ rw v refl) named
+
+pub line_holds : (s short : Bool) (raw b : List ℕ) (old mid : Stretch) → TakesLine raw old mid → 0 < length raw →
+    verdict s raw ≡ Holds b → short ≡ is_short (line_columns raw) →
+    Advances (section s (raw_lines old.bytes) old.ends_well) b (section short (raw_lines mid.bytes) mid.ends_well)
+line_holds s short raw b old mid t some v is = record { same = line_step s raw old mid t some ∙ rw (v, is) refl }
 
 pub holds_some : (s : Bool) (raw b : List ℕ) → verdict s raw ≡ Holds b → 0 < length b
 holds_some s raw [] v =

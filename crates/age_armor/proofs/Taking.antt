@@ -1,7 +1,9 @@
 -- Lines that are taken from a reader.
-use Rattle.std.proofs.Common.{◌≡◌, ℕ, ◌≤◌, ◌<◌, Bool, true, false, List, [], ◌∷◌, ◌++◌, length, refl, ap, sym, arith, ◌∙◌, append_assoc, length-append}
+use Rattle.std.proofs.Common.{◌≡◌, ℕ, suc, zero, ◌+◌, ◌≤◌, ◌<◌, Bool, true, false, List, [], ◌∷◌, ◌++◌, length, take, refl, ap, sym, subst, arith, ◌∙◌}
+use Rattle.std.proofs.Common.{append_assoc, length-append}
 use Rattle.std.proofs.lemmas.Bool.{or_left, or_right, and_parts, true≢false, cases_Bool}
 use Rattle.std.proofs.lemmas.List.{append-nil}
+use Rattle.std.proofs.Math.Seq.{take-length}
 use Rattle.std.specs.List.{list_all}
 use Rattle.std.proofs.Common.{inl, inr}
 use Rattle.age_error.specs.declared.io.Error.TheVariants.{Armor}
@@ -12,9 +14,11 @@ use Rattle.age_base64.specs.Lines.{Lacks, line as ended}
 use Rattle.age_base64.proofs.Lines.{Lacks-append}
 use Rattle.age_armor.specs.LineVerdict.{last_is}
 use Rattle.age_armor.specs.Delivered.{raw_lines, section, ends, InnerFault}
-use Rattle.age_armor.specs.Counting.{TakesLine, IsCutShort}
+use Rattle.age_armor.specs.Counting.{TakesLine, IsCutShort, one_line_more}
 use Rattle.age_armor.specs.Delivered.{Refused, is_space, trailing}
 use Rattle.age_armor.specs.Stages.{IsNamed}
+use Rattle.age_armor.specs.Showing.{IsLineEnd, TakesRun}
+use Rattle.age_armor.specs.declared.showing.Run.TheVariants.{Open, Ended}
 use Rattle.age_armor.proofs.RawLines.{raw_lines_ended, raw_lines_last, last_lacks, last_is_end}
 
 pub cut_short : (line : List ℕ) (old mid : Stretch) → Lacks 10 line → Delivers line old mid → IsFault mid → IsCutShort old
@@ -100,3 +104,36 @@ taken_run before after old mid new lacks d t =
     let first : Delivers (before ++ run) old cut = record { bytes = whole; end = t.2.end ∙ d.end } in
     let next : Delivers (10 ∷ []) cut new = record { bytes = refl; end = refl } in
     taken_line (before ++ run) after old cut new (Lacks-append 10 before run lacks t.3) first next (t.1 ∙ sym (append_assoc before run (10 ∷ [])))
+
+-- a run of what is shown was appended and consumed: all up to the first LF, and all where there is none
+pub appended_line : (at : ℕ) (front shown before after : List ℕ) (old mid new : Stretch) → IsLineEnd at front → shown ≡ front → mid ≡ old →
+    after ≡ before ++ take (at + 1) front → Delivers (take (at + 1) shown) mid new → TakesRun Ended before after old new
+appended_line at front shown before after old mid new end same stays grown bytes =
+    let to_feed : Delivers (take (at + 1) front) old new =
+    subst (λ s. Delivers (take (at + 1) front) s new) stays (subst (λ xs. Delivers (take (at + 1) xs) mid new) same bytes) in
+    (take at front, grown ∙ ap (λ xs. before ++ xs) end.same, subst (λ xs. Delivers xs old new) end.same to_feed, end.before)
+
+pub appended_all : (front shown before after : List ℕ) (old mid new : Stretch) → Lacks 10 front → shown ≡ front → mid ≡ old →
+    after ≡ before ++ front → Delivers (take (length front) shown) mid new → TakesRun Open before after old new
+appended_all front shown before after old mid new lacks same stays grown bytes =
+    let all : Delivers (take (length front) front) old new =
+    subst (λ s. Delivers (take (length front) front) s new) stays (subst (λ xs. Delivers (take (length front) xs) mid new) same bytes) in
+    (front, grown, subst (λ xs. Delivers xs old new) (take-length front) all, lacks)
+
+pub moved_by : (size now mid new : ℕ) (before run after : List ℕ) → after ≡ before ++ run → length run ≡ size → mid ≡ now → new ≡ mid + size →
+    new + length before ≡ now + length after
+moved_by size now mid new before run after grown long stays moves = omega (arith, long, stays, moves, ap length grown ∙ length-append before run)
+
+-- a line was taken, or none at the end, and nothing after it
+pub counts_once : (size old new last : ℕ) → old ≤ new → (0 < size → new ≡ one_line_more old) →
+    (size ≡ 0 → new ≡ old) → last ≡ new → (old ≤ last) × (last ≤ old + 1)
+counts_once zero old new last on some none same = (omega (arith, same, on), omega (arith, same, none refl))
+counts_once (suc n) old new last on some none same = (omega (arith, same, on), omega (arith, same, some (omega arith)))
+
+-- a part of a line was appended to what was taken of it
+pub run_on : (before after : List ℕ) (old mid new : Stretch) → Lacks 10 before → Delivers before old mid → TakesRun Open before after mid new →
+    Lacks 10 after × Delivers after old new
+run_on before after old mid new lacks d (run, grown, more, none) = rw grown (
+  Lacks-append 10 before run lacks none,
+  record { bytes = d.bytes ∙ ap (λ xs. before ++ xs) more.bytes ∙ sym (append_assoc before run new.bytes); end = more.end ∙ d.end },
+)

@@ -47,14 +47,16 @@ module _ {S : Type 0} (read : Ghosts S) {W : Type 0} (writer_tells : W → Bool)
       (sym delivered.end ∙ clean.ends_well, subst (λ l. appended before l after) (sym all) (so_far.out writer_told))
 
   -- the reader stands at its end, once a read gave nothing
-  pub copied-stands : (old between new : S) (before after : W) (buf : List ℕ) → IsCopied old between before after →
-      Reads read.tells read.steady read.content read.place read.rest read.faults (TriedAgain read.refuses) between new buf (Ok 0) → 0 < length buf →
+  pub copied-stands : (old between new : S) (before after : W) (buf : List ℕ) (n : ℕ) → n ≡ 0 → IsCopied old between before after →
+      Reads read.tells read.steady read.content read.place read.rest read.faults (TriedAgain read.refuses) between new buf (Ok n) → 0 < length buf →
       GivesInAll read.tells read.steady read.content read.place read.rest read.faults (TriedAgain read.refuses) old new (read.rest old).bytes
-  copied-stands old between new before after buf so_far r some =
-      gives-same read.tells read.steady read.content read.place read.rest read.faults (TriedAgain read.refuses) old new (so_far.front ++ take 0 buf) (read.rest old).bytes
-      (λ told. sym ((so_far.gives.bytes told).bytes
-      ∙ ap (λ l. so_far.front ++ l) (r.end (so_far.gives.same_tells ∙ told) refl some).bytes))
-      (gives-more read.tells read.steady read.content read.place read.rest read.faults (TriedAgain read.refuses) old between new so_far.front buf 0 so_far.gives r)
+  copied-stands old between new before after buf n none so_far r some =
+      gives-same read.tells read.steady read.content read.place read.rest read.faults (TriedAgain read.refuses) old new (so_far.front ++ take n buf)
+      (read.rest old).bytes
+      (λ told. ap (λ k. so_far.front ++ take k buf) none ∙ sym ((so_far.gives.bytes told).bytes
+      ∙ ap (λ l. so_far.front ++ l) (r.end (so_far.gives.same_tells ∙ told) none some).bytes))
+      (gives-more read.tells read.steady read.content read.place read.rest read.faults (TriedAgain read.refuses) old between new so_far.front buf n
+      so_far.gives r)
 
   module _ (Holds : List ℕ → Type 0) where
     -- where the reader is left if nothing was read
@@ -67,6 +69,18 @@ module _ {S : Type 0} (read : Ghosts S) {W : Type 0} (writer_tells : W → Bool)
       same = same-self read s;
       gave = λ told. record { middle = read.rest s; delivered = record { bytes = refl; end = refl }; left = inl refl };
       moves = λ told. omega arith;
+    }
+
+    -- where it is left between two pieces
+    pub left-between : (old new : S) (before after : W) (so_far : IsCopied old new before after) → Holds so_far.front →
+        CopiesFront read writer_tells appended Holds old new before after
+    left-between old new before after so_far holds = record {
+      given = so_far.front;
+      holds = holds;
+      appends = λ told. record { front = so_far.front; after = []; joined = sym (append-nil so_far.front); out = so_far.out told };
+      same = same-given read old new so_far.gives;
+      gave = λ told. record { middle = read.rest new; delivered = so_far.gives.bytes told; left = inl refl };
+      moves = so_far.gives.moves;
     }
 
     -- where it is left by a read that refused

@@ -77,3 +77,18 @@ follows-filled content rest new place front stands d some =
           let gone : [] ≡ front ++ new.bytes = sym (ap (λ s. s.bytes) e) ∙ d.bytes in
           absurd (omega (arith, simp length-append at (ap length gone)))
     ]
+
+-- where nothing is held, the rest is that of the inner reader
+pub rest-empty : (buffer : List ℕ) (given filled : ℕ) (rest : Stretch) → given ≡ filled → rest_behind false (held buffer given filled) rest ≡ rest
+rest-empty buffer given filled rest none =
+    let split : filled ≡ given + 0 = omega (arith, none) in
+    let nothing : held buffer given filled ≡ [] = ap (λ n. drop given (take n buffer)) split ∙ drop-take given 0 buffer in
+    stretch-ext (rest_behind false (held buffer given filled) rest) rest (ap (λ xs. xs ++ rest.bytes) nothing) refl
+
+-- the rest stays where a reader that holds nothing stays as failed as it was
+pub kept-behind : (failed now : Bool) (front buffer : List ℕ) (given filled : ℕ) (rest new : Stretch) → given ≡ filled → now ≡ failed →
+    (failed ≡ false → new ≡ rest_behind failed front rest) → rest_behind now (held buffer given filled) new ≡ rest_behind failed front rest
+kept-behind true true front buffer given filled rest new none same good = refl
+kept-behind false false front buffer given filled rest new none same good = rest-empty buffer given filled new none ∙ good refl
+kept-behind true false front buffer given filled rest new none same good = absurd (Prim.cc)
+kept-behind false true front buffer given filled rest new none same good = absurd (Prim.cc)

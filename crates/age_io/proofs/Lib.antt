@@ -1,3 +1,6 @@
+pub mod Exiting
+pub mod Stopping
+pub mod Asking
 pub mod Appending
 pub mod Delivering
 pub mod Retrying

@@ -68,14 +68,18 @@ module _ {S : Type 0} (read : Ghosts S) {W : Type 0} (writer_tells : W → Bool)
       )
 
   -- the reader stands behind what the count asks for, once a read gave nothing at a clean end
-  pub part-stands : (count left : ℕ) (old between new : S) (before after : W) (buf : List ℕ) →
-      IsPartCopied count left old between before after → Reads read.tells read.steady read.content read.place read.rest read.faults (TriedAgain read.refuses) between new buf (Ok 0) → 0 < length buf →
+  pub part-stands : (count left : ℕ) (old between new : S) (before after : W) (buf : List ℕ) (n : ℕ) → n ≡ 0 →
+      IsPartCopied count left old between before after → Reads read.tells read.steady read.content read.place read.rest read.faults
+      (TriedAgain read.refuses) between new buf (Ok n) → 0 < length buf →
       GivesInAll read.tells read.steady read.content read.place read.rest read.faults (TriedAgain read.refuses) old new (take count (read.rest old).bytes)
-  part-stands count left old between new before after buf so_far r some =
-      let all = gives-more read.tells read.steady read.content read.place read.rest read.faults (TriedAgain read.refuses) old between new so_far.front buf 0 so_far.gives r in
-      gives-same read.tells read.steady read.content read.place read.rest read.faults (TriedAgain read.refuses) old new (so_far.front ++ take 0 buf) (take count (read.rest old).bytes)
-      (λ told. append-nil so_far.front ∙ sym (part_ended count left (read.rest old) (read.rest between) so_far.front so_far.budget (so_far.gives.bytes told)
-      (r.end (so_far.gives.same_tells ∙ told) refl some)))
+  part-stands count left old between new before after buf n none so_far r some =
+      let all = gives-more read.tells read.steady read.content read.place read.rest read.faults (TriedAgain read.refuses) old between new so_far.front buf n
+      so_far.gives r in
+      gives-same read.tells read.steady read.content read.place read.rest read.faults (TriedAgain read.refuses) old new (so_far.front ++ take n buf)
+      (take count (read.rest old).bytes)
+      (λ told. ap (λ k. so_far.front ++ take k buf) none ∙ append-nil so_far.front ∙ sym
+      (part_ended count left (read.rest old) (read.rest between) so_far.front so_far.budget (so_far.gives.bytes told)
+      (r.end (so_far.gives.same_tells ∙ told) none some)))
       all
 
   -- and so it does where none of the count is left

@@ -4,6 +4,7 @@ use Rattle.std.specs.List.{starts_with}
 use Rattle.std.proofs.lemmas.Grind.{common_steps}
 use Rattle.std.proofs.lemmas.List.{take_at}
 use Rattle.age_armor.specs.Armor.{begin_marker}
+use Rattle.age_armor.proofs.Refusing.{kept-as, kept-error, kept-refused, kept-still}
 use Rattle.age_armor.proofs.Staging.{finds_form, detects_binary, detects_lf, detects_crlf, detects_bad, detects_bad_next, advances_none, one_of}
 use Rattle.age_armor.proofs.stages.after_front.Goals as goal
 
@@ -70,3 +71,21 @@ pub returns-clause-form : goal.returns-clause-form
 returns-clause-form g c = λ told all d some.
     let marker : starts_with nat_eq c.args.front.now begin_marker ≡ true = sym c.starts_with.ensures.value ∙ c.if-not-starts_with.false in
     finds_form c.args.front.now all (g.R.Read.rest c.args.source.now.inner) true c.told-front d some marker
+
+pub returns-in-Err-clause-kept : goal.returns-in-Err-clause-kept
+returns-in-Err-clause-kept g c = kept-error _ _ _ _ _ c.in-Err.e c.in-Err.ensures.kept
+
+pub returns-in-Ok-false-clause-kept : goal.returns-in-Ok-false-clause-kept
+returns-in-Ok-false-clause-kept g c = kept-refused _ _ _ _ _ _ c.in-Ok-false.ensures.kept (λ is. is) tt
+
+pub returns-then-next-ne10-clause-kept : goal.returns-then-next-ne10-clause-kept
+returns-then-next-ne10-clause-kept g c = kept-refused _ _ _ _ _ _ c.in-Ok-true.ensures.kept (λ is. is) tt
+
+pub returns-clause-kept : goal.returns-clause-kept
+returns-clause-kept g c = kept-as _ _ _ _ _ c.in-Ok-true.ensures.kept
+
+pub returns-then-not-starts_with-clause-kept : goal.returns-then-not-starts_with-clause-kept
+returns-then-not-starts_with-clause-kept g c = kept-still g.R.Read _ c.args.source.now.inner c.args.source.now.taken c.requires
+
+pub returns-then-last-eq10-clause-kept : goal.returns-then-last-eq10-clause-kept
+returns-then-last-eq10-clause-kept g c = kept-still g.R.Read _ c.args.source.now.inner c.args.source.now.taken c.requires

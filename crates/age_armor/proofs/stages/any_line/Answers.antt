@@ -1,8 +1,8 @@
 use Rattle.std.proofs.Common.{◌≡◌, ◌∙◌, arith, false, refl, sym}
 use Rattle.std.proofs.lemmas.Bool.{eqb-false, eqb-true}
-use Rattle.age_armor.proofs.Staging.{advances_none, cut_line, empty_line, held_full, holds_count, line_ends, line_refuses, line_trails}
-use Rattle.age_armor.proofs.Refusing.{kept-later, kept-as, kept-error}
-use Rattle.age_armor.proofs.Taking.{quiet_after}
+use Rattle.age_armor.proofs.Staging.{advances_none, cut_line, empty_line, held_full, holds_count, line_ends, line_holds, line_refuses, line_trails}
+use Rattle.age_armor.proofs.Refusing.{kept-later, kept-as, kept-error, kept-refused}
+use Rattle.age_armor.proofs.Taking.{counts_once, quiet_after}
 use Rattle.age_armor.proofs.stages.any_line.Goals as goal
 
 pub returns-in-Err-clause-cause : goal.returns-in-Err-clause-cause
@@ -64,3 +64,58 @@ returns-in-Holds-clause-full g c = λ full.
     let h = rw c.deref.ensures.value at (rw c.in-Holds.is at c.judge.ensures) in
     let same : c.in-Holds.short ≡ false = cc full in
     held_full c.args.after_short c.take_line.new.line.items c.judge.new.bytes c.in-Holds.count h.0 (omega arith) h.2 (sym h.1 ∙ same)
+
+pub returns-in-Err-clause-kept : goal.returns-in-Err-clause-kept
+returns-in-Err-clause-kept g c = kept-error _ _ _ _ _ c.in-Err.e c.in-Err.ensures.kept
+
+pub returns-then-is_empty-clause-kept : goal.returns-then-is_empty-clause-kept
+returns-then-is_empty-clause-kept g c = kept-refused _ _ _ _ _ _ c.in-Ok.ensures.kept (λ is. is) tt
+
+pub returns-in-Refuses-clause-kept : goal.returns-in-Refuses-clause-kept
+returns-in-Refuses-clause-kept g c = kept-refused _ _ _ _ _ _ c.in-Ok.ensures.kept (λ is. is) tt
+
+pub returns-in-Holds-clause-kept : goal.returns-in-Holds-clause-kept
+returns-in-Holds-clause-kept g c = kept-as _ _ _ _ _ c.in-Ok.ensures.kept
+
+pub returns-in-Holds-clause-bytes : goal.returns-in-Holds-clause-bytes
+returns-in-Holds-clause-bytes g c = λ told.
+    let h = rw c.deref.ensures.value at (rw c.in-Holds.is at c.judge.ensures) in
+    line_holds c.args.after_short c.in-Holds.short c.take_line.new.line.items _
+    (g.R.Read.rest c.args.source.now.inner) (g.R.Read.rest c.take_line.new.self.inner)
+    (c.in-Ok.ensures.line told) (omega (arith, eqb-false c.take_line.new.line.len 0 (sym c.is_empty.ensures ∙ c.if-is_empty.false))) h.0 h.1
+
+pub returns-in-Holds-clause-fits : goal.returns-in-Holds-clause-fits
+returns-in-Holds-clause-fits g c = let h = rw c.in-Holds.is at c.judge.ensures in h.2
+
+pub returns-in-Ok-take_trailing-clause-taken : goal.returns-in-Ok-take_trailing-clause-taken
+returns-in-Ok-take_trailing-clause-taken g c = λ told.
+    let before = c.in-Ok.ensures.kept in
+    omega (arith, before.more told, c.in-Ok-take_trailing.ensures.kept.more (before.keeps.same.tells ∙ told))
+
+pub returns-in-Err-clause-counts : goal.returns-in-Err-clause-counts
+returns-in-Err-clause-counts g c = (c.in-Err.ensures.counts, omega (arith, c.in-Err.ensures.none_taken))
+
+pub returns-then-is_empty-clause-counts : goal.returns-then-is_empty-clause-counts
+returns-then-is_empty-clause-counts g c =
+    let line = c.in-Ok.ensures in
+    counts_once _ _ _ _ line.counts line.lines line.no_line refl
+
+pub returns-in-Refuses-clause-counts : goal.returns-in-Refuses-clause-counts
+returns-in-Refuses-clause-counts g c =
+    let line = c.in-Ok.ensures in
+    counts_once _ _ _ _ line.counts line.lines line.no_line refl
+
+pub returns-in-Holds-clause-counts : goal.returns-in-Holds-clause-counts
+returns-in-Holds-clause-counts g c =
+    let line = c.in-Ok.ensures in
+    counts_once _ _ _ _ line.counts line.lines line.no_line refl
+
+pub returns-in-Ok-take_trailing-clause-counts : goal.returns-in-Ok-take_trailing-clause-counts
+returns-in-Ok-take_trailing-clause-counts g c =
+    let line = c.in-Ok.ensures in
+    counts_once _ _ _ _ line.counts line.lines line.no_line c.in-Ok-take_trailing.ensures.lines
+
+pub returns-in-Err-take_trailing-clause-counts : goal.returns-in-Err-take_trailing-clause-counts
+returns-in-Err-take_trailing-clause-counts g c =
+    let line = c.in-Ok.ensures in
+    counts_once _ _ _ _ line.counts line.lines line.no_line c.in-Err-take_trailing.ensures.lines

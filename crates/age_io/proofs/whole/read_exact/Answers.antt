@@ -1,7 +1,13 @@
-use Rattle.std.proofs.Common.{arith, ◌∙◌, ◌-◌, length}
+use Rattle.std.proofs.Common.{◌≡◌, ◌<◌, arith, refl, sym, ◌∙◌, ◌-◌, length, take, length-take-le, inl, inr}
 use Rattle.std.proofs.lemmas.Grind.{common_steps}
 use Rattle.age_io.proofs.Delivering.{Delivers-joined, take-filled}
-use Rattle.age_io.proofs.Keeping.{same-later, same-read}
+use Rattle.age_error.specs.declared.io.Error.TheVariants.{UnexpectedEof}
+use Rattle.age_io.specs.Keeping.{OrEarly}
+use Rattle.age_io.specs.Reading.{IsQuiet}
+use Rattle.age_io.proofs.Appending.{OnErr-of}
+use Rattle.age_io.proofs.Exiting.{IfErr-of, OnOk-refused}
+use Rattle.age_io.proofs.Keeping.{same-later, same-read, keeps-done, keeps-refused}
+use Rattle.age_io.proofs.Stopping.{keeps-by-read, took-front, fault-short, clean-short, delivers-none}
 use Rattle.age_io.proofs.whole.read_exact.Goals as goal
 
 pub loop-at-preserved : goal.loop-at-preserved
@@ -21,3 +27,76 @@ loop-at-preserved g c =
           (got.bytes (before.same.tells ∙ told)));
       unspent = λ _. got.unspent (grind (arith, common_steps));
     }
+
+pub returns-in_err-n-clause-keeps : goal.returns-in_err-n-clause-keeps
+returns-in_err-n-clause-keeps g c =
+    let before = c.loop-at.invariant in
+    let reads = c.in_err-n.ensures.reads in
+    keeps-by-read g.R.Read (OrEarly g.R.Read) _ c.args.reader.now c.loop-at.reader c.read_retrying.new.reader c.in_err-n.field-0.0
+    c.from_residual.ensures.1 before.same before.narrows (λ e h. inr h) c.in_err-n.ensures.patient reads
+
+pub returns-in_err-n-clause-unspent : goal.returns-in_err-n-clause-unspent
+returns-in_err-n-clause-unspent g c = λ some. OnOk-refused _ _ c.from_residual.ensures.0
+
+pub returns-in_err-n-clause-bytes : goal.returns-in_err-n-clause-bytes
+returns-in_err-n-clause-bytes g c = λ told. OnOk-refused _ _ c.from_residual.ensures.0
+
+pub returns-in_err-n-clause-moves : goal.returns-in_err-n-clause-moves
+returns-in_err-n-clause-moves g c = λ told. OnOk-refused _ _ c.from_residual.ensures.0
+
+pub returns-in_err-n-clause-err : goal.returns-in_err-n-clause-err
+returns-in_err-n-clause-err g c = λ told.
+    let before = c.loop-at.invariant in
+    let reads = c.in_err-n.ensures.reads in
+    let size : length (take c.loop-at.at c.loop-at.buf) ≡ c.loop-at.at = length-take-le c.loop-at.at c.loop-at.buf before.within in
+    OnErr-of _ (took-front (take c.loop-at.at c.loop-at.buf) (g.R.Read.rest c.args.reader.now) (g.R.Read.rest c.loop-at.reader) (before.so_far told) _ _ _
+    (g.R.Read.rest c.read_retrying.new.reader) (grind (arith, common_steps, size))
+    (omega (arith, reads.stays (before.same.tells ∙ told), before.moved told, size)) (reads.left (before.same.tells ∙ told)))
+
+pub returns-in_err-n-clause-early : goal.returns-in_err-n-clause-early
+returns-in_err-n-clause-early g c = λ told. IfErr-of _ _ _ c.from_residual.ensures.1 (λ other quiet.
+    let before = c.loop-at.invariant in
+    let reads = c.in_err-n.ensures.reads in
+    let still : IsQuiet (g.R.Read.faults c.loop-at.reader) (g.R.Read.faults c.read_retrying.new.reader) =
+    record { same = omega (arith, quiet.same, before.same.faults, reads.no_fewer_faults); below = quiet.below } in
+    let fault = reads.cause (before.same.tells ∙ told) other still in
+    let size : length (take c.loop-at.at c.loop-at.buf) ≡ c.loop-at.at = length-take-le c.loop-at.at c.loop-at.buf before.within in
+    fault-short (take c.loop-at.at c.loop-at.buf) (g.R.Read.rest c.args.reader.now) (g.R.Read.rest c.loop-at.reader) (before.so_far told) _ _
+    (grind (arith, common_steps, size)) fault)
+
+pub returns-in-0-clause-keeps : goal.returns-in-0-clause-keeps
+returns-in-0-clause-keeps g c =
+    let before = c.loop-at.invariant in
+    let reads = c.in_ok-n.ensures.reads in
+    let some : 0 < length c.read_retrying.new.buf = grind (arith, common_steps) in
+    keeps-refused g.R.Read (OrEarly g.R.Read) c.args.reader.now c.read_retrying.new.reader UnexpectedEof
+    (same-later g.R.Read c.args.reader.now c.loop-at.reader c.read_retrying.new.reader before.same
+    (same-read g.R.Read c.loop-at.reader c.read_retrying.new.reader reads)) (λ is. is)
+    (inl (refl, λ told. sym (before.so_far told).end ∙ (reads.end (before.same.tells ∙ told) c.in-0.is some).ends_well))
+
+pub returns-in-0-clause-err : goal.returns-in-0-clause-err
+returns-in-0-clause-err g c = λ told.
+    let before = c.loop-at.invariant in
+    let reads = c.in_ok-n.ensures.reads in
+    let size : length (take c.loop-at.at c.loop-at.buf) ≡ c.loop-at.at = length-take-le c.loop-at.at c.loop-at.buf before.within in
+    took-front (take c.loop-at.at c.loop-at.buf) (g.R.Read.rest c.args.reader.now) (g.R.Read.rest c.read_retrying.new.reader)
+    (delivers-none (take c.loop-at.at c.loop-at.buf) (g.R.Read.rest c.args.reader.now) (g.R.Read.rest c.loop-at.reader) (before.so_far told)
+    (g.R.Read.rest c.read_retrying.new.reader) c.read_retrying.new.buf c.in_ok-n.n c.in-0.is
+    (reads.bytes (before.same.tells ∙ told)) _ refl)
+    _ _ _ (g.R.Read.rest c.read_retrying.new.reader) (grind (arith, common_steps, size))
+    (omega (arith, reads.moves (before.same.tells ∙ told), before.moved told, c.in-0.is, size)) (inl refl)
+
+pub returns-in-0-clause-early : goal.returns-in-0-clause-early
+returns-in-0-clause-early g c = λ told other quiet.
+    let before = c.loop-at.invariant in
+    let reads = c.in_ok-n.ensures.reads in
+    let some : 0 < length c.read_retrying.new.buf = grind (arith, common_steps) in
+    let clean = reads.end (before.same.tells ∙ told) c.in-0.is some in
+    let size : length (take c.loop-at.at c.loop-at.buf) ≡ c.loop-at.at = length-take-le c.loop-at.at c.loop-at.buf before.within in
+    clean-short (take c.loop-at.at c.loop-at.buf) (g.R.Read.rest c.args.reader.now) (g.R.Read.rest c.loop-at.reader) (before.so_far told) _
+    (grind (arith, common_steps, size)) clean
+
+pub returns-clause-keeps : goal.returns-clause-keeps
+returns-clause-keeps g c =
+    let before = c.loop-at.invariant in
+    keeps-done g.R.Read (OrEarly g.R.Read) c.args.reader.now c.loop-at.reader before.same before.narrows

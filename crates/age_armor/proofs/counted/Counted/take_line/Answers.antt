@@ -1,8 +1,9 @@
-use Rattle.std.proofs.Common.{◌∙◌, arith, rules}
+use Rattle.std.proofs.Common.{◌∙◌, arith, rules, sym}
+use Rattle.std.proofs.lemmas.Bool.{eqb-false, eqb-true}
 use Rattle.age_io.proofs.Keeping.{same-later, keeps-done}
 use Rattle.age_armor.proofs.Refusing.{text-asked}
 use Rattle.age_armor.proofs.AheadLines.{ahead_none}
-use Rattle.age_armor.proofs.Taking.{cut_short, quiet_after, taken_none, taken_run}
+use Rattle.age_armor.proofs.Taking.{cut_short, quiet_after, run_on, taken_none, taken_run}
 use Rattle.age_armor.proofs.counted.Counted.take_line.Goals as goal
 
 pub overflow_sub-len : goal.overflow_sub-len
@@ -94,3 +95,46 @@ returns-then-is_empty-clause-kept g c =
       origin = search rules;
       more = search rules;
     }
+
+pub runs-preserved : goal.runs-preserved
+runs-preserved g c =
+    let loop = c.runs.invariant in
+    let asks = c.in-Ok.ensures.asks in
+    record {
+      none = loop.none;
+      lines = loop.lines;
+      same = same-later _ _ _ _ loop.same asks.same;
+      narrows = λ e h. loop.narrows e (asks.narrows e h);
+      origin = search rules;
+      count = search rules;
+      unended = λ told. (run_on c.runs.line.items _ (g.R.Read.rest c.args.self.now.inner) _ _ (loop.unended told) (loop.so_far told)
+          (rw c.in-Open.is at (c.in-Ok.ensures.run (loop.same.tells ∙ told)))).0;
+      so_far = λ told. (run_on c.runs.line.items _ (g.R.Read.rest c.args.self.now.inner) _ _ (loop.unended told) (loop.so_far told)
+          (rw c.in-Open.is at (c.in-Ok.ensures.run (loop.same.tells ∙ told)))).1;
+    }
+
+pub returns-in-Nothing-clause-lines : goal.returns-in-Nothing-clause-lines
+returns-in-Nothing-clause-lines g c = λ some. rw c.runs.invariant.lines at c.saturating_add-self-in-Nothing.ensures
+
+pub returns-in-Ended-clause-lines : goal.returns-in-Ended-clause-lines
+returns-in-Ended-clause-lines g c = λ some. rw c.runs.invariant.lines at c.saturating_add-self-in-Ended.ensures
+
+pub returns-then-is_empty-clause-lines : goal.returns-then-is_empty-clause-lines
+returns-then-is_empty-clause-lines g c = λ some.
+    absurd (omega (arith, eqb-true c.take_run-answer.new.line.len 0 (sym c.is_empty.ensures ∙ c.if-is_empty.true), some))
+
+pub returns-in-Nothing-clause-no_line : goal.returns-in-Nothing-clause-no_line
+returns-in-Nothing-clause-no_line g c = λ none.
+    absurd (omega (arith, eqb-false c.take_run-answer.new.line.len 0 (sym c.is_empty.ensures ∙ c.if-is_empty.false), none))
+
+pub returns-in-Ended-clause-no_line : goal.returns-in-Ended-clause-no_line
+returns-in-Ended-clause-no_line g c = λ none. absurd (omega (arith, c.in-Ok.ensures.ended c.in-Ended.is, none))
+
+pub returns-then-is_empty-clause-no_line : goal.returns-then-is_empty-clause-no_line
+returns-then-is_empty-clause-no_line g c = λ none. c.runs.invariant.lines
+
+pub returns-then-is_empty-clause-counts : goal.returns-then-is_empty-clause-counts
+returns-then-is_empty-clause-counts g c = omega (arith, c.runs.invariant.lines)
+
+pub returns-in-Err-clause-counts : goal.returns-in-Err-clause-counts
+returns-in-Err-clause-counts g c = omega (arith, c.runs.invariant.lines)

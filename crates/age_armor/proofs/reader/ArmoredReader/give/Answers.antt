@@ -1,4 +1,5 @@
-use Rattle.std.proofs.Common.{◌≡◌, ◌∙◌, ◌+◌, ◌-◌, ◌≤◌, arith, drop, take, length, length-take-le, sym, IsTrue, refl}
+use Rattle.std.proofs.lemmas.Slice.{drop-append-drop}
+use Rattle.std.proofs.Common.{◌≡◌, ◌∙◌, ◌+◌, ◌-◌, ◌≤◌, ap, arith, drop, take, length, length-take-le, sym, IsTrue, refl}
 use Rattle.std.proofs.lemmas.Grind.{common_steps}
 use Rattle.age_io.specs.Reading.{StandsIn}
 use Rattle.age_io.specs.Buffering.{held}
@@ -80,3 +81,25 @@ returns-clause-moves g c = λ told.
     let before = c.args.self.now in
     let fits : c.min-count.result ≤ before.filled - before.given = grind (arith, common_steps) in
     omega (arith, c.saturating_add-self.ensures, before.counted told c.requires, before.source.behind told, g.met.R.Read.place_fits before.source.inner told, fits)
+
+pub returns-clause-sum : goal.returns-clause-sum
+returns-clause-sum g c = λ told.
+    let before = c.args.self.now in
+    let fits : c.min-count.result ≤ before.filled - before.given = grind (arith, common_steps) in
+    omega (
+      arith,
+      c.saturating_add-self.ensures,
+      before.counted told c.requires,
+      before.source.behind told,
+      g.met.R.Read.place_fits before.source.inner told,
+      fits,
+    )
+
+pub returns-clause-beyond : goal.returns-clause-beyond
+returns-clause-beyond g c =
+    let before = c.args.self.now in
+    let n = c.min-count.result in
+    let all : before.filled ≤ length before.bytes = omega (arith, before.within, before.room) in
+    let fits : before.given + n ≤ before.filled = grind (arith, common_steps) in
+    let size : length c.copy_from_slice.new.self ≡ n = omega (arith, all, fits, ap length c.copy_from_slice.ensures.after) in
+    drop-append-drop n c.args.buf.now c.copy_from_slice.new.self n (omega arith) size

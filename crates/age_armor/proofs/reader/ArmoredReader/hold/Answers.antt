@@ -1,4 +1,4 @@
-use Rattle.std.proofs.Common.{◌≡◌, ◌∙◌, ◌-◌, ◌≤◌, [], true, arith, drop, length, length-take-le, take, sym, ap, subst, IsTrue}
+use Rattle.std.proofs.Common.{◌≡◌, ◌∙◌, ◌-◌, ◌≤◌, [], true, arith, drop, length, length-take-le, take, sym, ap, subst, refl, IsTrue}
 use Rattle.age_armor.specs.declared.stages.Stage.TheVariants.{Lines}
 use Rattle.std.proofs.lemmas.Bool.{true≢false}
 use Rattle.age_io.specs.Reading.{StandsIn}
@@ -10,9 +10,10 @@ use Rattle.age_armor.specs.DeliveredLaws.{content_of, stands_by}
 use Rattle.age_armor.proofs.Keeping.{same-text, armor-done, armor-refused}
 use Rattle.age_armor.proofs.Ahead.{kept_stands, rest_failed, hold_rest, hold_ending, hold_end, hold_fault, hold_named, ended_clean, shown_none, front_held}
 use Rattle.age_armor.specs.Delivered.{delivered}
-use Rattle.age_armor.specs.Stages.{is_start, is_armored}
+use Rattle.age_armor.specs.Stages.{is_start, is_armored, is_ended}
 use Rattle.age_armor.proofs.Resuming.{knows_later, resumes_line, length_at_end, not_nothing, reaches_content, none_after, still_full, after_full}
 use Rattle.age_armor.proofs.Forms.{form_held, form_kept}
+use Rattle.age_io.proofs.Keeping.{keeps-done, same-self}
 use Rattle.age_armor.proofs.reader.ArmoredReader.hold.Goals as goal
 
 pub returns-then-is_ready-clause-end : goal.returns-then-is_ready-clause-end
@@ -199,3 +200,79 @@ returns-in-Ok-clause-knows g c = λ none. ap is_known (c.learn.ensures.ends (sym
 
 pub returns-in-Ok-clause-learns : goal.returns-in-Ok-clause-learns
 returns-in-Ok-clause-learns g c = c.learn.ensures.more
+
+pub returns-then-is_ready-clause-begun : goal.returns-then-is_ready-clause-begun
+returns-then-is_ready-clause-begun g c = c.is_ready.ensures.begun c.if-is_ready.true
+
+pub returns-then-is_ready-clause-same_text : goal.returns-then-is_ready-clause-same_text
+returns-then-is_ready-clause-same_text g c = λ told. refl
+
+pub returns-then-is_ready-clause-rest : goal.returns-then-is_ready-clause-rest
+returns-then-is_ready-clause-rest g c = λ told. refl
+
+pub returns-then-is_ready-clause-ending : goal.returns-then-is_ready-clause-ending
+returns-then-is_ready-clause-ending g c = λ told. refl
+
+pub returns-then-is_ready-clause-same : goal.returns-then-is_ready-clause-same
+returns-then-is_ready-clause-same g c = λ some. (refl, refl)
+
+pub returns-then-is_ready-clause-lines : goal.returns-then-is_ready-clause-lines
+returns-then-is_ready-clause-lines g c = (omega arith, omega arith)
+
+pub returns-then-is_ready-clause-learns : goal.returns-then-is_ready-clause-learns
+returns-then-is_ready-clause-learns g c = record { further = omega arith; end = λ known. known; noting = λ noting. noting }
+
+pub returns-then-is_ready-clause-counts : goal.returns-then-is_ready-clause-counts
+returns-then-is_ready-clause-counts g c = λ told.
+    let before = c.args.self.now in
+    record {
+      held = λ some. (refl, refl, refl);
+      more = (omega arith, omega arith);
+      full = λ none full. absurd (true≢false (sym (c.is_ready.ensures.end c.if-is_ready.true (omega (arith, none, before.order))) ∙ ap is_ended full));
+      bare = λ no. refl;
+      begun = c.is_ready.ensures.begun c.if-is_ready.true;
+      on = omega arith;
+    }
+
+pub returns-in-Ok-clause-same_text : goal.returns-in-Ok-clause-same_text
+returns-in-Ok-clause-same_text g c = λ told.
+    let old = c.args.self.now.source in
+    let new = c.advance.new.source in
+    let kept = c.in-Ok.ensures.kept in
+    (same-text g.R.Read old.inner old.taken new.inner new.taken kept.keeps.same kept.origin).text (kept.keeps.same.tells ∙ told)
+
+pub returns-in-Ok-clause-lines : goal.returns-in-Ok-clause-lines
+returns-in-Ok-clause-lines g c = c.in-Ok.ensures.counts
+
+pub returns-in-Err-clause-same_text : goal.returns-in-Err-clause-same_text
+returns-in-Err-clause-same_text g c = λ told.
+    let old = c.args.self.now.source in
+    let new = c.advance.new.source in
+    let kept = c.in-Err.ensures.kept in
+    (same-text g.R.Read old.inner old.taken new.inner new.taken kept.keeps.same kept.origin).text (kept.keeps.same.tells ∙ told)
+
+pub returns-in-Err-clause-lines : goal.returns-in-Err-clause-lines
+returns-in-Err-clause-lines g c = c.in-Err.ensures.counts
+
+pub returns-in-Err-clause-learns : goal.returns-in-Err-clause-learns
+returns-in-Err-clause-learns g c = record { further = omega arith; end = λ known. known; noting = λ noting. noting }
+
+pub returns-in-Ok-clause-begun : goal.returns-in-Ok-clause-begun
+returns-in-Ok-clause-begun g c = c.in-Ok.ensures.begun
+
+pub returns-in-Ok-clause-counts : goal.returns-in-Ok-clause-counts
+returns-in-Ok-clause-counts g c = λ told.
+    let now = c.in-Ok.ensures in
+    record {
+      held = λ some. absurd (omega (arith, some, c.is_ready.ensures.none c.if-is_ready.false));
+      more = now.counts;
+      full = λ none full. omega (arith, now.full full);
+      bare = now.bare;
+      begun = now.begun;
+      on = omega arith;
+    }
+
+pub returns-then-is_ready-clause-goes : goal.returns-then-is_ready-clause-goes
+returns-then-is_ready-clause-goes g c =
+    let before = c.args.self.now in
+    record { keeps = keeps-done _ _ _ _ (same-self _ before) (λ e h. h); unspent = before.unspent c.requires (c.is_ready.ensures.begun c.if-is_ready.true) }

@@ -1,13 +1,14 @@
+use Rattle.age_stream.specs.Reader.{payload_of}
 use Rattle.std.proofs.Common.{◌≡◌, ◌≤◌, ◌<◌, ◌-◌, ◌*◌, ◌/◌, ◌%◌, ◌^◌, ◌∙◌, arith, length, sym, ap, subst, refl, inl}
 use Rattle.std.proofs.lemmas.Bool.{true≢false}
 use Rattle.std.proofs.lemmas.List.Elements.{All-drop}
 use Rattle.age_io.specs.Stretch.{from_place}
-use Rattle.age_stream.specs.Cache.{HasOne}
+use Rattle.age_stream.specs.Cache.{HasOne, last_used}
 use Rattle.age_stream.specs.OpeningLaws.{shorter}
 use Rattle.age_stream.specs.Reading.{payload_at, IsHeld}
 use Rattle.age_stream.specs.ReadingLaws.{and-left}
 use Rattle.age_stream.proofs.Inner.{past-kept}
-use Rattle.age_stream.proofs.Keeping.{told-before}
+use Rattle.age_stream.proofs.Keeping.{told-before, payload-refused, payload-done}
 use Rattle.age_stream.proofs.Last.{inside-held, text-held}
 use Rattle.age_stream.proofs.Moving.{sound-resumed}
 use Rattle.age_stream.proofs.TextLengths.{length-text}
@@ -84,3 +85,107 @@ returns-in-Ok-stand-clause-finds g c = λ told good has.
     let bytes = All-drop (λ x. x < 2 ^ 8) (read.place self.inner - self.taken) (read.content self.inner).bytes (g.met.R.Read.are_bytes self.inner (and-left _ _ told)) in
     let longer = text-held g.S.Suite.opened self.key law payload cache.number 0 cache.last cache.chunk.items bytes (kept.first there.0) in
     absurd (omega (arith, there.1, there.2, longer, length-text 65552 (65552 * cache.number) payload.bytes, c.requires.size told, c.requires.before))
+
+pub returns-in-Err-clause-sought : goal.returns-in-Err-clause-sought
+returns-in-Err-clause-sought g c = c.in-Err.ensures.same.7 ∙ c.requires.sought
+
+pub returns-in-Err-clause-stays : goal.returns-in-Err-clause-stays
+returns-in-Err-clause-stays g c = (c.in-Err.ensures.same.0, c.in-Err.ensures.same.1)
+
+pub returns-in-Err-clause-cause : goal.returns-in-Err-clause-cause
+returns-in-Err-clause-cause g c = λ told well memory quiet. absurd (c.in-Err.ensures.cause told well memory quiet)
+
+pub returns-in-Err-stand-clause-sought : goal.returns-in-Err-stand-clause-sought
+returns-in-Err-stand-clause-sought g c = c.in-Err-stand.ensures.same.7 ∙ c.requires.sought
+
+pub returns-in-Err-stand-clause-stays : goal.returns-in-Err-stand-clause-stays
+returns-in-Err-stand-clause-stays g c = (c.in-Err-stand.ensures.same.0, c.in-Err-stand.ensures.same.1)
+
+pub returns-in-Err-stand-clause-cause : goal.returns-in-Err-stand-clause-cause
+returns-in-Err-stand-clause-cause g c = λ told well memory quiet. absurd (c.in-Err-stand.ensures.cause told well memory quiet)
+
+pub returns-in-Ok-clause-sought : goal.returns-in-Ok-clause-sought
+returns-in-Ok-clause-sought g c = c.in-Ok.ensures.same.7 ∙ c.requires.sought
+
+pub returns-in-Ok-clause-rest : goal.returns-in-Ok-clause-rest
+returns-in-Ok-clause-rest g c = λ told.
+    let placed = c.in-Ok.ensures.stands told in
+    placed.1 ∙ ap (λ n. from_place n (payload_of c.args.self.now)) (sym placed.0)
+
+pub returns-in-Ok-clause-arrives : goal.returns-in-Ok-clause-arrives
+returns-in-Ok-clause-arrives g c = omega arith
+
+pub returns-in-Ok-stand-clause-sought : goal.returns-in-Ok-stand-clause-sought
+returns-in-Ok-stand-clause-sought g c = c.in-Ok-stand.ensures.same.7 ∙ c.requires.sought
+
+pub returns-in-Ok-stand-clause-rest : goal.returns-in-Ok-stand-clause-rest
+returns-in-Ok-stand-clause-rest g c = λ told.
+    let placed = c.in-Ok-stand.ensures.stands told in
+    placed.1 ∙ ap (λ n. from_place n (payload_of c.args.self.now)) (sym placed.0)
+
+pub returns-in-Ok-stand-clause-arrives : goal.returns-in-Ok-stand-clause-arrives
+returns-in-Ok-stand-clause-arrives g c = omega arith
+
+pub returns-in-Ok-clause-more : goal.returns-in-Ok-clause-more
+returns-in-Ok-clause-more g c = λ none. absurd (true≢false none)
+
+pub returns-in-Ok-stand-clause-more : goal.returns-in-Ok-stand-clause-more
+returns-in-Ok-stand-clause-more g c = λ _. omega (arith, c.requires.before)
+
+pub returns-in-Ok-stand-clause-before : goal.returns-in-Ok-stand-clause-before
+returns-in-Ok-stand-clause-before g c = λ after. true≢false (sym after.0 ∙ c.in-Ok-stand.ensures.same.2)
+
+pub stand-requires-clause-within : goal.stand-requires-clause-within
+stand-requires-clause-within g c = λ told. omega (arith, c.min-past.ensures, c.requires.size told)
+
+pub stand-requires-else-find-clause-within : goal.stand-requires-else-find-clause-within
+stand-requires-else-find-clause-within g c = λ told. omega (arith, c.requires.size told, c.requires.before)
+
+pub returns-in-Ok-clause-has : goal.returns-in-Ok-clause-has
+returns-in-Ok-clause-has g c = λ good b is.
+    subst (λ k. HasOne k b) (sym c.in-Ok.ensures.same.3) (c.find.ensures.has b (subst (λ k. HasOne k b) (sym (c.keep_if.ensures.same (rw good refl))) is))
+
+pub returns-in-Ok-clause-same_last : goal.returns-in-Ok-clause-same_last
+returns-in-Ok-clause-same_last g c =
+    λ good. ap last_used c.in-Ok.ensures.same.3 ∙ c.find.ensures.same_last ∙ ap last_used (c.keep_if.ensures.same (rw good refl))
+
+pub returns-in-Ok-stand-clause-has : goal.returns-in-Ok-stand-clause-has
+returns-in-Ok-stand-clause-has g c = λ good b is.
+    subst (λ k. HasOne k b) (sym c.in-Ok-stand.ensures.same.3) (c.find.ensures.has b (subst (λ k. HasOne k b) (sym (c.keep_if.ensures.same (rw good refl))) is))
+
+pub returns-in-Ok-stand-clause-same_last : goal.returns-in-Ok-stand-clause-same_last
+returns-in-Ok-stand-clause-same_last g c =
+    λ good. ap last_used c.in-Ok-stand.ensures.same.3 ∙ c.find.ensures.same_last ∙ ap last_used (c.keep_if.ensures.same (rw good refl))
+
+pub returns-in-Ok-clause-finds : goal.returns-in-Ok-clause-finds
+returns-in-Ok-clause-finds g c =
+    λ _ _ _. (refl, subst (λ k. c.args.place % 65536 < length k.chunk.items) (sym c.in-Ok.ensures.same.3) (c.find.ensures.found c.if-find.true).2)
+
+pub returns-in-Ok-clause-before : goal.returns-in-Ok-clause-before
+returns-in-Ok-clause-before g c = λ after.
+    let long = ap (λ k. length k.chunk.items) c.in-Ok.ensures.same.3 in
+    omega (arith, after.2, (c.find.ensures.found c.if-find.true).2, long)
+
+pub returns-in-Err-clause-keeps : goal.returns-in-Err-clause-keeps
+returns-in-Err-clause-keeps g c = payload-refused g.R.Read _ _ _ _ _ c.in-Err.ensures.keeps
+
+pub returns-in-Err-stand-clause-keeps : goal.returns-in-Err-stand-clause-keeps
+returns-in-Err-stand-clause-keeps g c = payload-refused g.R.Read _ _ _ _ _ c.in-Err-stand.ensures.keeps
+
+pub returns-in-Ok-clause-keeps : goal.returns-in-Ok-clause-keeps
+returns-in-Ok-clause-keeps g c = payload-done g.R.Read _ _ _ _ c.in-Ok.ensures.keeps
+
+pub returns-in-Ok-stand-clause-keeps : goal.returns-in-Ok-stand-clause-keeps
+returns-in-Ok-stand-clause-keeps g c = payload-done g.R.Read _ _ _ _ c.in-Ok-stand.ensures.keeps
+
+pub returns-in-Err-clause-refusal : goal.returns-in-Err-clause-refusal
+returns-in-Err-clause-refusal g c = c.in-Err.ensures.refusal
+
+pub returns-in-Err-stand-clause-refusal : goal.returns-in-Err-stand-clause-refusal
+returns-in-Err-stand-clause-refusal g c = c.in-Err-stand.ensures.refusal
+
+pub returns-in-Ok-clause-unspent : goal.returns-in-Ok-clause-unspent
+returns-in-Ok-clause-unspent g c = c.in-Ok.ensures.unspent
+
+pub returns-in-Ok-stand-clause-unspent : goal.returns-in-Ok-stand-clause-unspent
+returns-in-Ok-stand-clause-unspent g c = c.in-Ok-stand.ensures.unspent

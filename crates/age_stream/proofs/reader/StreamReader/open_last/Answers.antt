@@ -1,5 +1,6 @@
+use Rattle.age_stream.proofs.Keeping.{payload-filled, payload-ended}
 use Rattle.std.proofs.lemmas.Bool.{cases_lt, lt-ltb, ltb-true}
-use Rattle.std.proofs.Common.{◌≡◌, ◌≤◌, ◌+◌, ◌∙◌, subst, inl, inr, arith, length, take, sym, ap, IsTrue, ◌&&◌, refl, length-take-le, Some, None, true}
+use Rattle.std.proofs.Common.{◌≡◌, ◌≤◌, ◌+◌, ◌∙◌, subst, inl, inr, arith, length, take, sym, ap, IsTrue, ◌&&◌, refl, length-take-le, Some, None, true, ℕ}
 use Rattle.std.proofs.lemmas.Bool.{true≢false}
 use Rattle.age_io.proofs.Delivering.{refilled}
 use Rattle.age_io.proofs.Keeping.{keeps-done}
@@ -262,3 +263,44 @@ returns-in-Ok-Some-clause-inner_end g c = λ told.
     let self = c.args.self.now in
     let t = and-left (g.R.Read.tells self.inner) (g.R.Read.steady self.inner) told in
     (c.in-Ok.ensures.bytes t).end ∙ ap (λ s. s.ends_well) (c.requires.stands told).1
+
+pub returns-in-Err-open_as-clause-cause : goal.returns-in-Err-open_as-clause-cause
+returns-in-Err-open_as-clause-cause g c = λ told well memory quiet. absurd (memory refl)
+
+pub returns-in-Ok-Some-clause-had : goal.returns-in-Ok-Some-clause-had
+returns-in-Ok-Some-clause-had g c = λ b has. elim (c.put.ensures.had b has) [ inl is ↦ inl is | inr was ↦ inr (c.make_room.ensures.had b was) ]
+
+pub returns-in-Ok-Some-clause-keeps_last : goal.returns-in-Ok-Some-clause-keeps_last
+returns-in-Ok-Some-clause-keeps_last g c = λ b is. c.put.ensures.keeps_last c.make_room.ensures.used b (c.make_room.ensures.same_last ∙ is)
+
+pub returns-in-Err-clause-counts : goal.returns-in-Err-clause-counts
+returns-in-Err-clause-counts g c = omega arith
+
+pub returns-in-Err-clause-opens : goal.returns-in-Err-clause-opens
+returns-in-Err-clause-opens g c = omega arith
+
+pub returns-in-Ok-None-clause-keeps : goal.returns-in-Ok-None-clause-keeps
+returns-in-Ok-None-clause-keeps g c =
+    let self = c.args.self.now in
+    let read = g.R.Read in
+    let after = c.fill-answer.new.reader in
+    let filled = c.in-Ok.ensures in
+    payload-ended read self.inner after self.taken _ _ (payload-filled read {U = ℕ} {y = 0} self.inner after self.taken c.saturating_add-self.result
+    (λ told.
+    let t = and-left (read.tells self.inner) (read.steady self.inner) told in
+    (payload-read (read.content self.inner) (read.content after) (read.place self.inner) (read.place after) self.taken c.saturating_add-self.result
+    c.fill-answer.new.filled (filled.keeps.same.content t) (filled.moves t) (g.met.R.Read.place_fits after (filled.keeps.same.tells ∙ t))
+    c.saturating_add-self.ensures (self.sound told).fits).1) filled.keeps) (λ is. is) (inr (inl refl))
+
+pub returns-in-Err-open_as-clause-keeps : goal.returns-in-Err-open_as-clause-keeps
+returns-in-Err-open_as-clause-keeps g c =
+    let self = c.args.self.now in
+    let read = g.R.Read in
+    let after = c.fill-answer.new.reader in
+    let filled = c.in-Ok.ensures in
+    payload-ended read self.inner after self.taken _ _ (payload-filled read {U = ℕ} {y = 0} self.inner after self.taken c.saturating_add-self.result
+    (λ told.
+    let t = and-left (read.tells self.inner) (read.steady self.inner) told in
+    (payload-read (read.content self.inner) (read.content after) (read.place self.inner) (read.place after) self.taken c.saturating_add-self.result
+    c.fill-answer.new.filled (filled.keeps.same.content t) (filled.moves t) (g.met.R.Read.place_fits after (filled.keeps.same.tells ∙ t))
+    c.saturating_add-self.ensures (self.sound told).fits).1) filled.keeps) (λ is. is) (inr (inr refl))

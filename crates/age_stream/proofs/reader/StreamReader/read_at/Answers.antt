@@ -1,7 +1,10 @@
+use Rattle.std.specs.Prelude.{IfErr}
+use Rattle.age_stream.proofs.Keeping.{stream-kept, content-kept, ok_narrows, quiet-later}
+use Rattle.std.proofs.lemmas.Bool.{true≢false}
 use Rattle.age_io.specs.Reading.{IsQuiet, Delivers}
 use Rattle.age_io.specs.Stretch.{from_place}
 use Rattle.age_io.proofs.Reaching.{delivered-at}
-use Rattle.age_stream.specs.Answering.{StopsNear, IsGoodEnd}
+use Rattle.age_stream.specs.Answering.{StopsNear, IsGoodEnd, StandAt}
 use Rattle.std.proofs.Common.{◌≡◌, ◌∙◌, ◌+◌, sym, ap, IsTrue, take, length, length-take-le, subst, inl, inr, arith}
 use Rattle.age_stream.specs.Reader.{tells_of, content_of, steady_of, payload_of, place_of, plain_rest_of}
 use Rattle.age_stream.specs.ReadingLaws.{both-true}
@@ -86,3 +89,132 @@ pub returns-in-Ok-read_full-clause-inner_end : goal.returns-in-Ok-read_full-clau
 returns-in-Ok-read_full-clause-inner_end g c = λ told.
     let seek = c.in-Ok.ensures in
     c.in-Ok-read_full.ensures.inner_end (seek.seeks.same_tells ∙ told) ∙ seek.inner_end told
+
+pub returns-in-Err-clause-keeps : goal.returns-in-Err-clause-keeps
+returns-in-Err-clause-keeps g c =
+    let seek = c.in-Err.ensures in
+    let seeks = seek.seeks in
+    record {
+      same = record { tells = seeks.same_tells; steady = seeks.same_steady; faults = seeks.no_fewer_faults; content = seeks.same_content };
+      device = seeks.device;
+      patient = seek.patient;
+      why = seeks.why;
+      narrows = tt;
+    }
+
+pub returns-in-Err-read_full-clause-keeps : goal.returns-in-Err-read_full-clause-keeps
+returns-in-Err-read_full-clause-keeps g c =
+    let mid = c.seek.new.self in
+    let new = c.read_full.new.self in
+    let seeks = c.in-Ok.ensures.seeks in
+    let read = c.in-Err-read_full.ensures in
+    let kept = stream-kept mid new read.keeps read.key in
+    record {
+      same = record {
+        tells = kept.0 ∙ seeks.same_tells;
+        steady = kept.1 ∙ seeks.same_steady;
+        faults = omega (arith, seeks.no_fewer_faults, read.keeps.inner.same.faults);
+        content = λ told. content-kept mid new read.keeps read.key (seeks.same_tells ∙ told) ∙ seeks.same_content told;
+      };
+      device = λ is. omega (arith, seeks.no_fewer_faults, read.keeps.inner.device is);
+      patient = read.keeps.inner.patient;
+      why = inr (seeks.narrows c.in-Err-read_full.e (inr read.keeps.inner.why));
+      narrows = tt;
+    }
+
+pub returns-in-Ok-read_full-clause-keeps : goal.returns-in-Ok-read_full-clause-keeps
+returns-in-Ok-read_full-clause-keeps g c =
+    let mid = c.seek.new.self in
+    let new = c.read_full.new.self in
+    let seeks = c.in-Ok.ensures.seeks in
+    let read = c.in-Ok-read_full.ensures in
+    let kept = stream-kept mid new read.keeps read.key in
+    record {
+      same = record {
+        tells = kept.0 ∙ seeks.same_tells;
+        steady = kept.1 ∙ seeks.same_steady;
+        faults = omega (arith, seeks.no_fewer_faults, read.keeps.inner.same.faults);
+        content = λ told. content-kept mid new read.keeps read.key (seeks.same_tells ∙ told) ∙ seeks.same_content told;
+      };
+      device = tt;
+      patient = tt;
+      why = tt;
+      narrows = λ e why. elim why [
+        | inl is ↦ inl (is.0, seeks.narrows e (ok_narrows _ mid new read.keeps read.key read.good e is.1))
+        | inr is ↦ inr (is.0, seeks.narrows _ (ok_narrows _ mid new read.keeps read.key read.good _ is.1))
+      ];
+    }
+
+pub returns-in-Err-clause-cause : goal.returns-in-Err-clause-cause
+returns-in-Err-clause-cause g c = λ told well memory quiet.
+    let seeks = c.in-Err.ensures.seeks in
+    seeks.refused told well (seeks.cause told well memory quiet)
+
+pub returns-in-Err-read_full-clause-cause : goal.returns-in-Err-read_full-clause-cause
+returns-in-Err-read_full-clause-cause g c = λ told well memory quiet.
+    let self = c.args.self.now in
+    let seeks = c.in-Ok.ensures.seeks in
+    let read = c.in-Err-read_full.ensures in
+    let there = (seeks.moves told (both-true (tells_of self) (content_of self).ends_well told well)).1 in
+    let calm = quiet-later _ _ _ seeks.no_fewer_faults read.keeps.inner.same.faults quiet in
+    absurd (true≢false (sym (ap (λ s. s.ends_well) there ∙ well) ∙ read.cause (seeks.same_tells ∙ told) memory calm))
+
+pub returns-in-Err-clause-fails : goal.returns-in-Err-clause-fails
+returns-in-Err-clause-fails g c = c.in-Err.ensures.fails
+
+pub returns-in-Err-clause-inner_place : goal.returns-in-Err-clause-inner_place
+returns-in-Err-clause-inner_place g c = λ told outside _. c.in-Err.ensures.inner_place told outside
+
+pub returns-in-Err-clause-inner_rest : goal.returns-in-Err-clause-inner_rest
+returns-in-Err-clause-inner_rest g c = λ told outside _ apart. c.in-Err.ensures.inner_rest told apart outside
+
+pub returns-in-Err-clause-unmoved : goal.returns-in-Err-clause-unmoved
+returns-in-Err-clause-unmoved g c = λ told outside _.
+    let same = c.in-Err.ensures.unmoved outside in
+    (same.0, same.1, same.2, same.3, same.6)
+
+pub returns-in-Err-clause-opens : goal.returns-in-Err-clause-opens
+returns-in-Err-clause-opens g c = omega (arith, c.in-Err.ensures.opens)
+
+pub returns-in-Err-read_full-clause-fails : goal.returns-in-Err-read_full-clause-fails
+returns-in-Err-read_full-clause-fails g c = λ _. c.in-Err-read_full.ensures.fails
+
+pub returns-in-Err-read_full-clause-counts : goal.returns-in-Err-read_full-clause-counts
+returns-in-Err-read_full-clause-counts g c = omega (arith, c.in-Ok.ensures.counts, c.in-Err-read_full.ensures.counts)
+
+pub returns-in-Err-read_full-clause-opens : goal.returns-in-Err-read_full-clause-opens
+returns-in-Err-read_full-clause-opens g c = omega (arith, c.in-Ok.ensures.opens, c.in-Err-read_full.ensures.opens)
+
+pub returns-in-Err-read_full-clause-inner_place : goal.returns-in-Err-read_full-clause-inner_place
+returns-in-Err-read_full-clause-inner_place g c = λ told _ is. absurd (subst (λ r. IfErr r (λ _. ⊥)) (sym (c.in-Ok.ensures.order told) ∙ is) tt)
+
+pub returns-in-Err-read_full-clause-inner_rest : goal.returns-in-Err-read_full-clause-inner_rest
+returns-in-Err-read_full-clause-inner_rest g c = λ told _ is. absurd (subst (λ r. IfErr r (λ _. ⊥)) (sym (c.in-Ok.ensures.order told) ∙ is) tt)
+
+pub returns-in-Err-read_full-clause-unmoved : goal.returns-in-Err-read_full-clause-unmoved
+returns-in-Err-read_full-clause-unmoved g c = λ told _ is. absurd (subst (λ r. IfErr r (λ _. ⊥)) (sym (c.in-Ok.ensures.order told) ∙ is) tt)
+
+pub returns-in-Ok-read_full-clause-counts : goal.returns-in-Ok-read_full-clause-counts
+returns-in-Ok-read_full-clause-counts g c = omega (arith, c.in-Ok.ensures.counts, c.in-Ok-read_full.ensures.counts)
+
+pub returns-in-Ok-read_full-clause-opens : goal.returns-in-Ok-read_full-clause-opens
+returns-in-Ok-read_full-clause-opens g c = omega (arith, c.in-Ok.ensures.opens, c.in-Ok-read_full.ensures.opens)
+
+pub returns-in-Ok-read_full-clause-good : goal.returns-in-Ok-read_full-clause-good
+returns-in-Ok-read_full-clause-good g c = λ is. true≢false (sym is ∙ c.in-Ok-read_full.ensures.good)
+
+pub returns-in-Ok-read_full-clause-order : goal.returns-in-Ok-read_full-clause-order
+returns-in-Ok-read_full-clause-order g c = λ told.
+    let self = c.args.self.now in
+    let mid = c.seek.new.self in
+    let seek = c.in-Ok.ensures in
+    let read = c.in-Ok-read_full.ensures in
+    let came = take c.read_full.new.filled c.read_full.new.buf in
+    let there : place_of mid ≡ c.in-Ok._start = seek.seeks.arrives told in (
+      c.in-Ok._start,
+      seek.order told,
+      omega (arith, there, read.moves),
+      subst (λ n. StandAt g.S.Suite.seal_of self.key (payload_of self).bytes n came) there
+          (subst (λ p. StandAt g.S.Suite.seal_of self.key p.bytes (place_of mid) came) (seek.payload told)
+          (subst (λ k. StandAt g.S.Suite.seal_of k (payload_of mid).bytes (place_of mid) came) seek.key (read.stored (seek.seeks.same_tells ∙ told)))),
+    )

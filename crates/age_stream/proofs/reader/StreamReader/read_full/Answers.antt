@@ -1,8 +1,8 @@
-use Rattle.std.proofs.Common.{◌≡◌, arith, ◌∙◌, ◌-◌, ◌+◌, length, take, subst, length-take-le}
+use Rattle.std.proofs.Common.{◌≡◌, arith, ◌∙◌, ◌-◌, ◌+◌, length, take, subst, length-take-le, sym}
 use Rattle.age_stream.specs.Answering.{StandAt, StopsNear, IsGoodEnd}
 use Rattle.age_stream.specs.Reader.{payload_of, place_of, wanted_of}
 use Rattle.age_stream.proofs.Answered.{refuses-near}
-use Rattle.age_stream.proofs.Keeping.{payload-more, stops-kept, told-later, quiet-later, payload-done, payload-later}
+use Rattle.age_stream.proofs.Keeping.{payload-more, stops-kept, told-later, quiet-later, payload-done, payload-later, payload-refused}
 use Rattle.age_stream.proofs.Standing.{stand-given, stand-joined}
 use Rattle.std.proofs.lemmas.Grind.{common_steps}
 use Rattle.age_io.proofs.Delivering.{Delivers-joined, take-filled}
@@ -68,3 +68,55 @@ returns-in-Err-clause-refused g c = λ told memory quiet well.
     subst (λ n. StopsNear g.S.Suite.seal_of self.key (payload_of self).bytes n c.in-Err.e) there
     (subst (λ p. StopsNear g.S.Suite.seal_of self.key p.bytes (place_of mid) c.in-Err.e) (before.keeps.payload told)
     (subst (λ k. StopsNear g.S.Suite.seal_of k (payload_of mid).bytes (place_of mid) c.in-Err.e) before.same_key near))
+
+pub returns-in-Err-clause-counts : goal.returns-in-Err-clause-counts
+returns-in-Err-clause-counts g c = omega (arith, c.reads.invariant.counted, c.in-Err.ensures.counts)
+
+pub returns-in-Err-clause-fails : goal.returns-in-Err-clause-fails
+returns-in-Err-clause-fails g c = c.in-Err.ensures.fails
+
+pub returns-in-Err-clause-moves : goal.returns-in-Err-clause-moves
+returns-in-Err-clause-moves g c = omega (arith, c.reads.invariant.moved, c.in-Err.ensures.stayed)
+
+pub returns-in-Err-clause-keeps : goal.returns-in-Err-clause-keeps
+returns-in-Err-clause-keeps g c =
+    let before = c.reads.invariant in
+    payload-refused g.R.Read _ _ _ _ _ (payload-later g.R.Read _ c.args.self.now.inner c.reads.self.inner c.read_on.new.self.inner _ _ _ before.keeps
+    (payload-more g.R.Read _ _ _ _ _ (stops-kept c.args.self.now c.reads.self before.keeps before.same_key) c.in-Err.ensures.keeps))
+
+pub returns-then-n-eq0-clause-counts : goal.returns-then-n-eq0-clause-counts
+returns-then-n-eq0-clause-counts g c = omega (arith, c.reads.invariant.counted, c.in-Ok.ensures.counts)
+
+pub returns-then-n-eq0-clause-good : goal.returns-then-n-eq0-clause-good
+returns-then-n-eq0-clause-good g c = c.in-Ok.ensures.good
+
+pub returns-then-n-eq0-clause-moves : goal.returns-then-n-eq0-clause-moves
+returns-then-n-eq0-clause-moves g c = omega (arith, c.reads.invariant.moved, c.in-Ok.ensures.placed, c.if-n-eq0.true)
+
+pub returns-then-n-eq0-clause-inner_end : goal.returns-then-n-eq0-clause-inner_end
+returns-then-n-eq0-clause-inner_end g c = λ told.
+    let before = c.reads.invariant in
+    c.in-Ok.ensures.inner_end (told-later g.R.Read c.args.self.now.inner c.reads.self.inner before.keeps.inner.same told) ∙ before.inner_end told
+
+pub returns-then-n-eq0-clause-keeps : goal.returns-then-n-eq0-clause-keeps
+returns-then-n-eq0-clause-keeps g c =
+    let before = c.reads.invariant in
+    payload-done g.R.Read _ _ _ _ (payload-later g.R.Read _ c.args.self.now.inner c.reads.self.inner c.read_on.new.self.inner _ _ _ before.keeps
+    (payload-more g.R.Read _ _ _ _ _ (stops-kept c.args.self.now c.reads.self before.keeps before.same_key) c.in-Ok.ensures.keeps))
+
+pub returns-in-Err-clause-cause : goal.returns-in-Err-clause-cause
+returns-in-Err-clause-cause g c = λ told memory quiet.
+    let before = c.reads.invariant in
+    let read = c.in-Err.ensures in
+    let later = told-later g.R.Read c.args.self.now.inner c.reads.self.inner before.keeps.inner.same told in
+    let calm = quiet-later _ _ _ before.keeps.inner.same.faults read.keeps.inner.same.faults quiet in
+    sym (before.so_far told).end ∙ (read.reads.cause later memory calm).ends_badly
+
+pub returns-clause-end : goal.returns-clause-end
+returns-clause-end g c = λ told less. absurd (omega (arith, c.reads-test.false, less))
+
+pub returns-clause-ended : goal.returns-clause-ended
+returns-clause-ended g c = λ told less. absurd (omega (arith, c.reads-test.false, less))
+
+pub returns-clause-opens : goal.returns-clause-opens
+returns-clause-opens g c = omega (arith, c.reads.invariant.spared, c.reads.invariant.moved, c.reads.invariant.within, c.args.self.now.offset)

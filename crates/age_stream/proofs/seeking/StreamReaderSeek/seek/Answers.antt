@@ -1,4 +1,6 @@
-use Rattle.std.specs.Prelude.{cond}
+use Rattle.age_stream.specs.Targets.{in_length}
+use Rattle.age_error.specs.declared.io.Error.TheVariants.{BeforeStart}
+use Rattle.std.specs.Prelude.{cond, if◌then◌else◌}
 use Rattle.std.proofs.Common.{◌≡◌, ◌<◌, ◌-◌, ◌+◌, ◌*◌, ◌/◌, ◌^◌, ◌∙◌, ◌⊎◌, arith, length, sym, subst, ap, IsTrue, ◌&&◌, refl, length-drop, true, Some, None, inl, inr, Ok, Err}
 use Rattle.std.proofs.lemmas.Bool.{true≢false, true_from_ne_false}
 use Rattle.std.proofs.lemmas.List.Elements.{All-drop}
@@ -630,3 +632,162 @@ returns-in-Ok-enter_end-clause-uses_end g c = λ told end apart.
     let whole = (plain_len_says c.in-Ok.size c.in-Ok-find.len c.in-Ok-find.ensures.plain).whole in
     let judged = true_from_ne_false new.cache.judged (λ none. apart (omega (arith, (new.unjudged done.good.1 none).end, done.arrives later, number, whole, size))) in
     rw done.good.0 (done.uses judged ∙ ap (λ n. Some (final_chunk n)) size)
+
+pub returns-in-Err-clause-inner_place : goal.returns-in-Err-clause-inner_place
+returns-in-Err-clause-inner_place g c = λ told outside. absurd (c.in-Err.ensures.refusal outside)
+
+pub returns-in-Err-clause-inner_rest : goal.returns-in-Err-clause-inner_rest
+returns-in-Err-clause-inner_rest g c = λ told apart outside. absurd (c.in-Err.ensures.refusal outside)
+
+pub returns-in-Err-clause-refused : goal.returns-in-Err-clause-refused
+returns-in-Err-clause-refused g c = λ told outside. absurd (c.in-Err.ensures.refusal outside)
+
+pub returns-in-Err-clause-unmoved : goal.returns-in-Err-clause-unmoved
+returns-in-Err-clause-unmoved g c = λ outside. absurd (c.in-Err.ensures.refusal outside)
+
+pub returns-in-Err-clause-unmoved_chunks : goal.returns-in-Err-clause-unmoved_chunks
+returns-in-Err-clause-unmoved_chunks g c = λ outside. absurd (c.in-Err.ensures.refusal outside)
+
+pub returns-then-not-is_outside-clause-inner_place : goal.returns-then-not-is_outside-clause-inner_place
+returns-then-not-is_outside-clause-inner_place g c = λ told outside. absurd (c.if-not-is_outside.ensures.no refl outside)
+
+pub returns-then-not-is_outside-clause-inner_rest : goal.returns-then-not-is_outside-clause-inner_rest
+returns-then-not-is_outside-clause-inner_rest g c = λ told apart outside. absurd (c.if-not-is_outside.ensures.no refl outside)
+
+pub returns-then-not-is_outside-clause-refused : goal.returns-then-not-is_outside-clause-refused
+returns-then-not-is_outside-clause-refused g c = λ told outside. absurd (c.if-not-is_outside.ensures.no refl outside)
+
+pub returns-then-not-is_outside-clause-unmoved : goal.returns-then-not-is_outside-clause-unmoved
+returns-then-not-is_outside-clause-unmoved g c = λ outside. absurd (c.if-not-is_outside.ensures.no refl outside)
+
+pub returns-then-not-is_outside-clause-unmoved_chunks : goal.returns-then-not-is_outside-clause-unmoved_chunks
+returns-then-not-is_outside-clause-unmoved_chunks g c = λ outside. absurd (c.if-not-is_outside.ensures.no refl outside)
+
+pub returns-in-Err-stand-clause-inner_place : goal.returns-in-Err-stand-clause-inner_place
+returns-in-Err-stand-clause-inner_place g c = λ told outside. absurd (c.in-Err-stand.ensures.refusal outside)
+
+pub returns-in-Err-stand-clause-inner_rest : goal.returns-in-Err-stand-clause-inner_rest
+returns-in-Err-stand-clause-inner_rest g c = λ told apart outside. absurd (c.in-Err-stand.ensures.refusal outside)
+
+pub returns-in-Err-stand-clause-refused : goal.returns-in-Err-stand-clause-refused
+returns-in-Err-stand-clause-refused g c = λ told outside. absurd (c.in-Err-stand.ensures.refusal outside)
+
+pub returns-in-Err-stand-clause-unmoved : goal.returns-in-Err-stand-clause-unmoved
+returns-in-Err-stand-clause-unmoved g c = λ outside. absurd (c.in-Err-stand.ensures.refusal outside)
+
+pub returns-in-Err-stand-clause-unmoved_chunks : goal.returns-in-Err-stand-clause-unmoved_chunks
+returns-in-Err-stand-clause-unmoved_chunks g c = λ outside. absurd (c.in-Err-stand.ensures.refusal outside)
+
+pub returns-in-Err-enter-clause-inner_place : goal.returns-in-Err-enter-clause-inner_place
+returns-in-Err-enter-clause-inner_place g c = λ told outside. absurd (c.in-Err-enter.ensures.refusal outside)
+
+pub returns-in-Err-enter-clause-inner_rest : goal.returns-in-Err-enter-clause-inner_rest
+returns-in-Err-enter-clause-inner_rest g c = λ told apart outside. absurd (c.in-Err-enter.ensures.refusal outside)
+
+pub returns-in-Err-enter-clause-refused : goal.returns-in-Err-enter-clause-refused
+returns-in-Err-enter-clause-refused g c = λ told outside. absurd (c.in-Err-enter.ensures.refusal outside)
+
+pub returns-in-Err-enter-clause-unmoved : goal.returns-in-Err-enter-clause-unmoved
+returns-in-Err-enter-clause-unmoved g c = λ outside. absurd (c.in-Err-enter.ensures.refusal outside)
+
+pub returns-in-Err-enter-clause-unmoved_chunks : goal.returns-in-Err-enter-clause-unmoved_chunks
+returns-in-Err-enter-clause-unmoved_chunks g c = λ outside. absurd (c.in-Err-enter.ensures.refusal outside)
+
+pub returns-in-Err-enter_end-clause-inner_place : goal.returns-in-Err-enter_end-clause-inner_place
+returns-in-Err-enter_end-clause-inner_place g c = λ told outside. absurd (c.in-Err-enter_end.ensures.refusal outside)
+
+pub returns-in-Err-enter_end-clause-inner_rest : goal.returns-in-Err-enter_end-clause-inner_rest
+returns-in-Err-enter_end-clause-inner_rest g c = λ told apart outside. absurd (c.in-Err-enter_end.ensures.refusal outside)
+
+pub returns-in-Err-enter_end-clause-refused : goal.returns-in-Err-enter_end-clause-refused
+returns-in-Err-enter_end-clause-refused g c = λ told outside. absurd (c.in-Err-enter_end.ensures.refusal outside)
+
+pub returns-in-Err-enter_end-clause-unmoved : goal.returns-in-Err-enter_end-clause-unmoved
+returns-in-Err-enter_end-clause-unmoved g c = λ outside. absurd (c.in-Err-enter_end.ensures.refusal outside)
+
+pub returns-in-Err-enter_end-clause-unmoved_chunks : goal.returns-in-Err-enter_end-clause-unmoved_chunks
+returns-in-Err-enter_end-clause-unmoved_chunks g c = λ outside. absurd (c.in-Err-enter_end.ensures.refusal outside)
+
+pub returns-in-Err-stand-clause-payload : goal.returns-in-Err-stand-clause-payload
+returns-in-Err-stand-clause-payload g c = λ told.
+    let look = c.in-Ok.ensures in
+    c.in-Err-stand.ensures.keeps.payload (told-later g.R.Read c.args.self.now.inner c.look.new.self.inner look.keeps.inner.same told) ∙ look.keeps.payload told
+
+pub returns-in-Ok-stand-clause-payload : goal.returns-in-Ok-stand-clause-payload
+returns-in-Ok-stand-clause-payload g c = λ told.
+    let look = c.in-Ok.ensures in
+    c.in-Ok-stand.ensures.keeps.payload (told-later g.R.Read c.args.self.now.inner c.look.new.self.inner look.keeps.inner.same told) ∙ look.keeps.payload told
+
+pub returns-in-Err-enter-clause-payload : goal.returns-in-Err-enter-clause-payload
+returns-in-Err-enter-clause-payload g c = λ told.
+    let look = c.in-Ok.ensures in
+    c.in-Err-enter.ensures.keeps.payload (told-later g.R.Read c.args.self.now.inner c.look.new.self.inner look.keeps.inner.same told) ∙ look.keeps.payload told
+
+pub returns-in-Err-enter_end-clause-payload : goal.returns-in-Err-enter_end-clause-payload
+returns-in-Err-enter_end-clause-payload g c = λ told.
+    let look = c.in-Ok.ensures in
+    c.in-Err-enter_end.ensures.keeps.payload (told-later g.R.Read c.args.self.now.inner c.look.new.self.inner look.keeps.inner.same told)
+    ∙ look.keeps.payload told
+
+pub returns-in-Ok-enter-clause-payload : goal.returns-in-Ok-enter-clause-payload
+returns-in-Ok-enter-clause-payload g c = λ told.
+    let look = c.in-Ok.ensures in
+    c.in-Ok-enter.ensures.keeps.payload (told-later g.R.Read c.args.self.now.inner c.look.new.self.inner look.keeps.inner.same told) ∙ look.keeps.payload told
+
+pub returns-in-Ok-enter_end-clause-payload : goal.returns-in-Ok-enter_end-clause-payload
+returns-in-Ok-enter_end-clause-payload g c = λ told.
+    let look = c.in-Ok.ensures in
+    c.in-Ok-enter_end.ensures.keeps.payload (told-later g.R.Read c.args.self.now.inner c.look.new.self.inner look.keeps.inner.same told)
+    ∙ look.keeps.payload told
+
+pub enter-requires-clause-limit : goal.enter-requires-clause-limit
+enter-requires-clause-limit g c = omega (arith, c.in-Ok-find.ensures.limit, c.in-Ok-find.ensures.within, c.if-target-len.false)
+
+pub enter_end-requires-clause-limit : goal.enter_end-requires-clause-limit
+enter_end-requires-clause-limit g c = c.in-Ok-find.ensures.limit
+
+pub enter-requires-clause-start : goal.enter-requires-clause-start
+enter-requires-clause-start g c = λ told.
+    let look = c.in-Ok.ensures in
+    (look.found (told-before g.R.Read c.args.self.now.inner c.look.new.self.inner look.keeps.inner.same told)).1
+
+pub enter_end-requires-clause-start : goal.enter_end-requires-clause-start
+enter_end-requires-clause-start g c = λ told.
+    let look = c.in-Ok.ensures in
+    (look.found (told-before g.R.Read c.args.self.now.inner c.look.new.self.inner look.keeps.inner.same told)).1
+
+pub stand-requires-clause-start : goal.stand-requires-clause-start
+stand-requires-clause-start g c = λ told.
+    let look = c.in-Ok.ensures in
+    (look.found (told-before g.R.Read c.args.self.now.inner c.look.new.self.inner look.keeps.inner.same told)).1
+
+pub enter-requires-clause-size : goal.enter-requires-clause-size
+enter-requires-clause-size g c = λ told.
+    let look = c.in-Ok.ensures in
+    let told_before = told-before g.R.Read c.args.self.now.inner c.look.new.self.inner look.keeps.inner.same told in
+    (look.found told_before).2 ∙ ap (λ p. length p.bytes) (sym (look.keeps.payload told_before))
+
+pub enter_end-requires-clause-size : goal.enter_end-requires-clause-size
+enter_end-requires-clause-size g c = λ told.
+    let look = c.in-Ok.ensures in
+    let told_before = told-before g.R.Read c.args.self.now.inner c.look.new.self.inner look.keeps.inner.same told in
+    (look.found told_before).2 ∙ ap (λ p. length p.bytes) (sym (look.keeps.payload told_before))
+
+pub returns-then-is_below_start-clause-refused : goal.returns-then-is_below_start-clause-refused
+returns-then-is_below_start-clause-refused g c = λ told outside.
+    let self = c.args.self.now in
+    let place = 65536 * self.number + self.at in
+    let payload = payload_at (g.R.Read.place self.inner) self.taken (g.R.Read.content self.inner) in
+    ap (λ b. if b then Err BeforeStart else in_length (plain_len (length payload.bytes)) c.args.to place)
+    (sym c.is_below_start.ensures ∙ c.if-is_below_start.true)
+
+pub returns-then-is_below_start-clause-bad : goal.returns-then-is_below_start-clause-bad
+returns-then-is_below_start-clause-bad g c = λ told well memory quiet.
+    let self = c.args.self.now in
+    let place = 65536 * self.number + self.at in
+    let payload = payload_at (g.R.Read.place self.inner) self.taken (g.R.Read.content self.inner) in
+    inl (ap (λ b. if b then Err BeforeStart else in_length (plain_len (length payload.bytes)) c.args.to place)
+    (sym c.is_below_start.ensures ∙ c.if-is_below_start.true))
+
+pub returns-then-is_below_start-clause-inner_rest : goal.returns-then-is_below_start-clause-inner_rest
+returns-then-is_below_start-clause-inner_rest g c = λ told apart outside. absurd (apart (sym c.is_below_start.ensures ∙ c.if-is_below_start.true))
