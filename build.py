@@ -4,9 +4,9 @@ build.py PROGRAM WORD.., where the words are those of a run of it that succeeds.
 
 Says on standard error which crates it proves and how many are left, and nothing where there is nothing to do. Each crate
 is proved by `rt lib` over what earlier runs have kept, as soon as those that it uses are there, the one with the longest
-chain above it first, with most of the processors' time and by as many jobs as there are processors, four at most, the others by
-one. `rt` locks a crate and all below it, so each is proved in a folder of its own, with the libraries below it beside it. Exit
-status 3 where a crate isn't proved.
+chain above it first, with most of the processors' time and by as many jobs as there are processors, four at most, one whose
+chain is nearly as long by half as many, the others by one. `rt` locks a crate and all below it, so each is proved in a folder
+of its own, with the libraries below it beside it. Exit status 3 where a crate isn't proved.
 """
 import hashlib
 import os
@@ -55,13 +55,20 @@ def built_from(names):
     return digest.hexdigest()
 
 
+def work(name):
+    """What a crate takes to be proved: by its lines of code, since an answer in words costs little, and a start."""
+    lines = {it: open(it, "rb").read().count(b"\n") for it in sources(name)}
+    code = sum(it for path, it in lines.items() if path.endswith(".rt"))
+    return 60 + code + (sum(lines.values()) - code) / 100
+
+
 def free_memory():
     with open("/proc/meminfo", encoding="utf-8") as file:
         return int(re.search(r"MemAvailable:\s+(\d+)", file.read())[1]) / 1e6
 
 
 def chain(name, above, weight):
-    """The lines that can be proved only one after another from this crate on."""
+    """The work that can be done only one after another from this crate on."""
     return weight[name] + max((chain(it, above, weight) for it in above[name]), default=0)
 
 
@@ -119,7 +126,7 @@ class Run:
 
 def build(uses):
     above = {name: [it for it in uses if name in uses[it]] for name in uses}
-    weight = {name: sum(open(it, "rb").read().count(b"\n") for it in sources(name)) for name in uses}
+    weight = {name: work(name) for name in uses}
     chains = {name: chain(name, above, weight) for name in uses}
     order = sorted(uses, key=lambda name: -chains[name])
     longest = chains[order[0]]
@@ -137,7 +144,7 @@ def build(uses):
             for name in ready:
                 # (a crate from which little hangs doesn't keep a longer chain waiting; each job reads what stands below anew)
                 ahead = sum(chains[it.name] >= chains[name] for it in running)
-                jobs = most if chains[name] == left else 1
+                jobs = most if chains[name] == left else max(1, most // 2) if chains[name] > 0.75 * left else 1
                 if ahead >= lanes or (running and sum(it.jobs for it in running) + jobs > room):
                     break
                 running.append(Run(name, uses, jobs, round(19 * (1 - chains[name] / longest))))

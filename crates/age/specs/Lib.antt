@@ -18,6 +18,7 @@ pub use Rattle.age_identity.specs.declared.error.IdentityFileConvertError.TheVar
 -- bytes, and what refusals say: age_error
 pub use Rattle.age_error.specs.Bytes
 pub use Rattle.age_error.specs.Refusals
+pub use Rattle.age_error.specs.ErrorLaws
 pub use Rattle.age_error.specs.Messages
 pub use Rattle.age_error.specs.LongMessages
 pub use Rattle.age_error.specs.Labels
@@ -32,6 +33,7 @@ pub use Rattle.age_suite.specs.Draw
 -- readers and writers: age_io
 pub use Rattle.age_io.specs.Stretch
 pub use Rattle.age_io.specs.Reading
+pub use Rattle.age_io.specs.ReadingLaws
 pub use Rattle.age_io.specs.Keeping
 pub use Rattle.age_io.proofs.Retrying
 pub use Rattle.age_io.specs.Filling

@@ -1,5 +1,6 @@
 pub mod Stretch
 pub mod Reading
+pub mod ReadingLaws
 pub mod Writing
 pub mod WritingLaws
 pub mod Copying

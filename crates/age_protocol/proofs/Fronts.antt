@@ -1,5 +1,5 @@
 -- What was read before the payload.
-use Rattle.std.proofs.Common.{◌≡◌, ◌∙◌, refl, sym, ap, subst, ℕ, ◌+◌, Bool, List, ◌++◌, length, IsTrue, Result, Ok, Err, IfErr, IsErrAnd, append_assoc, length-append, arith}
+use Rattle.std.proofs.Common.{◌≡◌, ◌∙◌, refl, sym, ap, subst, ℕ, ◌+◌, Bool, List, ◌++◌, length, IsTrue, append_assoc, length-append, arith}
 use Rattle.age_error.specs.Bytes.{AreBytesOf}
 use Rattle.age_error.specs.Refusals.{IsDevice}
 use Rattle.age_error.specs.DecryptErrors.{decrypt_refusal, decrypt_of_io, IsDeviceRefusal}
@@ -28,11 +28,6 @@ took_both old after new old_place after_place new_place h nonce reads sixteen ga
       let first : after_place ≡ old_place + length reads.front = reads.took.moved in
       omega (arith, first, moved, length-append reads.front nonce);
 }
-
--- what is true of the error that is answered
-pub of_error : {T E : Type 0} (r : Result T E) (e : E) (P : E → Type 0) → IsErrAnd r (λ x. x ≡ e) → P e → IfErr r P
-of_error (Ok x) e P is p = absurd is
-of_error (Err x) e P is p = subst P (sym is) p
 
 -- a refusal that a device made was made by the reader
 pub is_device : (e : Error) → IsDeviceRefusal (decrypt_refusal (decrypt_of_io e)) → IsDevice e

@@ -1,6 +1,6 @@
 -- Steps that keep the payload, and what they are to a caller of the reader.
 use Rattle.std.specs.Prelude.{◌≡◌, ◌≢◌, ℕ, ◌<◌, ◌&&◌, ◌⊎◌, Bool, true, false, IsTrue, List, Result, IfOk, IfErr, OnOk, OnErr, Ok, Err}
-use Rattle.std.proofs.Common.{◌≤◌, arith, ap, ◌∙◌, refl, sym, subst, inl, inr}
+use Rattle.std.proofs.Common.{arith, ap, ◌∙◌, refl, sym, subst, inl, inr}
 use Rattle.age_error.specs.Refusals.{IsDevice}
 use Rattle.age_error.specs.declared.io.Error.{Error}
 use Rattle.age_error.specs.declared.io.Error.TheVariants.{OutOfMemory, Failed, BadEnd}
@@ -21,10 +21,6 @@ use Rattle.std.proofs.lemmas.Bool.{true≢false}
 use Rattle.age_io.specs.Stretch.{IsCleanEnd, IsFault}
 use Rattle.age_stream.proofs.Holding.{rest_failed}
 use Rattle.age_stream.proofs.Sound.{same-steady, inner-well}
-
--- what was quiet all along was quiet at its end
-pub quiet-later : (a b c : ℕ) → a ≤ b → b ≤ c → IsQuiet a c → IsQuiet b c
-quiet-later a b c first second quiet = record { same = omega (arith, first, second, quiet.same); below = quiet.below }
 
 module _ {R : Type 0} (read : Ghosts R) where
   -- a reader that tells its bytes, and stays with them, still does

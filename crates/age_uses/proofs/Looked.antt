@@ -4,7 +4,7 @@ use Rattle.std.proofs.Common.{◌∙◌, ap, arith, refl, sym, subst, inl}
 use Rattle.std.proofs.lemmas.List.{map-append, append-nil, append_assoc}
 use Rattle.std.proofs.lemmas.Option.{slice_get_past}
 use Rattle.age.specs.Cursor.{sought}
-use Rattle.age.specs.Reading.{Delivers, IsQuiet}
+use Rattle.age.specs.Reading.{Delivers}
 use Rattle.age.specs.SeekFromVariants.{Start}
 use Rattle.age.specs.Stretch.{Stretch, from_place, IsCleanEnd, IsFault}
 use Rattle.age.specs.Types.{Error}
@@ -91,7 +91,3 @@ sound content rest place well at fault =
   where
     differ : true ≡ false → ⊥
     differ is = absurd (cc)
-
--- what was quiet all along was quiet at its end
-pub quiet_from : {a b c : ℕ} → a ≤ b → b ≤ c → IsQuiet a c → IsQuiet b c
-quiet_from first second quiet = record { same = omega (arith, first, second, quiet.same); below = quiet.below }

@@ -1,7 +1,8 @@
-use Rattle.std.specs.Prelude.{◌≡◌, ℕ, Bool, true, false, Result, Ok, Err, IfErr, IsErrAnd}
-use Rattle.std.proofs.Common.{rules, ◌∙◌, [], List, refl, sym, subst, inl, inr, add-zero}
+use Rattle.std.specs.Prelude.{◌≡◌, ℕ, Bool, true, false}
+use Rattle.std.proofs.Common.{rules, ◌∙◌, [], List, refl, subst, inl, inr, add-zero}
 use Rattle.std.proofs.lemmas.List.{append-nil}
 use Rattle.age.specs.Types.{Error}
+use Rattle.age.specs.ErrorLaws.{of_error}
 use Rattle.age.specs.ErrorVariants.{Device}
 use Rattle.age.specs.ErrorKindVariants.{Interrupted}
 use Rattle.age.specs.WholeFiles.{RefusesFile}
@@ -26,11 +27,6 @@ module _ {S W : Type 0} (refuses : W → ℕ → Error → Type 0) (key : List �
       → RefusesFile refuses writer n e
   from_later later n narrows e h =
       from_made n e (subst (λ k. Retried (Refused refuses) stream k e) (add-zero n) (narrows 0 e (inl (Refused-patient refuses later 0 e h, h))))
-
--- what holds of the error that is answered
-of_error : {T : Type 0} (Holds : Error → Type 0) (result : Result T Error) (e : Error) → IsErrAnd result (λ x. x ≡ e) → Holds e → IfErr result Holds
-of_error Holds (Ok x) e is h = tt
-of_error Holds (Err x) e is h = subst Holds (sym is) h
 
 is-good : (failed : Bool) → (failed ≡ true → ⊥) → failed ≡ false
 is-good true not = absurd (not refl)

@@ -3,7 +3,8 @@ use Rattle.std.specs.Prelude.{⊤}
 use Rattle.age_error.specs.Refusals.{IsDevice}
 use Rattle.age_io.specs.Writing.{Narrows, Retried, OrMemory}
 use Rattle.age_io.specs.WritingLaws.{narrows-same, retried-more, hands-on-narrows}
-use Rattle.age_io.proofs.Exiting.{IfErr-of, OnOk-refused}
+use Rattle.age_error.specs.ErrorLaws.{of_error}
+use Rattle.age_io.proofs.Exiting.{OnOk-refused}
 use Rattle.age_io.proofs.Appending.{OnErr-of, left-fewer, left-refused}
 use Rattle.age_io.proofs.Delivering.{refilled}
 use Rattle.age_io.specs.Reading.{IsQuiet}
@@ -60,7 +61,7 @@ returns-in_err-count-clause-why g c = λ reader_told well quiet.
     record { same = omega (arith, quiet.same, before.copied.gives.no_fewer_faults, reads.no_fewer_faults); below = quiet.below } in
     let ends = (before.copied.gives.bytes reader_told).end ∙ well in
     let refused = well-is-no-fault c.in_err-count.field-0.0 _ _ _ cause still ends in
-    IfErr-of _ _ _ c.from_residual-in_err-count.ensures.1 (inl refused)
+    of_error _ _ _ c.from_residual-in_err-count.ensures.1 (inl refused)
 
 pub returns-in_err-write_all-clause-why : goal.returns-in_err-write_all-clause-why
 returns-in_err-write_all-clause-why g c = λ reader_told well quiet.
@@ -79,12 +80,12 @@ returns-in_err-write_all-clause-why g c = λ reader_told well quiet.
     let refused : OrMemory refuses c.args.writer.now (length all) e =
     inr (left-refused refuses (retried-more g.W.Write.refuses g.met.W.Write.refuses_more) c.args.writer.now c.loop-piece.writer
     (length all) (length left) (length piece) e fewer (before.has_left reader_told) why) in
-    IfErr-of _ e _ c.from_residual-in_err-write_all.ensures.1 refused
+    of_error _ _ e c.from_residual-in_err-write_all.ensures.1 refused
 
 pub returns-in_err-count-clause-named : goal.returns-in_err-count-clause-named
 returns-in_err-count-clause-named g c =
     let why = c.loop-piece.invariant.copied.gives.narrows c.in_err-count.field-0.0 c.in_err-count.ensures.reads.why in
-    IfErr-of _ _ _ c.from_residual-in_err-count.ensures.1 (inl (inr (inl why)))
+    of_error _ _ _ c.from_residual-in_err-count.ensures.1 (inl (inr (inl why)))
 
 pub returns-in_err-write_all-clause-named : goal.returns-in_err-write_all-clause-named
 returns-in_err-write_all-clause-named g c =
@@ -103,7 +104,7 @@ returns-in_err-write_all-clause-named g c =
     let fewer : length piece ≤ length left = omega (arith, ap length came.bytes, length-append piece (g.R.Read.rest c.read_retrying.new.reader).bytes) in
     left-refused refuses (retried-more g.W.Write.refuses g.met.W.Write.refuses_more) c.args.writer.now c.loop-piece.writer
     (length (g.R.Read.rest c.args.reader.now).bytes) (length left) (length piece) e fewer (before.has_left reader_told) why in
-    IfErr-of _ e _ c.from_residual-in_err-write_all.ensures.1 (inl (inr (inr (handed, told))))
+    of_error _ _ e c.from_residual-in_err-write_all.ensures.1 (inl (inr (inr (handed, told))))
 
 pub loop-piece-init : goal.loop-piece-init
 loop-piece-init g c =
@@ -154,13 +155,13 @@ pub returns-in_err-room-clause-stands : goal.returns-in_err-room-clause-stands
 returns-in_err-room-clause-stands g c = OnOk-refused _ _ c.from_residual.ensures.0
 
 pub returns-in_err-room-clause-device : goal.returns-in_err-room-clause-device
-returns-in_err-room-clause-device g c = IfErr-of _ _ _ c.from_residual.ensures.1 (λ is. absurd (subst IsDevice c.in_err-room.ensures.memory is))
+returns-in_err-room-clause-device g c = of_error _ _ _ c.from_residual.ensures.1 (λ is. absurd (subst IsDevice c.in_err-room.ensures.memory is))
 
 pub returns-in_err-room-clause-why : goal.returns-in_err-room-clause-why
-returns-in_err-room-clause-why g c = λ told well quiet. IfErr-of _ _ _ c.from_residual.ensures.1 (inl c.in_err-room.ensures.memory)
+returns-in_err-room-clause-why g c = λ told well quiet. of_error _ _ _ c.from_residual.ensures.1 (inl c.in_err-room.ensures.memory)
 
 pub returns-in_err-room-clause-named : goal.returns-in_err-room-clause-named
-returns-in_err-room-clause-named g c = IfErr-of _ _ _ c.from_residual.ensures.1 (inl (inl c.in_err-room.ensures.memory))
+returns-in_err-room-clause-named g c = of_error _ _ _ c.from_residual.ensures.1 (inl (inl c.in_err-room.ensures.memory))
 
 pub returns-in_err-room-clause-narrows : goal.returns-in_err-room-clause-narrows
 returns-in_err-room-clause-narrows g c = λ told. OnOk-refused _ _ c.from_residual.ensures.0
@@ -183,7 +184,7 @@ pub returns-in_err-count-clause-device : goal.returns-in_err-count-clause-device
 returns-in_err-count-clause-device g c =
     let before = c.loop-piece.invariant in
     let reads = c.in_err-count.ensures.reads in
-    IfErr-of _ _ _ c.from_residual-in_err-count.ensures.1 (λ is. inl (omega (arith, before.copied.gives.no_fewer_faults, reads.device is)))
+    of_error _ _ _ c.from_residual-in_err-count.ensures.1 (λ is. inl (omega (arith, before.copied.gives.no_fewer_faults, reads.device is)))
 
 pub returns-in_err-count-clause-narrows : goal.returns-in_err-count-clause-narrows
 returns-in_err-count-clause-narrows g c = λ told. OnOk-refused _ _ c.from_residual-in_err-count.ensures.0
@@ -201,7 +202,7 @@ pub returns-in_err-write_all-clause-device : goal.returns-in_err-write_all-claus
 returns-in_err-write_all-clause-device g c =
     let before = c.loop-piece.invariant in
     let writes = c.in_err-write_all.ensures.writes in
-    IfErr-of _ _ _ c.from_residual-in_err-write_all.ensures.1 (λ is. inr (omega (arith, before.writer_faults, writes.device is)))
+    of_error _ _ _ c.from_residual-in_err-write_all.ensures.1 (λ is. inr (omega (arith, before.writer_faults, writes.device is)))
 
 pub returns-in_err-write_all-clause-narrows : goal.returns-in_err-write_all-clause-narrows
 returns-in_err-write_all-clause-narrows g c = λ told. OnOk-refused _ _ c.from_residual-in_err-write_all.ensures.0

@@ -4,7 +4,8 @@ use Rattle.age_error.specs.Refusals.{IsDevice}
 use Rattle.age_io.specs.Reading.{IsQuiet}
 use Rattle.age_io.specs.Writing.{Retried}
 use Rattle.age_io.specs.WritingLaws.{narrows-same, retried-more}
-use Rattle.age_io.proofs.Exiting.{IfErr-of, OnOk-refused}
+use Rattle.age_error.specs.ErrorLaws.{of_error}
+use Rattle.age_io.proofs.Exiting.{OnOk-refused}
 use Rattle.age_io.proofs.Appending.{OnErr-of, left-fewer, left-refused}
 use Rattle.age_io.proofs.Copied.{left-unasked, well-is-no-fault}
 use Rattle.age_io.proofs.PartCopied.{none-copied, part-none, part-ended, part-full, part-stands, part-stands-full, part-front}
@@ -105,13 +106,13 @@ returns-in_err-piece-clause-front g c = λ told writer_told.
     none-copied g.W.Write.appended _ c.args.writer.now (g.met.W.Write.appends_nothing c.args.writer.now)
 
 pub returns-in_err-piece-clause-device : goal.returns-in_err-piece-clause-device
-returns-in_err-piece-clause-device g c = IfErr-of _ _ _ c.from_residual.ensures.1 (λ is. absurd (subst IsDevice c.in_err-piece.ensures.memory is))
+returns-in_err-piece-clause-device g c = of_error _ _ _ c.from_residual.ensures.1 (λ is. absurd (subst IsDevice c.in_err-piece.ensures.memory is))
 
 pub returns-in_err-piece-clause-why : goal.returns-in_err-piece-clause-why
-returns-in_err-piece-clause-why g c = λ told well quiet. IfErr-of _ _ _ c.from_residual.ensures.1 (inl c.in_err-piece.ensures.memory)
+returns-in_err-piece-clause-why g c = λ told well quiet. of_error _ _ _ c.from_residual.ensures.1 (inl c.in_err-piece.ensures.memory)
 
 pub returns-in_err-piece-clause-named : goal.returns-in_err-piece-clause-named
-returns-in_err-piece-clause-named g c = IfErr-of _ _ _ c.from_residual.ensures.1 (inl c.in_err-piece.ensures.memory)
+returns-in_err-piece-clause-named g c = of_error _ _ _ c.from_residual.ensures.1 (inl c.in_err-piece.ensures.memory)
 
 pub returns-in_err-got-clause-tells : goal.returns-in_err-got-clause-tells
 returns-in_err-got-clause-tells g c = c.pieces.invariant.writer_tells
@@ -129,7 +130,7 @@ pub returns-in_err-got-clause-device : goal.returns-in_err-got-clause-device
 returns-in_err-got-clause-device g c =
     let before = c.pieces.invariant in
     let reads = c.in_err-got.ensures.reads in
-    IfErr-of _ _ _ c.from_residual-in_err-got.ensures.1 (λ is. inl (omega (arith, before.copied.gives.no_fewer_faults, reads.device is)))
+    of_error _ _ _ c.from_residual-in_err-got.ensures.1 (λ is. inl (omega (arith, before.copied.gives.no_fewer_faults, reads.device is)))
 
 pub returns-in_err-got-clause-why : goal.returns-in_err-got-clause-why
 returns-in_err-got-clause-why g c = λ told well quiet.
@@ -138,12 +139,12 @@ returns-in_err-got-clause-why g c = λ told well quiet.
     let still : IsQuiet (g.R.Read.faults c.pieces.reader) (g.R.Read.faults c.read_retrying.new.reader) =
     record { same = omega (arith, quiet.same, gives.no_fewer_faults, reads.no_fewer_faults); below = quiet.below } in
     let memory = well-is-no-fault c.in_err-got.field-0.0 _ _ _ (reads.cause (gives.same_tells ∙ told)) still ((gives.bytes told).end ∙ well) in
-    IfErr-of _ _ _ c.from_residual-in_err-got.ensures.1 (inl memory)
+    of_error _ _ _ c.from_residual-in_err-got.ensures.1 (inl memory)
 
 pub returns-in_err-got-clause-named : goal.returns-in_err-got-clause-named
 returns-in_err-got-clause-named g c =
     let e = c.in_err-got.field-0.0 in
-    IfErr-of _ e _ c.from_residual-in_err-got.ensures.1 (inr (inl (c.pieces.invariant.copied.gives.narrows e c.in_err-got.ensures.reads.why)))
+    of_error _ _ e c.from_residual-in_err-got.ensures.1 (inr (inl (c.pieces.invariant.copied.gives.narrows e c.in_err-got.ensures.reads.why)))
 
 pub returns-in_err-write_all-clause-tells : goal.returns-in_err-write_all-clause-tells
 returns-in_err-write_all-clause-tells g c = c.in_err-write_all.ensures.writes.same_tells ∙ c.pieces.invariant.writer_tells
@@ -161,7 +162,7 @@ pub returns-in_err-write_all-clause-device : goal.returns-in_err-write_all-claus
 returns-in_err-write_all-clause-device g c =
     let before = c.pieces.invariant in
     let writes = c.in_err-write_all.ensures.writes in
-    IfErr-of _ _ _ c.from_residual-in_err-write_all.ensures.1 (λ is. inr (omega (arith, before.writer_faults, writes.device is)))
+    of_error _ _ _ c.from_residual-in_err-write_all.ensures.1 (λ is. inr (omega (arith, before.writer_faults, writes.device is)))
 
 pub returns-in_err-write_all-clause-why : goal.returns-in_err-write_all-clause-why
 returns-in_err-write_all-clause-why g c = λ reader_told well quiet.
@@ -176,7 +177,7 @@ returns-in_err-write_all-clause-why g c = λ reader_told well quiet.
     let refused : refuses c.args.writer.now c.args.count e =
     left-refused refuses (retried-more g.W.Write.refuses g.met.W.Write.refuses_more) c.args.writer.now c.pieces.writer
     c.args.count c.pieces.left (length piece) e (omega (arith, size, fits)) before.has_left c.in_err-write_all.ensures.writes.why in
-    IfErr-of _ e _ c.from_residual-in_err-write_all.ensures.1 (inr refused)
+    of_error _ _ e c.from_residual-in_err-write_all.ensures.1 (inr refused)
 
 pub returns-in_err-write_all-clause-named : goal.returns-in_err-write_all-clause-named
 returns-in_err-write_all-clause-named g c =
@@ -191,7 +192,7 @@ returns-in_err-write_all-clause-named g c =
     let refused : refuses c.args.writer.now c.args.count e =
     left-refused refuses (retried-more g.W.Write.refuses g.met.W.Write.refuses_more) c.args.writer.now c.pieces.writer
     c.args.count c.pieces.left (length piece) e (omega (arith, size, fits)) before.has_left c.in_err-write_all.ensures.writes.why in
-    IfErr-of _ e _ c.from_residual-in_err-write_all.ensures.1 (inr (inr refused))
+    of_error _ _ e c.from_residual-in_err-write_all.ensures.1 (inr (inr refused))
 
 pub returns-then-got-eq0-clause-tells : goal.returns-then-got-eq0-clause-tells
 returns-then-got-eq0-clause-tells g c = c.pieces.invariant.writer_tells

@@ -4,7 +4,8 @@ use Rattle.std.proofs.lemmas.Grind.{common_steps}
 use Rattle.age_io.proofs.Delivering.{Delivers-joined, take-filled}
 use Rattle.age_io.specs.Reading.{IsQuiet, TriedAgain}
 use Rattle.age_io.proofs.Appending.{OnErr-of}
-use Rattle.age_io.proofs.Exiting.{IfErr-of, OnOk-refused}
+use Rattle.age_error.specs.ErrorLaws.{of_error}
+use Rattle.age_io.proofs.Exiting.{OnOk-refused}
 use Rattle.age_io.proofs.Keeping.{same-later, same-read, keeps-done}
 use Rattle.age_io.proofs.Stopping.{keeps-by-read, gave-front, fault-early, delivers-none, still-clean}
 use Rattle.age_io.proofs.whole.fill.Goals as goal
@@ -59,7 +60,7 @@ returns-in_err-n-clause-err g c = λ told.
     before.within) (reads.left (before.same.tells ∙ told)))
 
 pub returns-in_err-n-clause-cause : goal.returns-in_err-n-clause-cause
-returns-in_err-n-clause-cause g c = λ told. IfErr-of _ _ _ c.from_residual.ensures.1 (λ other quiet.
+returns-in_err-n-clause-cause g c = λ told. of_error _ _ _ c.from_residual.ensures.1 (λ other quiet.
     let before = c.reads.invariant in
     let reads = c.in_err-n.ensures.reads in
     let still : IsQuiet (g.R.Read.faults c.reads.reader) (g.R.Read.faults c.read_retrying.new.reader) =

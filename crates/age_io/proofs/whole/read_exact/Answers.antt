@@ -5,7 +5,8 @@ use Rattle.age_error.specs.declared.io.Error.TheVariants.{UnexpectedEof}
 use Rattle.age_io.specs.Keeping.{OrEarly}
 use Rattle.age_io.specs.Reading.{IsQuiet}
 use Rattle.age_io.proofs.Appending.{OnErr-of}
-use Rattle.age_io.proofs.Exiting.{IfErr-of, OnOk-refused}
+use Rattle.age_error.specs.ErrorLaws.{of_error}
+use Rattle.age_io.proofs.Exiting.{OnOk-refused}
 use Rattle.age_io.proofs.Keeping.{same-later, same-read, keeps-done, keeps-refused}
 use Rattle.age_io.proofs.Stopping.{keeps-by-read, took-front, fault-short, clean-short, delivers-none}
 use Rattle.age_io.proofs.whole.read_exact.Goals as goal
@@ -54,7 +55,7 @@ returns-in_err-n-clause-err g c = λ told.
     (omega (arith, reads.stays (before.same.tells ∙ told), before.moved told, size)) (reads.left (before.same.tells ∙ told)))
 
 pub returns-in_err-n-clause-early : goal.returns-in_err-n-clause-early
-returns-in_err-n-clause-early g c = λ told. IfErr-of _ _ _ c.from_residual.ensures.1 (λ other quiet.
+returns-in_err-n-clause-early g c = λ told. of_error _ _ _ c.from_residual.ensures.1 (λ other quiet.
     let before = c.loop-at.invariant in
     let reads = c.in_err-n.ensures.reads in
     let still : IsQuiet (g.R.Read.faults c.loop-at.reader) (g.R.Read.faults c.read_retrying.new.reader) =

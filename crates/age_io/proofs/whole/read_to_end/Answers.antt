@@ -3,7 +3,8 @@ use Rattle.std.proofs.Common.{◌≡◌, ◌<◌, ◌⊎◌, arith, refl, sym, a
 use Rattle.std.proofs.lemmas.Result.{IfOk-from_err}
 use Rattle.age_error.specs.declared.io.Error.TheVariants.{OutOfMemory}
 use Rattle.age_io.specs.Reading.{IsQuiet, TriedAgain}
-use Rattle.age_io.proofs.Exiting.{IfErr-of, OnOk-refused}
+use Rattle.age_error.specs.ErrorLaws.{of_error}
+use Rattle.age_io.proofs.Exiting.{OnOk-refused}
 use Rattle.age_io.proofs.Stopping.{keeps-by-read, keeps-memory, appended-front, grown-all, still-clean}
 use Rattle.std.proofs.lemmas.Grind.{common_steps}
 use Rattle.age_io.proofs.Delivering.{Appended-none, Grown-more}
@@ -63,7 +64,7 @@ pub returns-in_err-room-clause-count : goal.returns-in_err-room-clause-count
 returns-in_err-room-clause-count g c = IfOk-from_err _ _ c.from_residual.ensures.0
 
 pub returns-in_err-room-clause-cause : goal.returns-in_err-room-clause-cause
-returns-in_err-room-clause-cause g c = λ told. IfErr-of _ _ _ c.from_residual.ensures.1 (λ other. absurd (other c.in_err-room.ensures.memory))
+returns-in_err-room-clause-cause g c = λ told. of_error _ _ _ c.from_residual.ensures.1 (λ other. absurd (other c.in_err-room.ensures.memory))
 
 pub returns-in_err-wanted-clause-keeps : goal.returns-in_err-wanted-clause-keeps
 returns-in_err-wanted-clause-keeps g c =
@@ -86,7 +87,7 @@ pub returns-in_err-wanted-clause-count : goal.returns-in_err-wanted-clause-count
 returns-in_err-wanted-clause-count g c = IfOk-from_err _ _ c.from_residual-in_err-wanted.ensures.0
 
 pub returns-in_err-wanted-clause-cause : goal.returns-in_err-wanted-clause-cause
-returns-in_err-wanted-clause-cause g c = λ told. IfErr-of _ _ _ c.from_residual-in_err-wanted.ensures.1 (λ other. absurd (other c.in_err-wanted.ensures.memory))
+returns-in_err-wanted-clause-cause g c = λ told. of_error _ _ _ c.from_residual-in_err-wanted.ensures.1 (λ other. absurd (other c.in_err-wanted.ensures.memory))
 
 pub returns-in_err-wanted-clause-err : goal.returns-in_err-wanted-clause-err
 returns-in_err-wanted-clause-err g c = λ told.
@@ -121,7 +122,7 @@ pub returns-in_err-count-clause-count : goal.returns-in_err-count-clause-count
 returns-in_err-count-clause-count g c = IfOk-from_err _ _ c.from_residual-in_err-count.ensures.0
 
 pub returns-in_err-count-clause-cause : goal.returns-in_err-count-clause-cause
-returns-in_err-count-clause-cause g c = λ told. IfErr-of _ _ _ c.from_residual-in_err-count.ensures.1 (λ other quiet.
+returns-in_err-count-clause-cause g c = λ told. of_error _ _ _ c.from_residual-in_err-count.ensures.1 (λ other quiet.
     let before = c.reads.invariant in
     let reads = c.in_err-count.ensures.reads in
     let still : IsQuiet (g.R.Read.faults c.reads.reader) (g.R.Read.faults c.read_retrying.new.reader) =

@@ -14,7 +14,7 @@ use Rattle.age_protocol.proofs.Alone.{alone_is, alone_same}
 use Rattle.age_protocol.proofs.Decrypted.{by_cause}
 use Rattle.age_protocol.proofs.Reasons.{from_slice, from_stream, front-stands, io_refusal_weaker, stops-as}
 use Rattle.age_protocol.specs.WholeFiles.{read_of}
-use Rattle.age_protocol.proofs.Fronts.{of_error}
+use Rattle.age_error.specs.ErrorLaws.{of_error}
 use Rattle.age_protocol.proofs.Opened.{lacks_front, rest_of_key, refuses_payload}
 use Rattle.age_protocol.proofs.simple.plaintext_of.Goals as goal
 
@@ -54,7 +54,7 @@ returns-in_err-read_to_end-clause-refused g c =
     let read = c.in_err-read_to_end.ensures in
     let e = c.in_err-read_to_end.field-0.0 in
     let after = opened.input in
-    of_error _ (decrypt_of_io e) _ c.from_residual-in_err-read_to_end.ensures.1 (inr (record {
+    of_error _ _ (decrypt_of_io e) c.from_residual-in_err-read_to_end.ensures.1 (inr (record {
       h = opened.h;
       nonce = opened.nonce;
       left = _;

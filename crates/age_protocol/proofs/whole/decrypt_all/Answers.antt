@@ -10,7 +10,7 @@ use Rattle.age_protocol.proofs.Reasons.{from_stream, from_text, front-stands, io
 use Rattle.age_stream.specs.ReadingLaws.{and-left, and-right}
 use Rattle.age_stream.proofs.Answered.{rest-bytes}
 use Rattle.age_stream.proofs.Standing.{stand-bytes}
-use Rattle.age_protocol.proofs.Fronts.{of_error}
+use Rattle.age_error.specs.ErrorLaws.{of_error}
 use Rattle.age_protocol.proofs.Decrypted.{both_told, refuses_text, begins_text, by_cause}
 use Rattle.age_protocol.proofs.DecryptingStreams.{none_done}
 use Rattle.age_io.proofs.PartCopied.{none-copied}

@@ -6,7 +6,7 @@ use Rattle.age_armor.specs.declared.format.Format.TheVariants.{Binary, AsciiArmo
 use Rattle.std.proofs.lemmas.List.{append-nil}
 use Rattle.age_armor.specs.Writing.{inner_of, text_of}
 use Rattle.age_protocol.specs.File.{file_text}
-use Rattle.age_protocol.proofs.Fronts.{of_error}
+use Rattle.age_error.specs.ErrorLaws.{of_error}
 use Rattle.age_protocol.proofs.Refusing.{is-good, front-refused, stands-over, copy-refused, later-refused, armor-refused, out-refused}
 use Rattle.age_protocol.proofs.whole.write_file.Goals as goal
 

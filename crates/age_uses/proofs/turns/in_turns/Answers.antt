@@ -1,14 +1,9 @@
-use Rattle.std.specs.Prelude.{Result, Ok, Err, IfErr, IsErrAnd}
 use Rattle.std.proofs.Common.{◌≡◌, ◌/◌, ◌∙◌, ap, arith, inl, inr, slice_get, sym, subst, IsTrue, None, Some}
 use Rattle.age.specs.StreamReader.{tells_of}
 use Rattle.age_uses.specs.Turns.{HasPlace}
-use Rattle.age_uses.proofs.Looked.{quiet_from}
+use Rattle.age.specs.ErrorLaws.{of_error}
+use Rattle.age.specs.ReadingLaws.{quiet_from}
 use Rattle.age_uses.proofs.turns.in_turns.Goals as goal
-
--- what holds of the error that is answered
-of_error : {T E : Type 0} (Holds : E → Type 0) (result : Result T E) (e : E) → IsErrAnd result (λ x. x ≡ e) → Holds e → IfErr result Holds
-of_error Holds (Ok x) e is h = tt
-of_error Holds (Err x) e is h = subst Holds (sym is) h
 
 pub turns-init : goal.turns-init
 turns-init g c =

@@ -3,7 +3,8 @@ use Rattle.age_error.specs.DecryptErrors.{decrypt_of_io}
 use Rattle.age_io.specs.Keeping.{OrEarly}
 use Rattle.age_io.proofs.Keeping.{same-later, early-narrows}
 use Rattle.age_format.proofs.HeaderReading.{io_of_error}
-use Rattle.age_protocol.proofs.Fronts.{took_both, of_error, is_device}
+use Rattle.age_error.specs.ErrorLaws.{of_error}
+use Rattle.age_protocol.proofs.Fronts.{took_both, is_device}
 use Rattle.age_protocol.proofs.decryptor.Decryptor.new.Goals as goal
 
 pub returns-in_err-read_exact : goal.returns-in_err-read_exact
@@ -20,7 +21,7 @@ returns-in_err-read_exact g c =
       rule = search rules;
       front = search rules;
       patient = search rules;
-      refused = of_error _ (decrypt_of_io error) _ c.from_residual-in_err-read_exact.ensures.1 (
+      refused = of_error _ _ (decrypt_of_io error) c.from_residual-in_err-read_exact.ensures.1 (
         c.read_exact.new.reader,
         record {
           same = same-later g.R.Read c.args.input c.read.new.reader c.read_exact.new.reader first.keeps then.keeps.same;

@@ -7,14 +7,14 @@ use Rattle.age_protocol.specs.File.{file_front, file_text, IsFileOf}
 use Rattle.age_protocol.specs.Starting.{Starts}
 use Rattle.age_protocol.proofs.Files.{front_is, writes_file, is_file, file_bytes}
 use Rattle.age_protocol.proofs.Refusing.{front-narrows}
-use Rattle.age_protocol.proofs.Fronts.{of_error}
+use Rattle.age_error.specs.ErrorLaws.{of_error}
 use Rattle.age_protocol.proofs.encryptor.Encryptor.wrap_output.Goals as goal
 
 pub returns-in_err-room-clause-refused : goal.returns-in_err-room-clause-refused
 returns-in_err-room-clause-refused g c =
     let inside = c.self.inside in
     let written = c.in_err-room.ensures.writes in
-    of_error _ c.in_err-room.field-0.0 _ c.from_residual.ensures.1 (
+    of_error _ _ c.in_err-room.field-0.0 c.from_residual.ensures.1 (
       c.write_front.new.output,
       subst (λ file. WritesAll {T = Unit {0}} g.W.Write.tells g.W.Write.faults (OrMemory (Retried g.W.Write.refuses)) g.W.Write.appended c.args.output c.write_front.new.output
           (file_front file.file_key file.stanzas file.nonce) (Err c.in_err-room.field-0.0)) c.self.view_is

@@ -16,7 +16,8 @@ use Rattle.age_stream.specs.Cache.{last_used, HasOne, HasLast}
 use Rattle.age_stream.specs.Reading.{payload_at, IsHeld, IsLastChunk, text_at}
 use Rattle.age_stream.specs.ReadingLaws.{and-left}
 use Rattle.age_stream.proofs.Inner.{past-end}
-use Rattle.age_stream.proofs.Keeping.{payload-later, told-before, told-later, quiet-later, payload-refused, payload-done}
+use Rattle.age_io.specs.ReadingLaws.{quiet_from}
+use Rattle.age_stream.proofs.Keeping.{payload-later, told-before, told-later, payload-refused, payload-done}
 use Rattle.age_stream.proofs.Last.{held-length}
 use Rattle.age_stream.proofs.Moving.{sound-kept, sound-resumed}
 use Rattle.age_stream.proofs.reader.StreamReader.enter_end.Goals as goal
@@ -331,7 +332,7 @@ returns-in-Ok-stand-2-clause-cause g c = λ told well.
     let done = c.in-Ok-stand-2.ensures in
     let number = final_chunk c.args.size in
     IfErr-weaker c.open_last.result _ _ (λ e bad memory quiet.
-    let none = bad memory (quiet-later _ _ _ done.keeps.inner.same.faults c.open_last.ensures.keeps.inner.same.faults quiet) in (
+    let none = bad memory (quiet_from done.keeps.inner.same.faults c.open_last.ensures.keeps.inner.same.faults quiet) in (
       none.0,
       subst (λ k. g.S.Suite.opened k (nonce number true) (text_at number (payload_of self)) ≡ None) done.same.4
           (subst (λ p. g.S.Suite.opened mid.key (nonce number true) (text_at number p) ≡ None) (done.keeps.payload told) none.1),

@@ -1,5 +1,6 @@
 use Rattle.std.specs.Prelude.{IfErr}
-use Rattle.age_stream.proofs.Keeping.{stream-kept, content-kept, ok_narrows, quiet-later}
+use Rattle.age_io.specs.ReadingLaws.{quiet_from}
+use Rattle.age_stream.proofs.Keeping.{stream-kept, content-kept, ok_narrows}
 use Rattle.std.proofs.lemmas.Bool.{true≢false}
 use Rattle.age_io.specs.Reading.{IsQuiet, Delivers}
 use Rattle.age_io.specs.Stretch.{from_place}
@@ -156,7 +157,7 @@ returns-in-Err-read_full-clause-cause g c = λ told well memory quiet.
     let seeks = c.in-Ok.ensures.seeks in
     let read = c.in-Err-read_full.ensures in
     let there = (seeks.moves told (both-true (tells_of self) (content_of self).ends_well told well)).1 in
-    let calm = quiet-later _ _ _ seeks.no_fewer_faults read.keeps.inner.same.faults quiet in
+    let calm = quiet_from seeks.no_fewer_faults read.keeps.inner.same.faults quiet in
     absurd (true≢false (sym (ap (λ s. s.ends_well) there ∙ well) ∙ read.cause (seeks.same_tells ∙ told) memory calm))
 
 pub returns-in-Err-clause-fails : goal.returns-in-Err-clause-fails

@@ -2,7 +2,8 @@ use Rattle.std.proofs.Common.{◌≡◌, arith, ◌∙◌, ◌-◌, ◌+◌, len
 use Rattle.age_stream.specs.Answering.{StandAt, StopsNear, IsGoodEnd}
 use Rattle.age_stream.specs.Reader.{payload_of, place_of, wanted_of}
 use Rattle.age_stream.proofs.Answered.{refuses-near}
-use Rattle.age_stream.proofs.Keeping.{payload-more, stops-kept, told-later, quiet-later, payload-done, payload-later, payload-refused}
+use Rattle.age_io.specs.ReadingLaws.{quiet_from}
+use Rattle.age_stream.proofs.Keeping.{payload-more, stops-kept, told-later, payload-done, payload-later, payload-refused}
 use Rattle.age_stream.proofs.Standing.{stand-given, stand-joined}
 use Rattle.std.proofs.lemmas.Grind.{common_steps}
 use Rattle.age_io.proofs.Delivering.{Delivers-joined, take-filled}
@@ -61,7 +62,7 @@ returns-in-Err-clause-refused g c = λ told memory quiet well.
     let before = c.reads.invariant in
     let later = told-later g.R.Read c.args.self.now.inner c.reads.self.inner before.keeps.inner.same in
     let read = c.in-Err.ensures in
-    let calm = quiet-later _ _ _ before.keeps.inner.same.faults read.keeps.inner.same.faults quiet in
+    let calm = quiet_from before.keeps.inner.same.faults read.keeps.inner.same.faults quiet in
     let near = refuses-near g.S.Suite.seal_of mid.key (payload_of mid) (g.R.Read.rest mid.inner) (wanted_of mid) (place_of mid) c.in-Err.e
     (read.refused (later told) memory calm) (before.inner_end told ∙ well) in
     let there : place_of mid ≡ place_of c.read_on.new.self = omega (arith, read.stayed) in
@@ -109,7 +110,7 @@ returns-in-Err-clause-cause g c = λ told memory quiet.
     let before = c.reads.invariant in
     let read = c.in-Err.ensures in
     let later = told-later g.R.Read c.args.self.now.inner c.reads.self.inner before.keeps.inner.same told in
-    let calm = quiet-later _ _ _ before.keeps.inner.same.faults read.keeps.inner.same.faults quiet in
+    let calm = quiet_from before.keeps.inner.same.faults read.keeps.inner.same.faults quiet in
     sym (before.so_far told).end ∙ (read.reads.cause later memory calm).ends_badly
 
 pub returns-clause-end : goal.returns-clause-end

@@ -14,7 +14,8 @@ use Rattle.age_stream.proofs.Cached.{used-good, used-there}
 use Rattle.age_stream.specs.ReadingLaws.{and-left, and-right, taken-rest}
 use Rattle.age_stream.proofs.Ending.{err-well, ok-well, last-opens, sought-refuses, not-both, in_length-leads, is-end, not-end}
 use Rattle.age_stream.proofs.Inner.{payload-place}
-use Rattle.age_stream.proofs.Keeping.{told-later, told-before, quiet-later, payload-refused, payload-ended, payload-later, content-kept, stream-kept, sought-why, stream_narrows, seeks-failed}
+use Rattle.age_io.specs.ReadingLaws.{quiet_from}
+use Rattle.age_stream.proofs.Keeping.{told-later, told-before, payload-refused, payload-ended, payload-later, content-kept, stream-kept, sought-why, stream_narrows, seeks-failed}
 use Rattle.age_stream.proofs.Judged.{ends_last, ends_badly}
 use Rattle.age_stream.proofs.Lengths.{plain_len_says}
 use Rattle.age_stream.proofs.Sound.{rest-kept, now-sound}
@@ -90,7 +91,7 @@ returns-in-Err-stand-clause-seeks g c =
     (done.same.4 ∙ look.same.4) (omega (arith, look.same.0, look.same.1, done.same.0, done.same.1)) done.refusal
     (λ told well plain memory quiet. done.cause (told-later read self.inner mid.inner look.keeps.inner.same told)
     (ap (λ p. p.ends_well) (look.keeps.payload told) ∙ well) memory
-    (quiet-later _ _ _ look.keeps.inner.same.faults done.keeps.inner.same.faults quiet))
+    (quiet_from look.keeps.inner.same.faults done.keeps.inner.same.faults quiet))
 
 pub returns-in-Err-enter-clause-seeks : goal.returns-in-Err-enter-clause-seeks
 returns-in-Err-enter-clause-seeks g c =
@@ -106,7 +107,7 @@ returns-in-Err-enter-clause-seeks g c =
     (done.key ∙ look.same.4) (omega (arith, look.same.0, look.same.1, done.stays.0, done.stays.1)) done.refusal
     (λ told well plain memory quiet. done.cause (told-later read self.inner mid.inner look.keeps.inner.same told)
     (ap (λ p. p.ends_well) (look.keeps.payload told) ∙ well) memory
-    (quiet-later _ _ _ look.keeps.inner.same.faults done.keeps.inner.same.faults quiet))
+    (quiet_from look.keeps.inner.same.faults done.keeps.inner.same.faults quiet))
 
 pub returns-in-Err-enter_end-clause-seeks : goal.returns-in-Err-enter_end-clause-seeks
 returns-in-Err-enter_end-clause-seeks g c =
@@ -127,7 +128,7 @@ returns-in-Err-enter_end-clause-seeks g c =
     let are = All-drop (λ x. x < 2 ^ 8) (read.place self.inner - self.taken) (read.content self.inner).bytes
     (g.met.R.Read.are_bytes self.inner (and-left (read.tells self.inner) (read.steady self.inner) told)) in
     let none = (done.cause (told-later read self.inner mid.inner look.keeps.inner.same told) (ap (λ p. p.ends_well) (look.keeps.payload told) ∙ whole) memory
-    (quiet-later _ _ _ look.keeps.inner.same.faults done.keeps.inner.same.faults quiet)).1 in
+    (quiet_from look.keeps.inner.same.faults done.keeps.inner.same.faults quiet)).1 in
     let size : c.in-Ok.size ≡ length payload.bytes = (look.found told).2 in
     let num = final_chunk c.in-Ok.size in
     let moved = subst (λ p. suite.opened mid.key (nonce num true) (text_at num p) ≡ None) (look.keeps.payload told) none in
@@ -418,7 +419,7 @@ returns-in-Err-enter_end-clause-bad g c =
     (g.met.R.Read.are_bytes self.inner (and-left (read.tells self.inner) (read.steady self.inner) told)) in
     let size : c.in-Ok.size ≡ length payload.bytes = (look.found told).2 in
     let done = c.in-Err-enter_end.ensures in
-    let calm = quiet-later _ _ _ look.keeps.inner.same.faults done.keeps.inner.same.faults quiet in
+    let calm = quiet_from look.keeps.inner.same.faults done.keeps.inner.same.faults quiet in
     let inner : IsTrue (payload_at (read.place mid.inner) mid.taken (read.content mid.inner)).ends_well = ap (λ p. p.ends_well) (look.keeps.payload told) ∙ well in
     let bad = done.cause (later told) inner memory calm in
     let num = final_chunk c.in-Ok.size in
