@@ -156,7 +156,7 @@ fn is_bad(
 const ALPHABET: &[u8] = b"ABCDEFGHIJKLMNOPQRSTUVWXYZabcdefghijklmnopqrstuvwxyz0123456789+/";
 
 // The bytes whose line is the alphabet.
-const VALUES: &[u8] = &[
+pub(crate) const VALUES: &[u8] = &[
     0x00, 0x10, 0x83, 0x10, 0x51, 0x87, 0x20, 0x92, 0x8b, 0x30, 0xd3, 0x8f, 0x41, 0x14, 0x93, 0x51,
     0x55, 0x97, 0x61, 0x96, 0x9b, 0x71, 0xd7, 0x9f, 0x82, 0x18, 0xa3, 0x92, 0x59, 0xa7, 0xa2, 0x9a,
     0xab, 0xb2, 0xdb, 0xaf, 0xc3, 0x1c, 0xb3, 0xd3, 0x5d, 0xb7, 0xe3, 0x9e, 0xbb, 0xf3, 0xdf, 0xbf,
@@ -195,62 +195,70 @@ fn long_lines_are_bad(alloc: Global) -> Result<bool, Error> {
     )
 }
 
+// A line between the markers, the bytes before its fault, and the fault.
+const BAD_TEXTS: [(&[u8], &[u8], ArmoredReadError); 6] = [
+    (b"\n", b"", ArmoredReadError::NotWrappedAt64Chars),
+    (b"YQ=\n", b"", ArmoredReadError::MissingPadding),
+    (b"YR==\n", b"", ArmoredReadError::Base64),
+    (b"Y\rQ=\n", b"", ArmoredReadError::LineContainsCr),
+    (b"Y\rQ\xff\n", b"", ArmoredReadError::InvalidUtf8),
+    (b"YQ==\nYQ=\n", b"a", ArmoredReadError::NotWrappedAt64Chars),
+];
+
 #[test]
 fn bad_texts_end_in_their_first_fault(rt: HostRuntime) -> Result<(), Fail> {
     assert!(rt; long_lines_are_bad(rt.alloc())?);
-    for (lines, bytes, fault) in [
-        (
-            b"\n".as_slice(),
-            b"".as_slice(),
-            ArmoredReadError::NotWrappedAt64Chars,
-        ),
-        (b"YQ=\n", b"", ArmoredReadError::MissingPadding),
-        (b"YR==\n", b"", ArmoredReadError::Base64),
-        (b"Y\rQ=\n", b"", ArmoredReadError::LineContainsCr),
-        (b"Y\rQ\xff\n", b"", ArmoredReadError::InvalidUtf8),
-        (b"YQ==\nYQ=\n", b"a", ArmoredReadError::NotWrappedAt64Chars),
-    ] {
+    for (lines, bytes, fault) in BAD_TEXTS {
         assert!(rt; is_bad(rt.alloc(), &[BEGIN, lines, END], bytes, fault)?);
     }
     Ok(())
 }
 
+// With less than a begin marker that ends early, with so many bytes of something else, and with what follows the marker.
+fn short_texts_end_so(alloc: Global) -> Result<bool, Error> {
+    let early = Some(Error::UnexpectedEof);
+    let spaced = b"-----BEGIN AGE ENCRYPTED FILE----- \n".as_slice();
+    Ok(
+        is_read_so(alloc, &[], &[], early)?
+            && is_read_so(alloc, BEGIN, &[], early)?
+            && is_read_so(alloc, &[7; 35], &[], early)?
+            && is_read_so(alloc, &[7; 36], &[7; 36], None)?
+            && is_bad(
+                alloc,
+                &[spaced, END],
+                &[],
+                ArmoredReadError::InvalidBeginMarker,
+            )?,
+    )
+}
+
+const LINE: &[u8] = b"YQ==\n";
+
+// After one line of a byte.
+fn lines_end_so(alloc: Global) -> Result<bool, Error> {
+    let unended = b"-----END AGE ENCRYPTED FILE-----".as_slice();
+    Ok(
+        ends_so(alloc, &[BEGIN, LINE, END, b" \t\n\x0c\r"], b"a", None)?
+            && ends_so(alloc, &[BEGIN, LINE, unended], b"a", None)?
+            && is_bad(
+                alloc,
+                &[BEGIN, LINE, END, b"x"],
+                b"a",
+                ArmoredReadError::TrailingGarbage,
+            )?
+            && is_bad(
+                alloc,
+                &[BEGIN, LINE],
+                b"a",
+                ArmoredReadError::NotWrappedAt64Chars,
+            )?,
+    )
+}
+
 #[test]
 fn ends_are_told_apart(rt: HostRuntime) -> Result<(), Fail> {
-    let alloc = rt.alloc();
-    let line = b"YQ==\n".as_slice();
-    let unended = b"-----END AGE ENCRYPTED FILE-----".as_slice();
-    let spaced = b"-----BEGIN AGE ENCRYPTED FILE----- \n".as_slice();
-    assert!(rt; is_read_so(alloc, &[], &[], Some(Error::UnexpectedEof))?);
-    assert!(rt; is_read_so(alloc, BEGIN, &[], Some(Error::UnexpectedEof))?);
-    assert!(rt; is_read_so(alloc, &[7; 35], &[], Some(Error::UnexpectedEof))?);
-    assert!(rt; is_read_so(alloc, &[7; 36], &[7; 36], None)?);
-    assert!(rt;
-        is_bad(
-            alloc,
-            &[BEGIN, line, END, b"x"],
-            b"a",
-            ArmoredReadError::TrailingGarbage
-        )?
-    );
-    assert!(rt; ends_so(alloc, &[BEGIN, line, END, b" \t\n\x0c\r"], b"a", None)?);
-    assert!(rt; ends_so(alloc, &[BEGIN, line, unended], b"a", None)?);
-    assert!(rt;
-        is_bad(
-            alloc,
-            &[BEGIN, line],
-            b"a",
-            ArmoredReadError::NotWrappedAt64Chars
-        )?
-    );
-    assert!(rt;
-        is_bad(
-            alloc,
-            &[spaced, END],
-            &[],
-            ArmoredReadError::InvalidBeginMarker
-        )?
-    );
+    assert!(rt; short_texts_end_so(rt.alloc())?);
+    assert!(rt; lines_end_so(rt.alloc())?);
     Ok(())
 }
 
@@ -277,13 +285,18 @@ fn carries(alloc: Global, text: &[u8], bytes: &[u8]) -> Result<bool, Error> {
     Ok(delivers(alloc, &mut reader, bytes))
 }
 
+// Whether the armor of bytes carries them.
+fn armor_carries(alloc: Global, bytes: &[u8]) -> Result<bool, Error> {
+    carries(alloc, &armored(alloc, bytes, b"\n")?, bytes)
+}
+
 // Longer than the buffer of the reader between.
 #[test]
 fn lines_are_read_across_the_ends_of_a_buffer(rt: HostRuntime) -> Result<(), Fail> {
     let alloc = rt.alloc();
     let bytes = counting(alloc, 20_000)?;
     assert!(rt; bytes.len() == 20_000);
-    assert!(rt; carries(alloc, &armored(alloc, &bytes, b"\n")?, &bytes)?);
+    assert!(rt; armor_carries(alloc, &bytes)?);
     assert!(rt; carries(alloc, &bytes, &bytes)?);
     Ok(())
 }
@@ -305,15 +318,25 @@ fn leaves(alloc: Global, text: &[u8], given: usize, rest: &[u8]) -> Result<bool,
     Ok(left_after(alloc, text, 60, given)?.as_slice() == rest)
 }
 
-// Of a binary text it has what wasn't taken; of armor what follows the line that was asked for.
+// Whether bytes that aren't armor, and give 35 of them, leave the others.
+fn leaves_what_was_not_taken(alloc: Global, bytes: &[u8]) -> Result<bool, Error> {
+    match bytes.split_at_checked(35) {
+        Some((_, behind)) => leaves(alloc, bytes, 35, behind),
+        None => Ok(false),
+    }
+}
+
+// Whether armor leaves what follows the line that was asked for.
+fn leaves_what_follows_the_line(alloc: Global) -> Result<bool, Error> {
+    let rest = joined(alloc, &[END, b" "])?;
+    leaves(alloc, &joined(alloc, &[BEGIN, LINE, &rest])?, 1, &rest)
+}
+
 #[test]
 fn the_inner_reader_is_handed_back_where_it_stands(rt: HostRuntime) -> Result<(), Fail> {
     let alloc = rt.alloc();
-    let bytes = counting(alloc, 100)?;
-    let (_, behind) = bytes.as_slice().split_at_checked(35).ok_or("too short")?;
-    assert!(rt; leaves(alloc, &bytes, 35, behind)?);
-    let text = joined(alloc, &[BEGIN, b"YQ==\n", END, b" "])?;
-    assert!(rt; leaves(alloc, &text, 1, &joined(alloc, &[END, b" "])?)?);
+    assert!(rt; leaves_what_was_not_taken(alloc, &counting(alloc, 100)?)?);
+    assert!(rt; leaves_what_follows_the_line(alloc)?);
     Ok(())
 }
 

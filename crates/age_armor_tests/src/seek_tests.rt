@@ -100,16 +100,24 @@ const SEEKS: [(Op, Expected); 9] = [
     (Op::Read(1), Expected::Front(5, 1)),
 ];
 
+// Whether readers of the armor of bytes, of so many bytes with this line ending and this after it, answer the operations so.
+fn armor_answers(
+    alloc: Global,
+    data: &[u8],
+    (feed, after, length): (&[u8], &[u8], usize),
+    steps: &[(Op, Expected)],
+) -> Result<bool, Error> {
+    let mut text = armored(alloc, data, feed)?;
+    text.extend_from_slice(after)?;
+    Ok(text.len() == length && both_answer(alloc, &text, data, steps)?)
+}
+
 #[test]
 fn seeks_lead_to_their_targets(rt: HostRuntime) -> Result<(), Fail> {
     let alloc = rt.alloc();
     let data = counting(alloc, 10_000)?;
-    let text = armored(alloc, &data, b"\n")?;
-    assert!(rt; text.len() == 13_613);
-    assert!(rt; both_answer(alloc, &text, &data, &SEEKS)?);
-    let mut spaced = armored(alloc, &data, b"\r\n")?;
-    spaced.extend_from_slice(b"   ")?;
-    assert!(rt; both_answer(alloc, &spaced, &data, &SEEKS)?);
+    assert!(rt; armor_answers(alloc, &data, (b"\n", b"", 13_613), &SEEKS)?);
+    assert!(rt; armor_answers(alloc, &data, (b"\r\n", b"   ", 13_827), &SEEKS)?);
     assert!(rt; both_answer(alloc, &data, &data, &SEEKS)?);
     Ok(())
 }
@@ -165,23 +173,64 @@ const ON_THE_WAY: [(Op, Expected); 10] = [
 fn seeks_near_marks_lead_to_their_targets(rt: HostRuntime) -> Result<(), Fail> {
     let alloc = rt.alloc();
     let data = counting(alloc, 100_000)?;
-    for feed in [b"\n".as_slice(), b"\r\n"] {
-        let text = armored(alloc, &data, feed)?;
-        assert!(rt; both_answer(alloc, &text, &data, &AFTER_ALL)?);
-        assert!(rt; both_answer(alloc, &text, &data, &ON_THE_WAY)?);
+    for (feed, length) in [(b"\n".as_slice(), 135_488), (b"\r\n", 137_574)] {
+        assert!(rt; armor_answers(alloc, &data, (feed, b"", length), &AFTER_ALL)?);
+        assert!(rt; armor_answers(alloc, &data, (feed, b"", length), &ON_THE_WAY)?);
     }
     assert!(rt; both_answer(alloc, &data, &data, &AFTER_ALL)?);
     Ok(())
 }
 
-// How many lines a seek to a place and a read of the byte there take, or `None` where another byte comes.
-fn lines_of_a_look<R: BufRead + Seek>(
+// All bytes and the end.
+const ALL: [(Op, Expected); 2] = [
+    (Op::Read(100_000), Expected::Front(0, 100_000)),
+    (Op::Read(1), Expected::Front(100_000, 0)),
+];
+
+// Back to where it stands, and to outside of the text.
+const STILL: [(Op, Expected); 5] = [
+    (Op::Seek(SeekFrom::Current(0)), Expected::Place(99_001)),
+    (Op::Seek(SeekFrom::Start(99_001)), Expected::Place(99_001)),
+    (
+        Op::Seek(SeekFrom::Start(100_001)),
+        Expected::Refusal(Error::PastEnd),
+    ),
+    (
+        Op::Seek(SeekFrom::End(1)),
+        Expected::Refusal(Error::PastEnd),
+    ),
+    (
+        Op::Seek(SeekFrom::End(-100_001)),
+        Expected::Refusal(Error::BeforeStart),
+    ),
+];
+
+// To the end.
+const TO_END: [(Op, Expected); 2] = [
+    (Op::Seek(SeekFrom::End(0)), Expected::Place(100_000)),
+    (Op::Seek(SeekFrom::Current(0)), Expected::Place(100_000)),
+];
+
+// Whether the reader answers the operations so, and takes so many lines for them.
+fn takes<R: BufRead + Seek>(
+    alloc: Global,
+    reader: &mut ArmoredReader<R>,
+    whole: &[u8],
+    steps: &[(Op, Expected)],
+    lines: u64,
+) -> Result<bool, Error> {
+    let before = reader.lines();
+    Ok(answers(alloc, reader, whole, steps)? && reader.lines().checked_sub(before) == Some(lines))
+}
+
+// Whether a seek to a place and a read of the byte there take so many lines.
+fn looks<R: BufRead + Seek>(
     alloc: Global,
     reader: &mut ArmoredReader<R>,
     whole: &[u8],
     place: usize,
-) -> Result<Option<u64>, Error> {
-    let before = reader.lines();
+    lines: u64,
+) -> Result<bool, Error> {
     let steps = [
         (
             Op::Seek(SeekFrom::Start(place as u64)),
@@ -189,14 +238,11 @@ fn lines_of_a_look<R: BufRead + Seek>(
         ),
         (Op::Read(1), Expected::Front(place, 1)),
     ];
-    if !answers(alloc, reader, whole, &steps)? {
-        return Ok(None);
-    }
-    Ok(reader.lines().checked_sub(before))
+    takes(alloc, reader, whole, &steps, lines)
 }
 
-// Whether a reader that was read to its end took so many lines for that, and takes so many for looks at two places, and none for the way
-// to its end, back to where it stands, and to outside of the text.
+// Whether a new reader takes so many lines to the end, so many for looks at two places then, and none for the way back to where it
+// stands and to outside of the text; and whether its end is where it should be.
 fn takes_lines<R: BufRead + Seek>(
     alloc: Global,
     reader: &mut ArmoredReader<R>,
@@ -204,43 +250,14 @@ fn takes_lines<R: BufRead + Seek>(
     counts: [u64; 3],
 ) -> Result<bool, Error> {
     let [all, first, second] = counts;
-    let steps = [
-        (Op::Read(100_000), Expected::Front(0, 100_000)),
-        (Op::Read(1), Expected::Front(100_000, 0)),
-    ];
-    if reader.lines() != 0 || !answers(alloc, reader, whole, &steps)? || reader.lines() != all {
-        return Ok(false);
-    }
-    if lines_of_a_look(alloc, reader, whole, 98_303)? != Some(first)
-        || lines_of_a_look(alloc, reader, whole, 99_000)? != Some(second)
-    {
-        return Ok(false);
-    }
-    let so_far = reader.lines();
-    let still = [
-        (Op::Seek(SeekFrom::Current(0)), Expected::Place(99_001)),
-        (Op::Seek(SeekFrom::Start(99_001)), Expected::Place(99_001)),
-        (
-            Op::Seek(SeekFrom::Start(100_001)),
-            Expected::Refusal(Error::PastEnd),
-        ),
-        (
-            Op::Seek(SeekFrom::End(1)),
-            Expected::Refusal(Error::PastEnd),
-        ),
-        (
-            Op::Seek(SeekFrom::End(-100_001)),
-            Expected::Refusal(Error::BeforeStart),
-        ),
-    ];
-    if !answers(alloc, reader, whole, &still)? || reader.lines() != so_far {
-        return Ok(false);
-    }
-    let end = [
-        (Op::Seek(SeekFrom::End(0)), Expected::Place(100_000)),
-        (Op::Seek(SeekFrom::Current(0)), Expected::Place(100_000)),
-    ];
-    answers(alloc, reader, whole, &end)
+    Ok(
+        reader.lines() == 0
+            && takes(alloc, reader, whole, &ALL, all)?
+            && looks(alloc, reader, whole, 98_303, first)?
+            && looks(alloc, reader, whole, 99_000, second)?
+            && takes(alloc, reader, whole, &STILL, 0)?
+            && answers(alloc, reader, whole, &TO_END)?,
+    )
 }
 
 fn both_take_lines(
@@ -369,16 +386,24 @@ fn ends_in(alloc: Global, text: &[u8], fault: Error) -> Result<bool, Error> {
     both_answer(alloc, text, b"", &steps)
 }
 
+// A text that begins so, and has these lines then.
+fn lines_end_in(
+    alloc: Global,
+    begin: &[u8],
+    lines: &[u8],
+    fault: ArmoredReadError,
+) -> Result<bool, Error> {
+    ends_in(alloc, &joined(alloc, &[begin, lines])?, Error::Armor(fault))
+}
+
 #[test]
 fn seeks_from_the_end_of_bad_armor_are_its_fault(rt: HostRuntime) -> Result<(), Fail> {
     let alloc = rt.alloc();
     for (lines, fault) in BAD_LINES {
-        let text = joined(alloc, &[BEGIN, lines])?;
-        assert!(rt; ends_in(alloc, &text, Error::Armor(fault))?);
+        assert!(rt; lines_end_in(alloc, BEGIN, lines, fault)?);
     }
-    let marker = joined(alloc, &[b"-----BEGIN AGE ENCRYPTED FILE-----x\n", END])?;
-    let fault = Error::Armor(ArmoredReadError::InvalidBeginMarker);
-    assert!(rt; ends_in(alloc, &marker, fault)?);
+    let begin = b"-----BEGIN AGE ENCRYPTED FILE-----x\n";
+    assert!(rt; lines_end_in(alloc, begin, END, ArmoredReadError::InvalidBeginMarker)?);
     for few in [b"".as_slice(), b"a", BEGIN, &[7; 35]] {
         assert!(rt; ends_in(alloc, few, Error::UnexpectedEof)?);
     }
