@@ -5,13 +5,13 @@ use age::draw::Draw;
 use age::format::{Grease, Stanza};
 use age::secrecy::{FileKey, SecretString};
 use age::suite::Suite;
-use age::{DecryptError, Identity, Recipient, decrypt, scrypt, x25519};
+use age::{DecryptError, Identity, Recipient, decrypt, encrypt, encrypt_and_armor, scrypt, x25519};
 use age_bench::suite::BenchSuite;
 use age_try::answers::is_refusal;
 use age_try::fixtures::{MESSAGE, empty_stanza};
 use std::alloc::{AllocError, Global};
 use std::collections::BTreeSet;
-use std::fmt::Display;
+use std::fmt::{Debug, Display};
 use std::test::Fail;
 
 /// A passphrase.
@@ -48,8 +48,8 @@ pub fn grease(alloc: Global) -> Result<Grease, Fail> {
     }
 }
 
-// Texts of their own.
-fn owned(alloc: Global, texts: &[&str]) -> Result<Vec<String>, AllocError> {
+/// Texts of their own.
+pub fn owned(alloc: Global, texts: &[&str]) -> Result<Vec<String>, AllocError> {
     let mut all = Vec::new(alloc);
     for text in texts {
         all.push(String::from_str(alloc, text)?)?;
@@ -110,9 +110,37 @@ pub fn refuses<I: Identity>(
     is_refused(alloc, identity.unwrap_stanza(alloc, stanza), refusal)
 }
 
+/// The message's file for a recipient, with these random bytes.
+pub fn encrypted_for<R: Recipient>(
+    alloc: Global,
+    recipient: &R,
+    mut draw: Draw,
+) -> Result<Vec<u8>, Fail> {
+    let grease = grease(alloc)?;
+    Ok(encrypt::<BenchSuite, R>(alloc, recipient, MESSAGE, &mut draw, grease)?)
+}
+
+/// The armor of such a file.
+pub fn armored_for<R: Recipient>(
+    alloc: Global,
+    recipient: &R,
+    mut draw: Draw,
+) -> Result<String, Fail> {
+    let grease = grease(alloc)?;
+    Ok(encrypt_and_armor::<BenchSuite, R>(alloc, recipient, MESSAGE, &mut draw, grease)?)
+}
+
+// Whether an answer is the message.
+fn is_message<E: Drop>(answer: Result<Vec<u8>, E>) -> bool {
+    match answer {
+        Ok(plain) => plain.as_slice() == MESSAGE,
+        Err(_) => false,
+    }
+}
+
 /// Whether an identity decrypts a file, or its armor, to the message.
-pub fn opens<I: Identity>(alloc: Global, identity: &mut I, file: &[u8]) -> Result<bool, Fail> {
-    Ok(decrypt::<BenchSuite, I>(alloc, identity, file)?.as_slice() == MESSAGE)
+pub fn opens<I: Identity>(alloc: Global, identity: &mut I, file: &[u8]) -> bool {
+    is_message(decrypt::<BenchSuite, I>(alloc, identity, file))
 }
 
 /// Whether an identity refuses a file, or its armor, with this text.
@@ -141,6 +169,19 @@ fn are_labels(labels: &BTreeSet<String>, expected: Option<&str>) -> bool {
     }
 }
 
+// Whether an answer is this stanza, with this label or none.
+fn is_wrapped<E: Drop>(
+    answer: Result<(Vec<Stanza>, BTreeSet<String>), E>,
+    expected: &Stanza,
+    label: Option<&str>,
+) -> bool {
+    match answer {
+        Ok((stanzas, labels)) => is_only(stanzas.as_slice(), expected)
+            && are_labels(&labels, label),
+        Err(_) => false,
+    }
+}
+
 /// Whether a recipient wraps a file key of zeros in this stanza, with this label or none, and leaves so many random bytes.
 pub fn wraps<R: Recipient>(
     alloc: Global,
@@ -149,9 +190,9 @@ pub fn wraps<R: Recipient>(
     expected: &Stanza,
     label: Option<&str>,
     left: usize,
-) -> Result<bool, Fail> {
-    let (stanzas, labels) = recipient.wrap_file_key(alloc, &FileKey::new([0; 16]), &mut draw)?;
-    Ok(is_only(stanzas.as_slice(), expected) && are_labels(&labels, label) && draw.left() == left)
+) -> bool {
+    let answer = recipient.wrap_file_key(alloc, &FileKey::new([0; 16]), &mut draw);
+    is_wrapped(answer, expected, label) && draw.left() == left
 }
 
 /// Whether a recipient refuses to wrap it with this text, and leaves so many random bytes.
@@ -169,4 +210,9 @@ pub fn refuses_to_wrap<R: Recipient>(
 /// Whether a value has this text.
 pub fn prints<T: Display>(alloc: Global, value: &T, text: &str) -> Result<bool, Fail> {
     Ok(value.to_string(alloc)?.as_str() == text)
+}
+
+/// Whether a value has this text for whoever looks for faults.
+pub fn shows<T: Debug>(alloc: Global, value: &T, text: &str) -> Result<bool, Fail> {
+    Ok(format!(in alloc; "{value:?}")?.as_str() == text)
 }

@@ -1,17 +1,18 @@
 //! Files for a passphrase, and passphrases beside other recipients. The expected bytes are those of Python, from the format's own words.
 
-use crate::fixtures::{grease, horse, opens, passphrase, recipient_of, refuses, refuses_file};
+use crate::fixtures::{
+    armored_for, encrypted_for, grease, horse, opens, passphrase, recipient_of, refuses,
+    refuses_file,
+};
 use age::armor::ArmoredReader;
 use age::draw::Draw;
 use age::format::{HeaderV1, Stanza};
 use age::io::Bytes;
 use age::scrypt::{Identity, Recipient};
-use age::{
-    DecryptError, Encryptor, Recipient as AnyRecipient, decrypt, encrypt, encrypt_and_armor,
-};
+use age::{DecryptError, Encryptor, Recipient as AnyRecipient, decrypt};
 use age_bench::suite::BenchSuite;
 use age_try::answers::is_refusal;
-use age_try::fixtures::{MESSAGE, zeros};
+use age_try::fixtures::zeros;
 use age_try::never_stretches::NeverStretches;
 use age_try::scripted::ScriptedRecipient;
 use std::alloc::{AllocError, Global};
@@ -28,18 +29,12 @@ fn recipient(alloc: Global) -> Result<Recipient<BenchSuite>, AllocError> {
 
 // The message's file.
 fn encrypted(alloc: Global) -> Result<Vec<u8>, Fail> {
-    Ok(encrypt::<BenchSuite, Recipient<BenchSuite>>(
-        alloc,
-        &recipient(alloc)?,
-        MESSAGE,
-        &mut zeros(alloc, 72)?,
-        grease(alloc)?,
-    )?)
+    encrypted_for(alloc, &recipient(alloc)?, zeros(alloc, 72)?)
 }
 
 // Whether the identity of the passphrase decrypts a file, or its armor, to the message.
-fn comes_back(alloc: Global, file: &[u8]) -> Result<bool, Fail> {
-    opens(alloc, &mut horse(alloc, 18)?, file)
+fn comes_back(alloc: Global, file: &[u8]) -> Result<bool, AllocError> {
+    Ok(opens(alloc, &mut horse(alloc, 18)?, file))
 }
 
 // The file has no grease, since the stanza of a passphrase stands alone.
@@ -47,25 +42,18 @@ fn comes_back(alloc: Global, file: &[u8]) -> Result<bool, Fail> {
 fn a_message_has_its_file(rt: HostRuntime) -> Result<(), Fail> {
     let alloc = rt.alloc();
     let file = encrypted(alloc)?;
-    assert!(rt; file.len() == 218);
-    assert!(rt; file.starts_with(HEADER));
-    assert!(rt; comes_back(alloc, file.as_slice())?);
+    assert!(rt; file.len() == 218 && file.starts_with(HEADER));
+    assert!(rt; comes_back(alloc, &file)?);
     Ok(())
 }
 
 // The armor of the message's file.
 fn armored(alloc: Global) -> Result<String, Fail> {
-    Ok(encrypt_and_armor::<BenchSuite, Recipient<BenchSuite>>(
-        alloc,
-        &recipient(alloc)?,
-        MESSAGE,
-        &mut zeros(alloc, 72)?,
-        grease(alloc)?,
-    )?)
+    armored_for(alloc, &recipient(alloc)?, zeros(alloc, 72)?)
 }
 
 // Whether the passphrase with a space after it fails.
-fn another_fails(alloc: Global, file: &[u8]) -> Result<bool, Fail> {
+fn another_fails(alloc: Global, file: &[u8]) -> Result<bool, AllocError> {
     let mut other = Identity::<BenchSuite>::new(passphrase(alloc, "correct horse ")?, 18);
     Ok(refuses_file::<BenchSuite, _>(alloc, &mut other, file, "decryption failed"))
 }
@@ -74,8 +62,7 @@ fn another_fails(alloc: Global, file: &[u8]) -> Result<bool, Fail> {
 fn another_passphrase_fails(rt: HostRuntime) -> Result<(), Fail> {
     let alloc = rt.alloc();
     let text = armored(alloc)?;
-    assert!(rt; text.len() == 365);
-    assert!(rt; comes_back(alloc, text.as_bytes())?);
+    assert!(rt; text.len() == 365 && comes_back(alloc, text.as_bytes())?);
     assert!(rt; another_fails(alloc, text.as_bytes())?);
     Ok(())
 }
@@ -180,7 +167,7 @@ fn has_arguments(stanza: &Stanza, first: &str, second: &str) -> bool {
 }
 
 // Whether an identity for a work factor of 5 finds that of a stanza too large.
-fn is_excessive(alloc: Global, stanza: &Stanza) -> Result<bool, Fail> {
+fn is_excessive(alloc: Global, stanza: &Stanza) -> Result<bool, AllocError> {
     let mut identity = Identity::<BenchSuite>::new(passphrase(alloc, "p")?, 5);
     Ok(refuses(
         alloc,
@@ -190,16 +177,22 @@ fn is_excessive(alloc: Global, stanza: &Stanza) -> Result<bool, Fail> {
     ))
 }
 
+// Whether stanzas are the one of the armor, and its work factor is too large for that identity.
+fn is_the_one(alloc: Global, stanzas: &[Stanza]) -> Result<bool, AllocError> {
+    match stanzas {
+        [stanza] => Ok(
+            stanza.tag() == "scrypt"
+                && has_arguments(stanza, "skb8GKz/cKOk8piHM4FF1Q", "10")
+                && is_excessive(alloc, stanza)?,
+        ),
+        _ => Ok(false),
+    }
+}
+
 #[test]
 fn a_stanza_is_read_through_armor(rt: HostRuntime) -> Result<(), Fail> {
     let alloc = rt.alloc();
-    let header = header(alloc)?;
-    let [stanza] = header.stanzas() else {
-        return Err(Fail::from("not one stanza"));
-    };
-    assert!(rt; stanza.tag() == "scrypt");
-    assert!(rt; has_arguments(stanza, "skb8GKz/cKOk8piHM4FF1Q", "10"));
-    assert!(rt; is_excessive(alloc, stanza)?);
+    assert!(rt; is_the_one(alloc, header(alloc)?.stanzas())?);
     Ok(())
 }
 

@@ -45,21 +45,24 @@ const NAME: Result<&str, &str> = Err("invalid plugin name");
 
 const BAD: Result<&str, &str> = Err("invalid Bech32 encoding");
 
+// A text, and how it is read as a recipient and as an identity.
+const TEXTS: [(&str, Result<&str, &str>, Result<&str, &str>); 5] = [
+    (IDENTITY, PREFIX, Ok("foobar")),
+    ("age-plugin-foobar-1qvhulf", PREFIX, PREFIX),
+    // 32 bytes, each 1.
+    (
+        "age1foobar1qyqszqgpqyqszqgpqyqszqgpqyqszqgpqyqszqgpqyqszqgpqyqs7k6xzx",
+        Ok("foobar"),
+        PREFIX,
+    ),
+    ("", BAD, BAD),
+    ("AGE-PLUGIN-FOOBAR-1QVHULG", BAD, BAD),
+];
+
 #[test]
 fn texts_are_read_in_their_case(rt: HostRuntime) -> Result<(), Fail> {
     let alloc = rt.alloc();
-    for (text, as_recipient, as_identity) in [
-        (IDENTITY, PREFIX, Ok("foobar")),
-        ("age-plugin-foobar-1qvhulf", PREFIX, PREFIX),
-        // 32 bytes, each 1.
-        (
-            "age1foobar1qyqszqgpqyqszqgpqyqszqgpqyqszqgpqyqszqgpqyqszqgpqyqs7k6xzx",
-            Ok("foobar"),
-            PREFIX,
-        ),
-        ("", BAD, BAD),
-        ("AGE-PLUGIN-FOOBAR-1QVHULG", BAD, BAD),
-    ] {
+    for (text, as_recipient, as_identity) in TEXTS {
         assert!(rt; reads(alloc, text, as_recipient, as_identity)?, "{text}");
     }
     Ok(())
@@ -88,26 +91,29 @@ fn reads_prefix(
     )
 }
 
+// A prefix, and how its text is read as a recipient and as an identity.
+const PREFIXES: [(&str, Result<&str, &str>, Result<&str, &str>); 15] = [
+    ("age1foobar", Ok("foobar"), PREFIX),
+    ("age1a+b-c.d_9", Ok("a+b-c.d_9"), PREFIX),
+    ("age11", Ok("1"), PREFIX),
+    ("age1", PREFIX, PREFIX),
+    ("age", PREFIX, PREFIX),
+    ("AGE1FOOBAR", PREFIX, PREFIX),
+    ("age1foo/bar", NAME, PREFIX),
+    ("AGE-PLUGIN-FOO-BAR-", PREFIX, Ok("foo-bar")),
+    ("AGE-PLUGIN-FOO---", PREFIX, Ok("foo")),
+    ("AGE-PLUGIN-FOO", PREFIX, PREFIX),
+    ("AGE-PLUGIN-", PREFIX, PREFIX),
+    ("AGE-PLUGIN--", PREFIX, NAME),
+    ("AGE-PLUGIN----", PREFIX, NAME),
+    ("AGE-PLUGIN-FOO/BAR-", PREFIX, NAME),
+    ("age-plugin-foo-", PREFIX, PREFIX),
+];
+
 #[test]
 fn names_follow_the_front_of_a_prefix(rt: HostRuntime) -> Result<(), Fail> {
     let alloc = rt.alloc();
-    for (prefix, as_recipient, as_identity) in [
-        ("age1foobar", Ok("foobar"), PREFIX),
-        ("age1a+b-c.d_9", Ok("a+b-c.d_9"), PREFIX),
-        ("age11", Ok("1"), PREFIX),
-        ("age1", PREFIX, PREFIX),
-        ("age", PREFIX, PREFIX),
-        ("AGE1FOOBAR", PREFIX, PREFIX),
-        ("age1foo/bar", NAME, PREFIX),
-        ("AGE-PLUGIN-FOO-BAR-", PREFIX, Ok("foo-bar")),
-        ("AGE-PLUGIN-FOO---", PREFIX, Ok("foo")),
-        ("AGE-PLUGIN-FOO", PREFIX, PREFIX),
-        ("AGE-PLUGIN-", PREFIX, PREFIX),
-        ("AGE-PLUGIN--", PREFIX, NAME),
-        ("AGE-PLUGIN----", PREFIX, NAME),
-        ("AGE-PLUGIN-FOO/BAR-", PREFIX, NAME),
-        ("age-plugin-foo-", PREFIX, PREFIX),
-    ] {
+    for (prefix, as_recipient, as_identity) in PREFIXES {
         assert!(rt;
             reads_prefix(alloc, prefix, as_recipient, as_identity)?,
             "{prefix}"
@@ -135,23 +141,28 @@ fn is_no_name(alloc: Global, name: &str) -> bool {
     is_name_refused(&Identity::default_for_plugin(alloc, name), name)
 }
 
+// What a plugin is called, its default identity, and its name in that.
+const DEFAULTS: [(&str, &str, &str); 3] = [
+    ("foobar", IDENTITY, "foobar"),
+    ("FooBar", IDENTITY, "foobar"),
+    ("foo-", "AGE-PLUGIN-FOO--1P2YWJ7", "foo"),
+];
+
+const NO_NAMES: [&str; 5] = [
+    "",
+    "-",
+    "--",
+    "foo bar",
+    "foobar/../../../../../../../usr/bin/echo",
+];
+
 #[test]
 fn plugins_have_default_identities(rt: HostRuntime) -> Result<(), Fail> {
     let alloc = rt.alloc();
-    for (name, text, plugin) in [
-        ("foobar", IDENTITY, "foobar"),
-        ("FooBar", IDENTITY, "foobar"),
-        ("foo-", "AGE-PLUGIN-FOO--1P2YWJ7", "foo"),
-    ] {
+    for (name, text, plugin) in DEFAULTS {
         assert!(rt; defaults(alloc, name, text, plugin)?, "{name}");
     }
-    for name in [
-        "",
-        "-",
-        "--",
-        "foo bar",
-        "foobar/../../../../../../../usr/bin/echo",
-    ] {
+    for name in NO_NAMES {
         assert!(rt; is_no_name(alloc, name), "{name}");
     }
     Ok(())

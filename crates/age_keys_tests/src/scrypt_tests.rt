@@ -5,12 +5,11 @@ use crate::fixtures::{
 };
 use age::format::Stanza;
 use age::scrypt::{Identity, Recipient};
-use age::{DecryptError, Identity as _};
+use age::{DecryptError, Identity as _, Recipient as AnyRecipient};
 use age_bench::suite::BenchSuite;
 use age_try::fixtures::zeros;
 use age_try::never_stretches::NeverStretches;
-use std::alloc::Global;
-use std::process::Abort;
+use std::alloc::{AllocError, Global};
 use std::test::Fail;
 
 // A salt of zeros, and what is sealed under `correct horse` with it and the work factor 10: a file key of zeros.
@@ -45,8 +44,10 @@ fn a_stanza_opens(rt: HostRuntime) -> Result<(), Fail> {
     let alloc = rt.alloc();
     assert!(rt; opens(alloc, &[SALT, "10"], &SEALED)?);
     // Another factor or body.
-    assert!(rt; fails(alloc, &[SALT, "9"], &SEALED, "decryption failed")?);
-    assert!(rt; fails(alloc, &[SALT, "10"], &[0; 32], "decryption failed")?);
+    assert!(rt;
+        fails(alloc, &[SALT, "9"], &SEALED, "decryption failed")?
+            && fails(alloc, &[SALT, "10"], &[0; 32], "decryption failed")?
+    );
     Ok(())
 }
 
@@ -78,51 +79,59 @@ fn is_bad(alloc: Global, arguments: &[&str], body: &[u8]) -> Result<bool, Fail> 
     fails(alloc, arguments, body, "invalid header")
 }
 
+// Whether none, one, three, and two in the other order are bad.
+fn other_counts_are_bad(alloc: Global) -> Result<bool, Fail> {
+    Ok(
+        is_bad(alloc, &[], &SEALED)?
+            && is_bad(alloc, &[SALT], &SEALED)?
+            && is_bad(alloc, &[SALT, "10", "10"], &SEALED)?
+            && is_bad(alloc, &["10", SALT], &SEALED)?,
+    )
+}
+
+const BAD_FACTORS: [&str; 8] = ["0", "010", "10x", "256", "+10", "-1", "1e1", "1000"];
+
 #[test]
 fn arguments_are_judged(rt: HostRuntime) -> Result<(), Fail> {
     let alloc = rt.alloc();
-    for factor in ["0", "010", "10x", "256", "+10", "-1", "1e1", "1000"] {
+    for factor in BAD_FACTORS {
         assert!(rt; is_bad(alloc, &[SALT, factor], &SEALED)?, "{factor}");
     }
-    other_counts_are_bad(&rt, alloc)
-}
-
-// None, one, three, and two in the other order.
-fn other_counts_are_bad(rt: &impl Abort, alloc: Global) -> Result<(), Fail> {
-    for arguments in [[].as_slice(), &[SALT], &[SALT, "10", "10"], &["10", SALT]] {
-        assert!(rt; is_bad(alloc, arguments, &SEALED)?, "{arguments:?}");
-    }
+    assert!(rt; other_counts_are_bad(alloc)?);
     Ok(())
 }
 
 // 21 columns, 15 bytes, 17 bytes, padding, and unused bits that aren't zero.
+const BAD_SALTS: [&str; 5] = [
+    "AAAAAAAAAAAAAAAAAAAAA",
+    "AAAAAAAAAAAAAAAAAAAA",
+    "AAAAAAAAAAAAAAAAAAAAAAA",
+    "AAAAAAAAAAAAAAAAAAAAAA==",
+    "AAAAAAAAAAAAAAAAAAAAAB",
+];
+
 #[test]
 fn salts_and_bodies_are_judged(rt: HostRuntime) -> Result<(), Fail> {
     let alloc = rt.alloc();
-    for salt in [
-        "AAAAAAAAAAAAAAAAAAAAA",
-        "AAAAAAAAAAAAAAAAAAAA",
-        "AAAAAAAAAAAAAAAAAAAAAAA",
-        "AAAAAAAAAAAAAAAAAAAAAA==",
-        "AAAAAAAAAAAAAAAAAAAAAB",
-    ] {
+    for salt in BAD_SALTS {
         assert!(rt; is_bad(alloc, &[salt, "10"], &SEALED)?, "{salt}");
     }
-    assert!(rt; is_bad(alloc, &[SALT, "10"], &[0; 31])?);
-    assert!(rt; is_bad(alloc, &[SALT, "10"], &[0; 33])?);
+    assert!(rt; is_bad(alloc, &[SALT, "10"], &[0; 31])? && is_bad(alloc, &[SALT, "10"], &[0; 33])?);
     Ok(())
 }
 
 // 22 is the largest that is taken, and the bench suite accepts 20 at most.
+const LARGE_FACTORS: [(&str, &str); 4] = [
+    ("20", "decryption failed"),
+    ("21", "excessive work factor 21, target 18"),
+    ("25", "excessive work factor 25, target 18"),
+    ("255", "excessive work factor 255, target 18"),
+];
+
 #[test]
 fn large_work_factors_are_refused(rt: HostRuntime) -> Result<(), Fail> {
     let alloc = rt.alloc();
-    for (factor, refusal) in [
-        ("20", "decryption failed"),
-        ("21", "excessive work factor 21, target 18"),
-        ("25", "excessive work factor 25, target 18"),
-        ("255", "excessive work factor 255, target 18"),
-    ] {
+    for (factor, refusal) in LARGE_FACTORS {
         assert!(rt;
             fails(alloc, &[SALT, factor], &SEALED, refusal)?,
             "{factor}"
@@ -193,46 +202,48 @@ fn is_wrapped(
     left: usize,
 ) -> Result<bool, Fail> {
     let expected = stanza(alloc, "scrypt", &[SALT, "10"], &SEALED)?;
-    wraps(
-        alloc,
-        recipient,
-        zeros(alloc, random)?,
-        &expected,
-        Some(LABEL),
-        left,
+    let draw = zeros(alloc, random)?;
+    Ok(wraps(alloc, recipient, draw, &expected, Some(LABEL), left))
+}
+
+// Whether it is refused so to wrap it with so many, of which so many are left.
+fn is_refused<R: AnyRecipient>(
+    alloc: Global,
+    recipient: &R,
+    random: usize,
+    refusal: &str,
+    left: usize,
+) -> Result<bool, AllocError> {
+    Ok(refuses_to_wrap(alloc, recipient, zeros(alloc, random)?, refusal, left))
+}
+
+// Whether too few random bytes are refused.
+fn runs_out(alloc: Global, recipient: &Recipient<BenchSuite>) -> Result<bool, AllocError> {
+    Ok(
+        is_refused(alloc, recipient, 0, SHORT, 0)?
+            && is_refused(alloc, recipient, 15, SHORT, 15)?
+            && is_refused(alloc, recipient, 16, SHORT, 0)?
+            && is_refused(alloc, recipient, 39, SHORT, 23)?,
     )
 }
 
-// With the work factor 10, of so many random bytes so many are left.
+// Whether a work factor is refused where enough random bytes are there.
+fn is_factor_refused(alloc: Global, recipient: &Recipient<BenchSuite>) -> Result<bool, AllocError> {
+    Ok(
+        is_refused(alloc, recipient, 56, "work factor refused", 16)?
+            && is_refused(alloc, recipient, 39, SHORT, 23)?,
+    )
+}
+
+// With the work factor 10, and then with one that the suite doesn't accept.
 #[test]
 fn file_keys_are_wrapped(rt: HostRuntime) -> Result<(), Fail> {
     let alloc = rt.alloc();
-    let recipient = Recipient::<BenchSuite>::new(passphrase(alloc, "correct horse")?, 10);
-    assert!(rt; is_wrapped(alloc, &recipient, 40, 0)?);
-    assert!(rt; is_wrapped(alloc, &recipient, 41, 1)?);
-    runs_out(&rt, alloc, &recipient)?;
-    a_factor_is_refused(&rt, alloc, recipient)
-}
-
-fn runs_out(rt: &impl Abort, alloc: Global, recipient: &Recipient<BenchSuite>) -> Result<(), Fail> {
-    for (random, left) in [(0, 0), (15, 15), (16, 0), (39, 23)] {
-        assert!(rt;
-            refuses_to_wrap(alloc, recipient, zeros(alloc, random)?, SHORT, left),
-            "with {random}"
-        );
-    }
-    Ok(())
-}
-
-fn a_factor_is_refused(
-    rt: &impl Abort,
-    alloc: Global,
-    mut recipient: Recipient<BenchSuite>,
-) -> Result<(), Fail> {
+    let mut recipient = Recipient::<BenchSuite>::new(passphrase(alloc, "correct horse")?, 10);
+    assert!(rt; is_wrapped(alloc, &recipient, 40, 0)? && is_wrapped(alloc, &recipient, 41, 1)?);
+    assert!(rt; runs_out(alloc, &recipient)?);
     recipient.set_work_factor(21);
-    let refusal = "work factor refused";
-    assert!(rt; refuses_to_wrap(alloc, &recipient, zeros(alloc, 56)?, refusal, 16));
-    assert!(rt; refuses_to_wrap(alloc, &recipient, zeros(alloc, 39)?, SHORT, 23));
+    assert!(rt; is_factor_refused(alloc, &recipient)?);
     Ok(())
 }
 
@@ -241,7 +252,7 @@ fn a_factor_is_refused(
 fn draws_come_before_the_work(rt: HostRuntime) -> Result<(), Fail> {
     let alloc = rt.alloc();
     let recipient = Recipient::<NeverStretches>::new(passphrase(alloc, "correct horse")?, 10);
-    assert!(rt; refuses_to_wrap(alloc, &recipient, zeros(alloc, 39)?, SHORT, 23));
-    assert!(rt; refuses_to_wrap(alloc, &recipient, zeros(alloc, 40)?, "out of memory", 0));
+    assert!(rt; is_refused(alloc, &recipient, 39, SHORT, 23)?);
+    assert!(rt; is_refused(alloc, &recipient, 40, "out of memory", 0)?);
     Ok(())
 }

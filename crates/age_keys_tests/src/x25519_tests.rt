@@ -1,17 +1,16 @@
 //! X25519 recipients and identities. The expected bytes are those of Python, from the format's own words.
 
 use crate::fixtures::{
-    gives_zeros, grease, identity_of, opens, passes_over, recipient_of, refuses, refuses_file,
-    refuses_to_wrap, stanza, wraps,
+    armored_for, encrypted_for, gives_zeros, grease, identity_of, opens, passes_over, recipient_of,
+    refuses, refuses_file, refuses_to_wrap, stanza, wraps,
 };
 use age::draw::Draw;
+use age::encrypt;
 use age::x25519::{Identity, Recipient};
-use age::{encrypt, encrypt_and_armor};
 use age_bench::suite::BenchSuite;
 use age_try::answers::is_refusal;
 use age_try::fixtures::{KEY, MESSAGE, digest, zeros};
 use std::alloc::Global;
-use std::process::Abort;
 use std::test::Fail;
 
 // The share of an ephemeral secret of zeros, and what is sealed under it for the identity of the secret 0, 1, .., 31: a file key of
@@ -34,35 +33,26 @@ fn counting(alloc: Global) -> Result<Identity<BenchSuite>, Fail> {
 
 // The message's file for that identity, with random bytes that are zero.
 fn encrypted(alloc: Global) -> Result<Vec<u8>, Fail> {
-    Ok(encrypt::<BenchSuite, Recipient<BenchSuite>>(
-        alloc,
-        &recipient_of(alloc, &KEY)?,
-        MESSAGE,
-        &mut zeros(alloc, 64)?,
-        grease(alloc)?,
-    )?)
+    encrypted_for(alloc, &recipient_of(alloc, &KEY)?, zeros(alloc, 64)?)
+}
+
+// Whether that identity decrypts a file, or its armor, to the message.
+fn comes_back(alloc: Global, file: &[u8]) -> Result<bool, Fail> {
+    Ok(opens(alloc, &mut counting(alloc)?, file))
 }
 
 #[test]
 fn a_message_has_its_file(rt: HostRuntime) -> Result<(), Fail> {
     let alloc = rt.alloc();
     let file = encrypted(alloc)?;
-    assert!(rt; file.len() == 249);
-    assert!(rt; file.starts_with(HEADER));
-    assert!(rt; digest(&file) == 0xc316a2df6a3f83c8);
-    assert!(rt; opens(alloc, &mut counting(alloc)?, file.as_slice())?);
+    assert!(rt; file.len() == 249 && file.starts_with(HEADER));
+    assert!(rt; digest(&file) == 0xc316a2df6a3f83c8 && comes_back(alloc, &file)?);
     Ok(())
 }
 
 // Its armor.
 fn armored(alloc: Global) -> Result<String, Fail> {
-    Ok(encrypt_and_armor::<BenchSuite, Recipient<BenchSuite>>(
-        alloc,
-        &recipient_of(alloc, &KEY)?,
-        MESSAGE,
-        &mut zeros(alloc, 64)?,
-        grease(alloc)?,
-    )?)
+    armored_for(alloc, &recipient_of(alloc, &KEY)?, zeros(alloc, 64)?)
 }
 
 // Whether the identity of the secret of nines is none of a file.
@@ -75,8 +65,7 @@ fn nines_fail(alloc: Global, file: &[u8]) -> Result<bool, Fail> {
 fn a_message_has_its_armor(rt: HostRuntime) -> Result<(), Fail> {
     let alloc = rt.alloc();
     let text = armored(alloc)?;
-    assert!(rt; text.len() == 406);
-    assert!(rt; opens(alloc, &mut counting(alloc)?, text.as_bytes())?);
+    assert!(rt; text.len() == 406 && comes_back(alloc, text.as_bytes())?);
     assert!(rt; nines_fail(alloc, text.as_bytes())?);
     Ok(())
 }
@@ -99,37 +88,40 @@ fn is_passed(alloc: Global, tag: &str, arguments: &[&str], body: &[u8]) -> Resul
     Ok(passes_over(alloc, &mut counting(alloc)?, &stanza))
 }
 
+// Whether no share and two are bad.
+fn other_counts_are_bad(alloc: Global) -> Result<bool, Fail> {
+    Ok(is_bad(alloc, &[], &SEALED)? && is_bad(alloc, &[SHARE, SHARE], &SEALED)?)
+}
+
+// A short one, a second spelling of the last byte, padding, and the identity's own public value, with which the shared secret is zero.
+const BAD_SHARES: [&str; 4] = [
+    "WlpaWlpa",
+    "WlpaWlpaWlpaWlpaWlpaWlpaWlpaWlpaWlpaWlpaWlp",
+    "WlpaWlpaWlpaWlpaWlpaWlpaWlpaWlpaWlpaWlpaWlo=",
+    "WltYWV5fXF1SU1BRVldUVUpLSElOT0xNQkNAQUZHREU",
+];
+
+// Whether bodies of another length are bad, and one that doesn't open is passed over.
+fn bodies_are_judged(alloc: Global) -> Result<bool, Fail> {
+    Ok(
+        is_bad(alloc, &[SHARE], &[0; 31])?
+            && is_bad(alloc, &[SHARE], &[0; 33])?
+            && is_passed(alloc, "X25519", &[SHARE], &[0; 32])?,
+    )
+}
+
 #[test]
 fn stanzas_are_judged_in_order(rt: HostRuntime) -> Result<(), Fail> {
     let alloc = rt.alloc();
     assert!(rt; is_opened(alloc)?);
-    assert!(rt; is_passed(alloc, "x25519", &[SHARE], &SEALED)?);
-    assert!(rt; is_passed(alloc, "bench", &[], &[0; 16])?);
-    shares_are_judged(&rt, alloc)?;
-    bodies_are_judged(&rt, alloc)
-}
-
-// None, two, and then a short one, a second spelling of the last byte, padding, and the identity's own public value, with which the shared
-// secret is zero.
-fn shares_are_judged(rt: &impl Abort, alloc: Global) -> Result<(), Fail> {
-    assert!(rt; is_bad(alloc, &[], &SEALED)?);
-    assert!(rt; is_bad(alloc, &[SHARE, SHARE], &SEALED)?);
-    for share in [
-        "WlpaWlpa",
-        "WlpaWlpaWlpaWlpaWlpaWlpaWlpaWlpaWlpaWlpaWlp",
-        "WlpaWlpaWlpaWlpaWlpaWlpaWlpaWlpaWlpaWlpaWlo=",
-        "WltYWV5fXF1SU1BRVldUVUpLSElOT0xNQkNAQUZHREU",
-    ] {
+    assert!(rt;
+        is_passed(alloc, "x25519", &[SHARE], &SEALED)? && is_passed(alloc, "bench", &[], &[0; 16])?
+    );
+    assert!(rt; other_counts_are_bad(alloc)?);
+    for share in BAD_SHARES {
         assert!(rt; is_bad(alloc, &[share], &SEALED)?, "{share}");
     }
-    Ok(())
-}
-
-// Another length, and one that doesn't open.
-fn bodies_are_judged(rt: &impl Abort, alloc: Global) -> Result<(), Fail> {
-    assert!(rt; is_bad(alloc, &[SHARE], &[0; 31])?);
-    assert!(rt; is_bad(alloc, &[SHARE], &[0; 33])?);
-    assert!(rt; is_passed(alloc, "X25519", &[SHARE], &[0; 32])?);
+    assert!(rt; bodies_are_judged(alloc)?);
     Ok(())
 }
 
@@ -137,14 +129,8 @@ fn bodies_are_judged(rt: &impl Abort, alloc: Global) -> Result<(), Fail> {
 fn is_wrapped(alloc: Global, random: usize, left: usize) -> Result<bool, Fail> {
     let expected = stanza(alloc, "X25519", &[SHARE], &SEALED)?;
     let recipient = recipient_of(alloc, &KEY)?;
-    wraps(
-        alloc,
-        &recipient,
-        zeros(alloc, random)?,
-        &expected,
-        None,
-        left,
-    )
+    let draw = zeros(alloc, random)?;
+    Ok(wraps(alloc, &recipient, draw, &expected, None, left))
 }
 
 // Whether it is refused to wrap it with these random bytes, of which so many are left.
@@ -157,10 +143,11 @@ fn is_refused(alloc: Global, random: &[u8], refusal: &str, left: usize) -> Resul
 #[test]
 fn file_keys_are_wrapped(rt: HostRuntime) -> Result<(), Fail> {
     let alloc = rt.alloc();
-    assert!(rt; is_wrapped(alloc, 32, 0)?);
-    assert!(rt; is_wrapped(alloc, 40, 8)?);
-    assert!(rt; is_refused(alloc, &[0; 31], "random bytes ran out", 31)?);
-    assert!(rt; is_refused(alloc, &[], "random bytes ran out", 0)?);
+    assert!(rt; is_wrapped(alloc, 32, 0)? && is_wrapped(alloc, 40, 8)?);
+    assert!(rt;
+        is_refused(alloc, &[0; 31], "random bytes ran out", 31)?
+            && is_refused(alloc, &[], "random bytes ran out", 0)?
+    );
     assert!(rt; is_refused(alloc, &KEY, "shared secret is zero", 0)?);
     Ok(())
 }
@@ -190,13 +177,15 @@ fn random_bytes_run_out(rt: HostRuntime) -> Result<(), Fail> {
     Ok(())
 }
 
+// Whether an identity is generated.
+fn generates(draw: &mut Draw) -> bool {
+    Identity::<BenchSuite>::generate(draw).is_some()
+}
+
 #[test]
 fn identities_take_32_random_bytes(rt: HostRuntime) -> Result<(), Fail> {
-    let alloc = rt.alloc();
-    let mut draw = zeros(alloc, 63)?;
-    assert!(rt; Identity::<BenchSuite>::generate(&mut draw).is_some());
-    assert!(rt; draw.left() == 31);
-    assert!(rt; Identity::<BenchSuite>::generate(&mut draw).is_none());
-    assert!(rt; draw.left() == 31);
+    let mut draw = zeros(rt.alloc(), 63)?;
+    assert!(rt; generates(&mut draw) && draw.left() == 31);
+    assert!(rt; !generates(&mut draw) && draw.left() == 31);
     Ok(())
 }
