@@ -49,37 +49,51 @@ fn is_refused(
     matches!(BenchSuite::open(alloc, opens, key, nonce, sealed), Ok(None))
 }
 
-// The seal doesn't open with a bit of any byte changed.
-fn no_changed_seal_opens(rt: &impl Abort, alloc: Global, opens: &mut Opens) {
-    for i in 0..56 {
-        let mut changed = SEALED;
-        changed[i] ^= 1;
-        assert!(rt;
-            is_refused(alloc, opens, &KEY, &NONCE, &changed),
-            "at byte {i}"
-        );
+// Another last byte of the key, and another first byte of the nonce.
+const OTHER_KEY: [u8; 32] = [
+    0, 1, 2, 3, 4, 5, 6, 7, 8, 9, 10, 11, 12, 13, 14, 15, 16, 17, 18, 19, 20, 21, 22, 23, 24, 25,
+    26, 27, 28, 29, 30, 32,
+];
+
+const OTHER_NONCE: [u8; 12] = [0, 101, 102, 103, 104, 105, 106, 107, 108, 109, 110, 111];
+
+// Whether the seal opens under its key and nonce alone, and each try is counted.
+fn opens_to_its_key(alloc: Global, opens: &mut Opens) -> bool {
+    opens_to(alloc, opens, &KEY, &SEALED, &PLAIN)
+        && opens.count() == 1
+        && is_refused(alloc, opens, &OTHER_KEY, &NONCE, &SEALED)
+        && opens.count() == 2
+        && is_refused(alloc, opens, &KEY, &OTHER_NONCE, &SEALED)
+}
+
+// Whether the seal doesn't open with a bit of this byte changed.
+fn is_refused_changed(alloc: Global, opens: &mut Opens, place: usize) -> bool {
+    let mut changed = SEALED;
+    if let Some(byte) = changed.get_mut(place) {
+        *byte ^= 1;
     }
+    is_refused(alloc, opens, &KEY, &NONCE, &changed)
+}
+
+// Whether beginnings of the seal don't open.
+fn are_refused_cut(alloc: Global, opens: &mut Opens) -> bool {
+    is_refused(alloc, opens, &KEY, &NONCE, &SEALED[..55])
+        && is_refused(alloc, opens, &KEY, &NONCE, &SEALED[..15])
+        && is_refused(alloc, opens, &KEY, &NONCE, &[])
 }
 
 #[test]
 fn a_seal_opens_and_opens_are_counted(rt: HostRuntime) -> Result<(), Fail> {
     let alloc = rt.alloc();
     let mut opens = Opens::new();
-    assert!(rt; opens.count() == 0);
-    assert!(rt; opens_to(alloc, &mut opens, &KEY, &SEALED, &PLAIN));
-    assert!(rt; opens.count() == 1);
-    let mut other_key = KEY;
-    other_key[31] = 32;
-    assert!(rt; is_refused(alloc, &mut opens, &other_key, &NONCE, &SEALED));
-    assert!(rt; opens.count() == 2);
-    let mut other_nonce = NONCE;
-    other_nonce[0] = 0;
-    assert!(rt; is_refused(alloc, &mut opens, &KEY, &other_nonce, &SEALED));
-    no_changed_seal_opens(&rt, alloc, &mut opens);
-    assert!(rt; is_refused(alloc, &mut opens, &KEY, &NONCE, &SEALED[..55]));
-    assert!(rt; is_refused(alloc, &mut opens, &KEY, &NONCE, &SEALED[..15]));
-    assert!(rt; is_refused(alloc, &mut opens, &KEY, &NONCE, &[]));
-    assert!(rt; opens.count() == 62);
+    assert!(rt; opens.count() == 0 && opens_to_its_key(alloc, &mut opens));
+    for place in 0..56 {
+        assert!(rt;
+            is_refused_changed(alloc, &mut opens, place),
+            "at byte {place}"
+        );
+    }
+    assert!(rt; are_refused_cut(alloc, &mut opens) && opens.count() == 62);
     Ok(())
 }
 
@@ -95,37 +109,45 @@ fn are_sealed_and_open(
     Ok(sealed.len() == length && opens_to(alloc, opens, &KEY, &sealed, &plain))
 }
 
-// Of lengths about whole masks.
+// Numbers of bytes about whole masks, and the lengths of their seals.
+const LENGTHS: [(usize, usize); 9] = [
+    (0, 16),
+    (1, 17),
+    (31, 47),
+    (32, 48),
+    (33, 49),
+    (63, 79),
+    (64, 80),
+    (65, 81),
+    (1000, 1016),
+];
+
 #[test]
 fn plaintexts_of_all_lengths_open(rt: HostRuntime) -> Result<(), Fail> {
     let alloc = rt.alloc();
     let mut opens = Opens::new();
-    for (n, len) in [
-        (0, 16),
-        (1, 17),
-        (31, 47),
-        (32, 48),
-        (33, 49),
-        (63, 79),
-        (64, 80),
-        (65, 81),
-        (1000, 1016),
-    ] {
+    for (count, length) in LENGTHS {
         assert!(rt;
-            are_sealed_and_open(alloc, &mut opens, n, len)?,
-            "of {n} bytes"
+            are_sealed_and_open(alloc, &mut opens, count, length)?,
+            "of {count} bytes"
         );
     }
     Ok(())
 }
 
+const ONES: [u8; 32] = [1; 32];
+
+// Whether both sides come to the same secret, which begins and ends with these bytes.
+fn share(here: &[u8; 32], there: &[u8; 32], ends: (u8, u8)) -> bool {
+    let shared = BenchSuite::x25519(here, &BenchSuite::public(there));
+    shared == BenchSuite::x25519(there, &BenchSuite::public(here))
+        && (shared[0], shared[31]) == ends
+}
+
 #[test]
 fn both_sides_share_a_secret(rt: HostRuntime) {
-    let here = [1; 32];
-    assert!(rt; BenchSuite::public(&here) == [0x5b; 32]);
-    let shared = BenchSuite::x25519(&here, &BenchSuite::public(&KEY));
-    assert!(rt; shared == BenchSuite::x25519(&KEY, &BenchSuite::public(&here)));
-    assert!(rt; (shared[0], shared[31]) == (1, 30));
+    assert!(rt; BenchSuite::public(&ONES) == [0x5b; 32]);
+    assert!(rt; share(&ONES, &KEY, (1, 30)));
     assert!(rt; BenchSuite::x25519(&KEY, &BenchSuite::public(&KEY)) == [0; 32]);
 }
 
@@ -134,30 +156,25 @@ fn stretched(alloc: Global, factor: u8) -> Result<[u8; 32], ScryptError> {
     BenchSuite::scrypt(alloc, b"passphrase", b"salt", factor)
 }
 
-// Whether this work factor is refused.
-fn is_invalid(alloc: Global, factor: u8) -> bool {
-    stretched(alloc, factor) == Err(ScryptError::InvalidParams)
+// Whether this work factor is accepted from 1 to 20, and refused elsewhere.
+fn is_answered(alloc: Global, factor: u8) -> bool {
+    let answer = stretched(alloc, factor);
+    if factor < 1 || factor > 20 {
+        answer == Err(ScryptError::InvalidParams)
+    } else {
+        answer.is_ok()
+    }
 }
 
-// Whether this work factor is accepted.
-fn is_accepted(alloc: Global, factor: u8) -> bool {
-    stretched(alloc, factor).is_ok()
-}
+const STRETCHED: [u8; 32] = [
+    0x65, 0xd1, 0x46, 0xac, 0xce, 0xcd, 0x77, 0xff, 0xf2, 0x7e, 0xb2, 0xdb, 0x39, 0x1a, 0x0a, 0xae,
+    0x04, 0xfc, 0x5b, 0xdd, 0x1b, 0x15, 0xe9, 0x0c, 0x43, 0x08, 0x0c, 0xcd, 0x2a, 0x29, 0xe3, 0xef,
+];
 
 #[test]
 fn work_factors_from_1_to_20_are_accepted(rt: HostRuntime) {
-    let alloc = rt.alloc();
     for factor in 0..=255 {
-        if factor < 1 || factor > 20 {
-            assert!(rt; is_invalid(alloc, factor), "of {factor}");
-        } else {
-            assert!(rt; is_accepted(alloc, factor), "of {factor}");
-        }
+        assert!(rt; is_answered(rt.alloc(), factor), "of {factor}");
     }
-    let expected = [
-        0x65, 0xd1, 0x46, 0xac, 0xce, 0xcd, 0x77, 0xff, 0xf2, 0x7e, 0xb2, 0xdb, 0x39, 0x1a, 0x0a,
-        0xae, 0x04, 0xfc, 0x5b, 0xdd, 0x1b, 0x15, 0xe9, 0x0c, 0x43, 0x08, 0x0c, 0xcd, 0x2a, 0x29,
-        0xe3, 0xef,
-    ];
-    assert!(rt; stretched(alloc, 10) == Ok(expected));
+    assert!(rt; stretched(rt.alloc(), 10) == Ok(STRETCHED));
 }

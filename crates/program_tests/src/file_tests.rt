@@ -1,5 +1,6 @@
 //! A file that another implementation made over OpenSSL's primitives, to the recipient of a key pair that the Rust crate `age` tests with.
 
+use crate::done::{gave, is_done};
 use age::decrypt;
 use age::x25519::Identity;
 use age_standard::StandardSuite;
@@ -23,15 +24,15 @@ fn key() -> Result<Identity<StandardSuite>, Fail> {
 
 // Whether a file is decrypted to these bytes.
 fn opens_to(alloc: Global, mut key: Identity<StandardSuite>, file: &[u8], plain: &[u8]) -> bool {
-    match decrypt::<StandardSuite, Identity<StandardSuite>>(alloc, &mut key, file) {
-        Ok(opened) => opened.as_slice() == plain,
-        Err(_) => false,
-    }
+    gave(
+        decrypt::<StandardSuite, Identity<StandardSuite>>(alloc, &mut key, file),
+        plain,
+    )
 }
 
 // Whether a file is refused.
 fn is_refused(alloc: Global, mut key: Identity<StandardSuite>, file: &[u8]) -> bool {
-    decrypt::<StandardSuite, Identity<StandardSuite>>(alloc, &mut key, file).is_err()
+    !is_done(decrypt::<StandardSuite, Identity<StandardSuite>>(alloc, &mut key, file))
 }
 
 // Whether the file is refused where this byte is another.

@@ -1,6 +1,7 @@
 //! Files of a passphrase, the file of a new key, and grease.
 
 use age::draw::Draw;
+use age::format::Stanza;
 use age_bench::suite::BenchSuite;
 use age_tool::error::PassphraseError;
 use age_tool::grease::grease;
@@ -35,20 +36,22 @@ fn is_refused(alloc: Global, text: &[u8], wanted: PassphraseError) -> bool {
 #[test]
 fn passphrase_is_the_first_line(rt: HostRuntime) -> Result<(), Fail> {
     let alloc = rt.alloc();
-    assert!(rt; gives(alloc, b"a pass phrase", "a pass phrase"));
-    assert!(rt; gives(alloc, b" a\t\nb\n", " a\t"));
-    assert!(rt; gives(alloc, b"a\r\r\n", "a\r"));
-    assert!(rt; gives(alloc, b"a\r\n\xff", "a"));
+    assert!(rt;
+        gives(alloc, b"a pass phrase", "a pass phrase") && gives(alloc, b" a\t\nb\n", " a\t")
+    );
+    assert!(rt; gives(alloc, b"a\r\r\n", "a\r") && gives(alloc, b"a\r\n\xff", "a"));
     Ok(())
 }
 
+// The texts of an empty passphrase.
+const EMPTY: [&[u8]; 3] = [b"", b"\nsecond", b"\r\n"];
+
 #[test]
 fn passphrase_is_a_text_that_is_not_empty(rt: HostRuntime) {
-    let alloc = rt.alloc();
-    assert!(rt; is_refused(alloc, b"", PassphraseError::Empty));
-    assert!(rt; is_refused(alloc, b"\nsecond", PassphraseError::Empty));
-    assert!(rt; is_refused(alloc, b"\r\n", PassphraseError::Empty));
-    assert!(rt; is_refused(alloc, b"p\xe4sse", PassphraseError::NotText));
+    for text in EMPTY {
+        assert!(rt; is_refused(rt.alloc(), text, PassphraseError::Empty));
+    }
+    assert!(rt; is_refused(rt.alloc(), b"p\xe4sse", PassphraseError::NotText));
 }
 
 // What a key is made of here: the bytes 0 to 39.
@@ -69,10 +72,14 @@ fn key_has_its_recipient_and_its_secret(rt: HostRuntime) -> Result<(), Fail> {
     Ok(())
 }
 
+// Whether a stanza is this tag alone.
+fn is_tag(stanza: &Stanza, tag: &str) -> bool {
+    stanza.tag() == tag && stanza.args().is_empty() && stanza.body().is_empty()
+}
+
 #[test]
 fn grease_is_a_tag_alone(rt: HostRuntime) -> Result<(), Fail> {
     let stanza = grease(rt.alloc())?.into_stanza();
-    assert!(rt; stanza.tag() == "sazh-grease");
-    assert!(rt; stanza.args().is_empty() && stanza.body().is_empty());
+    assert!(rt; is_tag(&stanza, "sazh-grease"));
     Ok(())
 }

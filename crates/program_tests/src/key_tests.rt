@@ -1,11 +1,11 @@
 //! The commands with X25519 keys: the key that random bytes make, and files for it.
 
+use crate::done::is_done;
 use age::armor::Format;
 use age::draw::Draw;
 use age::io::Bytes;
 use age::streaming::FileError;
 use age::x25519::{Identity, Recipient};
-use age::{DecryptError, EncryptError};
 use age_bench::file::{decrypt_with, encrypt_to};
 use age_bench::keygen::keygen;
 use age_bench::names::{To, With};
@@ -46,22 +46,22 @@ fn random(alloc: Global, count: usize, place: usize) -> Result<Vec<u8>, Fail> {
     Ok(bytes)
 }
 
-// What makes a key of so many random bytes.
-fn draw(alloc: Global, count: usize) -> Result<Draw, Fail> {
-    Ok(Draw::new(random(alloc, count, 0)?))
+// So many random bytes to draw, in which the secret stands at a place.
+fn draw(alloc: Global, count: usize, place: usize) -> Result<Draw, Fail> {
+    Ok(Draw::new(random(alloc, count, place)?))
 }
 
 // Whether so many random bytes make the line of the identity.
 fn makes_key(alloc: Global, count: usize) -> Result<bool, Fail> {
-    let draw = draw(alloc, count)?;
+    let draw = draw(alloc, count, 0)?;
     let mut line = Vec::new(alloc);
-    let is_made = keygen(alloc, draw, &mut line).is_ok();
+    let is_made = is_done(keygen(alloc, draw, &mut line));
     Ok(is_made && line.len() == 75 && line.strip_suffix(b"\n") == Some(IDENTITY.as_bytes()))
 }
 
 // Whether so many are too few, and nothing is written.
 fn makes_none(alloc: Global, count: usize) -> Result<bool, Fail> {
-    let draw = draw(alloc, count)?;
+    let draw = draw(alloc, count, 0)?;
     let mut line = Vec::new(alloc);
     let is_refused = is_refusal(
         alloc,
@@ -77,8 +77,7 @@ fn keys_are_made(rt: HostRuntime) -> Result<(), Fail> {
     for count in [32, 33, 64] {
         assert!(rt; makes_key(alloc, count)?, "of {count} bytes");
     }
-    assert!(rt; makes_none(alloc, 0)?);
-    assert!(rt; makes_none(alloc, 31)?);
+    assert!(rt; makes_none(alloc, 0)? && makes_none(alloc, 31)?);
     Ok(())
 }
 
@@ -92,34 +91,34 @@ fn identity(text: &str) -> Result<With, Fail> {
     Ok(With::Key(Identity::<BenchSuite>::from_str(text)?))
 }
 
-// What comes of encrypting the message to that recipient in this form, with so many random bytes in which the secret
-// stands at a place.
+// What comes of encrypting the message in this form.
 fn encrypted(
     alloc: Global,
-    count: usize,
-    place: usize,
+    to: To,
+    draw: Draw,
     format: Format,
     file: &mut Vec<u8>,
-) -> Result<Result<(), FileError>, Fail> {
-    let draw = Draw::new(random(alloc, count, place)?);
-    let to = recipient()?;
-    Ok(encrypt_to(alloc, to, draw, format, &mut Bytes::new(MESSAGE), file))
+) -> Result<(), FileError> {
+    encrypt_to(alloc, to, draw, format, &mut Bytes::new(MESSAGE), file)
 }
 
-// The message encrypted to it in this form.
+// The message encrypted to that recipient in this form.
 fn file_in(alloc: Global, format: Format) -> Result<Vec<u8>, Fail> {
+    let draw = draw(alloc, 64, 64)?;
+    let to = recipient()?;
     let mut file = Vec::new(alloc);
-    if encrypted(alloc, 64, 64, format, &mut file)?.is_err() {
-        return Err(Fail::from("it wasn't encrypted"));
+    if is_done(encrypted(alloc, to, draw, format, &mut file)) {
+        Ok(file)
+    } else {
+        Err(Fail::from("it wasn't encrypted"))
     }
-    Ok(file)
 }
 
 // Whether the identity gives the message back.
 fn comes_back(alloc: Global, file: &[u8]) -> Result<bool, Fail> {
     let with = identity(IDENTITY)?;
     let mut plain = Vec::new(alloc);
-    let is_opened = decrypt_with(alloc, with, &mut Bytes::new(file), &mut plain).is_ok();
+    let is_opened = is_done(decrypt_with(alloc, with, &mut Bytes::new(file), &mut plain));
     Ok(is_opened && plain.as_slice() == MESSAGE)
 }
 
@@ -127,52 +126,56 @@ fn comes_back(alloc: Global, file: &[u8]) -> Result<bool, Fail> {
 fn part_comes_back(alloc: Global, file: &[u8]) -> Result<bool, Fail> {
     let with = identity(IDENTITY)?;
     let mut part = Vec::new(alloc);
-    let is_opened = at_with(alloc, with, 5, 3, &mut Bytes::new(file), &mut part).is_ok();
+    let is_opened = is_done(at_with(alloc, with, 5, 3, &mut Bytes::new(file), &mut part));
     Ok(is_opened && part.as_slice() == b"is ".as_slice())
-}
-
-// Whether no identity had the key.
-fn found_no_key(answer: Result<(), FileError>) -> bool {
-    matches!(
-        answer,
-        Err(FileError::Decrypt(DecryptError::NoMatchingKeys))
-    )
 }
 
 // Whether another has no key, and gives nothing.
 fn has_no_key(alloc: Global, other: With, file: &[u8]) -> bool {
     let mut nothing = Vec::new(alloc);
-    let answer = decrypt_with(alloc, other, &mut Bytes::new(file), &mut nothing);
-    found_no_key(answer) && nothing.is_empty()
+    let is_refused = is_refusal(
+        alloc,
+        decrypt_with(alloc, other, &mut Bytes::new(file), &mut nothing),
+        "no matching keys",
+    );
+    is_refused && nothing.is_empty()
 }
 
-// A file of this length is decrypted with the identity, and with no other.
-fn is_decrypted(rt: &impl Abort, alloc: Global, file: &[u8], length: usize) -> Result<(), Fail> {
-    assert!(rt; file.len() == length);
-    assert!(rt; comes_back(alloc, file)?);
-    assert!(rt; part_comes_back(alloc, file)?);
-    assert!(rt; has_no_key(alloc, identity(OTHER)?, file));
-    assert!(rt; has_no_key(alloc, With::Bench, file));
-    Ok(())
+// Whether neither another identity nor `bench` has the key.
+fn others_have_no_key(alloc: Global, file: &[u8]) -> Result<bool, Fail> {
+    Ok(has_no_key(alloc, identity(OTHER)?, file) && has_no_key(alloc, With::Bench, file))
+}
+
+// Whether a file of this length is decrypted with the identity, and with no other.
+fn is_decrypted(alloc: Global, file: &[u8], length: usize) -> Result<bool, Fail> {
+    Ok(
+        file.len() == length
+            && comes_back(alloc, file)?
+            && part_comes_back(alloc, file)?
+            && others_have_no_key(alloc, file)?,
+    )
 }
 
 #[test]
 fn files_for_a_key_are_decrypted_with_it(rt: HostRuntime) -> Result<(), Fail> {
     let alloc = rt.alloc();
-    is_decrypted(&rt, alloc, &file_in(alloc, Format::Binary)?, 256)?;
-    is_decrypted(&rt, alloc, &file_in(alloc, Format::AsciiArmor)?, 418)
+    assert!(rt; is_decrypted(alloc, &file_in(alloc, Format::Binary)?, 256)?);
+    assert!(rt; is_decrypted(alloc, &file_in(alloc, Format::AsciiArmor)?, 418)?);
+    Ok(())
 }
 
-// Whether random bytes ran out.
-fn ran_out(answer: Result<(), FileError>) -> bool {
-    matches!(answer, Err(FileError::Encrypt(EncryptError::ShortRandom)))
-}
-
-// Whether so many random bytes are too few, and nothing is written.
-fn are_too_few(alloc: Global, count: usize) -> Result<bool, Fail> {
+// Whether encrypting with these random bytes in this form is refused with this text, and nothing is written.
+fn is_refused(alloc: Global, draw: Draw, format: Format, text: &str) -> Result<bool, Fail> {
+    let to = recipient()?;
     let mut file = Vec::new(alloc);
-    let answer = encrypted(alloc, count, 64, Format::Binary, &mut file)?;
-    Ok(ran_out(answer) && file.is_empty())
+    let is_refused = is_refusal(alloc, encrypted(alloc, to, draw, format, &mut file), text);
+    Ok(is_refused && file.is_empty())
+}
+
+// Whether so many random bytes are too few.
+fn are_too_few(alloc: Global, count: usize) -> Result<bool, Fail> {
+    let draw = draw(alloc, count, 64)?;
+    is_refused(alloc, draw, Format::Binary, "random bytes ran out")
 }
 
 // An X25519 recipient wants 64 random bytes in all, of which 32 are its ephemeral secret.
@@ -184,26 +187,15 @@ fn too_few_random_bytes_make_no_file(rt: HostRuntime) -> Result<(), Fail> {
     Ok(())
 }
 
-// Whether the shared secret was zero.
-fn was_shared(answer: Result<(), FileError>) -> bool {
-    matches!(
-        answer,
-        Err(FileError::Encrypt(EncryptError::ZeroSharedSecret))
-    )
-}
-
-// Whether so many random bytes, with the secret in them, share it with everybody, and nothing is written.
+// Whether so many random bytes, with the secret in them, share it with everybody.
 fn are_shared(alloc: Global, count: usize) -> Result<bool, Fail> {
-    let mut file = Vec::new(alloc);
-    let answer = encrypted(alloc, count, 16, Format::AsciiArmor, &mut file)?;
-    Ok(was_shared(answer) && file.is_empty())
+    let draw = draw(alloc, count, 16)?;
+    is_refused(alloc, draw, Format::AsciiArmor, "shared secret is zero")
 }
 
 // The bench suite's shared secret is zero where both secrets are the same.
 #[test]
 fn a_secret_that_everybody_shares_makes_no_file(rt: HostRuntime) -> Result<(), Fail> {
-    for count in [48, 64] {
-        assert!(rt; are_shared(rt.alloc(), count)?, "of {count} bytes");
-    }
+    assert!(rt; are_shared(rt.alloc(), 48)? && are_shared(rt.alloc(), 64)?);
     Ok(())
 }

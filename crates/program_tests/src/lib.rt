@@ -11,6 +11,8 @@ mod command_tests;
 #[cfg(test)]
 mod debug_tests;
 #[cfg(test)]
+mod done;
+#[cfg(test)]
 mod draw_tests;
 #[cfg(test)]
 mod file_tests;

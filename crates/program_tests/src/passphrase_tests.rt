@@ -1,19 +1,17 @@
 //! The commands with a passphrase, by the words of a command line. The expected bytes are those of Python, from the format's own words.
 
+use crate::done::{found, is_done};
 use crate::words::{asked, names_nobody};
 use age::armor::Format;
 use age::draw::Draw;
-use age::io::Bytes;
+use age::io::{Bytes, Error};
 use age::scrypt::Recipient;
 use age::secrecy::SecretString;
 use age::streaming::FileError;
-use age::{DecryptError, EncryptError};
 use age_bench::command::Command;
 use age_bench::file::{decrypt_with, encrypt_to};
-use age_bench::keygen::keygen;
 use age_bench::names::To;
 use age_bench::part::at_with;
-use age_bench::payload::{open_all, seal_all};
 use age_try::answers::is_refusal;
 use age_try::fixtures::{MESSAGE, digest, zeros};
 use std::alloc::Global;
@@ -28,7 +26,7 @@ const IDENTITY: &str = "AGE-SECRET-KEY-1GQ9778VQXMMJVE8SK7J6VT8UJ4HDQAJUVSFCWCM0
 const HEADER: &[u8] =
     b"age-encryption.org/v1\n-> scrypt AAAAAAAAAAAAAAAAAAAAAA 10\nXMo9UYTFFgkpCpmsdHlIM5/W0hYXn1BbZnv0Q3kl82o\n--- OYcv5rOrwoJ2JGRsY7wui/ipHM33H1JfEIQQIqZefyE\n";
 
-// What a command does.
+// What a command for a file does. Any other is refused.
 fn ran(
     alloc: Global,
     command: Command,
@@ -37,8 +35,6 @@ fn ran(
 ) -> Result<(), FileError> {
     let mut input = Bytes::new(input);
     match command {
-        Command::Seal { key } => seal_all(alloc, key, &mut input, output),
-        Command::Open { key } => open_all(alloc, key, &mut input, output),
         Command::Encrypt { to, draw, format } => {
             encrypt_to(alloc, to, Draw::new(draw), format, &mut input, output)
         }
@@ -46,26 +42,23 @@ fn ran(
         Command::At { with, place, count } => {
             at_with(alloc, with, place, count, &mut input, output)
         }
-        Command::Keygen { draw } => keygen(alloc, Draw::new(draw), output),
+        _other => Err(FileError::Io(Error::Failed)),
     }
 }
 
 // What these words ask for.
 fn command(alloc: Global, words: &[&str]) -> Result<Command, Fail> {
-    match asked(alloc, words)? {
-        Some(command) => Ok(command),
-        None => Err(Fail::from("a wrong command line")),
-    }
+    found(asked(alloc, words)?, "a wrong command line")
 }
 
 // What the command of these words writes.
 fn written(alloc: Global, words: &[&str], input: &[u8]) -> Result<Vec<u8>, Fail> {
-    let command = command(alloc, words)?;
     let mut output = Vec::new(alloc);
-    if ran(alloc, command, input, &mut output).is_err() {
-        return Err(Fail::from("a refusal"));
+    if is_done(ran(alloc, command(alloc, words)?, input, &mut output)) {
+        Ok(output)
+    } else {
+        Err(Fail::from("a refusal"))
     }
-    Ok(output)
 }
 
 // Whether the command of these words writes this.
@@ -75,9 +68,9 @@ fn writes(alloc: Global, words: &[&str], input: &[u8], output: &[u8]) -> Result<
 
 // Whether the command of these words refuses with this text, and writes nothing.
 fn refuses(alloc: Global, words: &[&str], input: &[u8], text: &str) -> Result<bool, Fail> {
-    let command = command(alloc, words)?;
     let mut output = Vec::new(alloc);
-    let is_refused = is_refusal(alloc, ran(alloc, command, input, &mut output), text);
+    let answer = ran(alloc, command(alloc, words)?, input, &mut output);
+    let is_refused = is_refusal(alloc, answer, text);
     Ok(is_refused && output.is_empty())
 }
 
@@ -109,110 +102,95 @@ fn a_message_has_its_file(rt: HostRuntime) -> Result<(), Fail> {
     Ok(())
 }
 
-// A file has this length and these bytes, and gives the message back to the same word.
-fn there_and_back(
-    rt: &impl Abort,
+// Whether a file has this length and these bytes, and gives the message back to the same word.
+fn comes_back(
     alloc: Global,
     word: &str,
     file: &[u8],
     length: usize,
     digest_of: u64,
-) -> Result<(), Fail> {
-    assert!(rt;
-        file.len() == length && digest(file) == digest_of,
-        "at {word}"
-    );
-    assert!(rt;
-        writes(alloc, &["decrypt", word], file, MESSAGE)?,
-        "at {word}"
-    );
-    assert!(rt;
-        writes(alloc, &["at", word, "5", "3"], file, b"is ")?,
-        "at {word}"
-    );
-    Ok(())
+) -> Result<bool, Fail> {
+    Ok(
+        file.len() == length
+            && digest(file) == digest_of
+            && writes(alloc, &["decrypt", word], file, MESSAGE)?
+            && writes(alloc, &["at", word, "5", "3"], file, b"is ")?,
+    )
 }
+
+// Whether the files for a word, without armor and in it, have these bytes, and give the message back.
+fn both_come_back(alloc: Global, word: &str, binary: u64, ascii: u64) -> Result<bool, Fail> {
+    Ok(
+        comes_back(alloc, word, &encrypted(alloc, word)?, 218, binary)?
+            && comes_back(alloc, word, &armored(alloc, word)?, 365, ascii)?,
+    )
+}
+
+// A word, and the digests of the files for it.
+const FILES: [(&str, u64, u64); 5] = [
+    (
+        "pass=correct horse",
+        0xe270_b706_a362_7511,
+        0x5285_acb2_2040_d858,
+    ),
+    ("pass=", 0xd5be_a7f4_7d15_4092, 0xd912_95e6_9d55_829d),
+    ("pass=pass=x", 0x0fe3_02ab_941f_77a4, 0x2958_4a6d_6f95_06cf),
+    ("pass=x y\tz ", 0x160f_a49c_33ed_f910, 0x6953_6771_6a2b_e8fa),
+    (
+        "pass=\u{5bc6}\u{7801} \u{e9}",
+        0x6e3b_66b8_6424_b301,
+        0xa401_1371_c027_9b05,
+    ),
+];
 
 // What follows the first `pass=` is the passphrase, also nothing, spaces, and letters of several bytes.
 #[test]
 fn files_for_a_passphrase_are_decrypted_with_it(rt: HostRuntime) -> Result<(), Fail> {
-    let alloc = rt.alloc();
-    for (word, binary, ascii) in [
-        (
-            "pass=correct horse",
-            0xe270_b706_a362_7511,
-            0x5285_acb2_2040_d858,
-        ),
-        ("pass=", 0xd5be_a7f4_7d15_4092, 0xd912_95e6_9d55_829d),
-        ("pass=pass=x", 0x0fe3_02ab_941f_77a4, 0x2958_4a6d_6f95_06cf),
-        ("pass=x y\tz ", 0x160f_a49c_33ed_f910, 0x6953_6771_6a2b_e8fa),
-        (
-            "pass=\u{5bc6}\u{7801} \u{e9}",
-            0x6e3b_66b8_6424_b301,
-            0xa401_1371_c027_9b05,
-        ),
-    ] {
-        there_and_back(&rt, alloc, word, &encrypted(alloc, word)?, 218, binary)?;
-        there_and_back(&rt, alloc, word, &armored(alloc, word)?, 365, ascii)?;
+    for (word, binary, ascii) in FILES {
+        assert!(rt;
+            both_come_back(rt.alloc(), word, binary, ascii)?,
+            "at {word}"
+        );
     }
     Ok(())
 }
 
-// A file isn't decrypted with this word, nor a part of it.
-fn fails_with(rt: &impl Abort, alloc: Global, word: &str, file: &[u8]) -> Result<(), Fail> {
-    let text = "decryption failed";
-    assert!(rt;
-        refuses(alloc, &["decrypt", word], file, text)?,
-        "at {word}"
-    );
-    assert!(rt;
-        refuses(alloc, &["at", word, "5", "3"], file, text)?,
-        "at {word}"
-    );
-    Ok(())
+// Whether a file isn't decrypted with this word, nor a part of it.
+fn fails_with(alloc: Global, word: &str, file: &[u8]) -> Result<bool, Fail> {
+    Ok(
+        refuses(alloc, &["decrypt", word], file, "decryption failed")?
+            && refuses(alloc, &["at", word, "5", "3"], file, "decryption failed")?,
+    )
 }
+
+const OTHER_WORDS: [&str; 4] = [
+    "pass=correct horse ",
+    "pass=Correct horse",
+    "pass=correct hors",
+    "pass=",
+];
 
 #[test]
 fn another_passphrase_fails(rt: HostRuntime) -> Result<(), Fail> {
     let file = encrypted(rt.alloc(), WORD)?;
-    for other in [
-        "pass=correct horse ",
-        "pass=Correct horse",
-        "pass=correct hors",
-        "pass=",
-    ] {
-        fails_with(&rt, rt.alloc(), other, &file)?;
+    for other in OTHER_WORDS {
+        assert!(rt; fails_with(rt.alloc(), other, &file)?, "at {other}");
     }
     Ok(())
 }
 
-// Whether no identity had the key.
-fn found_no_key(answer: Result<(), FileError>) -> bool {
-    matches!(
-        answer,
-        Err(FileError::Decrypt(DecryptError::NoMatchingKeys))
-    )
-}
-
-// Whether the command of these words finds no key, and writes nothing.
-fn finds_no_key(alloc: Global, words: &[&str], input: &[u8]) -> Result<bool, Fail> {
-    let command = command(alloc, words)?;
-    let mut output = Vec::new(alloc);
-    let answer = ran(alloc, command, input, &mut output);
-    Ok(found_no_key(answer) && output.is_empty())
+// Whether decrypting a file for one word with another finds no key, and writes nothing.
+fn finds_no_key(alloc: Global, to: &str, with: &str) -> Result<bool, Fail> {
+    let file = encrypted(alloc, to)?;
+    refuses(alloc, &["decrypt", with], &file, "no matching keys")
 }
 
 // A file of another kind has no stanza for a passphrase, and one for a passphrase none for others.
 #[test]
 fn other_kinds_of_files_dont_match(rt: HostRuntime) -> Result<(), Fail> {
     let alloc = rt.alloc();
-    for (to, with) in [("bench", WORD), (WORD, "bench"), (WORD, IDENTITY)] {
-        let file = encrypted(alloc, to)?;
-        assert!(rt;
-            finds_no_key(alloc, &["decrypt", with], &file)?,
-            "to {to} with {with}"
-        );
-    }
+    assert!(rt; finds_no_key(alloc, "bench", WORD)?);
+    assert!(rt; finds_no_key(alloc, WORD, "bench")? && finds_no_key(alloc, WORD, IDENTITY)?);
     Ok(())
 }
 
@@ -232,12 +210,14 @@ fn too_few_random_bytes_make_no_file(rt: HostRuntime) -> Result<(), Fail> {
     Ok(())
 }
 
+const NO_PASSPHRASES: [&str; 8] = [
+    "pass", "Pass=x", "PASS=x", " pass=x", "pass =x", "pass:x", "=x", "",
+];
+
 #[test]
 fn other_words_name_no_passphrase(rt: HostRuntime) -> Result<(), Fail> {
-    for word in [
-        "pass", "Pass=x", "PASS=x", " pass=x", "pass =x", "pass:x", "=x", "",
-    ] {
-        names_nobody(&rt, rt.alloc(), word);
+    for word in NO_PASSPHRASES {
+        assert!(rt; names_nobody(rt.alloc(), word), "at {word}");
     }
     Ok(())
 }
@@ -251,40 +231,32 @@ fn to_passphrase(alloc: Global, factor: u8) -> Result<To, Fail> {
     Ok(To::Passphrase(Recipient::new(passphrase, factor)))
 }
 
-// What comes of encrypting the message to the passphrase with this work factor.
-fn with_factor(
-    alloc: Global,
-    factor: u8,
-    file: &mut Vec<u8>,
-) -> Result<Result<(), FileError>, Fail> {
-    let draw = zeros(alloc, 72)?;
-    let to = to_passphrase(alloc, factor)?;
+// What comes of encrypting the message, with these random bytes.
+fn encrypted_to(alloc: Global, to: To, draw: Draw, file: &mut Vec<u8>) -> Result<(), FileError> {
     let mut input = Bytes::new(MESSAGE);
-    Ok(encrypt_to(alloc, to, draw, Format::Binary, &mut input, file))
+    encrypt_to(alloc, to, draw, Format::Binary, &mut input, file)
 }
 
 // Whether a file with this work factor has these bytes, and gives the message back.
 fn is_accepted(alloc: Global, factor: u8, digest_of: u64) -> Result<bool, Fail> {
+    let to = to_passphrase(alloc, factor)?;
+    let draw = zeros(alloc, 72)?;
     let mut file = Vec::new(alloc);
-    if with_factor(alloc, factor, &mut file)?.is_err() {
-        return Ok(false);
-    }
-    Ok(digest(&file) == digest_of && writes(alloc, &["decrypt", WORD], &file, MESSAGE)?)
-}
-
-// Whether the work factor was refused.
-fn was_too_much(answer: Result<(), FileError>) -> bool {
-    matches!(
-        answer,
-        Err(FileError::Encrypt(EncryptError::WorkFactorRefused))
-    )
+    let is_made = is_done(encrypted_to(alloc, to, draw, &mut file));
+    Ok(is_made && digest(&file) == digest_of && writes(alloc, &["decrypt", WORD], &file, MESSAGE)?)
 }
 
 // Whether this work factor is refused, and nothing is written.
 fn is_too_much(alloc: Global, factor: u8) -> Result<bool, Fail> {
+    let to = to_passphrase(alloc, factor)?;
+    let draw = zeros(alloc, 72)?;
     let mut file = Vec::new(alloc);
-    let answer = with_factor(alloc, factor, &mut file)?;
-    Ok(was_too_much(answer) && file.is_empty())
+    let is_refused = is_refusal(
+        alloc,
+        encrypted_to(alloc, to, draw, &mut file),
+        "work factor refused",
+    );
+    Ok(is_refused && file.is_empty())
 }
 
 // The bench suite accepts work factors up to 20.

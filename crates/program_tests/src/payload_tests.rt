@@ -1,5 +1,6 @@
 //! What the commands write, and their refusals. The sealed bytes are those of HMAC in Python.
 
+use crate::done::is_done;
 use age::io::{Bytes, Error, ErrorKind};
 use age::streaming::FileError;
 use age_bench::payload::{open_all, seal_all};
@@ -32,7 +33,7 @@ fn seals(
     payload: &[u8],
 ) -> Result<bool, Fail> {
     let mut sealed = Vec::from_slice(alloc, before)?;
-    let is_sealed = seal_all(alloc, key, &mut Bytes::new(plain), &mut sealed).is_ok();
+    let is_sealed = is_done(seal_all(alloc, key, &mut Bytes::new(plain), &mut sealed));
     Ok(is_sealed && sealed.strip_prefix(before) == Some(payload))
 }
 
@@ -45,17 +46,26 @@ fn opens(
     plain: &[u8],
 ) -> Result<bool, Fail> {
     let mut opened = Vec::from_slice(alloc, before)?;
-    let is_opened = open_all(alloc, key, &mut Bytes::new(payload), &mut opened).is_ok();
+    let is_opened = is_done(open_all(alloc, key, &mut Bytes::new(payload), &mut opened));
     Ok(is_opened && opened.strip_prefix(before) == Some(plain))
+}
+
+// Whether both lead from a plaintext to this payload and back.
+fn there_and_back(
+    alloc: Global,
+    key: [u8; 32],
+    before: &[u8],
+    plain: &[u8],
+    payload: &[u8],
+) -> Result<bool, Fail> {
+    Ok(seals(alloc, key, before, plain, payload)? && opens(alloc, key, before, payload, plain)?)
 }
 
 #[test]
 fn commands_seal_and_open(rt: HostRuntime) -> Result<(), Fail> {
     let alloc = rt.alloc();
-    assert!(rt; seals(alloc, ZEROS, b"", b"", &EMPTY_SEALED)?);
-    assert!(rt; opens(alloc, ZEROS, b"", &EMPTY_SEALED, b"")?);
-    assert!(rt; seals(alloc, ZEROS, b"", b"a", &LETTER_SEALED)?);
-    assert!(rt; opens(alloc, ZEROS, b"", &LETTER_SEALED, b"a")?);
+    assert!(rt; there_and_back(alloc, ZEROS, b"", b"", &EMPTY_SEALED)?);
+    assert!(rt; there_and_back(alloc, ZEROS, b"", b"a", &LETTER_SEALED)?);
     Ok(())
 }
 
@@ -65,46 +75,46 @@ fn commands_append_many_chunks(rt: HostRuntime) -> Result<(), Fail> {
     let alloc = rt.alloc();
     let plain = plaintext(alloc, 200_000)?;
     let payload = seal_whole::<BenchSuite>(alloc, &KEY, &plain)?;
-    assert!(rt; seals(alloc, KEY, b"before", &plain, &payload)?);
-    assert!(rt; opens(alloc, KEY, b"before", &payload, &plain)?);
+    assert!(rt; there_and_back(alloc, KEY, b"before", &plain, &payload)?);
     Ok(())
 }
 
 // Whether opening a payload fails with this text, after the first bytes of the plaintext were written, so many.
 fn is_refused(alloc: Global, payload: &[u8], written: usize, text: &str) -> Result<bool, Fail> {
-    let front = plaintext(alloc, written)?;
     let mut opened = Vec::new(alloc);
     let is_refused = is_refusal(
         alloc,
         open_all(alloc, KEY, &mut Bytes::new(payload), &mut opened),
         text,
     );
-    Ok(is_refused && opened.as_slice() == front.as_slice())
+    Ok(is_refused && opened.as_slice() == plaintext(alloc, written)?.as_slice())
 }
 
 // The payload of two full chunks.
 fn two_chunks(alloc: Global) -> Result<Vec<u8>, Fail> {
-    let plain = plaintext(alloc, 131_072)?;
-    let payload = seal_whole::<BenchSuite>(alloc, &KEY, &plain)?;
-    if payload.len() != 131_104 {
-        return Err(Fail::from("another length"));
+    let payload = seal_whole::<BenchSuite>(alloc, &KEY, &plaintext(alloc, 131_072)?)?;
+    if payload.len() == 131_104 {
+        Ok(payload)
+    } else {
+        Err(Fail::from("another length"))
     }
-    Ok(payload)
 }
+
+// So many bytes of that payload, how many of the plaintext are written, and the refusal.
+const CUTS: [(usize, usize, &str); 4] = [
+    (0, 0, "age file is truncated"),
+    (15, 0, "decryption error"),
+    (65_552, 65_536, "age file is truncated"),
+    (131_103, 65_536, "decryption error"),
+];
 
 #[test]
 fn cut_payloads_are_refused(rt: HostRuntime) -> Result<(), Fail> {
     let alloc = rt.alloc();
     let payload = two_chunks(alloc)?;
-    for (length, written, text) in [
-        (0, 0, "age file is truncated"),
-        (15, 0, "decryption error"),
-        (65_552, 65_536, "age file is truncated"),
-        (131_103, 65_536, "decryption error"),
-    ] {
-        let cut = part(&payload, 0, length);
+    for (length, written, text) in CUTS {
         assert!(rt;
-            is_refused(alloc, cut, written, text)?,
+            is_refused(alloc, part(&payload, 0, length), written, text)?,
             "of {length} bytes: {text}"
         );
     }
@@ -131,27 +141,26 @@ fn changed_payloads_are_refused(rt: HostRuntime) -> Result<(), Fail> {
     Ok(())
 }
 
-// Whether the error of a file that holds this one has this text.
-fn has_text(alloc: Global, error: FileError, text: &str) -> bool {
-    is_refusal(alloc, Err::<(), FileError>(error), text)
+// Whether the errors of a file that hold this one have its text.
+fn have_text(alloc: Global, error: Error, text: &str) -> bool {
+    is_refusal(alloc, Err::<(), FileError>(FileError::Io(error)), text)
+        && is_refusal(alloc, Err::<(), FileError>(FileError::from(error)), text)
 }
+
+const TEXTS: [(Error, &str); 4] = [
+    (Error::Device(ErrorKind::NotFound), "device fault"),
+    (Error::WriteZero, "nothing could be written"),
+    (
+        Error::NotIdentity { line: 7 },
+        "identity file contains non-identity data on line 7",
+    ),
+    (Error::OutOfMemory, "out of memory"),
+];
 
 #[test]
 fn a_refusal_of_a_command_has_its_text(rt: HostRuntime) -> Result<(), Fail> {
-    for (error, text) in [
-        (Error::Device(ErrorKind::NotFound), "device fault"),
-        (Error::WriteZero, "nothing could be written"),
-        (
-            Error::NotIdentity { line: 7 },
-            "identity file contains non-identity data on line 7",
-        ),
-        (Error::OutOfMemory, "out of memory"),
-    ] {
-        assert!(rt; has_text(rt.alloc(), FileError::Io(error), text), "{text}");
-        assert!(rt;
-            has_text(rt.alloc(), FileError::from(error), text),
-            "{text}"
-        );
+    for (error, text) in TEXTS {
+        assert!(rt; have_text(rt.alloc(), error, text), "{text}");
     }
     Ok(())
 }

@@ -1,5 +1,6 @@
 //! The protected identity file that the Rust crate `age` ships with its tests.
 
+use crate::done::{found, is_done};
 use age::armor::ArmoredReader;
 use age::encrypted::Identity;
 use age::io::{BufReader, Bytes};
@@ -40,13 +41,13 @@ fn secret(alloc: Global, text: &str) -> Result<SecretString, Fail> {
 }
 
 // The identity that the file protects, for one who gives this passphrase.
-fn identity<'a>(alloc: Global, passphrase: SecretString) -> Result<Protected<'a>, Fail> {
+fn identity<'a>(alloc: Global, passphrase: &str) -> Result<Protected<'a>, Fail> {
+    let callbacks = GivesOnce::new(Some(secret(alloc, passphrase)?));
     let input = ArmoredReader::new(alloc, Bytes::new(FILE))?;
-    let callbacks = GivesOnce::new(Some(passphrase));
-    match Identity::from_buffer(alloc, input, None, callbacks, 18, None)? {
-        Some(identity) => Ok(identity),
-        None => Err(Fail::from("the file isn't one of a passphrase")),
-    }
+    found(
+        Identity::from_buffer(alloc, input, None, callbacks, 18, None)?,
+        "the file isn't one of a passphrase",
+    )
 }
 
 // What comes of decrypting a file with a passphrase.
@@ -68,15 +69,20 @@ fn decrypted(
 // Whether a file is refused with this passphrase.
 fn is_refused(alloc: Global, passphrase: &str, file: &[u8]) -> Result<bool, Fail> {
     let passphrase = secret(alloc, passphrase)?;
-    Ok(decrypted(alloc, passphrase, file, &mut Vec::new(alloc)).is_err())
+    Ok(!is_done(decrypted(alloc, passphrase, file, &mut Vec::new(alloc))))
+}
+
+// Whether the file is decrypted with this passphrase to so many bytes, of which these are the last.
+fn opens_to(alloc: Global, passphrase: &str, length: usize, last: &[u8]) -> Result<bool, Fail> {
+    let passphrase = secret(alloc, passphrase)?;
+    let mut plain = Vec::new(alloc);
+    let is_opened = is_done(decrypted(alloc, passphrase, FILE, &mut plain));
+    Ok(is_opened && plain.len() == length && plain.as_slice().ends_with(last))
 }
 
 #[test]
 fn passphrase_opens_it(rt: HostRuntime) -> Result<(), Fail> {
-    let passphrase = secret(rt.alloc(), "foobar")?;
-    let mut plain = Vec::new(rt.alloc());
-    assert!(rt; decrypted(rt.alloc(), passphrase, FILE, &mut plain).is_ok());
-    assert!(rt; plain.len() == 189 && plain.as_slice().ends_with(LAST_LINE));
+    assert!(rt; opens_to(rt.alloc(), "foobar", 189, LAST_LINE)?);
     Ok(())
 }
 
@@ -121,11 +127,15 @@ fn recipients(
     identity.recipients(alloc)
 }
 
+// Whether the identity has this recipient alone, for one who gives this passphrase.
+fn has_recipient(alloc: Global, passphrase: &str, text: &str) -> Result<bool, Fail> {
+    let all = recipients(alloc, identity(alloc, passphrase)?)?;
+    Ok(is_one(alloc, &all, text)?)
+}
+
 #[test]
 fn recipient_is_that_of_its_identity(rt: HostRuntime) -> Result<(), Fail> {
-    let identity = identity(rt.alloc(), secret(rt.alloc(), "foobar")?)?;
-    let found = recipients(rt.alloc(), identity)?;
-    assert!(rt; is_one(rt.alloc(), &found, RECIPIENT)?);
+    assert!(rt; has_recipient(rt.alloc(), "foobar", RECIPIENT)?);
     Ok(())
 }
 
@@ -134,9 +144,14 @@ fn stayed_closed<T: Drop>(answer: Result<T, EncryptError>) -> bool {
     matches!(answer, Err(EncryptError::EncryptedIdentities(_)))
 }
 
+// Whether they do for one who gives this passphrase.
+fn stays_closed(alloc: Global, passphrase: &str) -> Result<bool, Fail> {
+    let identity = identity(alloc, passphrase)?;
+    Ok(stayed_closed(recipients(alloc, identity)))
+}
+
 #[test]
 fn its_identities_stay_closed(rt: HostRuntime) -> Result<(), Fail> {
-    let identity = identity(rt.alloc(), secret(rt.alloc(), "foobaz")?)?;
-    assert!(rt; stayed_closed(recipients(rt.alloc(), identity)));
+    assert!(rt; stays_closed(rt.alloc(), "foobaz")?);
     Ok(())
 }

@@ -2,15 +2,19 @@
 
 use age_bench::command::{Command, parse};
 use std::alloc::{AllocError, Global};
-use std::process::Abort;
+
+/// These words as texts of their own.
+pub fn owned(alloc: Global, words: &[&str]) -> Result<Vec<String>, AllocError> {
+    let mut texts = Vec::new(alloc);
+    for word in words {
+        texts.push(String::from_str(alloc, word)?)?;
+    }
+    Ok(texts)
+}
 
 /// What these words ask for, or nothing.
 pub fn asked(alloc: Global, words: &[&str]) -> Result<Option<Command>, AllocError> {
-    let mut line = Vec::new(alloc);
-    for word in words {
-        line.push(String::from_str(alloc, word)?)?;
-    }
-    parse(alloc, &line)
+    parse(alloc, &owned(alloc, words)?)
 }
 
 /// Whether these words are no command.
@@ -18,12 +22,9 @@ pub fn is_no_command(alloc: Global, words: &[&str]) -> bool {
     matches!(asked(alloc, words), Ok(None))
 }
 
-/// A word is neither TO nor WITH.
-pub fn names_nobody(rt: &impl Abort, alloc: Global, word: &str) {
-    assert!(rt; is_no_command(alloc, &["encrypt", word, "00"]), "to {word}");
-    assert!(rt; is_no_command(alloc, &["decrypt", word]), "with {word}");
-    assert!(rt;
-        is_no_command(alloc, &["at", word, "0", "1"]),
-        "a part with {word}"
-    );
+/// Whether a word is neither TO nor WITH, for a whole file and for a part.
+pub fn names_nobody(alloc: Global, word: &str) -> bool {
+    is_no_command(alloc, &["encrypt", word, "00"])
+        && is_no_command(alloc, &["decrypt", word])
+        && is_no_command(alloc, &["at", word, "0", "1"])
 }

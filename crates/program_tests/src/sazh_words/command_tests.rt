@@ -1,6 +1,6 @@
 //! Command lines of the synopsis.
 
-use crate::sazh_words::answers::{all_ask, answer_of};
+use crate::sazh_words::answers::{all_ask, words_ask};
 use std::test::Fail;
 
 #[test]
@@ -118,18 +118,14 @@ part -p -p -- 1 -2 -o => Err(NotANumber(Count, "-2"))
     )
 }
 
+// Where each value and each operand is an empty word.
+const EMPTY: &str =
+    r#"Ok(Encrypt { recipients: Listed([Text("")]), armored: false, input: "", output: Output { name: "", overwrite: false } })"#;
+
 // An empty word is a value or an operand as any other.
 #[test]
 fn empty_words(rt: HostRuntime) -> Result<(), Fail> {
-    let alloc = rt.alloc();
-    let mut words = Vec::new(alloc);
-    for word in ["encrypt", "-r", "", "", "-o", ""] {
-        words.push(String::from_str(alloc, word)?)?;
-    }
-    let answer = answer_of(alloc, &words)?;
-    assert!(rt;
-        answer.as_str()
-            == r#"Ok(Encrypt { recipients: Listed([Text("")]), armored: false, input: "", output: Output { name: "", overwrite: false } })"#
-    );
+    let words = ["encrypt", "-r", "", "", "-o", ""];
+    assert!(rt; words_ask(rt.alloc(), &words, EMPTY)?);
     Ok(())
 }

@@ -1,45 +1,46 @@
 //! Where help is asked for, and what the texts hold.
 
-use crate::sazh_words::answers::{all_ask, asks};
+use crate::sazh_words::answers::all_ask;
 use sazh_command::{HELP, USAGE};
-use std::process::Abort;
 use std::test::Fail;
 
 #[test]
 fn help_is_asked_for(rt: HostRuntime) -> Result<(), Fail> {
-    for line in [
-        "--help",
-        "-h",
-        "keygen --help",
-        "encrypt -h",
-        "encrypt -r a plain -h",
-        "decrypt --help -i key",
-        "part -h",
-        "--version --help",
-        "-h -- encrypt",
-    ] {
-        asks(&rt, rt.alloc(), line, "Ok(Help)")?;
-    }
-    Ok(())
+    all_ask(
+        &rt,
+        rt.alloc(),
+        r#"
+--help => Ok(Help)
+-h => Ok(Help)
+keygen --help => Ok(Help)
+encrypt -h => Ok(Help)
+encrypt -r a plain -h => Ok(Help)
+decrypt --help -i key => Ok(Help)
+part -h => Ok(Help)
+--version --help => Ok(Help)
+-h -- encrypt => Ok(Help)
+"#,
+    )
 }
 
 // Whatever else is wrong.
 #[test]
 fn help_comes_before_mistakes(rt: HostRuntime) -> Result<(), Fail> {
-    for line in [
-        "mend --help",
-        "-o --help",
-        "keygen -x -h",
-        "keygen -h -x",
-        "keygen one two -h",
-        "keygen -r --help",
-        "encrypt -o a -o b --help",
-        "decrypt -p a -i b -h -o",
-        "part one two three four -h",
-    ] {
-        asks(&rt, rt.alloc(), line, "Ok(Help)")?;
-    }
-    Ok(())
+    all_ask(
+        &rt,
+        rt.alloc(),
+        r#"
+mend --help => Ok(Help)
+-o --help => Ok(Help)
+keygen -x -h => Ok(Help)
+keygen -h -x => Ok(Help)
+keygen one two -h => Ok(Help)
+keygen -r --help => Ok(Help)
+encrypt -o a -o b --help => Ok(Help)
+decrypt -p a -i b -h -o => Ok(Help)
+part one two three four -h => Ok(Help)
+"#,
+    )
 }
 
 #[test]
@@ -59,43 +60,44 @@ keygen -help => Err(UnknownOption("-help"))
     )
 }
 
-// A text has at most so many lines, of at most 80 characters of ASCII, and no line end at its end.
-fn fits(rt: &impl Abort, text: &str, most: usize) {
-    assert!(rt; text.is_ascii());
-    assert!(rt; text.lines().count() <= most);
+// Whether a text has at most so many lines, of at most 80 characters of ASCII, and no line end at its end.
+fn fits(text: &str, most: usize) -> bool {
+    let mut fits = text.is_ascii() && text.lines().count() <= most && !text.ends_with('\n');
     for line in text.lines() {
-        assert!(rt; line.len() <= 80, "{line}");
+        fits &= line.len() <= 80;
     }
-    assert!(rt; !text.ends_with('\n'));
+    fits
 }
 
 #[test]
 fn texts_fit_a_terminal(rt: HostRuntime) {
-    fits(&rt, USAGE, 8);
-    fits(&rt, HELP, 60);
+    assert!(rt; fits(USAGE, 8) && fits(HELP, 60));
     assert!(rt; HELP.starts_with(USAGE));
 }
 
+// The beginnings of lines, and two texts that stand within them.
+const PARTS: [&str; 16] = [
+    "\n  -r RECIPIENT ",
+    "\n  -R FILE ",
+    "\n  -i FILE ",
+    "\n  -p FILE ",
+    "\n  -a ",
+    "\n  -o OUT ",
+    "\n  -f ",
+    "\n  -- ",
+    "\nkeygen ",
+    "\nencrypt ",
+    "\ndecrypt ",
+    "\npart ",
+    "\nexit status: 0 ",
+    "\nexamples:\n",
+    "kept secret",
+    "Nothing is asked on a terminal.",
+];
+
 #[test]
 fn help_names_each_option(rt: HostRuntime) {
-    for text in [
-        "\n  -r RECIPIENT ",
-        "\n  -R FILE ",
-        "\n  -i FILE ",
-        "\n  -p FILE ",
-        "\n  -a ",
-        "\n  -o OUT ",
-        "\n  -f ",
-        "\n  -- ",
-        "\nkeygen ",
-        "\nencrypt ",
-        "\ndecrypt ",
-        "\npart ",
-        "\nexit status: 0 ",
-        "\nexamples:\n",
-        "kept secret",
-        "Nothing is asked on a terminal.",
-    ] {
+    for text in PARTS {
         assert!(rt; HELP.contains(text), "{text}");
     }
 }

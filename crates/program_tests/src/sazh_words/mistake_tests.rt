@@ -1,6 +1,7 @@
 //! Command lines with mistakes.
 
 use crate::sazh_words::answers::{all_ask, words_of};
+use crate::words::owned;
 use sazh_command::parse;
 use std::alloc::{AllocError, Global};
 use std::process::Abort;
@@ -125,27 +126,25 @@ part -i key one two three => Err(NotANumber(Place, "one"))
     )
 }
 
-// What is wrong with the words of a line, as it is told.
-fn told(alloc: Global, line: &str) -> Result<String, AllocError> {
-    let words = words_of(alloc, line)?;
-    match parse(alloc, &words)? {
+// What is wrong with these words, as it is told.
+fn told(alloc: Global, words: &[String]) -> Result<String, AllocError> {
+    match parse(alloc, words)? {
         Ok(_command) => String::from_str(alloc, "nothing is wrong"),
         Err(error) => format!(in alloc; "{error}"),
     }
 }
 
-// What is wrong with the words of a line is told so.
-fn is_told(rt: &impl Abort, alloc: Global, line: &str, expected: &str) -> Result<(), Fail> {
-    let text = told(alloc, line)?;
-    assert!(rt; text.as_str() == expected, "at {line}");
-    Ok(())
+// Whether what is wrong with the words of a line is told so.
+fn is_told(alloc: Global, line: &str, expected: &str) -> Result<bool, AllocError> {
+    let words = words_of(alloc, line)?;
+    Ok(told(alloc, &words)?.as_str() == expected)
 }
 
 // What is wrong with the words of each line is told as it stands behind it. A row is `LINE => MISTAKE`, or empty.
 fn all_are_told(rt: &impl Abort, alloc: Global, rows: &str) -> Result<(), Fail> {
     for row in rows.lines() {
         match row.split_once(" => ") {
-            Some((line, expected)) => is_told(rt, alloc, line, expected)?,
+            Some((line, expected)) => assert!(rt; is_told(alloc, line, expected)?, "at {line}"),
             None => assert!(rt; row.is_empty(), "{row}"),
         }
     }
@@ -193,13 +192,8 @@ keygen key => the word "key" is one too many
 // The line stays one line, and a terminal is told nothing else, whatever the word.
 #[test]
 fn control_characters_are_escaped(rt: HostRuntime) -> Result<(), Fail> {
-    let alloc = rt.alloc();
-    let mut words = Vec::new(alloc);
-    words.push(String::from_str(alloc, "two\nlines\r\"quoted\"\u{1b}[2J")?)?;
-    let text = match parse(alloc, &words)? {
-        Ok(_command) => String::from_str(alloc, "nothing is wrong")?,
-        Err(error) => format!(in alloc; "{error}")?,
-    };
+    let words = owned(rt.alloc(), &["two\nlines\r\"quoted\"\u{1b}[2J"])?;
+    let text = told(rt.alloc(), &words)?;
     assert!(rt; text.as_str() == r#""two\nlines\r\"quoted\"\u{1b}[2J" is no command"#);
     Ok(())
 }

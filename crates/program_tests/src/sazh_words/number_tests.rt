@@ -1,16 +1,13 @@
 //! PLACE and COUNT.
 
-use crate::sazh_words::answers::answer_of;
+use crate::sazh_words::answers::words_ask;
 use std::alloc::{AllocError, Global};
 use std::test::Fail;
 
-// What `part -i key PLACE COUNT file` asks for.
-fn part(alloc: Global, place: &str, count: &str) -> Result<String, AllocError> {
-    let mut words = Vec::new(alloc);
-    for word in ["part", "-i", "key", "--", place, count, "file"] {
-        words.push(String::from_str(alloc, word)?)?;
-    }
-    answer_of(alloc, &words)
+// Whether `part -i key PLACE COUNT file` asks for this, or is wrong so.
+fn part_asks(alloc: Global, place: &str, count: &str, expected: &str) -> Result<bool, AllocError> {
+    let words = ["part", "-i", "key", "--", place, count, "file"];
+    words_ask(alloc, &words, expected)
 }
 
 // Whether a word is taken as this PLACE.
@@ -18,7 +15,7 @@ fn is_place(alloc: Global, word: &str, number: u64) -> Result<bool, AllocError> 
     let expected = format!(in alloc;
         "Ok(Part {{ identities: Files([\"key\"]), place: {number}, count: 2, input: \"file\" }})"
     )?;
-    Ok(part(alloc, word, "2")? == expected)
+    part_asks(alloc, word, "2", expected.as_str())
 }
 
 // Whether a word is taken as this COUNT.
@@ -26,52 +23,65 @@ fn is_count(alloc: Global, word: &str, number: u64) -> Result<bool, AllocError> 
     let expected = format!(in alloc;
         "Ok(Part {{ identities: Files([\"key\"]), place: 3, count: {number}, input: \"file\" }})"
     )?;
-    Ok(part(alloc, "3", word)? == expected)
+    part_asks(alloc, "3", word, expected.as_str())
 }
+
+const NUMBERS: [(&str, u64); 5] = [
+    ("0", 0),
+    ("7", 7),
+    ("10", 10),
+    ("0000000000000000000000000123", 123),
+    ("18446744073709551615", u64::MAX),
+];
 
 #[test]
 fn decimal_numbers_are_taken(rt: HostRuntime) -> Result<(), Fail> {
-    for (word, number) in [
-        ("0", 0),
-        ("7", 7),
-        ("10", 10),
-        ("0000000000000000000000000123", 123),
-        ("18446744073709551615", u64::MAX),
-    ] {
-        assert!(rt; is_place(rt.alloc(), word, number)?, "at {word}");
-        assert!(rt; is_count(rt.alloc(), word, number)?, "at {word}");
+    for (word, number) in NUMBERS {
+        assert!(rt;
+            is_place(rt.alloc(), word, number)? && is_count(rt.alloc(), word, number)?,
+            "at {word}"
+        );
     }
     Ok(())
 }
 
-// Whether a word is refused as PLACE and as COUNT.
-fn is_no_number(alloc: Global, word: &str) -> Result<bool, AllocError> {
-    let place = format!(in alloc; "Err(NotANumber(Place, {word:?}))")?;
-    let is_no_place = part(alloc, word, "2")? == place;
-    let count = format!(in alloc; "Err(NotANumber(Count, {word:?}))")?;
-    Ok(is_no_place && part(alloc, "3", word)? == count)
+// Whether a word is refused as PLACE.
+fn is_no_place(alloc: Global, word: &str) -> Result<bool, AllocError> {
+    let expected = format!(in alloc; "Err(NotANumber(Place, {word:?}))")?;
+    part_asks(alloc, word, "2", expected.as_str())
 }
+
+// Whether a word is refused as COUNT.
+fn is_no_count(alloc: Global, word: &str) -> Result<bool, AllocError> {
+    let expected = format!(in alloc; "Err(NotANumber(Count, {word:?}))")?;
+    part_asks(alloc, "3", word, expected.as_str())
+}
+
+const NO_NUMBERS: [&str; 15] = [
+    "18446744073709551616",
+    "18446744073709551620",
+    "99999999999999999999",
+    "340282366920938463463374607431768211456",
+    "",
+    "+1",
+    "-1",
+    "+",
+    " 1",
+    "1 ",
+    "1_000",
+    "0x1",
+    "1a",
+    "1.0",
+    "\u{663}",
+];
 
 #[test]
 fn other_words_are_no_numbers(rt: HostRuntime) -> Result<(), Fail> {
-    for word in [
-        "18446744073709551616",
-        "18446744073709551620",
-        "99999999999999999999",
-        "340282366920938463463374607431768211456",
-        "",
-        "+1",
-        "-1",
-        "+",
-        " 1",
-        "1 ",
-        "1_000",
-        "0x1",
-        "1a",
-        "1.0",
-        "\u{663}",
-    ] {
-        assert!(rt; is_no_number(rt.alloc(), word)?, "at {word}");
+    for word in NO_NUMBERS {
+        assert!(rt;
+            is_no_place(rt.alloc(), word)? && is_no_count(rt.alloc(), word)?,
+            "at {word}"
+        );
     }
     Ok(())
 }
