@@ -9,7 +9,7 @@ use age_bench::suite::BenchSuite;
 use age_try::answers::is_refusal;
 use age_try::fixtures::{MESSAGE, message_file};
 use std::alloc::{AllocError, Global};
-use std::process::Abort;
+use std::fmt::Display;
 use std::test::Fail;
 
 // Whether the front of a file is read.
@@ -18,14 +18,17 @@ fn reads_front<R: BufRead + Drop>(alloc: Global, input: R) -> bool {
     is_answered(alloc, decryptor, None)
 }
 
+// Whether the front of a file is read, and its payload and five bytes more are left then.
+fn reads_front_alone(alloc: Global, file: &[u8]) -> Result<bool, Fail> {
+    let mut input = BufReader::new(alloc, Bytes::new(file))?;
+    Ok(reads_front(alloc, &mut input) && gives_payload(alloc, &mut input, b"after")?)
+}
+
 // The buffer holds the whole file by then, and gives what follows the nonce.
 #[test]
 fn a_buffered_decryptor_stands_after_the_nonce(rt: HostRuntime) -> Result<(), Fail> {
     let alloc = rt.alloc();
-    let file = message_file(alloc, b"after")?;
-    let mut input = BufReader::new(alloc, Bytes::new(&file))?;
-    assert!(rt; reads_front(alloc, &mut input));
-    assert!(rt; gives_payload(alloc, &mut input, b"after")?);
+    assert!(rt; reads_front_alone(alloc, &message_file(alloc, b"after")?)?);
     Ok(())
 }
 
@@ -38,12 +41,16 @@ fn opened<R: BufRead + Drop>(
     decryptor.decrypt_one(alloc, &mut BenchIdentity)
 }
 
+// Whether a file is opened to the message.
+fn is_opened(alloc: Global, file: &[u8]) -> Result<bool, Fail> {
+    let input = BufReader::new(alloc, Bytes::new(file))?;
+    Ok(opens_to(alloc, opened(alloc, input), MESSAGE))
+}
+
 #[test]
 fn a_buffered_decryptor_gives_the_message(rt: HostRuntime) -> Result<(), Fail> {
     let alloc = rt.alloc();
-    let file = message_file(alloc, &[])?;
-    let input = BufReader::new(alloc, Bytes::new(&file))?;
-    assert!(rt; opens_to(alloc, opened(alloc, input), MESSAGE));
+    assert!(rt; is_opened(alloc, &message_file(alloc, &[])?)?);
     Ok(())
 }
 
@@ -61,6 +68,18 @@ fn front_of(alloc: Global, first: &[u8], second: &[u8]) -> Result<Vec<u8>, Alloc
     Ok(file)
 }
 
+// Whether an answer is this one, or a refusal with this text.
+fn is_so<E: Display + Drop>(
+    alloc: Global,
+    answer: Result<bool, E>,
+    expected: Result<bool, &str>,
+) -> bool {
+    match expected {
+        Ok(is_one) => answer.ok() == Some(is_one),
+        Err(text) => is_refusal(alloc, answer, text),
+    }
+}
+
 // Whether the file of these two texts is one of a passphrase, or its refusal, is as expected.
 fn says(
     alloc: Global,
@@ -70,24 +89,22 @@ fn says(
 ) -> Result<bool, Fail> {
     let file = front_of(alloc, first, second)?;
     let input = BufReader::new(alloc, Bytes::new(&file))?;
-    let answer = is_scrypt(alloc, input);
-    Ok(match expected {
-        Ok(is_one) => answer.ok() == Some(is_one),
-        Err(text) => is_refusal(alloc, answer, text),
-    })
+    Ok(is_so(alloc, is_scrypt(alloc, input), expected))
 }
+
+// Two texts of stanzas, and whether their file is one of a passphrase, or why it is refused.
+const STANZAS: [(&[u8], &[u8], Result<bool, &str>); 5] = [
+    (PASSPHRASE, b"", Ok(true)),
+    (OTHER, b"", Ok(false)),
+    (OTHER, OTHER, Ok(false)),
+    (PASSPHRASE, OTHER, Err("invalid header")),
+    (OTHER, PASSPHRASE, Err("invalid header")),
+];
 
 #[test]
 fn a_lone_scrypt_stanza_is_one_of_a_passphrase(rt: HostRuntime) -> Result<(), Fail> {
-    let alloc = rt.alloc();
-    for (first, second, expected) in [
-        (PASSPHRASE, b"".as_slice(), Ok(true)),
-        (OTHER, b"", Ok(false)),
-        (OTHER, OTHER, Ok(false)),
-        (PASSPHRASE, OTHER, Err("invalid header")),
-        (OTHER, PASSPHRASE, Err("invalid header")),
-    ] {
-        assert!(rt; says(alloc, first, second, expected)?);
+    for (first, second, expected) in STANZAS {
+        assert!(rt; says(rt.alloc(), first, second, expected)?);
     }
     Ok(())
 }
@@ -96,6 +113,6 @@ fn a_lone_scrypt_stanza_is_one_of_a_passphrase(rt: HostRuntime) -> Result<(), Fa
 fn a_file_to_bench_is_none_of_a_passphrase(rt: HostRuntime) -> Result<(), Fail> {
     let alloc = rt.alloc();
     let file = message_file(alloc, &[])?;
-    assert!(rt; is_scrypt(alloc, Bytes::new(&file)).ok() == Some(false));
+    assert!(rt; is_so(alloc, is_scrypt(alloc, Bytes::new(&file)), Ok(false)));
     Ok(())
 }

@@ -2,7 +2,7 @@
 
 use crate::shared::{
     command_gives_message, commands_file, gives, gives_payload, grease, is_answered, opens_to,
-    replace, written,
+    prepared, replace, written,
 };
 use age::armor::Format;
 use age::draw::Draw;
@@ -10,13 +10,12 @@ use age::format::Grease;
 use age::io::Bytes;
 use age::stream::StreamReader;
 use age::streaming::{FileError, decrypt_all, encrypt_all};
-use age::{DecryptError, Decryptor, Encryptor, Identity, Recipient};
+use age::{DecryptError, Decryptor, Identity, Recipient};
 use age_bench::recipient::{BenchIdentity, BenchRecipient};
 use age_bench::suite::BenchSuite;
 use age_try::answers::is_refusal;
 use age_try::fixtures::{MESSAGE, message_file, part, zeros};
 use std::alloc::{AllocError, Global};
-use std::process::Abort;
 use std::test::Fail;
 
 /// The recipient of `bench` alone.
@@ -33,30 +32,29 @@ fn identities(alloc: Global) -> Result<Vec<Box<dyn Identity>>, AllocError> {
     Ok(identities)
 }
 
-// An encryptor to `bench` whose grease stanza is `x-grease`.
-fn prepared(alloc: Global, draw: &mut Draw) -> Result<Encryptor<BenchSuite>, Fail> {
-    let recipients = recipients(alloc)?;
-    let grease = grease(alloc, "x-grease")?;
-    Ok(Encryptor::<BenchSuite>::with_recipients(alloc, &recipients, draw, grease)?)
-}
-
 // The file of the message by these random bytes, written in one piece.
 fn message_written(alloc: Global, draw: &mut Draw) -> Result<Vec<u8>, Fail> {
-    written(alloc, prepared(alloc, draw)?, MESSAGE)
+    let recipients = recipients(alloc)?;
+    let encryptor = prepared::<BenchSuite, Box<dyn Recipient>>(alloc, &recipients, draw)?;
+    written(alloc, encryptor, MESSAGE)
+}
+
+// Whether that is the file that is expected.
+fn has_its_file(alloc: Global, draw: &mut Draw) -> Result<bool, Fail> {
+    let file = message_written(alloc, draw)?;
+    Ok(gives(message_file(alloc, &[]), &file))
 }
 
 #[test]
 fn a_message_has_its_file(rt: HostRuntime) -> Result<(), Fail> {
     let alloc = rt.alloc();
     let mut draw = zeros(alloc, 33)?;
-    let file = message_written(alloc, &mut draw)?;
-    assert!(rt; draw.left() == 1);
-    assert!(rt; gives(message_file(alloc, &[]), &file));
+    assert!(rt; has_its_file(alloc, &mut draw)? && draw.left() == 1);
     Ok(())
 }
 
-// The reader of a file's plaintext.
-fn opened<'a>(
+/// The reader of a file's plaintext.
+pub fn opened<'a>(
     alloc: Global,
     file: &'a [u8],
     identities: &mut [Box<dyn Identity>],
@@ -65,13 +63,16 @@ fn opened<'a>(
     decryptor.decrypt(alloc, identities)
 }
 
+// Whether the identity of `bench` opens a file to the message.
+fn is_opened(alloc: Global, file: &[u8]) -> Result<bool, AllocError> {
+    let mut identities = identities(alloc)?;
+    Ok(opens_to(alloc, opened(alloc, file, &mut identities), MESSAGE))
+}
+
 #[test]
 fn a_file_has_its_message(rt: HostRuntime) -> Result<(), Fail> {
     let alloc = rt.alloc();
-    assert!(rt; MESSAGE.len() == 36);
-    let file = message_file(alloc, &[])?;
-    let mut identities = identities(alloc)?;
-    assert!(rt; opens_to(alloc, opened(alloc, &file, &mut identities), MESSAGE));
+    assert!(rt; MESSAGE.len() == 36 && is_opened(alloc, &message_file(alloc, &[])?)?);
     Ok(())
 }
 
@@ -124,29 +125,34 @@ fn encrypts(
 
 const RAN_OUT: Result<usize, &str> = Err("random bytes ran out");
 
+// A plaintext, how many random bytes there are for its file, and how long that is, or why there is none.
+const LENGTHS: [(&[u8], usize, Result<usize, &str>); 7] = [
+    (MESSAGE, 32, Ok(190)),
+    (b"", 32, Ok(154)),
+    (MESSAGE, 33, Ok(190)),
+    (MESSAGE, 31, RAN_OUT),
+    (MESSAGE, 16, RAN_OUT),
+    (MESSAGE, 15, RAN_OUT),
+    (MESSAGE, 0, RAN_OUT),
+];
+
 #[test]
 fn files_have_their_lengths(rt: HostRuntime) -> Result<(), Fail> {
-    let alloc = rt.alloc();
-    for (plain, random, expected) in [
-        (MESSAGE, 32, Ok(190)),
-        (b"", 32, Ok(154)),
-        (MESSAGE, 33, Ok(190)),
-        (MESSAGE, 31, RAN_OUT),
-        (MESSAGE, 16, RAN_OUT),
-        (MESSAGE, 15, RAN_OUT),
-        (MESSAGE, 0, RAN_OUT),
-    ] {
-        assert!(rt; encrypts(alloc, plain, random, expected)?);
+    for (plain, random, expected) in LENGTHS {
+        assert!(rt; encrypts(rt.alloc(), plain, random, expected)?);
     }
     Ok(())
 }
 
+// Whether the command writes a file of the message, and decrypts it again.
+fn command_turns_back(alloc: Global) -> Result<bool, Fail> {
+    let file = commands_file(alloc, MESSAGE, Format::Binary)?;
+    Ok(file.len() == 190 && command_gives_message(alloc, &file))
+}
+
 #[test]
 fn the_commands_turn_each_other_back(rt: HostRuntime) -> Result<(), Fail> {
-    let alloc = rt.alloc();
-    let file = commands_file(alloc, MESSAGE, Format::Binary)?;
-    assert!(rt; file.len() == 190);
-    assert!(rt; command_gives_message(alloc, &file));
+    assert!(rt; command_turns_back(rt.alloc())?);
     Ok(())
 }
 
@@ -183,14 +189,27 @@ fn a_changed_mac_is_refused(rt: HostRuntime) -> Result<(), Fail> {
     Ok(())
 }
 
+// How much of a file is left, and why it is refused.
+const CUT: [(usize, &str); 10] = [
+    (0, "input ended early"),
+    (1, "input ended early"),
+    (21, "input ended early"),
+    (22, "input ended early"),
+    (70, "input ended early"),
+    (114, "input ended early"),
+    (115, "input ended early"),
+    (116, "input ended early"),
+    (130, "input ended early"),
+    (131, "age file is truncated"),
+];
+
 #[test]
 fn files_cut_in_their_front_end_early(rt: HostRuntime) -> Result<(), Fail> {
     let alloc = rt.alloc();
     let file = message_file(alloc, &[])?;
-    for length in [0, 1, 21, 22, 70, 114, 115, 116, 130] {
-        assert!(rt; is_refused(alloc, part(&file, 0, length), "input ended early")?);
+    for (length, expected) in CUT {
+        assert!(rt; is_refused(alloc, part(&file, 0, length), expected)?);
     }
-    assert!(rt; is_refused(alloc, part(&file, 0, 131), "age file is truncated")?);
     Ok(())
 }
 
@@ -224,14 +243,17 @@ fn reads_front(alloc: Global, input: &mut Bytes<'_>) -> bool {
     is_answered(alloc, decryptor, None)
 }
 
+// Whether the front of a file is read, and its payload and five bytes more are left then.
+fn reads_front_alone(alloc: Global, file: &[u8]) -> Result<bool, AllocError> {
+    let mut input = Bytes::new(file);
+    Ok(reads_front(alloc, &mut input) && gives_payload(alloc, &mut input, b"after")?)
+}
+
 // Header and nonce, and no byte after them.
 #[test]
 fn a_decryptor_reads_no_byte_of_the_payload(rt: HostRuntime) -> Result<(), Fail> {
     let alloc = rt.alloc();
-    let file = message_file(alloc, b"after")?;
-    let mut input = Bytes::new(&file);
-    assert!(rt; reads_front(alloc, &mut input));
-    assert!(rt; gives_payload(alloc, &mut input, b"after")?);
+    assert!(rt; reads_front_alone(alloc, &message_file(alloc, b"after")?)?);
     Ok(())
 }
 
@@ -251,9 +273,8 @@ const SHORT: [(&[u8], &str); 5] = [
 
 #[test]
 fn short_inputs_are_refused_by_name(rt: HostRuntime) -> Result<(), Fail> {
-    let alloc = rt.alloc();
     for (text, expected) in SHORT {
-        assert!(rt; front_is_refused(alloc, text, expected));
+        assert!(rt; front_is_refused(rt.alloc(), text, expected));
     }
     Ok(())
 }

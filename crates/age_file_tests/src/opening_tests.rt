@@ -1,6 +1,6 @@
 //! Reads and seeks on the plaintext of files, bare and in armor.
 
-use crate::shared::{are_same, commands_file, is_error};
+use crate::shared::{answers, commands_file, is_error};
 use age::armor::Format;
 use age::io::{Answer, Bytes, Op, SeekFrom, run};
 use age::streaming::FileError;
@@ -8,7 +8,6 @@ use age_bench::names::With;
 use age_bench::opening::answers_with;
 use age_try::fixtures::{armored_texts, message_file, part, plaintext};
 use std::alloc::{AllocError, Global};
-use std::process::Abort;
 use std::test::Fail;
 
 const OPS: [Op; 12] = [
@@ -36,17 +35,6 @@ fn file_answers(alloc: Global, text: &[u8]) -> Result<Vec<Answer>, FileError> {
     answers_with(alloc, With::Bench, &OPS, Bytes::new(text))
 }
 
-// The answers on a file are these.
-fn is_answered(
-    rt: &impl Abort,
-    alloc: Global,
-    text: &[u8],
-    expected: &[Answer],
-) -> Result<(), Fail> {
-    are_same(rt, &file_answers(alloc, text)?, expected);
-    Ok(())
-}
-
 // The file of a plaintext, in armor and bare.
 fn texts_of(alloc: Global, plain: &[u8]) -> Result<Vec<Vec<u8>>, Fail> {
     let file = commands_file(alloc, plain, Format::Binary)?;
@@ -55,16 +43,26 @@ fn texts_of(alloc: Global, plain: &[u8]) -> Result<Vec<Vec<u8>>, Fail> {
     Ok(texts)
 }
 
-// The answers on a file are those of the reader of its plaintext.
+// Whether the answers on all of these texts are these.
+fn all_answer(alloc: Global, texts: &[Vec<u8>], expected: &[Answer]) -> bool {
+    for text in texts {
+        if !answers(file_answers(alloc, text), expected) {
+            return false;
+        }
+    }
+    true
+}
+
+// Whether the answers on the file of a plaintext are those of the plaintext's reader.
+fn file_answers_as(alloc: Global, plain: &[u8]) -> Result<bool, Fail> {
+    let expected = plain_answers(alloc, plain)?;
+    Ok(expected.len() == 12 && all_answer(alloc, &texts_of(alloc, plain)?, &expected))
+}
+
 #[test]
 fn a_file_answers_as_its_plaintext(rt: HostRuntime) -> Result<(), Fail> {
     let alloc = rt.alloc();
-    let plain = plaintext(alloc, 102_400)?;
-    let expected = plain_answers(alloc, &plain)?;
-    assert!(rt; expected.len() == 12);
-    for text in &texts_of(alloc, &plain)? {
-        is_answered(&rt, alloc, text, &expected)?;
-    }
+    assert!(rt; file_answers_as(alloc, &plaintext(alloc, 102_400)?)?);
     Ok(())
 }
 
@@ -82,12 +80,15 @@ fn other_file(alloc: Global) -> Result<Vec<u8>, AllocError> {
     Ok(other)
 }
 
+// Whether the first 20 bytes of a file aren't opened.
+fn front_is_refused(alloc: Global, file: &[u8]) -> bool {
+    is_refused(alloc, part(file, 0, 20), "Decrypt(Io(UnexpectedEof))")
+}
+
 #[test]
 fn what_is_no_file_for_the_identity_is_refused(rt: HostRuntime) -> Result<(), Fail> {
     let alloc = rt.alloc();
-    let file = message_file(alloc, b"")?;
-    let front = part(&file, 0, 20);
-    assert!(rt; is_refused(alloc, front, "Decrypt(Io(UnexpectedEof))"));
+    assert!(rt; front_is_refused(alloc, &message_file(alloc, b"")?));
     assert!(rt; is_refused(alloc, &other_file(alloc)?, "Decrypt(NoMatchingKeys)"));
     Ok(())
 }

@@ -1,11 +1,10 @@
 //! The other suite against values of HMAC in Python.
 
-use crate::shared::gives;
+use crate::shared::{changed, gives};
 use age::suite::{Opens, ScryptError, Suite};
 use age_try::fixtures::{KEY, digest, part};
 use age_try::other_suite::OtherSuite;
 use std::alloc::{AllocError, Global};
-use std::process::Abort;
 use std::test::Fail;
 
 const NONCE: [u8; 12] = [100, 101, 102, 103, 104, 105, 106, 107, 108, 109, 110, 111];
@@ -47,14 +46,16 @@ fn opens_to(alloc: Global, opens: &mut Opens, sealed: &[u8], plain: &[u8]) -> bo
     }
 }
 
+// Whether the seal opens to the plaintext, and that is counted.
+fn opens_once(alloc: Global) -> bool {
+    let mut opens = Opens::new();
+    opens_to(alloc, &mut opens, SEALED, PLAIN) && opens.count() == 1
+}
+
 #[test]
 fn a_plaintext_has_its_other_seal(rt: HostRuntime) {
-    let alloc = rt.alloc();
     assert!(rt; PLAIN.len() == 40 && SEALED.len() == 56);
-    assert!(rt; is_sealed_so(alloc, PLAIN, SEALED));
-    let mut opens = Opens::new();
-    assert!(rt; opens_to(alloc, &mut opens, SEALED, PLAIN));
-    assert!(rt; opens.count() == 1);
+    assert!(rt; is_sealed_so(rt.alloc(), PLAIN, SEALED) && opens_once(rt.alloc()));
 }
 
 // Whether these bytes are no seal under the key and the nonce.
@@ -85,19 +86,9 @@ fn is_no_seal_by_another_nonce(alloc: Global, opens: &mut Opens) -> bool {
     is_no_seal(alloc, opens, &KEY, &nonce, SEALED)
 }
 
-// The seal with a bit of this byte changed.
-fn changed(alloc: Global, place: usize) -> Result<Vec<u8>, Fail> {
-    let mut copy = Vec::from_slice(alloc, SEALED)?;
-    match copy.get_mut(place) {
-        Some(byte) => *byte ^= 1,
-        None => return Err(Fail::from("no such byte")),
-    }
-    Ok(copy)
-}
-
 // Whether the seal with a bit of this byte changed is none.
 fn is_no_seal_changed(alloc: Global, opens: &mut Opens, place: usize) -> Result<bool, Fail> {
-    let copy = changed(alloc, place)?;
+    let copy = changed(alloc, SEALED, place, 1)?;
     Ok(is_no_seal(alloc, opens, &KEY, &NONCE, &copy))
 }
 
@@ -111,22 +102,38 @@ fn is_no_seal_cut(alloc: Global, opens: &mut Opens, length: usize) -> bool {
 fn what_is_no_other_seal_is_refused(rt: HostRuntime) -> Result<(), Fail> {
     let alloc = rt.alloc();
     let mut opens = Opens::new();
-    assert!(rt; is_no_seal_by_another_key(alloc, &mut opens));
-    assert!(rt; is_no_seal_by_another_nonce(alloc, &mut opens));
+    assert!(rt;
+        is_no_seal_by_another_key(alloc, &mut opens)
+            && is_no_seal_by_another_nonce(alloc, &mut opens)
+    );
     for i in 0..56 {
-        assert!(rt; is_no_seal_changed(alloc, &mut opens, i)?, "at byte {i}");
-        assert!(rt; is_no_seal_cut(alloc, &mut opens, i));
+        assert!(rt;
+            is_no_seal_changed(alloc, &mut opens, i)? && is_no_seal_cut(alloc, &mut opens, i),
+            "at byte {i}"
+        );
     }
     assert!(rt; opens.count() == 114);
     Ok(())
 }
 
+// The secret of the other side.
+const HERE: [u8; 32] = [1; 32];
+
+// What the other side makes of its secret and the key's public value.
+fn shared_here() -> [u8; 32] {
+    OtherSuite::x25519(&HERE, &OtherSuite::public(&KEY))
+}
+
+// What the side of the key makes of the other's public value.
+fn shared_there() -> [u8; 32] {
+    OtherSuite::x25519(&KEY, &OtherSuite::public(&HERE))
+}
+
 #[test]
 fn both_sides_share_another_secret(rt: HostRuntime) {
-    let here = [1; 32];
-    assert!(rt; OtherSuite::public(&here) == [0x36; 32]);
-    let shared = OtherSuite::x25519(&here, &OtherSuite::public(&KEY));
-    assert!(rt; shared == OtherSuite::x25519(&KEY, &OtherSuite::public(&here)));
+    assert!(rt; OtherSuite::public(&HERE) == [0x36; 32]);
+    let shared = shared_here();
+    assert!(rt; shared == shared_there());
     assert!(rt; (shared[0], shared[31]) == (0x36, 0x55));
 }
 
@@ -153,17 +160,19 @@ fn has_digest(alloc: Global, factor: u8, expected: u64) -> bool {
     }
 }
 
+// Work factors, and the digest of what the passphrase is stretched to.
+const FACTORS: [(u8, u64); 3] = [
+    (0, 0x7b4a_42b2_4a55_11f4),
+    (1, 0x702f_25ca_f0d6_f09a),
+    (12, 0x58e8_6c5f_601f_3dac),
+];
+
 #[test]
 fn work_factors_from_0_to_12_are_accepted(rt: HostRuntime) {
-    let alloc = rt.alloc();
     for factor in 0..=255 {
-        assert!(rt; is_judged(alloc, factor), "of {factor}");
+        assert!(rt; is_judged(rt.alloc(), factor), "of {factor}");
     }
-    for (factor, expected) in [
-        (0, 0x7b4a_42b2_4a55_11f4),
-        (1, 0x702f_25ca_f0d6_f09a),
-        (12, 0x58e8_6c5f_601f_3dac),
-    ] {
-        assert!(rt; has_digest(alloc, factor, expected), "of {factor}");
+    for (factor, expected) in FACTORS {
+        assert!(rt; has_digest(rt.alloc(), factor, expected), "of {factor}");
     }
 }

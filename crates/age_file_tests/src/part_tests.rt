@@ -7,7 +7,6 @@ use age_bench::names::With;
 use age_bench::part::at_with;
 use age_try::fixtures::{MESSAGE, part, plaintext};
 use std::alloc::Global;
-use std::process::Abort;
 use std::test::Fail;
 
 // Appends a part of a file's plaintext. Whether it succeeds, or, where a text is given, is refused with this text.
@@ -45,14 +44,6 @@ fn is_past_end(alloc: Global, file: &[u8], place: u64, count: u64) -> bool {
     ) && got.is_empty()
 }
 
-// The message's file in this form has these parts.
-fn has_its_parts(rt: &impl Abort, alloc: Global, format: Format) -> Result<(), Fail> {
-    let file = commands_file(alloc, MESSAGE, format)?;
-    assert!(rt; has_parts_of_message(alloc, &file));
-    assert!(rt; has_no_parts_past_end(alloc, &file));
-    Ok(())
-}
-
 // Whether a file has these parts of the message.
 fn has_parts_of_message(alloc: Global, file: &[u8]) -> bool {
     is_given(alloc, file, 5, 3, b"is ")
@@ -69,11 +60,17 @@ fn has_no_parts_past_end(alloc: Global, file: &[u8]) -> bool {
         && is_past_end(alloc, file, u64::MAX, u64::MAX)
 }
 
+// Whether the message's file in this form has its parts, and no other.
+fn has_its_parts(alloc: Global, format: Format) -> Result<bool, Fail> {
+    let file = commands_file(alloc, MESSAGE, format)?;
+    Ok(has_parts_of_message(alloc, &file) && has_no_parts_past_end(alloc, &file))
+}
+
 #[test]
 fn a_message_has_its_parts(rt: HostRuntime) -> Result<(), Fail> {
-    let alloc = rt.alloc();
-    has_its_parts(&rt, alloc, Format::Binary)?;
-    has_its_parts(&rt, alloc, Format::AsciiArmor)
+    assert!(rt; has_its_parts(rt.alloc(), Format::Binary)?);
+    assert!(rt; has_its_parts(rt.alloc(), Format::AsciiArmor)?);
+    Ok(())
 }
 
 // Whether the part of a file's plaintext is that of these bytes, as far as they reach.
@@ -82,19 +79,28 @@ fn is_part_of(alloc: Global, file: &[u8], plain: &[u8], place: usize, count: usi
     is_given(alloc, file, place as u64, count as u64, expected)
 }
 
-// The file of a plaintext in this form has these parts.
-fn has_parts_of(rt: &impl Abort, alloc: Global, plain: &[u8], format: Format) -> Result<(), Fail> {
-    let file = commands_file(alloc, plain, format)?;
-    for (place, count) in [
-        (65_530, 12),
-        (65_536, 1),
-        (131_071, 2),
-        (1, 262_145),
-        (399_999, 9),
-    ] {
-        assert!(rt; is_part_of(alloc, &file, plain, place, count));
+// Where a part begins, and how many bytes it has at most.
+const PARTS: [(usize, usize); 5] = [
+    (65_530, 12),
+    (65_536, 1),
+    (131_071, 2),
+    (1, 262_145),
+    (399_999, 9),
+];
+
+// Whether a file has these parts of its plaintext.
+fn has_parts(alloc: Global, file: &[u8], plain: &[u8]) -> bool {
+    for (place, count) in PARTS {
+        if !is_part_of(alloc, file, plain, place, count) {
+            return false;
+        }
     }
-    Ok(())
+    true
+}
+
+// Whether the file of a plaintext in this form has them.
+fn has_parts_in(alloc: Global, plain: &[u8], format: Format) -> Result<bool, Fail> {
+    Ok(has_parts(alloc, &commands_file(alloc, plain, format)?, plain))
 }
 
 // Across the end of a chunk, and of a piece that is read at once.
@@ -102,8 +108,9 @@ fn has_parts_of(rt: &impl Abort, alloc: Global, plain: &[u8], format: Format) ->
 fn parts_go_over_the_ends_of_chunks(rt: HostRuntime) -> Result<(), Fail> {
     let alloc = rt.alloc();
     let plain = plaintext(alloc, 400_000)?;
-    has_parts_of(&rt, alloc, &plain, Format::Binary)?;
-    has_parts_of(&rt, alloc, &plain, Format::AsciiArmor)
+    assert!(rt; has_parts_in(alloc, &plain, Format::Binary)?);
+    assert!(rt; has_parts_in(alloc, &plain, Format::AsciiArmor)?);
+    Ok(())
 }
 
 // Changes a bit of the second chunk of a file whose plaintext has 200,000 bytes. Whether there is one.
@@ -132,13 +139,19 @@ fn with_bad_chunk(alloc: Global, plain: &[u8]) -> Result<Vec<u8>, Fail> {
     Ok(file)
 }
 
+// Whether the bad chunk ends a part after the bytes of the first, and a part behind it is given.
+fn is_met_where_it_stands(alloc: Global, plain: &[u8]) -> Result<bool, Fail> {
+    let file = with_bad_chunk(alloc, plain)?;
+    Ok(
+        ends_with_first_chunk(alloc, &file, plain.get(65_530..65_536))
+            && is_part_of(alloc, &file, plain, 131_072, 8),
+    )
+}
+
 // A chunk that is bad ends the part after the bytes of the chunks before it, and chunks that aren't asked for aren't looked at.
 #[test]
 fn a_bad_chunk_is_met_where_it_stands(rt: HostRuntime) -> Result<(), Fail> {
     let alloc = rt.alloc();
-    let plain = plaintext(alloc, 200_000)?;
-    let file = with_bad_chunk(alloc, &plain)?;
-    assert!(rt; ends_with_first_chunk(alloc, &file, plain.get(65_530..65_536)));
-    assert!(rt; is_part_of(alloc, &file, &plain, 131_072, 8));
+    assert!(rt; is_met_where_it_stands(alloc, &plaintext(alloc, 200_000)?)?);
     Ok(())
 }

@@ -1,17 +1,15 @@
 //! Several recipients and several identities: which refuses, who decides, and how many random bytes are left.
 
-use crate::file_tests::recipients;
-use crate::shared::{grease, is_answered, written};
-use age::draw::Draw;
-use age::io::Bytes;
-use age::{Decryptor, Encryptor, Identity, Recipient};
+use crate::file_tests::{opened, recipients};
+use crate::shared::{grease, is_answered, prepared, sevens, written};
+use age::secrecy::FileKey;
+use age::{Encryptor, Identity, Recipient};
 use age_bench::suite::BenchSuite;
 use age_try::answers::is_refusal;
 use age_try::fixtures::empty_stanza;
 use age_try::scripted::{Script, ScriptedIdentity, ScriptedRecipient};
 use std::alloc::{AllocError, Global};
 use std::collections::BTreeSet;
-use std::process::Abort;
 use std::test::Fail;
 
 // These labels.
@@ -45,113 +43,127 @@ fn add(
     Ok(())
 }
 
-// So many random bytes, all of them 7.
-fn sevens(alloc: Global, count: usize) -> Result<Draw, AllocError> {
-    Ok(Draw::new(vec![in alloc; 7; count]?))
-}
-
-// Whether an encryption with so many random bytes succeeds, or is refused with this text, and so many are left.
+// Whether an encryption with so many random bytes succeeds, or, where a text is given, is refused with this text, and so many are left.
 fn prepares(
     alloc: Global,
     recipients: &[Box<dyn Recipient>],
     random: usize,
-    expected: Result<(), &str>,
+    refusal: Option<&str>,
     left: usize,
 ) -> Result<bool, Fail> {
     let mut draw = sevens(alloc, random)?;
     let grease = grease(alloc, "x-grease")?;
     let encryptor = Encryptor::<BenchSuite>::with_recipients(alloc, recipients, &mut draw, grease);
-    Ok(is_answered(alloc, encryptor, expected.err()) && draw.left() == left)
+    Ok(is_answered(alloc, encryptor, refusal) && draw.left() == left)
 }
 
-const RAN_OUT: Result<(), &str> = Err("random bytes ran out");
+const RAN_OUT: Option<&str> = Some("random bytes ran out");
 
-// To no recipient nothing is encrypted.
-fn none_is_refused(rt: &impl Abort, alloc: Global) -> Result<(), Fail> {
-    let recipients = Vec::new(alloc);
-    assert!(rt; prepares(alloc, &recipients, 16, Err("no recipients"), 0)?);
-    assert!(rt; prepares(alloc, &recipients, 15, RAN_OUT, 15)?);
-    Ok(())
+// Whether to no recipient nothing is encrypted.
+fn none_is_refused(alloc: Global) -> Result<bool, Fail> {
+    Ok(
+        prepares(alloc, &[], 16, Some("no recipients"), 0)?
+            && prepares(alloc, &[], 15, RAN_OUT, 15)?,
+    )
 }
+
+// How many random bytes there are, why they don't do for one recipient, and how many are left.
+const FOR_ONE: [(usize, Option<&str>, usize); 5] = [
+    (15, RAN_OUT, 15),
+    (16, RAN_OUT, 0),
+    (31, RAN_OUT, 15),
+    (32, None, 0),
+    (40, None, 8),
+];
 
 #[test]
 fn one_recipient_or_none(rt: HostRuntime) -> Result<(), Fail> {
     let alloc = rt.alloc();
-    none_is_refused(&rt, alloc)?;
-    let recipients = recipients(alloc)?;
-    for (random, expected, left) in [
-        (15, RAN_OUT, 15),
-        (16, RAN_OUT, 0),
-        (31, RAN_OUT, 15),
-        (32, Ok(()), 0),
-        (40, Ok(()), 8),
-    ] {
-        assert!(rt; prepares(alloc, &recipients, random, expected, left)?);
+    assert!(rt; none_is_refused(alloc)?);
+    for (random, refusal, left) in FOR_ONE {
+        assert!(rt; prepares(alloc, &recipients(alloc)?, random, refusal, left)?);
     }
     Ok(())
 }
 
-// The second one draws 32 bytes.
+// The recipient of `bench`, and one that draws 32 bytes.
+fn with_a_drawing_one(alloc: Global) -> Result<Vec<Box<dyn Recipient>>, AllocError> {
+    let mut recipients = recipients(alloc)?;
+    add(alloc, &mut recipients, "drawing", true, &[])?;
+    Ok(recipients)
+}
+
+// The same for the two: how many random bytes there are, why they don't do, and how many are left.
+const FOR_TWO: [(usize, Option<&str>, usize); 3] = [
+    (47, RAN_OUT, 31),
+    (63, RAN_OUT, 15),
+    (64, None, 0),
+];
+
 #[test]
 fn recipients_draw_in_turn(rt: HostRuntime) -> Result<(), Fail> {
     let alloc = rt.alloc();
-    let mut recipients = recipients(alloc)?;
-    add(alloc, &mut recipients, "drawing", true, &[])?;
-    for (random, expected, left) in [(47, RAN_OUT, 31), (63, RAN_OUT, 15), (64, Ok(()), 0)] {
-        assert!(rt; prepares(alloc, &recipients, random, expected, left)?);
+    for (random, refusal, left) in FOR_TWO {
+        assert!(rt; prepares(alloc, &with_a_drawing_one(alloc)?, random, refusal, left)?);
     }
     Ok(())
 }
 
-// A tag and labels of a recipient, and of another beside it, and whether the two are accepted, or refused with this text.
+// A tag and labels of a recipient, and of another beside it, and why the two are refused, if they are.
 type Pair = (
     &'static str,
     &'static [&'static str],
     &'static str,
     &'static [&'static str],
-    Result<(), &'static str>,
+    Option<&'static str>,
 );
 
-const MIXED: Result<(), &str> = Err("a passphrase can't be used with other recipients");
+const MIXED: Option<&str> = Some("a passphrase can't be used with other recipients");
 
 const PAIRS: [Pair; 9] = [
-    ("a", &["x", "y"], "b", &["y", "x"], Ok(())),
+    ("a", &["x", "y"], "b", &["y", "x"], None),
     (
         "a",
         &["x", "y"],
         "b",
         &["z", "x"],
-        Err("recipients have different labels: x, y / x, z"),
+        Some("recipients have different labels: x, y / x, z"),
     ),
     (
         "a",
         &[],
         "b",
         &["x y"],
-        Err("recipients have different labels:  / x y"),
+        Some("recipients have different labels:  / x y"),
     ),
     (
         "a",
         &["x y"],
         "b",
         &[],
-        Err("invalid recipient labels: x y"),
+        Some("invalid recipient labels: x y"),
     ),
     ("a", &[], "scrypt", &["x"], MIXED),
     ("scrypt", &["x"], "a", &[], MIXED),
     ("scrypt", &["x"], "scrypt", &["y"], MIXED),
     ("a", &[], "scrypt", &[], MIXED),
-    ("", &[], "", &[], Ok(())),
+    ("", &[], "", &[], None),
 ];
 
-// Whether the two are accepted, or refused with this text.
-fn is_so(alloc: Global, pair: Pair) -> Result<bool, Fail> {
-    let (one, first, two, second, expected) = pair;
+// The two recipients.
+fn two_of(alloc: Global, pair: Pair) -> Result<Vec<Box<dyn Recipient>>, AllocError> {
+    let (one, first, two, second, _) = pair;
     let mut recipients: Vec<Box<dyn Recipient>> = Vec::new(alloc);
     add(alloc, &mut recipients, one, false, first)?;
     add(alloc, &mut recipients, two, false, second)?;
-    let left = if expected.is_ok() { 0 } else { 16 };
-    prepares(alloc, &recipients, 32, expected, left)
+    Ok(recipients)
+}
+
+// Whether the two are accepted, or refused with this text.
+fn is_so(alloc: Global, pair: Pair) -> Result<bool, Fail> {
+    let (_, _, _, _, refusal) = pair;
+    let left = if refusal.is_none() { 0 } else { 16 };
+    prepares(alloc, &two_of(alloc, pair)?, 32, refusal, left)
 }
 
 #[test]
@@ -163,18 +175,19 @@ fn labels_must_agree(rt: HostRuntime) -> Result<(), Fail> {
     Ok(())
 }
 
-// An encryptor to a recipient that answers one stanza of this tag, or none.
-fn prepared(alloc: Global, tag: &str) -> Result<Encryptor<BenchSuite>, Fail> {
+// A recipient that answers one stanza of this tag, or none.
+fn one_of(alloc: Global, tag: &str) -> Result<Vec<Box<dyn Recipient>>, AllocError> {
     let mut recipients: Vec<Box<dyn Recipient>> = Vec::new(alloc);
     add(alloc, &mut recipients, tag, false, &[])?;
-    let mut draw = sevens(alloc, 32)?;
-    let grease = grease(alloc, "x-grease")?;
-    Ok(Encryptor::<BenchSuite>::with_recipients(alloc, &recipients, &mut draw, grease)?)
+    Ok(recipients)
 }
 
-// The file of nothing, to a recipient that answers one stanza of this tag, or none.
+// The file of nothing to that recipient.
 fn file_of(alloc: Global, tag: &str) -> Result<Vec<u8>, Fail> {
-    written(alloc, prepared(alloc, tag)?, b"")
+    let recipients = one_of(alloc, tag)?;
+    let mut draw = sevens(alloc, 32)?;
+    let encryptor = prepared::<BenchSuite, Box<dyn Recipient>>(alloc, &recipients, &mut draw)?;
+    written(alloc, encryptor, b"")
 }
 
 // Identities of these scripts that weren't asked yet.
@@ -196,41 +209,54 @@ fn is_refused(
     file: &[u8],
     identities: &mut [Box<dyn Identity>],
     expected: &str,
-) -> Result<bool, Fail> {
-    let decryptor = Decryptor::<BenchSuite, Bytes>::new(alloc, Bytes::new(file))?;
-    Ok(is_refusal(alloc, decryptor.decrypt(alloc, identities), expected))
+) -> bool {
+    is_refusal(alloc, opened(alloc, file, identities), expected)
 }
 
-// The last of them is asked for the first time now.
+// Whether it is the key of one that is asked for the first time.
+fn is_first_key<E: Drop>(answer: Option<Result<FileKey, E>>) -> bool {
+    match answer {
+        Some(Ok(key)) => *key.expose_secret() == [1; 16],
+        _ => false,
+    }
+}
+
+// Whether an identity is asked for the first time now.
+fn wasnt_asked(alloc: Global, identity: &mut Box<dyn Identity>) -> Result<bool, AllocError> {
+    match empty_stanza(alloc, "tag")? {
+        Some(stanza) => Ok(is_first_key(identity.unwrap_stanza(alloc, &stanza))),
+        None => Ok(false),
+    }
+}
+
+// Whether the last of them is asked for the first time now.
 fn last_wasnt_asked(
-    rt: &impl Abort,
     alloc: Global,
     identities: &mut [Box<dyn Identity>],
-) -> Result<(), Fail> {
-    let Some(stanza) = empty_stanza(alloc, "tag")? else {
-        return Err(Fail::from("no stanza"));
-    };
-    let Some(last) = identities.last_mut() else {
-        return Err(Fail::from("no identity"));
-    };
-    let Some(answer) = last.unwrap_stanza(alloc, &stanza) else {
-        return Err(Fail::from("no answer"));
-    };
-    let key = answer?;
-    assert!(rt; *key.expose_secret() == [1; 16]);
-    Ok(())
+) -> Result<bool, AllocError> {
+    match identities.last_mut() {
+        Some(last) => wasnt_asked(alloc, last),
+        None => Ok(false),
+    }
 }
 
 // One that answers nothing, one that refuses, and one that answers how often it was asked.
 const THREE: [Script; 3] = [Script::Nothing, Script::Refusal, Script::TimesAsked];
 
+// Whether the second of the three refuses a file, and the last isn't asked.
+fn the_second_decides(alloc: Global, file: &[u8]) -> Result<bool, AllocError> {
+    let mut identities = identities_of(alloc, &THREE)?;
+    Ok(
+        is_refused(alloc, file, &mut identities, "decryption failed")
+            && last_wasnt_asked(alloc, &mut identities)?,
+    )
+}
+
 #[test]
 fn the_first_identity_that_answers_decides(rt: HostRuntime) -> Result<(), Fail> {
     let alloc = rt.alloc();
-    let file = file_of(alloc, "tag")?;
-    let mut identities = identities_of(alloc, &THREE)?;
-    assert!(rt; is_refused(alloc, &file, &mut identities, "decryption failed")?);
-    last_wasnt_asked(&rt, alloc, &mut identities)
+    assert!(rt; the_second_decides(alloc, &file_of(alloc, "tag")?)?);
+    Ok(())
 }
 
 // Whether decrypting with one of this script is refused with this text.
@@ -239,16 +265,18 @@ fn one_is_refused(
     file: &[u8],
     script: Script,
     expected: &str,
-) -> Result<bool, Fail> {
+) -> Result<bool, AllocError> {
     let mut identities = identities_of(alloc, &[script])?;
-    is_refused(alloc, file, &mut identities, expected)
+    Ok(is_refused(alloc, file, &mut identities, expected))
 }
 
 #[test]
 fn no_identity_and_another_key(rt: HostRuntime) -> Result<(), Fail> {
     let alloc = rt.alloc();
     let file = file_of(alloc, "")?;
-    assert!(rt; one_is_refused(alloc, &file, Script::Nothing, "no matching keys")?);
-    assert!(rt; one_is_refused(alloc, &file, Script::TimesAsked, "invalid header MAC")?);
+    assert!(rt;
+        one_is_refused(alloc, &file, Script::Nothing, "no matching keys")?
+            && one_is_refused(alloc, &file, Script::TimesAsked, "invalid header MAC")?
+    );
     Ok(())
 }

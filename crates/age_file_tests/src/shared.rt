@@ -2,10 +2,12 @@
 //! many, beside its own values.
 
 use age::armor::Format;
+use age::draw::Draw;
 use age::format::Grease;
 use age::io::{Answer, BufRead, Bytes, Error, Read, write_all};
+use age::secrecy::SecretString;
 use age::suite::Suite;
-use age::{DecryptError, Decryptor, Encryptor, decrypt};
+use age::{DecryptError, Decryptor, Encryptor, Recipient, decrypt};
 use age_bench::file::{decrypt_with, encrypt_to};
 use age_bench::names::{To, With};
 use age_bench::recipient::BenchIdentity;
@@ -14,8 +16,25 @@ use age_try::answers::{delivers, delivers_until, ends, is_refusal, read_refuses}
 use age_try::fixtures::{MESSAGE, SEALED, empty_stanza, zeros};
 use std::alloc::{AllocError, Global};
 use std::fmt::{Debug, Display};
-use std::process::Abort;
 use std::test::Fail;
+
+/// An answer, where it isn't refused.
+pub fn done<T, E: Drop>(answer: Result<T, E>) -> Result<T, Fail> {
+    match answer {
+        Ok(value) => Ok(value),
+        Err(_) => Err(Fail::from("refused")),
+    }
+}
+
+/// So many random bytes, all of them 7.
+pub fn sevens(alloc: Global, count: usize) -> Result<Draw, AllocError> {
+    Ok(Draw::new(vec![in alloc; 7; count]?))
+}
+
+/// A passphrase.
+pub fn passphrase(alloc: Global, text: &str) -> Result<SecretString, AllocError> {
+    Ok(SecretString::from(String::from_str(alloc, text)?))
+}
 
 /// A grease stanza of this tag, with nothing else in it.
 pub fn grease(alloc: Global, tag: &str) -> Result<Grease, Fail> {
@@ -27,17 +46,27 @@ pub fn grease(alloc: Global, tag: &str) -> Result<Grease, Fail> {
 
 /// The file that the command writes of a plaintext in this form, where each random byte is 0.
 pub fn commands_file(alloc: Global, plain: &[u8], format: Format) -> Result<Vec<u8>, Fail> {
-    let mut file = Vec::new(alloc);
     let draw = zeros(alloc, 32)?;
-    encrypt_to(
+    let mut file = Vec::new(alloc);
+    done(encrypt_to(
         alloc,
         To::Bench,
         draw,
         format,
         &mut Bytes::new(plain),
         &mut file,
-    )?;
+    ))?;
     Ok(file)
+}
+
+/// An encryptor to these recipients whose grease stanza is `x-grease`.
+pub fn prepared<S: Suite, T: Recipient>(
+    alloc: Global,
+    recipients: &[T],
+    draw: &mut Draw,
+) -> Result<Encryptor<S>, Fail> {
+    let grease = grease(alloc, "x-grease")?;
+    done(Encryptor::<S>::with_recipients(alloc, recipients, draw, grease))
 }
 
 /// The file of a plaintext, written in one piece.
@@ -49,6 +78,24 @@ pub fn written<S: Suite>(
     let mut stream = encryptor.wrap_output(alloc, Vec::new(alloc))?;
     write_all(&mut stream, plain)?;
     Ok(stream.finish()?)
+}
+
+/// A header, a nonce of zeros, and the payload of the message.
+pub fn file_of(alloc: Global, header: &[u8]) -> Result<Vec<u8>, AllocError> {
+    let mut file = Vec::from_slice(alloc, header)?;
+    file.extend_from_slice(&[0; 16])?;
+    file.extend_from_slice(&SEALED)?;
+    Ok(file)
+}
+
+/// Some bytes, with these bits of the one at a place changed.
+pub fn changed(alloc: Global, bytes: &[u8], place: usize, bits: u8) -> Result<Vec<u8>, Fail> {
+    let mut copy = Vec::from_slice(alloc, bytes)?;
+    match copy.get_mut(place) {
+        Some(byte) => *byte ^= bits,
+        None => return Err(Fail::from("no such place")),
+    }
+    Ok(copy)
 }
 
 /// Puts a byte in the place of another. Whether that one stood there.
@@ -95,11 +142,21 @@ pub fn gives<E: Drop>(answer: Result<Vec<u8>, E>, bytes: &[u8]) -> bool {
     }
 }
 
-/// Two lists of answers say the same.
-pub fn are_same(rt: &impl Abort, answers: &[Answer], expected: &[Answer]) {
-    assert!(rt; answers.len() == expected.len());
-    for (i, (answer, other)) in answers.iter().zip(expected.iter()).enumerate() {
-        assert!(rt; answer == other, "at {i}");
+// Whether two lists of answers say the same.
+fn are_same(answers: &[Answer], expected: &[Answer]) -> bool {
+    for (answer, other) in answers.iter().zip(expected.iter()) {
+        if answer != other {
+            return false;
+        }
+    }
+    answers.len() == expected.len()
+}
+
+/// Whether it is a success with these answers.
+pub fn answers<E: Drop>(answer: Result<Vec<Answer>, E>, expected: &[Answer]) -> bool {
+    match answer {
+        Ok(got) => are_same(&got, expected),
+        Err(_) => false,
     }
 }
 

@@ -1,8 +1,8 @@
 //! Whole files to `bench` in one call, bare and armored. The expected texts are those of Python, from the format's own words.
 
 use crate::shared::{
-    call_gives_message, command_decrypts, command_gives_message, commands_file, gives, grease,
-    is_error, opens_to,
+    call_gives_message, command_decrypts, command_gives_message, commands_file, done, gives,
+    grease, is_error, opens_to,
 };
 use age::armor::Format;
 use age::draw::Draw;
@@ -16,8 +16,7 @@ use age_bench::recipient::{BenchIdentity, BenchRecipient};
 use age_bench::suite::BenchSuite;
 use age_try::answers::is_refusal;
 use age_try::fixtures::{MESSAGE, message_file, part, zeros};
-use std::alloc::Global;
-use std::process::Abort;
+use std::alloc::{AllocError, Global};
 use std::test::Fail;
 
 // The armor of the message's file, whose grease stanza is `x-grease`.
@@ -31,48 +30,53 @@ const PROGRAM_ARMORED: &[u8] =
 // The file of the message by these random bytes.
 fn encrypted(alloc: Global, draw: &mut Draw) -> Result<Vec<u8>, Fail> {
     let grease = grease(alloc, "x-grease")?;
-    Ok(encrypt::<BenchSuite, BenchRecipient>(alloc, &BenchRecipient, MESSAGE, draw, grease)?)
+    done(encrypt::<BenchSuite, BenchRecipient>(alloc, &BenchRecipient, MESSAGE, draw, grease))
+}
+
+// Whether that is the file that is expected.
+fn has_its_file(alloc: Global, draw: &mut Draw) -> Result<bool, Fail> {
+    let file = encrypted(alloc, draw)?;
+    Ok(file.len() == 183 && gives(message_file(alloc, &[]), &file))
 }
 
 #[test]
 fn a_message_is_encrypted_in_one_call(rt: HostRuntime) -> Result<(), Fail> {
     let alloc = rt.alloc();
     let mut draw = zeros(alloc, 33)?;
-    let file = encrypted(alloc, &mut draw)?;
-    assert!(rt; draw.left() == 1);
-    assert!(rt; file.len() == 183);
-    assert!(rt; gives(message_file(alloc, &[]), &file));
+    assert!(rt; has_its_file(alloc, &mut draw)? && draw.left() == 1);
     Ok(())
 }
 
 // The armor of the file of the message by these random bytes.
 fn encrypted_and_armored(alloc: Global, draw: &mut Draw) -> Result<String, Fail> {
     let grease = grease(alloc, "x-grease")?;
-    Ok(encrypt_and_armor::<BenchSuite, BenchRecipient>(
+    done(encrypt_and_armor::<BenchSuite, BenchRecipient>(
         alloc,
         &BenchRecipient,
         MESSAGE,
         draw,
         grease,
-    )?)
+    ))
+}
+
+// Whether that is the armor that is expected.
+fn has_its_armor(alloc: Global, draw: &mut Draw) -> Result<bool, Fail> {
+    let text = encrypted_and_armored(alloc, draw)?;
+    Ok(text.len() == 316 && text.as_str() == ARMORED)
 }
 
 #[test]
 fn a_message_is_encrypted_and_armored_in_one_call(rt: HostRuntime) -> Result<(), Fail> {
     let alloc = rt.alloc();
     let mut draw = zeros(alloc, 33)?;
-    let text = encrypted_and_armored(alloc, &mut draw)?;
-    assert!(rt; draw.left() == 1);
-    assert!(rt; text.len() == 316);
-    assert!(rt; text.as_str() == ARMORED);
+    assert!(rt; has_its_armor(alloc, &mut draw)? && draw.left() == 1);
     Ok(())
 }
 
 #[test]
 fn a_file_is_decrypted_in_one_call(rt: HostRuntime) -> Result<(), Fail> {
     let alloc = rt.alloc();
-    let bare = message_file(alloc, &[])?;
-    assert!(rt; call_gives_message(alloc, &bare));
+    assert!(rt; call_gives_message(alloc, &message_file(alloc, &[])?));
     assert!(rt; call_gives_message(alloc, ARMORED.as_bytes()));
     assert!(rt; call_gives_message(alloc, PROGRAM_ARMORED));
     Ok(())
@@ -87,22 +91,31 @@ fn opened<'a>(
     decryptor.decrypt_one(alloc, &mut BenchIdentity)
 }
 
+// Whether the identity opens a file to the message.
+fn is_opened(alloc: Global, file: &[u8]) -> bool {
+    opens_to(alloc, opened(alloc, file), MESSAGE)
+}
+
 #[test]
 fn one_identity_decrypts(rt: HostRuntime) -> Result<(), Fail> {
     let alloc = rt.alloc();
-    assert!(rt; MESSAGE.len() == 36);
-    let file = message_file(alloc, &[])?;
-    assert!(rt; opens_to(alloc, opened(alloc, &file), MESSAGE));
+    assert!(rt; MESSAGE.len() == 36 && is_opened(alloc, &message_file(alloc, &[])?));
     Ok(())
+}
+
+// Whether the program writes the armor that is expected, and decrypts it again.
+fn program_has_its_armor(alloc: Global) -> Result<bool, Fail> {
+    let text = commands_file(alloc, MESSAGE, Format::AsciiArmor)?;
+    Ok(
+        text.len() == 328
+            && text.as_slice() == PROGRAM_ARMORED
+            && command_gives_message(alloc, &text),
+    )
 }
 
 #[test]
 fn the_program_writes_armor(rt: HostRuntime) -> Result<(), Fail> {
-    let alloc = rt.alloc();
-    let text = commands_file(alloc, MESSAGE, Format::AsciiArmor)?;
-    assert!(rt; text.len() == 328);
-    assert!(rt; text.as_slice() == PROGRAM_ARMORED);
-    assert!(rt; command_gives_message(alloc, &text));
+    assert!(rt; program_has_its_armor(rt.alloc())?);
     Ok(())
 }
 
@@ -118,10 +131,9 @@ fn call_refuses(alloc: Global, file: &[u8], expected: &str) -> bool {
     is_refusal(alloc, answer, expected)
 }
 
-// Decrypting these bytes is refused with this text by the command, which writes nothing, and by the one call.
-fn is_refused(rt: &impl Abort, alloc: Global, file: &[u8], expected: &str) {
-    assert!(rt; command_refuses(alloc, file, expected));
-    assert!(rt; call_refuses(alloc, file, expected));
+// Whether decrypting these bytes is refused with this text by the command, which writes nothing, and by the one call.
+fn is_refused(alloc: Global, file: &[u8], expected: &str) -> bool {
+    command_refuses(alloc, file, expected) && call_refuses(alloc, file, expected)
 }
 
 // What the command answers to these bytes.
@@ -145,12 +157,11 @@ const EARLY: [&[u8]; 5] = [
 
 #[test]
 fn fewer_than_36_bytes_end_early(rt: HostRuntime) {
-    let alloc = rt.alloc();
     for file in EARLY {
-        is_refused(&rt, alloc, file, "input ended early");
-        assert!(rt; ends_early(alloc, file));
+        assert!(rt; is_refused(rt.alloc(), file, "input ended early"));
+        assert!(rt; ends_early(rt.alloc(), file));
     }
-    is_refused(&rt, alloc, &[0; 36], "invalid header");
+    assert!(rt; is_refused(rt.alloc(), &[0; 36], "invalid header"));
 }
 
 const TRAILING: &str = "invalid armor (non-whitespace characters after end marker)";
@@ -159,26 +170,28 @@ const PADDING: &str = "invalid armor (last line is missing padding)";
 
 const UNWRAPPED: &str = "invalid armor (not wrapped at 64 characters)";
 
-// The armor with a byte after it.
-fn armor_and_more(alloc: Global) -> Result<String, Fail> {
+// Whether the armor with a byte after it is refused.
+fn more_is_refused(alloc: Global) -> Result<bool, AllocError> {
     let mut text = String::from_str(alloc, ARMORED)?;
     text.push('x')?;
-    Ok(text)
+    Ok(is_refused(alloc, text.as_bytes(), TRAILING))
 }
+
+// How much of the armor is left, and why it is refused.
+const CUT: [(usize, &str); 4] = [
+    (36, PADDING),
+    (100, UNWRAPPED),
+    (165, UNWRAPPED),
+    (230, UNWRAPPED),
+];
 
 // A fault of the armor behind the payload, before the payload's end, and in the header.
 #[test]
 fn damaged_armor_is_refused(rt: HostRuntime) -> Result<(), Fail> {
     let alloc = rt.alloc();
-    let text = armor_and_more(alloc)?;
-    is_refused(&rt, alloc, text.as_bytes(), TRAILING);
-    for (length, expected) in [
-        (36, PADDING),
-        (100, UNWRAPPED),
-        (165, UNWRAPPED),
-        (230, UNWRAPPED),
-    ] {
-        is_refused(&rt, alloc, part(ARMORED.as_bytes(), 0, length), expected);
+    assert!(rt; more_is_refused(alloc)?);
+    for (length, expected) in CUT {
+        assert!(rt; is_refused(alloc, part(ARMORED.as_bytes(), 0, length), expected));
     }
     Ok(())
 }

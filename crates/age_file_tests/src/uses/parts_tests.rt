@@ -1,45 +1,39 @@
 //! Parts of the message, and lists of reads and seeks on it.
 
-use crate::uses::fixtures::{ARMORED, MESSAGE, done, has_part, is_refused, message_file, part};
+use crate::shared::is_error;
+use crate::uses::fixtures::{ARMORED, has_part, part};
 use age::io::{Answer, Bytes, Error, Op, SeekFrom};
 use age::streaming::answers;
 use age_bench::recipient::BenchIdentity;
 use age_bench::suite::BenchSuite;
+use age_try::fixtures::{MESSAGE, message_file};
 use std::alloc::Global;
-use std::process::Abort;
 use std::test::Fail;
 
-// The part of a text's plaintext is these bytes.
-fn gives_part(
-    rt: &impl Abort,
-    alloc: Global,
-    text: &[u8],
-    place: u64,
-    count: usize,
-    expected: &[u8],
-) -> Result<(), Fail> {
-    let given = has_part::<BenchSuite>(alloc, place, count, text, expected)?;
-    assert!(rt; given, "{count} from {place}");
-    Ok(())
+// Whether a text gives these parts of the message.
+fn gives_parts(alloc: Global, text: &[u8]) -> bool {
+    has_part::<BenchSuite>(alloc, 10, 4, text, b"test")
+        && has_part::<BenchSuite>(alloc, 0, 36, text, MESSAGE)
+        && has_part::<BenchSuite>(alloc, 30, 100, text, b"sting.")
+        && has_part::<BenchSuite>(alloc, 36, 1, text, b"")
 }
 
-// The parts of the message that a text gives.
-fn gives_parts(rt: &impl Abort, alloc: Global, text: &[u8]) -> Result<(), Fail> {
-    gives_part(rt, alloc, text, 10, 4, b"test")?;
-    gives_part(rt, alloc, text, 0, 36, MESSAGE)?;
-    gives_part(rt, alloc, text, 30, 100, b"sting.")?;
-    gives_part(rt, alloc, text, 36, 1, b"")?;
-    let past = part::<BenchSuite>(alloc, 37, 1, text);
-    assert!(rt; is_refused(alloc, past, "Io(PastEnd)")?);
-    Ok(())
+// Whether a text gives no part past the end of the message.
+fn ends_after_message(alloc: Global, text: &[u8]) -> bool {
+    is_error(alloc, part::<BenchSuite>(alloc, 37, 1, text), "Io(PastEnd)")
+}
+
+// Whether a text gives the parts of the message, and no other.
+fn is_of_parts(alloc: Global, text: &[u8]) -> bool {
+    gives_parts(alloc, text) && ends_after_message(alloc, text)
 }
 
 #[test]
 fn parts_of_the_message_are_read(rt: HostRuntime) -> Result<(), Fail> {
     let alloc = rt.alloc();
-    let file = message_file(alloc)?;
-    gives_parts(&rt, alloc, &file)?;
-    gives_parts(&rt, alloc, ARMORED)
+    assert!(rt; is_of_parts(alloc, &message_file(alloc, &[])?));
+    assert!(rt; is_of_parts(alloc, ARMORED));
+    Ok(())
 }
 
 // Whether the answer at that place in the list is these bytes.
@@ -74,9 +68,27 @@ const LIST: [Op; 5] = [
     Op::Seek(SeekFrom::Start(37)),
 ];
 
-// The answers of the list on a text of the message.
-fn answers_of(alloc: Global, text: &[u8]) -> Result<Vec<Answer>, Fail> {
-    done(answers::<BenchSuite, BenchIdentity, Bytes>(
+// Whether these are the answers of the list on the message.
+fn are_of_the_message(answers: &[Answer]) -> bool {
+    answers.len() == 5
+        && moved(answers, 0, 10)
+        && gave(answers, 1, b"test")
+        && moved(answers, 2, 32)
+        && gave(answers, 3, b"ing.")
+        && refused(answers, 4, Error::PastEnd)
+}
+
+// Whether it is a success with those answers.
+fn is_of_the_message<E: Drop>(answer: Result<Vec<Answer>, E>) -> bool {
+    match answer {
+        Ok(got) => are_of_the_message(&got),
+        Err(_) => false,
+    }
+}
+
+// Whether a text of the message answers the list.
+fn answers_the_list(alloc: Global, text: &[u8]) -> bool {
+    is_of_the_message(answers::<BenchSuite, BenchIdentity, Bytes>(
         alloc,
         &mut [BenchIdentity],
         &LIST,
@@ -84,21 +96,10 @@ fn answers_of(alloc: Global, text: &[u8]) -> Result<Vec<Answer>, Fail> {
     ))
 }
 
-// A text of the message answers the list.
-fn answers_the_list(rt: &impl Abort, alloc: Global, text: &[u8]) -> Result<(), Fail> {
-    let answers = answers_of(alloc, text)?;
-    let given = answers.as_slice();
-    assert!(rt; given.len() == 5);
-    assert!(rt; moved(given, 0, 10) && gave(given, 1, b"test"));
-    assert!(rt; moved(given, 2, 32) && gave(given, 3, b"ing."));
-    assert!(rt; refused(given, 4, Error::PastEnd));
-    Ok(())
-}
-
 #[test]
 fn reads_and_seeks_are_answered(rt: HostRuntime) -> Result<(), Fail> {
     let alloc = rt.alloc();
-    let file = message_file(alloc)?;
-    answers_the_list(&rt, alloc, &file)?;
-    answers_the_list(&rt, alloc, ARMORED)
+    assert!(rt; answers_the_list(alloc, &message_file(alloc, &[])?));
+    assert!(rt; answers_the_list(alloc, ARMORED));
+    Ok(())
 }

@@ -1,15 +1,15 @@
 //! Files under a passphrase come back over both suites, and to no other passphrase.
 
-use crate::uses::fixtures::{MESSAGE, done, is_refused, passphrase, sevens};
+use crate::shared::{gives, is_error, passphrase, sevens};
 use age::draw::Draw;
 use age::scrypt::Identity;
 use age::streaming::FileError;
 use age::suite::Suite;
 use age_bench::suite::BenchSuite;
+use age_try::fixtures::MESSAGE;
 use age_try::other_suite::OtherSuite;
 use age_uses::passphrases::kept_under_a_passphrase;
 use std::alloc::{AllocError, Global};
-use std::process::Abort;
 use std::test::Fail;
 
 // An identity of this text that takes work factors up to this one.
@@ -31,23 +31,18 @@ fn kept<S: Suite>(
     Ok(kept_under_a_passphrase::<S>(alloc, typed, 10, &mut identity, draw, MESSAGE))
 }
 
-// Whether the message comes back.
-fn is_kept<S: Suite>(alloc: Global, draw: &mut Draw) -> Result<bool, Fail> {
-    let given = done(kept::<S>(alloc, "correct horse", 10, draw)?)?;
-    Ok(given.as_slice() == MESSAGE)
-}
-
-fn comes_back<S: Suite>(rt: &impl Abort, alloc: Global) -> Result<(), Fail> {
+// Whether the message comes back to its passphrase, with all of 72 random bytes.
+fn comes_back<S: Suite>(alloc: Global) -> Result<bool, AllocError> {
     let mut draw = sevens(alloc, 72)?;
-    assert!(rt; is_kept::<S>(alloc, &mut draw)?);
-    assert!(rt; draw.left() == 0);
-    Ok(())
+    let answer = kept::<S>(alloc, "correct horse", 10, &mut draw)?;
+    Ok(gives(answer, MESSAGE) && draw.left() == 0)
 }
 
 #[test]
 fn the_message_comes_back_to_its_passphrase(rt: HostRuntime) -> Result<(), Fail> {
-    comes_back::<BenchSuite>(&rt, rt.alloc())?;
-    comes_back::<OtherSuite>(&rt, rt.alloc())
+    assert!(rt; comes_back::<BenchSuite>(rt.alloc())?);
+    assert!(rt; comes_back::<OtherSuite>(rt.alloc())?);
+    Ok(())
 }
 
 // Whether the message doesn't come back, and the refusal is shown so.
@@ -57,9 +52,11 @@ fn is_lost(
     most: u8,
     draw: &mut Draw,
     refusal: &str,
-) -> Result<bool, Fail> {
-    is_refused(alloc, kept::<BenchSuite>(alloc, text, most, draw)?, refusal)
+) -> Result<bool, AllocError> {
+    Ok(is_error(alloc, kept::<BenchSuite>(alloc, text, most, draw)?, refusal))
 }
+
+const FAILED: &str = "Decrypt(DecryptionFailed)";
 
 const LAZY: &str = "Decrypt(ExcessiveWork { required: 10, target: 10 })";
 
@@ -67,8 +64,7 @@ const LAZY: &str = "Decrypt(ExcessiveWork { required: 10, target: 10 })";
 fn another_passphrase_and_less_work_are_refused(rt: HostRuntime) -> Result<(), Fail> {
     let alloc = rt.alloc();
     let mut draw = sevens(alloc, 144)?;
-    let failed = "Decrypt(DecryptionFailed)";
-    assert!(rt; is_lost(alloc, "correct horse ", 10, &mut draw, failed)?);
+    assert!(rt; is_lost(alloc, "correct horse ", 10, &mut draw, FAILED)?);
     assert!(rt; is_lost(alloc, "correct horse", 9, &mut draw, LAZY)?);
     Ok(())
 }

@@ -1,7 +1,7 @@
 //! The recipients of protected identity files. Those that are expected were computed by a program of our own after BIP 173.
 
-use crate::uses::fixtures::{done, passphrase, sevens};
-use age::io::{Bytes, write_all};
+use crate::shared::{done, passphrase, sevens, written};
+use age::io::Bytes;
 use age::secrecy::SecretString;
 use age::streaming::FileError;
 use age::x25519::Recipient;
@@ -58,10 +58,7 @@ fn encryptor(alloc: Global) -> Result<Encryptor<BenchSuite>, Fail> {
 
 // The file of the identities under `correct horse`.
 fn identity_file(alloc: Global) -> Result<Vec<u8>, Fail> {
-    let encryptor = encryptor(alloc)?;
-    let mut writer = done(encryptor.wrap_output(alloc, Vec::new(alloc)))?;
-    write_all(&mut writer, IDENTITIES)?;
-    Ok(writer.finish()?)
+    written(alloc, encryptor(alloc)?, IDENTITIES)
 }
 
 // What the recipients of the identities under `correct horse` are for who types this text.
@@ -76,21 +73,31 @@ fn recipients(
     Ok(recipients_of(alloc, Bytes::new(file.as_slice()), typed))
 }
 
-// Whether this is the recipient that is expected.
-fn is_expected(alloc: Global, recipient: &Recipient<BenchSuite>) -> Result<bool, Fail> {
-    Ok(recipient.to_string(alloc)?.as_str() == RECIPIENT)
+// Whether this is the recipient that is expected, alone.
+fn is_expected(alloc: Global, recipients: &[Recipient<BenchSuite>]) -> Result<bool, Fail> {
+    match recipients.first() {
+        Some(first) => {
+            Ok(recipients.len() == 1 && first.to_string(alloc)?.as_str() == RECIPIENT)
+        }
+        None => Ok(false),
+    }
+}
+
+// Whether it is a success with that recipient.
+fn gives_expected<E: Drop>(
+    alloc: Global,
+    answer: Result<Option<Vec<Recipient<BenchSuite>>>, E>,
+) -> Result<bool, Fail> {
+    match answer {
+        Ok(Some(recipients)) => is_expected(alloc, &recipients),
+        _ => Ok(false),
+    }
 }
 
 #[test]
 fn the_recipients_are_those_of_the_file(rt: HostRuntime) -> Result<(), Fail> {
     let alloc = rt.alloc();
-    let Some(recipients) = done(recipients(alloc, "correct horse")?)? else {
-        return Err(Fail::from("another answer"));
-    };
-    assert!(rt; recipients.len() == 1);
-    for recipient in recipients.as_slice() {
-        assert!(rt; is_expected(alloc, recipient)?);
-    }
+    assert!(rt; gives_expected(alloc, recipients(alloc, "correct horse")?)?);
     Ok(())
 }
 
@@ -102,9 +109,13 @@ fn is_encrypted<T>(answer: &Result<T, FileError>) -> bool {
     )
 }
 
+// Whether that is so for who types another text.
+fn stays_encrypted(alloc: Global, text: &str) -> Result<bool, Fail> {
+    Ok(is_encrypted(&recipients(alloc, text)?))
+}
+
 #[test]
 fn another_passphrase_is_refused(rt: HostRuntime) -> Result<(), Fail> {
-    let answer = recipients(rt.alloc(), "correct horse ")?;
-    assert!(rt; is_encrypted(&answer));
+    assert!(rt; stays_encrypted(rt.alloc(), "correct horse ")?);
     Ok(())
 }
