@@ -1,10 +1,10 @@
 //! Whole files over both suites, which have nothing in common but the laws. The digests are those of Python.
 
-use crate::shared::{answers, changed, is_bad_after, opens_to, prepared};
+use crate::shared::{answers, changed, is_bad_after, opened_by, opens_to, prepared};
+use age::DecryptError;
 use age::io::{Answer, Bytes, Error, Op, Seek, SeekFrom, Write, run, write_all};
 use age::stream::{StreamReader, StreamWriter};
 use age::suite::Suite;
-use age::{DecryptError, Decryptor};
 use age_bench::recipient::{BenchIdentity, BenchRecipient};
 use age_bench::suite::BenchSuite;
 use age_try::answers::is_refusal;
@@ -43,8 +43,7 @@ fn file_of<S: Suite>(alloc: Global, plain: &[u8]) -> Result<Vec<u8>, Fail> {
 
 // The reader of a file's plaintext.
 fn opened<'a, S: Suite>(alloc: Global, file: &'a [u8]) -> Result<Stream<'a, S>, DecryptError> {
-    let decryptor = Decryptor::<S, Bytes>::new(alloc, Bytes::new(file))?;
-    decryptor.decrypt_one(alloc, &mut BenchIdentity)
+    opened_by::<S, BenchIdentity>(alloc, &mut BenchIdentity, file)
 }
 
 // Whether a plaintext of so many bytes has the file with this digest, and comes back from it.

@@ -1,8 +1,8 @@
 //! Whole files to `bench`. The expected bytes are those of Python, from the format's own words.
 
 use crate::shared::{
-    command_gives_message, commands_file, gives, gives_payload, grease, is_answered, opens_to,
-    prepared, replace, written,
+    Kind, command_gives_message, commands_file, gives, gives_payload, grease, identities,
+    is_answered, opens_to, prepared, recipients, replace, written,
 };
 use age::armor::Format;
 use age::draw::Draw;
@@ -11,30 +11,15 @@ use age::io::Bytes;
 use age::stream::StreamReader;
 use age::streaming::{FileError, decrypt_all, encrypt_all};
 use age::{DecryptError, Decryptor, Identity, Recipient};
-use age_bench::recipient::{BenchIdentity, BenchRecipient};
 use age_bench::suite::BenchSuite;
 use age_try::answers::is_refusal;
 use age_try::fixtures::{MESSAGE, message_file, part, zeros};
 use std::alloc::{AllocError, Global};
 use std::test::Fail;
 
-/// The recipient of `bench` alone.
-pub fn recipients(alloc: Global) -> Result<Vec<Box<dyn Recipient>>, AllocError> {
-    let mut recipients: Vec<Box<dyn Recipient>> = Vec::new(alloc);
-    recipients.push(Box::new(alloc, BenchRecipient)?)?;
-    Ok(recipients)
-}
-
-// The identity of `bench` alone.
-fn identities(alloc: Global) -> Result<Vec<Box<dyn Identity>>, AllocError> {
-    let mut identities: Vec<Box<dyn Identity>> = Vec::new(alloc);
-    identities.push(Box::new(alloc, BenchIdentity)?)?;
-    Ok(identities)
-}
-
 // The file of the message by these random bytes, written in one piece.
 fn message_written(alloc: Global, draw: &mut Draw) -> Result<Vec<u8>, Fail> {
-    let recipients = recipients(alloc)?;
+    let recipients = recipients(alloc, &[Kind::Bench])?;
     let encryptor = prepared::<BenchSuite, Box<dyn Recipient>>(alloc, &recipients, draw)?;
     written(alloc, encryptor, MESSAGE)
 }
@@ -65,7 +50,7 @@ pub fn opened<'a>(
 
 // Whether the identity of `bench` opens a file to the message.
 fn is_opened(alloc: Global, file: &[u8]) -> Result<bool, AllocError> {
-    let mut identities = identities(alloc)?;
+    let mut identities = identities(alloc, &[Kind::Bench])?;
     Ok(opens_to(alloc, opened(alloc, file, &mut identities), MESSAGE))
 }
 
@@ -104,7 +89,7 @@ fn appends(
     file: &mut Vec<u8>,
     refusal: Option<&str>,
 ) -> Result<bool, Fail> {
-    let recipients = recipients(alloc)?;
+    let recipients = recipients(alloc, &[Kind::Bench])?;
     let mut draw = zeros(alloc, random)?;
     let grease = grease(alloc, "agebench-grease")?;
     let answer = encrypted(alloc, &recipients, &mut draw, grease, plain, file);
@@ -173,7 +158,7 @@ fn decrypted(
 
 // Whether decrypting is refused with this text, before anything is written.
 fn is_refused(alloc: Global, file: &[u8], expected: &str) -> Result<bool, AllocError> {
-    let mut identities = identities(alloc)?;
+    let mut identities = identities(alloc, &[Kind::Bench])?;
     let mut plain = Vec::new(alloc);
     let answer = decrypted(alloc, &mut identities, file, &mut plain);
     Ok(is_refusal(alloc, answer, expected) && plain.is_empty())

@@ -1,10 +1,9 @@
 //! Files whose header has a stanza in the legacy form. The expected bytes are those of Python, from the format's own words.
 
-use crate::shared::{call_gives_message, file_of, is_answered, is_error, replace};
+use crate::part_tests::is_given;
+use crate::shared::{call_gives_message, file_of, is_error, replace};
 use age::decrypt;
-use age::io::{Bytes, Error};
-use age_bench::names::With;
-use age_bench::part::at_with;
+use age::io::Error;
 use age_bench::recipient::BenchIdentity;
 use age_bench::suite::BenchSuite;
 use age_try::fixtures::armored;
@@ -33,19 +32,9 @@ fn a_file_with_a_legacy_stanza_is_decrypted(rt: HostRuntime) -> Result<(), Fail>
     Ok(())
 }
 
-// Appends the part of a file's plaintext from place 30 on. Whether that succeeds.
-fn appends_end(alloc: Global, file: &[u8], part: &mut Vec<u8>) -> bool {
-    is_answered(
-        alloc,
-        at_with(alloc, With::Bench, 30, 10, &mut Bytes::new(file), part),
-        None,
-    )
-}
-
 // Whether the part of a file's plaintext from place 30 on is the message's.
 fn gives_end(alloc: Global, file: &[u8]) -> bool {
-    let mut part = Vec::new(alloc);
-    appends_end(alloc, file, &mut part) && part.as_slice() == b"sting.".as_slice()
+    is_given(alloc, file, 30, 10, b"sting.")
 }
 
 #[test]

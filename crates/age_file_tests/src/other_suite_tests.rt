@@ -119,21 +119,11 @@ fn what_is_no_other_seal_is_refused(rt: HostRuntime) -> Result<(), Fail> {
 // The secret of the other side.
 const HERE: [u8; 32] = [1; 32];
 
-// What the other side makes of its secret and the key's public value.
-fn shared_here() -> [u8; 32] {
-    OtherSuite::x25519(&HERE, &OtherSuite::public(&KEY))
-}
-
-// What the side of the key makes of the other's public value.
-fn shared_there() -> [u8; 32] {
-    OtherSuite::x25519(&KEY, &OtherSuite::public(&HERE))
-}
-
 #[test]
 fn both_sides_share_another_secret(rt: HostRuntime) {
     assert!(rt; OtherSuite::public(&HERE) == [0x36; 32]);
-    let shared = shared_here();
-    assert!(rt; shared == shared_there());
+    let shared = OtherSuite::x25519(&HERE, &OtherSuite::public(&KEY));
+    assert!(rt; shared == OtherSuite::x25519(&KEY, &OtherSuite::public(&HERE)));
     assert!(rt; (shared[0], shared[31]) == (0x36, 0x55));
 }
 

@@ -25,8 +25,8 @@ fn appends(
     )
 }
 
-// Whether a part of a file's plaintext is these bytes.
-fn is_given(alloc: Global, file: &[u8], place: u64, count: u64, expected: &[u8]) -> bool {
+/// Whether a part of a file's plaintext is these bytes.
+pub fn is_given(alloc: Global, file: &[u8], place: u64, count: u64, expected: &[u8]) -> bool {
     let mut got = Vec::new(alloc);
     appends(alloc, file, place, count, &mut got, None) && got.as_slice() == expected
 }

@@ -1,7 +1,7 @@
 //! Several recipients and several identities: which refuses, who decides, and how many random bytes are left.
 
-use crate::file_tests::{opened, recipients};
-use crate::shared::{grease, is_answered, prepared, sevens, written};
+use crate::file_tests::opened;
+use crate::shared::{Kind, grease, is_answered, prepared, recipients, sevens, written};
 use age::secrecy::FileKey;
 use age::{Encryptor, Identity, Recipient};
 use age_bench::suite::BenchSuite;
@@ -81,14 +81,22 @@ fn one_recipient_or_none(rt: HostRuntime) -> Result<(), Fail> {
     let alloc = rt.alloc();
     assert!(rt; none_is_refused(alloc)?);
     for (random, refusal, left) in FOR_ONE {
-        assert!(rt; prepares(alloc, &recipients(alloc)?, random, refusal, left)?);
+        assert!(rt;
+            prepares(
+                alloc,
+                &recipients(alloc, &[Kind::Bench])?,
+                random,
+                refusal,
+                left
+            )?
+        );
     }
     Ok(())
 }
 
 // The recipient of `bench`, and one that draws 32 bytes.
 fn with_a_drawing_one(alloc: Global) -> Result<Vec<Box<dyn Recipient>>, AllocError> {
-    let mut recipients = recipients(alloc)?;
+    let mut recipients = recipients(alloc, &[Kind::Bench])?;
     add(alloc, &mut recipients, "drawing", true, &[])?;
     Ok(recipients)
 }

@@ -6,14 +6,16 @@ use age::draw::Draw;
 use age::format::Grease;
 use age::io::{Answer, BufRead, Bytes, Error, Read, write_all};
 use age::secrecy::SecretString;
+use age::stream::StreamReader;
 use age::suite::Suite;
-use age::{DecryptError, Decryptor, Encryptor, Recipient, decrypt};
+use age::{DecryptError, Decryptor, Encryptor, Identity, Recipient, decrypt};
 use age_bench::file::{decrypt_with, encrypt_to};
 use age_bench::names::{To, With};
-use age_bench::recipient::BenchIdentity;
+use age_bench::recipient::{BenchIdentity, BenchRecipient};
 use age_bench::suite::BenchSuite;
 use age_try::answers::{delivers, delivers_until, ends, is_refusal, read_refuses};
 use age_try::fixtures::{MESSAGE, SEALED, empty_stanza, zeros};
+use age_uses::own::{OwnIdentity, OwnRecipient};
 use std::alloc::{AllocError, Global};
 use std::fmt::{Debug, Display};
 use std::test::Fail;
@@ -34,6 +36,47 @@ pub fn sevens(alloc: Global, count: usize) -> Result<Draw, AllocError> {
 /// A passphrase.
 pub fn passphrase(alloc: Global, text: &str) -> Result<SecretString, AllocError> {
     Ok(SecretString::from(String::from_str(alloc, text)?))
+}
+
+/// The kinds of recipients and identities.
+#[derive(Clone, Copy)]
+pub enum Kind {
+    Bench,
+    Own,
+}
+
+// A recipient of this kind.
+fn recipient(alloc: Global, kind: Kind) -> Result<Box<dyn Recipient>, AllocError> {
+    match kind {
+        Kind::Bench => Ok(Box::new(alloc, BenchRecipient)?),
+        Kind::Own => Ok(Box::new(alloc, OwnRecipient)?),
+    }
+}
+
+/// Recipients of these kinds.
+pub fn recipients(alloc: Global, kinds: &[Kind]) -> Result<Vec<Box<dyn Recipient>>, AllocError> {
+    let mut recipients: Vec<Box<dyn Recipient>> = Vec::new(alloc);
+    for kind in kinds {
+        recipients.push(recipient(alloc, *kind)?)?;
+    }
+    Ok(recipients)
+}
+
+// An identity of this kind.
+fn identity(alloc: Global, kind: Kind) -> Result<Box<dyn Identity>, AllocError> {
+    match kind {
+        Kind::Bench => Ok(Box::new(alloc, BenchIdentity)?),
+        Kind::Own => Ok(Box::new(alloc, OwnIdentity)?),
+    }
+}
+
+/// Identities of these kinds.
+pub fn identities(alloc: Global, kinds: &[Kind]) -> Result<Vec<Box<dyn Identity>>, AllocError> {
+    let mut identities: Vec<Box<dyn Identity>> = Vec::new(alloc);
+    for kind in kinds {
+        identities.push(identity(alloc, *kind)?)?;
+    }
+    Ok(identities)
 }
 
 /// A grease stanza of this tag, with nothing else in it.
@@ -158,6 +201,15 @@ pub fn answers<E: Drop>(answer: Result<Vec<Answer>, E>, expected: &[Answer]) -> 
         Ok(got) => are_same(&got, expected),
         Err(_) => false,
     }
+}
+
+/// What one identity alone opens a file to.
+pub fn opened_by<'a, S: Suite, I: Identity>(
+    alloc: Global,
+    identity: &mut I,
+    file: &'a [u8],
+) -> Result<StreamReader<S, Bytes<'a>>, DecryptError> {
+    Decryptor::<S, Bytes>::new(alloc, Bytes::new(file))?.decrypt_one(alloc, identity)
 }
 
 /// Whether it is a success with a reader of these bytes, which stands at a clean end after them.

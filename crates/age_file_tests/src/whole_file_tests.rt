@@ -2,14 +2,13 @@
 
 use crate::shared::{
     call_gives_message, command_decrypts, command_gives_message, commands_file, done, gives,
-    grease, is_error, opens_to,
+    grease, is_error, opened_by, opens_to,
 };
 use age::armor::Format;
 use age::draw::Draw;
 use age::io::Bytes;
-use age::stream::StreamReader;
 use age::streaming::FileError;
-use age::{DecryptError, Decryptor, decrypt, encrypt, encrypt_and_armor};
+use age::{decrypt, encrypt, encrypt_and_armor};
 use age_bench::file::decrypt_with;
 use age_bench::names::With;
 use age_bench::recipient::{BenchIdentity, BenchRecipient};
@@ -82,18 +81,10 @@ fn a_file_is_decrypted_in_one_call(rt: HostRuntime) -> Result<(), Fail> {
     Ok(())
 }
 
-// The reader of a file's plaintext.
-fn opened<'a>(
-    alloc: Global,
-    file: &'a [u8],
-) -> Result<StreamReader<BenchSuite, Bytes<'a>>, DecryptError> {
-    let decryptor = Decryptor::<BenchSuite, Bytes>::new(alloc, Bytes::new(file))?;
-    decryptor.decrypt_one(alloc, &mut BenchIdentity)
-}
-
 // Whether the identity opens a file to the message.
 fn is_opened(alloc: Global, file: &[u8]) -> bool {
-    opens_to(alloc, opened(alloc, file), MESSAGE)
+    let opened = opened_by::<BenchSuite, BenchIdentity>(alloc, &mut BenchIdentity, file);
+    opens_to(alloc, opened, MESSAGE)
 }
 
 #[test]

@@ -1,18 +1,17 @@
 //! What the tests of the uses share.
 
-use crate::shared::{done, gives, grease, is_answered};
+use crate::shared::{Kind, done, gives, grease, identities, is_answered, recipients};
 use age::armor::Format;
 use age::draw::Draw;
 use age::io::Bytes;
 use age::streaming::{FileError, decrypt_all, encrypt_all};
 use age::suite::Suite;
 use age::{Identity, Recipient};
-use age_bench::recipient::{BenchIdentity, BenchRecipient};
+use age_bench::recipient::BenchIdentity;
 use age_try::fixtures::{MESSAGE, zeros};
-use age_uses::own::{OwnIdentity, OwnRecipient};
 use age_uses::parts::part_of;
 use age_uses::there_and_back::there_and_back;
-use std::alloc::{AllocError, Global};
+use std::alloc::Global;
 use std::test::Fail;
 
 /// The armor of the message's file to `bench`, where each random byte is 0 and the grease stanza is `x-grease`.
@@ -80,47 +79,6 @@ pub fn has_part<S: Suite>(
     expected: &[u8],
 ) -> bool {
     gives(part::<S>(alloc, place, count, text), expected)
-}
-
-/// The kinds of recipients and identities.
-#[derive(Clone, Copy)]
-pub enum Kind {
-    Bench,
-    Own,
-}
-
-// A recipient of this kind.
-fn recipient(alloc: Global, kind: Kind) -> Result<Box<dyn Recipient>, AllocError> {
-    match kind {
-        Kind::Bench => Ok(Box::new(alloc, BenchRecipient)?),
-        Kind::Own => Ok(Box::new(alloc, OwnRecipient)?),
-    }
-}
-
-/// Recipients of these kinds.
-pub fn recipients(alloc: Global, kinds: &[Kind]) -> Result<Vec<Box<dyn Recipient>>, AllocError> {
-    let mut recipients: Vec<Box<dyn Recipient>> = Vec::new(alloc);
-    for kind in kinds {
-        recipients.push(recipient(alloc, *kind)?)?;
-    }
-    Ok(recipients)
-}
-
-// An identity of this kind.
-fn identity(alloc: Global, kind: Kind) -> Result<Box<dyn Identity>, AllocError> {
-    match kind {
-        Kind::Bench => Ok(Box::new(alloc, BenchIdentity)?),
-        Kind::Own => Ok(Box::new(alloc, OwnIdentity)?),
-    }
-}
-
-// Identities of these kinds.
-fn identities(alloc: Global, kinds: &[Kind]) -> Result<Vec<Box<dyn Identity>>, AllocError> {
-    let mut identities: Vec<Box<dyn Identity>> = Vec::new(alloc);
-    for kind in kinds {
-        identities.push(identity(alloc, *kind)?)?;
-    }
-    Ok(identities)
 }
 
 /// What the message comes back as from recipients of these kinds by these identities.

@@ -10,29 +10,20 @@ use age_try::fixtures::{MESSAGE, message_file};
 use std::alloc::Global;
 use std::test::Fail;
 
-// Whether a text gives these parts of the message.
+// Whether a text gives these parts of the message, and none past its end.
 fn gives_parts(alloc: Global, text: &[u8]) -> bool {
     has_part::<BenchSuite>(alloc, 10, 4, text, b"test")
         && has_part::<BenchSuite>(alloc, 0, 36, text, MESSAGE)
         && has_part::<BenchSuite>(alloc, 30, 100, text, b"sting.")
         && has_part::<BenchSuite>(alloc, 36, 1, text, b"")
-}
-
-// Whether a text gives no part past the end of the message.
-fn ends_after_message(alloc: Global, text: &[u8]) -> bool {
-    is_error(alloc, part::<BenchSuite>(alloc, 37, 1, text), "Io(PastEnd)")
-}
-
-// Whether a text gives the parts of the message, and no other.
-fn is_of_parts(alloc: Global, text: &[u8]) -> bool {
-    gives_parts(alloc, text) && ends_after_message(alloc, text)
+        && is_error(alloc, part::<BenchSuite>(alloc, 37, 1, text), "Io(PastEnd)")
 }
 
 #[test]
 fn parts_of_the_message_are_read(rt: HostRuntime) -> Result<(), Fail> {
     let alloc = rt.alloc();
-    assert!(rt; is_of_parts(alloc, &message_file(alloc, &[])?));
-    assert!(rt; is_of_parts(alloc, ARMORED));
+    assert!(rt; gives_parts(alloc, &message_file(alloc, &[])?));
+    assert!(rt; gives_parts(alloc, ARMORED));
     Ok(())
 }
 

@@ -1,12 +1,12 @@
 //! Files to recipients of two kinds, which each kind of identity decrypts alone, over both suites.
 
-use crate::shared::{gives, grease, is_error, opens_to, prepared, sevens, written};
-use crate::uses::fixtures::{Kind, comes_back, recipients};
+use crate::shared::{
+    Kind, gives, grease, is_error, opened_by, opens_to, prepared, recipients, sevens, written,
+};
+use crate::uses::fixtures::comes_back;
 use age::armor::Format;
-use age::io::Bytes;
-use age::stream::StreamReader;
 use age::suite::Suite;
-use age::{DecryptError, Decryptor, Identity, Recipient};
+use age::{Identity, Recipient};
 use age_bench::recipient::BenchIdentity;
 use age_bench::suite::BenchSuite;
 use age_try::fixtures::MESSAGE;
@@ -24,15 +24,6 @@ fn file_to<S: Suite>(alloc: Global, kinds: &[Kind]) -> Result<Vec<u8>, Fail> {
     written(alloc, encryptor, MESSAGE)
 }
 
-// What one identity alone opens a file to.
-fn opened<'a, S: Suite, I: Identity>(
-    alloc: Global,
-    identity: &mut I,
-    file: &'a [u8],
-) -> Result<StreamReader<S, Bytes<'a>>, DecryptError> {
-    Decryptor::<S, Bytes>::new(alloc, Bytes::new(file))?.decrypt_one(alloc, identity)
-}
-
 // Whether the identity opens a file to the message, or is refused where it should have no key of it.
 fn answers<S: Suite, I: Identity>(
     alloc: Global,
@@ -41,11 +32,11 @@ fn answers<S: Suite, I: Identity>(
     has_key: bool,
 ) -> bool {
     if has_key {
-        opens_to(alloc, opened::<S, I>(alloc, identity, file), MESSAGE)
+        opens_to(alloc, opened_by::<S, I>(alloc, identity, file), MESSAGE)
     } else {
         is_error(
             alloc,
-            opened::<S, I>(alloc, identity, file),
+            opened_by::<S, I>(alloc, identity, file),
             "NoMatchingKeys",
         )
     }
@@ -133,16 +124,11 @@ fn one_opens<S: Suite, I: Identity>(alloc: Global, identity: &mut I) -> Result<b
 }
 
 // An identity of each kind.
-fn each_opens<S: Suite>(alloc: Global) -> Result<bool, Fail> {
-    Ok(
-        one_opens::<S, BenchIdentity>(alloc, &mut BenchIdentity)?
-            && one_opens::<S, OwnIdentity>(alloc, &mut OwnIdentity)?,
-    )
-}
-
 #[test]
 fn one_identity_opens_what_is_for_both_kinds(rt: HostRuntime) -> Result<(), Fail> {
-    assert!(rt; each_opens::<BenchSuite>(rt.alloc())?);
-    assert!(rt; each_opens::<OtherSuite>(rt.alloc())?);
+    assert!(rt; one_opens::<BenchSuite, BenchIdentity>(rt.alloc(), &mut BenchIdentity)?);
+    assert!(rt; one_opens::<BenchSuite, OwnIdentity>(rt.alloc(), &mut OwnIdentity)?);
+    assert!(rt; one_opens::<OtherSuite, BenchIdentity>(rt.alloc(), &mut BenchIdentity)?);
+    assert!(rt; one_opens::<OtherSuite, OwnIdentity>(rt.alloc(), &mut OwnIdentity)?);
     Ok(())
 }

@@ -1,7 +1,7 @@
 //! A message encrypted and decrypted in memory.
 
-use crate::shared::{is_error, sevens};
-use crate::uses::fixtures::{Kind, back, comes_back};
+use crate::shared::{Kind, is_error, sevens};
+use crate::uses::fixtures::{back, comes_back};
 use age_bench::suite::BenchSuite;
 use std::test::Fail;
 
