@@ -2,9 +2,10 @@
 
 use age_error::io::{Error, SeekFrom};
 use age_io::{Answer, BufReader, Op, Read, Seek, Std, read_exact, run};
-use age_try::fakes::{Disk, Script, Step};
+use age_try::fakes::{Disk, Script, Sink, Source, Step};
+use age_try::fixtures::part;
 use std::alloc::Global;
-use std::process::Abort;
+use std::io;
 use std::test::Fail;
 
 /// So many bytes of which neighbours differ.
@@ -29,6 +30,26 @@ pub fn device<'a>(steps: &'a [Step], bytes: &'a [u8]) -> Std<Disk<'a>> {
         bytes,
         place: 0,
     })
+}
+
+/// A device that gives bytes as its steps say, and behind the last of them at most `most` in a call.
+pub fn source<'a>(steps: &'a [Step], most: usize, bytes: &'a [u8]) -> Std<Source<'a>> {
+    let script = Script { steps, most };
+    Std::new(Source { script, bytes })
+}
+
+/// A device that takes bytes as its steps say, and behind the last of them at most two in a call.
+pub fn sink<'a>(alloc: Global, steps: &'a [Step]) -> Std<Sink<'a>> {
+    let script = Script { steps, most: 2 };
+    Std::new(Sink {
+        script,
+        bytes: Vec::new(alloc),
+    })
+}
+
+/// A fault, a byte that is moved, and the fault again.
+pub fn two_faults(kind: io::ErrorKind) -> [Step; 3] {
+    [Step::Fail(kind), Step::Move(1), Step::Fail(kind)]
 }
 
 /// A reader with a buffer over this one.
@@ -66,36 +87,66 @@ pub fn leads_nowhere<R: Seek>(reader: &mut R, to: SeekFrom, error: Error) -> boo
 pub enum Wanted<'a> {
     /// A read gives these bytes.
     Bytes(&'a [u8]),
+    /// A read gives the bytes of the whole from one place to another.
+    Part(usize, usize),
     /// A seek leads to this place.
     Place(u64),
     /// It refuses so, and a read gives these bytes before.
     Fault(&'a [u8], Error),
 }
 
-// Whether an answer is the one that is wanted.
-fn is_wanted(answer: &Answer, wanted: Wanted) -> bool {
-    match (answer, wanted) {
-        (Answer::Bytes(got), Wanted::Bytes(bytes)) => got.as_slice() == bytes,
-        (Answer::At(at), Wanted::Place(place)) => *at == place,
-        (Answer::Fault { got, error }, Wanted::Fault(bytes, refusal)) => {
-            got.as_slice() == bytes && *error == refusal
-        }
+// Whether a read gave these bytes.
+fn is_read(answer: &Answer, bytes: &[u8]) -> bool {
+    match answer {
+        Answer::Bytes(got) => got.as_slice() == bytes,
         _ => false,
     }
 }
 
-/// The answers to these reads and seeks are those that are wanted.
+// Whether a seek led to this place.
+fn is_at(answer: &Answer, place: u64) -> bool {
+    match answer {
+        Answer::At(at) => *at == place,
+        _ => false,
+    }
+}
+
+// Whether it refused so, and a read had given these bytes before.
+fn is_fault(answer: &Answer, bytes: &[u8], refusal: Error) -> bool {
+    match answer {
+        Answer::Fault { got, error } => got.as_slice() == bytes && *error == refusal,
+        _ => false,
+    }
+}
+
+// Whether an answer is the one that is wanted.
+fn is_wanted(answer: &Answer, wanted: Wanted, whole: &[u8]) -> bool {
+    match wanted {
+        Wanted::Bytes(bytes) => is_read(answer, bytes),
+        Wanted::Part(from, to) => is_read(answer, part(whole, from, to)),
+        Wanted::Place(place) => is_at(answer, place),
+        Wanted::Fault(bytes, refusal) => is_fault(answer, bytes, refusal),
+    }
+}
+
+// Whether each answer is the one that is wanted.
+fn are_wanted(answers: &[Answer], wanted: &[Wanted], whole: &[u8]) -> bool {
+    for (answer, wanted) in answers.iter().zip(wanted) {
+        if !is_wanted(answer, *wanted, whole) {
+            return false;
+        }
+    }
+    true
+}
+
+/// Whether a reader of the whole answers to these reads and seeks as is wanted.
 pub fn answers_so<R: Seek>(
-    rt: &impl Abort,
     alloc: Global,
     reader: &mut R,
+    whole: &[u8],
     ops: &[Op],
     wanted: &[Wanted],
-) -> Result<(), Fail> {
+) -> Result<bool, Fail> {
     let answers = run(alloc, reader, ops)?;
-    assert!(rt; answers.len() == wanted.len());
-    for (number, (answer, wanted)) in answers.iter().zip(wanted).enumerate() {
-        assert!(rt; is_wanted(answer, *wanted), "at answer {number}");
-    }
-    Ok(())
+    Ok(answers.len() == wanted.len() && are_wanted(answers.as_slice(), wanted, whole))
 }

@@ -1,17 +1,15 @@
 //! Readers and writers of this port that std reads and writes, and a file on a disk.
 
-use crate::fixtures::{buffered, fills, gives, leads, leads_nowhere};
+use crate::fixtures::{buffered, fills, gives, leads, leads_nowhere, sink, source, two_faults};
 use age_error::io::{ArmoredReadError, Error, ErrorKind, SeekFrom};
 use age_io::{
-    BufReader, Bytes, IntoStd, Read, Seek, Std, Write, device_error, read_to_end, standard_error,
-    write_all,
+    BufReader, Bytes, IntoStd, Read, Seek, Std, Write, device_error, standard_error, write_all,
 };
-use age_try::answers::is_refusal;
-use age_try::fakes::{Script, Sink, Source, Step};
+use age_try::answers::{delivers, is_refusal};
+use age_try::fakes::Step;
 use std::alloc::Global;
 use std::fs::File;
 use std::path::{Path, PathBuf};
-use std::process::Abort;
 use std::test::Fail;
 use std::{env, fs, io, process};
 
@@ -50,24 +48,27 @@ fn leads_std<R: io::Seek>(reader: &mut R, to: io::SeekFrom, place: u64) -> bool 
     sought_by_std(reader, to) == Ok(place)
 }
 
-// A reader of the bytes `a text` is read and sought.
-fn is_read_and_sought<R: io::Read + io::Seek>(rt: &impl Abort, alloc: Global, reader: &mut R) {
-    assert!(rt; leads_std(reader, io::SeekFrom::Start(2), 2));
-    assert!(rt; delivers_to_std(alloc, reader, b"text"));
-    assert!(rt; leads_std(reader, io::SeekFrom::End(-4), 2));
-    assert!(rt; leads_std(reader, io::SeekFrom::Current(3), 5));
-    let past = sought_by_std(reader, io::SeekFrom::Start(7));
-    assert!(rt; past == Err(io::ErrorKind::InvalidData));
-    assert!(rt; ends_early(reader, &mut [0; 4]));
+// Whether a reader of the bytes `a text` is sought, and gives those behind a place.
+fn is_read_and_sought<R: io::Read + io::Seek>(alloc: Global, reader: &mut R) -> bool {
+    leads_std(reader, io::SeekFrom::Start(2), 2)
+        && delivers_to_std(alloc, reader, b"text")
+        && leads_std(reader, io::SeekFrom::End(-4), 2)
+        && leads_std(reader, io::SeekFrom::Current(3), 5)
+}
+
+// Whether it then refuses to be sought past its end, and ends early for more bytes than are left.
+fn has_an_end<R: io::Read + io::Seek>(reader: &mut R) -> bool {
+    sought_by_std(reader, io::SeekFrom::Start(7)) == Err(io::ErrorKind::InvalidData)
+        && ends_early(reader, &mut [0; 4])
 }
 
 #[test]
 fn std_reads_and_seeks(rt: HostRuntime) -> Result<(), Fail> {
     let mut reader = IntoStd::new(Bytes::new(b"a text"));
-    is_read_and_sought(&rt, rt.alloc(), &mut reader);
+    assert!(rt; is_read_and_sought(rt.alloc(), &mut reader));
+    assert!(rt; has_an_end(&mut reader));
     let mut inner = reader.into_inner();
-    assert!(rt; leads(&mut inner, SeekFrom::Start(4), 4));
-    assert!(rt; gives(&mut inner, &mut [0; 4], 2));
+    assert!(rt; leads(&mut inner, SeekFrom::Start(4), 4) && gives(&mut inner, &mut [0; 4], 2));
     Ok(())
 }
 
@@ -88,75 +89,74 @@ fn flushed_by_std<W: io::Write>(writer: &mut W) -> Result<(), io::ErrorKind> {
     kind(io::Write::flush(writer))
 }
 
-// A writer takes the bytes `a text more`, and a flush.
-fn is_written<W: io::Write>(rt: &impl Abort, writer: &mut W) {
-    let written = io::Write::write_all(writer, b"a text");
-    assert!(rt; kind(written) == Ok(()));
-    assert!(rt; written_by_std(writer, b" more") == Ok(5));
-    assert!(rt; flushed_by_std(writer) == Ok(()));
+// Whether a writer takes the bytes `a text more`, and a flush.
+fn is_written<W: io::Write>(writer: &mut W) -> bool {
+    kind(io::Write::write_all(writer, b"a text")) == Ok(())
+        && written_by_std(writer, b" more") == Ok(5)
+        && flushed_by_std(writer) == Ok(())
 }
 
 #[test]
 fn std_writes(rt: HostRuntime) -> Result<(), Fail> {
     let out: Vec<u8> = Vec::new(rt.alloc());
     let mut writer = IntoStd::new(out);
-    is_written(&rt, &mut writer);
+    assert!(rt; is_written(&mut writer));
     assert!(rt; writer.into_inner().as_slice() == b"a text more".as_slice());
     Ok(())
 }
 
-// A reader refuses so, gives a byte, refuses so again and gives two bytes.
-fn faults_as_it_reads<R: io::Read>(rt: &impl Abort, reader: &mut R, told: io::ErrorKind) {
-    let mut room = [0; 4];
-    for answer in [Err(told), Ok(1), Err(told), Ok(2)] {
-        assert!(rt; read_by_std(reader, &mut room) == answer);
-    }
+// Whether a read answers so.
+fn reads<R: io::Read>(reader: &mut R, answer: Result<usize, io::ErrorKind>) -> bool {
+    read_by_std(reader, &mut [0; 4]) == answer
 }
 
-// A writer refuses so, takes a byte and refuses a flush so.
-fn faults_as_it_writes<W: io::Write>(rt: &impl Abort, writer: &mut W, told: io::ErrorKind) {
-    assert!(rt; written_by_std(writer, b"abc") == Err(told));
-    assert!(rt; written_by_std(writer, b"abc") == Ok(1));
-    assert!(rt; flushed_by_std(writer) == Err(told));
+// Whether a reader refuses so, gives a byte, refuses so again and gives two bytes.
+fn faults_as_it_reads<R: io::Read>(reader: &mut R, told: io::ErrorKind) -> bool {
+    reads(reader, Err(told))
+        && reads(reader, Ok(1))
+        && reads(reader, Err(told))
+        && reads(reader, Ok(2))
 }
 
-// A fault of the first kind comes back as one of the second.
-fn comes_back_as(rt: &impl Abort, alloc: Global, given: io::ErrorKind, told: io::ErrorKind) {
-    let steps = [Step::Fail(given), Step::Move(1), Step::Fail(given)];
-    let script = Script {
-        steps: &steps,
-        most: 2,
-    };
-    let source = Source {
-        script,
-        bytes: b"abcdef",
-    };
-    faults_as_it_reads(rt, &mut IntoStd::new(Std::new(source)), told);
-    let sink = Sink {
-        script,
-        bytes: Vec::new(alloc),
-    };
-    faults_as_it_writes(rt, &mut IntoStd::new(Std::new(sink)), told);
+// Whether a writer refuses so, takes a byte and refuses a flush so.
+fn faults_as_it_writes<W: io::Write>(writer: &mut W, told: io::ErrorKind) -> bool {
+    written_by_std(writer, b"abc") == Err(told)
+        && written_by_std(writer, b"abc") == Ok(1)
+        && flushed_by_std(writer) == Err(told)
 }
+
+// Whether devices of these steps refuse so.
+fn both_fault(alloc: Global, steps: &[Step], told: io::ErrorKind) -> bool {
+    faults_as_it_reads(&mut IntoStd::new(source(steps, 2, b"abcdef")), told)
+        && faults_as_it_writes(&mut IntoStd::new(sink(alloc, steps)), told)
+}
+
+// Whether a fault of the first kind comes back as one of the second.
+fn comes_back_as(alloc: Global, given: io::ErrorKind, told: io::ErrorKind) -> bool {
+    both_fault(alloc, &two_faults(given), told)
+}
+
+// A kind of std, and the kind that comes back.
+const RETURNS: [(io::ErrorKind, io::ErrorKind); 9] = [
+    (io::ErrorKind::NotFound, io::ErrorKind::NotFound),
+    (
+        io::ErrorKind::PermissionDenied,
+        io::ErrorKind::PermissionDenied,
+    ),
+    (io::ErrorKind::Interrupted, io::ErrorKind::Interrupted),
+    (io::ErrorKind::UnexpectedEof, io::ErrorKind::UnexpectedEof),
+    (io::ErrorKind::WriteZero, io::ErrorKind::WriteZero),
+    (io::ErrorKind::InvalidData, io::ErrorKind::InvalidData),
+    (io::ErrorKind::InvalidInput, io::ErrorKind::InvalidInput),
+    (io::ErrorKind::OutOfMemory, io::ErrorKind::OutOfMemory),
+    (io::ErrorKind::BrokenPipe, io::ErrorKind::Other),
+];
 
 // A fault goes there and back: std's, this port's, and std's again.
 #[test]
 fn faults_come_back_with_their_kinds(rt: HostRuntime) -> Result<(), Fail> {
-    for (given, told) in [
-        (io::ErrorKind::NotFound, io::ErrorKind::NotFound),
-        (
-            io::ErrorKind::PermissionDenied,
-            io::ErrorKind::PermissionDenied,
-        ),
-        (io::ErrorKind::Interrupted, io::ErrorKind::Interrupted),
-        (io::ErrorKind::UnexpectedEof, io::ErrorKind::UnexpectedEof),
-        (io::ErrorKind::WriteZero, io::ErrorKind::WriteZero),
-        (io::ErrorKind::InvalidData, io::ErrorKind::InvalidData),
-        (io::ErrorKind::InvalidInput, io::ErrorKind::InvalidInput),
-        (io::ErrorKind::OutOfMemory, io::ErrorKind::OutOfMemory),
-        (io::ErrorKind::BrokenPipe, io::ErrorKind::Other),
-    ] {
-        comes_back_as(&rt, rt.alloc(), given, told);
+    for (given, told) in RETURNS {
+        assert!(rt; comes_back_as(rt.alloc(), given, told));
     }
     Ok(())
 }
@@ -172,47 +172,52 @@ fn is_heard(kind: io::ErrorKind, error: Error) -> bool {
     device_error(&io::Error::from(kind)) == error
 }
 
+// A refusal, and its kind and its text to std.
+const TOLD: [(Error, io::ErrorKind, &str); 7] = [
+    (Error::Failed, io::ErrorKind::Other, "failed earlier"),
+    (
+        Error::TooLong,
+        io::ErrorKind::InvalidInput,
+        "more than the largest length",
+    ),
+    (
+        Error::Truncated,
+        io::ErrorKind::UnexpectedEof,
+        "age file is truncated",
+    ),
+    (
+        Error::OutOfMemory,
+        io::ErrorKind::OutOfMemory,
+        "out of memory",
+    ),
+    (
+        Error::Device(ErrorKind::NotFound),
+        io::ErrorKind::NotFound,
+        "entity not found",
+    ),
+    (
+        Error::Armor(ArmoredReadError::TrailingGarbage),
+        io::ErrorKind::InvalidData,
+        "invalid armor (non-whitespace characters after end marker)",
+    ),
+    (
+        Error::NotIdentity {
+            line: 18446744073709551615,
+        },
+        io::ErrorKind::InvalidData,
+        "identity file contains non-identity data on line 18446744073709551615",
+    ),
+];
+
 #[test]
 fn errors_have_kinds_and_texts(rt: HostRuntime) -> Result<(), Fail> {
-    for (error, kind, text) in [
-        (Error::Failed, io::ErrorKind::Other, "failed earlier"),
-        (
-            Error::TooLong,
-            io::ErrorKind::InvalidInput,
-            "more than the largest length",
-        ),
-        (
-            Error::Truncated,
-            io::ErrorKind::UnexpectedEof,
-            "age file is truncated",
-        ),
-        (
-            Error::OutOfMemory,
-            io::ErrorKind::OutOfMemory,
-            "out of memory",
-        ),
-        (
-            Error::Device(ErrorKind::NotFound),
-            io::ErrorKind::NotFound,
-            "entity not found",
-        ),
-        (
-            Error::Armor(ArmoredReadError::TrailingGarbage),
-            io::ErrorKind::InvalidData,
-            "invalid armor (non-whitespace characters after end marker)",
-        ),
-        (
-            Error::NotIdentity {
-                line: 18446744073709551615,
-            },
-            io::ErrorKind::InvalidData,
-            "identity file contains non-identity data on line 18446744073709551615",
-        ),
-    ] {
+    for (error, kind, text) in TOLD {
         assert!(rt; is_told(rt.alloc(), error, kind, text), "{text}");
     }
-    assert!(rt; is_heard(io::ErrorKind::BrokenPipe, Error::Device(ErrorKind::Other)));
-    assert!(rt; is_heard(io::ErrorKind::NotFound, Error::Device(ErrorKind::NotFound)));
+    assert!(rt;
+        is_heard(io::ErrorKind::BrokenPipe, Error::Device(ErrorKind::Other))
+            && is_heard(io::ErrorKind::NotFound, Error::Device(ErrorKind::NotFound))
+    );
     Ok(())
 }
 
@@ -234,22 +239,26 @@ fn gives_four<R: Read>(reader: &mut R, bytes: &[u8; 4]) -> bool {
     fills(reader, &mut room) && room == *bytes
 }
 
-// A reader of the bytes below is read and sought.
-fn reads_and_seeks<R: Seek>(rt: &impl Abort, alloc: Global, reader: &mut R) {
-    let mut all = Vec::new(alloc);
-    assert!(rt; read_to_end(alloc, reader, &mut all) == Ok(16));
-    assert!(rt; all.as_slice() == b"a text on a disk".as_slice());
-    assert!(rt; leads(reader, SeekFrom::Start(2), 2));
-    assert!(rt; gives_four(reader, b"text"));
-    assert!(rt; leads(reader, SeekFrom::End(-4), 12));
-    assert!(rt; gives_four(reader, b"disk"));
-    assert!(rt; leads_nowhere(reader, SeekFrom::Start(17), Error::PastEnd));
+// Whether a seek leads to a place where the next four bytes are these.
+fn leads_to_four<R: Seek>(reader: &mut R, to: SeekFrom, place: u64, bytes: &[u8; 4]) -> bool {
+    leads(reader, to, place) && gives_four(reader, bytes)
+}
+
+// What a file on a disk holds.
+const ON_A_DISK: &[u8] = b"a text on a disk";
+
+// Whether a reader of those bytes is read and sought.
+fn reads_and_seeks<R: Seek>(alloc: Global, reader: &mut R) -> bool {
+    delivers(alloc, reader, ON_A_DISK)
+        && leads_to_four(reader, SeekFrom::Start(2), 2, b"text")
+        && leads_to_four(reader, SeekFrom::End(-4), 12, b"disk")
+        && leads_nowhere(reader, SeekFrom::Start(17), Error::PastEnd)
 }
 
 // Whether the file of this path takes them.
 fn is_file_written(rt: &HostRuntime, path: Path) -> Result<bool, Fail> {
     let mut writer = Std::new(File::create(rt, path)?);
-    Ok(takes(&mut writer, b"a text on a disk"))
+    Ok(takes(&mut writer, ON_A_DISK))
 }
 
 // A reader of the file of this path.
@@ -257,11 +266,16 @@ fn opened(rt: &HostRuntime, path: Path) -> Result<BufReader<Std<File>>, Fail> {
     buffered(rt.alloc(), Std::new(File::open(rt, path)?))
 }
 
+// Whether it is read and sought.
+fn is_file_read(rt: &HostRuntime, path: Path) -> Result<bool, Fail> {
+    Ok(reads_and_seeks(rt.alloc(), &mut opened(rt, path)?))
+}
+
 #[test]
 fn a_file_is_written_read_and_sought(rt: HostRuntime) -> Result<(), Fail> {
     let path = own_path(&rt)?;
     assert!(rt; is_file_written(&rt, path.as_path())?);
-    reads_and_seeks(&rt, rt.alloc(), &mut opened(&rt, path.as_path())?);
+    assert!(rt; is_file_read(&rt, path.as_path())?);
     fs::remove_file(&rt, path.as_path())?;
     Ok(())
 }

@@ -6,81 +6,82 @@ use crate::fixtures::{
 use age_error::io::{Error, ErrorKind, SeekFrom};
 use age_io::{Bytes, Op, Read, Seek, seek_retrying};
 use age_try::fakes::Step;
-use age_try::fixtures::part;
 use std::alloc::Global;
 use std::io;
-use std::process::Abort;
 use std::test::Fail;
 
 // The reads and seeks of a test, on 20,000 bytes.
-fn ops() -> [Op; 14] {
-    [
-        Op::Read(5),
-        Op::Seek(SeekFrom::Current(-3)),
-        Op::Read(4),
-        Op::Seek(SeekFrom::End(-2)),
-        Op::Read(10),
-        Op::Seek(SeekFrom::Start(20_001)),
-        Op::Seek(SeekFrom::Current(-20_001)),
-        Op::Seek(SeekFrom::Start(u64::MAX)),
-        Op::Seek(SeekFrom::End(i64::MIN)),
-        Op::Seek(SeekFrom::Current(i64::MAX)),
-        Op::Seek(SeekFrom::Start(100)),
-        Op::Read(9_000),
-        Op::Seek(SeekFrom::Current(-1)),
-        Op::Read(2),
-    ]
+const OPS: [Op; 14] = [
+    Op::Read(5),
+    Op::Seek(SeekFrom::Current(-3)),
+    Op::Read(4),
+    Op::Seek(SeekFrom::End(-2)),
+    Op::Read(10),
+    Op::Seek(SeekFrom::Start(20_001)),
+    Op::Seek(SeekFrom::Current(-20_001)),
+    Op::Seek(SeekFrom::Start(u64::MAX)),
+    Op::Seek(SeekFrom::End(i64::MIN)),
+    Op::Seek(SeekFrom::Current(i64::MAX)),
+    Op::Seek(SeekFrom::Start(100)),
+    Op::Read(9_000),
+    Op::Seek(SeekFrom::Current(-1)),
+    Op::Read(2),
+];
+
+// What they answer.
+const ANSWERS: [Wanted; 14] = [
+    Wanted::Part(0, 5),
+    Wanted::Place(2),
+    Wanted::Part(2, 6),
+    Wanted::Place(19_998),
+    Wanted::Part(19_998, 20_000),
+    Wanted::Fault(b"", Error::PastEnd),
+    Wanted::Fault(b"", Error::BeforeStart),
+    Wanted::Fault(b"", Error::PastEnd),
+    Wanted::Fault(b"", Error::BeforeStart),
+    Wanted::Fault(b"", Error::PastEnd),
+    Wanted::Place(100),
+    Wanted::Part(100, 9_100),
+    Wanted::Place(9_099),
+    Wanted::Part(9_099, 9_101),
+];
+
+// Whether a reader of this text answers to them so.
+fn runs<R: Seek>(alloc: Global, reader: &mut R, text: &[u8]) -> Result<bool, Fail> {
+    answers_so(alloc, reader, text, &OPS, &ANSWERS)
 }
 
-// What they answer on this text.
-fn wanted<'a>(text: &'a [u8]) -> [Wanted<'a>; 14] {
-    [
-        Wanted::Bytes(part(text, 0, 5)),
-        Wanted::Place(2),
-        Wanted::Bytes(part(text, 2, 6)),
-        Wanted::Place(19_998),
-        Wanted::Bytes(part(text, 19_998, 20_000)),
-        Wanted::Fault(&[], Error::PastEnd),
-        Wanted::Fault(&[], Error::BeforeStart),
-        Wanted::Fault(&[], Error::PastEnd),
-        Wanted::Fault(&[], Error::BeforeStart),
-        Wanted::Fault(&[], Error::PastEnd),
-        Wanted::Place(100),
-        Wanted::Bytes(part(text, 100, 9_100)),
-        Wanted::Place(9_099),
-        Wanted::Bytes(part(text, 9_099, 9_101)),
-    ]
-}
-
-// A reader of this text answers to them so.
-fn runs<R: Seek>(rt: &impl Abort, alloc: Global, reader: &mut R, text: &[u8]) -> Result<(), Fail> {
-    answers_so(rt, alloc, reader, &ops(), &wanted(text))
+// Whether a reader with a buffer over one of this text does.
+fn runs_buffered<R: Seek + Drop>(alloc: Global, inner: R, text: &[u8]) -> Result<bool, Fail> {
+    runs(alloc, &mut buffered(alloc, inner)?, text)
 }
 
 #[test]
 fn bytes_run(rt: HostRuntime) -> Result<(), Fail> {
     let text = long_text(rt.alloc(), 20_000)?;
-    runs(&rt, rt.alloc(), &mut Bytes::new(&text), &text)
+    assert!(rt; runs(rt.alloc(), &mut Bytes::new(&text), &text)?);
+    Ok(())
 }
 
 #[test]
 fn buffered_run(rt: HostRuntime) -> Result<(), Fail> {
     let text = long_text(rt.alloc(), 20_000)?;
-    let mut reader = buffered(rt.alloc(), Bytes::new(&text))?;
-    runs(&rt, rt.alloc(), &mut reader, &text)
+    assert!(rt; runs_buffered(rt.alloc(), Bytes::new(&text), &text)?);
+    Ok(())
 }
 
 #[test]
 fn device_run(rt: HostRuntime) -> Result<(), Fail> {
     let text = long_text(rt.alloc(), 20_000)?;
-    runs(&rt, rt.alloc(), &mut device(&[], &text), &text)
+    assert!(rt; runs(rt.alloc(), &mut device(&[], &text), &text)?);
+    Ok(())
 }
 
 #[test]
 fn buffered_device_run(rt: HostRuntime) -> Result<(), Fail> {
     let text = long_text(rt.alloc(), 20_000)?;
-    let mut reader = buffered(rt.alloc(), device(&[], &text))?;
-    runs(&rt, rt.alloc(), &mut reader, &text)
+    assert!(rt; runs_buffered(rt.alloc(), device(&[], &text), &text)?);
+    Ok(())
 }
 
 // Whether the next four bytes are these.
@@ -89,24 +90,32 @@ fn gives_four<R: Read>(reader: &mut R, bytes: [u8; 4]) -> bool {
     gives(reader, &mut room, 4) && room == bytes
 }
 
-// A reader whose device fails once refuses until a seek succeeds.
-fn mends<R: Seek>(rt: &impl Abort, reader: &mut R) {
+// Whether a reader whose device fails once refuses until a seek succeeds.
+fn refuses_until_a_seek<R: Seek>(reader: &mut R) -> bool {
     let mut room = [0; 4];
-    assert!(rt; refuses(reader, &mut room, Error::Device(ErrorKind::NotFound)));
-    assert!(rt; refuses(reader, &mut room, Error::Failed));
-    assert!(rt; leads_nowhere(reader, SeekFrom::Start(20_001), Error::PastEnd));
-    assert!(rt; refuses(reader, &mut room, Error::Failed));
-    assert!(rt; leads(reader, SeekFrom::Start(20_000), 20_000));
-    assert!(rt; gives(reader, &mut room, 0));
-    assert!(rt; leads(reader, SeekFrom::Start(3), 3));
-    assert!(rt; gives_four(reader, [21, 28, 35, 42]));
+    refuses(reader, &mut room, Error::Device(ErrorKind::NotFound))
+        && refuses(reader, &mut room, Error::Failed)
+        && leads_nowhere(reader, SeekFrom::Start(20_001), Error::PastEnd)
+        && refuses(reader, &mut room, Error::Failed)
+        && leads(reader, SeekFrom::Start(20_000), 20_000)
 }
+
+// Whether it then reads at its end, and where it is sought to.
+fn is_mended<R: Seek>(reader: &mut R) -> bool {
+    gives(reader, &mut [0; 4], 0)
+        && leads(reader, SeekFrom::Start(3), 3)
+        && gives_four(reader, [21, 28, 35, 42])
+}
+
+// A device that fails in its first call.
+const FIRST_FAILS: [Step; 1] = [Step::Fail(io::ErrorKind::NotFound)];
 
 #[test]
 fn buffered_mends(rt: HostRuntime) -> Result<(), Fail> {
     let text = long_text(rt.alloc(), 20_000)?;
-    let steps = [Step::Fail(io::ErrorKind::NotFound)];
-    mends(&rt, &mut buffered(rt.alloc(), device(&steps, &text))?);
+    let mut reader = buffered(rt.alloc(), device(&FIRST_FAILS, &text))?;
+    assert!(rt; refuses_until_a_seek(&mut reader));
+    assert!(rt; is_mended(&mut reader));
     Ok(())
 }
 
@@ -120,42 +129,53 @@ fn is_given_up<R: Seek>(reader: &mut R, to: SeekFrom) -> bool {
     seek_retrying(reader, to) == Err(Error::Device(ErrorKind::Other))
 }
 
+// Whether a seek is given up, and the next one leads to its place.
+fn leads_at_the_second<R: Seek>(reader: &mut R) -> bool {
+    is_given_up(reader, SeekFrom::Start(5)) && leads_in_the_end(reader, SeekFrom::Start(5), 5)
+}
+
 #[test]
 fn interrupted_seek(rt: HostRuntime) -> Result<(), Fail> {
     let text = long_text(rt.alloc(), 100)?;
     let steps = [Step::Fail(io::ErrorKind::Interrupted); 17];
-    let mut reader = device(&steps, &text);
-    assert!(rt; is_given_up(&mut reader, SeekFrom::Start(5)));
-    assert!(rt; leads_in_the_end(&mut reader, SeekFrom::Start(5), 5));
-    let mut reader = device(&steps[..16], &text);
-    assert!(rt; leads_in_the_end(&mut reader, SeekFrom::End(-5), 95));
+    assert!(rt; leads_at_the_second(&mut device(&steps, &text)));
+    assert!(rt; leads_in_the_end(&mut device(&steps[..16], &text), SeekFrom::End(-5), 95));
     Ok(())
 }
 
-// A reader whose device fails in its first seek refuses until it is sought again.
-fn seeks_again<R: Seek>(rt: &impl Abort, reader: &mut R) {
+// Whether a reader whose device fails in its first seek refuses until it is sought again.
+fn seeks_again<R: Seek>(reader: &mut R) -> bool {
     let denied = Error::Device(ErrorKind::PermissionDenied);
     let mut room = [0; 4];
-    assert!(rt; gives(reader, &mut room, 4));
-    assert!(rt; leads_nowhere(reader, SeekFrom::Start(10), denied));
-    assert!(rt; refuses(reader, &mut room, Error::Failed));
-    assert!(rt; leads(reader, SeekFrom::Start(10), 10));
-    assert!(rt; gives_four(reader, [70, 77, 84, 91]));
+    gives(reader, &mut room, 4)
+        && leads_nowhere(reader, SeekFrom::Start(10), denied)
+        && refuses(reader, &mut room, Error::Failed)
+        && leads(reader, SeekFrom::Start(10), 10)
+        && gives_four(reader, [70, 77, 84, 91])
 }
+
+// Whether one with a buffer over a device of these steps does.
+fn device_seeks_again(alloc: Global, steps: &[Step], text: &[u8]) -> Result<bool, Fail> {
+    Ok(seeks_again(&mut buffered(alloc, device(steps, text))?))
+}
+
+const GOOD: Step = Step::Move(usize::MAX);
+
+const BAD: Step = Step::Fail(io::ErrorKind::PermissionDenied);
+
+// Devices that fail in one of the calls of a seek.
+const PLANS: [&[Step]; 4] = [
+    &[GOOD, BAD],
+    &[GOOD, GOOD, BAD],
+    &[GOOD, GOOD, GOOD, BAD],
+    &[GOOD, GOOD, GOOD, GOOD, GOOD, BAD],
+];
 
 #[test]
 fn fault_while_looking(rt: HostRuntime) -> Result<(), Fail> {
     let text = long_text(rt.alloc(), 20_000)?;
-    let bad = Step::Fail(io::ErrorKind::PermissionDenied);
-    let good = Step::Move(usize::MAX);
-    let plans: [&[Step]; 4] = [
-        &[good, bad],
-        &[good, good, bad],
-        &[good, good, good, bad],
-        &[good, good, good, good, good, bad],
-    ];
-    for steps in plans {
-        seeks_again(&rt, &mut buffered(rt.alloc(), device(steps, &text))?);
+    for steps in PLANS {
+        assert!(rt; device_seeks_again(rt.alloc(), steps, &text)?);
     }
     Ok(())
 }

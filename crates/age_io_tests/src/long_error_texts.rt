@@ -59,115 +59,147 @@ fn missing(alloc: Global, binary_name: &str) -> Result<ResolveError, Fail> {
     })
 }
 
+// Whether a name of a plugin that is invalid is told with this text.
+fn tells_name(alloc: Global, name: &str, text: &str) -> Result<bool, Fail> {
+    Ok(of_plugin(alloc, invalid_name(alloc, name)?, text))
+}
+
+// Whether a program that is missing is told with this text.
+fn tells_missing(alloc: Global, binary_name: &str, text: &str) -> Result<bool, Fail> {
+    Ok(of_plugin(alloc, missing(alloc, binary_name)?, text))
+}
+
+// A name of a plugin, and the text that refuses it.
+const NAMES: [(&str, &str); 2] = [
+    (
+        "foobar/../bin/echo",
+        "invalid plugin name: foobar/../bin/echo",
+    ),
+    ("", "invalid plugin name: "),
+];
+
 #[test]
 fn plugin_errors_have_their_texts_and_copies(rt: HostRuntime) -> Result<(), Fail> {
     let alloc = rt.alloc();
-    for (name, text) in [
-        (
-            "foobar/../bin/echo",
-            "invalid plugin name: foobar/../bin/echo",
-        ),
-        ("", "invalid plugin name: "),
-    ] {
-        assert!(rt;
-            of_plugin(alloc, invalid_name(alloc, name)?, text),
-            "at {text}"
-        );
+    for (name, text) in NAMES {
+        assert!(rt; tells_name(alloc, name, text)?, "at {text}");
     }
-    let yubikey = missing(alloc, "age-plugin-yubikey")?;
-    assert!(rt; of_plugin(alloc, yubikey, "plugin not found: age-plugin-yubikey"));
+    assert!(rt;
+        tells_missing(
+            alloc,
+            "age-plugin-yubikey",
+            "plugin not found: age-plugin-yubikey"
+        )?
+    );
     assert!(rt; of_plugin(alloc, ResolveError::OutOfMemory, "out of memory"));
     Ok(())
 }
 
-// Whether refusals of decryption that hold another have their texts.
+// Whether refusals of decryption by a reader, and by a plugin, have their texts.
 fn decryption_errors_tell_why(alloc: Global) -> Result<bool, Fail> {
-    let early = DecryptError::Io(io::Error::UnexpectedEof);
-    let in_line = DecryptError::Io(io::Error::NotIdentity { line: 7 });
     let yubikey = DecryptError::PluginResolve(missing(alloc, "age-plugin-yubikey")?);
     Ok(
-        of_decryption(alloc, early, "input ended early")
+        of_decryption(alloc, yubikey, "plugin not found: age-plugin-yubikey")
             && of_decryption(
                 alloc,
-                in_line,
-                "identity file contains non-identity data on line 7",
+                DecryptError::Io(io::Error::UnexpectedEof),
+                "input ended early",
             )
-            && of_decryption(alloc, yubikey, "plugin not found: age-plugin-yubikey"),
+            && of_decryption(
+                alloc,
+                DecryptError::Io(io::Error::NotIdentity { line: 7 }),
+                "identity file contains non-identity data on line 7",
+            ),
     )
 }
 
-#[test]
-fn decryption_errors_have_their_texts_and_copies(rt: HostRuntime) -> Result<(), Fail> {
-    let alloc = rt.alloc();
+// Whether those of keys and of work have.
+fn decryption_of_keys_fails(alloc: Global) -> bool {
     let excessive = DecryptError::ExcessiveWork {
         required: 10,
         target: 5,
     };
-    assert!(rt; of_decryption(alloc, excessive, "excessive work factor 10, target 5"));
-    assert!(rt; of_decryption(alloc, DecryptError::DecryptionFailed, "decryption failed"));
-    assert!(rt;
-        of_decryption(
+    of_decryption(alloc, excessive, "excessive work factor 10, target 5")
+        && of_decryption(alloc, DecryptError::DecryptionFailed, "decryption failed")
+        && of_decryption(
             alloc,
             DecryptError::KeyDecryptionFailed,
-            "key decryption failed"
+            "key decryption failed",
         )
-    );
-    assert!(rt; of_decryption(alloc, DecryptError::InvalidHeader, "invalid header"));
-    assert!(rt; of_decryption(alloc, DecryptError::InvalidMac, "invalid header MAC"));
-    assert!(rt; of_decryption(alloc, DecryptError::NoMatchingKeys, "no matching keys"));
-    assert!(rt; of_decryption(alloc, DecryptError::UnknownFormat, "unknown format"));
-    assert!(rt; of_decryption(alloc, DecryptError::OutOfMemory, "out of memory"));
-    assert!(rt; decryption_errors_tell_why(alloc)?);
+        && of_decryption(alloc, DecryptError::NoMatchingKeys, "no matching keys")
+}
+
+// Whether those of headers and of memory have.
+fn decryption_of_headers_fails(alloc: Global) -> bool {
+    of_decryption(alloc, DecryptError::InvalidHeader, "invalid header")
+        && of_decryption(alloc, DecryptError::InvalidMac, "invalid header MAC")
+        && of_decryption(alloc, DecryptError::UnknownFormat, "unknown format")
+        && of_decryption(alloc, DecryptError::OutOfMemory, "out of memory")
+}
+
+#[test]
+fn decryption_errors_have_their_texts_and_copies(rt: HostRuntime) -> Result<(), Fail> {
+    assert!(rt; decryption_of_keys_fails(rt.alloc()));
+    assert!(rt; decryption_of_headers_fails(rt.alloc()));
+    assert!(rt; decryption_errors_tell_why(rt.alloc())?);
     Ok(())
 }
 
-// Whether refusals of encryption that hold another have their texts.
-fn encryption_errors_tell_why(alloc: Global) -> Result<bool, Fail> {
+// Whether refusals of encryption by identities, and by a writer, have their texts.
+fn encryption_errors_tell_why(alloc: Global) -> bool {
     let failed = EncryptError::EncryptedIdentities(DecryptError::KeyDecryptionFailed);
     let full = EncryptError::Io(io::Error::WriteZero);
-    Ok(
-        of_encryption(alloc, failed, "key decryption failed")
-            && of_encryption(alloc, full, "nothing could be written")
-            && plugins_are_told(alloc)?,
-    )
+    of_encryption(alloc, failed, "key decryption failed")
+        && of_encryption(alloc, full, "nothing could be written")
 }
 
-// Whether those that hold a refusal of a plugin have.
-fn plugins_are_told(alloc: Global) -> Result<bool, Fail> {
+// Whether one by identities with an invalid name of a plugin has.
+fn invalid_names_are_told(alloc: Global) -> Result<bool, Fail> {
     let invalid = DecryptError::PluginResolve(invalid_name(alloc, "-")?);
-    let is_told = of_encryption(
+    Ok(of_encryption(
         alloc,
         EncryptError::EncryptedIdentities(invalid),
         "invalid plugin name: -",
-    );
+    ))
+}
+
+// Whether one by a program that is missing has.
+fn missing_programs_are_told(alloc: Global) -> Result<bool, Fail> {
     let unnamed = EncryptError::PluginResolve(missing(alloc, "age-plugin-")?);
-    Ok(is_told && of_encryption(alloc, unnamed, "plugin not found: age-plugin-"))
+    Ok(of_encryption(alloc, unnamed, "plugin not found: age-plugin-"))
+}
+
+// Whether those of recipients have.
+fn encryption_to_recipients_fails(alloc: Global) -> bool {
+    of_encryption(
+        alloc,
+        EncryptError::MixedRecipientAndPassphrase,
+        "a passphrase can't be used with other recipients",
+    ) && of_encryption(alloc, EncryptError::MissingRecipients, "no recipients")
+        && of_encryption(
+            alloc,
+            EncryptError::ZeroSharedSecret,
+            "shared secret is zero",
+        )
+}
+
+// Whether those of random bytes, of work and of memory have.
+fn encryption_lacks_something(alloc: Global) -> bool {
+    of_encryption(alloc, EncryptError::ShortRandom, "random bytes ran out")
+        && of_encryption(
+            alloc,
+            EncryptError::WorkFactorRefused,
+            "work factor refused",
+        )
+        && of_encryption(alloc, EncryptError::OutOfMemory, "out of memory")
 }
 
 #[test]
 fn encryption_errors_have_their_texts_and_copies(rt: HostRuntime) -> Result<(), Fail> {
     let alloc = rt.alloc();
-    let mixed = EncryptError::MixedRecipientAndPassphrase;
-    let text = "a passphrase can't be used with other recipients";
-    assert!(rt; of_encryption(alloc, mixed, text));
-    assert!(rt; of_encryption(alloc, EncryptError::MissingRecipients, "no recipients"));
-    assert!(rt; of_encryption(alloc, EncryptError::ShortRandom, "random bytes ran out"));
-    assert!(rt;
-        of_encryption(
-            alloc,
-            EncryptError::ZeroSharedSecret,
-            "shared secret is zero"
-        )
-    );
-    assert!(rt;
-        of_encryption(
-            alloc,
-            EncryptError::WorkFactorRefused,
-            "work factor refused"
-        )
-    );
-    assert!(rt; of_encryption(alloc, EncryptError::OutOfMemory, "out of memory"));
-    assert!(rt; encryption_errors_tell_why(alloc)?);
+    assert!(rt; encryption_to_recipients_fails(alloc) && encryption_lacks_something(alloc));
+    assert!(rt; encryption_errors_tell_why(alloc));
+    assert!(rt; invalid_names_are_told(alloc)? && missing_programs_are_told(alloc)?);
     Ok(())
 }
 
@@ -180,53 +212,34 @@ fn incompatible(alloc: Global, left: &[&str], right: &[&str], text: &str) -> Res
     Ok(of_encryption(alloc, error, text))
 }
 
+// Whether labels that are refused are told with this text.
+fn tells_labels(alloc: Global, texts: &[&str], text: &str) -> Result<bool, Fail> {
+    let error = EncryptError::InvalidRecipientLabels(labels(alloc, texts)?);
+    Ok(of_encryption(alloc, error, text))
+}
+
+// The texts of labels on both sides, on the left alone and on the right alone.
+const BOTH: &str = "recipients have different labels: B, a, b / postquantum";
+
+const LEFT: &str = "recipients have different labels: a, z / ";
+
+const RIGHT: &str = "recipients have different labels:  / 10, 9";
+
 // Labels are printed in the order of their bytes, whatever the order in which they came.
 #[test]
 fn labels_have_their_texts_and_copies(rt: HostRuntime) -> Result<(), Fail> {
     let alloc = rt.alloc();
-    let text = "recipients have different labels: B, a, b / postquantum";
-    assert!(rt; incompatible(alloc, &["b", "B", "a"], &["postquantum"], text)?);
-    let text = "recipients have different labels: a, z / ";
-    assert!(rt; incompatible(alloc, &["z", "a"], &[], text)?);
-    let text = "recipients have different labels:  / 10, 9";
-    assert!(rt; incompatible(alloc, &[], &["10", "9"], text)?);
-    let error = EncryptError::InvalidRecipientLabels(labels(alloc, &["c", "a b", "c"])?);
-    assert!(rt; of_encryption(alloc, error, "invalid recipient labels: a b, c"));
+    assert!(rt; incompatible(alloc, &["b", "B", "a"], &["postquantum"], BOTH)?);
+    assert!(rt; incompatible(alloc, &["z", "a"], &[], LEFT)?);
+    assert!(rt; incompatible(alloc, &[], &["10", "9"], RIGHT)?);
+    assert!(rt;
+        tells_labels(
+            alloc,
+            &["c", "a b", "c"],
+            "invalid recipient labels: a b, c"
+        )?
+    );
     Ok(())
-}
-
-// Want of memory of a reader or a writer is want of memory; what else it refuses with is kept.
-#[test]
-fn refusals_of_readers_and_writers_are_kept(rt: HostRuntime) {
-    let alloc = rt.alloc();
-    assert!(rt;
-        shown(
-            alloc,
-            DecryptError::from(io::Error::OutOfMemory),
-            "OutOfMemory"
-        )
-    );
-    assert!(rt;
-        shown(
-            alloc,
-            DecryptError::from(io::Error::Truncated),
-            "Io(Truncated)"
-        )
-    );
-    assert!(rt;
-        shown(
-            alloc,
-            EncryptError::from(io::Error::OutOfMemory),
-            "OutOfMemory"
-        )
-    );
-    assert!(rt;
-        shown(
-            alloc,
-            EncryptError::from(io::Error::WriteZero),
-            "Io(WriteZero)"
-        )
-    );
 }
 
 // Whether this text is what is shown of an error for debugging.
@@ -234,25 +247,51 @@ fn shown<E: Debug + Drop>(alloc: Global, error: E, text: &str) -> bool {
     shows(alloc, &error, text)
 }
 
-// As Rust's derive writes them.
+// Whether a refusal of a reader or a writer is shown so as one of decryption, and as one of encryption.
+fn is_kept(alloc: Global, error: io::Error, text: &str) -> bool {
+    shown(alloc, DecryptError::from(error), text) && shown(alloc, EncryptError::from(error), text)
+}
+
+// Want of memory of a reader or a writer is want of memory; what else it refuses with is kept.
 #[test]
-fn long_errors_are_shown_for_debugging(rt: HostRuntime) -> Result<(), Fail> {
+fn refusals_of_readers_and_writers_are_kept(rt: HostRuntime) {
     let alloc = rt.alloc();
+    assert!(rt; is_kept(alloc, io::Error::OutOfMemory, "OutOfMemory"));
+    assert!(rt; is_kept(alloc, io::Error::Truncated, "Io(Truncated)"));
+    assert!(rt; is_kept(alloc, io::Error::WriteZero, "Io(WriteZero)"));
+}
+
+// Whether the work that was asked for is shown.
+fn work_is_shown(alloc: Global) -> bool {
     let excessive = DecryptError::ExcessiveWork {
         required: 10,
         target: 5,
     };
-    assert!(rt;
-        shown(
-            alloc,
-            excessive,
-            "ExcessiveWork { required: 10, target: 5 }"
-        )
-    );
+    shown(
+        alloc,
+        excessive,
+        "ExcessiveWork { required: 10, target: 5 }",
+    )
+}
+
+const MISSING: &str = "PluginResolve(MissingPlugin { binary_name: \"age-plugin-x\" })";
+
+// Whether the program that is missing is shown.
+fn program_is_shown(alloc: Global) -> Result<bool, Fail> {
     let plugin = DecryptError::PluginResolve(missing(alloc, "age-plugin-x")?);
-    let text = "PluginResolve(MissingPlugin { binary_name: \"age-plugin-x\" })";
-    assert!(rt; shown(alloc, plugin, text));
-    let repeated = EncryptError::InvalidRecipientLabels(labels(alloc, &["b", "a"])?);
-    assert!(rt; shown(alloc, repeated, "InvalidRecipientLabels({\"a\", \"b\"})"));
+    Ok(shown(alloc, plugin, MISSING))
+}
+
+// Whether labels that are refused are shown.
+fn labels_are_shown(alloc: Global) -> Result<bool, Fail> {
+    let refused = EncryptError::InvalidRecipientLabels(labels(alloc, &["b", "a"])?);
+    Ok(shown(alloc, refused, "InvalidRecipientLabels({\"a\", \"b\"})"))
+}
+
+// As Rust's derive writes them.
+#[test]
+fn long_errors_are_shown_for_debugging(rt: HostRuntime) -> Result<(), Fail> {
+    assert!(rt; work_is_shown(rt.alloc()));
+    assert!(rt; program_is_shown(rt.alloc())? && labels_are_shown(rt.alloc())?);
     Ok(())
 }
