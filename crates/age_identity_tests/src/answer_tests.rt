@@ -32,35 +32,35 @@ fn passes(alloc: Global, file: &File, stanzas: &[Stanza]) -> bool {
     answer_of(alloc, file, stanzas).is_none()
 }
 
+// Whether a file of these lines answers the file key of sevens to its own stanzas.
+fn lines_give_key(alloc: Global, first: &str, second: &str) -> Result<bool, Fail> {
+    let stanzas = own_stanzas(alloc)?;
+    Ok(gives_key(alloc, &file_of(alloc, first, second)?, stanzas.as_slice()))
+}
+
 #[test]
 fn the_identity_of_a_stanza_answers(rt: HostRuntime) -> Result<(), Fail> {
-    let alloc = rt.alloc();
-    let stanzas = own_stanzas(alloc)?;
-    assert!(rt;
-        gives_key(
-            alloc,
-            &file_of(alloc, "# a comment", K)?,
-            stanzas.as_slice()
-        )
-    );
+    assert!(rt; lines_give_key(rt.alloc(), "# a comment", K)?);
     Ok(())
 }
 
 #[test]
 fn others_answer_nothing(rt: HostRuntime) -> Result<(), Fail> {
-    let alloc = rt.alloc();
-    let stanzas = other_stanzas(alloc)?;
-    let file = file_of(alloc, K, "")?;
-    assert!(rt; passes(alloc, &file, stanzas.as_slice()));
-    assert!(rt; passes(alloc, &file, &[]));
+    let stanzas = other_stanzas(rt.alloc())?;
+    let file = file_of(rt.alloc(), K, "")?;
+    assert!(rt; passes(rt.alloc(), &file, stanzas.as_slice()) && passes(rt.alloc(), &file, &[]));
     Ok(())
+}
+
+// Whether a file of these lines answers that a plugin's program is missing.
+fn lines_miss_plugin(alloc: Global, first: &str, second: &str) -> Result<bool, Fail> {
+    let stanzas = own_stanzas(alloc)?;
+    Ok(misses_plugin(alloc, &file_of(alloc, first, second)?, stanzas.as_slice()))
 }
 
 #[test]
 fn the_first_that_answers_decides(rt: HostRuntime) -> Result<(), Fail> {
-    let alloc = rt.alloc();
-    let stanzas = own_stanzas(alloc)?;
-    assert!(rt; gives_key(alloc, &file_of(alloc, K, PLUGIN)?, stanzas.as_slice()));
-    assert!(rt; misses_plugin(alloc, &file_of(alloc, PLUGIN, K)?, stanzas.as_slice()));
+    assert!(rt; lines_give_key(rt.alloc(), K, PLUGIN)?);
+    assert!(rt; lines_miss_plugin(rt.alloc(), PLUGIN, K)?);
     Ok(())
 }

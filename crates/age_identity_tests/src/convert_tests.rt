@@ -47,12 +47,15 @@ fn recipients(alloc: Global, file: &File) -> Result<usize, Fail> {
     Ok(file.to_recipients(alloc)?.len())
 }
 
+// Whether a file has so many recipients, which are written.
+fn writes_all(alloc: Global, file: &File, expected: usize) -> Result<bool, Fail> {
+    Ok(written(alloc, file)? == Some(expected) && recipients(alloc, file)? == expected)
+}
+
 #[test]
 fn recipients_are_written(rt: HostRuntime) -> Result<(), Fail> {
-    let alloc = rt.alloc();
-    let file = file_of(alloc, b"@^#^@")?;
-    assert!(rt; written(alloc, &file)? == Some(2));
-    assert!(rt; recipients(alloc, &file)? == 2);
+    let file = file_of(rt.alloc(), b"@^#^@")?;
+    assert!(rt; writes_all(rt.alloc(), &file, 2)?);
     Ok(())
 }
 
@@ -72,18 +75,17 @@ fn names_plugin(answer: &Written) -> bool {
     }
 }
 
-// Whether the recipients of a file are written up to that plugin.
-fn stops_at_plugin(alloc: Global, file: &File, output: &mut Vec<u8>) -> bool {
-    names_plugin(&file.write_recipients_file(alloc, output))
+// Whether the recipients of a file are written up to that plugin, so many of them.
+fn stops_at_plugin(alloc: Global, file: &File, expected: usize) -> bool {
+    let mut output = Vec::new(alloc);
+    names_plugin(&file.write_recipients_file(alloc, &mut output))
+        && lines(output.as_slice()) == Some(expected)
 }
 
 #[test]
 fn recipients_are_written_up_to_a_plugin(rt: HostRuntime) -> Result<(), Fail> {
-    let alloc = rt.alloc();
-    let file = file_of(alloc, b"@^AGE-PLUGIN-FOOBAR-1QVHULF^@")?;
-    let mut output = Vec::new(alloc);
-    assert!(rt; stops_at_plugin(alloc, &file, &mut output));
-    assert!(rt; lines(output.as_slice()) == Some(1));
+    let file = file_of(rt.alloc(), b"@^AGE-PLUGIN-FOOBAR-1QVHULF^@")?;
+    assert!(rt; stops_at_plugin(rt.alloc(), &file, 1));
     Ok(())
 }
 
@@ -96,16 +98,16 @@ fn is_empty(answer: &Written) -> bool {
 }
 
 // Whether no recipients are written since there are none.
-fn writes_none(alloc: Global, file: &File, output: &mut Vec<u8>) -> bool {
-    is_empty(&file.write_recipients_file(alloc, output)) && output.is_empty()
+fn writes_none(alloc: Global, file: &File) -> bool {
+    let mut output = Vec::new(alloc);
+    is_empty(&file.write_recipients_file(alloc, &mut output)) && output.is_empty()
 }
 
 #[test]
 fn a_file_without_identities_has_no_recipients(rt: HostRuntime) -> Result<(), Fail> {
-    let alloc = rt.alloc();
-    let file = file_of(alloc, b"")?;
-    assert!(rt; writes_none(alloc, &file, &mut Vec::new(alloc)));
-    assert!(rt; recipients(alloc, &file)? == 0);
+    let file = file_of(rt.alloc(), b"")?;
+    assert!(rt; writes_none(rt.alloc(), &file));
+    assert!(rt; recipients(rt.alloc(), &file)? == 0);
     Ok(())
 }
 
@@ -122,20 +124,30 @@ fn fails<W: Write>(alloc: Global, file: &File, output: &mut W, fault: Error) -> 
     is_fault(&file.write_recipients_file(alloc, output), fault)
 }
 
+// An output that takes a byte, and refuses the next one.
+const SECOND_FAILS: [Step; 2] = [Step::Move(1), Step::Fail(StdKind::PermissionDenied)];
+
+// A device that does these steps, and then takes at most 100 bytes in a call.
+fn sink<'a>(alloc: Global, steps: &'a [Step]) -> Std<Sink<'a>> {
+    let script = Script { steps, most: 100 };
+    Std::new(Sink {
+        script,
+        bytes: Vec::new(alloc),
+    })
+}
+
 #[test]
 fn a_fault_of_the_output_is_answered(rt: HostRuntime) -> Result<(), Fail> {
-    let alloc = rt.alloc();
-    let file = file_of(alloc, b"@")?;
-    let steps = [Step::Move(1), Step::Fail(StdKind::PermissionDenied)];
-    let sink = Sink {
-        script: Script {
-            steps: &steps,
-            most: 100,
-        },
-        bytes: Vec::new(alloc),
-    };
+    let file = file_of(rt.alloc(), b"@")?;
     let fault = Error::Device(ErrorKind::PermissionDenied);
-    assert!(rt; fails(alloc, &file, &mut Std::new(sink), fault));
+    assert!(rt;
+        fails(
+            rt.alloc(),
+            &file,
+            &mut sink(rt.alloc(), &SECOND_FAILS),
+            fault
+        )
+    );
     Ok(())
 }
 
@@ -149,14 +161,20 @@ fn misses(answer: &Result<Vec<Recipient<BenchSuite>>, EncryptError>, program: &s
     }
 }
 
+// Whether a file has no recipients since this program is missing.
+fn has_no_recipients(alloc: Global, file: &File, program: &str) -> bool {
+    misses(&file.to_recipients(alloc), program)
+}
+
+// `K` and two plugins, of which the later comes first by its name.
+const PLUGINS: &[u8] = b"@^AGE-PLUGIN-ZETA-1CEJWHN^AGE-PLUGIN-ALPHA-13DM6UT^";
+
 #[test]
 fn plugins_are_missing(rt: HostRuntime) -> Result<(), Fail> {
-    let alloc = rt.alloc();
-    let form = b"@^AGE-PLUGIN-ZETA-1CEJWHN^AGE-PLUGIN-ALPHA-13DM6UT^";
-    let file = file_of(alloc, form)?.with_callbacks(NoCallbacks);
-    assert!(rt; misses(&file.to_recipients(alloc), "age-plugin-alpha"));
+    let file = file_of(rt.alloc(), PLUGINS)?.with_callbacks(NoCallbacks);
+    assert!(rt; has_no_recipients(rt.alloc(), &file, "age-plugin-alpha"));
     let refusal = "plugin not found: age-plugin-zeta";
-    assert!(rt; is_refusal(alloc, file.into_identities(alloc), refusal));
+    assert!(rt; is_refusal(rt.alloc(), file.into_identities(rt.alloc()), refusal));
     Ok(())
 }
 
@@ -172,6 +190,16 @@ fn says(alloc: Global, error: IdentityFileConvertError, text: &str) -> Result<bo
     Ok(error.to_string(alloc)?.as_str() == text)
 }
 
+// Whether those of an output and of a file without identities have their texts.
+fn short_errors_say_so(alloc: Global) -> Result<bool, Fail> {
+    let failed = IdentityFileConvertError::FailedToWriteOutput(Error::WriteZero);
+    let none = IdentityFileConvertError::NoIdentities { filename: None };
+    Ok(
+        says(alloc, failed, "failed to write output")?
+            && says(alloc, none, "no identities in file")?,
+    )
+}
+
 // The error of a plugin `foobar` in the file `keys.txt`.
 fn plugin_in_file(alloc: Global) -> Result<IdentityFileConvertError, Fail> {
     Ok(IdentityFileConvertError::IdentityFileContainsPlugin {
@@ -180,14 +208,19 @@ fn plugin_in_file(alloc: Global) -> Result<IdentityFileConvertError, Fail> {
     })
 }
 
+// Whether it has this text.
+fn plugin_says(alloc: Global, text: &str) -> Result<bool, Fail> {
+    says(alloc, plugin_in_file(alloc)?, text)
+}
+
 #[test]
 fn errors_have_their_texts(rt: HostRuntime) -> Result<(), Fail> {
-    let alloc = rt.alloc();
-    let failed = IdentityFileConvertError::FailedToWriteOutput(Error::WriteZero);
-    assert!(rt; says(alloc, failed, "failed to write output")?);
-    let none = IdentityFileConvertError::NoIdentities { filename: None };
-    assert!(rt; says(alloc, none, "no identities in file")?);
-    let plugin = "identity file contains a plugin identity: foobar";
-    assert!(rt; says(alloc, plugin_in_file(alloc)?, plugin)?);
+    assert!(rt; short_errors_say_so(rt.alloc())?);
+    assert!(rt;
+        plugin_says(
+            rt.alloc(),
+            "identity file contains a plugin identity: foobar"
+        )?
+    );
     Ok(())
 }

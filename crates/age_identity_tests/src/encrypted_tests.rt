@@ -1,11 +1,11 @@
 //! Files of identities that are encrypted with a passphrase, opened once.
 
 use crate::fixtures::{
-    Counts, Knows, NEVER, QUESTION, count, protected, protected_by_nobody, protected_key, secret,
+    Counts, Knows, NEVER, count, one_who_knows, protected, protected_by_nobody, protected_key,
 };
 use age::Decryptor;
 use age::armor::ArmoredReader;
-use age::io::{BufReader, Bytes, Read};
+use age::io::{Bytes, Read};
 use age_bench::suite::BenchSuite;
 use age_encrypted::EncryptedIdentity;
 use age_try::answers::is_refusal;
@@ -21,11 +21,7 @@ fn encrypted<'a, R: Read + Drop>(
     most: Option<u8>,
     counts: &'a mut Counts,
 ) -> Result<EncryptedIdentity<BenchSuite, R, Knows<'a>>, Fail> {
-    let callbacks = Knows {
-        passphrase: secret(alloc, text)?,
-        question: QUESTION,
-        counts,
-    };
+    let callbacks = one_who_knows(alloc, text, counts)?;
     match EncryptedIdentity::new(Decryptor::new(alloc, input)?, callbacks, 18, most) {
         Some(file) => Ok(file),
         None => Err(Fail::from("the file isn't one of a passphrase")),
@@ -68,57 +64,84 @@ fn refuses(
     refused(alloc, Bytes::new(bytes), text, most, refusal)
 }
 
+// How many identities a file of these bytes has, by `foobar`.
+fn opened_in_memory(alloc: Global, bytes: &[u8], most: Option<u8>) -> Result<usize, Fail> {
+    opened(alloc, Bytes::new(bytes), "foobar", most)
+}
+
 #[test]
 fn a_file_opens(rt: HostRuntime) -> Result<(), Fail> {
-    let alloc = rt.alloc();
-    let bytes = protected_key(alloc)?;
+    let bytes = protected_key(rt.alloc())?;
     assert!(rt; bytes.len() == 257);
-    assert!(rt; opened(alloc, Bytes::new(bytes.as_slice()), "foobar", Some(10))? == 1);
+    assert!(rt; opened_in_memory(rt.alloc(), bytes.as_slice(), Some(10))? == 1);
     Ok(())
 }
 
-// How many identities the armor of a file has.
-fn opened_in_armor(alloc: Global, text: &[u8]) -> Result<usize, Fail> {
-    let reader: ArmoredReader<BufReader<Bytes>> = ArmoredReader::new(alloc, Bytes::new(text))?;
-    opened(alloc, reader, "foobar", None)
+// How many identities a file in armor has.
+fn opened_in_armor<R: Read + Drop>(alloc: Global, file: R) -> Result<usize, Fail> {
+    opened(alloc, ArmoredReader::new(alloc, file)?, "foobar", None)
+}
+
+// The armor of the file of `K`.
+fn armored_key(alloc: Global) -> Result<Vec<u8>, Fail> {
+    Ok(armored(alloc, protected_key(alloc)?.as_slice())?)
 }
 
 #[test]
 fn a_file_in_armor_opens(rt: HostRuntime) -> Result<(), Fail> {
-    let alloc = rt.alloc();
-    let text = armored(alloc, protected_key(alloc)?.as_slice())?;
+    let text = armored_key(rt.alloc())?;
     assert!(rt; text.len() == 418);
-    assert!(rt; opened_in_armor(alloc, text.as_slice())? == 1);
+    assert!(rt; opened_in_armor(rt.alloc(), Bytes::new(text.as_slice()))? == 1);
     Ok(())
 }
+
+// Whether the file of `K` is refused so.
+fn key_refuses(
+    alloc: Global,
+    text: Option<&str>,
+    most: Option<u8>,
+    refusal: &str,
+) -> Result<bool, Fail> {
+    refuses(alloc, protected_key(alloc)?.as_slice(), text, most, refusal)
+}
+
+// What the file answers under another passphrase, and under none.
+const FAILED: &str = "key decryption failed";
 
 #[test]
 fn the_passphrase_decides(rt: HostRuntime) -> Result<(), Fail> {
-    let alloc = rt.alloc();
-    let bytes = protected_key(alloc)?;
-    let refusal = "key decryption failed";
-    assert!(rt; refuses(alloc, bytes.as_slice(), Some("foobaz"), None, refusal)?);
-    assert!(rt; refuses(alloc, bytes.as_slice(), None, None, refusal)?);
+    assert!(rt; key_refuses(rt.alloc(), Some("foobaz"), None, FAILED)?);
+    assert!(rt; key_refuses(rt.alloc(), None, None, FAILED)?);
     Ok(())
 }
+
+// What it answers where less work is taken.
+const EXCESSIVE: &str = "excessive work factor 10, target 18";
 
 #[test]
 fn the_work_factor_has_a_bound(rt: HostRuntime) -> Result<(), Fail> {
-    let alloc = rt.alloc();
-    let bytes = protected_key(alloc)?;
-    let refusal = "excessive work factor 10, target 18";
-    assert!(rt; refuses(alloc, bytes.as_slice(), Some("foobar"), Some(9), refusal)?);
+    assert!(rt; key_refuses(rt.alloc(), Some("foobar"), Some(9), EXCESSIVE)?);
     Ok(())
 }
 
+// Whether a file of this plaintext is refused so.
+fn plaintext_refuses(alloc: Global, plain: &[u8], refusal: &str) -> Result<bool, Fail> {
+    let bytes = protected(alloc, plain)?;
+    refuses(alloc, bytes.as_slice(), Some("foobar"), None, refusal)
+}
+
+// How many identities a file of this plaintext has.
+fn opened_of_plaintext(alloc: Global, plain: &[u8]) -> Result<usize, Fail> {
+    opened_in_memory(alloc, protected(alloc, plain)?.as_slice(), None)
+}
+
+// What a file of a comment and a bad line answers.
+const BAD_LINE: &str = "identity file contains non-identity data on line 2";
+
 #[test]
 fn the_plaintext_is_an_identity_file(rt: HostRuntime) -> Result<(), Fail> {
-    let alloc = rt.alloc();
-    let bad = protected(alloc, b"# a comment\nno identity\n")?;
-    let refusal = "identity file contains non-identity data on line 2";
-    assert!(rt; refuses(alloc, bad.as_slice(), Some("foobar"), None, refusal)?);
-    let empty = protected(alloc, b"")?;
-    assert!(rt; opened(alloc, Bytes::new(empty.as_slice()), "foobar", None)? == 0);
+    assert!(rt; plaintext_refuses(rt.alloc(), b"# a comment\nno identity\n", BAD_LINE)?);
+    assert!(rt; opened_of_plaintext(rt.alloc(), b"")? == 0);
     Ok(())
 }
 
@@ -127,38 +150,36 @@ fn a_file_that_ends_early_is_refused(rt: HostRuntime) -> Result<(), Fail> {
     let alloc = rt.alloc();
     let mut bytes = protected_key(alloc)?;
     bytes.truncate(256);
-    assert!(rt;
-        refuses(
-            alloc,
-            bytes.as_slice(),
-            Some("foobar"),
-            None,
-            "decryption error"
-        )?
-    );
+    let refusal = "decryption error";
+    assert!(rt; refuses(alloc, bytes.as_slice(), Some("foobar"), None, refusal)?);
     Ok(())
 }
 
-// Whether the protected file whose passphrase nobody has is refused so.
+// Whether a file in armor is refused so.
+fn refuses_in_armor<R: Read + Drop>(
+    alloc: Global,
+    file: R,
+    text: Option<&str>,
+    most: Option<u8>,
+    refusal: &str,
+) -> Result<bool, Fail> {
+    refused(alloc, ArmoredReader::new(alloc, file)?, text, most, refusal)
+}
+
+// Whether the protected file whose passphrase nobody has is.
 fn closed(
     alloc: Global,
     text: Option<&str>,
     most: Option<u8>,
     refusal: &str,
 ) -> Result<bool, Fail> {
-    let text_of_file = protected_by_nobody(alloc)?;
-    let reader: ArmoredReader<BufReader<Bytes>> = ArmoredReader::new(
-        alloc,
-        Bytes::new(text_of_file.as_slice()),
-    )?;
-    refused(alloc, reader, text, most, refusal)
+    let file = protected_by_nobody(alloc)?;
+    refuses_in_armor(alloc, Bytes::new(file.as_slice()), text, most, refusal)
 }
 
 #[test]
 fn a_file_that_none_has_the_passphrase_of(rt: HostRuntime) -> Result<(), Fail> {
-    let alloc = rt.alloc();
-    assert!(rt; closed(alloc, None, None, "key decryption failed")?);
-    let refusal = "excessive work factor 10, target 18";
-    assert!(rt; closed(alloc, Some("foobar"), Some(5), refusal)?);
+    assert!(rt; closed(rt.alloc(), None, None, FAILED)?);
+    assert!(rt; closed(rt.alloc(), Some("foobar"), Some(5), EXCESSIVE)?);
     Ok(())
 }

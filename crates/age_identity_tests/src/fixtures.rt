@@ -88,6 +88,19 @@ pub fn secret(alloc: Global, text: Option<&str>) -> Result<Option<SecretString>,
     }
 }
 
+/// One who gives a passphrase, if there is one, to the question for the file `key.age`.
+pub fn one_who_knows<'a>(
+    alloc: Global,
+    text: Option<&str>,
+    counts: &'a mut Counts,
+) -> Result<Knows<'a>, AllocError> {
+    Ok(Knows {
+        passphrase: secret(alloc, text)?,
+        question: QUESTION,
+        counts,
+    })
+}
+
 // What encrypts for the passphrase `foobar` with the work factor 10.
 fn encryptor(alloc: Global) -> Result<Encryptor<BenchSuite>, Fail> {
     let mut draw = Draw::new(plaintext(alloc, 72)?);

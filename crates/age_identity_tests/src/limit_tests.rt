@@ -3,7 +3,7 @@
 use crate::fixtures::{reads, refuses, shows};
 use age_error::io::{Error, ErrorKind};
 use age_identity::util::LimitedReader;
-use age_io::{BufReader, Bytes, Read, Std, read_to_end};
+use age_io::{BufRead, BufReader, Bytes, Read, Std, read_to_end};
 use age_try::answers::delivers_until;
 use age_try::fakes::{Script, Source, Step};
 use std::alloc::Global;
@@ -44,53 +44,81 @@ fn a_byte_past_the_limit_is_refused_for_good(rt: HostRuntime) -> Result<(), Fail
     Ok(())
 }
 
+// Whether of `abcd` a reader of a limit of 3 shows what it gives.
+fn shows_three<R: BufRead>(reader: &mut R) -> bool {
+    let mut part = [0; 2];
+    shows(reader, b"abc")
+        && reads(reader, &mut part, Ok(2))
+        && part == [b'a', b'b']
+        && shows(reader, b"c")
+        && reads(reader, &mut [0; 8], Ok(1))
+}
+
+// Whether it is past its limit for good, for each who looks and each who reads.
+fn is_past_its_limit<R: BufRead>(reader: &mut R) -> bool {
+    let refusal = Err(Error::LimitExceeded);
+    refuses(reader, Error::LimitExceeded)
+        && refuses(reader, Error::LimitExceeded)
+        && reads(reader, &mut [0; 8], refusal)
+        && reads(reader, &mut [], refusal)
+}
+
+// Whether of two bytes a reader with their count for a limit gives both, and ends.
+fn ends_at_its_limit<R: BufRead>(reader: &mut R) -> bool {
+    let mut room = [0; 8];
+    reads(reader, &mut room, Ok(2)) && shows(reader, b"") && reads(reader, &mut room, Ok(0))
+}
+
 #[test]
 fn what_is_shown_ends_at_the_limit(rt: HostRuntime) -> Result<(), Fail> {
-    let refusal = Err(Error::LimitExceeded);
     let mut reader = LimitedReader::new(Bytes::new(b"abcd"), 3);
-    let mut part = [0; 2];
-    assert!(rt; shows(&mut reader, b"abc") && reads(&mut reader, &mut part, Ok(2)));
-    assert!(rt; part == [b'a', b'b']);
-    let mut all = [0; 8];
-    assert!(rt; shows(&mut reader, b"c") && reads(&mut reader, &mut all, Ok(1)));
-    assert!(rt; refuses(&mut reader, Error::LimitExceeded));
-    assert!(rt; refuses(&mut reader, Error::LimitExceeded));
-    assert!(rt; reads(&mut reader, &mut all, refusal) && reads(&mut reader, &mut [], refusal));
-    let mut short = LimitedReader::new(Bytes::new(b"ab"), 2);
-    assert!(rt;
-        reads(&mut short, &mut all, Ok(2))
-            && shows(&mut short, b"")
-            && reads(&mut short, &mut all, Ok(0))
-    );
+    assert!(rt; shows_three(&mut reader));
+    assert!(rt; is_past_its_limit(&mut reader));
+    assert!(rt; ends_at_its_limit(&mut LimitedReader::new(Bytes::new(b"ab"), 2)));
     Ok(())
+}
+
+// What a device does that moves a byte and fails, and moves more and fails.
+const FAULTS: [Step; 4] = [
+    Step::Move(1),
+    Step::Fail(StdKind::PermissionDenied),
+    Step::Move(8),
+    Step::Fail(StdKind::Interrupted),
+];
+
+// A device of three bytes that does those steps.
+fn faulty() -> Std<Source<'static>> {
+    let script = Script {
+        steps: &FAULTS,
+        most: 8,
+    };
+    Std::new(Source {
+        script,
+        bytes: b"abc",
+    })
+}
+
+// Whether a reader of a limit of 2 over that device answers so.
+fn passes_faults_on<R: Read>(reader: &mut R) -> bool {
+    let mut room = [0; 4];
+    reads(reader, &mut room, Ok(1))
+        && reads(
+            reader,
+            &mut room,
+            Err(Error::Device(ErrorKind::PermissionDenied)),
+        )
+        && reads(reader, &mut room, Ok(1))
+        && reads(
+            reader,
+            &mut room,
+            Err(Error::Device(ErrorKind::Interrupted)),
+        )
+        && reads(reader, &mut room, Err(Error::LimitExceeded))
 }
 
 #[test]
 fn faults_below_are_passed_on(rt: HostRuntime) -> Result<(), Fail> {
-    let steps = [
-        Step::Move(1),
-        Step::Fail(StdKind::PermissionDenied),
-        Step::Move(8),
-        Step::Fail(StdKind::Interrupted),
-    ];
-    let source = Source {
-        script: Script {
-            steps: &steps,
-            most: 8,
-        },
-        bytes: b"abc",
-    };
-    let mut reader = LimitedReader::new(Std::new(source), 2);
-    let mut room = [0; 4];
-    for (number, answer) in [
-        (1, Ok(1)),
-        (2, Err(Error::Device(ErrorKind::PermissionDenied))),
-        (3, Ok(1)),
-        (4, Err(Error::Device(ErrorKind::Interrupted))),
-        (5, Err(Error::LimitExceeded)),
-    ] {
-        assert!(rt; reads(&mut reader, &mut room, answer), "read {number}");
-    }
+    assert!(rt; passes_faults_on(&mut LimitedReader::new(faulty(), 2)));
     Ok(())
 }
 

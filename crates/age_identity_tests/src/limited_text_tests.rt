@@ -77,38 +77,36 @@ fn is_shown(text: &[u8], limit: usize, given: &[u8], end: Result<usize, Error>) 
     true
 }
 
+// Whether it gives them and shows them.
+fn is_cut(text: &[u8], limit: usize, given: &[u8], end: Result<usize, Error>) -> bool {
+    is_given(text, limit, given, end) && is_shown(text, limit, given, end)
+}
+
+// A text, and a limit that it is within.
+const WITHIN: [(&[u8], usize); 5] = [
+    (b"", 0),
+    (b"", 5),
+    (b"abc", 3),
+    (b"abc", 4),
+    (b"abc", usize::MAX),
+];
+
 #[test]
 fn a_text_within_its_limit_ends(rt: HostRuntime) -> Result<(), Fail> {
-    for (text, limit) in [
-        ("", 0),
-        ("", 5),
-        ("abc", 3),
-        ("abc", 4),
-        ("abc", usize::MAX),
-    ] {
-        let bytes = text.as_bytes();
-        assert!(rt;
-            is_given(bytes, limit, bytes, Ok(0)),
-            "{text} within {limit}"
-        );
-        assert!(rt;
-            is_shown(bytes, limit, bytes, Ok(0)),
-            "{text} within {limit}"
-        );
+    for (text, limit) in WITHIN {
+        assert!(rt; is_cut(text, limit, text, Ok(0)), "{text:?} within {limit}");
     }
     Ok(())
 }
 
+// A limit, and what is given of `abc` within it.
+const PAST: [(usize, &[u8]); 3] = [(0, b""), (1, b"a"), (2, b"ab")];
+
 #[test]
 fn a_longer_text_is_cut_and_refused(rt: HostRuntime) -> Result<(), Fail> {
-    let refusal = Err(Error::LimitExceeded);
-    for (limit, given) in [(0, ""), (1, "a"), (2, "ab")] {
+    for (limit, given) in PAST {
         assert!(rt;
-            is_given(b"abc", limit, given.as_bytes(), refusal),
-            "within {limit}"
-        );
-        assert!(rt;
-            is_shown(b"abc", limit, given.as_bytes(), refusal),
+            is_cut(b"abc", limit, given, Err(Error::LimitExceeded)),
             "within {limit}"
         );
     }
@@ -125,26 +123,35 @@ fn refuses_for_good<R: BufRead>(reader: &mut R) -> bool {
         && refuses(reader, Error::LimitExceeded)
 }
 
+// Whether of six bytes a reader of a limit of 2 gives two, and refuses for good then.
+fn gives_two(inner: &mut Bytes) -> bool {
+    let mut reader = LimitedReader::new(inner, 2);
+    reads(&mut reader, &mut [0; 4], Ok(2))
+        && reads(&mut reader, &mut [], Ok(0))
+        && refuses_for_good(&mut reader)
+}
+
 #[test]
 fn a_limit_is_exceeded_for_good(rt: HostRuntime) -> Result<(), Fail> {
     let mut inner = Bytes::new(b"abcdef");
-    let mut reader = LimitedReader::new(&mut inner, 2);
-    assert!(rt; reads(&mut reader, &mut [0; 4], Ok(2)) && reads(&mut reader, &mut [], Ok(0)));
-    assert!(rt; refuses_for_good(&mut reader));
-    drop(reader);
+    assert!(rt; gives_two(&mut inner));
     // The byte that was one too many was taken from the inner reader, and no other.
     assert!(rt; shows(&mut inner, b"def"));
     Ok(())
 }
 
+// Whether a reader of a limit of 0 shows nothing, and refuses for good then.
+fn shows_none(inner: &mut Bytes) -> bool {
+    let mut reader = LimitedReader::new(inner, 0);
+    refuses(&mut reader, Error::LimitExceeded)
+        && refuses(&mut reader, Error::LimitExceeded)
+        && reads(&mut reader, &mut [], Err(Error::LimitExceeded))
+}
+
 #[test]
 fn a_limit_is_exceeded_for_good_by_what_is_shown(rt: HostRuntime) -> Result<(), Fail> {
     let mut inner = Bytes::new(b"abcdef");
-    let mut reader = LimitedReader::new(&mut inner, 0);
-    assert!(rt; refuses(&mut reader, Error::LimitExceeded));
-    assert!(rt; refuses(&mut reader, Error::LimitExceeded));
-    assert!(rt; reads(&mut reader, &mut [], Err(Error::LimitExceeded)));
-    drop(reader);
+    assert!(rt; shows_none(&mut inner));
     assert!(rt; shows(&mut inner, b"bcdef"));
     Ok(())
 }
@@ -161,30 +168,34 @@ const STEPS: [Step; 2] = [Step::Move(2), Step::Fail(io::ErrorKind::Interrupted)]
 
 const INTERRUPTED: Error = Error::Device(ErrorKind::Interrupted);
 
+// Whether a reader of a limit of 5 gives the bytes before an interruption and after it, and is past its limit then.
+fn passes_on<R: Read>(reader: &mut R) -> bool {
+    let mut room = [0; 4];
+    reads(reader, &mut room, Ok(2))
+        && reads(reader, &mut room, Err(INTERRUPTED))
+        && reads(reader, &mut room, Ok(2))
+        && reads(reader, &mut room, Ok(1))
+        && reads(reader, &mut room, Err(Error::LimitExceeded))
+}
+
 #[test]
 fn an_interruption_is_passed_on(rt: HostRuntime) -> Result<(), Fail> {
-    let mut reader = LimitedReader::new(interrupted(&STEPS), 5);
-    let mut room = [0; 4];
-    for (number, answer) in [
-        (1, Ok(2)),
-        (2, Err(INTERRUPTED)),
-        (3, Ok(2)),
-        (4, Ok(1)),
-        (5, Err(Error::LimitExceeded)),
-    ] {
-        assert!(rt; reads(&mut reader, &mut room, answer), "read {number}");
-    }
+    assert!(rt; passes_on(&mut LimitedReader::new(interrupted(&STEPS), 5)));
     Ok(())
+}
+
+// Whether a reader of a limit of 2 that is interrupted there is past its limit only after.
+fn exceeds_nothing<R: Read>(reader: &mut R) -> bool {
+    let mut room = [0; 4];
+    reads(reader, &mut room, Ok(2))
+        && reads(reader, &mut room, Err(INTERRUPTED))
+        && reads(reader, &mut [], Ok(0))
+        && reads(reader, &mut room, Err(Error::LimitExceeded))
 }
 
 // It isn't known yet whether a byte more is there.
 #[test]
 fn an_interruption_at_the_limit_exceeds_nothing(rt: HostRuntime) -> Result<(), Fail> {
-    let mut reader = LimitedReader::new(interrupted(&STEPS), 2);
-    let mut room = [0; 4];
-    assert!(rt; reads(&mut reader, &mut room, Ok(2)));
-    assert!(rt; reads(&mut reader, &mut room, Err(INTERRUPTED)));
-    assert!(rt; reads(&mut reader, &mut [], Ok(0)));
-    assert!(rt; reads(&mut reader, &mut room, Err(Error::LimitExceeded)));
+    assert!(rt; exceeds_nothing(&mut LimitedReader::new(interrupted(&STEPS), 2)));
     Ok(())
 }

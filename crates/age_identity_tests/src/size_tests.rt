@@ -6,7 +6,6 @@ use age_io::{BufRead, BufReader, Bytes, Std};
 use age_try::fakes::{Script, Source, Step};
 use std::alloc::Global;
 use std::io::ErrorKind as StdKind;
-use std::process::Abort;
 use std::test::Fail;
 
 const LIMIT: usize = 16_777_216;
@@ -88,28 +87,48 @@ fn refuses(alloc: Global, text: &[u8], steps: &[Step], kind: ErrorKind) -> Resul
     Ok(answer.err() == Some(Error::Device(kind)))
 }
 
-#[test]
-fn faults_of_the_device_are_answered(rt: HostRuntime) -> Result<(), Fail> {
-    let alloc = rt.alloc();
-    let text = key_twice(alloc)?;
-    interruptions_are_passed_over(&rt, alloc, text.as_slice())?;
-    let denied = Step::Fail(StdKind::PermissionDenied);
-    for steps in [
-        [denied].as_slice(),
-        &[Step::Move(100), denied],
-        &[Step::Move(100), Step::Move(100), denied],
-    ] {
-        assert!(rt; refuses(alloc, text.as_slice(), steps, ErrorKind::PermissionDenied)?);
-    }
-    Ok(())
+const INTERRUPTED: Step = Step::Fail(StdKind::Interrupted);
+
+const DENIED: Step = Step::Fail(StdKind::PermissionDenied);
+
+// Whether both identities are read past interruptions.
+fn interruptions_are_passed_over(alloc: Global, text: &[u8]) -> Result<bool, Fail> {
+    Ok(
+        read(alloc, text, &[])? == 2
+            && read(alloc, text, &[Step::Move(1), Step::Move(7), INTERRUPTED])? == 2
+            && read(alloc, text, &[INTERRUPTED; 16])? == 2,
+    )
 }
 
-// At most 16 of them together.
-fn interruptions_are_passed_over(rt: &impl Abort, alloc: Global, text: &[u8]) -> Result<(), Fail> {
-    let interrupted = Step::Fail(StdKind::Interrupted);
-    assert!(rt; read(alloc, text, &[])? == 2);
-    assert!(rt; read(alloc, text, &[Step::Move(1), Step::Move(7), interrupted])? == 2);
-    assert!(rt; read(alloc, text, &[interrupted; 16])? == 2);
-    assert!(rt; refuses(alloc, text, &[interrupted; 17], ErrorKind::Other)?);
+// Devices that fail for good, at once or after some bytes.
+const DENYING: [&[Step]; 3] = [
+    &[DENIED],
+    &[Step::Move(100), DENIED],
+    &[Step::Move(100), Step::Move(100), DENIED],
+];
+
+// At most 16 interruptions together are passed over.
+#[test]
+fn faults_of_the_device_are_answered(rt: HostRuntime) -> Result<(), Fail> {
+    let text = key_twice(rt.alloc())?;
+    assert!(rt; interruptions_are_passed_over(rt.alloc(), text.as_slice())?);
+    assert!(rt;
+        refuses(
+            rt.alloc(),
+            text.as_slice(),
+            &[INTERRUPTED; 17],
+            ErrorKind::Other
+        )?
+    );
+    for steps in DENYING {
+        assert!(rt;
+            refuses(
+                rt.alloc(),
+                text.as_slice(),
+                steps,
+                ErrorKind::PermissionDenied
+            )?
+        );
+    }
     Ok(())
 }
