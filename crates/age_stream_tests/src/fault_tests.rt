@@ -1,10 +1,11 @@
 //! Devices that fail: what the calls above them answer, at that call and at the next.
 
-use crate::fixtures::{is_left, reader_of, sealed};
+use crate::fixtures::{reader_of, sealed};
 use age::io::{Error, ErrorKind, Read, Std, Write, read_exact, read_to_end, write_all};
 use age::stream::StreamWriter;
 use age_bench::payload::{open_all, seal_all};
 use age_bench::suite::BenchSuite;
+use age_try::answers::delivers;
 use age_try::fakes::{Script, Sink, Source, Step};
 use age_try::fixtures::{KEY, digest, plaintext};
 use age_try::whole::seal_whole;
@@ -24,6 +25,10 @@ const CLOSED: Step = Step::Fail(io::ErrorKind::BrokenPipe);
 const ENDED: Step = Step::Fail(io::ErrorKind::UnexpectedEof);
 
 const CHUNK: Step = Step::Move(65_552);
+
+const SIXTEEN: [Step; 16] = [INTERRUPTED; 16];
+
+const SEVENTEEN: [Step; 17] = [INTERRUPTED; 17];
 
 const OTHER: Error = Error::Device(ErrorKind::Other);
 
@@ -72,21 +77,43 @@ fn reads_twice<R: Read>(
     reader.read(&mut room) == first && reader.read(&mut room) == second
 }
 
+// Whether two reads of such a payload answer this.
+fn is_read_twice(
+    alloc: Global,
+    steps: &[Step],
+    payload: &[u8],
+    first: Result<usize, Error>,
+    second: Result<usize, Error>,
+) -> Result<bool, Fail> {
+    let mut reader = reader_of::<BenchSuite, Std<Source>>(alloc, source(steps, payload))?;
+    Ok(reads_twice(&mut reader, first, second))
+}
+
+// Whether reads are done after 16 interruptions in a row.
+fn are_read_after_16(alloc: Global, payload: &[u8]) -> Result<bool, Fail> {
+    Ok(
+        are_read(&SIXTEEN, Ok(()))
+            && is_read_to_end(alloc, &SIXTEEN, Ok(3))
+            && is_read_twice(alloc, &SIXTEEN, payload, Ok(3), Ok(0))?,
+    )
+}
+
+// Whether 17 of them are a fault of the device.
+fn are_refused_after_17(alloc: Global, payload: &[u8]) -> Result<bool, Fail> {
+    let failed = Err(Error::Failed);
+    Ok(
+        are_read(&SEVENTEEN, Err(OTHER))
+            && is_read_to_end(alloc, &SEVENTEEN, Err(OTHER))
+            && is_read_twice(alloc, &SEVENTEEN, payload, Err(OTHER), failed)?,
+    )
+}
+
 #[test]
 fn reads_are_tried_17_times(rt: HostRuntime) -> Result<(), Fail> {
     let alloc = rt.alloc();
     let payload = seal_whole::<BenchSuite>(alloc, &KEY, b"abc")?;
-    let steps = [INTERRUPTED; 17];
-    for (count, exact, count_read, after) in [
-        (16, Ok(()), Ok(3), Ok(0)),
-        (17, Err(OTHER), Err(OTHER), Err(Error::Failed)),
-    ] {
-        let steps = &steps[..count];
-        assert!(rt; are_read(steps, exact), "{count}");
-        assert!(rt; is_read_to_end(alloc, steps, count_read), "{count}");
-        let mut reader = reader_of::<BenchSuite, Std<Source>>(alloc, source(steps, &payload))?;
-        assert!(rt; reads_twice(&mut reader, count_read, after), "{count}");
-    }
+    assert!(rt; are_read_after_16(alloc, &payload)?);
+    assert!(rt; are_refused_after_17(alloc, &payload)?);
     Ok(())
 }
 
@@ -96,7 +123,17 @@ fn are_written(alloc: Global, steps: &[Step], answer: Result<(), Error>) -> bool
     write_all(&mut Std::new(&mut out), b"abc") == answer
 }
 
-// Whether a write to a writer over such a device answers this, and a write of one byte more.
+// Whether a write answers this, and a write of one byte after it.
+fn writes_twice<W: Write>(
+    writer: &mut W,
+    plain: &[u8],
+    written: Result<usize, Error>,
+    after: Result<usize, Error>,
+) -> bool {
+    writer.write(plain) == written && writer.write(b"a") == after
+}
+
+// Whether they do to a writer over such a device.
 fn writes(
     alloc: Global,
     steps: &[Step],
@@ -106,7 +143,7 @@ fn writes(
 ) -> Result<bool, Fail> {
     let mut out = sink(alloc, steps);
     let mut writer = writer_to(alloc, &mut out)?;
-    Ok(writer.write(plain) == written && writer.write(b"a") == after)
+    Ok(writes_twice(&mut writer, plain, written, after))
 }
 
 // Whether a flush answers this, and a write of one byte after it.
@@ -128,21 +165,33 @@ fn finishes(alloc: Global, steps: &[Step], refusal: Option<Error>) -> Result<boo
     Ok(writer.finish().err() == refusal)
 }
 
+// Whether a device takes this plaintext, of 65,537 bytes, after 16 interruptions in a row.
+fn are_written_after_16(alloc: Global, plain: &[u8]) -> Result<bool, Fail> {
+    Ok(
+        are_written(alloc, &SIXTEEN, Ok(()))
+            && writes(alloc, &SIXTEEN, plain, Ok(65_537), Ok(1))?
+            && flushes(alloc, &SIXTEEN, Ok(()), Ok(1))?
+            && finishes(alloc, &SIXTEEN, None)?,
+    )
+}
+
+// Whether 17 of them are a fault of the device.
+fn are_not_written_after_17(alloc: Global, plain: &[u8]) -> Result<bool, Fail> {
+    let failed = Err(Error::Failed);
+    Ok(
+        are_written(alloc, &SEVENTEEN, Err(OTHER))
+            && writes(alloc, &SEVENTEEN, plain, Err(OTHER), failed)?
+            && flushes(alloc, &SEVENTEEN, Err(OTHER), failed)?
+            && finishes(alloc, &SEVENTEEN, Some(OTHER))?,
+    )
+}
+
 #[test]
 fn writes_are_tried_17_times(rt: HostRuntime) -> Result<(), Fail> {
     let alloc = rt.alloc();
     let plain = plaintext(alloc, 65_537)?;
-    let steps = [INTERRUPTED; 17];
-    for (count, all, written, after, refusal) in [
-        (16, Ok(()), Ok(65_537), Ok(1), None),
-        (17, Err(OTHER), Err(OTHER), Err(Error::Failed), Some(OTHER)),
-    ] {
-        let steps = &steps[..count];
-        assert!(rt; are_written(alloc, steps, all), "{count}");
-        assert!(rt; writes(alloc, steps, &plain, written, after)?, "{count}");
-        assert!(rt; flushes(alloc, steps, all, after)?, "{count}");
-        assert!(rt; finishes(alloc, steps, refusal)?, "{count}");
-    }
+    assert!(rt; are_written_after_16(alloc, &plain)?);
+    assert!(rt; are_not_written_after_17(alloc, &plain)?);
     Ok(())
 }
 
@@ -194,74 +243,71 @@ fn written_by_bytes(rt: &impl Abort, alloc: Global, plain: &[u8]) -> Result<Vec<
     Ok(out.bytes)
 }
 
+// Whether a payload, read byte by byte, gives this plaintext.
+fn is_read_by_bytes(alloc: Global, payload: &[u8], plain: &[u8]) -> Result<bool, Fail> {
+    let bytes = Source {
+        script: BY_BYTES,
+        bytes: payload,
+    };
+    let mut reader = reader_of::<BenchSuite, Std<Source>>(alloc, Std::new(bytes))?;
+    Ok(delivers(alloc, &mut reader, plain))
+}
+
 #[test]
 fn pieces_of_one_byte_change_nothing(rt: HostRuntime) -> Result<(), Fail> {
     let alloc = rt.alloc();
     let plain = plaintext(alloc, 65_537)?;
     let payload = written_by_bytes(&rt, alloc, &plain)?;
     assert!(rt; digest(&payload) == 0x4c19_c88a_fe40_61bc);
-    let bytes = Source {
-        script: BY_BYTES,
-        bytes: &payload,
-    };
-    let mut reader = reader_of::<BenchSuite, Std<Source>>(alloc, Std::new(bytes))?;
-    is_left(&rt, alloc, &mut reader, &plain);
+    assert!(rt; is_read_by_bytes(alloc, &payload, &plain)?);
     Ok(())
 }
 
-// Reads of 65,536 bytes answer this.
-fn answers<R: Read>(
-    rt: &impl Abort,
-    reader: &mut R,
-    room: &mut [u8],
-    expected: [Result<usize, Error>; 4],
-) {
-    for answer in expected {
-        assert!(rt; reader.read(room) == answer, "not {answer:?}");
+// Of four reads of 65,536 bytes so many give a chunk, the next is refused so, and the others are as after a refusal.
+fn stops<R: Read>(rt: &impl Abort, reader: &mut R, room: &mut [u8], chunks: u8, refusal: Error) {
+    for _chunk in 0..chunks {
+        assert!(rt; reader.read(room) == Ok(65_536), "before {refusal:?}");
+    }
+    assert!(rt; reader.read(room) == Err(refusal), "not {refusal:?}");
+    for _read in 0..3u8.saturating_sub(chunks) {
+        assert!(rt; reader.read(room) == Err(Error::Failed));
     }
 }
 
-// A reader of this payload, over a device whose first calls do this, answers this.
+// A reader of this payload does, over a device whose first calls do this.
 fn fails_a_reader(
     rt: &impl Abort,
     alloc: Global,
     steps: &[Step],
     payload: &[u8],
-    expected: [Result<usize, Error>; 4],
+    chunks: u8,
+    refusal: Error,
 ) -> Result<(), Fail> {
     let mut room = vec![in alloc; 0; 65_536]?;
     let mut reader = reader_of::<BenchSuite, Std<Source>>(alloc, source(steps, payload))?;
-    answers(rt, &mut reader, &mut room, expected);
+    stops(rt, &mut reader, &mut room, chunks, refusal);
     Ok(())
+}
+
+const NOT_FOUND: Error = Error::Device(ErrorKind::NotFound);
+
+const UNEXPECTED: Error = Error::Device(ErrorKind::UnexpectedEof);
+
+// The payload has two chunks.
+fn fails_readers(rt: &impl Abort, alloc: Global, payload: &[u8]) -> Result<(), Fail> {
+    let part = Step::Move(100);
+    fails_a_reader(rt, alloc, &[GONE, CHUNK, CHUNK], payload, 0, NOT_FOUND)?;
+    fails_a_reader(rt, alloc, &[part, CLOSED, CHUNK], payload, 0, OTHER)?;
+    fails_a_reader(rt, alloc, &[part, ENDED, CHUNK], payload, 0, UNEXPECTED)?;
+    fails_a_reader(rt, alloc, &[CHUNK, ENDED, CHUNK], payload, 1, UNEXPECTED)?;
+    fails_a_reader(rt, alloc, &[CHUNK, CHUNK, ENDED], payload, 2, UNEXPECTED)
 }
 
 // The device would go on after its fault, but the reader doesn't. A fault is never a clean end.
 #[test]
 fn a_fault_of_the_device_below_fails_a_reader(rt: HostRuntime) -> Result<(), Fail> {
     let alloc = rt.alloc();
-    let payload = sealed::<BenchSuite>(alloc, 131_072)?;
-    let gone = Err(Error::Device(ErrorKind::NotFound));
-    let ended = Err(Error::Device(ErrorKind::UnexpectedEof));
-    let failed = Err(Error::Failed);
-    for (steps, expected) in [
-        ([GONE, CHUNK, CHUNK], [gone, failed, failed, failed]),
-        (
-            [Step::Move(100), CLOSED, CHUNK],
-            [Err(OTHER), failed, failed, failed],
-        ),
-        (
-            [Step::Move(100), ENDED, CHUNK],
-            [ended, failed, failed, failed],
-        ),
-        ([CHUNK, ENDED, CHUNK], [Ok(65_536), ended, failed, failed]),
-        (
-            [CHUNK, CHUNK, ENDED],
-            [Ok(65_536), Ok(65_536), ended, failed],
-        ),
-    ] {
-        fails_a_reader(&rt, alloc, &steps, &payload, expected)?;
-    }
-    Ok(())
+    fails_readers(&rt, alloc, &sealed::<BenchSuite>(alloc, 131_072)?)
 }
 
 // A writer that refused stays failed, and sends nothing more.
@@ -277,21 +323,7 @@ fn is_failed<W: Write>(writer: &mut W) -> bool {
         && writer.flush() == Err(Error::Failed)
 }
 
-// A write to such a device is refused so, and its writer has failed.
-fn fails_a_write(
-    rt: &impl Abort,
-    alloc: Global,
-    out: &mut Sink<'_>,
-    plain: &[u8],
-    refusal: Error,
-) -> Result<(), Fail> {
-    let mut writer = writer_to(alloc, out)?;
-    assert!(rt; writer.write(plain) == Err(refusal), "not {refusal:?}");
-    stays_failed(rt, writer);
-    Ok(())
-}
-
-// So is a flush.
+// A flush is refused so, and its writer has failed.
 fn fails_a_flush(rt: &impl Abort, alloc: Global, refusal: Error) -> Result<(), Fail> {
     let mut out = sink(alloc, &[GONE]);
     let mut writer = writer_to(alloc, &mut out)?;
@@ -310,34 +342,52 @@ fn fails_an_end(rt: &impl Abort, alloc: Global, step: Step, refusal: Error) -> R
     Ok(())
 }
 
+// A write is refused so, and its writer has failed.
+fn refuses_a_write(rt: &impl Abort, mut writer: Writer<'_, '_>, plain: &[u8], refusal: Error) {
+    assert!(rt; writer.write(plain) == Err(refusal), "not {refusal:?}");
+    stays_failed(rt, writer);
+}
+
 // Whether a beginning of the payload of that length was sent.
 fn was_sent(out: &Sink<'_>, payload: &[u8], sent: usize) -> bool {
     payload.strip_prefix(out.bytes.as_slice()).is_some() && out.bytes.len() == sent
 }
 
+// A write to such a device is refused so, after so much of the plaintext's payload.
+fn fails_a_write(
+    rt: &impl Abort,
+    alloc: Global,
+    steps: &[Step],
+    (plain, payload): (&[u8], &[u8]),
+    refusal: Error,
+    sent: usize,
+) -> Result<(), Fail> {
+    let mut out = sink(alloc, steps);
+    refuses_a_write(rt, writer_to(alloc, &mut out)?, plain, refusal);
+    assert!(rt; was_sent(&out, payload, sent), "{sent}");
+    Ok(())
+}
+
+// The plaintext, with its payload, is longer than two chunks.
+fn fails_writes(rt: &impl Abort, alloc: Global, texts: (&[u8], &[u8])) -> Result<(), Fail> {
+    let part = Step::Move(100);
+    let none = Step::Move(0);
+    fails_a_write(rt, alloc, &[GONE, CHUNK], texts, NOT_FOUND, 0)?;
+    fails_a_write(rt, alloc, &[part, CLOSED], texts, OTHER, 100)?;
+    fails_a_write(rt, alloc, &[CHUNK, ENDED], texts, UNEXPECTED, 65_552)?;
+    fails_a_write(rt, alloc, &[none, CHUNK], texts, Error::WriteZero, 0)?;
+    fails_a_write(rt, alloc, &[CHUNK, none], texts, Error::WriteZero, 65_552)
+}
+
 #[test]
 fn a_fault_of_the_device_below_fails_a_writer(rt: HostRuntime) -> Result<(), Fail> {
     let alloc = rt.alloc();
+    fails_a_flush(&rt, alloc, NOT_FOUND)?;
+    fails_an_end(&rt, alloc, CLOSED, OTHER)?;
+    fails_an_end(&rt, alloc, Step::Move(0), Error::WriteZero)?;
     let plain = plaintext(alloc, 131_073)?;
     let payload = seal_whole::<BenchSuite>(alloc, &KEY, &plain)?;
-    for (steps, refusal, sent) in [
-        ([GONE, CHUNK], Error::Device(ErrorKind::NotFound), 0),
-        ([Step::Move(100), CLOSED], OTHER, 100),
-        (
-            [CHUNK, ENDED],
-            Error::Device(ErrorKind::UnexpectedEof),
-            65_552,
-        ),
-        ([Step::Move(0), CHUNK], Error::WriteZero, 0),
-        ([CHUNK, Step::Move(0)], Error::WriteZero, 65_552),
-    ] {
-        let mut out = sink(alloc, &steps);
-        fails_a_write(&rt, alloc, &mut out, &plain, refusal)?;
-        assert!(rt; was_sent(&out, &payload, sent), "{sent}");
-    }
-    fails_a_flush(&rt, alloc, Error::Device(ErrorKind::NotFound))?;
-    fails_an_end(&rt, alloc, CLOSED, OTHER)?;
-    fails_an_end(&rt, alloc, Step::Move(0), Error::WriteZero)
+    fails_writes(&rt, alloc, (&plain, &payload))
 }
 
 // Whether a command has succeeded.
@@ -357,20 +407,33 @@ fn opens(alloc: Global, input: &[Step], output: &[Step], payload: &[u8]) -> bool
     is_done(open_all(alloc, KEY, &mut source(input, payload), &mut out))
 }
 
+// Whether sealing is done between such devices, or not, as told, and opening too.
+fn is_done_so(
+    alloc: Global,
+    payload: &[u8],
+    input: &[Step],
+    output: &[Step],
+    (is_sealed, is_opened): (bool, bool),
+) -> bool {
+    seals(alloc, input, output) == is_sealed && opens(alloc, input, output, payload) == is_opened
+}
+
+// Whether the commands answer the faults. Each reads once until the end, writes once, and sealing flushes.
+fn commands_answer(alloc: Global, payload: &[u8]) -> bool {
+    let good = [CHUNK, CHUNK];
+    let first = [CLOSED, CHUNK];
+    let second = [CHUNK, CLOSED];
+    is_done_so(alloc, payload, &good, &good, (true, true))
+        && is_done_so(alloc, payload, &first, &good, (false, false))
+        && is_done_so(alloc, payload, &second, &good, (false, false))
+        && is_done_so(alloc, payload, &good, &first, (false, false))
+        && is_done_so(alloc, payload, &good, &second, (false, true))
+}
+
 #[test]
 fn commands_answer_the_faults_of_devices(rt: HostRuntime) -> Result<(), Fail> {
     let alloc = rt.alloc();
     let payload = seal_whole::<BenchSuite>(alloc, &KEY, b"abc")?;
-    // Each command reads once until the end, writes once, and sealing flushes.
-    for (input, output, is_sealed, is_opened) in [
-        ([CHUNK, CHUNK], [CHUNK, CHUNK], true, true),
-        ([CLOSED, CHUNK], [CHUNK, CHUNK], false, false),
-        ([CHUNK, CLOSED], [CHUNK, CHUNK], false, false),
-        ([CHUNK, CHUNK], [CLOSED, CHUNK], false, false),
-        ([CHUNK, CHUNK], [CHUNK, CLOSED], false, true),
-    ] {
-        assert!(rt; seals(alloc, &input, &output) == is_sealed);
-        assert!(rt; opens(alloc, &input, &output, &payload) == is_opened);
-    }
+    assert!(rt; commands_answer(alloc, &payload));
     Ok(())
 }

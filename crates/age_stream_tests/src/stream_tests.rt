@@ -45,41 +45,57 @@ fn is_read_to<S: Suite>(alloc: Global, payload: &[u8], plain: &[u8]) -> Result<b
     Ok(delivers(alloc, &mut reader, plain) && ends(&mut reader))
 }
 
-// A plaintext of so many bytes has the payload with this digest, and is read back from it.
+// Whether a payload has this length and this digest.
+fn is_known(payload: &[u8], length: usize, expected: u64) -> bool {
+    payload.len() == length && digest(payload) == expected
+}
+
+// Whether a plaintext has the payload of this length and digest, and is read back from it.
 fn is_written_and_read_back<S: Suite>(
-    rt: &impl Abort,
+    alloc: Global,
+    plain: &[u8],
+    length: usize,
+    expected: u64,
+) -> Result<bool, Fail> {
+    let payload = written::<S>(alloc, plain, 1 << 20)?;
+    Ok(
+        is_known(&payload, length, expected)
+            && is_payload_of::<S>(alloc, &payload, plain)?
+            && opens_to::<S>(alloc, &payload, plain)?
+            && is_read_to::<S>(alloc, &payload, plain)?,
+    )
+}
+
+// Whether a plaintext of so many bytes is, over both suites.
+fn both_are_written_and_read_back(
     alloc: Global,
     length: usize,
     payload_length: usize,
-    expected: u64,
-) -> Result<(), Fail> {
+    bench: u64,
+    other: u64,
+) -> Result<bool, Fail> {
     let plain = plaintext(alloc, length)?;
-    let payload = written::<S>(alloc, &plain, 1 << 20)?;
-    assert!(rt; payload.len() == payload_length);
-    assert!(rt; digest(&payload) == expected, "of {length} bytes");
-    assert!(rt; is_payload_of::<S>(alloc, &payload, &plain)?);
-    assert!(rt;
-        opens_to::<S>(alloc, &payload, &plain)?,
-        "of {length} bytes"
-    );
-    assert!(rt;
-        is_read_to::<S>(alloc, &payload, &plain)?,
-        "of {length} bytes"
-    );
-    Ok(())
+    Ok(
+        is_written_and_read_back::<BenchSuite>(alloc, &plain, payload_length, bench)?
+            && is_written_and_read_back::<OtherSuite>(alloc, &plain, payload_length, other)?,
+    )
 }
+
+// The length of a plaintext and of its payload, and the payload's digest over each suite.
+const WRITTEN: [(usize, usize, u64, u64); 4] = [
+    (0, 16, 0xc0f8_88c4_1d88_92ff, 0xc384_0b7a_7e31_1f86),
+    (1, 17, 0x9fe2_f53e_8a77_2f10, 0x06b9_bc1a_5305_8867),
+    (65_536, 65_552, 0x1293_37fd_c421_275c, 0x97fb_5dd3_8219_cb1a),
+    (65_537, 65_569, 0x4c19_c88a_fe40_61bc, 0x47f5_f2cd_bc3e_981d),
+];
 
 #[test]
 fn payloads_are_written_and_read_back(rt: HostRuntime) -> Result<(), Fail> {
-    let alloc = rt.alloc();
-    for (length, payload_length, bench, other) in [
-        (0, 16, 0xc0f8_88c4_1d88_92ff, 0xc384_0b7a_7e31_1f86),
-        (1, 17, 0x9fe2_f53e_8a77_2f10, 0x06b9_bc1a_5305_8867),
-        (65_536, 65_552, 0x1293_37fd_c421_275c, 0x97fb_5dd3_8219_cb1a),
-        (65_537, 65_569, 0x4c19_c88a_fe40_61bc, 0x47f5_f2cd_bc3e_981d),
-    ] {
-        is_written_and_read_back::<BenchSuite>(&rt, alloc, length, payload_length, bench)?;
-        is_written_and_read_back::<OtherSuite>(&rt, alloc, length, payload_length, other)?;
+    for (length, payload_length, bench, other) in WRITTEN {
+        assert!(rt;
+            both_are_written_and_read_back(rt.alloc(), length, payload_length, bench, other)?,
+            "of {length} bytes"
+        );
     }
     Ok(())
 }
@@ -94,12 +110,34 @@ fn last_opens_to(alloc: Global, seal: &[u8], expected: &[u8]) -> Result<bool, Fa
 #[test]
 fn a_last_chunk_opens_under_its_nonce(rt: HostRuntime) -> Result<(), Fail> {
     let alloc = rt.alloc();
-    let plain = plaintext(alloc, 65_537)?;
-    let payload = written::<BenchSuite>(alloc, &plain, 65_537)?;
+    let payload = written::<BenchSuite>(alloc, &plaintext(alloc, 65_537)?, 65_537)?;
     assert!(rt; payload.len() == 65_569);
     // 65,536 is 25 more than a multiple of 251.
     assert!(rt; last_opens_to(alloc, &payload[65_552..], &[25])?);
     Ok(())
+}
+
+// Whether this plaintext of 131,072 bytes, in pieces of this length, has the payload with this digest.
+fn is_written_in_pieces<S: Suite>(
+    alloc: Global,
+    plain: &[u8],
+    piece: usize,
+    expected: u64,
+) -> Result<bool, Fail>
+    requires { 0 < piece }
+{
+    let payload = written::<S>(alloc, plain, piece)?;
+    Ok(is_known(&payload, 131_104, expected))
+}
+
+// Whether it has over both suites.
+fn both_are_written_in_pieces(alloc: Global, plain: &[u8], piece: usize) -> Result<bool, Fail>
+    requires { 0 < piece }
+{
+    Ok(
+        is_written_in_pieces::<BenchSuite>(alloc, plain, piece, 0x5f42_35d1_0738_d687)?
+            && is_written_in_pieces::<OtherSuite>(alloc, plain, piece, 0x81c2_3405_d713_853f)?,
+    )
 }
 
 #[test]
@@ -107,15 +145,8 @@ fn how_a_plaintext_is_cut_into_writes_is_not_seen(rt: HostRuntime) -> Result<(),
     let alloc = rt.alloc();
     let plain = plaintext(alloc, 131_072)?;
     for piece in [1, 65_535, 65_536, 131_072] {
-        let bench = written::<BenchSuite>(alloc, &plain, piece)?;
-        assert!(rt; bench.len() == 131_104);
         assert!(rt;
-            digest(&bench) == 0x5f42_35d1_0738_d687,
-            "in pieces of {piece}"
-        );
-        let other = written::<OtherSuite>(alloc, &plain, piece)?;
-        assert!(rt;
-            digest(&other) == 0x81c2_3405_d713_853f,
+            both_are_written_in_pieces(alloc, &plain, piece)?,
             "in pieces of {piece}"
         );
     }
@@ -163,23 +194,27 @@ fn is_shown<T: Debug>(alloc: Global, value: &T, text: &str) -> Result<bool, Fail
     Ok(shown.as_str() == text)
 }
 
-// The payload of 65,537 bytes by a writer that shows how many it has taken.
-fn written_and_shown(rt: &impl Abort, alloc: Global) -> Result<Vec<u8>, Fail> {
-    let plain = plaintext(alloc, 65_537)?;
+// The payload of this plaintext, of 65,537 bytes, by a writer that shows how many it has taken.
+fn written_and_shown(rt: &impl Abort, alloc: Global, plain: &[u8]) -> Result<Vec<u8>, Fail> {
     let mut writer = Writer::with_payload_key(alloc, KEY, Vec::new(alloc))?;
     assert!(rt; is_shown(alloc, &writer, "StreamWriter { taken: 0, .. }")?);
-    writer.write(&plain)?;
+    writer.write(plain)?;
     assert!(rt; is_shown(alloc, &writer, "StreamWriter { taken: 65537, .. }")?);
     Ok(writer.finish()?)
+}
+
+// Whether a reader of it shows how many bytes it has given.
+fn is_read_and_shown(alloc: Global, payload: &[u8]) -> Result<bool, Fail> {
+    let mut reader = reader_of::<BenchSuite, Bytes>(alloc, Bytes::new(payload))?;
+    let mut read = Vec::new(alloc);
+    read_to_end(alloc, &mut reader, &mut read)?;
+    is_shown(alloc, &reader, "StreamReader { place: 65537, .. }")
 }
 
 #[test]
 fn debug_prints_how_far_they_are(rt: HostRuntime) -> Result<(), Fail> {
     let alloc = rt.alloc();
-    let payload = written_and_shown(&rt, alloc)?;
-    let mut reader = reader_of::<BenchSuite, Bytes>(alloc, Bytes::new(&payload))?;
-    let mut read = Vec::new(alloc);
-    read_to_end(alloc, &mut reader, &mut read)?;
-    assert!(rt; is_shown(alloc, &reader, "StreamReader { place: 65537, .. }")?);
+    let payload = written_and_shown(&rt, alloc, &plaintext(alloc, 65_537)?)?;
+    assert!(rt; is_read_and_shown(alloc, &payload)?);
     Ok(())
 }

@@ -1,6 +1,6 @@
 //! Seeks in a payload that is too long to be held anywhere.
 
-use crate::fixtures::{goes, has_opened, reader_of, refuses};
+use crate::fixtures::{Call, answers, reader_of};
 use age::io::{Error, Read, SeekFrom, Std};
 use age::stream::StreamReader;
 use age::suite::Suite;
@@ -69,19 +69,29 @@ impl<'a> io::Seek for Vast<'a> {
     }
 }
 
-// A seek to this place opens no chunk, and the read of a byte after it no more than two.
-fn is_read_after(rt: &impl Abort, reader: &mut Reader<'_>, to: SeekFrom, place: u64) {
-    refuses(rt, reader, SeekFrom::Start(PLAIN + 1), Error::PastEnd);
-    goes(rt, reader, to, place);
-    has_opened(rt, reader, 0);
-    assert!(rt; reads_a_zero(reader), "{to:?}");
-    assert!(rt; reader.opens() <= 2, "{to:?}");
-}
-
 // Whether the next byte is a 0.
 fn reads_a_zero(reader: &mut Reader<'_>) -> bool {
     let mut byte = [1];
     reader.read(&mut byte) == Ok(1) && byte == [0]
+}
+
+// A seek to this place opens no chunk, and the read of a byte after it no more than two.
+fn is_read_after(
+    rt: &impl Abort,
+    alloc: Global,
+    reader: &mut Reader<'_>,
+    to: SeekFrom,
+    place: u64,
+) -> Result<(), Fail> {
+    let calls = [
+        Call::Refuses(SeekFrom::Start(PLAIN + 1), Error::PastEnd),
+        Call::Goes(to, place),
+        Call::Opened(0),
+    ];
+    answers(rt, alloc, reader, &calls)?;
+    assert!(rt; reads_a_zero(reader), "{to:?}");
+    assert!(rt; reader.opens() <= 2, "{to:?}");
+    Ok(())
 }
 
 // How many bytes the device gave for that.
@@ -93,20 +103,19 @@ fn given_for(rt: &impl Abort, alloc: Global, to: SeekFrom, place: u64) -> Result
         given: &mut given,
     };
     let mut reader = reader_of::<BenchSuite, Std<Vast>>(alloc, Std::new(device))?;
-    is_read_after(rt, &mut reader, to, place);
+    is_read_after(rt, alloc, &mut reader, to, place)?;
     drop(reader);
     Ok(given)
 }
 
 #[test]
 fn a_seek_reads_nothing_and_a_read_one_chunk(rt: HostRuntime) -> Result<(), Fail> {
-    let alloc = rt.alloc();
     for (to, place) in [
         (SeekFrom::Start(PLAIN / 2 + 5), PLAIN / 2 + 5),
         (SeekFrom::Current(70_000), 70_000),
         (SeekFrom::End(-1), PLAIN - 1),
     ] {
-        assert!(rt; given_for(&rt, alloc, to, place)? == 65_552, "{to:?}");
+        assert!(rt; given_for(&rt, rt.alloc(), to, place)? == 65_552, "{to:?}");
     }
     Ok(())
 }
