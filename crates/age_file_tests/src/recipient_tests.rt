@@ -2,7 +2,7 @@
 
 use crate::file_tests::opened;
 use crate::shared::{Kind, grease, is_answered, prepared, recipients, sevens, written};
-use age::secrecy::FileKey;
+use age::format::Stanza;
 use age::{Encryptor, Identity, Recipient};
 use age_bench::suite::BenchSuite;
 use age_try::answers::is_refusal;
@@ -221,29 +221,25 @@ fn is_refused(
     is_refusal(alloc, opened(alloc, file, identities), expected)
 }
 
-// Whether it is the key of one that is asked for the first time.
-fn is_first_key<E: Drop>(answer: Option<Result<FileKey, E>>) -> bool {
-    match answer {
-        Some(Ok(key)) => *key.expose_secret() == [1; 16],
-        _ => false,
-    }
-}
-
-// Whether an identity is asked for the first time now.
-fn wasnt_asked(alloc: Global, identity: &mut Box<dyn Identity>) -> Result<bool, AllocError> {
-    match empty_stanza(alloc, "tag")? {
-        Some(stanza) => Ok(is_first_key(identity.unwrap_stanza(alloc, &stanza))),
-        None => Ok(false),
-    }
-}
-
-// Whether the last of them is asked for the first time now.
-fn last_wasnt_asked(
+// Whether an identity answers this stanza as one that is asked for the first time.
+fn answers_first(
     alloc: Global,
-    identities: &mut [Box<dyn Identity>],
-) -> Result<bool, AllocError> {
+    identity: &mut Box<dyn Identity>,
+    stanza: &Stanza,
+) -> Result<bool, Fail> {
+    let Some(answer) = identity.unwrap_stanza(alloc, stanza) else {
+        return Ok(false);
+    };
+    Ok(*answer?.expose_secret() == [1; 16])
+}
+
+// Whether the last of them wasn't asked before.
+fn last_wasnt_asked(alloc: Global, identities: &mut [Box<dyn Identity>]) -> Result<bool, Fail> {
+    let Some(stanza) = empty_stanza(alloc, "tag")? else {
+        return Err(Fail::from("no stanza"));
+    };
     match identities.last_mut() {
-        Some(last) => wasnt_asked(alloc, last),
+        Some(last) => answers_first(alloc, last, &stanza),
         None => Ok(false),
     }
 }
@@ -252,7 +248,7 @@ fn last_wasnt_asked(
 const THREE: [Script; 3] = [Script::Nothing, Script::Refusal, Script::TimesAsked];
 
 // Whether the second of the three refuses a file, and the last isn't asked.
-fn the_second_decides(alloc: Global, file: &[u8]) -> Result<bool, AllocError> {
+fn the_second_decides(alloc: Global, file: &[u8]) -> Result<bool, Fail> {
     let mut identities = identities_of(alloc, &THREE)?;
     Ok(
         is_refused(alloc, file, &mut identities, "decryption failed")

@@ -1,5 +1,5 @@
 -- Stanzas with another tag.
-use Rattle.std.specs.Prelude.{◌≡◌, ◌≢◌, ℕ, Bool, true, false, not, List, IsTrue, bytes_eq}
+use Rattle.std.specs.Prelude.{◌≢◌, ℕ, Bool, true, false, not, List, IsTrue, bytes_eq}
 use Rattle.std.proofs.lemmas.Slice.Eq.{bytes_eq-Decides}
 
 not_so : (b : Bool) → IsTrue (not b) → b ≢ true

@@ -1,12 +1,12 @@
 //! Identities whose file is opened by their first use.
 
 use crate::fixtures::{
-    Counts, K, Knows, NEVER, counted, is_closed, is_key, is_missing_plugin, one_who_knows,
+    Counts, K, Knows, NEVER, QUESTION, counted, is_closed, is_key, is_missing_plugin,
     other_stanzas, own_stanzas, protected, protected_by_nobody, protected_key, secret,
 };
 use age::armor::ArmoredReader;
 use age::format::Stanza;
-use age::io::{Read, Std};
+use age::io::{BufReader, Read, Std};
 use age::x25519::Recipient;
 use age::{DecryptError, EncryptError, Identity as _};
 use age_bench::suite::BenchSuite;
@@ -15,7 +15,6 @@ use age_try::fixtures::{armored, message_file};
 use std::alloc::Global;
 use std::fs::File;
 use std::io::Cursor;
-use std::path::{Path, PathBuf};
 use std::test::Fail;
 use std::{env, fs, process};
 
@@ -46,14 +45,13 @@ fn identity_of<'a, R: Read + Drop>(
     text: Option<&str>,
     counts: &'a mut Counts,
 ) -> Result<Opens<'a, R>, Fail> {
+    let callbacks = Knows {
+        passphrase: secret(alloc, text)?,
+        question: QUESTION,
+        counts,
+    };
     let name = Some(String::from_str(alloc, "key.age")?);
-    asking(
-        alloc,
-        input,
-        name,
-        one_who_knows(alloc, text, counts)?,
-        None,
-    )
+    asking(alloc, input, name, callbacks, None)
 }
 
 // An input of these bytes that lends nothing.
@@ -104,49 +102,38 @@ fn misses_plugin<I: age::Identity>(alloc: Global, identity: &mut I, stanzas: &[S
     is_missing_plugin(&identity.unwrap_stanzas(alloc, stanzas))
 }
 
-// Whether an identity finds the key in its own stanzas, each time that it is asked.
-fn finds_again<I: age::Identity>(alloc: Global, mut identity: I) -> Result<bool, Fail> {
-    let stanzas = own_stanzas(alloc)?;
-    Ok(
-        finds_in_each(alloc, &mut identity, stanzas.as_slice())
-            && finds(alloc, &mut identity, stanzas.as_slice()),
-    )
-}
-
-// Whether the identity of `K`'s file does, under `foobar`.
-fn is_found_again(alloc: Global, counts: &mut Counts) -> Result<bool, Fail> {
-    finds_again(alloc, key_identity(alloc, "foobar", counts)?)
+// Whether the key is found each time that it is asked for, under `foobar`, which is asked for once.
+fn is_found_again(alloc: Global, stanzas: &[Stanza]) -> Result<bool, Fail> {
+    let mut counts = NEVER;
+    let mut identity = key_identity(alloc, "foobar", &mut counts)?;
+    let found = finds_in_each(alloc, &mut identity, stanzas)
+        && finds(alloc, &mut identity, stanzas);
+    drop(identity);
+    Ok(found && counted(&counts, 1, 0))
 }
 
 #[test]
 fn a_file_is_opened_once(rt: HostRuntime) -> Result<(), Fail> {
-    let mut counts = NEVER;
-    assert!(rt; is_found_again(rt.alloc(), &mut counts)?);
-    assert!(rt; counted(&counts, 1, 0));
+    let alloc = rt.alloc();
+    let stanzas = own_stanzas(alloc)?;
+    assert!(rt; is_found_again(alloc, stanzas.as_slice())?);
     Ok(())
 }
 
-// Whether an identity passes over the stanzas of another.
-fn passes_others<I: age::Identity>(alloc: Global, identity: &mut I) -> Result<bool, Fail> {
-    let stanzas = other_stanzas(alloc)?;
-    Ok(passes(alloc, identity, stanzas.as_slice()))
-}
-
-// Whether it does twice.
-fn passes_twice<I: age::Identity>(alloc: Global, mut identity: I) -> Result<bool, Fail> {
-    Ok(passes_others(alloc, &mut identity)? && passes_others(alloc, &mut identity)?)
-}
-
-// Whether the identity of `K`'s file does, under `foobar`.
-fn is_passed_twice(alloc: Global, counts: &mut Counts) -> Result<bool, Fail> {
-    passes_twice(alloc, key_identity(alloc, "foobar", counts)?)
+// Whether stanzas are passed over twice, under `foobar`, which is asked for once, and it is shown once that no key matches.
+fn passes_twice(alloc: Global, stanzas: &[Stanza]) -> Result<bool, Fail> {
+    let mut counts = NEVER;
+    let mut identity = key_identity(alloc, "foobar", &mut counts)?;
+    let passed = passes(alloc, &mut identity, stanzas) && passes(alloc, &mut identity, stanzas);
+    drop(identity);
+    Ok(passed && counted(&counts, 1, 1))
 }
 
 #[test]
 fn a_user_is_told_once_that_no_key_matches(rt: HostRuntime) -> Result<(), Fail> {
-    let mut counts = NEVER;
-    assert!(rt; is_passed_twice(rt.alloc(), &mut counts)?);
-    assert!(rt; counted(&counts, 1, 1));
+    let alloc = rt.alloc();
+    let stanzas = other_stanzas(alloc)?;
+    assert!(rt; passes_twice(alloc, stanzas.as_slice())?);
     Ok(())
 }
 
@@ -171,53 +158,38 @@ fn is_recipient(alloc: Global, answer: Recipients) -> Result<bool, Fail> {
     is_that_of_k(alloc, answer?.as_slice())
 }
 
-// The same of an identity.
-fn has_recipient<R: Read + Drop>(alloc: Global, identity: &mut Opens<R>) -> Result<bool, Fail> {
-    is_recipient(alloc, identity.recipients(alloc))
-}
-
-// Whether an identity has the recipient of `K`, and passes over the stanzas of another then.
-fn has_recipient_first<R: Read + Drop>(
-    alloc: Global,
-    identity: &mut Opens<R>,
-) -> Result<bool, Fail> {
-    Ok(has_recipient(alloc, identity)? && passes_others(alloc, identity)?)
-}
-
-// Whether the identity of `K`'s file does, under `foobar`.
-fn is_asked_for_recipients(alloc: Global, counts: &mut Counts) -> Result<bool, Fail> {
-    has_recipient_first(alloc, &mut key_identity(alloc, "foobar", counts)?)
+// Whether the recipient of `K` is that of its file, which then passes over stanzas. The passphrase is asked for once, and nothing is shown.
+fn has_recipient(alloc: Global, stanzas: &[Stanza]) -> Result<bool, Fail> {
+    let mut counts = NEVER;
+    let mut identity = key_identity(alloc, "foobar", &mut counts)?;
+    let answer = identity.recipients(alloc);
+    let passed = passes(alloc, &mut identity, stanzas);
+    drop(identity);
+    Ok(passed && counted(&counts, 1, 0) && is_recipient(alloc, answer)?)
 }
 
 #[test]
 fn nothing_is_shown_for_recipients(rt: HostRuntime) -> Result<(), Fail> {
-    let mut counts = NEVER;
-    assert!(rt; is_asked_for_recipients(rt.alloc(), &mut counts)?);
-    assert!(rt; counted(&counts, 1, 0));
+    let alloc = rt.alloc();
+    let stanzas = other_stanzas(alloc)?;
+    assert!(rt; has_recipient(alloc, stanzas.as_slice())?);
     Ok(())
 }
 
-// Whether an identity answers twice that the file isn't opened.
-fn stays_closed_twice<I: age::Identity>(alloc: Global, mut identity: I) -> bool {
-    stays_closed(alloc, &mut identity, &[]) && stays_closed(alloc, &mut identity, &[])
-}
-
-// Whether that of a file in armor does, for one who has no passphrase.
-fn is_closed_in_armor<R: Read + Drop>(
-    alloc: Global,
-    file: R,
-    counts: &mut Counts,
-) -> Result<bool, Fail> {
-    let reader = ArmoredReader::new(alloc, file)?;
-    Ok(stays_closed_twice(alloc, identity_of(alloc, reader, None, counts)?))
+// Whether a file in armor is closed twice to one who has no passphrase and is asked once.
+fn is_closed_twice(alloc: Global, text: Vec<u8>) -> Result<bool, Fail> {
+    let reader: ArmoredReader<BufReader<Input>> = ArmoredReader::new(alloc, input_of(text))?;
+    let mut counts = NEVER;
+    let mut identity = identity_of(alloc, reader, None, &mut counts)?;
+    let closed = stays_closed(alloc, &mut identity, &[]) && stays_closed(alloc, &mut identity, &[]);
+    drop(identity);
+    Ok(closed && counted(&counts, 1, 0))
 }
 
 #[test]
 fn a_file_that_is_refused_stays_so(rt: HostRuntime) -> Result<(), Fail> {
-    let input = input_of(protected_by_nobody(rt.alloc())?);
-    let mut counts = NEVER;
-    assert!(rt; is_closed_in_armor(rt.alloc(), input, &mut counts)?);
-    assert!(rt; counted(&counts, 1, 0));
+    let alloc = rt.alloc();
+    assert!(rt; is_closed_twice(alloc, protected_by_nobody(alloc)?)?);
     Ok(())
 }
 
@@ -234,27 +206,23 @@ fn is_for_nobody<R: Read + Drop>(alloc: Global, identity: &mut Opens<R>) -> bool
     is_unopened(&identity.recipients(alloc))
 }
 
-// Whether an identity is closed to its own stanzas, and for nobody before and after.
-fn is_closed_between<R: Read + Drop>(alloc: Global, identity: &mut Opens<R>) -> Result<bool, Fail> {
-    let stanzas = own_stanzas(alloc)?;
-    Ok(
-        is_for_nobody(alloc, identity)
-            && stays_closed(alloc, identity, stanzas.as_slice())
-            && is_for_nobody(alloc, identity),
-    )
-}
-
-// Whether that of `K`'s file is, under `foobaz`.
-fn is_closed_for_good(alloc: Global, counts: &mut Counts) -> Result<bool, Fail> {
-    is_closed_between(alloc, &mut key_identity(alloc, "foobaz", counts)?)
+// Whether a file is closed to stanzas, and for nobody before and after, under `foobaz`, where one is asked once.
+fn is_closed_for_good(alloc: Global, stanzas: &[Stanza]) -> Result<bool, Fail> {
+    let mut counts = NEVER;
+    let mut identity = key_identity(alloc, "foobaz", &mut counts)?;
+    let closed = is_for_nobody(alloc, &mut identity)
+        && stays_closed(alloc, &mut identity, stanzas)
+        && is_for_nobody(alloc, &mut identity);
+    drop(identity);
+    Ok(closed && counted(&counts, 1, 0))
 }
 
 // The second time the passphrase would be the right one, but nobody asks for it.
 #[test]
 fn a_wrong_passphrase_is_the_last(rt: HostRuntime) -> Result<(), Fail> {
-    let mut counts = NEVER;
-    assert!(rt; is_closed_for_good(rt.alloc(), &mut counts)?);
-    assert!(rt; counted(&counts, 1, 0));
+    let alloc = rt.alloc();
+    let stanzas = own_stanzas(alloc)?;
+    assert!(rt; is_closed_for_good(alloc, stanzas.as_slice())?);
     Ok(())
 }
 
@@ -275,68 +243,58 @@ fn lacks_plugin<R: Read + Drop>(alloc: Global, identity: &mut Opens<R>) -> bool 
     is_without_plugin(&identity.recipients(alloc))
 }
 
-// Whether its plugin is missing for its own stanzas, and for recipients.
-fn lacks_plugin_for_both<R: Read + Drop>(
-    alloc: Global,
-    identity: &mut Opens<R>,
-) -> Result<bool, Fail> {
-    let stanzas = own_stanzas(alloc)?;
-    Ok(misses_plugin(alloc, identity, stanzas.as_slice()) && lacks_plugin(alloc, identity))
-}
-
-// Whether that of a file is, under `foobar`.
-fn plugin_is_missing(alloc: Global, input: Input, counts: &mut Counts) -> Result<bool, Fail> {
-    lacks_plugin_for_both(
-        alloc,
-        &mut identity_of(alloc, input, Some("foobar"), counts)?,
-    )
+// Whether a plugin of a file is missing for stanzas and for recipients, where one is asked once.
+fn plugin_is_missing(alloc: Global, input: Input, stanzas: &[Stanza]) -> Result<bool, Fail> {
+    let mut counts = NEVER;
+    let mut identity = identity_of(alloc, input, Some("foobar"), &mut counts)?;
+    let missing = misses_plugin(alloc, &mut identity, stanzas)
+        && lacks_plugin(alloc, &mut identity);
+    drop(identity);
+    Ok(missing && counted(&counts, 1, 0))
 }
 
 #[test]
 fn a_plugin_of_a_protected_file_is_missing(rt: HostRuntime) -> Result<(), Fail> {
-    let input = input_of(plugin_and_key(rt.alloc())?);
-    let mut counts = NEVER;
-    assert!(rt; plugin_is_missing(rt.alloc(), input, &mut counts)?);
-    assert!(rt; counted(&counts, 1, 0));
+    let alloc = rt.alloc();
+    let stanzas = own_stanzas(alloc)?;
+    let input = input_of(plugin_and_key(alloc)?);
+    assert!(rt; plugin_is_missing(alloc, input, stanzas.as_slice())?);
     Ok(())
-}
-
-// Whether nothing is made of a file, since it isn't one of a passphrase.
-fn is_none<R: Read + Drop>(alloc: Global, input: R, counts: &mut Counts) -> Result<bool, Fail> {
-    let callbacks = one_who_knows(alloc, None, counts)?;
-    let made: Option<Opens<R>> = Identity::from_buffer(alloc, input, None, callbacks, 18, None)?;
-    Ok(made.is_none())
 }
 
 #[test]
 fn a_file_of_no_passphrase_is_none(rt: HostRuntime) -> Result<(), Fail> {
-    let input = input_of(message_file(rt.alloc(), b"")?);
+    let alloc = rt.alloc();
+    let bytes = message_file(alloc, b"")?;
     let mut counts = NEVER;
-    assert!(rt; is_none(rt.alloc(), input, &mut counts)?);
+    let callbacks = Knows {
+        passphrase: None,
+        question: QUESTION,
+        counts: &mut counts,
+    };
+    let made: Option<Opens<Input>> = Identity::from_buffer(
+        alloc,
+        input_of(bytes),
+        None,
+        callbacks,
+        18,
+        None,
+    )?;
+    assert!(rt; made.is_none());
+    drop(made);
     assert!(rt; counted(&counts, 0, 0));
     Ok(())
 }
 
-// The path of a file for this process alone.
-fn own_path(rt: &HostRuntime) -> Result<PathBuf, Fail> {
+// A file on a disk of these bytes, which has no name there any more.
+fn on_disk(rt: &HostRuntime, bytes: &[u8]) -> Result<File, Fail> {
     let alloc = rt.alloc();
     let name = format!(in alloc; "age-encrypted-tests-{}", process::id(rt.process()))?;
-    Ok(env::temp_dir(rt)?.join(alloc, name.as_str())?)
-}
-
-// A file on a disk of these bytes, which has no name there any more.
-fn on_disk(rt: &HostRuntime, path: Path, bytes: &[u8]) -> Result<File, Fail> {
-    fs::write(rt, path, bytes)?;
-    let file = File::open(rt, path)?;
-    fs::remove_file(rt, path)?;
+    let path = env::temp_dir(rt)?.join(alloc, name.as_str())?;
+    fs::write(rt, path.as_path(), bytes)?;
+    let file = File::open(rt, path.as_path())?;
+    fs::remove_file(rt, path.as_path())?;
     Ok(file)
-}
-
-// The file of `K` there, in armor.
-fn armored_on_disk(rt: &HostRuntime) -> Result<File, Fail> {
-    let alloc = rt.alloc();
-    let text = armored(alloc, protected_key(alloc)?.as_slice())?;
-    on_disk(rt, own_path(rt)?.as_path(), text.as_slice())
 }
 
 // Whether an identity finds the key of its own stanzas twice.
@@ -358,41 +316,47 @@ fn is_found_in_armor<R: Read + Drop>(
     finds_twice(alloc, identity_of(alloc, reader, Some("foobar"), counts)?)
 }
 
+// The same of a file on a disk, in armor.
 #[test]
 fn a_file_on_a_disk_is_opened_once(rt: HostRuntime) -> Result<(), Fail> {
-    let file = Std::new(armored_on_disk(&rt)?);
+    let alloc = rt.alloc();
+    let text = armored(alloc, protected_key(alloc)?.as_slice())?;
+    let file = Std::new(on_disk(&rt, text.as_slice())?);
     let mut counts = NEVER;
-    assert!(rt; is_found_in_armor(rt.alloc(), file, &mut counts)?);
+    assert!(rt; is_found_in_armor(alloc, file, &mut counts)?);
     assert!(rt; counted(&counts, 1, 0));
     Ok(())
 }
 
 // The identity of `K`'s file without a name, under `foobar`.
 fn nameless<'a>(alloc: Global, counts: &'a mut Counts) -> Result<Opens<'a, Input>, Fail> {
-    let input = input_of(protected_key(alloc)?);
     let callbacks = Knows {
         passphrase: secret(alloc, Some("foobar"))?,
         question: "passphrase for encrypted identity ",
         counts,
     };
-    asking(alloc, input, None, callbacks, Some(10))
+    asking(
+        alloc,
+        input_of(protected_key(alloc)?),
+        None,
+        callbacks,
+        Some(10),
+    )
 }
 
-// Whether an identity finds the key of its own stanzas.
-fn finds_once<I: age::Identity>(alloc: Global, mut identity: I) -> Result<bool, Fail> {
-    let stanzas = own_stanzas(alloc)?;
-    Ok(finds(alloc, &mut identity, stanzas.as_slice()))
-}
-
-// Whether that of the file without a name does.
-fn nameless_finds(alloc: Global, counts: &mut Counts) -> Result<bool, Fail> {
-    finds_once(alloc, nameless(alloc, counts)?)
+// Whether that identity finds the key, and one is asked once.
+fn nameless_finds(alloc: Global, stanzas: &[Stanza]) -> Result<bool, Fail> {
+    let mut counts = NEVER;
+    let mut identity = nameless(alloc, &mut counts)?;
+    let found = finds(alloc, &mut identity, stanzas);
+    drop(identity);
+    Ok(found && counted(&counts, 1, 0))
 }
 
 #[test]
 fn a_file_without_a_name_is_asked_for(rt: HostRuntime) -> Result<(), Fail> {
-    let mut counts = NEVER;
-    assert!(rt; nameless_finds(rt.alloc(), &mut counts)?);
-    assert!(rt; counted(&counts, 1, 0));
+    let alloc = rt.alloc();
+    let stanzas = own_stanzas(alloc)?;
+    assert!(rt; nameless_finds(alloc, stanzas.as_slice())?);
     Ok(())
 }
