@@ -42,6 +42,7 @@ pub use Rattle.age_io.specs.Writing
 pub use Rattle.age_io.specs.WritingLaws
 pub use Rattle.age_io.specs.Copying
 pub use Rattle.age_io.specs.Cursor
+pub use Rattle.age_io.specs.CursorLaws
 pub use Rattle.age_io.specs.Replies
 pub use Rattle.age_io.specs.Slices
 pub use Rattle.age_io.specs.Buffering

@@ -15,7 +15,7 @@ use Rattle.age_io.specs.Cursor.{Seeks, IsOutside, MayLead, moved_to, place_at, s
 use Rattle.age_io.proofs.Keeping.{same-self, same-later, keeps-refused, seek-narrows}
 use Rattle.age_armor.specs.Delivered.{Ending, Clean, Refused, InnerFault, is_clean}
 use Rattle.age_armor.specs.Stages.{IsNamed}
-use Rattle.age_armor.specs.Seeking.{Goes, SeeksText, Misses, ComesBack}
+use Rattle.age_armor.specs.Seeking.{Goes, OrAstray, SeeksText, Misses, ComesBack}
 use Rattle.age_armor.proofs.Keeping.{goes-unrefused}
 use Rattle.age_armor.proofs.Taking.{quiet_after}
 
@@ -111,14 +111,18 @@ clean-unnamed InnerFault e clean named = true≢false (sym clean)
 quiet-first : (a b c : ℕ) → a ≤ b → b ≤ c → IsQuiet a c → IsQuiet a b
 quiet-first a b c first last quiet = record { same = omega (arith, first, last, quiet.same); below = omega (arith, first, last, quiet.same, quiet.below) }
 
-module _ {R : Type 0} (read : Ghosts R) (failed : R → Bool) where
+module _ {R : Type 0} (read : Ghosts R) (failed : R → Bool) (below : Error → Type 0) where
+  -- what only seeks refuse with
+  abbrev own : Error → Type 0
+  own = OrAstray below
+
   -- a refusal that isn't an interruption
-  seeks-refused : (old new : R) (to : SeekFrom) (e : Error) → KeepsReader {T = ℕ} read (OrSeek read.refuses) old new (Err e) →
+  seeks-refused : (old new : R) (to : SeekFrom) (e : Error) → KeepsReader {T = ℕ} read (OrSeek own read.refuses) old new (Err e) →
       (IsOutside e → AddsNoReason read.refuses old new) → (IsTrue (read.tells old) → read.place new ≡ read.place old) →
       (IsTrue (read.tells old) → IsTrue (read.steady old) → read.rest old ≡ from_place (read.place old) (read.content old) → IsOutside e → read.rest new ≡ read.rest old) →
       (IsTrue (read.tells old) → IsTrue (read.content old).ends_well → IsOutside e → sought to (read.place old) (length (read.content old).bytes) ≡ Err e) →
       (IsTrue (read.tells old) → IsTrue (read.content old).ends_well → e ≢ OutOfMemory → IsQuiet (read.faults old) (read.faults new) → IsOutside e) →
-      Seeks read.tells read.steady read.content read.place read.rest read.faults read.refuses old new to (Err e)
+      Seeks read.tells read.steady read.content read.place read.rest read.faults read.refuses own old new to (Err e)
   seeks-refused old new to e keeps missed stays kept refused cause = record {
     same_tells = keeps.same.tells;
     same_steady = keeps.same.steady;
@@ -140,12 +144,12 @@ module _ {R : Type 0} (read : Ghosts R) (failed : R → Bool) where
     cause = cause;
   }
 
-  pub arrived : (old new : R) (to : SeekFrom) (ends_well : Bool) (ending : Ending) (n : ℕ) → Goes read (OrSeek read.refuses) old new (Ok n) → AddsNoReason read.refuses old new →
+  pub arrived : (old new : R) (to : SeekFrom) (ends_well : Bool) (ending : Ending) (n : ℕ) → Goes read (OrSeek own read.refuses) old new (Ok n) → AddsNoReason read.refuses old new →
       failed new ≡ false →
       (IsTrue (read.tells old) → read.place new ≡ n) → (IsTrue (read.tells old) → MayLead to (read.place old) n) →
       (IsTrue (read.tells old) → IsTrue (read.steady old) →
       (sought to (read.place old) (length (read.content old).bytes) ≡ Ok n) × (read.rest new ≡ from_place n (read.content old))) →
-      SeeksText read failed old new to ends_well ending (Ok n)
+      SeeksText read failed own old new to ends_well ending (Ok n)
   arrived old new to ends_well ending n goes narrows good at leads exact = record {
     seeks = record {
       same_tells = goes.keeps.same.tells;
@@ -180,14 +184,14 @@ module _ {R : Type 0} (read : Ghosts R) (failed : R → Bool) where
       (failed old ≡ true → read.rest old ≡ nothing) →
       (IsTrue (read.tells old) → IsTrue ends_well → IsTrue (read.steady old)) →
       (failed old ≡ true → read.refuses old Failed) →
-      Misses read old middle to ends_well ending error →
-      ComesBack read failed middle new (read.place old) (failed old) error answer →
-      SeeksText read failed old new to ends_well ending (Err answer)
+      Misses read own old middle to ends_well ending error →
+      ComesBack read failed own middle new (read.place old) (failed old) error answer →
+      SeeksText read failed own old new to ends_well ending (Err answer)
   missed old middle new to ends_well ending error answer well_known gone steady_known owns misses back =
       let goes = misses.goes.keeps in
       let first = goes.same.faults in
       let last = back.same.faults in
-      let keeps : KeepsReader {T = ℕ} read (OrSeek read.refuses) old new (Err answer) = record {
+      let keeps : KeepsReader {T = ℕ} read (OrSeek own read.refuses) old new (Err answer) = record {
         same = same-later read old middle new goes.same back.same;
         device = λ device. elim (refusal_or_not error) [
           | inl is ↦ omega (arith, first, back.device (refusal-device error is) device)
@@ -198,8 +202,8 @@ module _ {R : Type 0} (read : Ghosts R) (failed : R → Bool) where
           | inr not ↦ goes.patient (subst IsInterruption (back.other not) interruption)
         ];
         why = elim (refusal_or_not error) [
-          | inl is ↦ seek-narrows read.refuses old middle (misses.narrows is) answer (back.why is)
-          | inr not ↦ subst (OrSeek read.refuses old) (sym (back.other not)) goes.why
+          | inl is ↦ seek-narrows own read.refuses old middle (misses.narrows is) answer (back.why is)
+          | inr not ↦ subst (OrSeek own read.refuses old) (sym (back.other not)) goes.why
         ];
         narrows = tt;
       } in
@@ -240,7 +244,7 @@ module _ {R : Type 0} (read : Ghosts R) (failed : R → Bool) where
   -- a reader that had failed, or an error that doesn't refuse a seek
   pub stays-failed : (old new : R) (stood : ℕ) (had : Bool) (error : Error) → SameReader read old new → read.place new ≡ stood → failed new ≡ true →
       read.rest new ≡ nothing → ((e : Error) → read.refuses new e → (e ≡ Failed) ⊎ read.refuses old e) → ((had ≡ true) ⊎ (IsOutside error → ⊥)) →
-      ComesBack read failed old new stood had error error
+      ComesBack read failed own old new stood had error error
   stays-failed old new stood had error same stands fails gone more why = record {
     same = same;
     device = λ no device. absurd (no device);
@@ -261,7 +265,7 @@ module _ {R : Type 0} (read : Ghosts R) (failed : R → Bool) where
 
   pub came : (old new : R) (stood : ℕ) (had : Bool) (error : Error) → SameReader read old new → failed new ≡ false →
       (IsTrue (read.tells old) → read.place new ≡ stood) → (IsTrue (read.tells old) → IsTrue (read.steady old) → read.rest new ≡ from_place stood (read.content old)) →
-      had ≡ false → IsOutside error → AddsNoReason read.refuses old new → ComesBack read failed old new stood had error error
+      had ≡ false → IsOutside error → AddsNoReason read.refuses old new → ComesBack read failed own old new stood had error error
   came old new stood had error same good stands back good_before is narrows = record {
     same = same;
     device = λ no device. absurd (no device);
@@ -277,13 +281,13 @@ module _ {R : Type 0} (read : Ghosts R) (failed : R → Bool) where
     cause = λ told well refusal other quiet. refusal;
   }
 
-  pub lost : (old middle new : R) (stood : ℕ) (had : Bool) (error e answer : Error) → Goes {A = ℕ} read (OrSeek read.refuses) old middle (Err e) → SameReader read middle new →
+  pub lost : (old middle new : R) (stood : ℕ) (had : Bool) (error e answer : Error) → Goes {A = ℕ} read (OrSeek own read.refuses) old middle (Err e) → SameReader read middle new →
       read.place new ≡ stood → failed new ≡ true → read.rest new ≡ nothing → IsOutside error →
       (IsOutside answer → ⊥) → (answer ≢ Failed → answer ≡ e) →
       (IsTrue (read.tells old) → IsTrue (read.content old).ends_well → answer ≢ OutOfMemory → IsQuiet (read.faults old) (read.faults middle) → ⊥) →
-      ComesBack read failed old new stood had error answer
+      ComesBack read failed own old new stood had error answer
   lost old middle new stood had error e answer goes same stands fails gone is own kept never =
-      let keeps = (goes-unrefused read {T = ℕ} {U = ℕ} read.refuses old middle e answer kept goes).keeps in
+      let keeps = (goes-unrefused read {T = ℕ} {U = ℕ} below read.refuses old middle e answer kept goes).keeps in
       record {
         same = same-later read old middle new keeps.same same;
         device = λ no device. omega (arith, same.faults, keeps.device device);
@@ -300,9 +304,9 @@ module _ {R : Type 0} (read : Ghosts R) (failed : R → Bool) where
       }
 
   pub too-long : (old new : R) (to : SeekFrom) (ends_well : Bool) (ending : Ending) → SameReader read old new →
-      failed new ≡ true → (IsTrue (read.tells old) → ⊥) → SeeksText read failed old new to ends_well ending (Err TooLong)
+      failed new ≡ true → (IsTrue (read.tells old) → ⊥) → SeeksText read failed own old new to ends_well ending (Err TooLong)
   too-long old new to ends_well ending same fails untold = record {
-    seeks = seeks-refused old new to TooLong (keeps-refused read (OrSeek read.refuses) old new TooLong same (λ device. device) (inl (inr (inl refl))))
+    seeks = seeks-refused old new to TooLong (keeps-refused read (OrSeek own read.refuses) old new TooLong same (λ device. device) (inl (inr (inl refl))))
         (λ refusal. absurd refusal) (λ told. absurd (untold told)) (λ told. absurd (untold told)) (λ told. absurd (untold told)) (λ told. absurd (untold told));
     patient = λ interruption. interruption;
     good = tt;
@@ -313,9 +317,9 @@ module _ {R : Type 0} (read : Ghosts R) (failed : R → Bool) where
   }
 
   pub too-early : (old : R) (d : ℤ) (ends_well : Bool) (ending : Ending) → place_at (read.place old) d ≡ None →
-      SeeksText read failed old old (Current d) ends_well ending (Err BeforeStart)
+      SeeksText read failed own old old (Current d) ends_well ending (Err BeforeStart)
   too-early old d ends_well ending none = record {
-    seeks = seeks-refused old old (Current d) BeforeStart (keeps-refused read (OrSeek read.refuses) old old BeforeStart (same-self read old) (λ device. device) (inl (inl tt)))
+    seeks = seeks-refused old old (Current d) BeforeStart (keeps-refused read (OrSeek own read.refuses) old old BeforeStart (same-self read old) (λ device. device) (inl (inl tt)))
         (λ refusal e h. h) (λ told. refl) (λ told is_steady stands refusal. refl) (λ told well refusal. ap (λ o. moved_to o (length (read.content old).bytes)) none)
         (λ told well other quiet. tt);
     patient = λ interruption. interruption;
@@ -327,8 +331,8 @@ module _ {R : Type 0} (read : Ghosts R) (failed : R → Bool) where
   }
 
   pub counted-on : (old new : R) (d : ℤ) (t : ℕ) (ends_well : Bool) (ending : Ending) (r : Result ℕ Error) → place_at (read.place old) d ≡ Some t →
-      SeeksText read failed old new (Start t) ends_well ending r →
-      SeeksText read failed old new (Current d) ends_well ending r
+      SeeksText read failed own old new (Start t) ends_well ending r →
+      SeeksText read failed own old new (Current d) ends_well ending r
   counted-on old new d t ends_well ending r is text =
       let seeks = text.seeks in
       let len = length (read.content old).bytes in

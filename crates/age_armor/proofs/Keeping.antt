@@ -17,7 +17,7 @@ use Rattle.age_armor.specs.Counting.{Kept}
 use Rattle.age_armor.specs.Reader.{armored_reader, refuses_of}
 use Rattle.age_armor.specs.Refusing.{OrText}
 use Rattle.age_armor.specs.DeliveredLaws.{content_of}
-use Rattle.age_armor.specs.Seeking.{Goes}
+use Rattle.age_armor.specs.Seeking.{Goes, OrAstray}
 use Rattle.age_armor.proofs.Walking.{ends_at}
 use Rattle.age_armor.proofs.Refusing.{failed-or-kept, plain-narrows, text-patient, text-narrows}
 
@@ -50,18 +50,22 @@ module _ {R : Type 0} (read : Ghosts R) where
   goes-refused may a b c e first second other why = record { keeps = keeps-refused read may a c e (same-later read a b c first second) other why; unspent = tt }
 
   -- a call that refuses as one that seeks may
-  pub goes-seeking : {T : Type 0} (may : R → Error → Type 0) (result : Result T Error) (a b : R) → Goes read may a b result → Goes read (OrSeek may) a b result
-  goes-seeking may result a b goes = record { keeps = keeps-more read may (OrSeek may) result a b (λ e why. inr why) goes.keeps; unspent = goes.unspent }
+  pub goes-seeking : {T : Type 0} (own : Error → Type 0) (may : R → Error → Type 0) (result : Result T Error) (a b : R) → Goes read may a b result →
+      Goes read (OrSeek own may) a b result
+  goes-seeking own may result a b goes = record { keeps = keeps-more read may (OrSeek own may) result a b (λ e why. inr why) goes.keeps; unspent = goes.unspent }
 
   -- a refusal of which nothing is left but that it failed, where it was that of a seek
-  pub goes-unrefused : {T U : Type 0} (may : R → Error → Type 0) (a b : R) (e answer : Error) → (answer ≢ Failed → answer ≡ e) →
-      Goes {A = T} read (OrSeek may) a b (Err e) → Goes {A = U} read (OrSeek may) a b (Err answer)
-  goes-unrefused may a b e answer kept goes = record {
+  pub goes-unrefused : {T U : Type 0} (below : Error → Type 0) (may : R → Error → Type 0) (a b : R) (e answer : Error) → (answer ≢ Failed → answer ≡ e) →
+      Goes {A = T} read (OrSeek (OrAstray below) may) a b (Err e) → Goes {A = U} read (OrSeek (OrAstray below) may) a b (Err answer)
+  goes-unrefused below may a b e answer kept goes = record {
     keeps = record {
       same = goes.keeps.same;
       device = λ is. goes.keeps.device (subst IsDevice (kept (λ failed. rw failed at is)) is);
       patient = λ is. goes.keeps.patient (subst IsInterruption (kept (λ failed. rw failed at is)) is);
-      why = elim (failed-or-kept e answer kept) [ inl failed ↦ inl (inr (inr failed)) | inr same ↦ subst (OrSeek may a) (sym same) goes.keeps.why ];
+      why = elim (failed-or-kept e answer kept) [
+        | inl failed ↦ inl (inr (inr (inl failed)))
+        | inr same ↦ subst (OrSeek (OrAstray below) may a) (sym same) goes.keeps.why
+      ];
       narrows = tt;
     };
     unspent = tt;
@@ -120,8 +124,8 @@ module _ {R : Type 0} {buf : buffered.Ghosts R} {read : Ghosts R} where
   pub armor-plain : (a b : ArmoredReader R buf read) → AddsNoReason (TriedAgain refuses_of) a b → AddsNoReason refuses_of a b
   armor-plain a b narrows = plain-narrows refuses_of a b armor-patient narrows
 
-  pub seeks-plain : (a b : ArmoredReader R buf read) → AddsNoReason (TriedAgain refuses_of) a b → AddsNoReason (OrSeek refuses_of) a b
-  seeks-plain a b narrows = seek-narrows refuses_of a b (armor-plain a b narrows)
+  pub seeks-plain : (own : Error → Type 0) (a b : ArmoredReader R buf read) → AddsNoReason (TriedAgain refuses_of) a b → AddsNoReason (OrSeek own refuses_of) a b
+  seeks-plain own a b narrows = seek-narrows own refuses_of a b (armor-plain a b narrows)
 
   -- a step that adds no reason to the inner reader, after which it hasn't failed
   pub armor-narrows : (a b : ArmoredReader R buf read) → SameReader read a.source.inner b.source.inner →
@@ -178,21 +182,21 @@ module _ {R : Type 0} {buf : buffered.Ghosts R} {read : Ghosts R} where
   }
 
   -- back to the front of the text
-  pub rewound : {A B : Type 0} {x : A} {y : B} (a b : ArmoredReader R buf read) →
-      Goes {A = A} read (OrSeek (TriedAgain read.refuses)) a.source.inner b.source.inner (Ok x) →
+  pub rewound : {A B : Type 0} {x : A} {y : B} (own : Error → Type 0) (a b : ArmoredReader R buf read) →
+      Goes {A = A} read (OrSeek own (TriedAgain read.refuses)) a.source.inner b.source.inner (Ok x) →
       (IsTrue (read.tells a.source.inner) → read.place b.source.inner - b.source.taken ≡ read.place a.source.inner - a.source.taken) →
-      b.failed ≡ false → Goes {A = B} armored_reader (OrSeek refuses_of) a b (Ok y)
-  rewound a b goes origin good = record {
-    keeps = keeps-done armored_reader (OrSeek refuses_of) a b (same-armored a b goes.keeps.same origin)
+      b.failed ≡ false → Goes {A = B} armored_reader (OrSeek own refuses_of) a b (Ok y)
+  rewound own a b goes origin good = record {
+    keeps = keeps-done armored_reader (OrSeek own refuses_of) a b (same-armored a b goes.keeps.same origin)
         (tried-narrows refuses_of a b (armor-narrows a b goes.keeps.same goes.keeps.narrows good));
     unspent = goes.unspent;
   }
 
-  pub rewind-refused : {A B : Type 0} (a b : ArmoredReader R buf read) (e : Error) →
-      Goes {A = A} read (OrSeek (TriedAgain read.refuses)) a.source.inner b.source.inner (Err e) →
+  pub rewind-refused : {A B : Type 0} (own : Error → Type 0) (a b : ArmoredReader R buf read) (e : Error) →
+      Goes {A = A} read (OrSeek own (TriedAgain read.refuses)) a.source.inner b.source.inner (Err e) →
       (IsTrue (read.tells a.source.inner) → read.place b.source.inner - b.source.taken ≡ read.place a.source.inner - a.source.taken) →
-      Goes {A = B} armored_reader (OrSeek refuses_of) a b (Err e)
-  rewind-refused a b e goes origin = record {
+      Goes {A = B} armored_reader (OrSeek own refuses_of) a b (Err e)
+  rewind-refused own a b e goes origin = record {
     keeps = record {
       same = same-armored a b goes.keeps.same origin;
       device = goes.keeps.device;

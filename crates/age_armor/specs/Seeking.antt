@@ -4,7 +4,7 @@ use Rattle.age_io.specs.Stretch.{Stretch, nothing, from_place}
 use Rattle.age_io.specs.Reading.{IsQuiet, AddsNoReason, most_faults}
 use Rattle.age_io.specs.declared.traits.Read.{Ghosts}
 use Rattle.age_io.specs.Keeping.{SameReader, KeepsReader, OrSeek}
-use Rattle.age_io.specs.Cursor.{Seeks, IsOutside, place_at, sought}
+use Rattle.age_io.specs.Cursor.{Seeks, IsOutside, OrTooLong, OrFailed, place_at, sought}
 use Rattle.age_error.specs.Refusals.{IsDevice, IsInterruption}
 use Rattle.age_error.specs.declared.io.Error.{Error}
 use Rattle.age_error.specs.declared.io.Error.TheVariants.{OutOfMemory, BeforeStart, Failed}
@@ -12,6 +12,11 @@ use Rattle.age_error.specs.declared.io.SeekFrom.{SeekFrom}
 use Rattle.age_error.specs.declared.io.SeekFrom.TheVariants.{Start, End, Current}
 use Rattle.age_armor.specs.Delivered.{Outcome, Ending, delivered}
 use Rattle.age_armor.specs.Stages.{IsNamed}
+
+-- What only seeks in a text refuse with: its place or its length is past what a place may be, what was read before is outside of what the
+-- inner reader has now, or what only seeks of that one refuse with.
+abbrev pub OrAstray : (Error → Type 0) → Error → Type 0
+OrAstray below = OrTooLong (OrFailed below)
 
 -- the reader is the same but for where it stands, and refuses as it may
 pub record Goes {R A : Type 0} (read : Ghosts R) (may : R → Error → Type 0) (old new : R) (result : Result A Error) : Type 0 where
@@ -53,9 +58,9 @@ IsTo (End d) place = ⊥
 IsTo (Current d) place = place_at place d ≡ Some place
 
 -- What a seek in a text does. The bool says whether the reader that gives the text ends well, the ending how the text does.
-pub record SeeksText {R : Type 0} (read : Ghosts R) (failed : R → Bool) (old new : R) (to : SeekFrom) (ends_well : Bool) (ending : Ending)
-    (result : Result ℕ Error) : Type 0 where
-  pub seeks : Seeks read.tells read.steady read.content read.place read.rest read.faults read.refuses old new to result
+pub record SeeksText {R : Type 0} (read : Ghosts R) (failed : R → Bool) (seek_refuses : Error → Type 0) (old new : R) (to : SeekFrom)
+    (ends_well : Bool) (ending : Ending) (result : Result ℕ Error) : Type 0 where
+  pub seeks : Seeks read.tells read.steady read.content read.place read.rest read.faults read.refuses seek_refuses old new to result
   pub patient : IfErr result (λ e. IsInterruption e → ⊥)
   pub good : OnOk result (failed new ≡ false)
   pub unmoved : IfErr result (λ e. IsOutside e → failed new ≡ failed old)
@@ -67,8 +72,9 @@ pub record SeeksText {R : Type 0} (read : Ghosts R) (failed : R → Bool) (old n
       IfErr result (λ e. IsOutside e → (e ≡ BeforeStart) × IsEarly to (read.place old))
 
 -- what a seek in a text says of its error, before the reader is brought back to where it stood
-pub record Misses {R : Type 0} (read : Ghosts R) (old new : R) (to : SeekFrom) (ends_well : Bool) (ending : Ending) (error : Error) : Type 0 where
-  pub goes : Goes {A = ℕ} read (OrSeek read.refuses) old new (Err error)
+pub record Misses {R : Type 0} (read : Ghosts R) (seek_refuses : Error → Type 0) (old new : R) (to : SeekFrom) (ends_well : Bool) (ending : Ending)
+    (error : Error) : Type 0 where
+  pub goes : Goes {A = ℕ} read (OrSeek seek_refuses read.refuses) old new (Err error)
   pub narrows : IsOutside error → AddsNoReason read.refuses old new
   pub refused : IsTrue (read.tells old) → IsTrue (read.steady old) → IsOutside error →
       IsTrue (read.content old).ends_well × (sought to (read.place old) (length (read.content old).bytes) ≡ Err error)
@@ -76,7 +82,8 @@ pub record Misses {R : Type 0} (read : Ghosts R) (old new : R) (to : SeekFrom) (
       IsQuiet (read.faults old) (read.faults new) → IsNamed ending error × AsksPast to (read.place old) (length (read.content old).bytes)
 
 -- A reader is brought back to this place after an error that refuses a seek. After any other, or where it had failed, it has failed.
-pub record ComesBack {R : Type 0} (read : Ghosts R) (failed : R → Bool) (old new : R) (stood : ℕ) (had_failed : Bool) (error answer : Error) : Type 0 where
+pub record ComesBack {R : Type 0} (read : Ghosts R) (failed : R → Bool) (seek_refuses : Error → Type 0) (old new : R) (stood : ℕ) (had_failed : Bool)
+    (error answer : Error) : Type 0 where
   -- of every reader
   pub same : SameReader read old new
   pub device : (IsDevice error → ⊥) → IsDevice answer → read.faults old < read.faults new
@@ -85,7 +92,7 @@ pub record ComesBack {R : Type 0} (read : Ghosts R) (failed : R → Bool) (old n
   pub unmoved : IsOutside answer → IsOutside error × (answer ≡ error) × (failed new ≡ had_failed)
   pub other : (IsOutside error → ⊥) → answer ≡ error
   pub gone : IsTrue had_failed → read.rest new ≡ nothing
-  pub why : IsOutside error → OrSeek read.refuses old answer
+  pub why : IsOutside error → OrSeek seek_refuses read.refuses old answer
   pub narrows : IsOutside answer → (e : Error) → read.refuses new e → ((had_failed ≡ true) × (e ≡ Failed)) ⊎ read.refuses old e
   -- of a reader that tells its bytes
   pub stays : IsTrue (read.tells old) → read.place new ≡ stood

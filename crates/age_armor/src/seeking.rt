@@ -1,14 +1,15 @@
 //! Seeks in armor.
 ghost use Rattle.std.specs.Prelude.{◌≡◌, ◌≢◌, ℕ, ◌+◌, ◌*◌, ◌-◌, ◌^◌, ◌≤◌, ◌<◌, Bool, true, false, IsTrue, List, [], length, Result, IfOk, IfErr, OnOk, OnErr, Ok, Err, Some, None, IfSome};
 ghost use Rattle.age_error.specs.Refusals.{IsDevice, IsInterruption};
-ghost use Rattle.age_error.specs.declared.io.Error.TheVariants.{OutOfMemory, BeforeStart, PastEnd};
+ghost use Rattle.age_error.specs.declared.io.Error.TheVariants.{OutOfMemory, BeforeStart, PastEnd, TooLong};
 ghost use Rattle.age_error.specs.declared.io.SeekFrom.TheVariants.{Start, End, Current};
 ghost use Rattle.age_io.specs.Stretch.{Stretch, nothing, from_place, IsCleanEnd};
 ghost use Rattle.age_io.specs.Reading.{IsQuiet, AddsNoReason, TriedAgain, most_faults};
 ghost use Rattle.age_io.specs.Keeping.{OrSeek};
 ghost use Rattle.age_io.specs.Cursor.{Seeks, IsOutside, IsSeekRefusal, place_at as place_by, sought as sought_by};
+ghost use Rattle.age_io.specs.CursorLaws.{or_too_long_no_device, or_failed_no_device};
 ghost use Rattle.age_armor.specs.Delivered.{begins_armor};
-ghost use Rattle.age_armor.specs.Seeking.{Goes, AsksPast, IsEarly, IsFromEnd, IsNear, IsTo, SeeksText, ComesBack};
+ghost use Rattle.age_armor.specs.Seeking.{Goes, OrAstray, AsksPast, IsEarly, IsFromEnd, IsNear, IsTo, SeeksText, ComesBack};
 ghost use Rattle.age_armor.specs.Marks.{LearnsMore};
 ghost use Rattle.age_armor.specs.Stages.{IsNamed, is_start};
 
@@ -22,7 +23,7 @@ use age_io::{BufRead, Read, Seek, distance_back, is_outside, place_at, seek_retr
 fn from_end(len: u64, distance: i64) -> Result<u64, Error>
     ensures exact { len < 2 ^ 63 → (place : ℕ) → result ≡ sought_by (End distance) place len }
     ensures other { IfErr result (λ e. IsDevice e → ⊥) }
-    ensures why { IfErr result IsSeekRefusal }
+    ensures why { IfErr result (IsSeekRefusal (λ e. e ≡ TooLong)) }
 {
     if len > i64::MAX as u64 {
         return Err(Error::TooLong);
@@ -63,7 +64,7 @@ impl<R: BufRead + Seek> Counted<R> {
     /// Goes to where so many bytes of the text had been taken.
     #[tactic(auto, using(crate::proofs::AheadLines::ahead_none))]
     pub(crate) fn go(&mut self, taken: u64) -> Result<(), Error>
-        ensures goes { Goes ⟦<R as Read>⟧ (OrSeek (TriedAgain R.Read.refuses)) self.old.inner self.new.inner result }
+        ensures goes { Goes ⟦<R as Read>⟧ (OrSeek (OrAstray R.Seek.seek_refuses) (TriedAgain R.Read.refuses)) self.old.inner self.new.inner result }
         ensures taken { OnOk result (self.new.taken ≡ taken) }
         ensures stays { OnErr result (self.new.taken ≡ self.old.taken) }
         ensures lines { self.new.lines ≡ self.old.lines }
@@ -98,7 +99,7 @@ impl<R: BufRead + Seek> ArmoredReader<R> {
 
     // Goes to the last mark that isn't after a place, or to the front of the text.
     fn approach(&mut self, target: u64) -> Result<(), Error>
-        ensures goes { let reader = ⟦<ArmoredReader<R> as Read>⟧ in Goes reader (OrSeek reader.refuses) self.old self.new result }
+        ensures goes { let reader = ⟦<ArmoredReader<R> as Read>⟧ in Goes reader (OrSeek (OrAstray R.Seek.seek_refuses) reader.refuses) self.old self.new result }
         ensures before { OnOk result (self.new.place ≤ target) }
         ensures same_text { IsTrue (R.Read.tells (inner_of self.old)) → text_of self.new ≡ text_of self.old }
         ensures stays { OnErr result (self.new.place ≡ self.old.place) }
@@ -199,7 +200,7 @@ impl<R: BufRead + Seek> ArmoredReader<R> {
 
     // Goes to a place. Nothing is read where it stands there, or where the text is known to end before it.
     fn go_to(&mut self, target: u64) -> Result<u64, Error>
-        ensures goes { let reader = ⟦<ArmoredReader<R> as Read>⟧ in Goes reader (OrSeek reader.refuses) self.old self.new result }
+        ensures goes { let reader = ⟦<ArmoredReader<R> as Read>⟧ in Goes reader (OrSeek (OrAstray R.Seek.seek_refuses) reader.refuses) self.old self.new result }
         ensures missed { IfErr result (λ e. IsOutside e → AddsNoReason ⟦<ArmoredReader<R> as Read>⟧.refuses self.old self.new) }
         ensures there { IfOk result (λ n. n ≡ target) }
         ensures place { IsTrue (R.Read.tells (inner_of self.old)) → OnOk result (self.new.place ≡ target) }
@@ -249,7 +250,7 @@ impl<R: BufRead + Seek> ArmoredReader<R> {
 
     // Goes to a place counted from the end, where the text wasn't read to its end yet. At the end itself it stands then already.
     fn look_from_end(&mut self, distance: i64) -> Result<u64, Error>
-        ensures goes { let reader = ⟦<ArmoredReader<R> as Read>⟧ in Goes reader (OrSeek reader.refuses) self.old self.new result }
+        ensures goes { let reader = ⟦<ArmoredReader<R> as Read>⟧ in Goes reader (OrSeek (OrAstray R.Seek.seek_refuses) reader.refuses) self.old self.new result }
         ensures missed { IfErr result (λ e. IsOutside e → AddsNoReason ⟦<ArmoredReader<R> as Read>⟧.refuses self.old self.new) }
         ensures well { IsTrue (R.Read.tells (inner_of self.old)) → IsTrue (R.Read.steady (inner_of self.old)) →
             OnOk result (IsTrue (armored_content self.old).ends_well) }
@@ -303,14 +304,14 @@ impl<R: BufRead + Seek> ArmoredReader<R> {
             IfOk result (λ n. (n ≤ length (armored_content self.now).bytes) × (n ≤ furthest_of self.now)) }
         ensures outside { IsTrue (R.Read.tells (inner_of self.now)) → IsTrue (R.Read.steady (inner_of self.now)) → IfErr result IsOutside }
         ensures other { IfErr result (λ e. IsDevice e → ⊥) }
-        ensures why { IfErr result IsSeekRefusal }
+        ensures why { IfErr result (IsSeekRefusal (λ e. e ≡ TooLong)) }
     {
         from_end(len, distance)
     }
 
     // Goes to a place counted from the end.
     fn go_from_end(&mut self, distance: i64) -> Result<u64, Error>
-        ensures goes { let reader = ⟦<ArmoredReader<R> as Read>⟧ in Goes reader (OrSeek reader.refuses) self.old self.new result }
+        ensures goes { let reader = ⟦<ArmoredReader<R> as Read>⟧ in Goes reader (OrSeek (OrAstray R.Seek.seek_refuses) reader.refuses) self.old self.new result }
         ensures missed { IfErr result (λ e. IsOutside e → AddsNoReason ⟦<ArmoredReader<R> as Read>⟧.refuses self.old self.new) }
         ensures well { IsTrue (R.Read.tells (inner_of self.old)) → IsTrue (R.Read.steady (inner_of self.old)) →
             OnOk result (IsTrue (armored_content self.old).ends_well) }
@@ -371,7 +372,7 @@ impl<R: BufRead + Seek> ArmoredReader<R> {
     fn come_back(&mut self, place: u64, failed: bool, error: Error) -> Error
         requires fits { IsTrue (R.Read.tells (inner_of self.old)) → place < 2 ^ 63 }
         requires inside { IsTrue (R.Read.tells (inner_of self.old)) → IsTrue (R.Read.steady (inner_of self.old)) → place ≤ length (armored_content self.old).bytes }
-        ensures back { ComesBack ⟦<ArmoredReader<R> as Read>⟧ (λ r. has_failed r) self.old self.new place failed error result }
+        ensures back { ComesBack ⟦<ArmoredReader<R> as Read>⟧ (λ r. has_failed r) (OrAstray R.Seek.seek_refuses) self.old self.new place failed error result }
         ensures same_text { IsTrue (R.Read.tells (inner_of self.old)) → text_of self.new ≡ text_of self.old }
         ensures learns { LearnsMore self.old.marks self.new.marks }
         ensures counts { self.old.source.lines ≤ self.new.source.lines }
@@ -399,7 +400,7 @@ impl<R: BufRead + Seek> ArmoredReader<R> {
 
     // A seek to a place.
     fn seek_to(&mut self, target: u64) -> Result<u64, Error>
-        ensures text { SeeksText ⟦<ArmoredReader<R> as Read>⟧ (λ r. has_failed r) self.old self.new (Start target)
+        ensures text { SeeksText ⟦<ArmoredReader<R> as Read>⟧ (λ r. has_failed r) (OrAstray R.Seek.seek_refuses) self.old self.new (Start target)
             (R.Read.content (inner_of self.old)).ends_well (text_outcome_of self.old).ending result }
         ensures same_text { IsTrue (R.Read.tells (inner_of self.old)) → text_of self.new ≡ text_of self.old }
         ensures lines { IsTrue (R.Read.tells (inner_of self.old)) → IsTrue (R.Read.steady (inner_of self.old)) → IsTrue (notes_all self.old) →
@@ -423,7 +424,7 @@ impl<R: BufRead + Seek> ArmoredReader<R> {
 
     // A seek from the end.
     fn seek_from_end(&mut self, distance: i64) -> Result<u64, Error>
-        ensures text { SeeksText ⟦<ArmoredReader<R> as Read>⟧ (λ r. has_failed r) self.old self.new (End distance)
+        ensures text { SeeksText ⟦<ArmoredReader<R> as Read>⟧ (λ r. has_failed r) (OrAstray R.Seek.seek_refuses) self.old self.new (End distance)
             (R.Read.content (inner_of self.old)).ends_well (text_outcome_of self.old).ending result }
         ensures well { IsTrue (R.Read.tells (inner_of self.old)) → IsTrue (R.Read.steady (inner_of self.old)) →
             OnOk result (IsTrue (armored_content self.old).ends_well) }
@@ -448,7 +449,7 @@ impl<R: BufRead + Seek> ArmoredReader<R> {
 
     // A seek from the present place.
     fn seek_by(&mut self, distance: i64) -> Result<u64, Error>
-        ensures text { SeeksText ⟦<ArmoredReader<R> as Read>⟧ (λ r. has_failed r) self.old self.new (Current distance)
+        ensures text { SeeksText ⟦<ArmoredReader<R> as Read>⟧ (λ r. has_failed r) (OrAstray R.Seek.seek_refuses) self.old self.new (Current distance)
             (R.Read.content (inner_of self.old)).ends_well (text_outcome_of self.old).ending result }
         ensures same_text { IsTrue (R.Read.tells (inner_of self.old)) → text_of self.new ≡ text_of self.old }
         ensures lines { IsTrue (R.Read.tells (inner_of self.old)) → IsTrue (R.Read.steady (inner_of self.old)) → IsTrue (notes_all self.old) →
@@ -479,6 +480,10 @@ impl<R: BufRead + Seek> ArmoredReader<R> {
 impl<R: BufRead + Seek> Seek for ArmoredReader<R> {
     ghost use Rattle.age_armor.specs.Reader.{inner_of, has_failed, text_of, outcome_of, text_outcome_of, lines_of, marks_of, furthest_of, notes_all, knows_end, armored_content, place_of, armored_rest, shown_of};
 
+    ghost seek_refuses = { OrAstray R.Seek.seek_refuses };
+
+    ghost no_device = { or_too_long_no_device (or_failed_no_device R.Seek.no_device) };
+
     /// Moves within what the text carries, and answers the new place in bytes from its front.
     ///
     /// The text is read on from the last mark that isn't after the target, or else from its front, as far as the target asks,
@@ -503,7 +508,7 @@ impl<R: BufRead + Seek> Seek for ArmoredReader<R> {
     /// Marks and the length are kept from the first reading on: of a file that changes meanwhile nothing is said.
     fn seek(&mut self, to: SeekFrom) -> Result<u64, Error>
         ensures seeks { let reader = ⟦<ArmoredReader<R> as Read>⟧ in
-            Seeks reader.tells reader.steady reader.content reader.place reader.rest reader.faults reader.refuses self.old self.new to result }
+            Seeks reader.tells reader.steady reader.content reader.place reader.rest reader.faults reader.refuses (OrAstray R.Seek.seek_refuses) self.old self.new to result }
         ensures patient { IfErr result (λ e. IsInterruption e → ⊥) }
         ensures good { OnOk result (has_failed self.new ≡ false) }
         ensures unmoved { IfErr result (λ e. IsOutside e → has_failed self.new ≡ has_failed self.old) }

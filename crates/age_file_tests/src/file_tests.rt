@@ -1,8 +1,8 @@
 //! Whole files to `bench`. The expected bytes are those of Python, from the format's own words.
 
 use crate::shared::{
-    Kind, command_gives_message, commands_file, gives, gives_payload, grease, identities,
-    is_answered, opens_to, prepared, recipients, replace, written,
+    Kind, command_gives_message, commands_file, gives_payload, grease, identities, is_answered,
+    opens_to, prepared, recipients, replace, written,
 };
 use age::armor::Format;
 use age::draw::Draw;
@@ -12,7 +12,7 @@ use age::stream::StreamReader;
 use age::streaming::{FileError, decrypt_all, encrypt_all};
 use age::{DecryptError, Decryptor, Identity, Recipient};
 use age_bench::suite::BenchSuite;
-use age_try::answers::is_refusal;
+use age_try::answers::{gives, is_refusal};
 use age_try::fixtures::{MESSAGE, message_file, part, zeros};
 use std::alloc::{AllocError, Global};
 use std::test::Fail;

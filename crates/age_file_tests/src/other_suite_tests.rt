@@ -1,7 +1,8 @@
 //! The other suite against values of HMAC in Python.
 
-use crate::shared::{changed, gives};
+use crate::shared::changed;
 use age::suite::{Opens, ScryptError, Suite};
+use age_try::answers::gives;
 use age_try::fixtures::{KEY, digest, part};
 use age_try::other_suite::OtherSuite;
 use std::alloc::{AllocError, Global};

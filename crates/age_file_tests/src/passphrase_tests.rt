@@ -1,13 +1,13 @@
 //! Files under a passphrase, as encryptors write them. The expected digests are those of Python, from the format's own words.
 ghost use Rattle.std.specs.Prelude.{◌≤◌};
 
-use crate::shared::{done, gives, is_scrypt, passphrase, written};
+use crate::shared::{done, is_scrypt, passphrase, written};
 use age::draw::Draw;
 use age::io::Bytes;
 use age::scrypt::Identity;
 use age::{EncryptError, Encryptor, decrypt};
 use age_bench::suite::BenchSuite;
-use age_try::answers::is_refusal;
+use age_try::answers::{gives, is_refusal};
 use age_try::fixtures::{MESSAGE, digest, plaintext};
 use std::alloc::{AllocError, Global};
 use std::test::Fail;

@@ -13,7 +13,7 @@ use age_bench::file::{decrypt_with, encrypt_to};
 use age_bench::names::{To, With};
 use age_bench::recipient::{BenchIdentity, BenchRecipient};
 use age_bench::suite::BenchSuite;
-use age_try::answers::{delivers, delivers_until, ends, is_refusal, read_refuses};
+use age_try::answers::{delivers, delivers_until, ends, gives, is_refusal, read_refuses};
 use age_try::fixtures::{MESSAGE, SEALED, empty_stanza, zeros};
 use age_uses::own::{OwnIdentity, OwnRecipient};
 use std::alloc::{AllocError, Global};
@@ -174,14 +174,6 @@ pub fn is_error<T: Drop, E: Debug + Drop>(
     match answer {
         Ok(_) => false,
         Err(it) => format!(in alloc; "{it:?}").is_ok_and(|text| text.as_str() == error),
-    }
-}
-
-/// Whether it is a success with these bytes.
-pub fn gives<E: Drop>(answer: Result<Vec<u8>, E>, bytes: &[u8]) -> bool {
-    match answer {
-        Ok(got) => got.as_slice() == bytes,
-        Err(_) => false,
     }
 }
 

@@ -1,8 +1,8 @@
 //! Whole files to `bench` in one call, bare and armored. The expected texts are those of Python, from the format's own words.
 
 use crate::shared::{
-    call_gives_message, command_decrypts, command_gives_message, commands_file, done, gives,
-    grease, is_error, opened_by, opens_to,
+    call_gives_message, command_decrypts, command_gives_message, commands_file, done, grease,
+    is_error, opened_by, opens_to,
 };
 use age::armor::Format;
 use age::draw::Draw;
@@ -13,7 +13,7 @@ use age_bench::file::decrypt_with;
 use age_bench::names::With;
 use age_bench::recipient::{BenchIdentity, BenchRecipient};
 use age_bench::suite::BenchSuite;
-use age_try::answers::is_refusal;
+use age_try::answers::{gives, is_refusal};
 use age_try::fixtures::{MESSAGE, message_file, part, zeros};
 use std::alloc::{AllocError, Global};
 use std::test::Fail;

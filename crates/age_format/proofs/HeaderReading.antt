@@ -1,13 +1,12 @@
 -- What reading a header has taken.
-use Rattle.std.proofs.Common.{◌≡◌, ◌≢◌, ℕ, ◌+◌, ◌≤◌, Bool, List, [], ◌∷◌, ◌++◌, length, refl, ◌⊎◌, inl, inr, ap, sym, ◌∙◌, arith, subst, length-append, Ok, Err}
-use Rattle.std.specs.Prelude.{Result, IfErr, IsErrAnd}
+use Rattle.std.proofs.Common.{◌≡◌, ◌≢◌, ℕ, ◌+◌, ◌≤◌, Bool, List, [], ◌∷◌, ◌++◌, length, refl, ◌⊎◌, inl, inr, ap, sym, ◌∙◌, arith, subst, length-append}
 use Rattle.std.proofs.lemmas.List.{append-nil, nil_from_length}
 use Rattle.std.specs.List.{AllByRecursion}
 use Rattle.age_error.specs.declared.io.Error.{Error}
 use Rattle.age_error.specs.declared.io.Error.TheVariants as io
 use Rattle.age_error.specs.declared.decrypt.DecryptError.{DecryptError}
 use Rattle.age_error.specs.declared.decrypt.DecryptError.TheVariants as decrypt
-use Rattle.age_error.specs.DecryptErrors.{DecryptRefusal, IfIoRefusal, decrypt_refusal, decrypt_of_io}
+use Rattle.age_error.specs.DecryptErrors.{IfIoRefusal, decrypt_refusal, decrypt_of_io}
 use Rattle.age_io.specs.Stretch.{Stretch}
 use Rattle.age_io.specs.Reading.{Delivers, StaysOrFails, IsQuiet, IsShort}
 use Rattle.age_io.proofs.Delivering.{Delivers-joined}
@@ -127,13 +126,7 @@ has_uncovered legacy text stanzas mac h =
     let size : length last ≡ 48 = omega (arith, length-append (columns mac) (10 ∷ []), length-columns mac, h.is_mac.len) in
     omega (arith, ap length h.spelled, length-append (line version_line) (h.middle ++ last), length-append h.middle last)
 
--- what holds of an error's refusal holds of a result that is that error
 -- a reader's refusal as an error of decryption
 pub io_of_error : (Holds : Error → Type 0) (e : Error) → Holds e → IfIoRefusal Holds (decrypt_refusal (decrypt_of_io e))
 io_of_error Holds io.OutOfMemory h = tt
 io_of_error Holds _ h = h
-
-pub refusal_of_error : {T : Type 0} (result : Result T DecryptError) (e : DecryptError) (P : DecryptRefusal → Type 0)
-    → IsErrAnd result (λ x. x ≡ e) → P (decrypt_refusal e) → IfErr result (λ x. P (decrypt_refusal x))
-refusal_of_error (Ok x) e P same h = tt
-refusal_of_error (Err x) e P same h = subst (λ y. P (decrypt_refusal y)) (sym same) h

@@ -13,6 +13,10 @@ use Rattle.age_io.specs.Reading.{most_faults}
 use Rattle.age_io.specs.Standard.{CountsFaults, CountsOwnFaults, IsNoDevice, IsReadRefusal, StandsAfter, sought_below}
 use Rattle.age_io.specs.Stretch.{nothing}
 
+-- what only seeks of a device refuse with
+abbrev seek_refuses : Error → Type 0
+seek_refuses e = e ≡ TooLong
+
 untold : {A : Type 0} → IsTrue false → A
 untold told = absurd (Prim.cc)
 
@@ -31,7 +35,7 @@ stands-failed wanted place position (Err x) e is failed = λ other. absurd (othe
 module _ {S : Type 0} (faults : S → ℕ) (old new : S) (to : SeekFrom) where
   -- by the count of faults before its last step, which is that of its first
   pub seeks-counted : (between : ℕ) (r : Result ℕ Error) → between ≡ faults old → between < most_faults → CountsFaults between (faults new) r →
-      Seeks (λ _. false) (λ _. false) (λ _. nothing) (λ _. 0) (λ _. nothing) faults (λ _. IsReadRefusal) old new to r
+      Seeks (λ _. false) (λ _. false) (λ _. nothing) (λ _. 0) (λ _. nothing) faults (λ _. IsReadRefusal) seek_refuses old new to r
   seeks-counted between (Ok n) same below counts = record {
     same_tells = refl;
     same_steady = refl;
@@ -74,8 +78,8 @@ module _ {S : Type 0} (faults : S → ℕ) (old new : S) (to : SeekFrom) where
   }
 
   -- a target that is refused, where the device had no fault
-  pub seeks-refused : (e : Error) → faults new ≡ faults old → IsNoDevice e → IsSeekRefusal e →
-      Seeks (λ _. false) (λ _. false) (λ _. nothing) (λ _. 0) (λ _. nothing) faults (λ _. IsReadRefusal) old new to (Err e)
+  pub seeks-refused : (e : Error) → faults new ≡ faults old → IsNoDevice e → IsSeekRefusal seek_refuses e →
+      Seeks (λ _. false) (λ _. false) (λ _. nothing) (λ _. 0) (λ _. nothing) faults (λ _. IsReadRefusal) seek_refuses old new to (Err e)
   seeks-refused e same other why = record {
     same_tells = refl;
     same_steady = refl;
@@ -97,18 +101,18 @@ module _ {S : Type 0} (faults : S → ℕ) (old new : S) (to : SeekFrom) where
     cause = untold;
   }
 
-fitting : (fits : Bool) (n : ℕ) → IfErr {T = ℕ} (if fits then Ok n else Err PastEnd) IsSeekRefusal
+fitting : (fits : Bool) (n : ℕ) → IfErr {T = ℕ} (if fits then Ok n else Err PastEnd) (IsSeekRefusal seek_refuses)
 fitting true n = tt
 fitting false n = inl tt
 
-moving : (below : Bool) (to : Option ℕ) (len : ℕ) → IfErr (if below then moved_to to len else Err TooLong) IsSeekRefusal
+moving : (below : Bool) (to : Option ℕ) (len : ℕ) → IfErr (if below then moved_to to len else Err TooLong) (IsSeekRefusal seek_refuses)
 moving true None len = inl tt
 moving true (Some n) len = fitting (nat_le n len) n
-moving false to len = inr (inl refl)
+moving false to len = inr refl
 
 -- why a target is refused
-pub below-refused : (to : SeekFrom) (place len : ℕ) (e : Error) → Err e ≡ sought_below to place len → IsSeekRefusal e
-below-refused to place len e is = subst (λ r. IfErr r IsSeekRefusal) (sym is) (moving _ (target to place len) len)
+pub below-refused : (to : SeekFrom) (place len : ℕ) (e : Error) → Err e ≡ sought_below to place len → IsSeekRefusal seek_refuses e
+below-refused to place len e is = subst (λ r. IfErr r (IsSeekRefusal seek_refuses)) (sym is) (moving _ (target to place len) len)
 
 -- what a device says of its place and its length, where std knows them
 found : (place here len : ℕ) (bytes : List ℕ) (at behind : Option ℕ) (kept : Option (List ℕ)) →

@@ -29,8 +29,8 @@ module _ {R : Type 0} (read : Ghosts R) where
   same-read a b reads =
       record { tells = reads.same_tells; steady = reads.same_steady; faults = reads.no_fewer_faults; content = reads.same_content }
 
-  pub same-sought : {may : R → Error → Type 0} {to : SeekFrom} {result : Result ℕ Error} (a b : R) →
-      Seeks read.tells read.steady read.content read.place read.rest read.faults may a b to result → SameReader read a b
+  pub same-sought : {may : R → Error → Type 0} {seek_refuses : Error → Type 0} {to : SeekFrom} {result : Result ℕ Error} (a b : R) →
+      Seeks read.tells read.steady read.content read.place read.rest read.faults may seek_refuses a b to result → SameReader read a b
   same-sought a b seeks =
       record { tells = seeks.same_tells; steady = seeks.same_steady; faults = seeks.no_fewer_faults; content = seeks.same_content }
 
@@ -80,5 +80,6 @@ early-narrows read a b tells end fewer e h = elim h [
 ]
 
 -- what a seek may refuse with in a state that adds no reason, it may in the one before
-pub seek-narrows : {R : Type 0} (refuses : R → Error → Type 0) (a b : R) → AddsNoReason refuses a b → AddsNoReason (OrSeek refuses) a b
-seek-narrows refuses a b fewer e h = elim h [ inl is ↦ inl is | inr more ↦ inr (fewer e more) ]
+pub seek-narrows : {R : Type 0} (seek_refuses : Error → Type 0) (refuses : R → Error → Type 0) (a b : R) → AddsNoReason refuses a b →
+    AddsNoReason (OrSeek seek_refuses refuses) a b
+seek-narrows seek_refuses refuses a b fewer e h = elim h [ inl is ↦ inl is | inr more ↦ inr (fewer e more) ]

@@ -2,7 +2,6 @@
 use Rattle.std.proofs.Common.{◌≡◌, ℕ, ◌<◌, IsTrue, Result, Ok, Err, IfErr, OnErr, inl, inr, subst}
 use Rattle.std.specs.Prelude.{IsErrAnd, ◌⊎◌}
 use Rattle.age_io.specs.declared.traits.Read.{Ghosts}
-use Rattle.age_io.specs.Cursor.{IsSeekRefusal}
 use Rattle.age_io.specs.Keeping.{SameReader}
 use Rattle.age_io.specs.Reading.{AddsNoReason, TriedAgain}
 use Rattle.age_error.specs.Refusals.{IsDevice, IsInterruption}
@@ -44,11 +43,6 @@ pub record Interrupted {R : Type 0} (read : Ghosts R) (old new : R) (calls : ℕ
   pub same_rest : IsTrue (read.tells old) → read.rest new ≡ read.rest old
   pub narrows : AddsNoReason read.refuses old new
   pub worn : 0 < calls → read.refuses old (Device interrupted)
-
--- an interruption is none of the refusals of seeks
-pub sought-interruption : (e : Error) → IsInterruption e → IsSeekRefusal e → ⊥
-sought-interruption (Device kind) is refusal = elim refusal [ inl outside ↦ outside | inr other ↦ elim other [ inl same ↦ cc | inr same ↦ cc ] ]
-sought-interruption _ is refusal = is
 
 module _ {S : Type 0} (refuses : S → Error → Type 0) where
   -- none of these errors is an interruption

@@ -5,7 +5,7 @@ use Rattle.age_error.specs.Refusals.{IsDevice, IsInterruption}
 use Rattle.age_error.specs.declared.io.Error.{Error}
 use Rattle.age_error.specs.declared.io.Error.TheVariants.{UnexpectedEof, OutOfMemory, BeforeStart, PastEnd, Failed}
 use Rattle.age_error.specs.declared.io.SeekFrom.{SeekFrom}
-use Rattle.age_io.specs.Cursor.{Seeks, IsOutside}
+use Rattle.age_io.specs.Cursor.{Seeks, IsOutside, OrFailed}
 use Rattle.age_io.specs.declared.traits.Read.{Ghosts}
 use Rattle.age_io.specs.Keeping.{SameReader, KeepsReader, OrSeek}
 use Rattle.age_io.specs.Reading.{Reads, AddsNoReason, TriedAgain, Delivers, StaysOrFails, Gave, Appended, TookSome, EndsEarly, IsShort}
@@ -105,23 +105,26 @@ outside-or PastEnd = inl tt
 outside-or _ = inr (λ is. is)
 
 -- a seek refused, and is told with another error where its target was outside the content
-pub keeps-unrefused : {R T : Type 0} (read : Ghosts R) {to : SeekFrom} (a c : R) (e r : Error) → (IsOutside e → r ≡ Failed) →
+pub keeps-unrefused : {R T : Type 0} (read : Ghosts R) (seek_refuses : Error → Type 0) {to : SeekFrom} (a c : R) (e r : Error) → (IsOutside e → r ≡ Failed) →
     ((IsOutside e → ⊥) → r ≡ e) → (IsInterruption e → ⊥) →
-    Seeks read.tells read.steady read.content read.place read.rest read.faults (TriedAgain read.refuses) a c to (Err e) →
-    KeepsReader {T = T} read (OrSeek (TriedAgain read.refuses)) a c (Err r)
-keeps-unrefused read a c e r failed same patient seeks = elim (outside-or e) [
+    Seeks read.tells read.steady read.content read.place read.rest read.faults (TriedAgain read.refuses) seek_refuses a c to (Err e) →
+    KeepsReader {T = T} read (OrSeek (OrFailed seek_refuses) (TriedAgain read.refuses)) a c (Err r)
+keeps-unrefused read seek_refuses a c e r failed same patient seeks = elim (outside-or e) [
   | inl out ↦ record {
     same = same-sought read a c seeks;
     device = λ is. absurd (subst IsDevice (failed out) is);
     patient = λ is. subst IsInterruption (failed out) is;
-    why = inl (inr (inr (failed out)));
+    why = inl (inr (inl (failed out)));
     narrows = tt;
   }
   | inr other ↦ record {
     same = same-sought read a c seeks;
     device = λ is. seeks.device (subst IsDevice (same other) is);
     patient = λ is. patient (subst IsInterruption (same other) is);
-    why = subst (λ x. OrSeek (TriedAgain read.refuses) a x) (sym (same other)) seeks.why;
+    why = elim seeks.why [
+      | inl seek ↦ elim seek [ inl out ↦ absurd (other out) | inr own ↦ inl (inr (inr (subst seek_refuses (sym (same other)) own))) ]
+      | inr more ↦ inr (subst (TriedAgain read.refuses a) (sym (same other)) more)
+    ];
     narrows = tt;
   }
 ]

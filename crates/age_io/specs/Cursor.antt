@@ -40,21 +40,32 @@ IsOutside BeforeStart = Unit {0}
 IsOutside PastEnd = Unit {0}
 IsOutside _ = ⊥
 
--- What only a seek refuses with: its target is outside the content, the content or the place is past what a place may be, or what
--- it was asked of below is not where it was found.
-abbrev pub IsSeekRefusal : Error → Type 0
-IsSeekRefusal e = IsOutside e ⊎ (e ≡ TooLong) ⊎ (e ≡ Failed)
+-- What only a seek refuses with: its target is outside the content, or what seeks of this reader have of their own.
+abbrev pub IsSeekRefusal : (Error → Type 0) → Error → Type 0
+IsSeekRefusal seek_refuses e = IsOutside e ⊎ seek_refuses e
+
+-- none of these errors says that the device failed
+abbrev pub NoDevice : (Error → Type 0) → Type 0
+NoDevice refuses = (e : Error) → refuses e → IsDevice e → ⊥
+
+-- the content or the place is past what a place may be, or as a reader below
+abbrev pub OrTooLong : (Error → Type 0) → Error → Type 0
+OrTooLong below e = (e ≡ TooLong) ⊎ below e
+
+-- what was read before is outside of what a reader below has now, or as that one
+abbrev pub OrFailed : (Error → Type 0) → Error → Type 0
+OrFailed below e = (e ≡ Failed) ⊎ below e
 
 -- What a seek does: a target from 0 to the length is moved to, any other is refused and moves nothing.
 pub record Seeks {S : Type 0} (tells steady : S → Bool) (content : S → Stretch) (place : S → ℕ) (rest : S → Stretch) (faults : S → ℕ) (refuses : S → Error → Type 0)
-    (old new : S) (to : SeekFrom) (result : Result ℕ Error) : Type 0 where
+    (seek_refuses : Error → Type 0) (old new : S) (to : SeekFrom) (result : Result ℕ Error) : Type 0 where
   -- of every reader
   pub same_tells : tells new ≡ tells old
   pub same_steady : steady new ≡ steady old
   pub no_fewer_faults : faults old ≤ faults new
   pub device : IfErr result (λ e. IsDevice e → faults old < faults new)
   pub unspent : OnOk result (faults new < most_faults)
-  pub why : IfErr result (λ e. IsSeekRefusal e ⊎ refuses old e)
+  pub why : IfErr result (λ e. IsSeekRefusal seek_refuses e ⊎ refuses old e)
   pub narrows : OnOk result (AddsNoReason refuses old new)
   pub again : IfErr result (λ e. IsInterruption e → AddsNoReason refuses old new)
   pub missed : IfErr result (λ e. IsOutside e → AddsNoReason refuses old new)

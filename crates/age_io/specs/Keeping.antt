@@ -30,5 +30,5 @@ abbrev pub OrEarly : {R : Type 0} → Ghosts R → R → Error → Type 0
 OrEarly read r e = ((e ≡ UnexpectedEof) × (IsTrue (read.tells r) → IsTrue (read.rest r).ends_well)) ⊎ TriedAgain read.refuses r e
 
 -- as it does, or as only a seek does
-abbrev pub OrSeek : {R : Type 0} → (R → Error → Type 0) → R → Error → Type 0
-OrSeek refuses r e = IsSeekRefusal e ⊎ refuses r e
+abbrev pub OrSeek : {R : Type 0} → (Error → Type 0) → (R → Error → Type 0) → R → Error → Type 0
+OrSeek seek_refuses refuses r e = IsSeekRefusal seek_refuses e ⊎ refuses r e

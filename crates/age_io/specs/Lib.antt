@@ -13,5 +13,6 @@ pub mod Buffered
 pub mod BehindLaws
 pub mod Failing
 pub mod Cursor
+pub mod CursorLaws
 pub mod Keeping
 pub mod Replies

@@ -84,16 +84,17 @@ module _ {S : Type 0} (tells steady : S → Bool) (content : S → Stretch) (pla
     pub buf : List ℕ
     pub refused : Reads tells steady content place rest faults refuses between new buf (Err e)
 
-  -- this answer came of a read or a seek, which left the reader so
-  abbrev pub CameOf : Op → Answer → S → S → Type 0
-  CameOf (Read n) (Bytes got) old new = GivesUpTo n got.items old new
-  CameOf (Read n) (Fault got e) old new = GivesThenRefuses n got.items e old new
-  CameOf (Seek to) (At n) old new = Seeks tells steady content place rest faults refuses old new to (Ok n)
-  CameOf (Seek to) (Fault got e) old new = (got.items ≡ []) × Seeks tells steady content place rest faults refuses old new to (Err e)
-  CameOf _ _ old new = ⊥
+  module _ (seek_refuses : Error → Type 0) where
+    -- this answer came of a read or a seek, which left the reader so
+    abbrev pub CameOf : Op → Answer → S → S → Type 0
+    CameOf (Read n) (Bytes got) old new = GivesUpTo n got.items old new
+    CameOf (Read n) (Fault got e) old new = GivesThenRefuses n got.items e old new
+    CameOf (Seek to) (At n) old new = Seeks tells steady content place rest faults refuses seek_refuses old new to (Ok n)
+    CameOf (Seek to) (Fault got e) old new = (got.items ≡ []) × Seeks tells steady content place rest faults refuses seek_refuses old new to (Err e)
+    CameOf _ _ old new = ⊥
 
-  -- these answers came of reads and seeks in turn, each from the state in which the one before it left the reader
-  abbrev pub CameOfAll : List Op → List Answer → S → S → Type 0
-  CameOfAll [] [] old new = new ≡ old
-  CameOfAll (op ∷ ops) (a ∷ answers) old new = (between : S) × CameOf op a old between × CameOfAll ops answers between new
-  CameOfAll _ _ old new = ⊥
+    -- these answers came of reads and seeks in turn, each from the state in which the one before it left the reader
+    abbrev pub CameOfAll : List Op → List Answer → S → S → Type 0
+    CameOfAll [] [] old new = new ≡ old
+    CameOfAll (op ∷ ops) (a ∷ answers) old new = (between : S) × CameOf op a old between × CameOfAll ops answers between new
+    CameOfAll _ _ old new = ⊥

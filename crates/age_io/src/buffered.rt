@@ -6,13 +6,14 @@ ghost use denote.Follow.{follows};
 ghost use Rattle.std.proofs.Common.{arith};
 ghost use Rattle.age_error.specs.Refusals.{IsDevice, IsInterruption};
 ghost use Rattle.age_error.specs.declared.io.Error.{Error as Failure};
-ghost use Rattle.age_error.specs.declared.io.Error.TheVariants.{OutOfMemory, Failed};
+ghost use Rattle.age_error.specs.declared.io.Error.TheVariants.{OutOfMemory};
 ghost use Rattle.age_io.specs.Stretch.{IsCleanEnd, IsFault, from_place};
 ghost use Rattle.age_io.specs.Reading.{Reads, IsQuiet, Delivers, TriedAgain, most_faults};
 ghost use Rattle.age_io.specs.Keeping.{KeepsReader, OrSeek};
 ghost use Rattle.age_io.specs.Failing.{FailsForGood};
 ghost use Rattle.age_io.specs.Filling.{IsFront, Fills, Consumes};
-ghost use Rattle.age_io.specs.Cursor.{Seeks, IsOutside, place_at};
+ghost use Rattle.age_io.specs.Cursor.{Seeks, IsOutside, OrFailed, place_at};
+ghost use Rattle.age_io.specs.CursorLaws.{or_failed_no_device};
 ghost use Rattle.age_io.specs.Buffering.{held, rest_behind};
 ghost use Rattle.age_io.specs.BehindLaws.{stands_behind, spent_behind};
 
@@ -265,7 +266,7 @@ impl<R: Seek> BufReader<R> {
 
     // Lets go of what is held, so that the inner reader stands where this one does.
     fn put_back(&mut self) -> Result<(), Error>
-        ensures keeps { KeepsReader ⟦<R as Read>⟧ (OrSeek (TriedAgain R.refuses)) self.old.inner self.new.inner result }
+        ensures keeps { KeepsReader ⟦<R as Read>⟧ (OrSeek (OrFailed R.seek_refuses) (TriedAgain R.refuses)) self.old.inner self.new.inner result }
         ensures empty { OnOk result (self.new.given ≡ self.new.filled) }
         ensures same { OnOk result (self.new.failed ≡ self.old.failed) }
         ensures fails { OnErr result (self.new.failed ≡ true) }
@@ -298,6 +299,10 @@ impl<R: Seek> BufReader<R> {
 impl<R: Seek> Seek for BufReader<R> {
     ghost use Rattle.age_io.specs.Buffered.{has_failed};
 
+    ghost seek_refuses = { OrFailed R.seek_refuses };
+
+    ghost no_device = { or_failed_no_device R.no_device };
+
     /// Moves the inner reader, after it has let go of what is held. An interruption of the inner reader is tried again up
     /// to 16 times in a row; after that the answer is `Device(Other)`.
     ///
@@ -305,7 +310,7 @@ impl<R: Seek> Seek for BufReader<R> {
     /// it was; any other leaves it failed.
     fn seek(&mut self, to: SeekFrom) -> Result<u64, Error>
         ensures seeks { let reader = ⟦<BufReader<R> as Read>⟧ in
-            Seeks reader.tells reader.steady reader.content reader.place reader.rest reader.faults reader.refuses self.old self.new to result }
+            Seeks reader.tells reader.steady reader.content reader.place reader.rest reader.faults reader.refuses (OrFailed R.seek_refuses) self.old self.new to result }
         ensures patient { IfErr result (λ e. IsInterruption e → ⊥) }
         ensures good { OnOk result (has_failed self.new ≡ false) }
         ensures unmoved { IfErr result (λ e. IsOutside e → has_failed self.new ≡ has_failed self.old) }

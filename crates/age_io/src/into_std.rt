@@ -128,7 +128,7 @@ impl<T: Seek> io::Seek for IntoStd<T> {
     fn seek(&mut self, to: io::SeekFrom) -> io::Result<u64>
         ensures moves { SeekMoves None None None to result }
         ensures bytes { Keeps None None }
-        ensures seeks { Tells (Seeks T.tells T.steady T.content T.place T.rest T.faults T.refuses (wrapped_of self.old) (wrapped_of self.new) (place_into to)) result }
+        ensures seeks { Tells (Seeks T.tells T.steady T.content T.place T.rest T.faults T.refuses T.seek_refuses (wrapped_of self.old) (wrapped_of self.new) (place_into to)) result }
     {
         match self.inner.seek(place_of(to)) {
             Ok(place) => Ok(place),

@@ -121,11 +121,15 @@ impl<'a> BufRead for Bytes<'a> {
 impl<'a> Seek for Bytes<'a> {
     ghost use Rattle.age_io.specs.Slices.{bytes_of, place_of};
 
+    ghost seek_refuses = { λ _. ⊥ };
+
+    ghost no_device = { λ _ none _. none };
+
     /// Moves to a target from 0 to the slice's length. It refuses with `BeforeStart` and `PastEnd` alone, and changes
     /// nothing then.
     fn seek(&mut self, to: SeekFrom) -> Result<u64, Error>
         ensures seeks { let reader = ⟦<Bytes<'a> as Read>⟧ in
-            Seeks reader.tells reader.steady reader.content reader.place reader.rest reader.faults reader.refuses self.old self.new to result }
+            Seeks reader.tells reader.steady reader.content reader.place reader.rest reader.faults reader.refuses (λ _. ⊥) self.old self.new to result }
         ensures all { result ≡ Cursor.sought to (place_of self.old) (length (bytes_of self.old)) }
         ensures refuses { OnErr result (self.new ≡ self.old) }
     {

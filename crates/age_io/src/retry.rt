@@ -55,7 +55,7 @@ pub fn read_retrying<R: Read>(reader: &mut R, buf: &mut [u8]) -> Result<usize, E
 /// All tries together do what one seek may (`seeks`): at `Ok(n)` the reader stands at n, and after a refusal where it
 /// stood. It is never `Device(Interrupted)` (`patient`).
 pub fn seek_retrying<R: Seek>(reader: &mut R, to: SeekFrom) -> Result<u64, Error>
-    ensures seeks { Seeks R.tells R.steady R.content R.place R.rest R.faults (TriedAgain R.refuses) reader.old reader.new to result }
+    ensures seeks { Seeks R.tells R.steady R.content R.place R.rest R.faults (TriedAgain R.refuses) R.seek_refuses reader.old reader.new to result }
     ensures patient { IfErr result (λ e. IsInterruption e → ⊥) }
 {
     retried!(_try, reader.seek(to))

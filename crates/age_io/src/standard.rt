@@ -4,10 +4,11 @@ ghost use Rattle.std.specs.IoError.{error_kind};
 ghost use Rattle.std.specs.Io.Seek.{SeekMoves};
 ghost use Rattle.std.specs.Io.KnownBytes.{ReadConsumes, WriteAppends, Keeps};
 ghost use Rattle.std.proofs.Common.{arith, le_refl, refl};
-ghost use Rattle.age_error.specs.declared.io.Error.TheVariants.{Failed, Device};
+ghost use Rattle.age_error.specs.declared.io.Error.TheVariants.{Failed, Device, TooLong};
 ghost use Rattle.age_io.specs.Stretch.{Stretch, nothing};
 ghost use Rattle.age_io.specs.Reading.{Reads, most_faults};
 ghost use Rattle.age_io.specs.Cursor.{Seeks};
+ghost use Rattle.age_io.specs.CursorLaws.{too_long_no_device};
 ghost use Rattle.age_io.specs.Writing.{Writes, Flushes};
 ghost use Rattle.age_io.specs.Standard.{CountsFaults, CountsOwnFaults, IsNoDevice, IsReadRefusal, IsWriteRefusal, StandsAfter, sought_below, kind_from};
 
@@ -182,6 +183,10 @@ fn target_of(to: SeekFrom, place: u64, len: u64) -> Result<u64, Error>
 impl<T: io::Read + io::Seek> Seek for Std<T> {
     ghost use Rattle.age_io.specs.StandardFaults.{faults_of, inner_of};
 
+    ghost seek_refuses = { λ e. e ≡ TooLong };
+
+    ghost no_device = { too_long_no_device };
+
     /// Asks the device for its place and its length, and moves it to a target from 0 to the length.
     ///
     /// A target below 0 is `BeforeStart`, one above the length `PastEnd`, and a place or a length of 2^63 or more
@@ -189,7 +194,7 @@ impl<T: io::Read + io::Seek> Seek for Std<T> {
     /// stand elsewhere, or `Failed` once the faults are used up.
     fn seek(&mut self, to: SeekFrom) -> Result<u64, Error>
         ensures seeks { let reader = ⟦<Std<T> as Read>⟧ in
-            Seeks reader.tells reader.steady reader.content reader.place reader.rest reader.faults reader.refuses self.old self.new to result }
+            Seeks reader.tells reader.steady reader.content reader.place reader.rest reader.faults reader.refuses (λ e. e ≡ TooLong) self.old self.new to result }
         ensures moves { faults_of self.old < most_faults → (place : ℕ) (bytes : List ℕ) →
             T.stream_position (inner_of self.old) ≡ Some place → T.stream_bytes (inner_of self.old) ≡ Some bytes →
             StandsAfter (sought_below to place (length bytes)) place (T.stream_position (inner_of self.new)) result }

@@ -7,7 +7,7 @@ use age::secrecy::{FileKey, SecretString};
 use age::suite::Suite;
 use age::{DecryptError, Identity, Recipient, decrypt, encrypt, encrypt_and_armor, scrypt, x25519};
 use age_bench::suite::BenchSuite;
-use age_try::answers::is_refusal;
+use age_try::answers::{gives, is_refusal};
 use age_try::fixtures::{MESSAGE, empty_stanza};
 use std::alloc::{AllocError, Global};
 use std::collections::BTreeSet;
@@ -130,17 +130,9 @@ pub fn armored_for<R: Recipient>(
     Ok(encrypt_and_armor::<BenchSuite, R>(alloc, recipient, MESSAGE, &mut draw, grease)?)
 }
 
-// Whether an answer is the message.
-fn is_message<E: Drop>(answer: Result<Vec<u8>, E>) -> bool {
-    match answer {
-        Ok(plain) => plain.as_slice() == MESSAGE,
-        Err(_) => false,
-    }
-}
-
 /// Whether an identity decrypts a file, or its armor, to the message.
 pub fn opens<I: Identity>(alloc: Global, identity: &mut I, file: &[u8]) -> bool {
-    is_message(decrypt::<BenchSuite, I>(alloc, identity, file))
+    gives(decrypt::<BenchSuite, I>(alloc, identity, file), MESSAGE)
 }
 
 /// Whether an identity refuses a file, or its armor, with this text.

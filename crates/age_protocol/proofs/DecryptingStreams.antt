@@ -1,5 +1,5 @@
 -- One kind of identities as another.
-use Rattle.std.specs.Prelude.{◌≡◌, ◌⊎◌, ◌&&◌, ℕ, IsTrue, List, Result, Ok, Err, OnOk, IsErrAnd}
+use Rattle.std.specs.Prelude.{◌≡◌, ◌⊎◌, ◌&&◌, ℕ, IsTrue, List, Result}
 use Rattle.std.proofs.Common.{inl, inr}
 use Rattle.std.proofs.lemmas.Result.{on_ok_weaker, IfErr-weaker}
 use Rattle.age_error.specs.DecryptErrors.{DecryptRefusal, IfIoRefusal}
@@ -24,11 +24,6 @@ use Rattle.age_error.specs.declared.io.Error.{Error}
 use Rattle.age_protocol.specs.Parts.{StandsAt, IsPartAt}
 use Rattle.age_protocol.proofs.Standing.{begun, begun-or}
 use Rattle.age_protocol.proofs.Decrypted.{by_cause, decrypts_weaker}
-
--- after a refusal nothing is said of a success
-pub none_done : {T E : Type 0} (P : Type 0) (r : Result T E) (e : E) → IsErrAnd r (λ x. x ≡ e) → OnOk r P
-none_done P (Ok x) e is = absurd is
-none_done P (Err x) e is = tt
 
 -- the same cause of a refusal
 same_cause : (Text : DecryptRefusal → Type 0) (begins : HeaderValue → List ℕ → Stretch → Type 0) (answers own : List StanzaValue → UnwrapAnswer → Type 0)

@@ -7,9 +7,9 @@ use Rattle.age_io.specs.declared.traits.Read.{Ghosts as ReadGhosts}
 use Rattle.age_io.specs.declared.traits.Write.{Ghosts as WriteGhosts}
 use Rattle.age_io.specs.Stretch.{Stretch}
 use Rattle.age_io.specs.Reading.{IsQuiet, TriedAgain}
-use Rattle.age_io.specs.Cursor.{IsSeekRefusal}
+use Rattle.age_io.specs.Cursor.{IsOutside}
 use Rattle.age_armor.specs.Refusing.{IsTextRefusal}
-use Rattle.age_error.specs.declared.io.Error.TheVariants.{OutOfMemory as out_of_memory}
+use Rattle.age_error.specs.declared.io.Error.TheVariants.{OutOfMemory as out_of_memory, Failed as failed}
 use Rattle.age_io.specs.Writing.{HandsOn}
 use Rattle.age_io.specs.Copying.{AppendsFront}
 use Rattle.age_armor.specs.Armor.{Carries}
@@ -100,6 +100,6 @@ pub record DecryptsPart {S R W T : Type 0} (suite : SuiteGhosts S) (read : ReadG
   -- The cause of a refusal of the reader or the writer: memory, the writer, the reader, the target, or what is wrong with the text or the
   -- payload that was read.
   pub io : IfErr result (IfIo (λ e. (e ≡ out_of_memory) ⊎ TriedAgain read.refuses input e ⊎ HandsOn write.refuses old e
-      ⊎ IsSeekRefusal e ⊎ IsTextRefusal true true true e ⊎ IsPayloadRefusal e))
+      ⊎ IsOutside e ⊎ (e ≡ failed) ⊎ IsTextRefusal true true true e ⊎ IsPayloadRefusal e))
   -- After a refusal of the header or of the identities nothing was appended.
   pub refused : IfErr result (λ e. IsDecryptError e → new ≡ old)

@@ -1,12 +1,12 @@
 //! A part of a file's plaintext.
 ghost use Rattle.std.specs.Prelude.{◌≡◌, ◌≢◌, ◌⊎◌, ℕ, ◌+◌, ◌<◌, ◌≤◌, ◌&&◌, true, ⊤, IsTrue, List, length, take, drop, Some, Ok, IfErr, OnOk, MatchResult};
 ghost use Rattle.age_error.specs.Refusals.{IsDevice};
-ghost use Rattle.age_error.specs.declared.io.Error.TheVariants.{PastEnd, OutOfMemory};
+ghost use Rattle.age_error.specs.declared.io.Error.TheVariants.{PastEnd, Failed, OutOfMemory};
 ghost use Rattle.age_error.specs.declared.io.SeekFrom.TheVariants.{Start};
 ghost use Rattle.age_io.specs.Stretch.{from_place};
 ghost use Rattle.age_io.specs.Reading.{IsQuiet, TriedAgain};
 ghost use Rattle.age_io.specs.Copying.{AppendsFront, AppendsSome, CopyRefuses};
-ghost use Rattle.age_io.specs.Cursor.{IsSeekRefusal};
+ghost use Rattle.age_io.specs.Cursor.{IsOutside, IsSeekRefusal, OrTooLong};
 ghost use Rattle.age_io.specs.Writing.{HandsOn, OrMemory, Retried};
 ghost use Rattle.age_armor.specs.Armor.{Carries};
 ghost use Rattle.age_armor.specs.Delivered.{delivered, stretch_of};
@@ -70,7 +70,7 @@ pub fn write_part<S: Suite, R: Seek, W: Write>(
     // Why it refuses: for want of memory, as a seek or a read of the stream does, or as the writer does that is given so many bytes. A
     // place in a content that ends well is refused for want of memory or by the writer alone.
     ensures named { let reader = ⟦<StreamReader<S, R> as Read>⟧ in IfErr result
-        (CopyRefuses (λ e. IsSeekRefusal e ⊎ TriedAgain reader.refuses stream.old e) (Retried W.refuses writer.old count)) }
+        (CopyRefuses (λ e. IsSeekRefusal (OrTooLong R.seek_refuses) e ⊎ TriedAgain reader.refuses stream.old e) (Retried W.refuses writer.old count)) }
     ensures why { let reader = ⟦<StreamReader<S, R> as Read>⟧ in IsTrue (reader.tells stream.old) → IsTrue (reader.content stream.old).ends_well →
         place ≤ length (reader.content stream.old).bytes → IsQuiet (reader.faults stream.old) (reader.faults stream.new) →
         IfErr result (OrMemory (Retried W.refuses) writer.old count) }
@@ -107,7 +107,7 @@ fn at_bytes<S: Suite, I: Identity, T: Seek + Drop, W: Write>(
         W.appended count (IsPartAt S.seal_of place count) writer.old writer.new) }
     ensures refused { IfErr result (λ e. IsDecryptError e → writer.new ≡ writer.old) }
     ensures io { IfErr result (IfIo (λ e. (e ≡ OutOfMemory) ⊎ TriedAgain T.refuses bytes e ⊎ HandsOn W.refuses writer.old e
-        ⊎ IsSeekRefusal e ⊎ IsPayloadRefusal e)) }
+        ⊎ IsSeekRefusal T.seek_refuses e ⊎ IsPayloadRefusal e)) }
 {
     let mut stream = match open_file::<S, I, T>(alloc, identities, bytes) {
         Err(e) => return Err(FileError::Decrypt(e)),
@@ -163,7 +163,7 @@ fn at_text<S: Suite, I: Identity, W: Write>(
         W.appended count (IsPartAt S.seal_of place count) writer.old writer.new) }
     ensures refused { IfErr result (λ e. IsDecryptError e → writer.new ≡ writer.old) }
     ensures io { IfErr result (IfIo (λ e. (e ≡ OutOfMemory) ⊎ HandsOn W.refuses writer.old e
-        ⊎ IsSeekRefusal e ⊎ IsTextRefusal true true true e ⊎ IsPayloadRefusal e)) }
+        ⊎ IsOutside e ⊎ (e ≡ Failed) ⊎ IsTextRefusal true true true e ⊎ IsPayloadRefusal e)) }
 {
     match ArmoredReader::new_buffered(alloc, Bytes::new(text)) {
         Err(e) => Err(FileError::Io(e)),

@@ -8,7 +8,7 @@ use Rattle.age_error.specs.declared.io.SeekFrom.{SeekFrom}
 use Rattle.age_suite.specs.declared.suite.Suite.{Ghosts as SuiteGhosts}
 use Rattle.age_io.specs.declared.traits.Read.{Ghosts}
 use Rattle.age_io.specs.Reading.{IsQuiet, AddsNoReason, Reads, TriedAgain, most_faults}
-use Rattle.age_io.specs.Cursor.{Seeks, IsOutside, IsSeekRefusal}
+use Rattle.age_io.specs.Cursor.{Seeks, IsOutside, IsSeekRefusal, OrTooLong}
 use Rattle.age_io.specs.Keeping.{SameReader, KeepsReader}
 use Rattle.age_io.proofs.Keeping.{keeps-done, keeps-refused, keeps-later, keeps-more}
 use Rattle.age_stream.specs.declared.reader.StreamReader.{StreamReader}
@@ -21,6 +21,13 @@ use Rattle.std.proofs.lemmas.Bool.{true≢false}
 use Rattle.age_io.specs.Stretch.{IsCleanEnd, IsFault}
 use Rattle.age_stream.proofs.Holding.{rest_failed}
 use Rattle.age_stream.proofs.Sound.{same-steady, inner-well}
+
+-- a refusal that the reader below has no part in
+pub own-refusal : (below : Error → Type 0) (e : Error) → IsPayloadSeekRefusal (λ _. ⊥) e → IsPayloadSeekRefusal below e
+own-refusal below e h = elim h [
+  | inl seek ↦ elim seek [ inl out ↦ inl (inl out) | inr more ↦ elim more [ inl long ↦ inl (inr (inl long)) | inr none ↦ absurd none ] ]
+  | inr payload ↦ inr payload
+]
 
 module _ {R : Type 0} (read : Ghosts R) where
   -- a reader that tells its bytes, and stays with them, still does
@@ -190,8 +197,9 @@ module _ {S R : Type 0} {suite : SuiteGhosts S} {read : Ghosts R} where
       }
 
   -- why a seek is refused, told of the reader itself
-  pub sought-why : (r : StreamReader S R suite read) (e : Error) → OwnOrInner read IsPayloadSeekRefusal r.inner e → IsSeekRefusal e ⊎ refuses_of r e
-  sought-why r e h = elim h [
+  pub sought-why : (below : Error → Type 0) (r : StreamReader S R suite read) (e : Error) → OwnOrInner read (IsPayloadSeekRefusal below) r.inner e →
+      IsSeekRefusal (OrTooLong below) e ⊎ refuses_of r e
+  sought-why below r e h = elim h [
     | inl own ↦ elim own [
       | inl seek ↦ inl seek
       | inr payload ↦ elim payload [
@@ -203,19 +211,19 @@ module _ {S R : Type 0} {suite : SuiteGhosts S} {read : Ghosts R} where
   ]
 
   -- A seek that is refused with an error that doesn't say that the target is outside.
-  pub seeks-failed : (old new : StreamReader S R suite read) (to : SeekFrom) (e : Error) →
-      KeepsPayload {T = ℕ} read IsPayloadSeekRefusal old.inner old.taken new.inner new.taken (Err e) → new.key ≡ old.key → place_of new ≡ place_of old → (IsOutside e → ⊥) →
+  pub seeks-failed : (below : Error → Type 0) (old new : StreamReader S R suite read) (to : SeekFrom) (e : Error) →
+      KeepsPayload {T = ℕ} read (IsPayloadSeekRefusal below) old.inner old.taken new.inner new.taken (Err e) → new.key ≡ old.key → place_of new ≡ place_of old → (IsOutside e → ⊥) →
       (IsTrue (tells_of old) → IsTrue (payload_of old).ends_well → IsTrue (content_of old).ends_well → e ≢ OutOfMemory →
       IsQuiet (read.faults old.inner) (read.faults new.inner) → ⊥) →
-      Seeks tells_of steady_of content_of place_of plain_rest_of faults_of refuses_of old new to (Err e)
-  seeks-failed old new to e keeps key place other cause =
+      Seeks tells_of steady_of content_of place_of plain_rest_of faults_of refuses_of (OrTooLong below) old new to (Err e)
+  seeks-failed below old new to e keeps key place other cause =
       record {
         same_tells = (stream-kept old new keeps key).0;
         same_steady = (stream-kept old new keeps key).1;
         no_fewer_faults = keeps.inner.same.faults;
         device = keeps.inner.device;
         unspent = tt;
-        why = sought-why old e keeps.inner.why;
+        why = sought-why below old e keeps.inner.why;
         narrows = tt;
         again = λ i. absurd (keeps.inner.patient i);
         missed = λ r. absurd (other r);

@@ -2,7 +2,7 @@
 use Rattle.std.specs.Prelude.{◌≡◌, ℕ, ◌&&◌, ◌⊎◌, IsTrue, List, Result, ⊤}
 use Rattle.age_error.specs.declared.io.Error.{Error}
 use Rattle.age_error.specs.declared.io.Error.TheVariants.{Truncated, BadChunk, AfterLast, LastChunkEmpty, BadEnd, TooLong, OutOfMemory}
-use Rattle.age_io.specs.Cursor.{IsSeekRefusal}
+use Rattle.age_io.specs.Cursor.{IsSeekRefusal, OrTooLong}
 use Rattle.age_io.specs.Reading.{TriedAgain}
 use Rattle.age_io.specs.declared.traits.Read.{Ghosts}
 use Rattle.age_io.specs.Keeping.{KeepsReader}
@@ -27,9 +27,9 @@ pub record Stops (seal_of : Seal) (key : List ℕ) (payload : Stretch) (known : 
   pub is : IsPayloadRefusal e
   pub named : known → (e ≡ BadEnd) ⊎ ((number : ℕ) × StopsAt seal_of key payload.bytes number e)
 
--- and what its seeks say
-abbrev pub IsPayloadSeekRefusal : Error → Type 0
-IsPayloadSeekRefusal e = IsSeekRefusal e ⊎ (e ≡ BadEnd) ⊎ (e ≡ OutOfMemory)
+-- and what its seeks say, where those of the reader below say this
+abbrev pub IsPayloadSeekRefusal : (Error → Type 0) → Error → Type 0
+IsPayloadSeekRefusal below e = IsSeekRefusal (OrTooLong below) e ⊎ (e ≡ BadEnd) ⊎ (e ≡ OutOfMemory)
 
 -- with an error of a kind of its own, or as the reader below does, whose interruptions are tried again
 abbrev pub OwnOrInner : {R : Type 0} → Ghosts R → (Error → Type 0) → R → Error → Type 0

@@ -4,7 +4,7 @@ ghost use Rattle.age_error.specs.declared.io.Error.TheVariants.{OutOfMemory};
 ghost use Rattle.age_io.specs.Stretch.{IsCleanEnd, from_place};
 ghost use Rattle.age_io.specs.Reading.{IsQuiet, Delivers, EndsEarly};
 ghost use Rattle.age_io.specs.Cursor;
-ghost use Rattle.age_io.specs.Cursor.{IsOutside};
+ghost use Rattle.age_io.specs.Cursor.{IsOutside, OrTooLong};
 ghost use Rattle.age_io.specs.Keeping.{KeepsReader, OrSeek};
 ghost use Rattle.age_stream.specs.Answering.{StandAt, StopsNear, IsGoodEnd};
 ghost use Rattle.age_stream.specs.Keeping.{KeepsPayload};
@@ -72,7 +72,7 @@ impl<S: Suite, R: Seek> StreamReader<S, R> {
     /// where the seek refused with `BeforeStart` or `PastEnd`. What `buf` holds after a refusal isn't said. For n bytes it
     /// opens at most n / 65,536 + 4 times.
     pub fn read_at(&mut self, to: SeekFrom, buf: &mut [u8]) -> Result<usize, Error>
-        ensures keeps { KeepsReader ⟦<StreamReader<S, R> as Read>⟧ (OrSeek ⟦<StreamReader<S, R> as Read>⟧.refuses) self.old self.new result }
+        ensures keeps { KeepsReader ⟦<StreamReader<S, R> as Read>⟧ (OrSeek (OrTooLong R.seek_refuses) ⟦<StreamReader<S, R> as Read>⟧.refuses) self.old self.new result }
         ensures count { IfOk result (λ n. n ≤ length buf.new) }
         ensures payload { IsTrue (⟦<StreamReader<S, R> as Read>⟧.tells self.old) → payload_of self.new ≡ payload_of self.old }
         ensures key { key_of self.new ≡ key_of self.old }

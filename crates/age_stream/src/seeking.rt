@@ -4,7 +4,8 @@ ghost use Rattle.age_error.specs.Refusals.{IsDevice, IsInterruption};
 ghost use Rattle.age_error.specs.declared.io.Error.TheVariants.{OutOfMemory, BadEnd, BeforeStart};
 ghost use Rattle.age_io.specs.Stretch.{Stretch, from_place};
 ghost use Rattle.age_io.specs.Reading.{IsQuiet, most_faults};
-ghost use Rattle.age_io.specs.Cursor.{Seeks, IsOutside};
+ghost use Rattle.age_io.specs.Cursor.{Seeks, IsOutside, OrTooLong};
+ghost use Rattle.age_io.specs.CursorLaws.{or_too_long_no_device};
 ghost use Rattle.age_stream.specs.Payload;
 ghost use Rattle.age_stream.specs.Payload.{nonce, final_chunk, EndsAsLast};
 ghost use Rattle.age_stream.specs.Keeping.{IsPayloadSeekRefusal, KeepsPayload};
@@ -70,7 +71,7 @@ fn find(to: SeekFrom, place: u64, size: u64) -> Result<(u64, u64), Error>
     ensures limit { IfOk result (λ found. found.1 ≤ 2 ^ 60) }
     ensures not_device { IfErr result (λ e. IsDevice e → ⊥) }
     ensures want { IfErr result (λ e. e ≢ OutOfMemory) }
-    ensures named { IfErr result IsPayloadSeekRefusal }
+    ensures named { IfErr result (IsPayloadSeekRefusal (λ _. ⊥)) }
 {
     match plain_len(size) {
         None => Err(Error::BadEnd),
@@ -95,7 +96,7 @@ impl<S: Suite, R: Seek> StreamReader<S, R> {
         ensures same { (self.new.number ≡ self.old.number) × (self.new.at ≡ self.old.at) × (self.new.held ≡ self.old.held)
             × (self.new.cache ≡ self.old.cache) × (self.new.key ≡ self.old.key)
             × (self.new.opens ≡ self.old.opens) × (self.new.failed ≡ true) × (self.new.sought ≡ self.old.sought) }
-        ensures keeps { KeepsPayload ⟦<R as Read>⟧ IsPayloadSeekRefusal self.old.inner self.old.taken self.new.inner self.new.taken result }
+        ensures keeps { KeepsPayload ⟦<R as Read>⟧ (IsPayloadSeekRefusal R.seek_refuses) self.old.inner self.old.taken self.new.inner self.new.taken result }
         ensures refusal { IfErr result (λ e. IsOutside e → ⊥) }
         ensures found { IsTrue (R.tells self.old.inner && R.steady self.old.inner) → IfOk result (λ found.
             (found.0 ≡ R.place self.old.inner - self.old.taken) × (found.0 ≡ R.place self.new.inner - self.new.taken)
@@ -127,7 +128,7 @@ impl<S: Suite, R: Seek> StreamReader<S, R> {
         ensures same { (self.new.number ≡ self.old.number) × (self.new.at ≡ self.old.at) × (self.new.held ≡ self.old.held)
             × (self.new.cache ≡ self.old.cache) × (self.new.key ≡ self.old.key)
             × (self.new.opens ≡ self.old.opens) × (self.new.failed ≡ true) × (self.new.sought ≡ self.old.sought) }
-        ensures keeps { KeepsPayload ⟦<R as Read>⟧ IsPayloadSeekRefusal self.old.inner self.old.taken self.new.inner self.new.taken result }
+        ensures keeps { KeepsPayload ⟦<R as Read>⟧ (IsPayloadSeekRefusal R.seek_refuses) self.old.inner self.old.taken self.new.inner self.new.taken result }
         ensures refusal { IfErr result (λ e. IsOutside e → ⊥) }
         ensures unspent { OnOk result (R.faults self.new.inner < most_faults) }
         ensures stands { IsTrue (R.tells self.old.inner && R.steady self.old.inner) → OnOk result ((self.new.taken ≡ place)
@@ -156,7 +157,7 @@ impl<S: Suite, R: Seek> StreamReader<S, R> {
         requires start { IsTrue (R.tells self.old.inner && R.steady self.old.inner) → start ≡ R.place self.old.inner - self.old.taken }
         requires size { IsTrue (R.tells self.old.inner && R.steady self.old.inner) → size ≡ length (payload_of self.old).bytes }
         requires before { place + 16 * (place / 65536) + 16 < size }
-        ensures keeps { KeepsPayload ⟦<R as Read>⟧ IsPayloadSeekRefusal self.old.inner self.old.taken self.new.inner self.new.taken result }
+        ensures keeps { KeepsPayload ⟦<R as Read>⟧ (IsPayloadSeekRefusal R.seek_refuses) self.old.inner self.old.taken self.new.inner self.new.taken result }
         ensures refusal { IfErr result (λ e. IsOutside e → ⊥) }
         ensures key { self.new.key ≡ self.old.key }
         ensures sought { self.new.sought ≡ true }
@@ -215,7 +216,7 @@ impl<S: Suite, R: Seek> StreamReader<S, R> {
         requires stands { IsTrue (R.tells self.old.inner && R.steady self.old.inner) → (self.old.taken ≡ 65552 * number)
             × (R.rest self.old.inner ≡ from_place (65552 * number) (payload_of self.old)) }
         requires last { IsTrue (R.tells self.old.inner && R.steady self.old.inner) → IsLastChunk (length (payload_of self.old).bytes) number }
-        ensures keeps { KeepsPayload ⟦<R as Read>⟧ IsPayloadSeekRefusal self.old.inner self.old.taken self.new.inner self.new.taken result }
+        ensures keeps { KeepsPayload ⟦<R as Read>⟧ (IsPayloadSeekRefusal R.seek_refuses) self.old.inner self.old.taken self.new.inner self.new.taken result }
         ensures refusal { IfErr result (λ e. IsOutside e → ⊥) }
         ensures key { self.new.key ≡ self.old.key }
         ensures sought { self.new.sought ≡ true }
@@ -273,7 +274,7 @@ impl<S: Suite, R: Seek> StreamReader<S, R> {
         requires last { IsLastChunk size (final_chunk size) }
         requires len { len + 16 * (final_chunk size + 1) ≡ size }
         requires limit { len ≤ 2 ^ 60 }
-        ensures keeps { KeepsPayload ⟦<R as Read>⟧ IsPayloadSeekRefusal self.old.inner self.old.taken self.new.inner self.new.taken result }
+        ensures keeps { KeepsPayload ⟦<R as Read>⟧ (IsPayloadSeekRefusal R.seek_refuses) self.old.inner self.old.taken self.new.inner self.new.taken result }
         ensures refusal { IfErr result (λ e. IsOutside e → ⊥) }
         ensures key { self.new.key ≡ self.old.key }
         ensures sought { self.new.sought ≡ true }
@@ -336,6 +337,10 @@ impl<S: Suite, R: Seek> StreamReader<S, R> {
 impl<S: Suite, R: Seek> Seek for StreamReader<S, R> {
     ghost use Rattle.age_stream.specs.Reader.{payload_of, key_of, inner_of, inner_rest_of, wanted_of, place_of, HasChunk, HasFailed, IsHolding, IsAfterLast, HoldsEnd, last_used_of, opens_of};
 
+    ghost seek_refuses = { OrTooLong R.seek_refuses };
+
+    ghost no_device = { or_too_long_no_device R.no_device };
+
     /// Moves to a target from 0 to the plaintext's length, counted in bytes of the plaintext, and answers the new place. A
     /// success makes a failed reader good again.
     ///
@@ -358,7 +363,7 @@ impl<S: Suite, R: Seek> Seek for StreamReader<S, R> {
     /// the inner reader stands, so a later seek is exact only over an inner reader whose refusals leave it where it was.
     fn seek(&mut self, to: SeekFrom) -> Result<u64, Error>
         ensures seeks { let reader = ⟦<StreamReader<S, R> as Read>⟧ in
-            Seeks reader.tells reader.steady reader.content reader.place reader.rest reader.faults reader.refuses self.old self.new to result }
+            Seeks reader.tells reader.steady reader.content reader.place reader.rest reader.faults reader.refuses (OrTooLong R.seek_refuses) self.old self.new to result }
         ensures patient { IfErr result (λ e. IsInterruption e → ⊥) }
         ensures payload { IsTrue (⟦<StreamReader<S, R> as Read>⟧.tells self.old) → payload_of self.new ≡ payload_of self.old }
         ensures key { key_of self.new ≡ key_of self.old }

@@ -153,6 +153,7 @@ fn goes_where_it_should(
     answers(rt, alloc, reader, &AFTER_A_FAULT)
 }
 
+// The same over a device that fails once, after so many calls.
 fn is_exact_after_a_fault(
     rt: &impl Abort,
     alloc: Global,
@@ -198,6 +199,7 @@ fn meets_it_next(
     Ok(())
 }
 
+// The same over a device that fails once, after so many calls.
 fn asks_no_more(
     rt: &impl Abort,
     alloc: Global,

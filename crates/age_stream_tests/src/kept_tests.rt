@@ -37,6 +37,7 @@ fn goes_back_and_forth<S: Suite, R: Seek>(
     answers(rt, alloc, reader, &THREE)
 }
 
+// The same of a reader over this one, which gives the payload.
 fn keeps_two<S: Suite, R: Seek + Drop>(
     rt: &impl Abort,
     alloc: Global,

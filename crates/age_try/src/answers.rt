@@ -28,6 +28,14 @@ pub fn refusal_of<T: Drop, E: Display + Drop>(
     }
 }
 
+/// Whether it is a success with these bytes.
+pub fn gives<E: Drop>(answer: Result<Vec<u8>, E>, bytes: &[u8]) -> bool {
+    match answer {
+        Ok(got) => got.as_slice() == bytes,
+        Err(_) => false,
+    }
+}
+
 /// Whether a reader stands at its clean end.
 pub fn ends<R: Read>(reader: &mut R) -> bool {
     reader.read(&mut [0]) == Ok(0)

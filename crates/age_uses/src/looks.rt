@@ -1,6 +1,7 @@
 //! Looks at places of an armored text that was read before.
 ghost use Rattle.std.specs.Prelude.{◌≡◌, ◌≢◌, ◌+◌, ◌*◌, ◌≤◌, ◌⊎◌, ℕ, IsTrue, length, map, Some, slice_get, None, IfOk, IfErr, OnOk};
 ghost use Rattle.age.specs.ArmorMarks.{LearnsMore};
+ghost use Rattle.age.specs.ArmorSeeking.{OrAstray};
 ghost use Rattle.age.specs.ArmorReader.{inner_of, armored_content, lines_of, furthest_of, notes_all, marks_of};
 ghost use Rattle.age.specs.Cursor.{IsSeekRefusal};
 ghost use Rattle.age.specs.ErrorVariants.{OutOfMemory, UnexpectedEof};
@@ -26,7 +27,7 @@ fn look<R: BufRead + Seek>(
     ensures content { IsTrue (R.Read.tells (inner_of reader.old)) → armored_content reader.new ≡ armored_content reader.old }
     ensures byte { IsTrue (R.Read.tells (inner_of reader.old)) → IsTrue (R.Read.steady (inner_of reader.old)) →
         IfOk result (λ n. IsLook (armored_content reader.old).bytes place n byte.new) }
-    ensures why { IfErr result (λ e. IsSeekRefusal e ⊎ ⟦<ArmoredReader<R> as Read>⟧.refuses reader.old e) }
+    ensures why { IfErr result (λ e. IsSeekRefusal (OrAstray R.Seek.seek_refuses) e ⊎ ⟦<ArmoredReader<R> as Read>⟧.refuses reader.old e) }
     ensures narrows { OnOk result (AddsNoReason ⟦<ArmoredReader<R> as Read>⟧.refuses reader.old reader.new) }
     ensures cause { IsTrue (R.Read.tells (inner_of reader.old)) → IsTrue (R.Read.steady (inner_of reader.old)) → IsTrue (armored_content reader.old).ends_well →
         IfErr result (λ e. e ≢ OutOfMemory → IsQuiet (R.Read.faults (inner_of reader.old)) (R.Read.faults (inner_of reader.new)) →
@@ -51,7 +52,7 @@ pub fn bytes_at<R: BufRead + Seek>(
 ) -> Result<Vec<u8>, Error>
     ensures bytes { IsTrue (R.Read.tells (inner_of reader.old)) → IsTrue (R.Read.steady (inner_of reader.old)) →
         IfOk result (λ bytes. map (slice_get (armored_content reader.old).bytes) places.now ≡ map Some bytes.items) }
-    ensures why { IfErr result (λ e. (e ≡ OutOfMemory) ⊎ IsSeekRefusal e ⊎ ⟦<ArmoredReader<R> as Read>⟧.refuses reader.old e ⊎ ((e ≡ UnexpectedEof)
+    ensures why { IfErr result (λ e. (e ≡ OutOfMemory) ⊎ IsSeekRefusal (OrAstray R.Seek.seek_refuses) e ⊎ ⟦<ArmoredReader<R> as Read>⟧.refuses reader.old e ⊎ ((e ≡ UnexpectedEof)
         × (IsTrue (R.Read.tells (inner_of reader.old)) → IsTrue (R.Read.steady (inner_of reader.old)) → IsOneOutside (armored_content reader.old).bytes places.now))) }
     ensures lines { IsTrue (R.Read.tells (inner_of reader.old)) → IsTrue (R.Read.steady (inner_of reader.old)) → IsTrue (notes_all reader.new) →
         AreWithin (furthest_of reader.old) places.now → OnOk result (lines_of reader.new ≤ lines_of reader.old + 1025 * length places.now) }

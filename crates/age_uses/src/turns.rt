@@ -1,6 +1,6 @@
 //! Two places of one plaintext in turn.
 ghost use Rattle.std.specs.Prelude.{◌≡◌, ◌≢◌, ◌+◌, ◌/◌, ◌≤◌, ◌⊎◌, ℕ, IsTrue, Some, None, slice_get, IfOk, IfErr, OnOk};
-ghost use Rattle.age.specs.Cursor.{IsSeekRefusal};
+ghost use Rattle.age.specs.Cursor.{IsSeekRefusal, OrTooLong};
 ghost use Rattle.age.specs.ErrorVariants.{OutOfMemory, UnexpectedEof};
 ghost use Rattle.age.specs.Reading.{AddsNoReason, IsQuiet};
 ghost use Rattle.age.specs.StreamReader.{payload_of, opens_of, last_used_of, HasChunk};
@@ -26,7 +26,7 @@ fn byte_at<S: Suite, R: Seek>(reader: &mut StreamReader<S, R>, place: u64) -> Re
     ensures content { let read = ⟦<StreamReader<S, R> as Read>⟧ in IsTrue (read.tells reader.old) → read.content reader.new ≡ read.content reader.old }
     ensures byte { let read = ⟦<StreamReader<S, R> as Read>⟧ in IsTrue (read.tells reader.old) → IsTrue (read.steady reader.old) →
         IfOk result (λ byte. slice_get (read.content reader.old).bytes place ≡ Some byte) }
-    ensures why { let read = ⟦<StreamReader<S, R> as Read>⟧ in IfErr result (λ e. IsSeekRefusal e ⊎ read.refuses reader.old e ⊎ ((e ≡ UnexpectedEof)
+    ensures why { let read = ⟦<StreamReader<S, R> as Read>⟧ in IfErr result (λ e. IsSeekRefusal (OrTooLong R.seek_refuses) e ⊎ read.refuses reader.old e ⊎ ((e ≡ UnexpectedEof)
         × (IsTrue (read.tells reader.old) → IsTrue (read.steady reader.old) → slice_get (read.content reader.old).bytes place ≡ None))) }
     ensures narrows { OnOk result (AddsNoReason ⟦<StreamReader<S, R> as Read>⟧.refuses reader.old reader.new) }
     ensures cause { let read = ⟦<StreamReader<S, R> as Read>⟧ in IsTrue (read.tells reader.old) → IsTrue (read.steady reader.old) →
@@ -65,7 +65,7 @@ pub fn in_turns<S: Suite, R: Seek>(
 ) -> Result<(u8, u8), Error>
     ensures bytes { let read = ⟦<StreamReader<S, R> as Read>⟧ in IsTrue (read.tells reader.old) → IsTrue (read.steady reader.old) →
         IfOk result (λ found. (slice_get (read.content reader.old).bytes first ≡ Some found.0) × (slice_get (read.content reader.old).bytes second ≡ Some found.1)) }
-    ensures why { let read = ⟦<StreamReader<S, R> as Read>⟧ in IfErr result (λ e. IsSeekRefusal e ⊎ read.refuses reader.old e ⊎ ((e ≡ UnexpectedEof)
+    ensures why { let read = ⟦<StreamReader<S, R> as Read>⟧ in IfErr result (λ e. IsSeekRefusal (OrTooLong R.seek_refuses) e ⊎ read.refuses reader.old e ⊎ ((e ≡ UnexpectedEof)
         × (IsTrue (read.tells reader.old) → IsTrue (read.steady reader.old) →
         (slice_get (read.content reader.old).bytes first ≡ None) ⊎ (slice_get (read.content reader.old).bytes second ≡ None)))) }
     ensures opens { IsTrue (⟦<StreamReader<S, R> as Read>⟧.tells reader.old) → HasPlace (payload_of reader.old) first →

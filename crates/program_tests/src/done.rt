@@ -7,14 +7,6 @@ pub fn is_done<T: Drop, E: Drop>(answer: Result<T, E>) -> bool {
     answer.is_ok()
 }
 
-/// Whether it gave these bytes.
-pub fn gave<E: Drop>(answer: Result<Vec<u8>, E>, bytes: &[u8]) -> bool {
-    match answer {
-        Ok(given) => given.as_slice() == bytes,
-        Err(_) => false,
-    }
-}
-
 /// What was found; where nothing was, the test fails with this text.
 pub fn found<T: Drop>(answer: Option<T>, text: &str) -> Result<T, Fail> {
     match answer {

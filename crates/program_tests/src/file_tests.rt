@@ -1,9 +1,10 @@
 //! A file that another implementation made over OpenSSL's primitives, to the recipient of a key pair that the Rust crate `age` tests with.
 
-use crate::done::{gave, is_done};
+use crate::done::is_done;
 use age::decrypt;
 use age::x25519::Identity;
 use age_standard::StandardSuite;
+use age_try::answers::gives;
 use std::alloc::Global;
 use std::process::Abort;
 use std::str::FromStr;
@@ -24,7 +25,7 @@ fn key() -> Result<Identity<StandardSuite>, Fail> {
 
 // Whether a file is decrypted to these bytes.
 fn opens_to(alloc: Global, mut key: Identity<StandardSuite>, file: &[u8], plain: &[u8]) -> bool {
-    gave(
+    gives(
         decrypt::<StandardSuite, Identity<StandardSuite>>(alloc, &mut key, file),
         plain,
     )

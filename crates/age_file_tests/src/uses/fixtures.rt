@@ -1,6 +1,6 @@
 //! What the tests of the uses share.
 
-use crate::shared::{Kind, done, gives, grease, identities, is_answered, recipients};
+use crate::shared::{Kind, done, grease, identities, is_answered, recipients};
 use age::armor::Format;
 use age::draw::Draw;
 use age::io::Bytes;
@@ -8,6 +8,7 @@ use age::streaming::{FileError, decrypt_all, encrypt_all};
 use age::suite::Suite;
 use age::{Identity, Recipient};
 use age_bench::recipient::BenchIdentity;
+use age_try::answers::gives;
 use age_try::fixtures::{MESSAGE, zeros};
 use age_uses::parts::part_of;
 use age_uses::there_and_back::there_and_back;

@@ -1,11 +1,12 @@
 //! Files to one's own X25519 key come back, in both forms and over both suites.
 
-use crate::shared::{gives, grease, sevens};
+use crate::shared::{grease, sevens};
 use age::armor::Format;
 use age::draw::Draw;
 use age::suite::Suite;
 use age::x25519::Identity;
 use age_bench::suite::BenchSuite;
+use age_try::answers::gives;
 use age_try::fixtures::MESSAGE;
 use age_try::other_suite::OtherSuite;
 use age_uses::keys::kept_for_oneself;

@@ -1,11 +1,12 @@
 //! Files under a passphrase come back over both suites, and to no other passphrase.
 
-use crate::shared::{gives, is_error, passphrase, sevens};
+use crate::shared::{is_error, passphrase, sevens};
 use age::draw::Draw;
 use age::scrypt::Identity;
 use age::streaming::FileError;
 use age::suite::Suite;
 use age_bench::suite::BenchSuite;
+use age_try::answers::gives;
 use age_try::fixtures::MESSAGE;
 use age_try::other_suite::OtherSuite;
 use age_uses::passphrases::kept_under_a_passphrase;

@@ -1,7 +1,7 @@
 //! Files to recipients of two kinds, which each kind of identity decrypts alone, over both suites.
 
 use crate::shared::{
-    Kind, gives, grease, is_error, opened_by, opens_to, prepared, recipients, sevens, written,
+    Kind, grease, is_error, opened_by, opens_to, prepared, recipients, sevens, written,
 };
 use crate::uses::fixtures::comes_back;
 use age::armor::Format;
@@ -9,6 +9,7 @@ use age::suite::Suite;
 use age::{Identity, Recipient};
 use age_bench::recipient::BenchIdentity;
 use age_bench::suite::BenchSuite;
+use age_try::answers::gives;
 use age_try::fixtures::MESSAGE;
 use age_try::other_suite::OtherSuite;
 use age_uses::own::OwnIdentity;

@@ -1,5 +1,6 @@
-use Rattle.std.proofs.Common.{◌∙◌, ap, inl, inr}
+use Rattle.std.proofs.Common.{◌∙◌, ap, subst, sym, inl, inr}
 use Rattle.age_protocol.specs.Parts.{StandsAt, IsPartAt}
+use Rattle.age_stream.specs.Keeping.{IsPayloadRefusal}
 use Rattle.age_stream.specs.Reader.{content_of, refuses_of}
 use Rattle.age_protocol.proofs.Reasons.{from_stream}
 use Rattle.age_protocol.proofs.OpenedFor.{never_fails}
@@ -59,7 +60,13 @@ returns-in-Err-write_part-clause-io g c =
       | inl memory ↦ inl memory
       | inr other ↦ elim other [
         | inl reads ↦ elim reads [
-          | inl seek ↦ inr (inr (inr (inl seek)))
+          | inl seek ↦ elim seek [
+            | inl outside ↦ inr (inr (inr (inl (inl outside))))
+            | inr more ↦ elim more [
+              | inl long ↦ inr (inr (inr (inr (subst IsPayloadRefusal (sym long) tt))))
+              | inr below ↦ inr (inr (inr (inl (inr below))))
+            ]
+          ]
           | inr tried ↦ elim (from_stream refuses_of g.T.Read.refuses _ c.in-Ok.stream opened.input c.args.bytes c.in-Err-write_part.e reader.named (λ s. s.is)
               opened.asks.narrows tried) [
                 | inl own ↦ inr (inr (inr (inr own.is)))

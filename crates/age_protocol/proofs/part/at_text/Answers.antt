@@ -4,6 +4,7 @@ use Rattle.age_io.specs.Stretch.{whole}
 use Rattle.age_armor.specs.Armor.{Carries}
 use Rattle.age_armor.specs.Delivered.{delivered, stretch_of}
 use Rattle.age_armor.specs.Reader.{armored_rest, armored_content, place_of, refuses_of}
+use Rattle.age_stream.specs.Keeping.{IsPayloadRefusal}
 use Rattle.age_protocol.proofs.Reasons.{from_slice}
 use Rattle.age_protocol.proofs.DecryptingStreams.{io_weaker}
 use Rattle.age_protocol.specs.Texts.{Begins}
@@ -60,10 +61,19 @@ returns-in-Ok-clause-io g c =
     (io_weaker _ _ (λ e why. elim why [
       | inl memory ↦ inl memory
       | inr other ↦ elim other [
-        | inl text ↦ inr (inr (inr (inl (from_slice refuses_of bytes c.new.result e c.in-Ok.ensures.named text))))
+        | inl text ↦ inr (inr (inr (inr (inl (from_slice refuses_of bytes c.new.result e c.in-Ok.ensures.named text)))))
         | inr rest ↦ elim rest [
           | inl writer ↦ inr (inl writer)
-          | inr asked ↦ elim asked [ inl seek ↦ inr (inr (inl seek)) | inr payload ↦ inr (inr (inr (inr payload))) ]
+          | inr asked ↦ elim asked [
+            | inl seek ↦ elim seek [
+              | inl outside ↦ inr (inr (inl outside))
+              | inr more ↦ elim more [
+                | inl long ↦ inr (inr (inr (inr (inr (subst IsPayloadRefusal (sym long) tt)))))
+                | inr lost ↦ elim lost [ inl failed ↦ inr (inr (inr (inl failed))) | inr none ↦ absurd none ]
+              ]
+            ]
+            | inr payload ↦ inr (inr (inr (inr (inr payload))))
+          ]
         ]
       ]
     ]))

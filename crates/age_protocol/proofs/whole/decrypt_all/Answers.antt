@@ -12,7 +12,7 @@ use Rattle.age_stream.proofs.Answered.{rest-bytes}
 use Rattle.age_stream.proofs.Standing.{stand-bytes}
 use Rattle.age_error.specs.ErrorLaws.{of_error}
 use Rattle.age_protocol.proofs.Decrypted.{both_told, refuses_text, begins_text, by_cause}
-use Rattle.age_protocol.proofs.DecryptingStreams.{none_done}
+use Rattle.age_io.proofs.Exiting.{OnOk-refused}
 use Rattle.age_io.proofs.PartCopied.{none-copied}
 use Rattle.age_protocol.proofs.Parts.{file_for}
 use Rattle.age_io.specs.Copying.{AppendsFront}
@@ -22,7 +22,7 @@ pub returns-in_err-text : goal.returns-in_err-text
 returns-in_err-text g c =
     let is = c.from_residual.ensures.1 in
     record {
-      file = λ reader_told writer_told. none_done _ _ _ is;
+      file = λ reader_told writer_told. OnOk-refused _ _ c.from_residual.ensures.0;
       refused = of_error _ _ _ is (λ none. refl);
       why = of_error _ _ _ is tt;
       io = of_error _ _ _ is (inl (inl c.in_err-text.ensures.memory));
@@ -38,7 +38,7 @@ returns-in_err-stream g c =
     let text = c.in_ok-text.ensures in
     let is = c.from_residual-in_err-stream.ensures.1 in
     record {
-      file = λ reader_told writer_told. none_done _ _ _ is;
+      file = λ reader_told writer_told. OnOk-refused _ _ c.from_residual-in_err-stream.ensures.0;
       refused = of_error _ _ _ is (λ decrypts. refl);
       why =
           of_error _ _ _ is
@@ -81,7 +81,7 @@ returns-in_err-copy_all g c =
     let asks = made.asks in
     let is = c.from_residual-in_err-copy_all.ensures.1 in
     record {
-      file = λ reader_told writer_told. none_done _ _ _ is;
+      file = λ reader_told writer_told. OnOk-refused _ _ c.from_residual-in_err-copy_all.ensures.0;
       refused = of_error _ _ _ is (λ none. absurd none);
       why = of_error _ _ _ is tt;
       io =

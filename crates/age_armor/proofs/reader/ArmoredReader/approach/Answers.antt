@@ -3,7 +3,7 @@ use Rattle.std.proofs.lemmas.Bool.{true≢false}
 use Rattle.age_io.specs.Stretch.{from_place}
 use Rattle.age_armor.specs.Ahead.{outcome_ahead, rest_ahead}
 use Rattle.age_armor.specs.DeliveredLaws.{content_of}
-use Rattle.age_armor.specs.Seeking.{text_outcome}
+use Rattle.age_armor.specs.Seeking.{OrAstray, text_outcome}
 use Rattle.age_armor.specs.Delivered.{delivered}
 use Rattle.age_armor.specs.Marks.{CanResume}
 use Rattle.age_armor.specs.Stages.{is_armored}
@@ -107,10 +107,10 @@ returns-in-Ok-clause-rest g c = λ told steady.
     (c.in-Ok.ensures.rest told steady)
 
 pub returns-in-Ok-clause-goes : goal.returns-in-Ok-clause-goes
-returns-in-Ok-clause-goes g c = rewound _ _ c.in-Ok.ensures.goes c.in-Ok.ensures.origin refl
+returns-in-Ok-clause-goes g c = rewound (OrAstray g.R.Seek.seek_refuses) _ _ c.in-Ok.ensures.goes c.in-Ok.ensures.origin refl
 
 pub returns-in-Err-clause-goes : goal.returns-in-Err-clause-goes
-returns-in-Err-clause-goes g c = rewind-refused _ _ c.in-Err.e c.in-Err.ensures.goes c.in-Err.ensures.origin
+returns-in-Err-clause-goes g c = rewind-refused (OrAstray g.R.Seek.seek_refuses) _ _ c.in-Err.e c.in-Err.ensures.goes c.in-Err.ensures.origin
 
 pub returns-in-Err-clause-cause : goal.returns-in-Err-clause-cause
 returns-in-Err-clause-cause g c = λ told well.

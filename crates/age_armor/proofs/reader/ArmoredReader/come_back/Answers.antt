@@ -11,7 +11,7 @@ pub returns-then-failed : goal.returns-then-failed
 returns-then-failed g c =
     let now = c.fail_at.ensures in
     record {
-      back = stays-failed _ _ _ _ _ _ _ (same-source _ _ now.source) now.place now.failed now.rest (source-narrows c.args.self.now c.fail_at.new.self now.source) (inl c.if-failed.true);
+      back = stays-failed _ _ g.R.Seek.seek_refuses _ _ _ _ _ (same-source _ _ now.source) now.place now.failed now.rest (source-narrows c.args.self.now c.fail_at.new.self now.source) (inl c.if-failed.true);
       same_text = λ told. same-source-text _ _ now.source;
       ending = λ told steady good. absurd (true≢false (sym now.failed ∙ good));
       learns = learns_none _ _ now.marks;
@@ -23,7 +23,7 @@ pub returns-then-not-is_outside : goal.returns-then-not-is_outside
 returns-then-not-is_outside g c =
     let now = c.fail_at-then-not-is_outside.ensures in
     record {
-      back = stays-failed _ _ _ _ _ _ _ (same-source _ _ now.source) now.place now.failed now.rest (source-narrows c.args.self.now c.fail_at-then-not-is_outside.new.self now.source) (inr (c.is_outside.ensures.no c.if-not-is_outside.true));
+      back = stays-failed _ _ g.R.Seek.seek_refuses _ _ _ _ _ (same-source _ _ now.source) now.place now.failed now.rest (source-narrows c.args.self.now c.fail_at-then-not-is_outside.new.self now.source) (inr (c.is_outside.ensures.no c.if-not-is_outside.true));
       same_text = λ told. same-source-text _ _ now.source;
       ending = λ told steady good. absurd (true≢false (sym now.failed ∙ good));
       learns = learns_none _ _ now.marks;
@@ -44,7 +44,7 @@ pub returns-in-Ok : goal.returns-in-Ok
 returns-in-Ok g c =
     let now = c.in-Ok.ensures in
     record {
-      back = came _ _ _ _ _ _ _ now.goes.keeps.same now.good now.place (λ told steady. (now.within told steady).1) c.if-failed.false
+      back = came _ _ g.R.Seek.seek_refuses _ _ _ _ _ now.goes.keeps.same now.good now.place (λ told steady. (now.within told steady).1) c.if-failed.false
           (c.is_outside.ensures.yes c.if-not-is_outside.false) (armor-plain c.args.self.now c.go_to.new.self now.goes.keeps.narrows);
       same_text = now.same_text;
       ending = λ told steady good. now.ending told steady;
@@ -61,7 +61,7 @@ returns-in-Err g c =
     let now = c.fail_at-in-Err.ensures in
     let made = c.unrefused.ensures in
     record {
-      back = lost _ _ before c.go_to.new.self c.fail_at-in-Err.new.self _ _ _ c.in-Err.e c.unrefused.result missed.goes (same-source _ _ now.source) now.place now.failed now.rest
+      back = lost _ _ g.R.Seek.seek_refuses before c.go_to.new.self c.fail_at-in-Err.new.self _ _ _ c.in-Err.e c.unrefused.result missed.goes (same-source _ _ now.source) now.place now.failed now.rest
           (c.is_outside.ensures.yes c.if-not-is_outside.false) made.other made.kept
           (λ told well other quiet.
           let inner = well_inner (reader.content before.source.inner) (reader.place before.source.inner - before.source.taken) well in

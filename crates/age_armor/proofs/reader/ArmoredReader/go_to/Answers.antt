@@ -6,6 +6,7 @@ use Rattle.age_io.specs.Stretch.{from_place}
 use Rattle.age_io.proofs.Keeping.{keeps-done, same-self}
 use Rattle.age_armor.specs.Stages.{IsNamed, is_start}
 use Rattle.age_armor.proofs.Pacing.{learns_later, learns_none, known_length, some_length}
+use Rattle.age_armor.specs.Seeking.{OrAstray}
 use Rattle.age_armor.specs.Reader.{refuses_of, armored_reader, text_of, armored_content, armored_rest}
 use Rattle.age_armor.proofs.Keeping.{goes-later, goes-refused, goes-seeking, goes-unrefused, walks, walks-out, armor-plain, seeks-plain}
 use Rattle.age_armor.proofs.OwnEndings.{still_named}
@@ -21,8 +22,8 @@ returns-in-Err-clause-named g c = λ told well own other quiet. absurd (c.in-Err
 pub returns-in-Err-walk-clause-goes : goal.returns-in-Err-walk-clause-goes
 returns-in-Err-walk-clause-goes g c =
     let back = c.in-Ok.ensures.goes.keeps in
-    goes-later _ _ _ c.args.self.now c.approach.new.self c.walk.new.self back.same back.narrows (seeks-plain c.args.self.now c.approach.new.self back.narrows)
-    (goes-unrefused _ refuses_of _ _ c.in-Err-walk.e c.unrefused.result c.unrefused.ensures.kept (goes-seeking _ refuses_of _ _ _ c.in-Err-walk.ensures.goes))
+    goes-later _ _ _ c.args.self.now c.approach.new.self c.walk.new.self back.same back.narrows (seeks-plain (OrAstray g.R.Seek.seek_refuses) c.args.self.now c.approach.new.self back.narrows)
+    (goes-unrefused _ g.R.Seek.seek_refuses refuses_of _ _ c.in-Err-walk.e c.unrefused.result c.unrefused.ensures.kept (goes-seeking _ (OrAstray g.R.Seek.seek_refuses) refuses_of _ _ _ c.in-Err-walk.ensures.goes))
 
 pub returns-in-Err-walk-clause-past : goal.returns-in-Err-walk-clause-past
 returns-in-Err-walk-clause-past g c = λ told steady refusal. absurd (c.unrefused.ensures.other refusal)

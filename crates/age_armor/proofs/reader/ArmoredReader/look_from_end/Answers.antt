@@ -9,6 +9,7 @@ use Rattle.age_io.proofs.Keeping.{keeps-done}
 use Rattle.age_armor.specs.Delivered.{delivered}
 use Rattle.age_armor.specs.ReaderLaws.{well_inner}
 use Rattle.age_armor.specs.Stages.{IsNamed}
+use Rattle.age_armor.specs.Seeking.{OrAstray}
 use Rattle.age_armor.specs.Reader.{refuses_of, armored_reader, armored_content, armored_rest}
 use Rattle.age_armor.proofs.Keeping.{goes-later, goes-refused, goes-seeking, goes-unrefused, walks, walks-out, armor-plain, seeks-plain}
 use Rattle.age_armor.proofs.OwnEndings.{still_named}
@@ -26,8 +27,8 @@ returns-in-Err-clause-named g c = λ told well own other quiet. absurd (c.in-Err
 pub returns-in-Err-walk-clause-goes : goal.returns-in-Err-walk-clause-goes
 returns-in-Err-walk-clause-goes g c =
     let back = c.in-Ok.ensures.goes.keeps in
-    goes-later _ _ _ c.args.self.now c.approach.new.self c.walk.new.self back.same back.narrows (seeks-plain c.args.self.now c.approach.new.self back.narrows)
-    (goes-unrefused _ refuses_of _ _ c.in-Err-walk.e c.unrefused.result c.unrefused.ensures.kept (goes-seeking _ refuses_of _ _ _ c.in-Err-walk.ensures.goes))
+    goes-later _ _ _ c.args.self.now c.approach.new.self c.walk.new.self back.same back.narrows (seeks-plain (OrAstray g.R.Seek.seek_refuses) c.args.self.now c.approach.new.self back.narrows)
+    (goes-unrefused _ g.R.Seek.seek_refuses refuses_of _ _ c.in-Err-walk.e c.unrefused.result c.unrefused.ensures.kept (goes-seeking _ (OrAstray g.R.Seek.seek_refuses) refuses_of _ _ _ c.in-Err-walk.ensures.goes))
 
 pub returns-in-Err-clause-missed : goal.returns-in-Err-clause-missed
 returns-in-Err-clause-missed g c = λ refusal. absurd (c.in-Err.ensures.other refusal)
@@ -44,7 +45,8 @@ returns-in-Err-from_end-clause-missed g c = λ refusal.
 
 pub returns-in-Err-from_end-clause-goes : goal.returns-in-Err-from_end-clause-goes
 returns-in-Err-from_end-clause-goes g c = goes-refused armored_reader _ c.args.self.now c.approach.new.self c.walk.new.self c.in-Err-from_end.e
-    c.in-Ok.ensures.goes.keeps.same c.in-Ok-walk.ensures.goes.keeps.same c.in-Err-from_end.ensures.other (inl c.in-Err-from_end.ensures.why)
+    c.in-Ok.ensures.goes.keeps.same c.in-Ok-walk.ensures.goes.keeps.same c.in-Err-from_end.ensures.other
+    (elim c.in-Err-from_end.ensures.why [ inl out ↦ inl (inl out) | inr long ↦ inl (inr (inl long)) ])
 
 pub returns-in-Err-walk-clause-refused : goal.returns-in-Err-walk-clause-refused
 returns-in-Err-walk-clause-refused g c = λ told steady place refusal. absurd (c.unrefused.ensures.other refusal)
@@ -116,7 +118,7 @@ returns-else-target-len g c =
     let within : (IsTrue (armored_reader.tells before) → IsTrue (armored_reader.steady before) → new.place ≤ length (armored_content new).bytes) = λ told steady.
     new.inside (same.tells ∙ told) (same.steady ∙ steady) in
     record {
-      goes = goes-later _ _ _ before new c.go_to.new.self same narrows (seeks-plain before new narrows) now.goes;
+      goes = goes-later _ _ _ before new c.go_to.new.self same narrows (seeks-plain (OrAstray g.R.Seek.seek_refuses) before new narrows) now.goes;
       missed = IfErr-weaker c.go_to.result _ _ (λ e missed refusal f h. armor-plain before new narrows f (missed refusal f h)) now.missed;
       well = λ told steady. on_ok_weaker c.go_to.result (λ is. (out told steady).0) (now.within (same.tells ∙ told) (same.steady ∙ steady));
       place = λ told. arrives c.go_to.result c.go_to.new.self.place aim now.there (now.place (same.tells ∙ told));

@@ -11,7 +11,7 @@ returns-then-self g c =
     let before = c.args.self.now in
     let now = c.fail_at.ensures in
     record {
-      text = too-long _ _ before c.fail_at.new.self _ _ _ (same-source _ _ now.source) now.failed
+      text = too-long _ _ g.R.Seek.seek_refuses before c.fail_at.new.self _ _ _ (same-source _ _ now.source) now.failed
           (λ told. let fits : before.place < 2 ^ 63 = before.fits told in omega (arith, fits, c.if-self.true));
       at_once = λ told early. let fits : before.place < 2 ^ 63 = before.fits told in absurd (omega (arith, fits, c.if-self.true));
       same_text = λ told. same-source-text _ _ now.source;
@@ -29,7 +29,7 @@ returns-in-None g c =
     let none : place_at before.place c.args.distance ≡ None =
     subst (λ d. place_at before.place d ≡ None) (to_z-of_z {w = w64} c.ranges.distance) (sym c.in-None.ensures) in
     record {
-      text = too-early _ _ before c.args.distance _ _ none;
+      text = too-early _ _ g.R.Seek.seek_refuses before c.args.distance _ _ none;
       at_once = λ told early. (refl, refl);
       same_text = λ told. refl;
       ending = λ told steady later good. absurd (later none);
@@ -46,7 +46,7 @@ returns-in-Some g c =
     let some : place_at before.place c.args.distance ≡ Some c.in-Some.target =
     subst (λ d. place_at before.place d ≡ Some c.in-Some.target) (to_z-of_z {w = w64} c.ranges.distance) (sym c.in-Some.ensures) in
     record {
-      text = counted-on _ _ before c.seek_to.new.self c.args.distance c.in-Some.target _ _ c.seek_to.result some c.seek_to.ensures.text;
+      text = counted-on _ _ g.R.Seek.seek_refuses before c.seek_to.new.self c.args.distance c.in-Some.target _ _ c.seek_to.result some c.seek_to.ensures.text;
       at_once = λ told early. absurd (cc (sym early ∙ some));
       same_text = c.seek_to.ensures.same_text;
       ending = λ told steady later good. c.seek_to.ensures.ending told steady good;

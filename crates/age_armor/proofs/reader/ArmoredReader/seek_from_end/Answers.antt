@@ -14,7 +14,7 @@ pub returns-in-Ok : goal.returns-in-Ok
 returns-in-Ok g c =
     let now = c.in-Ok.ensures in
     record {
-      text = arrived _ _ _ _ _ _ _ _ now.goes (armor-plain c.args.self.now c.go_from_end.new.self now.goes.keeps.narrows) now.good
+      text = arrived _ _ g.R.Seek.seek_refuses _ _ _ _ _ _ now.goes (armor-plain c.args.self.now c.go_from_end.new.self now.goes.keeps.narrows) now.good
           now.place (λ told. tt) (λ told steady.
           let before = c.args.self.now in
           let moved = now.exact told steady before.place in (
@@ -37,7 +37,7 @@ returns-in-Err g c =
     let before = c.args.self.now in
     let now = c.in-Err.ensures in
     record {
-      text = missed _ _ before c.go_from_end.new.self c.come_back.new.self _ _ _ c.in-Err.e c.come_back.result
+      text = missed _ _ g.R.Seek.seek_refuses before c.go_from_end.new.self c.come_back.new.self _ _ _ c.in-Err.e c.come_back.result
           (λ told well.
           let inner = well_inner (reader.content before.source.inner) (reader.place before.source.inner - before.source.taken) well in
           (g.met.R.Read.well before.source.inner told inner, inner, λ e. clean-unnamed _ e well))

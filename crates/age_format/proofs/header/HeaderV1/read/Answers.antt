@@ -1,12 +1,13 @@
 use Rattle.std.proofs.Common.{◌∙◌}
 use Rattle.age_error.specs.declared.decrypt.DecryptError.TheVariants as decrypt
-use Rattle.age_error.specs.DecryptErrors.{DecryptRefusal, IfIoRefusal, decrypt_of_io}
+use Rattle.age_error.specs.DecryptErrors.{DecryptRefusal, IfIoRefusal, decrypt_refusal, decrypt_of_io}
+use Rattle.age_error.specs.ErrorLaws.{of_error}
 use Rattle.age_io.specs.Keeping.{OrEarly}
 use Rattle.age_io.proofs.Keeping.{early-narrows}
 use Rattle.age_format.specs.HeaderV1.{reads_legacy}
 use Rattle.age_format.specs.ReadingHeader.{RefusesHeader}
 use Rattle.age_format.specs.Verdict.{Header, UnknownVersion, Bad}
-use Rattle.age_format.proofs.HeaderReading.{took_verdict, io_of_error, reads_header, ran_out_after, reader_refused, refusal_of_error}
+use Rattle.age_format.proofs.HeaderReading.{took_verdict, io_of_error, reads_header, ran_out_after, reader_refused}
 use Rattle.age_format.proofs.header.HeaderV1.read.Goals as goal
 
 pub returns-in-Bad-clause-refused : goal.returns-in-Bad-clause-refused
@@ -54,7 +55,7 @@ returns-in_err-byte-clause-refused g c = λ told.
     before.same.faults failed.keeps.same.faults (failed.cause here) in
     let refuses = λ (x : DecryptRefusal). RefusesHeader reads_legacy (read.faults c.args.reader.now) (read.faults c.next_byte.new.reader)
     (read.rest c.args.reader.now) (read.rest c.next_byte.new.reader) (read.place c.args.reader.now) (read.place c.next_byte.new.reader) x in
-    refusal_of_error c.from_residual.result (decrypt_of_io e) refuses c.from_residual.ensures.1 refused
+    of_error (λ x. refuses (decrypt_refusal x)) c.from_residual.result (decrypt_of_io e) c.from_residual.ensures.1 refused
 
 pub returns-in_err-byte-clause-io : goal.returns-in_err-byte-clause-io
 returns-in_err-byte-clause-io g c =
@@ -64,7 +65,7 @@ returns-in_err-byte-clause-io g c =
     let may = OrEarly read c.args.reader.now in
     let why = early-narrows read c.args.reader.now c.bytes.reader before.same.tells (λ told. (before.so_far told).end) before.narrows e
     c.in_err-byte.ensures.keeps.why in
-    refusal_of_error c.from_residual.result (decrypt_of_io e) (IfIoRefusal may) c.from_residual.ensures.1 (io_of_error may e why)
+    of_error (λ x. IfIoRefusal may (decrypt_refusal x)) c.from_residual.result (decrypt_of_io e) c.from_residual.ensures.1 (io_of_error may e why)
 
 pub returns-in_err-more-clause-refused : goal.returns-in_err-more-clause-refused
 returns-in_err-more-clause-refused g c = λ told.
@@ -76,4 +77,4 @@ returns-in_err-more-clause-refused g c = λ told.
     (before.so_far told) (c.in_ok-byte.ensures.byte here) (before.moved told) (c.in_ok-byte.ensures.moves here) c.text-size.ensures.undecided in
     let refuses = λ (x : DecryptRefusal). RefusesHeader reads_legacy (read.faults c.args.reader.now) (read.faults c.next_byte.new.reader)
     (read.rest c.args.reader.now) (read.rest c.next_byte.new.reader) (read.place c.args.reader.now) (read.place c.next_byte.new.reader) x in
-    refusal_of_error c.from_residual-in_err-more.result decrypt.OutOfMemory refuses c.from_residual-in_err-more.ensures.1 ran_out
+    of_error (λ x. refuses (decrypt_refusal x)) c.from_residual-in_err-more.result decrypt.OutOfMemory c.from_residual-in_err-more.ensures.1 ran_out

@@ -24,8 +24,9 @@ refused-as same narrows (inl is) = inl (sym same ∙ is.0, is.1)
 refused-as same narrows (inr b) = inr (narrows b)
 
 -- one of the inner reader after it was put back
-refused-later : {A B C D : Type 0} → (B → D) → A ⊎ B → A ⊎ C ⊎ D
-refused-later narrows (inl a) = inl a
+refused-later : {A B C D E F : Type 0} → (B → D) → (A ⊎ F) ⊎ B → (A ⊎ E ⊎ F) ⊎ C ⊎ D
+refused-later narrows (inl (inl a)) = inl (inl a)
+refused-later narrows (inl (inr f)) = inl (inr (inr f))
 refused-later narrows (inr b) = inr (inr (narrows b))
 
 pub returns-in-Err-clause-seeks : goal.returns-in-Err-clause-seeks

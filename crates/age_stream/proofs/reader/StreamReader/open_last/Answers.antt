@@ -167,7 +167,7 @@ returns-in-Ok-Some-clause-keeps g c =
     let after = c.fill-answer.new.reader in
     let filled = c.in-Ok.ensures in
     record {
-      inner = keeps-done read (OwnOrInner read IsPayloadSeekRefusal) self.inner after filled.keeps.same filled.keeps.narrows;
+      inner = keeps-done read (OwnOrInner read (IsPayloadSeekRefusal g.R.Seek.seek_refuses)) self.inner after filled.keeps.same filled.keeps.narrows;
       payload = λ told.
           let t = and-left (read.tells self.inner) (read.steady self.inner) told in
           (payload-read (read.content self.inner) (read.content after) (read.place self.inner) (read.place after) self.taken c.saturating_add-self.result c.fill-answer.new.filled

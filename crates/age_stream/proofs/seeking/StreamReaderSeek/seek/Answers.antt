@@ -15,7 +15,7 @@ use Rattle.age_stream.specs.ReadingLaws.{and-left, and-right, taken-rest}
 use Rattle.age_stream.proofs.Ending.{err-well, ok-well, last-opens, sought-refuses, not-both, in_length-leads, is-end, not-end}
 use Rattle.age_stream.proofs.Inner.{payload-place}
 use Rattle.age_io.specs.ReadingLaws.{quiet_from}
-use Rattle.age_stream.proofs.Keeping.{told-later, told-before, payload-refused, payload-ended, payload-later, content-kept, stream-kept, sought-why, stream_narrows, seeks-failed}
+use Rattle.age_stream.proofs.Keeping.{told-later, told-before, payload-refused, payload-ended, payload-later, content-kept, stream-kept, own-refusal, sought-why, stream_narrows, seeks-failed}
 use Rattle.age_stream.proofs.Judged.{ends_last, ends_badly}
 use Rattle.age_stream.proofs.Lengths.{plain_len_says}
 use Rattle.age_stream.proofs.Sound.{rest-kept, now-sound}
@@ -52,7 +52,7 @@ pub returns-in-Err-clause-seeks : goal.returns-in-Err-clause-seeks
 returns-in-Err-clause-seeks g c =
     let self = c.args.self.now in
     let done = c.in-Err.ensures in
-    seeks-failed self c.look.new.self c.args.to c.in-Err.e
+    seeks-failed g.R.Seek.seek_refuses self c.look.new.self c.args.to c.in-Err.e
     (payload-refused g.R.Read self.inner c.look.new.self.inner self.taken c.look.new.self.taken c.in-Err.e done.keeps)
     done.same.4 (omega (arith, done.same.0, done.same.1)) done.refusal (λ told well plain memory quiet. done.cause told well memory quiet)
 
@@ -67,8 +67,9 @@ returns-then-not-is_outside-clause-seeks g c =
     let law = shorter suite.seal_of suite.opened g.met.S.Suite.cipher self.key self.key_bytes in
     let done = c.in-Ok.ensures in
     let other = c.if-not-is_outside.ensures.no refl in
-    seeks-failed self mid c.args.to c.in-Err-find.e
-    (payload-ended read self.inner mid.inner self.taken mid.taken c.in-Err-find.e done.keeps c.in-Err-find.ensures.not_device c.in-Err-find.ensures.named)
+    seeks-failed g.R.Seek.seek_refuses self mid c.args.to c.in-Err-find.e
+    (payload-ended read self.inner mid.inner self.taken mid.taken c.in-Err-find.e done.keeps c.in-Err-find.ensures.not_device
+    (own-refusal g.R.Seek.seek_refuses c.in-Err-find.e c.in-Err-find.ensures.named))
     done.same.4 (omega (arith, done.same.0, done.same.1)) other
     (λ told whole well memory quiet.
     let are = All-drop (λ x. x < 2 ^ 8) (read.place self.inner - self.taken) (read.content self.inner).bytes
@@ -85,7 +86,7 @@ returns-in-Err-stand-clause-seeks g c =
     let mid = c.look.new.self in
     let done = c.in-Err-stand.ensures in
     let new = c.stand.new.self in
-    seeks-failed self new c.args.to c.in-Err-stand.fault
+    seeks-failed g.R.Seek.seek_refuses self new c.args.to c.in-Err-stand.fault
     (payload-later read (Err c.in-Err-stand.fault) self.inner mid.inner new.inner self.taken mid.taken new.taken look.keeps
     (payload-refused read mid.inner new.inner mid.taken new.taken c.in-Err-stand.fault done.keeps))
     (done.same.4 ∙ look.same.4) (omega (arith, look.same.0, look.same.1, done.same.0, done.same.1)) done.refusal
@@ -101,7 +102,7 @@ returns-in-Err-enter-clause-seeks g c =
     let mid = c.look.new.self in
     let done = c.in-Err-enter.ensures in
     let new = c.enter.new.self in
-    seeks-failed self new c.args.to c.in-Err-enter.e
+    seeks-failed g.R.Seek.seek_refuses self new c.args.to c.in-Err-enter.e
     (payload-later read (Err c.in-Err-enter.e) self.inner mid.inner new.inner self.taken mid.taken new.taken look.keeps
     (payload-refused read mid.inner new.inner mid.taken new.taken c.in-Err-enter.e done.keeps))
     (done.key ∙ look.same.4) (omega (arith, look.same.0, look.same.1, done.stays.0, done.stays.1)) done.refusal
@@ -120,7 +121,7 @@ returns-in-Err-enter_end-clause-seeks g c =
     let done = c.in-Err-enter_end.ensures in
     let new = c.enter_end.new.self in
     let law = shorter suite.seal_of suite.opened g.met.S.Suite.cipher self.key self.key_bytes in
-    seeks-failed self new c.args.to c.in-Err-enter_end.e
+    seeks-failed g.R.Seek.seek_refuses self new c.args.to c.in-Err-enter_end.e
     (payload-later read (Err c.in-Err-enter_end.e) self.inner mid.inner new.inner self.taken mid.taken new.taken look.keeps
     (payload-refused read mid.inner new.inner mid.taken new.taken c.in-Err-enter_end.e done.keeps))
     (done.key ∙ look.same.4) (omega (arith, look.same.0, look.same.1, done.stays.0, done.stays.1)) done.refusal
@@ -261,7 +262,7 @@ returns-in-Ok-stand-clause-seeks g c =
       no_fewer_faults = keeps.inner.same.faults;
       device = λ d. absurd (c.in-Err-find.ensures.not_device d);
       unspent = tt;
-      why = sought-why self c.in-Err-find.e (inl c.in-Err-find.ensures.named);
+      why = sought-why g.R.Seek.seek_refuses self c.in-Err-find.e (inl (own-refusal g.R.Seek.seek_refuses c.in-Err-find.e c.in-Err-find.ensures.named));
       narrows = tt;
       again = λ i. absurd (not-both c.in-Err-find.e refusal i);
       missed = λ _. stream_narrows self.failed self new (λ is. is) keeps (done.same.4 ∙ look.same.4);
