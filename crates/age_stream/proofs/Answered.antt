@@ -19,11 +19,11 @@ use Rattle.age_stream.specs.Chunks.{chunk_of, delivered}
 use Rattle.age_stream.specs.FrontToEnd.{StopsAt}
 use Rattle.age_stream.specs.WellLaws.{accepted}
 use Rattle.age_stream.specs.Answering.{IsHeldAs, Gives, Refuses, RefusesItself, StopsNear, IsEnd, IsGoodEnd}
-use Rattle.age_stream.specs.Reading.{payload_at, text_at, IsFront, IsHeld, IsPast}
+use Rattle.age_stream.specs.Reading.{payload_at, text_at, IsFront, IsHeld, IsPast, TookText}
 use Rattle.age_stream.proofs.Payloads.{plain_len-payload, chunk-last}
 use Rattle.age_stream.proofs.Judged.{text_chunk, allowed-accepted, judged-middle, judged-last, judged-refused, judged-after_last, ends_last}
 use Rattle.age_stream.proofs.Reopened.{payload-delivered}
-use Rattle.age_stream.proofs.Holding.{TookText, text-read, held-now}
+use Rattle.age_stream.proofs.Holding.{text-read, held-now}
 
 -- the rest of a steady reader is bytes
 pub rest-bytes : (content rest : Stretch) (place : ℕ) → StandsIn content place rest → AreBytes content.bytes → AreBytes rest.bytes

@@ -2,6 +2,7 @@
 use Rattle.std.specs.Prelude.{◌≡◌, ℕ, ◌+◌, ◌-◌, ◌*◌, ◌/◌, ◌^◌, ◌<◌, ◌≤◌, ◌⊎◌, Bool, true, false, cond, Option, Some, None, option_map, Ok, List, length, min}
 use Rattle.std.proofs.Common.{◌∙◌, ap, arith, inl, inr, refl, sym, subst}
 use Rattle.std.proofs.lemmas.Bool.{cases_lt, eq-eqb, false_from_ne_true}
+use Rattle.std.proofs.lemmas.List.Elements.{All-drop}
 use Rattle.age_error.specs.Bytes.{AreBytes}
 use Rattle.age_io.specs.Stretch.{Stretch}
 use Rattle.age_io.specs.Reading.{StandsIn}
@@ -11,9 +12,9 @@ use Rattle.age_stream.specs.Cache.{has_number, last_used, HasOne, IsKept, IsText
 use Rattle.age_stream.specs.Chunks.{chunk_of}
 use Rattle.age_stream.specs.OpeningLaws.{Shorter}
 use Rattle.age_stream.specs.Payload.{nonce}
-use Rattle.age_stream.specs.Reading.{payload_at, IsHeld}
+use Rattle.age_stream.specs.Reading.{payload_at, IsHeld, TookText}
 use Rattle.age_stream.specs.WellLaws.{accepted}
-use Rattle.age_stream.proofs.Holding.{payload-read, stood-taken, text-read, TookText}
+use Rattle.age_stream.proofs.Holding.{payload-read, stood-taken, text-read}
 use Rattle.age_stream.proofs.Last.{text-held}
 use Rattle.age_stream.proofs.TextLengths.{some-within}
 
@@ -82,17 +83,20 @@ pub record IsOpenedText (opened : List ℕ → List ℕ → List ℕ → Option 
   pub short : length text < 65552 → last ≡ true
   pub longer : length plain + 16 ≡ length text
 
--- The first chunk is that of the text that was read, in whatever way it was given.
-pub brought : (opened : List ℕ → List ℕ → List ℕ → Option (List ℕ)) (key : List ℕ) (law : Shorter opened key) (payload : Stretch) (number : ℕ) (given text : List ℕ) (cache : Cache) →
-    given ≡ text → AreBytes payload.bytes → IsText payload number text → (cache.judged ≡ true) × (cache.number ≡ number) × (cache.used ≡ true) →
-    (IsText payload number given → IsKept opened key payload cache) → IsOpenedText opened key number text cache.chunk.items cache.last
-brought opened key law payload number given text cache same bytes read first kept =
-    let has = kept (subst (IsText payload number) (sym same) read) in
-    let held = subst (λ n. IsHeld opened key payload n cache.last 0 cache.chunk.items) first.1 (has.first first.0) in
+-- The first chunk is that of the text that an inner reader gave.
+pub brought : (opened : List ℕ → List ℕ → List ℕ → Option (List ℕ)) (key : List ℕ) (law : Shorter opened key) (content rest after : Stretch) (place taken number : ℕ)
+    (text : List ℕ) (cache : Cache) → AreBytes content.bytes → StandsIn content place rest → taken ≤ place → taken ≡ 65552 * number → TookText rest after text →
+    (cache.judged ≡ true) × (cache.number ≡ number) × (cache.used ≡ true) →
+    (IsText (payload_at place taken content) number text → IsKept opened key (payload_at place taken content) cache) →
+    IsOpenedText opened key number text cache.chunk.items cache.last
+brought opened key law content rest after place taken number text cache bytes stands fits stood took first kept =
+    let payload = payload_at place taken content in
+    let read = is-text content rest after place taken number text stands fits stood took in
+    let held = subst (λ n. IsHeld opened key payload n cache.last 0 cache.chunk.items) first.1 ((kept read).first first.0) in
     record {
       ok = ap (chunk_of opened key number) (sym read.is) ∙ held.judged (λ e. absurd (omega (arith, e.full)));
       short = λ less. (held.whole (subst (λ (xs : List ℕ). length xs < 65552) (sym read.is) less)).1;
-      longer = text-held opened key law payload number 0 cache.last cache.chunk.items bytes held ∙ ap length read.is;
+      longer = text-held opened key law payload number 0 cache.last cache.chunk.items (All-drop (λ x. x < 2 ^ 8) (place - taken) content.bytes bytes) held ∙ ap length read.is;
     }
 
 module _ (opened : List ℕ → List ℕ → List ℕ → Option (List ℕ)) (key : List ℕ) (cache : Cache) where

@@ -13,17 +13,11 @@ use Rattle.age_stream.specs.OpeningLaws.{Shorter}
 use Rattle.age_stream.specs.Chunks.{chunk_of, prepend, after_last, delivered}
 use Rattle.age_stream.specs.ChunkLaws.{delivered-chunk, delivered-refused, delivered-cut}
 use Rattle.age_stream.specs.WellLaws.{accepted, delivered-nothing}
-use Rattle.age_stream.specs.Reading.{payload_at, text_at, behind, rest_of, spare, IsFront, IsHeld, IsPast, IsBefore, IsInside, IsSound}
+use Rattle.age_stream.specs.Reading.{payload_at, text_at, behind, rest_of, spare, IsFront, IsHeld, IsPast, IsBefore, IsInside, IsSound, TookText}
 use Rattle.age_stream.specs.ReadingLaws.{taken-rest}
 use Rattle.age_stream.proofs.TextLengths.{length-text, plain-inside}
 
 -- ---- lists
-
--- an inner reader gave a full text, or all that was left before its clean end
-pub record TookText (before after : Stretch) (text : List ℕ) : Type 0 where
-  pub came : Delivers text before after
-  pub most : length text ≤ 65552
-  pub ended : length text < 65552 → IsCleanEnd after
 
 -- what was read into room for a full text
 pub took-text : (buf : List ℕ) (count : ℕ) (before after : Stretch) → length buf ≡ 65552 → count ≤ length buf → Delivers (take count buf) before after →

@@ -9,10 +9,10 @@ use Rattle.age_io.specs.Stretch.{Stretch, from_place, stretch-ext}
 use Rattle.age_io.specs.Reading.{EndsEarly}
 use Rattle.age_stream.specs.Payload.{nonce}
 use Rattle.age_stream.specs.OpeningLaws.{Shorter}
-use Rattle.age_stream.specs.Reading.{text_at, IsHeld, IsPast, IsInside, IsLastChunk}
+use Rattle.age_stream.specs.Reading.{text_at, IsHeld, IsPast, IsInside, IsLastChunk, TookText}
 use Rattle.age_stream.specs.Chunks.{chunk_of}
 use Rattle.age_stream.proofs.TextLengths.{length-text, plain-whole, plain-inside}
-use Rattle.age_stream.proofs.Holding.{TookText, front_of}
+use Rattle.age_stream.proofs.Holding.{front_of}
 use Rattle.age_stream.proofs.Judged.{judged-short}
 
 -- what was read is the whole last chunk

@@ -11,7 +11,7 @@ ghost use Rattle.age_stream.specs.Payload.{nonce, payload, LastIsNoMiddle};
 ghost use Rattle.age_stream.specs.Answering.{Gives, Refuses, RefusesItself, IsEnd, IsGoodEnd};
 ghost use Rattle.age_stream.specs.Chunks.{allowed, chunk_of, delivered};
 ghost use Rattle.age_stream.specs.Keeping.{IsPayloadRefusal, KeepsPayload, OwnOrInner, Stops};
-ghost use Rattle.age_stream.specs.Reading.{payload_at, spare, IsSound};
+ghost use Rattle.age_stream.specs.Reading.{payload_at, spare, IsSound, TookText};
 ghost use Rattle.age_stream.specs.Cache.{has_number, last_used, HasOne, IsKept};
 ghost use Rattle.age_stream.specs.Wholeness.{IsUnjudged};
 ghost use Rattle.age_suite.specs.Suite.{one_more};
@@ -455,6 +455,32 @@ impl<S: Suite, R: Read> StreamReader<S, R> {
         }
     }
 
+    // Takes the next sealed text of the inner reader into the front of the room for one, and answers how long it is. Until it is opened
+    // the reader has failed.
+    pub(crate) fn take_text(&mut self) -> Result<usize, Error>
+        ensures same { (self.new.number ≡ self.old.number) × (self.new.at ≡ self.old.at) × (self.new.held ≡ self.old.held)
+            × (self.new.cache ≡ self.old.cache) × (self.new.key ≡ self.old.key)
+            × (self.new.opens ≡ self.old.opens) × (self.new.failed ≡ true) × (self.new.sought ≡ self.old.sought) }
+        ensures keeps { KeepsPayload ⟦<R as Read>⟧ (λ _. ⊥) self.old.inner self.old.taken self.new.inner self.new.taken result }
+        ensures unspent { OnOk result (R.faults self.new.inner < most_faults) }
+        ensures count { IfOk result (λ n. n ≤ 65552) }
+        ensures took { IsTrue (R.tells self.old.inner) → IfOk result (λ n.
+            TookText (R.rest self.old.inner) (R.rest self.new.inner) (take n self.new.sealed.items)) }
+        ensures moves { IsTrue (R.tells self.old.inner && R.steady self.old.inner) → IfOk result (λ n.
+            (R.place self.new.inner ≡ R.place self.old.inner + n) × (self.new.taken ≡ self.old.taken + n)) }
+        ensures cause { IsTrue (R.tells self.old.inner) → IfErr result (λ e. e ≢ OutOfMemory →
+            IsQuiet (R.faults self.old.inner) (R.faults self.new.inner) → EndsEarly 65552 (R.rest self.old.inner)) }
+    {
+        self.failed = true;
+        let mut count = 0;
+        let answer = fill(&mut self.inner, &mut self.sealed, &mut count);
+        self.taken = self.taken.saturating_add(count as u64);
+        match answer {
+            Err(e) => Err(e),
+            Ok(()) => Ok(count),
+        }
+    }
+
     // Reads and opens the chunk at the place.
     fn open(&mut self) -> Result<(), Error>
         requires good { self.old.failed ≡ false }
@@ -488,15 +514,10 @@ impl<S: Suite, R: Read> StreamReader<S, R> {
         ensures keeps_last { OnOk result ((b : ℕ) → last_used self.old.cache ≡ Some b → HasOne self.new.cache b) }
         ensures has { has_number self.old.number self.old.cache.other ≡ true → OnOk result ((b : ℕ) → HasOne self.old.cache b → HasOne self.new.cache b) }
     {
-        // It stays so on each way out but the last.
-        self.failed = true;
-        let mut count = 0;
-        let answer = fill(&mut self.inner, &mut self.sealed, &mut count);
-        self.taken = self.taken.saturating_add(count as u64);
-        match answer {
+        let count = match self.take_text() {
             Err(e) => return Err(e),
-            Ok(()) => {}
-        }
+            Ok(count) => count,
+        };
         match self.cache.bring::<S>(
             self.alloc,
             &mut self.opens,

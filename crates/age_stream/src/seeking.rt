@@ -16,7 +16,7 @@ ghost use Rattle.age_stream.specs.Targets.{below_start, in_length, sought_in, Is
 use crate::reader::{StreamReader, open_as};
 use crate::sizes::{CHUNK, LONGEST_PLAINTEXT, PIECE};
 use age_error::io::{Error, SeekFrom};
-use age_io::{Read, Seek, fill, is_outside, place_at, seek_retrying, sought};
+use age_io::{Read, Seek, is_outside, place_at, seek_retrying, sought};
 use age_suite::suite::Suite;
 
 // The length of the plaintext of a payload of so many bytes, if there is one.
@@ -236,32 +236,30 @@ impl<S: Suite, R: Seek> StreamReader<S, R> {
             IfErr result (λ e. e ≢ OutOfMemory → IsQuiet (R.faults self.old.inner) (R.faults self.new.inner) →
             (e ≡ BadEnd) × (S.opened self.old.key (nonce number true) (text_at number (payload_of self.old)) ≡ None)) }
     {
+        let count = match self.take_text() {
+            Err(e) => return Err(lost(e)),
+            Ok(count) => count,
+        };
         self.cache.make_room(self.alloc);
-        let mut count = 0;
-        let answer = fill(&mut self.inner, &mut self.sealed, &mut count);
-        self.taken = self.taken.saturating_add(count as u64);
-        match answer {
-            Err(e) => Err(lost(e)),
-            Ok(()) => match open_as::<S>(
-                self.alloc,
-                &mut self.opens,
-                &self.key,
-                number,
-                true,
-                &self.sealed[..count],
-            ) {
-                Err(_) => Err(Error::OutOfMemory),
-                Ok(None) => Err(Error::BadEnd),
-                Ok(Some(chunk)) => {
-                    let len = chunk.len();
-                    self.cache.put(self.alloc, number, chunk, true, len < PIECE);
-                    self.number = number;
-                    self.at = len;
-                    self.held = true;
-                    self.failed = false;
-                    Ok(())
-                }
-            },
+        match open_as::<S>(
+            self.alloc,
+            &mut self.opens,
+            &self.key,
+            number,
+            true,
+            &self.sealed[..count],
+        ) {
+            Err(_) => Err(Error::OutOfMemory),
+            Ok(None) => Err(Error::BadEnd),
+            Ok(Some(chunk)) => {
+                let len = chunk.len();
+                self.cache.put(self.alloc, number, chunk, true, len < PIECE);
+                self.number = number;
+                self.at = len;
+                self.held = true;
+                self.failed = false;
+                Ok(())
+            }
         }
     }
 
