@@ -1,10 +1,12 @@
-use Rattle.age_stream.specs.Targets.{in_length}
-use Rattle.age_error.specs.declared.io.Error.TheVariants.{BeforeStart}
+use Rattle.age_stream.specs.Targets.{below_start, in_length, IsToEnd}
+use Rattle.age_error.specs.declared.io.Error.TheVariants.{BadEnd, BeforeStart, OutOfMemory}
 use Rattle.std.specs.Prelude.{cond, if◌then◌else◌}
-use Rattle.std.proofs.Common.{◌≡◌, ◌<◌, ◌-◌, ◌+◌, ◌*◌, ◌/◌, ◌^◌, ◌∙◌, ◌⊎◌, arith, length, sym, subst, ap, IsTrue, ◌&&◌, refl, length-drop, true, Some, None, inl, inr, Ok, Err}
+use Rattle.std.proofs.Common.{◌≡◌, ◌<◌, ◌-◌, ◌+◌, ◌*◌, ◌/◌, ◌^◌, ◌∙◌, ◌⊎◌, arith, length, sym, subst, ap, IsTrue, ◌&&◌, refl, length-drop, true, false, Some, None, inl, inr, Ok, Err, ◌≢◌}
 use Rattle.std.proofs.lemmas.Bool.{true≢false, true_from_ne_false}
 use Rattle.std.proofs.lemmas.List.Elements.{All-drop}
 use Rattle.age_io.specs.Stretch.{from_place}
+use Rattle.age_io.specs.Reading.{IsQuiet}
+use Rattle.age_stream.specs.Reader.{HoldsEnd}
 use Rattle.age_stream.specs.Payload.{nonce, final_chunk, plain_len}
 use Rattle.age_stream.specs.Chunks.{delivered}
 use Rattle.age_stream.specs.OpeningLaws.{shorter}
@@ -110,35 +112,90 @@ returns-in-Err-enter-clause-seeks g c =
     (ap (λ p. p.ends_well) (look.keeps.payload told) ∙ well) memory
     (quiet_from look.keeps.inner.same.faults done.keeps.inner.same.faults quiet))
 
-pub returns-in-Err-enter_end-clause-seeks : goal.returns-in-Err-enter_end-clause-seeks
-returns-in-Err-enter_end-clause-seeks g c =
+-- the target is the end, and isn't come to
+pub returns-in-Err-enter_end : goal.returns-in-Err-enter_end
+returns-in-Err-enter_end g c =
     let self = c.args.self.now in
     let read = g.R.Read in
     let suite = g.S.Suite in
+    let place = 65536 * self.number + self.at in
     let payload = payload_at (read.place self.inner) self.taken (read.content self.inner) in
     let look = c.in-Ok.ensures in
     let mid = c.look.new.self in
     let done = c.in-Err-enter_end.ensures in
     let new = c.enter_end.new.self in
-    let law = shorter suite.seal_of suite.opened g.met.S.Suite.cipher self.key self.key_bytes in
-    seeks-failed g.R.Seek.seek_refuses self new c.args.to c.in-Err-enter_end.e
-    (payload-later read (Err c.in-Err-enter_end.e) self.inner mid.inner new.inner self.taken mid.taken new.taken look.keeps
-    (payload-refused read mid.inner new.inner mid.taken new.taken c.in-Err-enter_end.e done.keeps))
-    (done.key ∙ look.same.4) (omega (arith, look.same.0, look.same.1, done.stays.0, done.stays.1)) done.refusal
-    (λ told whole well memory quiet.
-    let are = All-drop (λ x. x < 2 ^ 8) (read.place self.inner - self.taken) (read.content self.inner).bytes
+    let later = told-later read self.inner mid.inner look.keeps.inner.same in
+    let told_type = IsTrue (read.tells self.inner && read.steady self.inner) in
+    let not_below : below_start c.args.to place ≡ false = sym c.is_below_start.ensures ∙ c.if-is_below_start.false in
+    let size : told_type → c.in-Ok.size ≡ length payload.bytes = λ told. (look.found told).2 in
+    let at_end : told_type → IsToEnd (length payload.bytes) c.args.to place = λ told.
+    let size = size told in
+    is-end c.args.to place (length payload.bytes) c.in-Ok-find.target c.in-Ok-find.len (rw size at c.in-Ok-find.ensures.plain) not_below
+    (rw size at c.in-Ok-find.ensures.ok) c.if-target-len.true in
+    let are = λ (told : IsTrue (read.tells self.inner && read.steady self.inner)).
+    All-drop (λ x. x < 2 ^ 8) (read.place self.inner - self.taken) (read.content self.inner).bytes
     (g.met.R.Read.are_bytes self.inner (and-left (read.tells self.inner) (read.steady self.inner) told)) in
-    let none = (done.cause (told-later read self.inner mid.inner look.keeps.inner.same told) (ap (λ p. p.ends_well) (look.keeps.payload told) ∙ whole) memory
-    (quiet_from look.keeps.inner.same.faults done.keeps.inner.same.faults quiet)).1 in
-    let size : c.in-Ok.size ≡ length payload.bytes = (look.found told).2 in
-    let num = final_chunk c.in-Ok.size in
-    let moved = subst (λ p. suite.opened mid.key (nonce num true) (text_at num p) ≡ None) (look.keeps.payload told) none in
-    let same = subst (λ k. suite.opened k (nonce num true) (text_at num payload) ≡ None) look.same.4 moved in
-    last-opens suite.opened self.key law payload are well
-    (subst (λ n. suite.opened self.key (nonce (final_chunk n) true) (text_at (final_chunk n) payload) ≡ None) size same))
+    let law = shorter suite.seal_of suite.opened g.met.S.Suite.cipher self.key self.key_bytes in
+    let e = c.in-Err-enter_end.e in
+    let final = final_chunk c.in-Ok.size in
+    let keeps = payload-later read (Err e) self.inner mid.inner new.inner self.taken mid.taken new.taken look.keeps
+    (payload-refused read mid.inner new.inner mid.taken new.taken e done.keeps) in
+    let holds : told_type → HoldsEnd self → ((mid.held ≡ true) × (mid.cache.last ≡ true) × (mid.number ≡ final)) ⊎ HasLast mid.cache final = λ told was. elim was.1 [
+      | inl is ↦ inl (look.same.2 ∙ is.0, ap (λ k. k.last) look.same.3 ∙ is.1, look.same.0 ∙ is.2 ∙ ap final_chunk (sym (size told)))
+      | inr is ↦ inr (subst (λ k. HasLast k final) (sym look.same.3) (subst (λ n. HasLast self.cache (final_chunk n)) (sym (size told)) is))
+    ] in
+    let cause : (told : told_type) → IsTrue payload.ends_well → e ≢ OutOfMemory → IsQuiet (read.faults self.inner) (read.faults new.inner) →
+    (e ≡ BadEnd) × (suite.opened self.key (nonce (final_chunk (length payload.bytes)) true) (text_at (final_chunk (length payload.bytes)) payload) ≡ None) =
+    λ told well memory quiet.
+    let bad = done.cause (later told) (ap (λ p. p.ends_well) (look.keeps.payload told) ∙ well) memory
+    (quiet_from look.keeps.inner.same.faults done.keeps.inner.same.faults quiet) in
+    let moved = subst (λ p. suite.opened mid.key (nonce final true) (text_at final p) ≡ None) (look.keeps.payload told) bad.1 in
+    let same = subst (λ k. suite.opened k (nonce final true) (text_at final payload) ≡ None) look.same.4 moved in
+    (bad.0, subst (λ n. suite.opened self.key (nonce (final_chunk n) true) (text_at (final_chunk n) payload) ≡ None) (size told) same) in
+    record {
+      seeks = seeks-failed g.R.Seek.seek_refuses self new c.args.to e keeps (done.key ∙ look.same.4) (omega (arith, look.same.0, look.same.1, done.stays.0, done.stays.1))
+          done.refusal (λ told whole well memory quiet. last-opens suite.opened self.key law payload (are told) well (cause told whole memory quiet).1);
+      patient = keeps.inner.patient;
+      payload = keeps.payload;
+      key = done.key ∙ look.same.4;
+      order = λ told. tt;
+      refused = λ told outside. absurd (done.refusal outside);
+      ends = λ told. tt;
+      bad = λ told well memory quiet.
+          let found = cause told well memory quiet in
+          inr (
+            found.0,
+            record { end = at_end told; bad = ends_badly suite.seal_of suite.opened g.met.S.Suite.cipher self.key self.key_bytes payload.bytes (are told) found.1 },
+          );
+      inner_end = λ told. tt;
+      inner_place = λ told outside. absurd (done.refusal outside);
+      inner_rest = λ told apart outside. absurd (done.refusal outside);
+      clears = tt;
+      unmoved = λ outside. absurd (done.refusal outside);
+      first = λ below. absurd (true≢false (sym below ∙ not_below));
+      fails = λ own. done.fails;
+      judges = λ told. tt;
+      counts = omega (arith, done.counts, look.same.5);
+      opens = omega (arith, done.opens, look.same.5);
+      end = λ told other. absurd (other (at_end told));
+      held = λ told was. elim (holds told was) [
+        | inl is ↦ done.held was.0 is.0 is.1 is.2 ∙ look.same.5
+        | inr is ↦ done.kept was.0 is ∙ look.same.5
+      ];
+      keeps = λ told. tt;
+      unmoved_chunks = λ outside. absurd (done.refusal outside);
+      same_last = λ told. tt;
+      keeps_last = tt;
+      holds_end = λ told. tt;
+      uses_end = λ told. tt;
+      none = λ told failed. tt;
+      unheld = λ told failed. tt;
+      finds = λ told. tt;
+    }
 
-pub returns-in-Ok-enter-clause-seeks : goal.returns-in-Ok-enter-clause-seeks
-returns-in-Ok-enter-clause-seeks g c =
+-- the target is before the end
+pub returns-in-Ok-enter : goal.returns-in-Ok-enter
+returns-in-Ok-enter g c =
     let self = c.args.self.now in
     let read = g.R.Read in
     let suite = g.S.Suite in
@@ -149,48 +206,96 @@ returns-in-Ok-enter-clause-seeks g c =
     let done = c.in-Ok-enter.ensures in
     let new = c.enter.new.self in
     let later = told-later read self.inner mid.inner look.keeps.inner.same in
+    let told_type = IsTrue (read.tells self.inner && read.steady self.inner) in
+    let not_below : below_start c.args.to place ≡ false = sym c.is_below_start.ensures ∙ c.if-is_below_start.false in
+    let size : told_type → c.in-Ok.size ≡ length payload.bytes = λ told. (look.found told).2 in
+    let before_end : told_type → IsToEnd (length payload.bytes) c.args.to place → ⊥ = λ told end.
+    let size = size told in
+    not-end c.args.to place (length payload.bytes) c.in-Ok-find.target c.in-Ok-find.len (rw size at c.in-Ok-find.ensures.plain) not_below
+    (rw size at c.in-Ok-find.ensures.ok) (λ same. c.if-target-len.false same) end in
     let keeps = payload-later read (Ok c.in-Ok-enter.field-0) self.inner mid.inner new.inner self.taken mid.taken new.taken look.keeps done.keeps in
     let kept = stream-kept self new keeps (done.key ∙ look.same.4) in
     let content = content-kept self new keeps (done.key ∙ look.same.4) in
     record {
-      same_tells = kept.0;
-      same_steady = kept.1;
-      no_fewer_faults = keeps.inner.same.faults;
-      device = tt;
-      unspent = done.unspent;
-      why = tt;
-      narrows = stream_narrows new.failed self new (λ is. absurd (true≢false (sym is ∙ done.good))) keeps (done.key ∙ look.same.4);
-      again = tt;
-      missed = tt;
-      same_content = content;
-      arrives = λ told. done.arrives;
-      leads = λ told. in_length-leads (plain_len c.in-Ok.size) c.args.to place _ c.in-Ok-find.ensures.ok;
-      stays = λ _. tt;
-      interrupted = λ _. tt;
-      moves = λ told steady.
-          let well = and-right (read.tells self.inner && read.steady self.inner) _ steady in
-          let law = shorter suite.seal_of suite.opened g.met.S.Suite.cipher self.key self.key_bytes in
-          let are = All-drop (λ x. x < 2 ^ 8) (read.place self.inner - self.taken) (read.content self.inner).bytes
-          (g.met.R.Read.are_bytes self.inner (and-left (read.tells self.inner) (read.steady self.inner) told)) in
-          let size : c.in-Ok.size ≡ length payload.bytes = (look.found told).2 in
-          let same = keeps.payload told in
-          let after = told-later read self.inner new.inner keeps.inner.same told in
-          let law_new = shorter suite.seal_of suite.opened g.met.S.Suite.cipher new.key new.key_bytes in
-          let are_new = All-drop (λ x. x < 2 ^ 8) (read.place new.inner - new.taken) (read.content new.inner).bytes
-          (g.met.R.Read.are_bytes new.inner (and-left (read.tells new.inner) (read.steady new.inner) after)) in
-          let sound = now-sound suite.opened new.key law_new new.failed new.held new.at new.cache.chunk.items new.cache.last new.sought new.number new.taken (read.place new.inner) (read.content new.inner) (read.rest new.inner)
-          are_new (ap (λ d. d.ends_well) (content told) ∙ well) done.good new.in_chunk (new.sound after)
-          (λ shut. (done.rest (later told) ∙ ap (from_place new.taken) (sym (done.keeps.payload (later told))), omega (arith, done.more shut, size, ap (λ p. length p.bytes) same))) in (
-            ok-well suite.opened self.key law payload are well c.args.to place _ (rw size at c.in-Ok-find.ensures.ok),
-            sound ∙ ap (λ d. from_place (65536 * new.number + new.at) d) (content told) ∙ ap (λ n. from_place n (delivered suite.opened self.key 0 payload)) done.arrives,
-          );
-      kept = λ _ _ _. tt;
-      refused = λ _ _. tt;
-      cause = λ _ _. tt;
+      seeks = record {
+          same_tells = kept.0;
+          same_steady = kept.1;
+          no_fewer_faults = keeps.inner.same.faults;
+          device = tt;
+          unspent = done.unspent;
+          why = tt;
+          narrows = stream_narrows new.failed self new (λ is. absurd (true≢false (sym is ∙ done.good))) keeps (done.key ∙ look.same.4);
+          again = tt;
+          missed = tt;
+          same_content = content;
+          arrives = λ told. done.arrives;
+          leads = λ told. in_length-leads (plain_len c.in-Ok.size) c.args.to place _ c.in-Ok-find.ensures.ok;
+          stays = λ _. tt;
+          interrupted = λ _. tt;
+          moves = λ told steady.
+              let well = and-right (read.tells self.inner && read.steady self.inner) _ steady in
+              let law = shorter suite.seal_of suite.opened g.met.S.Suite.cipher self.key self.key_bytes in
+              let are = All-drop (λ x. x < 2 ^ 8) (read.place self.inner - self.taken) (read.content self.inner).bytes
+              (g.met.R.Read.are_bytes self.inner (and-left (read.tells self.inner) (read.steady self.inner) told)) in
+              let size : c.in-Ok.size ≡ length payload.bytes = (look.found told).2 in
+              let same = keeps.payload told in
+              let after = told-later read self.inner new.inner keeps.inner.same told in
+              let law_new = shorter suite.seal_of suite.opened g.met.S.Suite.cipher new.key new.key_bytes in
+              let are_new = All-drop (λ x. x < 2 ^ 8) (read.place new.inner - new.taken) (read.content new.inner).bytes
+              (g.met.R.Read.are_bytes new.inner (and-left (read.tells new.inner) (read.steady new.inner) after)) in
+              let sound = now-sound suite.opened new.key law_new new.failed new.held new.at new.cache.chunk.items new.cache.last new.sought new.number new.taken (read.place new.inner) (read.content new.inner) (read.rest new.inner)
+              are_new (ap (λ d. d.ends_well) (content told) ∙ well) done.good new.in_chunk (new.sound after)
+              (λ shut. (done.rest (later told) ∙ ap (from_place new.taken) (sym (done.keeps.payload (later told))), omega (arith, done.more shut, size, ap (λ p. length p.bytes) same))) in (
+                ok-well suite.opened self.key law payload are well c.args.to place _ (rw size at c.in-Ok-find.ensures.ok),
+                sound ∙ ap (λ d. from_place (65536 * new.number + new.at) d) (content told) ∙ ap (λ n. from_place n (delivered suite.opened self.key 0 payload)) done.arrives,
+              );
+          kept = λ _ _ _. tt;
+          refused = λ _ _. tt;
+          cause = λ _ _. tt;
+        };
+      patient = tt;
+      payload = λ told. done.keeps.payload (later told) ∙ look.keeps.payload told;
+      key = done.key ∙ look.same.4;
+      order = λ told. let size = size told in rw not_below (rw size at c.in-Ok-find.ensures.ok);
+      refused = λ told. tt;
+      ends = λ told end. absurd (before_end told end);
+      bad = λ told well. tt;
+      inner_end = λ told. ap (λ s. s.ends_well) (done.rest (later told)) ∙ ap (λ p. p.ends_well) (look.keeps.payload told);
+      inner_place = λ told. tt;
+      inner_rest = λ told apart. tt;
+      clears = λ failed. true≢false (sym failed ∙ done.good);
+      unmoved = tt;
+      first = λ below. absurd (true≢false (sym below ∙ not_below));
+      fails = tt;
+      judges = λ told other. done.before;
+      counts = omega (arith, done.opens, look.same.5);
+      opens = omega (arith, done.opens, look.same.5);
+      end = λ told other. done.opens ∙ look.same.5;
+      held = λ told holds. done.opens ∙ look.same.5;
+      keeps = λ told other b has. (done.good, done.has has.0 b (subst (λ k. HasOne k b) (sym look.same.3) has.1));
+      unmoved_chunks = tt;
+      same_last = λ told other b is.
+          let used = used-good self.failed (last_used self.cache) b is in
+          rw done.good (done.same_last used.0 ∙ ap last_used look.same.3 ∙ used.1);
+      keeps_last = λ b is.
+          let used = used-good self.failed (last_used self.cache) b is in
+          (done.good, done.has used.0 b (subst (λ k. HasOne k b) (sym look.same.3) (used-there self.cache b used.1)));
+      holds_end = λ told end. absurd (before_end told end);
+      uses_end = λ told end. absurd (before_end told end);
+      none = λ told failed b has. absurd ((done.none failed).1 b has.1);
+      unheld = λ told failed other holding.
+          let none = done.none failed in
+          elim holding.1 [
+            | inl held ↦ absurd (true≢false (sym held.0 ∙ none.0))
+            | inr next ↦ absurd (none.1 _ (inr next.1))
+          ];
+      finds = λ told other has.
+          (done.good, inl (done.finds (later told) has.0 (subst (λ k. HasOne k (c.in-Ok-find.target / 65536)) (sym look.same.3) has.1)));
     }
 
-pub returns-in-Ok-enter_end-clause-seeks : goal.returns-in-Ok-enter_end-clause-seeks
-returns-in-Ok-enter_end-clause-seeks g c =
+-- the target is the end
+pub returns-in-Ok-enter_end : goal.returns-in-Ok-enter_end
+returns-in-Ok-enter_end g c =
     let self = c.args.self.now in
     let read = g.R.Read in
     let suite = g.S.Suite in
@@ -201,44 +306,112 @@ returns-in-Ok-enter_end-clause-seeks g c =
     let done = c.in-Ok-enter_end.ensures in
     let new = c.enter_end.new.self in
     let later = told-later read self.inner mid.inner look.keeps.inner.same in
+    let told_type = IsTrue (read.tells self.inner && read.steady self.inner) in
+    let not_below : below_start c.args.to place ≡ false = sym c.is_below_start.ensures ∙ c.if-is_below_start.false in
+    let size : told_type → c.in-Ok.size ≡ length payload.bytes = λ told. (look.found told).2 in
+    let at_end : told_type → IsToEnd (length payload.bytes) c.args.to place = λ told.
+    let size = size told in
+    is-end c.args.to place (length payload.bytes) c.in-Ok-find.target c.in-Ok-find.len (rw size at c.in-Ok-find.ensures.plain) not_below
+    (rw size at c.in-Ok-find.ensures.ok) c.if-target-len.true in
+    let are = λ (told : IsTrue (read.tells self.inner && read.steady self.inner)).
+    All-drop (λ x. x < 2 ^ 8) (read.place self.inner - self.taken) (read.content self.inner).bytes
+    (g.met.R.Read.are_bytes self.inner (and-left (read.tells self.inner) (read.steady self.inner) told)) in
+    let law = shorter suite.seal_of suite.opened g.met.S.Suite.cipher self.key self.key_bytes in
     let keeps = payload-later read (Ok c.in-Ok-enter_end.field-0) self.inner mid.inner new.inner self.taken mid.taken new.taken look.keeps done.keeps in
     let kept = stream-kept self new keeps (done.key ∙ look.same.4) in
     let content = content-kept self new keeps (done.key ∙ look.same.4) in
+    let holds : told_type → HoldsEnd self → ((mid.held ≡ true) × (mid.cache.last ≡ true) × (mid.number ≡ final_chunk c.in-Ok.size)) ⊎ HasLast mid.cache (final_chunk c.in-Ok.size) =
+    λ told was. elim was.1 [
+      | inl is ↦ inl (look.same.2 ∙ is.0, ap (λ k. k.last) look.same.3 ∙ is.1, look.same.0 ∙ is.2 ∙ ap final_chunk (sym (size told)))
+      | inr is ↦ inr (subst (λ k. HasLast k (final_chunk c.in-Ok.size)) (sym look.same.3) (subst (λ n. HasLast self.cache (final_chunk n)) (sym (size told)) is))
+    ] in
     record {
-      same_tells = kept.0;
-      same_steady = kept.1;
-      no_fewer_faults = keeps.inner.same.faults;
-      device = tt;
-      unspent = done.unspent;
-      why = tt;
-      narrows = stream_narrows new.failed self new (λ is. absurd (true≢false (sym is ∙ done.good.0))) keeps (done.key ∙ look.same.4);
-      again = tt;
-      missed = tt;
-      same_content = content;
-      arrives = λ told. (done.arrives (later told) ∙ sym c.if-target-len.true);
-      leads = λ told. in_length-leads (plain_len c.in-Ok.size) c.args.to place _ c.in-Ok-find.ensures.ok;
-      stays = λ _. tt;
-      interrupted = λ _. tt;
-      moves = λ told steady.
-          let well = and-right (read.tells self.inner && read.steady self.inner) _ steady in
-          let law = shorter suite.seal_of suite.opened g.met.S.Suite.cipher self.key self.key_bytes in
-          let are = All-drop (λ x. x < 2 ^ 8) (read.place self.inner - self.taken) (read.content self.inner).bytes
-          (g.met.R.Read.are_bytes self.inner (and-left (read.tells self.inner) (read.steady self.inner) told)) in
-          let size : c.in-Ok.size ≡ length payload.bytes = (look.found told).2 in
-          let same = keeps.payload told in
-          let after = told-later read self.inner new.inner keeps.inner.same told in
-          let law_new = shorter suite.seal_of suite.opened g.met.S.Suite.cipher new.key new.key_bytes in
-          let are_new = All-drop (λ x. x < 2 ^ 8) (read.place new.inner - new.taken) (read.content new.inner).bytes
-          (g.met.R.Read.are_bytes new.inner (and-left (read.tells new.inner) (read.steady new.inner) after)) in
-          let sound = now-sound suite.opened new.key law_new new.failed new.held new.at new.cache.chunk.items new.cache.last new.sought new.number new.taken (read.place new.inner) (read.content new.inner) (read.rest new.inner)
-          are_new (ap (λ d. d.ends_well) (content told) ∙ well) done.good.0 new.in_chunk (new.sound after)
-          (λ shut. absurd (true≢false (sym done.good.1 ∙ shut))) in (
-            ok-well suite.opened self.key law payload are well c.args.to place _ (rw size at c.in-Ok-find.ensures.ok),
-            sound ∙ ap (λ d. from_place (65536 * new.number + new.at) d) (content told) ∙ ap (λ n. from_place n (delivered suite.opened self.key 0 payload)) (done.arrives (later told) ∙ sym c.if-target-len.true),
-          );
-      kept = λ _ _ _. tt;
-      refused = λ _ _. tt;
-      cause = λ _ _. tt;
+      seeks = record {
+          same_tells = kept.0;
+          same_steady = kept.1;
+          no_fewer_faults = keeps.inner.same.faults;
+          device = tt;
+          unspent = done.unspent;
+          why = tt;
+          narrows = stream_narrows new.failed self new (λ is. absurd (true≢false (sym is ∙ done.good.0))) keeps (done.key ∙ look.same.4);
+          again = tt;
+          missed = tt;
+          same_content = content;
+          arrives = λ told. (done.arrives (later told) ∙ sym c.if-target-len.true);
+          leads = λ told. in_length-leads (plain_len c.in-Ok.size) c.args.to place _ c.in-Ok-find.ensures.ok;
+          stays = λ _. tt;
+          interrupted = λ _. tt;
+          moves = λ told steady.
+              let well = and-right (read.tells self.inner && read.steady self.inner) _ steady in
+              let law = shorter suite.seal_of suite.opened g.met.S.Suite.cipher self.key self.key_bytes in
+              let are = All-drop (λ x. x < 2 ^ 8) (read.place self.inner - self.taken) (read.content self.inner).bytes
+              (g.met.R.Read.are_bytes self.inner (and-left (read.tells self.inner) (read.steady self.inner) told)) in
+              let size : c.in-Ok.size ≡ length payload.bytes = (look.found told).2 in
+              let same = keeps.payload told in
+              let after = told-later read self.inner new.inner keeps.inner.same told in
+              let law_new = shorter suite.seal_of suite.opened g.met.S.Suite.cipher new.key new.key_bytes in
+              let are_new = All-drop (λ x. x < 2 ^ 8) (read.place new.inner - new.taken) (read.content new.inner).bytes
+              (g.met.R.Read.are_bytes new.inner (and-left (read.tells new.inner) (read.steady new.inner) after)) in
+              let sound = now-sound suite.opened new.key law_new new.failed new.held new.at new.cache.chunk.items new.cache.last new.sought new.number new.taken (read.place new.inner) (read.content new.inner) (read.rest new.inner)
+              are_new (ap (λ d. d.ends_well) (content told) ∙ well) done.good.0 new.in_chunk (new.sound after)
+              (λ shut. absurd (true≢false (sym done.good.1 ∙ shut))) in (
+                ok-well suite.opened self.key law payload are well c.args.to place _ (rw size at c.in-Ok-find.ensures.ok),
+                sound ∙ ap (λ d. from_place (65536 * new.number + new.at) d) (content told) ∙ ap (λ n. from_place n (delivered suite.opened self.key 0 payload)) (done.arrives (later told) ∙ sym c.if-target-len.true),
+              );
+          kept = λ _ _ _. tt;
+          refused = λ _ _. tt;
+          cause = λ _ _. tt;
+        };
+      patient = tt;
+      payload = λ told. done.keeps.payload (later told) ∙ look.keeps.payload told;
+      key = done.key ∙ look.same.4;
+      order = λ told. let size = size told in rw not_below (rw size at c.in-Ok-find.ensures.ok);
+      refused = λ told. tt;
+      ends = λ told end.
+          let after = told-later read mid.inner new.inner done.keeps.inner.same (later told) in
+          let same = done.keeps.payload (later told) ∙ look.keeps.payload told in
+          let held = (new.sound after).is_held done.good.1 in
+          let opens = subst (λ p. suite.opened new.key (nonce new.number new.cache.last) (text_at new.number p) ≡ Some new.cache.chunk.items) same held.opens in
+          let number : new.number ≡ final_chunk (length payload.bytes) = done.good.3 ∙ ap final_chunk (size told) in
+          ends_last suite.seal_of suite.opened g.met.S.Suite.cipher self.key self.key_bytes payload.bytes (are told) new.number new.cache.chunk.items number
+          (subst (λ k. suite.opened k (nonce new.number true) (text_at new.number payload) ≡ Some new.cache.chunk.items) (done.key ∙ look.same.4)
+          (subst (λ b. suite.opened new.key (nonce new.number b) (text_at new.number payload) ≡ Some new.cache.chunk.items) done.good.2 opens));
+      bad = λ told well. tt;
+      inner_end = λ told. done.inner_end (later told) ∙ ap (λ p. p.ends_well) (look.keeps.payload told);
+      inner_place = λ told. tt;
+      inner_rest = λ told apart. tt;
+      clears = λ failed. true≢false (sym failed ∙ done.good.0);
+      unmoved = tt;
+      first = λ below. absurd (true≢false (sym below ∙ not_below));
+      fails = tt;
+      judges = λ told other. absurd (other (at_end told));
+      counts = omega (arith, done.counts, look.same.5);
+      opens = omega (arith, done.opens, look.same.5);
+      end = λ told other. absurd (other (at_end told));
+      held = λ told was. elim (holds told was) [
+        | inl is ↦ done.held was.0 is.0 is.1 is.2 ∙ look.same.5
+        | inr is ↦ done.kept was.0 is ∙ look.same.5
+      ];
+      keeps = λ told was b has.
+          let held = was (at_end told) in
+          (done.good.0, done.has held.0 (holds told held) b (subst (λ k. HasOne k b) (sym look.same.3) has.1));
+      unmoved_chunks = tt;
+      same_last = λ told other. absurd (other (at_end told));
+      keeps_last = λ b is.
+          let used = used-good self.failed (last_used self.cache) b is in
+          (done.good.0, done.keeps_last used.0 b (ap last_used look.same.3 ∙ used.1));
+      holds_end = λ told end.
+          let same = ap (λ p. length p.bytes) (done.keeps.payload (later told) ∙ look.keeps.payload told) in
+          (done.good.0, inl (done.good.1, done.good.2, done.good.3 ∙ ap final_chunk (size told ∙ sym same)));
+      uses_end = λ told end apart.
+          let size = size told in
+          let number : new.number ≡ final_chunk c.in-Ok.size = done.good.3 in
+          let whole = (plain_len_says c.in-Ok.size c.in-Ok-find.len c.in-Ok-find.ensures.plain).whole in
+          let judged = true_from_ne_false new.cache.judged (λ none. apart (omega (arith, (new.unjudged done.good.1 none).end, done.arrives (later told), number, whole, size))) in
+          rw done.good.0 (done.uses judged ∙ ap (λ n. Some (final_chunk n)) size);
+      none = λ told failed b has. (at_end told, done.alone failed b has.1 ∙ ap final_chunk (size told));
+      unheld = λ told failed other. absurd (other (at_end told));
+      finds = λ told other. absurd (other (at_end told));
     }
 
 pub returns-in-Ok-stand-clause-seeks : goal.returns-in-Ok-stand-clause-seeks
@@ -290,112 +463,6 @@ returns-in-Ok-stand-clause-seeks g c =
       cause = λ _ _ _ _. refusal;
     }
 
-pub returns-in-Err-enter_end-clause-end : goal.returns-in-Err-enter_end-clause-end
-returns-in-Err-enter_end-clause-end g c =
-    λ told other.
-    let self = c.args.self.now in
-    let read = g.R.Read in
-    let place = 65536 * self.number + self.at in
-    let payload = payload_at (read.place self.inner) self.taken (read.content self.inner) in
-    let look = c.in-Ok.ensures in
-    let size : c.in-Ok.size ≡ length payload.bytes = (look.found told).2 in
-    absurd (other (is-end c.args.to place (length payload.bytes) c.in-Ok-find.target c.in-Ok-find.len (rw size at c.in-Ok-find.ensures.plain)
-    (sym c.is_below_start.ensures ∙ c.if-is_below_start.false) (rw size at c.in-Ok-find.ensures.ok) c.if-target-len.true))
-
-pub returns-in-Err-enter_end-clause-held : goal.returns-in-Err-enter_end-clause-held
-returns-in-Err-enter_end-clause-held g c =
-    λ told holds.
-    let self = c.args.self.now in
-    let read = g.R.Read in
-    let place = 65536 * self.number + self.at in
-    let payload = payload_at (read.place self.inner) self.taken (read.content self.inner) in
-    let look = c.in-Ok.ensures in
-    let size : c.in-Ok.size ≡ length payload.bytes = (look.found told).2 in
-    let final = ap final_chunk size in
-    elim holds.1 [
-      | inl h ↦ c.in-Err-enter_end.ensures.held holds.0 (look.same.2 ∙ h.0) (ap (λ k. k.last) look.same.3 ∙ h.1) (look.same.0 ∙ h.2 ∙ sym final) ∙ look.same.5
-      | inr h ↦ c.in-Err-enter_end.ensures.kept holds.0 (subst (λ n. HasLast c.look.new.self.cache n) (sym final) (subst (λ k. HasLast k (final_chunk (length payload.bytes))) (sym look.same.3) h))
-          ∙ look.same.5
-    ]
-
-pub returns-in-Ok-enter_end-clause-end : goal.returns-in-Ok-enter_end-clause-end
-returns-in-Ok-enter_end-clause-end g c =
-    λ told other.
-    let self = c.args.self.now in
-    let read = g.R.Read in
-    let place = 65536 * self.number + self.at in
-    let payload = payload_at (read.place self.inner) self.taken (read.content self.inner) in
-    let look = c.in-Ok.ensures in
-    let size : c.in-Ok.size ≡ length payload.bytes = (look.found told).2 in
-    absurd (other (is-end c.args.to place (length payload.bytes) c.in-Ok-find.target c.in-Ok-find.len (rw size at c.in-Ok-find.ensures.plain)
-    (sym c.is_below_start.ensures ∙ c.if-is_below_start.false) (rw size at c.in-Ok-find.ensures.ok) c.if-target-len.true))
-
-pub returns-in-Ok-enter_end-clause-held : goal.returns-in-Ok-enter_end-clause-held
-returns-in-Ok-enter_end-clause-held g c =
-    λ told holds.
-    let self = c.args.self.now in
-    let read = g.R.Read in
-    let place = 65536 * self.number + self.at in
-    let payload = payload_at (read.place self.inner) self.taken (read.content self.inner) in
-    let look = c.in-Ok.ensures in
-    let size : c.in-Ok.size ≡ length payload.bytes = (look.found told).2 in
-    let final = ap final_chunk size in
-    elim holds.1 [
-      | inl h ↦ c.in-Ok-enter_end.ensures.held holds.0 (look.same.2 ∙ h.0) (ap (λ k. k.last) look.same.3 ∙ h.1) (look.same.0 ∙ h.2 ∙ sym final) ∙ look.same.5
-      | inr h ↦ c.in-Ok-enter_end.ensures.kept holds.0 (subst (λ n. HasLast c.look.new.self.cache n) (sym final) (subst (λ k. HasLast k (final_chunk (length payload.bytes))) (sym look.same.3) h))
-          ∙ look.same.5
-    ]
-
-pub returns-in-Ok-enter_end-clause-judges : goal.returns-in-Ok-enter_end-clause-judges
-returns-in-Ok-enter_end-clause-judges g c =
-    λ told other.
-    let self = c.args.self.now in
-    let read = g.R.Read in
-    let place = 65536 * self.number + self.at in
-    let payload = payload_at (read.place self.inner) self.taken (read.content self.inner) in
-    let look = c.in-Ok.ensures in
-    let size : c.in-Ok.size ≡ length payload.bytes = (look.found told).2 in
-    absurd (other (is-end c.args.to place (length payload.bytes) c.in-Ok-find.target c.in-Ok-find.len (rw size at c.in-Ok-find.ensures.plain)
-    (sym c.is_below_start.ensures ∙ c.if-is_below_start.false) (rw size at c.in-Ok-find.ensures.ok) c.if-target-len.true))
-
-pub returns-in-Ok-enter-clause-ends : goal.returns-in-Ok-enter-clause-ends
-returns-in-Ok-enter-clause-ends g c =
-    λ told end.
-    let self = c.args.self.now in
-    let read = g.R.Read in
-    let place = 65536 * self.number + self.at in
-    let payload = payload_at (read.place self.inner) self.taken (read.content self.inner) in
-    let look = c.in-Ok.ensures in
-    let size : c.in-Ok.size ≡ length payload.bytes = (look.found told).2 in
-    absurd (not-end c.args.to place (length payload.bytes) c.in-Ok-find.target c.in-Ok-find.len (rw size at c.in-Ok-find.ensures.plain)
-    (sym c.is_below_start.ensures ∙ c.if-is_below_start.false) (rw size at c.in-Ok-find.ensures.ok) (λ same. c.if-target-len.false same) end)
-
-pub returns-in-Ok-enter_end-clause-ends : goal.returns-in-Ok-enter_end-clause-ends
-returns-in-Ok-enter_end-clause-ends g c =
-    λ told end.
-    let self = c.args.self.now in
-    let read = g.R.Read in
-    let suite = g.S.Suite in
-    let place = 65536 * self.number + self.at in
-    let payload = payload_at (read.place self.inner) self.taken (read.content self.inner) in
-    let look = c.in-Ok.ensures in
-    let mid = c.look.new.self in
-    let later = told-later read self.inner mid.inner look.keeps.inner.same in
-    let are = λ (told : IsTrue (read.tells self.inner && read.steady self.inner)).
-    All-drop (λ x. x < 2 ^ 8) (read.place self.inner - self.taken) (read.content self.inner).bytes
-    (g.met.R.Read.are_bytes self.inner (and-left (read.tells self.inner) (read.steady self.inner) told)) in
-    let size : c.in-Ok.size ≡ length payload.bytes = (look.found told).2 in
-    let done = c.in-Ok-enter_end.ensures in
-    let new = c.enter_end.new.self in
-    let after = told-later read mid.inner new.inner done.keeps.inner.same (later told) in
-    let same = done.keeps.payload (later told) ∙ look.keeps.payload told in
-    let held = (new.sound after).is_held done.good.1 in
-    let opens = subst (λ p. suite.opened new.key (nonce new.number new.cache.last) (text_at new.number p) ≡ Some new.cache.chunk.items) same held.opens in
-    let number : new.number ≡ final_chunk (length payload.bytes) = done.good.3 ∙ ap final_chunk size in
-    ends_last suite.seal_of suite.opened g.met.S.Suite.cipher self.key self.key_bytes payload.bytes (are told) new.number new.cache.chunk.items number
-    (subst (λ k. suite.opened k (nonce new.number true) (text_at new.number payload) ≡ Some new.cache.chunk.items) (done.key ∙ look.same.4)
-    (subst (λ b. suite.opened new.key (nonce new.number b) (text_at new.number payload) ≡ Some new.cache.chunk.items) done.good.2 opens))
-
 pub returns-then-not-is_outside-clause-bad : goal.returns-then-not-is_outside-clause-bad
 returns-then-not-is_outside-clause-bad g c = λ told well memory quiet.
     let self = c.args.self.now in
@@ -403,52 +470,6 @@ returns-then-not-is_outside-clause-bad g c = λ told well memory quiet.
     let payload = payload_at (read.place self.inner) self.taken (read.content self.inner) in
     let size : c.in-Ok.size ≡ length payload.bytes = (c.in-Ok.ensures.found told).2 in
     inl (rw (sym c.is_below_start.ensures ∙ c.if-is_below_start.false) (rw size at c.in-Err-find.ensures.err))
-
-pub returns-in-Err-enter_end-clause-bad : goal.returns-in-Err-enter_end-clause-bad
-returns-in-Err-enter_end-clause-bad g c =
-    λ told well memory quiet.
-    let self = c.args.self.now in
-    let read = g.R.Read in
-    let suite = g.S.Suite in
-    let place = 65536 * self.number + self.at in
-    let payload = payload_at (read.place self.inner) self.taken (read.content self.inner) in
-    let look = c.in-Ok.ensures in
-    let mid = c.look.new.self in
-    let later = told-later read self.inner mid.inner look.keeps.inner.same in
-    let are = λ (told : IsTrue (read.tells self.inner && read.steady self.inner)).
-    All-drop (λ x. x < 2 ^ 8) (read.place self.inner - self.taken) (read.content self.inner).bytes
-    (g.met.R.Read.are_bytes self.inner (and-left (read.tells self.inner) (read.steady self.inner) told)) in
-    let size : c.in-Ok.size ≡ length payload.bytes = (look.found told).2 in
-    let done = c.in-Err-enter_end.ensures in
-    let calm = quiet_from look.keeps.inner.same.faults done.keeps.inner.same.faults quiet in
-    let inner : IsTrue (payload_at (read.place mid.inner) mid.taken (read.content mid.inner)).ends_well = ap (λ p. p.ends_well) (look.keeps.payload told) ∙ well in
-    let bad = done.cause (later told) inner memory calm in
-    let num = final_chunk c.in-Ok.size in
-    let moved = subst (λ p. suite.opened mid.key (nonce num true) (text_at num p) ≡ None) (look.keeps.payload told) bad.1 in
-    let same = subst (λ k. suite.opened k (nonce num true) (text_at num payload) ≡ None) look.same.4 moved in
-    inr (
-      bad.0,
-      record {
-        end = (is-end c.args.to place (length payload.bytes) c.in-Ok-find.target c.in-Ok-find.len (rw size at c.in-Ok-find.ensures.plain)
-            (sym c.is_below_start.ensures ∙ c.if-is_below_start.false) (rw size at c.in-Ok-find.ensures.ok) c.if-target-len.true);
-        bad = ends_badly suite.seal_of suite.opened g.met.S.Suite.cipher self.key self.key_bytes payload.bytes (are told)
-            (subst (λ n. suite.opened self.key (nonce (final_chunk n) true) (text_at (final_chunk n) payload) ≡ None) size same);
-      },
-    )
-
-pub returns-in-Ok-enter-clause-inner_end : goal.returns-in-Ok-enter-clause-inner_end
-returns-in-Ok-enter-clause-inner_end g c = λ told.
-    let look = c.in-Ok.ensures in
-    let mid = c.look.new.self in
-    let later = told-later g.R.Read c.args.self.now.inner mid.inner look.keeps.inner.same told in
-    ap (λ s. s.ends_well) (c.in-Ok-enter.ensures.rest later) ∙ ap (λ p. p.ends_well) (look.keeps.payload told)
-
-pub returns-in-Ok-enter_end-clause-inner_end : goal.returns-in-Ok-enter_end-clause-inner_end
-returns-in-Ok-enter_end-clause-inner_end g c = λ told.
-    let look = c.in-Ok.ensures in
-    let mid = c.look.new.self in
-    let later = told-later g.R.Read c.args.self.now.inner mid.inner look.keeps.inner.same told in
-    c.in-Ok-enter_end.ensures.inner_end later ∙ ap (λ p. p.ends_well) (look.keeps.payload told)
 
 pub returns-in-Ok-stand-clause-inner_place : goal.returns-in-Ok-stand-clause-inner_place
 returns-in-Ok-stand-clause-inner_place g c = λ told refusal.
@@ -475,165 +496,11 @@ returns-in-Ok-stand-clause-inner_rest g c = λ told asked refusal.
     ∙ sym (payload-place (read.content self.inner) (place - self.taken) place self.taken refl self.taken)
     ∙ ap (λ n. from_place n (read.content self.inner)) back
 
-pub returns-in-Ok-enter-clause-keeps : goal.returns-in-Ok-enter-clause-keeps
-returns-in-Ok-enter-clause-keeps g c = λ told other b has.
-    let done = c.in-Ok-enter.ensures in
-    (done.good, done.has has.0 b (subst (λ k. HasOne k b) (sym c.in-Ok.ensures.same.3) has.1))
-
-pub returns-in-Ok-enter_end-clause-keeps : goal.returns-in-Ok-enter_end-clause-keeps
-returns-in-Ok-enter_end-clause-keeps g c = λ told holds b has.
-    let self = c.args.self.now in
-    let read = g.R.Read in
-    let place = 65536 * self.number + self.at in
-    let payload = payload_at (read.place self.inner) self.taken (read.content self.inner) in
-    let look = c.in-Ok.ensures in
-    let mid = c.look.new.self in
-    let done = c.in-Ok-enter_end.ensures in
-    let size : c.in-Ok.size ≡ length payload.bytes = (look.found told).2 in
-    let final = final_chunk c.in-Ok.size in
-    let was = holds (is-end c.args.to place (length payload.bytes) c.in-Ok-find.target c.in-Ok-find.len (rw size at c.in-Ok-find.ensures.plain)
-    (sym c.is_below_start.ensures ∙ c.if-is_below_start.false) (rw size at c.in-Ok-find.ensures.ok) c.if-target-len.true) in
-    let end : ((mid.held ≡ true) × (mid.cache.last ≡ true) × (mid.number ≡ final)) ⊎ HasLast mid.cache final = elim was.1 [
-      | inl is ↦ inl (look.same.2 ∙ is.0, ap (λ k. k.last) look.same.3 ∙ is.1, look.same.0 ∙ is.2 ∙ ap final_chunk (sym size))
-      | inr is ↦ inr (subst (λ k. HasLast k final) (sym look.same.3) (subst (λ n. HasLast self.cache (final_chunk n)) (sym size) is))
-    ] in
-    (done.good.0, done.has was.0 end b (subst (λ k. HasOne k b) (sym look.same.3) has.1))
-
-pub returns-in-Ok-enter-clause-same_last : goal.returns-in-Ok-enter-clause-same_last
-returns-in-Ok-enter-clause-same_last g c = λ told other b is.
-    let self = c.args.self.now in
-    let done = c.in-Ok-enter.ensures in
-    let used = used-good self.failed (last_used self.cache) b is in
-    rw done.good (done.same_last used.0 ∙ ap last_used c.in-Ok.ensures.same.3 ∙ used.1)
-
-pub returns-in-Ok-enter_end-clause-same_last : goal.returns-in-Ok-enter_end-clause-same_last
-returns-in-Ok-enter_end-clause-same_last g c = λ told other.
-    let self = c.args.self.now in
-    let read = g.R.Read in
-    let place = 65536 * self.number + self.at in
-    let payload = payload_at (read.place self.inner) self.taken (read.content self.inner) in
-    let look = c.in-Ok.ensures in
-    let size : c.in-Ok.size ≡ length payload.bytes = (look.found told).2 in
-    absurd (other (is-end c.args.to place (length payload.bytes) c.in-Ok-find.target c.in-Ok-find.len (rw size at c.in-Ok-find.ensures.plain)
-    (sym c.is_below_start.ensures ∙ c.if-is_below_start.false) (rw size at c.in-Ok-find.ensures.ok) c.if-target-len.true))
-
-pub returns-in-Ok-enter-clause-keeps_last : goal.returns-in-Ok-enter-clause-keeps_last
-returns-in-Ok-enter-clause-keeps_last g c = λ b is.
-    let self = c.args.self.now in
-    let done = c.in-Ok-enter.ensures in
-    let used = used-good self.failed (last_used self.cache) b is in
-    (done.good, done.has used.0 b (subst (λ k. HasOne k b) (sym c.in-Ok.ensures.same.3) (used-there self.cache b used.1)))
-
-pub returns-in-Ok-enter_end-clause-keeps_last : goal.returns-in-Ok-enter_end-clause-keeps_last
-returns-in-Ok-enter_end-clause-keeps_last g c = λ b is.
-    let self = c.args.self.now in
-    let done = c.in-Ok-enter_end.ensures in
-    let used = used-good self.failed (last_used self.cache) b is in
-    (done.good.0, done.keeps_last used.0 b (ap last_used c.in-Ok.ensures.same.3 ∙ used.1))
-
-pub returns-in-Ok-enter-clause-finds : goal.returns-in-Ok-enter-clause-finds
-returns-in-Ok-enter-clause-finds g c = λ told other has.
-    let self = c.args.self.now in
-    let look = c.in-Ok.ensures in
-    let done = c.in-Ok-enter.ensures in
-    let later = told-later g.R.Read self.inner c.look.new.self.inner look.keeps.inner.same told in
-    (done.good, inl (done.finds later has.0 (subst (λ k. HasOne k (c.in-Ok-find.target / 65536)) (sym look.same.3) has.1)))
-
-pub returns-in-Ok-enter_end-clause-finds : goal.returns-in-Ok-enter_end-clause-finds
-returns-in-Ok-enter_end-clause-finds g c = λ told other.
-    let self = c.args.self.now in
-    let read = g.R.Read in
-    let place = 65536 * self.number + self.at in
-    let payload = payload_at (read.place self.inner) self.taken (read.content self.inner) in
-    let look = c.in-Ok.ensures in
-    let size : c.in-Ok.size ≡ length payload.bytes = (look.found told).2 in
-    absurd (other (is-end c.args.to place (length payload.bytes) c.in-Ok-find.target c.in-Ok-find.len (rw size at c.in-Ok-find.ensures.plain)
-    (sym c.is_below_start.ensures ∙ c.if-is_below_start.false) (rw size at c.in-Ok-find.ensures.ok) c.if-target-len.true))
-
-pub returns-in-Ok-enter-clause-none : goal.returns-in-Ok-enter-clause-none
-returns-in-Ok-enter-clause-none g c = λ told failed b has. absurd ((c.in-Ok-enter.ensures.none failed).1 b has.1)
-
-pub returns-in-Ok-enter_end-clause-none : goal.returns-in-Ok-enter_end-clause-none
-returns-in-Ok-enter_end-clause-none g c = λ told failed b has.
-    let self = c.args.self.now in
-    let read = g.R.Read in
-    let place = 65536 * self.number + self.at in
-    let payload = payload_at (read.place self.inner) self.taken (read.content self.inner) in
-    let look = c.in-Ok.ensures in
-    let size : c.in-Ok.size ≡ length payload.bytes = (look.found told).2 in (
-      (is-end c.args.to place (length payload.bytes) c.in-Ok-find.target c.in-Ok-find.len (rw size at c.in-Ok-find.ensures.plain)
-          (sym c.is_below_start.ensures ∙ c.if-is_below_start.false) (rw size at c.in-Ok-find.ensures.ok) c.if-target-len.true),
-      c.in-Ok-enter_end.ensures.alone failed b has.1 ∙ ap final_chunk size,
-    )
-
-pub returns-in-Ok-enter-clause-unheld : goal.returns-in-Ok-enter-clause-unheld
-returns-in-Ok-enter-clause-unheld g c = λ told failed other holding.
-    let none = c.in-Ok-enter.ensures.none failed in
-    elim holding.1 [
-      | inl held ↦ absurd (true≢false (sym held.0 ∙ none.0))
-      | inr next ↦ absurd (none.1 _ (inr next.1))
-    ]
-
-pub returns-in-Ok-enter_end-clause-unheld : goal.returns-in-Ok-enter_end-clause-unheld
-returns-in-Ok-enter_end-clause-unheld g c = λ told failed other.
-    let self = c.args.self.now in
-    let read = g.R.Read in
-    let place = 65536 * self.number + self.at in
-    let payload = payload_at (read.place self.inner) self.taken (read.content self.inner) in
-    let look = c.in-Ok.ensures in
-    let size : c.in-Ok.size ≡ length payload.bytes = (look.found told).2 in
-    absurd (other (is-end c.args.to place (length payload.bytes) c.in-Ok-find.target c.in-Ok-find.len (rw size at c.in-Ok-find.ensures.plain)
-    (sym c.is_below_start.ensures ∙ c.if-is_below_start.false) (rw size at c.in-Ok-find.ensures.ok) c.if-target-len.true))
-
 pub returns-in-Ok-stand-clause-unmoved_chunks : goal.returns-in-Ok-stand-clause-unmoved_chunks
 returns-in-Ok-stand-clause-unmoved_chunks g c = λ refusal.
     let self = c.args.self.now in
     let same = c.in-Ok-stand.ensures.same.3 ∙ c.in-Ok.ensures.same.3 in
     (ap (λ k. cond self.failed None (last_used k)) same, λ b has. (has.0, subst (λ k. HasOne k b) (sym same) has.1))
-
-pub returns-in-Ok-enter-clause-holds_end : goal.returns-in-Ok-enter-clause-holds_end
-returns-in-Ok-enter-clause-holds_end g c = λ told end.
-    let self = c.args.self.now in
-    let read = g.R.Read in
-    let place = 65536 * self.number + self.at in
-    let payload = payload_at (read.place self.inner) self.taken (read.content self.inner) in
-    let size : c.in-Ok.size ≡ length payload.bytes = (c.in-Ok.ensures.found told).2 in
-    absurd (not-end c.args.to place (length payload.bytes) c.in-Ok-find.target c.in-Ok-find.len (rw size at c.in-Ok-find.ensures.plain)
-    (sym c.is_below_start.ensures ∙ c.if-is_below_start.false) (rw size at c.in-Ok-find.ensures.ok) (λ same. c.if-target-len.false same) end)
-
-pub returns-in-Ok-enter_end-clause-holds_end : goal.returns-in-Ok-enter_end-clause-holds_end
-returns-in-Ok-enter_end-clause-holds_end g c = λ told end.
-    let self = c.args.self.now in
-    let look = c.in-Ok.ensures in
-    let done = c.in-Ok-enter_end.ensures in
-    let later = told-later g.R.Read self.inner c.look.new.self.inner look.keeps.inner.same told in
-    let same = ap (λ p. length p.bytes) (done.keeps.payload later ∙ look.keeps.payload told) in
-    (done.good.0, inl (done.good.1, done.good.2, done.good.3 ∙ ap final_chunk ((look.found told).2 ∙ sym same)))
-
-pub returns-in-Ok-enter-clause-uses_end : goal.returns-in-Ok-enter-clause-uses_end
-returns-in-Ok-enter-clause-uses_end g c = λ told end.
-    let self = c.args.self.now in
-    let read = g.R.Read in
-    let place = 65536 * self.number + self.at in
-    let payload = payload_at (read.place self.inner) self.taken (read.content self.inner) in
-    let size : c.in-Ok.size ≡ length payload.bytes = (c.in-Ok.ensures.found told).2 in
-    absurd (not-end c.args.to place (length payload.bytes) c.in-Ok-find.target c.in-Ok-find.len (rw size at c.in-Ok-find.ensures.plain)
-    (sym c.is_below_start.ensures ∙ c.if-is_below_start.false) (rw size at c.in-Ok-find.ensures.ok) (λ same. c.if-target-len.false same) end)
-
-pub returns-in-Ok-enter_end-clause-uses_end : goal.returns-in-Ok-enter_end-clause-uses_end
-returns-in-Ok-enter_end-clause-uses_end g c = λ told end apart.
-    let self = c.args.self.now in
-    let read = g.R.Read in
-    let look = c.in-Ok.ensures in
-    let done = c.in-Ok-enter_end.ensures in
-    let new = c.enter_end.new.self in
-    let payload = payload_at (read.place self.inner) self.taken (read.content self.inner) in
-    let later = told-later read self.inner c.look.new.self.inner look.keeps.inner.same told in
-    let size : c.in-Ok.size ≡ length payload.bytes = (look.found told).2 in
-    let number : new.number ≡ final_chunk c.in-Ok.size = done.good.3 in
-    let whole = (plain_len_says c.in-Ok.size c.in-Ok-find.len c.in-Ok-find.ensures.plain).whole in
-    let judged = true_from_ne_false new.cache.judged (λ none. apart (omega (arith, (new.unjudged done.good.1 none).end, done.arrives later, number, whole, size))) in
-    rw done.good.0 (done.uses judged ∙ ap (λ n. Some (final_chunk n)) size)
 
 pub returns-in-Err-clause-inner_place : goal.returns-in-Err-clause-inner_place
 returns-in-Err-clause-inner_place g c = λ told outside. absurd (c.in-Err.ensures.refusal outside)
@@ -695,21 +562,6 @@ returns-in-Err-enter-clause-unmoved g c = λ outside. absurd (c.in-Err-enter.ens
 pub returns-in-Err-enter-clause-unmoved_chunks : goal.returns-in-Err-enter-clause-unmoved_chunks
 returns-in-Err-enter-clause-unmoved_chunks g c = λ outside. absurd (c.in-Err-enter.ensures.refusal outside)
 
-pub returns-in-Err-enter_end-clause-inner_place : goal.returns-in-Err-enter_end-clause-inner_place
-returns-in-Err-enter_end-clause-inner_place g c = λ told outside. absurd (c.in-Err-enter_end.ensures.refusal outside)
-
-pub returns-in-Err-enter_end-clause-inner_rest : goal.returns-in-Err-enter_end-clause-inner_rest
-returns-in-Err-enter_end-clause-inner_rest g c = λ told apart outside. absurd (c.in-Err-enter_end.ensures.refusal outside)
-
-pub returns-in-Err-enter_end-clause-refused : goal.returns-in-Err-enter_end-clause-refused
-returns-in-Err-enter_end-clause-refused g c = λ told outside. absurd (c.in-Err-enter_end.ensures.refusal outside)
-
-pub returns-in-Err-enter_end-clause-unmoved : goal.returns-in-Err-enter_end-clause-unmoved
-returns-in-Err-enter_end-clause-unmoved g c = λ outside. absurd (c.in-Err-enter_end.ensures.refusal outside)
-
-pub returns-in-Err-enter_end-clause-unmoved_chunks : goal.returns-in-Err-enter_end-clause-unmoved_chunks
-returns-in-Err-enter_end-clause-unmoved_chunks g c = λ outside. absurd (c.in-Err-enter_end.ensures.refusal outside)
-
 pub returns-in-Err-stand-clause-payload : goal.returns-in-Err-stand-clause-payload
 returns-in-Err-stand-clause-payload g c = λ told.
     let look = c.in-Ok.ensures in
@@ -724,23 +576,6 @@ pub returns-in-Err-enter-clause-payload : goal.returns-in-Err-enter-clause-paylo
 returns-in-Err-enter-clause-payload g c = λ told.
     let look = c.in-Ok.ensures in
     c.in-Err-enter.ensures.keeps.payload (told-later g.R.Read c.args.self.now.inner c.look.new.self.inner look.keeps.inner.same told) ∙ look.keeps.payload told
-
-pub returns-in-Err-enter_end-clause-payload : goal.returns-in-Err-enter_end-clause-payload
-returns-in-Err-enter_end-clause-payload g c = λ told.
-    let look = c.in-Ok.ensures in
-    c.in-Err-enter_end.ensures.keeps.payload (told-later g.R.Read c.args.self.now.inner c.look.new.self.inner look.keeps.inner.same told)
-    ∙ look.keeps.payload told
-
-pub returns-in-Ok-enter-clause-payload : goal.returns-in-Ok-enter-clause-payload
-returns-in-Ok-enter-clause-payload g c = λ told.
-    let look = c.in-Ok.ensures in
-    c.in-Ok-enter.ensures.keeps.payload (told-later g.R.Read c.args.self.now.inner c.look.new.self.inner look.keeps.inner.same told) ∙ look.keeps.payload told
-
-pub returns-in-Ok-enter_end-clause-payload : goal.returns-in-Ok-enter_end-clause-payload
-returns-in-Ok-enter_end-clause-payload g c = λ told.
-    let look = c.in-Ok.ensures in
-    c.in-Ok-enter_end.ensures.keeps.payload (told-later g.R.Read c.args.self.now.inner c.look.new.self.inner look.keeps.inner.same told)
-    ∙ look.keeps.payload told
 
 pub enter-requires-clause-limit : goal.enter-requires-clause-limit
 enter-requires-clause-limit g c = omega (arith, c.in-Ok-find.ensures.limit, c.in-Ok-find.ensures.within, c.if-target-len.false)
