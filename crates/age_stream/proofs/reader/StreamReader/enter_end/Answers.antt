@@ -22,22 +22,46 @@ use Rattle.age_stream.proofs.Last.{held-length}
 use Rattle.age_stream.proofs.Moving.{sound-kept, sound-resumed}
 use Rattle.age_stream.proofs.reader.StreamReader.enter_end.Goals as goal
 
-pub returns-in-Ok-clause-arrives : goal.returns-in-Ok-clause-arrives
-returns-in-Ok-clause-arrives g c = λ told.
-    let self = c.args.self.now in
-    let read = g.R.Read in
-    let mid = c.stand.new.self in
+pub returns-in-Ok : goal.returns-in-Ok
+returns-in-Ok g c =
     let done = c.in-Ok.ensures in
-    let law = shorter g.S.Suite.seal_of g.S.Suite.opened g.met.S.Suite.cipher mid.key mid.key_bytes in
-    let after = told-later read self.inner mid.inner done.keeps.inner.same told in
-    let payload = payload_at (read.place mid.inner) mid.taken (read.content mid.inner) in
-    let size : c.args.size ≡ length payload.bytes = c.requires.size told ∙ ap (λ p. length p.bytes) (sym (done.keeps.payload told)) in
-    let number : mid.number ≡ (c.args.size - 1) / 65552 = done.same.0 ∙ omega (arith, c.if-self-number.true) in
-    let long = held-length g.S.Suite.opened mid.key law payload mid.number mid.at mid.cache.last mid.cache.chunk.items
-    (All-drop (λ x. x < 2 ^ 8) (read.place mid.inner - mid.taken) (read.content mid.inner).bytes
-    (g.met.R.Read.are_bytes mid.inner (and-left (read.tells mid.inner) (read.steady mid.inner) after)))
-    ((mid.sound after).is_held (done.same.2 ∙ c.if-self.true)) (omega (arith, number, size, c.requires.last.fits)) in
-    omega (arith, long, number, size, c.requires.len, c.len-self.ensures, mid.cache.chunk.ok.0)
+    record {
+      keeps = payload-done g.R.Read _ _ _ _ done.keeps;
+      refusal = tt;
+      key = done.same.4;
+      sought = done.same.7 ∙ c.requires.sought;
+      good = (refl, done.same.2 ∙ c.if-self.true, ap (λ k. k.last) done.same.3 ∙ c.if-self-2.true, done.same.0 ∙ omega (arith, c.if-self-number.true));
+      fails = tt;
+      arrives = λ told.
+          let self = c.args.self.now in
+          let read = g.R.Read in
+          let mid = c.stand.new.self in
+          let law = shorter g.S.Suite.seal_of g.S.Suite.opened g.met.S.Suite.cipher mid.key mid.key_bytes in
+          let after = told-later read self.inner mid.inner done.keeps.inner.same told in
+          let payload = payload_at (read.place mid.inner) mid.taken (read.content mid.inner) in
+          let size : c.args.size ≡ length payload.bytes = c.requires.size told ∙ ap (λ p. length p.bytes) (sym (done.keeps.payload told)) in
+          let number : mid.number ≡ (c.args.size - 1) / 65552 = done.same.0 ∙ omega (arith, c.if-self-number.true) in
+          let long = held-length g.S.Suite.opened mid.key law payload mid.number mid.at mid.cache.last mid.cache.chunk.items
+          (All-drop (λ x. x < 2 ^ 8) (read.place mid.inner - mid.taken) (read.content mid.inner).bytes
+          (g.met.R.Read.are_bytes mid.inner (and-left (read.tells mid.inner) (read.steady mid.inner) after)))
+          ((mid.sound after).is_held (done.same.2 ∙ c.if-self.true)) (omega (arith, number, size, c.requires.last.fits)) in
+          omega (arith, long, number, size, c.requires.len, c.len-self.ensures, mid.cache.chunk.ok.0);
+      stays = tt;
+      unspent = done.unspent;
+      counts = omega (arith, done.same.5);
+      inner_end = λ told. ap (λ s. s.ends_well) (done.stands told).1;
+      opens = omega (arith, done.same.5);
+      held = λ _ _ _ _. done.same.5;
+      kept = λ _ _. done.same.5;
+      alone = λ failed. absurd (true≢false (sym failed ∙ c.if-not-was_failed.true));
+      uses = λ judged.
+          let mid = c.stand.new.self in
+          let there : mid.cache.number ≡ final_chunk c.args.size = mid.first (done.same.2 ∙ c.if-self.true) ∙ done.same.0 ∙ omega (arith, c.if-self-number.true) in
+          ap (λ j. cond j (Some mid.cache.number) None) judged ∙ ap (λ n. Some n) there;
+      keeps_last = λ _ b is. subst (λ k. HasOne k b) (sym done.same.3) (used-there c.args.self.now.cache b is);
+      has = λ _ _ b is. subst (λ k. HasOne k b) (sym done.same.3) is;
+      cause = λ told well. tt;
+    }
 
 pub invariant_of-self-in-Ok : goal.invariant_of-self-in-Ok
 invariant_of-self-in-Ok g c =
@@ -84,9 +108,6 @@ invariant_of-self-in-Ok g c =
           (λ apart e. apart (record { is_last = e.is_last; none = e.none; full = omega (arith, e.full, there, small, in_chunk) })) past;
     }
 
-pub returns-in-Ok-clause-inner_end : goal.returns-in-Ok-clause-inner_end
-returns-in-Ok-clause-inner_end g c = λ told. ap (λ s. s.ends_well) (c.in-Ok.ensures.stands told).1
-
 pub invariant_of-self-in-Ok-stand-3 : goal.invariant_of-self-in-Ok-stand-3
 invariant_of-self-in-Ok-stand-3 g c =
     let self = c.args.self.now in
@@ -132,212 +153,202 @@ invariant_of-self-in-Ok-stand-3 g c =
           law ((c.args.size - 1) / 65552) c.len-self-in-Ok-stand.result mid.cache.chunk.items mid.cache.last bytes (done.same.7 ∙ c.requires.sought) (omega (arith, there)) held past;
     }
 
-pub returns-in-Ok-stand-clause-arrives : goal.returns-in-Ok-stand-clause-arrives
-returns-in-Ok-stand-clause-arrives g c = λ told.
-    let self = c.args.self.now in
-    let read = g.R.Read in
-    let mid = c.stand-then-find_last.new.self in
+pub returns-in-Ok-stand : goal.returns-in-Ok-stand
+returns-in-Ok-stand g c =
     let done = c.in-Ok-stand.ensures in
-    let found = c.find_last.ensures.found c.if-find_last.true in
-    let number : mid.cache.number ≡ (c.args.size - 1) / 65552 = ap (λ k. k.number) done.same.3 ∙ found.1 in
-    let judged = ap (λ k. k.judged) done.same.3 ∙ found.0 in
-    let law = shorter g.S.Suite.seal_of g.S.Suite.opened g.met.S.Suite.cipher mid.key mid.key_bytes in
-    let after = told-later read self.inner mid.inner done.keeps.inner.same told in
-    let payload = payload_at (read.place mid.inner) mid.taken (read.content mid.inner) in
-    let size : c.args.size ≡ length payload.bytes = c.requires.size told ∙ ap (λ p. length p.bytes) (sym (done.keeps.payload told)) in
-    let long = held-length g.S.Suite.opened mid.key law payload mid.cache.number 0 mid.cache.last mid.cache.chunk.items
-    (All-drop (λ x. x < 2 ^ 8) (read.place mid.inner - mid.taken) (read.content mid.inner).bytes
-    (g.met.R.Read.are_bytes mid.inner (and-left (read.tells mid.inner) (read.steady mid.inner) after)))
-    ((mid.kept after).first judged) (omega (arith, number, size, c.requires.last.fits)) in
-    omega (arith, long, number, size, c.requires.len, c.len-self-in-Ok-stand.ensures, mid.cache.chunk.ok.0)
+    record {
+      keeps = payload-done g.R.Read _ _ _ _ done.keeps;
+      refusal = tt;
+      key = done.same.4;
+      sought = done.same.7 ∙ c.requires.sought;
+      good = (refl, refl, ap (λ k. k.last) done.same.3 ∙ (c.find_last.ensures.found c.if-find_last.true).2, refl);
+      fails = tt;
+      arrives = λ told.
+          let self = c.args.self.now in
+          let read = g.R.Read in
+          let mid = c.stand-then-find_last.new.self in
+          let found = c.find_last.ensures.found c.if-find_last.true in
+          let number : mid.cache.number ≡ (c.args.size - 1) / 65552 = ap (λ k. k.number) done.same.3 ∙ found.1 in
+          let judged = ap (λ k. k.judged) done.same.3 ∙ found.0 in
+          let law = shorter g.S.Suite.seal_of g.S.Suite.opened g.met.S.Suite.cipher mid.key mid.key_bytes in
+          let after = told-later read self.inner mid.inner done.keeps.inner.same told in
+          let payload = payload_at (read.place mid.inner) mid.taken (read.content mid.inner) in
+          let size : c.args.size ≡ length payload.bytes = c.requires.size told ∙ ap (λ p. length p.bytes) (sym (done.keeps.payload told)) in
+          let long = held-length g.S.Suite.opened mid.key law payload mid.cache.number 0 mid.cache.last mid.cache.chunk.items
+          (All-drop (λ x. x < 2 ^ 8) (read.place mid.inner - mid.taken) (read.content mid.inner).bytes
+          (g.met.R.Read.are_bytes mid.inner (and-left (read.tells mid.inner) (read.steady mid.inner) after)))
+          ((mid.kept after).first judged) (omega (arith, number, size, c.requires.last.fits)) in
+          omega (arith, long, number, size, c.requires.len, c.len-self-in-Ok-stand.ensures, mid.cache.chunk.ok.0);
+      stays = tt;
+      unspent = done.unspent;
+      counts = omega (arith, done.same.5);
+      inner_end = λ told. ap (λ s. s.ends_well) (done.stands told).1;
+      opens = omega (arith, done.same.5);
+      held = λ _ _ _ _. done.same.5;
+      kept = λ _ _. done.same.5;
+      alone = λ failed.
+          let found = c.find_last.ensures.found c.if-find_last.true in
+          let number = final_chunk c.args.size in
+          absurd (c.keep_if.ensures.none (rw failed refl) number (c.find_last.ensures.had number (inl (found.0, found.1))));
+      uses = λ judged.
+          let mid = c.stand-then-find_last.new.self in
+          let there = ap (λ k. k.number) done.same.3 ∙ (c.find_last.ensures.found c.if-find_last.true).1 in
+          ap (λ j. cond j (Some mid.cache.number) None) judged ∙ ap (λ n. Some n) there;
+      keeps_last = λ good b is.
+          subst (λ k. HasOne k b) (sym done.same.3)
+          (c.find_last.ensures.has b (subst (λ k. HasOne k b) (sym (c.keep_if.ensures.same (rw good refl))) (used-there c.args.self.now.cache b is)));
+      has = λ good _ b is.
+          subst (λ k. HasOne k b) (sym done.same.3)
+          (c.find_last.ensures.has b (subst (λ k. HasOne k b) (sym (c.keep_if.ensures.same (rw good refl))) is));
+      cause = λ told well. tt;
+    }
 
-pub returns-in-Ok-stand-2-clause-keeps : goal.returns-in-Ok-stand-2-clause-keeps
-returns-in-Ok-stand-2-clause-keeps g c =
-    let self = c.args.self.now in
-    let mid = c.stand-else-find_last.new.self in
-    let new = c.open_last.new.self in
-    payload-later g.R.Read c.open_last.result self.inner mid.inner new.inner self.taken mid.taken new.taken c.in-Ok-stand-2.ensures.keeps c.open_last.ensures.keeps
-
-pub returns-in-Ok-stand-2-clause-alone : goal.returns-in-Ok-stand-2-clause-alone
-returns-in-Ok-stand-2-clause-alone g c = λ failed.
-    on_ok_weaker c.open_last.result (λ had b has. elim (had b has) [
-      | inl is ↦ is
-      | inr was ↦ absurd (c.keep_if.ensures.none (rw failed refl) b (c.find_last.ensures.had b (subst (λ k. HasOne k b) c.in-Ok-stand-2.ensures.same.3 was)))
-    ]) c.open_last.ensures.had
-
-pub returns-in-Ok-stand-2-clause-keeps_last : goal.returns-in-Ok-stand-2-clause-keeps_last
-returns-in-Ok-stand-2-clause-keeps_last g c = λ good.
-    let same = ap last_used c.in-Ok-stand-2.ensures.same.3 ∙ c.find_last.ensures.same_last ∙ ap last_used (c.keep_if.ensures.same (rw good refl)) in
-    on_ok_weaker c.open_last.result (λ kept b is. kept b (same ∙ is)) c.open_last.ensures.keeps_last
-
-pub returns-in-Err-clause-sought : goal.returns-in-Err-clause-sought
-returns-in-Err-clause-sought g c = c.in-Err.ensures.same.7 ∙ c.requires.sought
-
-pub returns-in-Err-clause-counts : goal.returns-in-Err-clause-counts
-returns-in-Err-clause-counts g c = omega (arith, c.in-Err.ensures.same.5)
-
-pub returns-in-Err-clause-opens : goal.returns-in-Err-clause-opens
-returns-in-Err-clause-opens g c = omega (arith, c.in-Err.ensures.same.5)
-
-pub returns-in-Err-clause-held : goal.returns-in-Err-clause-held
-returns-in-Err-clause-held g c = λ _ _ _ _. c.in-Err.ensures.same.5
-
-pub returns-in-Err-clause-kept : goal.returns-in-Err-clause-kept
-returns-in-Err-clause-kept g c = λ _ _. c.in-Err.ensures.same.5
-
-pub returns-in-Err-clause-stays : goal.returns-in-Err-clause-stays
-returns-in-Err-clause-stays g c = (c.in-Err.ensures.same.0, c.in-Err.ensures.same.1)
-
-pub returns-in-Err-clause-cause : goal.returns-in-Err-clause-cause
-returns-in-Err-clause-cause g c = λ told well memory quiet. absurd (c.in-Err.ensures.cause told well memory quiet)
-
-pub returns-in-Err-stand-clause-sought : goal.returns-in-Err-stand-clause-sought
-returns-in-Err-stand-clause-sought g c = c.in-Err-stand.ensures.same.7 ∙ c.requires.sought
-
-pub returns-in-Err-stand-clause-counts : goal.returns-in-Err-stand-clause-counts
-returns-in-Err-stand-clause-counts g c = omega (arith, c.in-Err-stand.ensures.same.5)
-
-pub returns-in-Err-stand-clause-opens : goal.returns-in-Err-stand-clause-opens
-returns-in-Err-stand-clause-opens g c = omega (arith, c.in-Err-stand.ensures.same.5)
-
-pub returns-in-Err-stand-clause-held : goal.returns-in-Err-stand-clause-held
-returns-in-Err-stand-clause-held g c = λ _ _ _ _. c.in-Err-stand.ensures.same.5
-
-pub returns-in-Err-stand-clause-kept : goal.returns-in-Err-stand-clause-kept
-returns-in-Err-stand-clause-kept g c = λ _ _. c.in-Err-stand.ensures.same.5
-
-pub returns-in-Err-stand-clause-stays : goal.returns-in-Err-stand-clause-stays
-returns-in-Err-stand-clause-stays g c = (c.in-Err-stand.ensures.same.0, c.in-Err-stand.ensures.same.1)
-
-pub returns-in-Err-stand-clause-cause : goal.returns-in-Err-stand-clause-cause
-returns-in-Err-stand-clause-cause g c = λ told well memory quiet. absurd (c.in-Err-stand.ensures.cause told well memory quiet)
-
-pub returns-in-Err-stand-2-clause-sought : goal.returns-in-Err-stand-2-clause-sought
-returns-in-Err-stand-2-clause-sought g c = c.in-Err-stand-2.ensures.same.7 ∙ c.requires.sought
-
-pub returns-in-Err-stand-2-clause-counts : goal.returns-in-Err-stand-2-clause-counts
-returns-in-Err-stand-2-clause-counts g c = omega (arith, c.in-Err-stand-2.ensures.same.5)
-
-pub returns-in-Err-stand-2-clause-opens : goal.returns-in-Err-stand-2-clause-opens
-returns-in-Err-stand-2-clause-opens g c = omega (arith, c.in-Err-stand-2.ensures.same.5)
-
-pub returns-in-Err-stand-2-clause-held : goal.returns-in-Err-stand-2-clause-held
-returns-in-Err-stand-2-clause-held g c = λ _ _ _ _. c.in-Err-stand-2.ensures.same.5
-
-pub returns-in-Err-stand-2-clause-kept : goal.returns-in-Err-stand-2-clause-kept
-returns-in-Err-stand-2-clause-kept g c = λ _ _. c.in-Err-stand-2.ensures.same.5
-
-pub returns-in-Err-stand-2-clause-stays : goal.returns-in-Err-stand-2-clause-stays
-returns-in-Err-stand-2-clause-stays g c = (c.in-Err-stand-2.ensures.same.0, c.in-Err-stand-2.ensures.same.1)
-
-pub returns-in-Err-stand-2-clause-cause : goal.returns-in-Err-stand-2-clause-cause
-returns-in-Err-stand-2-clause-cause g c = λ told well memory quiet. absurd (c.in-Err-stand-2.ensures.cause told well memory quiet)
-
-pub returns-in-Ok-clause-sought : goal.returns-in-Ok-clause-sought
-returns-in-Ok-clause-sought g c = c.in-Ok.ensures.same.7 ∙ c.requires.sought
-
-pub returns-in-Ok-clause-counts : goal.returns-in-Ok-clause-counts
-returns-in-Ok-clause-counts g c = omega (arith, c.in-Ok.ensures.same.5)
-
-pub returns-in-Ok-clause-opens : goal.returns-in-Ok-clause-opens
-returns-in-Ok-clause-opens g c = omega (arith, c.in-Ok.ensures.same.5)
-
-pub returns-in-Ok-clause-held : goal.returns-in-Ok-clause-held
-returns-in-Ok-clause-held g c = λ _ _ _ _. c.in-Ok.ensures.same.5
-
-pub returns-in-Ok-clause-kept : goal.returns-in-Ok-clause-kept
-returns-in-Ok-clause-kept g c = λ _ _. c.in-Ok.ensures.same.5
-
-pub returns-in-Ok-stand-clause-sought : goal.returns-in-Ok-stand-clause-sought
-returns-in-Ok-stand-clause-sought g c = c.in-Ok-stand.ensures.same.7 ∙ c.requires.sought
-
-pub returns-in-Ok-stand-clause-counts : goal.returns-in-Ok-stand-clause-counts
-returns-in-Ok-stand-clause-counts g c = omega (arith, c.in-Ok-stand.ensures.same.5)
-
-pub returns-in-Ok-stand-clause-opens : goal.returns-in-Ok-stand-clause-opens
-returns-in-Ok-stand-clause-opens g c = omega (arith, c.in-Ok-stand.ensures.same.5)
-
-pub returns-in-Ok-stand-clause-held : goal.returns-in-Ok-stand-clause-held
-returns-in-Ok-stand-clause-held g c = λ _ _ _ _. c.in-Ok-stand.ensures.same.5
-
-pub returns-in-Ok-stand-clause-kept : goal.returns-in-Ok-stand-clause-kept
-returns-in-Ok-stand-clause-kept g c = λ _ _. c.in-Ok-stand.ensures.same.5
-
-pub returns-in-Ok-clause-good : goal.returns-in-Ok-clause-good
-returns-in-Ok-clause-good g c =
-    let done = c.in-Ok.ensures in
-    (refl, done.same.2 ∙ c.if-self.true, ap (λ k. k.last) done.same.3 ∙ c.if-self-2.true, done.same.0 ∙ omega (arith, c.if-self-number.true))
-
-pub returns-in-Ok-stand-clause-good : goal.returns-in-Ok-stand-clause-good
-returns-in-Ok-stand-clause-good g c = (refl, refl, ap (λ k. k.last) c.in-Ok-stand.ensures.same.3 ∙ (c.find_last.ensures.found c.if-find_last.true).2, refl)
-
-pub returns-in-Ok-stand-clause-inner_end : goal.returns-in-Ok-stand-clause-inner_end
-returns-in-Ok-stand-clause-inner_end g c = λ told. ap (λ s. s.ends_well) (c.in-Ok-stand.ensures.stands told).1
-
-pub returns-in-Ok-stand-clause-alone : goal.returns-in-Ok-stand-clause-alone
-returns-in-Ok-stand-clause-alone g c = λ failed.
-    let found = c.find_last.ensures.found c.if-find_last.true in
-    let number = final_chunk c.args.size in
-    absurd (c.keep_if.ensures.none (rw failed refl) number (c.find_last.ensures.had number (inl (found.0, found.1))))
-
-pub returns-in-Ok-stand-2-clause-refusal : goal.returns-in-Ok-stand-2-clause-refusal
-returns-in-Ok-stand-2-clause-refusal g c = c.open_last.ensures.refusal
-
-pub returns-in-Ok-stand-2-clause-key : goal.returns-in-Ok-stand-2-clause-key
-returns-in-Ok-stand-2-clause-key g c = c.open_last.ensures.key ∙ c.in-Ok-stand-2.ensures.same.4
-
-pub returns-in-Ok-stand-2-clause-sought : goal.returns-in-Ok-stand-2-clause-sought
-returns-in-Ok-stand-2-clause-sought g c = c.open_last.ensures.sought
-
-pub returns-in-Ok-stand-2-clause-good : goal.returns-in-Ok-stand-2-clause-good
-returns-in-Ok-stand-2-clause-good g c = c.open_last.ensures.good
-
-pub returns-in-Ok-stand-2-clause-fails : goal.returns-in-Ok-stand-2-clause-fails
-returns-in-Ok-stand-2-clause-fails g c = c.open_last.ensures.fails
-
-pub returns-in-Ok-stand-2-clause-unspent : goal.returns-in-Ok-stand-2-clause-unspent
-returns-in-Ok-stand-2-clause-unspent g c = c.open_last.ensures.unspent
-
-pub returns-in-Ok-stand-2-clause-counts : goal.returns-in-Ok-stand-2-clause-counts
-returns-in-Ok-stand-2-clause-counts g c = omega (arith, c.open_last.ensures.counts, c.in-Ok-stand-2.ensures.same.5)
-
-pub returns-in-Ok-stand-2-clause-opens : goal.returns-in-Ok-stand-2-clause-opens
-returns-in-Ok-stand-2-clause-opens g c = omega (arith, c.open_last.ensures.opens, c.in-Ok-stand-2.ensures.same.5)
-
-pub returns-in-Ok-stand-2-clause-stays : goal.returns-in-Ok-stand-2-clause-stays
-returns-in-Ok-stand-2-clause-stays g c =
-    on_err_weaker c.open_last.result (λ stays. (stays.0 ∙ c.in-Ok-stand-2.ensures.same.0, stays.1 ∙ c.in-Ok-stand-2.ensures.same.1)) c.open_last.ensures.stays
-
-pub returns-in-Ok-stand-2-clause-arrives : goal.returns-in-Ok-stand-2-clause-arrives
-returns-in-Ok-stand-2-clause-arrives g c = λ told.
-    let self = c.args.self.now in
-    let mid = c.stand-else-find_last.new.self in
+pub returns-in-Ok-stand-2 : goal.returns-in-Ok-stand-2
+returns-in-Ok-stand-2 g c =
     let done = c.in-Ok-stand-2.ensures in
-    let same = ap (λ p. length p.bytes) (done.keeps.payload told) in
-    on_ok_weaker c.open_last.result (λ there. omega (arith, there, same, c.requires.size told, c.requires.len))
-    (c.open_last.ensures.arrives (told-later g.R.Read self.inner mid.inner done.keeps.inner.same told))
+    record {
+      keeps = let self = c.args.self.now in
+          let mid = c.stand-else-find_last.new.self in
+          let new = c.open_last.new.self in
+          payload-later g.R.Read c.open_last.result self.inner mid.inner new.inner self.taken mid.taken new.taken done.keeps c.open_last.ensures.keeps;
+      refusal = c.open_last.ensures.refusal;
+      key = c.open_last.ensures.key ∙ done.same.4;
+      sought = c.open_last.ensures.sought;
+      good = c.open_last.ensures.good;
+      fails = c.open_last.ensures.fails;
+      arrives = λ told.
+          let self = c.args.self.now in
+          let mid = c.stand-else-find_last.new.self in
+          let same = ap (λ p. length p.bytes) (done.keeps.payload told) in
+          on_ok_weaker c.open_last.result (λ there. omega (arith, there, same, c.requires.size told, c.requires.len))
+          (c.open_last.ensures.arrives (told-later g.R.Read self.inner mid.inner done.keeps.inner.same told));
+      stays = on_err_weaker c.open_last.result (λ stays. (stays.0 ∙ done.same.0, stays.1 ∙ done.same.1)) c.open_last.ensures.stays;
+      unspent = c.open_last.ensures.unspent;
+      counts = omega (arith, c.open_last.ensures.counts, done.same.5);
+      inner_end = λ told.
+          let self = c.args.self.now in
+          let mid = c.stand-else-find_last.new.self in
+          on_ok_weaker c.open_last.result (λ is. is ∙ ap (λ p. p.ends_well) (done.keeps.payload told))
+          (c.open_last.ensures.inner_end (told-later g.R.Read self.inner mid.inner done.keeps.inner.same told));
+      opens = omega (arith, c.open_last.ensures.opens, done.same.5);
+      held = λ good held is_last there. elim c.else-not-was_failed.branch [
+        | else-not-was_failed-via-then-not-was_failed+then-self+then-self-2+else-self-number w ↦ absurd (omega (arith, there, w.if-self-number.false))
+        | else-not-was_failed-via-then-not-was_failed+then-self+else-self-2 w ↦ absurd (true≢false (sym is_last ∙ w.if-self-2.false))
+        | else-not-was_failed-via-then-not-was_failed+else-self w ↦ absurd (true≢false (sym held ∙ w.if-self.false))
+        | else-not-was_failed-via-else-not-was_failed w ↦ absurd (true≢false (sym w.if-not-was_failed.false ∙ good))
+      ];
+      kept = λ good has.
+          absurd (c.find_last.ensures.none c.if-find_last.false (subst (λ k. HasLast k (final_chunk c.args.size)) (sym (c.keep_if.ensures.same (rw good refl))) has));
+      alone = λ failed.
+          on_ok_weaker c.open_last.result (λ had b has. elim (had b has) [
+            | inl is ↦ is
+            | inr was ↦ absurd (c.keep_if.ensures.none (rw failed refl) b (c.find_last.ensures.had b (subst (λ k. HasOne k b) done.same.3 was)))
+          ]) c.open_last.ensures.had;
+      uses = let new = c.open_last.new.self.cache in
+          on_ok_weaker c.open_last.result
+          (λ is judged. ap (λ u. cond u (cond new.judged (Some new.number) None) (option_map (λ it. it.number) new.other)) is.0
+          ∙ ap (λ j. cond j (Some new.number) None) judged ∙ ap (λ n. Some n) is.1)
+          c.open_last.ensures.used;
+      keeps_last = λ good.
+          let same = ap last_used done.same.3 ∙ c.find_last.ensures.same_last ∙ ap last_used (c.keep_if.ensures.same (rw good refl)) in
+          on_ok_weaker c.open_last.result (λ kept b is. kept b (same ∙ is)) c.open_last.ensures.keeps_last;
+      has = λ good is. elim is [
+        | inl h ↦ elim c.else-not-was_failed.branch [
+          | else-not-was_failed-via-then-not-was_failed+then-self+then-self-2+else-self-number w ↦ absurd (omega (arith, h.2, w.if-self-number.false))
+          | else-not-was_failed-via-then-not-was_failed+then-self+else-self-2 w ↦ absurd (true≢false (sym h.1 ∙ w.if-self-2.false))
+          | else-not-was_failed-via-then-not-was_failed+else-self w ↦ absurd (true≢false (sym h.0 ∙ w.if-self.false))
+          | else-not-was_failed-via-else-not-was_failed w ↦ absurd (true≢false (sym w.if-not-was_failed.false ∙ good))
+        ]
+        | inr h ↦ absurd (c.find_last.ensures.none c.if-find_last.false
+            (subst (λ k. HasLast k (final_chunk c.args.size)) (sym (c.keep_if.ensures.same (rw good refl))) h))
+      ];
+      cause = λ told well.
+          let self = c.args.self.now in
+          let mid = c.stand-else-find_last.new.self in
+          let number = final_chunk c.args.size in
+          IfErr-weaker c.open_last.result _ _ (λ e bad memory quiet.
+          let none = bad memory (quiet_from done.keeps.inner.same.faults c.open_last.ensures.keeps.inner.same.faults quiet) in (
+            none.0,
+            subst (λ k. g.S.Suite.opened k (nonce number true) (text_at number (payload_of self)) ≡ None) done.same.4
+                (subst (λ p. g.S.Suite.opened mid.key (nonce number true) (text_at number p) ≡ None) (done.keeps.payload told) none.1),
+          ))
+          (c.open_last.ensures.cause (told-later g.R.Read self.inner mid.inner done.keeps.inner.same told) (ap (λ p. p.ends_well) (done.keeps.payload told) ∙ well));
+    }
 
-pub returns-in-Ok-stand-2-clause-inner_end : goal.returns-in-Ok-stand-2-clause-inner_end
-returns-in-Ok-stand-2-clause-inner_end g c = λ told.
-    let self = c.args.self.now in
-    let mid = c.stand-else-find_last.new.self in
-    let done = c.in-Ok-stand-2.ensures in
-    on_ok_weaker c.open_last.result (λ is. is ∙ ap (λ p. p.ends_well) (done.keeps.payload told))
-    (c.open_last.ensures.inner_end (told-later g.R.Read self.inner mid.inner done.keeps.inner.same told))
+pub returns-in-Err : goal.returns-in-Err
+returns-in-Err g c =
+    let done = c.in-Err.ensures in
+    record {
+      keeps = payload-refused g.R.Read _ _ _ _ _ done.keeps;
+      refusal = done.refusal;
+      key = done.same.4;
+      sought = done.same.7 ∙ c.requires.sought;
+      good = tt;
+      fails = done.same.6;
+      arrives = λ told. tt;
+      stays = (done.same.0, done.same.1);
+      unspent = tt;
+      counts = omega (arith, done.same.5);
+      inner_end = λ told. tt;
+      opens = omega (arith, done.same.5);
+      held = λ _ _ _ _. done.same.5;
+      kept = λ _ _. done.same.5;
+      alone = λ failed. tt;
+      uses = tt;
+      keeps_last = λ good. tt;
+      has = λ good is. tt;
+      cause = λ told well memory quiet. absurd (done.cause told well memory quiet);
+    }
 
-pub returns-in-Ok-stand-2-clause-cause : goal.returns-in-Ok-stand-2-clause-cause
-returns-in-Ok-stand-2-clause-cause g c = λ told well.
-    let self = c.args.self.now in
-    let mid = c.stand-else-find_last.new.self in
-    let done = c.in-Ok-stand-2.ensures in
-    let number = final_chunk c.args.size in
-    IfErr-weaker c.open_last.result _ _ (λ e bad memory quiet.
-    let none = bad memory (quiet_from done.keeps.inner.same.faults c.open_last.ensures.keeps.inner.same.faults quiet) in (
-      none.0,
-      subst (λ k. g.S.Suite.opened k (nonce number true) (text_at number (payload_of self)) ≡ None) done.same.4
-          (subst (λ p. g.S.Suite.opened mid.key (nonce number true) (text_at number p) ≡ None) (done.keeps.payload told) none.1),
-    ))
-    (c.open_last.ensures.cause (told-later g.R.Read self.inner mid.inner done.keeps.inner.same told) (ap (λ p. p.ends_well) (done.keeps.payload told) ∙ well))
+pub returns-in-Err-stand : goal.returns-in-Err-stand
+returns-in-Err-stand g c =
+    let done = c.in-Err-stand.ensures in
+    record {
+      keeps = payload-refused g.R.Read _ _ _ _ _ done.keeps;
+      refusal = done.refusal;
+      key = done.same.4;
+      sought = done.same.7 ∙ c.requires.sought;
+      good = tt;
+      fails = done.same.6;
+      arrives = λ told. tt;
+      stays = (done.same.0, done.same.1);
+      unspent = tt;
+      counts = omega (arith, done.same.5);
+      inner_end = λ told. tt;
+      opens = omega (arith, done.same.5);
+      held = λ _ _ _ _. done.same.5;
+      kept = λ _ _. done.same.5;
+      alone = λ failed. tt;
+      uses = tt;
+      keeps_last = λ good. tt;
+      has = λ good is. tt;
+      cause = λ told well memory quiet. absurd (done.cause told well memory quiet);
+    }
+
+pub returns-in-Err-stand-2 : goal.returns-in-Err-stand-2
+returns-in-Err-stand-2 g c =
+    let done = c.in-Err-stand-2.ensures in
+    record {
+      keeps = payload-refused g.R.Read _ _ _ _ _ done.keeps;
+      refusal = done.refusal;
+      key = done.same.4;
+      sought = done.same.7 ∙ c.requires.sought;
+      good = tt;
+      fails = done.same.6;
+      arrives = λ told. tt;
+      stays = (done.same.0, done.same.1);
+      unspent = tt;
+      counts = omega (arith, done.same.5);
+      inner_end = λ told. tt;
+      opens = omega (arith, done.same.5);
+      held = λ _ _ _ _. done.same.5;
+      kept = λ _ _. done.same.5;
+      alone = λ failed. tt;
+      uses = tt;
+      keeps_last = λ good. tt;
+      has = λ good is. tt;
+      cause = λ told well memory quiet. absurd (done.cause told well memory quiet);
+    }
 
 pub open_last-requires-clause-stands : goal.open_last-requires-clause-stands
 open_last-requires-clause-stands g c = λ told.
@@ -365,97 +376,3 @@ stand-requires-then-find_last-clause-within g c = λ told. omega (arith, c.requi
 
 pub stand-requires-else-find_last-clause-within : goal.stand-requires-else-find_last-clause-within
 stand-requires-else-find_last-clause-within g c = λ told. omega (arith, c.requires.size told, c.requires.last.enough)
-
-pub returns-in-Err-clause-keeps : goal.returns-in-Err-clause-keeps
-returns-in-Err-clause-keeps g c = payload-refused g.R.Read _ _ _ _ _ c.in-Err.ensures.keeps
-
-pub returns-in-Err-stand-clause-keeps : goal.returns-in-Err-stand-clause-keeps
-returns-in-Err-stand-clause-keeps g c = payload-refused g.R.Read _ _ _ _ _ c.in-Err-stand.ensures.keeps
-
-pub returns-in-Err-stand-2-clause-keeps : goal.returns-in-Err-stand-2-clause-keeps
-returns-in-Err-stand-2-clause-keeps g c = payload-refused g.R.Read _ _ _ _ _ c.in-Err-stand-2.ensures.keeps
-
-pub returns-in-Ok-clause-keeps : goal.returns-in-Ok-clause-keeps
-returns-in-Ok-clause-keeps g c = payload-done g.R.Read _ _ _ _ c.in-Ok.ensures.keeps
-
-pub returns-in-Ok-stand-clause-keeps : goal.returns-in-Ok-stand-clause-keeps
-returns-in-Ok-stand-clause-keeps g c = payload-done g.R.Read _ _ _ _ c.in-Ok-stand.ensures.keeps
-
-pub returns-in-Err-clause-refusal : goal.returns-in-Err-clause-refusal
-returns-in-Err-clause-refusal g c = c.in-Err.ensures.refusal
-
-pub returns-in-Err-stand-clause-refusal : goal.returns-in-Err-stand-clause-refusal
-returns-in-Err-stand-clause-refusal g c = c.in-Err-stand.ensures.refusal
-
-pub returns-in-Err-stand-2-clause-refusal : goal.returns-in-Err-stand-2-clause-refusal
-returns-in-Err-stand-2-clause-refusal g c = c.in-Err-stand-2.ensures.refusal
-
-pub returns-in-Ok-clause-unspent : goal.returns-in-Ok-clause-unspent
-returns-in-Ok-clause-unspent g c = c.in-Ok.ensures.unspent
-
-pub returns-in-Ok-stand-clause-unspent : goal.returns-in-Ok-stand-clause-unspent
-returns-in-Ok-stand-clause-unspent g c = c.in-Ok-stand.ensures.unspent
-
-pub returns-in-Ok-clause-alone : goal.returns-in-Ok-clause-alone
-returns-in-Ok-clause-alone g c = λ failed. absurd (true≢false (sym failed ∙ c.if-not-was_failed.true))
-
-pub returns-in-Ok-clause-has : goal.returns-in-Ok-clause-has
-returns-in-Ok-clause-has g c = λ _ _ b is. subst (λ k. HasOne k b) (sym c.in-Ok.ensures.same.3) is
-
-pub returns-in-Ok-clause-keeps_last : goal.returns-in-Ok-clause-keeps_last
-returns-in-Ok-clause-keeps_last g c = λ _ b is. subst (λ k. HasOne k b) (sym c.in-Ok.ensures.same.3) (used-there c.args.self.now.cache b is)
-
-pub returns-in-Ok-clause-uses : goal.returns-in-Ok-clause-uses
-returns-in-Ok-clause-uses g c = λ judged.
-    let mid = c.stand.new.self in
-    let done = c.in-Ok.ensures in
-    let there : mid.cache.number ≡ final_chunk c.args.size = mid.first (done.same.2 ∙ c.if-self.true) ∙ done.same.0 ∙ omega (arith, c.if-self-number.true) in
-    ap (λ j. cond j (Some mid.cache.number) None) judged ∙ ap (λ n. Some n) there
-
-pub returns-in-Ok-stand-clause-has : goal.returns-in-Ok-stand-clause-has
-returns-in-Ok-stand-clause-has g c = λ good _ b is.
-    subst (λ k. HasOne k b) (sym c.in-Ok-stand.ensures.same.3)
-    (c.find_last.ensures.has b (subst (λ k. HasOne k b) (sym (c.keep_if.ensures.same (rw good refl))) is))
-
-pub returns-in-Ok-stand-clause-keeps_last : goal.returns-in-Ok-stand-clause-keeps_last
-returns-in-Ok-stand-clause-keeps_last g c = λ good b is.
-    subst (λ k. HasOne k b) (sym c.in-Ok-stand.ensures.same.3)
-    (c.find_last.ensures.has b (subst (λ k. HasOne k b) (sym (c.keep_if.ensures.same (rw good refl))) (used-there c.args.self.now.cache b is)))
-
-pub returns-in-Ok-stand-clause-uses : goal.returns-in-Ok-stand-clause-uses
-returns-in-Ok-stand-clause-uses g c = λ judged.
-    let mid = c.stand-then-find_last.new.self in
-    let there = ap (λ k. k.number) c.in-Ok-stand.ensures.same.3 ∙ (c.find_last.ensures.found c.if-find_last.true).1 in
-    ap (λ j. cond j (Some mid.cache.number) None) judged ∙ ap (λ n. Some n) there
-
-pub returns-in-Ok-stand-2-clause-held : goal.returns-in-Ok-stand-2-clause-held
-returns-in-Ok-stand-2-clause-held g c = λ good held is_last there. elim c.else-not-was_failed.branch [
-  | else-not-was_failed-via-then-not-was_failed+then-self+then-self-2+else-self-number w ↦ absurd (omega (arith, there, w.if-self-number.false))
-  | else-not-was_failed-via-then-not-was_failed+then-self+else-self-2 w ↦ absurd (true≢false (sym is_last ∙ w.if-self-2.false))
-  | else-not-was_failed-via-then-not-was_failed+else-self w ↦ absurd (true≢false (sym held ∙ w.if-self.false))
-  | else-not-was_failed-via-else-not-was_failed w ↦ absurd (true≢false (sym w.if-not-was_failed.false ∙ good))
-]
-
-pub returns-in-Ok-stand-2-clause-kept : goal.returns-in-Ok-stand-2-clause-kept
-returns-in-Ok-stand-2-clause-kept g c = λ good has.
-    absurd (c.find_last.ensures.none c.if-find_last.false (subst (λ k. HasLast k (final_chunk c.args.size)) (sym (c.keep_if.ensures.same (rw good refl))) has))
-
-pub returns-in-Ok-stand-2-clause-has : goal.returns-in-Ok-stand-2-clause-has
-returns-in-Ok-stand-2-clause-has g c = λ good is. elim is [
-  | inl h ↦ elim c.else-not-was_failed.branch [
-    | else-not-was_failed-via-then-not-was_failed+then-self+then-self-2+else-self-number w ↦ absurd (omega (arith, h.2, w.if-self-number.false))
-    | else-not-was_failed-via-then-not-was_failed+then-self+else-self-2 w ↦ absurd (true≢false (sym h.1 ∙ w.if-self-2.false))
-    | else-not-was_failed-via-then-not-was_failed+else-self w ↦ absurd (true≢false (sym h.0 ∙ w.if-self.false))
-    | else-not-was_failed-via-else-not-was_failed w ↦ absurd (true≢false (sym w.if-not-was_failed.false ∙ good))
-  ]
-  | inr h ↦ absurd (c.find_last.ensures.none c.if-find_last.false
-      (subst (λ k. HasLast k (final_chunk c.args.size)) (sym (c.keep_if.ensures.same (rw good refl))) h))
-]
-
-pub returns-in-Ok-stand-2-clause-uses : goal.returns-in-Ok-stand-2-clause-uses
-returns-in-Ok-stand-2-clause-uses g c =
-    let new = c.open_last.new.self.cache in
-    on_ok_weaker c.open_last.result
-    (λ is judged. ap (λ u. cond u (cond new.judged (Some new.number) None) (option_map (λ it. it.number) new.other)) is.0
-    ∙ ap (λ j. cond j (Some new.number) None) judged ∙ ap (λ n. Some n) is.1)
-    c.open_last.ensures.used

@@ -218,41 +218,41 @@ returns-in-Ok-enter g c =
     let content = content-kept self new keeps (done.key ∙ look.same.4) in
     record {
       seeks = record {
-          same_tells = kept.0;
-          same_steady = kept.1;
-          no_fewer_faults = keeps.inner.same.faults;
-          device = tt;
-          unspent = done.unspent;
-          why = tt;
-          narrows = stream_narrows new.failed self new (λ is. absurd (true≢false (sym is ∙ done.good))) keeps (done.key ∙ look.same.4);
-          again = tt;
-          missed = tt;
-          same_content = content;
-          arrives = λ told. done.arrives;
-          leads = λ told. in_length-leads (plain_len c.in-Ok.size) c.args.to place _ c.in-Ok-find.ensures.ok;
-          stays = λ _. tt;
-          interrupted = λ _. tt;
-          moves = λ told steady.
-              let well = and-right (read.tells self.inner && read.steady self.inner) _ steady in
-              let law = shorter suite.seal_of suite.opened g.met.S.Suite.cipher self.key self.key_bytes in
-              let are = All-drop (λ x. x < 2 ^ 8) (read.place self.inner - self.taken) (read.content self.inner).bytes
-              (g.met.R.Read.are_bytes self.inner (and-left (read.tells self.inner) (read.steady self.inner) told)) in
-              let size : c.in-Ok.size ≡ length payload.bytes = (look.found told).2 in
-              let same = keeps.payload told in
-              let after = told-later read self.inner new.inner keeps.inner.same told in
-              let law_new = shorter suite.seal_of suite.opened g.met.S.Suite.cipher new.key new.key_bytes in
-              let are_new = All-drop (λ x. x < 2 ^ 8) (read.place new.inner - new.taken) (read.content new.inner).bytes
-              (g.met.R.Read.are_bytes new.inner (and-left (read.tells new.inner) (read.steady new.inner) after)) in
-              let sound = now-sound suite.opened new.key law_new new.failed new.held new.at new.cache.chunk.items new.cache.last new.sought new.number new.taken (read.place new.inner) (read.content new.inner) (read.rest new.inner)
-              are_new (ap (λ d. d.ends_well) (content told) ∙ well) done.good new.in_chunk (new.sound after)
-              (λ shut. (done.rest (later told) ∙ ap (from_place new.taken) (sym (done.keeps.payload (later told))), omega (arith, done.more shut, size, ap (λ p. length p.bytes) same))) in (
-                ok-well suite.opened self.key law payload are well c.args.to place _ (rw size at c.in-Ok-find.ensures.ok),
-                sound ∙ ap (λ d. from_place (65536 * new.number + new.at) d) (content told) ∙ ap (λ n. from_place n (delivered suite.opened self.key 0 payload)) done.arrives,
-              );
-          kept = λ _ _ _. tt;
-          refused = λ _ _. tt;
-          cause = λ _ _. tt;
-        };
+        same_tells = kept.0;
+        same_steady = kept.1;
+        no_fewer_faults = keeps.inner.same.faults;
+        device = tt;
+        unspent = done.unspent;
+        why = tt;
+        narrows = stream_narrows new.failed self new (λ is. absurd (true≢false (sym is ∙ done.good))) keeps (done.key ∙ look.same.4);
+        again = tt;
+        missed = tt;
+        same_content = content;
+        arrives = λ told. done.arrives;
+        leads = λ told. in_length-leads (plain_len c.in-Ok.size) c.args.to place _ c.in-Ok-find.ensures.ok;
+        stays = λ _. tt;
+        interrupted = λ _. tt;
+        moves = λ told steady.
+            let well = and-right (read.tells self.inner && read.steady self.inner) _ steady in
+            let law = shorter suite.seal_of suite.opened g.met.S.Suite.cipher self.key self.key_bytes in
+            let are = All-drop (λ x. x < 2 ^ 8) (read.place self.inner - self.taken) (read.content self.inner).bytes
+            (g.met.R.Read.are_bytes self.inner (and-left (read.tells self.inner) (read.steady self.inner) told)) in
+            let size : c.in-Ok.size ≡ length payload.bytes = (look.found told).2 in
+            let same = keeps.payload told in
+            let after = told-later read self.inner new.inner keeps.inner.same told in
+            let law_new = shorter suite.seal_of suite.opened g.met.S.Suite.cipher new.key new.key_bytes in
+            let are_new = All-drop (λ x. x < 2 ^ 8) (read.place new.inner - new.taken) (read.content new.inner).bytes
+            (g.met.R.Read.are_bytes new.inner (and-left (read.tells new.inner) (read.steady new.inner) after)) in
+            let sound = now-sound suite.opened new.key law_new new.failed new.held new.at new.cache.chunk.items new.cache.last new.sought new.number new.taken (read.place new.inner) (read.content new.inner) (read.rest new.inner)
+            are_new (ap (λ d. d.ends_well) (content told) ∙ well) done.good new.in_chunk (new.sound after)
+            (λ shut. (done.rest (later told) ∙ ap (from_place new.taken) (sym (done.keeps.payload (later told))), omega (arith, done.more shut, size, ap (λ p. length p.bytes) same))) in (
+              ok-well suite.opened self.key law payload are well c.args.to place _ (rw size at c.in-Ok-find.ensures.ok),
+              sound ∙ ap (λ d. from_place (65536 * new.number + new.at) d) (content told) ∙ ap (λ n. from_place n (delivered suite.opened self.key 0 payload)) done.arrives,
+            );
+        kept = λ _ _ _. tt;
+        refused = λ _ _. tt;
+        cause = λ _ _. tt;
+      };
       patient = tt;
       payload = λ told. done.keeps.payload (later told) ∙ look.keeps.payload told;
       key = done.key ∙ look.same.4;
@@ -327,41 +327,41 @@ returns-in-Ok-enter_end g c =
     ] in
     record {
       seeks = record {
-          same_tells = kept.0;
-          same_steady = kept.1;
-          no_fewer_faults = keeps.inner.same.faults;
-          device = tt;
-          unspent = done.unspent;
-          why = tt;
-          narrows = stream_narrows new.failed self new (λ is. absurd (true≢false (sym is ∙ done.good.0))) keeps (done.key ∙ look.same.4);
-          again = tt;
-          missed = tt;
-          same_content = content;
-          arrives = λ told. (done.arrives (later told) ∙ sym c.if-target-len.true);
-          leads = λ told. in_length-leads (plain_len c.in-Ok.size) c.args.to place _ c.in-Ok-find.ensures.ok;
-          stays = λ _. tt;
-          interrupted = λ _. tt;
-          moves = λ told steady.
-              let well = and-right (read.tells self.inner && read.steady self.inner) _ steady in
-              let law = shorter suite.seal_of suite.opened g.met.S.Suite.cipher self.key self.key_bytes in
-              let are = All-drop (λ x. x < 2 ^ 8) (read.place self.inner - self.taken) (read.content self.inner).bytes
-              (g.met.R.Read.are_bytes self.inner (and-left (read.tells self.inner) (read.steady self.inner) told)) in
-              let size : c.in-Ok.size ≡ length payload.bytes = (look.found told).2 in
-              let same = keeps.payload told in
-              let after = told-later read self.inner new.inner keeps.inner.same told in
-              let law_new = shorter suite.seal_of suite.opened g.met.S.Suite.cipher new.key new.key_bytes in
-              let are_new = All-drop (λ x. x < 2 ^ 8) (read.place new.inner - new.taken) (read.content new.inner).bytes
-              (g.met.R.Read.are_bytes new.inner (and-left (read.tells new.inner) (read.steady new.inner) after)) in
-              let sound = now-sound suite.opened new.key law_new new.failed new.held new.at new.cache.chunk.items new.cache.last new.sought new.number new.taken (read.place new.inner) (read.content new.inner) (read.rest new.inner)
-              are_new (ap (λ d. d.ends_well) (content told) ∙ well) done.good.0 new.in_chunk (new.sound after)
-              (λ shut. absurd (true≢false (sym done.good.1 ∙ shut))) in (
-                ok-well suite.opened self.key law payload are well c.args.to place _ (rw size at c.in-Ok-find.ensures.ok),
-                sound ∙ ap (λ d. from_place (65536 * new.number + new.at) d) (content told) ∙ ap (λ n. from_place n (delivered suite.opened self.key 0 payload)) (done.arrives (later told) ∙ sym c.if-target-len.true),
-              );
-          kept = λ _ _ _. tt;
-          refused = λ _ _. tt;
-          cause = λ _ _. tt;
-        };
+        same_tells = kept.0;
+        same_steady = kept.1;
+        no_fewer_faults = keeps.inner.same.faults;
+        device = tt;
+        unspent = done.unspent;
+        why = tt;
+        narrows = stream_narrows new.failed self new (λ is. absurd (true≢false (sym is ∙ done.good.0))) keeps (done.key ∙ look.same.4);
+        again = tt;
+        missed = tt;
+        same_content = content;
+        arrives = λ told. (done.arrives (later told) ∙ sym c.if-target-len.true);
+        leads = λ told. in_length-leads (plain_len c.in-Ok.size) c.args.to place _ c.in-Ok-find.ensures.ok;
+        stays = λ _. tt;
+        interrupted = λ _. tt;
+        moves = λ told steady.
+            let well = and-right (read.tells self.inner && read.steady self.inner) _ steady in
+            let law = shorter suite.seal_of suite.opened g.met.S.Suite.cipher self.key self.key_bytes in
+            let are = All-drop (λ x. x < 2 ^ 8) (read.place self.inner - self.taken) (read.content self.inner).bytes
+            (g.met.R.Read.are_bytes self.inner (and-left (read.tells self.inner) (read.steady self.inner) told)) in
+            let size : c.in-Ok.size ≡ length payload.bytes = (look.found told).2 in
+            let same = keeps.payload told in
+            let after = told-later read self.inner new.inner keeps.inner.same told in
+            let law_new = shorter suite.seal_of suite.opened g.met.S.Suite.cipher new.key new.key_bytes in
+            let are_new = All-drop (λ x. x < 2 ^ 8) (read.place new.inner - new.taken) (read.content new.inner).bytes
+            (g.met.R.Read.are_bytes new.inner (and-left (read.tells new.inner) (read.steady new.inner) after)) in
+            let sound = now-sound suite.opened new.key law_new new.failed new.held new.at new.cache.chunk.items new.cache.last new.sought new.number new.taken (read.place new.inner) (read.content new.inner) (read.rest new.inner)
+            are_new (ap (λ d. d.ends_well) (content told) ∙ well) done.good.0 new.in_chunk (new.sound after)
+            (λ shut. absurd (true≢false (sym done.good.1 ∙ shut))) in (
+              ok-well suite.opened self.key law payload are well c.args.to place _ (rw size at c.in-Ok-find.ensures.ok),
+              sound ∙ ap (λ d. from_place (65536 * new.number + new.at) d) (content told) ∙ ap (λ n. from_place n (delivered suite.opened self.key 0 payload)) (done.arrives (later told) ∙ sym c.if-target-len.true),
+            );
+        kept = λ _ _ _. tt;
+        refused = λ _ _. tt;
+        cause = λ _ _. tt;
+      };
       patient = tt;
       payload = λ told. done.keeps.payload (later told) ∙ look.keeps.payload told;
       key = done.key ∙ look.same.4;
