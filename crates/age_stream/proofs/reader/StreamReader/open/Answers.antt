@@ -1,17 +1,16 @@
-use Rattle.std.proofs.Common.{◌≡◌, ◌∙◌, ◌&&◌, ap, sym, IsTrue, refl, subst, arith, ◌-◌, ◌^◌, ◌<◌, ◌≤◌, ◌⊎◌, length, take, length-take-le, Err, inl, inr, true, false}
+use Rattle.std.proofs.Common.{◌≡◌, ◌∙◌, ◌&&◌, sym, IsTrue, refl, subst, arith, ◌<◌, ◌≤◌, ◌⊎◌, length, take, length-take-le, Err, inl, inr, true, false}
 use Rattle.age_io.specs.Reading.{EndsEarly}
 use Rattle.age_stream.specs.ReadingLaws.{and-left, and-right}
 use Rattle.age_stream.specs.Chunks.{chunk_of}
 use Rattle.age_stream.specs.Reader.{wanted_of}
-use Rattle.std.proofs.lemmas.List.Elements.{All-drop}
 use Rattle.age_stream.specs.OpeningLaws.{shorter}
 use Rattle.age_stream.proofs.Answered.{refuses-chunk, good-opened}
-use Rattle.age_stream.specs.Cache.{has_number, last_used, IsKept, IsText}
+use Rattle.age_stream.specs.Cache.{IsKept, IsText}
 use Rattle.age_stream.proofs.Cached.{brought, is-text}
 use Rattle.age_stream.proofs.Holding.{open-early, open-refused, opened-before, rest-opened, clean-opened, sound-opened, spare-opened}
 use Rattle.age_error.specs.declared.io.Error.TheVariants.{OutOfMemory, Truncated}
 use Rattle.age_stream.specs.FrontToEnd.{StopsAt}
-use Rattle.age_stream.specs.Reading.{payload_at, IsSound, TookText}
+use Rattle.age_stream.specs.Reading.{payload_at, IsSound}
 use Rattle.age_stream.proofs.Keeping.{told-before, payload-done, payload-refused, payload-more, payload-ended}
 use Rattle.age_stream.proofs.Moving.{sound-shut}
 use Rattle.std.proofs.lemmas.Bool.{true≢false}
