@@ -1,5 +1,5 @@
 -- Seeks of a device whose bytes nobody knows.
-use Rattle.std.specs.Prelude.{ℕ, ◌<◌, pos, Bool, true, false, IsTrue, List, length, Option, Some, None, Result, Ok, Err, IfErr, IsErrAnd, nat_le, if◌then◌else◌}
+use Rattle.std.specs.Prelude.{ℕ, ◌<◌, ◌≤◌, ◌⊎◌, pos, Bool, true, false, IsTrue, List, length, Option, Some, None, Result, Ok, Err, IfErr, IsErrAnd, nat_le, if◌then◌else◌}
 use Rattle.std.proofs.Common.{◌≡◌, ◌∙◌, arith, refl, sym, ap, subst, inl, inr}
 use Rattle.std.specs.Io.Seek.{SeekMoves}
 use Rattle.std.specs.Io.KnownBytes.{Keeps}
@@ -33,6 +33,29 @@ stands-failed wanted place position (Ok x) e is failed = absurd is
 stands-failed wanted place position (Err x) e is failed = λ other. absurd (other (subst IsDevice (sym is) failed))
 
 module _ {S : Type 0} (faults : S → ℕ) (old new : S) (to : SeekFrom) where
+  seeks-err : (e : Error) → faults old ≤ faults new → (IsDevice e → faults old < faults new) → IsSeekRefusal seek_refuses e ⊎ IsReadRefusal e →
+      Seeks (λ _. false) (λ _. false) (λ _. nothing) (λ _. 0) (λ _. nothing) faults (λ _. IsReadRefusal) seek_refuses old new to (Err e)
+  seeks-err e more device why = record {
+    same_tells = refl;
+    same_steady = refl;
+    no_fewer_faults = more;
+    device = device;
+    unspent = tt;
+    why = why;
+    narrows = tt;
+    again = λ is x h. h;
+    missed = λ is x h. h;
+    same_content = λ _. refl;
+    arrives = untold;
+    leads = untold;
+    stays = untold;
+    interrupted = untold;
+    moves = untold;
+    kept = untold;
+    refused = untold;
+    cause = untold;
+  }
+
   -- by the count of faults before its last step, which is that of its first
   pub seeks-counted : (between : ℕ) (r : Result ℕ Error) → between ≡ faults old → between < most_faults → CountsFaults between (faults new) r →
       Seeks (λ _. false) (λ _. false) (λ _. nothing) (λ _. 0) (λ _. nothing) faults (λ _. IsReadRefusal) seek_refuses old new to r
@@ -56,50 +79,13 @@ module _ {S : Type 0} (faults : S → ℕ) (old new : S) (to : SeekFrom) where
     refused = untold;
     cause = untold;
   }
-  seeks-counted between (Err e) same below counts = record {
-    same_tells = refl;
-    same_steady = refl;
-    no_fewer_faults = omega (arith, same, counts.1);
-    device = λ is. omega (arith, same, counts.1);
-    unspent = tt;
-    why = inr (inl counts.0);
-    narrows = tt;
-    again = λ is x h. h;
-    missed = λ is x h. h;
-    same_content = λ _. refl;
-    arrives = untold;
-    leads = untold;
-    stays = untold;
-    interrupted = untold;
-    moves = untold;
-    kept = untold;
-    refused = untold;
-    cause = untold;
-  }
+  seeks-counted between (Err e) same below counts =
+      seeks-err e (omega (arith, same, counts.1)) (λ is. omega (arith, same, counts.1)) (inr (inl counts.0))
 
   -- a target that is refused, where the device had no fault
   pub seeks-refused : (e : Error) → faults new ≡ faults old → IsNoDevice e → IsSeekRefusal seek_refuses e →
       Seeks (λ _. false) (λ _. false) (λ _. nothing) (λ _. 0) (λ _. nothing) faults (λ _. IsReadRefusal) seek_refuses old new to (Err e)
-  seeks-refused e same other why = record {
-    same_tells = refl;
-    same_steady = refl;
-    no_fewer_faults = omega (arith, same);
-    device = λ is. absurd (other is);
-    unspent = tt;
-    why = inl why;
-    narrows = tt;
-    again = λ is x h. h;
-    missed = λ is x h. h;
-    same_content = λ _. refl;
-    arrives = untold;
-    leads = untold;
-    stays = untold;
-    interrupted = untold;
-    moves = untold;
-    kept = untold;
-    refused = untold;
-    cause = untold;
-  }
+  seeks-refused e same other why = seeks-err e (omega (arith, same)) (λ is. absurd (other is)) (inl why)
 
 fitting : (fits : Bool) (n : ℕ) → IfErr {T = ℕ} (if fits then Ok n else Err PastEnd) (IsSeekRefusal seek_refuses)
 fitting true n = tt
