@@ -63,129 +63,125 @@ invariant_of-self-in-Ok g c =
           law (c.args.place / 65536) (c.args.place % 65536) mid.cache.chunk.items mid.cache.last bytes (done.same.7 ∙ c.requires.sought) within held past;
     }
 
-pub returns-in-Ok-clause-none : goal.returns-in-Ok-clause-none
-returns-in-Ok-clause-none g c = λ failed.
-    let found = c.find.ensures.found c.if-find.true in
-    absurd (c.keep_if.ensures.none (rw failed refl) (c.args.place / 65536) (c.find.ensures.had (c.args.place / 65536) (inl (found.0, found.1))))
+pub returns-in-Ok : goal.returns-in-Ok
+returns-in-Ok g c =
+    let done = c.in-Ok.ensures in
+    record {
+      keeps = payload-done g.R.Read _ _ _ _ done.keeps;
+      refusal = tt;
+      key = done.same.4;
+      sought = done.same.7 ∙ c.requires.sought;
+      good = refl;
+      fails = tt;
+      arrives = omega arith;
+      stays = tt;
+      before = λ after.
+          let long = ap (λ k. length k.chunk.items) done.same.3 in
+          omega (arith, after.2, (c.find.ensures.found c.if-find.true).2, long);
+      unspent = done.unspent;
+      rest = λ told.
+          let placed = done.stands told in
+          placed.1 ∙ ap (λ n. from_place n (payload_of c.args.self.now)) (sym placed.0);
+      more = λ none. absurd (true≢false none);
+      opens = done.same.5;
+      has = λ good b is.
+          subst (λ k. HasOne k b) (sym done.same.3) (c.find.ensures.has b (subst (λ k. HasOne k b) (sym (c.keep_if.ensures.same (rw good refl))) is));
+      same_last = λ good. ap last_used done.same.3 ∙ c.find.ensures.same_last ∙ ap last_used (c.keep_if.ensures.same (rw good refl));
+      none = λ failed.
+          let found = c.find.ensures.found c.if-find.true in
+          absurd (c.keep_if.ensures.none (rw failed refl) (c.args.place / 65536) (c.find.ensures.had (c.args.place / 65536) (inl (found.0, found.1))));
+      finds = λ _ _ _. (refl, subst (λ k. c.args.place % 65536 < length k.chunk.items) (sym done.same.3) (c.find.ensures.found c.if-find.true).2);
+      cause = λ told well. tt;
+    }
 
-pub returns-in-Ok-stand-clause-none : goal.returns-in-Ok-stand-clause-none
-returns-in-Ok-stand-clause-none g c = λ failed.
+pub returns-in-Ok-stand : goal.returns-in-Ok-stand
+returns-in-Ok-stand g c =
     let done = c.in-Ok-stand.ensures in
-    (done.same.2, λ b has. c.keep_if.ensures.none (rw failed refl) b (c.find.ensures.had b (subst (λ k. HasOne k b) done.same.3 has)))
+    record {
+      keeps = payload-done g.R.Read _ _ _ _ done.keeps;
+      refusal = tt;
+      key = done.same.4;
+      sought = done.same.7 ∙ c.requires.sought;
+      good = refl;
+      fails = tt;
+      arrives = omega arith;
+      stays = tt;
+      before = λ after. true≢false (sym after.0 ∙ done.same.2);
+      unspent = done.unspent;
+      rest = λ told.
+          let placed = done.stands told in
+          placed.1 ∙ ap (λ n. from_place n (payload_of c.args.self.now)) (sym placed.0);
+      more = λ _. omega (arith, c.requires.before);
+      opens = done.same.5;
+      has = λ good b is.
+          subst (λ k. HasOne k b) (sym done.same.3) (c.find.ensures.has b (subst (λ k. HasOne k b) (sym (c.keep_if.ensures.same (rw good refl))) is));
+      same_last = λ good. ap last_used done.same.3 ∙ c.find.ensures.same_last ∙ ap last_used (c.keep_if.ensures.same (rw good refl));
+      none = λ failed.
+          (done.same.2, λ b has. c.keep_if.ensures.none (rw failed refl) b (c.find.ensures.had b (subst (λ k. HasOne k b) done.same.3 has)));
+      finds = λ told good has.
+          let self = c.args.self.now in
+          let read = g.R.Read in
+          let payload = payload_at (read.place self.inner) self.taken (read.content self.inner) in
+          let cache = c.find.new.self in
+          let law = shorter g.S.Suite.seal_of g.S.Suite.opened g.met.S.Suite.cipher self.key self.key_bytes in
+          let there = c.find.ensures.none c.if-find.false (subst (λ k. HasOne k (c.args.place / 65536)) (sym (c.keep_if.ensures.same (rw good refl))) has) in
+          let kept = c.find.ensures.kept g.S.Suite.opened self.key payload (c.keep_if.ensures.kept g.S.Suite.opened self.key payload (self.kept told)) in
+          let bytes = All-drop (λ x. x < 2 ^ 8) (read.place self.inner - self.taken) (read.content self.inner).bytes (g.met.R.Read.are_bytes self.inner (and-left _ _ told)) in
+          let longer = text-held g.S.Suite.opened self.key law payload cache.number 0 cache.last cache.chunk.items bytes (kept.first there.0) in
+          absurd (omega (arith, there.1, there.2, longer, length-text 65552 (65552 * cache.number) payload.bytes, c.requires.size told, c.requires.before));
+      cause = λ told well. tt;
+    }
 
-pub returns-in-Ok-stand-clause-finds : goal.returns-in-Ok-stand-clause-finds
-returns-in-Ok-stand-clause-finds g c = λ told good has.
-    let self = c.args.self.now in
-    let read = g.R.Read in
-    let payload = payload_at (read.place self.inner) self.taken (read.content self.inner) in
-    let cache = c.find.new.self in
-    let law = shorter g.S.Suite.seal_of g.S.Suite.opened g.met.S.Suite.cipher self.key self.key_bytes in
-    let there = c.find.ensures.none c.if-find.false (subst (λ k. HasOne k (c.args.place / 65536)) (sym (c.keep_if.ensures.same (rw good refl))) has) in
-    let kept = c.find.ensures.kept g.S.Suite.opened self.key payload (c.keep_if.ensures.kept g.S.Suite.opened self.key payload (self.kept told)) in
-    let bytes = All-drop (λ x. x < 2 ^ 8) (read.place self.inner - self.taken) (read.content self.inner).bytes (g.met.R.Read.are_bytes self.inner (and-left _ _ told)) in
-    let longer = text-held g.S.Suite.opened self.key law payload cache.number 0 cache.last cache.chunk.items bytes (kept.first there.0) in
-    absurd (omega (arith, there.1, there.2, longer, length-text 65552 (65552 * cache.number) payload.bytes, c.requires.size told, c.requires.before))
+pub returns-in-Err : goal.returns-in-Err
+returns-in-Err g c =
+    let done = c.in-Err.ensures in
+    record {
+      keeps = payload-refused g.R.Read _ _ _ _ _ done.keeps;
+      refusal = done.refusal;
+      key = done.same.4;
+      sought = done.same.7 ∙ c.requires.sought;
+      good = tt;
+      fails = done.same.6;
+      arrives = tt;
+      stays = (done.same.0, done.same.1);
+      before = tt;
+      unspent = tt;
+      rest = λ told. tt;
+      more = tt;
+      opens = done.same.5;
+      has = λ good. tt;
+      same_last = λ good. tt;
+      none = λ failed. tt;
+      finds = λ told good. tt;
+      cause = λ told well memory quiet. absurd (done.cause told well memory quiet);
+    }
 
-pub returns-in-Err-clause-sought : goal.returns-in-Err-clause-sought
-returns-in-Err-clause-sought g c = c.in-Err.ensures.same.7 ∙ c.requires.sought
-
-pub returns-in-Err-clause-stays : goal.returns-in-Err-clause-stays
-returns-in-Err-clause-stays g c = (c.in-Err.ensures.same.0, c.in-Err.ensures.same.1)
-
-pub returns-in-Err-clause-cause : goal.returns-in-Err-clause-cause
-returns-in-Err-clause-cause g c = λ told well memory quiet. absurd (c.in-Err.ensures.cause told well memory quiet)
-
-pub returns-in-Err-stand-clause-sought : goal.returns-in-Err-stand-clause-sought
-returns-in-Err-stand-clause-sought g c = c.in-Err-stand.ensures.same.7 ∙ c.requires.sought
-
-pub returns-in-Err-stand-clause-stays : goal.returns-in-Err-stand-clause-stays
-returns-in-Err-stand-clause-stays g c = (c.in-Err-stand.ensures.same.0, c.in-Err-stand.ensures.same.1)
-
-pub returns-in-Err-stand-clause-cause : goal.returns-in-Err-stand-clause-cause
-returns-in-Err-stand-clause-cause g c = λ told well memory quiet. absurd (c.in-Err-stand.ensures.cause told well memory quiet)
-
-pub returns-in-Ok-clause-sought : goal.returns-in-Ok-clause-sought
-returns-in-Ok-clause-sought g c = c.in-Ok.ensures.same.7 ∙ c.requires.sought
-
-pub returns-in-Ok-clause-rest : goal.returns-in-Ok-clause-rest
-returns-in-Ok-clause-rest g c = λ told.
-    let placed = c.in-Ok.ensures.stands told in
-    placed.1 ∙ ap (λ n. from_place n (payload_of c.args.self.now)) (sym placed.0)
-
-pub returns-in-Ok-clause-arrives : goal.returns-in-Ok-clause-arrives
-returns-in-Ok-clause-arrives g c = omega arith
-
-pub returns-in-Ok-stand-clause-sought : goal.returns-in-Ok-stand-clause-sought
-returns-in-Ok-stand-clause-sought g c = c.in-Ok-stand.ensures.same.7 ∙ c.requires.sought
-
-pub returns-in-Ok-stand-clause-rest : goal.returns-in-Ok-stand-clause-rest
-returns-in-Ok-stand-clause-rest g c = λ told.
-    let placed = c.in-Ok-stand.ensures.stands told in
-    placed.1 ∙ ap (λ n. from_place n (payload_of c.args.self.now)) (sym placed.0)
-
-pub returns-in-Ok-stand-clause-arrives : goal.returns-in-Ok-stand-clause-arrives
-returns-in-Ok-stand-clause-arrives g c = omega arith
-
-pub returns-in-Ok-clause-more : goal.returns-in-Ok-clause-more
-returns-in-Ok-clause-more g c = λ none. absurd (true≢false none)
-
-pub returns-in-Ok-stand-clause-more : goal.returns-in-Ok-stand-clause-more
-returns-in-Ok-stand-clause-more g c = λ _. omega (arith, c.requires.before)
-
-pub returns-in-Ok-stand-clause-before : goal.returns-in-Ok-stand-clause-before
-returns-in-Ok-stand-clause-before g c = λ after. true≢false (sym after.0 ∙ c.in-Ok-stand.ensures.same.2)
+pub returns-in-Err-stand : goal.returns-in-Err-stand
+returns-in-Err-stand g c =
+    let done = c.in-Err-stand.ensures in
+    record {
+      keeps = payload-refused g.R.Read _ _ _ _ _ done.keeps;
+      refusal = done.refusal;
+      key = done.same.4;
+      sought = done.same.7 ∙ c.requires.sought;
+      good = tt;
+      fails = done.same.6;
+      arrives = tt;
+      stays = (done.same.0, done.same.1);
+      before = tt;
+      unspent = tt;
+      rest = λ told. tt;
+      more = tt;
+      opens = done.same.5;
+      has = λ good. tt;
+      same_last = λ good. tt;
+      none = λ failed. tt;
+      finds = λ told good. tt;
+      cause = λ told well memory quiet. absurd (done.cause told well memory quiet);
+    }
 
 pub stand-requires-clause-within : goal.stand-requires-clause-within
 stand-requires-clause-within g c = λ told. omega (arith, c.min-past.ensures, c.requires.size told)
 
 pub stand-requires-else-find-clause-within : goal.stand-requires-else-find-clause-within
 stand-requires-else-find-clause-within g c = λ told. omega (arith, c.requires.size told, c.requires.before)
-
-pub returns-in-Ok-clause-has : goal.returns-in-Ok-clause-has
-returns-in-Ok-clause-has g c = λ good b is.
-    subst (λ k. HasOne k b) (sym c.in-Ok.ensures.same.3) (c.find.ensures.has b (subst (λ k. HasOne k b) (sym (c.keep_if.ensures.same (rw good refl))) is))
-
-pub returns-in-Ok-clause-same_last : goal.returns-in-Ok-clause-same_last
-returns-in-Ok-clause-same_last g c =
-    λ good. ap last_used c.in-Ok.ensures.same.3 ∙ c.find.ensures.same_last ∙ ap last_used (c.keep_if.ensures.same (rw good refl))
-
-pub returns-in-Ok-stand-clause-has : goal.returns-in-Ok-stand-clause-has
-returns-in-Ok-stand-clause-has g c = λ good b is.
-    subst (λ k. HasOne k b) (sym c.in-Ok-stand.ensures.same.3) (c.find.ensures.has b (subst (λ k. HasOne k b) (sym (c.keep_if.ensures.same (rw good refl))) is))
-
-pub returns-in-Ok-stand-clause-same_last : goal.returns-in-Ok-stand-clause-same_last
-returns-in-Ok-stand-clause-same_last g c =
-    λ good. ap last_used c.in-Ok-stand.ensures.same.3 ∙ c.find.ensures.same_last ∙ ap last_used (c.keep_if.ensures.same (rw good refl))
-
-pub returns-in-Ok-clause-finds : goal.returns-in-Ok-clause-finds
-returns-in-Ok-clause-finds g c =
-    λ _ _ _. (refl, subst (λ k. c.args.place % 65536 < length k.chunk.items) (sym c.in-Ok.ensures.same.3) (c.find.ensures.found c.if-find.true).2)
-
-pub returns-in-Ok-clause-before : goal.returns-in-Ok-clause-before
-returns-in-Ok-clause-before g c = λ after.
-    let long = ap (λ k. length k.chunk.items) c.in-Ok.ensures.same.3 in
-    omega (arith, after.2, (c.find.ensures.found c.if-find.true).2, long)
-
-pub returns-in-Err-clause-keeps : goal.returns-in-Err-clause-keeps
-returns-in-Err-clause-keeps g c = payload-refused g.R.Read _ _ _ _ _ c.in-Err.ensures.keeps
-
-pub returns-in-Err-stand-clause-keeps : goal.returns-in-Err-stand-clause-keeps
-returns-in-Err-stand-clause-keeps g c = payload-refused g.R.Read _ _ _ _ _ c.in-Err-stand.ensures.keeps
-
-pub returns-in-Ok-clause-keeps : goal.returns-in-Ok-clause-keeps
-returns-in-Ok-clause-keeps g c = payload-done g.R.Read _ _ _ _ c.in-Ok.ensures.keeps
-
-pub returns-in-Ok-stand-clause-keeps : goal.returns-in-Ok-stand-clause-keeps
-returns-in-Ok-stand-clause-keeps g c = payload-done g.R.Read _ _ _ _ c.in-Ok-stand.ensures.keeps
-
-pub returns-in-Err-clause-refusal : goal.returns-in-Err-clause-refusal
-returns-in-Err-clause-refusal g c = c.in-Err.ensures.refusal
-
-pub returns-in-Err-stand-clause-refusal : goal.returns-in-Err-stand-clause-refusal
-returns-in-Err-stand-clause-refusal g c = c.in-Err-stand.ensures.refusal
-
-pub returns-in-Ok-clause-unspent : goal.returns-in-Ok-clause-unspent
-returns-in-Ok-clause-unspent g c = c.in-Ok.ensures.unspent
-
-pub returns-in-Ok-stand-clause-unspent : goal.returns-in-Ok-stand-clause-unspent
-returns-in-Ok-stand-clause-unspent g c = c.in-Ok-stand.ensures.unspent
