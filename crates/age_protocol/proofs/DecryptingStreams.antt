@@ -21,7 +21,8 @@ use Rattle.age_stream.specs.Keeping.{Stops}
 use Rattle.age_format.specs.HeaderV1.{header_mac}
 use Rattle.age_io.specs.Writing.{HandsOn}
 use Rattle.age_error.specs.declared.io.Error.{Error}
-use Rattle.age_protocol.specs.Parts.{StandsAt, IsPartAt}
+use Rattle.age_protocol.specs.Parts.{StandsAt, IsPartAt, RefusesPart}
+use Rattle.age_error.specs.declared.io.Error.TheVariants.{Failed as failed}
 use Rattle.age_protocol.proofs.Standing.{begun, begun-or}
 use Rattle.age_protocol.proofs.Decrypted.{by_cause, decrypts_weaker}
 
@@ -105,5 +106,22 @@ decrypts_part_as suite read write gives by IsFor IsOwn place count input last ol
       (λ h nonce left begins. begins) given_so)
       (part.given reader_told writer_told);
   io = part.io;
+  cause = λ reader_told writer_told.
+      IfErr-weaker result _ _
+      (io_weaker _ _ (λ e why. elim why [
+        | inl memory ↦ inl memory
+        | inr other ↦ elim other [
+          | inl tried ↦ inr (inl tried)
+          | inr more ↦ elim more [
+            | inl writes ↦ inr (inr (inl writes))
+            | inr rest ↦ elim rest [
+              | inl reading ↦ inr (inr (inr (inl reading)))
+              | inr payload ↦ inr (inr (inr (inr (begun (BeginsText read.tells read.rest input) (BeginsText read.tells read.rest input) gives by write.appended count
+                  (RefusesPart suite.seal_of (λ f. f ≡ failed) place e) old new (λ h nonce left begins. begins) given_so payload))))
+            ]
+          ]
+        ]
+      ]))
+      (part.cause reader_told writer_told);
   refused = part.refused;
 }

@@ -1,5 +1,5 @@
 -- A part of a file's plaintext.
-use Rattle.std.specs.Prelude.{◌≡◌, ◌≢◌, ◌⊎◌, ℕ, ◌≤◌, ◌<◌, Bool, true, false, List, [], length, take, drop, IsTrue, Result, OnOk, OnErr, Some, Ok, Err, refl}
+use Rattle.std.specs.Prelude.{◌≡◌, ◌≢◌, ◌⊎◌, ℕ, ◌≤◌, ◌<◌, Bool, true, false, List, [], length, take, drop, IsTrue, Result, OnOk, OnErr, Option, Some, None, Ok, Err, refl, ◌^◌, nat_le, if◌then◌else◌}
 use Rattle.std.proofs.Common.{◌∙◌, sym, ap, subst, inl, inr, arith}
 use Rattle.age_error.specs.DecryptErrors.{OutOfMemory, decrypt_refusal}
 use Rattle.age_error.specs.declared.decrypt.DecryptError.{DecryptError}
@@ -7,15 +7,21 @@ use Rattle.age_error.specs.declared.io.Error.{Error}
 use Rattle.age_error.specs.declared.io.Error.TheVariants as io
 use Rattle.age_io.specs.Stretch.{Stretch, whole}
 use Rattle.age_io.specs.Reading.{IsQuiet}
-use Rattle.age_io.specs.Cursor.{moved_to}
+use Rattle.age_io.specs.Cursor.{IsOutside, moved_to}
 use Rattle.age_io.specs.Writing.{OrMemory, Retried}
 use Rattle.std.proofs.lemmas.Bool.Decides.{nat_tests}
 use Rattle.age_format.specs.Stanza.{StanzaValue}
 use Rattle.age_format.specs.Unwrapping.{UnwrapAnswer}
 use Rattle.age_protocol.proofs.Accepted.{memory_or_not}
-use Rattle.age_io.specs.Copying.{AppendsFront}
-use Rattle.age_stream.specs.Payload.{Seal}
-use Rattle.age_protocol.specs.Parts.{AppendsPart, IsFileFor}
+use Rattle.age_io.specs.Copying.{AppendsFront, AppendsSome}
+use Rattle.age_error.specs.declared.io.SeekFrom.TheVariants.{Start}
+use Rattle.std.proofs.lemmas.Bool.{leb-false}
+use Rattle.age_format.specs.HeaderV1.{HeaderValue}
+use Rattle.age_protocol.specs.File.{payload_key}
+use Rattle.age_stream.specs.Keeping.{IsPayloadRefusal}
+use Rattle.age_stream.specs.Targets.{in_length, sought_in}
+use Rattle.age_stream.specs.Payload.{Seal, plain_len}
+use Rattle.age_protocol.specs.Parts.{AppendsPart, AppendsOf, EndsBefore, IsFileFor}
 use Rattle.age_protocol.specs.FileErrors.{IsPastEnd}
 use Rattle.age_protocol.specs.declared.error.FileError.{FileError}
 use Rattle.age_protocol.specs.declared.error.FileError.TheVariants.{Io, Decrypt}
@@ -137,3 +143,52 @@ memory_only e Quiet well is cause quiet = want_alone e well is (λ other. cause 
 
 pub file_for : (seal_of : Seal) (answers : List StanzaValue → UnwrapAnswer → Type 0) (plain text other : List ℕ) → text ≡ other → IsFileFor seal_of answers plain text → IsFileFor seal_of answers plain other
 file_for seal_of answers plain text other is for = subst (λ (l : List ℕ). IsFileFor seal_of answers plain l) is for
+
+-- ---- why it is refused
+
+by_place : (within : Bool) (place : ℕ) (e : Error) → ◌≡◌ {A = Result ℕ Error} (if within then Ok place else Err io.PastEnd) (Err e) → (within ≡ false) × (e ≡ io.PastEnd)
+by_place true place e is = absurd (Prim.cc)
+by_place false place e is = (refl, Prim.cc)
+
+by_limit : (fits : Bool) (place len : ℕ) (e : Error) → IsOutside e → ◌≡◌ {A = Result ℕ Error} (if fits then moved_to (Some place) len else Err io.TooLong) (Err e) → (e ≡ io.PastEnd) × (len < place)
+by_limit true place len e outside is = let (past, same) = by_place (nat_le place len) place e is in (same, leb-false place len past)
+by_limit false place len e outside is = let same : io.TooLong ≡ e = Prim.cc in absurd (subst IsOutside (sym same) outside)
+
+by_length : (plain : Option ℕ) (place stood : ℕ) (e : Error) → IsOutside e → in_length plain (Start place) stood ≡ Err e
+    → (e ≡ io.PastEnd) × ((len : ℕ) × (plain ≡ Some len) × (len < place))
+by_length None place stood e outside is = let same : io.BadEnd ≡ e = Prim.cc in absurd (subst IsOutside (sym same) outside)
+by_length (Some len) place stood e outside is =
+    let (past, short) = by_limit (nat_le len (2 ^ 60)) place len e outside is in
+    (past, (len, refl, short))
+
+-- a seek from the front says that its target is outside only where the payload ends before it
+pub ends_before : (sealed : Stretch) (place stood : ℕ) (e : Error) → IsOutside e → sought_in (Start place) stood (length sealed.bytes) ≡ Err e
+    → (e ≡ io.PastEnd) × EndsBefore place sealed
+ends_before sealed place stood e outside is =
+    let found = by_length (plain_len (length sealed.bytes)) place stood e outside is in
+    (found.0, record { len = found.1.0; plain = found.1.1; short = found.1.2 })
+
+-- what is wrong with a payload or a text isn't that a target is outside
+pub payload_inside : (e : Error) → IsPayloadRefusal e → IsOutside e → ⊥
+payload_inside io.BeforeStart says outside = says
+payload_inside io.PastEnd says outside = says
+payload_inside _ says outside = outside
+
+-- what holds of what was appended
+pub some_holds : {W : Type 0} (appended : W → List ℕ → W → Type 0) (count : ℕ) (Holds More : List ℕ → Type 0) (old new : W)
+    → ((out : List ℕ) → Holds out → More out) → AppendsSome appended count Holds old new → AppendsSome appended count More old new
+some_holds appended count Holds More old new wider some = record { out = some.out; most = some.most; holds = wider some.out some.holds; done = some.done }
+
+pub of_holds : {W : Type 0} (begins : HeaderValue → List ℕ → Stretch → Type 0) (gives : List ℕ → List StanzaValue → Type 0) (appended : W → List ℕ → W → Type 0) (count : ℕ)
+    (Holds More : List ℕ → Stretch → List ℕ → Type 0) (old new : W) → ((key : List ℕ) (sealed : Stretch) (out : List ℕ) → Holds key sealed out → More key sealed out)
+    → AppendsOf begins gives appended count Holds old new → AppendsOf begins gives appended count More old new
+of_holds begins gives appended count Holds More old new wider some = record {
+  file_key = some.file_key;
+  h = some.h;
+  nonce = some.nonce;
+  left = some.left;
+  text = some.text;
+  key = some.key;
+  right = some.right;
+  part = some_holds appended count _ _ old new (wider (payload_key some.file_key some.nonce) some.left) some.part;
+}

@@ -22,7 +22,7 @@ use Rattle.age_protocol.specs.Answering.{FirstThatAnswers, decided}
 use Rattle.age_protocol.specs.File.{IsFileOf, payload_key}
 use Rattle.age_protocol.specs.FileErrors.{IfIo, IsDecryptError, DecryptsUnless, RefusesHead, RefusesPlain}
 use Rattle.age_protocol.specs.Texts.{RefusesText, BeginsText, RefusesKey}
-use Rattle.age_protocol.specs.Parts.{AppendsPart, AppendsOf, StandsAt, IsPartAt}
+use Rattle.age_protocol.specs.Parts.{AppendsPart, AppendsOf, StandsAt, IsPartAt, RefusesPart}
 use Rattle.age_protocol.specs.declared.error.FileError.{FileError}
 
 -- what the first of the identities that answers answers to these stanzas
@@ -101,5 +101,10 @@ pub record DecryptsPart {S R W T : Type 0} (suite : SuiteGhosts S) (read : ReadG
   -- payload that was read.
   pub io : IfErr result (IfIo (λ e. (e ≡ out_of_memory) ⊎ TriedAgain read.refuses input e ⊎ HandsOn write.refuses old e
       ⊎ IsOutside e ⊎ (e ≡ failed) ⊎ IsTextRefusal true true true e ⊎ IsPayloadRefusal e))
+  -- Where the text is told, what the payload is refused for is said only under a right MAC, and of this payload: `PastEnd` where it ends before the
+  -- place, by its own length.
+  pub cause : IsTrue (read.tells input) → IsTrue (write.tells old) → IfErr result (IfIo (λ e. (e ≡ out_of_memory) ⊎ TriedAgain read.refuses input e
+      ⊎ HandsOn write.refuses old e ⊎ IsTextRefusal true true true e
+      ⊎ AppendsOf (BeginsText read.tells read.rest input) gives write.appended count (RefusesPart suite.seal_of (λ f. f ≡ failed) place e) old new))
   -- After a refusal of the header or of the identities nothing was appended.
   pub refused : IfErr result (λ e. IsDecryptError e → new ≡ old)

@@ -1,5 +1,5 @@
 -- Files for the identities that open them, and parts of their plaintexts.
-use Rattle.std.specs.Prelude.{◌≡◌, ◌⊎◌, ℕ, ◌+◌, ◌^◌, ◌≤◌, ◌<◌, List, length, take, drop, Result, Some, Ok, Err, OnOk, IfErr, MatchResult}
+use Rattle.std.specs.Prelude.{◌≡◌, ◌⊎◌, ℕ, ◌+◌, ◌^◌, ◌≤◌, ◌<◌, List, [], length, take, drop, Result, Some, Ok, Err, OnOk, IfErr, MatchResult}
 use Rattle.age_error.specs.Bytes.{AreBytes}
 use Rattle.age_error.specs.DecryptErrors.{OutOfMemory}
 use Rattle.age_error.specs.declared.io.Error.{Error}
@@ -10,7 +10,8 @@ use Rattle.age_io.specs.Copying.{AppendsFront, AppendsSome}
 use Rattle.age_format.specs.Stanza.{StanzaValue}
 use Rattle.age_format.specs.Unwrapping.{UnwrapAnswer, Unwraps}
 use Rattle.age_format.specs.HeaderV1.{HeaderValue, header_mac, reads_legacy}
-use Rattle.age_stream.specs.Payload.{Seal, LastIsNoMiddle}
+use Rattle.age_stream.specs.Keeping.{Stops}
+use Rattle.age_stream.specs.Payload.{Seal, LastIsNoMiddle, plain_len}
 use Rattle.age_stream.specs.Answering.{StandAt, IsGoodEnd}
 use Rattle.age_protocol.specs.Answering.{FirstThatAnswers}
 use Rattle.age_protocol.specs.File.{IsFileOf, payload_key}
@@ -41,6 +42,18 @@ StandsAt seal_of place key sealed out = StandAt seal_of key sealed.bytes place o
 abbrev pub IsPartAt : Seal → ℕ → ℕ → List ℕ → Stretch → List ℕ → Type 0
 IsPartAt seal_of place count key sealed out =
     StandsAt seal_of place key sealed out × (length out < count → IsGoodEnd seal_of key sealed (place + length out))
+
+-- by its own length a payload has a plaintext, and one of fewer bytes than stand before the place
+pub record EndsBefore (place : ℕ) (sealed : Stretch) : Type 0 where
+  pub len : ℕ
+  pub plain : plain_len (length sealed.bytes) ≡ Some len
+  pub short : len < place
+
+-- Why a payload refuses a part of its plaintext: it ends before the place, and then nothing is appended, or its own length is past what a plaintext
+-- may have, or as only seeks of the reader below refuse, or for what the definition names for one of its chunks, or its end.
+abbrev pub RefusesPart : Seal → (Error → Type 0) → ℕ → Error → List ℕ → Stretch → List ℕ → Type 0
+RefusesPart seal_of below place e key sealed out =
+    ((e ≡ io.PastEnd) × (out ≡ []) × EndsBefore place sealed) ⊎ (e ≡ io.TooLong) ⊎ below e ⊎ Stops seal_of key sealed (Unit {0}) e
 
 -- The text begins with a header whose MAC is right under the file key that is given to its stanzas, and of the payload after it
 -- some bytes were appended.

@@ -1,5 +1,5 @@
 //! A part of a file's plaintext.
-ghost use Rattle.std.specs.Prelude.{◌≡◌, ◌≢◌, ◌⊎◌, ℕ, ◌+◌, ◌<◌, ◌≤◌, ◌&&◌, true, ⊤, IsTrue, List, length, take, drop, Some, Ok, IfErr, OnOk, MatchResult};
+ghost use Rattle.std.specs.Prelude.{◌≡◌, ◌≢◌, ◌⊎◌, ℕ, ◌+◌, ◌<◌, ◌≤◌, ◌&&◌, true, ⊤, IsTrue, List, [], length, take, drop, Some, Ok, IfErr, OnOk, MatchResult};
 ghost use Rattle.age_error.specs.Refusals.{IsDevice};
 ghost use Rattle.age_error.specs.declared.io.Error.TheVariants.{PastEnd, Failed, OutOfMemory};
 ghost use Rattle.age_error.specs.declared.io.SeekFrom.TheVariants.{Start};
@@ -17,7 +17,7 @@ ghost use Rattle.age_stream.specs.Reader.{payload_of, key_of};
 ghost use Rattle.age_protocol.specs.FileErrors.{IfIo, IsDecryptError};
 ghost use Rattle.age_protocol.specs.DecryptingStreams.{DecryptsPart, GivesFirst};
 ghost use Rattle.age_protocol.specs.Texts.{Begins};
-ghost use Rattle.age_protocol.specs.Parts.{AppendsPart, AppendsOf, StandsAt, IsPartAt, FirstAnswer, IsFileFor};
+ghost use Rattle.age_protocol.specs.Parts.{AppendsPart, AppendsOf, EndsBefore, RefusesPart, StandsAt, IsPartAt, FirstAnswer, IsFileFor};
 
 use crate::error::FileError;
 use crate::opening::open_file;
@@ -74,6 +74,10 @@ pub fn write_part<S: Suite, R: Seek, W: Write>(
     ensures why { let reader = ⟦<StreamReader<S, R> as Read>⟧ in IsTrue (reader.tells stream.old) → IsTrue (reader.content stream.old).ends_well →
         place ≤ length (reader.content stream.old).bytes → IsQuiet (reader.faults stream.old) (reader.faults stream.new) →
         IfErr result (OrMemory (Retried W.refuses) writer.old count) }
+    // That the place is outside is said where the payload ends before it, by its own length, or as the stream's own reads or the writer say it.
+    ensures outside { let reader = ⟦<StreamReader<S, R> as Read>⟧ in IsTrue (reader.tells stream.old) → IsTrue (W.tells writer.old) → IfErr result (λ e. IsOutside e →
+        TriedAgain reader.refuses stream.old e ⊎ Retried W.refuses writer.old count e ⊎ ((e ≡ PastEnd)
+        × AppendsSome W.appended count (λ out. (out ≡ []) × EndsBefore place (payload_of stream.old)) writer.old writer.new)) }
     ensures device { let reader = ⟦<StreamReader<S, R> as Read>⟧ in IfErr result (λ e. IsDevice e →
         (reader.faults stream.old < reader.faults stream.new) ⊎ (W.faults writer.old < W.faults writer.new)) }
 {
@@ -108,6 +112,10 @@ fn at_bytes<S: Suite, I: Identity, T: Seek + Drop, W: Write>(
     ensures refused { IfErr result (λ e. IsDecryptError e → writer.new ≡ writer.old) }
     ensures io { IfErr result (IfIo (λ e. (e ≡ OutOfMemory) ⊎ TriedAgain T.refuses bytes e ⊎ HandsOn W.refuses writer.old e
         ⊎ IsSeekRefusal T.seek_refuses e ⊎ IsPayloadRefusal e)) }
+    ensures cause { T.rest bytes ≡ from_place (T.place bytes) (T.content bytes) → IsTrue (T.tells bytes && T.steady bytes) → IsTrue (W.tells writer.old) →
+        IfErr result (IfIo (λ e. (e ≡ OutOfMemory) ⊎ TriedAgain T.refuses bytes e ⊎ HandsOn W.refuses writer.old e
+        ⊎ AppendsOf (Begins (T.rest bytes) (T.place bytes)) (GivesFirst I.unwraps identities.old identities.new) W.appended count
+        (RefusesPart S.seal_of T.seek_refuses place e) writer.old writer.new)) }
 {
     let mut stream = match open_file::<S, I, T>(alloc, identities, bytes) {
         Err(e) => return Err(FileError::Decrypt(e)),
@@ -124,7 +132,7 @@ fn at_bytes<S: Suite, I: Identity, T: Seek + Drop, W: Write>(
 ///
 /// The seek is by the length of the payload, and only the chunks that hold the bytes are opened. A place after the end of the
 /// plaintext is `PastEnd`. After a refusal a beginning of the bytes was appended, and after one of the header nothing. The
-/// refusals are those of `read_to_end`, of `decrypt_all` for the header, and of `write_part`.
+/// refusals are those of `read_to_end`, of `decrypt_all` for the header, and of `write_part`; what the payload is refused for is said only under a right MAC.
 pub fn at<S: Suite, I: Identity, R: Read, W: Write>(
     alloc: Global,
     identities: &mut [I],
@@ -164,6 +172,9 @@ fn at_text<S: Suite, I: Identity, W: Write>(
     ensures refused { IfErr result (λ e. IsDecryptError e → writer.new ≡ writer.old) }
     ensures io { IfErr result (IfIo (λ e. (e ≡ OutOfMemory) ⊎ HandsOn W.refuses writer.old e
         ⊎ IsOutside e ⊎ (e ≡ Failed) ⊎ IsTextRefusal true true true e ⊎ IsPayloadRefusal e)) }
+    ensures cause { IsTrue (W.tells writer.old) → IfErr result (IfIo (λ e. (e ≡ OutOfMemory) ⊎ HandsOn W.refuses writer.old e ⊎ IsTextRefusal true true true e
+        ⊎ AppendsOf (Begins (stretch_of (delivered text.now true)) 0) (GivesFirst I.unwraps identities.old identities.new) W.appended count
+        (RefusesPart S.seal_of (λ f. f ≡ Failed) place e) writer.old writer.new)) }
 {
     match ArmoredReader::new_buffered(alloc, Bytes::new(text)) {
         Err(e) => Err(FileError::Io(e)),

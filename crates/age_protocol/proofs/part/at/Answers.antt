@@ -4,7 +4,8 @@ use Rattle.age_armor.specs.Armor.{Carries}
 use Rattle.age_armor.specs.Delivered.{delivered, stretch_of}
 use Rattle.age_protocol.specs.Texts.{BeginsText}
 use Rattle.age_protocol.specs.Texts.{Begins}
-use Rattle.age_protocol.specs.Parts.{StandsAt, IsPartAt}
+use Rattle.age_error.specs.declared.io.Error.TheVariants.{Failed}
+use Rattle.age_protocol.specs.Parts.{StandsAt, IsPartAt, RefusesPart}
 use Rattle.age_protocol.proofs.DecryptingStreams.{io_weaker}
 use Rattle.age_protocol.proofs.Parts.{memory_before, memory_only, quiet_by}
 use Rattle.age_protocol.proofs.Standing.{begun, begun-or, begins-read}
@@ -18,6 +19,7 @@ returns-in-Err g c = record {
   standing = λ reader_told writer_told. inl refl;
   given = λ reader_told writer_told. tt;
   io = elim c.in-Err.ensures.keeps.why [ inl memory ↦ inl memory | inr tried ↦ inr (inl tried) ];
+  cause = λ reader_told writer_told. elim c.in-Err.ensures.keeps.why [ inl memory ↦ inl memory | inr tried ↦ inr (inl tried) ];
   refused = λ none. refl;
 }
 
@@ -46,5 +48,20 @@ returns g c =
           IfErr-weaker c.at_text.result _ _
           (io_weaker _ _ (λ e why. elim why [ inl memory ↦ inl memory | inr other ↦ inr (inr other) ]))
           c.at_text.ensures.io;
+      cause = λ reader_told writer_told.
+          IfErr-weaker c.at_text.result _ _
+          (io_weaker _ _ (λ e why. elim why [
+            | inl memory ↦ inl memory
+            | inr other ↦ elim other [
+              | inl writes ↦ inr (inr (inl writes))
+              | inr more ↦ elim more [
+                | inl reading ↦ inr (inr (inr (inl reading)))
+                | inr part ↦ inr (inr (inr (inr (begun (Begins (stretch_of (delivered text true)) 0) front _ _ g.W.Write.appended c.args.count
+                    (RefusesPart g.S.Suite.seal_of (λ f. f ≡ Failed) c.args.place e) c.args.writer.now c.at_text.new.writer
+                    (begins-read g.R.Read.tells g.R.Read.rest reader text (same reader_told) (c.in-Ok.ensures.end reader_told)) (λ key stanzas by. by) part))))
+              ]
+            ]
+          ]))
+          (c.at_text.ensures.cause writer_told);
       refused = c.at_text.ensures.refused;
     }

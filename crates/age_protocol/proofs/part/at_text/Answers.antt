@@ -1,6 +1,10 @@
 use Rattle.std.proofs.Common.{◌≡◌, ◌∙◌, refl, sym, ap, subst, true, inl, inr, List, ℕ}
 use Rattle.std.proofs.lemmas.Result.{on_ok_weaker, IfErr-weaker}
-use Rattle.age_io.specs.Stretch.{whole}
+use Rattle.age_error.specs.declared.io.Error.{Error}
+use Rattle.age_error.specs.declared.io.Error.TheVariants.{Failed}
+use Rattle.age_io.specs.Stretch.{Stretch, whole}
+use Rattle.age_armor.specs.Seeking.{OrAstray}
+use Rattle.age_stream.specs.Payload.{Seal}
 use Rattle.age_armor.specs.Armor.{Carries}
 use Rattle.age_armor.specs.Delivered.{delivered, stretch_of}
 use Rattle.age_armor.specs.Reader.{armored_rest, armored_content, place_of, refuses_of}
@@ -8,10 +12,24 @@ use Rattle.age_stream.specs.Keeping.{IsPayloadRefusal}
 use Rattle.age_protocol.proofs.Reasons.{from_slice}
 use Rattle.age_protocol.proofs.DecryptingStreams.{io_weaker}
 use Rattle.age_protocol.specs.Texts.{Begins}
-use Rattle.age_protocol.specs.Parts.{StandsAt, IsPartAt}
-use Rattle.age_protocol.proofs.Parts.{memory_before, quiet_by, file_for}
+use Rattle.age_protocol.specs.Parts.{StandsAt, IsPartAt, RefusesPart}
+use Rattle.age_protocol.proofs.Parts.{memory_before, quiet_by, file_for, of_holds}
 use Rattle.age_protocol.proofs.Standing.{begun, begun-or, same-content, fresh-text, begins-same}
 use Rattle.age_protocol.proofs.part.at_text.Goals as goal
+
+-- of a text in memory, what only seeks refuse with
+failed_below : (seal_of : Seal) (place : ℕ) (e : Error) (key : List ℕ) (sealed : Stretch) (out : List ℕ) → RefusesPart seal_of (OrAstray (λ _. ⊥)) place e key sealed out
+    → RefusesPart seal_of (λ f. f ≡ Failed) place e key sealed out
+failed_below seal_of place e key sealed out why = elim why [
+  | inl ends ↦ inl ends
+  | inr other ↦ elim other [
+    | inl long ↦ inr (inl long)
+    | inr more ↦ elim more [
+      | inl below ↦ elim below [ inl long ↦ inr (inl long) | inr astray ↦ elim astray [ inl failed ↦ inr (inr (inl failed)) | inr none ↦ absurd none ] ]
+      | inr stops ↦ inr (inr (inr stops))
+    ]
+  ]
+]
 
 pub returns-in-Err-clause-cursor : goal.returns-in-Err-clause-cursor
 returns-in-Err-clause-cursor g c = λ writer_told file plain carries for.
@@ -78,3 +96,33 @@ returns-in-Ok-clause-io g c =
       ]
     ]))
     c.at_bytes.ensures.io
+
+pub returns-in-Err-clause-cause : goal.returns-in-Err-clause-cause
+returns-in-Err-clause-cause g c = λ writer_told. inl c.in-Err.ensures.memory
+
+pub returns-in-Ok-clause-cause : goal.returns-in-Ok-clause-cause
+returns-in-Ok-clause-cause g c = λ writer_told.
+    let bytes = c.in-Ok.bytes in
+    let made = c.in-Ok.ensures in
+    let text = c.args.text.now in
+    let seal_of = g.S.Suite.seal_of in
+    let rest : armored_rest bytes ≡ stretch_of (delivered text true) = made.rest ∙ ap (λ s. stretch_of (delivered s.bytes s.ends_well)) c.new.ensures.rest in
+    let content : armored_content bytes ≡ stretch_of (delivered text true) =
+    made.content ∙ same-content _ (whole text) _ 0 c.new.ensures.content c.new.ensures.place in
+    let fresh = fresh-text (armored_rest bytes) (armored_content bytes) (stretch_of (delivered text true)) (place_of bytes) rest content made.place in
+    IfErr-weaker c.at_bytes.result _ _
+    (io_weaker _ _ (λ e why. elim why [
+      | inl memory ↦ inl memory
+      | inr other ↦ elim other [
+        | inl tried ↦ inr (inr (inl (from_slice refuses_of bytes c.new.result e c.in-Ok.ensures.named tried)))
+        | inr more ↦ elim more [
+          | inl writes ↦ inr (inl writes)
+          | inr part ↦ inr (inr (inr (begun (Begins (armored_rest bytes) (place_of bytes)) (Begins (stretch_of (delivered text true)) 0) _ _ g.W.Write.appended c.args.count
+              (RefusesPart seal_of (λ f. f ≡ Failed) c.args.place e) c.args.writer.now c.at_bytes.new.writer
+              (begins-same (armored_rest bytes) (stretch_of (delivered text true)) (place_of bytes) rest made.place) (λ key stanzas by. by)
+              (of_holds _ _ g.W.Write.appended c.args.count _ (RefusesPart seal_of (λ f. f ≡ Failed) c.args.place e) c.args.writer.now c.at_bytes.new.writer
+              (λ key sealed out. failed_below seal_of c.args.place e key sealed out) part))))
+        ]
+      ]
+    ]))
+    (c.at_bytes.ensures.cause fresh refl writer_told)

@@ -1,4 +1,4 @@
-use Rattle.std.proofs.Common.{◌≡◌, ◌∙◌, ◌+◌, ◌≤◌, refl, inl, inr, arith, sym, ap, subst, IsTrue, List, ℕ, length, take, drop}
+use Rattle.std.proofs.Common.{◌≡◌, ◌∙◌, ◌+◌, ◌≤◌, refl, inl, inr, arith, sym, ap, subst, IsTrue, List, [], ℕ, length, take, drop}
 use Rattle.age_io.specs.Stretch.{Stretch, from_place}
 use Rattle.age_io.specs.Reading.{Delivers}
 use Rattle.age_io.proofs.Reaching.{delivered-at}
@@ -7,7 +7,8 @@ use Rattle.age_stream.specs.Reader.{tells_of, content_of, steady_of, place_of, p
 use Rattle.age_stream.specs.ReadingLaws.{both-true}
 use Rattle.age_io.proofs.PartCopied.{none-copied}
 use Rattle.age_protocol.proofs.Standing.{standing, standing-none, stand-moved, good-moved, given}
-use Rattle.age_protocol.proofs.Parts.{refused_past, never_past, never_refused, either_way, start_within}
+use Rattle.age_io.specs.Cursor.{IsOutside}
+use Rattle.age_protocol.proofs.Parts.{ends_before, refused_past, never_past, never_refused, either_way, start_within}
 use Rattle.age_protocol.proofs.Accepted.{memory_or_not}
 use Rattle.age_io.proofs.Retrying.{tried-narrows}
 use Rattle.age_io.specs.Copying.{AppendsFront}
@@ -139,3 +140,24 @@ returns-in-Ok-clause-stands g c = λ told well.
       (delivered-at content (plain_rest_of new) start front came).1 ∙ ap (λ (n : ℕ). from_place n content) (sym moved),
     ))
     c.copy_some.ensures.stands
+
+pub returns-in-Err-clause-outside : goal.returns-in-Err-clause-outside
+returns-in-Err-clause-outside g c = λ told writer_told outside.
+    let stream = c.args.stream.now in
+    let ends = ends_before (payload_of stream) c.args.place (place_of stream) c.in-Err.e outside (c.in-Err.ensures.refused told outside) in
+    inr (inr (
+      ends.0,
+      record { out = []; most = omega arith; holds = (refl, ends.1); done = g.met.W.Write.appends_nothing c.args.writer.now },
+    ))
+
+pub returns-in-Ok-clause-outside : goal.returns-in-Ok-clause-outside
+returns-in-Ok-clause-outside g c = λ told writer_told.
+    IfErr-weaker c.copy_some.result _ _
+    (λ e why outside. elim why [
+      | inl memory ↦ absurd (subst IsOutside memory outside)
+      | inr other ↦ elim other [
+        | inl reads ↦ inl (tried-narrows refuses_of c.args.stream.now c.seek.new.self c.in-Ok.ensures.seeks.narrows e reads)
+        | inr writes ↦ inr (inl writes)
+      ]
+    ])
+    c.copy_some.ensures.named
