@@ -1,8 +1,9 @@
 //! Files opened, and reads and seeks on their plaintext.
-ghost use Rattle.std.specs.Prelude.{◌≡◌, ◌&&◌, ℕ, ◌≤◌, IsTrue, List, All, map, IfOk, MatchResult};
+ghost use Rattle.std.specs.Prelude.{◌≡◌, ◌&&◌, ℕ, ◌≤◌, IsTrue, List, [], ◌∷◌, All, map, IfOk, IfErr, MatchResult};
 ghost use Rattle.age.specs.DecryptErrors.{OutOfMemory, decrypt_refusal};
 ghost use Rattle.age.specs.Replies.{seen, replies, IsNoWant};
 ghost use Rattle.age.specs.Armor.{Carries};
+ghost use Rattle.age.specs.Opened.{IsNotOpened};
 ghost use Rattle.age.specs.OpeningFile.{StandsBefore};
 ghost use Rattle.age.specs.FileErrors.{IsWant};
 ghost use Rattle.age.specs.Parts.{IsFileFor};
@@ -12,6 +13,7 @@ ghost use Rattle.age_bench.specs.Names.{answers_of};
 use crate::names::With;
 use crate::suite::BenchSuite;
 use age::DecryptError;
+use age::Identity;
 use age::io::{Answer, Op, Read, Seek};
 use age::stream::StreamReader;
 use age::streaming::{FileError, answers, open_file};
@@ -28,6 +30,7 @@ pub fn open_with<T: Read + Drop>(
     ensures plaintext { IsTrue (T.tells bytes && T.steady bytes) → IsTrue (T.rest bytes).ends_well → (plain : List ℕ) →
         IsFileFor bench_seal (answers_of with) plain (T.rest bytes).bytes →
         MatchResult result (λ stream. StandsBefore plain stream) (λ e. ((t : T) → T.faults t ≡ 0) → decrypt_refusal e ≡ OutOfMemory) }
+    ensures refused { IfErr result (λ e. (after : List With) × IsNotOpened ⟦<With as Identity>⟧.unwraps ⟦<T as Read>⟧ (with ∷ []) after bytes (decrypt_refusal e)) }
 {
     open_file::<BenchSuite, With, T>(alloc, &mut [with], bytes)
 }

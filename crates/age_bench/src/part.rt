@@ -22,8 +22,8 @@ pub fn at_with<R: Read, W: Write>(
     reader: &mut R,
     writer: &mut W,
 ) -> Result<(), FileError>
-    ensures { DecryptsPart ⟦<BenchSuite as Suite>⟧ ⟦<R as Read>⟧ ⟦<W as Write>⟧ (gives_of with) (IsFileFor bench_seal (answers_of with))
-        place count reader.old reader.new writer.old writer.new result }
+    ensures { DecryptsPart ⟦<BenchSuite as Suite>⟧ ⟦<R as Read>⟧ ⟦<W as Write>⟧ (gives_of with) (answers_of with)
+        (IsFileFor bench_seal (answers_of with)) place count reader.old reader.new writer.old writer.new result }
 {
     at::<BenchSuite, With, R, W>(alloc, &mut [with], place, count, reader, writer)
 }

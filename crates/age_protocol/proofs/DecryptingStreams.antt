@@ -15,6 +15,7 @@ use Rattle.age_protocol.specs.Texts.{RefusesText, BeginsText, RefusesKey}
 use Rattle.age_protocol.specs.DecryptingStreams.{DecryptsAll, DecryptsPart}
 use Rattle.age_protocol.specs.declared.error.FileError.{FileError}
 use Rattle.age_protocol.specs.declared.error.FileError.TheVariants.{Io, Encrypt, Decrypt}
+use Rattle.age_protocol.specs.WholeFiles.{LacksFront, read_of}
 use Rattle.age_protocol.specs.FileErrors.{IfIo, RefusesHead, RefusesPlain}
 use Rattle.age_protocol.specs.File.{payload_key}
 use Rattle.age_stream.specs.Keeping.{Stops}
@@ -89,13 +90,14 @@ decrypts_all_as {S} {R} {W} {T} suite read write gives by answers own IsFor IsOw
 }
 
 pub decrypts_part_as : {S R W T : Type 0} (suite : SuiteGhosts S) (read : ReadGhosts R) (write : WriteGhosts W)
-    (gives by : List ℕ → List StanzaValue → Type 0) (IsFor IsOwn : List ℕ → List ℕ → Type 0)
+    (gives by : List ℕ → List StanzaValue → Type 0) (answers own : List StanzaValue → UnwrapAnswer → Type 0) (IsFor IsOwn : List ℕ → List ℕ → Type 0)
     (place count : ℕ) (input last : R) (old new : W) (result : Result T FileError)
     → ((key : List ℕ) (stanzas : List StanzaValue) → gives key stanzas → by key stanzas)
+    → ((stanzas : List StanzaValue) (answer : UnwrapAnswer) → answers stanzas answer → own stanzas answer)
     → ((plain file : List ℕ) → IsOwn plain file → IsFor plain file)
-    → DecryptsPart suite read write gives IsFor place count input last old new result
-    → DecryptsPart suite read write by IsOwn place count input last old new result
-decrypts_part_as suite read write gives by IsFor IsOwn place count input last old new result given_so for part = record {
+    → DecryptsPart suite read write gives answers IsFor place count input last old new result
+    → DecryptsPart suite read write by own IsOwn place count input last old new result
+decrypts_part_as suite read write gives by answers own IsFor IsOwn place count input last old new result given_so answered for part = record {
   cursor = λ reader_told writer_told well file plain carries own_file. part.cursor reader_told writer_told well file plain carries (for plain file own_file);
   standing = λ reader_told writer_told.
       begun-or (BeginsText read.tells read.rest input) (BeginsText read.tells read.rest input) gives by write.appended count (StandsAt suite.seal_of place) old new
@@ -106,6 +108,10 @@ decrypts_part_as suite read write gives by IsFor IsOwn place count input last ol
       (λ h nonce left begins. begins) given_so)
       (part.given reader_told writer_told);
   io = part.io;
+  why = λ reader_told.
+      IfErr-weaker result _ _
+      (decrypts_weaker _ _ (same_cause (LacksFront (read_of (read.rest input).bytes)) (BeginsText read.tells read.rest input) answers own answered))
+      (part.why reader_told);
   cause = λ reader_told writer_told.
       IfErr-weaker result _ _
       (io_weaker _ _ (λ e why. elim why [

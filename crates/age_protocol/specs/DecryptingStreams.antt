@@ -1,7 +1,7 @@
 -- What decrypting from a reader to a writer comes to: of a whole file, and of a part of its plaintext.
 use Rattle.std.specs.Prelude.{◌≡◌, ◌⊎◌, ℕ, ◌&&◌, true, List, Some, Result, Ok, IsTrue, OnOk, IfErr}
 use Rattle.age_error.specs.Bytes.{AreBytes}
-use Rattle.age_error.specs.DecryptErrors.{OutOfMemory, IfIoRefusal}
+use Rattle.age_error.specs.DecryptErrors.{DecryptRefusal, OutOfMemory, IfIoRefusal}
 use Rattle.age_suite.specs.declared.suite.Suite.{Ghosts as SuiteGhosts}
 use Rattle.age_io.specs.declared.traits.Read.{Ghosts as ReadGhosts}
 use Rattle.age_io.specs.declared.traits.Write.{Ghosts as WriteGhosts}
@@ -22,6 +22,7 @@ use Rattle.age_protocol.specs.Answering.{FirstThatAnswers, decided}
 use Rattle.age_protocol.specs.File.{IsFileOf, payload_key}
 use Rattle.age_protocol.specs.FileErrors.{IfIo, IsDecryptError, DecryptsUnless, RefusesHead, RefusesPlain}
 use Rattle.age_protocol.specs.Texts.{RefusesText, BeginsText, RefusesKey}
+use Rattle.age_protocol.specs.WholeFiles.{LacksFront, read_of}
 use Rattle.age_protocol.specs.Parts.{AppendsPart, AppendsOf, StandsAt, IsPartAt, RefusesPart}
 use Rattle.age_protocol.specs.declared.error.FileError.{FileError}
 
@@ -32,6 +33,13 @@ AnswersFirst unwraps old new stanzas answer = FirstThatAnswers (λ identity own 
 -- and the file key that it gives to them
 abbrev pub GivesFirst : {I : Type 0} → (I → List StanzaValue → UnwrapAnswer → I → Type 0) → List I → List I → List ℕ → List StanzaValue → Type 0
 GivesFirst unwraps old new file_key stanzas = AnswersFirst unwraps old new stanzas (Some (Ok file_key))
+
+-- Why no file is opened in a text that was read to its end: no header with a nonce begins it, or one does, and what the identities answer to its stanzas,
+-- its MAC or memory is why.
+abbrev pub RefusesOpening : List ℕ → (HeaderValue → List ℕ → Stretch → Type 0) → (List StanzaValue → UnwrapAnswer → Type 0) → DecryptRefusal → Type 0
+RefusesOpening text begins answers refusal = LacksFront (read_of text) refusal
+    ⊎ ((h : HeaderValue) × (nonce : List ℕ) × (left : Stretch) × (answer : UnwrapAnswer) × begins h nonce left × answers h.stanzas answer
+    × RefusesKey (decided answer) h refusal)
 
 -- A whole file. The identities are said by three things: the file key that they give to a header's stanzas (`gives`), what they
 -- answer to these (`answers`), and which bytes are a file of which plaintext for them (`IsFor`).
@@ -85,7 +93,7 @@ pub record DecryptsAll {S R W T : Type 0} (suite : SuiteGhosts S) (read : ReadGh
 
 -- So many bytes of its plaintext from a place on. The identities are said in the same way.
 pub record DecryptsPart {S R W T : Type 0} (suite : SuiteGhosts S) (read : ReadGhosts R) (write : WriteGhosts W)
-    (gives : List ℕ → List StanzaValue → Type 0) (IsFor : List ℕ → List ℕ → Type 0)
+    (gives : List ℕ → List StanzaValue → Type 0) (answers : List StanzaValue → UnwrapAnswer → Type 0) (IsFor : List ℕ → List ℕ → Type 0)
     (place count : ℕ) (input last : R) (old new : W) (result : Result T FileError) : Type 0 where
   -- Of a file for the identities they are appended.
   pub cursor : IsTrue (read.tells input) → IsTrue (write.tells old) → IsTrue (read.rest input).ends_well
@@ -97,6 +105,8 @@ pub record DecryptsPart {S R W T : Type 0} (suite : SuiteGhosts S) (read : ReadG
       ⊎ AppendsOf (BeginsText read.tells read.rest input) gives write.appended count (StandsAt suite.seal_of place) old new
   pub given : IsTrue (read.tells input) → IsTrue (write.tells old) → OnOk result
       (AppendsOf (BeginsText read.tells read.rest input) gives write.appended count (IsPartAt suite.seal_of place count) old new)
+  -- The cause of a refusal of the header or of the identities, where the text is told, which was read to its end by then.
+  pub why : IsTrue (read.tells input) → IfErr result (DecryptsUnless (RefusesOpening (read.rest input).bytes (BeginsText read.tells read.rest input) answers))
   -- The cause of a refusal of the reader or the writer: memory, the writer, the reader, the target, or what is wrong with the text or the
   -- payload that was read.
   pub io : IfErr result (IfIo (λ e. (e ≡ out_of_memory) ⊎ TriedAgain read.refuses input e ⊎ HandsOn write.refuses old e

@@ -14,8 +14,10 @@ ghost use Rattle.age_armor.specs.Refusing.{IsTextRefusal};
 ghost use Rattle.age_stream.specs.Keeping.{IsPayloadRefusal};
 ghost use Rattle.age_stream.specs.Targets.{sought_in};
 ghost use Rattle.age_stream.specs.Reader.{payload_of, key_of};
-ghost use Rattle.age_protocol.specs.FileErrors.{IfIo, IsDecryptError};
-ghost use Rattle.age_protocol.specs.DecryptingStreams.{DecryptsPart, GivesFirst};
+ghost use Rattle.age_protocol.specs.Opened.{IsNotOpened};
+ghost use Rattle.age_protocol.specs.WholeFiles.{read_of};
+ghost use Rattle.age_protocol.specs.FileErrors.{DecryptsUnless, IfIo, IsDecryptError};
+ghost use Rattle.age_protocol.specs.DecryptingStreams.{AnswersFirst, DecryptsPart, GivesFirst, RefusesOpening};
 ghost use Rattle.age_protocol.specs.Texts.{Begins};
 ghost use Rattle.age_protocol.specs.Parts.{AppendsPart, AppendsOf, EndsBefore, RefusesPart, StandsAt, IsPartAt, FirstAnswer, IsFileFor};
 
@@ -110,6 +112,7 @@ fn at_bytes<S: Suite, I: Identity, T: Seek + Drop, W: Write>(
         (GivesFirst I.unwraps identities.old identities.new)
         W.appended count (IsPartAt S.seal_of place count) writer.old writer.new) }
     ensures refused { IfErr result (λ e. IsDecryptError e → writer.new ≡ writer.old) }
+    ensures unopened { IfErr result (DecryptsUnless (IsNotOpened I.unwraps ⟦<T as Read>⟧ identities.old identities.new bytes)) }
     ensures io { IfErr result (IfIo (λ e. (e ≡ OutOfMemory) ⊎ TriedAgain T.refuses bytes e ⊎ HandsOn W.refuses writer.old e
         ⊎ IsSeekRefusal T.seek_refuses e ⊎ IsPayloadRefusal e)) }
     ensures cause { T.rest bytes ≡ from_place (T.place bytes) (T.content bytes) → IsTrue (T.tells bytes && T.steady bytes) → IsTrue (W.tells writer.old) →
@@ -142,7 +145,7 @@ pub fn at<S: Suite, I: Identity, R: Read, W: Write>(
     writer: &mut W,
 ) -> Result<(), FileError>
     ensures { DecryptsPart ⟦<S as Suite>⟧ ⟦<R as Read>⟧ ⟦<W as Write>⟧ (GivesFirst I.unwraps identities.old identities.new)
-        (IsFileFor S.seal_of (FirstAnswer I.unwraps identities.old)) place count reader.old reader.new writer.old writer.new result }
+        (AnswersFirst I.unwraps identities.old identities.new) (IsFileFor S.seal_of (FirstAnswer I.unwraps identities.old)) place count reader.old reader.new writer.old writer.new result }
 {
     let mut text = Vec::new(alloc);
     match read_to_end(alloc, reader, &mut text) {
@@ -170,6 +173,7 @@ fn at_text<S: Suite, I: Identity, W: Write>(
         (GivesFirst I.unwraps identities.old identities.new)
         W.appended count (IsPartAt S.seal_of place count) writer.old writer.new) }
     ensures refused { IfErr result (λ e. IsDecryptError e → writer.new ≡ writer.old) }
+    ensures why { IfErr result (DecryptsUnless (RefusesOpening text.now (Begins (read_of text.now) 0) (AnswersFirst I.unwraps identities.old identities.new))) }
     ensures io { IfErr result (IfIo (λ e. (e ≡ OutOfMemory) ⊎ HandsOn W.refuses writer.old e
         ⊎ IsOutside e ⊎ (e ≡ Failed) ⊎ IsTextRefusal true true true e ⊎ IsPayloadRefusal e)) }
     ensures cause { IsTrue (W.tells writer.old) → IfErr result (IfIo (λ e. (e ≡ OutOfMemory) ⊎ HandsOn W.refuses writer.old e ⊎ IsTextRefusal true true true e

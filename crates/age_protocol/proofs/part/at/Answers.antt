@@ -4,8 +4,12 @@ use Rattle.age_armor.specs.Armor.{Carries}
 use Rattle.age_armor.specs.Delivered.{delivered, stretch_of}
 use Rattle.age_protocol.specs.Texts.{BeginsText}
 use Rattle.age_protocol.specs.Texts.{Begins}
+use Rattle.age_error.specs.DecryptErrors.{DecryptRefusal}
+use Rattle.age_protocol.specs.DecryptingStreams.{AnswersFirst, RefusesOpening}
 use Rattle.age_error.specs.declared.io.Error.TheVariants.{Failed}
 use Rattle.age_protocol.specs.Parts.{StandsAt, IsPartAt, RefusesPart}
+use Rattle.age_protocol.specs.WholeFiles.{LacksFront, read_of}
+use Rattle.age_protocol.proofs.Decrypted.{decrypts_weaker}
 use Rattle.age_protocol.proofs.DecryptingStreams.{io_weaker}
 use Rattle.age_protocol.proofs.Parts.{memory_before, memory_only, quiet_by}
 use Rattle.age_protocol.proofs.Standing.{begun, begun-or, begins-read}
@@ -20,6 +24,7 @@ returns-in-Err g c = record {
   given = λ reader_told writer_told. tt;
   io = elim c.in-Err.ensures.keeps.why [ inl memory ↦ inl memory | inr tried ↦ inr (inl tried) ];
   cause = λ reader_told writer_told. elim c.in-Err.ensures.keeps.why [ inl memory ↦ inl memory | inr tried ↦ inr (inl tried) ];
+  why = λ reader_told. tt;
   refused = λ none. refl;
 }
 
@@ -48,6 +53,22 @@ returns g c =
           IfErr-weaker c.at_text.result _ _
           (io_weaker _ _ (λ e why. elim why [ inl memory ↦ inl memory | inr other ↦ inr (inr other) ]))
           c.at_text.ensures.io;
+      why = λ reader_told.
+          let asked = AnswersFirst g.I.Identity.unwraps c.args.identities.now c.at_text.new.identities in
+          let opening : (refusal : DecryptRefusal) → RefusesOpening text (Begins (read_of text) 0) asked refusal → RefusesOpening rest.bytes front asked refusal =
+          λ refusal why. elim why [
+            | inl lacks ↦ inl (subst (λ (l : List ℕ). LacksFront (read_of l) refusal) (same reader_told) lacks)
+            | inr (h, nonce, left, answer, begins, by, key) ↦ inr (
+              h,
+              nonce,
+              left,
+              answer,
+              begins-read g.R.Read.tells g.R.Read.rest reader text (same reader_told) (c.in-Ok.ensures.end reader_told) h nonce left begins,
+              by,
+              key,
+            )
+          ] in
+          IfErr-weaker c.at_text.result _ _ (decrypts_weaker _ _ opening) c.at_text.ensures.why;
       cause = λ reader_told writer_told.
           IfErr-weaker c.at_text.result _ _
           (io_weaker _ _ (λ e why. elim why [

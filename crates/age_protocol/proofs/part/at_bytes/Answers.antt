@@ -123,3 +123,6 @@ returns-in-Err-write_part-clause-cause g c = λ fresh bytes_told writer_told.
         | inr writes ↦ inr (inr (inl (c.args.count, writes)))
       ]
     ]
+
+pub returns-in-Err-clause-unopened : goal.returns-in-Err-clause-unopened
+returns-in-Err-clause-unopened g c = c.in-Err.ensures.refused

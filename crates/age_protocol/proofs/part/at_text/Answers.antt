@@ -7,9 +7,15 @@ use Rattle.age_armor.specs.Seeking.{OrAstray}
 use Rattle.age_stream.specs.Payload.{Seal}
 use Rattle.age_armor.specs.Armor.{Carries}
 use Rattle.age_armor.specs.Delivered.{delivered, stretch_of}
-use Rattle.age_armor.specs.Reader.{armored_rest, armored_content, place_of, refuses_of}
+use Rattle.age_protocol.specs.Opened.{IsNotOpened}
+use Rattle.age_armor.specs.Reader.{armored_reader, armored_rest, armored_content, place_of, refuses_of}
 use Rattle.age_stream.specs.Keeping.{IsPayloadRefusal}
-use Rattle.age_protocol.proofs.Reasons.{from_slice}
+use Rattle.age_protocol.proofs.Decrypted.{by_cause, decrypts_weaker}
+use Rattle.age_protocol.proofs.Opened.{lacks_front}
+use Rattle.age_protocol.specs.WholeFiles.{read_of}
+use Rattle.age_error.specs.DecryptErrors.{DecryptRefusal}
+use Rattle.age_protocol.specs.DecryptingStreams.{AnswersFirst, RefusesOpening}
+use Rattle.age_protocol.proofs.Reasons.{from_slice, io_refusal_weaker}
 use Rattle.age_protocol.proofs.DecryptingStreams.{io_weaker}
 use Rattle.age_protocol.specs.Texts.{Begins}
 use Rattle.age_protocol.specs.Parts.{StandsAt, IsPartAt, RefusesPart}
@@ -126,3 +132,19 @@ returns-in-Ok-clause-cause g c = λ writer_told.
       ]
     ]))
     (c.at_bytes.ensures.cause fresh refl writer_told)
+
+pub returns-in-Ok-clause-why : goal.returns-in-Ok-clause-why
+returns-in-Ok-clause-why g c =
+    let bytes = c.in-Ok.bytes in
+    let made = c.in-Ok.ensures in
+    let text = c.args.text.now in
+    let old = c.args.identities.now in
+    let new = c.at_bytes.new.identities in
+    let start : armored_rest bytes ≡ read_of text = made.rest ∙ ap (λ s. stretch_of (delivered s.bytes s.ends_well)) c.new.ensures.rest in
+    let opening : (refusal : DecryptRefusal) → IsNotOpened g.I.Identity.unwraps armored_reader old new bytes refusal →
+    RefusesOpening text (Begins (read_of text) 0) (AnswersFirst g.I.Identity.unwraps old new) refusal = λ refusal why. elim why [
+      | inl (same, (last, refuses)) ↦ inl (lacks_front _ bytes last _ _ refuses refl start made.place refl refl
+          (io_refusal_weaker _ _ (λ e. by_cause (λ early. inl early.0) (λ tried. inr (from_slice refuses_of bytes c.new.result e made.named tried))) _ refuses.io))
+      | inr (h, nonce, input, answer, asks, key) ↦ inr (h, nonce, armored_rest input, answer, (_, rw (start, made.place) at (asks.front refl)), asks.first, key)
+    ] in
+    IfErr-weaker c.at_bytes.result _ _ (decrypts_weaker _ _ opening) c.at_bytes.ensures.unopened
