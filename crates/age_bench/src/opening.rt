@@ -12,11 +12,10 @@ ghost use Rattle.age_bench.specs.Names.{answers_of};
 
 use crate::names::With;
 use crate::suite::BenchSuite;
-use age::DecryptError;
-use age::Identity;
 use age::io::{Answer, Op, Read, Seek};
 use age::stream::StreamReader;
 use age::streaming::{FileError, answers, open_file};
+use age::{DecryptError, Identity};
 use std::alloc::Global;
 
 /// `open_file` with the identity that a word of the command line names.
