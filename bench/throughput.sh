@@ -1,6 +1,6 @@
 #!/usr/bin/env bash
 # Seconds and peak memory of `agebench seal`, `open`, `encrypt` and `decrypt`, with and without armor, beside `sha256sum` of
-# the same bytes: the bench suite has to hash each byte once, so that is the floor. What armor adds stands beside half the
+# the same bytes: the bench suite has to hash each byte once, so that is the measure. What armor adds stands beside half the
 # time of `base64` of the same bytes. Each time is the least of five runs. The argument is the size in MiB. Peak memory is
 # measured by /usr/bin/time, where it is there.
 set -euo pipefail
