@@ -10,33 +10,29 @@ use Rattle.age_io.specs.Stretch.{Stretch}
 use Rattle.age_format.specs.HeaderV1.{HeaderValue}
 use Rattle.age_format.specs.Stanza.{StanzaValue}
 use Rattle.age_format.specs.Unwrapping.{UnwrapAnswer}
-use Rattle.age_protocol.specs.Answering.{decided}
-use Rattle.age_protocol.specs.Texts.{RefusesText, BeginsText, RefusesKey}
+use Rattle.age_protocol.specs.Texts.{RefusesText, BeginsText, RefusesAnswered, UnderMac}
 use Rattle.age_protocol.specs.DecryptingStreams.{DecryptsAll, DecryptsPart}
 use Rattle.age_protocol.specs.declared.error.FileError.{FileError}
 use Rattle.age_protocol.specs.declared.error.FileError.TheVariants.{Io, Encrypt, Decrypt}
 use Rattle.age_protocol.specs.WholeFiles.{LacksFront, read_of}
 use Rattle.age_protocol.specs.FileErrors.{IfIo, RefusesHead, RefusesPlain}
-use Rattle.age_protocol.specs.File.{payload_key}
+use Rattle.age_stream.specs.Chunks.{delivered}
 use Rattle.age_stream.specs.Keeping.{Stops}
-use Rattle.age_format.specs.HeaderV1.{header_mac}
+use Rattle.age_io.specs.Copying.{AppendsFront}
 use Rattle.age_io.specs.Writing.{HandsOn}
 use Rattle.age_error.specs.declared.io.Error.{Error}
 use Rattle.age_protocol.specs.Parts.{StandsAt, IsPartAt, RefusesPart}
 use Rattle.age_error.specs.declared.io.Error.TheVariants.{Failed as failed}
+use Rattle.age_protocol.proofs.Texts.{under_mac, refuses_answered}
 use Rattle.age_protocol.proofs.Standing.{begun, begun-or}
 use Rattle.age_protocol.proofs.Decrypted.{by_cause, decrypts_weaker}
 
 -- the same cause of a refusal
 same_cause : (Text : DecryptRefusal → Type 0) (begins : HeaderValue → List ℕ → Stretch → Type 0) (answers own : List StanzaValue → UnwrapAnswer → Type 0)
     → ((stanzas : List StanzaValue) (answer : UnwrapAnswer) → answers stanzas answer → own stanzas answer) → (refusal : DecryptRefusal)
-    → Text refusal ⊎ ((h : HeaderValue) × (nonce : List ℕ) × (left : Stretch) × (answer : UnwrapAnswer) × begins h nonce left
-    × answers h.stanzas answer × RefusesKey (decided answer) h refusal)
-    → Text refusal ⊎ ((h : HeaderValue) × (nonce : List ℕ) × (left : Stretch) × (answer : UnwrapAnswer) × begins h nonce left
-    × own h.stanzas answer × RefusesKey (decided answer) h refusal)
+    → Text refusal ⊎ RefusesAnswered begins answers refusal → Text refusal ⊎ RefusesAnswered begins own refusal
 same_cause Text begins answers own answered refusal (inl text) = inl text
-same_cause Text begins answers own answered refusal (inr (h, nonce, left, answer, begun, told, cause)) =
-    inr (h, nonce, left, answer, begun, answered h.stanzas answer told, cause)
+same_cause Text begins answers own answered refusal (inr asked) = inr (refuses_answered begins begins (λ h nonce left begun. begun) answers own answered refusal asked)
 
 -- what holds of the reader's or the writer's error
 pub io_weaker : (Holds More : Error → Type 0) → ((e : Error) → Holds e → More e) → (e : FileError) → IfIo Holds e → IfIo More e
@@ -47,15 +43,13 @@ io_weaker Holds More wider (Decrypt e) h = tt
 -- the same reason of a refusal, told of other identities
 same_reason : {R W : Type 0} (read : ReadGhosts R) (refuses : W → ℕ → Error → Type 0) (input : R) (old : W) (begins : HeaderValue → List ℕ → Stretch → Type 0)
     (gives by : List ℕ → List StanzaValue → Type 0) → ((key : List ℕ) (stanzas : List StanzaValue) → gives key stanzas → by key stanzas)
-    → (Says : HeaderValue → List ℕ → List ℕ → Stretch → Type 0) (e : Error)
-    → RefusesPlain read input e ⊎ HandsOn refuses old e ⊎ ((file_key : List ℕ) × (h : HeaderValue) × (nonce : List ℕ) × (left : Stretch)
-    × begins h nonce left × gives file_key h.stanzas × (h.mac ≡ header_mac file_key h.covered) × Says h file_key nonce left)
-    → RefusesPlain read input e ⊎ HandsOn refuses old e ⊎ ((file_key : List ℕ) × (h : HeaderValue) × (nonce : List ℕ) × (left : Stretch)
-    × begins h nonce left × by file_key h.stanzas × (h.mac ≡ header_mac file_key h.covered) × Says h file_key nonce left)
+    → (Says : List ℕ → Stretch → Type 0) (e : Error)
+    → RefusesPlain read input e ⊎ HandsOn refuses old e ⊎ UnderMac begins gives Says
+    → RefusesPlain read input e ⊎ HandsOn refuses old e ⊎ UnderMac begins by Says
 same_reason read refuses input old begins gives by given Says e (inl plain) = inl plain
 same_reason read refuses input old begins gives by given Says e (inr (inl writer)) = inr (inl writer)
-same_reason read refuses input old begins gives by given Says e (inr (inr (file_key, h, nonce, left, begun, gave, right, says))) =
-    inr (inr (file_key, h, nonce, left, begun, given file_key h.stanzas gave, right, says))
+same_reason read refuses input old begins gives by given Says e (inr (inr payload)) =
+    inr (inr (under_mac begins begins (λ h nonce left begun. begun) gives by Says Says given (λ key sealed says. says) payload))
 
 -- what is given, what is answered, and which files are theirs may be said in another way
 pub decrypts_all_as : {S R W T : Type 0} (suite : SuiteGhosts S) (read : ReadGhosts R) (write : WriteGhosts W)
@@ -80,10 +74,15 @@ decrypts_all_as {S} {R} {W} {T} suite read write gives by answers own IsFor IsOw
   front = λ reader_told writer_told.
       by_cause inl
       (λ opened.
-      let (key, h, nonce, left, begins, gave, right, appended) = opened in
-      inr (key, h, nonce, left, begins, given key h.stanzas gave, right, appended))
+      let begins = BeginsText read.tells read.rest input in
+      let Appends = λ (key : List ℕ) (left : Stretch). AppendsFront write.appended (delivered suite.opened key 0 left).bytes old new in
+      inr (under_mac begins begins (λ h nonce left begun. begun) gives by Appends Appends given (λ key left appended. appended) opened))
       (all.front reader_told writer_told);
-  io = IfErr-weaker result _ _ (io_weaker _ _ (λ e why. same_reason read write.refuses input old (BeginsText read.tells read.rest input) gives by given (λ h file_key nonce left. Stops suite.seal_of (payload_key file_key nonce) left (IsTrue (read.tells input && read.steady input)) e) e why)) all.io;
+  io =
+      IfErr-weaker result _ _
+      (io_weaker _ _ (λ e why. same_reason read write.refuses input old (BeginsText read.tells read.rest input) gives by given
+      (λ key left. Stops suite.seal_of key left (IsTrue (read.tells input && read.steady input)) e) e why))
+      all.io;
   written = λ told well never file plain carries own_file. all.written told well never file plain carries (for plain file own_file);
   honest = λ told well never file plain carries own_file. all.honest told well never file plain carries (for plain file own_file);
   plaintext = λ told well writer_told file plain carries own_file. all.plaintext told well writer_told file plain carries (for plain file own_file);

@@ -1,3 +1,4 @@
+pub mod Texts
 pub mod Asking
 pub mod Sets
 pub mod Files

@@ -13,11 +13,11 @@ use Rattle.std.proofs.lemmas.Bool.Decides.{nat_tests}
 use Rattle.age_format.specs.Stanza.{StanzaValue}
 use Rattle.age_format.specs.Unwrapping.{UnwrapAnswer}
 use Rattle.age_protocol.proofs.Accepted.{memory_or_not}
+use Rattle.age_protocol.proofs.Texts.{under_mac}
 use Rattle.age_io.specs.Copying.{AppendsFront, AppendsSome}
 use Rattle.age_error.specs.declared.io.SeekFrom.TheVariants.{Start}
 use Rattle.std.proofs.lemmas.Bool.{leb-false}
 use Rattle.age_format.specs.HeaderV1.{HeaderValue}
-use Rattle.age_protocol.specs.File.{payload_key}
 use Rattle.age_stream.specs.Keeping.{IsPayloadRefusal}
 use Rattle.age_stream.specs.Targets.{in_length, sought_in}
 use Rattle.age_stream.specs.Payload.{Seal, plain_len}
@@ -182,13 +182,6 @@ some_holds appended count Holds More old new wider some = record { out = some.ou
 pub of_holds : {W : Type 0} (begins : HeaderValue → List ℕ → Stretch → Type 0) (gives : List ℕ → List StanzaValue → Type 0) (appended : W → List ℕ → W → Type 0) (count : ℕ)
     (Holds More : List ℕ → Stretch → List ℕ → Type 0) (old new : W) → ((key : List ℕ) (sealed : Stretch) (out : List ℕ) → Holds key sealed out → More key sealed out)
     → AppendsOf begins gives appended count Holds old new → AppendsOf begins gives appended count More old new
-of_holds begins gives appended count Holds More old new wider some = record {
-  file_key = some.file_key;
-  h = some.h;
-  nonce = some.nonce;
-  left = some.left;
-  text = some.text;
-  key = some.key;
-  right = some.right;
-  part = some_holds appended count _ _ old new (wider (payload_key some.file_key some.nonce) some.left) some.part;
-}
+of_holds begins gives appended count Holds More old new wider some =
+    under_mac begins begins (λ h nonce left begun. begun) gives gives _ _ (λ key stanzas given. given)
+    (λ key sealed. some_holds appended count (Holds key sealed) (More key sealed) old new (wider key sealed)) some

@@ -24,6 +24,7 @@ use Rattle.age_protocol.specs.Texts.{BeginsText, Begins}
 use Rattle.age_io.specs.Copying.{AppendsFront, AppendsSome}
 use Rattle.age_protocol.specs.Opened.{IsOpened}
 use Rattle.age_protocol.specs.Parts.{AppendsOf, StandsAt, IsPartAt}
+use Rattle.age_protocol.proofs.Texts.{under_mac}
 
 -- the same with other names
 pub stand-moved : (seal_of : Seal) (key key' sealed sealed' : List ℕ) (place place' : ℕ) (bytes : List ℕ) → key' ≡ key → sealed' ≡ sealed → place' ≡ place
@@ -107,20 +108,19 @@ module _ {I S T W : Type 0} {suite : SuiteMembers S} {read : ReadMembers T} (unw
   opened-part fresh told made some =
       let tells = and-left (read.tells text) (read.steady text) told in
       let input = made.input in
-      let front = made.asks.front tells in
-      record {
-        file_key = made.file_key;
-        h = made.h;
-        nonce = made.nonce;
-        left = read.rest input;
-        text = (_, front);
-        key = made.asks.first;
-        right = made.opens.right;
-        part = some-same appended count Holds (key_of stream) _ (payload_of stream) (read.rest input) before after made.opens.reader.same_key
+      let front = made.asks.front tells in (
+        made.file_key,
+        made.h,
+        made.nonce,
+        read.rest input,
+        (_, front),
+        made.asks.first,
+        made.opens.right,
+        some-same appended count Holds (key_of stream) _ (payload_of stream) (read.rest input) before after made.opens.reader.same_key
             (made.opens.reader.sealed ∙ ap (λ (s : Stretch). from_place (read.place input) s) (made.asks.same.content tells)
             ∙ left-is (read.content text) (read.rest text) (read.rest input) (read.place text) (read.place input) _ fresh front.took.delivered front.took.moved)
-            some;
-      }
+            some,
+      )
 
 -- the text may be said to begin in another way, and the file key to be given in another
 module _ {W : Type 0} (begins other : HeaderValue → List ℕ → Stretch → Type 0) (gives by : List ℕ → List StanzaValue → Type 0)
@@ -128,16 +128,9 @@ module _ {W : Type 0} (begins other : HeaderValue → List ℕ → Stretch → T
     (so : (h : HeaderValue) (nonce : List ℕ) (left : Stretch) → begins h nonce left → other h nonce left)
     (given_so : (key : List ℕ) (stanzas : List StanzaValue) → gives key stanzas → by key stanzas) where
   pub begun : AppendsOf begins gives appended count Holds old new → AppendsOf other by appended count Holds old new
-  begun some = record {
-    file_key = some.file_key;
-    h = some.h;
-    nonce = some.nonce;
-    left = some.left;
-    text = so some.h some.nonce some.left some.text;
-    key = given_so some.file_key some.h.stanzas some.key;
-    right = some.right;
-    part = some.part;
-  }
+  begun some =
+      let Appends = λ (key : List ℕ) (sealed : Stretch). AppendsSome appended count (Holds key sealed) old new in
+      under_mac begins other so gives by Appends Appends given_so (λ key sealed holds. holds) some
 
   pub begun-or : (new ≡ old) ⊎ AppendsOf begins gives appended count Holds old new → (new ≡ old) ⊎ AppendsOf other by appended count Holds old new
   begun-or (inl none) = inl none

@@ -13,15 +13,15 @@ use Rattle.age_error.specs.declared.io.Error.TheVariants.{OutOfMemory as out_of_
 use Rattle.age_io.specs.Writing.{HandsOn}
 use Rattle.age_io.specs.Copying.{AppendsFront}
 use Rattle.age_armor.specs.Armor.{Carries}
-use Rattle.age_format.specs.HeaderV1.{HeaderValue, header_mac, reads_legacy}
+use Rattle.age_format.specs.HeaderV1.{HeaderValue, reads_legacy}
 use Rattle.age_format.specs.Stanza.{StanzaValue}
 use Rattle.age_format.specs.Unwrapping.{UnwrapAnswer, Unwraps}
 use Rattle.age_stream.specs.Chunks.{delivered}
 use Rattle.age_stream.specs.Keeping.{IsPayloadRefusal, Stops}
-use Rattle.age_protocol.specs.Answering.{FirstThatAnswers, decided}
-use Rattle.age_protocol.specs.File.{IsFileOf, payload_key}
+use Rattle.age_protocol.specs.Answering.{FirstThatAnswers}
+use Rattle.age_protocol.specs.File.{IsFileOf}
 use Rattle.age_protocol.specs.FileErrors.{IfIo, IsDecryptError, DecryptsUnless, RefusesHead, RefusesPlain}
-use Rattle.age_protocol.specs.Texts.{RefusesText, BeginsText, RefusesKey}
+use Rattle.age_protocol.specs.Texts.{RefusesText, BeginsText, RefusesAnswered, UnderMac}
 use Rattle.age_protocol.specs.WholeFiles.{LacksFront, read_of}
 use Rattle.age_protocol.specs.Parts.{AppendsPart, AppendsOf, StandsAt, IsPartAt, RefusesPart}
 use Rattle.age_protocol.specs.declared.error.FileError.{FileError}
@@ -37,9 +37,7 @@ GivesFirst unwraps old new file_key stanzas = AnswersFirst unwraps old new stanz
 -- Why no file is opened in a text that was read to its end: no header with a nonce begins it, or one does, and what the identities answer to its stanzas,
 -- its MAC or memory is why.
 abbrev pub RefusesOpening : List ℕ → (HeaderValue → List ℕ → Stretch → Type 0) → (List StanzaValue → UnwrapAnswer → Type 0) → DecryptRefusal → Type 0
-RefusesOpening text begins answers refusal = LacksFront (read_of text) refusal
-    ⊎ ((h : HeaderValue) × (nonce : List ℕ) × (left : Stretch) × (answer : UnwrapAnswer) × begins h nonce left × answers h.stanzas answer
-    × RefusesKey (decided answer) h refusal)
+RefusesOpening text begins answers refusal = LacksFront (read_of text) refusal ⊎ RefusesAnswered begins answers refusal
 
 -- A whole file. The identities are said by three things: the file key that they give to a header's stanzas (`gives`), what they
 -- answer to these (`answers`), and which bytes are a file of which plaintext for them (`IsFor`).
@@ -60,25 +58,16 @@ pub record DecryptsAll {S R W T : Type 0} (suite : SuiteGhosts S) (read : ReadGh
   -- The cause of such a refusal.
   pub why : IfErr result (λ e. DecryptsUnless (λ refusal.
       (((last : R) × RefusesText read.tells read.rest read.faults input last refusal) × IfIoRefusal (RefusesHead read input) refusal)
-      ⊎ ((h : HeaderValue) × (nonce : List ℕ) × (left : Stretch) × (answer : UnwrapAnswer)
-      × BeginsText read.tells read.rest input h nonce left
-      × answers h.stanzas answer
-      × RefusesKey (decided answer) h refusal)) e)
+      ⊎ RefusesAnswered (BeginsText read.tells read.rest input) answers refusal) e)
   -- The cause of a refusal of the reader or the writer: memory, the writer, the text, or, under a right MAC, the payload.
   pub io : IfErr result (IfIo (λ e. RefusesPlain read input e ⊎ HandsOn write.refuses old e
-      ⊎ ((file_key : List ℕ) × (h : HeaderValue) × (nonce : List ℕ) × (left : Stretch)
-      × BeginsText read.tells read.rest input h nonce left
-      × gives file_key h.stanzas
-      × (h.mac ≡ header_mac file_key h.covered)
-      × Stops suite.seal_of (payload_key file_key nonce) left (IsTrue (read.tells input && read.steady input)) e)))
+      ⊎ UnderMac (BeginsText read.tells read.rest input) gives
+      (λ key left. Stops suite.seal_of key left (IsTrue (read.tells input && read.steady input)) e)))
   -- Whatever it answers, nothing was appended before the MAC was found to be right, and then a beginning of what the good
   -- chunks open to.
   pub front : IsTrue (read.tells input && read.steady input) → IsTrue (write.tells old) → (new ≡ old)
-      ⊎ ((file_key : List ℕ) × (h : HeaderValue) × (nonce : List ℕ) × (left : Stretch)
-      × BeginsText read.tells read.rest input h nonce left
-      × gives file_key h.stanzas
-      × (h.mac ≡ header_mac file_key h.covered)
-      × AppendsFront write.appended (delivered suite.opened (payload_key file_key nonce) 0 left).bytes old new)
+      ⊎ UnderMac (BeginsText read.tells read.rest input) gives
+      (λ key left. AppendsFront write.appended (delivered suite.opened key 0 left).bytes old new)
   -- A file for the identities is opened unless memory is refused, and written out unless memory is or the writer refuses, where the
   -- device never fails; and whatever happens, what is appended is a beginning of its plaintext.
   pub honest : IsTrue (read.tells input && read.steady input) → IsTrue (read.rest input).ends_well → ((r : R) → read.faults r ≡ 0)

@@ -9,13 +9,14 @@ use Rattle.age_io.specs.Stretch.{Stretch}
 use Rattle.age_io.specs.Copying.{AppendsFront, AppendsSome}
 use Rattle.age_format.specs.Stanza.{StanzaValue}
 use Rattle.age_format.specs.Unwrapping.{UnwrapAnswer, Unwraps}
-use Rattle.age_format.specs.HeaderV1.{HeaderValue, header_mac, reads_legacy}
+use Rattle.age_format.specs.HeaderV1.{HeaderValue, reads_legacy}
 use Rattle.age_stream.specs.Keeping.{Stops}
 use Rattle.age_stream.specs.Payload.{Seal, LastIsNoMiddle, plain_len}
 use Rattle.age_stream.specs.Answering.{StandAt, IsGoodEnd}
 use Rattle.age_protocol.specs.Answering.{FirstThatAnswers}
 use Rattle.age_protocol.specs.File.{IsFileOf, payload_key}
 use Rattle.age_protocol.specs.FileErrors.{IfIo, DecryptsUnless, IsPastEnd}
+use Rattle.age_protocol.specs.Texts.{UnderMac}
 use Rattle.age_protocol.specs.declared.error.FileError.{FileError}
 
 -- what the first of the identities that answers may answer to these stanzas
@@ -57,16 +58,9 @@ RefusesPart seal_of below place e key sealed out =
 
 -- The text begins with a header whose MAC is right under the file key that is given to its stanzas, and of the payload after it
 -- some bytes were appended.
-pub record AppendsOf {W : Type 0} (begins : HeaderValue → List ℕ → Stretch → Type 0) (gives : List ℕ → List StanzaValue → Type 0)
-    (appended : W → List ℕ → W → Type 0) (count : ℕ) (Holds : List ℕ → Stretch → List ℕ → Type 0) (old new : W) : Type 0 where
-  pub file_key : List ℕ
-  pub h : HeaderValue
-  pub nonce : List ℕ
-  pub left : Stretch
-  pub text : begins h nonce left
-  pub key : gives file_key h.stanzas
-  pub right : h.mac ≡ header_mac file_key h.covered
-  pub part : AppendsSome appended count (Holds (payload_key file_key nonce) left) old new
+abbrev pub AppendsOf : {W : Type 0} → (HeaderValue → List ℕ → Stretch → Type 0) → (List ℕ → List StanzaValue → Type 0)
+    → (W → List ℕ → W → Type 0) → ℕ → (List ℕ → Stretch → List ℕ → Type 0) → W → W → Type 0
+AppendsOf begins gives appended count Holds old new = UnderMac begins gives (λ key sealed. AppendsSome appended count (Holds key sealed) old new)
 
 -- Of a plaintext the bytes from a place on were appended, so many or fewer at the end; after a refusal a beginning of them.
 -- Where the device doesn't fail, the file is opened unless memory is refused, and a place after the end is refused as such.

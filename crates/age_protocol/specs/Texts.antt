@@ -5,7 +5,11 @@ use Rattle.age_io.specs.Stretch.{Stretch}
 use Rattle.age_armor.specs.Delivered.{delivered, stretch_of}
 use Rattle.age_format.specs.HeaderV1.{HeaderValue, header_mac, reads_legacy}
 use Rattle.age_format.specs.ReadingHeader.{RefusesHeader}
+use Rattle.age_format.specs.Stanza.{StanzaValue}
+use Rattle.age_format.specs.Unwrapping.{UnwrapAnswer}
+use Rattle.age_protocol.specs.Answering.{decided}
 use Rattle.age_protocol.specs.Decrypting.{ReadsFront, LacksNonce, BreaksRule}
+use Rattle.age_protocol.specs.File.{payload_key}
 
 -- Why what a text delivers doesn't begin as a file, and the reader of the text when it was given up. A part of what it
 -- delivers was read, up to this place, and this was left.
@@ -35,3 +39,14 @@ abbrev pub RefusesKey : Result (List ℕ) DecryptRefusal → HeaderValue → Dec
 RefusesKey (Err own) h refusal = refusal ≡ own
 RefusesKey (Ok file_key) h refusal =
     ((h.mac ≢ header_mac file_key h.covered) × (refusal ≡ InvalidMac)) ⊎ ((h.mac ≡ header_mac file_key h.covered) × (refusal ≡ OutOfMemory))
+
+-- The text begins with a header and a nonce, and what is answered to its stanzas, its MAC or memory is why it is refused.
+abbrev pub RefusesAnswered : (HeaderValue → List ℕ → Stretch → Type 0) → (List StanzaValue → UnwrapAnswer → Type 0) → DecryptRefusal → Type 0
+RefusesAnswered begins answers refusal = (h : HeaderValue) × (nonce : List ℕ) × (left : Stretch) × (answer : UnwrapAnswer)
+    × begins h nonce left × answers h.stanzas answer × RefusesKey (decided answer) h refusal
+
+-- The text begins with a header whose MAC is right under the file key that is given to its stanzas, and this holds of the payload's key and of what is
+-- left after the nonce.
+abbrev pub UnderMac : (HeaderValue → List ℕ → Stretch → Type 0) → (List ℕ → List StanzaValue → Type 0) → (List ℕ → Stretch → Type 0) → Type 0
+UnderMac begins gives Holds = (file_key : List ℕ) × (h : HeaderValue) × (nonce : List ℕ) × (left : Stretch)
+    × begins h nonce left × gives file_key h.stanzas × (h.mac ≡ header_mac file_key h.covered) × Holds (payload_key file_key nonce) left

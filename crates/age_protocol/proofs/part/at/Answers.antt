@@ -12,6 +12,7 @@ use Rattle.age_protocol.specs.WholeFiles.{LacksFront, read_of}
 use Rattle.age_protocol.proofs.Decrypted.{decrypts_weaker}
 use Rattle.age_protocol.proofs.DecryptingStreams.{io_weaker}
 use Rattle.age_protocol.proofs.Parts.{memory_before, memory_only, quiet_by}
+use Rattle.age_protocol.proofs.Texts.{refuses_answered}
 use Rattle.age_protocol.proofs.Standing.{begun, begun-or, begins-read}
 use Rattle.age_protocol.proofs.part.at.Goals as goal
 
@@ -58,15 +59,8 @@ returns g c =
           let opening : (refusal : DecryptRefusal) → RefusesOpening text (Begins (read_of text) 0) asked refusal → RefusesOpening rest.bytes front asked refusal =
           λ refusal why. elim why [
             | inl lacks ↦ inl (subst (λ (l : List ℕ). LacksFront (read_of l) refusal) (same reader_told) lacks)
-            | inr (h, nonce, left, answer, begins, by, key) ↦ inr (
-              h,
-              nonce,
-              left,
-              answer,
-              begins-read g.R.Read.tells g.R.Read.rest reader text (same reader_told) (c.in-Ok.ensures.end reader_told) h nonce left begins,
-              by,
-              key,
-            )
+            | inr answered ↦ inr (refuses_answered _ front (begins-read g.R.Read.tells g.R.Read.rest reader text (same reader_told) (c.in-Ok.ensures.end reader_told)) asked asked
+                (λ stanzas answer by. by) refusal answered)
           ] in
           IfErr-weaker c.at_text.result _ _ (decrypts_weaker _ _ opening) c.at_text.ensures.why;
       cause = λ reader_told writer_told.
