@@ -1,13 +1,16 @@
 -- Facts on what a writer appended, by the laws of `Write`.
-use Rattle.std.specs.Prelude.{IfErr}
-use Rattle.std.proofs.Common.{◌≡◌, ℕ, ◌+◌, ◌≤◌, Bool, IsTrue, List, [], ◌++◌, length, take, drop, subst, ◌∙◌, arith, append-nil, OnErr, Result, Ok, Err, inl}
+use Rattle.std.specs.Prelude.{IfErr, IsErrAnd}
+use Rattle.std.proofs.Common.{◌≡◌, ℕ, ◌+◌, ◌≤◌, ◌<◌, Bool, IsTrue, List, [], ◌++◌, length, take, drop, subst, ◌∙◌, arith, append-nil, OnErr, Result, Ok, Err, inl}
 use Rattle.std.proofs.lemmas.Grind.{common_steps}
 use Rattle.std.proofs.lemmas.List.{drop-take, take-append-drop, take-take}
-use Rattle.age_error.specs.Refusals.{IsInterruption}
+use Rattle.age_error.specs.Refusals.{IsDevice, IsInterruption}
 use Rattle.age_error.specs.declared.io.Error.{Error}
-use Rattle.age_error.specs.declared.io.Error.TheVariants.{WriteZero}
+use Rattle.age_error.specs.declared.io.Error.TheVariants.{WriteZero, Device}
+use Rattle.age_error.specs.declared.io.ErrorKind.TheVariants.{Interrupted}
+use Rattle.age_io.specs.declared.traits.Write.{Ghosts}
 use Rattle.age_io.specs.Writing.{Narrows, Retried, Writes, Flushes}
 use Rattle.age_io.specs.WritingLaws.{narrows-now, narrows-both, retried-narrows}
+use Rattle.age_io.proofs.Retrying.{rose-by, interrupted-by, interruption-why}
 
 pub take-both : (xs : List ℕ) (at n : ℕ) → take at xs ++ take n (drop at xs) ≡ take (at + n) xs
 take-both xs at n = grind (arith, common_steps, drop-take at n xs, take-take at (at + n) xs, take-append-drop at (take (at + n) xs))
@@ -120,3 +123,22 @@ module _ {S : Type 0} (tells : S → Bool) (faults : S → ℕ) (refuses : S →
 
   pub before_nothing : (a b c : S) (x : List ℕ) → appended a x b → appended b [] c → appended a x c
   before_nothing a b c x p q = subst (λ l. appended a l c) (append-nil x) (joins a b c x [] p q)
+
+-- a writer after so many calls that were given so many bytes, each of which was interrupted
+pub record InterruptedWrites {W : Type 0} (write : Ghosts W) (size : ℕ) (old new : W) (calls : ℕ) : Type 0 where
+  pub untouched : Untouched write.tells write.faults write.refuses write.appended old new
+  pub rose : 0 < calls → write.faults old < write.faults new
+  pub worn : 0 < calls → write.refuses old size (Device Interrupted)
+
+pub interrupted-more : {W A : Type 0} (write : Ghosts W) (joins : (a b c : W) (x y : List ℕ) → write.appended a x b → write.appended b y c → write.appended a (x ++ y) c)
+    (size : ℕ) (old mid new : W) (calls : ℕ) (r : Result A Error) → InterruptedWrites write size old mid calls → IsErrAnd r IsInterruption →
+    write.tells new ≡ write.tells mid → write.faults mid ≤ write.faults new → IfErr r (λ e. IsDevice e → write.faults mid < write.faults new) →
+    IfErr r (write.refuses mid size) → IfErr r (λ e. IsInterruption e → Narrows write.refuses mid 0 new) → (IsTrue (write.tells mid) → write.appended mid [] new) →
+    InterruptedWrites write size old new (calls + 1)
+interrupted-more write joins size old mid new calls r before is same_tells more device why narrows none =
+    let rose : write.faults mid < write.faults new = rose-by r is device in
+    record {
+      untouched = untouched-more write.tells write.faults write.refuses write.appended joins old mid new before.untouched same_tells more (interrupted-by r is narrows) none;
+      rose = λ _. omega (arith, before.untouched.no_fewer_faults, rose);
+      worn = λ _. narrows-now write.refuses old mid before.untouched.narrows size _ (interruption-why (write.refuses mid size) r is why);
+    }

@@ -1,5 +1,5 @@
 -- Seeks of a device whose bytes nobody knows.
-use Rattle.std.specs.Prelude.{ℕ, ◌<◌, ◌≤◌, ◌⊎◌, pos, Bool, true, false, IsTrue, List, length, Option, Some, None, Result, Ok, Err, IfErr, IsErrAnd, nat_le, if◌then◌else◌}
+use Rattle.std.specs.Prelude.{ℕ, ◌<◌, ◌≤◌, ◌⊎◌, pos, Bool, true, false, IsTrue, List, length, Option, Some, None, Result, Ok, Err, OnOk, IfErr, IsErrAnd, nat_le, if◌then◌else◌}
 use Rattle.std.proofs.Common.{◌≡◌, ◌∙◌, arith, refl, sym, ap, subst, inl, inr}
 use Rattle.std.specs.Io.Seek.{SeekMoves}
 use Rattle.std.specs.Io.KnownBytes.{Keeps}
@@ -12,6 +12,7 @@ use Rattle.age_io.specs.Cursor.{Seeks, IsSeekRefusal, moved_to, target}
 use Rattle.age_io.specs.Reading.{most_faults}
 use Rattle.age_io.specs.Standard.{CountsFaults, CountsOwnFaults, IsNoDevice, IsReadRefusal, StandsAfter, sought_below}
 use Rattle.age_io.specs.Stretch.{nothing}
+use Rattle.age_io.proofs.Exiting.{OnOk-of, IfErr-of}
 
 -- what only seeks of a device refuse with
 abbrev seek_refuses : Error → Type 0
@@ -33,18 +34,20 @@ stands-failed wanted place position (Ok x) e is failed = absurd is
 stands-failed wanted place position (Err x) e is failed = λ other. absurd (other (subst IsDevice (sym is) failed))
 
 module _ {S : Type 0} (faults : S → ℕ) (old new : S) (to : SeekFrom) where
-  seeks-err : (e : Error) → faults old ≤ faults new → (IsDevice e → faults old < faults new) → IsSeekRefusal seek_refuses e ⊎ IsReadRefusal e →
-      Seeks (λ _. false) (λ _. false) (λ _. nothing) (λ _. 0) (λ _. nothing) faults (λ _. IsReadRefusal) seek_refuses old new to (Err e)
-  seeks-err e more device why = record {
+  -- what a seek answers, of which only faults and reasons are known
+  seeks-untold : (r : Result ℕ Error) → faults old ≤ faults new → IfErr r (λ e. IsDevice e → faults old < faults new) → OnOk r (faults new < most_faults) →
+      IfErr r (λ e. IsSeekRefusal seek_refuses e ⊎ IsReadRefusal e) →
+      Seeks (λ _. false) (λ _. false) (λ _. nothing) (λ _. 0) (λ _. nothing) faults (λ _. IsReadRefusal) seek_refuses old new to r
+  seeks-untold r more device unspent why = record {
     same_tells = refl;
     same_steady = refl;
     no_fewer_faults = more;
     device = device;
-    unspent = tt;
+    unspent = unspent;
     why = why;
-    narrows = tt;
-    again = λ is x h. h;
-    missed = λ is x h. h;
+    narrows = OnOk-of r (λ e h. h);
+    again = IfErr-of r (λ x is e h. h);
+    missed = IfErr-of r (λ x is e h. h);
     same_content = λ _. refl;
     arrives = untold;
     leads = untold;
@@ -59,33 +62,14 @@ module _ {S : Type 0} (faults : S → ℕ) (old new : S) (to : SeekFrom) where
   -- by the count of faults before its last step, which is that of its first
   pub seeks-counted : (between : ℕ) (r : Result ℕ Error) → between ≡ faults old → between < most_faults → CountsFaults between (faults new) r →
       Seeks (λ _. false) (λ _. false) (λ _. nothing) (λ _. 0) (λ _. nothing) faults (λ _. IsReadRefusal) seek_refuses old new to r
-  seeks-counted between (Ok n) same below counts = record {
-    same_tells = refl;
-    same_steady = refl;
-    no_fewer_faults = omega (arith, same, counts);
-    device = tt;
-    unspent = omega (arith, below, counts);
-    why = tt;
-    narrows = λ e h. h;
-    again = tt;
-    missed = tt;
-    same_content = λ _. refl;
-    arrives = untold;
-    leads = untold;
-    stays = untold;
-    interrupted = untold;
-    moves = untold;
-    kept = untold;
-    refused = untold;
-    cause = untold;
-  }
+  seeks-counted between (Ok n) same below counts = seeks-untold (Ok n) (omega (arith, same, counts)) tt (omega (arith, below, counts)) tt
   seeks-counted between (Err e) same below counts =
-      seeks-err e (omega (arith, same, counts.1)) (λ is. omega (arith, same, counts.1)) (inr (inl counts.0))
+      seeks-untold (Err e) (omega (arith, same, counts.1)) (λ is. omega (arith, same, counts.1)) tt (inr (inl counts.0))
 
   -- a target that is refused, where the device had no fault
   pub seeks-refused : (e : Error) → faults new ≡ faults old → IsNoDevice e → IsSeekRefusal seek_refuses e →
       Seeks (λ _. false) (λ _. false) (λ _. nothing) (λ _. 0) (λ _. nothing) faults (λ _. IsReadRefusal) seek_refuses old new to (Err e)
-  seeks-refused e same other why = seeks-err e (omega (arith, same)) (λ is. absurd (other is)) (inl why)
+  seeks-refused e same other why = seeks-untold (Err e) (omega (arith, same)) (λ is. absurd (other is)) tt (inl why)
 
 fitting : (fits : Bool) (n : ℕ) → IfErr {T = ℕ} (if fits then Ok n else Err PastEnd) (IsSeekRefusal seek_refuses)
 fitting true n = tt

@@ -1,7 +1,7 @@
-use Rattle.std.proofs.Common.{◌≡◌, ◌-◌, ◌<◌, ◌≤◌, inl, inr, subst, ◌∙◌, refl, arith, length, take, length-take-le}
+use Rattle.std.proofs.Common.{◌≡◌, ◌+◌, ◌-◌, ◌<◌, ◌≤◌, IsTrue, inl, inr, subst, ◌∙◌, refl, arith, length, take, length-take-le}
 use Rattle.std.proofs.lemmas.Grind.{common_steps}
 use Rattle.age_error.specs.Refusals.{IsDevice}
-use Rattle.age_io.specs.Reading.{IsQuiet}
+use Rattle.age_io.specs.ReadingLaws.{quiet_from}
 use Rattle.age_io.specs.Writing.{Retried}
 use Rattle.age_io.specs.WritingLaws.{narrows-same, retried-more}
 use Rattle.age_error.specs.ErrorLaws.{of_error}
@@ -12,52 +12,24 @@ use Rattle.age_io.proofs.PartCopied.{none-copied, part-none, part-ended, part-fu
 use Rattle.age_io.proofs.PartCopied.{part-unread, part-refused, part-unwritten, part-more}
 use Rattle.age_io.proofs.copying.copy_some.Goals as goal
 
-pub returns-in_err-piece-clause-left : goal.returns-in_err-piece-clause-left
-returns-in_err-piece-clause-left g c =
-    let read = g.R.Read in
-    OnErr-of _ (left-unasked read g.W.Write.tells g.W.Write.appended
-    (λ given. length given ≤ c.args.count) c.args.reader.now c.args.writer.now (omega arith) (g.met.W.Write.appends_nothing c.args.writer.now))
-
-pub returns-in_err-got-clause-front : goal.returns-in_err-got-clause-front
-returns-in_err-got-clause-front g c = λ reader_told writer_told.
-    let read = g.R.Read in
-    part-front read g.W.Write.tells g.W.Write.appended
-    c.args.count c.pieces.left c.args.reader.now c.pieces.reader c.args.writer.now c.pieces.writer c.pieces.invariant.copied reader_told writer_told
-
-pub returns-in_err-got-clause-left : goal.returns-in_err-got-clause-left
-returns-in_err-got-clause-left g c =
-    let read = g.R.Read in
-    OnErr-of _ (part-unread read g.W.Write.tells g.W.Write.appended
-    c.args.count c.pieces.left c.args.reader.now c.pieces.reader c.read_retrying.new.reader c.args.writer.now c.pieces.writer
-    c.read_retrying.new.buf c.in_err-got.field-0.0 c.pieces.invariant.copied c.in_err-got.ensures.reads)
-
-pub returns-in_err-write_all-clause-front : goal.returns-in_err-write_all-clause-front
-returns-in_err-write_all-clause-front g c = λ reader_told writer_told.
-    let read = g.R.Read in
-    let before = c.pieces.invariant in
-    let reads = c.in_ok-got.ensures.reads in
-    let got = c.in_ok-got.got in
-    let bytes = take got c.read_retrying.new.buf in
-    let size : length bytes ≡ got = length-take-le got c.read_retrying.new.buf reads.count in
-    let fits : got ≤ c.pieces.left = grind (arith, common_steps, reads.count) in
-    let refused = c.in_err-write_all.ensures.writes.takes_front (before.writer_tells ∙ writer_told) in
-    part-refused read g.W.Write.tells g.W.Write.appended g.met.W.Write.joins
-    c.args.count c.pieces.left (c.pieces.left - got) c.args.reader.now c.pieces.reader c.read_retrying.new.reader
-    c.args.writer.now c.pieces.writer c.write_all.new.writer bytes refused.0
-    before.copied reader_told writer_told (omega (arith, size, fits)) (reads.bytes (before.copied.gives.same_tells ∙ reader_told)) refused.2
-
-pub returns-in_err-write_all-clause-left : goal.returns-in_err-write_all-clause-left
-returns-in_err-write_all-clause-left g c =
-    let read = g.R.Read in
-    let before = c.pieces.invariant in
-    let reads = c.in_ok-got.ensures.reads in
-    let got = c.in_ok-got.got in
-    let size : length (take got c.read_retrying.new.buf) ≡ got = length-take-le got c.read_retrying.new.buf reads.count in
-    let fits : got ≤ c.pieces.left = grind (arith, common_steps, reads.count) in
-    OnErr-of _ (part-unwritten read g.W.Write.tells g.W.Write.appended g.met.W.Write.joins
-    c.args.count c.pieces.left (c.pieces.left - got) c.args.reader.now c.pieces.reader c.read_retrying.new.reader
-    c.args.writer.now c.pieces.writer c.write_all.new.writer c.read_retrying.new.buf got
-    before.copied (omega (arith, size, fits)) reads (λ told. c.in_err-write_all.ensures.writes.takes_front (before.writer_tells ∙ told)))
+pub returns-in_err-piece : goal.returns-in_err-piece
+returns-in_err-piece g c =
+    let none = g.met.W.Write.appends_nothing c.args.writer.now in
+    let memory = c.in_err-piece.ensures.memory in
+    let refused = c.from_residual.ensures.0 in
+    let is = c.from_residual.ensures.1 in
+    record {
+      tells = refl;
+      part = λ told writer_told. OnOk-refused _ _ refused;
+      front = λ told writer_told. none-copied g.W.Write.appended _ c.args.writer.now none;
+      stands = OnOk-refused _ _ refused;
+      left = OnErr-of _ (left-unasked g.R.Read g.W.Write.tells g.W.Write.appended
+          (λ given. length given ≤ c.args.count) c.args.reader.now c.args.writer.now (omega arith) none);
+      device = of_error _ _ _ is (λ fault. absurd (subst IsDevice memory fault));
+      why = λ told well quiet. of_error _ _ _ is (inl memory);
+      named = of_error _ _ _ is (inl memory);
+      narrows = OnOk-refused _ _ refused;
+    }
 
 pub pieces-init : goal.pieces-init
 pieces-init g c =
@@ -92,159 +64,113 @@ pieces-preserved g c =
           before.copied (omega (arith, size, fits)) reads (λ told. writes.takes_all (before.writer_tells ∙ told));
     }
 
-pub returns-in_err-piece-clause-stands : goal.returns-in_err-piece-clause-stands
-returns-in_err-piece-clause-stands g c = OnOk-refused _ _ c.from_residual.ensures.0
-
-pub returns-in_err-piece-clause-narrows : goal.returns-in_err-piece-clause-narrows
-returns-in_err-piece-clause-narrows g c = OnOk-refused _ _ c.from_residual.ensures.0
-
-pub returns-in_err-piece-clause-part : goal.returns-in_err-piece-clause-part
-returns-in_err-piece-clause-part g c = λ told writer_told. OnOk-refused _ _ c.from_residual.ensures.0
-
-pub returns-in_err-piece-clause-front : goal.returns-in_err-piece-clause-front
-returns-in_err-piece-clause-front g c = λ told writer_told.
-    none-copied g.W.Write.appended _ c.args.writer.now (g.met.W.Write.appends_nothing c.args.writer.now)
-
-pub returns-in_err-piece-clause-device : goal.returns-in_err-piece-clause-device
-returns-in_err-piece-clause-device g c = of_error _ _ _ c.from_residual.ensures.1 (λ is. absurd (subst IsDevice c.in_err-piece.ensures.memory is))
-
-pub returns-in_err-piece-clause-why : goal.returns-in_err-piece-clause-why
-returns-in_err-piece-clause-why g c = λ told well quiet. of_error _ _ _ c.from_residual.ensures.1 (inl c.in_err-piece.ensures.memory)
-
-pub returns-in_err-piece-clause-named : goal.returns-in_err-piece-clause-named
-returns-in_err-piece-clause-named g c = of_error _ _ _ c.from_residual.ensures.1 (inl c.in_err-piece.ensures.memory)
-
-pub returns-in_err-got-clause-tells : goal.returns-in_err-got-clause-tells
-returns-in_err-got-clause-tells g c = c.pieces.invariant.writer_tells
-
-pub returns-in_err-got-clause-part : goal.returns-in_err-got-clause-part
-returns-in_err-got-clause-part g c = λ told writer_told. OnOk-refused _ _ c.from_residual-in_err-got.ensures.0
-
-pub returns-in_err-got-clause-stands : goal.returns-in_err-got-clause-stands
-returns-in_err-got-clause-stands g c = OnOk-refused _ _ c.from_residual-in_err-got.ensures.0
-
-pub returns-in_err-got-clause-narrows : goal.returns-in_err-got-clause-narrows
-returns-in_err-got-clause-narrows g c = OnOk-refused _ _ c.from_residual-in_err-got.ensures.0
-
-pub returns-in_err-got-clause-device : goal.returns-in_err-got-clause-device
-returns-in_err-got-clause-device g c =
+pub returns-in_err-got : goal.returns-in_err-got
+returns-in_err-got g c =
     let before = c.pieces.invariant in
+    let gives = before.copied.gives in
     let reads = c.in_err-got.ensures.reads in
-    of_error _ _ _ c.from_residual-in_err-got.ensures.1 (λ is. inl (omega (arith, before.copied.gives.no_fewer_faults, reads.device is)))
-
-pub returns-in_err-got-clause-why : goal.returns-in_err-got-clause-why
-returns-in_err-got-clause-why g c = λ told well quiet.
-    let gives = c.pieces.invariant.copied.gives in
-    let reads = c.in_err-got.ensures.reads in
-    let still : IsQuiet (g.R.Read.faults c.pieces.reader) (g.R.Read.faults c.read_retrying.new.reader) =
-    record { same = omega (arith, quiet.same, gives.no_fewer_faults, reads.no_fewer_faults); below = quiet.below } in
-    let memory = well-is-no-fault c.in_err-got.field-0.0 _ _ _ (reads.cause (gives.same_tells ∙ told)) still ((gives.bytes told).end ∙ well) in
-    of_error _ _ _ c.from_residual-in_err-got.ensures.1 (inl memory)
-
-pub returns-in_err-got-clause-named : goal.returns-in_err-got-clause-named
-returns-in_err-got-clause-named g c =
     let e = c.in_err-got.field-0.0 in
-    of_error _ _ e c.from_residual-in_err-got.ensures.1 (inr (inl (c.pieces.invariant.copied.gives.narrows e c.in_err-got.ensures.reads.why)))
+    let refused = c.from_residual-in_err-got.ensures.0 in
+    let is = c.from_residual-in_err-got.ensures.1 in
+    record {
+      tells = before.writer_tells;
+      part = λ told writer_told. OnOk-refused _ _ refused;
+      front = λ told writer_told.
+          part-front g.R.Read g.W.Write.tells g.W.Write.appended
+          c.args.count c.pieces.left c.args.reader.now c.pieces.reader c.args.writer.now c.pieces.writer before.copied told writer_told;
+      stands = OnOk-refused _ _ refused;
+      left = OnErr-of _ (part-unread g.R.Read g.W.Write.tells g.W.Write.appended
+          c.args.count c.pieces.left c.args.reader.now c.pieces.reader c.read_retrying.new.reader c.args.writer.now c.pieces.writer
+          c.read_retrying.new.buf e before.copied reads);
+      device = of_error _ _ _ is (λ fault. inl (omega (arith, gives.no_fewer_faults, reads.device fault)));
+      why = λ told well quiet.
+          of_error _ _ _ is (inl (well-is-no-fault e _ _ _ (reads.cause (gives.same_tells ∙ told))
+          (quiet_from gives.no_fewer_faults reads.no_fewer_faults quiet) ((gives.bytes told).end ∙ well)));
+      named = of_error _ _ _ is (inr (inl (gives.narrows e reads.why)));
+      narrows = OnOk-refused _ _ refused;
+    }
 
-pub returns-in_err-write_all-clause-tells : goal.returns-in_err-write_all-clause-tells
-returns-in_err-write_all-clause-tells g c = c.in_err-write_all.ensures.writes.same_tells ∙ c.pieces.invariant.writer_tells
-
-pub returns-in_err-write_all-clause-part : goal.returns-in_err-write_all-clause-part
-returns-in_err-write_all-clause-part g c = λ told writer_told. OnOk-refused _ _ c.from_residual-in_err-write_all.ensures.0
-
-pub returns-in_err-write_all-clause-stands : goal.returns-in_err-write_all-clause-stands
-returns-in_err-write_all-clause-stands g c = OnOk-refused _ _ c.from_residual-in_err-write_all.ensures.0
-
-pub returns-in_err-write_all-clause-narrows : goal.returns-in_err-write_all-clause-narrows
-returns-in_err-write_all-clause-narrows g c = OnOk-refused _ _ c.from_residual-in_err-write_all.ensures.0
-
-pub returns-in_err-write_all-clause-device : goal.returns-in_err-write_all-clause-device
-returns-in_err-write_all-clause-device g c =
+pub returns-in_err-write_all : goal.returns-in_err-write_all
+returns-in_err-write_all g c =
+    let read = g.R.Read in
     let before = c.pieces.invariant in
+    let reads = c.in_ok-got.ensures.reads in
     let writes = c.in_err-write_all.ensures.writes in
-    of_error _ _ _ c.from_residual-in_err-write_all.ensures.1 (λ is. inr (omega (arith, before.writer_faults, writes.device is)))
-
-pub returns-in_err-write_all-clause-why : goal.returns-in_err-write_all-clause-why
-returns-in_err-write_all-clause-why g c = λ reader_told well quiet.
-    let before = c.pieces.invariant in
-    let reads = c.in_ok-got.ensures.reads in
     let refuses = Retried g.W.Write.refuses in
     let e = c.in_err-write_all.field-0.0 in
+    let refused = c.from_residual-in_err-write_all.ensures.0 in
+    let is = c.from_residual-in_err-write_all.ensures.1 in
     let got = c.in_ok-got.got in
     let piece = take got c.read_retrying.new.buf in
     let size : length piece ≡ got = length-take-le got c.read_retrying.new.buf reads.count in
     let fits : got ≤ c.pieces.left = grind (arith, common_steps, reads.count) in
-    let refused : refuses c.args.writer.now c.args.count e =
+    let whole : c.pieces.left ≡ length piece + (c.pieces.left - got) = omega (arith, size, fits) in
+    let took = λ (told : IsTrue (g.W.Write.tells c.args.writer.now)). writes.takes_front (before.writer_tells ∙ told) in
+    let why : refuses c.args.writer.now c.args.count e =
     left-refused refuses (retried-more g.W.Write.refuses g.met.W.Write.refuses_more) c.args.writer.now c.pieces.writer
-    c.args.count c.pieces.left (length piece) e (omega (arith, size, fits)) before.has_left c.in_err-write_all.ensures.writes.why in
-    of_error _ _ e c.from_residual-in_err-write_all.ensures.1 (inr refused)
+    c.args.count c.pieces.left (length piece) e (omega (arith, size, fits)) before.has_left writes.why in
+    record {
+      tells = writes.same_tells ∙ before.writer_tells;
+      part = λ told writer_told. OnOk-refused _ _ refused;
+      front = λ told writer_told.
+          part-refused read g.W.Write.tells g.W.Write.appended g.met.W.Write.joins
+          c.args.count c.pieces.left (c.pieces.left - got) c.args.reader.now c.pieces.reader c.read_retrying.new.reader
+          c.args.writer.now c.pieces.writer c.write_all.new.writer piece (took writer_told).0
+          before.copied told writer_told whole (reads.bytes (before.copied.gives.same_tells ∙ told)) (took writer_told).2;
+      stands = OnOk-refused _ _ refused;
+      left = OnErr-of _ (part-unwritten read g.W.Write.tells g.W.Write.appended g.met.W.Write.joins
+          c.args.count c.pieces.left (c.pieces.left - got) c.args.reader.now c.pieces.reader c.read_retrying.new.reader
+          c.args.writer.now c.pieces.writer c.write_all.new.writer c.read_retrying.new.buf got before.copied whole reads took);
+      device = of_error _ _ _ is (λ fault. inr (omega (arith, before.writer_faults, writes.device fault)));
+      why = λ told well quiet. of_error _ _ _ is (inr why);
+      named = of_error _ _ _ is (inr (inr why));
+      narrows = OnOk-refused _ _ refused;
+    }
 
-pub returns-in_err-write_all-clause-named : goal.returns-in_err-write_all-clause-named
-returns-in_err-write_all-clause-named g c =
+pub returns-then-got-eq0 : goal.returns-then-got-eq0
+returns-then-got-eq0 g c =
     let before = c.pieces.invariant in
     let reads = c.in_ok-got.ensures.reads in
-    let refuses = Retried g.W.Write.refuses in
-    let e = c.in_err-write_all.field-0.0 in
-    let got = c.in_ok-got.got in
-    let piece = take got c.read_retrying.new.buf in
-    let size : length piece ≡ got = length-take-le got c.read_retrying.new.buf reads.count in
-    let fits : got ≤ c.pieces.left = grind (arith, common_steps, reads.count) in
-    let refused : refuses c.args.writer.now c.args.count e =
-    left-refused refuses (retried-more g.W.Write.refuses g.met.W.Write.refuses_more) c.args.writer.now c.pieces.writer
-    c.args.count c.pieces.left (length piece) e (omega (arith, size, fits)) before.has_left c.in_err-write_all.ensures.writes.why in
-    of_error _ _ e c.from_residual-in_err-write_all.ensures.1 (inr (inr refused))
-
-pub returns-then-got-eq0-clause-tells : goal.returns-then-got-eq0-clause-tells
-returns-then-got-eq0-clause-tells g c = c.pieces.invariant.writer_tells
-
-pub returns-then-got-eq0-clause-front : goal.returns-then-got-eq0-clause-front
-returns-then-got-eq0-clause-front g c = λ told writer_told.
-    part-front g.R.Read g.W.Write.tells g.W.Write.appended
-    c.args.count c.pieces.left c.args.reader.now c.pieces.reader c.args.writer.now c.pieces.writer c.pieces.invariant.copied told writer_told
-
-pub returns-then-got-eq0-clause-part : goal.returns-then-got-eq0-clause-part
-returns-then-got-eq0-clause-part g c = λ told writer_told.
-    let before = c.pieces.invariant in
-    let reads = c.in_ok-got.ensures.reads in
+    let none : c.in_ok-got.got ≡ 0 = omega (arith, c.if-got-eq0.true) in
     let some : 0 < length c.read_retrying.new.buf = grind (arith, common_steps, before.room) in
-    part-ended g.R.Read g.W.Write.tells g.W.Write.appended
-    c.args.count c.pieces.left c.args.reader.now c.pieces.reader c.args.writer.now c.pieces.writer before.copied told writer_told
-    (reads.end (before.copied.gives.same_tells ∙ told) (omega (arith, c.if-got-eq0.true)) some)
+    record {
+      tells = before.writer_tells;
+      part = λ told writer_told.
+          part-ended g.R.Read g.W.Write.tells g.W.Write.appended
+          c.args.count c.pieces.left c.args.reader.now c.pieces.reader c.args.writer.now c.pieces.writer before.copied told writer_told
+          (reads.end (before.copied.gives.same_tells ∙ told) none some);
+      front = λ told writer_told.
+          part-front g.R.Read g.W.Write.tells g.W.Write.appended
+          c.args.count c.pieces.left c.args.reader.now c.pieces.reader c.args.writer.now c.pieces.writer before.copied told writer_told;
+      stands =
+          part-stands g.R.Read g.W.Write.tells g.W.Write.appended
+          c.args.count c.pieces.left c.args.reader.now c.pieces.reader c.read_retrying.new.reader c.args.writer.now c.pieces.writer
+          c.read_retrying.new.buf c.in_ok-got.got none before.copied reads some;
+      left = tt;
+      device = tt;
+      why = λ told well quiet. tt;
+      named = tt;
+      narrows = (before.has_left.given, omega (arith, before.has_left.joined), before.has_left.narrows);
+    }
 
-pub returns-then-got-eq0-clause-stands : goal.returns-then-got-eq0-clause-stands
-returns-then-got-eq0-clause-stands g c =
+pub returns : goal.returns
+returns g c =
     let before = c.pieces.invariant in
-    let some : 0 < length c.read_retrying.new.buf = grind (arith, common_steps, before.room) in
-    part-stands g.R.Read g.W.Write.tells g.W.Write.appended
-    c.args.count c.pieces.left c.args.reader.now c.pieces.reader c.read_retrying.new.reader c.args.writer.now c.pieces.writer
-    c.read_retrying.new.buf c.in_ok-got.got (omega (arith, c.if-got-eq0.true)) before.copied c.in_ok-got.ensures.reads some
-
-pub returns-then-got-eq0-clause-narrows : goal.returns-then-got-eq0-clause-narrows
-returns-then-got-eq0-clause-narrows g c =
-    let left = c.pieces.invariant.has_left in
-    (left.given, omega (arith, left.joined), left.narrows)
-
-pub returns-clause-tells : goal.returns-clause-tells
-returns-clause-tells g c = c.pieces.invariant.writer_tells
-
-pub returns-clause-front : goal.returns-clause-front
-returns-clause-front g c = λ told writer_told.
-    part-front g.R.Read g.W.Write.tells g.W.Write.appended
-    c.args.count c.pieces.left c.args.reader.now c.pieces.reader c.args.writer.now c.pieces.writer c.pieces.invariant.copied told writer_told
-
-pub returns-clause-part : goal.returns-clause-part
-returns-clause-part g c = λ told writer_told.
-    part-full g.R.Read g.W.Write.tells g.W.Write.appended
-    c.args.count c.pieces.left c.args.reader.now c.pieces.reader c.args.writer.now c.pieces.writer c.pieces.invariant.copied told writer_told
-    (omega (arith, c.pieces-test.false))
-
-pub returns-clause-stands : goal.returns-clause-stands
-returns-clause-stands g c =
-    part-stands-full g.R.Read g.W.Write.tells g.W.Write.appended
-    c.args.count c.pieces.left c.args.reader.now c.pieces.reader c.args.writer.now c.pieces.writer c.pieces.invariant.copied
-    (omega (arith, c.pieces-test.false))
-
-pub returns-clause-narrows : goal.returns-clause-narrows
-returns-clause-narrows g c =
-    let left = c.pieces.invariant.has_left in
-    (left.given, omega (arith, left.joined), left.narrows)
+    let none : c.pieces.left ≡ 0 = omega (arith, c.pieces-test.false) in
+    record {
+      tells = before.writer_tells;
+      part = λ told writer_told.
+          part-full g.R.Read g.W.Write.tells g.W.Write.appended
+          c.args.count c.pieces.left c.args.reader.now c.pieces.reader c.args.writer.now c.pieces.writer before.copied told writer_told none;
+      front = λ told writer_told.
+          part-front g.R.Read g.W.Write.tells g.W.Write.appended
+          c.args.count c.pieces.left c.args.reader.now c.pieces.reader c.args.writer.now c.pieces.writer before.copied told writer_told;
+      stands =
+          part-stands-full g.R.Read g.W.Write.tells g.W.Write.appended
+          c.args.count c.pieces.left c.args.reader.now c.pieces.reader c.args.writer.now c.pieces.writer before.copied none;
+      left = tt;
+      device = tt;
+      why = λ told well quiet. tt;
+      named = tt;
+      narrows = (before.has_left.given, omega (arith, before.has_left.joined), before.has_left.narrows);
+    }

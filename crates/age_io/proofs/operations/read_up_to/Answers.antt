@@ -1,7 +1,7 @@
 use Rattle.std.proofs.Common.{arith, ◌∙◌, ◌≡◌, ◌+◌, ◌++◌, take, length, vec_len}
 use Rattle.std.proofs.lemmas.Grind.{common_steps}
 use Rattle.std.proofs.lemmas.Result.{IfOk-from_err}
-use Rattle.age_io.specs.Reading.{IsQuiet}
+use Rattle.age_io.specs.ReadingLaws.{quiet_from}
 use Rattle.age_io.proofs.Delivering.{gives-more}
 use Rattle.age_io.proofs.Reaching.{Reached-more}
 use Rattle.age_io.proofs.Keeping.{same-later, same-read}
@@ -65,8 +65,6 @@ pub returns-in-Err-clause-reply : goal.returns-in-Err-clause-reply
 returns-in-Err-clause-reply g c = λ told well at quiet other.
     let before = c.reads.invariant in
     let reads = c.in-Err.ensures in
-    let still : IsQuiet (g.R.Read.faults c.reads.reader) (g.R.Read.faults c.read.new.self) =
-    record { same = omega (arith, quiet.same, before.same.faults, reads.no_fewer_faults); below = quiet.below } in
     absurd (well-no-fault (g.R.Read.content c.args.reader.now) (g.R.Read.rest c.args.reader.now) (g.R.Read.rest c.reads.reader)
     (g.R.Read.place c.args.reader.now) well at
-    (before.gives.bytes told) (reads.cause (before.same.tells ∙ told) other still))
+    (before.gives.bytes told) (reads.cause (before.same.tells ∙ told) other (quiet_from before.same.faults reads.no_fewer_faults quiet)))

@@ -1,14 +1,7 @@
-use Rattle.std.proofs.Common.{◌<◌, length}
-use Rattle.age_error.specs.declared.io.Error.TheVariants.{Device}
-use Rattle.age_error.specs.declared.io.ErrorKind.TheVariants.{Interrupted}
-use Rattle.age_io.proofs.Appending.{Untouched}
+use Rattle.std.proofs.Common.{length}
+use Rattle.age_io.proofs.Appending.{InterruptedWrites}
 use Rattle.age_io.proofs.retry.write_retrying.Given as goal
 
 abbrev pub invariant-loop-try : goal.invariant-loop-try
 invariant-loop-try g l =
-    let writer = g.W.Write in
-    record {
-      untouched : Untouched writer.tells writer.faults writer.refuses writer.appended l.fn.writer l.writer;
-      rose : 0 < l._try → writer.faults l.fn.writer < writer.faults l.writer;
-      worn : 0 < l._try → writer.refuses l.fn.writer (length l.bytes) (Device Interrupted);
-    }
+    InterruptedWrites g.W.Write (length l.bytes) l.fn.writer l.writer l._try

@@ -2,7 +2,8 @@ use Rattle.std.proofs.Common.{◌≡◌, ◌<◌, arith, ◌∙◌, ◌-◌, len
 use Rattle.std.proofs.lemmas.Slice.{take-put_mid_below}
 use Rattle.std.proofs.lemmas.Grind.{common_steps}
 use Rattle.age_io.proofs.Delivering.{Delivers-joined, take-filled}
-use Rattle.age_io.specs.Reading.{IsQuiet, TriedAgain}
+use Rattle.age_io.specs.Reading.{TriedAgain}
+use Rattle.age_io.specs.ReadingLaws.{quiet_from}
 use Rattle.age_io.proofs.Appending.{OnErr-of}
 use Rattle.age_error.specs.ErrorLaws.{of_error}
 use Rattle.age_io.proofs.Exiting.{OnOk-refused}
@@ -63,9 +64,7 @@ pub returns-in_err-n-clause-cause : goal.returns-in_err-n-clause-cause
 returns-in_err-n-clause-cause g c = λ told. of_error _ _ _ c.from_residual.ensures.1 (λ other quiet.
     let before = c.reads.invariant in
     let reads = c.in_err-n.ensures.reads in
-    let still : IsQuiet (g.R.Read.faults c.reads.reader) (g.R.Read.faults c.read_retrying.new.reader) =
-    record { same = omega (arith, quiet.same, before.same.faults, reads.no_fewer_faults); below = quiet.below } in
-    let fault = reads.cause (before.same.tells ∙ told) other still in
+    let fault = reads.cause (before.same.tells ∙ told) other (quiet_from before.same.faults reads.no_fewer_faults quiet) in
     let size : length (take c.reads.filled c.reads.buf) ≡ c.reads.filled = length-take-le c.reads.filled c.reads.buf before.within in
     fault-early (take c.reads.filled c.reads.buf) (g.R.Read.rest c.args.reader.now) (g.R.Read.rest c.reads.reader) (before.so_far told) _
     (grind (arith, common_steps, size)) fault)

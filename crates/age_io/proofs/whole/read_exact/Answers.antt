@@ -3,7 +3,7 @@ use Rattle.std.proofs.lemmas.Grind.{common_steps}
 use Rattle.age_io.proofs.Delivering.{Delivers-joined, take-filled}
 use Rattle.age_error.specs.declared.io.Error.TheVariants.{UnexpectedEof}
 use Rattle.age_io.specs.Keeping.{OrEarly}
-use Rattle.age_io.specs.Reading.{IsQuiet}
+use Rattle.age_io.specs.ReadingLaws.{quiet_from}
 use Rattle.age_io.proofs.Appending.{OnErr-of}
 use Rattle.age_error.specs.ErrorLaws.{of_error}
 use Rattle.age_io.proofs.Exiting.{OnOk-refused}
@@ -58,9 +58,7 @@ pub returns-in_err-n-clause-early : goal.returns-in_err-n-clause-early
 returns-in_err-n-clause-early g c = λ told. of_error _ _ _ c.from_residual.ensures.1 (λ other quiet.
     let before = c.loop-at.invariant in
     let reads = c.in_err-n.ensures.reads in
-    let still : IsQuiet (g.R.Read.faults c.loop-at.reader) (g.R.Read.faults c.read_retrying.new.reader) =
-    record { same = omega (arith, quiet.same, before.same.faults, reads.no_fewer_faults); below = quiet.below } in
-    let fault = reads.cause (before.same.tells ∙ told) other still in
+    let fault = reads.cause (before.same.tells ∙ told) other (quiet_from before.same.faults reads.no_fewer_faults quiet) in
     let size : length (take c.loop-at.at c.loop-at.buf) ≡ c.loop-at.at = length-take-le c.loop-at.at c.loop-at.buf before.within in
     fault-short (take c.loop-at.at c.loop-at.buf) (g.R.Read.rest c.args.reader.now) (g.R.Read.rest c.loop-at.reader) (before.so_far told) _ _
     (grind (arith, common_steps, size)) fault)

@@ -1,8 +1,9 @@
 use Rattle.age_io.proofs.Appending.{OnErr-of}
-use Rattle.std.proofs.Common.{◌≡◌, ◌<◌, ◌⊎◌, arith, refl, sym, ap, length, take, ◌++◌, ◌∙◌, inl, inr}
+use Rattle.std.proofs.Common.{◌≡◌, ◌<◌, ◌⊎◌, IsTrue, arith, refl, sym, ap, length, take, ◌++◌, ◌∙◌, inl, inr}
 use Rattle.std.proofs.lemmas.Result.{IfOk-from_err}
 use Rattle.age_error.specs.declared.io.Error.TheVariants.{OutOfMemory}
-use Rattle.age_io.specs.Reading.{IsQuiet, TriedAgain}
+use Rattle.age_io.specs.Reading.{TriedAgain}
+use Rattle.age_io.specs.ReadingLaws.{quiet_from}
 use Rattle.age_error.specs.ErrorLaws.{of_error}
 use Rattle.age_io.proofs.Exiting.{OnOk-refused}
 use Rattle.age_io.proofs.Stopping.{keeps-by-read, keeps-memory, appended-front, grown-all, still-clean}
@@ -24,8 +25,23 @@ never g c =
       c.in_ok-count.ensures.reads.count,
     )
 
-pub returns-in_err-room-clause-err : goal.returns-in_err-room-clause-err
-returns-in_err-room-clause-err g c = λ told. OnErr-of c.from_residual.result (Appended-none (g.R.Read.rest c.args.reader.now) c.args.buf.now.items)
+pub returns-in_err-room : goal.returns-in_err-room
+returns-in_err-room g c =
+    let memory = c.in_err-room.ensures.memory in
+    let refused = c.from_residual.ensures.0 in
+    let is = c.from_residual.ensures.1 in
+    record {
+      keeps = keeps-memory g.R.Read (λ r e. (e ≡ OutOfMemory) ⊎ TriedAgain g.R.Read.refuses r e) _ c.args.reader.now c.args.reader.now c.in_err-room.field-0.0
+          is memory (same-self g.R.Read c.args.reader.now) (inl refl);
+      unspent = OnOk-refused _ _ refused;
+      bytes = λ told. OnOk-refused _ _ refused;
+      count = IfOk-from_err _ _ refused;
+      moves = λ told. refl;
+      end = λ told. OnOk-refused _ _ refused;
+      left = λ told. OnOk-refused _ _ refused;
+      err = λ told. OnErr-of _ (Appended-none (g.R.Read.rest c.args.reader.now) c.args.buf.now.items);
+      cause = λ told. of_error _ _ _ is (λ other. absurd (other memory));
+    }
 
 pub reads-preserved : goal.reads-preserved
 reads-preserved g c =
@@ -43,177 +59,78 @@ reads-preserved g c =
       so_far = λ told. Grown-more _ _ _ _ _ _ _ (before.so_far told) (reads.bytes (before.same.tells ∙ told)) (extended.items ∙ ap (λ l. l ++ take c.in_ok-count.count c.read_retrying.new.buf) spare.items);
     }
 
-pub returns-in_err-room-clause-keeps : goal.returns-in_err-room-clause-keeps
-returns-in_err-room-clause-keeps g c =
-    keeps-memory g.R.Read (λ r e. (e ≡ OutOfMemory) ⊎ TriedAgain g.R.Read.refuses r e) _ c.args.reader.now c.args.reader.now c.in_err-room.field-0.0
-    c.from_residual.ensures.1 c.in_err-room.ensures.memory (same-self g.R.Read c.args.reader.now) (inl refl)
-
-pub returns-in_err-room-clause-unspent : goal.returns-in_err-room-clause-unspent
-returns-in_err-room-clause-unspent g c = OnOk-refused _ _ c.from_residual.ensures.0
-
-pub returns-in_err-room-clause-bytes : goal.returns-in_err-room-clause-bytes
-returns-in_err-room-clause-bytes g c = λ told. OnOk-refused _ _ c.from_residual.ensures.0
-
-pub returns-in_err-room-clause-end : goal.returns-in_err-room-clause-end
-returns-in_err-room-clause-end g c = λ told. OnOk-refused _ _ c.from_residual.ensures.0
-
-pub returns-in_err-room-clause-left : goal.returns-in_err-room-clause-left
-returns-in_err-room-clause-left g c = λ told. OnOk-refused _ _ c.from_residual.ensures.0
-
-pub returns-in_err-room-clause-count : goal.returns-in_err-room-clause-count
-returns-in_err-room-clause-count g c = IfOk-from_err _ _ c.from_residual.ensures.0
-
-pub returns-in_err-room-clause-cause : goal.returns-in_err-room-clause-cause
-returns-in_err-room-clause-cause g c = λ told. of_error _ _ _ c.from_residual.ensures.1 (λ other. absurd (other c.in_err-room.ensures.memory))
-
-pub returns-in_err-wanted-clause-keeps : goal.returns-in_err-wanted-clause-keeps
-returns-in_err-wanted-clause-keeps g c =
-    keeps-memory g.R.Read (λ r e. (e ≡ OutOfMemory) ⊎ TriedAgain g.R.Read.refuses r e) _ c.args.reader.now c.reads.reader c.in_err-wanted.field-0.0
-    c.from_residual-in_err-wanted.ensures.1 c.in_err-wanted.ensures.memory c.reads.invariant.same (inl refl)
-
-pub returns-in_err-wanted-clause-unspent : goal.returns-in_err-wanted-clause-unspent
-returns-in_err-wanted-clause-unspent g c = OnOk-refused _ _ c.from_residual-in_err-wanted.ensures.0
-
-pub returns-in_err-wanted-clause-bytes : goal.returns-in_err-wanted-clause-bytes
-returns-in_err-wanted-clause-bytes g c = λ told. OnOk-refused _ _ c.from_residual-in_err-wanted.ensures.0
-
-pub returns-in_err-wanted-clause-end : goal.returns-in_err-wanted-clause-end
-returns-in_err-wanted-clause-end g c = λ told. OnOk-refused _ _ c.from_residual-in_err-wanted.ensures.0
-
-pub returns-in_err-wanted-clause-left : goal.returns-in_err-wanted-clause-left
-returns-in_err-wanted-clause-left g c = λ told. OnOk-refused _ _ c.from_residual-in_err-wanted.ensures.0
-
-pub returns-in_err-wanted-clause-count : goal.returns-in_err-wanted-clause-count
-returns-in_err-wanted-clause-count g c = IfOk-from_err _ _ c.from_residual-in_err-wanted.ensures.0
-
-pub returns-in_err-wanted-clause-cause : goal.returns-in_err-wanted-clause-cause
-returns-in_err-wanted-clause-cause g c = λ told. of_error _ _ _ c.from_residual-in_err-wanted.ensures.1 (λ other. absurd (other c.in_err-wanted.ensures.memory))
-
-pub returns-in_err-wanted-clause-err : goal.returns-in_err-wanted-clause-err
-returns-in_err-wanted-clause-err g c = λ told.
-    OnErr-of _ (appended-front c.args.buf.now.items c.reads.buf.items c.spare.new.buf.items (g.R.Read.rest c.args.reader.now) (g.R.Read.rest c.reads.reader)
-    (c.reads.invariant.so_far told)
-    c.in_err-wanted.ensures.items (g.R.Read.rest c.reads.reader) (inl refl))
-
-pub returns-in_err-wanted-clause-moves : goal.returns-in_err-wanted-clause-moves
-returns-in_err-wanted-clause-moves g c = λ told.
-    grind (arith, common_steps, c.in_err-wanted.ensures.items, c.reads.invariant.moved told)
-
-pub returns-in_err-count-clause-keeps : goal.returns-in_err-count-clause-keeps
-returns-in_err-count-clause-keeps g c =
+pub returns-in_err-wanted : goal.returns-in_err-wanted
+returns-in_err-wanted g c =
     let before = c.reads.invariant in
-    keeps-by-read g.R.Read (λ r e. (e ≡ OutOfMemory) ⊎ TriedAgain g.R.Read.refuses r e) _ c.args.reader.now c.reads.reader c.read_retrying.new.reader
-    c.in_err-count.field-0.0
-    c.from_residual-in_err-count.ensures.1 before.same before.narrows (λ e h. inr h) c.in_err-count.ensures.patient c.in_err-count.ensures.reads
+    let spare = c.in_err-wanted.ensures in
+    let refused = c.from_residual-in_err-wanted.ensures.0 in
+    let is = c.from_residual-in_err-wanted.ensures.1 in
+    record {
+      keeps = keeps-memory g.R.Read (λ r e. (e ≡ OutOfMemory) ⊎ TriedAgain g.R.Read.refuses r e) _ c.args.reader.now c.reads.reader c.in_err-wanted.field-0.0
+          is spare.memory before.same (inl refl);
+      unspent = OnOk-refused _ _ refused;
+      bytes = λ told. OnOk-refused _ _ refused;
+      count = IfOk-from_err _ _ refused;
+      moves = λ told. grind (arith, common_steps, spare.items, before.moved told);
+      end = λ told. OnOk-refused _ _ refused;
+      left = λ told. OnOk-refused _ _ refused;
+      err = λ told.
+          OnErr-of _ (appended-front c.args.buf.now.items c.reads.buf.items c.spare.new.buf.items (g.R.Read.rest c.args.reader.now) (g.R.Read.rest c.reads.reader)
+          (before.so_far told) spare.items (g.R.Read.rest c.reads.reader) (inl refl));
+      cause = λ told. of_error _ _ _ is (λ other. absurd (other spare.memory));
+    }
 
-pub returns-in_err-count-clause-unspent : goal.returns-in_err-count-clause-unspent
-returns-in_err-count-clause-unspent g c = OnOk-refused _ _ c.from_residual-in_err-count.ensures.0
-
-pub returns-in_err-count-clause-bytes : goal.returns-in_err-count-clause-bytes
-returns-in_err-count-clause-bytes g c = λ told. OnOk-refused _ _ c.from_residual-in_err-count.ensures.0
-
-pub returns-in_err-count-clause-end : goal.returns-in_err-count-clause-end
-returns-in_err-count-clause-end g c = λ told. OnOk-refused _ _ c.from_residual-in_err-count.ensures.0
-
-pub returns-in_err-count-clause-left : goal.returns-in_err-count-clause-left
-returns-in_err-count-clause-left g c = λ told. OnOk-refused _ _ c.from_residual-in_err-count.ensures.0
-
-pub returns-in_err-count-clause-count : goal.returns-in_err-count-clause-count
-returns-in_err-count-clause-count g c = IfOk-from_err _ _ c.from_residual-in_err-count.ensures.0
-
-pub returns-in_err-count-clause-cause : goal.returns-in_err-count-clause-cause
-returns-in_err-count-clause-cause g c = λ told. of_error _ _ _ c.from_residual-in_err-count.ensures.1 (λ other quiet.
+pub returns-in_err-count : goal.returns-in_err-count
+returns-in_err-count g c =
     let before = c.reads.invariant in
     let reads = c.in_err-count.ensures.reads in
-    let still : IsQuiet (g.R.Read.faults c.reads.reader) (g.R.Read.faults c.read_retrying.new.reader) =
-    record { same = omega (arith, quiet.same, before.same.faults, reads.no_fewer_faults); below = quiet.below } in
-    let fault = reads.cause (before.same.tells ∙ told) other still in
-    sym (before.so_far told).delivered.end ∙ fault.ends_badly)
+    let refused = c.from_residual-in_err-count.ensures.0 in
+    let is = c.from_residual-in_err-count.ensures.1 in
+    record {
+      keeps = keeps-by-read g.R.Read (λ r e. (e ≡ OutOfMemory) ⊎ TriedAgain g.R.Read.refuses r e) _ c.args.reader.now c.reads.reader c.read_retrying.new.reader
+          c.in_err-count.field-0.0 is before.same before.narrows (λ e h. inr h) c.in_err-count.ensures.patient reads;
+      unspent = OnOk-refused _ _ refused;
+      bytes = λ told. OnOk-refused _ _ refused;
+      count = IfOk-from_err _ _ refused;
+      moves = λ told.
+          let stays = reads.stays (before.same.tells ∙ told) in
+          grind (arith, common_steps, c.in_ok-wanted.ensures.items, before.moved told, stays);
+      end = λ told. OnOk-refused _ _ refused;
+      left = λ told. OnOk-refused _ _ refused;
+      err = λ told.
+          OnErr-of _ (appended-front c.args.buf.now.items c.reads.buf.items c.spare.new.buf.items (g.R.Read.rest c.args.reader.now) (g.R.Read.rest c.reads.reader)
+          (before.so_far told) c.in_ok-wanted.ensures.items (g.R.Read.rest c.read_retrying.new.reader) (reads.left (before.same.tells ∙ told)));
+      cause = λ told. of_error _ _ _ is (λ other quiet.
+          let fault = reads.cause (before.same.tells ∙ told) other (quiet_from before.same.faults reads.no_fewer_faults quiet) in
+          sym (before.so_far told).delivered.end ∙ fault.ends_badly);
+    }
 
-pub returns-in_err-count-clause-err : goal.returns-in_err-count-clause-err
-returns-in_err-count-clause-err g c = λ told.
-    OnErr-of _ (appended-front c.args.buf.now.items c.reads.buf.items c.spare.new.buf.items (g.R.Read.rest c.args.reader.now) (g.R.Read.rest c.reads.reader)
-    (c.reads.invariant.so_far told)
-    c.in_ok-wanted.ensures.items (g.R.Read.rest c.read_retrying.new.reader) (c.in_err-count.ensures.reads.left (c.reads.invariant.same.tells ∙ told)))
-
-pub returns-in_err-count-clause-moves : goal.returns-in_err-count-clause-moves
-returns-in_err-count-clause-moves g c = λ told.
-    let before = c.reads.invariant in
-    let stays = c.in_err-count.ensures.reads.stays (before.same.tells ∙ told) in
-    grind (arith, common_steps, c.in_ok-wanted.ensures.items, before.moved told, stays)
-
-pub returns-then-count-eq0-clause-keeps : goal.returns-then-count-eq0-clause-keeps
-returns-then-count-eq0-clause-keeps g c =
-    let before = c.reads.invariant in
-    let reads = c.in_ok-count.ensures.reads in
-    keeps-done g.R.Read (λ r e. (e ≡ OutOfMemory) ⊎ TriedAgain g.R.Read.refuses r e) c.args.reader.now c.read_retrying.new.reader
-    (same-later g.R.Read c.args.reader.now c.reads.reader c.read_retrying.new.reader before.same
-    (same-read g.R.Read c.reads.reader c.read_retrying.new.reader reads))
-    (λ e h. before.narrows e (reads.narrows e h))
-
-pub returns-then-count-eq0-clause-unspent : goal.returns-then-count-eq0-clause-unspent
-returns-then-count-eq0-clause-unspent g c =
+pub returns-then-count-eq0 : goal.returns-then-count-eq0
+returns-then-count-eq0 g c =
     let before = c.reads.invariant in
     let reads = c.in_ok-count.ensures.reads in
+    let items = c.in_ok-wanted.ensures.items in
     let some : 0 < length c.read_retrying.new.buf = grind (arith, common_steps, before.some_room, c.in_ok-wanted.ensures.some) in
-    reads.unspent some
+    let clean = λ (told : IsTrue (g.R.Read.tells c.args.reader.now)). reads.end (before.same.tells ∙ told) c.if-count-eq0.true some in
+    record {
+      keeps = keeps-done g.R.Read (λ r e. (e ≡ OutOfMemory) ⊎ TriedAgain g.R.Read.refuses r e) c.args.reader.now c.read_retrying.new.reader
+          (same-later g.R.Read c.args.reader.now c.reads.reader c.read_retrying.new.reader before.same
+          (same-read g.R.Read c.reads.reader c.read_retrying.new.reader reads))
+          (λ e h. before.narrows e (reads.narrows e h));
+      unspent = reads.unspent some;
+      bytes = λ told.
+          grown-all c.args.buf.now.items c.reads.buf.items c.spare.new.buf.items (g.R.Read.rest c.args.reader.now) (g.R.Read.rest c.reads.reader)
+          (before.so_far told) items (clean told);
+      count = grind (arith, common_steps, items, before.longer, before.start);
+      moves = λ told. grind (arith, common_steps, items, before.moved told, reads.moves (before.same.tells ∙ told), c.if-count-eq0.true);
+      end = λ told. sym (before.so_far told).delivered.end ∙ (clean told).ends_well;
+      left = λ told.
+          still-clean (before.so_far told).front (g.R.Read.rest c.args.reader.now) (g.R.Read.rest c.reads.reader) (before.so_far told).delivered
+          (g.R.Read.rest c.read_retrying.new.reader) c.read_retrying.new.buf c.in_ok-count.count c.if-count-eq0.true
+          (reads.bytes (before.same.tells ∙ told)) (clean told);
+      err = λ told. tt;
+      cause = λ told. tt;
+    }
 
-pub returns-then-count-eq0-clause-bytes : goal.returns-then-count-eq0-clause-bytes
-returns-then-count-eq0-clause-bytes g c = λ told.
-    let before = c.reads.invariant in
-    let reads = c.in_ok-count.ensures.reads in
-    let some : 0 < length c.read_retrying.new.buf = grind (arith, common_steps, before.some_room, c.in_ok-wanted.ensures.some) in
-    let clean = reads.end (before.same.tells ∙ told) c.if-count-eq0.true some in
-    grown-all c.args.buf.now.items c.reads.buf.items c.spare.new.buf.items (g.R.Read.rest c.args.reader.now) (g.R.Read.rest c.reads.reader)
-    (c.reads.invariant.so_far told)
-    c.in_ok-wanted.ensures.items clean
-
-pub returns-then-count-eq0-clause-end : goal.returns-then-count-eq0-clause-end
-returns-then-count-eq0-clause-end g c = λ told.
-    let before = c.reads.invariant in
-    let reads = c.in_ok-count.ensures.reads in
-    let some : 0 < length c.read_retrying.new.buf = grind (arith, common_steps, before.some_room, c.in_ok-wanted.ensures.some) in
-    let clean = reads.end (before.same.tells ∙ told) c.if-count-eq0.true some in
-    sym (before.so_far told).delivered.end ∙ clean.ends_well
-
-pub returns-then-count-eq0-clause-left : goal.returns-then-count-eq0-clause-left
-returns-then-count-eq0-clause-left g c = λ told.
-    let before = c.reads.invariant in
-    let reads = c.in_ok-count.ensures.reads in
-    let some : 0 < length c.read_retrying.new.buf = grind (arith, common_steps, before.some_room, c.in_ok-wanted.ensures.some) in
-    let clean = reads.end (before.same.tells ∙ told) c.if-count-eq0.true some in
-    still-clean (before.so_far told).front (g.R.Read.rest c.args.reader.now) (g.R.Read.rest c.reads.reader) (before.so_far told).delivered
-    (g.R.Read.rest c.read_retrying.new.reader) c.read_retrying.new.buf c.in_ok-count.count c.if-count-eq0.true (reads.bytes (before.same.tells ∙ told)) clean
-
-pub returns-then-count-eq0-clause-moves : goal.returns-then-count-eq0-clause-moves
-returns-then-count-eq0-clause-moves g c = λ told.
-    let before = c.reads.invariant in
-    let reads = c.in_ok-count.ensures.reads in
-    grind (arith, common_steps, c.in_ok-wanted.ensures.items, before.moved told, reads.moves (before.same.tells ∙ told), c.if-count-eq0.true)
-
-pub returns-in_err-extend_from_slice-clause-keeps : goal.returns-in_err-extend_from_slice-clause-keeps
-returns-in_err-extend_from_slice-clause-keeps g c = absurd (never g c)
-
-pub returns-in_err-extend_from_slice-clause-unspent : goal.returns-in_err-extend_from_slice-clause-unspent
-returns-in_err-extend_from_slice-clause-unspent g c = absurd (never g c)
-
-pub returns-in_err-extend_from_slice-clause-bytes : goal.returns-in_err-extend_from_slice-clause-bytes
-returns-in_err-extend_from_slice-clause-bytes g c = absurd (never g c)
-
-pub returns-in_err-extend_from_slice-clause-count : goal.returns-in_err-extend_from_slice-clause-count
-returns-in_err-extend_from_slice-clause-count g c = absurd (never g c)
-
-pub returns-in_err-extend_from_slice-clause-moves : goal.returns-in_err-extend_from_slice-clause-moves
-returns-in_err-extend_from_slice-clause-moves g c = absurd (never g c)
-
-pub returns-in_err-extend_from_slice-clause-end : goal.returns-in_err-extend_from_slice-clause-end
-returns-in_err-extend_from_slice-clause-end g c = absurd (never g c)
-
-pub returns-in_err-extend_from_slice-clause-left : goal.returns-in_err-extend_from_slice-clause-left
-returns-in_err-extend_from_slice-clause-left g c = absurd (never g c)
-
-pub returns-in_err-extend_from_slice-clause-err : goal.returns-in_err-extend_from_slice-clause-err
-returns-in_err-extend_from_slice-clause-err g c = absurd (never g c)
-
-pub returns-in_err-extend_from_slice-clause-cause : goal.returns-in_err-extend_from_slice-clause-cause
-returns-in_err-extend_from_slice-clause-cause g c = absurd (never g c)
+pub returns-in_err-extend_from_slice : goal.returns-in_err-extend_from_slice
+returns-in_err-extend_from_slice g c = absurd (never g c)

@@ -4,7 +4,7 @@ use Rattle.age_io.specs.Buffered.{place_of}
 use Rattle.age_io.specs.Buffering.{held}
 use Rattle.age_io.specs.Cursor.{IsOutside, MayLead, sought}
 use Rattle.age_io.specs.Stretch.{from_place}
-use Rattle.age_io.specs.Reading.{IsQuiet}
+use Rattle.age_io.specs.ReadingLaws.{quiet_from}
 use Rattle.age_io.proofs.Holding.{rest-empty, kept-behind}
 use Rattle.age_io.proofs.buffered.BufReaderSeek.seek.Goals as goal
 
@@ -135,7 +135,5 @@ returns-after-self-clause-seeks g c =
           subst (λ p. sought c.args.to p (length (read.content old.inner).bytes) ≡ Err e) place
           (subst (λ s. sought c.args.to (read.place between.inner) (length s.bytes) ≡ Err e) content refused);
       cause = λ told well other quiet.
-          let still : IsQuiet (read.faults between.inner) (read.faults new) =
-          record { same = omega (arith, quiet.same, same.faults, seeks.no_fewer_faults); below = quiet.below } in
-          seeks.cause (same.tells ∙ told) (ap (λ s. s.ends_well) (same.content told) ∙ well) other still;
+          seeks.cause (same.tells ∙ told) (ap (λ s. s.ends_well) (same.content told) ∙ well) other (quiet_from same.faults seeks.no_fewer_faults quiet);
     }
