@@ -12,3 +12,4 @@ pub mod InTurn
 pub mod Moving
 pub mod Copied
 pub mod PartCopied
+pub mod Filled

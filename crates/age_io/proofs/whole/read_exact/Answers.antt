@@ -1,6 +1,7 @@
 use Rattle.std.proofs.Common.{◌≡◌, ◌<◌, arith, refl, sym, ◌∙◌, ◌-◌, length, take, length-take-le, inl, inr}
 use Rattle.std.proofs.lemmas.Grind.{common_steps}
-use Rattle.age_io.proofs.Delivering.{Delivers-joined, take-filled}
+use Rattle.age_io.proofs.Delivering.{take-filled}
+use Rattle.age_io.proofs.Filled.{filled-more}
 use Rattle.age_error.specs.declared.io.Error.TheVariants.{UnexpectedEof}
 use Rattle.age_io.specs.Keeping.{OrEarly}
 use Rattle.age_io.specs.ReadingLaws.{quiet_from}
@@ -14,54 +15,33 @@ use Rattle.age_io.proofs.whole.read_exact.Goals as goal
 pub loop-at-preserved : goal.loop-at-preserved
 loop-at-preserved g c =
     let before = c.loop-at.invariant in
-    let got = c.in_ok-n.ensures.reads in
+    let reads = c.in_ok-n.ensures.reads in
+    filled-more g.R.Read c.loop-at.buf _ c.read_retrying.new.buf c.loop-at.at c.in_ok-n.n c.args.reader.now c.loop-at.reader c.read_retrying.new.reader
+    (take-filled c.loop-at.at (length c.loop-at.buf - c.loop-at.at) c.in_ok-n.n c.loop-at.buf c.read_retrying.new.buf before.within reads.count)
+    (grind (arith, common_steps, before.within, reads.count)) (grind (arith, common_steps, before.within)) before reads
+
+pub returns-in_err-n : goal.returns-in_err-n
+returns-in_err-n g c =
+    let before = c.loop-at.invariant in
+    let reads = c.in_err-n.ensures.reads in
+    let refused = c.from_residual.ensures.0 in
+    let is = c.from_residual.ensures.1 in
+    let front = take c.loop-at.at c.loop-at.buf in
+    let size : length front ≡ c.loop-at.at = length-take-le c.loop-at.at c.loop-at.buf before.within in
     record {
-      same = same-later g.R.Read c.args.reader.now c.loop-at.reader c.read_retrying.new.reader before.same (same-read g.R.Read c.loop-at.reader c.read_retrying.new.reader got);
-      narrows = λ e h. before.narrows e (got.narrows e h);
-      within = grind (arith, common_steps);
-      moved = λ told. omega (arith, got.moves (before.same.tells ∙ told), before.moved told);
-      so_far = λ told.
-          let k = length c.loop-at.buf - c.loop-at.at in
-          let filled = take-filled c.loop-at.at k c.in_ok-n.n c.loop-at.buf c.read_retrying.new.buf
-          before.within got.count in
-          rw filled (Delivers-joined _ _ _ _ _ (before.so_far told)
-          (got.bytes (before.same.tells ∙ told)));
-      unspent = λ _. got.unspent (grind (arith, common_steps));
+      keeps = keeps-by-read g.R.Read (OrEarly g.R.Read) _ c.args.reader.now c.loop-at.reader c.read_retrying.new.reader c.in_err-n.field-0.0
+          is before.same before.narrows (λ e h. inr h) c.in_err-n.ensures.patient reads;
+      unspent = λ some. OnOk-refused _ _ refused;
+      bytes = λ told. OnOk-refused _ _ refused;
+      moves = λ told. OnOk-refused _ _ refused;
+      err = λ told.
+          OnErr-of _ (took-front front (g.R.Read.rest c.args.reader.now) (g.R.Read.rest c.loop-at.reader) (before.so_far told) _ _ _
+          (g.R.Read.rest c.read_retrying.new.reader) (grind (arith, common_steps, size))
+          (omega (arith, reads.stays (before.same.tells ∙ told), before.moved told, size)) (reads.left (before.same.tells ∙ told)));
+      early = λ told. of_error _ _ _ is (λ other quiet.
+          let fault = reads.cause (before.same.tells ∙ told) other (quiet_from before.same.faults reads.no_fewer_faults quiet) in
+          fault-short front (g.R.Read.rest c.args.reader.now) (g.R.Read.rest c.loop-at.reader) (before.so_far told) _ _ (grind (arith, common_steps, size)) fault);
     }
-
-pub returns-in_err-n-clause-keeps : goal.returns-in_err-n-clause-keeps
-returns-in_err-n-clause-keeps g c =
-    let before = c.loop-at.invariant in
-    let reads = c.in_err-n.ensures.reads in
-    keeps-by-read g.R.Read (OrEarly g.R.Read) _ c.args.reader.now c.loop-at.reader c.read_retrying.new.reader c.in_err-n.field-0.0
-    c.from_residual.ensures.1 before.same before.narrows (λ e h. inr h) c.in_err-n.ensures.patient reads
-
-pub returns-in_err-n-clause-unspent : goal.returns-in_err-n-clause-unspent
-returns-in_err-n-clause-unspent g c = λ some. OnOk-refused _ _ c.from_residual.ensures.0
-
-pub returns-in_err-n-clause-bytes : goal.returns-in_err-n-clause-bytes
-returns-in_err-n-clause-bytes g c = λ told. OnOk-refused _ _ c.from_residual.ensures.0
-
-pub returns-in_err-n-clause-moves : goal.returns-in_err-n-clause-moves
-returns-in_err-n-clause-moves g c = λ told. OnOk-refused _ _ c.from_residual.ensures.0
-
-pub returns-in_err-n-clause-err : goal.returns-in_err-n-clause-err
-returns-in_err-n-clause-err g c = λ told.
-    let before = c.loop-at.invariant in
-    let reads = c.in_err-n.ensures.reads in
-    let size : length (take c.loop-at.at c.loop-at.buf) ≡ c.loop-at.at = length-take-le c.loop-at.at c.loop-at.buf before.within in
-    OnErr-of _ (took-front (take c.loop-at.at c.loop-at.buf) (g.R.Read.rest c.args.reader.now) (g.R.Read.rest c.loop-at.reader) (before.so_far told) _ _ _
-    (g.R.Read.rest c.read_retrying.new.reader) (grind (arith, common_steps, size))
-    (omega (arith, reads.stays (before.same.tells ∙ told), before.moved told, size)) (reads.left (before.same.tells ∙ told)))
-
-pub returns-in_err-n-clause-early : goal.returns-in_err-n-clause-early
-returns-in_err-n-clause-early g c = λ told. of_error _ _ _ c.from_residual.ensures.1 (λ other quiet.
-    let before = c.loop-at.invariant in
-    let reads = c.in_err-n.ensures.reads in
-    let fault = reads.cause (before.same.tells ∙ told) other (quiet_from before.same.faults reads.no_fewer_faults quiet) in
-    let size : length (take c.loop-at.at c.loop-at.buf) ≡ c.loop-at.at = length-take-le c.loop-at.at c.loop-at.buf before.within in
-    fault-short (take c.loop-at.at c.loop-at.buf) (g.R.Read.rest c.args.reader.now) (g.R.Read.rest c.loop-at.reader) (before.so_far told) _ _
-    (grind (arith, common_steps, size)) fault)
 
 pub returns-in-0-clause-keeps : goal.returns-in-0-clause-keeps
 returns-in-0-clause-keeps g c =
