@@ -13,16 +13,21 @@ use Rattle.age_stream.specs.OpeningLaws.{Shorter}
 use Rattle.age_stream.specs.Chunks.{chunk_of, prepend, after_last, delivered}
 use Rattle.age_stream.specs.ChunkLaws.{delivered-chunk, delivered-refused, delivered-cut}
 use Rattle.age_stream.specs.WellLaws.{accepted, delivered-nothing}
-use Rattle.age_stream.specs.Reading.{payload_at, text_at, behind, rest_of, spare, IsFront, IsHeld, IsPast, IsBefore, IsInside, IsSound, TookText}
+use Rattle.age_stream.specs.Reading.{payload_at, text_at, behind, rest_of, spare, IsFront, IsHeld, IsPast, IsBefore, IsInside, IsSound, TookBytes, TookText}
 use Rattle.age_stream.specs.ReadingLaws.{taken-rest}
 use Rattle.age_stream.proofs.TextLengths.{length-text, plain-inside}
 
 -- ---- lists
 
--- what was read into room for a full text
-pub took-text : (buf : List ℕ) (count : ℕ) (before after : Stretch) → length buf ≡ 65552 → count ≤ length buf → Delivers (take count buf) before after →
-    (count < length buf → IsCleanEnd after) → TookText before after (take count buf)
-took-text buf count before after size fits came ended =
+-- a front that was replaced leaves the list as long as it was
+pub replaced-length : (asked : ℕ) (xs front : List ℕ) → length front ≡ length (take asked xs) → asked ≤ length xs → length (front ++ drop asked xs) ≡ length xs
+replaced-length asked xs front same fits =
+    length-append front (drop asked xs) ∙ omega (arith, same, length-take-le asked xs fits, length-drop asked xs)
+
+-- what was read into room for it
+pub took_text : (asked : ℕ) (buf : List ℕ) (count : ℕ) (before after : Stretch) → length buf ≡ asked → count ≤ length buf → Delivers (take count buf) before after →
+    (count < length buf → IsCleanEnd after) → TookBytes asked before after (take count buf)
+took_text asked buf count before after size fits came ended =
     let long : length (take count buf) ≡ count = length-take-le count buf fits in
     record { came = came; most = omega arith; ended = λ less. ended (omega (arith, long, size, less)) }
 

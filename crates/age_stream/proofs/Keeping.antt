@@ -1,26 +1,22 @@
 -- Steps that keep the payload, and what they are to a caller of the reader.
-use Rattle.std.specs.Prelude.{◌≡◌, ◌≢◌, ℕ, ◌<◌, ◌&&◌, ◌⊎◌, Bool, true, false, IsTrue, List, Result, IfOk, IfErr, OnOk, OnErr, Ok, Err}
-use Rattle.std.proofs.Common.{arith, ap, ◌∙◌, refl, sym, subst, inl, inr}
+use Rattle.std.specs.Prelude.{◌≡◌, ℕ, ◌&&◌, ◌⊎◌, Bool, true, false, IsTrue, Result, OnOk, Ok, Err}
+use Rattle.std.proofs.Common.{ap, ◌∙◌, refl, sym, subst, inl, inr}
 use Rattle.age_error.specs.Refusals.{IsDevice}
 use Rattle.age_error.specs.declared.io.Error.{Error}
-use Rattle.age_error.specs.declared.io.Error.TheVariants.{OutOfMemory, Failed, BadEnd}
-use Rattle.age_error.specs.declared.io.SeekFrom.{SeekFrom}
+use Rattle.age_error.specs.declared.io.Error.TheVariants.{Failed, BadEnd}
 use Rattle.age_suite.specs.declared.suite.Suite.{Ghosts as SuiteGhosts}
 use Rattle.age_io.specs.declared.traits.Read.{Ghosts}
-use Rattle.age_io.specs.Reading.{IsQuiet, AddsNoReason, Reads, TriedAgain, most_faults}
-use Rattle.age_io.specs.Cursor.{Seeks, IsOutside, IsSeekRefusal, OrTooLong}
+use Rattle.age_io.specs.Reading.{AddsNoReason, TriedAgain}
 use Rattle.age_io.specs.Keeping.{SameReader, KeepsReader}
 use Rattle.age_io.proofs.Keeping.{keeps-done, keeps-refused, keeps-later, keeps-more}
 use Rattle.age_stream.specs.declared.reader.StreamReader.{StreamReader}
 use Rattle.age_stream.specs.Chunks.{delivered}
 use Rattle.age_stream.specs.FrontToEnd.{StopsAt}
-use Rattle.age_stream.specs.Reader.{payload_of, tells_of, steady_of, content_of, place_of, plain_rest_of, faults_of, stops_of, refuses_of}
+use Rattle.age_stream.specs.Reader.{payload_of, tells_of, steady_of, content_of, stops_of, refuses_of}
 use Rattle.age_stream.specs.Reading.{payload_at}
 use Rattle.age_stream.specs.Keeping.{IsPayloadSeekRefusal, OwnOrInner, KeepsPayload}
 use Rattle.std.proofs.lemmas.Bool.{true≢false}
-use Rattle.age_io.specs.Stretch.{IsCleanEnd, IsFault}
-use Rattle.age_stream.proofs.Holding.{rest_failed}
-use Rattle.age_stream.proofs.Sound.{same-steady, inner-well}
+use Rattle.age_stream.proofs.Sound.{same-steady}
 
 -- a refusal that the reader below has no part in
 pub own-refusal : (below : Error → Type 0) (e : Error) → IsPayloadSeekRefusal (λ _. ⊥) e → IsPayloadSeekRefusal below e
@@ -137,103 +133,3 @@ module _ {S R : Type 0} {suite : SuiteGhosts S} {read : Ghosts R} where
       OnOk result ((e : Error) → refuses_of new e → refuses_of old e)
   ok_narrows (Ok x) old new keeps key good = stream_narrows new.failed old new (λ is. absurd (true≢false (sym is ∙ good))) keeps key
   ok_narrows (Err e) old new keeps key good = tt
-
-  -- A read that is refused leaves the reader failed.
-  pub read-refused : (old new : StreamReader S R suite read) (buf : List ℕ) (e : Error) →
-      KeepsPayload {T = Unit {0}} read (stops_of old) old.inner old.taken new.inner new.taken (Err e) → new.key ≡ old.key → place_of new ≡ place_of old →
-      new.failed ≡ true →
-      (IsTrue (tells_of old) → e ≢ OutOfMemory → IsQuiet (read.faults old.inner) (read.faults new.inner) → IsFault (plain_rest_of old)) →
-      Reads tells_of steady_of content_of place_of plain_rest_of faults_of refuses_of old new buf (Err e)
-  read-refused old new buf e keeps key place failed cause =
-      record {
-        count = tt;
-        same_tells = (stream-kept old new keeps key).0;
-        same_steady = (stream-kept old new keeps key).1;
-        no_fewer_faults = keeps.inner.same.faults;
-        device = keeps.inner.device;
-        unspent = tt;
-        why = inr keeps.inner.why;
-        narrows = tt;
-        again = λ i. absurd (keeps.inner.patient i);
-        same_content = content-kept old new keeps key;
-        bytes = λ _. tt;
-        moves = λ _. tt;
-        end = λ _. tt;
-        stays = λ _. place;
-        left = λ _. inr (rest_failed suite.opened new.key new.failed new.held new.at new.cache.chunk.items new.cache.last new.number (read.rest new.inner) failed);
-        interrupted = λ _ i. absurd (keeps.inner.patient i);
-        cause = cause;
-      }
-
-  -- A read after the last chunk.
-  pub read-at-end : (old new : StreamReader S R suite read) (buf : List ℕ) (result : Result ℕ Error) →
-      KeepsPayload read (stops_of old) old.inner old.taken new.inner new.taken result → new.key ≡ old.key → place_of new ≡ place_of old →
-      OnOk result (read.faults new.inner < most_faults) → IfOk result (λ n. n ≡ 0) →
-      (IsTrue (tells_of old) → OnOk result (IsCleanEnd (plain_rest_of old) × (plain_rest_of new ≡ plain_rest_of old))) →
-      OnErr result (new.failed ≡ true) → OnOk result (new.failed ≡ false) →
-      (IsTrue (tells_of old) → IfErr result (λ e. e ≢ OutOfMemory → IsQuiet (read.faults old.inner) (read.faults new.inner) → IsFault (plain_rest_of old))) →
-      Reads tells_of steady_of content_of place_of plain_rest_of faults_of refuses_of old new buf result
-  read-at-end old new buf (Err e) keeps key place unspent none end failed good cause =
-      read-refused old new buf e (payload-refused read old.inner new.inner old.taken new.taken e keeps) key place failed cause
-  read-at-end old new buf (Ok n) keeps key place unspent none end failed good cause =
-      record {
-        count = omega (arith, none);
-        same_tells = (stream-kept old new keeps key).0;
-        same_steady = (stream-kept old new keeps key).1;
-        no_fewer_faults = keeps.inner.same.faults;
-        device = tt;
-        unspent = λ _. unspent;
-        why = tt;
-        narrows = stream_narrows new.failed old new (λ is. absurd (true≢false (sym is ∙ good))) keeps key;
-        again = tt;
-        same_content = content-kept old new keeps key;
-        bytes = λ told. rw none (record { bytes = ap (λ s. s.bytes) (sym (end told).1); end = ap (λ s. s.ends_well) (end told).1 });
-        moves = λ _. omega (arith, none, place);
-        end = λ told _ _. (end told).0;
-        stays = λ _. tt;
-        left = λ _. tt;
-        interrupted = λ _. tt;
-        cause = λ _. tt;
-      }
-
-  -- why a seek is refused, told of the reader itself
-  pub sought-why : (below : Error → Type 0) (r : StreamReader S R suite read) (e : Error) → OwnOrInner read (IsPayloadSeekRefusal below) r.inner e →
-      IsSeekRefusal (OrTooLong below) e ⊎ refuses_of r e
-  sought-why below r e h = elim h [
-    | inl own ↦ elim own [
-      | inl seek ↦ inl seek
-      | inr payload ↦ elim payload [
-        | inl bad ↦ inr (inr (inl (subst (stops_of r) (sym bad) (record { is = tt; named = λ told. inl refl }))))
-        | inr memory ↦ inr (inr (inl (subst (stops_of r) (sym memory) (record { is = tt; named = λ told. inr (0, tt) }))))
-      ]
-    ]
-    | inr inner ↦ inr (inr (inr inner))
-  ]
-
-  -- A seek that is refused with an error that doesn't say that the target is outside.
-  pub seeks-failed : (below : Error → Type 0) (old new : StreamReader S R suite read) (to : SeekFrom) (e : Error) →
-      KeepsPayload {T = ℕ} read (IsPayloadSeekRefusal below) old.inner old.taken new.inner new.taken (Err e) → new.key ≡ old.key → place_of new ≡ place_of old → (IsOutside e → ⊥) →
-      (IsTrue (tells_of old) → IsTrue (payload_of old).ends_well → IsTrue (content_of old).ends_well → e ≢ OutOfMemory →
-      IsQuiet (read.faults old.inner) (read.faults new.inner) → ⊥) →
-      Seeks tells_of steady_of content_of place_of plain_rest_of faults_of refuses_of (OrTooLong below) old new to (Err e)
-  seeks-failed below old new to e keeps key place other cause =
-      record {
-        same_tells = (stream-kept old new keeps key).0;
-        same_steady = (stream-kept old new keeps key).1;
-        no_fewer_faults = keeps.inner.same.faults;
-        device = keeps.inner.device;
-        unspent = tt;
-        why = sought-why below old e keeps.inner.why;
-        narrows = tt;
-        again = λ i. absurd (keeps.inner.patient i);
-        missed = λ r. absurd (other r);
-        same_content = content-kept old new keeps key;
-        arrives = λ _. tt;
-        leads = λ _. tt;
-        stays = λ _. place;
-        interrupted = λ _ i. absurd (keeps.inner.patient i);
-        moves = λ _ _. tt;
-        kept = λ _ _ _ r. absurd (other r);
-        refused = λ _ _ r. absurd (other r);
-        cause = λ told well memory quiet. absurd (cause told (inner-well suite.opened old.key (payload_of old) well) well memory quiet);
-      }

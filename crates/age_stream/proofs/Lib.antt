@@ -16,6 +16,9 @@ pub mod Cached
 pub mod Moving
 pub mod Sound
 pub mod Keeping
+pub mod Stepping
+pub mod ReadSteps
+pub mod Seeks
 pub mod Ending
 pub mod Standing
 pub mod Remaining

@@ -1,5 +1,6 @@
 -- The chunks that a reader has opened.
-use Rattle.std.specs.Prelude.{◌≡◌, ℕ, ◌<◌, ◌==◌, ◌&&◌, ◌⊎◌, Bool, true, false, cond, Option, Some, None, option_map, List, length}
+use Rattle.std.specs.Prelude.{◌≡◌, ℕ, ◌+◌, ◌^◌, ◌≤◌, ◌<◌, ◌==◌, ◌&&◌, ◌⊎◌, Bool, true, false, cond, Option, Some, None, option_map, List, length}
+use Rattle.age_suite.specs.Suite.{one_more}
 use Rattle.age_io.specs.Stretch.{Stretch}
 use Rattle.age_stream.specs.declared.cache.Cache.{Cache}
 use Rattle.age_stream.specs.declared.cache.Opened.{Opened}
@@ -36,3 +37,18 @@ pub record IsKept (opened : List ℕ → List ℕ → List ℕ → Option (List 
 pub record IsText (payload : Stretch) (number : ℕ) (text : List ℕ) : Type 0 where
   pub is : text_at number payload ≡ text
   pub ended : length text < 65552 → payload.ends_well ≡ true
+
+-- Both are there as before, in whichever order, and the one that was used last is the same.
+pub record SameChunks (old new : Cache) : Type 0 where
+  pub has : (b : ℕ) → HasOne old b → HasOne new b
+  pub had : (b : ℕ) → HasOne new b → HasOne old b
+  pub same_last : last_used new ≡ last_used old
+
+-- The chunk of this number was brought to the front, by so many openings as there were before and after. The one that was used last is there, and both
+-- are where none was opened.
+pub record Brings (number : ℕ) (old new : Cache) (before after : ℕ) : Type 0 where
+  pub first : (new.judged ≡ true) × (new.number ≡ number) × (new.used ≡ true)
+  pub keeps_last : (b : ℕ) → last_used old ≡ Some b → HasOne new b
+  pub keeps : has_number number old.other ≡ true → (b : ℕ) → HasOne old b → HasOne new b
+  pub middle : new.last ≡ false → after ≤ before + 1
+  pub opened : before < 2 ^ 64 → (has_number number old.other ≡ true → ⊥) → one_more before ≤ after

@@ -14,8 +14,10 @@ pub mod Keeping
 pub mod TextLaws
 pub mod ReadingLaws
 pub mod Reader
+pub mod Steps
 pub mod Sending
 pub mod SendingLaws
 pub mod Writing
 pub mod WritingLaws
 pub mod Targets
+pub mod Seeking

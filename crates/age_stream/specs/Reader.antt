@@ -63,11 +63,13 @@ module _ {S R : Type 0} {suite : SuiteGhosts S} {read : Ghosts R} where
   abbrev pub IsAfterLast : StreamReader S R suite read → Type 0
   IsAfterLast r = (r.held ≡ true) × (r.cache.last ≡ true) × (r.at ≡ length r.cache.chunk.items)
 
-  -- it has the payload's last chunk opened as the last
+  -- it has the chunk of this number opened as the last
+  abbrev pub HasEnd : StreamReader S R suite read → ℕ → Type 0
+  HasEnd r number = ((r.held ≡ true) × (r.cache.last ≡ true) × (r.number ≡ number)) ⊎ HasLast r.cache number
+
+  -- and that is the payload's last chunk
   abbrev pub HoldsEnd : StreamReader S R suite read → Type 0
-  HoldsEnd r =
-      let final = final_chunk (length (payload_of r).bytes) in
-      (r.failed ≡ false) × (((r.held ≡ true) × (r.cache.last ≡ true) × (r.number ≡ final)) ⊎ HasLast r.cache final)
+  HoldsEnd r = (r.failed ≡ false) × HasEnd r (final_chunk (length (payload_of r).bytes))
 
   -- how often it opened a chunk
   abbrev pub opens_of : StreamReader S R suite read → ℕ

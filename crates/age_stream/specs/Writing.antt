@@ -45,6 +45,19 @@ pub record WasMade {S W : Type 0} (key : List ℕ) (inner : W) (writer : StreamW
   pub none_sealed : writer.sealed ≡ 0
   pub none_held : writer.held.items ≡ []
 
+-- it holds these bytes more, and has sent nothing
+pub record HoldsMore {S W : Type 0} (before : StreamWriter S W) (bytes : List ℕ) (after : StreamWriter S W) : Type 0 where
+  pub held : held_len after ≡ held_len before + length bytes
+  pub same_inner : after.inner ≡ before.inner
+  pub total : taken_len after ≡ taken_len before + length bytes
+  pub failed : after.failed ≡ before.failed
+
+-- it took some of so many bytes, and holds the last of them if it took all
+pub record TakesSome {S W : Type 0} (before : StreamWriter S W) (given taken : ℕ) (after : StreamWriter S W) : Type 0 where
+  pub count : (0 < taken) × (taken ≤ given)
+  pub total : taken_len after ≡ taken_len before + taken
+  pub last : taken ≡ given → 0 < held_len after
+
 -- why it refuses while it is given so many bytes: `Failed` where it failed earlier, else `TooLong` past 2^60 bytes in all, or
 -- because a chunk can't be sent
 abbrev pub Refused : {S W : Type 0} → (W → ℕ → Error → Type 0) → StreamWriter S W → ℕ → Error → Type 0

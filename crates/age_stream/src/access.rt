@@ -16,35 +16,18 @@ use age_io::{Read, Seek};
 use age_suite::suite::Suite;
 
 impl<S: Suite, R: Read> StreamReader<S, R> {
-    ghost use Rattle.age_stream.specs.Reader.{payload_of, key_of, place_of, stops_of};
+    ghost use Rattle.age_stream.specs.Reader.{key_of, place_of, stops_of};
+    ghost use Rattle.age_stream.specs.Steps.{ReadsFull, RefusesFull};
 
     // Reads until the buffer is full or the end. `filled` says how many bytes were read, also after a refusal.
     fn read_full(&mut self, buf: &mut [u8], filled: &mut usize) -> Result<(), Error>
         requires good { self.old.failed ≡ false }
         ensures keeps { KeepsPayload ⟦<R as Read>⟧ (stops_of self.old) self.old.inner self.old.taken self.new.inner self.new.taken result }
         ensures count { filled.new ≤ length buf.new }
-        ensures key { key_of self.new ≡ key_of self.old }
-        ensures moves { 65536 * self.new.number + self.new.at ≡ 65536 * self.old.number + self.old.at + filled.new }
-        ensures bytes { let reader = ⟦<StreamReader<S, R> as Read>⟧ in IsTrue (reader.tells self.old) → OnOk result
-            (Delivers (take filled.new buf.new) (reader.rest self.old) (reader.rest self.new)) }
-        ensures stored { let reader = ⟦<StreamReader<S, R> as Read>⟧ in IsTrue (reader.tells self.old) → OnOk result
-            (StandAt S.seal_of (key_of self.old) (payload_of self.old).bytes (place_of self.old) (take filled.new buf.new)) }
-        ensures end { let reader = ⟦<StreamReader<S, R> as Read>⟧ in IsTrue (reader.tells self.old) → OnOk result
-            (filled.new < length buf.new → IsCleanEnd (reader.rest self.new)) }
-        ensures ended { let reader = ⟦<StreamReader<S, R> as Read>⟧ in IsTrue (reader.tells self.old) → OnOk result
-            (filled.new < length buf.new → IsGoodEnd S.seal_of (key_of self.old) (payload_of self.old) (place_of self.new)) }
-        ensures cause { let reader = ⟦<StreamReader<S, R> as Read>⟧ in IsTrue (reader.tells self.old) → IfErr result (λ e. e ≢ OutOfMemory →
-            IsQuiet (reader.faults self.old) (reader.faults self.new) → (reader.rest self.old).ends_well ≡ false) }
-        ensures refused { let reader = ⟦<StreamReader<S, R> as Read>⟧ in IsTrue (reader.tells self.old) → IfErr result (λ e. e ≢ OutOfMemory →
-            IsQuiet (reader.faults self.old) (reader.faults self.new) → (R.rest self.old.inner).ends_well ≡ true →
-            StopsNear S.seal_of (key_of self.old) (payload_of self.old).bytes (place_of self.new) e) }
-        ensures inner_end { IsTrue (⟦<StreamReader<S, R> as Read>⟧.tells self.old) → OnOk result
-            ((R.rest self.new.inner).ends_well ≡ (R.rest self.old.inner).ends_well) }
-        ensures good { OnOk result (self.new.failed ≡ false) }
-        ensures fails { OnErr result (self.new.failed ≡ true) }
-        ensures short { OnErr result (filled.new < length buf.new) }
-        ensures counts { self.old.opens ≤ self.new.opens }
-        ensures opens { self.new.opens ≤ self.old.opens + length buf.new / 65536 + 3 }
+        ensures moves { (key_of self.new ≡ key_of self.old) × (place_of self.new ≡ place_of self.old + filled.new) }
+        ensures reads { OnOk result (ReadsFull self.old self.new (length buf.new) (take filled.new buf.new) filled.new) }
+        ensures refused { IfErr result (RefusesFull self.old self.new (length buf.new) filled.new) }
+        ensures opens { (self.old.opens ≤ self.new.opens) × (self.new.opens ≤ self.old.opens + length buf.new / 65536 + 3) }
     {
         *filled = 0;
         'reads: while *filled < buf.len() {

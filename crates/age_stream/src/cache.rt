@@ -1,13 +1,12 @@
 //! The chunks that a reader has opened: at most two, the one that it used last and another.
 ghost use Rattle.std.specs.Prelude.{◌≡◌, ◌≢◌, ℕ, ◌+◌, ◌≤◌, ◌<◌, ◌^◌, ◌⊎◌, Option, Some, None, IsSome, true, false, IsTrue, List, length, IfErr, OnOk, Ok, Err};
-ghost use Rattle.age_error.specs.Refusals.{IsDevice};
-ghost use Rattle.age_error.specs.declared.io.Error.TheVariants.{OutOfMemory, AfterLast};
+ghost use Rattle.age_error.specs.declared.io.Error.TheVariants.{OutOfMemory};
 ghost use Rattle.age_io.specs.Stretch.{Stretch};
 ghost use Rattle.age_suite.specs.Suite.{one_more};
 ghost use Rattle.age_stream.specs.Chunks.{chunk_of};
-ghost use Rattle.age_stream.specs.Keeping.{IsPayloadRefusal};
+ghost use Rattle.age_stream.specs.Keeping.{IsChunkRefusal};
 ghost use Rattle.age_stream.specs.Reading.{IsHeld};
-ghost use Rattle.age_stream.specs.Wholeness.{IsWhole};
+ghost use Rattle.age_stream.specs.Wholeness.{IsWhole, OpensTwice};
 
 use crate::reader::open_chunk;
 use age_error::io::Error;
@@ -41,7 +40,7 @@ pub(crate) struct Cache {
 
 impl Cache {
     ghost use Rattle.age_stream.specs.declared.cache.Opened.{Opened};
-    ghost use Rattle.age_stream.specs.Cache.{has_number, has_last, last_used, HasLast, HasOne, IsKept, IsText};
+    ghost use Rattle.age_stream.specs.Cache.{has_number, has_last, last_used, HasLast, HasOne, Brings, IsKept, IsText, SameChunks};
 
     // Whether it is the chunk of this number.
     fn is_chunk(opened: &Option<Opened>, number: u64) -> bool
@@ -100,9 +99,7 @@ impl Cache {
     // Exchanges the two.
     fn exchange(&mut self, alloc: Global)
         ensures kept { (opened : List ℕ → List ℕ → List ℕ → Option (List ℕ)) (key : List ℕ) (payload : Stretch) → IsKept opened key payload self.old → IsKept opened key payload self.new }
-        ensures has { (b : ℕ) → HasOne self.old b → HasOne self.new b }
-        ensures had { (b : ℕ) → HasOne self.new b → HasOne self.old b }
-        ensures same_last { last_used self.new ≡ last_used self.old }
+        ensures same { SameChunks self.old self.new }
         ensures brought { (b : ℕ) → has_number b self.old.other ≡ true → (self.new.judged ≡ true) × (self.new.number ≡ b) }
         ensures brought_last { (b : ℕ) → has_last b self.old.other ≡ true → (self.new.judged ≡ true) × (self.new.number ≡ b) × (self.new.last ≡ true) }
         ensures put { self.old.judged ≡ true → has_number self.old.number self.new.other ≡ true }
@@ -133,8 +130,7 @@ impl Cache {
         ensures kept { (opened : List ℕ → List ℕ → List ℕ → Option (List ℕ)) (key : List ℕ) (payload : Stretch) → IsKept opened key payload self.old → IsKept opened key payload self.new }
         ensures had { (b : ℕ) → HasOne self.new b → HasOne self.old b }
         ensures same_last { last_used self.new ≡ last_used self.old }
-        ensures other { self.new.other ≡ None }
-        ensures used { self.new.used ≡ true }
+        ensures alone { (self.new.other ≡ None) × (self.new.used ≡ true) }
     {
         if !self.used {
             self.exchange(alloc);
@@ -185,9 +181,7 @@ impl Cache {
         ensures found { IsTrue result → (self.new.judged ≡ true) × (self.new.number ≡ number) × (at < length self.new.chunk.items) }
         ensures none { result ≡ false → HasOne self.old number → (self.new.judged ≡ true) × (self.new.number ≡ number) × (length self.new.chunk.items ≤ at) }
         ensures kept { (opened : List ℕ → List ℕ → List ℕ → Option (List ℕ)) (key : List ℕ) (payload : Stretch) → IsKept opened key payload self.old → IsKept opened key payload self.new }
-        ensures has { (b : ℕ) → HasOne self.old b → HasOne self.new b }
-        ensures had { (b : ℕ) → HasOne self.new b → HasOne self.old b }
-        ensures same_last { last_used self.new ≡ last_used self.old }
+        ensures same { SameChunks self.old self.new }
     {
         if Cache::is_chunk(&self.other, number) {
             self.exchange(alloc);
@@ -200,9 +194,7 @@ impl Cache {
         ensures found { IsTrue result → (self.new.judged ≡ true) × (self.new.number ≡ number) × (self.new.last ≡ true) }
         ensures none { result ≡ false → HasLast self.old number → ⊥ }
         ensures kept { (opened : List ℕ → List ℕ → List ℕ → Option (List ℕ)) (key : List ℕ) (payload : Stretch) → IsKept opened key payload self.old → IsKept opened key payload self.new }
-        ensures has { (b : ℕ) → HasOne self.old b → HasOne self.new b }
-        ensures had { (b : ℕ) → HasOne self.new b → HasOne self.old b }
-        ensures same_last { last_used self.new ≡ last_used self.old }
+        ensures same { SameChunks self.old self.new }
     {
         if Cache::is_last_chunk(&self.other, number) {
             self.exchange(alloc);
@@ -222,19 +214,11 @@ impl Cache {
     ) -> Result<(), Error>
         requires { length text.now ≤ 65552 }
         ensures kept { (payload : Stretch) → IsKept S.opened key.now payload self.old → IsText payload number text.now → IsKept S.opened key.now payload self.new }
-        ensures first { OnOk result ((self.new.judged ≡ true) × (self.new.number ≡ number) × (self.new.used ≡ true)) }
+        ensures brings { OnOk result (Brings number self.old self.new opens.old opens.new) }
         ensures refused { IfErr result (λ e. (e ≡ OutOfMemory) ⊎ (chunk_of S.opened key.now number text.now ≡ Err e)) }
-        ensures device { IfErr result (λ e. IsDevice e → ⊥) }
-        ensures itself { IfErr result (λ e. e ≢ AfterLast) }
-        ensures named { IfErr result IsPayloadRefusal }
-        ensures keeps_last { OnOk result ((b : ℕ) → last_used self.old ≡ Some b → HasOne self.new b) }
-        ensures keeps { has_number number self.old.other ≡ true → OnOk result ((b : ℕ) → HasOne self.old b → HasOne self.new b) }
-        ensures fits { opens.old < 2 ^ 64 → opens.new < 2 ^ 64 }
-        ensures counts { opens.old < 2 ^ 64 → opens.old ≤ opens.new }
-        ensures opens { opens.new ≤ opens.old + 2 }
-        ensures middle { OnOk result (self.new.last ≡ false → opens.new ≤ opens.old + 1) }
+        ensures named { IfErr result IsChunkRefusal }
+        ensures opens { OpensTwice opens.old opens.new }
         ensures found { has_number number self.old.other ≡ true → opens.new ≡ opens.old }
-        ensures opened { opens.old < 2 ^ 64 → (has_number number self.old.other ≡ true → ⊥) → OnOk result (one_more opens.old ≤ opens.new) }
     {
         if Cache::is_chunk(&self.other, number) {
             self.exchange(alloc);

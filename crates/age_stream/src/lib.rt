@@ -9,5 +9,6 @@ pub mod nonce;
 pub mod reader;
 mod seeking;
 pub mod sizes;
+mod source;
 pub mod writer;
 mod writing;

@@ -10,10 +10,10 @@ ghost use Rattle.age_io.specs.Reading.{Reads, IsQuiet, Delivers, EndsEarly, most
 ghost use Rattle.age_stream.specs.Payload.{nonce, payload, LastIsNoMiddle};
 ghost use Rattle.age_stream.specs.Answering.{Gives, Refuses, RefusesItself, IsEnd, IsGoodEnd};
 ghost use Rattle.age_stream.specs.Chunks.{allowed, chunk_of, delivered};
-ghost use Rattle.age_stream.specs.Keeping.{IsPayloadRefusal, KeepsPayload, OwnOrInner, Stops};
+ghost use Rattle.age_stream.specs.Keeping.{IsChunkRefusal, KeepsPayload, OwnOrInner, Stops};
 ghost use Rattle.age_stream.specs.Reading.{payload_at, spare, IsSound, TookText};
 ghost use Rattle.age_stream.specs.Cache.{has_number, last_used, HasOne, IsKept};
-ghost use Rattle.age_stream.specs.Wholeness.{IsUnjudged};
+ghost use Rattle.age_stream.specs.Wholeness.{IsAllowedAt, IsOpening, IsUnjudged, OpensTwice};
 ghost use Rattle.age_suite.specs.Suite.{one_more};
 ghost use Rattle.age_stream.specs.ReadingLaws.{and-left, and-right, both-true, stream_stands, stream_spent};
 ghost use Rattle.age_stream.specs.OpeningLaws.{shorter, opens_bytes};
@@ -24,7 +24,7 @@ use crate::nonce::nonce_of;
 use crate::sizes::{CHUNK, MOST_CHUNKS};
 use age_error::bytes::{known_array, known_bytes};
 use age_error::io::Error;
-use age_io::{Read, fill, room_for};
+use age_io::{Read, room_for};
 use age_suite::suite::{Opens, Suite};
 use std::alloc::{AllocError, Global};
 use std::marker::PhantomData;
@@ -201,7 +201,8 @@ impl<S: Suite, R: Read> Read for StreamReader<S, R> {
 }
 
 impl<S: Suite, R: Read> StreamReader<S, R> {
-    ghost use Rattle.age_stream.specs.Reader.{payload_of, key_of, inner_of, inner_rest_of, wanted_of, HasFailed, HasSought, IsHolding, IsAfterLast, opens_of, stops_of};
+    ghost use Rattle.age_stream.specs.Reader.{payload_of, key_of, inner_of, inner_rest_of, place_of, wanted_of, HasFailed, HasSought, IsHolding, IsAfterLast, opens_of, stops_of};
+    ghost use Rattle.age_stream.specs.Steps.{AnswersRead, Ends, GivesHeld, Holds, Moves, OpensFew, Passes, ReadsChunks, RefusesAfter, RefusesChunk, Stays, StaysAt};
 
     /// A reader of the payload that begins where `inner` stands, under the payload key of 32 bytes. It stands before the
     /// first byte of the plaintext.
@@ -292,45 +293,12 @@ impl<S: Suite, R: Read> StreamReader<S, R> {
         ensures reads { let reader = ⟦<StreamReader<S, R> as Read>⟧ in
             Reads reader.tells reader.steady reader.content reader.place reader.rest reader.faults reader.refuses self.old self.new buf.new result }
         ensures keeps { KeepsPayload ⟦<R as Read>⟧ (stops_of self.old) self.old.inner self.old.taken self.new.inner self.new.taken result }
-        ensures key { self.new.key ≡ self.old.key }
-        ensures gives { let reader = ⟦<StreamReader<S, R> as Read>⟧ in IsTrue (reader.tells self.old) → IfOk result (λ n. 0 < n →
-            Gives S.seal_of self.old.key (payload_of self.old) (reader.place self.old) (length buf.old) (take n buf.new)) }
-        ensures refused { let reader = ⟦<StreamReader<S, R> as Read>⟧ in IsTrue (reader.tells self.old) → IfErr result (λ e. e ≢ OutOfMemory →
-            IsQuiet (R.faults self.old.inner) (R.faults self.new.inner) →
-            Refuses S.seal_of self.old.key (payload_of self.old) (R.rest self.old.inner) (wanted_of self.old) (reader.place self.old) e) }
-        ensures by_itself { let reader = ⟦<StreamReader<S, R> as Read>⟧ in IsTrue (reader.tells self.old) → (IsAfterLast self.old → ⊥) →
-            IfErr result (λ e. e ≢ OutOfMemory → IsQuiet (R.faults self.old.inner) (R.faults self.new.inner) →
-            RefusesItself S.seal_of self.old.key (payload_of self.old) (R.rest self.old.inner) (wanted_of self.old) (reader.place self.old) e) }
-        ensures after_last { IsTrue (⟦<StreamReader<S, R> as Read>⟧.tells self.old) → IsAfterLast self.old →
-            IfErr result (λ e. e ≢ OutOfMemory → IsQuiet (R.faults self.old.inner) (R.faults self.new.inner) →
-            EndsEarly 1 (R.rest self.old.inner) ⊎ (e ≡ AfterLast)) }
-        ensures ended { let reader = ⟦<StreamReader<S, R> as Read>⟧ in IsTrue (reader.tells self.old) → IfOk result (λ n. n ≡ 0 →
-            IsGoodEnd S.seal_of self.old.key (payload_of self.old) (reader.place self.old)) }
-        ensures sought { self.new.sought ≡ self.old.sought }
-        ensures beyond { IfOk result (λ n. drop n buf.new ≡ drop n buf.old) }
-        ensures untouched { OnErr result (buf.new ≡ buf.old) }
-        ensures fails { OnErr result (self.new.failed ≡ true) }
-        ensures good { OnOk result (self.new.failed ≡ false) }
-        ensures inner_end { IsTrue (⟦<StreamReader<S, R> as Read>⟧.tells self.old) → OnOk result
-            ((R.rest self.new.inner).ends_well ≡ (R.rest self.old.inner).ends_well) }
-        ensures counts { self.old.opens ≤ self.new.opens }
-        ensures opens { self.new.opens ≤ self.old.opens + 2 }
-        ensures held { IsHolding self.old → self.new.opens ≡ self.old.opens }
-        ensures at_end { IsAfterLast self.old → self.new.opens ≡ self.old.opens }
-        ensures opened { (IsHolding self.old → ⊥) → IfOk result (λ n. 0 < n → one_more self.old.opens ≤ self.new.opens) }
-        ensures uses { IfOk result (λ n. 0 < n → last_used self.new.cache ≡ Some ((65536 * self.old.number + self.old.at) / 65536)) }
-        ensures keeps_last { OnOk result ((b : ℕ) → last_used self.old.cache ≡ Some b → HasOne self.new.cache b) }
-        ensures has { IsHolding self.old ⊎ IsAfterLast self.old → OnOk result ((b : ℕ) → HasOne self.old.cache b → HasOne self.new.cache b) }
-        ensures same_last { IsAfterLast self.old → OnOk result (last_used self.new.cache ≡ last_used self.old.cache) }
-        ensures finds { IfOk result (λ n. 0 < n → (IsAfterLast self.new → ⊥) → HasOne self.new.cache ((65536 * self.new.number + self.new.at) / 65536) →
-            IsHolding self.new) }
-        ensures placed { IfOk result (λ n. 65536 * self.new.number + self.new.at ≡ 65536 * self.old.number + self.old.at + n) }
-        ensures stayed { OnErr result (65536 * self.new.number + self.new.at ≡ 65536 * self.old.number + self.old.at) }
-        ensures spared { OnOk result (self.new.opens + spare self.new.held self.new.cache.last + self.old.number
-            ≤ self.old.opens + spare self.old.held self.old.cache.last + self.new.number) }
-        ensures spent { self.new.opens + self.old.number ≤ self.old.opens + spare self.old.held self.old.cache.last + self.new.number }
+        ensures moves { Moves self.old self.new result }
+        ensures answers { AnswersRead self.old self.new buf.old buf.new result }
+        ensures opens { OpensFew self.old self.new result }
+        ensures chunks { ReadsChunks self.old self.new result }
     {
-        if self.held && self.cache.last && self.at == self.cache.chunk.len() {
+        if self.is_after_last() {
             return self.end();
         }
         match self.hold() {
@@ -339,38 +307,23 @@ impl<S: Suite, R: Read> StreamReader<S, R> {
         }
     }
 
+    // Whether it has come through a chunk that it holds as the last.
+    fn is_after_last(&self) -> bool
+        ensures yes { IsTrue result → IsAfterLast self.now }
+        ensures no { result ≡ false → IsAfterLast self.now → ⊥ }
+    {
+        self.held && self.cache.last && self.at == self.cache.chunk.len()
+    }
+
     // Holds a byte of the chunk at the place, or the last chunk, which is empty.
     fn hold(&mut self) -> Result<(), Error>
         requires good { self.old.failed ≡ false }
         requires more { self.old.held ≡ true → self.old.cache.last ≡ true → self.old.at < length self.old.cache.chunk.items }
         ensures keeps { KeepsPayload ⟦<R as Read>⟧ (stops_of self.old) self.old.inner self.old.taken self.new.inner self.new.taken result }
-        ensures key { self.new.key ≡ self.old.key }
-        ensures sought { self.new.sought ≡ self.old.sought }
-        ensures place { ⟦<StreamReader<S, R> as Read>⟧.place self.new ≡ ⟦<StreamReader<S, R> as Read>⟧.place self.old }
-        ensures good { OnOk result ((self.new.failed ≡ false) × (self.new.held ≡ true)) }
-        ensures rest { let reader = ⟦<StreamReader<S, R> as Read>⟧ in IsTrue (reader.tells self.old) → OnOk result
-            (reader.rest self.new ≡ reader.rest self.old) }
-        ensures end { let reader = ⟦<StreamReader<S, R> as Read>⟧ in IsTrue (reader.tells self.old) → OnOk result
-            (self.new.at ≡ length self.new.cache.chunk.items → IsCleanEnd (reader.rest self.old)) }
-        ensures ended { let reader = ⟦<StreamReader<S, R> as Read>⟧ in IsTrue (reader.tells self.old) → OnOk result
-            (self.new.at ≡ length self.new.cache.chunk.items → IsGoodEnd S.seal_of self.old.key (payload_of self.old) (reader.place self.old)) }
-        ensures fails { OnErr result (self.new.failed ≡ true) }
-        ensures cause { let reader = ⟦<StreamReader<S, R> as Read>⟧ in IsTrue (reader.tells self.old) → IfErr result (λ e. e ≢ OutOfMemory →
-            IsQuiet (R.faults self.old.inner) (R.faults self.new.inner) → IsFault (reader.rest self.old)) }
-        ensures refused { let reader = ⟦<StreamReader<S, R> as Read>⟧ in IsTrue (reader.tells self.old) → IfErr result (λ e. e ≢ OutOfMemory →
-            IsQuiet (R.faults self.old.inner) (R.faults self.new.inner) →
-            RefusesItself S.seal_of self.old.key (payload_of self.old) (R.rest self.old.inner) (wanted_of self.old) (reader.place self.old) e) }
-        ensures inner_end { IsTrue (⟦<StreamReader<S, R> as Read>⟧.tells self.old) → OnOk result
-            ((R.rest self.new.inner).ends_well ≡ (R.rest self.old.inner).ends_well) }
-        ensures counts { self.old.opens ≤ self.new.opens }
-        ensures opens { self.new.opens ≤ self.old.opens + 2 }
-        ensures held { IsHolding self.old → self.new.opens ≡ self.old.opens }
-        ensures opened { (IsHolding self.old → ⊥) → OnOk result (one_more self.old.opens ≤ self.new.opens) }
-        ensures keeps_last { OnOk result ((b : ℕ) → last_used self.old.cache ≡ Some b → HasOne self.new.cache b) }
-        ensures has { IsHolding self.old → OnOk result ((b : ℕ) → HasOne self.old.cache b → HasOne self.new.cache b) }
-        ensures spared { OnOk result (self.new.opens + spare self.new.held self.new.cache.last + self.old.number
-            ≤ self.old.opens + spare self.old.held self.old.cache.last + self.new.number) }
-        ensures spent { self.new.opens + self.old.number ≤ self.old.opens + spare self.old.held self.old.cache.last + self.new.number }
+        ensures stays { StaysAt self.old self.new }
+        ensures holds { OnOk result (Holds self.old self.new) }
+        ensures refused { IfErr result (RefusesChunk self.old self.new) }
+        ensures opens { OpensFew self.old self.new result }
     {
         self.pass();
         if self.held {
@@ -383,22 +336,11 @@ impl<S: Suite, R: Read> StreamReader<S, R> {
     fn pass(&mut self)
         requires good { self.old.failed ≡ false }
         requires more { self.old.held ≡ true → self.old.cache.last ≡ true → self.old.at < length self.old.cache.chunk.items }
-        ensures good { self.new.failed ≡ false }
+        ensures passes { Passes self.old self.new }
         ensures left { self.new.held ≡ true → self.new.at < length self.new.cache.chunk.items }
-        ensures still { IsHolding self.old → self.new.held ≡ false → has_number self.new.number self.new.cache.other ≡ true }
-        ensures was { self.new.held ≡ true → IsHolding self.old }
-        ensures next { self.new.held ≡ false → has_number self.new.number self.new.cache.other ≡ true → IsHolding self.old }
-        ensures cache { self.new.cache ≡ self.old.cache }
-        ensures wanted { wanted_of self.new ≡ wanted_of self.old }
+        ensures holding { (IsHolding self.old → IsHolding self.new) × (IsHolding self.new → IsHolding self.old) }
         ensures spared { self.new.opens + spare self.new.held self.new.cache.last + self.old.number
             ≤ self.old.opens + spare self.old.held self.old.cache.last + self.new.number }
-        ensures inner { self.new.inner ≡ self.old.inner }
-        ensures taken { self.new.taken ≡ self.old.taken }
-        ensures key { self.new.key ≡ self.old.key }
-        ensures sought { self.new.sought ≡ self.old.sought }
-        ensures place { ⟦<StreamReader<S, R> as Read>⟧.place self.new ≡ ⟦<StreamReader<S, R> as Read>⟧.place self.old }
-        ensures rest { ⟦<StreamReader<S, R> as Read>⟧.rest self.new ≡ ⟦<StreamReader<S, R> as Read>⟧.rest self.old }
-        ensures opens { self.new.opens ≡ self.old.opens }
     {
         if self.held && self.at == self.cache.chunk.len() {
             self.number += 1;
@@ -414,38 +356,14 @@ impl<S: Suite, R: Read> StreamReader<S, R> {
         requires last { self.old.cache.last ≡ true }
         requires given { self.old.at ≡ length self.old.cache.chunk.items }
         ensures keeps { KeepsPayload ⟦<R as Read>⟧ (stops_of self.old) self.old.inner self.old.taken self.new.inner self.new.taken result }
-        ensures unspent { OnOk result (R.faults self.new.inner < most_faults) }
+        ensures stays { Stays self.old self.new }
         ensures none { IfOk result (λ n. n ≡ 0) }
-        ensures key { self.new.key ≡ self.old.key }
-        ensures sought { self.new.sought ≡ self.old.sought }
-        ensures place { ⟦<StreamReader<S, R> as Read>⟧.place self.new ≡ ⟦<StreamReader<S, R> as Read>⟧.place self.old }
-        ensures end { let reader = ⟦<StreamReader<S, R> as Read>⟧ in IsTrue (reader.tells self.old) → OnOk result
-            (IsCleanEnd (reader.rest self.old) × (reader.rest self.new ≡ reader.rest self.old)) }
-        ensures ended { let reader = ⟦<StreamReader<S, R> as Read>⟧ in IsTrue (reader.tells self.old) → OnOk result
-            (IsGoodEnd S.seal_of self.old.key (payload_of self.old) (reader.place self.old)) }
-        ensures fails { OnErr result (self.new.failed ≡ true) }
-        ensures good { OnOk result (self.new.failed ≡ false) }
-        ensures cause { let reader = ⟦<StreamReader<S, R> as Read>⟧ in IsTrue (reader.tells self.old) → IfErr result (λ e. e ≢ OutOfMemory →
-            IsQuiet (R.faults self.old.inner) (R.faults self.new.inner) → IsFault (reader.rest self.old)) }
-        ensures refused { let reader = ⟦<StreamReader<S, R> as Read>⟧ in IsTrue (reader.tells self.old) → IfErr result (λ e. e ≢ OutOfMemory →
-            IsQuiet (R.faults self.old.inner) (R.faults self.new.inner) →
-            Refuses S.seal_of self.old.key (payload_of self.old) (R.rest self.old.inner) (wanted_of self.old) (reader.place self.old) e) }
-        ensures after_last { IsTrue (⟦<StreamReader<S, R> as Read>⟧.tells self.old) → IfErr result (λ e. e ≢ OutOfMemory →
-            IsQuiet (R.faults self.old.inner) (R.faults self.new.inner) → EndsEarly 1 (R.rest self.old.inner) ⊎ (e ≡ AfterLast)) }
-        ensures inner_end { IsTrue (⟦<StreamReader<S, R> as Read>⟧.tells self.old) → OnOk result
-            ((R.rest self.new.inner).ends_well ≡ (R.rest self.old.inner).ends_well) }
-        ensures same { (self.new.number ≡ self.old.number) × (self.new.held ≡ self.old.held) × (self.new.cache ≡ self.old.cache) }
-        ensures opens { self.new.opens ≡ self.old.opens }
+        ensures ends { OnOk result (Ends self.old self.new) }
+        ensures refused { IfErr result (RefusesAfter self.old self.new) }
     {
-        // It stays so on each way out but the last.
-        self.failed = true;
-        let mut byte = [0u8; 1];
-        let mut count = 0;
-        let answer = fill(&mut self.inner, &mut byte, &mut count);
-        self.taken = self.taken.saturating_add(count as u64);
-        match answer {
+        match self.take(1) {
             Err(e) => Err(e),
-            Ok(()) => {
+            Ok(count) => {
                 if count > 0 {
                     return Err(Error::AfterLast);
                 }
@@ -455,66 +373,17 @@ impl<S: Suite, R: Read> StreamReader<S, R> {
         }
     }
 
-    // Takes the next sealed text of the inner reader into the front of the room for one, and answers how long it is. Until it is opened
-    // the reader has failed.
-    pub(crate) fn take_text(&mut self) -> Result<usize, Error>
-        ensures same { (self.new.number ≡ self.old.number) × (self.new.at ≡ self.old.at) × (self.new.held ≡ self.old.held)
-            × (self.new.cache ≡ self.old.cache) × (self.new.key ≡ self.old.key)
-            × (self.new.opens ≡ self.old.opens) × (self.new.failed ≡ true) × (self.new.sought ≡ self.old.sought) }
-        ensures keeps { KeepsPayload ⟦<R as Read>⟧ (λ _. ⊥) self.old.inner self.old.taken self.new.inner self.new.taken result }
-        ensures unspent { OnOk result (R.faults self.new.inner < most_faults) }
-        ensures count { IfOk result (λ n. n ≤ 65552) }
-        ensures took { IsTrue (R.tells self.old.inner) → IfOk result (λ n.
-            TookText (R.rest self.old.inner) (R.rest self.new.inner) (take n self.new.sealed.items)) }
-        ensures moves { IsTrue (R.tells self.old.inner && R.steady self.old.inner) → IfOk result (λ n.
-            (R.place self.new.inner ≡ R.place self.old.inner + n) × (self.new.taken ≡ self.old.taken + n)) }
-        ensures cause { IsTrue (R.tells self.old.inner) → IfErr result (λ e. e ≢ OutOfMemory →
-            IsQuiet (R.faults self.old.inner) (R.faults self.new.inner) → EndsEarly 65552 (R.rest self.old.inner)) }
-    {
-        self.failed = true;
-        let mut count = 0;
-        let answer = fill(&mut self.inner, &mut self.sealed, &mut count);
-        self.taken = self.taken.saturating_add(count as u64);
-        match answer {
-            Err(e) => Err(e),
-            Ok(()) => Ok(count),
-        }
-    }
-
     // Reads and opens the chunk at the place.
     fn open(&mut self) -> Result<(), Error>
         requires good { self.old.failed ≡ false }
         requires closed { self.old.held ≡ false }
         ensures keeps { KeepsPayload ⟦<R as Read>⟧ (stops_of self.old) self.old.inner self.old.taken self.new.inner self.new.taken result }
-        ensures unspent { OnOk result (R.faults self.new.inner < most_faults) }
-        ensures key { self.new.key ≡ self.old.key }
-        ensures sought { self.new.sought ≡ self.old.sought }
-        ensures place { ⟦<StreamReader<S, R> as Read>⟧.place self.new ≡ ⟦<StreamReader<S, R> as Read>⟧.place self.old }
-        ensures good { OnOk result ((self.new.failed ≡ false) × (self.new.held ≡ true)) }
-        ensures rest { let reader = ⟦<StreamReader<S, R> as Read>⟧ in IsTrue (reader.tells self.old) → OnOk result
-            (reader.rest self.new ≡ reader.rest self.old) }
-        ensures end { let reader = ⟦<StreamReader<S, R> as Read>⟧ in IsTrue (reader.tells self.old) → OnOk result
-            (self.new.at ≡ length self.new.cache.chunk.items → IsCleanEnd (reader.rest self.old)) }
-        ensures ended { let reader = ⟦<StreamReader<S, R> as Read>⟧ in IsTrue (reader.tells self.old) → OnOk result
-            (self.new.at ≡ length self.new.cache.chunk.items → IsGoodEnd S.seal_of self.old.key (payload_of self.old) (reader.place self.old)) }
-        ensures fails { OnErr result (self.new.failed ≡ true) }
-        ensures cause { let reader = ⟦<StreamReader<S, R> as Read>⟧ in IsTrue (reader.tells self.old) → IfErr result (λ e. e ≢ OutOfMemory →
-            IsQuiet (R.faults self.old.inner) (R.faults self.new.inner) → IsFault (reader.rest self.old)) }
-        ensures refused { let reader = ⟦<StreamReader<S, R> as Read>⟧ in IsTrue (reader.tells self.old) → IfErr result (λ e. e ≢ OutOfMemory →
-            IsQuiet (R.faults self.old.inner) (R.faults self.new.inner) →
-            RefusesItself S.seal_of self.old.key (payload_of self.old) (R.rest self.old.inner) (wanted_of self.old) (reader.place self.old) e) }
-        ensures inner_end { IsTrue (⟦<StreamReader<S, R> as Read>⟧.tells self.old) → OnOk result
-            ((R.rest self.new.inner).ends_well ≡ (R.rest self.old.inner).ends_well) }
-        ensures number { self.new.number ≡ self.old.number }
-        ensures spared { OnOk result (self.new.opens + spare self.new.held self.new.cache.last ≤ self.old.opens + 2) }
-        ensures counts { self.old.opens ≤ self.new.opens }
-        ensures opens { self.new.opens ≤ self.old.opens + 2 }
-        ensures found { has_number self.old.number self.old.cache.other ≡ true → self.new.opens ≡ self.old.opens }
-        ensures opened { (has_number self.old.number self.old.cache.other ≡ true → ⊥) → OnOk result (one_more self.old.opens ≤ self.new.opens) }
-        ensures keeps_last { OnOk result ((b : ℕ) → last_used self.old.cache ≡ Some b → HasOne self.new.cache b) }
-        ensures has { has_number self.old.number self.old.cache.other ≡ true → OnOk result ((b : ℕ) → HasOne self.old.cache b → HasOne self.new.cache b) }
+        ensures stays { StaysAt self.old self.new }
+        ensures holds { OnOk result (Holds self.old self.new) }
+        ensures refused { IfErr result (RefusesChunk self.old self.new) }
+        ensures opens { OpensFew self.old self.new result }
     {
-        let count = match self.take_text() {
+        let count = match self.take(CHUNK) {
             Err(e) => return Err(e),
             Ok(count) => count,
         };
@@ -543,22 +412,14 @@ impl<S: Suite, R: Read> StreamReader<S, R> {
         requires good { self.old.failed ≡ false }
         requires held { self.old.held ≡ true }
         ensures count { result ≡ min (length buf.old) (length self.old.cache.chunk.items - self.old.at) }
-        ensures good { self.new.failed ≡ false }
-        ensures inner { self.new.inner ≡ self.old.inner }
-        ensures taken { self.new.taken ≡ self.old.taken }
-        ensures key { self.new.key ≡ self.old.key }
-        ensures sought { self.new.sought ≡ self.old.sought }
-        ensures front { take result buf.new ≡ take result (drop self.old.at self.old.cache.chunk.items) }
+        ensures held { GivesHeld self.old self.new }
+        ensures moves { place_of self.new ≡ place_of self.old + result }
         ensures beyond { drop result buf.new ≡ drop result buf.old }
         ensures bytes { Delivers (take result buf.new)
             (⟦<StreamReader<S, R> as Read>⟧.rest self.old) (⟦<StreamReader<S, R> as Read>⟧.rest self.new) }
-        ensures moves { ⟦<StreamReader<S, R> as Read>⟧.place self.new ≡ ⟦<StreamReader<S, R> as Read>⟧.place self.old + result }
         ensures gives { let reader = ⟦<StreamReader<S, R> as Read>⟧ in IsTrue (reader.tells self.old) → 0 < result →
             Gives S.seal_of self.old.key (payload_of self.old) (reader.place self.old) (length buf.old) (take result buf.new) }
-        ensures same { (self.new.number ≡ self.old.number) × (self.new.held ≡ self.old.held) × (self.new.cache.last ≡ self.old.cache.last) }
         ensures uses { 0 < result → last_used self.new.cache ≡ Some self.old.number }
-        ensures has { (b : ℕ) → HasOne self.old.cache b → HasOne self.new.cache b }
-        ensures opens { self.new.opens ≡ self.old.opens }
     {
         let count = buf.len().min(self.cache.chunk.len() - self.at);
         buf[..count].copy_from_slice(&self.cache.chunk[self.at..self.at + count]);
@@ -617,18 +478,9 @@ pub(crate) fn open_chunk<S: Suite>(
 ) -> Result<(Vec<u8>, bool), Error>
     ensures chunk { MatchResult result (λ found. chunk_of S.opened key.now number sealed.now ≡ Ok (found.0.items, found.1))
         (λ e. (e ≡ OutOfMemory) ⊎ (chunk_of S.opened key.now number sealed.now ≡ Err e)) }
-    ensures device { IfErr result (λ e. IsDevice e → ⊥) }
-    ensures itself { IfErr result (λ e. e ≢ AfterLast) }
-    ensures named { IfErr result IsPayloadRefusal }
-    ensures in_limit { IfOk result (λ found. 0 < length found.0.items → number < 2 ^ 44) }
-    ensures first { IfOk result (λ found. length found.0.items ≡ 0 → number ≡ 0) }
-    ensures short { IfOk result (λ found. length sealed.now < 65552 → found.1 ≡ true) }
-    ensures length { IfOk result (λ found. length found.0.items + 16 ≡ length sealed.now) }
-    ensures fits { opens.old < 2 ^ 64 → opens.new < 2 ^ 64 }
-    ensures counts { opens.old < 2 ^ 64 → opens.old ≤ opens.new }
-    ensures opens { opens.new ≤ opens.old + 2 }
-    ensures middle { IfOk result (λ found. found.1 ≡ false → opens.new ≤ opens.old + 1) }
-    ensures opened { opens.old < 2 ^ 64 → OnOk result (one_more opens.old ≤ opens.new) }
+    ensures named { IfErr result IsChunkRefusal }
+    ensures is { IfOk result (λ found. IsOpening number (length sealed.now) found.0.items found.1 opens.old opens.new) }
+    ensures opens { OpensTwice opens.old opens.new }
 {
     if sealed.is_empty() {
         return Err(Error::Truncated);
@@ -648,11 +500,8 @@ pub(crate) fn open_chunk<S: Suite>(
 fn allow(number: u64, plain: Vec<u8>, last: bool) -> Result<(Vec<u8>, bool), Error>
     ensures chunk { MatchResult result (λ found. allowed number (plain.items, last) ≡ Ok (found.0.items, found.1))
         (λ e. allowed number (plain.items, last) ≡ Err e) }
-    ensures device { IfErr result (λ e. IsDevice e → ⊥) }
-    ensures itself { IfErr result (λ e. e ≢ AfterLast) }
-    ensures named { IfErr result IsPayloadRefusal }
-    ensures in_limit { IfOk result (λ found. 0 < length found.0.items → number < 2 ^ 44) }
-    ensures first { IfOk result (λ found. length found.0.items ≡ 0 → number ≡ 0) }
+    ensures named { IfErr result IsChunkRefusal }
+    ensures is { IfOk result (λ found. IsAllowedAt number found.0.items) }
     ensures same { IfOk result (λ found. (found.0 ≡ plain) × (found.1 ≡ last)) }
 {
     if plain.is_empty() {

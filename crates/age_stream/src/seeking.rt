@@ -11,12 +11,14 @@ ghost use Rattle.age_stream.specs.Payload.{nonce, final_chunk, EndsAsLast};
 ghost use Rattle.age_stream.specs.Keeping.{IsPayloadSeekRefusal, KeepsPayload};
 ghost use Rattle.age_stream.specs.Reading.{text_at, IsLastChunk};
 ghost use Rattle.age_stream.specs.Cache.{last_used, HasLast, HasOne};
+ghost use Rattle.age_stream.specs.Seeking.{FindsTarget, RefusesTarget};
 ghost use Rattle.age_stream.specs.Targets.{below_start, in_length, sought_in, IsToEnd, IsRefusedTarget};
 
 use crate::reader::{StreamReader, open_as};
 use crate::sizes::{CHUNK, LONGEST_PLAINTEXT, PIECE};
+use crate::source::lost;
 use age_error::io::{Error, SeekFrom};
-use age_io::{Read, Seek, is_outside, place_at, seek_retrying, sought};
+use age_io::{Read, Seek, is_outside, place_at, sought};
 use age_suite::suite::Suite;
 
 // The length of the plaintext of a payload of so many bytes, if there is one.
@@ -30,22 +32,6 @@ fn plain_len(size: u64) -> Option<u64>
         Some(size - 16 * (last + 1))
     } else {
         None
-    }
-}
-
-// The refusal where the inner reader refuses a target inside its own content, or a read refuses as a seek does: the end
-// isn't where it was found.
-fn lost(error: Error) -> Error
-    ensures bad { IsOutside error → result ≡ BadEnd }
-    ensures same { (IsOutside error → ⊥) → result ≡ error }
-    ensures patient { IsInterruption result → IsInterruption error }
-    ensures device { IsDevice result → IsDevice error }
-    ensures refusal { IsOutside result → ⊥ }
-    ensures memory { error ≢ OutOfMemory → result ≢ OutOfMemory }
-{
-    match error {
-        Error::BeforeStart | Error::PastEnd => Error::BadEnd,
-        other => other,
     }
 }
 
@@ -64,14 +50,8 @@ fn is_below_start(to: SeekFrom, place: u64) -> bool
 #[tactic(auto, using(crate::proofs::Lengths::plain_len_says))]
 fn find(to: SeekFrom, place: u64, size: u64) -> Result<(u64, u64), Error>
     requires { place < 2 ^ 63 }
-    ensures ok { IfOk result (λ found. in_length (Payload.plain_len size) to place ≡ Ok found.0) }
-    ensures err { IfErr result (λ e. in_length (Payload.plain_len size) to place ≡ Err e) }
-    ensures within { IfOk result (λ found. found.0 ≤ found.1) }
-    ensures plain { IfOk result (λ found. Payload.plain_len size ≡ Some found.1) }
-    ensures limit { IfOk result (λ found. found.1 ≤ 2 ^ 60) }
-    ensures not_device { IfErr result (λ e. IsDevice e → ⊥) }
-    ensures want { IfErr result (λ e. e ≢ OutOfMemory) }
-    ensures named { IfErr result (IsPayloadSeekRefusal (λ _. ⊥)) }
+    ensures found { IfOk result (λ found. FindsTarget to place size found.0 found.1) }
+    ensures refused { IfErr result (RefusesTarget to place size) }
 {
     match plain_len(size) {
         None => Err(Error::BadEnd),
@@ -88,66 +68,9 @@ fn find(to: SeekFrom, place: u64, size: u64) -> Result<(u64, u64), Error>
 }
 
 impl<S: Suite, R: Seek> StreamReader<S, R> {
-    ghost use Rattle.age_stream.specs.Reader.{payload_of, key_of, IsAfterLast};
-
-    // Where the payload starts in the inner content, and how long it is. The inner reader goes to the end.
-    fn look(&mut self) -> Result<(u64, u64), Error>
-        requires failed { self.old.failed ≡ true }
-        ensures same { (self.new.number ≡ self.old.number) × (self.new.at ≡ self.old.at) × (self.new.held ≡ self.old.held)
-            × (self.new.cache ≡ self.old.cache) × (self.new.key ≡ self.old.key)
-            × (self.new.opens ≡ self.old.opens) × (self.new.failed ≡ true) × (self.new.sought ≡ self.old.sought) }
-        ensures keeps { KeepsPayload ⟦<R as Read>⟧ (IsPayloadSeekRefusal R.seek_refuses) self.old.inner self.old.taken self.new.inner self.new.taken result }
-        ensures refusal { IfErr result (λ e. IsOutside e → ⊥) }
-        ensures found { IsTrue (R.tells self.old.inner && R.steady self.old.inner) → IfOk result (λ found.
-            (found.0 ≡ R.place self.old.inner - self.old.taken) × (found.0 ≡ R.place self.new.inner - self.new.taken)
-            × (found.1 ≡ length (payload_of self.old).bytes)) }
-        ensures cause { IsTrue (R.tells self.old.inner && R.steady self.old.inner) → IsTrue (payload_of self.old).ends_well →
-            IfErr result (λ e. e ≢ OutOfMemory → IsQuiet (R.faults self.old.inner) (R.faults self.new.inner) → ⊥) }
-    {
-        match seek_retrying(&mut self.inner, SeekFrom::Current(0)) {
-            Err(e) => Err(lost(e)),
-            Ok(place) => {
-                let start = place.saturating_sub(self.taken);
-                match seek_retrying(&mut self.inner, SeekFrom::End(0)) {
-                    Err(e) => Err(lost(e)),
-                    Ok(end) => {
-                        let size = end.saturating_sub(start);
-                        self.taken = size;
-                        Ok((start, size))
-                    }
-                }
-            }
-        }
-    }
-
-    // Puts the inner reader at a place of the payload.
-    fn stand(&mut self, start: u64, place: u64) -> Result<(), Error>
-        requires failed { self.old.failed ≡ true }
-        requires start { IsTrue (R.tells self.old.inner && R.steady self.old.inner) → start ≡ R.place self.old.inner - self.old.taken }
-        requires within { IsTrue (R.tells self.old.inner && R.steady self.old.inner) → place ≤ length (payload_of self.old).bytes }
-        ensures same { (self.new.number ≡ self.old.number) × (self.new.at ≡ self.old.at) × (self.new.held ≡ self.old.held)
-            × (self.new.cache ≡ self.old.cache) × (self.new.key ≡ self.old.key)
-            × (self.new.opens ≡ self.old.opens) × (self.new.failed ≡ true) × (self.new.sought ≡ self.old.sought) }
-        ensures keeps { KeepsPayload ⟦<R as Read>⟧ (IsPayloadSeekRefusal R.seek_refuses) self.old.inner self.old.taken self.new.inner self.new.taken result }
-        ensures refusal { IfErr result (λ e. IsOutside e → ⊥) }
-        ensures unspent { OnOk result (R.faults self.new.inner < most_faults) }
-        ensures stands { IsTrue (R.tells self.old.inner && R.steady self.old.inner) → OnOk result ((self.new.taken ≡ place)
-            × (R.rest self.new.inner ≡ from_place place (payload_of self.old))) }
-        ensures start { IsTrue (R.tells self.old.inner && R.steady self.old.inner) → start ≡ R.place self.new.inner - self.new.taken }
-        ensures cause { IsTrue (R.tells self.old.inner && R.steady self.old.inner) → IsTrue (payload_of self.old).ends_well →
-            IfErr result (λ e. e ≢ OutOfMemory → IsQuiet (R.faults self.old.inner) (R.faults self.new.inner) → ⊥) }
-    {
-        match seek_retrying(
-            &mut self.inner,
-            SeekFrom::Start(start.saturating_add(place)),
-        ) {
-            Err(e) => Err(lost(e)),
-            Ok(_) => {
-                self.taken = place;
-                Ok(())
-            }
-        }
-    }
+    ghost use Rattle.age_stream.specs.Reader.{payload_of, place_of, HasEnd};
+    ghost use Rattle.age_stream.specs.Seeking.{SeeksPayload};
+    ghost use Rattle.age_stream.specs.Steps.{Enters, EntersEnd, IsNoLast, KeepsAtEnd, KeepsBesideLast, RefusesStep};
 
     // Goes to a place before the end. The chunk there is held then if it is opened by the verdict on it.
     fn enter(&mut self, start: u64, size: u64, place: u64, was_failed: bool) -> Result<(), Error>
@@ -158,25 +81,9 @@ impl<S: Suite, R: Seek> StreamReader<S, R> {
         requires size { IsTrue (R.tells self.old.inner && R.steady self.old.inner) → size ≡ length (payload_of self.old).bytes }
         requires before { place + 16 * (place / 65536) + 16 < size }
         ensures keeps { KeepsPayload ⟦<R as Read>⟧ (IsPayloadSeekRefusal R.seek_refuses) self.old.inner self.old.taken self.new.inner self.new.taken result }
-        ensures refusal { IfErr result (λ e. IsOutside e → ⊥) }
-        ensures key { self.new.key ≡ self.old.key }
-        ensures sought { self.new.sought ≡ true }
-        ensures good { OnOk result (self.new.failed ≡ false) }
-        ensures fails { OnErr result (self.new.failed ≡ true) }
-        ensures arrives { OnOk result (65536 * self.new.number + self.new.at ≡ place) }
-        ensures stays { OnErr result ((self.new.number ≡ self.old.number) × (self.new.at ≡ self.old.at)) }
-        ensures before { OnOk result (IsAfterLast self.new → ⊥) }
-        ensures unspent { OnOk result (R.faults self.new.inner < most_faults) }
-        ensures rest { IsTrue (R.tells self.old.inner && R.steady self.old.inner) → OnOk result (R.rest self.new.inner ≡ from_place self.new.taken (payload_of self.old)) }
-        ensures more { OnOk result (self.new.held ≡ false → 65552 * self.new.number < size) }
-        ensures opens { self.new.opens ≡ self.old.opens }
-        ensures has { was_failed ≡ false → OnOk result ((b : ℕ) → HasOne self.old.cache b → HasOne self.new.cache b) }
-        ensures same_last { was_failed ≡ false → OnOk result (last_used self.new.cache ≡ last_used self.old.cache) }
-        ensures none { was_failed ≡ true → OnOk result ((self.new.held ≡ false) × ((b : ℕ) → HasOne self.new.cache b → ⊥)) }
-        ensures finds { IsTrue (R.tells self.old.inner && R.steady self.old.inner) → was_failed ≡ false → OnOk result
-            (HasOne self.old.cache (place / 65536) → (self.new.held ≡ true) × (self.new.at < length self.new.cache.chunk.items)) }
-        ensures cause { IsTrue (R.tells self.old.inner && R.steady self.old.inner) → IsTrue (payload_of self.old).ends_well →
-            IfErr result (λ e. e ≢ OutOfMemory → IsQuiet (R.faults self.old.inner) (R.faults self.new.inner) → ⊥) }
+        ensures same { (self.new.key ≡ self.old.key) × (self.new.sought ≡ true) × (self.new.opens ≡ self.old.opens) }
+        ensures enters { OnOk result (Enters self.old self.new size place was_failed) }
+        ensures refused { IfErr result (RefusesStep self.old self.new (λ _. ⊥)) }
     {
         let number = place / PIECE as u64;
         let at = (place % PIECE as u64) as usize;
@@ -217,26 +124,13 @@ impl<S: Suite, R: Seek> StreamReader<S, R> {
             × (R.rest self.old.inner ≡ from_place (65552 * number) (payload_of self.old)) }
         requires last { IsTrue (R.tells self.old.inner && R.steady self.old.inner) → IsLastChunk (length (payload_of self.old).bytes) number }
         ensures keeps { KeepsPayload ⟦<R as Read>⟧ (IsPayloadSeekRefusal R.seek_refuses) self.old.inner self.old.taken self.new.inner self.new.taken result }
-        ensures refusal { IfErr result (λ e. IsOutside e → ⊥) }
-        ensures key { self.new.key ≡ self.old.key }
-        ensures sought { self.new.sought ≡ true }
-        ensures good { OnOk result ((self.new.failed ≡ false) × (self.new.held ≡ true) × (self.new.cache.last ≡ true) × (self.new.number ≡ number)) }
-        ensures fails { OnErr result (self.new.failed ≡ true) }
-        ensures arrives { IsTrue (R.tells self.old.inner && R.steady self.old.inner) → OnOk result (65536 * self.new.number + self.new.at ≡ length (payload_of self.old).bytes - 16 * (number + 1)) }
-        ensures stays { OnErr result ((self.new.number ≡ self.old.number) × (self.new.at ≡ self.old.at)) }
-        ensures unspent { OnOk result (R.faults self.new.inner < most_faults) }
-        ensures counts { self.old.opens ≤ self.new.opens }
-        ensures inner_end { IsTrue (R.tells self.old.inner && R.steady self.old.inner) → OnOk result
-            ((R.rest self.new.inner).ends_well ≡ (payload_of self.old).ends_well) }
-        ensures opens { self.new.opens ≤ self.old.opens + 1 }
-        ensures used { OnOk result ((self.new.cache.used ≡ true) × (self.new.cache.number ≡ number)) }
-        ensures had { OnOk result ((b : ℕ) → HasOne self.new.cache b → (b ≡ number) ⊎ HasOne self.old.cache b) }
-        ensures keeps_last { OnOk result ((b : ℕ) → last_used self.old.cache ≡ Some b → HasOne self.new.cache b) }
-        ensures cause { IsTrue (R.tells self.old.inner && R.steady self.old.inner) → IsTrue (payload_of self.old).ends_well →
-            IfErr result (λ e. e ≢ OutOfMemory → IsQuiet (R.faults self.old.inner) (R.faults self.new.inner) →
-            (e ≡ BadEnd) × (S.opened self.old.key (nonce number true) (text_at number (payload_of self.old)) ≡ None)) }
+        ensures same { (self.new.key ≡ self.old.key) × (self.new.sought ≡ true) }
+        ensures enters { OnOk result (EntersEnd self.old self.new number (length (payload_of self.old).bytes - 16 * (number + 1))) }
+        ensures refused { IfErr result (RefusesStep self.old self.new (IsNoLast self.old number)) }
+        ensures opens { (self.old.opens ≤ self.new.opens) × (self.new.opens ≤ self.old.opens + 1) }
+        ensures chunks { OnOk result (KeepsBesideLast self.old self.new number) }
     {
-        let count = match self.take_text() {
+        let count = match self.take(CHUNK) {
             Err(e) => return Err(lost(e)),
             Ok(count) => count,
         };
@@ -273,28 +167,12 @@ impl<S: Suite, R: Seek> StreamReader<S, R> {
         requires len { len + 16 * (final_chunk size + 1) ≡ size }
         requires limit { len ≤ 2 ^ 60 }
         ensures keeps { KeepsPayload ⟦<R as Read>⟧ (IsPayloadSeekRefusal R.seek_refuses) self.old.inner self.old.taken self.new.inner self.new.taken result }
-        ensures refusal { IfErr result (λ e. IsOutside e → ⊥) }
-        ensures key { self.new.key ≡ self.old.key }
-        ensures sought { self.new.sought ≡ true }
-        ensures good { OnOk result ((self.new.failed ≡ false) × (self.new.held ≡ true) × (self.new.cache.last ≡ true) × (self.new.number ≡ final_chunk size)) }
-        ensures fails { OnErr result (self.new.failed ≡ true) }
-        ensures arrives { IsTrue (R.tells self.old.inner && R.steady self.old.inner) → OnOk result (65536 * self.new.number + self.new.at ≡ len) }
-        ensures stays { OnErr result ((self.new.number ≡ self.old.number) × (self.new.at ≡ self.old.at)) }
-        ensures unspent { OnOk result (R.faults self.new.inner < most_faults) }
-        ensures counts { self.old.opens ≤ self.new.opens }
-        ensures inner_end { IsTrue (R.tells self.old.inner && R.steady self.old.inner) → OnOk result
-            ((R.rest self.new.inner).ends_well ≡ (payload_of self.old).ends_well) }
-        ensures opens { self.new.opens ≤ self.old.opens + 1 }
-        ensures held { was_failed ≡ false → self.old.held ≡ true → self.old.cache.last ≡ true → self.old.number ≡ final_chunk size → self.new.opens ≡ self.old.opens }
-        ensures kept { was_failed ≡ false → HasLast self.old.cache (final_chunk size) → self.new.opens ≡ self.old.opens }
-        ensures alone { was_failed ≡ true → OnOk result ((b : ℕ) → HasOne self.new.cache b → b ≡ final_chunk size) }
-        ensures uses { OnOk result (self.new.cache.judged ≡ true → last_used self.new.cache ≡ Some (final_chunk size)) }
-        ensures keeps_last { was_failed ≡ false → OnOk result ((b : ℕ) → last_used self.old.cache ≡ Some b → HasOne self.new.cache b) }
-        ensures has { was_failed ≡ false → ((self.old.held ≡ true) × (self.old.cache.last ≡ true) × (self.old.number ≡ final_chunk size)) ⊎ HasLast self.old.cache (final_chunk size) →
-            OnOk result ((b : ℕ) → HasOne self.old.cache b → HasOne self.new.cache b) }
-        ensures cause { IsTrue (R.tells self.old.inner && R.steady self.old.inner) → IsTrue (payload_of self.old).ends_well →
-            IfErr result (λ e. e ≢ OutOfMemory → IsQuiet (R.faults self.old.inner) (R.faults self.new.inner) →
-            (e ≡ BadEnd) × (S.opened self.old.key (nonce (final_chunk size) true) (text_at (final_chunk size) (payload_of self.old)) ≡ None)) }
+        ensures same { (self.new.key ≡ self.old.key) × (self.new.sought ≡ true) }
+        ensures enters { OnOk result (EntersEnd self.old self.new (final_chunk size) len) }
+        ensures refused { IfErr result (RefusesStep self.old self.new (IsNoLast self.old (final_chunk size))) }
+        ensures opens { (self.old.opens ≤ self.new.opens) × (self.new.opens ≤ self.old.opens + 1) }
+        ensures none { was_failed ≡ false → HasEnd self.old (final_chunk size) → self.new.opens ≡ self.old.opens }
+        ensures chunks { OnOk result (KeepsAtEnd self.old self.new (final_chunk size) was_failed) }
     {
         let number = (size - 1) / CHUNK as u64;
         if !was_failed && self.held && self.cache.last && self.number == number {
@@ -328,6 +206,49 @@ impl<S: Suite, R: Seek> StreamReader<S, R> {
                     Ok(()) => self.open_last(number),
                 }
             }
+        }
+    }
+
+    // A seek whose target isn't below the start by the place alone.
+    fn seek_on(&mut self, to: SeekFrom) -> Result<u64, Error>
+        requires { below_start to (place_of self.old) ≡ false }
+        ensures { SeeksPayload R.seek_refuses self.old self.new to result }
+    {
+        let place = PIECE as u64 * self.number + self.at as u64;
+        let was_failed = self.failed;
+        let taken = self.taken;
+        // It stays so on each way out but a success and a refusal.
+        self.failed = true;
+        self.sought = true;
+        match self.look() {
+            Err(e) => Err(e),
+            Ok((start, size)) => match find(to, place, size) {
+                Err(e) => {
+                    if !is_outside(e) {
+                        return Err(e);
+                    }
+                    match self.stand(start, taken) {
+                        Err(fault) => Err(fault),
+                        Ok(()) => {
+                            self.failed = was_failed;
+                            Err(e)
+                        }
+                    }
+                }
+                Ok((target, len)) => {
+                    if target == len {
+                        match self.enter_end(start, size, len, was_failed) {
+                            Err(e) => Err(e),
+                            Ok(()) => Ok(target),
+                        }
+                    } else {
+                        match self.enter(start, size, target, was_failed) {
+                            Err(e) => Err(e),
+                            Ok(()) => Ok(target),
+                        }
+                    }
+                }
+            },
         }
     }
 }
@@ -433,40 +354,6 @@ impl<S: Suite, R: Seek> Seek for StreamReader<S, R> {
         if is_below_start(to, place) {
             return Err(Error::BeforeStart);
         }
-        let was_failed = self.failed;
-        let taken = self.taken;
-        // It stays so on each way out but a success and a refusal.
-        self.failed = true;
-        self.sought = true;
-        match self.look() {
-            Err(e) => Err(e),
-            Ok((start, size)) => match find(to, place, size) {
-                Err(e) => {
-                    if !is_outside(e) {
-                        return Err(e);
-                    }
-                    match self.stand(start, taken) {
-                        Err(fault) => Err(fault),
-                        Ok(()) => {
-                            self.failed = was_failed;
-                            Err(e)
-                        }
-                    }
-                }
-                Ok((target, len)) => {
-                    if target == len {
-                        match self.enter_end(start, size, len, was_failed) {
-                            Err(e) => Err(e),
-                            Ok(()) => Ok(target),
-                        }
-                    } else {
-                        match self.enter(start, size, target, was_failed) {
-                            Err(e) => Err(e),
-                            Ok(()) => Ok(target),
-                        }
-                    }
-                }
-            },
-        }
+        self.seek_on(to)
     }
 }

@@ -55,7 +55,7 @@ pub struct StreamWriter<S, W> {
 }
 
 impl<S: Suite, W: Write> StreamWriter<S, W> {
-    ghost use Rattle.age_stream.specs.Writing.{WasMade, Sent, Took, taken_len, held_len};
+    ghost use Rattle.age_stream.specs.Writing.{HoldsMore, TakesSome, WasMade, Sent, Took, taken_len, held_len};
 
     /// A writer that has taken nothing. The payload begins where `inner` stands.
     ///
@@ -97,9 +97,8 @@ impl<S: Suite, W: Write> StreamWriter<S, W> {
     // Seals what is held, where it is full, so that another byte finds room.
     fn make_room(&mut self) -> Result<(), Error>
         requires { taken_len self.old < 2 ^ 60 }
-        ensures room { OnOk result (held_len self.new < 65536) }
+        ensures room { OnOk result ((held_len self.new < 65536) × (taken_len self.new ≡ taken_len self.old)) }
         ensures roomy { held_len self.old < 65536 → IsOk result × (held_len self.new ≡ held_len self.old) × (self.new.inner ≡ self.old.inner) }
-        ensures total { OnOk result (taken_len self.new ≡ taken_len self.old) }
         ensures sent { IsTrue (W.tells self.old.inner) → OnOk result (Sent S.seal_of W.appended self.old [] self.new) }
         ensures failed { self.new.failed ≡ self.old.failed }
         ensures inner { KeepsWriter W.tells W.faults (RefusesChunk W.refuses) self.old.inner self.new.inner result }
@@ -147,11 +146,8 @@ impl<S: Suite, W: Write> StreamWriter<S, W> {
         requires fits { held_len self.old + length bytes.now ≤ 65536 }
         requires room { taken_len self.old + length bytes.now ≤ 2 ^ 60 }
         ensures ok { IsOk result }
-        ensures held { held_len self.new ≡ held_len self.old + length bytes.now }
-        ensures same_inner { self.new.inner ≡ self.old.inner }
-        ensures total { taken_len self.new ≡ taken_len self.old + length bytes.now }
+        ensures held { HoldsMore self.old bytes.now self.new }
         ensures sent { IsTrue (W.tells self.old.inner) → OnOk result (Sent S.seal_of W.appended self.old bytes.now self.new) }
-        ensures failed { self.new.failed ≡ self.old.failed }
         ensures inner { KeepsWriter W.tells W.faults (RefusesChunk W.refuses) self.old.inner self.new.inner result }
     {
         self.held.extend_from_slice(bytes)?;
@@ -163,9 +159,7 @@ impl<S: Suite, W: Write> StreamWriter<S, W> {
     fn take_some(&mut self, bytes: &[u8]) -> Result<usize, Error>
         requires some { 0 < length bytes.now }
         requires room { taken_len self.old + length bytes.now ≤ 2 ^ 60 }
-        ensures count { IfOk result (λ n. (0 < n) × (n ≤ length bytes.now)) }
-        ensures total { IfOk result (λ n. taken_len self.new ≡ taken_len self.old + n) }
-        ensures last { IfOk result (λ n. n ≡ length bytes.now → 0 < held_len self.new) }
+        ensures takes { IfOk result (λ n. TakesSome self.old (length bytes.now) n self.new) }
         ensures roomy { held_len self.old + length bytes.now ≤ 65536 → IsOkAnd result (λ n.
             (held_len self.new ≡ held_len self.old + n) × (self.new.inner ≡ self.old.inner)) }
         ensures sent { IsTrue (W.tells self.old.inner) → IfOk result (λ n. Sent S.seal_of W.appended self.old (take n bytes.now) self.new) }

@@ -11,6 +11,7 @@ use Rattle.age_stream.proofs.Inner.{past-kept}
 use Rattle.age_stream.proofs.Keeping.{told-before, payload-refused, payload-done}
 use Rattle.age_stream.proofs.Last.{inside-held, text-held}
 use Rattle.age_stream.proofs.Moving.{sound-resumed}
+use Rattle.age_stream.proofs.Stepping.{step-refused}
 use Rattle.age_stream.proofs.TextLengths.{length-text}
 use Rattle.age_stream.proofs.reader.StreamReader.enter.Goals as goal
 
@@ -21,9 +22,9 @@ invariant_of-self-in-Ok g c =
     let mid = c.stand.new.self in
     let done = c.in-Ok.ensures in
     let found = c.find.ensures.found c.if-find.true in
-    let number : mid.cache.number ≡ c.args.place / 65536 = ap (λ k. k.number) done.same.3 ∙ found.1 in
-    let judged = ap (λ k. k.judged) done.same.3 ∙ found.0 in
-    let long : length mid.cache.chunk.items ≡ length c.find.new.self.chunk.items = ap (λ k. length k.chunk.items) done.same.3 in
+    let number : mid.cache.number ≡ c.args.place / 65536 = ap (λ k. k.number) done.stays.cache ∙ found.1 in
+    let judged = ap (λ k. k.judged) done.stays.cache ∙ found.0 in
+    let long : length mid.cache.chunk.items ≡ length c.find.new.self.chunk.items = ap (λ k. length k.chunk.items) done.stays.cache in
     let within : c.args.place % 65536 ≤ length mid.cache.chunk.items = omega (arith, found.2, long) in
     let whole = mid.cache.whole judged in
     let law = shorter g.S.Suite.seal_of g.S.Suite.opened g.met.S.Suite.cipher mid.key mid.key_bytes in
@@ -41,18 +42,18 @@ invariant_of-self-in-Ok g c =
       first = λ _. number;
       unjudged = λ _ none. absurd (true≢false (sym judged ∙ none));
       count_fits = mid.count_fits;
-      unspent = λ _ _. done.unspent;
+      unspent = λ _ _. done.stands.unspent;
       kept = mid.kept;
       sound = λ told.
           let told_before = before told in
-          let placed = done.stands told_before in
+          let placed = done.stands in
           let same = done.keeps.payload told_before in
           let size : c.args.size ≡ length payload.bytes = c.requires.size told_before ∙ ap (λ p. length p.bytes) (sym same) in
           let bytes = g.met.R.Read.are_bytes mid.inner (and-left (read.tells mid.inner) (read.steady mid.inner) told) in
           let held = subst (λ n. IsHeld g.S.Suite.opened mid.key payload n mid.cache.last 0 mid.cache.chunk.items) number ((mid.kept told).first judged) in
           let past = past-kept payload (read.rest mid.inner) (c.args.place / 65536) mid.taken c.min-past.result c.args.size mid.cache.last
           size (omega (arith, c.min-past.ensures))
-          placed.0 (placed.1 ∙ ap (from_place c.min-past.result) (sym same))
+          (placed.taken told_before) (placed.rest told_before ∙ ap (from_place c.min-past.result) (sym same))
           (λ middle.
           let full = whole.full middle in
           let in_it = inside-held g.S.Suite.opened mid.key law payload (c.args.place / 65536) 0 (length mid.cache.chunk.items) mid.cache.last mid.cache.chunk.items
@@ -60,7 +61,7 @@ invariant_of-self-in-Ok g c =
           omega (arith, in_it.inside (omega (arith, full)), full, size)) in
           sound-resumed g.S.Suite.opened mid.key mid.failed mid.held mid.at mid.cache.chunk.items mid.cache.last mid.sought mid.number mid.taken
           (read.place mid.inner) (read.content mid.inner) (read.rest mid.inner) (mid.sound told)
-          law (c.args.place / 65536) (c.args.place % 65536) mid.cache.chunk.items mid.cache.last bytes (done.same.7 ∙ c.requires.sought) within held past;
+          law (c.args.place / 65536) (c.args.place % 65536) mid.cache.chunk.items mid.cache.last bytes (done.stays.sought ∙ c.requires.sought) within held past;
     }
 
 pub returns-in-Ok : goal.returns-in-Ok
@@ -68,30 +69,26 @@ returns-in-Ok g c =
     let done = c.in-Ok.ensures in
     record {
       keeps = payload-done g.R.Read _ _ _ _ done.keeps;
-      refusal = tt;
-      key = done.same.4;
-      sought = done.same.7 ∙ c.requires.sought;
-      good = refl;
-      fails = tt;
-      arrives = omega arith;
-      stays = tt;
-      before = λ after.
-          let long = ap (λ k. length k.chunk.items) done.same.3 in
-          omega (arith, after.2, (c.find.ensures.found c.if-find.true).2, long);
-      unspent = done.unspent;
-      rest = λ told.
-          let placed = done.stands told in
-          placed.1 ∙ ap (λ n. from_place n (payload_of c.args.self.now)) (sym placed.0);
-      more = λ none. absurd (true≢false none);
-      opens = done.same.5;
-      has = λ good b is.
-          subst (λ k. HasOne k b) (sym done.same.3) (c.find.ensures.has b (subst (λ k. HasOne k b) (sym (c.keep_if.ensures.same (rw good refl))) is));
-      same_last = λ good. ap last_used done.same.3 ∙ c.find.ensures.same_last ∙ ap last_used (c.keep_if.ensures.same (rw good refl));
-      none = λ failed.
-          let found = c.find.ensures.found c.if-find.true in
-          absurd (c.keep_if.ensures.none (rw failed refl) (c.args.place / 65536) (c.find.ensures.had (c.args.place / 65536) (inl (found.0, found.1))));
-      finds = λ _ _ _. (refl, subst (λ k. c.args.place % 65536 < length k.chunk.items) (sym done.same.3) (c.find.ensures.found c.if-find.true).2);
-      cause = λ told well. tt;
+      same = (done.stays.key, done.stays.sought ∙ c.requires.sought, done.stays.opens);
+      enters = record {
+        good = refl;
+        arrives = omega arith;
+        before = λ after.
+            let long = ap (λ k. length k.chunk.items) done.stays.cache in
+            omega (arith, after.2, (c.find.ensures.found c.if-find.true).2, long);
+        unspent = done.stands.unspent;
+        rest = λ told.
+            done.stands.rest told ∙ ap (λ n. from_place n (payload_of c.args.self.now)) (sym (done.stands.taken told));
+        more = λ none. absurd (true≢false none);
+        has = λ good b is.
+            subst (λ k. HasOne k b) (sym done.stays.cache) (c.find.ensures.same.has b (subst (λ k. HasOne k b) (sym (c.keep_if.ensures.same (rw good refl))) is));
+        same_last = λ good. ap last_used done.stays.cache ∙ c.find.ensures.same.same_last ∙ ap last_used (c.keep_if.ensures.same (rw good refl));
+        none = λ failed.
+            let found = c.find.ensures.found c.if-find.true in
+            absurd (c.keep_if.ensures.none (rw failed refl) (c.args.place / 65536) (c.find.ensures.same.had (c.args.place / 65536) (inl (found.0, found.1))));
+        finds = λ _ _ _. (refl, subst (λ k. c.args.place % 65536 < length k.chunk.items) (sym done.stays.cache) (c.find.ensures.found c.if-find.true).2);
+      };
+      refused = tt;
     }
 
 pub returns-in-Ok-stand : goal.returns-in-Ok-stand
@@ -99,37 +96,33 @@ returns-in-Ok-stand g c =
     let done = c.in-Ok-stand.ensures in
     record {
       keeps = payload-done g.R.Read _ _ _ _ done.keeps;
-      refusal = tt;
-      key = done.same.4;
-      sought = done.same.7 ∙ c.requires.sought;
-      good = refl;
-      fails = tt;
-      arrives = omega arith;
-      stays = tt;
-      before = λ after. true≢false (sym after.0 ∙ done.same.2);
-      unspent = done.unspent;
-      rest = λ told.
-          let placed = done.stands told in
-          placed.1 ∙ ap (λ n. from_place n (payload_of c.args.self.now)) (sym placed.0);
-      more = λ _. omega (arith, c.requires.before);
-      opens = done.same.5;
-      has = λ good b is.
-          subst (λ k. HasOne k b) (sym done.same.3) (c.find.ensures.has b (subst (λ k. HasOne k b) (sym (c.keep_if.ensures.same (rw good refl))) is));
-      same_last = λ good. ap last_used done.same.3 ∙ c.find.ensures.same_last ∙ ap last_used (c.keep_if.ensures.same (rw good refl));
-      none = λ failed.
-          (done.same.2, λ b has. c.keep_if.ensures.none (rw failed refl) b (c.find.ensures.had b (subst (λ k. HasOne k b) done.same.3 has)));
-      finds = λ told good has.
-          let self = c.args.self.now in
-          let read = g.R.Read in
-          let payload = payload_at (read.place self.inner) self.taken (read.content self.inner) in
-          let cache = c.find.new.self in
-          let law = shorter g.S.Suite.seal_of g.S.Suite.opened g.met.S.Suite.cipher self.key self.key_bytes in
-          let there = c.find.ensures.none c.if-find.false (subst (λ k. HasOne k (c.args.place / 65536)) (sym (c.keep_if.ensures.same (rw good refl))) has) in
-          let kept = c.find.ensures.kept g.S.Suite.opened self.key payload (c.keep_if.ensures.kept g.S.Suite.opened self.key payload (self.kept told)) in
-          let bytes = All-drop (λ x. x < 2 ^ 8) (read.place self.inner - self.taken) (read.content self.inner).bytes (g.met.R.Read.are_bytes self.inner (and-left _ _ told)) in
-          let longer = text-held g.S.Suite.opened self.key law payload cache.number 0 cache.last cache.chunk.items bytes (kept.first there.0) in
-          absurd (omega (arith, there.1, there.2, longer, length-text 65552 (65552 * cache.number) payload.bytes, c.requires.size told, c.requires.before));
-      cause = λ told well. tt;
+      same = (done.stays.key, done.stays.sought ∙ c.requires.sought, done.stays.opens);
+      enters = record {
+        good = refl;
+        arrives = omega arith;
+        before = λ after. true≢false (sym after.0 ∙ done.stays.held);
+        unspent = done.stands.unspent;
+        rest = λ told.
+            done.stands.rest told ∙ ap (λ n. from_place n (payload_of c.args.self.now)) (sym (done.stands.taken told));
+        more = λ _. omega (arith, c.requires.before);
+        has = λ good b is.
+            subst (λ k. HasOne k b) (sym done.stays.cache) (c.find.ensures.same.has b (subst (λ k. HasOne k b) (sym (c.keep_if.ensures.same (rw good refl))) is));
+        same_last = λ good. ap last_used done.stays.cache ∙ c.find.ensures.same.same_last ∙ ap last_used (c.keep_if.ensures.same (rw good refl));
+        none = λ failed.
+            (done.stays.held, λ b has. c.keep_if.ensures.none (rw failed refl) b (c.find.ensures.same.had b (subst (λ k. HasOne k b) done.stays.cache has)));
+        finds = λ told good has.
+            let self = c.args.self.now in
+            let read = g.R.Read in
+            let payload = payload_at (read.place self.inner) self.taken (read.content self.inner) in
+            let cache = c.find.new.self in
+            let law = shorter g.S.Suite.seal_of g.S.Suite.opened g.met.S.Suite.cipher self.key self.key_bytes in
+            let there = c.find.ensures.none c.if-find.false (subst (λ k. HasOne k (c.args.place / 65536)) (sym (c.keep_if.ensures.same (rw good refl))) has) in
+            let kept = c.find.ensures.kept g.S.Suite.opened self.key payload (c.keep_if.ensures.kept g.S.Suite.opened self.key payload (self.kept told)) in
+            let bytes = All-drop (λ x. x < 2 ^ 8) (read.place self.inner - self.taken) (read.content self.inner).bytes (g.met.R.Read.are_bytes self.inner (and-left _ _ told)) in
+            let longer = text-held g.S.Suite.opened self.key law payload cache.number 0 cache.last cache.chunk.items bytes (kept.first there.0) in
+            absurd (omega (arith, there.1, there.2, longer, length-text 65552 (65552 * cache.number) payload.bytes, c.requires.size told, c.requires.before));
+      };
+      refused = tt;
     }
 
 pub returns-in-Err : goal.returns-in-Err
@@ -137,23 +130,9 @@ returns-in-Err g c =
     let done = c.in-Err.ensures in
     record {
       keeps = payload-refused g.R.Read _ _ _ _ _ done.keeps;
-      refusal = done.refusal;
-      key = done.same.4;
-      sought = done.same.7 ∙ c.requires.sought;
-      good = tt;
-      fails = done.same.6;
-      arrives = tt;
-      stays = (done.same.0, done.same.1);
-      before = tt;
-      unspent = tt;
-      rest = λ told. tt;
-      more = tt;
-      opens = done.same.5;
-      has = λ good. tt;
-      same_last = λ good. tt;
-      none = λ failed. tt;
-      finds = λ told good. tt;
-      cause = λ told well memory quiet. absurd (done.cause told well memory quiet);
+      same = (done.stays.key, done.stays.sought ∙ c.requires.sought, done.stays.opens);
+      enters = tt;
+      refused = step-refused c.args.self.now _ _ _ refl refl refl (λ none. absurd none) done.refused;
     }
 
 pub returns-in-Err-stand : goal.returns-in-Err-stand
@@ -161,23 +140,9 @@ returns-in-Err-stand g c =
     let done = c.in-Err-stand.ensures in
     record {
       keeps = payload-refused g.R.Read _ _ _ _ _ done.keeps;
-      refusal = done.refusal;
-      key = done.same.4;
-      sought = done.same.7 ∙ c.requires.sought;
-      good = tt;
-      fails = done.same.6;
-      arrives = tt;
-      stays = (done.same.0, done.same.1);
-      before = tt;
-      unspent = tt;
-      rest = λ told. tt;
-      more = tt;
-      opens = done.same.5;
-      has = λ good. tt;
-      same_last = λ good. tt;
-      none = λ failed. tt;
-      finds = λ told good. tt;
-      cause = λ told well memory quiet. absurd (done.cause told well memory quiet);
+      same = (done.stays.key, done.stays.sought ∙ c.requires.sought, done.stays.opens);
+      enters = tt;
+      refused = step-refused c.args.self.now _ _ _ refl refl refl (λ none. absurd none) done.refused;
     }
 
 pub stand-requires-clause-within : goal.stand-requires-clause-within

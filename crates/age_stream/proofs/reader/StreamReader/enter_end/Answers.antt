@@ -4,11 +4,11 @@ use Rattle.age_stream.proofs.reader.StreamReader.enter_end.Goals.{else-not-was_f
 use Rattle.age_stream.proofs.reader.StreamReader.enter_end.Goals.{else-not-was_failed-via-then-not-was_failed+then-self+then-self-2+else-self-number}
 use Rattle.age_stream.proofs.Cached.{used-there}
 use Rattle.std.specs.Prelude.{cond, option_map, Some}
-use Rattle.age_stream.specs.Reader.{payload_of}
+use Rattle.age_stream.specs.Reader.{payload_of, HasEnd}
 use Rattle.age_stream.specs.Payload.{nonce, final_chunk}
-use Rattle.std.proofs.Common.{◌≡◌, ◌<◌, ◌-◌, ◌/◌, ◌^◌, ◌∙◌, arith, length, sym, ap, subst, refl, inl, inr, ◌*◌, None, true}
+use Rattle.std.proofs.Common.{◌≡◌, ◌<◌, ◌-◌, ◌/◌, ◌^◌, ◌∙◌, arith, length, sym, ap, subst, refl, inl, inr, ◌*◌, None, true, false}
 use Rattle.std.proofs.lemmas.Bool.{true≢false}
-use Rattle.std.proofs.lemmas.Result.{on_ok_weaker, on_err_weaker, IfErr-weaker}
+use Rattle.std.proofs.lemmas.Result.{on_ok_weaker, IfErr-weaker}
 use Rattle.std.proofs.lemmas.List.Elements.{All-drop}
 use Rattle.age_io.specs.Stretch.{from_place}
 use Rattle.age_stream.specs.OpeningLaws.{shorter}
@@ -16,7 +16,7 @@ use Rattle.age_stream.specs.Cache.{last_used, HasOne, HasLast}
 use Rattle.age_stream.specs.Reading.{payload_at, IsHeld, IsLastChunk, text_at}
 use Rattle.age_stream.specs.ReadingLaws.{and-left}
 use Rattle.age_stream.proofs.Inner.{past-end}
-use Rattle.age_io.specs.ReadingLaws.{quiet_from}
+use Rattle.age_stream.proofs.Stepping.{step-later, step-refused}
 use Rattle.age_stream.proofs.Keeping.{payload-later, told-before, told-later, payload-refused, payload-done}
 use Rattle.age_stream.proofs.Last.{held-length}
 use Rattle.age_stream.proofs.Moving.{sound-kept, sound-resumed}
@@ -27,40 +27,37 @@ returns-in-Ok g c =
     let done = c.in-Ok.ensures in
     record {
       keeps = payload-done g.R.Read _ _ _ _ done.keeps;
-      refusal = tt;
-      key = done.same.4;
-      sought = done.same.7 ∙ c.requires.sought;
-      good = (refl, done.same.2 ∙ c.if-self.true, ap (λ k. k.last) done.same.3 ∙ c.if-self-2.true, done.same.0 ∙ omega (arith, c.if-self-number.true));
-      fails = tt;
-      arrives = λ told.
-          let self = c.args.self.now in
-          let read = g.R.Read in
-          let mid = c.stand.new.self in
-          let law = shorter g.S.Suite.seal_of g.S.Suite.opened g.met.S.Suite.cipher mid.key mid.key_bytes in
-          let after = told-later read self.inner mid.inner done.keeps.inner.same told in
-          let payload = payload_at (read.place mid.inner) mid.taken (read.content mid.inner) in
-          let size : c.args.size ≡ length payload.bytes = c.requires.size told ∙ ap (λ p. length p.bytes) (sym (done.keeps.payload told)) in
-          let number : mid.number ≡ (c.args.size - 1) / 65552 = done.same.0 ∙ omega (arith, c.if-self-number.true) in
-          let long = held-length g.S.Suite.opened mid.key law payload mid.number mid.at mid.cache.last mid.cache.chunk.items
-          (All-drop (λ x. x < 2 ^ 8) (read.place mid.inner - mid.taken) (read.content mid.inner).bytes
-          (g.met.R.Read.are_bytes mid.inner (and-left (read.tells mid.inner) (read.steady mid.inner) after)))
-          ((mid.sound after).is_held (done.same.2 ∙ c.if-self.true)) (omega (arith, number, size, c.requires.last.fits)) in
-          omega (arith, long, number, size, c.requires.len, c.len-self.ensures, mid.cache.chunk.ok.0);
-      stays = tt;
-      unspent = done.unspent;
-      counts = omega (arith, done.same.5);
-      inner_end = λ told. ap (λ s. s.ends_well) (done.stands told).1;
-      opens = omega (arith, done.same.5);
-      held = λ _ _ _ _. done.same.5;
-      kept = λ _ _. done.same.5;
-      alone = λ failed. absurd (true≢false (sym failed ∙ c.if-not-was_failed.true));
-      uses = λ judged.
-          let mid = c.stand.new.self in
-          let there : mid.cache.number ≡ final_chunk c.args.size = mid.first (done.same.2 ∙ c.if-self.true) ∙ done.same.0 ∙ omega (arith, c.if-self-number.true) in
-          ap (λ j. cond j (Some mid.cache.number) None) judged ∙ ap (λ n. Some n) there;
-      keeps_last = λ _ b is. subst (λ k. HasOne k b) (sym done.same.3) (used-there c.args.self.now.cache b is);
-      has = λ _ _ b is. subst (λ k. HasOne k b) (sym done.same.3) is;
-      cause = λ told well. tt;
+      same = (done.stays.key, done.stays.sought ∙ c.requires.sought);
+      enters = record {
+        good = (refl, done.stays.held ∙ c.if-self.true, ap (λ k. k.last) done.stays.cache ∙ c.if-self-2.true, done.stays.number ∙ omega (arith, c.if-self-number.true));
+        arrives = λ told.
+            let self = c.args.self.now in
+            let read = g.R.Read in
+            let mid = c.stand.new.self in
+            let law = shorter g.S.Suite.seal_of g.S.Suite.opened g.met.S.Suite.cipher mid.key mid.key_bytes in
+            let after = told-later read self.inner mid.inner done.keeps.inner.same told in
+            let payload = payload_at (read.place mid.inner) mid.taken (read.content mid.inner) in
+            let size : c.args.size ≡ length payload.bytes = c.requires.size told ∙ ap (λ p. length p.bytes) (sym (done.keeps.payload told)) in
+            let number : mid.number ≡ (c.args.size - 1) / 65552 = done.stays.number ∙ omega (arith, c.if-self-number.true) in
+            let long = held-length g.S.Suite.opened mid.key law payload mid.number mid.at mid.cache.last mid.cache.chunk.items
+            (All-drop (λ x. x < 2 ^ 8) (read.place mid.inner - mid.taken) (read.content mid.inner).bytes
+            (g.met.R.Read.are_bytes mid.inner (and-left (read.tells mid.inner) (read.steady mid.inner) after)))
+            ((mid.sound after).is_held (done.stays.held ∙ c.if-self.true)) (omega (arith, number, size, c.requires.last.fits)) in
+            omega (arith, long, number, size, c.requires.len, c.len-self.ensures, mid.cache.chunk.ok.0);
+        inner_end = λ told. ap (λ s. s.ends_well) (done.stands.rest told);
+      };
+      refused = tt;
+      opens = (omega (arith, done.stays.opens), omega (arith, done.stays.opens));
+      none = λ _ _. done.stays.opens;
+      chunks = record {
+        alone = λ failed. absurd (true≢false (sym failed ∙ c.if-not-was_failed.true));
+        uses = λ judged.
+            let mid = c.stand.new.self in
+            let there : mid.cache.number ≡ final_chunk c.args.size = mid.first (done.stays.held ∙ c.if-self.true) ∙ done.stays.number ∙ omega (arith, c.if-self-number.true) in
+            ap (λ j. cond j (Some mid.cache.number) None) judged ∙ ap (λ n. Some n) there;
+        keeps_last = λ _ b is. subst (λ k. HasOne k b) (sym done.stays.cache) (used-there c.args.self.now.cache b is);
+        has = λ _ _ b is. subst (λ k. HasOne k b) (sym done.stays.cache) is;
+      };
     }
 
 pub invariant_of-self-in-Ok : goal.invariant_of-self-in-Ok
@@ -69,8 +66,8 @@ invariant_of-self-in-Ok g c =
     let read = g.R.Read in
     let mid = c.stand.new.self in
     let done = c.in-Ok.ensures in
-    let is_held = done.same.2 ∙ c.if-self.true in
-    let is_last = ap (λ k. k.last) done.same.3 ∙ c.if-self-2.true in
+    let is_held = done.stays.held ∙ c.if-self.true in
+    let is_last = ap (λ k. k.last) done.stays.cache ∙ c.if-self-2.true in
     let law = shorter g.S.Suite.seal_of g.S.Suite.opened g.met.S.Suite.cipher mid.key mid.key_bytes in
     let before = told-before read self.inner mid.inner done.keeps.inner.same in
     let payload = payload_at (read.place mid.inner) mid.taken (read.content mid.inner) in
@@ -91,20 +88,19 @@ invariant_of-self-in-Ok g c =
           let was = mid.unjudged held none in
           record { end = omega (arith, there, was.full); is_last = was.is_last; full = was.full };
       count_fits = mid.count_fits;
-      unspent = λ _ _. done.unspent;
+      unspent = λ _ _. done.stands.unspent;
       kept = λ told. let k = mid.kept told in record { first = k.first; other = k.other };
       sound = λ told.
           let told_before = before told in
-          let placed = done.stands told_before in
           let same = done.keeps.payload told_before in
           let size : c.args.size ≡ length payload.bytes = c.requires.size told_before ∙ ap (λ p. length p.bytes) (sym same) in
-          let number : mid.number ≡ (c.args.size - 1) / 65552 = done.same.0 ∙ omega (arith, c.if-self-number.true) in
-          let past = past-end payload (read.rest mid.inner) mid.number mid.taken mid.cache.last is_last (omega (arith, placed.0, size))
+          let number : mid.number ≡ (c.args.size - 1) / 65552 = done.stays.number ∙ omega (arith, c.if-self-number.true) in
+          let past = past-end payload (read.rest mid.inner) mid.number mid.taken mid.cache.last is_last (omega (arith, done.stands.taken told_before, size))
           (omega (arith, number, size, c.requires.last.fits))
-          (placed.1 ∙ ap (from_place c.args.size) (sym same) ∙ ap (λ n. from_place n payload) (sym placed.0)) in
+          (done.stands.rest told_before ∙ ap (from_place c.args.size) (sym same) ∙ ap (λ n. from_place n payload) (sym (done.stands.taken told_before))) in
           sound-kept g.S.Suite.opened mid.key mid.failed mid.held mid.at mid.cache.chunk.items mid.cache.last mid.sought mid.number mid.taken
           (read.place mid.inner) (read.content mid.inner) (read.rest mid.inner) (mid.sound told)
-          law c.len-self.result (g.met.R.Read.are_bytes mid.inner (and-left (read.tells mid.inner) (read.steady mid.inner) told)) is_held (done.same.7 ∙ c.requires.sought) (omega (arith, there))
+          law c.len-self.result (g.met.R.Read.are_bytes mid.inner (and-left (read.tells mid.inner) (read.steady mid.inner) told)) is_held (done.stays.sought ∙ c.requires.sought) (omega (arith, there))
           (λ apart e. apart (record { is_last = e.is_last; none = e.none; full = omega (arith, e.full, there, small, in_chunk) })) past;
     }
 
@@ -115,9 +111,9 @@ invariant_of-self-in-Ok-stand-3 g c =
     let mid = c.stand-then-find_last.new.self in
     let done = c.in-Ok-stand.ensures in
     let found = c.find_last.ensures.found c.if-find_last.true in
-    let number : mid.cache.number ≡ (c.args.size - 1) / 65552 = ap (λ k. k.number) done.same.3 ∙ found.1 in
-    let judged = ap (λ k. k.judged) done.same.3 ∙ found.0 in
-    let is_last = ap (λ k. k.last) done.same.3 ∙ found.2 in
+    let number : mid.cache.number ≡ (c.args.size - 1) / 65552 = ap (λ k. k.number) done.stays.cache ∙ found.1 in
+    let judged = ap (λ k. k.judged) done.stays.cache ∙ found.0 in
+    let is_last = ap (λ k. k.last) done.stays.cache ∙ found.2 in
     let whole = mid.cache.whole judged in
     let there : c.len-self-in-Ok-stand.result ≡ length mid.cache.chunk.items = omega (arith, c.len-self-in-Ok-stand.ensures, mid.cache.chunk.ok.0) in
     let limit : (c.args.size - 1) / 65552 < 2 ^ 44 = omega (arith, number, whole.limit) in
@@ -136,21 +132,20 @@ invariant_of-self-in-Ok-stand-3 g c =
       first = λ _. number;
       unjudged = λ _ none. absurd (true≢false (sym judged ∙ none));
       count_fits = mid.count_fits;
-      unspent = λ _ _. done.unspent;
+      unspent = λ _ _. done.stands.unspent;
       kept = λ told. let k = mid.kept told in record { first = k.first; other = k.other };
       sound = λ told.
           let told_before = before told in
-          let placed = done.stands told_before in
           let same = done.keeps.payload told_before in
           let size : c.args.size ≡ length payload.bytes = c.requires.size told_before ∙ ap (λ p. length p.bytes) (sym same) in
           let bytes = g.met.R.Read.are_bytes mid.inner (and-left (read.tells mid.inner) (read.steady mid.inner) told) in
           let held = subst (λ n. IsHeld g.S.Suite.opened mid.key payload n mid.cache.last 0 mid.cache.chunk.items) number ((mid.kept told).first judged) in
-          let past = past-end payload (read.rest mid.inner) ((c.args.size - 1) / 65552) mid.taken mid.cache.last is_last (omega (arith, placed.0, size))
+          let past = past-end payload (read.rest mid.inner) ((c.args.size - 1) / 65552) mid.taken mid.cache.last is_last (omega (arith, done.stands.taken told_before, size))
           (omega (arith, size, c.requires.last.fits))
-          (placed.1 ∙ ap (from_place c.args.size) (sym same) ∙ ap (λ n. from_place n payload) (sym placed.0)) in
+          (done.stands.rest told_before ∙ ap (from_place c.args.size) (sym same) ∙ ap (λ n. from_place n payload) (sym (done.stands.taken told_before))) in
           sound-resumed g.S.Suite.opened mid.key mid.failed mid.held mid.at mid.cache.chunk.items mid.cache.last mid.sought mid.number mid.taken
           (read.place mid.inner) (read.content mid.inner) (read.rest mid.inner) (mid.sound told)
-          law ((c.args.size - 1) / 65552) c.len-self-in-Ok-stand.result mid.cache.chunk.items mid.cache.last bytes (done.same.7 ∙ c.requires.sought) (omega (arith, there)) held past;
+          law ((c.args.size - 1) / 65552) c.len-self-in-Ok-stand.result mid.cache.chunk.items mid.cache.last bytes (done.stays.sought ∙ c.requires.sought) (omega (arith, there)) held past;
     }
 
 pub returns-in-Ok-stand : goal.returns-in-Ok-stand
@@ -158,121 +153,94 @@ returns-in-Ok-stand g c =
     let done = c.in-Ok-stand.ensures in
     record {
       keeps = payload-done g.R.Read _ _ _ _ done.keeps;
-      refusal = tt;
-      key = done.same.4;
-      sought = done.same.7 ∙ c.requires.sought;
-      good = (refl, refl, ap (λ k. k.last) done.same.3 ∙ (c.find_last.ensures.found c.if-find_last.true).2, refl);
-      fails = tt;
-      arrives = λ told.
-          let self = c.args.self.now in
-          let read = g.R.Read in
-          let mid = c.stand-then-find_last.new.self in
-          let found = c.find_last.ensures.found c.if-find_last.true in
-          let number : mid.cache.number ≡ (c.args.size - 1) / 65552 = ap (λ k. k.number) done.same.3 ∙ found.1 in
-          let judged = ap (λ k. k.judged) done.same.3 ∙ found.0 in
-          let law = shorter g.S.Suite.seal_of g.S.Suite.opened g.met.S.Suite.cipher mid.key mid.key_bytes in
-          let after = told-later read self.inner mid.inner done.keeps.inner.same told in
-          let payload = payload_at (read.place mid.inner) mid.taken (read.content mid.inner) in
-          let size : c.args.size ≡ length payload.bytes = c.requires.size told ∙ ap (λ p. length p.bytes) (sym (done.keeps.payload told)) in
-          let long = held-length g.S.Suite.opened mid.key law payload mid.cache.number 0 mid.cache.last mid.cache.chunk.items
-          (All-drop (λ x. x < 2 ^ 8) (read.place mid.inner - mid.taken) (read.content mid.inner).bytes
-          (g.met.R.Read.are_bytes mid.inner (and-left (read.tells mid.inner) (read.steady mid.inner) after)))
-          ((mid.kept after).first judged) (omega (arith, number, size, c.requires.last.fits)) in
-          omega (arith, long, number, size, c.requires.len, c.len-self-in-Ok-stand.ensures, mid.cache.chunk.ok.0);
-      stays = tt;
-      unspent = done.unspent;
-      counts = omega (arith, done.same.5);
-      inner_end = λ told. ap (λ s. s.ends_well) (done.stands told).1;
-      opens = omega (arith, done.same.5);
-      held = λ _ _ _ _. done.same.5;
-      kept = λ _ _. done.same.5;
-      alone = λ failed.
-          let found = c.find_last.ensures.found c.if-find_last.true in
-          let number = final_chunk c.args.size in
-          absurd (c.keep_if.ensures.none (rw failed refl) number (c.find_last.ensures.had number (inl (found.0, found.1))));
-      uses = λ judged.
-          let mid = c.stand-then-find_last.new.self in
-          let there = ap (λ k. k.number) done.same.3 ∙ (c.find_last.ensures.found c.if-find_last.true).1 in
-          ap (λ j. cond j (Some mid.cache.number) None) judged ∙ ap (λ n. Some n) there;
-      keeps_last = λ good b is.
-          subst (λ k. HasOne k b) (sym done.same.3)
-          (c.find_last.ensures.has b (subst (λ k. HasOne k b) (sym (c.keep_if.ensures.same (rw good refl))) (used-there c.args.self.now.cache b is)));
-      has = λ good _ b is.
-          subst (λ k. HasOne k b) (sym done.same.3)
-          (c.find_last.ensures.has b (subst (λ k. HasOne k b) (sym (c.keep_if.ensures.same (rw good refl))) is));
-      cause = λ told well. tt;
+      same = (done.stays.key, done.stays.sought ∙ c.requires.sought);
+      enters = record {
+        good = (refl, refl, ap (λ k. k.last) done.stays.cache ∙ (c.find_last.ensures.found c.if-find_last.true).2, refl);
+        arrives = λ told.
+            let self = c.args.self.now in
+            let read = g.R.Read in
+            let mid = c.stand-then-find_last.new.self in
+            let found = c.find_last.ensures.found c.if-find_last.true in
+            let number : mid.cache.number ≡ (c.args.size - 1) / 65552 = ap (λ k. k.number) done.stays.cache ∙ found.1 in
+            let judged = ap (λ k. k.judged) done.stays.cache ∙ found.0 in
+            let law = shorter g.S.Suite.seal_of g.S.Suite.opened g.met.S.Suite.cipher mid.key mid.key_bytes in
+            let after = told-later read self.inner mid.inner done.keeps.inner.same told in
+            let payload = payload_at (read.place mid.inner) mid.taken (read.content mid.inner) in
+            let size : c.args.size ≡ length payload.bytes = c.requires.size told ∙ ap (λ p. length p.bytes) (sym (done.keeps.payload told)) in
+            let long = held-length g.S.Suite.opened mid.key law payload mid.cache.number 0 mid.cache.last mid.cache.chunk.items
+            (All-drop (λ x. x < 2 ^ 8) (read.place mid.inner - mid.taken) (read.content mid.inner).bytes
+            (g.met.R.Read.are_bytes mid.inner (and-left (read.tells mid.inner) (read.steady mid.inner) after)))
+            ((mid.kept after).first judged) (omega (arith, number, size, c.requires.last.fits)) in
+            omega (arith, long, number, size, c.requires.len, c.len-self-in-Ok-stand.ensures, mid.cache.chunk.ok.0);
+        inner_end = λ told. ap (λ s. s.ends_well) (done.stands.rest told);
+      };
+      refused = tt;
+      opens = (omega (arith, done.stays.opens), omega (arith, done.stays.opens));
+      none = λ _ _. done.stays.opens;
+      chunks = record {
+        alone = λ failed.
+            let found = c.find_last.ensures.found c.if-find_last.true in
+            let number = final_chunk c.args.size in
+            absurd (c.keep_if.ensures.none (rw failed refl) number (c.find_last.ensures.same.had number (inl (found.0, found.1))));
+        uses = λ judged.
+            let mid = c.stand-then-find_last.new.self in
+            let there = ap (λ k. k.number) done.stays.cache ∙ (c.find_last.ensures.found c.if-find_last.true).1 in
+            ap (λ j. cond j (Some mid.cache.number) None) judged ∙ ap (λ n. Some n) there;
+        keeps_last = λ good b is.
+            subst (λ k. HasOne k b) (sym done.stays.cache)
+            (c.find_last.ensures.same.has b (subst (λ k. HasOne k b) (sym (c.keep_if.ensures.same (rw good refl))) (used-there c.args.self.now.cache b is)));
+        has = λ good _ b is.
+            subst (λ k. HasOne k b) (sym done.stays.cache)
+            (c.find_last.ensures.same.has b (subst (λ k. HasOne k b) (sym (c.keep_if.ensures.same (rw good refl))) is));
+      };
     }
 
 pub returns-in-Ok-stand-2 : goal.returns-in-Ok-stand-2
 returns-in-Ok-stand-2 g c =
+    let self = c.args.self.now in
+    let read = g.R.Read in
     let done = c.in-Ok-stand-2.ensures in
+    let mid = c.stand-else-find_last.new.self in
+    let new = c.open_last.new.self in
+    let last = c.open_last.ensures in
+    let number = final_chunk c.args.size in
+    let later = told-later read self.inner mid.inner done.keeps.inner.same in
+    let apart : c.args.was_failed ≡ false → HasEnd self number → ⊥ = λ good is. elim is [
+      | inl h ↦ elim c.else-not-was_failed.branch [
+        | else-not-was_failed-via-then-not-was_failed+then-self+then-self-2+else-self-number w ↦ omega (arith, h.2, w.if-self-number.false)
+        | else-not-was_failed-via-then-not-was_failed+then-self+else-self-2 w ↦ true≢false (sym h.1 ∙ w.if-self-2.false)
+        | else-not-was_failed-via-then-not-was_failed+else-self w ↦ true≢false (sym h.0 ∙ w.if-self.false)
+        | else-not-was_failed-via-else-not-was_failed w ↦ true≢false (sym w.if-not-was_failed.false ∙ good)
+      ]
+      | inr h ↦ c.find_last.ensures.none c.if-find_last.false (subst (λ k. HasLast k number) (sym (c.keep_if.ensures.same (rw good refl))) h)
+    ] in
     record {
-      keeps = let self = c.args.self.now in
-          let mid = c.stand-else-find_last.new.self in
-          let new = c.open_last.new.self in
-          payload-later g.R.Read c.open_last.result self.inner mid.inner new.inner self.taken mid.taken new.taken done.keeps c.open_last.ensures.keeps;
-      refusal = c.open_last.ensures.refusal;
-      key = c.open_last.ensures.key ∙ done.same.4;
-      sought = c.open_last.ensures.sought;
-      good = c.open_last.ensures.good;
-      fails = c.open_last.ensures.fails;
-      arrives = λ told.
-          let self = c.args.self.now in
-          let mid = c.stand-else-find_last.new.self in
-          let same = ap (λ p. length p.bytes) (done.keeps.payload told) in
-          on_ok_weaker c.open_last.result (λ there. omega (arith, there, same, c.requires.size told, c.requires.len))
-          (c.open_last.ensures.arrives (told-later g.R.Read self.inner mid.inner done.keeps.inner.same told));
-      stays = on_err_weaker c.open_last.result (λ stays. (stays.0 ∙ done.same.0, stays.1 ∙ done.same.1)) c.open_last.ensures.stays;
-      unspent = c.open_last.ensures.unspent;
-      counts = omega (arith, c.open_last.ensures.counts, done.same.5);
-      inner_end = λ told.
-          let self = c.args.self.now in
-          let mid = c.stand-else-find_last.new.self in
-          on_ok_weaker c.open_last.result (λ is. is ∙ ap (λ p. p.ends_well) (done.keeps.payload told))
-          (c.open_last.ensures.inner_end (told-later g.R.Read self.inner mid.inner done.keeps.inner.same told));
-      opens = omega (arith, c.open_last.ensures.opens, done.same.5);
-      held = λ good held is_last there. elim c.else-not-was_failed.branch [
-        | else-not-was_failed-via-then-not-was_failed+then-self+then-self-2+else-self-number w ↦ absurd (omega (arith, there, w.if-self-number.false))
-        | else-not-was_failed-via-then-not-was_failed+then-self+else-self-2 w ↦ absurd (true≢false (sym is_last ∙ w.if-self-2.false))
-        | else-not-was_failed-via-then-not-was_failed+else-self w ↦ absurd (true≢false (sym held ∙ w.if-self.false))
-        | else-not-was_failed-via-else-not-was_failed w ↦ absurd (true≢false (sym w.if-not-was_failed.false ∙ good))
-      ];
-      kept = λ good has.
-          absurd (c.find_last.ensures.none c.if-find_last.false (subst (λ k. HasLast k (final_chunk c.args.size)) (sym (c.keep_if.ensures.same (rw good refl))) has));
-      alone = λ failed.
-          on_ok_weaker c.open_last.result (λ had b has. elim (had b has) [
-            | inl is ↦ is
-            | inr was ↦ absurd (c.keep_if.ensures.none (rw failed refl) b (c.find_last.ensures.had b (subst (λ k. HasOne k b) done.same.3 was)))
-          ]) c.open_last.ensures.had;
-      uses = let new = c.open_last.new.self.cache in
-          on_ok_weaker c.open_last.result
-          (λ is judged. ap (λ u. cond u (cond new.judged (Some new.number) None) (option_map (λ it. it.number) new.other)) is.0
-          ∙ ap (λ j. cond j (Some new.number) None) judged ∙ ap (λ n. Some n) is.1)
-          c.open_last.ensures.used;
-      keeps_last = λ good.
-          let same = ap last_used done.same.3 ∙ c.find_last.ensures.same_last ∙ ap last_used (c.keep_if.ensures.same (rw good refl)) in
-          on_ok_weaker c.open_last.result (λ kept b is. kept b (same ∙ is)) c.open_last.ensures.keeps_last;
-      has = λ good is. elim is [
-        | inl h ↦ elim c.else-not-was_failed.branch [
-          | else-not-was_failed-via-then-not-was_failed+then-self+then-self-2+else-self-number w ↦ absurd (omega (arith, h.2, w.if-self-number.false))
-          | else-not-was_failed-via-then-not-was_failed+then-self+else-self-2 w ↦ absurd (true≢false (sym h.1 ∙ w.if-self-2.false))
-          | else-not-was_failed-via-then-not-was_failed+else-self w ↦ absurd (true≢false (sym h.0 ∙ w.if-self.false))
-          | else-not-was_failed-via-else-not-was_failed w ↦ absurd (true≢false (sym w.if-not-was_failed.false ∙ good))
-        ]
-        | inr h ↦ absurd (c.find_last.ensures.none c.if-find_last.false
-            (subst (λ k. HasLast k (final_chunk c.args.size)) (sym (c.keep_if.ensures.same (rw good refl))) h))
-      ];
-      cause = λ told well.
-          let self = c.args.self.now in
-          let mid = c.stand-else-find_last.new.self in
-          let number = final_chunk c.args.size in
-          IfErr-weaker c.open_last.result _ _ (λ e bad memory quiet.
-          let none = bad memory (quiet_from done.keeps.inner.same.faults c.open_last.ensures.keeps.inner.same.faults quiet) in (
-            none.0,
-            subst (λ k. g.S.Suite.opened k (nonce number true) (text_at number (payload_of self)) ≡ None) done.same.4
-                (subst (λ p. g.S.Suite.opened mid.key (nonce number true) (text_at number p) ≡ None) (done.keeps.payload told) none.1),
-          ))
-          (c.open_last.ensures.cause (told-later g.R.Read self.inner mid.inner done.keeps.inner.same told) (ap (λ p. p.ends_well) (done.keeps.payload told) ∙ well));
+      keeps = payload-later read c.open_last.result self.inner mid.inner new.inner self.taken mid.taken new.taken done.keeps last.keeps;
+      same = (last.same.0 ∙ done.stays.key, last.same.1);
+      enters = on_ok_weaker c.open_last.result (λ there. record {
+        good = there.good;
+        arrives = λ told. omega (arith, there.arrives (later told), ap (λ p. length p.bytes) (done.keeps.payload told), c.requires.size told, c.requires.len);
+        inner_end = λ told. there.inner_end (later told) ∙ ap (λ p. p.ends_well) (done.keeps.payload told);
+      }) last.enters;
+      refused = IfErr-weaker c.open_last.result _ _ (λ e r. step-later self mid new e done.keeps last.keeps (omega (arith, done.stays.number, done.stays.at))
+          (λ told bad. (
+            bad.0,
+            subst (λ k. g.S.Suite.opened k (nonce number true) (text_at number (payload_of self)) ≡ None) done.stays.key
+                (subst (λ p. g.S.Suite.opened mid.key (nonce number true) (text_at number p) ≡ None) (done.keeps.payload told) bad.1),
+          )) r) last.refused;
+      opens = (omega (arith, last.opens.0, done.stays.opens), omega (arith, last.opens.1, done.stays.opens));
+      none = λ good is. absurd (apart good is);
+      chunks = on_ok_weaker c.open_last.result (λ kept. record {
+        alone = λ failed b has. elim (kept.had b has) [
+          | inl is ↦ is
+          | inr was ↦ absurd (c.keep_if.ensures.none (rw failed refl) b (c.find_last.ensures.same.had b (subst (λ k. HasOne k b) done.stays.cache was)))
+        ];
+        uses = λ judged. ap (λ u. cond u (cond new.cache.judged (Some new.cache.number) None) (option_map (λ it. it.number) new.cache.other)) kept.used.0
+            ∙ ap (λ j. cond j (Some new.cache.number) None) judged ∙ ap (λ n. Some n) kept.used.1;
+        keeps_last = λ good b is.
+            kept.keeps_last b (ap last_used done.stays.cache ∙ c.find_last.ensures.same.same_last ∙ ap last_used (c.keep_if.ensures.same (rw good refl)) ∙ is);
+        has = λ good is. absurd (apart good is);
+      }) last.chunks;
     }
 
 pub returns-in-Err : goal.returns-in-Err
@@ -280,24 +248,12 @@ returns-in-Err g c =
     let done = c.in-Err.ensures in
     record {
       keeps = payload-refused g.R.Read _ _ _ _ _ done.keeps;
-      refusal = done.refusal;
-      key = done.same.4;
-      sought = done.same.7 ∙ c.requires.sought;
-      good = tt;
-      fails = done.same.6;
-      arrives = λ told. tt;
-      stays = (done.same.0, done.same.1);
-      unspent = tt;
-      counts = omega (arith, done.same.5);
-      inner_end = λ told. tt;
-      opens = omega (arith, done.same.5);
-      held = λ _ _ _ _. done.same.5;
-      kept = λ _ _. done.same.5;
-      alone = λ failed. tt;
-      uses = tt;
-      keeps_last = λ good. tt;
-      has = λ good is. tt;
-      cause = λ told well memory quiet. absurd (done.cause told well memory quiet);
+      same = (done.stays.key, done.stays.sought ∙ c.requires.sought);
+      enters = tt;
+      refused = step-refused c.args.self.now _ _ _ refl refl refl (λ none. absurd none) done.refused;
+      opens = (omega (arith, done.stays.opens), omega (arith, done.stays.opens));
+      none = λ _ _. done.stays.opens;
+      chunks = tt;
     }
 
 pub returns-in-Err-stand : goal.returns-in-Err-stand
@@ -305,24 +261,12 @@ returns-in-Err-stand g c =
     let done = c.in-Err-stand.ensures in
     record {
       keeps = payload-refused g.R.Read _ _ _ _ _ done.keeps;
-      refusal = done.refusal;
-      key = done.same.4;
-      sought = done.same.7 ∙ c.requires.sought;
-      good = tt;
-      fails = done.same.6;
-      arrives = λ told. tt;
-      stays = (done.same.0, done.same.1);
-      unspent = tt;
-      counts = omega (arith, done.same.5);
-      inner_end = λ told. tt;
-      opens = omega (arith, done.same.5);
-      held = λ _ _ _ _. done.same.5;
-      kept = λ _ _. done.same.5;
-      alone = λ failed. tt;
-      uses = tt;
-      keeps_last = λ good. tt;
-      has = λ good is. tt;
-      cause = λ told well memory quiet. absurd (done.cause told well memory quiet);
+      same = (done.stays.key, done.stays.sought ∙ c.requires.sought);
+      enters = tt;
+      refused = step-refused c.args.self.now _ _ _ refl refl refl (λ none. absurd none) done.refused;
+      opens = (omega (arith, done.stays.opens), omega (arith, done.stays.opens));
+      none = λ _ _. done.stays.opens;
+      chunks = tt;
     }
 
 pub returns-in-Err-stand-2 : goal.returns-in-Err-stand-2
@@ -330,24 +274,12 @@ returns-in-Err-stand-2 g c =
     let done = c.in-Err-stand-2.ensures in
     record {
       keeps = payload-refused g.R.Read _ _ _ _ _ done.keeps;
-      refusal = done.refusal;
-      key = done.same.4;
-      sought = done.same.7 ∙ c.requires.sought;
-      good = tt;
-      fails = done.same.6;
-      arrives = λ told. tt;
-      stays = (done.same.0, done.same.1);
-      unspent = tt;
-      counts = omega (arith, done.same.5);
-      inner_end = λ told. tt;
-      opens = omega (arith, done.same.5);
-      held = λ _ _ _ _. done.same.5;
-      kept = λ _ _. done.same.5;
-      alone = λ failed. tt;
-      uses = tt;
-      keeps_last = λ good. tt;
-      has = λ good is. tt;
-      cause = λ told well memory quiet. absurd (done.cause told well memory quiet);
+      same = (done.stays.key, done.stays.sought ∙ c.requires.sought);
+      enters = tt;
+      refused = step-refused c.args.self.now _ _ _ refl refl refl (λ none. absurd none) done.refused;
+      opens = (omega (arith, done.stays.opens), omega (arith, done.stays.opens));
+      none = λ _ _. done.stays.opens;
+      chunks = tt;
     }
 
 pub open_last-requires-clause-stands : goal.open_last-requires-clause-stands
@@ -356,8 +288,7 @@ open_last-requires-clause-stands g c = λ told.
     let mid = c.stand-else-find_last.new.self in
     let done = c.in-Ok-stand-2.ensures in
     let told_before = told-before g.R.Read self.inner mid.inner done.keeps.inner.same told in
-    let placed = done.stands told_before in
-    (placed.0, placed.1 ∙ ap (from_place (65552 * final_chunk c.args.size)) (sym (done.keeps.payload told_before)))
+    (done.stands.taken told_before, done.stands.rest told_before ∙ ap (from_place (65552 * final_chunk c.args.size)) (sym (done.keeps.payload told_before)))
 
 pub open_last-requires-clause-last : goal.open_last-requires-clause-last
 open_last-requires-clause-last g c = λ told.

@@ -37,27 +37,27 @@ invariant_of-self-2 g c =
           (g.met.R.Read.are_bytes self.inner (and-left _ _ told)) c.requires.good c.requires.held within small;
     }
 
-pub returns-clause-front : goal.returns-clause-front
-returns-clause-front g c =
-    let self = c.args.self.now in
-    let within : self.at + c.min-count.result ≤ length self.cache.chunk.items = omega (arith, self.in_chunk c.requires.held, self.cache.chunk.ok.0) in
-    copied self.cache.chunk.items c.copy_from_slice.new.self (drop c.min-count.result c.args.buf.now) self.at c.min-count.result within
-    (rw c.deref.ensures.value at c.copy_from_slice.ensures.after)
-
+-- what was given is the front of what was left of the chunk
 pub returns-clause-bytes : goal.returns-clause-bytes
 returns-clause-bytes g c =
     let self = c.args.self.now in
+    let within : self.at + c.min-count.result ≤ length self.cache.chunk.items = omega (arith, self.in_chunk c.requires.held, self.cache.chunk.ok.0) in
     gives g.S.Suite.opened self.key self.failed self.held self.cache.last self.at c.min-count.result self.cache.chunk.items self.number (g.R.Read.rest self.inner) _
-    c.requires.good c.requires.held (returns-clause-front g c)
+    c.requires.good c.requires.held
+    (copied self.cache.chunk.items c.copy_from_slice.new.self (drop c.min-count.result c.args.buf.now) self.at c.min-count.result within
+    (rw c.deref.ensures.value at c.copy_from_slice.ensures.after))
 
 pub returns-clause-gives : goal.returns-clause-gives
 returns-clause-gives g c = λ told some.
     let self = c.args.self.now in
     let read = g.R.Read in
     let content = read.content self.inner in
+    let within : self.at + c.min-count.result ≤ length self.cache.chunk.items = omega (arith, self.in_chunk c.requires.held, self.cache.chunk.ok.0) in
+    let front = copied self.cache.chunk.items c.copy_from_slice.new.self (drop c.min-count.result c.args.buf.now) self.at c.min-count.result within
+    (rw c.deref.ensures.value at c.copy_from_slice.ensures.after) in
     let count : c.min-count.result ≡ min (length c.args.buf.now) (length self.cache.chunk.items - self.at) = omega (arith, c.min-count.ensures, self.cache.chunk.ok.0) in
     gives-held g.S.Suite.seal_of g.S.Suite.opened g.met.S.Suite.cipher self.key self.key_bytes
     (payload_at (read.place self.inner) self.taken content) self.number self.at (length c.args.buf.now) self.cache.last self.cache.chunk.items _
     (All-drop (λ x. x < 2 ^ 8) (read.place self.inner - self.taken) content.bytes (g.met.R.Read.are_bytes self.inner (and-left _ _ told)))
     ((self.sound told).is_held c.requires.held) (self.small c.requires.held) (omega (arith, some, count))
-    (returns-clause-front g c ∙ ap (λ n. take n (drop self.at self.cache.chunk.items)) count)
+    (front ∙ ap (λ n. take n (drop self.at self.cache.chunk.items)) count)

@@ -11,6 +11,7 @@ use Rattle.age_stream.proofs.Holding.{open-early, open-refused, opened-before, r
 use Rattle.age_error.specs.declared.io.Error.TheVariants.{OutOfMemory, Truncated}
 use Rattle.age_stream.specs.FrontToEnd.{StopsAt}
 use Rattle.age_stream.specs.Reading.{payload_at, IsSound}
+use Rattle.age_stream.proofs.Stepping.{has-next, next-held, opens-next}
 use Rattle.age_stream.proofs.Keeping.{told-before, payload-done, payload-refused, payload-more, payload-ended}
 use Rattle.age_stream.proofs.Moving.{sound-shut}
 use Rattle.std.proofs.lemmas.Bool.{true≢false}
@@ -20,167 +21,131 @@ use Rattle.age_stream.proofs.reader.StreamReader.open.Goals as goal
 pub returns-in-Err : goal.returns-in-Err
 returns-in-Err g c =
     let self = c.args.self.now in
-    let mid = c.take_text.new.self in
+    let mid = c.take.new.self in
     let read = g.R.Read in
     let taken = c.in-Err.ensures in
-    let same = taken.same in
+    let same = taken.stays in
     record {
       keeps = payload-refused read self.inner mid.inner self.taken mid.taken c.in-Err.e
           (payload-more read _ self.inner mid.inner self.taken mid.taken (λ e none. absurd none) taken.keeps);
-      unspent = tt;
-      key = same.4;
-      sought = same.7;
-      place = omega (arith, same.0, same.1);
-      good = tt;
-      rest = λ told. tt;
-      end = λ told. tt;
-      ended = λ told. tt;
-      fails = same.6;
-      cause = λ told memory quiet.
-          open-early g.S.Suite.opened self.key self.failed self.held self.cache.last self.at self.cache.chunk.items self.number (read.rest self.inner)
-          c.requires.good c.requires.closed (taken.cause (and-left _ _ told) memory quiet);
-      refused = λ told memory quiet.
-          let wanted : 65552 ≡ wanted_of self = rw c.requires.closed refl in
-          record {
-            number = self.number;
-            from = omega arith;
-            to = omega (arith, ((self.sound told).before c.requires.good c.requires.closed).under);
-            why = inl (subst (λ n. EndsEarly n (read.rest self.inner)) wanted (taken.cause (and-left _ _ told) memory quiet));
-          };
-      inner_end = λ told. tt;
-      number = same.0;
-      spared = tt;
-      counts = omega (arith, same.5);
-      opens = omega (arith, same.5);
-      found = λ has. same.5;
-      opened = λ none. tt;
-      keeps_last = tt;
-      has = λ has. tt;
+      stays = record { key = same.key; sought = same.sought; place = omega (arith, same.number, same.at) };
+      holds = tt;
+      refused = record {
+        fails = taken.failed;
+        cause = λ told memory quiet.
+            open-early g.S.Suite.opened self.key self.failed self.held self.cache.last self.at self.cache.chunk.items self.number (read.rest self.inner)
+            c.requires.good c.requires.closed (taken.cause (and-left _ _ told) memory quiet);
+        refused = λ told memory quiet.
+            let wanted : 65552 ≡ wanted_of self = rw c.requires.closed refl in
+            record {
+              number = self.number;
+              from = omega arith;
+              to = omega (arith, ((self.sound told).before c.requires.good c.requires.closed).under);
+              why = inl (subst (λ n. EndsEarly n (read.rest self.inner)) wanted (taken.cause (and-left _ _ told) memory quiet));
+            };
+      };
+      opens = opens-next {T = Unit} self mid _ c.requires.closed same.number (omega (arith, same.opens)) (omega (arith, same.opens)) (λ _. same.opens) tt;
     }
 
 -- the text that came is refused
 pub returns-in-Err-bring : goal.returns-in-Err-bring
 returns-in-Err-bring g c =
     let self = c.args.self.now in
-    let mid = c.take_text.new.self in
+    let mid = c.take.new.self in
     let read = g.R.Read in
     let suite = g.S.Suite in
     let taken = c.in-Ok.ensures in
-    let same = taken.same in
+    let same = taken.stays in
     let bring = c.in-Err-bring.ensures in
     let e = c.in-Err-bring.e in
     let text = take c.in-Ok.count mid.sealed.items in
-    let judged : (e ≡ OutOfMemory) ⊎ (chunk_of suite.opened self.key self.number text ≡ Err e) = rw (c.deref.ensures.value, same.4, same.0) at bring.refused in
+    let judged : (e ≡ OutOfMemory) ⊎ (chunk_of suite.opened self.key self.number text ≡ Err e) = rw (c.deref.ensures.value, same.key, same.number) at bring.refused in
     let refuses = λ (told : IsTrue (read.tells self.inner && read.steady self.inner)) (bad : chunk_of suite.opened self.key self.number text ≡ Err e).
     let t = and-left _ _ told in
     let sound = self.sound told in
     refuses-chunk suite.seal_of suite.opened g.met.S.Suite.cipher self.key self.key_bytes (read.content self.inner) (read.rest self.inner) (read.rest mid.inner)
     (read.place self.inner) self.taken self.number text e (g.met.R.Read.are_bytes self.inner t) (g.met.R.Read.stands self.inner t (and-right _ _ told)) sound.fits
-    (sound.before c.requires.good c.requires.closed).stood sound.inside.front (taken.took t) bad in
+    (sound.before c.requires.good c.requires.closed).stood sound.inside.front (taken.takes.took t) bad in
     record {
       keeps = payload-ended read self.inner mid.inner self.taken mid.taken e
-          (payload-more read _ self.inner mid.inner self.taken mid.taken (λ e none. absurd none) taken.keeps) bring.device
+          (payload-more read _ self.inner mid.inner self.taken mid.taken (λ e none. absurd none) taken.keeps) bring.named.device
           (record {
-            is = bring.named;
+            is = bring.named.named;
             named = λ told. elim judged [
               | inl want ↦ inr (0, subst (StopsAt suite.seal_of self.key (payload_at (read.place self.inner) self.taken (read.content self.inner)).bytes 0) (sym want) tt)
               | inr bad ↦ inr (self.number, refuses told bad)
             ];
           });
-      unspent = tt;
-      key = same.4;
-      sought = same.7;
-      place = omega (arith, same.0, same.1);
-      good = tt;
-      rest = λ told. tt;
-      end = λ told. tt;
-      ended = λ told. tt;
-      fails = same.6;
-      cause = λ told memory quiet. elim judged [
-        | inl want ↦ absurd (memory want)
-        | inr bad ↦ open-refused suite.opened self.key self.failed self.held self.cache.last self.at self.cache.chunk.items self.number (read.rest self.inner)
-            (read.rest mid.inner) text e c.requires.good c.requires.closed (taken.took (and-left _ _ told)) bad
-      ];
-      refused = λ told memory quiet. record {
-        number = self.number;
-        from = omega arith;
-        to = omega (arith, ((self.sound told).before c.requires.good c.requires.closed).under);
-        why = elim judged [ inl want ↦ absurd (memory want) | inr bad ↦ inr (bring.itself, refuses told bad) ];
+      stays = record { key = same.key; sought = same.sought; place = omega (arith, same.number, same.at) };
+      holds = tt;
+      refused = record {
+        fails = taken.failed;
+        cause = λ told memory quiet. elim judged [
+          | inl want ↦ absurd (memory want)
+          | inr bad ↦ open-refused suite.opened self.key self.failed self.held self.cache.last self.at self.cache.chunk.items self.number (read.rest self.inner)
+              (read.rest mid.inner) text e c.requires.good c.requires.closed (taken.takes.took (and-left _ _ told)) bad
+        ];
+        refused = λ told memory quiet. record {
+          number = self.number;
+          from = omega arith;
+          to = omega (arith, ((self.sound told).before c.requires.good c.requires.closed).under);
+          why = elim judged [ inl want ↦ absurd (memory want) | inr bad ↦ inr (bring.named.itself, refuses told bad) ];
+        };
       };
-      inner_end = λ told. tt;
-      number = same.0;
-      spared = tt;
-      counts = omega (arith, same.5, bring.counts mid.count_fits);
-      opens = omega (arith, same.5, bring.opens);
-      found = λ has. bring.found (rw (same.0, same.3) has) ∙ same.5;
-      opened = λ none. tt;
-      keeps_last = tt;
-      has = λ has. tt;
+      opens = opens-next {T = Unit} self _ _ c.requires.closed same.number (omega (arith, same.opens, bring.opens.counts mid.count_fits)) (omega (arith, same.opens, bring.opens.most))
+          (λ has. bring.found (rw (same.number, same.cache) has) ∙ same.opens) tt;
     }
 
 -- the text that came is opened, and has no byte at the place: it has one, since the payload is as long as a seek found
 pub returns-then-self-len : goal.returns-then-self-len
 returns-then-self-len g c =
     let self = c.args.self.now in
-    let mid = c.take_text.new.self in
+    let mid = c.take.new.self in
     let read = g.R.Read in
     let suite = g.S.Suite in
     let taken = c.in-Ok.ensures in
-    let same = taken.same in
-    let bring = c.in-Ok-bring.ensures in
+    let same = taken.stays in
+    let brings = c.in-Ok-bring.ensures.brings in
     let cache = c.bring.new.self in
     let plain = cache.chunk.items in
     let text = take c.in-Ok.count mid.sealed.items in
     let payload = payload_at (read.place self.inner) self.taken (read.content self.inner) in
     let law = shorter suite.seal_of suite.opened g.met.S.Suite.cipher self.key self.key_bytes in
-    let stands = λ (told : IsTrue (read.tells self.inner && read.steady self.inner)). g.met.R.Read.stands self.inner (and-left _ _ told) (and-right _ _ told) in
-    let before = λ (told : IsTrue (read.tells self.inner && read.steady self.inner)). (self.sound told).before c.requires.good c.requires.closed in
-    let is = λ (told : IsTrue (read.tells self.inner && read.steady self.inner)).
-    brought suite.opened self.key law (read.content self.inner) (read.rest self.inner) (read.rest mid.inner) (read.place self.inner) self.taken self.number text cache
-    (g.met.R.Read.are_bytes self.inner (and-left _ _ told)) (stands told) (self.sound told).fits (before told).stood (taken.took (and-left _ _ told))
-    (bring.first.0, bring.first.1 ∙ same.0, bring.first.2)
-    (λ one. subst (λ k. IsKept suite.opened k payload cache) same.4
-    (c.bring.ensures.kept payload (rw (same.4, same.3) (self.kept told)) (rw (c.deref.ensures.value, same.0) one))) in
-    let inside = λ (told : IsTrue (read.tells self.inner && read.steady self.inner)).
-    opened-before (read.content self.inner) (read.rest self.inner) (read.rest mid.inner) (read.place self.inner) self.taken self.number self.at text (length plain)
-    (stands told) (self.sound told).fits (before told) (taken.took (and-left _ _ told)) (is told).longer in
-    let past : length plain < self.at = omega (arith, c.if-self-len.true, c.len.ensures, cache.chunk.ok.0, same.1) in
+    let past : length plain < self.at = omega (arith, c.if-self-len.true, c.len.ensures, cache.chunk.ok.0, same.at) in
+    let never : IsTrue (read.tells self.inner && read.steady self.inner) → ⊥ = λ told.
+    let t = and-left _ _ told in
+    let stands = g.met.R.Read.stands self.inner t (and-right _ _ told) in
+    let sound = self.sound told in
+    let before = sound.before c.requires.good c.requires.closed in
+    let took = taken.takes.took t in
+    let is = brought suite.opened self.key law (read.content self.inner) (read.rest self.inner) (read.rest mid.inner) (read.place self.inner) self.taken self.number text cache
+    (g.met.R.Read.are_bytes self.inner t) stands sound.fits before.stood took (brings.first.0, brings.first.1 ∙ same.number, brings.first.2)
+    (λ one. subst (λ k. IsKept suite.opened k payload cache) same.key
+    (c.bring.ensures.kept payload (rw (same.key, same.cache) (self.kept told)) (rw (c.deref.ensures.value, same.number) one))) in
+    let inside = opened-before (read.content self.inner) (read.rest self.inner) (read.rest mid.inner) (read.place self.inner) self.taken self.number self.at text (length plain)
+    stands sound.fits before took is.longer in
+    omega (arith, past, inside (omega (arith, past))) in
     record {
       keeps = payload-ended read self.inner mid.inner self.taken mid.taken Truncated
           (payload-more read _ self.inner mid.inner self.taken mid.taken (λ e none. absurd none) taken.keeps) (λ device. device)
-          (record { is = tt; named = λ told. absurd (omega (arith, past, inside told (omega (arith, past)))) });
-      unspent = tt;
-      key = same.4;
-      sought = same.7;
-      place = omega (arith, same.0, same.1);
-      good = tt;
-      rest = λ told. tt;
-      end = λ told. tt;
-      ended = λ told. tt;
-      fails = same.6;
-      cause = λ told memory quiet. absurd (omega (arith, past, inside told (omega (arith, past))));
-      refused = λ told memory quiet. absurd (omega (arith, past, inside told (omega (arith, past))));
-      inner_end = λ told. tt;
-      number = same.0;
-      spared = tt;
-      counts = omega (arith, same.5, c.bring.ensures.counts mid.count_fits);
-      opens = omega (arith, same.5, c.bring.ensures.opens);
-      found = λ has. c.bring.ensures.found (rw (same.0, same.3) has) ∙ same.5;
-      opened = λ none. tt;
-      keeps_last = tt;
-      has = λ has. tt;
+          (record { is = tt; named = λ told. absurd (never told) });
+      stays = record { key = same.key; sought = same.sought; place = omega (arith, same.number, same.at) };
+      holds = tt;
+      refused = record { fails = taken.failed; cause = λ told memory quiet. absurd (never told); refused = λ told memory quiet. absurd (never told) };
+      opens = opens-next {T = Unit} self _ _ c.requires.closed same.number (omega (arith, same.opens, c.bring.ensures.opens.counts mid.count_fits))
+          (omega (arith, same.opens, c.bring.ensures.opens.most)) (λ has. c.bring.ensures.found (rw (same.number, same.cache) has) ∙ same.opens) tt;
     }
 
 -- the text that came is opened
 pub returns-else-self-len : goal.returns-else-self-len
 returns-else-self-len g c =
     let self = c.args.self.now in
-    let mid = c.take_text.new.self in
+    let mid = c.take.new.self in
     let read = g.R.Read in
     let suite = g.S.Suite in
     let taken = c.in-Ok.ensures in
-    let same = taken.same in
-    let bring = c.in-Ok-bring.ensures in
+    let same = taken.stays in
+    let brings = c.in-Ok-bring.ensures.brings in
     let cache = c.bring.new.self in
     let plain = cache.chunk.items in
     let text = take c.in-Ok.count mid.sealed.items in
@@ -190,46 +155,41 @@ returns-else-self-len g c =
     let before = λ (told : IsTrue (read.tells self.inner && read.steady self.inner)). (self.sound told).before c.requires.good c.requires.closed in
     let is = λ (told : IsTrue (read.tells self.inner && read.steady self.inner)).
     brought suite.opened self.key law (read.content self.inner) (read.rest self.inner) (read.rest mid.inner) (read.place self.inner) self.taken self.number text cache
-    (g.met.R.Read.are_bytes self.inner (and-left _ _ told)) (stands told) (self.sound told).fits (before told).stood (taken.took (and-left _ _ told))
-    (bring.first.0, bring.first.1 ∙ same.0, bring.first.2)
-    (λ one. subst (λ k. IsKept suite.opened k payload cache) same.4
-    (c.bring.ensures.kept payload (rw (same.4, same.3) (self.kept told)) (rw (c.deref.ensures.value, same.0) one))) in
+    (g.met.R.Read.are_bytes self.inner (and-left _ _ told)) (stands told) (self.sound told).fits (before told).stood (taken.takes.took (and-left _ _ told))
+    (brings.first.0, brings.first.1 ∙ same.number, brings.first.2)
+    (λ one. subst (λ k. IsKept suite.opened k payload cache) same.key
+    (c.bring.ensures.kept payload (rw (same.key, same.cache) (self.kept told)) (rw (c.deref.ensures.value, same.number) one))) in
     let inside = λ (told : IsTrue (read.tells self.inner && read.steady self.inner)).
     opened-before (read.content self.inner) (read.rest self.inner) (read.rest mid.inner) (read.place self.inner) self.taken self.number self.at text (length plain)
-    (stands told) (self.sound told).fits (before told) (taken.took (and-left _ _ told)) (is told).longer in
-    let within : self.at ≤ length plain = omega (arith, c.if-self-len.false, c.len.ensures, cache.chunk.ok.0, same.1) in
+    (stands told) (self.sound told).fits (before told) (taken.takes.took (and-left _ _ told)) (is told).longer in
+    let within : self.at ≤ length plain = omega (arith, c.if-self-len.false, c.len.ensures, cache.chunk.ok.0, same.at) in
     record {
       keeps = payload-done read self.inner mid.inner self.taken mid.taken
           (payload-more read _ self.inner mid.inner self.taken mid.taken (λ e none. absurd none) taken.keeps);
-      unspent = taken.unspent;
-      key = same.4;
-      sought = same.7;
-      place = omega (arith, same.0, same.1);
-      good = (refl, refl);
-      rest = λ told.
-          rw (same.4, same.1, same.0) (rest-opened suite.opened self.key self.failed self.held self.cache.last cache.last self.at self.cache.chunk.items plain self.number
-          (read.rest self.inner) (read.rest mid.inner) text c.requires.good c.requires.closed (taken.took (and-left _ _ told)) (is told).short (is told).ok within);
-      end = λ told given.
-          clean-opened suite.opened self.key self.failed self.held self.cache.last cache.last self.at self.cache.chunk.items plain self.number
-          (read.rest self.inner) (read.rest mid.inner) text c.requires.good c.requires.closed (taken.took (and-left _ _ told)) (is told).short (is told).ok (is told).longer
-          (inside told) (sym same.1 ∙ given);
-      ended = λ told given.
-          good-opened suite.seal_of suite.opened g.met.S.Suite.cipher self.key self.key_bytes
-          (read.content self.inner) (read.rest self.inner) (read.rest mid.inner) (read.place self.inner) self.taken self.number self.at cache.last text plain
-          (g.met.R.Read.are_bytes self.inner (and-left _ _ told)) (stands told) (self.sound told).fits (before told).stood (taken.took (and-left _ _ told))
-          (is told).short (is told).ok (is told).longer (inside told) (sym same.1 ∙ given);
-      fails = tt;
-      cause = λ told. tt;
-      refused = λ told. tt;
-      inner_end = λ told. (taken.took (and-left _ _ told)).came.end;
-      number = same.0;
-      spared = omega (arith, same.5, spare-opened true cache.last mid.opens c.bring.new.opens refl bring.middle c.bring.ensures.opens);
-      counts = omega (arith, same.5, c.bring.ensures.counts mid.count_fits);
-      opens = omega (arith, same.5, c.bring.ensures.opens);
-      found = λ has. c.bring.ensures.found (rw (same.0, same.3) has) ∙ same.5;
-      opened = λ none. rw (← same.5) (bring.opened mid.count_fits (λ has. none (rw (← same.0, ← same.3) has)));
-      keeps_last = λ b used. bring.keeps_last b (rw same.3 used);
-      has = λ has b one. bring.keeps (rw (same.0, same.3) has) b (rw same.3 one);
+      stays = record { key = same.key; sought = same.sought; place = omega (arith, same.number, same.at) };
+      holds = record {
+        good = (refl, refl);
+        rest = λ told.
+            rw (same.key, same.at, same.number) (rest-opened suite.opened self.key self.failed self.held self.cache.last cache.last self.at self.cache.chunk.items plain self.number
+            (read.rest self.inner) (read.rest mid.inner) text c.requires.good c.requires.closed (taken.takes.took (and-left _ _ told)) (is told).short (is told).ok within);
+        end = λ told given.
+            clean-opened suite.opened self.key self.failed self.held self.cache.last cache.last self.at self.cache.chunk.items plain self.number
+            (read.rest self.inner) (read.rest mid.inner) text c.requires.good c.requires.closed (taken.takes.took (and-left _ _ told)) (is told).short (is told).ok (is told).longer
+            (inside told) (sym same.at ∙ given);
+        ended = λ told given.
+            good-opened suite.seal_of suite.opened g.met.S.Suite.cipher self.key self.key_bytes
+            (read.content self.inner) (read.rest self.inner) (read.rest mid.inner) (read.place self.inner) self.taken self.number self.at cache.last text plain
+            (g.met.R.Read.are_bytes self.inner (and-left _ _ told)) (stands told) (self.sound told).fits (before told).stood (taken.takes.took (and-left _ _ told))
+            (is told).short (is told).ok (is told).longer (inside told) (sym same.at ∙ given);
+        inner_end = λ told. (taken.takes.took (and-left _ _ told)).came.end;
+        opened = λ none. rw (← same.opens) (brings.opened mid.count_fits (λ has. none (next-held self c.requires.good c.requires.closed (rw (← same.number, ← same.cache) has))));
+        keeps_last = λ b used. brings.keeps_last b (rw same.cache used);
+        has = λ here b one. brings.keeps (rw (same.number, same.cache) (has-next self c.requires.closed here)) b (rw same.cache one);
+      };
+      refused = tt;
+      opens = opens-next {T = Unit} self _ _ c.requires.closed same.number (omega (arith, same.opens, c.bring.ensures.opens.counts mid.count_fits))
+          (omega (arith, same.opens, c.bring.ensures.opens.most)) (λ has. c.bring.ensures.found (rw (same.number, same.cache) has) ∙ same.opens)
+          (omega (arith, same.opens, spare-opened true cache.last mid.opens c.bring.new.opens refl brings.middle c.bring.ensures.opens.most));
     }
 
 -- ---- what it keeps
@@ -237,21 +197,21 @@ returns-else-self-len g c =
 pub invariant_of-self : goal.invariant_of-self
 invariant_of-self g c =
     let self = c.args.self.now in
-    let mid = c.take_text.new.self in
+    let mid = c.take.new.self in
     let read = g.R.Read in
     let suite = g.S.Suite in
     let taken = c.in-Ok.ensures in
-    let same = taken.same in
+    let same = taken.stays in
     let cache = c.bring.new.self in
     let told_before = told-before read self.inner mid.inner taken.keeps.inner.same in
-    let none = λ (held : mid.held ≡ true). true≢false (sym held ∙ same.2 ∙ c.requires.closed) in
+    let none = λ (held : mid.held ≡ true). true≢false (sym held ∙ same.held ∙ c.requires.closed) in
     let kept = λ (told : IsTrue (read.tells mid.inner && read.steady mid.inner)).
     let b = told_before told in
     let sound = self.sound b in
     let came = is-text (read.content self.inner) (read.rest self.inner) (read.rest mid.inner) (read.place self.inner) self.taken self.number (take c.in-Ok.count mid.sealed.items)
-    (g.met.R.Read.stands self.inner (and-left _ _ b) (and-right _ _ b)) sound.fits (sound.before c.requires.good c.requires.closed).stood (taken.took (and-left _ _ b)) in
+    (g.met.R.Read.stands self.inner (and-left _ _ b) (and-right _ _ b)) sound.fits (sound.before c.requires.good c.requires.closed).stood (taken.takes.took (and-left _ _ b)) in
     c.bring.ensures.kept _ (mid.kept told)
-    (rw (c.deref.ensures.value, same.0) (subst (λ p. IsText p self.number (take c.in-Ok.count mid.sealed.items)) (sym (taken.keeps.payload b)) came)) in
+    (rw (c.deref.ensures.value, same.number) (subst (λ p. IsText p self.number (take c.in-Ok.count mid.sealed.items)) (sym (taken.keeps.payload b)) came)) in
     record {
       key_bytes = mid.key_bytes;
       room = mid.room;
@@ -263,34 +223,34 @@ invariant_of-self g c =
       full = λ held. absurd (none held);
       first = λ held. absurd (none held);
       unjudged = λ held. absurd (none held);
-      count_fits = c.bring.ensures.fits mid.count_fits;
+      count_fits = c.bring.ensures.opens.fits mid.count_fits;
       unspent = mid.unspent;
       kept = kept;
       sound = λ told.
           subst (λ h. IsSound suite.opened mid.key mid.failed h mid.at cache.chunk.items cache.last mid.sought mid.number mid.taken (read.place mid.inner) (read.content mid.inner)
-          (read.rest mid.inner)) (sym (same.2 ∙ c.requires.closed))
+          (read.rest mid.inner)) (sym (same.held ∙ c.requires.closed))
           (sound-shut suite.opened mid.key mid.failed mid.held mid.at mid.cache.chunk.items mid.cache.last mid.sought mid.number mid.taken (read.place mid.inner)
-          (read.content mid.inner) (read.rest mid.inner) (mid.sound told) cache.chunk.items cache.last same.6);
+          (read.content mid.inner) (read.rest mid.inner) (mid.sound told) cache.chunk.items cache.last taken.failed);
     }
 
 pub invariant_of-self-then-self-len : goal.invariant_of-self-then-self-len
 invariant_of-self-then-self-len g c =
     let self = c.args.self.now in
-    let mid = c.take_text.new.self in
+    let mid = c.take.new.self in
     let read = g.R.Read in
     let suite = g.S.Suite in
     let taken = c.in-Ok.ensures in
-    let same = taken.same in
+    let same = taken.stays in
     let cache = c.bring.new.self in
     let told_before = told-before read self.inner mid.inner taken.keeps.inner.same in
-    let none = λ (held : mid.held ≡ true). true≢false (sym held ∙ same.2 ∙ c.requires.closed) in
+    let none = λ (held : mid.held ≡ true). true≢false (sym held ∙ same.held ∙ c.requires.closed) in
     let kept = λ (told : IsTrue (read.tells mid.inner && read.steady mid.inner)).
     let b = told_before told in
     let sound = self.sound b in
     let came = is-text (read.content self.inner) (read.rest self.inner) (read.rest mid.inner) (read.place self.inner) self.taken self.number (take c.in-Ok.count mid.sealed.items)
-    (g.met.R.Read.stands self.inner (and-left _ _ b) (and-right _ _ b)) sound.fits (sound.before c.requires.good c.requires.closed).stood (taken.took (and-left _ _ b)) in
+    (g.met.R.Read.stands self.inner (and-left _ _ b) (and-right _ _ b)) sound.fits (sound.before c.requires.good c.requires.closed).stood (taken.takes.took (and-left _ _ b)) in
     c.bring.ensures.kept _ (mid.kept told)
-    (rw (c.deref.ensures.value, same.0) (subst (λ p. IsText p self.number (take c.in-Ok.count mid.sealed.items)) (sym (taken.keeps.payload b)) came)) in
+    (rw (c.deref.ensures.value, same.number) (subst (λ p. IsText p self.number (take c.in-Ok.count mid.sealed.items)) (sym (taken.keeps.payload b)) came)) in
     record {
       key_bytes = mid.key_bytes;
       room = mid.room;
@@ -302,46 +262,46 @@ invariant_of-self-then-self-len g c =
       full = λ held. absurd (none held);
       first = λ held. absurd (none held);
       unjudged = λ held. absurd (none held);
-      count_fits = c.bring.ensures.fits mid.count_fits;
+      count_fits = c.bring.ensures.opens.fits mid.count_fits;
       unspent = mid.unspent;
       kept = λ told. let k = kept told in record { first = k.first; other = k.other };
       sound = λ told.
           subst (λ h. IsSound suite.opened mid.key mid.failed h mid.at cache.chunk.items cache.last mid.sought mid.number mid.taken (read.place mid.inner) (read.content mid.inner)
-          (read.rest mid.inner)) (sym (same.2 ∙ c.requires.closed))
+          (read.rest mid.inner)) (sym (same.held ∙ c.requires.closed))
           (sound-shut suite.opened mid.key mid.failed mid.held mid.at mid.cache.chunk.items mid.cache.last mid.sought mid.number mid.taken (read.place mid.inner)
-          (read.content mid.inner) (read.rest mid.inner) (mid.sound told) cache.chunk.items cache.last same.6);
+          (read.content mid.inner) (read.rest mid.inner) (mid.sound told) cache.chunk.items cache.last taken.failed);
     }
 
 pub invariant_of-self-in-Ok-bring-2 : goal.invariant_of-self-in-Ok-bring-2
 invariant_of-self-in-Ok-bring-2 g c =
     let self = c.args.self.now in
-    let mid = c.take_text.new.self in
+    let mid = c.take.new.self in
     let read = g.R.Read in
     let suite = g.S.Suite in
     let taken = c.in-Ok.ensures in
-    let same = taken.same in
+    let same = taken.stays in
     let cache = c.bring.new.self in
-    let first = c.in-Ok-bring.ensures.first in
+    let first = c.in-Ok-bring.ensures.brings.first in
     let whole = cache.whole first.0 in
     let text = take c.in-Ok.count mid.sealed.items in
-    let long : length text ≡ c.in-Ok.count = length-take-le c.in-Ok.count mid.sealed.items (omega (arith, taken.count, mid.room)) in
+    let long : length text ≡ c.in-Ok.count = length-take-le c.in-Ok.count mid.sealed.items (omega (arith, taken.takes.most, mid.room)) in
     let within : mid.at ≤ length cache.chunk.items = omega (arith, c.if-self-len.false, c.len.ensures, cache.chunk.ok.0) in
     let payload = payload_at (read.place self.inner) self.taken (read.content self.inner) in
     let is = λ (told : IsTrue (read.tells self.inner && read.steady self.inner)).
     brought suite.opened self.key (shorter suite.seal_of suite.opened g.met.S.Suite.cipher self.key self.key_bytes) (read.content self.inner) (read.rest self.inner)
     (read.rest mid.inner) (read.place self.inner) self.taken self.number text cache (g.met.R.Read.are_bytes self.inner (and-left _ _ told))
     (g.met.R.Read.stands self.inner (and-left _ _ told) (and-right _ _ told)) (self.sound told).fits ((self.sound told).before c.requires.good c.requires.closed).stood
-    (taken.took (and-left _ _ told)) (first.0, first.1 ∙ same.0, first.2)
-    (λ one. subst (λ k. IsKept suite.opened k payload cache) same.4
-    (c.bring.ensures.kept payload (rw (same.4, same.3) (self.kept told)) (rw (c.deref.ensures.value, same.0) one))) in
+    (taken.takes.took (and-left _ _ told)) (first.0, first.1 ∙ same.number, first.2)
+    (λ one. subst (λ k. IsKept suite.opened k payload cache) same.key
+    (c.bring.ensures.kept payload (rw (same.key, same.cache) (self.kept told)) (rw (c.deref.ensures.value, same.number) one))) in
     let told_before = told-before read self.inner mid.inner taken.keeps.inner.same in
     let kept = λ (told : IsTrue (read.tells mid.inner && read.steady mid.inner)).
     let b = told_before told in
     let sound = self.sound b in
     let came = is-text (read.content self.inner) (read.rest self.inner) (read.rest mid.inner) (read.place self.inner) self.taken self.number (take c.in-Ok.count mid.sealed.items)
-    (g.met.R.Read.stands self.inner (and-left _ _ b) (and-right _ _ b)) sound.fits (sound.before c.requires.good c.requires.closed).stood (taken.took (and-left _ _ b)) in
+    (g.met.R.Read.stands self.inner (and-left _ _ b) (and-right _ _ b)) sound.fits (sound.before c.requires.good c.requires.closed).stood (taken.takes.took (and-left _ _ b)) in
     c.bring.ensures.kept _ (mid.kept told)
-    (rw (c.deref.ensures.value, same.0) (subst (λ p. IsText p self.number (take c.in-Ok.count mid.sealed.items)) (sym (taken.keeps.payload b)) came)) in
+    (rw (c.deref.ensures.value, same.number) (subst (λ p. IsText p self.number (take c.in-Ok.count mid.sealed.items)) (sym (taken.keeps.payload b)) came)) in
     record {
       key_bytes = mid.key_bytes;
       room = mid.room;
@@ -353,13 +313,13 @@ invariant_of-self-in-Ok-bring-2 g c =
       full = λ _. whole.full;
       first = λ _. first.1;
       unjudged = λ _ none. absurd (true≢false (sym first.0 ∙ none));
-      count_fits = c.bring.ensures.fits mid.count_fits;
-      unspent = λ _ _. taken.unspent;
+      count_fits = c.bring.ensures.opens.fits mid.count_fits;
+      unspent = λ _ _. taken.takes.unspent;
       kept = λ told. let k = kept told in record { first = k.first; other = k.other };
       sound = λ told.
           let b = told_before told in
           let t = and-left _ _ b in
-          let moves = taken.moves b in
+          let moves = taken.takes.moves b in
           let content = taken.keeps.inner.same.content t in
           let fits = g.met.R.Read.place_fits mid.inner (and-left _ _ told) in
           let sound = self.sound b in
@@ -368,6 +328,6 @@ invariant_of-self-in-Ok-bring-2 g c =
           sound-opened suite.opened self.key self.failed self.held self.at self.cache.chunk.items self.cache.last self.sought self.number self.taken
           (read.place self.inner) (read.content self.inner) (read.rest self.inner) sound mid.taken (read.place mid.inner) c.in-Ok.count (read.content mid.inner)
           (read.rest mid.inner) text cache.chunk.items cache.last content moves.0 fits (omega (arith, moves.0, moves.1, fits, sound.fits)) c.requires.good c.requires.closed
-          (omega (arith, within, same.1)) (g.met.R.Read.stands self.inner t (and-right _ _ b)) (taken.took t) long (is b).short (is b).ok in
-          rw (same.4, same.1, same.7, same.0) opened;
+          (omega (arith, within, same.at)) (g.met.R.Read.stands self.inner t (and-right _ _ b)) (taken.takes.took t) long (is b).short (is b).ok in
+          rw (same.key, same.at, same.sought, same.number) opened;
     }

@@ -8,53 +8,65 @@ use Rattle.age_stream.proofs.Last.{IsLastText, last-held, last-text, last-none}
 use Rattle.age_stream.proofs.Moving.{sound-last}
 use Rattle.age_stream.proofs.reader.StreamReader.open_last.Goals as goal
 
-pub returns-in-Ok-None-clause-cause : goal.returns-in-Ok-None-clause-cause
-returns-in-Ok-None-clause-cause g c = λ told well memory quiet.
-    let self = c.args.self.now in
-    let mid = c.take_text.new.self in
-    let read = g.R.Read in
+pub returns-in-Ok-None-clause-refused : goal.returns-in-Ok-None-clause-refused
+returns-in-Ok-None-clause-refused g c =
     let taken = c.in-Ok.ensures in
-    let text = take c.in-Ok.count mid.sealed.items in
-    let payload = payload_at (read.place self.inner) self.taken (read.content self.inner) in
-    let whole = last-text payload (read.rest self.inner) (read.rest mid.inner) c.args.number text (c.requires.stands told).1 (c.requires.last told) (taken.took (and-left _ _ told)) in
-    let none : g.S.Suite.opened self.key (nonce c.args.number true) text ≡ None =
-    sym (rw (c.deref.ensures.value, taken.same.4, c.in-Ok-None.field-0-is) at c.in-Ok-None.ensures.opened) in
-    (refl, last-none g.S.Suite.opened self.key payload (read.rest mid.inner) c.args.number text whole none)
+    record {
+      fails = taken.failed;
+      place = omega (arith, taken.stays.number, taken.stays.at);
+      refusal = λ outside. outside;
+      cause = λ told well memory quiet.
+          let self = c.args.self.now in
+          let mid = c.take.new.self in
+          let read = g.R.Read in
+          let text = take c.in-Ok.count mid.sealed.items in
+          let payload = payload_at (read.place self.inner) self.taken (read.content self.inner) in
+          let whole = last-text payload (read.rest self.inner) (read.rest mid.inner) c.args.number text (c.requires.stands told).1 (c.requires.last told) (taken.takes.took (and-left _ _ told)) in
+          let none : g.S.Suite.opened self.key (nonce c.args.number true) text ≡ None =
+          sym (rw (c.deref.ensures.value, taken.stays.key, c.in-Ok-None.field-0-is) at c.in-Ok-None.ensures.opened) in
+          (refl, last-none g.S.Suite.opened self.key payload (read.rest mid.inner) c.args.number text whole none);
+    }
 
-pub returns-in-Ok-Some-clause-arrives : goal.returns-in-Ok-Some-clause-arrives
-returns-in-Ok-Some-clause-arrives g c = λ told.
+pub returns-in-Ok-Some-clause-enters : goal.returns-in-Ok-Some-clause-enters
+returns-in-Ok-Some-clause-enters g c =
     let self = c.args.self.now in
-    let mid = c.take_text.new.self in
+    let mid = c.take.new.self in
     let read = g.R.Read in
-    let text = take c.in-Ok.count mid.sealed.items in
     let payload = payload_at (read.place self.inner) self.taken (read.content self.inner) in
-    let whole = last-text payload (read.rest self.inner) (read.rest mid.inner) c.args.number text (c.requires.stands told).1 (c.requires.last told)
-    (c.in-Ok.ensures.took (and-left _ _ told)) in
-    let longer : length c.in-Ok-Some.chunk.items + 16 ≡ length text = rw (c.deref.ensures.value, c.in-Ok-Some.field-0-is) at c.in-Ok-Some.ensures.length in
-    omega (arith, whole.long, longer, c.len-len.ensures, c.in-Ok-Some.chunk.ok.0, (c.requires.last told).enough)
+    let taken = c.in-Ok.ensures in
+    record {
+      good = (refl, refl, c.put.ensures.first.2, refl);
+      arrives = λ told.
+          let text = take c.in-Ok.count mid.sealed.items in
+          let whole = last-text payload (read.rest self.inner) (read.rest mid.inner) c.args.number text (c.requires.stands told).1 (c.requires.last told)
+          (taken.takes.took (and-left _ _ told)) in
+          let longer : length c.in-Ok-Some.chunk.items + 16 ≡ length text = rw (c.deref.ensures.value, c.in-Ok-Some.field-0-is) at c.in-Ok-Some.ensures.length in
+          omega (arith, whole.long, longer, c.len-len.ensures, c.in-Ok-Some.chunk.ok.0, (c.requires.last told).enough);
+      inner_end = λ told. (taken.takes.took (and-left _ _ told)).came.end ∙ ap (λ s. s.ends_well) (c.requires.stands told).1;
+    }
 
 pub invariant_of-self-in-Ok-Some : goal.invariant_of-self-in-Ok-Some
 invariant_of-self-in-Ok-Some g c =
     let self = c.args.self.now in
-    let mid = c.take_text.new.self in
+    let mid = c.take.new.self in
     let read = g.R.Read in
     let suite = g.S.Suite in
     let taken = c.in-Ok.ensures in
-    let same = taken.same in
+    let same = taken.stays in
     let told_before = told-before read self.inner mid.inner taken.keeps.inner.same in
     let text = take c.in-Ok.count mid.sealed.items in
-    let long : length text ≡ c.in-Ok.count = length-take-le c.in-Ok.count mid.sealed.items (omega (arith, taken.count, mid.room)) in
+    let long : length text ≡ c.in-Ok.count = length-take-le c.in-Ok.count mid.sealed.items (omega (arith, taken.takes.most, mid.room)) in
     let plain = c.in-Ok-Some.chunk in
     let longer : length plain.items + 16 ≡ length text = rw (c.deref.ensures.value, c.in-Ok-Some.field-0-is) at c.in-Ok-Some.ensures.length in
     let some : Some plain.items ≡ suite.opened mid.key (nonce c.args.number true) text = rw (c.deref.ensures.value, c.in-Ok-Some.field-0-is) at c.in-Ok-Some.ensures.opened in
     let there : c.len-len.result ≡ length plain.items = omega (arith, c.len-len.ensures, plain.ok.0) in
-    let short : length plain.items ≤ 65536 = omega (arith, longer, long, taken.count) in
+    let short : length plain.items ≤ 65536 = omega (arith, longer, long, taken.takes.most) in
     let payload = payload_at (read.place self.inner) self.taken (read.content self.inner) in
     let first = c.put.ensures.first in
     let as_long : length c.put.new.self.chunk.items ≡ length plain.items = ap (λ v. length v.items) first.1 in
     let is_last = λ (told : IsTrue (read.tells mid.inner && read.steady mid.inner)).
     let b = told_before told in
-    last-text payload (read.rest self.inner) (read.rest mid.inner) c.args.number text (c.requires.stands b).1 (c.requires.last b) (taken.took (and-left _ _ b)) in
+    last-text payload (read.rest self.inner) (read.rest mid.inner) c.args.number text (c.requires.stands b).1 (c.requires.last b) (taken.takes.took (and-left _ _ b)) in
     record {
       key_bytes = mid.key_bytes;
       room = mid.room;
@@ -72,7 +84,7 @@ invariant_of-self-in-Ok-Some g c =
           ] in
           record { end = omega (arith, there, whole); is_last = first.2; full = omega (arith, as_long, whole) };
       count_fits = omega (arith, mid.count_fits, c.open_as.ensures.opens);
-      unspent = λ _ _. taken.unspent;
+      unspent = λ _ _. taken.takes.unspent;
       kept = λ told.
           let b = told_before told in
           let now = payload_at (read.place mid.inner) mid.taken (read.content mid.inner) in
@@ -90,7 +102,7 @@ invariant_of-self-in-Ok-Some g c =
           });
       sound = λ told.
           let b = told_before told in
-          let moves = taken.moves b in
+          let moves = taken.takes.moves b in
           let content = taken.keeps.inner.same.content (and-left _ _ b) in
           let fits = g.met.R.Read.place_fits mid.inner (and-left _ _ told) in
           let sound = self.sound b in
@@ -99,6 +111,6 @@ invariant_of-self-in-Ok-Some g c =
           sound-last suite.opened self.key self.failed self.held self.at self.cache.chunk.items self.cache.last self.sought self.number self.taken
           (read.place self.inner) (read.content self.inner) (read.rest self.inner) sound mid.taken (read.place mid.inner) c.in-Ok.count (read.content mid.inner)
           (read.rest mid.inner) c.args.number c.len-len.result text plain.items content moves.0 fits (omega (arith, moves.0, moves.1, fits, sound.fits))
-          c.requires.sought (c.requires.stands b).0 long (is_last told) (c.requires.last b) c.requires.limit longer there (rw same.4 at (sym some)) in
-          rw (same.4, first.1, first.2, same.7) opened;
+          c.requires.sought (c.requires.stands b).0 long (is_last told) (c.requires.last b) c.requires.limit longer there (rw same.key at (sym some)) in
+          rw (same.key, first.1, first.2, same.sought) opened;
     }

@@ -1,13 +1,25 @@
-use Rattle.std.proofs.Common.{◌≡◌, arith, length, false}
+use Rattle.std.proofs.Common.{◌≡◌, arith, length, refl, false}
 use Rattle.age_stream.proofs.Holding.{rest-passed, middle-by, sound-passed}
 use Rattle.age_stream.proofs.reader.StreamReader.pass.Goals as goal
 
-pub returns-then-self-len-clause-rest : goal.returns-then-self-len-clause-rest
-returns-then-self-len-clause-rest g c =
+pub returns-then-self-len-clause-passes : goal.returns-then-self-len-clause-passes
+returns-then-self-len-clause-passes g c =
     let self = c.args.self.now in
     let given : self.at ≡ length self.cache.chunk.items = omega (arith, c.if-self-len.true, c.len.ensures, self.cache.chunk.ok.0) in
-    rest-passed g.S.Suite.opened self.key self.failed self.held self.cache.last self.at self.cache.chunk.items self.number (g.R.Read.rest self.inner)
-    c.requires.good c.if-self.true (middle-by self.cache.last self.at (length self.cache.chunk.items) (c.requires.more c.if-self.true) (omega (arith, given))) given
+    let middle = middle-by self.cache.last self.at (length self.cache.chunk.items) (c.requires.more c.if-self.true) (omega (arith, given)) in
+    record {
+      good = c.requires.good;
+      inner = refl;
+      taken = refl;
+      key = refl;
+      sought = refl;
+      cache = refl;
+      opens = refl;
+      place = omega (arith, given, self.full c.if-self.true middle);
+      rest = rest-passed g.S.Suite.opened self.key self.failed self.held self.cache.last self.at self.cache.chunk.items self.number (g.R.Read.rest self.inner)
+          c.requires.good c.if-self.true middle given;
+      wanted = search;
+    }
 
 pub invariant_of-self-clause-sound : goal.invariant_of-self-clause-sound
 invariant_of-self-clause-sound g c = λ told.

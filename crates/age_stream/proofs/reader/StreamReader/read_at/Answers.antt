@@ -20,12 +20,12 @@ returns-in-Ok-read_full-clause-cursor g c = λ told well.
     let steady : IsTrue (steady_of self) = both-true (tells_of self) (content_of self).ends_well told well in
     let there = seeks.moves told steady in
     let told_mid = seeks.same_tells ∙ told in
-    let came = read.bytes told_mid in (
+    let came = read.reads.bytes told_mid in (
       c.in-Ok._start,
       there.0,
       read-through _ (take c.read_full.new.filled c.read_full.new.buf) _ c.read_full.new.filled (length c.read_full.new.buf)
           (sym (ap (λ s. s.bytes) there.1) ∙ came.bytes)
-          (length-take-le c.read_full.new.filled c.read_full.new.buf read.count) read.count (λ less. (read.end told_mid less).bytes),
+          (length-take-le c.read_full.new.filled c.read_full.new.buf read.count) read.count (λ less. (read.reads.end told_mid less).bytes),
     )
 
 pub returns-in-Err-read_full-clause-payload : goal.returns-in-Err-read_full-clause-payload
@@ -49,15 +49,15 @@ returns-in-Err-read_full-clause-refused g c = λ told well memory quiet.
     let read = c.in-Err-read_full.ensures in
     let calm : IsQuiet (g.R.Read.faults mid.inner) (g.R.Read.faults c.read_full.new.self.inner) =
     record { same = omega (arith, seek.seeks.no_fewer_faults, read.keeps.inner.same.faults, quiet.same); below = quiet.below } in
-    let near = read.refused (seek.seeks.same_tells ∙ told) memory calm (seek.inner_end told ∙ well) in
+    let near = read.refused.refused (seek.seeks.same_tells ∙ told) memory calm (seek.inner_end told ∙ well) in
     let stops = subst (λ p. StopsNear g.S.Suite.seal_of self.key p.bytes (place_of c.read_full.new.self) c.in-Err-read_full.e) (seek.payload told)
     (subst (λ k. StopsNear g.S.Suite.seal_of k (payload_of mid).bytes (place_of c.read_full.new.self) c.in-Err-read_full.e) seek.key near) in
     let there : place_of mid ≡ c.in-Ok._start = seek.seeks.arrives told in
     inr (record {
       start = c.in-Ok._start;
       leads = seek.order told;
-      from = omega (arith, there, read.moves);
-      short = omega (arith, there, read.moves, read.short);
+      from = omega (arith, there, read.moves.1);
+      short = omega (arith, there, read.moves.1, read.refused.short);
       stops = stops;
     })
 
@@ -66,7 +66,7 @@ returns-in-Ok-read_full-clause-ended g c = λ told less.
     let self = c.args.self.now in
     let mid = c.seek.new.self in
     let seek = c.in-Ok.ensures in
-    let good = c.in-Ok-read_full.ensures.ended (seek.seeks.same_tells ∙ told) less in
+    let good = c.in-Ok-read_full.ensures.reads.ended (seek.seeks.same_tells ∙ told) less in
     subst (λ p. IsGoodEnd g.S.Suite.seal_of self.key p (place_of c.read_full.new.self)) (seek.payload told)
     (subst (λ k. IsGoodEnd g.S.Suite.seal_of k (payload_of mid) (place_of c.read_full.new.self)) seek.key good)
 
@@ -80,16 +80,16 @@ returns-in-Ok-read_full-clause-rest g c = λ told well.
     let told_mid = seeks.same_tells ∙ told in
     let front = take c.read_full.new.filled c.read_full.new.buf in
     let came : Delivers front (from_place c.in-Ok._start (content_of self)) (plain_rest_of c.read_full.new.self) =
-    subst (λ s. Delivers front s (plain_rest_of c.read_full.new.self)) there.1 (read.bytes told_mid) in
+    subst (λ s. Delivers front s (plain_rest_of c.read_full.new.self)) there.1 (read.reads.bytes told_mid) in
     let long = length-take-le c.read_full.new.filled c.read_full.new.buf read.count in
-    let place : c.in-Ok._start + length front ≡ place_of c.read_full.new.self = omega (arith, seeks.arrives told, read.moves, long) in
+    let place : c.in-Ok._start + length front ≡ place_of c.read_full.new.self = omega (arith, seeks.arrives told, read.moves.1, long) in
     (delivered-at (content_of self) (plain_rest_of c.read_full.new.self) c.in-Ok._start front came).1
     ∙ ap (λ p. from_place p (content_of self)) place
 
 pub returns-in-Ok-read_full-clause-inner_end : goal.returns-in-Ok-read_full-clause-inner_end
 returns-in-Ok-read_full-clause-inner_end g c = λ told.
     let seek = c.in-Ok.ensures in
-    c.in-Ok-read_full.ensures.inner_end (seek.seeks.same_tells ∙ told) ∙ seek.inner_end told
+    c.in-Ok-read_full.ensures.reads.inner_end (seek.seeks.same_tells ∙ told) ∙ seek.inner_end told
 
 pub returns-in-Err-clause-keeps : goal.returns-in-Err-clause-keeps
 returns-in-Err-clause-keeps g c =
@@ -109,13 +109,13 @@ returns-in-Err-read_full-clause-keeps g c =
     let new = c.read_full.new.self in
     let seeks = c.in-Ok.ensures.seeks in
     let read = c.in-Err-read_full.ensures in
-    let kept = stream-kept mid new read.keeps read.key in
+    let kept = stream-kept mid new read.keeps read.moves.0 in
     record {
       same = record {
         tells = kept.0 ∙ seeks.same_tells;
         steady = kept.1 ∙ seeks.same_steady;
         faults = omega (arith, seeks.no_fewer_faults, read.keeps.inner.same.faults);
-        content = λ told. content-kept mid new read.keeps read.key (seeks.same_tells ∙ told) ∙ seeks.same_content told;
+        content = λ told. content-kept mid new read.keeps read.moves.0 (seeks.same_tells ∙ told) ∙ seeks.same_content told;
       };
       device = λ is. omega (arith, seeks.no_fewer_faults, read.keeps.inner.device is);
       patient = read.keeps.inner.patient;
@@ -129,20 +129,20 @@ returns-in-Ok-read_full-clause-keeps g c =
     let new = c.read_full.new.self in
     let seeks = c.in-Ok.ensures.seeks in
     let read = c.in-Ok-read_full.ensures in
-    let kept = stream-kept mid new read.keeps read.key in
+    let kept = stream-kept mid new read.keeps read.moves.0 in
     record {
       same = record {
         tells = kept.0 ∙ seeks.same_tells;
         steady = kept.1 ∙ seeks.same_steady;
         faults = omega (arith, seeks.no_fewer_faults, read.keeps.inner.same.faults);
-        content = λ told. content-kept mid new read.keeps read.key (seeks.same_tells ∙ told) ∙ seeks.same_content told;
+        content = λ told. content-kept mid new read.keeps read.moves.0 (seeks.same_tells ∙ told) ∙ seeks.same_content told;
       };
       device = tt;
       patient = tt;
       why = tt;
       narrows = λ e why. elim why [
-        | inl is ↦ inl (is.0, seeks.narrows e (ok_narrows _ mid new read.keeps read.key read.good e is.1))
-        | inr is ↦ inr (is.0, seeks.narrows _ (ok_narrows _ mid new read.keeps read.key read.good _ is.1))
+        | inl is ↦ inl (is.0, seeks.narrows e (ok_narrows _ mid new read.keeps read.moves.0 read.reads.good e is.1))
+        | inr is ↦ inr (is.0, seeks.narrows _ (ok_narrows _ mid new read.keeps read.moves.0 read.reads.good _ is.1))
       ];
     }
 
@@ -158,7 +158,7 @@ returns-in-Err-read_full-clause-cause g c = λ told well memory quiet.
     let read = c.in-Err-read_full.ensures in
     let there = (seeks.moves told (both-true (tells_of self) (content_of self).ends_well told well)).1 in
     let calm = quiet_from seeks.no_fewer_faults read.keeps.inner.same.faults quiet in
-    absurd (true≢false (sym (ap (λ s. s.ends_well) there ∙ well) ∙ read.cause (seeks.same_tells ∙ told) memory calm))
+    absurd (true≢false (sym (ap (λ s. s.ends_well) there ∙ well) ∙ read.refused.cause (seeks.same_tells ∙ told) memory calm))
 
 pub returns-in-Err-clause-fails : goal.returns-in-Err-clause-fails
 returns-in-Err-clause-fails g c = c.in-Err.ensures.fails
@@ -178,13 +178,13 @@ pub returns-in-Err-clause-opens : goal.returns-in-Err-clause-opens
 returns-in-Err-clause-opens g c = omega (arith, c.in-Err.ensures.opens)
 
 pub returns-in-Err-read_full-clause-fails : goal.returns-in-Err-read_full-clause-fails
-returns-in-Err-read_full-clause-fails g c = λ _. c.in-Err-read_full.ensures.fails
+returns-in-Err-read_full-clause-fails g c = λ _. c.in-Err-read_full.ensures.refused.fails
 
 pub returns-in-Err-read_full-clause-counts : goal.returns-in-Err-read_full-clause-counts
-returns-in-Err-read_full-clause-counts g c = omega (arith, c.in-Ok.ensures.counts, c.in-Err-read_full.ensures.counts)
+returns-in-Err-read_full-clause-counts g c = omega (arith, c.in-Ok.ensures.counts, c.in-Err-read_full.ensures.opens.0)
 
 pub returns-in-Err-read_full-clause-opens : goal.returns-in-Err-read_full-clause-opens
-returns-in-Err-read_full-clause-opens g c = omega (arith, c.in-Ok.ensures.opens, c.in-Err-read_full.ensures.opens)
+returns-in-Err-read_full-clause-opens g c = omega (arith, c.in-Ok.ensures.opens, c.in-Err-read_full.ensures.opens.1)
 
 pub returns-in-Err-read_full-clause-inner_place : goal.returns-in-Err-read_full-clause-inner_place
 returns-in-Err-read_full-clause-inner_place g c = λ told _ is. absurd (subst (λ r. IfErr r (λ _. ⊥)) (sym (c.in-Ok.ensures.order told) ∙ is) tt)
@@ -196,13 +196,13 @@ pub returns-in-Err-read_full-clause-unmoved : goal.returns-in-Err-read_full-clau
 returns-in-Err-read_full-clause-unmoved g c = λ told _ is. absurd (subst (λ r. IfErr r (λ _. ⊥)) (sym (c.in-Ok.ensures.order told) ∙ is) tt)
 
 pub returns-in-Ok-read_full-clause-counts : goal.returns-in-Ok-read_full-clause-counts
-returns-in-Ok-read_full-clause-counts g c = omega (arith, c.in-Ok.ensures.counts, c.in-Ok-read_full.ensures.counts)
+returns-in-Ok-read_full-clause-counts g c = omega (arith, c.in-Ok.ensures.counts, c.in-Ok-read_full.ensures.opens.0)
 
 pub returns-in-Ok-read_full-clause-opens : goal.returns-in-Ok-read_full-clause-opens
-returns-in-Ok-read_full-clause-opens g c = omega (arith, c.in-Ok.ensures.opens, c.in-Ok-read_full.ensures.opens)
+returns-in-Ok-read_full-clause-opens g c = omega (arith, c.in-Ok.ensures.opens, c.in-Ok-read_full.ensures.opens.1)
 
 pub returns-in-Ok-read_full-clause-good : goal.returns-in-Ok-read_full-clause-good
-returns-in-Ok-read_full-clause-good g c = λ is. true≢false (sym is ∙ c.in-Ok-read_full.ensures.good)
+returns-in-Ok-read_full-clause-good g c = λ is. true≢false (sym is ∙ c.in-Ok-read_full.ensures.reads.good)
 
 pub returns-in-Ok-read_full-clause-order : goal.returns-in-Ok-read_full-clause-order
 returns-in-Ok-read_full-clause-order g c = λ told.
@@ -214,8 +214,8 @@ returns-in-Ok-read_full-clause-order g c = λ told.
     let there : place_of mid ≡ c.in-Ok._start = seek.seeks.arrives told in (
       c.in-Ok._start,
       seek.order told,
-      omega (arith, there, read.moves),
+      omega (arith, there, read.moves.1),
       subst (λ n. StandAt g.S.Suite.seal_of self.key (payload_of self).bytes n came) there
           (subst (λ p. StandAt g.S.Suite.seal_of self.key p.bytes (place_of mid) came) (seek.payload told)
-          (subst (λ k. StandAt g.S.Suite.seal_of k (payload_of mid).bytes (place_of mid) came) seek.key (read.stored (seek.seeks.same_tells ∙ told)))),
+          (subst (λ k. StandAt g.S.Suite.seal_of k (payload_of mid).bytes (place_of mid) came) seek.key (read.reads.stored (seek.seeks.same_tells ∙ told)))),
     )

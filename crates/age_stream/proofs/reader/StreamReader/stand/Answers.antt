@@ -1,11 +1,12 @@
 use Rattle.age_error.specs.declared.io.Error.TheVariants.{OutOfMemory}
 use Rattle.age_io.specs.Cursor.{IsOutside}
-use Rattle.std.proofs.Common.{◌≢◌, ◌≡◌, ◌-◌, ◌+◌, ◌∙◌, arith, length, sym, subst, length-drop, IsTrue, ◌&&◌}
+use Rattle.std.proofs.Common.{ap, ◌≢◌, ◌≡◌, ◌-◌, ◌+◌, ◌∙◌, arith, length, refl, sym, subst, length-drop, IsTrue, ◌&&◌}
 use Rattle.std.proofs.lemmas.Bool.{true≢false}
+use Rattle.age_io.specs.Stretch.{from_place}
 use Rattle.age_stream.specs.Reading.{payload_at}
 use Rattle.age_stream.specs.ReadingLaws.{and-left, and-right}
 use Rattle.age_stream.proofs.Cached.{kept-same}
-use Rattle.age_stream.proofs.Inner.{start-at, same-payload, refused-start}
+use Rattle.age_stream.proofs.Inner.{start-at, payload-place, same-payload, refused-start}
 use Rattle.age_stream.proofs.Moving.{sound-moved, sound-missed}
 use Rattle.age_stream.proofs.reader.StreamReader.stand.Goals as goal
 
@@ -88,21 +89,53 @@ invariant_of-self-in-Ok g c =
           c.args.place (read.place after) (read.content after) (read.rest after) c.requires.failed (same (before told)) (omega (arith, taken (before told)));
     }
 
-pub returns-in-Err-clause-cause : goal.returns-in-Err-clause-cause
-returns-in-Err-clause-cause g c = λ told well memory quiet.
-    let self = c.args.self.now in
-    let read = g.R.Read in
-    let t = and-left (read.tells self.inner) (read.steady self.inner) told in
-    let seek = c.in-Err.ensures.seeks in
-    let want : c.in-Err.e ≢ OutOfMemory = λ is. memory (c.lost.ensures.same (λ refusal. subst IsOutside is refusal) ∙ is) in
-    let refusal = seek.cause t well want quiet in
-    refused-start _ (read.place self.inner) (length (read.content self.inner).bytes) c.in-Err.e
-    (omega (
-      arith,
-      c.saturating_add.ensures,
-      c.requires.start told,
-      c.requires.within told,
-      length-drop (read.place self.inner - self.taken) (read.content self.inner).bytes,
-      (g.met.R.Read.stands self.inner t (and-right (read.tells self.inner) (read.steady self.inner) told)).within,
-    ))
-    (seek.refused t well refusal)
+pub returns-in-Err-clause-refused : goal.returns-in-Err-clause-refused
+returns-in-Err-clause-refused g c = record {
+  fails = c.requires.failed;
+  place = refl;
+  refusal = c.lost.ensures.refusal;
+  cause = λ told well memory quiet.
+      let self = c.args.self.now in
+      let read = g.R.Read in
+      let t = and-left (read.tells self.inner) (read.steady self.inner) told in
+      let seek = c.in-Err.ensures.seeks in
+      let want : c.in-Err.e ≢ OutOfMemory = λ is. memory (c.lost.ensures.same (λ refusal. subst IsOutside is refusal) ∙ is) in
+      let refusal = seek.cause t well want quiet in
+      refused-start _ (read.place self.inner) (length (read.content self.inner).bytes) c.in-Err.e
+      (omega (
+        arith,
+        c.saturating_add.ensures,
+        c.requires.start told,
+        c.requires.within told,
+        length-drop (read.place self.inner - self.taken) (read.content self.inner).bytes,
+        (g.met.R.Read.stands self.inner t (and-right (read.tells self.inner) (read.steady self.inner) told)).within,
+      ))
+      (seek.refused t well refusal);
+}
+
+pub returns-in-Ok-clause-stands : goal.returns-in-Ok-clause-stands
+returns-in-Ok-clause-stands g c =
+    let seek = c.in-Ok.ensures.seeks in
+    record {
+      unspent = seek.unspent;
+      taken = λ told. refl;
+      rest = λ told.
+          let self = c.args.self.now in
+          let read = g.R.Read in
+          let content = read.content self.inner in
+          let t = and-left (read.tells self.inner) (read.steady self.inner) told in
+          let s = and-right (read.tells self.inner) (read.steady self.inner) told in
+          let target = start-at _ (read.place self.inner) (length content.bytes) c.in-Ok.field-0 (seek.moves t s).0 in
+          let at : c.in-Ok.field-0 ≡ c.args.start + c.args.place =
+          omega (
+            arith,
+            target,
+            c.saturating_add.ensures,
+            c.requires.start told,
+            c.requires.within told,
+            length-drop (read.place self.inner - self.taken) content.bytes,
+            g.met.R.Read.short self.inner t,
+            g.met.R.Read.place_fits self.inner t,
+          ) in
+          (seek.moves t s).1 ∙ ap (λ n. from_place n content) at ∙ payload-place content c.args.start (read.place self.inner) self.taken (c.requires.start told) c.args.place;
+    }

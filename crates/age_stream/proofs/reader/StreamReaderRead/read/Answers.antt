@@ -35,11 +35,11 @@ returns-clause-finished g c = λ told unsought.
     (c.read_on.ensures.reads.end told)
 
 pub returns-clause-by_itself : goal.returns-clause-by_itself
-returns-clause-by_itself g c = λ told good apart. c.read_on.ensures.by_itself told apart
+returns-clause-by_itself g c = λ told good apart. c.read_on.ensures.answers.by_itself told apart
 
 pub returns-clause-ended : goal.returns-clause-ended
 returns-clause-ended g c = λ told.
-    IfOk-weaker c.read_on.result _ _ (λ n is none some. is none) (c.read_on.ensures.ended told)
+    IfOk-weaker c.read_on.result _ _ (λ n is none some. is none) (c.read_on.ensures.answers.ended told)
 
 pub returns-clause-refused : goal.returns-clause-refused
-returns-clause-refused g c = λ told good. c.read_on.ensures.refused told
+returns-clause-refused g c = λ told good. c.read_on.ensures.answers.refused told

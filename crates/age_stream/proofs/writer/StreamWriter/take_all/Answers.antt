@@ -14,13 +14,13 @@ loop-done-preserved g c =
     let now = c.in_ok-done.ensures in
     let bytes = c.args.bytes.now in
     record {
-      within = omega (arith, length-drop c.loop-done.done bytes, now.count.1);
-      total = omega (arith, now.total);
+      within = omega (arith, length-drop c.loop-done.done bytes, now.takes.count.1);
+      total = omega (arith, now.takes.total);
       roomy = λ room.
           let first = before.roomy room in
           let next = now.roomy (rw take_rest (omega (arith, first.0, length-drop c.loop-done.done bytes))) in
           (omega (arith, first.0, next.0), next.1 ∙ first.1);
-      last = λ _ whole. now.last (rw take_rest (omega (arith, length-drop c.loop-done.done bytes, whole)));
+      last = λ _ whole. now.takes.last (rw take_rest (omega (arith, length-drop c.loop-done.done bytes, whole)));
       failed = now.failed ∙ before.failed;
       keeps = keeps-later w.tells w.faults (RefusesChunk w.refuses) c.args.self.now.inner c.loop-done.self.inner c.take_some.new.self.inner
           tt (Ok tt) before.keeps (keeps-well w.tells w.faults (RefusesChunk w.refuses) _ _ _ tt now.inner);

@@ -1,24 +1,24 @@
-use Rattle.std.proofs.Common.{◌≡◌, ◌∙◌, ◌&&◌, arith, ap, length, IsTrue, refl}
+use Rattle.std.proofs.Common.{◌≡◌, ◌∙◌, ◌&&◌, arith, ap, length, IsTrue}
 use Rattle.std.proofs.lemmas.Bool.{true≢false}
 use Rattle.age_io.proofs.Delivering.{refilled}
 use Rattle.age_stream.specs.ReadingLaws.{and-left}
 use Rattle.age_stream.proofs.Cached.{kept-read}
-use Rattle.age_stream.proofs.Holding.{payload-read, took-text, sound-failed}
+use Rattle.age_stream.proofs.Holding.{payload-read, sound-failed}
 use Rattle.age_stream.proofs.Keeping.{told-before, payload-asked, payload-filled}
-use Rattle.age_stream.proofs.reader.StreamReader.take_text.Goals as goal
+use Rattle.age_stream.proofs.reader.StreamReader.take.Goals as goal
 
 pub invariant_of-self : goal.invariant_of-self
 invariant_of-self g c =
     let self = c.args.self.now in
     let read = g.R.Read in
-    let after = c.fill-answer.new.reader in
-    let filled = c.fill-answer.ensures in
+    let after = c.fill_front-answer.new.reader in
+    let filled = c.fill_front-answer.ensures in
     let before = told-before read self.inner after filled.keeps.same in
-    let size : length c.fill-answer.new.buf ≡ 65552 = omega (arith, c.fill-answer.auto.buf, c.deref_mut.ensures.len, self.room, self.sealed.ok.0) in
-    let room = refilled self.sealed.items c.fill-answer.new.buf self.sealed.len self.sealed.ok.0 (omega (arith, size, self.room)) in
+    let size : length c.fill_front-answer.new.room ≡ 65552 = omega (arith, c.fill_front-answer.auto.room, c.deref_mut.ensures.len, self.room, self.sealed.ok.0) in
+    let room = refilled self.sealed.items c.fill_front-answer.new.room self.sealed.len self.sealed.ok.0 (omega (arith, size, self.room)) in
     record {
       key_bytes = self.key_bytes;
-      room = omega (arith, c.fill-answer.auto.buf, c.deref_mut.ensures.len, self.room, self.sealed.ok.0, ap length room, size);
+      room = ap length room ∙ size;
       offset = self.offset;
       limit = self.limit;
       in_chunk = self.in_chunk;
@@ -32,13 +32,13 @@ invariant_of-self g c =
       kept = λ told.
           let t = and-left (read.tells self.inner) (read.steady self.inner) (before told) in
           kept-read g.S.Suite.opened self.key self.cache (read.content self.inner) (read.content after) (read.place self.inner) (read.place after) self.taken
-          c.saturating_add-self.result c.fill-answer.new.filled (filled.keeps.same.content t) (filled.moves t) (g.met.R.Read.place_fits after (and-left _ _ told))
+          c.saturating_add-self.result c.fill_front-answer.new.filled (filled.keeps.same.content t) (filled.moves t) (g.met.R.Read.place_fits after (and-left _ _ told))
           c.saturating_add-self.ensures (self.sound (before told)).fits (self.kept (before told));
       sound = λ told.
           let t = and-left (read.tells self.inner) (read.steady self.inner) (before told) in
           sound-failed g.S.Suite.opened self.key self.failed self.held self.at self.cache.chunk.items self.cache.last self.sought self.number self.taken
           (read.place self.inner) (read.content self.inner) (read.rest self.inner) (self.sound (before told)) c.saturating_add-self.result (read.place after)
-          c.fill-answer.new.filled (read.content after) (read.rest after) (filled.keeps.same.content t) (filled.moves t)
+          c.fill_front-answer.new.filled (read.content after) (read.rest after) (filled.keeps.same.content t) (filled.moves t)
           (g.met.R.Read.place_fits after (and-left _ _ told)) c.saturating_add-self.ensures;
     }
 
@@ -46,38 +46,35 @@ pub returns-in-Err-clause-keeps : goal.returns-in-Err-clause-keeps
 returns-in-Err-clause-keeps g c =
     let self = c.args.self.now in
     let read = g.R.Read in
-    let after = c.fill-answer.new.reader in
+    let after = c.fill_front-answer.new.reader in
     let filled = c.in-Err.ensures in
     let path = λ (told : IsTrue (read.tells self.inner && read.steady self.inner)).
     let t = and-left (read.tells self.inner) (read.steady self.inner) told in
-    payload-read (read.content self.inner) (read.content after) (read.place self.inner) (read.place after) self.taken c.saturating_add-self.result c.fill-answer.new.filled
+    payload-read (read.content self.inner) (read.content after) (read.place self.inner) (read.place after) self.taken c.saturating_add-self.result c.fill_front-answer.new.filled
     (filled.keeps.same.content t) (filled.moves t) (g.met.R.Read.place_fits after (filled.keeps.same.tells ∙ t)) c.saturating_add-self.ensures (self.sound told).fits in
     payload-asked read self.inner after self.taken c.saturating_add-self.result c.in-Err.e (λ told. (path told).1) filled.keeps
-
-pub returns-in-Err-clause-cause : goal.returns-in-Err-clause-cause
-returns-in-Err-clause-cause g c = λ told memory quiet.
-    let self = c.args.self.now in
-    let size : length c.fill-answer.new.buf ≡ 65552 = omega (arith, c.fill-answer.auto.buf, c.deref_mut.ensures.len, self.room, self.sealed.ok.0) in
-    rw size at (c.in-Err.ensures.cause told memory quiet)
 
 pub returns-in-Ok : goal.returns-in-Ok
 returns-in-Ok g c =
     let self = c.args.self.now in
     let read = g.R.Read in
-    let after = c.fill-answer.new.reader in
+    let after = c.fill_front-answer.new.reader in
     let filled = c.in-Ok.ensures in
-    let size : length c.fill-answer.new.buf ≡ 65552 = omega (arith, c.fill-answer.auto.buf, c.deref_mut.ensures.len, self.room, self.sealed.ok.0) in
-    let room = refilled self.sealed.items c.fill-answer.new.buf self.sealed.len self.sealed.ok.0 (omega (arith, size, self.room)) in
+    let size : length c.fill_front-answer.new.room ≡ 65552 = omega (arith, c.fill_front-answer.auto.room, c.deref_mut.ensures.len, self.room, self.sealed.ok.0) in
+    let room = refilled self.sealed.items c.fill_front-answer.new.room self.sealed.len self.sealed.ok.0 (omega (arith, size, self.room)) in
     let path = λ (told : IsTrue (read.tells self.inner && read.steady self.inner)).
     let t = and-left (read.tells self.inner) (read.steady self.inner) told in
-    payload-read (read.content self.inner) (read.content after) (read.place self.inner) (read.place after) self.taken c.saturating_add-self.result c.fill-answer.new.filled
+    payload-read (read.content self.inner) (read.content after) (read.place self.inner) (read.place after) self.taken c.saturating_add-self.result c.fill_front-answer.new.filled
     (filled.keeps.same.content t) (filled.moves t) (g.met.R.Read.place_fits after (filled.keeps.same.tells ∙ t)) c.saturating_add-self.ensures (self.sound told).fits in
     record {
-      same = (refl, refl, refl, refl, refl, refl, refl, refl);
+      stays = search;
+      failed = search;
       keeps = payload-filled read {x = c.in-Ok.field-0} self.inner after self.taken c.saturating_add-self.result (λ told. (path told).1) filled.keeps;
-      unspent = filled.unspent (omega (arith, self.room));
-      count = omega (arith, filled.count, size);
-      took = λ told. rw room (took-text c.fill-answer.new.buf c.fill-answer.new.filled (read.rest self.inner) (read.rest after) size filled.count (filled.bytes told) (filled.end told));
-      moves = λ told. (filled.moves (and-left (read.tells self.inner) (read.steady self.inner) told), (path told).0);
-      cause = λ told. tt;
+      takes = record {
+        unspent = filled.most.0;
+        most = filled.most.1;
+        took = λ told. rw room (filled.took told);
+        moves = λ told. (filled.moves (and-left (read.tells self.inner) (read.steady self.inner) told), (path told).0);
+      };
+      cause = search;
     }

@@ -1,0 +1,112 @@
+-- Steps that follow one another.
+use Rattle.std.specs.Prelude.{◌≡◌, ℕ, ◌+◌, ◌≤◌, false, true, IsTrue, length, Result, OnOk, Ok}
+use Rattle.std.proofs.Common.{arith, ap, ◌∙◌, sym, subst, inl, inr}
+use Rattle.std.proofs.lemmas.Bool.{true≢false}
+use Rattle.std.proofs.lemmas.Result.{on_ok_weaker}
+use Rattle.age_error.specs.declared.io.Error.{Error}
+use Rattle.age_suite.specs.Suite.{one_more}
+use Rattle.age_suite.specs.declared.suite.Suite.{Ghosts as SuiteGhosts}
+use Rattle.age_io.specs.declared.traits.Read.{Ghosts}
+use Rattle.age_io.specs.Stretch.{IsCleanEnd, IsFault}
+use Rattle.age_stream.specs.declared.reader.StreamReader.{StreamReader}
+use Rattle.age_stream.specs.Cache.{has_number, last_used, HasLast, HasOne}
+use Rattle.age_stream.specs.Payload.{final_chunk}
+use Rattle.age_stream.specs.Reader.{payload_of, place_of, tells_of, HasEnd, IsHolding}
+use Rattle.age_stream.specs.Reading.{spare}
+use Rattle.age_stream.specs.Steps.{Holds, OpensFew, Passes, RefusesChunk, RefusesStep}
+use Rattle.age_io.specs.ReadingLaws.{quiet_from}
+use Rattle.age_stream.specs.Keeping.{KeepsPayload}
+use Rattle.age_stream.proofs.Holding.{spare-none}
+use Rattle.age_stream.proofs.Keeping.{told-later}
+
+module _ {S R : Type 0} {suite : SuiteGhosts S} {read : Ghosts R} where
+  -- a reader that holds no chunk has the one at the place opened where that is the other one that it keeps
+  pub has-next : (r : StreamReader S R suite read) → r.held ≡ false → IsHolding r → has_number r.number r.cache.other ≡ true
+  has-next r closed here = elim here.1 [
+    | inl is ↦ absurd (true≢false (sym is.0 ∙ closed))
+    | inr next ↦ rw closed at next.1
+  ]
+
+  pub next-held : (r : StreamReader S R suite read) → r.failed ≡ false → r.held ≡ false → has_number r.number r.cache.other ≡ true → IsHolding r
+  next-held r good closed has = (good, inr ((λ is. absurd (true≢false (sym is ∙ closed))), rw closed has))
+
+  -- the chunk at the place was opened, or refused
+  pub opens-next : {T : Type 0} (old new : StreamReader S R suite read) (result : Result T Error) → old.held ≡ false → new.number ≡ old.number → old.opens ≤ new.opens →
+      new.opens ≤ old.opens + 2 → (has_number old.number old.cache.other ≡ true → new.opens ≡ old.opens) →
+      OnOk result (new.opens + spare new.held new.cache.last ≤ old.opens + 2) → OpensFew old new result
+  opens-next old new result closed same counts most none spared =
+      let two = spare-none old.held old.cache.last closed in
+      record {
+        counts = counts;
+        most = most;
+        none = λ here. none (has-next old closed here);
+        spared = on_ok_weaker result (λ s. omega (arith, s, two, same)) spared;
+        spent = omega (arith, most, two, same);
+      }
+
+  module _ (old mid new : StreamReader S R suite read) (passes : Passes old mid) (holding : (IsHolding old → IsHolding mid) × (IsHolding mid → IsHolding old)) where
+    told-passed : IsTrue (tells_of old) → IsTrue (tells_of mid)
+    told-passed told = rw passes.inner told
+
+    -- a chunk is held, after a middle one was given whole
+    pub holds-passed : Holds mid new → Holds old new
+    holds-passed h = record {
+      good = h.good;
+      rest = λ told. h.rest (told-passed told) ∙ passes.rest;
+      end = λ told given. subst IsCleanEnd passes.rest (h.end (told-passed told) given);
+      ended = λ told given. rw (passes.key, passes.inner, passes.taken, passes.place) at (h.ended (told-passed told) given);
+      inner_end = λ told. h.inner_end (told-passed told) ∙ ap (λ r. (read.rest r).ends_well) passes.inner;
+      opened = λ none. subst (λ n. one_more n ≤ new.opens) passes.opens (h.opened (λ here. none (holding.1 here)));
+      keeps_last = λ b is. h.keeps_last b (ap last_used passes.cache ∙ is);
+      has = λ here b one. h.has (holding.0 here) b (subst (λ k. HasOne k b) (sym passes.cache) one);
+    }
+
+    pub refuses-passed : (e : Error) → RefusesChunk mid new e → RefusesChunk old new e
+    refuses-passed e r = record {
+      fails = r.fails;
+      cause = λ told memory quiet. subst IsFault passes.rest (r.cause (told-passed told) memory (rw passes.inner quiet));
+      refused = λ told memory quiet. rw (passes.key, passes.inner, passes.taken, passes.place, passes.wanted) at (r.refused (told-passed told) memory (rw passes.inner quiet));
+    }
+
+    pub opens-passed : {T : Type 0} (result : Result T Error) → mid.opens + spare mid.held mid.cache.last + old.number ≤ old.opens + spare old.held old.cache.last + mid.number →
+        OpensFew mid new result → OpensFew old new result
+    opens-passed result spared few = record {
+      counts = omega (arith, few.counts, passes.opens);
+      most = omega (arith, few.most, passes.opens);
+      none = λ here. few.none (holding.0 here) ∙ passes.opens;
+      spared = on_ok_weaker result (λ s. omega (arith, s, spared)) few.spared;
+      spent = omega (arith, few.spent, spared);
+    }
+
+  -- ---- steps of a seek
+
+  -- a refusal after what changed neither the inner reader nor the place
+  pub step-refused : (old mid new : StreamReader S R suite read) {Cause More : Error → Type 0} (e : Error) → mid.inner ≡ old.inner → mid.taken ≡ old.taken → place_of mid ≡ place_of old →
+      (Cause e → More e) → RefusesStep mid new Cause e → RefusesStep old new More e
+  step-refused old mid new e inner taken place more r = record {
+    fails = r.fails;
+    place = r.place ∙ place;
+    refusal = r.refusal;
+    cause = λ told well memory quiet. more (r.cause (rw inner told) (rw inner well) memory (rw inner quiet));
+  }
+
+  -- and after another step
+  pub step-later : {T U : Type 0} {x : T} {Own Other : Error → Type 0} {result : Result U Error} (old mid new : StreamReader S R suite read) {Cause More : Error → Type 0} (e : Error) →
+      KeepsPayload read Own old.inner old.taken mid.inner mid.taken (Ok x) → KeepsPayload read Other mid.inner mid.taken new.inner new.taken result → place_of mid ≡ place_of old →
+      (IsTrue (tells_of old) → Cause e → More e) → RefusesStep mid new Cause e → RefusesStep old new More e
+  step-later old mid new e first second place more r = record {
+    fails = r.fails;
+    place = r.place ∙ place;
+    refusal = r.refusal;
+    cause = λ told well memory quiet.
+        more told (r.cause (told-later read old.inner mid.inner first.inner.same told) (ap (λ p. p.ends_well) (first.payload told) ∙ well) memory
+        (quiet_from first.inner.same.faults second.inner.same.faults quiet));
+  }
+
+  -- what was held or kept as the last still is once the inner reader was asked
+  pub end-looked : (old mid : StreamReader S R suite read) → mid.held ≡ old.held → mid.cache ≡ old.cache → mid.number ≡ old.number → (size : ℕ) → size ≡ length (payload_of old).bytes →
+      HasEnd old (final_chunk (length (payload_of old).bytes)) → HasEnd mid (final_chunk size)
+  end-looked old mid held cache number size same is = elim is [
+    | inl h ↦ inl (held ∙ h.0, ap (λ k. k.last) cache ∙ h.1, number ∙ h.2 ∙ ap final_chunk (sym same))
+    | inr h ↦ inr (subst (λ k. HasLast k (final_chunk size)) (sym cache) (subst (λ n. HasLast old.cache (final_chunk n)) (sym same) h))
+  ]
