@@ -19,11 +19,6 @@ use Rattle.age_stream.proofs.TextLengths.{length-text, plain-inside}
 
 -- ---- lists
 
--- a front that was replaced leaves the list as long as it was
-pub replaced-length : (asked : ℕ) (xs front : List ℕ) → length front ≡ length (take asked xs) → asked ≤ length xs → length (front ++ drop asked xs) ≡ length xs
-replaced-length asked xs front same fits =
-    length-append front (drop asked xs) ∙ omega (arith, same, length-take-le asked xs fits, length-drop asked xs)
-
 -- what was read into room for it
 pub took_text : (asked : ℕ) (buf : List ℕ) (count : ℕ) (before after : Stretch) → length buf ≡ asked → count ≤ length buf → Delivers (take count buf) before after →
     (count < length buf → IsCleanEnd after) → TookBytes asked before after (take count buf)
@@ -76,11 +71,6 @@ pub spare-opened : (held last : Bool) (old new : ℕ) → held ≡ true → (las
 spare-opened true true old new is middle most = omega (arith, most)
 spare-opened true false old new is middle most = omega (arith, middle refl)
 spare-opened false last old new is middle most = absurd (true≢false (sym is))
-
-pub spare-most : (held last : Bool) → spare held last ≤ 2
-spare-most true true = omega arith
-spare-most true false = omega arith
-spare-most false last = omega arith
 
 pub spare-none : (held last : Bool) → held ≡ false → spare held last ≡ 2
 spare-none held last is = rw is refl
@@ -324,24 +314,6 @@ module _ (opened : List ℕ → List ℕ → List ℕ → Option (List ℕ)) (ke
           is_held = λ held_now. subst (λ p. IsHeld opened key p number last at chunk) (sym read.1) (sound.is_held held_now);
           is_past = λ good. absurd (true≢false good);
           front = λ _ good. absurd (true≢false good);
-        }
-
-    -- the inner reader was found at its end after the last chunk
-    pub sound-ended : (new_taken new_place count : ℕ) (new_content new_rest : Stretch) → new_content ≡ content → new_place ≡ place + count → new_place < 2 ^ 63 →
-        new_taken ≡ min (taken + count) (2 ^ 64 - 1) → failed ≡ false → held ≡ true → count ≡ 0 → new_rest ≡ rest →
-        IsSound opened key false held at chunk last sought number new_taken new_place new_content new_rest
-    sound-ended new_taken new_place count new_content new_rest same moved short took good is_held none same_rest =
-        let read = payload-read content new_content place new_place taken new_taken count same moved short took sound.fits in
-        let same_taken : new_taken ≡ taken = omega (arith, read.0, none) in
-        record {
-          fits = omega (arith, read.0, moved, sound.fits);
-          inside = subst (λ p. IsInside (length p.bytes) number at) (sym read.1) sound.inside;
-          before = λ _ shut. absurd (true≢false (sym is_held ∙ shut));
-          is_held = λ held_now. subst (λ p. IsHeld opened key p number last at chunk) (sym read.1) (sound.is_held held_now);
-          is_past = λ _ held_now. subst (λ p. IsPast p number last new_taken new_rest) (sym read.1)
-              (rw (same_taken, same_rest) (sound.is_past good held_now));
-          front = λ unsought _. subst (λ p. IsFront (delivered opened key 0 p) (65536 * number + at) (rest_of opened key false held at chunk last number new_rest)) (sym read.1)
-              (rw (same_rest, ← good) (sound.front unsought good));
         }
 
     -- bytes of the chunk that is held were given

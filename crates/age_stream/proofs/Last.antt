@@ -55,10 +55,6 @@ last-past payload after number taken text t last took =
       ahead = stretch-ext after (from_place (65552 * number + 65552) payload) (t.none ∙ sym over) t.same_end;
     }
 
--- a reader that was put into a payload that ends well meets no bad end
-pub no-bad-end : (payload rest : Stretch) (number wanted : ℕ) → rest ≡ from_place (65552 * number) payload → payload.ends_well ≡ true → EndsEarly wanted rest → ⊥
-no-bad-end payload rest number wanted stood well early = true≢false (sym (ap (λ s. s.ends_well) stood ∙ well) ∙ early.badly)
-
 module _ (opened : List ℕ → List ℕ → List ℕ → Option (List ℕ)) (key : List ℕ) where
   -- a full chunk isn't judged as a middle one, a short one is only ever the last
   pub last-held : (payload after : Stretch) (number at : ℕ) (text plain : List ℕ) → IsLastText payload after number text → IsLastChunk (length payload.bytes) number →

@@ -33,20 +33,6 @@ module _ (opened : List ℕ → List ℕ → List ℕ → Option (List ℕ)) (ke
       sound-moved failed sought taken new_place new_content new_rest is
       (ap (λ p. payload_at p taken new_content) stays ∙ ap (payload_at place taken) same) (omega (arith, stays, sound.fits))
 
-  -- the inner reader was put back
-  pub sound-restored : (new_place : ℕ) (new_content new_rest : Stretch) → payload_at new_place taken new_content ≡ payload_at place taken content → taken ≤ new_place →
-      new_rest ≡ from_place taken (payload_at place taken content) → IsSound opened key failed held at chunk last true number taken new_place new_content new_rest
-  sound-restored new_place new_content new_rest same fits there = record {
-    fits = fits;
-    inside = subst (λ p. IsInside (length p.bytes) number at) (sym same) sound.inside;
-    before = λ good shut. subst (λ p. IsBefore (length p.bytes) number at taken) (sym same) (sound.before good shut);
-    is_held = λ held_now. subst (λ p. IsHeld opened key p number last at chunk) (sym same) (sound.is_held held_now);
-    is_past = λ good held_now.
-        let was = sound.is_past good held_now in
-        subst (λ p. IsPast p number last taken new_rest) (sym same) (record { stood = was.stood; past = was.past; ahead = there ∙ stretch-ext _ _ was.past refl });
-    front = λ unsought. absurd (true≢false unsought);
-  }
-
   -- a reader that has failed holds no chunk
   pub sound-shut : (new_chunk : List ℕ) (new_last : Bool) → failed ≡ true → IsSound opened key failed false at new_chunk new_last sought number taken place content rest
   sound-shut new_chunk new_last is = record {
@@ -85,18 +71,6 @@ module _ (opened : List ℕ → List ℕ → List ℕ → Option (List ℕ)) (ke
         is_past = λ _ _. past;
         front = λ unsought. absurd (true≢false (sym is_sought ∙ unsought));
       }
-
-  -- the inner reader was put before the chunk at the new place, and no chunk is held
-  pub sound-entered : (new_number new_at : ℕ) → sought ≡ true → taken ≡ 65552 * new_number → new_at < 65536 →
-      65552 * new_number + new_at + 16 < length (payload_at place taken content).bytes → IsSound opened key false false new_at chunk last sought new_number taken place content rest
-  sound-entered new_number new_at is_sought stood under inside = record {
-    fits = sound.fits;
-    inside = record { front = omega (arith, inside); inside = λ _. omega (arith, inside) };
-    before = λ _ _. record { stood = stood; under = under; inside = λ _. inside };
-    is_held = λ held_now. absurd (true≢false (sym held_now));
-    is_past = λ _ held_now. absurd (true≢false (sym held_now));
-    front = λ unsought. absurd (true≢false (sym is_sought ∙ unsought));
-  }
 
   -- the last chunk was opened as the last, and the place is its end
   pub sound-last : (new_taken new_place count : ℕ) (new_content new_rest : Stretch) (new_number new_at : ℕ) (text plain : List ℕ) → new_content ≡ content → new_place ≡ place + count → new_place < 2 ^ 63 →

@@ -149,18 +149,6 @@ module _ {S W : Type 0} (seal_of : Seal) (inner_appended : W → List ℕ → W 
         sent = rw (t, one, append-nil) sent;
       }
 
-  -- these bytes found room
-  pub Sent-holding : ((w : W) → inner_appended w [] w) → (a c : StreamWriter S W) (x : List ℕ) →
-      c.key ≡ a.key → c.held.items ≡ a.held.items ++ x → c.sealed ≡ a.sealed → c.inner ≡ a.inner → Sent seal_of inner_appended a x c
-  Sent-holding nothing a c x key held sealed same = record {
-    count = 0;
-    fits = omega arith;
-    same_key = key;
-    sealed = sealed ∙ sym (add-zero a.sealed);
-    held = held;
-    sent = rw same (nothing a.inner);
-  }
-
   Appended-by_state : (s : StreamWriter S W) (b : Bool) → s.failed ≡ b → Took seal_of inner_appended s [] s → Appended seal_of inner_appended s [] s
   Appended-by_state s true is took = inl is
   Appended-by_state s false is took = inr (is, is, took)
