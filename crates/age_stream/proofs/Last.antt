@@ -6,7 +6,6 @@ use Rattle.std.proofs.lemmas.List.Elements.{All-drop, All-take}
 use Rattle.std.proofs.lemmas.Bool.{cases_lt, true≢false}
 use Rattle.age_error.specs.Bytes.{AreBytes}
 use Rattle.age_io.specs.Stretch.{Stretch, from_place, stretch-ext}
-use Rattle.age_io.specs.Reading.{EndsEarly}
 use Rattle.age_stream.specs.Payload.{nonce}
 use Rattle.age_stream.specs.OpeningLaws.{Shorter}
 use Rattle.age_stream.specs.Reading.{text_at, IsHeld, IsPast, IsInside, IsLastChunk, TookText}

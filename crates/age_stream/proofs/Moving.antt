@@ -1,13 +1,13 @@
 -- What the steps of a seek do to what a `StreamReader` keeps.
 use Rattle.std.specs.Prelude.{◌≡◌, ℕ, ◌+◌, ◌-◌, ◌*◌, ◌^◌, ◌<◌, ◌≤◌, Option, Some, Bool, true, false, List, length, min}
-use Rattle.std.proofs.Common.{refl, sym, ap, subst, ◌∙◌, arith}
+use Rattle.std.proofs.Common.{sym, ap, subst, ◌∙◌, arith}
 use Rattle.std.proofs.lemmas.Bool.{true≢false}
 use Rattle.std.proofs.lemmas.List.Elements.{All-drop}
 use Rattle.age_error.specs.Bytes.{AreBytes}
-use Rattle.age_io.specs.Stretch.{Stretch, from_place, stretch-ext}
+use Rattle.age_io.specs.Stretch.{Stretch}
 use Rattle.age_stream.specs.Payload.{nonce}
 use Rattle.age_stream.specs.OpeningLaws.{Shorter}
-use Rattle.age_stream.specs.Reading.{payload_at, IsAtFullEnd, IsBefore, IsHeld, IsInside, IsLastChunk, IsPast, IsSound}
+use Rattle.age_stream.specs.Reading.{payload_at, IsAtFullEnd, IsHeld, IsInside, IsLastChunk, IsPast, IsSound}
 use Rattle.age_stream.proofs.Holding.{payload-read}
 use Rattle.age_stream.proofs.Last.{IsLastText, inside-held, last-held, last-past}
 

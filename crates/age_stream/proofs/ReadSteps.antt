@@ -100,10 +100,10 @@ module _ {S R : Type 0} {suite : SuiteGhosts S} {read : Ghosts R} (old new : Str
       cause = λ _. tt;
     }
 
-    pub moves-end : (result : Result ℕ Error) → IfOk result (λ n. n ≡ 0) → OnOk result (Ends old new) → IfErr result (RefusesAfter old new) → Moves old new result
-    moves-end (Ok n) none ends r =
-        record { key = stays.key; sought = stays.sought; good = ends.good; fails = tt; placed = omega (arith, none, same-place); stayed = tt }
-    moves-end (Err e) none ends r = record { key = stays.key; sought = stays.sought; good = tt; fails = r.fails; placed = tt; stayed = same-place }
+    pub moves-end : new.sought ≡ old.sought → (result : Result ℕ Error) → IfOk result (λ n. n ≡ 0) → OnOk result (Ends old new) → IfErr result (RefusesAfter old new) → Moves old new result
+    moves-end sought (Ok n) none ends r =
+        record { key = stays.key; sought = sought; good = ends.good; fails = tt; placed = omega (arith, none, same-place); stayed = tt }
+    moves-end sought (Err e) none ends r = record { key = stays.key; sought = sought; good = tt; fails = r.fails; placed = tt; stayed = same-place }
 
     pub answers-end : (result : Result ℕ Error) → IfOk result (λ n. n ≡ 0) → OnOk result (Ends old new) → IfErr result (RefusesAfter old new) → AnswersRead old new buf buf result
     answers-end (Ok n) none ends r = record {

@@ -32,7 +32,6 @@ module _ {S R : Type 0} {suite : SuiteGhosts S} {read : Ghosts R} where
     pub cache : new.cache ≡ old.cache
     pub key : new.key ≡ old.key
     pub opens : new.opens ≡ old.opens
-    pub sought : new.sought ≡ old.sought
 
   -- So many bytes of the inner reader were taken, which are in front of the room for a sealed text.
   pub record Takes (asked : ℕ) (old new : StreamReader S R suite read) (count : ℕ) : Type 0 where

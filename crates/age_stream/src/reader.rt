@@ -357,6 +357,7 @@ impl<S: Suite, R: Read> StreamReader<S, R> {
         requires given { self.old.at ≡ length self.old.cache.chunk.items }
         ensures keeps { KeepsPayload ⟦<R as Read>⟧ (stops_of self.old) self.old.inner self.old.taken self.new.inner self.new.taken result }
         ensures stays { Stays self.old self.new }
+        ensures sought { self.new.sought ≡ self.old.sought }
         ensures none { IfOk result (λ n. n ≡ 0) }
         ensures ends { OnOk result (Ends self.old self.new) }
         ensures refused { IfErr result (RefusesAfter self.old self.new) }

@@ -52,7 +52,7 @@ impl<S: Suite, R: Read> StreamReader<S, R> {
         requires some { 0 < asked }
         requires room { asked ≤ 65552 }
         ensures stays { Stays self.old self.new }
-        ensures failed { self.new.failed ≡ true }
+        ensures failed { (self.new.failed ≡ true) × (self.new.sought ≡ self.old.sought) }
         ensures keeps { KeepsPayload ⟦<R as Read>⟧ (λ _. ⊥) self.old.inner self.old.taken self.new.inner self.new.taken result }
         ensures takes { IfOk result (Takes asked self.old self.new) }
         ensures cause { IsTrue (R.tells self.old.inner) → IfErr result (λ e. e ≢ OutOfMemory →
@@ -77,7 +77,7 @@ impl<S: Suite, R: Seek> StreamReader<S, R> {
     pub(crate) fn look(&mut self) -> Result<(u64, u64), Error>
         requires failed { self.old.failed ≡ true }
         ensures stays { Stays self.old self.new }
-        ensures failed { self.new.failed ≡ true }
+        ensures failed { (self.new.failed ≡ true) × (self.new.sought ≡ self.old.sought) }
         ensures keeps { KeepsPayload ⟦<R as Read>⟧ (IsPayloadSeekRefusal R.seek_refuses) self.old.inner self.old.taken self.new.inner self.new.taken result }
         ensures found { IsTrue (R.tells self.old.inner && R.steady self.old.inner) → IfOk result (λ found.
             (found.0 ≡ R.place self.old.inner - self.old.taken) × (found.0 ≡ R.place self.new.inner - self.new.taken)
@@ -106,7 +106,7 @@ impl<S: Suite, R: Seek> StreamReader<S, R> {
         requires start { IsTrue (R.tells self.old.inner && R.steady self.old.inner) → start ≡ R.place self.old.inner - self.old.taken }
         requires within { IsTrue (R.tells self.old.inner && R.steady self.old.inner) → place ≤ length (payload_of self.old).bytes }
         ensures stays { Stays self.old self.new }
-        ensures failed { self.new.failed ≡ true }
+        ensures failed { (self.new.failed ≡ true) × (self.new.sought ≡ self.old.sought) }
         ensures keeps { KeepsPayload ⟦<R as Read>⟧ (IsPayloadSeekRefusal R.seek_refuses) self.old.inner self.old.taken self.new.inner self.new.taken result }
         ensures stands { OnOk result (IsPlaced self.old self.new place) }
         ensures start { IsTrue (R.tells self.old.inner && R.steady self.old.inner) → start ≡ R.place self.new.inner - self.new.taken }

@@ -17,7 +17,7 @@ returns-in-Err-clause-refused g c =
     let rest = g.R.Read.rest self.inner in
     let taken = c.in-Err.ensures in
     record {
-      fails = taken.failed;
+      fails = taken.failed.0;
       cause = λ told memory quiet.
           end-early g.S.Suite.opened self.key self.failed self.held self.cache.last self.at self.cache.chunk.items self.number rest
           c.requires.good c.requires.held c.requires.last c.requires.given (taken.cause (and-left _ _ told) memory quiet);
@@ -62,10 +62,11 @@ returns-then-count-gt0 g c =
           (payload-more read _ self.inner mid.inner self.taken mid.taken (λ e none. absurd none) c.in-Ok.ensures.keeps) (λ device. device)
           (record { is = tt; named = λ told. inr (self.number, follow told) });
       stays = c.in-Ok.ensures.stays;
+      sought = c.in-Ok.ensures.failed.1;
       none = tt;
       ends = tt;
       refused = record {
-        fails = c.in-Ok.ensures.failed;
+        fails = c.in-Ok.ensures.failed.0;
         cause = λ told memory quiet.
             end-more g.S.Suite.opened self.key self.failed self.held self.cache.last self.at self.cache.chunk.items self.number (read.rest self.inner)
             (read.rest mid.inner) text c.requires.good c.requires.held c.requires.last c.requires.given (takes.took (and-left _ _ told)).came some;

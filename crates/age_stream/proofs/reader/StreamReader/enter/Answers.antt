@@ -8,7 +8,7 @@ use Rattle.age_stream.specs.OpeningLaws.{shorter}
 use Rattle.age_stream.specs.Reading.{payload_at, IsHeld}
 use Rattle.age_stream.specs.ReadingLaws.{and-left}
 use Rattle.age_stream.proofs.Inner.{past-kept}
-use Rattle.age_stream.proofs.Keeping.{told-before, payload-refused, payload-done}
+use Rattle.age_stream.proofs.Keeping.{told-before, payload-done}
 use Rattle.age_stream.proofs.Last.{inside-held, text-held}
 use Rattle.age_stream.proofs.Moving.{sound-resumed}
 use Rattle.age_stream.proofs.Stepping.{step-refused}
@@ -61,7 +61,7 @@ invariant_of-self-in-Ok g c =
           omega (arith, in_it.inside (omega (arith, full)), full, size)) in
           sound-resumed g.S.Suite.opened mid.key mid.failed mid.held mid.at mid.cache.chunk.items mid.cache.last mid.sought mid.number mid.taken
           (read.place mid.inner) (read.content mid.inner) (read.rest mid.inner) (mid.sound told)
-          law (c.args.place / 65536) (c.args.place % 65536) mid.cache.chunk.items mid.cache.last bytes (done.stays.sought ∙ c.requires.sought) within held past;
+          law (c.args.place / 65536) (c.args.place % 65536) mid.cache.chunk.items mid.cache.last bytes (done.failed.1 ∙ c.requires.sought) within held past;
     }
 
 pub returns-in-Ok : goal.returns-in-Ok
@@ -69,7 +69,7 @@ returns-in-Ok g c =
     let done = c.in-Ok.ensures in
     record {
       keeps = payload-done g.R.Read _ _ _ _ done.keeps;
-      same = (done.stays.key, done.stays.sought ∙ c.requires.sought, done.stays.opens);
+      same = (done.stays.key, done.failed.1 ∙ c.requires.sought, done.stays.opens);
       enters = record {
         good = refl;
         arrives = omega arith;
@@ -96,7 +96,7 @@ returns-in-Ok-stand g c =
     let done = c.in-Ok-stand.ensures in
     record {
       keeps = payload-done g.R.Read _ _ _ _ done.keeps;
-      same = (done.stays.key, done.stays.sought ∙ c.requires.sought, done.stays.opens);
+      same = (done.stays.key, done.failed.1 ∙ c.requires.sought, done.stays.opens);
       enters = record {
         good = refl;
         arrives = omega arith;
@@ -125,25 +125,11 @@ returns-in-Ok-stand g c =
       refused = tt;
     }
 
-pub returns-in-Err : goal.returns-in-Err
-returns-in-Err g c =
-    let done = c.in-Err.ensures in
-    record {
-      keeps = payload-refused g.R.Read _ _ _ _ _ done.keeps;
-      same = (done.stays.key, done.stays.sought ∙ c.requires.sought, done.stays.opens);
-      enters = tt;
-      refused = step-refused c.args.self.now _ _ _ refl refl refl (λ none. absurd none) done.refused;
-    }
+pub returns-in-Err-clause-refused : goal.returns-in-Err-clause-refused
+returns-in-Err-clause-refused g c = step-refused c.args.self.now _ _ _ refl refl refl (λ none. absurd none) c.in-Err.ensures.refused
 
-pub returns-in-Err-stand : goal.returns-in-Err-stand
-returns-in-Err-stand g c =
-    let done = c.in-Err-stand.ensures in
-    record {
-      keeps = payload-refused g.R.Read _ _ _ _ _ done.keeps;
-      same = (done.stays.key, done.stays.sought ∙ c.requires.sought, done.stays.opens);
-      enters = tt;
-      refused = step-refused c.args.self.now _ _ _ refl refl refl (λ none. absurd none) done.refused;
-    }
+pub returns-in-Err-stand-clause-refused : goal.returns-in-Err-stand-clause-refused
+returns-in-Err-stand-clause-refused g c = step-refused c.args.self.now _ _ _ refl refl refl (λ none. absurd none) c.in-Err-stand.ensures.refused
 
 pub stand-requires-clause-within : goal.stand-requires-clause-within
 stand-requires-clause-within g c = λ told. omega (arith, c.min-past.ensures, c.requires.size told)

@@ -17,7 +17,7 @@ use Rattle.age_stream.specs.Reading.{payload_at, IsHeld, IsLastChunk, text_at}
 use Rattle.age_stream.specs.ReadingLaws.{and-left}
 use Rattle.age_stream.proofs.Inner.{past-end}
 use Rattle.age_stream.proofs.Stepping.{step-later, step-refused}
-use Rattle.age_stream.proofs.Keeping.{payload-later, told-before, told-later, payload-refused, payload-done}
+use Rattle.age_stream.proofs.Keeping.{payload-later, told-before, told-later, payload-done}
 use Rattle.age_stream.proofs.Last.{held-length}
 use Rattle.age_stream.proofs.Moving.{sound-kept, sound-resumed}
 use Rattle.age_stream.proofs.reader.StreamReader.enter_end.Goals as goal
@@ -27,7 +27,7 @@ returns-in-Ok g c =
     let done = c.in-Ok.ensures in
     record {
       keeps = payload-done g.R.Read _ _ _ _ done.keeps;
-      same = (done.stays.key, done.stays.sought ∙ c.requires.sought);
+      same = (done.stays.key, done.failed.1 ∙ c.requires.sought);
       enters = record {
         good = (refl, done.stays.held ∙ c.if-self.true, ap (λ k. k.last) done.stays.cache ∙ c.if-self-2.true, done.stays.number ∙ omega (arith, c.if-self-number.true));
         arrives = λ told.
@@ -100,7 +100,7 @@ invariant_of-self-in-Ok g c =
           (done.stands.rest told_before ∙ ap (from_place c.args.size) (sym same) ∙ ap (λ n. from_place n payload) (sym (done.stands.taken told_before))) in
           sound-kept g.S.Suite.opened mid.key mid.failed mid.held mid.at mid.cache.chunk.items mid.cache.last mid.sought mid.number mid.taken
           (read.place mid.inner) (read.content mid.inner) (read.rest mid.inner) (mid.sound told)
-          law c.len-self.result (g.met.R.Read.are_bytes mid.inner (and-left (read.tells mid.inner) (read.steady mid.inner) told)) is_held (done.stays.sought ∙ c.requires.sought) (omega (arith, there))
+          law c.len-self.result (g.met.R.Read.are_bytes mid.inner (and-left (read.tells mid.inner) (read.steady mid.inner) told)) is_held (done.failed.1 ∙ c.requires.sought) (omega (arith, there))
           (λ apart e. apart (record { is_last = e.is_last; none = e.none; full = omega (arith, e.full, there, small, in_chunk) })) past;
     }
 
@@ -145,7 +145,7 @@ invariant_of-self-in-Ok-stand-3 g c =
           (done.stands.rest told_before ∙ ap (from_place c.args.size) (sym same) ∙ ap (λ n. from_place n payload) (sym (done.stands.taken told_before))) in
           sound-resumed g.S.Suite.opened mid.key mid.failed mid.held mid.at mid.cache.chunk.items mid.cache.last mid.sought mid.number mid.taken
           (read.place mid.inner) (read.content mid.inner) (read.rest mid.inner) (mid.sound told)
-          law ((c.args.size - 1) / 65552) c.len-self-in-Ok-stand.result mid.cache.chunk.items mid.cache.last bytes (done.stays.sought ∙ c.requires.sought) (omega (arith, there)) held past;
+          law ((c.args.size - 1) / 65552) c.len-self-in-Ok-stand.result mid.cache.chunk.items mid.cache.last bytes (done.failed.1 ∙ c.requires.sought) (omega (arith, there)) held past;
     }
 
 pub returns-in-Ok-stand : goal.returns-in-Ok-stand
@@ -153,7 +153,7 @@ returns-in-Ok-stand g c =
     let done = c.in-Ok-stand.ensures in
     record {
       keeps = payload-done g.R.Read _ _ _ _ done.keeps;
-      same = (done.stays.key, done.stays.sought ∙ c.requires.sought);
+      same = (done.stays.key, done.failed.1 ∙ c.requires.sought);
       enters = record {
         good = (refl, refl, ap (λ k. k.last) done.stays.cache ∙ (c.find_last.ensures.found c.if-find_last.true).2, refl);
         arrives = λ told.
@@ -243,44 +243,14 @@ returns-in-Ok-stand-2 g c =
       }) last.chunks;
     }
 
-pub returns-in-Err : goal.returns-in-Err
-returns-in-Err g c =
-    let done = c.in-Err.ensures in
-    record {
-      keeps = payload-refused g.R.Read _ _ _ _ _ done.keeps;
-      same = (done.stays.key, done.stays.sought ∙ c.requires.sought);
-      enters = tt;
-      refused = step-refused c.args.self.now _ _ _ refl refl refl (λ none. absurd none) done.refused;
-      opens = (omega (arith, done.stays.opens), omega (arith, done.stays.opens));
-      none = λ _ _. done.stays.opens;
-      chunks = tt;
-    }
+pub returns-in-Err-clause-refused : goal.returns-in-Err-clause-refused
+returns-in-Err-clause-refused g c = step-refused c.args.self.now _ _ _ refl refl refl (λ none. absurd none) c.in-Err.ensures.refused
 
-pub returns-in-Err-stand : goal.returns-in-Err-stand
-returns-in-Err-stand g c =
-    let done = c.in-Err-stand.ensures in
-    record {
-      keeps = payload-refused g.R.Read _ _ _ _ _ done.keeps;
-      same = (done.stays.key, done.stays.sought ∙ c.requires.sought);
-      enters = tt;
-      refused = step-refused c.args.self.now _ _ _ refl refl refl (λ none. absurd none) done.refused;
-      opens = (omega (arith, done.stays.opens), omega (arith, done.stays.opens));
-      none = λ _ _. done.stays.opens;
-      chunks = tt;
-    }
+pub returns-in-Err-stand-clause-refused : goal.returns-in-Err-stand-clause-refused
+returns-in-Err-stand-clause-refused g c = step-refused c.args.self.now _ _ _ refl refl refl (λ none. absurd none) c.in-Err-stand.ensures.refused
 
-pub returns-in-Err-stand-2 : goal.returns-in-Err-stand-2
-returns-in-Err-stand-2 g c =
-    let done = c.in-Err-stand-2.ensures in
-    record {
-      keeps = payload-refused g.R.Read _ _ _ _ _ done.keeps;
-      same = (done.stays.key, done.stays.sought ∙ c.requires.sought);
-      enters = tt;
-      refused = step-refused c.args.self.now _ _ _ refl refl refl (λ none. absurd none) done.refused;
-      opens = (omega (arith, done.stays.opens), omega (arith, done.stays.opens));
-      none = λ _ _. done.stays.opens;
-      chunks = tt;
-    }
+pub returns-in-Err-stand-2-clause-refused : goal.returns-in-Err-stand-2-clause-refused
+returns-in-Err-stand-2-clause-refused g c = step-refused c.args.self.now _ _ _ refl refl refl (λ none. absurd none) c.in-Err-stand-2.ensures.refused
 
 pub open_last-requires-clause-stands : goal.open_last-requires-clause-stands
 open_last-requires-clause-stands g c = λ told.

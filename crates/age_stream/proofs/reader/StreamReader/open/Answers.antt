@@ -28,10 +28,10 @@ returns-in-Err g c =
     record {
       keeps = payload-refused read self.inner mid.inner self.taken mid.taken c.in-Err.e
           (payload-more read _ self.inner mid.inner self.taken mid.taken (λ e none. absurd none) taken.keeps);
-      stays = record { key = same.key; sought = same.sought; place = omega (arith, same.number, same.at) };
+      stays = record { key = same.key; sought = taken.failed.1; place = omega (arith, same.number, same.at) };
       holds = tt;
       refused = record {
-        fails = taken.failed;
+        fails = taken.failed.0;
         cause = λ told memory quiet.
             open-early g.S.Suite.opened self.key self.failed self.held self.cache.last self.at self.cache.chunk.items self.number (read.rest self.inner)
             c.requires.good c.requires.closed (taken.cause (and-left _ _ told) memory quiet);
@@ -76,10 +76,10 @@ returns-in-Err-bring g c =
               | inr bad ↦ inr (self.number, refuses told bad)
             ];
           });
-      stays = record { key = same.key; sought = same.sought; place = omega (arith, same.number, same.at) };
+      stays = record { key = same.key; sought = taken.failed.1; place = omega (arith, same.number, same.at) };
       holds = tt;
       refused = record {
-        fails = taken.failed;
+        fails = taken.failed.0;
         cause = λ told memory quiet. elim judged [
           | inl want ↦ absurd (memory want)
           | inr bad ↦ open-refused suite.opened self.key self.failed self.held self.cache.last self.at self.cache.chunk.items self.number (read.rest self.inner)
@@ -129,9 +129,9 @@ returns-then-self-len g c =
       keeps = payload-ended read self.inner mid.inner self.taken mid.taken Truncated
           (payload-more read _ self.inner mid.inner self.taken mid.taken (λ e none. absurd none) taken.keeps) (λ device. device)
           (record { is = tt; named = λ told. absurd (never told) });
-      stays = record { key = same.key; sought = same.sought; place = omega (arith, same.number, same.at) };
+      stays = record { key = same.key; sought = taken.failed.1; place = omega (arith, same.number, same.at) };
       holds = tt;
-      refused = record { fails = taken.failed; cause = λ told memory quiet. absurd (never told); refused = λ told memory quiet. absurd (never told) };
+      refused = record { fails = taken.failed.0; cause = λ told memory quiet. absurd (never told); refused = λ told memory quiet. absurd (never told) };
       opens = opens-next {T = Unit} self _ _ c.requires.closed same.number (omega (arith, same.opens, c.bring.ensures.opens.counts mid.count_fits))
           (omega (arith, same.opens, c.bring.ensures.opens.most)) (λ has. c.bring.ensures.found (rw (same.number, same.cache) has) ∙ same.opens) tt;
     }
@@ -166,7 +166,7 @@ returns-else-self-len g c =
     record {
       keeps = payload-done read self.inner mid.inner self.taken mid.taken
           (payload-more read _ self.inner mid.inner self.taken mid.taken (λ e none. absurd none) taken.keeps);
-      stays = record { key = same.key; sought = same.sought; place = omega (arith, same.number, same.at) };
+      stays = record { key = same.key; sought = taken.failed.1; place = omega (arith, same.number, same.at) };
       holds = record {
         good = (refl, refl);
         rest = λ told.
@@ -230,7 +230,7 @@ invariant_of-self g c =
           subst (λ h. IsSound suite.opened mid.key mid.failed h mid.at cache.chunk.items cache.last mid.sought mid.number mid.taken (read.place mid.inner) (read.content mid.inner)
           (read.rest mid.inner)) (sym (same.held ∙ c.requires.closed))
           (sound-shut suite.opened mid.key mid.failed mid.held mid.at mid.cache.chunk.items mid.cache.last mid.sought mid.number mid.taken (read.place mid.inner)
-          (read.content mid.inner) (read.rest mid.inner) (mid.sound told) cache.chunk.items cache.last taken.failed);
+          (read.content mid.inner) (read.rest mid.inner) (mid.sound told) cache.chunk.items cache.last taken.failed.0);
     }
 
 pub invariant_of-self-then-self-len : goal.invariant_of-self-then-self-len
@@ -269,7 +269,7 @@ invariant_of-self-then-self-len g c =
           subst (λ h. IsSound suite.opened mid.key mid.failed h mid.at cache.chunk.items cache.last mid.sought mid.number mid.taken (read.place mid.inner) (read.content mid.inner)
           (read.rest mid.inner)) (sym (same.held ∙ c.requires.closed))
           (sound-shut suite.opened mid.key mid.failed mid.held mid.at mid.cache.chunk.items mid.cache.last mid.sought mid.number mid.taken (read.place mid.inner)
-          (read.content mid.inner) (read.rest mid.inner) (mid.sound told) cache.chunk.items cache.last taken.failed);
+          (read.content mid.inner) (read.rest mid.inner) (mid.sound told) cache.chunk.items cache.last taken.failed.0);
     }
 
 pub invariant_of-self-in-Ok-bring-2 : goal.invariant_of-self-in-Ok-bring-2
@@ -329,5 +329,5 @@ invariant_of-self-in-Ok-bring-2 g c =
           (read.place self.inner) (read.content self.inner) (read.rest self.inner) sound mid.taken (read.place mid.inner) c.in-Ok.count (read.content mid.inner)
           (read.rest mid.inner) text cache.chunk.items cache.last content moves.0 fits (omega (arith, moves.0, moves.1, fits, sound.fits)) c.requires.good c.requires.closed
           (omega (arith, within, same.at)) (g.met.R.Read.stands self.inner t (and-right _ _ b)) (taken.takes.took t) long (is b).short (is b).ok in
-          rw (same.key, same.at, same.sought, same.number) opened;
+          rw (same.key, same.at, taken.failed.1, same.number) opened;
     }

@@ -12,7 +12,7 @@ pub returns-in-Ok-None-clause-refused : goal.returns-in-Ok-None-clause-refused
 returns-in-Ok-None-clause-refused g c =
     let taken = c.in-Ok.ensures in
     record {
-      fails = taken.failed;
+      fails = taken.failed.0;
       place = omega (arith, taken.stays.number, taken.stays.at);
       refusal = λ outside. outside;
       cause = λ told well memory quiet.
@@ -112,5 +112,5 @@ invariant_of-self-in-Ok-Some g c =
           (read.place self.inner) (read.content self.inner) (read.rest self.inner) sound mid.taken (read.place mid.inner) c.in-Ok.count (read.content mid.inner)
           (read.rest mid.inner) c.args.number c.len-len.result text plain.items content moves.0 fits (omega (arith, moves.0, moves.1, fits, sound.fits))
           c.requires.sought (c.requires.stands b).0 long (is_last told) (c.requires.last b) c.requires.limit longer there (rw same.key at (sym some)) in
-          rw (same.key, first.1, first.2, same.sought) opened;
+          rw (same.key, first.1, first.2, taken.failed.1) opened;
     }

@@ -19,7 +19,7 @@ returns-then-is_after_last g c =
     record {
       reads = reads-end self new buf at_end done.stays c.end.result done.keeps done.none done.ends done.refused;
       keeps = done.keeps;
-      moves = moves-end self new buf at_end done.stays c.end.result done.none done.ends done.refused;
+      moves = moves-end self new buf at_end done.stays done.sought c.end.result done.none done.ends done.refused;
       answers = answers-end self new buf at_end done.stays c.end.result done.none done.ends done.refused;
       opens = opens-end self new buf at_end done.stays c.end.result;
       chunks = chunks-end self new buf at_end done.stays c.end.result done.none;
