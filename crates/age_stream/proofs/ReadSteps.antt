@@ -12,7 +12,7 @@ use Rattle.age_stream.specs.Cache.{last_used, HasOne}
 use Rattle.age_stream.specs.Keeping.{KeepsPayload}
 use Rattle.age_stream.specs.Reader.{tells_of, steady_of, content_of, place_of, plain_rest_of, faults_of, stops_of, refuses_of, IsAfterLast}
 use Rattle.age_stream.specs.Reading.{spare}
-use Rattle.age_stream.specs.Steps.{AnswersRead, Ends, GivesHeld, Holds, Moves, OpensFew, ReadsChunks, RefusesAfter, RefusesChunk, Stays, StaysAt, Told}
+use Rattle.age_stream.specs.Steps.{AnswersRead, EndsClean, GivesHeld, Holds, Moves, OpensFew, ReadsChunks, RefusesAfter, RefusesAtPlace, Stays, StaysAt, Told}
 use Rattle.age_stream.proofs.Answered.{refuses-widened}
 use Rattle.age_stream.proofs.Cached.{used-there}
 use Rattle.age_stream.proofs.Holding.{rest_failed}
@@ -44,7 +44,7 @@ module _ {S R : Type 0} {suite : SuiteGhosts S} {read : Ghosts R} (old new : Str
 
   -- ---- a chunk that is refused
 
-  pub answers-refused : (e : Error) → (IsAfterLast old → ⊥) → RefusesChunk old new e → AnswersRead old new buf buf (Err e)
+  pub answers-refused : (e : Error) → (IsAfterLast old → ⊥) → RefusesAtPlace old new e → AnswersRead old new buf buf (Err e)
   answers-refused e apart r = record {
     gives = λ _. tt;
     ended = λ _. tt;
@@ -76,7 +76,7 @@ module _ {S R : Type 0} {suite : SuiteGhosts S} {read : Ghosts R} (old new : Str
     same-place : place_of new ≡ place_of old
     same-place = omega (arith, stays.number, stays.at)
 
-    pub reads-end : (result : Result ℕ Error) → KeepsPayload read (stops_of old) old.inner old.taken new.inner new.taken result → IfOk result (λ n. n ≡ 0) → OnOk result (Ends old new) →
+    pub reads-end : (result : Result ℕ Error) → KeepsPayload read (stops_of old) old.inner old.taken new.inner new.taken result → IfOk result (λ n. n ≡ 0) → OnOk result (EndsClean old new) →
         IfErr result (RefusesAfter old new) → Reads tells_of steady_of content_of place_of plain_rest_of faults_of refuses_of old new buf result
     reads-end (Err e) keeps none ends r =
         reads-refused e (payload-refused read old.inner new.inner old.taken new.taken e keeps) stays.key same-place r.fails r.cause
@@ -100,12 +100,12 @@ module _ {S R : Type 0} {suite : SuiteGhosts S} {read : Ghosts R} (old new : Str
       cause = λ _. tt;
     }
 
-    pub moves-end : new.sought ≡ old.sought → (result : Result ℕ Error) → IfOk result (λ n. n ≡ 0) → OnOk result (Ends old new) → IfErr result (RefusesAfter old new) → Moves old new result
+    pub moves-end : new.sought ≡ old.sought → (result : Result ℕ Error) → IfOk result (λ n. n ≡ 0) → OnOk result (EndsClean old new) → IfErr result (RefusesAfter old new) → Moves old new result
     moves-end sought (Ok n) none ends r =
         record { key = stays.key; sought = sought; good = ends.good; fails = tt; placed = omega (arith, none, same-place); stayed = tt }
     moves-end sought (Err e) none ends r = record { key = stays.key; sought = sought; good = tt; fails = r.fails; placed = tt; stayed = same-place }
 
-    pub answers-end : (result : Result ℕ Error) → IfOk result (λ n. n ≡ 0) → OnOk result (Ends old new) → IfErr result (RefusesAfter old new) → AnswersRead old new buf buf result
+    pub answers-end : (result : Result ℕ Error) → IfOk result (λ n. n ≡ 0) → OnOk result (EndsClean old new) → IfErr result (RefusesAfter old new) → AnswersRead old new buf buf result
     answers-end (Ok n) none ends r = record {
       gives = λ _ some. absurd (omega (arith, none, some));
       ended = λ told _. ends.ended told;

@@ -13,7 +13,7 @@ use Rattle.age_stream.specs.Cache.{has_number, last_used, HasLast, HasOne}
 use Rattle.age_stream.specs.Payload.{final_chunk}
 use Rattle.age_stream.specs.Reader.{payload_of, place_of, tells_of, HasEnd, IsHolding}
 use Rattle.age_stream.specs.Reading.{spare}
-use Rattle.age_stream.specs.Steps.{Holds, OpensFew, Passes, RefusesChunk, RefusesStep}
+use Rattle.age_stream.specs.Steps.{Holds, OpensFew, PassesOn, RefusesAtPlace, RefusesStep}
 use Rattle.age_io.specs.ReadingLaws.{quiet_from}
 use Rattle.age_stream.specs.Keeping.{KeepsPayload}
 use Rattle.age_stream.proofs.Holding.{spare-none}
@@ -44,7 +44,7 @@ module _ {S R : Type 0} {suite : SuiteGhosts S} {read : Ghosts R} where
         spent = omega (arith, most, two, same);
       }
 
-  module _ (old mid new : StreamReader S R suite read) (passes : Passes old mid) (holding : (IsHolding old → IsHolding mid) × (IsHolding mid → IsHolding old)) where
+  module _ (old mid new : StreamReader S R suite read) (passes : PassesOn old mid) (holding : (IsHolding old → IsHolding mid) × (IsHolding mid → IsHolding old)) where
     told-passed : IsTrue (tells_of old) → IsTrue (tells_of mid)
     told-passed told = rw passes.inner told
 
@@ -61,7 +61,7 @@ module _ {S R : Type 0} {suite : SuiteGhosts S} {read : Ghosts R} where
       has = λ here b one. h.has (holding.0 here) b (subst (λ k. HasOne k b) (sym passes.cache) one);
     }
 
-    pub refuses-passed : (e : Error) → RefusesChunk mid new e → RefusesChunk old new e
+    pub refuses-passed : (e : Error) → RefusesAtPlace mid new e → RefusesAtPlace old new e
     refuses-passed e r = record {
       fails = r.fails;
       cause = λ told memory quiet. subst IsFault passes.rest (r.cause (told-passed told) memory (rw passes.inner quiet));

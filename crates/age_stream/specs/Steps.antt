@@ -34,7 +34,7 @@ module _ {S R : Type 0} {suite : SuiteGhosts S} {read : Ghosts R} where
     pub opens : new.opens ≡ old.opens
 
   -- So many bytes of the inner reader were taken, which are in front of the room for a sealed text.
-  pub record Takes (asked : ℕ) (old new : StreamReader S R suite read) (count : ℕ) : Type 0 where
+  pub record TakesBytes (asked : ℕ) (old new : StreamReader S R suite read) (count : ℕ) : Type 0 where
     pub unspent : read.faults new.inner < most_faults
     pub most : count ≤ asked
     pub took : IsTrue (read.tells old.inner) → TookBytes asked (read.rest old.inner) (read.rest new.inner) (take count new.sealed.items)
@@ -58,7 +58,7 @@ module _ {S R : Type 0} {suite : SuiteGhosts S} {read : Ghosts R} where
     pub has : IsHolding old → (b : ℕ) → HasOne old.cache b → HasOne new.cache b
 
   -- The chunk at the place is refused for what it is, or the inner reader refused before it was whole. The reader has failed.
-  pub record RefusesChunk (old new : StreamReader S R suite read) (e : Error) : Type 0 where
+  pub record RefusesAtPlace (old new : StreamReader S R suite read) (e : Error) : Type 0 where
     pub fails : new.failed ≡ true
     pub cause : Told old new e (IsFault (plain_rest_of old))
     pub refused : Told old new e (RefusesItself suite.seal_of old.key (payload_of old) (read.rest old.inner) (wanted_of old) (place_of old) e)
@@ -73,7 +73,7 @@ module _ {S R : Type 0} {suite : SuiteGhosts S} {read : Ghosts R} where
 
   -- After a middle chunk that was given whole the place is the front of the next. Of the inner reader, the chunks and what can still be delivered
   -- nothing changes.
-  pub record Passes (old new : StreamReader S R suite read) : Type 0 where
+  pub record PassesOn (old new : StreamReader S R suite read) : Type 0 where
     pub good : new.failed ≡ false
     pub inner : new.inner ≡ old.inner
     pub taken : new.taken ≡ old.taken
@@ -86,7 +86,7 @@ module _ {S R : Type 0} {suite : SuiteGhosts S} {read : Ghosts R} where
     pub wanted : wanted_of new ≡ wanted_of old
 
   -- After the last chunk there is a clean end.
-  pub record Ends (old new : StreamReader S R suite read) : Type 0 where
+  pub record EndsClean (old new : StreamReader S R suite read) : Type 0 where
     pub good : new.failed ≡ false
     pub end : IsTrue (tells_of old) → IsCleanEnd (plain_rest_of old) × (plain_rest_of new ≡ plain_rest_of old)
     pub ended : IsTrue (tells_of old) → IsGoodEnd suite.seal_of old.key (payload_of old) (place_of old)

@@ -202,7 +202,7 @@ impl<S: Suite, R: Read> Read for StreamReader<S, R> {
 
 impl<S: Suite, R: Read> StreamReader<S, R> {
     ghost use Rattle.age_stream.specs.Reader.{payload_of, key_of, inner_of, inner_rest_of, place_of, wanted_of, HasFailed, HasSought, IsHolding, IsAfterLast, opens_of, stops_of};
-    ghost use Rattle.age_stream.specs.Steps.{AnswersRead, Ends, GivesHeld, Holds, Moves, OpensFew, Passes, ReadsChunks, RefusesAfter, RefusesChunk, Stays, StaysAt};
+    ghost use Rattle.age_stream.specs.Steps.{AnswersRead, EndsClean, GivesHeld, Holds, Moves, OpensFew, PassesOn, ReadsChunks, RefusesAfter, RefusesAtPlace, Stays, StaysAt};
 
     /// A reader of the payload that begins where `inner` stands, under the payload key of 32 bytes. It stands before the
     /// first byte of the plaintext.
@@ -322,7 +322,7 @@ impl<S: Suite, R: Read> StreamReader<S, R> {
         ensures keeps { KeepsPayload ⟦<R as Read>⟧ (stops_of self.old) self.old.inner self.old.taken self.new.inner self.new.taken result }
         ensures stays { StaysAt self.old self.new }
         ensures holds { OnOk result (Holds self.old self.new) }
-        ensures refused { IfErr result (RefusesChunk self.old self.new) }
+        ensures refused { IfErr result (RefusesAtPlace self.old self.new) }
         ensures opens { OpensFew self.old self.new result }
     {
         self.pass();
@@ -336,7 +336,7 @@ impl<S: Suite, R: Read> StreamReader<S, R> {
     fn pass(&mut self)
         requires good { self.old.failed ≡ false }
         requires more { self.old.held ≡ true → self.old.cache.last ≡ true → self.old.at < length self.old.cache.chunk.items }
-        ensures passes { Passes self.old self.new }
+        ensures passes { PassesOn self.old self.new }
         ensures left { self.new.held ≡ true → self.new.at < length self.new.cache.chunk.items }
         ensures holding { (IsHolding self.old → IsHolding self.new) × (IsHolding self.new → IsHolding self.old) }
         ensures spared { self.new.opens + spare self.new.held self.new.cache.last + self.old.number
@@ -359,7 +359,7 @@ impl<S: Suite, R: Read> StreamReader<S, R> {
         ensures stays { Stays self.old self.new }
         ensures sought { self.new.sought ≡ self.old.sought }
         ensures none { IfOk result (λ n. n ≡ 0) }
-        ensures ends { OnOk result (Ends self.old self.new) }
+        ensures ends { OnOk result (EndsClean self.old self.new) }
         ensures refused { IfErr result (RefusesAfter self.old self.new) }
     {
         match self.take(1) {
@@ -381,7 +381,7 @@ impl<S: Suite, R: Read> StreamReader<S, R> {
         ensures keeps { KeepsPayload ⟦<R as Read>⟧ (stops_of self.old) self.old.inner self.old.taken self.new.inner self.new.taken result }
         ensures stays { StaysAt self.old self.new }
         ensures holds { OnOk result (Holds self.old self.new) }
-        ensures refused { IfErr result (RefusesChunk self.old self.new) }
+        ensures refused { IfErr result (RefusesAtPlace self.old self.new) }
         ensures opens { OpensFew self.old self.new result }
     {
         let count = match self.take(CHUNK) {

@@ -44,9 +44,9 @@ fn fill_front<R: Read>(
 }
 
 impl<S: Suite, R: Read> StreamReader<S, R> {
-    ghost use Rattle.age_stream.specs.Steps.{Stays, Takes};
+    ghost use Rattle.age_stream.specs.Steps.{Stays, TakesBytes};
 
-    // Takes so many bytes of the inner reader into the front of the room for a sealed text, or all that are left, and answers how many they are.
+    // TakesBytes so many bytes of the inner reader into the front of the room for a sealed text, or all that are left, and answers how many they are.
     // Until they are found good the reader has failed.
     pub(crate) fn take(&mut self, asked: usize) -> Result<usize, Error>
         requires some { 0 < asked }
@@ -54,7 +54,7 @@ impl<S: Suite, R: Read> StreamReader<S, R> {
         ensures stays { Stays self.old self.new }
         ensures failed { (self.new.failed ≡ true) × (self.new.sought ≡ self.old.sought) }
         ensures keeps { KeepsPayload ⟦<R as Read>⟧ (λ _. ⊥) self.old.inner self.old.taken self.new.inner self.new.taken result }
-        ensures takes { IfOk result (Takes asked self.old self.new) }
+        ensures takes { IfOk result (TakesBytes asked self.old self.new) }
         ensures cause { IsTrue (R.tells self.old.inner) → IfErr result (λ e. e ≢ OutOfMemory →
             IsQuiet (R.faults self.old.inner) (R.faults self.new.inner) → EndsEarly asked (R.rest self.old.inner)) }
     {
