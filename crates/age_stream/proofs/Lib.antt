@@ -18,6 +18,7 @@ pub mod Sound
 pub mod Keeping
 pub mod Stepping
 pub mod ReadSteps
+pub mod Opening
 pub mod Seeks
 pub mod Ending
 pub mod Standing

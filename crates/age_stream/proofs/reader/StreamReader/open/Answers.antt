@@ -1,19 +1,16 @@
-use Rattle.std.proofs.Common.{◌≡◌, ◌∙◌, ◌&&◌, sym, IsTrue, refl, subst, arith, ◌<◌, ◌≤◌, ◌⊎◌, length, take, length-take-le, Err, inl, inr, true, false}
+use Rattle.std.proofs.Common.{◌≡◌, ◌∙◌, ◌&&◌, sym, IsTrue, refl, subst, arith, ◌<◌, ◌≤◌, ◌⊎◌, length, take, Err, inl, inr, true}
 use Rattle.age_io.specs.Reading.{EndsEarly}
 use Rattle.age_stream.specs.ReadingLaws.{and-left, and-right}
 use Rattle.age_stream.specs.Chunks.{chunk_of}
 use Rattle.age_stream.specs.Reader.{wanted_of}
-use Rattle.age_stream.specs.OpeningLaws.{shorter}
 use Rattle.age_stream.proofs.Answered.{refuses-chunk, good-opened}
-use Rattle.age_stream.specs.Cache.{IsKept, IsText}
-use Rattle.age_stream.proofs.Cached.{brought, is-text}
-use Rattle.age_stream.proofs.Holding.{open-early, open-refused, opened-before, rest-opened, clean-opened, sound-opened, spare-opened}
+use Rattle.age_stream.proofs.Holding.{open-early, open-refused, rest-opened, clean-opened, spare-opened}
 use Rattle.age_error.specs.declared.io.Error.TheVariants.{OutOfMemory, Truncated}
 use Rattle.age_stream.specs.FrontToEnd.{StopsAt}
-use Rattle.age_stream.specs.Reading.{payload_at, IsSound}
+use Rattle.age_stream.specs.Reading.{payload_at}
+use Rattle.age_stream.proofs.Opening.{inside-text, kept-brought, opened-text, sound-held, sound-unopened}
 use Rattle.age_stream.proofs.Stepping.{has-next, next-held, opens-next}
-use Rattle.age_stream.proofs.Keeping.{told-before, payload-done, payload-refused, payload-more, payload-ended}
-use Rattle.age_stream.proofs.Moving.{sound-shut}
+use Rattle.age_stream.proofs.Keeping.{payload-done, payload-refused, payload-more, payload-ended}
 use Rattle.std.proofs.lemmas.Bool.{true≢false}
 use Rattle.age_stream.proofs.reader.StreamReader.open.Goals as goal
 
@@ -102,29 +99,13 @@ returns-then-self-len g c =
     let self = c.args.self.now in
     let mid = c.take.new.self in
     let read = g.R.Read in
-    let suite = g.S.Suite in
     let taken = c.in-Ok.ensures in
     let same = taken.stays in
-    let brings = c.in-Ok-bring.ensures.brings in
-    let cache = c.bring.new.self in
-    let plain = cache.chunk.items in
-    let text = take c.in-Ok.count mid.sealed.items in
-    let payload = payload_at (read.place self.inner) self.taken (read.content self.inner) in
-    let law = shorter suite.seal_of suite.opened g.met.S.Suite.cipher self.key self.key_bytes in
-    let past : length plain < self.at = omega (arith, c.if-self-len.true, c.len.ensures, cache.chunk.ok.0, same.at) in
-    let never : IsTrue (read.tells self.inner && read.steady self.inner) → ⊥ = λ told.
-    let t = and-left _ _ told in
-    let stands = g.met.R.Read.stands self.inner t (and-right _ _ told) in
-    let sound = self.sound told in
-    let before = sound.before c.requires.good c.requires.closed in
-    let took = taken.takes.took t in
-    let is = brought suite.opened self.key law (read.content self.inner) (read.rest self.inner) (read.rest mid.inner) (read.place self.inner) self.taken self.number text cache
-    (g.met.R.Read.are_bytes self.inner t) stands sound.fits before.stood took (brings.first.0, brings.first.1 ∙ same.number, brings.first.2)
-    (λ one. subst (λ k. IsKept suite.opened k payload cache) same.key
-    (c.bring.ensures.kept payload (rw (same.key, same.cache) (self.kept told)) (rw (c.deref.ensures.value, same.number) one))) in
-    let inside = opened-before (read.content self.inner) (read.rest self.inner) (read.rest mid.inner) (read.place self.inner) self.taken self.number self.at text (length plain)
-    stands sound.fits before took is.longer in
-    omega (arith, past, inside (omega (arith, past))) in
+    let past : length c.bring.new.self.chunk.items < self.at = omega (arith, c.if-self-len.true, c.len.ensures, c.bring.new.self.chunk.ok.0, same.at) in
+    let inside = inside-text c.args.self.now c.take.new.self g.met.S.Suite.cipher g.met.R.Read.are_bytes g.met.R.Read.stands g.met.R.Read.place_fits c.requires.good c.requires.closed c.in-Ok.count c.in-Ok.ensures.stays
+    c.in-Ok.ensures.failed.1 c.in-Ok.ensures.takes c.in-Ok.ensures.keeps c.bring.new.self (λ payload kept read. c.bring.ensures.kept payload kept (rw c.deref.ensures.value read))
+    c.in-Ok-bring.ensures.brings.first in
+    let never : IsTrue (read.tells self.inner && read.steady self.inner) → ⊥ = λ told. omega (arith, past, inside told (omega (arith, past))) in
     record {
       keeps = payload-ended read self.inner mid.inner self.taken mid.taken Truncated
           (payload-more read _ self.inner mid.inner self.taken mid.taken (λ e none. absurd none) taken.keeps) (λ device. device)
@@ -149,19 +130,14 @@ returns-else-self-len g c =
     let cache = c.bring.new.self in
     let plain = cache.chunk.items in
     let text = take c.in-Ok.count mid.sealed.items in
-    let payload = payload_at (read.place self.inner) self.taken (read.content self.inner) in
-    let law = shorter suite.seal_of suite.opened g.met.S.Suite.cipher self.key self.key_bytes in
     let stands = λ (told : IsTrue (read.tells self.inner && read.steady self.inner)). g.met.R.Read.stands self.inner (and-left _ _ told) (and-right _ _ told) in
     let before = λ (told : IsTrue (read.tells self.inner && read.steady self.inner)). (self.sound told).before c.requires.good c.requires.closed in
-    let is = λ (told : IsTrue (read.tells self.inner && read.steady self.inner)).
-    brought suite.opened self.key law (read.content self.inner) (read.rest self.inner) (read.rest mid.inner) (read.place self.inner) self.taken self.number text cache
-    (g.met.R.Read.are_bytes self.inner (and-left _ _ told)) (stands told) (self.sound told).fits (before told).stood (taken.takes.took (and-left _ _ told))
-    (brings.first.0, brings.first.1 ∙ same.number, brings.first.2)
-    (λ one. subst (λ k. IsKept suite.opened k payload cache) same.key
-    (c.bring.ensures.kept payload (rw (same.key, same.cache) (self.kept told)) (rw (c.deref.ensures.value, same.number) one))) in
-    let inside = λ (told : IsTrue (read.tells self.inner && read.steady self.inner)).
-    opened-before (read.content self.inner) (read.rest self.inner) (read.rest mid.inner) (read.place self.inner) self.taken self.number self.at text (length plain)
-    (stands told) (self.sound told).fits (before told) (taken.takes.took (and-left _ _ told)) (is told).longer in
+    let is = opened-text c.args.self.now c.take.new.self g.met.S.Suite.cipher g.met.R.Read.are_bytes g.met.R.Read.stands g.met.R.Read.place_fits c.requires.good c.requires.closed c.in-Ok.count c.in-Ok.ensures.stays
+    c.in-Ok.ensures.failed.1 c.in-Ok.ensures.takes c.in-Ok.ensures.keeps c.bring.new.self (λ payload kept read. c.bring.ensures.kept payload kept (rw c.deref.ensures.value read))
+    brings.first in
+    let inside = inside-text c.args.self.now c.take.new.self g.met.S.Suite.cipher g.met.R.Read.are_bytes g.met.R.Read.stands g.met.R.Read.place_fits c.requires.good c.requires.closed c.in-Ok.count c.in-Ok.ensures.stays
+    c.in-Ok.ensures.failed.1 c.in-Ok.ensures.takes c.in-Ok.ensures.keeps c.bring.new.self (λ payload kept read. c.bring.ensures.kept payload kept (rw c.deref.ensures.value read))
+    brings.first in
     let within : self.at ≤ length plain = omega (arith, c.if-self-len.false, c.len.ensures, cache.chunk.ok.0, same.at) in
     record {
       keeps = payload-done read self.inner mid.inner self.taken mid.taken
@@ -196,22 +172,9 @@ returns-else-self-len g c =
 
 pub invariant_of-self : goal.invariant_of-self
 invariant_of-self g c =
-    let self = c.args.self.now in
     let mid = c.take.new.self in
-    let read = g.R.Read in
-    let suite = g.S.Suite in
     let taken = c.in-Ok.ensures in
-    let same = taken.stays in
-    let cache = c.bring.new.self in
-    let told_before = told-before read self.inner mid.inner taken.keeps.inner.same in
-    let none = λ (held : mid.held ≡ true). true≢false (sym held ∙ same.held ∙ c.requires.closed) in
-    let kept = λ (told : IsTrue (read.tells mid.inner && read.steady mid.inner)).
-    let b = told_before told in
-    let sound = self.sound b in
-    let came = is-text (read.content self.inner) (read.rest self.inner) (read.rest mid.inner) (read.place self.inner) self.taken self.number (take c.in-Ok.count mid.sealed.items)
-    (g.met.R.Read.stands self.inner (and-left _ _ b) (and-right _ _ b)) sound.fits (sound.before c.requires.good c.requires.closed).stood (taken.takes.took (and-left _ _ b)) in
-    c.bring.ensures.kept _ (mid.kept told)
-    (rw (c.deref.ensures.value, same.number) (subst (λ p. IsText p self.number (take c.in-Ok.count mid.sealed.items)) (sym (taken.keeps.payload b)) came)) in
+    let none = λ (held : mid.held ≡ true). true≢false (sym held ∙ taken.stays.held ∙ c.requires.closed) in
     record {
       key_bytes = mid.key_bytes;
       room = mid.room;
@@ -225,32 +188,17 @@ invariant_of-self g c =
       unjudged = λ held. absurd (none held);
       count_fits = c.bring.ensures.opens.fits mid.count_fits;
       unspent = mid.unspent;
-      kept = kept;
-      sound = λ told.
-          subst (λ h. IsSound suite.opened mid.key mid.failed h mid.at cache.chunk.items cache.last mid.sought mid.number mid.taken (read.place mid.inner) (read.content mid.inner)
-          (read.rest mid.inner)) (sym (same.held ∙ c.requires.closed))
-          (sound-shut suite.opened mid.key mid.failed mid.held mid.at mid.cache.chunk.items mid.cache.last mid.sought mid.number mid.taken (read.place mid.inner)
-          (read.content mid.inner) (read.rest mid.inner) (mid.sound told) cache.chunk.items cache.last taken.failed.0);
+      kept = kept-brought c.args.self.now c.take.new.self g.met.S.Suite.cipher g.met.R.Read.are_bytes g.met.R.Read.stands g.met.R.Read.place_fits c.requires.good c.requires.closed c.in-Ok.count c.in-Ok.ensures.stays
+          c.in-Ok.ensures.failed.1 c.in-Ok.ensures.takes c.in-Ok.ensures.keeps c.bring.new.self (λ payload kept read. c.bring.ensures.kept payload kept (rw c.deref.ensures.value read));
+      sound = sound-unopened c.args.self.now c.take.new.self g.met.S.Suite.cipher g.met.R.Read.are_bytes g.met.R.Read.stands g.met.R.Read.place_fits c.requires.good c.requires.closed c.in-Ok.count c.in-Ok.ensures.stays
+          c.in-Ok.ensures.failed.1 c.in-Ok.ensures.takes c.in-Ok.ensures.keeps c.bring.new.self (λ payload kept read. c.bring.ensures.kept payload kept (rw c.deref.ensures.value read)) taken.failed.0;
     }
 
 pub invariant_of-self-then-self-len : goal.invariant_of-self-then-self-len
 invariant_of-self-then-self-len g c =
-    let self = c.args.self.now in
     let mid = c.take.new.self in
-    let read = g.R.Read in
-    let suite = g.S.Suite in
     let taken = c.in-Ok.ensures in
-    let same = taken.stays in
-    let cache = c.bring.new.self in
-    let told_before = told-before read self.inner mid.inner taken.keeps.inner.same in
-    let none = λ (held : mid.held ≡ true). true≢false (sym held ∙ same.held ∙ c.requires.closed) in
-    let kept = λ (told : IsTrue (read.tells mid.inner && read.steady mid.inner)).
-    let b = told_before told in
-    let sound = self.sound b in
-    let came = is-text (read.content self.inner) (read.rest self.inner) (read.rest mid.inner) (read.place self.inner) self.taken self.number (take c.in-Ok.count mid.sealed.items)
-    (g.met.R.Read.stands self.inner (and-left _ _ b) (and-right _ _ b)) sound.fits (sound.before c.requires.good c.requires.closed).stood (taken.takes.took (and-left _ _ b)) in
-    c.bring.ensures.kept _ (mid.kept told)
-    (rw (c.deref.ensures.value, same.number) (subst (λ p. IsText p self.number (take c.in-Ok.count mid.sealed.items)) (sym (taken.keeps.payload b)) came)) in
+    let none = λ (held : mid.held ≡ true). true≢false (sym held ∙ taken.stays.held ∙ c.requires.closed) in
     record {
       key_bytes = mid.key_bytes;
       room = mid.room;
@@ -264,44 +212,23 @@ invariant_of-self-then-self-len g c =
       unjudged = λ held. absurd (none held);
       count_fits = c.bring.ensures.opens.fits mid.count_fits;
       unspent = mid.unspent;
-      kept = λ told. let k = kept told in record { first = k.first; other = k.other };
-      sound = λ told.
-          subst (λ h. IsSound suite.opened mid.key mid.failed h mid.at cache.chunk.items cache.last mid.sought mid.number mid.taken (read.place mid.inner) (read.content mid.inner)
-          (read.rest mid.inner)) (sym (same.held ∙ c.requires.closed))
-          (sound-shut suite.opened mid.key mid.failed mid.held mid.at mid.cache.chunk.items mid.cache.last mid.sought mid.number mid.taken (read.place mid.inner)
-          (read.content mid.inner) (read.rest mid.inner) (mid.sound told) cache.chunk.items cache.last taken.failed.0);
+      kept = λ told.
+          let k = kept-brought c.args.self.now c.take.new.self g.met.S.Suite.cipher g.met.R.Read.are_bytes g.met.R.Read.stands g.met.R.Read.place_fits c.requires.good c.requires.closed c.in-Ok.count c.in-Ok.ensures.stays
+          c.in-Ok.ensures.failed.1 c.in-Ok.ensures.takes c.in-Ok.ensures.keeps c.bring.new.self (λ payload kept read. c.bring.ensures.kept payload kept (rw c.deref.ensures.value read)) told in
+          record { first = k.first; other = k.other };
+      sound = sound-unopened c.args.self.now c.take.new.self g.met.S.Suite.cipher g.met.R.Read.are_bytes g.met.R.Read.stands g.met.R.Read.place_fits c.requires.good c.requires.closed c.in-Ok.count c.in-Ok.ensures.stays
+          c.in-Ok.ensures.failed.1 c.in-Ok.ensures.takes c.in-Ok.ensures.keeps c.bring.new.self (λ payload kept read. c.bring.ensures.kept payload kept (rw c.deref.ensures.value read)) taken.failed.0;
     }
 
 pub invariant_of-self-in-Ok-bring-2 : goal.invariant_of-self-in-Ok-bring-2
 invariant_of-self-in-Ok-bring-2 g c =
     let self = c.args.self.now in
     let mid = c.take.new.self in
-    let read = g.R.Read in
-    let suite = g.S.Suite in
     let taken = c.in-Ok.ensures in
-    let same = taken.stays in
     let cache = c.bring.new.self in
     let first = c.in-Ok-bring.ensures.brings.first in
     let whole = cache.whole first.0 in
-    let text = take c.in-Ok.count mid.sealed.items in
-    let long : length text ≡ c.in-Ok.count = length-take-le c.in-Ok.count mid.sealed.items (omega (arith, taken.takes.most, mid.room)) in
     let within : mid.at ≤ length cache.chunk.items = omega (arith, c.if-self-len.false, c.len.ensures, cache.chunk.ok.0) in
-    let payload = payload_at (read.place self.inner) self.taken (read.content self.inner) in
-    let is = λ (told : IsTrue (read.tells self.inner && read.steady self.inner)).
-    brought suite.opened self.key (shorter suite.seal_of suite.opened g.met.S.Suite.cipher self.key self.key_bytes) (read.content self.inner) (read.rest self.inner)
-    (read.rest mid.inner) (read.place self.inner) self.taken self.number text cache (g.met.R.Read.are_bytes self.inner (and-left _ _ told))
-    (g.met.R.Read.stands self.inner (and-left _ _ told) (and-right _ _ told)) (self.sound told).fits ((self.sound told).before c.requires.good c.requires.closed).stood
-    (taken.takes.took (and-left _ _ told)) (first.0, first.1 ∙ same.number, first.2)
-    (λ one. subst (λ k. IsKept suite.opened k payload cache) same.key
-    (c.bring.ensures.kept payload (rw (same.key, same.cache) (self.kept told)) (rw (c.deref.ensures.value, same.number) one))) in
-    let told_before = told-before read self.inner mid.inner taken.keeps.inner.same in
-    let kept = λ (told : IsTrue (read.tells mid.inner && read.steady mid.inner)).
-    let b = told_before told in
-    let sound = self.sound b in
-    let came = is-text (read.content self.inner) (read.rest self.inner) (read.rest mid.inner) (read.place self.inner) self.taken self.number (take c.in-Ok.count mid.sealed.items)
-    (g.met.R.Read.stands self.inner (and-left _ _ b) (and-right _ _ b)) sound.fits (sound.before c.requires.good c.requires.closed).stood (taken.takes.took (and-left _ _ b)) in
-    c.bring.ensures.kept _ (mid.kept told)
-    (rw (c.deref.ensures.value, same.number) (subst (λ p. IsText p self.number (take c.in-Ok.count mid.sealed.items)) (sym (taken.keeps.payload b)) came)) in
     record {
       key_bytes = mid.key_bytes;
       room = mid.room;
@@ -315,19 +242,11 @@ invariant_of-self-in-Ok-bring-2 g c =
       unjudged = λ _ none. absurd (true≢false (sym first.0 ∙ none));
       count_fits = c.bring.ensures.opens.fits mid.count_fits;
       unspent = λ _ _. taken.takes.unspent;
-      kept = λ told. let k = kept told in record { first = k.first; other = k.other };
-      sound = λ told.
-          let b = told_before told in
-          let t = and-left _ _ b in
-          let moves = taken.takes.moves b in
-          let content = taken.keeps.inner.same.content t in
-          let fits = g.met.R.Read.place_fits mid.inner (and-left _ _ told) in
-          let sound = self.sound b in
-          let opened : IsSound suite.opened self.key false true self.at cache.chunk.items cache.last self.sought self.number mid.taken (read.place mid.inner)
-          (read.content mid.inner) (read.rest mid.inner) =
-          sound-opened suite.opened self.key self.failed self.held self.at self.cache.chunk.items self.cache.last self.sought self.number self.taken
-          (read.place self.inner) (read.content self.inner) (read.rest self.inner) sound mid.taken (read.place mid.inner) c.in-Ok.count (read.content mid.inner)
-          (read.rest mid.inner) text cache.chunk.items cache.last content moves.0 fits (omega (arith, moves.0, moves.1, fits, sound.fits)) c.requires.good c.requires.closed
-          (omega (arith, within, same.at)) (g.met.R.Read.stands self.inner t (and-right _ _ b)) (taken.takes.took t) long (is b).short (is b).ok in
-          rw (same.key, same.at, taken.failed.1, same.number) opened;
+      kept = λ told.
+          let k = kept-brought c.args.self.now c.take.new.self g.met.S.Suite.cipher g.met.R.Read.are_bytes g.met.R.Read.stands g.met.R.Read.place_fits c.requires.good c.requires.closed c.in-Ok.count c.in-Ok.ensures.stays
+          c.in-Ok.ensures.failed.1 c.in-Ok.ensures.takes c.in-Ok.ensures.keeps c.bring.new.self (λ payload kept read. c.bring.ensures.kept payload kept (rw c.deref.ensures.value read)) told in
+          record { first = k.first; other = k.other };
+      sound = sound-held c.args.self.now c.take.new.self g.met.S.Suite.cipher g.met.R.Read.are_bytes g.met.R.Read.stands g.met.R.Read.place_fits c.requires.good c.requires.closed c.in-Ok.count c.in-Ok.ensures.stays
+          c.in-Ok.ensures.failed.1 c.in-Ok.ensures.takes c.in-Ok.ensures.keeps c.bring.new.self (λ payload kept read. c.bring.ensures.kept payload kept (rw c.deref.ensures.value read))
+          first (omega (arith, within, taken.stays.at));
     }
