@@ -6,7 +6,7 @@ use Rattle.std.proofs.lemmas.List.Elements.{All-drop, All-take}
 use Rattle.std.proofs.lemmas.Bool.{cases_lt, true≢false}
 use Rattle.age_error.specs.Bytes.{AreBytes}
 use Rattle.age_io.specs.Stretch.{Stretch, from_place, stretch-ext}
-use Rattle.age_stream.specs.Payload.{nonce}
+use Rattle.age_stream.specs.Payload.{final_chunk, nonce}
 use Rattle.age_stream.specs.OpeningLaws.{Shorter}
 use Rattle.age_stream.specs.Reading.{text_at, IsHeld, IsPast, IsInside, IsLastChunk, TookText}
 use Rattle.age_stream.specs.Chunks.{chunk_of}
@@ -85,6 +85,12 @@ module _ (opened : List ℕ → List ℕ → List ℕ → Option (List ℕ)) (ke
     held-length payload number at last chunk bytes held fits =
         plain-whole number (length (text_at number payload)) (length chunk) (length payload.bytes) (text-held payload number at last chunk bytes held)
         (length-text 65552 (65552 * number) payload.bytes) fits held.some
+
+    -- and the end of its plaintext
+    pub last-place : (payload : Stretch) (number at size len : ℕ) (last : Bool) (chunk : List ℕ) → AreBytes payload.bytes → IsHeld opened key payload number last at chunk →
+        size ≡ length payload.bytes → number ≡ final_chunk size → IsLastChunk size (final_chunk size) → len + 16 * (final_chunk size + 1) ≡ size → 65536 * number + length chunk ≡ len
+    last-place payload number at size len last chunk bytes held same is last_one whole =
+        omega (arith, held-length payload number at last chunk bytes held (omega (arith, is, same, last_one.fits)), is, same, whole)
 
     -- a place in the chunk that is held is in the payload
     pub inside-held : (payload : Stretch) (number at new_at : ℕ) (last : Bool) (chunk : List ℕ) → AreBytes payload.bytes → IsHeld opened key payload number last at chunk →

@@ -1,5 +1,5 @@
 -- Steps that follow one another.
-use Rattle.std.specs.Prelude.{◌≡◌, ℕ, ◌+◌, ◌≤◌, false, true, IsTrue, length, Result, OnOk, Ok}
+use Rattle.std.specs.Prelude.{◌≡◌, ℕ, ◌+◌, ◌≤◌, Bool, false, true, IsTrue, cond, None, Some, option_map, length, Result, OnOk, Ok}
 use Rattle.std.proofs.Common.{arith, ap, ◌∙◌, sym, subst, inl, inr}
 use Rattle.std.proofs.lemmas.Bool.{true≢false}
 use Rattle.std.proofs.lemmas.Result.{on_ok_weaker}
@@ -13,7 +13,7 @@ use Rattle.age_stream.specs.Cache.{has_number, last_used, HasLast, HasOne}
 use Rattle.age_stream.specs.Payload.{final_chunk}
 use Rattle.age_stream.specs.Reader.{payload_of, place_of, tells_of, HasEnd, IsHolding}
 use Rattle.age_stream.specs.Reading.{spare}
-use Rattle.age_stream.specs.Steps.{Holds, OpensFew, PassesOn, RefusesAtPlace, RefusesStep}
+use Rattle.age_stream.specs.Steps.{EntersEnd, Holds, KeepsAtEnd, KeepsBesideLast, OpensFew, PassesOn, RefusesAtPlace, RefusesStep}
 use Rattle.age_io.specs.ReadingLaws.{quiet_from}
 use Rattle.age_stream.specs.Keeping.{KeepsPayload}
 use Rattle.age_stream.proofs.Holding.{spare-none}
@@ -110,3 +110,23 @@ module _ {S R : Type 0} {suite : SuiteGhosts S} {read : Ghosts R} where
     | inl h ↦ inl (held ∙ h.0, ap (λ k. k.last) cache ∙ h.1, number ∙ h.2 ∙ ap final_chunk (sym same))
     | inr h ↦ inr (subst (λ k. HasLast k (final_chunk size)) (sym cache) (subst (λ n. HasLast old.cache (final_chunk n)) (sym same) h))
   ]
+
+  -- the last chunk was opened, after another step
+  pub enters-later : {T : Type 0} {x : T} {Own : Error → Type 0} (old mid new : StreamReader S R suite read) (number there len : ℕ) →
+      KeepsPayload read Own old.inner old.taken mid.inner mid.taken (Ok x) → (IsTrue (tells_of old) → there ≡ len) → EntersEnd mid new number there → EntersEnd old new number len
+  enters-later old mid new number there len first same e = record {
+    good = e.good;
+    arrives = λ told. e.arrives (told-later read old.inner mid.inner first.inner.same told) ∙ same told;
+    inner_end = λ told. e.inner_end (told-later read old.inner mid.inner first.inner.same told) ∙ ap (λ p. p.ends_well) (first.payload told);
+  }
+
+  -- Beside it there is what was there before, which is none of a reader that had failed.
+  pub keeps-at-end : (old mid new : StreamReader S R suite read) (number : ℕ) (was_failed : Bool) → (was_failed ≡ true → (b : ℕ) → HasOne mid.cache b → ⊥) →
+      (was_failed ≡ false → last_used mid.cache ≡ last_used old.cache) → (was_failed ≡ false → HasEnd old number → ⊥) → KeepsBesideLast mid new number → KeepsAtEnd old new number was_failed
+  keeps-at-end old mid new number was_failed none same apart kept = record {
+    alone = λ failed b has. elim (kept.had b has) [ inl is ↦ is | inr was ↦ absurd (none failed b was) ];
+    uses = λ judged. ap (λ u. cond u (cond new.cache.judged (Some new.cache.number) None) (option_map (λ it. it.number) new.cache.other)) kept.used.0
+        ∙ ap (λ j. cond j (Some new.cache.number) None) judged ∙ ap (λ n. Some n) kept.used.1;
+    keeps_last = λ good b is. kept.keeps_last b (same good ∙ is);
+    has = λ good is. absurd (apart good is);
+  }

@@ -157,6 +157,14 @@ impl<S: Suite, R: Seek> StreamReader<S, R> {
         }
     }
 
+    // Whether a reader that hadn't failed holds the chunk of this number as the last.
+    fn holds_last(&self, number: u64, was_failed: bool) -> bool
+        ensures yes { IsTrue result → (was_failed ≡ false) × (self.now.held ≡ true) × (self.now.cache.last ≡ true) × (self.now.number ≡ number) }
+        ensures no { result ≡ false → was_failed ≡ false → (self.now.held ≡ true) × (self.now.cache.last ≡ true) × (self.now.number ≡ number) → ⊥ }
+    {
+        !was_failed && self.held && self.cache.last && self.number == number
+    }
+
     // Goes to the end. The last chunk is opened as the last, unless it is held so.
     fn enter_end(&mut self, start: u64, size: u64, len: u64, was_failed: bool) -> Result<(), Error>
         requires failed { self.old.failed ≡ true }
@@ -175,7 +183,7 @@ impl<S: Suite, R: Seek> StreamReader<S, R> {
         ensures chunks { OnOk result (KeepsAtEnd self.old self.new (final_chunk size) was_failed) }
     {
         let number = (size - 1) / CHUNK as u64;
-        if !was_failed && self.held && self.cache.last && self.number == number {
+        if self.holds_last(number, was_failed) {
             match self.stand(start, size) {
                 Err(e) => Err(e),
                 Ok(()) => {

@@ -1,9 +1,5 @@
-use Rattle.age_stream.proofs.reader.StreamReader.enter_end.Goals.{else-not-was_failed-via-else-not-was_failed}
-use Rattle.age_stream.proofs.reader.StreamReader.enter_end.Goals.{else-not-was_failed-via-then-not-was_failed+else-self}
-use Rattle.age_stream.proofs.reader.StreamReader.enter_end.Goals.{else-not-was_failed-via-then-not-was_failed+then-self+else-self-2}
-use Rattle.age_stream.proofs.reader.StreamReader.enter_end.Goals.{else-not-was_failed-via-then-not-was_failed+then-self+then-self-2+else-self-number}
 use Rattle.age_stream.proofs.Cached.{used-there}
-use Rattle.std.specs.Prelude.{cond, option_map, Some}
+use Rattle.std.specs.Prelude.{cond, Some}
 use Rattle.age_stream.specs.Reader.{payload_of, HasEnd}
 use Rattle.age_stream.specs.Payload.{nonce, final_chunk}
 use Rattle.std.proofs.Common.{◌≡◌, ◌<◌, ◌-◌, ◌/◌, ◌^◌, ◌∙◌, arith, length, sym, ap, subst, refl, inl, inr, ◌*◌, None, true, false}
@@ -16,44 +12,40 @@ use Rattle.age_stream.specs.Cache.{last_used, HasOne, HasLast}
 use Rattle.age_stream.specs.Reading.{payload_at, IsHeld, IsLastChunk, text_at}
 use Rattle.age_stream.specs.ReadingLaws.{and-left}
 use Rattle.age_stream.proofs.Inner.{past-end}
-use Rattle.age_stream.proofs.Stepping.{step-later, step-refused}
+use Rattle.age_stream.proofs.Stepping.{enters-later, keeps-at-end, step-later, step-refused}
 use Rattle.age_stream.proofs.Keeping.{payload-later, told-before, told-later, payload-done}
-use Rattle.age_stream.proofs.Last.{held-length}
+use Rattle.age_stream.proofs.Last.{last-place}
 use Rattle.age_stream.proofs.Moving.{sound-kept, sound-resumed}
 use Rattle.age_stream.proofs.reader.StreamReader.enter_end.Goals as goal
 
 pub returns-in-Ok : goal.returns-in-Ok
 returns-in-Ok g c =
+    let self = c.args.self.now in
+    let read = g.R.Read in
+    let mid = c.stand.new.self in
     let done = c.in-Ok.ensures in
+    let held = c.holds_last.ensures.yes c.if-holds_last.true in
     record {
       keeps = payload-done g.R.Read _ _ _ _ done.keeps;
       same = (done.stays.key, done.failed.1 ∙ c.requires.sought);
       enters = record {
-        good = (refl, done.stays.held ∙ c.if-self.true, ap (λ k. k.last) done.stays.cache ∙ c.if-self-2.true, done.stays.number ∙ omega (arith, c.if-self-number.true));
+        good = (refl, done.stays.held ∙ held.1, ap (λ k. k.last) done.stays.cache ∙ held.2, done.stays.number ∙ held.3);
         arrives = λ told.
-            let self = c.args.self.now in
-            let read = g.R.Read in
-            let mid = c.stand.new.self in
-            let law = shorter g.S.Suite.seal_of g.S.Suite.opened g.met.S.Suite.cipher mid.key mid.key_bytes in
             let after = told-later read self.inner mid.inner done.keeps.inner.same told in
-            let payload = payload_at (read.place mid.inner) mid.taken (read.content mid.inner) in
-            let size : c.args.size ≡ length payload.bytes = c.requires.size told ∙ ap (λ p. length p.bytes) (sym (done.keeps.payload told)) in
-            let number : mid.number ≡ (c.args.size - 1) / 65552 = done.stays.number ∙ omega (arith, c.if-self-number.true) in
-            let long = held-length g.S.Suite.opened mid.key law payload mid.number mid.at mid.cache.last mid.cache.chunk.items
-            (All-drop (λ x. x < 2 ^ 8) (read.place mid.inner - mid.taken) (read.content mid.inner).bytes
-            (g.met.R.Read.are_bytes mid.inner (and-left (read.tells mid.inner) (read.steady mid.inner) after)))
-            ((mid.sound after).is_held (done.stays.held ∙ c.if-self.true)) (omega (arith, number, size, c.requires.last.fits)) in
-            omega (arith, long, number, size, c.requires.len, c.len-self.ensures, mid.cache.chunk.ok.0);
+            let size = c.requires.size told ∙ ap (λ p. length p.bytes) (sym (done.keeps.payload told)) in
+            let place = last-place g.S.Suite.opened mid.key (shorter g.S.Suite.seal_of g.S.Suite.opened g.met.S.Suite.cipher mid.key mid.key_bytes) (payload_of mid) mid.number mid.at c.args.size c.args.len
+            mid.cache.last mid.cache.chunk.items (All-drop (λ x. x < 2 ^ 8) (read.place mid.inner - mid.taken) (read.content mid.inner).bytes (g.met.R.Read.are_bytes mid.inner (and-left _ _ after)))
+            ((mid.sound after).is_held (done.stays.held ∙ held.1)) size (done.stays.number ∙ held.3) c.requires.last c.requires.len in
+            omega (arith, place, c.len-self.ensures, mid.cache.chunk.ok.0);
         inner_end = λ told. ap (λ s. s.ends_well) (done.stands.rest told);
       };
       refused = tt;
       opens = (omega (arith, done.stays.opens), omega (arith, done.stays.opens));
       none = λ _ _. done.stays.opens;
       chunks = record {
-        alone = λ failed. absurd (true≢false (sym failed ∙ c.if-not-was_failed.true));
+        alone = λ failed. absurd (true≢false (sym failed ∙ held.0));
         uses = λ judged.
-            let mid = c.stand.new.self in
-            let there : mid.cache.number ≡ final_chunk c.args.size = mid.first (done.stays.held ∙ c.if-self.true) ∙ done.stays.number ∙ omega (arith, c.if-self-number.true) in
+            let there : mid.cache.number ≡ final_chunk c.args.size = mid.first (done.stays.held ∙ held.1) ∙ done.stays.number ∙ held.3 in
             ap (λ j. cond j (Some mid.cache.number) None) judged ∙ ap (λ n. Some n) there;
         keeps_last = λ _ b is. subst (λ k. HasOne k b) (sym done.stays.cache) (used-there c.args.self.now.cache b is);
         has = λ _ _ b is. subst (λ k. HasOne k b) (sym done.stays.cache) is;
@@ -66,8 +58,9 @@ invariant_of-self-in-Ok g c =
     let read = g.R.Read in
     let mid = c.stand.new.self in
     let done = c.in-Ok.ensures in
-    let is_held = done.stays.held ∙ c.if-self.true in
-    let is_last = ap (λ k. k.last) done.stays.cache ∙ c.if-self-2.true in
+    let held = c.holds_last.ensures.yes c.if-holds_last.true in
+    let is_held = done.stays.held ∙ held.1 in
+    let is_last = ap (λ k. k.last) done.stays.cache ∙ held.2 in
     let law = shorter g.S.Suite.seal_of g.S.Suite.opened g.met.S.Suite.cipher mid.key mid.key_bytes in
     let before = told-before read self.inner mid.inner done.keeps.inner.same in
     let payload = payload_at (read.place mid.inner) mid.taken (read.content mid.inner) in
@@ -94,7 +87,7 @@ invariant_of-self-in-Ok g c =
           let told_before = before told in
           let same = done.keeps.payload told_before in
           let size : c.args.size ≡ length payload.bytes = c.requires.size told_before ∙ ap (λ p. length p.bytes) (sym same) in
-          let number : mid.number ≡ (c.args.size - 1) / 65552 = done.stays.number ∙ omega (arith, c.if-self-number.true) in
+          let number : mid.number ≡ (c.args.size - 1) / 65552 = done.stays.number ∙ held.3 in
           let past = past-end payload (read.rest mid.inner) mid.number mid.taken mid.cache.last is_last (omega (arith, done.stands.taken told_before, size))
           (omega (arith, number, size, c.requires.last.fits))
           (done.stands.rest told_before ∙ ap (from_place c.args.size) (sym same) ∙ ap (λ n. from_place n payload) (sym (done.stands.taken told_before))) in
@@ -150,28 +143,23 @@ invariant_of-self-in-Ok-stand-3 g c =
 
 pub returns-in-Ok-stand : goal.returns-in-Ok-stand
 returns-in-Ok-stand g c =
+    let self = c.args.self.now in
+    let read = g.R.Read in
+    let found = c.find_last.ensures.found c.if-find_last.true in
+    let mid = c.stand-then-find_last.new.self in
     let done = c.in-Ok-stand.ensures in
     record {
       keeps = payload-done g.R.Read _ _ _ _ done.keeps;
       same = (done.stays.key, done.failed.1 ∙ c.requires.sought);
       enters = record {
-        good = (refl, refl, ap (λ k. k.last) done.stays.cache ∙ (c.find_last.ensures.found c.if-find_last.true).2, refl);
+        good = (refl, refl, ap (λ k. k.last) done.stays.cache ∙ found.2, refl);
         arrives = λ told.
-            let self = c.args.self.now in
-            let read = g.R.Read in
-            let mid = c.stand-then-find_last.new.self in
-            let found = c.find_last.ensures.found c.if-find_last.true in
-            let number : mid.cache.number ≡ (c.args.size - 1) / 65552 = ap (λ k. k.number) done.stays.cache ∙ found.1 in
-            let judged = ap (λ k. k.judged) done.stays.cache ∙ found.0 in
-            let law = shorter g.S.Suite.seal_of g.S.Suite.opened g.met.S.Suite.cipher mid.key mid.key_bytes in
             let after = told-later read self.inner mid.inner done.keeps.inner.same told in
-            let payload = payload_at (read.place mid.inner) mid.taken (read.content mid.inner) in
-            let size : c.args.size ≡ length payload.bytes = c.requires.size told ∙ ap (λ p. length p.bytes) (sym (done.keeps.payload told)) in
-            let long = held-length g.S.Suite.opened mid.key law payload mid.cache.number 0 mid.cache.last mid.cache.chunk.items
-            (All-drop (λ x. x < 2 ^ 8) (read.place mid.inner - mid.taken) (read.content mid.inner).bytes
-            (g.met.R.Read.are_bytes mid.inner (and-left (read.tells mid.inner) (read.steady mid.inner) after)))
-            ((mid.kept after).first judged) (omega (arith, number, size, c.requires.last.fits)) in
-            omega (arith, long, number, size, c.requires.len, c.len-self-in-Ok-stand.ensures, mid.cache.chunk.ok.0);
+            let size = c.requires.size told ∙ ap (λ p. length p.bytes) (sym (done.keeps.payload told)) in
+            let place = last-place g.S.Suite.opened mid.key (shorter g.S.Suite.seal_of g.S.Suite.opened g.met.S.Suite.cipher mid.key mid.key_bytes) (payload_of mid) mid.cache.number 0 c.args.size c.args.len
+            mid.cache.last mid.cache.chunk.items (All-drop (λ x. x < 2 ^ 8) (read.place mid.inner - mid.taken) (read.content mid.inner).bytes (g.met.R.Read.are_bytes mid.inner (and-left _ _ after)))
+            ((mid.kept after).first (ap (λ k. k.judged) done.stays.cache ∙ found.0)) size (ap (λ k. k.number) done.stays.cache ∙ found.1) c.requires.last c.requires.len in
+            omega (arith, place, c.len-self-in-Ok-stand.ensures, mid.cache.chunk.ok.0, ap (λ k. k.number) done.stays.cache, found.1);
         inner_end = λ told. ap (λ s. s.ends_well) (done.stands.rest told);
       };
       refused = tt;
@@ -179,12 +167,10 @@ returns-in-Ok-stand g c =
       none = λ _ _. done.stays.opens;
       chunks = record {
         alone = λ failed.
-            let found = c.find_last.ensures.found c.if-find_last.true in
             let number = final_chunk c.args.size in
             absurd (c.keep_if.ensures.none (rw failed refl) number (c.find_last.ensures.same.had number (inl (found.0, found.1))));
         uses = λ judged.
-            let mid = c.stand-then-find_last.new.self in
-            let there = ap (λ k. k.number) done.stays.cache ∙ (c.find_last.ensures.found c.if-find_last.true).1 in
+            let there = ap (λ k. k.number) done.stays.cache ∙ found.1 in
             ap (λ j. cond j (Some mid.cache.number) None) judged ∙ ap (λ n. Some n) there;
         keeps_last = λ good b is.
             subst (λ k. HasOne k b) (sym done.stays.cache)
@@ -206,22 +192,14 @@ returns-in-Ok-stand-2 g c =
     let number = final_chunk c.args.size in
     let later = told-later read self.inner mid.inner done.keeps.inner.same in
     let apart : c.args.was_failed ≡ false → HasEnd self number → ⊥ = λ good is. elim is [
-      | inl h ↦ elim c.else-not-was_failed.branch [
-        | else-not-was_failed-via-then-not-was_failed+then-self+then-self-2+else-self-number w ↦ omega (arith, h.2, w.if-self-number.false)
-        | else-not-was_failed-via-then-not-was_failed+then-self+else-self-2 w ↦ true≢false (sym h.1 ∙ w.if-self-2.false)
-        | else-not-was_failed-via-then-not-was_failed+else-self w ↦ true≢false (sym h.0 ∙ w.if-self.false)
-        | else-not-was_failed-via-else-not-was_failed w ↦ true≢false (sym w.if-not-was_failed.false ∙ good)
-      ]
+      | inl h ↦ c.holds_last.ensures.no c.if-holds_last.false good h
       | inr h ↦ c.find_last.ensures.none c.if-find_last.false (subst (λ k. HasLast k number) (sym (c.keep_if.ensures.same (rw good refl))) h)
     ] in
     record {
       keeps = payload-later read c.open_last.result self.inner mid.inner new.inner self.taken mid.taken new.taken done.keeps last.keeps;
       same = (last.same.0 ∙ done.stays.key, last.same.1);
-      enters = on_ok_weaker c.open_last.result (λ there. record {
-        good = there.good;
-        arrives = λ told. omega (arith, there.arrives (later told), ap (λ p. length p.bytes) (done.keeps.payload told), c.requires.size told, c.requires.len);
-        inner_end = λ told. there.inner_end (later told) ∙ ap (λ p. p.ends_well) (done.keeps.payload told);
-      }) last.enters;
+      enters = on_ok_weaker c.open_last.result (enters-later self mid new number _ c.args.len done.keeps
+          (λ told. omega (arith, ap (λ p. length p.bytes) (done.keeps.payload told), c.requires.size told, c.requires.len))) last.enters;
       refused = IfErr-weaker c.open_last.result _ _ (λ e r. step-later self mid new e done.keeps last.keeps (omega (arith, done.stays.number, done.stays.at))
           (λ told bad. (
             bad.0,
@@ -230,17 +208,9 @@ returns-in-Ok-stand-2 g c =
           )) r) last.refused;
       opens = (omega (arith, last.opens.0, done.stays.opens), omega (arith, last.opens.1, done.stays.opens));
       none = λ good is. absurd (apart good is);
-      chunks = on_ok_weaker c.open_last.result (λ kept. record {
-        alone = λ failed b has. elim (kept.had b has) [
-          | inl is ↦ is
-          | inr was ↦ absurd (c.keep_if.ensures.none (rw failed refl) b (c.find_last.ensures.same.had b (subst (λ k. HasOne k b) done.stays.cache was)))
-        ];
-        uses = λ judged. ap (λ u. cond u (cond new.cache.judged (Some new.cache.number) None) (option_map (λ it. it.number) new.cache.other)) kept.used.0
-            ∙ ap (λ j. cond j (Some new.cache.number) None) judged ∙ ap (λ n. Some n) kept.used.1;
-        keeps_last = λ good b is.
-            kept.keeps_last b (ap last_used done.stays.cache ∙ c.find_last.ensures.same.same_last ∙ ap last_used (c.keep_if.ensures.same (rw good refl)) ∙ is);
-        has = λ good is. absurd (apart good is);
-      }) last.chunks;
+      chunks = on_ok_weaker c.open_last.result (keeps-at-end self mid new number c.args.was_failed
+          (λ failed b one. c.keep_if.ensures.none (rw failed refl) b (c.find_last.ensures.same.had b (subst (λ k. HasOne k b) done.stays.cache one)))
+          (λ good. ap last_used done.stays.cache ∙ c.find_last.ensures.same.same_last ∙ ap last_used (c.keep_if.ensures.same (rw good refl))) apart) last.chunks;
     }
 
 pub returns-in-Err-clause-refused : goal.returns-in-Err-clause-refused

@@ -130,8 +130,6 @@ returns-else-self-len g c =
     let cache = c.bring.new.self in
     let plain = cache.chunk.items in
     let text = take c.in-Ok.count mid.sealed.items in
-    let stands = λ (told : IsTrue (read.tells self.inner && read.steady self.inner)). g.met.R.Read.stands self.inner (and-left _ _ told) (and-right _ _ told) in
-    let before = λ (told : IsTrue (read.tells self.inner && read.steady self.inner)). (self.sound told).before c.requires.good c.requires.closed in
     let is = opened-text c.args.self.now c.take.new.self g.met.S.Suite.cipher g.met.R.Read.are_bytes g.met.R.Read.stands g.met.R.Read.place_fits c.requires.good c.requires.closed c.in-Ok.count c.in-Ok.ensures.stays
     c.in-Ok.ensures.failed.1 c.in-Ok.ensures.takes c.in-Ok.ensures.keeps c.bring.new.self (λ payload kept read. c.bring.ensures.kept payload kept (rw c.deref.ensures.value read))
     brings.first in
@@ -155,7 +153,7 @@ returns-else-self-len g c =
         ended = λ told given.
             good-opened suite.seal_of suite.opened g.met.S.Suite.cipher self.key self.key_bytes
             (read.content self.inner) (read.rest self.inner) (read.rest mid.inner) (read.place self.inner) self.taken self.number self.at cache.last text plain
-            (g.met.R.Read.are_bytes self.inner (and-left _ _ told)) (stands told) (self.sound told).fits (before told).stood (taken.takes.took (and-left _ _ told))
+            (g.met.R.Read.are_bytes self.inner (and-left _ _ told)) (g.met.R.Read.stands self.inner (and-left _ _ told) (and-right _ _ told)) (self.sound told).fits ((self.sound told).before c.requires.good c.requires.closed).stood (taken.takes.took (and-left _ _ told))
             (is told).short (is told).ok (is told).longer (inside told) (sym same.at ∙ given);
         inner_end = λ told. (taken.takes.took (and-left _ _ told)).came.end;
         opened = λ none. rw (← same.opens) (brings.opened mid.count_fits (λ has. none (next-held self c.requires.good c.requires.closed (rw (← same.number, ← same.cache) has))));
@@ -167,8 +165,6 @@ returns-else-self-len g c =
           (omega (arith, same.opens, c.bring.ensures.opens.most)) (λ has. c.bring.ensures.found (rw (same.number, same.cache) has) ∙ same.opens)
           (omega (arith, same.opens, spare-opened true cache.last mid.opens c.bring.new.opens refl brings.middle c.bring.ensures.opens.most));
     }
-
--- ---- what it keeps
 
 pub invariant_of-self : goal.invariant_of-self
 invariant_of-self g c =
