@@ -183,7 +183,7 @@ module _ {S R : Type 0} {suite : SuiteGhosts S} {read : Ghosts R} (old mid new :
         same_content = content-kept old new keeps key;
         bytes = λ told. subst (λ s. Delivers (take n new_buf) s (plain_rest_of new)) (holds.rest told) bytes;
         moves = λ _. moves ∙ ap (λ p. p + n) stays.place;
-        end = λ told none some. holds.end told (omega (arith, count, long, none, some, mid.in_chunk holds.good.1));
+        end = λ told none some. holds.end told (omega (arith, count, long, none, some, (mid.chunk holds.good.1).in_chunk));
         stays = λ _. tt;
         left = λ _. tt;
         interrupted = λ _. tt;

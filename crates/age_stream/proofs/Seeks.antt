@@ -144,7 +144,7 @@ module _ {S R : Type 0} {suite : SuiteGhosts S} {read : Ghosts R} where
         let bytes = All-drop (λ x. x < 2 ^ 8) (read.place old.inner - old.taken) (read.content old.inner).bytes (are old.inner (and-left _ _ told)) in
         let new_bytes = All-drop (λ x. x < 2 ^ 8) (read.place new.inner - new.taken) (read.content new.inner).bytes (are new.inner (and-left _ _ after)) in
         let sound = now-sound suite.opened new.key (shorter suite.seal_of suite.opened cipher new.key new.key_bytes) new.failed new.held new.at new.cache.chunk.items new.cache.last new.sought
-        new.number new.taken (read.place new.inner) (read.content new.inner) (read.rest new.inner) new_bytes (ap (λ d. d.ends_well) content ∙ well) good new.in_chunk (new.sound after) shut in (
+        new.number new.taken (read.place new.inner) (read.content new.inner) (read.rest new.inner) new_bytes (ap (λ d. d.ends_well) content ∙ well) good (λ held. (new.chunk held).in_chunk) (new.sound after) shut in (
           ok-well suite.opened old.key (shorter suite.seal_of suite.opened cipher old.key old.key_bytes) (payload_of old) bytes well to (place_of old) n ok,
           sound ∙ ap (λ d. from_place (place_of new) d) content ∙ ap (λ m. from_place m (content_of old)) arrives,
         )
@@ -274,7 +274,7 @@ module _ {S R : Type 0} {suite : SuiteGhosts S} {read : Ghosts R} where
               (enters.good.0, inl (enters.good.1, enters.good.2, enters.good.3 ∙ ap final_chunk (found told ∙ sym (ap (λ p. length p.bytes) ((keeps-both {z = target}).payload told)))));
           uses_end = λ told end apart.
               let whole = (plain_len_says size len find.plain).whole in
-              let judged = true_from_ne_false new.cache.judged (λ none. apart (omega (arith, (new.unjudged enters.good.1 none).end, enters.arrives (later told), enters.good.3, whole, found told))) in
+              let judged = true_from_ne_false new.cache.judged (λ none. apart (omega (arith, ((new.chunk enters.good.1).unjudged none).end, enters.arrives (later told), enters.good.3, whole, found told))) in
               rw enters.good.0 (chunks.uses judged ∙ ap (λ n. Some (final_chunk n)) (found told));
           none = λ told failed b was. (at_end told, chunks.alone failed b was.1 ∙ ap final_chunk (found told));
           unheld = λ told failed other. absurd (other (at_end told));

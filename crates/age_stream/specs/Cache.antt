@@ -5,6 +5,7 @@ use Rattle.age_io.specs.Stretch.{Stretch}
 use Rattle.age_stream.specs.declared.cache.Cache.{Cache}
 use Rattle.age_stream.specs.declared.cache.Opened.{Opened}
 use Rattle.age_stream.specs.Reading.{text_at, IsHeld}
+use Rattle.age_stream.specs.Wholeness.{IsUnjudged}
 
 -- it is the chunk of this number
 abbrev pub has_number : ℕ → Option Opened → Bool
@@ -27,6 +28,15 @@ HasLast cache number = ((cache.judged ≡ true) × (cache.number ≡ number) × 
 -- the number of the chunk that was used last, where it is there
 abbrev pub last_used : Cache → Option ℕ
 last_used cache = cond cache.used (cond cache.judged (Some cache.number) None) (option_map (λ it. it.number) cache.other)
+
+-- The first of them is the chunk at the place, which has a byte there or ends there. One that is held without the verdict on it is a full one, as the last.
+pub record IsAtChunk (number at : ℕ) (cache : Cache) : Type 0 where
+  pub in_chunk : at ≤ length cache.chunk.items
+  pub small : length cache.chunk.items ≤ 65536
+  pub more : number < 2 ^ 44
+  pub full : cache.last ≡ false → length cache.chunk.items ≡ 65536
+  pub first : cache.number ≡ number
+  pub unjudged : cache.judged ≡ false → IsUnjudged at cache.last cache.chunk.items
 
 -- Both are chunks of the payload, by the verdict on them.
 pub record IsKept (opened : List ℕ → List ℕ → List ℕ → Option (List ℕ)) (key : List ℕ) (payload : Stretch) (cache : Cache) : Type 0 where

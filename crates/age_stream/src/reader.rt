@@ -12,7 +12,7 @@ ghost use Rattle.age_stream.specs.Answering.{Gives, Refuses, RefusesItself, IsEn
 ghost use Rattle.age_stream.specs.Chunks.{allowed, chunk_of, delivered};
 ghost use Rattle.age_stream.specs.Keeping.{IsChunkRefusal, KeepsPayload, OwnOrInner, Stops};
 ghost use Rattle.age_stream.specs.Reading.{payload_at, spare, IsSound, TookText};
-ghost use Rattle.age_stream.specs.Cache.{has_number, last_used, HasOne, IsKept};
+ghost use Rattle.age_stream.specs.Cache.{has_number, last_used, HasOne, IsAtChunk, IsKept};
 ghost use Rattle.age_stream.specs.Wholeness.{IsAllowedAt, IsOpening, IsUnjudged, OpensTwice};
 ghost use Rattle.age_suite.specs.Suite.{one_more};
 ghost use Rattle.age_stream.specs.ReadingLaws.{and-left, and-right, both-true, stream_stands, stream_spent};
@@ -59,12 +59,7 @@ pub struct StreamReader<S: Suite, R: Read> {
     ghost room: { length sealed.items ≡ 65552 },
     ghost offset: { at ≤ 65536 },
     ghost limit: { number ≤ 2 ^ 44 },
-    ghost in_chunk: { held ≡ true → at ≤ length cache.chunk.items },
-    ghost small: { held ≡ true → length cache.chunk.items ≤ 65536 },
-    ghost more: { held ≡ true → number < 2 ^ 44 },
-    ghost full: { held ≡ true → cache.last ≡ false → length cache.chunk.items ≡ 65536 },
-    ghost first: { held ≡ true → cache.number ≡ number },
-    ghost unjudged: { held ≡ true → cache.judged ≡ false → IsUnjudged at cache.last cache.chunk.items },
+    ghost chunk: { held ≡ true → IsAtChunk number at cache },
     ghost count_fits: { opens < 2 ^ 64 },
     ghost unspent: { failed ≡ false → held ≡ true → R.faults inner < most_faults },
     ghost kept: { IsTrue (R.tells inner && R.steady inner) → IsKept S.opened key (payload_at (R.place inner) taken (R.content inner)) cache },
@@ -100,7 +95,7 @@ impl<S: Suite, R: Read> Read for StreamReader<S, R> {
 
     ghost stands = { λ r told steady. stream_stands S.opened r.key (shorter S.seal_of S.opened S.cipher r.key r.key_bytes)
         r.failed r.held r.at r.cache.chunk.items r.cache.last r.sought r.number r.taken (R.place r.inner) (R.content r.inner) (R.rest r.inner)
-        (R.are_bytes r.inner (and-left _ _ told)) r.offset r.in_chunk (r.sound told)
+        (R.are_bytes r.inner (and-left _ _ told)) r.offset (λ held. (r.chunk held).in_chunk) (r.sound told)
         (R.stands r.inner (and-left _ _ told) (and-right _ _ told)) (and-right _ _ steady) };
 
     ghost are_bytes = { λ r told. delivered-bytes S.opened r.key (shorter S.seal_of S.opened S.cipher r.key r.key_bytes)

@@ -45,7 +45,7 @@ returns-in-Ok g c =
       chunks = record {
         alone = λ failed. absurd (true≢false (sym failed ∙ held.0));
         uses = λ judged.
-            let there : mid.cache.number ≡ final_chunk c.args.size = mid.first (done.stays.held ∙ held.1) ∙ done.stays.number ∙ held.3 in
+            let there : mid.cache.number ≡ final_chunk c.args.size = (mid.chunk (done.stays.held ∙ held.1)).first ∙ done.stays.number ∙ held.3 in
             ap (λ j. cond j (Some mid.cache.number) None) judged ∙ ap (λ n. Some n) there;
         keeps_last = λ _ b is. subst (λ k. HasOne k b) (sym done.stays.cache) (used-there c.args.self.now.cache b is);
         has = λ _ _ b is. subst (λ k. HasOne k b) (sym done.stays.cache) is;
@@ -64,22 +64,24 @@ invariant_of-self-in-Ok g c =
     let law = shorter g.S.Suite.seal_of g.S.Suite.opened g.met.S.Suite.cipher mid.key mid.key_bytes in
     let before = told-before read self.inner mid.inner done.keeps.inner.same in
     let payload = payload_at (read.place mid.inner) mid.taken (read.content mid.inner) in
-    let small = mid.small is_held in
-    let in_chunk = mid.in_chunk is_held in
+    let small = (mid.chunk is_held).small in
+    let in_chunk = (mid.chunk is_held).in_chunk in
     let there : c.len-self.result ≡ length mid.cache.chunk.items = omega (arith, c.len-self.ensures, mid.cache.chunk.ok.0) in
     record {
       key_bytes = mid.key_bytes;
       room = mid.room;
       offset = omega (arith, small, there);
       limit = mid.limit;
-      in_chunk = λ _. omega (arith, there);
-      small = mid.small;
-      more = mid.more;
-      full = mid.full;
-      first = mid.first;
-      unjudged = λ held none.
-          let was = mid.unjudged held none in
-          record { end = omega (arith, there, was.full); is_last = was.is_last; full = was.full };
+      chunk = λ held. record {
+        in_chunk = omega (arith, there);
+        small = (mid.chunk held).small;
+        more = (mid.chunk held).more;
+        full = (mid.chunk held).full;
+        first = (mid.chunk held).first;
+        unjudged = λ none.
+            let was = (mid.chunk held).unjudged none in
+            record { end = omega (arith, there, was.full); is_last = was.is_last; full = was.full };
+      };
       count_fits = mid.count_fits;
       unspent = λ _ _. done.stands.unspent;
       kept = λ told. let k = mid.kept told in record { first = k.first; other = k.other };
@@ -118,12 +120,14 @@ invariant_of-self-in-Ok-stand-3 g c =
       room = mid.room;
       offset = omega (arith, whole.small, there);
       limit = omega (arith, limit);
-      in_chunk = λ _. omega (arith, there);
-      small = λ _. whole.small;
-      more = λ _. limit;
-      full = λ _. whole.full;
-      first = λ _. number;
-      unjudged = λ _ none. absurd (true≢false (sym judged ∙ none));
+      chunk = λ held. record {
+        in_chunk = omega (arith, there);
+        small = whole.small;
+        more = limit;
+        full = whole.full;
+        first = number;
+        unjudged = λ none. absurd (true≢false (sym judged ∙ none));
+      };
       count_fits = mid.count_fits;
       unspent = λ _ _. done.stands.unspent;
       kept = λ told. let k = mid.kept told in record { first = k.first; other = k.other };

@@ -12,21 +12,23 @@ pub invariant_of-self-2 : goal.invariant_of-self-2
 invariant_of-self-2 g c =
     let self = c.args.self.now in
     let inner = g.R.Read in
-    let within : self.at + c.min-count.result ≤ length self.cache.chunk.items = omega (arith, self.in_chunk c.requires.held, self.cache.chunk.ok.0) in
-    let small = self.small c.requires.held in
+    let within : self.at + c.min-count.result ≤ length self.cache.chunk.items = omega (arith, (self.chunk c.requires.held).in_chunk, self.cache.chunk.ok.0) in
+    let small = (self.chunk c.requires.held).small in
     record {
       key_bytes = self.key_bytes;
       room = self.room;
       offset = omega (arith, within, small);
       limit = self.limit;
-      in_chunk = λ _. within;
-      small = self.small;
-      more = self.more;
-      full = self.full;
-      first = self.first;
-      unjudged = λ held none.
-          let was = self.unjudged held none in
-          record { end = omega (arith, within, was.end, was.full); is_last = was.is_last; full = was.full };
+      chunk = λ held. record {
+        in_chunk = within;
+        small = (self.chunk held).small;
+        more = (self.chunk held).more;
+        full = (self.chunk held).full;
+        first = (self.chunk held).first;
+        unjudged = λ none.
+            let was = (self.chunk held).unjudged none in
+            record { end = omega (arith, within, was.end, was.full); is_last = was.is_last; full = was.full };
+      };
       count_fits = self.count_fits;
       unspent = self.unspent;
       kept = λ told. record { first = (self.kept told).first; other = (self.kept told).other };
@@ -41,7 +43,7 @@ invariant_of-self-2 g c =
 pub returns-clause-bytes : goal.returns-clause-bytes
 returns-clause-bytes g c =
     let self = c.args.self.now in
-    let within : self.at + c.min-count.result ≤ length self.cache.chunk.items = omega (arith, self.in_chunk c.requires.held, self.cache.chunk.ok.0) in
+    let within : self.at + c.min-count.result ≤ length self.cache.chunk.items = omega (arith, (self.chunk c.requires.held).in_chunk, self.cache.chunk.ok.0) in
     gives g.S.Suite.opened self.key self.failed self.held self.cache.last self.at c.min-count.result self.cache.chunk.items self.number (g.R.Read.rest self.inner) _
     c.requires.good c.requires.held
     (copied self.cache.chunk.items c.copy_from_slice.new.self (drop c.min-count.result c.args.buf.now) self.at c.min-count.result within
@@ -52,12 +54,12 @@ returns-clause-gives g c = λ told some.
     let self = c.args.self.now in
     let read = g.R.Read in
     let content = read.content self.inner in
-    let within : self.at + c.min-count.result ≤ length self.cache.chunk.items = omega (arith, self.in_chunk c.requires.held, self.cache.chunk.ok.0) in
+    let within : self.at + c.min-count.result ≤ length self.cache.chunk.items = omega (arith, (self.chunk c.requires.held).in_chunk, self.cache.chunk.ok.0) in
     let front = copied self.cache.chunk.items c.copy_from_slice.new.self (drop c.min-count.result c.args.buf.now) self.at c.min-count.result within
     (rw c.deref.ensures.value at c.copy_from_slice.ensures.after) in
     let count : c.min-count.result ≡ min (length c.args.buf.now) (length self.cache.chunk.items - self.at) = omega (arith, c.min-count.ensures, self.cache.chunk.ok.0) in
     gives-held g.S.Suite.seal_of g.S.Suite.opened g.met.S.Suite.cipher self.key self.key_bytes
     (payload_at (read.place self.inner) self.taken content) self.number self.at (length c.args.buf.now) self.cache.last self.cache.chunk.items _
     (All-drop (λ x. x < 2 ^ 8) (read.place self.inner - self.taken) content.bytes (g.met.R.Read.are_bytes self.inner (and-left _ _ told)))
-    ((self.sound told).is_held c.requires.held) (self.small c.requires.held) (omega (arith, some, count))
+    ((self.sound told).is_held c.requires.held) ((self.chunk c.requires.held).small) (omega (arith, some, count))
     (front ∙ ap (λ n. take n (drop self.at self.cache.chunk.items)) count)

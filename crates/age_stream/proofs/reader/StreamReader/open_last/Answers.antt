@@ -72,17 +72,19 @@ invariant_of-self-in-Ok-Some g c =
       room = mid.room;
       offset = omega (arith, short, there);
       limit = omega (arith, c.requires.limit);
-      in_chunk = λ _. omega (arith, there, as_long);
-      small = λ _. omega (arith, short, as_long);
-      more = λ _. c.requires.limit;
-      full = λ _ middle. absurd (true≢false (sym first.2 ∙ middle));
-      first = λ _. first.0;
-      unjudged = λ _ none.
-          let whole : length plain.items ≡ 65536 = elim (cases_lt (length plain.items) 65536) [
-            | inl less ↦ absurd (true≢false (sym (lt-ltb c.len-len.result 65536 (omega (arith, there, less))) ∙ sym first.3 ∙ none))
-            | inr full ↦ omega (arith, full, short)
-          ] in
-          record { end = omega (arith, there, whole); is_last = first.2; full = omega (arith, as_long, whole) };
+      chunk = λ held. record {
+        in_chunk = omega (arith, there, as_long);
+        small = omega (arith, short, as_long);
+        more = c.requires.limit;
+        full = λ middle. absurd (true≢false (sym first.2 ∙ middle));
+        first = first.0;
+        unjudged = λ none.
+            let whole : length plain.items ≡ 65536 = elim (cases_lt (length plain.items) 65536) [
+              | inl less ↦ absurd (true≢false (sym (lt-ltb c.len-len.result 65536 (omega (arith, there, less))) ∙ sym first.3 ∙ none))
+              | inr full ↦ omega (arith, full, short)
+            ] in
+            record { end = omega (arith, there, whole); is_last = first.2; full = omega (arith, as_long, whole) };
+      };
       count_fits = omega (arith, mid.count_fits, c.open_as.ensures.opens);
       unspent = λ _ _. taken.takes.unspent;
       kept = λ told.

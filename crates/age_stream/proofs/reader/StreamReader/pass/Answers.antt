@@ -15,7 +15,7 @@ returns-then-self-len-clause-passes g c =
       sought = refl;
       cache = refl;
       opens = refl;
-      place = omega (arith, given, self.full c.if-self.true middle);
+      place = omega (arith, given, (self.chunk c.if-self.true).full middle);
       rest = rest-passed g.S.Suite.opened self.key self.failed self.held self.cache.last self.at self.cache.chunk.items self.number (g.R.Read.rest self.inner)
           c.requires.good c.if-self.true middle given;
       wanted = search;
@@ -29,7 +29,7 @@ invariant_of-self-clause-sound g c = λ told.
     let middle : self.cache.last ≡ false = middle-by self.cache.last self.at (length self.cache.chunk.items) (c.requires.more c.if-self.true) (omega (arith, given)) in
     sound-passed g.S.Suite.opened self.key self.failed self.held self.at self.cache.chunk.items self.cache.last self.sought self.number self.taken
     (inner.place self.inner) (inner.content self.inner) (inner.rest self.inner) (self.sound told)
-    c.requires.good c.if-self.true middle given (self.full c.if-self.true middle)
+    c.requires.good c.if-self.true middle given ((self.chunk c.if-self.true).full middle)
 
 pub returns-then-self-len-clause-spared : goal.returns-then-self-len-clause-spared
 returns-then-self-len-clause-spared g c =

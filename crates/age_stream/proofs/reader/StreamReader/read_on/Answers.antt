@@ -80,7 +80,7 @@ returns-in-Ok-clause-answers g c =
           (subst (λ p. Gives g.S.Suite.seal_of self.key p (place_of mid) long came) (done.keeps.payload told)
           (subst (λ k. Gives g.S.Suite.seal_of k (payload_of mid) (place_of mid) long came) done.stays.key
           (given.gives (told-later g.R.Read self.inner mid.inner done.keeps.inner.same told) some)));
-      ended = λ told none. done.holds.ended told (omega (arith, given.count, none, c.requires.some, mid.in_chunk done.holds.good.1));
+      ended = λ told none. done.holds.ended told (omega (arith, given.count, none, c.requires.some, (mid.chunk done.holds.good.1).in_chunk));
       inner_end = λ told. rw given.held.inner (done.holds.inner_end told);
       refused = λ _. tt;
       by_itself = λ _ _. tt;
@@ -116,14 +116,14 @@ returns-in-Ok-clause-chunks g c =
       at_end = λ is. absurd (apart is);
       opened = λ none some. subst (λ n. one_more self.opens ≤ n) (sym given.held.opens) (done.holds.opened none);
       uses = λ some.
-          let number : mid.number ≡ place_of self / 65536 = omega (arith, given.count, some, mid.small done.holds.good.1, done.stays.place) in
+          let number : mid.number ≡ place_of self / 65536 = omega (arith, given.count, some, (mid.chunk done.holds.good.1).small, done.stays.place) in
           given.uses some ∙ ap (λ n. Some n) number;
       keeps_last = λ b is. given.held.has b (done.holds.keeps_last b is);
       has = λ here b one. elim here [ inl is ↦ given.held.has b (done.holds.has is b one) | inr is ↦ absurd (apart is) ];
       same_last = λ is. absurd (apart is);
       finds = λ some apart has.
           let held : new.held ≡ true = given.held.held ∙ done.holds.good.1 in
-          (given.held.good, comes new.held new.number new.at new.cache held (new.in_chunk held) (new.small held) (new.full held) (new.first held) apart has);
+          (given.held.good, comes new.held new.number new.at new.cache held ((new.chunk held).in_chunk) ((new.chunk held).small) ((new.chunk held).full) ((new.chunk held).first) apart has);
     }
 
 pub give-requires-clause-good : goal.give-requires-clause-good

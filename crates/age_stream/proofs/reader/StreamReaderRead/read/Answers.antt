@@ -23,7 +23,7 @@ returns-clause-finished g c = λ told unsought.
     let rest = rest_of suite.opened self.key self.failed self.held self.at self.cache.chunk.items self.cache.last self.number (read.rest self.inner) in
     let stands = λ (well : (delivered suite.opened self.key 0 payload).ends_well ≡ true).
     stream_stands suite.opened self.key short self.failed self.held self.at self.cache.chunk.items self.cache.last self.sought self.number self.taken place content (read.rest self.inner)
-    bytes self.offset self.in_chunk (self.sound told) (g.met.R.Read.stands self.inner (and-left _ _ told) (and-right _ _ told)) well in
+    bytes self.offset (λ held. (self.chunk held).in_chunk) (self.sound told) (g.met.R.Read.stands self.inner (and-left _ _ told) (and-right _ _ told)) well in
     IfOk-weaker c.read_on.result _ _
     (λ n clean none some. end-found suite.seal_of suite.opened law self.key self.key_bytes payload (delivered suite.opened self.key 0 payload)
     rest _
