@@ -8,7 +8,7 @@ use Rattle.age_io.specs.Stretch.{Stretch}
 use Rattle.age_io.specs.Reading.{StandsIn}
 use Rattle.age_stream.specs.declared.cache.Cache.{Cache}
 use Rattle.age_stream.specs.declared.cache.Opened.{Opened}
-use Rattle.age_stream.specs.Cache.{has_number, last_used, HasOne, IsKept, IsText}
+use Rattle.age_stream.specs.Cache.{has_number, last_used, HasOne, IsAtChunk, IsKept, IsText}
 use Rattle.age_stream.specs.Chunks.{chunk_of}
 use Rattle.age_stream.specs.OpeningLaws.{Shorter}
 use Rattle.age_stream.specs.Payload.{nonce}
@@ -17,6 +17,22 @@ use Rattle.age_stream.specs.WellLaws.{accepted}
 use Rattle.age_stream.proofs.Holding.{payload-read, stood-taken, text-read}
 use Rattle.age_stream.proofs.Last.{text-held}
 use Rattle.age_stream.proofs.TextLengths.{some-within}
+
+-- the place went on in the chunk, which is used now
+pub moved-in : (number at new_at : ℕ) (old new : Cache) → new.number ≡ old.number → new.chunk ≡ old.chunk → new.last ≡ old.last → new.judged ≡ old.judged → at ≤ new_at →
+    new_at ≤ length old.chunk.items → IsAtChunk number at old → IsAtChunk number new_at new
+moved-in number at new_at old new same_number same_chunk same_last same_judged onward within is =
+    let long : length new.chunk.items ≡ length old.chunk.items = ap (λ v. length v.items) same_chunk in
+    record {
+      in_chunk = omega (arith, within, long);
+      small = omega (arith, is.small, long);
+      more = is.more;
+      full = λ middle. long ∙ is.full (sym same_last ∙ middle);
+      first = same_number ∙ is.first;
+      unjudged = λ none.
+          let was = is.unjudged (sym same_judged ∙ none) in
+          record { end = omega (arith, onward, within, was.end, was.full); is_last = same_last ∙ was.is_last; full = long ∙ was.full };
+    }
 
 -- a reader that tells which chunk it used last hasn't failed
 pub used-good : (failed : Bool) (used : Option ℕ) (b : ℕ) → cond failed None used ≡ Some b → (failed ≡ false) × (used ≡ Some b)

@@ -1,4 +1,4 @@
-use Rattle.age_stream.proofs.Cached.{used-there}
+use Rattle.age_stream.proofs.Cached.{moved-in, used-there}
 use Rattle.std.specs.Prelude.{cond, Some}
 use Rattle.age_stream.specs.Reader.{payload_of, HasEnd}
 use Rattle.age_stream.specs.Payload.{nonce, final_chunk}
@@ -72,16 +72,7 @@ invariant_of-self-in-Ok g c =
       room = mid.room;
       offset = omega (arith, small, there);
       limit = mid.limit;
-      chunk = λ held. record {
-        in_chunk = omega (arith, there);
-        small = (mid.chunk held).small;
-        more = (mid.chunk held).more;
-        full = (mid.chunk held).full;
-        first = (mid.chunk held).first;
-        unjudged = λ none.
-            let was = (mid.chunk held).unjudged none in
-            record { end = omega (arith, there, was.full); is_last = was.is_last; full = was.full };
-      };
+      chunk = λ held. moved-in mid.number mid.at c.len-self.result mid.cache _ refl refl refl refl (omega (arith, in_chunk, there)) (omega (arith, there)) (mid.chunk held);
       count_fits = mid.count_fits;
       unspent = λ _ _. done.stands.unspent;
       kept = λ told. let k = mid.kept told in record { first = k.first; other = k.other };

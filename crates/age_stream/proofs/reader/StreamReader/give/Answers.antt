@@ -1,9 +1,10 @@
-use Rattle.std.proofs.Common.{◌≡◌, ◌∙◌, ap, arith, ◌≤◌, ◌<◌, ◌+◌, ◌-◌, ◌^◌, length, take, drop}
+use Rattle.std.proofs.Common.{◌≡◌, ◌∙◌, ap, refl, arith, ◌≤◌, ◌<◌, ◌+◌, ◌-◌, ◌^◌, length, take, drop}
 use Rattle.std.proofs.lemmas.List.Elements.{All-drop}
 use Rattle.std.specs.Prelude.{min}
 use Rattle.age_stream.specs.Reading.{payload_at}
 use Rattle.age_stream.specs.OpeningLaws.{shorter}
 use Rattle.age_stream.specs.ReadingLaws.{and-left}
+use Rattle.age_stream.proofs.Cached.{moved-in}
 use Rattle.age_stream.proofs.Answered.{gives-held}
 use Rattle.age_stream.proofs.Holding.{sound-given, gives, copied}
 use Rattle.age_stream.proofs.reader.StreamReader.give.Goals as goal
@@ -19,16 +20,7 @@ invariant_of-self-2 g c =
       room = self.room;
       offset = omega (arith, within, small);
       limit = self.limit;
-      chunk = λ held. record {
-        in_chunk = within;
-        small = (self.chunk held).small;
-        more = (self.chunk held).more;
-        full = (self.chunk held).full;
-        first = (self.chunk held).first;
-        unjudged = λ none.
-            let was = (self.chunk held).unjudged none in
-            record { end = omega (arith, within, was.end, was.full); is_last = was.is_last; full = was.full };
-      };
+      chunk = λ held. moved-in self.number self.at _ self.cache _ refl refl refl refl (omega arith) within (self.chunk held);
       count_fits = self.count_fits;
       unspent = self.unspent;
       kept = λ told. record { first = (self.kept told).first; other = (self.kept told).other };
