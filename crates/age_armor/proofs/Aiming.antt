@@ -1,13 +1,13 @@
 -- Where a seek in a text leads, over plain variables.
-use Rattle.std.proofs.Common.{◌≡◌, ◌≢◌, ◌⊎◌, ◌∙◌, ℕ, ◌^◌, ◌<◌, ◌≤◌, ℤ, Bool, true, false, IsTrue, Result, Ok, Err, IfOk, IfErr, OnOk, Option, Some, None, length, arith, sym, ap, subst, refl, inl, inr, nat_le, if◌then◌else◌, le-leb, leb-true}
-use Rattle.std.proofs.lemmas.Bool.{cases_Bool, true≢false}
+use Rattle.std.proofs.Common.{◌≡◌, ◌≢◌, ◌⊎◌, ◌∙◌, ℕ, ◌^◌, ◌<◌, ◌≤◌, ℤ, Bool, true, false, IsTrue, Result, Ok, Err, IfOk, IfErr, Option, Some, None, length, arith, sym, ap, subst, refl, inl, inr, nat_le, if◌then◌else◌, le-leb, leb-true}
+use Rattle.std.proofs.lemmas.Bool.{cases_Bool, cases_lt, true≢false}
 use Rattle.std.proofs.lemmas.Result.{IfOk-weaker, IfErr-weaker}
 use Rattle.age_error.specs.Refusals.{IsDevice, IsInterruption}
 use Rattle.age_error.specs.declared.io.Error.{Error}
 use Rattle.age_error.specs.declared.io.Error.TheVariants.{OutOfMemory, BeforeStart, PastEnd, TooLong, Failed}
 use Rattle.age_error.specs.declared.io.SeekFrom.{SeekFrom}
 use Rattle.age_error.specs.declared.io.SeekFrom.TheVariants.{Start, End, Current}
-use Rattle.age_io.specs.Stretch.{Stretch, nothing, from_place}
+use Rattle.age_io.specs.Stretch.{nothing, from_place}
 use Rattle.age_io.specs.Reading.{IsQuiet, AddsNoReason}
 use Rattle.age_io.specs.declared.traits.Read.{Ghosts}
 use Rattle.age_io.specs.Keeping.{SameReader, KeepsReader, OrSeek}
@@ -15,7 +15,7 @@ use Rattle.age_io.specs.Cursor.{Seeks, IsOutside, MayLead, moved_to, place_at, s
 use Rattle.age_io.proofs.Keeping.{same-self, same-later, keeps-refused, seek-narrows}
 use Rattle.age_armor.specs.Delivered.{Ending, Clean, Refused, InnerFault, is_clean}
 use Rattle.age_armor.specs.Stages.{IsNamed}
-use Rattle.age_armor.specs.Seeking.{Goes, OrAstray, SeeksText, Misses, ComesBack}
+use Rattle.age_armor.specs.Seeking.{Goes, OrAstray, AsksPast, SeeksText, ComesBack}
 use Rattle.age_armor.proofs.Keeping.{goes-unrefused}
 use Rattle.age_armor.proofs.Taking.{quiet_after}
 
@@ -53,15 +53,11 @@ pub moved-refusal : (o : Option ℕ) (len : ℕ) (e : Error) → moved_to o len 
 moved-refusal None len e is = let same : BeforeStart ≡ e = cc is in subst IsOutside same tt
 moved-refusal (Some m) len e is = subst IsOutside (branch-refusal (nat_le m len) m e is) tt
 
-pub arrives : (r : Result ℕ Error) (place target : ℕ) → IfOk r (λ n. n ≡ target) → OnOk r (place ≡ target) → IfOk r (λ n. place ≡ n)
-arrives (Ok n) place target there at = at ∙ sym there
-arrives (Err e) place target there at = tt
-
-pub arrives-within : (P : Type 0) (r : Result ℕ Error) (o : Option ℕ) (len target : ℕ) (rest content other : Stretch) → moved_to o len ≡ Ok target → other ≡ content →
-    IfOk r (λ n. n ≡ target) → OnOk r (P × (rest ≡ from_place target other)) →
-    IfOk r (λ n. (moved_to o len ≡ Ok n) × (rest ≡ from_place n content))
-arrives-within P (Ok n) o len target rest content other moved same there at = (rw there moved, rw (there, ← same) at.1)
-arrives-within P (Err e) o len target rest content other moved same there at = tt
+pub past-moved : (n len : ℕ) (e : Error) → moved_to (Some n) len ≡ Err e → len < n
+past-moved n len e is = elim (cases_lt len n) [
+  | inl past ↦ past
+  | inr within ↦ absurd (cc (sym (moved-within n len within) ∙ is))
+]
 
 -- what was found from the end, where the distance is written in another way
 pub from-end : (d e : ℤ) (len : ℕ) (r answer : Result ℕ Error) → d ≡ e → ((place : ℕ) → r ≡ sought (End d) place len) → r ≡ answer →
@@ -184,11 +180,15 @@ module _ {R : Type 0} (read : Ghosts R) (failed : R → Bool) (below : Error →
       (failed old ≡ true → read.rest old ≡ nothing) →
       (IsTrue (read.tells old) → IsTrue ends_well → IsTrue (read.steady old)) →
       (failed old ≡ true → read.refuses old Failed) →
-      Misses read own old middle to ends_well ending error →
+      Goes {A = ℕ} read (OrSeek own read.refuses) old middle (Err error) → (IsOutside error → AddsNoReason read.refuses old middle) →
+      (IsTrue (read.tells old) → IsTrue (read.steady old) → IsOutside error →
+      IsTrue (read.content old).ends_well × (sought to (read.place old) (length (read.content old).bytes) ≡ Err error)) →
+      (IsTrue (read.tells old) → IsTrue ends_well → (IsOutside error → ⊥) → error ≢ OutOfMemory → IsQuiet (read.faults old) (read.faults middle) →
+      IsNamed ending error × AsksPast to (read.place old) (length (read.content old).bytes)) →
       ComesBack read failed own middle new (read.place old) (failed old) error answer →
       SeeksText read failed own old new to ends_well ending (Err answer)
-  missed old middle new to ends_well ending error answer well_known gone steady_known owns misses back =
-      let goes = misses.goes.keeps in
+  missed old middle new to ends_well ending error answer well_known gone steady_known owns went narrows refused named back =
+      let goes = went.keeps in
       let first = goes.same.faults in
       let last = back.same.faults in
       let keeps : KeepsReader {T = ℕ} read (OrSeek own read.refuses) old new (Err answer) = record {
@@ -202,7 +202,7 @@ module _ {R : Type 0} (read : Ghosts R) (failed : R → Bool) (below : Error →
           | inr not ↦ goes.patient (subst IsInterruption (back.other not) interruption)
         ];
         why = elim (refusal_or_not error) [
-          | inl is ↦ seek-narrows own read.refuses old middle (misses.narrows is) answer (back.why is)
+          | inl is ↦ seek-narrows own read.refuses old middle (narrows is) answer (back.why is)
           | inr not ↦ subst (OrSeek own read.refuses old) (sym (back.other not)) goes.why
         ];
         narrows = tt;
@@ -214,7 +214,7 @@ module _ {R : Type 0} (read : Ghosts R) (failed : R → Bool) (below : Error →
         seeks = seeks-refused old new to answer keeps
             (λ refusal e h. elim (back.narrows refusal e h) [
               | inl own ↦ subst (read.refuses old) (sym own.1) (owns own.0)
-              | inr earlier ↦ misses.narrows (back.unmoved refusal).0 e earlier
+              | inr earlier ↦ narrows (back.unmoved refusal).0 e earlier
             ])
             (λ told. back.stays (goes.same.tells ∙ told))
             (λ told is_steady stands refusal. elim (cases_Bool (failed old)) [
@@ -222,23 +222,23 @@ module _ {R : Type 0} (read : Ghosts R) (failed : R → Bool) (below : Error →
               | inr fine ↦ back.back (goes.same.tells ∙ told) (goes.same.steady ∙ is_steady) fine refusal ∙ ap (from_place (read.place old)) (goes.same.content told) ∙ sym stands
             ])
             (λ told well refusal. subst (λ e. sought to (read.place old) (length (read.content old).bytes) ≡ Err e) (sym (back.unmoved refusal).1)
-            (misses.refused told (well_known told well).0 (back.unmoved refusal).0).1)
+            (refused told (well_known told well).0 (back.unmoved refusal).0).1)
             (λ told well other quiet. elim (refusal_or_not error) [
               | inl is ↦ returns told well is other quiet
               | inr not ↦ absurd ((well_known told well).2 error
-                  (misses.named told (well_known told well).1 not (λ memory. other (back.other not ∙ memory)) (quiet-first _ _ _ first last quiet)).0)
+                  (named told (well_known told well).1 not (λ memory. other (back.other not ∙ memory)) (quiet-first _ _ _ first last quiet)).0)
             ]);
         patient = keeps.patient;
         good = tt;
         unmoved = λ refusal. (back.unmoved refusal).2;
         fails = back.fails;
         named = λ told well own other quiet. elim (refusal_or_not error) [
-          | inl is ↦ absurd (own (returns told (misses.refused told (steady_known told well) is).0 is other quiet))
+          | inl is ↦ absurd (own (returns told (refused told (steady_known told well) is).0 is other quiet))
           | inr not ↦
-              let named = misses.named told well not (λ memory. other (back.other not ∙ memory)) (quiet-first _ _ _ first last quiet) in
-              (subst (IsNamed ending) (sym (back.other not)) named.0, named.1)
+              let is_named = named told well not (λ memory. other (back.other not ∙ memory)) (quiet-first _ _ _ first last quiet) in
+              (subst (IsNamed ending) (sym (back.other not)) is_named.0, is_named.1)
         ];
-        early = λ told is_steady badly_ends refusal. absurd (true≢false (sym (misses.refused told is_steady (back.unmoved refusal).0).0 ∙ badly_ends));
+        early = λ told is_steady badly_ends refusal. absurd (true≢false (sym (refused told is_steady (back.unmoved refusal).0).0 ∙ badly_ends));
       }
 
   -- a reader that had failed, or an error that doesn't refuse a seek

@@ -1,11 +1,11 @@
 -- Steps that keep a reader, and what seeks make of them.
-use Rattle.std.proofs.Common.{◌≡◌, ◌≢◌, ◌⊎◌, ◌∙◌, ◌-◌, ◌≤◌, ℕ, false, IsTrue, Result, Ok, Err, length, arith, ap, subst, sym, refl, inl, inr}
+use Rattle.std.proofs.Common.{◌≡◌, ◌≢◌, ◌⊎◌, ◌∙◌, ◌-◌, ℕ, false, IsTrue, Result, Ok, Err, arith, ap, subst, sym, refl, inl, inr}
 use Rattle.std.proofs.lemmas.Bool.{true≢false}
 use Rattle.age_error.specs.Refusals.{IsDevice, IsInterruption}
 use Rattle.age_error.specs.declared.io.Error.{Error}
 use Rattle.age_error.specs.declared.io.Error.TheVariants.{Failed}
 use Rattle.age_io.specs.declared.traits.Read.{Ghosts}
-use Rattle.age_io.specs.Stretch.{from_place, IsCleanEnd}
+use Rattle.age_io.specs.Stretch.{from_place}
 use Rattle.age_io.specs.Keeping.{SameReader, OrSeek}
 use Rattle.age_io.specs.Reading.{AddsNoReason, TriedAgain}
 use Rattle.age_io.proofs.Keeping.{same-later, keeps-done, keeps-later, keeps-more, keeps-refused, seek-narrows}
@@ -18,7 +18,6 @@ use Rattle.age_armor.specs.Reader.{armored_reader, refuses_of}
 use Rattle.age_armor.specs.Refusing.{OrText}
 use Rattle.age_armor.specs.DeliveredLaws.{content_of}
 use Rattle.age_armor.specs.Seeking.{Goes, OrAstray}
-use Rattle.age_armor.proofs.Walking.{ends_at}
 use Rattle.age_armor.proofs.Refusing.{failed-or-kept, plain-narrows, text-patient, text-narrows}
 
 module _ {R : Type 0} (read : Ghosts R) where
@@ -71,29 +70,12 @@ module _ {R : Type 0} (read : Ghosts R) where
     unspent = tt;
   }
 
-  -- a walk along the content
-  pub record Walks (old new : R) : Type 0 where
-    pub same : SameReader read old new
-    pub stands : IsTrue (read.tells old) → IsTrue (read.steady old) → read.rest new ≡ from_place (read.place new) (read.content old)
-    pub within : IsTrue (read.tells old) → IsTrue (read.steady old) → read.place new ≤ length (read.content old).bytes
-
-  pub walks : (old front new : R) → SameReader read old front →
-      (IsTrue (read.tells old) → IsTrue (read.steady old) → read.rest front ≡ from_place (read.place front) (read.content old)) → SameReader read front new →
-      (IsTrue (read.tells front) → read.rest front ≡ from_place (read.place front) (read.content front) → read.rest new ≡ from_place (read.place new) (read.content front)) →
-      (IsTrue (read.tells new) → IsTrue (read.steady new) → read.place new ≤ length (read.content new).bytes) → Walks old new
-  walks old front new back begins on along inside =
-      let same = same-later read old front new back on in
-      record {
-        same = same;
-        stands = λ told steady.
-            along (back.tells ∙ told) (rw (back.content told) (begins told steady)) ∙ ap (from_place (read.place new)) (back.content told);
-        within = λ told steady. subst (λ s. read.place new ≤ length s.bytes) (same.content told) (inside (same.tells ∙ told) (same.steady ∙ steady));
-      }
-
-  -- its clean end is that of the content
-  pub walks-out : (old new : R) → Walks old new → IsTrue (read.tells old) → IsTrue (read.steady old) → IsCleanEnd (read.rest new) →
-      IsTrue (read.content old).ends_well × (read.place new ≡ length (read.content old).bytes)
-  walks-out old new w told steady clean = ends_at (read.content old) (read.rest new) (read.place new) (w.stands told steady) clean (w.within told steady)
+  -- an error that is passed on
+  pub goes-passed : {T U : Type 0} (may : R → Error → Type 0) (a b : R) (e : Error) → Goes {A = T} read may a b (Err e) → Goes {A = U} read may a b (Err e)
+  goes-passed may a b e goes = record {
+    keeps = record { same = goes.keeps.same; device = goes.keeps.device; patient = goes.keeps.patient; why = goes.keeps.why; narrows = tt };
+    unspent = tt;
+  }
 
 -- over the same source it is the same reader, and the same text
 module _ {R : Type 0} {buf : buffered.Ghosts R} {read : Ghosts R} where

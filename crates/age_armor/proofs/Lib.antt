@@ -28,3 +28,4 @@ pub mod Forms
 pub mod Flushing
 pub mod Marking
 pub mod Resuming
+pub mod Going

@@ -19,3 +19,4 @@ pub mod ReaderLaws
 pub mod Ending
 pub mod Seeking
 pub mod Reader
+pub mod Going

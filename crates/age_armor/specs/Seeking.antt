@@ -1,10 +1,10 @@
 -- What seeks in armor do.
-use Rattle.std.specs.Prelude.{◌≡◌, ◌≢◌, ℕ, ◌≤◌, ◌<◌, ◌⊎◌, Bool, true, false, IsTrue, length, drop, Some, None, Result, Err, IfErr, OnOk, ⊤}
+use Rattle.std.specs.Prelude.{◌≡◌, ◌≢◌, ℕ, ◌≤◌, ◌<◌, ◌⊎◌, Bool, true, false, IsTrue, length, drop, Some, None, Result, IfErr, OnOk, ⊤}
 use Rattle.age_io.specs.Stretch.{Stretch, nothing, from_place}
-use Rattle.age_io.specs.Reading.{IsQuiet, AddsNoReason, most_faults}
+use Rattle.age_io.specs.Reading.{IsQuiet, most_faults}
 use Rattle.age_io.specs.declared.traits.Read.{Ghosts}
 use Rattle.age_io.specs.Keeping.{SameReader, KeepsReader, OrSeek}
-use Rattle.age_io.specs.Cursor.{Seeks, IsOutside, OrTooLong, OrFailed, place_at, sought}
+use Rattle.age_io.specs.Cursor.{Seeks, IsOutside, OrTooLong, OrFailed, place_at}
 use Rattle.age_error.specs.Refusals.{IsDevice, IsInterruption}
 use Rattle.age_error.specs.declared.io.Error.{Error}
 use Rattle.age_error.specs.declared.io.Error.TheVariants.{OutOfMemory, BeforeStart, Failed}
@@ -70,16 +70,6 @@ pub record SeeksText {R : Type 0} (read : Ghosts R) (failed : R → Bool) (seek_
       IsNamed ending e × AsksPast to (read.place old) (length (read.content old).bytes))
   pub early : IsTrue (read.tells old) → IsTrue (read.steady old) → (read.content old).ends_well ≡ false →
       IfErr result (λ e. IsOutside e → (e ≡ BeforeStart) × IsEarly to (read.place old))
-
--- what a seek in a text says of its error, before the reader is brought back to where it stood
-pub record Misses {R : Type 0} (read : Ghosts R) (seek_refuses : Error → Type 0) (old new : R) (to : SeekFrom) (ends_well : Bool) (ending : Ending)
-    (error : Error) : Type 0 where
-  pub goes : Goes {A = ℕ} read (OrSeek seek_refuses read.refuses) old new (Err error)
-  pub narrows : IsOutside error → AddsNoReason read.refuses old new
-  pub refused : IsTrue (read.tells old) → IsTrue (read.steady old) → IsOutside error →
-      IsTrue (read.content old).ends_well × (sought to (read.place old) (length (read.content old).bytes) ≡ Err error)
-  pub named : IsTrue (read.tells old) → IsTrue ends_well → (IsOutside error → ⊥) → error ≢ OutOfMemory →
-      IsQuiet (read.faults old) (read.faults new) → IsNamed ending error × AsksPast to (read.place old) (length (read.content old).bytes)
 
 -- A reader is brought back to this place after an error that refuses a seek. After any other, or where it had failed, it has failed.
 pub record ComesBack {R : Type 0} (read : Ghosts R) (failed : R → Bool) (seek_refuses : Error → Type 0) (old new : R) (stood : ℕ) (had_failed : Bool)

@@ -6,6 +6,7 @@ ghost use Rattle.age_error.specs.declared.io.SeekFrom.TheVariants.{Start, End, C
 ghost use Rattle.age_io.specs.Stretch.{Stretch, nothing, from_place, IsCleanEnd};
 ghost use Rattle.age_io.specs.Reading.{IsQuiet, AddsNoReason, TriedAgain, most_faults};
 ghost use Rattle.age_io.specs.Keeping.{OrSeek};
+ghost use Rattle.age_io.specs.Failing.{FailsForGood};
 ghost use Rattle.age_io.specs.Cursor.{Seeks, IsOutside, IsSeekRefusal, place_at as place_by, sought as sought_by};
 ghost use Rattle.age_io.specs.CursorLaws.{or_too_long_no_device, or_failed_no_device};
 ghost use Rattle.age_armor.specs.Delivered.{begins_armor};
@@ -95,25 +96,19 @@ impl<R: BufRead + Seek> Counted<R> {
 }
 
 impl<R: BufRead + Seek> ArmoredReader<R> {
-    ghost use Rattle.age_armor.specs.Reader.{inner_of, text_of, outcome_of, text_outcome_of, furthest_of, notes_all, knows_end, armored_content, armored_rest};
+    ghost use Rattle.age_armor.specs.Reader.{inner_of, text_of, furthest_of, notes_all};
+    ghost use Rattle.age_armor.specs.Going.{KeepsText, Stands, FailsThere};
 
     // Goes to the last mark that isn't after a place, or to the front of the text.
     fn approach(&mut self, target: u64) -> Result<(), Error>
         ensures goes { let reader = ⟦<ArmoredReader<R> as Read>⟧ in Goes reader (OrSeek (OrAstray R.Seek.seek_refuses) reader.refuses) self.old self.new result }
+        ensures text { KeepsText self.old self.new }
+        ensures stands { Stands self.old self.new result }
         ensures before { OnOk result (self.new.place ≤ target) }
-        ensures same_text { IsTrue (R.Read.tells (inner_of self.old)) → text_of self.new ≡ text_of self.old }
-        ensures stays { OnErr result (self.new.place ≡ self.old.place) }
-        ensures good { OnOk result (self.new.failed ≡ false) }
-        ensures fails { OnErr result (self.new.failed ≡ true) }
-        ensures ending { IsTrue (R.Read.tells (inner_of self.old)) → IsTrue (R.Read.steady (inner_of self.old)) → OnOk result
-            ((outcome_of self.new).ending ≡ (text_outcome_of self.old).ending) }
-        ensures rest { IsTrue (R.Read.tells (inner_of self.old)) → IsTrue (R.Read.steady (inner_of self.old)) → OnOk result
-            (armored_rest self.new ≡ from_place self.new.place (armored_content self.old)) }
-        ensures other { IfErr result (λ e. IsOutside e → ⊥) }
-        ensures lines { self.new.source.lines ≡ self.old.source.lines }
-        ensures marks { self.new.marks ≡ self.old.marks }
         ensures near { IsTrue (R.Read.tells (inner_of self.old)) → IsTrue (R.Read.steady (inner_of self.old)) → IsTrue (notes_all self.old) →
             IsTrue (begins_armor (text_of self.old).bytes) → target ≤ furthest_of self.old → OnOk result (target ≤ self.new.place + 49152) }
+        ensures unread { (self.new.source.lines ≡ self.old.source.lines) × (self.new.marks ≡ self.old.marks) }
+        ensures fails { FailsThere self.old self.new result }
         ensures cause { IsTrue (R.Read.tells (inner_of self.old)) → IsTrue (R.Read.content (inner_of self.old)).ends_well →
             IfErr result (λ e. e ≢ OutOfMemory → IsQuiet (R.Read.faults (inner_of self.old)) (R.Read.faults (inner_of self.new)) → ⊥) }
     {
@@ -136,7 +131,8 @@ impl<R: BufRead + Seek> ArmoredReader<R> {
 }
 
 impl<R: BufRead> ArmoredReader<R> {
-    ghost use Rattle.age_armor.specs.Reader.{inner_of, text_of, outcome_of, text_outcome_of, furthest_of, notes_all, knows_end, armored_content, armored_rest};
+    ghost use Rattle.age_armor.specs.Reader.{inner_of, has_failed};
+    ghost use Rattle.age_armor.specs.Going.{KeepsText, EndsAsBefore, ComesTo, WalksAlong, CountsLines};
 
     // Reads on to a place, or to a clean end before it, and tells whether it came to the place.
     fn walk(&mut self, target: u64) -> Result<bool, Error>
@@ -144,31 +140,12 @@ impl<R: BufRead> ArmoredReader<R> {
         requires before { self.old.place ≤ target }
         requires unspent { R.Read.faults (inner_of self.old) < most_faults }
         ensures goes { let reader = ⟦<ArmoredReader<R> as Read>⟧ in Goes reader reader.refuses self.old self.new result }
-        ensures good { OnOk result (self.new.failed ≡ false) }
-        ensures fails { OnErr result (self.new.failed ≡ true) }
-        ensures there { IsTrue (R.Read.tells (inner_of self.old)) → IfOk result (λ there. IsTrue there → self.new.place ≡ target) }
-        ensures rest { IsTrue (R.Read.tells (inner_of self.old)) → armored_rest self.old ≡ from_place self.old.place (armored_content self.old) →
-            OnOk result (armored_rest self.new ≡ from_place self.new.place (armored_content self.old)) }
-        ensures end { IsTrue (R.Read.tells (inner_of self.old)) → IfOk result (λ there. there ≡ false →
-            IsCleanEnd (armored_rest self.new) × (self.new.place < target)) }
-        ensures short { IsTrue (R.Read.tells (inner_of self.old)) → IsTrue (R.Read.steady (inner_of self.old)) →
-            armored_rest self.old ≡ from_place self.old.place (armored_content self.old) →
-            IfErr result (λ e. e ≢ OutOfMemory → IsQuiet (R.Read.faults (inner_of self.old)) (R.Read.faults (inner_of self.new)) →
-            ((armored_content self.old).ends_well ≡ false) × (length (armored_content self.old).bytes < target)) }
-        ensures named { IsTrue (R.Read.tells (inner_of self.old)) → IfErr result (λ e. e ≢ OutOfMemory →
-            IsQuiet (R.Read.faults (inner_of self.old)) (R.Read.faults (inner_of self.new)) → IsNamed (outcome_of self.old).ending e) }
-        ensures ending { IsTrue (R.Read.tells (inner_of self.old)) → OnOk result ((outcome_of self.new).ending ≡ (outcome_of self.old).ending) }
-        ensures same_text { IsTrue (R.Read.tells (inner_of self.old)) → text_of self.new ≡ text_of self.old }
-
-        // Each line but the last that it takes stands for 48 bytes on the way, and of a binary text it takes none.
-        ensures lines { IsTrue (R.Read.tells (inner_of self.old)) → IsTrue (R.Read.steady (inner_of self.old)) →
-            armored_rest self.old ≡ from_place self.old.place (armored_content self.old) → target ≤ length (armored_content self.old).bytes →
-            IfOk result (λ there. IsTrue there → 48 * self.new.source.lines + self.old.place < 48 * self.old.source.lines + target + 48) }
-        ensures bare { IsTrue (R.Read.tells (inner_of self.old)) → IsTrue (R.Read.steady (inner_of self.old)) → begins_armor (text_of self.old).bytes ≡ false →
-            OnOk result (self.new.source.lines ≡ self.old.source.lines) }
-        ensures learns { LearnsMore self.old.marks self.new.marks }
-        ensures counts { self.old.source.lines ≤ self.new.source.lines }
-        ensures knows { IfOk result (λ there. there ≡ false → IsTrue (knows_end self.new)) }
+        ensures text { KeepsText self.old self.new }
+        ensures good { FailsForGood (has_failed self.old) (has_failed self.new) result }
+        ensures ending { EndsAsBefore self.old self.new result }
+        ensures comes { ComesTo self.old self.new target result }
+        ensures along { WalksAlong self.old self.new target result }
+        ensures takes { CountsLines self.old self.new target result }
     {
         let mut room = [0; 1024];
         let mut left = target - self.place;
@@ -185,7 +162,8 @@ impl<R: BufRead> ArmoredReader<R> {
 }
 
 impl<R: BufRead + Seek> ArmoredReader<R> {
-    ghost use Rattle.age_armor.specs.Reader.{inner_of, text_of, outcome_of, text_outcome_of, furthest_of, notes_all, knows_end, armored_content, armored_rest};
+    ghost use Rattle.age_armor.specs.Reader.{inner_of, furthest_of, armored_content};
+    ghost use Rattle.age_armor.specs.Going.{KeepsText, Stands, Reaches, Misses, FindsEnd, SparesReading, StaysThere};
 
     // Whether a reader that has begun, and hasn't failed, stands at a place.
     fn is_at(&self, place: u64) -> bool
@@ -201,30 +179,12 @@ impl<R: BufRead + Seek> ArmoredReader<R> {
     // Goes to a place. Nothing is read where it stands there, or where the text is known to end before it.
     fn go_to(&mut self, target: u64) -> Result<u64, Error>
         ensures goes { let reader = ⟦<ArmoredReader<R> as Read>⟧ in Goes reader (OrSeek (OrAstray R.Seek.seek_refuses) reader.refuses) self.old self.new result }
-        ensures missed { IfErr result (λ e. IsOutside e → AddsNoReason ⟦<ArmoredReader<R> as Read>⟧.refuses self.old self.new) }
-        ensures there { IfOk result (λ n. n ≡ target) }
-        ensures place { IsTrue (R.Read.tells (inner_of self.old)) → OnOk result (self.new.place ≡ target) }
-        ensures good { OnOk result (self.new.failed ≡ false) }
-        ensures within { IsTrue (R.Read.tells (inner_of self.old)) → IsTrue (R.Read.steady (inner_of self.old)) → OnOk result
-            ((target ≤ length (armored_content self.old).bytes) × (armored_rest self.new ≡ from_place target (armored_content self.old))) }
-        ensures past { IsTrue (R.Read.tells (inner_of self.old)) → IsTrue (R.Read.steady (inner_of self.old)) → IfErr result (λ e. IsOutside e →
-            IsTrue (armored_content self.old).ends_well × (length (armored_content self.old).bytes < target) × (e ≡ PastEnd)) }
-        ensures named { IsTrue (R.Read.tells (inner_of self.old)) → IsTrue (R.Read.content (inner_of self.old)).ends_well →
-            IfErr result (λ e. (IsOutside e → ⊥) → e ≢ OutOfMemory → IsQuiet (R.Read.faults (inner_of self.old)) (R.Read.faults (inner_of self.new)) →
-            IsNamed (text_outcome_of self.old).ending e × (length (armored_content self.old).bytes < target)) }
-        ensures same_text { IsTrue (R.Read.tells (inner_of self.old)) → text_of self.new ≡ text_of self.old }
-        ensures ending { IsTrue (R.Read.tells (inner_of self.old)) → IsTrue (R.Read.steady (inner_of self.old)) → OnOk result
-            ((outcome_of self.new).ending ≡ (text_outcome_of self.old).ending) }
-        ensures lines { IsTrue (R.Read.tells (inner_of self.old)) → IsTrue (R.Read.steady (inner_of self.old)) → IsTrue (notes_all self.old) →
-            target ≤ furthest_of self.old → OnOk result (self.new.source.lines ≤ self.old.source.lines + 1024) }
-        ensures learns { LearnsMore self.old.marks self.new.marks }
-        ensures counts { self.old.source.lines ≤ self.new.source.lines }
-        ensures outside { IsTrue (R.Read.tells (inner_of self.old)) → IsTrue (R.Read.steady (inner_of self.old)) → IsTrue (knows_end self.old) →
-            IfErr result (λ e. IsOutside e → self.new ≡ self.old) }
-        ensures still { self.old.failed ≡ false → is_start self.old.stage ≡ false → self.old.place ≡ target →
-            (result ≡ Ok target) × (self.new ≡ self.old) }
-        ensures unmoved { IsTrue (R.Read.tells (inner_of self.old)) → IsTrue (R.Read.steady (inner_of self.old)) → self.old.failed ≡ false → self.old.place ≡ target →
-            OnOk result (self.new.source.lines ≤ self.old.source.lines) }
+        ensures text { KeepsText self.old self.new }
+        ensures stands { Stands self.old self.new result }
+        ensures reaches { Reaches self.old self.new (Start target) result }
+        ensures misses { Misses self.old self.new (Start target) result }
+        ensures spares { SparesReading self.old self.new (Start target) result }
+        ensures stays { StaysThere self.old self.new target result }
     {
         if self.is_at(target) {
             return Ok(target);
@@ -251,24 +211,11 @@ impl<R: BufRead + Seek> ArmoredReader<R> {
     // Goes to a place counted from the end, where the text wasn't read to its end yet. At the end itself it stands then already.
     fn look_from_end(&mut self, distance: i64) -> Result<u64, Error>
         ensures goes { let reader = ⟦<ArmoredReader<R> as Read>⟧ in Goes reader (OrSeek (OrAstray R.Seek.seek_refuses) reader.refuses) self.old self.new result }
-        ensures missed { IfErr result (λ e. IsOutside e → AddsNoReason ⟦<ArmoredReader<R> as Read>⟧.refuses self.old self.new) }
-        ensures well { IsTrue (R.Read.tells (inner_of self.old)) → IsTrue (R.Read.steady (inner_of self.old)) →
-            OnOk result (IsTrue (armored_content self.old).ends_well) }
-        ensures place { IsTrue (R.Read.tells (inner_of self.old)) → IfOk result (λ n. self.new.place ≡ n) }
-        ensures good { OnOk result (self.new.failed ≡ false) }
-        ensures exact { IsTrue (R.Read.tells (inner_of self.old)) → IsTrue (R.Read.steady (inner_of self.old)) → (place : ℕ) → IfOk result (λ n.
-            (sought_by (End distance) place (length (armored_content self.old).bytes) ≡ Ok n) × (armored_rest self.new ≡ from_place n (armored_content self.old))) }
-        ensures refused { IsTrue (R.Read.tells (inner_of self.old)) → IsTrue (R.Read.steady (inner_of self.old)) → (place : ℕ) → IfErr result (λ e. IsOutside e →
-            IsTrue (armored_content self.old).ends_well × (sought_by (End distance) place (length (armored_content self.old).bytes) ≡ Err e)) }
-        ensures named { IsTrue (R.Read.tells (inner_of self.old)) → IsTrue (R.Read.content (inner_of self.old)).ends_well →
-            IfErr result (λ e. (IsOutside e → ⊥) → e ≢ OutOfMemory → IsQuiet (R.Read.faults (inner_of self.old)) (R.Read.faults (inner_of self.new)) →
-            IsNamed (text_outcome_of self.old).ending e) }
-        ensures same_text { IsTrue (R.Read.tells (inner_of self.old)) → text_of self.new ≡ text_of self.old }
-        ensures learns { LearnsMore self.old.marks self.new.marks }
-        ensures counts { self.old.source.lines ≤ self.new.source.lines }
-        ensures knows { OnOk result (IsTrue (knows_end self.new)) }
-        ensures ending { IsTrue (R.Read.tells (inner_of self.old)) → IsTrue (R.Read.steady (inner_of self.old)) → OnOk result
-            ((outcome_of self.new).ending ≡ (text_outcome_of self.old).ending) }
+        ensures text { KeepsText self.old self.new }
+        ensures stands { Stands self.old self.new result }
+        ensures reaches { Reaches self.old self.new (End distance) result }
+        ensures misses { Misses self.old self.new (End distance) result }
+        ensures finds { FindsEnd self.old self.new result }
     {
         match self.approach(u64::MAX) {
             Err(e) => return Err(e),
@@ -312,28 +259,12 @@ impl<R: BufRead + Seek> ArmoredReader<R> {
     // Goes to a place counted from the end.
     fn go_from_end(&mut self, distance: i64) -> Result<u64, Error>
         ensures goes { let reader = ⟦<ArmoredReader<R> as Read>⟧ in Goes reader (OrSeek (OrAstray R.Seek.seek_refuses) reader.refuses) self.old self.new result }
-        ensures missed { IfErr result (λ e. IsOutside e → AddsNoReason ⟦<ArmoredReader<R> as Read>⟧.refuses self.old self.new) }
-        ensures well { IsTrue (R.Read.tells (inner_of self.old)) → IsTrue (R.Read.steady (inner_of self.old)) →
-            OnOk result (IsTrue (armored_content self.old).ends_well) }
-        ensures place { IsTrue (R.Read.tells (inner_of self.old)) → IfOk result (λ n. self.new.place ≡ n) }
-        ensures good { OnOk result (self.new.failed ≡ false) }
-        ensures exact { IsTrue (R.Read.tells (inner_of self.old)) → IsTrue (R.Read.steady (inner_of self.old)) → (place : ℕ) → IfOk result (λ n.
-            (sought_by (End distance) place (length (armored_content self.old).bytes) ≡ Ok n) × (armored_rest self.new ≡ from_place n (armored_content self.old))) }
-        ensures refused { IsTrue (R.Read.tells (inner_of self.old)) → IsTrue (R.Read.steady (inner_of self.old)) → (place : ℕ) → IfErr result (λ e. IsOutside e →
-            IsTrue (armored_content self.old).ends_well × (sought_by (End distance) place (length (armored_content self.old).bytes) ≡ Err e)) }
-        ensures named { IsTrue (R.Read.tells (inner_of self.old)) → IsTrue (R.Read.content (inner_of self.old)).ends_well →
-            IfErr result (λ e. (IsOutside e → ⊥) → e ≢ OutOfMemory → IsQuiet (R.Read.faults (inner_of self.old)) (R.Read.faults (inner_of self.new)) →
-            IsNamed (text_outcome_of self.old).ending e) }
-        ensures same_text { IsTrue (R.Read.tells (inner_of self.old)) → text_of self.new ≡ text_of self.old }
-        ensures ending { IsTrue (R.Read.tells (inner_of self.old)) → IsTrue (R.Read.steady (inner_of self.old)) → OnOk result
-            ((outcome_of self.new).ending ≡ (text_outcome_of self.old).ending) }
-        ensures lines { IsTrue (R.Read.tells (inner_of self.old)) → IsTrue (R.Read.steady (inner_of self.old)) → IsTrue (notes_all self.old) →
-            IsTrue (knows_end self.old) → OnOk result (self.new.source.lines ≤ self.old.source.lines + 1024) }
-        ensures learns { LearnsMore self.old.marks self.new.marks }
-        ensures counts { self.old.source.lines ≤ self.new.source.lines }
-        ensures knows { OnOk result (IsTrue (knows_end self.new)) }
-        ensures outside { IsTrue (R.Read.tells (inner_of self.old)) → IsTrue (R.Read.steady (inner_of self.old)) → IsTrue (knows_end self.old) →
-            IfErr result (λ e. IsOutside e → self.new ≡ self.old) }
+        ensures text { KeepsText self.old self.new }
+        ensures stands { Stands self.old self.new result }
+        ensures reaches { Reaches self.old self.new (End distance) result }
+        ensures misses { Misses self.old self.new (End distance) result }
+        ensures finds { FindsEnd self.old self.new result }
+        ensures spares { SparesReading self.old self.new (End distance) result }
     {
         match self.marks.length() {
             None => self.look_from_end(distance),
@@ -366,6 +297,7 @@ impl<R: BufRead> ArmoredReader<R> {
 
 impl<R: BufRead + Seek> ArmoredReader<R> {
     ghost use Rattle.age_armor.specs.Reader.{inner_of, has_failed, text_of, outcome_of, text_outcome_of, lines_of, marks_of, furthest_of, notes_all, knows_end, armored_content, place_of, armored_rest, shown_of};
+    ghost use Rattle.age_armor.specs.Going.{KeepsText, EndsAsText, FindsEnd, TakesFew};
 
     // Back to where it stood, once a seek was refused. After any other error it has failed there, and so has one that had
     // failed before.
@@ -373,13 +305,10 @@ impl<R: BufRead + Seek> ArmoredReader<R> {
         requires fits { IsTrue (R.Read.tells (inner_of self.old)) → place < 2 ^ 63 }
         requires inside { IsTrue (R.Read.tells (inner_of self.old)) → IsTrue (R.Read.steady (inner_of self.old)) → place ≤ length (armored_content self.old).bytes }
         ensures back { ComesBack ⟦<ArmoredReader<R> as Read>⟧ (λ r. has_failed r) (OrAstray R.Seek.seek_refuses) self.old self.new place failed error result }
-        ensures same_text { IsTrue (R.Read.tells (inner_of self.old)) → text_of self.new ≡ text_of self.old }
-        ensures learns { LearnsMore self.old.marks self.new.marks }
-        ensures counts { self.old.source.lines ≤ self.new.source.lines }
+        ensures text { KeepsText self.old self.new }
         ensures lines { IsTrue (R.Read.tells (inner_of self.old)) → IsTrue (R.Read.steady (inner_of self.old)) → self.old.failed ≡ failed → self.old.place ≡ place →
             IsOutside result → self.new.source.lines ≤ self.old.source.lines }
-        ensures ending { IsTrue (R.Read.tells (inner_of self.old)) → IsTrue (R.Read.steady (inner_of self.old)) → has_failed self.new ≡ false →
-            (outcome_of self.new).ending ≡ (text_outcome_of self.old).ending }
+        ensures ending { EndsAsText self.old self.new }
     {
         if failed {
             self.fail_at(place);
@@ -400,19 +329,13 @@ impl<R: BufRead + Seek> ArmoredReader<R> {
 
     // A seek to a place.
     fn seek_to(&mut self, target: u64) -> Result<u64, Error>
-        ensures text { SeeksText ⟦<ArmoredReader<R> as Read>⟧ (λ r. has_failed r) (OrAstray R.Seek.seek_refuses) self.old self.new (Start target)
+        ensures seeks { SeeksText ⟦<ArmoredReader<R> as Read>⟧ (λ r. has_failed r) (OrAstray R.Seek.seek_refuses) self.old self.new (Start target)
             (R.Read.content (inner_of self.old)).ends_well (text_outcome_of self.old).ending result }
-        ensures same_text { IsTrue (R.Read.tells (inner_of self.old)) → text_of self.new ≡ text_of self.old }
-        ensures lines { IsTrue (R.Read.tells (inner_of self.old)) → IsTrue (R.Read.steady (inner_of self.old)) → IsTrue (notes_all self.old) →
-            target ≤ furthest_of self.old → OnOk result (self.new.source.lines ≤ self.old.source.lines + 1024) }
-        ensures learns { LearnsMore self.old.marks self.new.marks }
-        ensures counts { self.old.source.lines ≤ self.new.source.lines }
-        ensures outside { IsTrue (R.Read.tells (inner_of self.old)) → IsTrue (R.Read.steady (inner_of self.old)) → IsTrue (knows_end self.old) →
-            IfErr result (λ e. IsOutside e → self.new.source.lines ≤ self.old.source.lines) }
+        ensures text { KeepsText self.old self.new }
+        ensures takes { TakesFew self.old self.new (Start target) result }
         ensures still { self.old.failed ≡ false → is_start self.old.stage ≡ false → self.old.place ≡ target →
             (result ≡ Ok target) × (self.new ≡ self.old) }
-        ensures ending { IsTrue (R.Read.tells (inner_of self.old)) → IsTrue (R.Read.steady (inner_of self.old)) → has_failed self.new ≡ false →
-            (outcome_of self.new).ending ≡ (text_outcome_of self.old).ending }
+        ensures ending { EndsAsText self.old self.new }
     {
         let place = self.place;
         let failed = self.failed;
@@ -424,20 +347,12 @@ impl<R: BufRead + Seek> ArmoredReader<R> {
 
     // A seek from the end.
     fn seek_from_end(&mut self, distance: i64) -> Result<u64, Error>
-        ensures text { SeeksText ⟦<ArmoredReader<R> as Read>⟧ (λ r. has_failed r) (OrAstray R.Seek.seek_refuses) self.old self.new (End distance)
+        ensures seeks { SeeksText ⟦<ArmoredReader<R> as Read>⟧ (λ r. has_failed r) (OrAstray R.Seek.seek_refuses) self.old self.new (End distance)
             (R.Read.content (inner_of self.old)).ends_well (text_outcome_of self.old).ending result }
-        ensures well { IsTrue (R.Read.tells (inner_of self.old)) → IsTrue (R.Read.steady (inner_of self.old)) →
-            OnOk result (IsTrue (armored_content self.old).ends_well) }
-        ensures same_text { IsTrue (R.Read.tells (inner_of self.old)) → text_of self.new ≡ text_of self.old }
-        ensures lines { IsTrue (R.Read.tells (inner_of self.old)) → IsTrue (R.Read.steady (inner_of self.old)) → IsTrue (notes_all self.old) →
-            IsTrue (knows_end self.old) → OnOk result (self.new.source.lines ≤ self.old.source.lines + 1024) }
-        ensures learns { LearnsMore self.old.marks self.new.marks }
-        ensures counts { self.old.source.lines ≤ self.new.source.lines }
-        ensures knows { OnOk result (IsTrue (knows_end self.new)) }
-        ensures outside { IsTrue (R.Read.tells (inner_of self.old)) → IsTrue (R.Read.steady (inner_of self.old)) → IsTrue (knows_end self.old) →
-            IfErr result (λ e. IsOutside e → self.new.source.lines ≤ self.old.source.lines) }
-        ensures ending { IsTrue (R.Read.tells (inner_of self.old)) → IsTrue (R.Read.steady (inner_of self.old)) → has_failed self.new ≡ false →
-            (outcome_of self.new).ending ≡ (text_outcome_of self.old).ending }
+        ensures text { KeepsText self.old self.new }
+        ensures finds { FindsEnd self.old self.new result }
+        ensures takes { TakesFew self.old self.new (End distance) result }
+        ensures ending { EndsAsText self.old self.new }
     {
         let place = self.place;
         let failed = self.failed;
@@ -449,20 +364,13 @@ impl<R: BufRead + Seek> ArmoredReader<R> {
 
     // A seek from the present place.
     fn seek_by(&mut self, distance: i64) -> Result<u64, Error>
-        ensures text { SeeksText ⟦<ArmoredReader<R> as Read>⟧ (λ r. has_failed r) (OrAstray R.Seek.seek_refuses) self.old self.new (Current distance)
+        ensures seeks { SeeksText ⟦<ArmoredReader<R> as Read>⟧ (λ r. has_failed r) (OrAstray R.Seek.seek_refuses) self.old self.new (Current distance)
             (R.Read.content (inner_of self.old)).ends_well (text_outcome_of self.old).ending result }
-        ensures same_text { IsTrue (R.Read.tells (inner_of self.old)) → text_of self.new ≡ text_of self.old }
-        ensures lines { IsTrue (R.Read.tells (inner_of self.old)) → IsTrue (R.Read.steady (inner_of self.old)) → IsTrue (notes_all self.old) →
-            ((n : ℕ) → place_by self.old.place distance ≡ Some n → n ≤ furthest_of self.old) → OnOk result (self.new.source.lines ≤ self.old.source.lines + 1024) }
-        ensures learns { LearnsMore self.old.marks self.new.marks }
-        ensures counts { self.old.source.lines ≤ self.new.source.lines }
-        ensures outside { IsTrue (R.Read.tells (inner_of self.old)) → IsTrue (R.Read.steady (inner_of self.old)) → IsTrue (knows_end self.old) →
-            IfErr result (λ e. IsOutside e → self.new.source.lines ≤ self.old.source.lines) }
+        ensures text { KeepsText self.old self.new }
+        ensures takes { TakesFew self.old self.new (Current distance) result }
         ensures still { IsTrue (R.Read.tells (inner_of self.old)) → self.old.failed ≡ false → is_start self.old.stage ≡ false →
             place_by self.old.place distance ≡ Some self.old.place → (result ≡ Ok self.old.place) × (self.new ≡ self.old) }
-        ensures ending { IsTrue (R.Read.tells (inner_of self.old)) → IsTrue (R.Read.steady (inner_of self.old)) →
-            (IsEarly (Current distance) (place_of self.old) → ⊥) → has_failed self.new ≡ false →
-            (outcome_of self.new).ending ≡ (text_outcome_of self.old).ending }
+        ensures ending { (IsEarly (Current distance) (place_of self.old) → ⊥) → EndsAsText self.old self.new }
         ensures at_once { IsTrue (R.Read.tells (inner_of self.old)) → IsEarly (Current distance) (place_of self.old) →
             (result ≡ Err BeforeStart) × (self.new ≡ self.old) }
     {

@@ -5,12 +5,13 @@ use Rattle.age_armor.specs.Ahead.{outcome_ahead, rest_ahead}
 use Rattle.age_armor.specs.DeliveredLaws.{content_of}
 use Rattle.age_armor.specs.Seeking.{OrAstray, text_outcome}
 use Rattle.age_armor.specs.Delivered.{delivered}
-use Rattle.age_armor.specs.Marks.{CanResume}
+use Rattle.age_armor.specs.Marks.{CanResume, Resumes}
 use Rattle.age_armor.specs.Stages.{is_armored}
 use Rattle.age_armor.proofs.Keeping.{same-text, rewound, rewind-refused}
 use Rattle.age_armor.proofs.Ahead.{rest_failed}
 use Rattle.age_armor.proofs.Forms.{form_kept}
 use Rattle.age_armor.proofs.Resuming.{knows_later, resumed_rest, resumed_ending}
+use Rattle.age_armor.proofs.Going.{text-gone, stands-none}
 use Rattle.age_armor.proofs.reader.ArmoredReader.approach.Goals as goal
 
 pub invariant_of-self : goal.invariant_of-self
@@ -88,41 +89,53 @@ invariant_of-self-in-Ok g c =
       };
     }
 
-pub returns-in-Ok-clause-ending : goal.returns-in-Ok-clause-ending
-returns-in-Ok-clause-ending g c = λ told steady.
+pub returns-in-Ok : goal.returns-in-Ok
+returns-in-Ok g c =
     let before = c.args.self.now in
+    let after = c.go.new.self in
     let reader = g.R.Read in
-    let origin = reader.place before.source.inner - before.source.taken in
-    let can = (c.last-mark.ensures.each (reader.steady before.source.inner) (from_place origin (reader.content before.source.inner)) (before.known told)).0 in
-    resumed_ending (reader.content before.source.inner) (reader.rest c.go.new.self.inner) origin c.last-mark.result.place c.last-mark.result.taken c.last-mark.result.stage before.bytes (can.1 steady)
-    (c.in-Ok.ensures.rest told steady)
-
-pub returns-in-Ok-clause-rest : goal.returns-in-Ok-clause-rest
-returns-in-Ok-clause-rest g c = λ told steady.
-    let before = c.args.self.now in
-    let reader = g.R.Read in
-    let origin = reader.place before.source.inner - before.source.taken in
-    let can = (c.last-mark.ensures.each (reader.steady before.source.inner) (from_place origin (reader.content before.source.inner)) (before.known told)).0 in
-    resumed_rest (reader.content before.source.inner) (reader.rest c.go.new.self.inner) origin c.last-mark.result.place c.last-mark.result.taken c.last-mark.result.stage before.bytes (can.1 steady)
-    (c.in-Ok.ensures.rest told steady)
-
-pub returns-in-Ok-clause-goes : goal.returns-in-Ok-clause-goes
-returns-in-Ok-clause-goes g c = rewound (OrAstray g.R.Seek.seek_refuses) _ _ c.in-Ok.ensures.goes c.in-Ok.ensures.origin refl
-
-pub returns-in-Err-clause-goes : goal.returns-in-Err-clause-goes
-returns-in-Err-clause-goes g c = rewind-refused (OrAstray g.R.Seek.seek_refuses) _ _ c.in-Err.e c.in-Err.ensures.goes c.in-Err.ensures.origin
-
-pub returns-in-Err-clause-cause : goal.returns-in-Err-clause-cause
-returns-in-Err-clause-cause g c = λ told well.
-    let before = c.args.self.now in
-    let reader = g.R.Read in
+    let now = c.in-Ok.ensures in
+    let mark = c.last-mark.result in
     let origin = reader.place before.source.inner - before.source.taken in
     let content = reader.content before.source.inner in
-    let steady = g.met.R.Read.well before.source.inner told well in
-    let can = (c.last-mark.ensures.each (reader.steady before.source.inner) (from_place origin content) (before.known told)).0 in
-    c.in-Err.ensures.cause told well
-    (omega (arith, (can.1 steady).reaches, length-drop origin content.bytes, (g.met.R.Read.stands before.source.inner told steady).within))
+    let resumes : (IsTrue (reader.tells before.source.inner) → IsTrue (reader.steady before.source.inner) →
+    Resumes (from_place origin content) mark.stage mark.place mark.taken) = λ told steady.
+    (c.last-mark.ensures.each (reader.steady before.source.inner) (from_place origin content) (before.known told)).0.1 steady in
+    record {
+      goes = rewound (OrAstray g.R.Seek.seek_refuses) _ _ now.goes now.origin refl;
+      text = text-gone _ _ now.goes.keeps.same now.origin refl now.lines;
+      stands = record {
+        good = refl;
+        rest = λ told steady.
+            resumed_rest content (reader.rest after.inner) origin mark.place mark.taken mark.stage before.bytes (resumes told steady) (now.rest told steady);
+        ending = λ told steady.
+            resumed_ending content (reader.rest after.inner) origin mark.place mark.taken mark.stage before.bytes (resumes told steady) (now.rest told steady);
+      };
+      before = c.last-mark.ensures.before;
+      near = λ told steady noting armored behind. c.last-mark.ensures.near (omega (arith, behind, (before.known told).near steady noting armored));
+      unread = (now.lines, refl);
+      fails = record { fails = tt; stays = tt; other = tt };
+      cause = λ told well. tt;
+    }
 
-pub returns-in-Ok-clause-near : goal.returns-in-Ok-clause-near
-returns-in-Ok-clause-near g c = λ told steady noting armored behind.
-    c.last-mark.ensures.near (omega (arith, behind, (c.args.self.now.known told).near steady noting armored))
+pub returns-in-Err : goal.returns-in-Err
+returns-in-Err g c =
+    let before = c.args.self.now in
+    let reader = g.R.Read in
+    let now = c.in-Err.ensures in
+    let origin = reader.place before.source.inner - before.source.taken in
+    let content = reader.content before.source.inner in
+    record {
+      goes = rewind-refused (OrAstray g.R.Seek.seek_refuses) _ _ c.in-Err.e now.goes now.origin;
+      text = text-gone _ _ now.goes.keeps.same now.origin refl now.lines;
+      stands = stands-none _ _ _;
+      before = tt;
+      near = λ told steady noting armored behind. tt;
+      unread = (now.lines, refl);
+      fails = record { fails = refl; stays = refl; other = now.other };
+      cause = λ told well.
+          let steady = g.met.R.Read.well before.source.inner told well in
+          let can = (c.last-mark.ensures.each (reader.steady before.source.inner) (from_place origin content) (before.known told)).0 in
+          now.cause told well
+          (omega (arith, (can.1 steady).reaches, length-drop origin content.bytes, (g.met.R.Read.stands before.source.inner told steady).within));
+    }

@@ -1,10 +1,11 @@
-use Rattle.std.proofs.Common.{◌∙◌, ◌-◌, ◌<◌, ◌≤◌, ap, length, arith, sym, subst, inl, inr}
+use Rattle.std.proofs.Common.{IsTrue, ◌≡◌, ◌∙◌, ◌-◌, ◌<◌, ◌≤◌, ap, length, arith, sym, subst, inl, inr}
 use Rattle.std.proofs.lemmas.Bool.{true≢false}
+use Rattle.age_io.specs.Stretch.{from_place}
 use Rattle.age_armor.specs.Reader.{armored_content}
 use Rattle.age_armor.specs.ReaderLaws.{well_inner}
-use Rattle.age_armor.proofs.Keeping.{same-source, same-source-text, source-narrows, armor-plain}
-use Rattle.age_armor.proofs.Aiming.{refusal_or_not, stays-failed, came, lost}
-use Rattle.age_armor.proofs.Pacing.{learns_later, learns_none}
+use Rattle.age_armor.proofs.Keeping.{same-source, source-narrows, armor-plain}
+use Rattle.age_armor.proofs.Aiming.{refusal_or_not, past-moved, stays-failed, came, lost}
+use Rattle.age_armor.proofs.Going.{text-still, text-later}
 use Rattle.age_armor.proofs.reader.ArmoredReader.come_back.Goals as goal
 
 pub returns-then-failed : goal.returns-then-failed
@@ -12,10 +13,8 @@ returns-then-failed g c =
     let now = c.fail_at.ensures in
     record {
       back = stays-failed _ _ g.R.Seek.seek_refuses _ _ _ _ _ (same-source _ _ now.source) now.place now.failed now.rest (source-narrows c.args.self.now c.fail_at.new.self now.source) (inl c.if-failed.true);
-      same_text = λ told. same-source-text _ _ now.source;
+      text = text-still _ _ now.source now.marks;
       ending = λ told steady good. absurd (true≢false (sym now.failed ∙ good));
-      learns = learns_none _ _ now.marks;
-      counts = omega (arith, ap (λ s. s.lines) now.source);
       lines = λ told steady had at refusal. omega (arith, ap (λ s. s.lines) now.source);
     }
 
@@ -24,10 +23,8 @@ returns-then-not-is_outside g c =
     let now = c.fail_at-then-not-is_outside.ensures in
     record {
       back = stays-failed _ _ g.R.Seek.seek_refuses _ _ _ _ _ (same-source _ _ now.source) now.place now.failed now.rest (source-narrows c.args.self.now c.fail_at-then-not-is_outside.new.self now.source) (inr (c.is_outside.ensures.no c.if-not-is_outside.true));
-      same_text = λ told. same-source-text _ _ now.source;
+      text = text-still _ _ now.source now.marks;
       ending = λ told steady good. absurd (true≢false (sym now.failed ∙ good));
-      learns = learns_none _ _ now.marks;
-      counts = omega (arith, ap (λ s. s.lines) now.source);
       lines = λ told steady had at refusal. omega (arith, ap (λ s. s.lines) now.source);
     }
 
@@ -42,15 +39,16 @@ fail_at-requires-in-Err-clause-inside g c = λ told steady.
 
 pub returns-in-Ok : goal.returns-in-Ok
 returns-in-Ok g c =
+    let before = c.args.self.now in
     let now = c.in-Ok.ensures in
+    let place : (IsTrue (g.R.Read.tells before.source.inner) → c.go_to.new.self.place ≡ c.args.place) = λ told. now.reaches.place told ∙ now.reaches.there in
     record {
-      back = came _ _ g.R.Seek.seek_refuses _ _ _ _ _ now.goes.keeps.same now.good now.place (λ told steady. (now.within told steady).1) c.if-failed.false
-          (c.is_outside.ensures.yes c.if-not-is_outside.false) (armor-plain c.args.self.now c.go_to.new.self now.goes.keeps.narrows);
-      same_text = now.same_text;
-      ending = λ told steady good. now.ending told steady;
-      learns = now.learns;
-      counts = now.counts;
-      lines = λ told steady had at refusal. now.unmoved told steady (had ∙ c.if-failed.false) at;
+      back = came _ _ g.R.Seek.seek_refuses _ _ _ _ _ now.goes.keeps.same now.stands.good place
+          (λ told steady. now.stands.rest told steady ∙ ap (λ n. from_place n (armored_content before)) (place told)) c.if-failed.false
+          (c.is_outside.ensures.yes c.if-not-is_outside.false) (armor-plain before c.go_to.new.self now.goes.keeps.narrows);
+      text = now.text;
+      ending = λ told steady good. now.stands.ending told steady;
+      lines = λ told steady had at refusal. now.stays.unmoved told steady (had ∙ c.if-failed.false) at;
     }
 
 pub returns-in-Err : goal.returns-in-Err
@@ -60,22 +58,20 @@ returns-in-Err g c =
     let missed = c.in-Err.ensures in
     let now = c.fail_at-in-Err.ensures in
     let made = c.unrefused.ensures in
+    let len = length (armored_content before).bytes in
     record {
       back = lost _ _ g.R.Seek.seek_refuses before c.go_to.new.self c.fail_at-in-Err.new.self _ _ _ c.in-Err.e c.unrefused.result missed.goes (same-source _ _ now.source) now.place now.failed now.rest
           (c.is_outside.ensures.yes c.if-not-is_outside.false) made.other made.kept
           (λ told well other quiet.
           let inner = well_inner (reader.content before.source.inner) (reader.place before.source.inner - before.source.taken) well in
           let steady = g.met.R.Read.well before.source.inner told inner in
-          let within : c.args.place ≤ length (armored_content before).bytes = c.requires.inside told steady in
-          elim (refusal_or_not c.in-Err.e) [
-            | inl is ↦ let beyond : length (armored_content before).bytes < c.args.place = (missed.past told steady is).1 in absurd (omega (arith, beyond, within))
-            | inr not ↦
-                let beyond : length (armored_content before).bytes < c.args.place = (missed.named told inner not (λ memory. other (made.same not ∙ memory)) quiet).1 in
-                absurd (omega (arith, beyond, within))
-          ]);
-      same_text = λ told. same-source-text _ _ now.source ∙ missed.same_text told;
+          let within : c.args.place ≤ len = c.requires.inside told steady in
+          let beyond : len < c.args.place = elim (refusal_or_not c.in-Err.e) [
+            | inl is ↦ past-moved c.args.place len c.in-Err.e (missed.misses.refused told steady is).1
+            | inr not ↦ (missed.misses.named told inner not (λ memory. other (made.same not ∙ memory)) quiet).1
+          ] in
+          absurd (omega (arith, beyond, within)));
+      text = text-later before c.go_to.new.self c.fail_at-in-Err.new.self missed.goes.keeps.same missed.text (text-still _ _ now.source now.marks);
       ending = λ told steady good. absurd (true≢false (sym now.failed ∙ good));
-      learns = learns_later _ c.go_to.new.self.marks c.fail_at-in-Err.new.self.marks missed.learns (learns_none _ _ now.marks);
-      counts = omega (arith, missed.counts, ap (λ s. s.lines) now.source);
       lines = λ told steady had at refusal. absurd (made.other refusal);
     }

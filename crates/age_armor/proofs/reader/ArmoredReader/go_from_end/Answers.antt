@@ -1,71 +1,75 @@
-use Rattle.std.proofs.Common.{◌≡◌, ◌∙◌, Ok, Err, ap, arith, length, sym, subst, refl, to_z-of_z, w64}
+use Rattle.std.proofs.Common.{◌≡◌, ◌∙◌, Ok, Err, IsTrue, ap, length, sym, subst, refl, inl, inr, to_z-of_z, w64}
 use Rattle.std.proofs.lemmas.Bool.{true≢false}
-use Rattle.age_armor.specs.Marks.{is_known}
-use Rattle.std.proofs.lemmas.Result.{IfOk-weaker, IfErr-weaker, on_ok_weaker}
+use Rattle.std.proofs.lemmas.Result.{on_ok_weaker}
 use Rattle.age_error.specs.declared.io.SeekFrom.TheVariants.{End}
-use Rattle.age_io.specs.Cursor.{sought, target}
-use Rattle.age_armor.specs.Reader.{armored_content, armored_rest}
-use Rattle.age_armor.proofs.Aiming.{arrives, arrives-within}
+use Rattle.age_io.specs.Cursor.{sought}
+use Rattle.age_io.proofs.Keeping.{same-self}
+use Rattle.age_armor.specs.Marks.{is_known}
+use Rattle.age_armor.specs.Going.{Reaches, Misses}
+use Rattle.age_armor.specs.Reader.{armored_reader, armored_content}
+use Rattle.age_armor.proofs.Keeping.{goes-refused}
+use Rattle.age_armor.proofs.Going.{text-still, stands-none, reaches-none, reaches-end, misses-end, finds-none}
 use Rattle.age_armor.proofs.reader.ArmoredReader.go_from_end.Goals as goal
 
-pub returns-in-None-clause-exact : goal.returns-in-None-clause-exact
-returns-in-None-clause-exact g c = λ told steady place.
-    IfOk-weaker c.look_from_end.result _ _ (λ n exact. (subst (λ d. sought (End d) place (length (armored_content c.args.self.now).bytes) ≡ Ok n) (to_z-of_z {w = w64} c.ranges.distance) exact.0, exact.1))
-    (c.look_from_end.ensures.exact told steady place)
+pub returns-in-None : goal.returns-in-None
+returns-in-None g c =
+    let before = c.args.self.now in
+    let after = c.look_from_end.new.self in
+    let now = c.look_from_end.ensures in
+    let unknown : (IsTrue (is_known before.marks.length) → ⊥) = λ known. true≢false (sym known ∙ ap is_known (sym c.length.ensures ∙ c.in-None.is)) in
+    record {
+      goes = now.goes;
+      text = now.text;
+      stands = now.stands;
+      reaches = subst (λ d. Reaches before after (End d) c.look_from_end.result) (to_z-of_z {w = w64} c.ranges.distance) now.reaches;
+      misses = subst (λ d. Misses before after (End d) c.look_from_end.result) (to_z-of_z {w = w64} c.ranges.distance) now.misses;
+      finds = now.finds;
+      spares = record { lines = λ told steady noting known. absurd (unknown known); outside = λ told steady known. absurd (unknown known) };
+    }
 
-pub returns-in-None-clause-refused : goal.returns-in-None-clause-refused
-returns-in-None-clause-refused g c = λ told steady place.
-    IfErr-weaker c.look_from_end.result _ _
-    (λ e refused refusal. ((refused refusal).0, subst (λ d. sought (End d) place (length (armored_content c.args.self.now).bytes) ≡ Err e) (to_z-of_z {w = w64} c.ranges.distance) (refused refusal).1))
-    (c.look_from_end.ensures.refused told steady place)
+pub returns-in-Err : goal.returns-in-Err
+returns-in-Err g c =
+    let before = c.args.self.now in
+    let now = c.in-Err.ensures in
+    record {
+      goes = goes-refused armored_reader _ before before before c.in-Err.e (same-self _ before) (same-self _ before) now.other
+          (elim now.why [ inl out ↦ inl (inl out) | inr long ↦ inl (inr (inl long)) ]);
+      text = text-still _ _ refl refl;
+      stands = stands-none _ _ _;
+      reaches = reaches-none _ _ _ _;
+      misses = record {
+        missed = λ refusal e h. h;
+        refused = λ told steady refusal. (
+          c.target_from_end.ensures.well told steady,
+          subst (λ d. sought (End d) before.place (length (armored_content before).bytes) ≡ Err c.in-Err.e) (to_z-of_z {w = w64} c.ranges.distance)
+              (sym (c.target_from_end.ensures.exact told steady before.place) ∙ c.in-Err.is),
+        );
+        named = λ told well own other quiet. absurd (own (now.outside told (g.met.R.Read.well before.source.inner told well)));
+      };
+      finds = finds-none _ _ _;
+      spares = record { lines = λ told steady noting known. tt; outside = λ told steady known refusal. refl };
+    }
 
-pub returns-in-Err-clause-refused : goal.returns-in-Err-clause-refused
-returns-in-Err-clause-refused g c = λ told steady place refusal.
-    let known = c.target_from_end.ensures in (
-      known.well told steady,
-      subst (λ d. sought (End d) place (length (armored_content c.args.self.now).bytes) ≡ Err c.in-Err.e) (to_z-of_z {w = w64} c.ranges.distance) (sym (known.exact told steady place) ∙ c.in-Err.is),
-    )
-
-pub returns-in-Err-clause-named : goal.returns-in-Err-clause-named
-returns-in-Err-clause-named g c = λ told well own other quiet. absurd (own (c.in-Err.ensures.outside told (g.met.R.Read.well c.args.self.now.source.inner told well)))
-
-pub returns-in-Ok-clause-well : goal.returns-in-Ok-clause-well
-returns-in-Ok-clause-well g c = λ told steady.
-    on_ok_weaker c.go_to.result (λ there. c.target_from_end.ensures.well told steady) (c.go_to.ensures.within told steady)
-
-pub returns-in-Ok-clause-place : goal.returns-in-Ok-clause-place
-returns-in-Ok-clause-place g c = λ told.
-    arrives c.go_to.result c.go_to.new.self.place c.in-Ok.target c.go_to.ensures.there (c.go_to.ensures.place told)
-
-pub returns-in-Ok-clause-exact : goal.returns-in-Ok-clause-exact
-returns-in-Ok-clause-exact g c = λ told steady place.
-    let content = armored_content c.args.self.now in
-    let len = length content.bytes in
-    let answer : sought (End c.args.distance) place len ≡ Ok c.in-Ok.target =
-    subst (λ d. sought (End d) place len ≡ Ok c.in-Ok.target) (to_z-of_z {w = w64} c.ranges.distance) (sym (c.target_from_end.ensures.exact told steady place) ∙ c.in-Ok.is) in
-    arrives-within _ c.go_to.result (target (End c.args.distance) place len) len c.in-Ok.target (armored_rest c.go_to.new.self) content content
-    answer refl c.go_to.ensures.there (c.go_to.ensures.within told steady)
-
-pub returns-in-Ok-clause-refused : goal.returns-in-Ok-clause-refused
-returns-in-Ok-clause-refused g c = λ told steady place.
-    IfErr-weaker c.go_to.result _ _ (λ e past refusal. absurd (omega (arith, (past refusal).1, (c.in-Ok.ensures.within told steady).0))) (c.go_to.ensures.past told steady)
-
-pub returns-in-Ok-clause-named : goal.returns-in-Ok-clause-named
-returns-in-Ok-clause-named g c = λ told well.
-    let steady = g.met.R.Read.well c.args.self.now.source.inner told well in
-    IfErr-weaker c.go_to.result _ _ (λ e named own other quiet. absurd (omega (arith, (named own other quiet).1, (c.in-Ok.ensures.within told steady).0))) (c.go_to.ensures.named told well)
-
-pub returns-in-Ok-clause-lines : goal.returns-in-Ok-clause-lines
-returns-in-Ok-clause-lines g c = λ told steady noting known. c.go_to.ensures.lines told steady noting (c.in-Ok.ensures.within told steady).1
-
-pub returns-in-None-clause-lines : goal.returns-in-None-clause-lines
-returns-in-None-clause-lines g c = λ told steady noting known.
-    absurd (true≢false (sym known ∙ ap is_known (sym c.length.ensures ∙ c.in-None.is)))
-
-pub returns-in-None-clause-outside : goal.returns-in-None-clause-outside
-returns-in-None-clause-outside g c = λ told steady known.
-    absurd (true≢false (sym known ∙ ap is_known (sym c.length.ensures ∙ c.in-None.is)))
-
-pub returns-in-Ok-clause-knows : goal.returns-in-Ok-clause-knows
-returns-in-Ok-clause-knows g c =
-    on_ok_weaker c.go_to.result (λ good. c.go_to.ensures.learns.end (ap is_known (sym c.length.ensures ∙ c.in-Some.is))) c.go_to.ensures.good
+pub returns-in-Ok : goal.returns-in-Ok
+returns-in-Ok g c =
+    let before = c.args.self.now in
+    let after = c.go_to.new.self in
+    let now = c.go_to.ensures in
+    let aim = c.in-Ok.target in
+    let found : (IsTrue (armored_reader.tells before) → IsTrue (armored_reader.steady before) →
+    sought (End c.args.distance) before.place (length (armored_content before).bytes) ≡ Ok aim) = λ told steady.
+    subst (λ d. sought (End d) before.place (length (armored_content before).bytes) ≡ Ok aim) (to_z-of_z {w = w64} c.ranges.distance)
+    (sym (c.target_from_end.ensures.exact told steady before.place) ∙ c.in-Ok.is) in
+    record {
+      goes = now.goes;
+      text = now.text;
+      stands = now.stands;
+      reaches = reaches-end before before after c.args.distance aim c.go_to.result (same-self _ before) found now.reaches;
+      misses = misses-end before before after c.args.distance aim c.go_to.result (g.met.R.Read.well before.source.inner) (same-self _ before)
+          (text-still _ _ refl refl) (λ e h. h) found now.goes now.misses;
+      finds = record {
+        well = λ told steady. on_ok_weaker c.go_to.result (λ good. c.target_from_end.ensures.well told steady) now.stands.good;
+        knows = on_ok_weaker c.go_to.result (λ good. now.text.learns.end (ap is_known (sym c.length.ensures ∙ c.in-Some.is))) now.stands.good;
+      };
+      spares = record { lines = λ told steady noting known. now.spares.lines told steady noting (c.in-Ok.ensures.within told steady).1; outside = now.spares.outside };
+    }

@@ -1,73 +1,34 @@
-use Rattle.std.proofs.Common.{◌≡◌, ◌∙◌, ◌-◌, Ok, Err, length, arith, ap, subst, w64, to_z-of_z, refl, inl}
+use Rattle.std.proofs.Common.{Ok, Err, subst, w64, to_z-of_z}
 use Rattle.age_error.specs.declared.io.SeekFrom.TheVariants.{End}
-use Rattle.age_io.specs.Cursor.{sought}
-use Rattle.age_armor.specs.Delivered.{delivered}
-use Rattle.age_armor.specs.Reader.{armored_content}
-use Rattle.age_armor.specs.ReaderLaws.{well_inner}
-use Rattle.age_armor.proofs.Ahead.{rest_gone}
-use Rattle.age_armor.proofs.Keeping.{armor-plain}
-use Rattle.age_armor.proofs.Pacing.{learns_later}
-use Rattle.age_armor.proofs.Aiming.{clean-unnamed, arrived, missed}
+use Rattle.age_armor.specs.Going.{Reaches, Misses}
+use Rattle.age_armor.proofs.Going.{text-later, ends-later, finds-none, seek-done, seek-missed, takes-back}
 use Rattle.age_armor.proofs.reader.ArmoredReader.seek_from_end.Goals as goal
 
 pub returns-in-Ok : goal.returns-in-Ok
 returns-in-Ok g c =
     let now = c.in-Ok.ensures in
+    let reaches = subst (λ d. Reaches c.args.self.now c.go_from_end.new.self (End d) (Ok c.in-Ok.there)) (to_z-of_z {w = w64} c.ranges.distance) now.reaches in
     record {
-      text = arrived _ _ g.R.Seek.seek_refuses _ _ _ _ _ _ now.goes (armor-plain c.args.self.now c.go_from_end.new.self now.goes.keeps.narrows) now.good
-          now.place (λ told. tt) (λ told steady.
-          let before = c.args.self.now in
-          let moved = now.exact told steady before.place in (
-            subst (λ d. sought (End d) before.place (length (armored_content before).bytes) ≡ Ok c.in-Ok.there) (to_z-of_z {w = w64} c.ranges.distance) moved.0,
-            moved.1,
-          ));
-      well = now.well;
-      same_text = now.same_text;
-      ending = λ told steady good. now.ending told steady;
-      learns = now.learns;
-      counts = now.counts;
-      knows = now.knows;
-      outside = λ told steady known. tt;
-      lines = now.lines;
+      seeks = seek-done g.R.Seek.seek_refuses _ _ _ _ now.goes now.stands reaches;
+      text = now.text;
+      finds = now.finds;
+      takes = record { lines = now.spares.lines; outside = λ told steady known. tt };
+      ending = λ told steady good. now.stands.ending told steady;
     }
 
 pub returns-in-Err : goal.returns-in-Err
 returns-in-Err g c =
-    let reader = g.R.Read in
     let before = c.args.self.now in
+    let middle = c.go_from_end.new.self in
+    let after = c.come_back.new.self in
     let now = c.in-Err.ensures in
+    let back = c.come_back.ensures in
+    let misses = subst (λ d. Misses before middle (End d) (Err c.in-Err.e)) (to_z-of_z {w = w64} c.ranges.distance) now.misses in
     record {
-      text = missed _ _ g.R.Seek.seek_refuses before c.go_from_end.new.self c.come_back.new.self _ _ _ c.in-Err.e c.come_back.result
-          (λ told well.
-          let inner = well_inner (reader.content before.source.inner) (reader.place before.source.inner - before.source.taken) well in
-          (g.met.R.Read.well before.source.inner told inner, inner, λ e. clean-unnamed _ e well))
-          (rest_gone before.failed before.bytes before.given before.filled before.stage (reader.rest before.source.inner))
-          (λ told well. g.met.R.Read.well before.source.inner told well) (λ had. inl (had, refl))
-          (record {
-            goes = now.goes;
-            narrows = now.missed;
-            refused = λ told steady is.
-                let known = now.refused told steady before.place is in (
-                  known.0,
-                  subst (λ d. sought (End d) before.place (length (armored_content before).bytes) ≡ Err c.in-Err.e) (to_z-of_z {w = w64} c.ranges.distance) known.1,
-                );
-            named = λ told well own other quiet. (now.named told well own other quiet, tt);
-          })
-          c.come_back.ensures.back;
-      well = λ told steady. tt;
-      same_text = λ told. c.come_back.ensures.same_text (now.goes.keeps.same.tells ∙ told) ∙ now.same_text told;
-      ending = λ told steady good.
-          c.come_back.ensures.ending (now.goes.keeps.same.tells ∙ told) (now.goes.keeps.same.steady ∙ steady) good
-          ∙ ap (λ t. (delivered t.bytes t.ends_well).ending) (now.same_text told);
-      knows = tt;
-      learns = learns_later _ c.go_from_end.new.self.marks c.come_back.new.self.marks now.learns c.come_back.ensures.learns;
-      counts = omega (arith, now.counts, c.come_back.ensures.counts);
-      outside = λ told steady known refusal.
-          let same = now.outside told steady known (c.come_back.ensures.back.unmoved refusal).0 in
-          omega (
-            arith,
-            ap (λ r. r.source.lines) same,
-            c.come_back.ensures.lines (now.goes.keeps.same.tells ∙ told) (now.goes.keeps.same.steady ∙ steady) (ap (λ r. r.failed) same) (ap (λ r. r.place) same) refusal,
-          );
-      lines = λ told steady noting known. tt;
+      seeks = seek-missed g.R.Seek.seek_refuses before middle after _ c.in-Err.e c.come_back.result (g.met.R.Read.well before.source.inner) now.goes misses back.back;
+      text = text-later before middle after now.goes.keeps.same now.text back.text;
+      finds = finds-none _ _ _;
+      takes = takes-back before middle after _ c.in-Err.e c.come_back.result now.goes
+          (record { lines = λ told steady noting known. tt; outside = now.spares.outside }) back.back back.lines;
+      ending = ends-later before middle after now.goes.keeps.same now.text back.ending;
     }

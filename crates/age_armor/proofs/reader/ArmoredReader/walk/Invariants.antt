@@ -1,11 +1,11 @@
 use Rattle.std.proofs.Common.{◌≡◌, ◌+◌, ◌-◌, ◌<◌, ◌≤◌, IsTrue, false, length}
 use Rattle.age_armor.specs.Delivered.{begins_armor}
 use Rattle.age_armor.specs.Counting.{IsCounted}
-use Rattle.age_armor.specs.Marks.{LearnsMore}
 use Rattle.age_io.specs.Stretch.{from_place}
 use Rattle.age_io.specs.Reading.{AddsNoReason, TriedAgain, most_faults}
 use Rattle.age_io.specs.Keeping.{SameReader}
 use Rattle.age_armor.specs.Reader.{outcome_of, text_of, refuses_of, armored_reader, armored_content, armored_rest}
+use Rattle.age_armor.specs.Going.{KeepsText}
 use Rattle.age_armor.proofs.reader.ArmoredReader.walk.Given as goal
 
 abbrev pub invariant-reads : goal.invariant-reads
@@ -21,9 +21,7 @@ invariant-reads g l =
           armored_rest l.fn.self ≡ from_place l.fn.self.place (armored_content l.fn.self) →
           armored_rest l.self ≡ from_place l.self.place (armored_content l.fn.self);
       ending : IsTrue (reader.tells l.fn.self.source.inner) → (outcome_of l.self).ending ≡ (outcome_of l.fn.self).ending;
-      same_text : IsTrue (reader.tells l.fn.self.source.inner) → text_of l.self ≡ text_of l.fn.self;
-      taken : l.fn.self.source.lines ≤ l.self.source.lines;
-      learns : LearnsMore l.fn.self.marks l.self.marks;
+      text : KeepsText l.fn.self l.self;
       counted : IsTrue (reader.tells l.fn.self.source.inner) → IsTrue (reader.steady l.fn.self.source.inner) →
           armored_rest l.fn.self ≡ from_place l.fn.self.place (armored_content l.fn.self) → l.target ≤ length (armored_content l.fn.self).bytes →
           IsCounted l.self.stage l.fn.self.place l.fn.self.source.lines l.target l.self.place (l.self.filled - l.self.given) l.self.source.lines;

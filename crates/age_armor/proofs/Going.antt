@@ -1,0 +1,246 @@
+-- The steps of a seek in armor, one after the other.
+use Rattle.std.proofs.Common.{◌≡◌, ◌≢◌, ◌∙◌, ◌-◌, ◌<◌, ◌≤◌, ℕ, ℤ, false, IsTrue, length, Result, Ok, Err, arith, ap, sym, subst, refl, inl}
+use Rattle.std.proofs.lemmas.Result.{IfOk-weaker, IfErr-weaker, on_ok_weaker}
+use Rattle.age_error.specs.declared.io.Error.{Error}
+use Rattle.age_error.specs.declared.io.Error.TheVariants.{OutOfMemory, Failed}
+use Rattle.age_error.specs.declared.io.SeekFrom.{SeekFrom}
+use Rattle.age_error.specs.declared.io.SeekFrom.TheVariants.{Start, End}
+use Rattle.age_io.specs.declared.traits.Read.{Ghosts}
+use Rattle.age_io.specs.declared.bufread.BufRead as buffered
+use Rattle.age_io.specs.Stretch.{from_place, IsCleanEnd}
+use Rattle.age_io.specs.Keeping.{SameReader, OrSeek}
+use Rattle.age_io.specs.Reading.{IsQuiet, AddsNoReason, TriedAgain, most_faults}
+use Rattle.age_io.specs.Cursor.{IsOutside, sought, target}
+use Rattle.age_io.proofs.Keeping.{same-later, keeps-done}
+use Rattle.age_armor.specs.declared.reader.ArmoredReader.{ArmoredReader}
+use Rattle.age_armor.specs.Delivered.{delivered}
+use Rattle.age_armor.specs.Stages.{IsNamed, is_start}
+use Rattle.age_armor.specs.ReaderLaws.{well_inner}
+use Rattle.age_armor.specs.Seeking.{Goes, OrAstray, AsksPast, SeeksText, ComesBack}
+use Rattle.age_armor.specs.Reader.{Learns, text_of, outcome_of, text_outcome_of, armored_reader, armored_content, armored_rest, refuses_of}
+use Rattle.age_armor.specs.Going.{KeepsText, EndsAsBefore, EndsAsText, Stands, WalksAlong, Reaches, Misses, FindsEnd, StaysThere, SparesReading, TakesFew}
+use Rattle.age_armor.proofs.Ahead.{rest_gone}
+use Rattle.age_armor.proofs.Keeping.{same-source-text, goes-later, goes-seeking, goes-unrefused, armor-plain, seeks-plain}
+use Rattle.age_armor.proofs.OwnEndings.{still_named}
+use Rattle.age_armor.proofs.Pacing.{learns_later, learns_none}
+use Rattle.age_armor.proofs.Taking.{quiet_after}
+use Rattle.age_armor.proofs.Walking.{ends_at}
+use Rattle.age_armor.proofs.Aiming.{clean-unnamed, moved-within, within-moved, arrived, missed}
+
+module _ {R : Type 0} {buf : buffered.Ghosts R} {read : Ghosts R} where
+  -- ---- the text
+
+  pub text-still : (a b : ArmoredReader R buf read) → b.source ≡ a.source → b.marks ≡ a.marks → KeepsText a b
+  text-still a b source marks = record {
+    same_text = λ told. same-source-text _ _ source;
+    learns = learns_none _ _ marks;
+    counts = omega (arith, ap (λ s. s.lines) source);
+  }
+
+  -- the reader that gives it was moved
+  pub text-gone : (a b : ArmoredReader R buf read) → SameReader read a.source.inner b.source.inner →
+      (IsTrue (read.tells a.source.inner) → read.place b.source.inner - b.source.taken ≡ read.place a.source.inner - a.source.taken) →
+      b.marks ≡ a.marks → b.source.lines ≡ a.source.lines → KeepsText a b
+  text-gone a b same origin marks lines = record {
+    same_text = λ told. rw (same.content told, origin told) refl;
+    learns = learns_none _ _ marks;
+    counts = omega (arith, lines);
+  }
+
+  pub text-learned : {A : Type 0} {result : Result A Error} (a b : ArmoredReader R buf read) → (IsTrue (read.tells a.source.inner) → text_of b ≡ text_of a) →
+      Learns a b result → KeepsText a b
+  text-learned a b same learns = record { same_text = same; learns = learns.more; counts = learns.lines.0 }
+
+  pub text-later : (a b c : ArmoredReader R buf read) → SameReader armored_reader a b → KeepsText a b → KeepsText b c → KeepsText a c
+  text-later a b c same first last = record {
+    same_text = λ told. last.same_text (same.tells ∙ told) ∙ first.same_text told;
+    learns = learns_later a.marks b.marks c.marks first.learns last.learns;
+    counts = omega (arith, first.counts, last.counts);
+  }
+
+  pub ends-later : (a b c : ArmoredReader R buf read) → SameReader armored_reader a b → KeepsText a b → EndsAsText b c → EndsAsText a c
+  ends-later a b c same text ends = λ told steady good.
+      ends (same.tells ∙ told) (same.steady ∙ steady) good ∙ ap (λ t. (delivered t.bytes t.ends_well).ending) (text.same_text told)
+
+  -- ---- what is said of the other answer alone
+
+  pub stands-none : {A : Type 0} (a b : ArmoredReader R buf read) (e : Error) → Stands {A = A} a b (Err e)
+  stands-none a b e = record { good = tt; rest = λ told steady. tt; ending = λ told steady. tt }
+
+  pub reaches-none : (a b : ArmoredReader R buf read) (to : SeekFrom) (e : Error) → Reaches a b to (Err e)
+  reaches-none a b to e = record { there = tt; place = λ told. tt; exact = λ told steady. tt }
+
+  pub misses-none : (a b : ArmoredReader R buf read) (to : SeekFrom) (n : ℕ) → Misses a b to (Ok n)
+  misses-none a b to n = record { missed = tt; refused = λ told steady. tt; named = λ told well. tt }
+
+  pub finds-none : {A : Type 0} (a b : ArmoredReader R buf read) (e : Error) → FindsEnd {A = A} a b (Err e)
+  finds-none a b e = record { well = λ told steady. tt; knows = tt }
+
+  pub spares-own : (a b : ArmoredReader R buf read) (to : SeekFrom) (e : Error) → (IsOutside e → ⊥) → SparesReading a b to (Err e)
+  spares-own a b to e own = record { lines = λ told steady noting near. tt; outside = λ told steady known refusal. absurd (own refusal) }
+
+  pub stays-none : (a b : ArmoredReader R buf read) (target : ℕ) (e : Error) →
+      (a.failed ≡ false → is_start a.stage ≡ false → a.place ≡ target → ⊥) → StaysThere a b target (Err e)
+  stays-none a b target e elsewhere = record {
+    still = λ good begun at. absurd (elsewhere good begun at);
+    unmoved = λ told steady good at. tt;
+  }
+
+  -- a refusal that is none of the target
+  pub misses-own : (a b : ArmoredReader R buf read) (to : SeekFrom) (e : Error) → (IsOutside e → ⊥) →
+      (IsTrue (read.tells a.source.inner) → IsTrue (read.content a.source.inner).ends_well → e ≢ OutOfMemory →
+      IsQuiet (read.faults a.source.inner) (read.faults b.source.inner) →
+      IsNamed (text_outcome_of a).ending e × AsksPast to a.place (length (armored_content a).bytes)) → Misses a b to (Err e)
+  misses-own a b to e own named = record {
+    missed = λ refusal. absurd (own refusal);
+    refused = λ told steady refusal. absurd (own refusal);
+    named = λ told well is. named told well;
+  }
+
+  -- ---- to a mark, and on from there
+
+  -- it came to a mark, and walked on in what the text carries
+  pub record Came (old new : ArmoredReader R buf read) : Type 0 where
+    pub same : SameReader armored_reader old new
+    pub narrows : AddsNoReason (TriedAgain refuses_of) old new
+    pub unspent : read.faults new.source.inner < most_faults
+    pub text : KeepsText old new
+    pub good : new.failed ≡ false
+    pub stands : IsTrue (read.tells old.source.inner) → IsTrue (read.steady old.source.inner) → armored_rest new ≡ from_place new.place (armored_content old)
+    pub within : IsTrue (read.tells old.source.inner) → IsTrue (read.steady old.source.inner) → new.place ≤ length (armored_content old).bytes
+    pub ending : IsTrue (read.tells old.source.inner) → IsTrue (read.steady old.source.inner) → (outcome_of new).ending ≡ (text_outcome_of old).ending
+
+  pub came-on : {A B : Type 0} {x : A} {y : B} {may more : ArmoredReader R buf read → Error → Type 0} (a b c : ArmoredReader R buf read) (target : ℕ) →
+      Goes armored_reader may a b (Ok x) → KeepsText a b → Stands a b (Ok x) →
+      Goes armored_reader more b c (Ok y) → KeepsText b c → c.failed ≡ false → WalksAlong b c target (Ok y) → EndsAsBefore b c (Ok y) →
+      (IsTrue (read.tells c.source.inner) → IsTrue (read.steady c.source.inner) → c.place ≤ length (armored_content c).bytes) → Came a c
+  came-on a b c target went first_text first goes last_text good along ends inside =
+      let back = went.keeps.same in
+      let same = same-later armored_reader a b c back goes.keeps.same in
+      record {
+        same = same;
+        narrows = λ e h. went.keeps.narrows e (goes.keeps.narrows e h);
+        unspent = goes.unspent;
+        text = text-later a b c back first_text last_text;
+        good = good;
+        stands = λ told steady.
+            along.rest (back.tells ∙ told) (first.rest told steady ∙ ap (from_place b.place) (sym (back.content told))) ∙ ap (from_place c.place) (back.content told);
+        within = λ told steady. subst (λ s. c.place ≤ length s.bytes) (same.content told) (inside (same.tells ∙ told) (same.steady ∙ steady));
+        ending = λ told steady. ends.same (back.tells ∙ told) ∙ first.ending told steady;
+      }
+
+  pub came-goes : {A : Type 0} {x : A} {may : ArmoredReader R buf read → Error → Type 0} (a b : ArmoredReader R buf read) → Came a b → Goes armored_reader may a b (Ok x)
+  came-goes a b came = record { keeps = keeps-done _ _ _ _ came.same came.narrows; unspent = came.unspent }
+
+  pub came-stands : {A : Type 0} {x : A} (a b : ArmoredReader R buf read) → Came a b → Stands a b (Ok x)
+  came-stands a b came = record { good = came.good; rest = came.stands; ending = came.ending }
+
+  -- its clean end is that of what the text carries
+  pub came-out : (a b : ArmoredReader R buf read) → Came a b → IsTrue (read.tells a.source.inner) → IsTrue (read.steady a.source.inner) → IsCleanEnd (armored_rest b) →
+      IsTrue (armored_content a).ends_well × (b.place ≡ length (armored_content a).bytes)
+  came-out a b came told steady clean = ends_at (armored_content a) (armored_rest b) b.place (came.stands told steady) clean (came.within told steady)
+
+  -- the walk refused
+  pub walk-goes : {A B : Type 0} {x : A} (below : Error → Type 0) (a b c : ArmoredReader R buf read) (e answer : Error) →
+      Goes armored_reader (OrSeek (OrAstray below) refuses_of) a b (Ok x) → Goes {A = B} armored_reader refuses_of b c (Err e) → (answer ≢ Failed → answer ≡ e) →
+      Goes {A = ℕ} armored_reader (OrSeek (OrAstray below) refuses_of) a c (Err answer)
+  walk-goes below a b c e answer went goes kept =
+      goes-later armored_reader _ (Err answer) a b c went.keeps.same went.keeps.narrows (seeks-plain (OrAstray below) a b went.keeps.narrows)
+      (goes-unrefused armored_reader below refuses_of b c e answer kept (goes-seeking armored_reader (OrAstray below) refuses_of _ b c goes))
+
+  pub walk-misses : {A B : Type 0} {x : A} {may more : ArmoredReader R buf read → Error → Type 0} (a b c : ArmoredReader R buf read) (to : SeekFrom) (target : ℕ)
+      (e answer : Error) → (IsTrue (read.tells a.source.inner) → IsTrue (read.content a.source.inner).ends_well → IsTrue (read.steady a.source.inner)) →
+      Goes armored_reader may a b (Ok x) → Stands a b (Ok x) →
+      Goes {A = B} armored_reader more b c (Err e) → WalksAlong {A = B} b c target (Err e) → EndsAsBefore {A = B} b c (Err e) →
+      (IsOutside answer → ⊥) → ((IsOutside e → ⊥) → answer ≡ e) → ((len : ℕ) → len < target → AsksPast to a.place len) → Misses a c to (Err answer)
+  walk-misses a b c to target e answer law went first goes along ends own same asks = misses-own a c to answer own (λ told well other quiet.
+      let back = went.keeps.same in
+      let steady = law told well in
+      let told_middle = back.tells ∙ told in
+      let fine : e ≢ OutOfMemory = λ is. other (same (λ refusal. rw is at refusal) ∙ is) in
+      let calm = quiet_after _ _ _ back.faults goes.keeps.same.faults quiet in
+      let content : armored_content b ≡ armored_content a = back.content told in
+      let stands : armored_rest b ≡ from_place b.place (armored_content b) = first.rest told steady ∙ ap (from_place b.place) (sym content) in
+      let short = along.short told_middle (back.steady ∙ steady) stands fine calm in
+      let named : IsNamed (text_outcome_of a).ending e = subst (λ o. IsNamed o e) (first.ending told steady) (ends.named told_middle first.good fine calm) in
+      (still_named _ _ e answer named same, asks (length (armored_content a).bytes) (subst (λ s. length s.bytes < target) content short.1)))
+
+  -- ---- a step, and then one to a target that was found from the end
+
+  pub stands-later : {A : Type 0} (a b c : ArmoredReader R buf read) (result : Result A Error) → SameReader armored_reader a b → KeepsText a b →
+      Stands b c result → Stands a c result
+  stands-later a b c result same text stands = record {
+    good = stands.good;
+    rest = λ told steady.
+        on_ok_weaker result (λ is. is ∙ ap (from_place c.place) (same.content told)) (stands.rest (same.tells ∙ told) (same.steady ∙ steady));
+    ending = λ told steady.
+        on_ok_weaker result (λ is. is ∙ ap (λ t. (delivered t.bytes t.ends_well).ending) (text.same_text told))
+        (stands.ending (same.tells ∙ told) (same.steady ∙ steady));
+  }
+
+  pub reaches-end : (a b c : ArmoredReader R buf read) (d : ℤ) (aim : ℕ) (result : Result ℕ Error) → SameReader armored_reader a b →
+      (IsTrue (read.tells a.source.inner) → IsTrue (read.steady a.source.inner) → sought (End d) a.place (length (armored_content a).bytes) ≡ Ok aim) →
+      Reaches b c (Start aim) result → Reaches a c (End d) result
+  reaches-end a b c d aim result same found reaches = record {
+    there = IfOk-weaker result _ _ (λ n there. tt) reaches.there;
+    place = λ told. reaches.place (same.tells ∙ told);
+    exact = λ told steady. IfOk-weaker result _ _ (λ n there. found told steady ∙ ap Ok (sym there)) reaches.there;
+  }
+
+  pub misses-end : {may : ArmoredReader R buf read → Error → Type 0} (a b c : ArmoredReader R buf read) (d : ℤ) (aim : ℕ) (result : Result ℕ Error) →
+      (IsTrue (read.tells a.source.inner) → IsTrue (read.content a.source.inner).ends_well → IsTrue (read.steady a.source.inner)) →
+      SameReader armored_reader a b → KeepsText a b → AddsNoReason refuses_of a b →
+      (IsTrue (read.tells a.source.inner) → IsTrue (read.steady a.source.inner) → sought (End d) a.place (length (armored_content a).bytes) ≡ Ok aim) →
+      Goes armored_reader may b c result → Misses b c (Start aim) result → Misses a c (End d) result
+  misses-end a b c d aim result law same text narrows found goes misses =
+      let within : (IsTrue (read.tells a.source.inner) → IsTrue (read.steady a.source.inner) → aim ≤ length (armored_content b).bytes) = λ told steady.
+      let len = length (armored_content a).bytes in
+      subst (λ s. aim ≤ length s.bytes) (sym (same.content told)) (within-moved (target (End d) a.place len) aim len (found told steady)) in
+      record {
+        missed = IfErr-weaker result _ _ (λ e missed refusal f h. narrows f (missed refusal f h)) misses.missed;
+        refused = λ told steady. IfErr-weaker result _ _
+            (λ e refused refusal. absurd (cc (sym (moved-within aim (length (armored_content b).bytes) (within told steady)) ∙ (refused refusal).1)))
+            (misses.refused (same.tells ∙ told) (same.steady ∙ steady));
+        named = λ told well. IfErr-weaker result _ _
+            (λ e named own other quiet. absurd (omega (arith, (named own other (quiet_after _ _ _ same.faults goes.keeps.same.faults quiet)).1, within told (law told well))))
+            (misses.named (same.tells ∙ told) (subst IsTrue (sym (ap (λ t. t.ends_well) (text.same_text told))) well));
+      }
+
+  -- ---- a whole seek
+
+  pub seek-done : (below : Error → Type 0) (a b : ArmoredReader R buf read) (to : SeekFrom) (n : ℕ) →
+      Goes armored_reader (OrSeek (OrAstray below) refuses_of) a b (Ok n) → Stands a b (Ok n) → Reaches a b to (Ok n) →
+      SeeksText armored_reader (λ r. r.failed) (OrAstray below) a b to (read.content a.source.inner).ends_well (text_outcome_of a).ending (Ok n)
+  seek-done below a b to n goes stands reaches =
+      arrived armored_reader (λ r. r.failed) below a b to _ _ n goes (armor-plain a b goes.keeps.narrows) stands.good reaches.place (λ told. reaches.there)
+      (λ told steady. (reaches.exact told steady, stands.rest told steady ∙ ap (λ n. from_place n (armored_content a)) (reaches.place told)))
+
+  -- a step that was refused, and then the way back
+  pub seek-missed : (below : Error → Type 0) (a b c : ArmoredReader R buf read) (to : SeekFrom) (error answer : Error) →
+      (IsTrue (read.tells a.source.inner) → IsTrue (read.content a.source.inner).ends_well → IsTrue (read.steady a.source.inner)) →
+      Goes {A = ℕ} armored_reader (OrSeek (OrAstray below) refuses_of) a b (Err error) → Misses a b to (Err error) →
+      ComesBack armored_reader (λ r. r.failed) (OrAstray below) b c a.place a.failed error answer →
+      SeeksText armored_reader (λ r. r.failed) (OrAstray below) a c to (read.content a.source.inner).ends_well (text_outcome_of a).ending (Err answer)
+  seek-missed below a b c to error answer law goes misses back =
+      missed armored_reader (λ r. r.failed) below a b c to _ _ error answer
+      (λ told well.
+      let inner = well_inner (read.content a.source.inner) (read.place a.source.inner - a.source.taken) well in
+      (law told inner, inner, λ e. clean-unnamed _ e well))
+      (rest_gone a.failed a.bytes a.given a.filled a.stage (read.rest a.source.inner)) law (λ had. inl (had, refl))
+      goes misses.missed misses.refused misses.named back
+
+  pub takes-back : {may : ArmoredReader R buf read → Error → Type 0} {below : Error → Type 0} (a b c : ArmoredReader R buf read) (to : SeekFrom) (error answer : Error) →
+      Goes {A = ℕ} armored_reader may a b (Err error) → SparesReading a b to (Err error) →
+      ComesBack armored_reader (λ r. r.failed) below b c a.place a.failed error answer →
+      (IsTrue (read.tells b.source.inner) → IsTrue (read.steady b.source.inner) → b.failed ≡ a.failed → b.place ≡ a.place → IsOutside answer →
+      c.source.lines ≤ b.source.lines) → TakesFew a c to (Err answer)
+  takes-back a b c to error answer goes spares back few = record {
+    lines = λ told steady noting near. tt;
+    outside = λ told steady known refusal.
+        let same = spares.outside told steady known (back.unmoved refusal).0 in
+        omega (
+          arith,
+          ap (λ r. r.source.lines) same,
+          few (goes.keeps.same.tells ∙ told) (goes.keeps.same.steady ∙ steady) (ap (λ r. r.failed) same) (ap (λ r. r.place) same) refusal,
+        );
+  }
