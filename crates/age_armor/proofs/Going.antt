@@ -17,47 +17,18 @@ use Rattle.age_armor.specs.Delivered.{delivered}
 use Rattle.age_armor.specs.Stages.{IsNamed, is_start}
 use Rattle.age_armor.specs.ReaderLaws.{well_inner}
 use Rattle.age_armor.specs.Seeking.{Goes, OrAstray, AsksPast, SeeksText, ComesBack}
-use Rattle.age_armor.specs.Reader.{Learns, text_of, outcome_of, text_outcome_of, armored_reader, armored_content, armored_rest, refuses_of}
-use Rattle.age_armor.specs.Going.{KeepsText, EndsAsBefore, EndsAsText, Stands, WalksAlong, Reaches, Misses, FindsEnd, StaysThere, SparesReading, TakesFew}
+use Rattle.age_armor.specs.Reader.{outcome_of, text_outcome_of, armored_reader, armored_content, armored_rest, refuses_of}
+use Rattle.age_armor.specs.Giving.{KeepsText, EndsAsBefore}
+use Rattle.age_armor.specs.Going.{EndsAsText, Stands, WalksAlong, Reaches, Misses, FindsEnd, StaysThere, SparesReading, TakesFew}
 use Rattle.age_armor.proofs.Ahead.{rest_gone}
-use Rattle.age_armor.proofs.Keeping.{same-source-text, goes-later, goes-seeking, goes-unrefused, armor-plain, seeks-plain}
+use Rattle.age_armor.proofs.Keeping.{goes-later, goes-seeking, goes-unrefused, armor-plain, seeks-plain}
 use Rattle.age_armor.proofs.OwnEndings.{still_named}
-use Rattle.age_armor.proofs.Pacing.{learns_later, learns_none}
 use Rattle.age_armor.proofs.Taking.{quiet_after}
 use Rattle.age_armor.proofs.Walking.{ends_at}
+use Rattle.age_armor.proofs.Giving.{text-later}
 use Rattle.age_armor.proofs.Aiming.{clean-unnamed, moved-within, within-moved, arrived, missed}
 
 module _ {R : Type 0} {buf : buffered.Ghosts R} {read : Ghosts R} where
-  -- ---- the text
-
-  pub text-still : (a b : ArmoredReader R buf read) → b.source ≡ a.source → b.marks ≡ a.marks → KeepsText a b
-  text-still a b source marks = record {
-    same_text = λ told. same-source-text _ _ source;
-    learns = learns_none _ _ marks;
-    counts = omega (arith, ap (λ s. s.lines) source);
-  }
-
-  -- the reader that gives it was moved
-  pub text-gone : (a b : ArmoredReader R buf read) → SameReader read a.source.inner b.source.inner →
-      (IsTrue (read.tells a.source.inner) → read.place b.source.inner - b.source.taken ≡ read.place a.source.inner - a.source.taken) →
-      b.marks ≡ a.marks → b.source.lines ≡ a.source.lines → KeepsText a b
-  text-gone a b same origin marks lines = record {
-    same_text = λ told. rw (same.content told, origin told) refl;
-    learns = learns_none _ _ marks;
-    counts = omega (arith, lines);
-  }
-
-  pub text-learned : {A : Type 0} {result : Result A Error} (a b : ArmoredReader R buf read) → (IsTrue (read.tells a.source.inner) → text_of b ≡ text_of a) →
-      Learns a b result → KeepsText a b
-  text-learned a b same learns = record { same_text = same; learns = learns.more; counts = learns.lines.0 }
-
-  pub text-later : (a b c : ArmoredReader R buf read) → SameReader armored_reader a b → KeepsText a b → KeepsText b c → KeepsText a c
-  text-later a b c same first last = record {
-    same_text = λ told. last.same_text (same.tells ∙ told) ∙ first.same_text told;
-    learns = learns_later a.marks b.marks c.marks first.learns last.learns;
-    counts = omega (arith, first.counts, last.counts);
-  }
-
   pub ends-later : (a b c : ArmoredReader R buf read) → SameReader armored_reader a b → KeepsText a b → EndsAsText b c → EndsAsText a c
   ends-later a b c same text ends = λ told steady good.
       ends (same.tells ∙ told) (same.steady ∙ steady) good ∙ ap (λ t. (delivered t.bytes t.ends_well).ending) (text.same_text told)

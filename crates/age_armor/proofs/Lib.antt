@@ -16,6 +16,7 @@ pub mod Whole
 pub mod Testing
 pub mod Taking
 pub mod Staging
+pub mod Pieces
 pub mod ReaderSteps
 pub mod Walking
 pub mod OwnEndings
@@ -28,4 +29,5 @@ pub mod Forms
 pub mod Flushing
 pub mod Marking
 pub mod Resuming
+pub mod Giving
 pub mod Going

@@ -187,6 +187,10 @@ empty_line s raw old new t none =
 pub cut_line : (s : Bool) (old : Stretch) (e : Error) → IsCutShort old → Stops (section s (raw_lines old.bytes) old.ends_well) e
 cut_line s old e cut = stops_of _ _ InnerFault (cut s) tt
 
+-- a fault comes before the line
+pub no_line : (s : Bool) (old : Stretch) (e : Error) → IsFault old → Stops (section s (raw_lines old.bytes) old.ends_well) e
+no_line s old e fault = stops_of _ _ InnerFault (rw (fault.bytes, fault.ends_badly) refl) tt
+
 held_small : (s : Bool) (raw b : List ℕ) → verdict s raw ≡ Holds b → length b ≤ length raw
 held_small s raw b v =
     let h = subst (IsLineVerdict s raw) v (one_verdict s raw) in

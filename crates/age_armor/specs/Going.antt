@@ -11,25 +11,10 @@ use Rattle.age_io.specs.Cursor.{IsOutside, MayLead, sought}
 use Rattle.age_armor.specs.declared.reader.ArmoredReader.{ArmoredReader}
 use Rattle.age_armor.specs.Delivered.{begins_armor}
 use Rattle.age_armor.specs.Stages.{IsNamed, is_start}
-use Rattle.age_armor.specs.Marks.{LearnsMore}
-use Rattle.age_armor.specs.Ending.{KeepsEnding}
 use Rattle.age_armor.specs.Seeking.{AsksPast, IsNear}
-use Rattle.age_armor.specs.Reader.{inner_of, has_failed, text_of, outcome_of, text_outcome_of, lines_of, marks_of, furthest_of, notes_all, knows_end, armored_content, place_of, armored_rest, refuses_of}
+use Rattle.age_armor.specs.Reader.{inner_of, has_failed, text_of, outcome_of, text_outcome_of, lines_of, furthest_of, notes_all, knows_end, armored_content, place_of, armored_rest, refuses_of}
 
 module _ {R : Type 0} {buf : buffered.Ghosts R} {read : readers.Ghosts R} where
-  -- ---- each step
-
-  -- the text is the same, what is known of it only grows, and so does the count of lines
-  pub record KeepsText (old new : ArmoredReader R buf read) : Type 0 where
-    pub same_text : IsTrue (read.tells (inner_of old)) → text_of new ≡ text_of old
-    pub learns : LearnsMore (marks_of old) (marks_of new)
-    pub counts : lines_of old ≤ lines_of new
-
-  -- a success keeps how the text ends, and a refusal that neither the device nor memory made is that end's
-  abbrev pub EndsAsBefore : {A : Type 0} → ArmoredReader R buf read → ArmoredReader R buf read → Result A Error → Type 0
-  EndsAsBefore old new result = KeepsEnding (read.tells (inner_of old)) (has_failed old) (read.faults (inner_of old)) (read.faults (inner_of new))
-      (outcome_of old).ending (outcome_of new).ending result
-
   -- a reader that hasn't failed comes to the text's own end
   abbrev pub EndsAsText : ArmoredReader R buf read → ArmoredReader R buf read → Type 0
   EndsAsText old new = IsTrue (read.tells (inner_of old)) → IsTrue (read.steady (inner_of old)) → has_failed new ≡ false →

@@ -18,8 +18,7 @@ ghost use Rattle.age_armor.specs.declared.stages.Stage.TheVariants.{Binary};
 ghost use Rattle.age_armor.specs.Ahead.{outcome_ahead, rest_ahead, shown_ahead};
 ghost use Rattle.age_armor.specs.DeliveredLaws.{content_of, content_bytes, content_short, stands_by};
 ghost use Rattle.age_armor.specs.ReaderLaws.{spent_ahead, well_inner};
-ghost use Rattle.age_armor.specs.Counting.{TakesLines};
-ghost use Rattle.age_armor.specs.Marks.{Knows, IsPaced, LearnsMore, is_known};
+ghost use Rattle.age_armor.specs.Marks.{Knows, IsPaced, is_known};
 ghost use Rattle.age_armor.specs.Seeking.{text_outcome};
 
 use crate::counted::Counted;
@@ -178,6 +177,7 @@ impl<R: BufRead> Read for ArmoredReader<R> {
 impl<R: BufRead> ArmoredReader<R> {
     ghost use Rattle.age_armor.specs.Reader.{inner_of, has_failed, has_armor, taken_of, text_of, outcome_of, text_outcome_of, lines_of, furthest_of, notes_all, knows_end, armored_content, place_of, armored_rest, shown_of, Learns};
     ghost use Rattle.age_armor.specs.Seeking.{Goes, text_outcome};
+    ghost use Rattle.age_armor.specs.Giving.{KeepsText, EndsAsBefore, CountsTaken, HoldsNext, ReadsNothing, StaysBinary, FillsByForm};
 
     /// A reader of what the text carries that begins where `inner` stands.
     ///
@@ -258,25 +258,13 @@ impl<R: BufRead> ArmoredReader<R> {
         requires some { 0 < length buf.old }
         ensures reads { let reader = ⟦<ArmoredReader<R> as Read>⟧ in
             Reads reader.tells reader.steady reader.content reader.place reader.rest reader.faults reader.refuses self.old self.new buf.new result }
-        ensures patient { IfErr result (λ e. IsInterruption e → ⊥) }
-        ensures named { IsTrue (R.Read.tells self.old.source.inner) → IfErr result (λ e. e ≢ OutOfMemory →
-            IsQuiet (R.Read.faults self.old.source.inner) (R.Read.faults self.new.source.inner) → IsNamed (outcome_of self.old).ending e) }
-        ensures ending { IsTrue (R.Read.tells self.old.source.inner) → OnOk result ((outcome_of self.new).ending ≡ (outcome_of self.old).ending) }
-        ensures same_text { IsTrue (R.Read.tells self.old.source.inner) → text_of self.new ≡ text_of self.old }
-        ensures held { 0 < length (shown_of self.old) → IfOk result (λ n. n ≤ length (shown_of self.old)) }
-        ensures line { IsTrue (has_armor self.new) → IfOk result (λ n. n + length (shown_of self.new) ≤ 48) }
-        ensures beyond { IsTrue (has_armor self.new) → IfOk result (λ n. drop n buf.new ≡ drop n buf.old) }
-        ensures untouched { IsTrue (has_armor self.new) → OnErr result (buf.new ≡ buf.old) }
-        ensures form { IsTrue (R.Read.tells self.old.source.inner) → IsTrue (R.Read.steady self.old.source.inner) →
-            OnOk result (has_armor self.new ≡ begins_armor (text_of self.old).bytes) }
-        ensures spared { IsTrue (R.Read.tells self.old.source.inner) → IsTrue (R.Read.steady self.old.source.inner) →
-            IsTrue (begins_armor (text_of self.old).bytes) → OnErr result (buf.new ≡ buf.old) }
-        ensures counts { IsTrue (R.Read.tells self.old.source.inner) → OnOk result (TakesLines self.old.stage self.new.stage
-            self.old.place (self.old.filled - self.old.given) self.old.source.lines self.new.place (self.new.filled - self.new.given) self.new.source.lines) }
+        ensures good { FailsForGood (has_failed self.old) (has_failed self.new) result }
+        ensures ending { EndsAsBefore self.old self.new result }
+        ensures same_text { IsTrue (R.Read.tells (inner_of self.old)) → text_of self.new ≡ text_of self.old }
+        ensures fills { FillsByForm self.old self.new buf.old buf.new result }
+        ensures counts { CountsTaken self.old self.new result }
         ensures learns { Learns self.old self.new result }
         ensures knows { IfOk result (λ n. n ≡ 0 → IsTrue (knows_end self.new)) }
-        ensures fails { OnErr result (self.new.failed ≡ true) }
-        ensures good { OnOk result (self.new.failed ≡ false) }
     {
         if self.is_passing() {
             return self.pass(buf);
@@ -304,29 +292,13 @@ impl<R: BufRead> ArmoredReader<R> {
         requires some { 0 < length buf.old }
         requires binary { self.old.stage ≡ Binary }
         requires given { self.old.given ≡ self.old.filled }
-        ensures goes { let reader = ⟦<ArmoredReader<R> as Read>⟧ in Goes reader reader.refuses self.old self.new result }
-        ensures same_text { IsTrue (R.Read.tells self.old.source.inner) → text_of self.new ≡ text_of self.old }
-        ensures count { IfOk result (λ n. n ≤ length buf.new) }
-        ensures bytes { IsTrue (R.Read.tells self.old.source.inner) → IfOk result (λ n.
-            Delivers (take n buf.new) (armored_rest self.old) (armored_rest self.new)) }
-        ensures moves { IsTrue (R.Read.tells self.old.source.inner) → IfOk result (λ n. self.new.place ≡ self.old.place + n) }
-        ensures end { IsTrue (R.Read.tells self.old.source.inner) → IfOk result (λ n. n ≡ 0 → IsCleanEnd (armored_rest self.old)) }
-        ensures stays { OnErr result (self.new.place ≡ self.old.place) }
-        ensures gone { OnErr result (armored_rest self.new ≡ nothing) }
-        ensures cause { IsTrue (R.Read.tells self.old.source.inner) → IfErr result (λ e. e ≢ OutOfMemory →
-            IsQuiet (R.Read.faults self.old.source.inner) (R.Read.faults self.new.source.inner) → IsFault (armored_rest self.old)) }
-        ensures named { IsTrue (R.Read.tells self.old.source.inner) → IfErr result (λ e. e ≢ OutOfMemory →
-            IsQuiet (R.Read.faults self.old.source.inner) (R.Read.faults self.new.source.inner) → IsNamed (outcome_of self.old).ending e) }
-        ensures ending { IsTrue (R.Read.tells self.old.source.inner) → OnOk result ((outcome_of self.new).ending ≡ (outcome_of self.old).ending) }
-        ensures shown { shown_of self.old ≡ [] }
-        ensures binary { has_armor self.new ≡ false }
-        ensures stage { self.new.stage ≡ Binary }
-        ensures lines { self.new.source.lines ≡ self.old.source.lines }
-        ensures holds { (self.new.given ≡ self.old.given) × (self.new.filled ≡ self.old.filled) }
-        ensures learns { LearnsMore self.old.marks self.new.marks }
+        ensures reads { let reader = ⟦<ArmoredReader<R> as Read>⟧ in
+            Reads reader.tells reader.steady reader.content reader.place reader.rest reader.faults reader.refuses self.old self.new buf.new result }
+        ensures good { FailsForGood (has_failed self.old) (has_failed self.new) result }
+        ensures ending { EndsAsBefore self.old self.new result }
+        ensures text { KeepsText self.old self.new }
+        ensures stays { StaysBinary self.old self.new }
         ensures knows { IfOk result (λ n. n ≡ 0 → IsTrue (knows_end self.new)) }
-        ensures fails { OnErr result (self.new.failed ≡ true) }
-        ensures good { OnOk result (self.new.failed ≡ false) }
     {
         match self.source.read(buf) {
             Ok(count) => {
@@ -356,25 +328,14 @@ impl<R: BufRead> ArmoredReader<R> {
     fn hold(&mut self) -> Result<(), Error>
         requires { self.old.failed ≡ false }
         ensures goes { let reader = ⟦<ArmoredReader<R> as Read>⟧ in Goes reader reader.refuses self.old self.new result }
-        ensures same_text { IsTrue (R.Read.tells self.old.source.inner) → text_of self.new ≡ text_of self.old }
-        ensures place { self.new.place ≡ self.old.place }
-        ensures fresh { OnOk result (self.new.failed ≡ false) }
-        ensures rest { IsTrue (R.Read.tells self.old.source.inner) → OnOk result (armored_rest self.new ≡ armored_rest self.old) }
-        ensures end { IsTrue (R.Read.tells self.old.source.inner) → OnOk result
-            (self.new.given ≡ self.new.filled → IsCleanEnd (armored_rest self.old)) }
-        ensures ending { IsTrue (R.Read.tells self.old.source.inner) → OnOk result ((outcome_of self.new).ending ≡ (outcome_of self.old).ending) }
-        ensures same { 0 < length (shown_of self.old) → (result ≡ Ok tt) × (shown_of self.new ≡ shown_of self.old) }
-        ensures begun { OnOk result (is_start self.new.stage ≡ false) }
-        ensures counts { IsTrue (R.Read.tells self.old.source.inner) → OnOk result (TakesLines self.old.stage self.new.stage
-            self.old.place (self.old.filled - self.old.given) self.old.source.lines self.new.place (self.new.filled - self.new.given) self.new.source.lines) }
-        ensures lines { (self.old.source.lines ≤ self.new.source.lines) × (self.new.source.lines ≤ self.old.source.lines + 1) }
-        ensures learns { LearnsMore self.old.marks self.new.marks }
-        ensures knows { OnOk result (self.new.given ≡ self.new.filled → IsTrue (knows_end self.new)) }
-        ensures failed { OnErr result (self.new.failed ≡ true) }
-        ensures cause { IsTrue (R.Read.tells self.old.source.inner) → IfErr result (λ e. e ≢ OutOfMemory →
-            IsQuiet (R.Read.faults self.old.source.inner) (R.Read.faults self.new.source.inner) → IsFault (armored_rest self.old)) }
-        ensures named { IsTrue (R.Read.tells self.old.source.inner) → IfErr result (λ e. e ≢ OutOfMemory →
-            IsQuiet (R.Read.faults self.old.source.inner) (R.Read.faults self.new.source.inner) → IsNamed (outcome_of self.old).ending e) }
+        ensures good { FailsForGood (has_failed self.old) (has_failed self.new) result }
+        ensures ending { EndsAsBefore self.old self.new result }
+        ensures text { KeepsText self.old self.new }
+        ensures holds { HoldsNext self.old self.new result }
+        ensures counts { CountsTaken self.old self.new result }
+        ensures lines { lines_of self.new ≤ lines_of self.old + 1 }
+        ensures cause { IsTrue (R.Read.tells (inner_of self.old)) → IfErr result (λ e. e ≢ OutOfMemory →
+            IsQuiet (R.Read.faults (inner_of self.old)) (R.Read.faults (inner_of self.new)) → IsFault (armored_rest self.old)) }
     {
         if self.is_ready() {
             return Ok(());
@@ -408,16 +369,12 @@ impl<R: BufRead> ArmoredReader<R> {
     fn give(&mut self, buf: &mut [u8]) -> usize
         requires { self.old.failed ≡ false }
         ensures count { result ≡ min (length buf.old) (self.old.filled - self.old.given) }
-        ensures source { self.new.source ≡ self.old.source }
-        ensures stage { self.new.stage ≡ self.old.stage }
-        ensures fresh { self.new.failed ≡ false }
+        ensures reads { ReadsNothing self.old self.new }
         ensures shown { shown_of self.new ≡ drop result (shown_of self.old) }
         ensures bytes { Delivers (take result buf.new) (armored_rest self.old) (armored_rest self.new) }
         ensures beyond { drop result buf.new ≡ drop result buf.old }
-        ensures ending { (outcome_of self.new).ending ≡ (outcome_of self.old).ending }
-        ensures marks { self.new.marks ≡ self.old.marks }
-        ensures moves { IsTrue (R.Read.tells self.old.source.inner) → self.new.place ≡ self.old.place + result }
-        ensures sum { IsTrue (R.Read.tells self.old.source.inner) →
+        ensures moves { IsTrue (R.Read.tells (inner_of self.old)) → self.new.place ≡ self.old.place + result }
+        ensures sum { IsTrue (R.Read.tells (inner_of self.old)) →
             self.new.place + (self.new.filled - self.new.given) ≡ self.old.place + (self.old.filled - self.old.given) }
     {
         let count = buf.len().min(self.filled - self.given);

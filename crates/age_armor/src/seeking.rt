@@ -97,7 +97,8 @@ impl<R: BufRead + Seek> Counted<R> {
 
 impl<R: BufRead + Seek> ArmoredReader<R> {
     ghost use Rattle.age_armor.specs.Reader.{inner_of, text_of, furthest_of, notes_all};
-    ghost use Rattle.age_armor.specs.Going.{KeepsText, Stands, FailsThere};
+    ghost use Rattle.age_armor.specs.Giving.{KeepsText};
+    ghost use Rattle.age_armor.specs.Going.{Stands, FailsThere};
 
     // Goes to the last mark that isn't after a place, or to the front of the text.
     fn approach(&mut self, target: u64) -> Result<(), Error>
@@ -132,7 +133,8 @@ impl<R: BufRead + Seek> ArmoredReader<R> {
 
 impl<R: BufRead> ArmoredReader<R> {
     ghost use Rattle.age_armor.specs.Reader.{inner_of, has_failed};
-    ghost use Rattle.age_armor.specs.Going.{KeepsText, EndsAsBefore, ComesTo, WalksAlong, CountsLines};
+    ghost use Rattle.age_armor.specs.Giving.{KeepsText, EndsAsBefore};
+    ghost use Rattle.age_armor.specs.Going.{ComesTo, WalksAlong, CountsLines};
 
     // Reads on to a place, or to a clean end before it, and tells whether it came to the place.
     fn walk(&mut self, target: u64) -> Result<bool, Error>
@@ -163,7 +165,8 @@ impl<R: BufRead> ArmoredReader<R> {
 
 impl<R: BufRead + Seek> ArmoredReader<R> {
     ghost use Rattle.age_armor.specs.Reader.{inner_of, furthest_of, armored_content};
-    ghost use Rattle.age_armor.specs.Going.{KeepsText, Stands, Reaches, Misses, FindsEnd, SparesReading, StaysThere};
+    ghost use Rattle.age_armor.specs.Giving.{KeepsText};
+    ghost use Rattle.age_armor.specs.Going.{Stands, Reaches, Misses, FindsEnd, SparesReading, StaysThere};
 
     // Whether a reader that has begun, and hasn't failed, stands at a place.
     fn is_at(&self, place: u64) -> bool
@@ -297,7 +300,8 @@ impl<R: BufRead> ArmoredReader<R> {
 
 impl<R: BufRead + Seek> ArmoredReader<R> {
     ghost use Rattle.age_armor.specs.Reader.{inner_of, has_failed, text_of, outcome_of, text_outcome_of, lines_of, marks_of, furthest_of, notes_all, knows_end, armored_content, place_of, armored_rest, shown_of};
-    ghost use Rattle.age_armor.specs.Going.{KeepsText, EndsAsText, FindsEnd, TakesFew};
+    ghost use Rattle.age_armor.specs.Giving.{KeepsText};
+    ghost use Rattle.age_armor.specs.Going.{EndsAsText, FindsEnd, TakesFew};
 
     // Back to where it stood, once a seek was refused. After any other error it has failed there, and so has one that had
     // failed before.

@@ -3,7 +3,7 @@ ghost use Rattle.std.specs.Prelude.{◌≡◌, ◌≢◌, ℕ, ◌+◌, ◌≤�
 ghost use Rattle.age_io.specs.Stretch.{Stretch};
 ghost use Rattle.age_io.specs.Reading.{IsQuiet, Delivers, most_faults};
 ghost use Rattle.age_error.specs.declared.io.Error.TheVariants.{OutOfMemory};
-ghost use Rattle.age_armor.specs.Delivered.{delivered, section, raw_lines, Clean, ends};
+ghost use Rattle.age_armor.specs.Delivered.{delivered};
 ghost use Rattle.age_armor.specs.Counting.{Kept};
 
 use crate::counted::Counted;
@@ -33,6 +33,7 @@ pub(crate) struct Piece {
 }
 
 ghost use Rattle.age_armor.specs.Stages.{ahead, Advances, Stops, IsFound, FindsForm, is_start, is_armored, is_ended};
+ghost use Rattle.age_armor.specs.Pieces.{GivesPiece, IsPiece};
 ghost use Rattle.age_armor.specs.declared.stages.Stage.TheVariants.{Start, Binary, Lines};
 
 /// Reads the first 35 bytes and looks at the next; takes the begin marker's line, where it stands there.
@@ -40,13 +41,9 @@ fn detect<R: BufRead>(source: &mut Counted<R>, bytes: &mut [u8; 48]) -> Result<P
     ensures kept { Kept ⟦<R as Read>⟧ source.old.inner source.old.taken source.new.inner source.new.taken result }
     ensures counts { source.new.lines ≡ source.old.lines }
     ensures fits { IfOk result (λ piece. piece.count ≤ 48) }
-    ensures taken { IsTrue (R.Read.tells source.old.inner) → IfOk result (λ piece. source.old.taken + piece.count ≤ source.new.taken) }
-    ensures bytes { IsTrue (R.Read.tells source.old.inner) → IfOk result (λ piece.
-        Advances (delivered (R.Read.rest source.old.inner).bytes (R.Read.rest source.old.inner).ends_well) (take piece.count bytes.new) (ahead piece.next (R.Read.rest source.new.inner))) }
+    ensures gives { GivesPiece Start source.old source.new bytes.new result }
     ensures found { IfOk result (λ piece. IsFound piece) }
     ensures form { IsTrue (R.Read.tells source.old.inner) → IfOk result (λ piece. FindsForm (is_armored piece.next) (R.Read.rest source.old.inner).bytes) }
-    ensures cause { IsTrue (R.Read.tells source.old.inner) → IfErr result (λ e. e ≢ OutOfMemory → IsQuiet (R.Read.faults source.old.inner) (R.Read.faults source.new.inner) →
-        Stops (delivered (R.Read.rest source.old.inner).bytes (R.Read.rest source.old.inner).ends_well) e) }
 {
     let mut front = [0u8; 35];
     match source.take_front(&mut front) {
@@ -123,19 +120,10 @@ fn next_line<R: BufRead>(
     bytes: &mut [u8; 48],
 ) -> Result<Piece, Error>
     ensures kept { Kept ⟦<R as Read>⟧ source.old.inner source.old.taken source.new.inner source.new.taken result }
-    ensures fits { IfOk result (λ piece. piece.count ≤ 48) }
     ensures counts { (source.old.lines ≤ source.new.lines) × (source.new.lines ≤ source.old.lines + 1) }
-    ensures full { IfOk result (λ piece. piece.next ≡ Lines false → piece.count ≡ 48) }
-    ensures ended { IfOk result (λ piece. is_ended piece.next ≡ true → piece.count ≡ 0) }
-    ensures begun { IfOk result (λ piece. is_start piece.next ≡ false) }
+    ensures piece { IsPiece (Lines after_short) source.old result }
+    ensures gives { GivesPiece (Lines after_short) source.old source.new bytes.new result }
     ensures lines { IfOk result (λ piece. is_armored piece.next ≡ true) }
-    ensures taken { IsTrue (R.Read.tells source.old.inner) → IfOk result (λ piece. source.old.taken + piece.count ≤ source.new.taken) }
-    ensures bytes { IsTrue (R.Read.tells source.old.inner) → IfOk result (λ piece.
-        Advances (section after_short (raw_lines (R.Read.rest source.old.inner).bytes) (R.Read.rest source.old.inner).ends_well) (take piece.count bytes.new) (ahead piece.next (R.Read.rest source.new.inner))) }
-    ensures end { IsTrue (R.Read.tells source.old.inner) → IfOk result (λ piece. piece.count ≡ 0 →
-        section after_short (raw_lines (R.Read.rest source.old.inner).bytes) (R.Read.rest source.old.inner).ends_well ≡ ends Clean) }
-    ensures cause { IsTrue (R.Read.tells source.old.inner) → IfErr result (λ e. e ≢ OutOfMemory → IsQuiet (R.Read.faults source.old.inner) (R.Read.faults source.new.inner) →
-        Stops (section after_short (raw_lines (R.Read.rest source.old.inner).bytes) (R.Read.rest source.old.inner).ends_well) e) }
 {
     if !after_short {
         match source.take_full(decoder, bytes) {
@@ -162,19 +150,10 @@ fn any_line<R: BufRead>(
     bytes: &mut [u8; 48],
 ) -> Result<Piece, Error>
     ensures kept { Kept ⟦<R as Read>⟧ source.old.inner source.old.taken source.new.inner source.new.taken result }
-    ensures fits { IfOk result (λ piece. piece.count ≤ 48) }
     ensures counts { (source.old.lines ≤ source.new.lines) × (source.new.lines ≤ source.old.lines + 1) }
-    ensures full { IfOk result (λ piece. piece.next ≡ Lines false → piece.count ≡ 48) }
-    ensures ended { IfOk result (λ piece. is_ended piece.next ≡ true → piece.count ≡ 0) }
-    ensures begun { IfOk result (λ piece. is_start piece.next ≡ false) }
+    ensures piece { IsPiece (Lines after_short) source.old result }
+    ensures gives { GivesPiece (Lines after_short) source.old source.new bytes.new result }
     ensures lines { IfOk result (λ piece. is_armored piece.next ≡ true) }
-    ensures taken { IsTrue (R.Read.tells source.old.inner) → IfOk result (λ piece. source.old.taken + piece.count ≤ source.new.taken) }
-    ensures bytes { IsTrue (R.Read.tells source.old.inner) → IfOk result (λ piece.
-        Advances (section after_short (raw_lines (R.Read.rest source.old.inner).bytes) (R.Read.rest source.old.inner).ends_well) (take piece.count bytes.new) (ahead piece.next (R.Read.rest source.new.inner))) }
-    ensures end { IsTrue (R.Read.tells source.old.inner) → IfOk result (λ piece. piece.count ≡ 0 →
-        section after_short (raw_lines (R.Read.rest source.old.inner).bytes) (R.Read.rest source.old.inner).ends_well ≡ ends Clean) }
-    ensures cause { IsTrue (R.Read.tells source.old.inner) → IfErr result (λ e. e ≢ OutOfMemory → IsQuiet (R.Read.faults source.old.inner) (R.Read.faults source.new.inner) →
-        Stops (section after_short (raw_lines (R.Read.rest source.old.inner).bytes) (R.Read.rest source.old.inner).ends_well) e) }
 {
     match source.take_line(line) {
         Ok(()) => {}
@@ -207,20 +186,11 @@ fn first<R: BufRead>(
     bytes: &mut [u8; 48],
 ) -> Result<Piece, Error>
     ensures kept { Kept ⟦<R as Read>⟧ source.old.inner source.old.taken source.new.inner source.new.taken result }
-    ensures fits { IfOk result (λ piece. piece.count ≤ 48) }
     ensures counts { (source.old.lines ≤ source.new.lines) × (source.new.lines ≤ source.old.lines + 1) }
-    ensures full { IfOk result (λ piece. piece.next ≡ Lines false → piece.count ≡ 48) }
-    ensures ended { IfOk result (λ piece. is_ended piece.next ≡ true → piece.count ≡ 0) }
+    ensures piece { IsPiece Start source.old result }
+    ensures gives { GivesPiece Start source.old source.new bytes.new result }
     ensures bare { IfOk result (λ piece. is_armored piece.next ≡ false → source.new.lines ≡ source.old.lines) }
-    ensures begun { IfOk result (λ piece. is_start piece.next ≡ false) }
     ensures form { IsTrue (R.Read.tells source.old.inner) → IfOk result (λ piece. FindsForm (is_armored piece.next) (R.Read.rest source.old.inner).bytes) }
-    ensures taken { IsTrue (R.Read.tells source.old.inner) → IfOk result (λ piece. source.old.taken + piece.count ≤ source.new.taken) }
-    ensures bytes { IsTrue (R.Read.tells source.old.inner) → IfOk result (λ piece.
-        Advances (ahead Start (R.Read.rest source.old.inner)) (take piece.count bytes.new) (ahead piece.next (R.Read.rest source.new.inner))) }
-    ensures end { IsTrue (R.Read.tells source.old.inner) → IfOk result (λ piece. piece.count ≡ 0 →
-        ahead Start (R.Read.rest source.old.inner) ≡ ends Clean) }
-    ensures cause { IsTrue (R.Read.tells source.old.inner) → IfErr result (λ e. e ≢ OutOfMemory → IsQuiet (R.Read.faults source.old.inner) (R.Read.faults source.new.inner) →
-        Stops (ahead Start (R.Read.rest source.old.inner)) e) }
 {
     match detect(source, bytes) {
         Ok(piece) => match piece.next {
@@ -235,16 +205,9 @@ fn first<R: BufRead>(
 fn next_bytes<R: BufRead>(source: &mut Counted<R>, bytes: &mut [u8; 48]) -> Result<Piece, Error>
     ensures kept { Kept ⟦<R as Read>⟧ source.old.inner source.old.taken source.new.inner source.new.taken result }
     ensures counts { source.new.lines ≡ source.old.lines }
-    ensures fits { IfOk result (λ piece. piece.count ≤ 48) }
-    ensures begun { IfOk result (λ piece. is_start piece.next ≡ false) }
+    ensures piece { IsPiece Binary source.old result }
+    ensures gives { GivesPiece Binary source.old source.new bytes.new result }
     ensures binary { IfOk result (λ piece. is_armored piece.next ≡ false) }
-    ensures taken { IsTrue (R.Read.tells source.old.inner) → IfOk result (λ piece. source.old.taken + piece.count ≤ source.new.taken) }
-    ensures bytes { IsTrue (R.Read.tells source.old.inner) → IfOk result (λ piece.
-        Advances (ahead Binary (R.Read.rest source.old.inner)) (take piece.count bytes.new) (ahead piece.next (R.Read.rest source.new.inner))) }
-    ensures end { IsTrue (R.Read.tells source.old.inner) → IfOk result (λ piece. piece.count ≡ 0 →
-        ahead Binary (R.Read.rest source.old.inner) ≡ ends Clean) }
-    ensures cause { IsTrue (R.Read.tells source.old.inner) → IfErr result (λ e. e ≢ OutOfMemory → IsQuiet (R.Read.faults source.old.inner) (R.Read.faults source.new.inner) →
-        Stops (ahead Binary (R.Read.rest source.old.inner)) e) }
 {
     match source.read(bytes) {
         Ok(count) => Ok(Piece {
@@ -266,22 +229,13 @@ pub(crate) fn advance<R: BufRead>(
 ) -> Result<Piece, Error>
     requires { is_ended stage ≡ false }
     ensures kept { Kept ⟦<R as Read>⟧ source.old.inner source.old.taken source.new.inner source.new.taken result }
-    ensures fits { IfOk result (λ piece. piece.count ≤ 48) }
     ensures counts { (source.old.lines ≤ source.new.lines) × (source.new.lines ≤ source.old.lines + 1) }
-    ensures full { IfOk result (λ piece. piece.next ≡ Lines false → piece.count ≡ 48) }
-    ensures ended { IfOk result (λ piece. is_ended piece.next ≡ true → piece.count ≡ 0) }
+    ensures piece { IsPiece stage source.old result }
+    ensures gives { GivesPiece stage source.old source.new bytes.new result }
     ensures bare { IfOk result (λ piece. is_armored piece.next ≡ false → source.new.lines ≡ source.old.lines) }
-    ensures begun { IfOk result (λ piece. is_start piece.next ≡ false) }
     ensures form { IsTrue (R.Read.tells source.old.inner) → is_start stage ≡ true →
         IfOk result (λ piece. FindsForm (is_armored piece.next) (R.Read.rest source.old.inner).bytes) }
     ensures kept_form { is_start stage ≡ false → IfOk result (λ piece. is_armored piece.next ≡ is_armored stage) }
-    ensures taken { IsTrue (R.Read.tells source.old.inner) → IfOk result (λ piece. source.old.taken + piece.count ≤ source.new.taken) }
-    ensures bytes { IsTrue (R.Read.tells source.old.inner) → IfOk result (λ piece.
-        Advances (ahead stage (R.Read.rest source.old.inner)) (take piece.count bytes.new) (ahead piece.next (R.Read.rest source.new.inner))) }
-    ensures end { IsTrue (R.Read.tells source.old.inner) → IfOk result (λ piece. piece.count ≡ 0 →
-        ahead stage (R.Read.rest source.old.inner) ≡ ends Clean) }
-    ensures cause { IsTrue (R.Read.tells source.old.inner) → IfErr result (λ e. e ≢ OutOfMemory → IsQuiet (R.Read.faults source.old.inner) (R.Read.faults source.new.inner) →
-        Stops (ahead stage (R.Read.rest source.old.inner)) e) }
 {
     match stage {
         Stage::Start => first(source, decoder, line, bytes),

@@ -1,53 +1,31 @@
-use Rattle.std.proofs.Common.{◌∙◌, arith, sym, subst}
+use Rattle.std.proofs.Common.{◌≡◌, ◌∙◌, IsTrue, arith, sym, subst}
 use Rattle.std.proofs.lemmas.Bool.{true≢false}
-use Rattle.std.proofs.lemmas.Result.{IfOk-weaker, IfErr-weaker}
-use Rattle.age_armor.specs.Stages.{FindsForm}
+use Rattle.std.proofs.lemmas.Result.{IfOk-weaker}
+use Rattle.age_armor.specs.declared.stages.Stage.TheVariants.{Start, Lines}
+use Rattle.age_armor.specs.Stages.{ahead, FindsForm}
+use Rattle.age_armor.proofs.Pieces.{piece-later, gives-later}
 use Rattle.age_armor.proofs.Staging.{found_none}
-use Rattle.age_armor.proofs.Taking.{quiet_after}
 use Rattle.age_armor.proofs.Refusing.{kept-later}
 use Rattle.age_armor.proofs.stages.first.Goals as goal
 
-pub returns-in-Lines-clause-kept : goal.returns-in-Lines-clause-kept
-returns-in-Lines-clause-kept g c =
-    kept-later _ _ c.args.source.now.inner c.detect.new.source.inner _ _ c.detect.new.source.taken _ c.in-Ok.ensures.kept c.next_line.ensures.kept
-
-pub returns-in-Lines-clause-counts : goal.returns-in-Lines-clause-counts
-returns-in-Lines-clause-counts g c =
-    let same = c.in-Ok.ensures.counts in
-    let now = c.next_line.ensures.counts in
-    (omega (arith, same, now.0), omega (arith, same, now.1))
-
-pub returns-in-Lines-clause-bare : goal.returns-in-Lines-clause-bare
-returns-in-Lines-clause-bare g c = IfOk-weaker c.next_line.result _ _ (λ piece is no. absurd (true≢false (sym is ∙ no))) c.next_line.ensures.lines
-
-pub returns-in-Lines-clause-form : goal.returns-in-Lines-clause-form
-returns-in-Lines-clause-form g c = λ told.
-    let found = rw c.in-Lines.is at (c.in-Ok.ensures.form told) in
-    IfOk-weaker c.next_line.result _ _
-    (λ piece is. subst (λ b. FindsForm b (g.R.Read.rest c.args.source.now.inner).bytes) (sym is) found) c.next_line.ensures.lines
-
-pub returns-in-Lines-clause-taken : goal.returns-in-Lines-clause-taken
-returns-in-Lines-clause-taken g c = λ told.
+pub returns-in-Lines : goal.returns-in-Lines
+returns-in-Lines g c =
+    let reader = g.R.Read in
+    let old = c.args.source.now in
+    let middle = c.detect.new.source in
     let before = c.in-Ok.ensures in
-    IfOk-weaker c.next_line.result _ _ (λ piece h. omega (arith, before.taken told, h)) (c.next_line.ensures.taken (before.kept.keeps.same.tells ∙ told))
-
-pub returns-in-Lines-clause-bytes : goal.returns-in-Lines-clause-bytes
-returns-in-Lines-clause-bytes g c = λ told.
-    let before = c.in-Ok.ensures in
-    let same = found_none _ _ _ _ (rw c.in-Lines.is at (before.bytes told)) (rw c.in-Lines.is at before.found) in
-    rw same (c.next_line.ensures.bytes (before.kept.keeps.same.tells ∙ told))
-
-pub returns-in-Lines-clause-end : goal.returns-in-Lines-clause-end
-returns-in-Lines-clause-end g c = λ told.
-    let before = c.in-Ok.ensures in
-    let same = found_none _ _ _ _ (rw c.in-Lines.is at (before.bytes told)) (rw c.in-Lines.is at before.found) in
-    rw same (c.next_line.ensures.end (before.kept.keeps.same.tells ∙ told))
-
-pub returns-in-Lines-clause-cause : goal.returns-in-Lines-clause-cause
-returns-in-Lines-clause-cause g c = λ told.
-    let before = c.in-Ok.ensures in
-    let last = c.next_line.ensures in
-    let same = found_none _ _ _ _ (rw c.in-Lines.is at (before.bytes told)) (rw c.in-Lines.is at before.found) in
-    rw same (IfErr-weaker c.next_line.result _ _
-    (λ e h other quiet. h other (quiet_after _ _ _ before.kept.keeps.same.faults last.kept.keeps.same.faults quiet))
-    (last.cause (before.kept.keeps.same.tells ∙ told)))
+    let now = c.next_line.ensures in
+    let tells : (IsTrue (reader.tells old.inner) → IsTrue (reader.tells middle.inner)) = λ told. before.kept.keeps.same.tells ∙ told in
+    let same : (IsTrue (reader.tells old.inner) → ahead Start (reader.rest old.inner) ≡ ahead (Lines c.in-Lines.after_short) (reader.rest middle.inner)) = λ told.
+    found_none _ _ _ _ (rw c.in-Lines.is at (before.gives.bytes told)) (rw c.in-Lines.is at before.found) in
+    record {
+      kept = kept-later _ _ old.inner middle.inner _ _ middle.taken _ before.kept now.kept;
+      counts = (omega (arith, before.counts, now.counts.0), omega (arith, before.counts, now.counts.1));
+      piece = piece-later Start (Lines c.in-Lines.after_short) old middle c.next_line.result tells same now.piece;
+      gives = gives-later Start (Lines c.in-Lines.after_short) old middle c.next_line.new.source c.next_line.new.bytes c.next_line.result tells
+          before.kept.keeps.same.faults now.kept.keeps.same.faults before.kept.more same now.gives;
+      bare = IfOk-weaker c.next_line.result _ _ (λ piece is no. absurd (true≢false (sym is ∙ no))) now.lines;
+      form = λ told.
+          let found = rw c.in-Lines.is at (before.form told) in
+          IfOk-weaker c.next_line.result _ _ (λ piece is. subst (λ b. FindsForm b (reader.rest old.inner).bytes) (sym is) found) now.lines;
+    }

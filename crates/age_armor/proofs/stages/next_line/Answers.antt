@@ -1,39 +1,43 @@
-use Rattle.std.proofs.Common.{◌≡◌, ◌≤◌, ◌∙◌, IsTrue, arith, refl}
+use Rattle.std.proofs.Common.{◌≡◌, ◌≤◌, ◌∙◌, IsTrue, arith, refl, ap, sym}
+use Rattle.std.proofs.lemmas.Bool.{true≢false}
 use Rattle.std.proofs.lemmas.List.{take_all}
-use Rattle.std.proofs.lemmas.Result.{IfOk-weaker, IfErr-weaker}
+use Rattle.age_armor.specs.declared.stages.Stage.TheVariants.{Lines}
+use Rattle.age_armor.specs.Stages.{ahead}
+use Rattle.age_armor.proofs.Pieces.{piece-none, gives-none, piece-later, gives-later}
 use Rattle.age_armor.proofs.Refusing.{kept-later, kept-as, kept-error}
-use Rattle.age_armor.proofs.Taking.{quiet_after}
-use Rattle.age_armor.proofs.Staging.{full_step}
+use Rattle.age_armor.proofs.Staging.{no_line, full_step}
 use Rattle.age_armor.proofs.stages.next_line.Given as given
 use Rattle.age_armor.proofs.stages.next_line.Goals as goal
 use Rattle.age_armor.proofs.stages.next_line.Goals.{then-not-after_short+in-Ok+else-full, else-not-after_short}
 
-pub returns-then-full-clause-bytes : goal.returns-then-full-clause-bytes
-returns-then-full-clause-bytes g c = λ told.
-    rw (c.if-not-after_short.true, take_all 48 c.take_full.new.bytes (omega arith))
-    (full_step c.take_full.new.bytes (g.R.Read.rest c.args.source.now.inner) (g.R.Read.rest c.take_full.new.self.inner) (c.in-Ok.ensures.full told c.if-full.true))
+pub returns-then-full : goal.returns-then-full
+returns-then-full g c =
+    let now = c.in-Ok.ensures in
+    let full = c.if-full.true in
+    record {
+      kept = kept-as _ _ _ _ _ now.kept;
+      counts = (now.counts, omega (arith, rw full at now.lines));
+      piece = record { fits = omega arith; full = λ is. refl; ended = λ is. absurd (true≢false (sym is)); begun = refl; end = λ told none. absurd (omega (arith, none)) };
+      gives = record {
+        taken = λ told. omega (arith, now.taken told full);
+        bytes = λ told.
+            rw (c.if-not-after_short.true, take_all 48 c.take_full.new.bytes (omega arith))
+            (full_step c.take_full.new.bytes (g.R.Read.rest c.args.source.now.inner) (g.R.Read.rest c.take_full.new.self.inner) (now.full told full));
+        cause = λ told. tt;
+      };
+      lines = refl;
+    }
 
-pub returns-clause-kept : goal.returns-clause-kept
-returns-clause-kept g c =
-    let before = c.args.source.now in
-    let last = c.any_line.ensures.kept in
-    elim c.if-not-after_short.branch [
-      | then-not-after_short+in-Ok+else-full w ↦
-          kept-later _ _ before.inner w.take_full.new.self.inner _ _ w.take_full.new.self.taken _ w.in-Ok.ensures.kept (rw w.source-is at last)
-      | else-not-after_short w ↦ rw w.source-is at last
-    ]
-
-pub returns-in-Err-clause-kept : goal.returns-in-Err-clause-kept
-returns-in-Err-clause-kept g c = kept-error _ _ _ _ _ c.in-Err.e c.in-Err.ensures.kept
-
-pub returns-in-Err-clause-counts : goal.returns-in-Err-clause-counts
-returns-in-Err-clause-counts g c = (c.in-Err.ensures.counts, omega (arith, c.in-Err.ensures.none_taken))
-
-pub returns-then-full-clause-kept : goal.returns-then-full-clause-kept
-returns-then-full-clause-kept g c = kept-as _ _ _ _ _ c.in-Ok.ensures.kept
-
-pub returns-then-full-clause-counts : goal.returns-then-full-clause-counts
-returns-then-full-clause-counts g c = (c.in-Ok.ensures.counts, omega (arith, rw c.if-full.true at c.in-Ok.ensures.lines))
+pub returns-in-Err : goal.returns-in-Err
+returns-in-Err g c =
+    let now = c.in-Err.ensures in
+    record {
+      kept = kept-error _ _ _ _ _ c.in-Err.e now.kept;
+      counts = (now.counts, omega (arith, now.none_taken));
+      piece = piece-none _ _ _;
+      gives = gives-none _ _ _ _ _ (λ told other quiet. no_line c.args.after_short (g.R.Read.rest c.args.source.now.inner) c.in-Err.e (now.cause told other quiet));
+      lines = tt;
+    }
 
 -- where no full line was taken, the reader is as it was
 stays : (g : given.Over) (c : goal.After-any_line g) → (c.if-not-after_short.source.lines ≡ c.args.source.now.lines)
@@ -51,28 +55,24 @@ stays g c = elim c.if-not-after_short.branch [
   | else-not-after_short w ↦ rw w.source-is (refl, refl, omega arith, λ told. (refl, omega arith))
 ]
 
-pub returns-clause-counts : goal.returns-clause-counts
-returns-clause-counts g c =
-    let same = (stays g c).0 in
-    let last = c.any_line.ensures.counts in
-    (omega (arith, same, last.0), omega (arith, same, last.1))
-
-pub returns-clause-taken : goal.returns-clause-taken
-returns-clause-taken g c = λ told.
+pub returns : goal.returns
+returns g c =
+    let reader = g.R.Read in
+    let old = c.args.source.now in
+    let middle = c.if-not-after_short.source in
+    let now = c.any_line.ensures in
     let on = stays g c in
-    let more = (on.3 told).1 in
-    IfOk-weaker c.any_line.result _ _ (λ piece h. omega (arith, h, more)) (c.any_line.ensures.taken (on.1 ∙ told))
-
-pub returns-clause-bytes : goal.returns-clause-bytes
-returns-clause-bytes g c = λ told. let on = stays g c in rw (on.3 told).0 at (c.any_line.ensures.bytes (on.1 ∙ told))
-
-pub returns-clause-end : goal.returns-clause-end
-returns-clause-end g c = λ told. let on = stays g c in rw (on.3 told).0 at (c.any_line.ensures.end (on.1 ∙ told))
-
-pub returns-clause-cause : goal.returns-clause-cause
-returns-clause-cause g c = λ told.
-    let on = stays g c in
-    let last = c.any_line.ensures in
-    IfErr-weaker c.any_line.result _ _
-    (λ e h other quiet. h other (quiet_after _ _ _ on.2 last.kept.keeps.same.faults quiet))
-    (rw (on.3 told).0 at (last.cause (on.1 ∙ told)))
+    let stage = Lines c.args.after_short in
+    let same : (IsTrue (reader.tells old.inner) → ahead stage (reader.rest old.inner) ≡ ahead stage (reader.rest middle.inner)) = λ told. ap (ahead stage) (sym (on.3 told).0) in
+    record {
+      kept = elim c.if-not-after_short.branch [
+        | then-not-after_short+in-Ok+else-full w ↦
+            kept-later _ _ old.inner w.take_full.new.self.inner _ _ w.take_full.new.self.taken _ w.in-Ok.ensures.kept (rw w.source-is at now.kept)
+        | else-not-after_short w ↦ rw w.source-is at now.kept
+      ];
+      counts = (omega (arith, on.0, now.counts.0), omega (arith, on.0, now.counts.1));
+      piece = piece-later stage stage old middle c.any_line.result (λ told. on.1 ∙ told) same now.piece;
+      gives = gives-later stage stage old middle c.any_line.new.source c.any_line.new.bytes c.any_line.result (λ told. on.1 ∙ told) on.2 now.kept.keeps.same.faults
+          (λ told. (on.3 told).1) same now.gives;
+      lines = now.lines;
+    }

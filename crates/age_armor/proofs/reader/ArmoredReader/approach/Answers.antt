@@ -10,8 +10,10 @@ use Rattle.age_armor.specs.Stages.{is_armored}
 use Rattle.age_armor.proofs.Keeping.{same-text, rewound, rewind-refused}
 use Rattle.age_armor.proofs.Ahead.{rest_failed}
 use Rattle.age_armor.proofs.Forms.{form_kept}
+use Rattle.age_armor.proofs.Pacing.{learns_none}
 use Rattle.age_armor.proofs.Resuming.{knows_later, resumed_rest, resumed_ending}
-use Rattle.age_armor.proofs.Going.{text-gone, stands-none}
+use Rattle.age_armor.proofs.Giving.{text-moved}
+use Rattle.age_armor.proofs.Going.{stands-none}
 use Rattle.age_armor.proofs.reader.ArmoredReader.approach.Goals as goal
 
 pub invariant_of-self : goal.invariant_of-self
@@ -103,7 +105,7 @@ returns-in-Ok g c =
     (c.last-mark.ensures.each (reader.steady before.source.inner) (from_place origin content) (before.known told)).0.1 steady in
     record {
       goes = rewound (OrAstray g.R.Seek.seek_refuses) _ _ now.goes now.origin refl;
-      text = text-gone _ _ now.goes.keeps.same now.origin refl now.lines;
+      text = text-moved _ _ now.goes.keeps.same now.origin (learns_none _ _ refl) (omega (arith, now.lines));
       stands = record {
         good = refl;
         rest = λ told steady.
@@ -127,7 +129,7 @@ returns-in-Err g c =
     let content = reader.content before.source.inner in
     record {
       goes = rewind-refused (OrAstray g.R.Seek.seek_refuses) _ _ c.in-Err.e now.goes now.origin;
-      text = text-gone _ _ now.goes.keeps.same now.origin refl now.lines;
+      text = text-moved _ _ now.goes.keeps.same now.origin (learns_none _ _ refl) (omega (arith, now.lines));
       stands = stands-none _ _ _;
       before = tt;
       near = λ told steady noting armored behind. tt;

@@ -5,7 +5,7 @@ use Rattle.age_armor.specs.Reader.{armored_content}
 use Rattle.age_armor.specs.ReaderLaws.{well_inner}
 use Rattle.age_armor.proofs.Keeping.{same-source, source-narrows, armor-plain}
 use Rattle.age_armor.proofs.Aiming.{refusal_or_not, past-moved, stays-failed, came, lost}
-use Rattle.age_armor.proofs.Going.{text-still, text-later}
+use Rattle.age_armor.proofs.Giving.{text-still, text-later}
 use Rattle.age_armor.proofs.reader.ArmoredReader.come_back.Goals as goal
 
 pub returns-then-failed : goal.returns-then-failed

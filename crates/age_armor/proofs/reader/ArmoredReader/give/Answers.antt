@@ -61,45 +61,30 @@ invariant_of-self g c =
           };
     }
 
-pub returns-clause-shown : goal.returns-clause-shown
-returns-clause-shown g c = shown_further c.args.self.now.failed c.args.self.now.bytes c.args.self.now.given c.args.self.now.filled c.min-count.result
-
-pub returns-clause-ending : goal.returns-clause-ending
-returns-clause-ending g c = ending_same c.args.self.now.bytes c.args.self.now.given c.args.self.now.filled (c.args.self.now.given + c.min-count.result) c.args.self.now.stage (g.R.Read.rest c.args.self.now.source.inner)
-
-pub returns-clause-bytes : goal.returns-clause-bytes
-returns-clause-bytes g c =
+pub returns : goal.returns
+returns g c =
     let before = c.args.self.now in
     let n = c.min-count.result in
+    let rest = g.R.Read.rest before.source.inner in
     let all : before.filled ≤ length before.bytes = omega (arith, before.within, before.room) in
     let fits : before.given + n ≤ before.filled = grind (arith, common_steps) in
-    gives_front before.failed before.bytes _ before.given before.filled n before.stage (g.R.Read.rest before.source.inner) c.requires
-    (copied-held before.bytes c.copy_from_slice.new.self (drop n c.args.buf.now) before.given before.filled n all fits c.copy_from_slice.ensures.after)
-
-pub returns-clause-moves : goal.returns-clause-moves
-returns-clause-moves g c = λ told.
-    let before = c.args.self.now in
-    let fits : c.min-count.result ≤ before.filled - before.given = grind (arith, common_steps) in
-    omega (arith, c.saturating_add-self.ensures, before.counted told c.requires, before.source.behind told, g.met.R.Read.place_fits before.source.inner told, fits)
-
-pub returns-clause-sum : goal.returns-clause-sum
-returns-clause-sum g c = λ told.
-    let before = c.args.self.now in
-    let fits : c.min-count.result ≤ before.filled - before.given = grind (arith, common_steps) in
-    omega (
-      arith,
-      c.saturating_add-self.ensures,
-      before.counted told c.requires,
-      before.source.behind told,
-      g.met.R.Read.place_fits before.source.inner told,
-      fits,
-    )
-
-pub returns-clause-beyond : goal.returns-clause-beyond
-returns-clause-beyond g c =
-    let before = c.args.self.now in
-    let n = c.min-count.result in
-    let all : before.filled ≤ length before.bytes = omega (arith, before.within, before.room) in
-    let fits : before.given + n ≤ before.filled = grind (arith, common_steps) in
-    let size : length c.copy_from_slice.new.self ≡ n = omega (arith, all, fits, ap length c.copy_from_slice.ensures.after) in
-    drop-append-drop n c.args.buf.now c.copy_from_slice.new.self n (omega arith) size
+    let moves : (IsTrue (g.R.Read.tells before.source.inner) → c.saturating_add-self.result ≡ before.place + n) = λ told.
+    omega (arith, c.saturating_add-self.ensures, before.counted told c.requires, before.source.behind told, g.met.R.Read.place_fits before.source.inner told, fits) in
+    record {
+      count = c.min-count.ensures;
+      reads = record {
+        source = refl;
+        stage = refl;
+        marks = refl;
+        fresh = c.requires;
+        ending = ending_same before.bytes before.given before.filled (before.given + n) before.stage rest;
+      };
+      shown = shown_further before.failed before.bytes before.given before.filled n;
+      bytes = gives_front before.failed before.bytes _ before.given before.filled n before.stage rest c.requires
+          (copied-held before.bytes c.copy_from_slice.new.self (drop n c.args.buf.now) before.given before.filled n all fits c.copy_from_slice.ensures.after);
+      beyond =
+          let size : length c.copy_from_slice.new.self ≡ n = omega (arith, all, fits, ap length c.copy_from_slice.ensures.after) in
+          drop-append-drop n c.args.buf.now c.copy_from_slice.new.self n (omega arith) size;
+      moves = moves;
+      sum = λ told. omega (arith, moves told, fits);
+    }

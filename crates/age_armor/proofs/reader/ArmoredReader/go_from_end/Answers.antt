@@ -8,7 +8,8 @@ use Rattle.age_armor.specs.Marks.{is_known}
 use Rattle.age_armor.specs.Going.{Reaches, Misses}
 use Rattle.age_armor.specs.Reader.{armored_reader, armored_content}
 use Rattle.age_armor.proofs.Keeping.{goes-refused}
-use Rattle.age_armor.proofs.Going.{text-still, stands-none, reaches-none, reaches-end, misses-end, finds-none}
+use Rattle.age_armor.proofs.Giving.{text-still}
+use Rattle.age_armor.proofs.Going.{stands-none, reaches-none, reaches-end, misses-end, finds-none}
 use Rattle.age_armor.proofs.reader.ArmoredReader.go_from_end.Goals as goal
 
 pub returns-in-None : goal.returns-in-None

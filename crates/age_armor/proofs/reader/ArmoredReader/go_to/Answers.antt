@@ -10,7 +10,8 @@ use Rattle.age_armor.specs.Reader.{armored_reader, text_of, armored_content}
 use Rattle.age_armor.proofs.Aiming.{moved-within, moved-past}
 use Rattle.age_armor.proofs.Keeping.{goes-passed, goes-refused, armor-plain}
 use Rattle.age_armor.proofs.Pacing.{known_length, some_length}
-use Rattle.age_armor.proofs.Going.{text-still, text-later, stands-none, reaches-none, misses-none, misses-own, spares-own, stays-none, came-on, came-goes, came-stands, came-out, walk-goes, walk-misses}
+use Rattle.age_armor.proofs.Giving.{text-still, text-later}
+use Rattle.age_armor.proofs.Going.{stands-none, reaches-none, misses-none, misses-own, spares-own, stays-none, came-on, came-goes, came-stands, came-out, walk-goes, walk-misses}
 use Rattle.age_armor.proofs.reader.ArmoredReader.go_to.Goals as goal
 
 -- ---- where nothing is read

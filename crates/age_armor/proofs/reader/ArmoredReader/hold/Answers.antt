@@ -1,8 +1,8 @@
-use Rattle.std.proofs.Common.{◌≡◌, ◌∙◌, ◌-◌, ◌≤◌, [], true, arith, drop, length, length-take-le, take, sym, ap, subst, refl, IsTrue}
+use Rattle.std.proofs.Common.{◌≡◌, ◌∙◌, ◌-◌, ◌≤◌, true, arith, drop, length, length-take-le, take, sym, ap, subst, refl, IsTrue}
 use Rattle.age_armor.specs.declared.stages.Stage.TheVariants.{Lines}
 use Rattle.std.proofs.lemmas.Bool.{true≢false}
 use Rattle.age_io.specs.Reading.{StandsIn}
-use Rattle.age_armor.specs.Ahead.{outcome_ahead, rest_ahead, shown_ahead}
+use Rattle.age_armor.specs.Ahead.{outcome_ahead, rest_ahead}
 use Rattle.age_armor.specs.Marks.{is_known}
 use Rattle.age_armor.specs.Seeking.{text_outcome}
 use Rattle.age_io.specs.Stretch.{from_place}
@@ -14,14 +14,9 @@ use Rattle.age_armor.specs.Stages.{is_start, is_armored, is_ended}
 use Rattle.age_armor.proofs.Resuming.{knows_later, resumes_line, length_at_end, not_nothing, reaches_content, none_after, still_full, after_full}
 use Rattle.age_armor.proofs.Forms.{form_held, form_kept}
 use Rattle.age_io.proofs.Keeping.{keeps-done, same-self}
+use Rattle.age_armor.proofs.Giving.{good-done, good-failed, text-still, text-moved}
+use Rattle.age_armor.proofs.Pacing.{learns_none}
 use Rattle.age_armor.proofs.reader.ArmoredReader.hold.Goals as goal
-
-pub returns-then-is_ready-clause-end : goal.returns-then-is_ready-clause-end
-returns-then-is_ready-clause-end g c = λ told none.
-    let before = c.args.self.now in
-    hold_end before.failed before.bytes before.given before.filled before.stage (g.R.Read.rest before.source.inner) c.requires
-    (omega (arith, before.within, before.room)) (omega (arith, none))
-    (ended_clean before.stage (g.R.Read.rest before.source.inner) (c.is_ready.ensures.end c.if-is_ready.true none))
 
 pub invariant_of-self : goal.invariant_of-self
 invariant_of-self g c =
@@ -40,14 +35,14 @@ invariant_of-self g c =
     let same = same-text reader before.source.inner before.source.taken source.inner source.taken now.kept.keeps.same now.kept.origin in
     let kept : (IsTrue (reader.tells source.inner) → new ≡ rest) = λ told.
     hold_rest before.failed before.bytes bytes before.given before.filled piece.count before.stage piece.next (reader.rest before.source.inner) (reader.rest source.inner)
-    c.requires all empty (now.bytes (same.told told)) in
+    c.requires all empty (now.gives.bytes (same.told told)) in
     let stands : (IsTrue (reader.tells source.inner) → IsTrue (reader.steady source.inner) → StandsIn other before.place new) = λ told steady.
     kept_stands content other rest new before.place (same.content told) (kept told)
     (stands_by content rest before.place (before.inside (same.told told) (same.steady steady)) (before.follows (same.told told) (same.steady steady))) in
     let front = take piece.count bytes in
-    let size : length front ≡ piece.count = length-take-le piece.count bytes (omega (arith, now.fits, c.advance.array_long)) in
+    let size : length front ≡ piece.count = length-take-le piece.count bytes (omega (arith, now.piece.fits, c.advance.array_long)) in
     let short : (IsTrue (reader.tells before.source.inner) → before.stage ≡ Lines true → piece.count ≡ 0) = λ told.
-    none_after before.stage (reader.rest before.source.inner) front piece.count _ (now.bytes told) size in
+    none_after before.stage (reader.rest before.source.inner) front piece.count _ (now.gives.bytes told) size in
     let here : (IsTrue (reader.tells source.inner) → IsTrue (reader.steady source.inner) →
     (new ≡ from_place before.place other)
     × ((outcome_ahead bytes 0 piece.count piece.next (reader.rest source.inner)).ending
@@ -55,24 +50,24 @@ invariant_of-self g c =
     let told_before = same.told told in
     let held = front_held before.failed bytes 0 piece.count piece.next (reader.rest source.inner) c.requires in
     let some = not_nothing rest front held.more piece.count (ap (λ s. s.bytes) (sym (kept told)) ∙ held.bytes) size
-    (λ none. hold_end before.failed before.bytes before.given before.filled before.stage (reader.rest before.source.inner) c.requires all empty (now.end told_before none)) in (
+    (λ none. hold_end before.failed before.bytes before.given before.filled before.stage (reader.rest before.source.inner) c.requires all empty (now.piece.end told_before none)) in (
       kept told ∙ before.follows told_before (same.steady steady) some ∙ ap (from_place before.place) (sym (same.content told)),
-      hold_ending before.bytes bytes before.given before.filled piece.count before.stage piece.next (reader.rest before.source.inner) (reader.rest source.inner) (now.bytes told_before)
+      hold_ending before.bytes bytes before.given before.filled piece.count before.stage piece.next (reader.rest before.source.inner) (reader.rest source.inner) (now.gives.bytes told_before)
           ∙ before.ends told_before (same.steady steady) some ∙ sym (ap (λ t. (delivered t.bytes t.ends_well).ending) (same.text told)),
     ) in
     record {
       room = c.advance.array_long;
       order = let h : 0 ≤ piece.count = omega arith in h;
-      within = now.fits;
-      fresh = λ start. absurd (true≢false (sym start ∙ now.begun));
-      untaken = λ good start. absurd (true≢false (sym start ∙ now.begun));
+      within = now.piece.fits;
+      fresh = λ start. absurd (true≢false (sym start ∙ now.piece.begun));
+      untaken = λ good start. absurd (true≢false (sym start ∙ now.piece.begun));
       form = λ told steady begun.
           form_held (reader.content before.source.inner) (reader.rest before.source.inner) _
           (reader.place before.source.inner) before.source.taken before.stage piece.next
           (g.met.R.Read.stands before.source.inner (same.told told) (same.steady steady)) (before.untaken c.requires)
           (now.form (same.told told)) now.kept_form (before.form (same.told told) (same.steady steady)) (same.text told);
       unspent = λ good begun. now.kept.unspent;
-      counted = λ told good. omega (arith, before.counted (same.told told) c.requires, now.taken (same.told told));
+      counted = λ told good. omega (arith, before.counted (same.told told) c.requires, now.gives.taken (same.told told));
       fits = λ told. before.fits (same.told told);
       inside = λ told steady. (stands told steady).within;
       follows = λ told steady some. (here told steady).0;
@@ -83,12 +78,12 @@ invariant_of-self g c =
           knows_later (reader.steady before.source.inner) _ _ _ _ same.steady (same.text told)
           (c.learn.ensures.knows (reader.steady before.source.inner) _ (before.known told_before) (omega (arith, pace.within))
           (λ none steady. length_at_end (reader.content before.source.inner) rest _ before.place
-          (hold_end before.failed before.bytes before.given before.filled before.stage (reader.rest before.source.inner) c.requires all empty (now.end told_before none))
+          (hold_end before.failed before.bytes before.given before.filled before.stage (reader.rest before.source.inner) c.requires all empty (now.piece.end told_before none))
           (before.inside told_before steady) (before.follows told_before steady))
           (λ some lines. (
             omega (arith, before.counted told_before c.requires, empty, before.order),
             λ steady. resumes_line (reader.content before.source.inner) (reader.rest before.source.inner) _ before.source.taken before.place before.bytes before.given before.filled
-                before.stage _ front lines (before.source.behind told_before) (g.met.R.Read.stands before.source.inner told_before steady) all empty (now.bytes told_before)
+                before.stage _ front lines (before.source.behind told_before) (g.met.R.Read.stands before.source.inner told_before steady) all empty (now.gives.bytes told_before)
                 (omega (arith, size, some)) (before.inside told_before steady) (rw c.requires at (before.follows told_before steady)) (rw c.requires at (before.ends told_before steady))
                 (before.form told_before steady (ap is_start lines)),
           ))
@@ -97,19 +92,19 @@ invariant_of-self g c =
           (before.inside told_before steady) (before.follows told_before steady)
           (ap (λ s. s.bytes) (sym (kept told)) ∙ (front_held before.failed bytes 0 piece.count piece.next (reader.rest source.inner) c.requires).bytes) size)
           (λ steady. after_full before.stage before.place piece.count (drop (reader.place before.source.inner - before.source.taken) (reader.content before.source.inner).bytes)
-          (c.is_ready.ensures.more c.if-is_ready.false) (before.form told_before steady) pace.first (λ full. omega (arith, pace.lines full, empty)) (short told_before) now.fits));
-      done = λ ended. ap is_known (c.learn.ensures.ends (now.ended ended));
+          (c.is_ready.ensures.more c.if-is_ready.false) (before.form told_before steady) pace.first (λ full. omega (arith, pace.lines full, empty)) (short told_before) now.piece.fits));
+      done = λ ended. ap is_known (c.learn.ensures.ends (now.piece.ended ended));
       here = λ told steady good begun. here told steady;
       paced = λ told good.
           let told_before = same.told told in
           let pace = before.paced told_before c.requires in
           record {
-            within = omega (arith, c.learn.ensures.reaches (omega (arith, before.fits told_before, now.fits)) (omega (arith, pace.within)));
-            first = λ start. absurd (true≢false (sym start ∙ now.begun));
+            within = omega (arith, c.learn.ensures.reaches (omega (arith, before.fits told_before, now.piece.fits)) (omega (arith, pace.within)));
+            first = λ start. absurd (true≢false (sym start ∙ now.piece.begun));
             lines = λ full. omega (
               arith,
               still_full before.stage piece.next before.place piece.count (c.is_ready.ensures.more c.if-is_ready.false) now.kept_form
-                  pace.first (λ is. omega (arith, pace.lines is, empty)) (short told_before) now.full full,
+                  pace.first (λ is. omega (arith, pace.lines is, empty)) (short told_before) now.piece.full full,
             );
           };
     }
@@ -140,139 +135,106 @@ invariant_of-self-in-Err g c =
       paced = λ told good. absurd (true≢false good);
     }
 
-pub returns-in-Ok-clause-rest : goal.returns-in-Ok-clause-rest
-returns-in-Ok-clause-rest g c = λ told.
+pub returns-then-is_ready : goal.returns-then-is_ready
+returns-then-is_ready g c =
     let before = c.args.self.now in
-    let empty : before.filled ≤ before.given = omega (arith, c.is_ready.ensures.none c.if-is_ready.false) in
-    hold_rest before.failed before.bytes c.advance.new.bytes before.given before.filled c.in-Ok.piece.count before.stage c.in-Ok.piece.next
-    (g.R.Read.rest before.source.inner) (g.R.Read.rest c.advance.new.source.inner) c.requires (omega (arith, before.within, before.room)) empty (c.in-Ok.ensures.bytes told)
-
-pub returns-in-Ok-clause-end : goal.returns-in-Ok-clause-end
-returns-in-Ok-clause-end g c = λ told none.
-    let before = c.args.self.now in
-    let empty : before.filled ≤ before.given = omega (arith, c.is_ready.ensures.none c.if-is_ready.false) in
-    hold_end before.failed before.bytes before.given before.filled before.stage (g.R.Read.rest before.source.inner) c.requires
-    (omega (arith, before.within, before.room)) empty (c.in-Ok.ensures.end told (sym none))
-
-pub returns-in-Ok-clause-ending : goal.returns-in-Ok-clause-ending
-returns-in-Ok-clause-ending g c = λ told.
-    let before = c.args.self.now in
-    hold_ending before.bytes c.advance.new.bytes before.given before.filled c.in-Ok.piece.count before.stage c.in-Ok.piece.next
-    (g.R.Read.rest before.source.inner) (g.R.Read.rest c.advance.new.source.inner) (c.in-Ok.ensures.bytes told)
-
-pub returns-in-Ok-clause-same : goal.returns-in-Ok-clause-same
-returns-in-Ok-clause-same g c = λ some.
-    let before = c.args.self.now in
-    let none : shown_ahead before.failed before.bytes before.given before.filled ≡ [] =
-    shown_none before.failed before.bytes before.given before.filled (omega (arith, before.within, before.room)) (c.is_ready.ensures.none c.if-is_ready.false) in
-    absurd (omega (arith, ap length none, some))
-
-pub returns-in-Err-clause-same : goal.returns-in-Err-clause-same
-returns-in-Err-clause-same g c = λ some.
-    let before = c.args.self.now in
-    let none : shown_ahead before.failed before.bytes before.given before.filled ≡ [] =
-    shown_none before.failed before.bytes before.given before.filled (omega (arith, before.within, before.room)) (c.is_ready.ensures.none c.if-is_ready.false) in
-    absurd (omega (arith, ap length none, some))
-
-pub returns-in-Err-clause-cause : goal.returns-in-Err-clause-cause
-returns-in-Err-clause-cause g c = λ told other quiet.
-    let before = c.args.self.now in
-    let empty : before.filled ≤ before.given = omega (arith, c.is_ready.ensures.none c.if-is_ready.false) in
-    hold_fault before.failed before.bytes before.given before.filled before.stage (g.R.Read.rest before.source.inner) c.in-Err.e c.requires
-    (omega (arith, before.within, before.room)) empty (c.in-Err.ensures.cause told other quiet)
-
-pub returns-in-Err-clause-named : goal.returns-in-Err-clause-named
-returns-in-Err-clause-named g c = λ told other quiet.
-    let before = c.args.self.now in
-    hold_named before.bytes before.given before.filled before.stage (g.R.Read.rest before.source.inner) c.in-Err.e (c.in-Err.ensures.cause told other quiet)
-
-pub returns-in-Ok-clause-goes : goal.returns-in-Ok-clause-goes
-returns-in-Ok-clause-goes g c = armor-done _ _ c.in-Ok.ensures.kept c.requires
-
-pub returns-in-Err-clause-goes : goal.returns-in-Err-clause-goes
-returns-in-Err-clause-goes g c = armor-refused _ _ c.in-Err.e c.in-Err.ensures.kept
-
-pub returns-then-is_ready-clause-knows : goal.returns-then-is_ready-clause-knows
-returns-then-is_ready-clause-knows g c = λ none. c.args.self.now.done (c.is_ready.ensures.end c.if-is_ready.true none)
-
-pub returns-in-Ok-clause-knows : goal.returns-in-Ok-clause-knows
-returns-in-Ok-clause-knows g c = λ none. ap is_known (c.learn.ensures.ends (sym none))
-
-pub returns-in-Ok-clause-learns : goal.returns-in-Ok-clause-learns
-returns-in-Ok-clause-learns g c = c.learn.ensures.more
-
-pub returns-then-is_ready-clause-begun : goal.returns-then-is_ready-clause-begun
-returns-then-is_ready-clause-begun g c = c.is_ready.ensures.begun c.if-is_ready.true
-
-pub returns-then-is_ready-clause-same_text : goal.returns-then-is_ready-clause-same_text
-returns-then-is_ready-clause-same_text g c = λ told. refl
-
-pub returns-then-is_ready-clause-rest : goal.returns-then-is_ready-clause-rest
-returns-then-is_ready-clause-rest g c = λ told. refl
-
-pub returns-then-is_ready-clause-ending : goal.returns-then-is_ready-clause-ending
-returns-then-is_ready-clause-ending g c = λ told. refl
-
-pub returns-then-is_ready-clause-same : goal.returns-then-is_ready-clause-same
-returns-then-is_ready-clause-same g c = λ some. (refl, refl)
-
-pub returns-then-is_ready-clause-lines : goal.returns-then-is_ready-clause-lines
-returns-then-is_ready-clause-lines g c = (omega arith, omega arith)
-
-pub returns-then-is_ready-clause-learns : goal.returns-then-is_ready-clause-learns
-returns-then-is_ready-clause-learns g c = record { further = omega arith; end = λ known. known; noting = λ noting. noting }
-
-pub returns-then-is_ready-clause-counts : goal.returns-then-is_ready-clause-counts
-returns-then-is_ready-clause-counts g c = λ told.
-    let before = c.args.self.now in
+    let begun = c.is_ready.ensures.begun c.if-is_ready.true in
+    let end = c.is_ready.ensures.end c.if-is_ready.true in
     record {
-      held = λ some. (refl, refl, refl);
-      more = (omega arith, omega arith);
-      full = λ none full. absurd (true≢false (sym (c.is_ready.ensures.end c.if-is_ready.true (omega (arith, none, before.order))) ∙ ap is_ended full));
-      bare = λ no. refl;
-      begun = c.is_ready.ensures.begun c.if-is_ready.true;
-      on = omega arith;
+      goes = record { keeps = keeps-done _ _ _ _ (same-self _ before) (λ e h. h); unspent = before.unspent c.requires begun };
+      good = good-done _ _ c.requires c.requires;
+      ending = record { same = λ told. refl; named = λ told good. tt };
+      text = text-still _ _ refl refl;
+      holds = record {
+        place = refl;
+        rest = λ told. refl;
+        begun = begun;
+        end = λ told none.
+            hold_end before.failed before.bytes before.given before.filled before.stage (g.R.Read.rest before.source.inner) c.requires
+            (omega (arith, before.within, before.room)) (omega (arith, none)) (ended_clean before.stage (g.R.Read.rest before.source.inner) (end none));
+        knows = λ none. before.done (end none);
+        same = λ some. (refl, refl);
+      };
+      counts = λ told. record {
+        held = λ some. (refl, refl, refl);
+        more = (omega arith, omega arith);
+        full = λ none full. absurd (true≢false (sym (end (omega (arith, none, before.order))) ∙ ap is_ended full));
+        bare = λ no. refl;
+        begun = begun;
+        on = omega arith;
+      };
+      lines = omega arith;
+      cause = λ told. tt;
     }
 
-pub returns-in-Ok-clause-same_text : goal.returns-in-Ok-clause-same_text
-returns-in-Ok-clause-same_text g c = λ told.
-    let old = c.args.self.now.source in
-    let new = c.advance.new.source in
-    let kept = c.in-Ok.ensures.kept in
-    (same-text g.R.Read old.inner old.taken new.inner new.taken kept.keeps.same kept.origin).text (kept.keeps.same.tells ∙ told)
-
-pub returns-in-Ok-clause-lines : goal.returns-in-Ok-clause-lines
-returns-in-Ok-clause-lines g c = c.in-Ok.ensures.counts
-
-pub returns-in-Err-clause-same_text : goal.returns-in-Err-clause-same_text
-returns-in-Err-clause-same_text g c = λ told.
-    let old = c.args.self.now.source in
-    let new = c.advance.new.source in
-    let kept = c.in-Err.ensures.kept in
-    (same-text g.R.Read old.inner old.taken new.inner new.taken kept.keeps.same kept.origin).text (kept.keeps.same.tells ∙ told)
-
-pub returns-in-Err-clause-lines : goal.returns-in-Err-clause-lines
-returns-in-Err-clause-lines g c = c.in-Err.ensures.counts
-
-pub returns-in-Err-clause-learns : goal.returns-in-Err-clause-learns
-returns-in-Err-clause-learns g c = record { further = omega arith; end = λ known. known; noting = λ noting. noting }
-
-pub returns-in-Ok-clause-begun : goal.returns-in-Ok-clause-begun
-returns-in-Ok-clause-begun g c = c.in-Ok.ensures.begun
-
-pub returns-in-Ok-clause-counts : goal.returns-in-Ok-clause-counts
-returns-in-Ok-clause-counts g c = λ told.
+pub returns-in-Ok : goal.returns-in-Ok
+returns-in-Ok g c =
+    let before = c.args.self.now in
+    let reader = g.R.Read in
     let now = c.in-Ok.ensures in
+    let piece = c.in-Ok.piece in
+    let source = c.advance.new.source in
+    let all : before.filled ≤ length before.bytes = omega (arith, before.within, before.room) in
+    let none : before.given ≡ before.filled = c.is_ready.ensures.none c.if-is_ready.false in
+    let empty : before.filled ≤ before.given = omega (arith, none) in
     record {
-      held = λ some. absurd (omega (arith, some, c.is_ready.ensures.none c.if-is_ready.false));
-      more = now.counts;
-      full = λ none full. omega (arith, now.full full);
-      bare = now.bare;
-      begun = now.begun;
-      on = omega arith;
+      goes = armor-done _ _ now.kept c.requires;
+      good = good-done _ _ c.requires c.requires;
+      ending = record {
+        same = λ told. hold_ending before.bytes c.advance.new.bytes before.given before.filled piece.count before.stage piece.next
+            (reader.rest before.source.inner) (reader.rest source.inner) (now.gives.bytes told);
+        named = λ told good. tt;
+      };
+      text = text-moved _ _ now.kept.keeps.same now.kept.origin c.learn.ensures.more now.counts.0;
+      holds = record {
+        place = refl;
+        rest = λ told. hold_rest before.failed before.bytes c.advance.new.bytes before.given before.filled piece.count before.stage piece.next
+            (reader.rest before.source.inner) (reader.rest source.inner) c.requires all empty (now.gives.bytes told);
+        begun = now.piece.begun;
+        end = λ told found. hold_end before.failed before.bytes before.given before.filled before.stage (reader.rest before.source.inner) c.requires all empty
+            (now.piece.end told (sym found));
+        knows = λ found. ap is_known (c.learn.ensures.ends (sym found));
+        same = λ some. absurd (omega (arith, ap length (shown_none before.failed before.bytes before.given before.filled all none), some));
+      };
+      counts = λ told. record {
+        held = λ some. absurd (omega (arith, some, none));
+        more = now.counts;
+        full = λ is full. omega (arith, now.piece.full full);
+        bare = now.bare;
+        begun = now.piece.begun;
+        on = omega arith;
+      };
+      lines = now.counts.1;
+      cause = λ told. tt;
     }
 
-pub returns-then-is_ready-clause-goes : goal.returns-then-is_ready-clause-goes
-returns-then-is_ready-clause-goes g c =
+pub returns-in-Err : goal.returns-in-Err
+returns-in-Err g c =
     let before = c.args.self.now in
-    record { keeps = keeps-done _ _ _ _ (same-self _ before) (λ e h. h); unspent = before.unspent c.requires (c.is_ready.ensures.begun c.if-is_ready.true) }
+    let reader = g.R.Read in
+    let now = c.in-Err.ensures in
+    let all : before.filled ≤ length before.bytes = omega (arith, before.within, before.room) in
+    let none : before.given ≡ before.filled = c.is_ready.ensures.none c.if-is_ready.false in
+    record {
+      goes = armor-refused _ _ c.in-Err.e now.kept;
+      good = good-failed _ _ c.in-Err.e c.requires refl now.kept.keeps.patient;
+      ending = record {
+        same = λ told. tt;
+        named = λ told good other quiet.
+            hold_named before.bytes before.given before.filled before.stage (reader.rest before.source.inner) c.in-Err.e (now.gives.cause told other quiet);
+      };
+      text = text-moved _ _ now.kept.keeps.same now.kept.origin (learns_none _ _ refl) now.counts.0;
+      holds = record {
+        place = refl;
+        rest = λ told. tt;
+        begun = tt;
+        end = λ told. tt;
+        knows = tt;
+        same = λ some. absurd (omega (arith, ap length (shown_none before.failed before.bytes before.given before.filled all none), some));
+      };
+      counts = λ told. tt;
+      lines = now.counts.1;
+      cause = λ told other quiet.
+          hold_fault before.failed before.bytes before.given before.filled before.stage (reader.rest before.source.inner) c.in-Err.e c.requires
+          all (omega (arith, none)) (now.gives.cause told other quiet);
+    }

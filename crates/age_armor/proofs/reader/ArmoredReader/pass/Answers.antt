@@ -1,4 +1,4 @@
-use Rattle.std.proofs.Common.{◌≡◌, ◌∙◌, ◌+◌, ◌-◌, ◌≤◌, arith, take, length, length-take-le, sym, ap, subst, IsTrue}
+use Rattle.std.proofs.Common.{ℕ, refl, ◌≡◌, ◌∙◌, ◌+◌, ◌-◌, ◌≤◌, arith, take, length, length-take-le, sym, ap, subst, IsTrue}
 use Rattle.std.proofs.lemmas.Bool.{true≢false}
 use Rattle.age_io.specs.Reading.{StandsIn}
 use Rattle.age_io.specs.Stretch.{from_place}
@@ -13,6 +13,8 @@ use Rattle.age_armor.specs.Stages.{is_start, is_armored, is_ended}
 use Rattle.age_armor.specs.Delivered.{delivered}
 use Rattle.age_armor.proofs.Resuming.{knows_later, length_at_end, not_binary, reaches_content}
 use Rattle.age_armor.proofs.Forms.{form_kept}
+use Rattle.age_armor.proofs.Giving.{good-done, good-failed, text-moved, reads-done, reads-failed}
+use Rattle.age_armor.proofs.Pacing.{learns_none}
 use Rattle.age_armor.proofs.reader.ArmoredReader.pass.Goals as goal
 
 pub invariant_of-self : goal.invariant_of-self
@@ -92,34 +94,6 @@ invariant_of-self g c =
           };
     }
 
-pub returns-in-Ok-clause-bytes : goal.returns-in-Ok-clause-bytes
-returns-in-Ok-clause-bytes g c = λ told.
-    let before = c.args.self.now in
-    pass_delivers before.failed before.bytes _ before.given before.filled before.stage _ _ c.requires.good c.requires.binary
-    (omega (arith, before.within, before.room)) c.requires.given (c.in-Ok.ensures.bytes told)
-
-pub returns-in-Ok-clause-end : goal.returns-in-Ok-clause-end
-returns-in-Ok-clause-end g c = λ told none.
-    let before = c.args.self.now in
-    pass_end before.failed before.bytes before.given before.filled before.stage _ c.requires.good c.requires.binary
-    (omega (arith, before.within, before.room)) c.requires.given (c.in-Ok.ensures.end told none)
-
-pub returns-in-Ok-clause-ending : goal.returns-in-Ok-clause-ending
-returns-in-Ok-clause-ending g c = λ told.
-    let before = c.args.self.now in
-    pass_ending before.bytes _ before.given before.filled before.stage _ _ c.requires.binary (c.in-Ok.ensures.bytes told)
-
-pub returns-in-Err-clause-cause : goal.returns-in-Err-clause-cause
-returns-in-Err-clause-cause g c = λ told other quiet.
-    let before = c.args.self.now in
-    pass_fault before.failed before.bytes before.given before.filled before.stage _ c.requires.good c.requires.binary
-    (omega (arith, before.within, before.room)) c.requires.given (c.in-Err.ensures.cause told other quiet)
-
-pub returns-in-Err-clause-named : goal.returns-in-Err-clause-named
-returns-in-Err-clause-named g c = λ told other quiet.
-    let before = c.args.self.now in
-    pass_named before.bytes before.given before.filled before.stage _ c.in-Err.e c.requires.binary (c.in-Err.ensures.cause told other quiet)
-
 pub invariant_of-self-in-Err : goal.invariant_of-self-in-Err
 invariant_of-self-in-Err g c =
     let before = c.args.self.now in
@@ -146,36 +120,55 @@ invariant_of-self-in-Err g c =
       paced = λ told good. absurd (true≢false good);
     }
 
-pub returns-in-Ok-clause-shown : goal.returns-in-Ok-clause-shown
-returns-in-Ok-clause-shown g c =
+pub returns-in-Ok : goal.returns-in-Ok
+returns-in-Ok g c =
     let before = c.args.self.now in
-    shown_none before.failed before.bytes before.given before.filled (omega (arith, before.within, before.room)) c.requires.given
-
-pub returns-in-Err-clause-shown : goal.returns-in-Err-clause-shown
-returns-in-Err-clause-shown g c =
-    let before = c.args.self.now in
-    shown_none before.failed before.bytes before.given before.filled (omega (arith, before.within, before.room)) c.requires.given
-
-pub returns-in-Err-clause-gone : goal.returns-in-Err-clause-gone
-returns-in-Err-clause-gone g c =
-    let before = c.args.self.now in
-    rest_failed before.bytes before.given before.filled before.stage (g.R.Read.rest c.read.new.self.inner)
-
-pub returns-in-Ok-clause-moves : goal.returns-in-Ok-clause-moves
-returns-in-Ok-clause-moves g c = λ told.
-    let before = c.args.self.now in
+    let reader = g.R.Read in
     let now = c.in-Ok.ensures in
-    let told_now : IsTrue (g.R.Read.tells c.read.new.self.inner) = now.kept.keeps.same.tells ∙ told in
-    omega (arith, c.saturating_add-self.ensures, before.counted told c.requires.good, now.taken told, c.read.new.self.behind told_now, g.met.R.Read.place_fits c.read.new.self.inner told_now)
+    let after = c.read.new.self in
+    let good = c.requires.good in
+    let binary = c.requires.binary in
+    let all : before.filled ≤ length before.bytes = omega (arith, before.within, before.room) in
+    record {
+      reads = reads-done _ _ _ _ (armor-done _ _ now.kept good) now.count
+          (λ told. pass_delivers before.failed before.bytes _ before.given before.filled before.stage _ _ good binary all c.requires.given (now.bytes told))
+          (λ told.
+          let told_now : IsTrue (reader.tells after.inner) = now.kept.keeps.same.tells ∙ told in
+          omega (arith, c.saturating_add-self.ensures, before.counted told good, now.taken told, after.behind told_now, g.met.R.Read.place_fits after.inner told_now))
+          (λ told none. pass_end before.failed before.bytes before.given before.filled before.stage _ good binary all c.requires.given (now.end told none));
+      good = good-done _ _ good good;
+      ending = record { same = λ told. pass_ending before.bytes _ before.given before.filled before.stage _ _ binary (now.bytes told); named = λ told fine. tt };
+      text = text-moved _ _ now.kept.keeps.same now.kept.origin c.learn.ensures.more (omega (arith, now.lines));
+      stays = record {
+        stage = binary;
+        shown = shown_none before.failed before.bytes before.given before.filled all c.requires.given;
+        holds = (refl, refl);
+        lines = now.lines;
+      };
+      knows = λ none. ap is_known (c.learn.ensures.ends none);
+    }
 
-pub returns-in-Ok-clause-goes : goal.returns-in-Ok-clause-goes
-returns-in-Ok-clause-goes g c = armor-done _ _ c.in-Ok.ensures.kept c.requires.good
-
-pub returns-in-Err-clause-goes : goal.returns-in-Err-clause-goes
-returns-in-Err-clause-goes g c = armor-refused _ _ c.in-Err.e c.in-Err.ensures.kept
-
-pub returns-in-Ok-clause-knows : goal.returns-in-Ok-clause-knows
-returns-in-Ok-clause-knows g c = λ none. ap is_known (c.learn.ensures.ends none)
-
-pub returns-in-Ok-clause-learns : goal.returns-in-Ok-clause-learns
-returns-in-Ok-clause-learns g c = c.learn.ensures.more
+pub returns-in-Err : goal.returns-in-Err
+returns-in-Err g c =
+    let before = c.args.self.now in
+    let now = c.in-Err.ensures in
+    let good = c.requires.good in
+    let binary = c.requires.binary in
+    let all : before.filled ≤ length before.bytes = omega (arith, before.within, before.room) in
+    record {
+      reads = reads-failed _ _ _ c.in-Err.e (armor-refused {B = ℕ} _ _ c.in-Err.e now.kept) refl refl
+          (λ told other quiet. pass_fault before.failed before.bytes before.given before.filled before.stage _ good binary all c.requires.given (now.cause told other quiet));
+      good = good-failed _ _ c.in-Err.e good refl now.kept.keeps.patient;
+      ending = record {
+        same = λ told. tt;
+        named = λ told fine other quiet. pass_named before.bytes before.given before.filled before.stage _ c.in-Err.e binary (now.cause told other quiet);
+      };
+      text = text-moved _ _ now.kept.keeps.same now.kept.origin (learns_none _ _ refl) (omega (arith, now.lines));
+      stays = record {
+        stage = binary;
+        shown = shown_none before.failed before.bytes before.given before.filled all c.requires.given;
+        holds = (refl, refl);
+        lines = now.lines;
+      };
+      knows = tt;
+    }

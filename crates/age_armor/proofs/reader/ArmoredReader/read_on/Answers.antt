@@ -1,215 +1,133 @@
-use Rattle.std.proofs.Common.{◌≡◌, ◌∙◌, ◌-◌, ◌≤◌, arith, length, take, length-drop, ap, sym, subst, inr}
+use Rattle.std.proofs.Common.{◌≡◌, ◌∙◌, ◌≤◌, IsTrue, false, Ok, arith, length, take, length-drop, ap, sym, subst, refl}
+use Rattle.std.proofs.lemmas.Bool.{true≢false}
+use Rattle.std.proofs.lemmas.Result.{on_ok_weaker}
 use Rattle.age_io.specs.Reading.{Delivers}
 use Rattle.age_armor.specs.Ahead.{rest_ahead, shown_ahead}
-use Rattle.age_armor.specs.DeliveredLaws.{content_of}
-use Rattle.age_armor.proofs.Ahead.{rest_gone, length_held, shown_small}
-use Rattle.age_armor.proofs.Keeping.{armor-plain, still-narrows}
-use Rattle.age_armor.proofs.ReaderSteps.{unspent_ok, ends_ok, left_err, patient_err, on_if}
+use Rattle.age_armor.specs.Delivered.{begins_armor}
 use Rattle.age_armor.specs.Marks.{is_known}
-use Rattle.age_armor.proofs.Pacing.{shown_reached, learns_later, learns_none}
-use Rattle.age_armor.proofs.Resuming.{not_binary}
+use Rattle.age_armor.specs.Reader.{text_of, armored_reader, refuses_of}
+use Rattle.age_armor.specs.Seeking.{Goes}
 use Rattle.age_armor.specs.Stages.{is_start, is_armored}
+use Rattle.age_armor.proofs.Ahead.{length_held, shown_small}
 use Rattle.age_armor.proofs.Forms.{form_kept, binary_form}
-use Rattle.std.proofs.lemmas.Result.{on_ok_weaker}
-use Rattle.age_armor.specs.Reader.{text_of}
+use Rattle.age_armor.proofs.Giving.{fails-passed, ends-passed, good-done, text-still, text-later, goes-given, reads-done, reads-failed, learned}
+use Rattle.age_armor.proofs.Pacing.{shown_reached}
+use Rattle.age_armor.proofs.ReaderSteps.{on_if}
+use Rattle.age_armor.proofs.Resuming.{not_binary}
 use Rattle.age_armor.proofs.reader.ArmoredReader.read_on.Goals as goal
 
-pub returns-then-is_passing-clause-reads : goal.returns-then-is_passing-clause-reads
-returns-then-is_passing-clause-reads g c =
-    let now = c.pass.ensures in
-    record {
-      count = now.count;
-      same_tells = now.goes.keeps.same.tells;
-      same_steady = now.goes.keeps.same.steady;
-      no_fewer_faults = now.goes.keeps.same.faults;
-      device = now.goes.keeps.device;
-      unspent = unspent_ok c.pass.result _ _ now.goes.unspent;
-      why = now.goes.keeps.why;
-      narrows = on_ok_weaker c.pass.result (armor-plain c.args.self.now c.pass.new.self) now.goes.keeps.narrows;
-      again = patient_err c.pass.result _ now.goes.keeps.patient;
-      same_content = now.goes.keeps.same.content;
-      bytes = now.bytes;
-      moves = now.moves;
-      end = λ told. ends_ok c.pass.result _ _ (now.end told);
-      stays = λ told. now.stays;
-      left = λ told. left_err c.pass.result _ _ now.gone;
-      interrupted = λ told. patient_err c.pass.result _ now.goes.keeps.patient;
-      cause = now.cause;
-    }
-
-pub returns-in-Err-clause-reads : goal.returns-in-Err-clause-reads
-returns-in-Err-clause-reads g c =
-    let now = c.in-Err.ensures in
-    let after = c.hold.new.self in
-    record {
-      count = tt;
-      same_tells = now.goes.keeps.same.tells;
-      same_steady = now.goes.keeps.same.steady;
-      no_fewer_faults = now.goes.keeps.same.faults;
-      device = now.goes.keeps.device;
-      unspent = tt;
-      why = now.goes.keeps.why;
-      narrows = tt;
-      again = λ again. absurd (now.goes.keeps.patient again);
-      same_content = now.goes.keeps.same.content;
-      bytes = λ told. tt;
-      moves = λ told. tt;
-      end = λ told. tt;
-      stays = λ told. now.place;
-      left = λ told. inr (rest_gone after.failed after.bytes after.given after.filled after.stage (g.R.Read.rest after.source.inner) now.failed);
-      interrupted = λ told again. absurd (now.goes.keeps.patient again);
-      cause = now.cause;
-    }
-
-pub returns-in-Ok-clause-reads : goal.returns-in-Ok-clause-reads
-returns-in-Ok-clause-reads g c =
-    let reader = g.R.Read in
-    let now = c.in-Ok.ensures in
-    let given = c.give.ensures in
-    let held = c.hold.new.self in
-    let after = c.give.new.self in
-    let n = c.give.result in
-    let inner : after.source.inner ≡ held.source.inner = ap (λ s. s.inner) given.source in
-    let faults : reader.faults after.source.inner ≡ reader.faults held.source.inner = ap reader.faults inner in
-    let rest = rest_ahead held.failed held.bytes held.given held.filled held.stage (reader.rest held.source.inner) in
-    let left = rest_ahead after.failed after.bytes after.given after.filled after.stage (reader.rest after.source.inner) in
-    let content : content_of (reader.content after.source.inner) (reader.place after.source.inner - after.source.taken)
-    ≡ content_of (reader.content held.source.inner) (reader.place held.source.inner - held.source.taken) =
-    ap (λ s. content_of (reader.content s.inner) (reader.place s.inner - s.taken)) given.source in
-    record {
-      count = omega (arith, given.count, c.give.auto.buf);
-      same_tells = ap reader.tells inner ∙ now.goes.keeps.same.tells;
-      same_steady = ap reader.steady inner ∙ now.goes.keeps.same.steady;
-      no_fewer_faults = omega (arith, faults, now.goes.keeps.same.faults);
-      device = tt;
-      unspent = λ some. omega (arith, faults, now.goes.unspent);
-      why = tt;
-      narrows = λ e h. armor-plain c.args.self.now held now.goes.keeps.narrows e (still-narrows held after given.source given.fresh e h);
-      again = tt;
-      same_content = λ told. content ∙ now.goes.keeps.same.content told;
-      bytes = λ told. subst (λ s. Delivers (take n c.give.new.buf) s left) (now.rest told) given.bytes;
-      moves = λ told. omega (arith, given.moves (now.goes.keeps.same.tells ∙ told), now.place);
-      end = λ told none some. now.end told (omega (arith, none, given.count, held.order, c.requires.some));
-      stays = λ told. tt;
-      left = λ told. tt;
-      interrupted = λ told. tt;
-      cause = λ told. tt;
-    }
-
-pub returns-in-Ok-clause-held : goal.returns-in-Ok-clause-held
-returns-in-Ok-clause-held g c = λ some.
-    let held = c.hold.new.self in
-    let all : held.filled ≤ length held.bytes = omega (arith, held.within, held.room) in
-    let size = length_held held.failed held.bytes held.given held.filled all c.in-Ok.ensures.fresh in
-    let same = ap length ((c.in-Ok.ensures.same some).1) in
-    omega (arith, c.give.ensures.count, size, same)
-
-pub returns-in-Ok-clause-line : goal.returns-in-Ok-clause-line
-returns-in-Ok-clause-line g c = λ armored.
-    let held = c.hold.new.self in
-    let all : held.filled ≤ length held.bytes = omega (arith, held.within, held.room) in
-    let size = length_held held.failed held.bytes held.given held.filled all c.in-Ok.ensures.fresh in
-    let shown = shown_ahead held.failed held.bytes held.given held.filled in
-    let small = shown_small held.failed held.bytes held.given held.filled held.within in
-    let cut = length-drop c.give.result shown in
-    let left = ap length c.give.ensures.shown in
-    omega (arith, c.give.ensures.count, size, small, cut, left)
-
-pub returns-then-is_passing-clause-form : goal.returns-then-is_passing-clause-form
-returns-then-is_passing-clause-form g c = λ told steady.
-    let now = c.pass.ensures in
+pub returns-then-is_passing : goal.returns-then-is_passing
+returns-then-is_passing g c =
+    let before = c.args.self.now in
     let after = c.pass.new.self in
-    let is = form_kept (is_armored after.stage) (text_of after) (text_of c.args.self.now)
-    (after.form (now.goes.keeps.same.tells ∙ told) (now.goes.keeps.same.steady ∙ steady) (ap is_start now.stage)) (sym (now.same_text told)) in
-    on_ok_weaker c.pass.result (λ good. is) now.good
-
-pub returns-then-is_passing-clause-spared : goal.returns-then-is_passing-clause-spared
-returns-then-is_passing-clause-spared g c = λ told steady armor.
-    let before = c.args.self.now in
-    let binary = (c.is_passing.ensures c.if-is_passing.true).0 in
-    binary_form before.stage (text_of before) binary (before.form told steady (ap is_start binary)) armor
-
-pub returns-in-Ok-clause-form : goal.returns-in-Ok-clause-form
-returns-in-Ok-clause-form g c = λ told steady.
-    let now = c.in-Ok.ensures in
-    let held = c.hold.new.self in
-    let after = c.give.new.self in
-    ap is_armored c.give.ensures.stage ∙ form_kept (is_armored held.stage) (text_of held) (text_of c.args.self.now)
-    (held.form (now.goes.keeps.same.tells ∙ told) (now.goes.keeps.same.steady ∙ steady) now.begun) (sym (now.same_text told))
-
-pub returns-then-is_passing-clause-counts : goal.returns-then-is_passing-clause-counts
-returns-then-is_passing-clause-counts g c = λ told.
-    let before = c.args.self.now in
     let now = c.pass.ensures in
     let passing = c.is_passing.ensures c.if-is_passing.true in
-    on_if c.pass.result _ _ (λ n moves. record {
-      held = λ some. absurd (omega (arith, some, passing.1));
-      more = (omega (arith, now.lines), omega (arith, now.lines));
-      full = λ none full. not_binary (sym now.stage ∙ full);
-      bare = λ is. now.lines;
-      begun = ap is_start now.stage;
-      on = omega (arith, moves);
-    }) (now.moves told)
-
-pub returns-in-Ok-clause-counts : goal.returns-in-Ok-clause-counts
-returns-in-Ok-clause-counts g c = λ told.
-    let taken = c.in-Ok.ensures.counts told in
-    let given = c.give.ensures in
-    let told_held = c.in-Ok.ensures.goes.keeps.same.tells ∙ told in
-    let lines = ap (λ s. s.lines) given.source in
-    let sum = given.sum told_held in
-    record {
-      held = λ some. let same = taken.held some in (given.stage ∙ same.0, lines ∙ same.1, sum ∙ same.2);
-      more = (omega (arith, lines, taken.more.0), omega (arith, lines, taken.more.1));
-      full = λ none full. omega (arith, sum, taken.full none (sym given.stage ∙ full));
-      bare = λ is. lines ∙ taken.bare (sym (ap is_armored given.stage) ∙ is);
-      begun = ap is_start given.stage ∙ taken.begun;
-      on = omega (arith, taken.on, given.moves told_held);
-    }
-
-pub returns-then-is_passing-clause-learns : goal.returns-then-is_passing-clause-learns
-returns-then-is_passing-clause-learns g c =
-    let now = c.pass.ensures in
-    let after = c.pass.new.self in
+    let bare : is_armored after.stage ≡ false = ap is_armored now.stays.stage in
     let all : after.filled ≤ length after.bytes = omega (arith, after.within, after.room) in
     record {
-      more = now.learns;
-      reaches = λ told. on_ok_weaker c.pass.result (λ good. shown_reached after.failed after.bytes after.given after.filled after.place after.marks.furthest after.stage all good
-          (after.paced (now.goes.keeps.same.tells ∙ told) good)) now.good;
-      lines = (omega (arith, now.lines), omega (arith, now.lines));
-      bare = λ told steady plain. on_ok_weaker c.pass.result (λ good. now.lines) now.good;
+      reads = now.reads;
+      good = now.good;
+      ending = now.ending;
+      same_text = now.text.same_text;
+      fills = record {
+        held = λ some. absurd (omega (arith, ap length now.stays.shown, some));
+        line = λ armored. absurd (true≢false (sym armored ∙ bare));
+        form = λ told steady.
+            let is = form_kept (is_armored after.stage) (text_of after) (text_of before)
+            (after.form (now.reads.same_tells ∙ told) (now.reads.same_steady ∙ steady) (ap is_start now.stays.stage)) (sym (now.text.same_text told)) in
+            on_ok_weaker c.pass.result (λ good. is) now.good.good;
+        beyond = λ armored. absurd (true≢false (sym armored ∙ bare));
+        untouched = λ armored. absurd (true≢false (sym armored ∙ bare));
+        spared = λ told steady armor. binary_form before.stage (text_of before) passing.0 (before.form told steady (ap is_start passing.0)) armor;
+      };
+      counts = λ told. on_if c.pass.result _ _ (λ n moves. record {
+        held = λ some. absurd (omega (arith, some, passing.1));
+        more = (omega (arith, now.stays.lines), omega (arith, now.stays.lines));
+        full = λ none full. not_binary (sym now.stays.stage ∙ full);
+        bare = λ is. now.stays.lines;
+        begun = ap is_start now.stays.stage;
+        on = omega (arith, moves);
+      }) (now.reads.moves told);
+      learns = record {
+        more = now.text.learns;
+        reaches = λ told. on_ok_weaker c.pass.result (λ good. shown_reached after.failed after.bytes after.given after.filled after.place after.marks.furthest after.stage all good
+            (after.paced (now.reads.same_tells ∙ told) good)) now.good.good;
+        lines = (now.text.counts, omega (arith, now.stays.lines));
+        bare = λ told steady plain. on_ok_weaker c.pass.result (λ good. now.stays.lines) now.good.good;
+      };
+      knows = now.knows;
     }
 
-pub returns-in-Err-clause-learns : goal.returns-in-Err-clause-learns
-returns-in-Err-clause-learns g c = record {
-  more = c.in-Err.ensures.learns;
-  reaches = λ told. tt;
-  lines = c.in-Err.ensures.lines;
-  bare = λ told steady plain. tt;
-}
+pub returns-in-Err : goal.returns-in-Err
+returns-in-Err g c =
+    let now = c.in-Err.ensures in
+    record {
+      reads = reads-failed _ _ _ c.in-Err.e now.goes now.holds.place now.good.fails now.cause;
+      good = fails-passed _ _ c.in-Err.e now.good;
+      ending = ends-passed _ _ _ _ _ _ c.in-Err.e now.ending;
+      same_text = now.text.same_text;
+      fills = record {
+        held = λ some. tt;
+        line = λ armored. tt;
+        form = λ told steady. tt;
+        beyond = λ armored. tt;
+        untouched = λ armored. refl;
+        spared = λ told steady armor. refl;
+      };
+      counts = λ told. tt;
+      learns = record { more = now.text.learns; reaches = λ told. tt; lines = (now.text.counts, now.lines); bare = λ told steady plain. tt };
+      knows = tt;
+    }
 
-pub returns-in-Ok-clause-learns : goal.returns-in-Ok-clause-learns
-returns-in-Ok-clause-learns g c =
-    let now = c.in-Ok.ensures in
-    let given = c.give.ensures in
+pub returns-in-Ok : goal.returns-in-Ok
+returns-in-Ok g c =
+    let reader = g.R.Read in
+    let before = c.args.self.now in
     let held = c.hold.new.self in
     let after = c.give.new.self in
-    let lines = ap (λ s. s.lines) given.source in
-    let all : after.filled ≤ length after.bytes = omega (arith, after.within, after.room) in
+    let now = c.in-Ok.ensures in
+    let given = c.give.ensures in
+    let n = c.give.result in
+    let lines = ap (λ s. s.lines) given.reads.source in
+    let back = now.goes.keeps.same in
+    let goes : Goes armored_reader refuses_of before after (Ok n) = goes-given before held after now.goes given.reads.source given.reads.fresh in
+    let text = text-later before held after back now.text (text-still held after given.reads.source given.reads.marks) in
+    let left = rest_ahead after.failed after.bytes after.given after.filled after.stage (reader.rest after.source.inner) in
+    let all : held.filled ≤ length held.bytes = omega (arith, held.within, held.room) in
+    let size = length_held held.failed held.bytes held.given held.filled all now.good.good in
+    let form : (IsTrue (reader.tells before.source.inner) → IsTrue (reader.steady before.source.inner) → is_armored held.stage ≡ begins_armor (text_of before).bytes) = λ told steady.
+    form_kept (is_armored held.stage) (text_of held) (text_of before) (held.form (back.tells ∙ told) (back.steady ∙ steady) now.holds.begun) (sym (now.text.same_text told)) in
     record {
-      more = learns_later _ held.marks after.marks now.learns (learns_none held.marks after.marks given.marks);
-      reaches = λ told.
-          let told_after = ap (λ s. g.R.Read.tells s.inner) given.source ∙ now.goes.keeps.same.tells ∙ told in
-          shown_reached after.failed after.bytes after.given after.filled after.place after.marks.furthest after.stage all given.fresh (after.paced told_after given.fresh);
-      lines = (omega (arith, lines, now.lines.0), omega (arith, lines, now.lines.1));
-      bare = λ told steady plain.
-          lines ∙ (now.counts told).bare
-          (form_kept (is_armored held.stage) (text_of held) (text_of c.args.self.now)
-          (held.form (now.goes.keeps.same.tells ∙ told) (now.goes.keeps.same.steady ∙ steady) now.begun) (sym (now.same_text told)) ∙ plain);
+      reads = reads-done before after c.give.new.buf n goes (omega (arith, given.count, c.give.auto.buf))
+          (λ told. subst (λ s. Delivers (take n c.give.new.buf) s left) (now.holds.rest told) given.bytes)
+          (λ told. omega (arith, given.moves (back.tells ∙ told), now.holds.place))
+          (λ told none. now.holds.end told (omega (arith, none, given.count, held.order, c.requires.some)));
+      good = good-done _ _ c.requires.good given.reads.fresh;
+      ending = record { same = λ told. given.reads.ending ∙ now.ending.same told; named = λ told good. tt };
+      same_text = text.same_text;
+      fills = record {
+        held = λ some. omega (arith, given.count, size, ap length ((now.holds.same some).1));
+        line = λ armored.
+            let shown = shown_ahead held.failed held.bytes held.given held.filled in
+            omega (arith, given.count, size, shown_small held.failed held.bytes held.given held.filled held.within, length-drop n shown, ap length given.shown);
+        form = λ told steady. ap is_armored given.reads.stage ∙ form told steady;
+        beyond = λ armored. given.beyond;
+        untouched = λ armored. tt;
+        spared = λ told steady armor. tt;
+      };
+      counts = λ told.
+          let taken = now.counts told in
+          let sum = given.sum (back.tells ∙ told) in
+          record {
+            held = λ some. let same = taken.held some in (given.reads.stage ∙ same.0, lines ∙ same.1, sum ∙ same.2);
+            more = (omega (arith, lines, taken.more.0), omega (arith, lines, taken.more.1));
+            full = λ none full. omega (arith, sum, taken.full none (sym given.reads.stage ∙ full));
+            bare = λ is. lines ∙ taken.bare (sym (ap is_armored given.reads.stage) ∙ is);
+            begun = ap is_start given.reads.stage ∙ taken.begun;
+            on = omega (arith, taken.on, given.moves (back.tells ∙ told));
+          };
+      learns = learned before after goes.keeps.same text (omega (arith, lines, now.lines)) given.reads.fresh (omega (arith, after.within, after.room)) after.paced
+          (λ told steady plain. lines ∙ (now.counts told).bare (form told steady ∙ plain));
+      knows = λ none.
+          ap (λ m. is_known m.length) given.reads.marks ∙ now.holds.knows (omega (arith, none, given.count, c.requires.some, held.order));
     }
-
-pub returns-in-Ok-clause-knows : goal.returns-in-Ok-clause-knows
-returns-in-Ok-clause-knows g c = λ none.
-    let held = c.hold.new.self in
-    let empty : held.given ≡ held.filled = omega (arith, none, c.give.ensures.count, c.requires.some, held.order) in
-    ap (λ m. is_known m.length) c.give.ensures.marks ∙ c.in-Ok.ensures.knows empty

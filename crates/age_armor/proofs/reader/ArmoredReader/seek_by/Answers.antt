@@ -2,7 +2,7 @@ use Rattle.std.proofs.Common.{◌≡◌, ◌∙◌, ◌<◌, ◌^◌, IsTrue, So
 use Rattle.age_io.specs.Cursor.{place_at}
 use Rattle.age_armor.proofs.Keeping.{same-source}
 use Rattle.age_armor.proofs.Aiming.{too-long, too-early, counted-on}
-use Rattle.age_armor.proofs.Going.{text-still}
+use Rattle.age_armor.proofs.Giving.{text-still}
 use Rattle.age_armor.proofs.reader.ArmoredReader.seek_by.Goals as goal
 
 pub returns-then-self : goal.returns-then-self

@@ -4,7 +4,7 @@ use Rattle.age_io.proofs.Keeping.{same-later, same-read, keeps-done, keeps-later
 use Rattle.age_io.proofs.Retrying.{tried-narrows}
 use Rattle.age_armor.specs.Delivered.{begins_armor}
 use Rattle.age_armor.specs.Reader.{armored_reader, refuses_of}
-use Rattle.age_armor.proofs.Going.{text-learned, text-later}
+use Rattle.age_armor.proofs.Giving.{good-done, good-failed, text-learned, text-later}
 use Rattle.age_armor.proofs.Keeping.{armor-plain}
 use Rattle.age_armor.proofs.Pacing.{open_stage, counted_on}
 use Rattle.age_armor.proofs.Taking.{quiet_after}
@@ -22,18 +22,18 @@ returns-in-Err g c =
             (record {
               same = same-read armored_reader c.reads.self c.read_on.new.self reads;
               device = reads.device;
-              patient = now.patient;
+              patient = now.good.patient;
               why = reads.why;
               narrows = tt;
             });
         unspent = tt;
       };
       text = text-later c.args.self.now c.reads.self c.read_on.new.self loop.same loop.text (text-learned _ _ now.same_text now.learns);
-      good = record { failed = λ gone. absurd (true≢false (sym gone ∙ c.requires.good)); fails = now.fails; good = tt; patient = now.patient };
+      good = good-failed _ _ c.in-Err.e c.requires.good now.good.fails now.good.patient;
       ending = record {
         same = λ told. tt;
         named = λ told good other quiet. rw (loop.ending told) at
-            (now.named (loop.same.tells ∙ told) other (quiet_after _ _ _ loop.same.faults reads.no_fewer_faults quiet));
+            (now.ending.named (loop.same.tells ∙ told) loop.good other (quiet_after _ _ _ loop.same.faults reads.no_fewer_faults quiet));
       };
       comes = record { there = λ told. tt; end = λ told. tt; knows = tt };
       along = record {
@@ -61,8 +61,8 @@ returns-in-Ok-eq0 g c =
         unspent = reads.unspent (search rules);
       };
       text = text-later c.args.self.now c.reads.self c.read_on.new.self loop.same loop.text (text-learned _ _ now.same_text now.learns);
-      good = record { failed = λ gone. absurd (true≢false (sym gone ∙ c.requires.good)); fails = tt; good = now.good; patient = tt };
-      ending = record { same = λ told. now.ending (loop.same.tells ∙ told) ∙ loop.ending told; named = λ told good. tt };
+      good = good-done _ _ c.requires.good now.good.good;
+      ending = record { same = λ told. now.ending.same (loop.same.tells ∙ told) ∙ loop.ending told; named = λ told good. tt };
       comes = record {
         there = λ told there. absurd (true≢false (sym there));
         end = λ told none.
@@ -83,7 +83,7 @@ returns-in-Ok-eq0 g c =
         lines = λ told steady stands inside there. absurd (true≢false (sym there));
         bare = λ told steady plain.
             let told_now = loop.same.tells ∙ told in
-            (now.counts told_now).bare (now.form told_now (loop.same.steady ∙ steady) ∙ ap (λ t. begins_armor t.bytes) (loop.text.same_text told) ∙ plain)
+            (now.counts told_now).bare (now.fills.form told_now (loop.same.steady ∙ steady) ∙ ap (λ t. begins_armor t.bytes) (loop.text.same_text told) ∙ plain)
             ∙ loop.bare told steady plain;
       };
     }
@@ -94,7 +94,7 @@ returns g c =
     record {
       goes = record { keeps = keeps-done _ _ _ _ loop.same loop.narrows; unspent = loop.unspent };
       text = loop.text;
-      good = record { failed = λ gone. absurd (true≢false (sym gone ∙ c.requires.good)); fails = tt; good = loop.good; patient = tt };
+      good = good-done _ _ c.requires.good loop.good;
       ending = record { same = loop.ending; named = λ told good. tt };
       comes = record {
         there = λ told there. omega (arith, loop.place told, c.reads-test.false);
@@ -117,12 +117,12 @@ reads-preserved g c =
       same = same-later armored_reader c.args.self.now c.reads.self _ loop.same (same-read _ _ _ reads);
       narrows = λ e h. loop.narrows e (tried-narrows refuses_of c.reads.self c.read_on.new.self reads.narrows e h);
       unspent = reads.unspent (search rules);
-      good = c.in-Ok.ensures.good;
+      good = c.in-Ok.ensures.good.good;
       place = λ told. omega (arith, reads.moves (loop.same.tells ∙ told), loop.place told, reads.count, c.min-most.ensures, length-take c.min-most.result c.reads.room);
       rest = λ told stands.
           further _ _ _ c.reads.self.place _ n (take n c.read_on.new.buf) (loop.rest told stands)
           (reads.bytes (loop.same.tells ∙ told)) (sym (length-take-le n c.read_on.new.buf reads.count)) (reads.moves (loop.same.tells ∙ told));
-      ending = λ told. c.in-Ok.ensures.ending (loop.same.tells ∙ told) ∙ loop.ending told;
+      ending = λ told. c.in-Ok.ensures.ending.same (loop.same.tells ∙ told) ∙ loop.ending told;
       text = text-later c.args.self.now c.reads.self c.read_on.new.self loop.same loop.text (text-learned _ _ c.in-Ok.ensures.same_text c.in-Ok.ensures.learns);
       counted = λ told steady stands inside.
           let told_now = loop.same.tells ∙ told in
@@ -135,6 +135,6 @@ reads-preserved g c =
       bare = λ told steady plain.
           let told_now = loop.same.tells ∙ told in
           (c.in-Ok.ensures.counts told_now).bare
-          (c.in-Ok.ensures.form told_now (loop.same.steady ∙ steady) ∙ ap (λ t. begins_armor t.bytes) (loop.text.same_text told) ∙ plain)
+          (c.in-Ok.ensures.fills.form told_now (loop.same.steady ∙ steady) ∙ ap (λ t. begins_armor t.bytes) (loop.text.same_text told) ∙ plain)
           ∙ loop.bare told steady plain;
     }

@@ -1,9 +1,10 @@
-use Rattle.std.proofs.Common.{◌≤◌, ◌∙◌, arith, length, refl, ap, sym, subst, inl, inr}
+use Rattle.std.proofs.Common.{◌≡◌, ◌≤◌, ◌∙◌, IsTrue, arith, length, refl, ap, sym, subst, inl, inr}
 use Rattle.std.proofs.lemmas.Bool.{true≢false}
 use Rattle.age_io.specs.Filling.{IsFront}
 use Rattle.age_armor.proofs.Ahead.{fault_gone, rest_gone, length_held}
-use Rattle.age_armor.proofs.Pacing.{shown_reached, learns_none}
-use Rattle.age_armor.specs.Delivered.{delivered}
+use Rattle.age_armor.proofs.Giving.{fails-passed, ends-passed, good-done, learned}
+use Rattle.age_armor.proofs.Pacing.{learns_none}
+use Rattle.age_armor.specs.Delivered.{begins_armor, delivered}
 use Rattle.age_armor.specs.Stages.{is_armored}
 use Rattle.age_armor.specs.Reader.{text_of}
 use Rattle.age_armor.proofs.Forms.{form_kept}
@@ -72,26 +73,18 @@ returns-in-Err g c =
           again = λ again. absurd (now.goes.keeps.patient again);
           shows = tt;
           own = (
-            record {
-              failed = λ gone. absurd (true≢false (sym gone ∙ c.if-self.false));
-              fails = now.failed;
-              good = tt;
-              patient = now.goes.keeps.patient;
-            },
-            record {
-              same = λ told. tt;
-              named = λ told good. now.named told;
-            },
-            λ told. ap (λ t. delivered t.bytes t.ends_well) (now.same_text told),
-            now.same_text,
+            fails-passed _ _ c.in-Err.e now.good,
+            ends-passed _ _ _ _ _ _ c.in-Err.e now.ending,
+            λ told. ap (λ t. delivered t.bytes t.ends_well) (now.text.same_text told),
+            now.text.same_text,
             λ told steady. tt,
-            record { more = now.learns; reaches = λ told. tt; lines = now.lines; bare = λ told steady plain. tt },
+            record { more = now.text.learns; reaches = λ told. tt; lines = (now.text.counts, now.lines); bare = λ told steady plain. tt },
             tt,
           );
           same_content = now.goes.keeps.same.content;
-          stays = λ told. now.place;
+          stays = λ told. now.holds.place;
           same_rest = λ told. tt;
-          left = λ told. inr (rest_gone after.failed after.bytes after.given after.filled after.stage (g.R.Read.rest after.source.inner) now.failed);
+          left = λ told. inr (rest_gone after.failed after.bytes after.given after.filled after.stage (g.R.Read.rest after.source.inner) now.good.fails);
           interrupted = λ told again. absurd (now.goes.keeps.patient again);
           cause = now.cause;
         },
@@ -101,10 +94,14 @@ returns-in-Err g c =
 
 pub returns-in-Ok : goal.returns-in-Ok
 returns-in-Ok g c =
+    let before = c.args.self.now in
     let now = c.in-Ok.ensures in
     let after = c.hold.new.self in
     let held = c.as_held.ensures in
-    let all : after.filled ≤ length after.bytes = omega (arith, after.within, after.room) in (
+    let all : after.filled ≤ length after.bytes = omega (arith, after.within, after.room) in
+    let form : (IsTrue (g.R.Read.tells before.source.inner) → IsTrue (g.R.Read.steady before.source.inner) → is_armored after.stage ≡ begins_armor (text_of before).bytes) = λ told steady.
+    form_kept (is_armored after.stage) (text_of after) (text_of before)
+    (after.form (now.goes.keeps.same.tells ∙ told) (now.goes.keeps.same.steady ∙ steady) now.holds.begun) (sym (now.text.same_text told)) in (
       (
         refl,
         λ r. tt,
@@ -119,45 +116,26 @@ returns-in-Ok g c =
           again = tt;
           shows = held.shown;
           own = (
-            record {
-              failed = λ gone. absurd (true≢false (sym gone ∙ c.if-self.false));
-              fails = tt;
-              good = now.fresh;
-              patient = tt;
-            },
-            record {
-              same = now.ending;
-              named = λ told good. tt;
-            },
-            λ told. ap (λ t. delivered t.bytes t.ends_well) (now.same_text told),
-            now.same_text,
-            λ told steady.
-                form_kept (is_armored after.stage) (text_of after) (text_of c.args.self.now)
-                (after.form (now.goes.keeps.same.tells ∙ told) (now.goes.keeps.same.steady ∙ steady) now.begun) (sym (now.same_text told)),
-            record {
-              more = now.learns;
-              reaches = λ told.
-                  shown_reached after.failed after.bytes after.given after.filled after.place after.marks.furthest after.stage all now.fresh
-                  (after.paced (now.goes.keeps.same.tells ∙ told) now.fresh);
-              lines = now.lines;
-              bare = λ told steady plain.
-                  (now.counts told).bare
-                  (form_kept (is_armored after.stage) (text_of after) (text_of c.args.self.now)
-                  (after.form (now.goes.keeps.same.tells ∙ told) (now.goes.keeps.same.steady ∙ steady) now.begun) (sym (now.same_text told)) ∙ plain);
-            },
-            λ none. now.knows (omega (arith, ap length none, length_held after.failed after.bytes after.given after.filled all now.fresh, after.order)),
+            good-done _ _ c.if-self.false now.good.good,
+            record { same = now.ending.same; named = λ told good. tt },
+            λ told. ap (λ t. delivered t.bytes t.ends_well) (now.text.same_text told),
+            now.text.same_text,
+            form,
+            learned before after now.goes.keeps.same now.text now.lines now.good.good all after.paced
+                (λ told steady plain. (now.counts told).bare (form told steady ∙ plain)),
+            λ none. now.holds.knows (omega (arith, ap length none, length_held after.failed after.bytes after.given after.filled all now.good.good, after.order)),
           );
           same_content = now.goes.keeps.same.content;
-          stays = λ told. now.place;
-          same_rest = now.rest;
+          stays = λ told. now.holds.place;
+          same_rest = now.holds.rest;
           left = λ told. tt;
           interrupted = λ told. tt;
           cause = λ told. tt;
         },
       ),
       record {
-        front = λ told. subst (λ s. IsFront c.as_held.result.now s) (now.rest told) held.front;
-        end = λ told none. now.end told (held.none none);
+        front = λ told. subst (λ s. IsFront c.as_held.result.now s) (now.holds.rest told) held.front;
+        end = λ told none. now.holds.end told (held.none none);
         after = tt;
       },
     )
