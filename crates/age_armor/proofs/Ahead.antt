@@ -78,9 +78,6 @@ shown_further false bytes given filled n = held_more bytes given filled n
 pub kept_stands : (content other rest new : Stretch) (place : ℕ) → other ≡ content → new ≡ rest → StandsIn content place rest → StandsIn other place new
 kept_stands content other rest new place p q h = rw (p, q) h
 
-pub failed_stands : (content other rest new : Stretch) (place : ℕ) → other ≡ content → new ≡ nothing → StandsIn content place rest → StandsIn other place new
-failed_stands content other rest new place p q h = record { within = rw p h.within; reaches = inr q }
-
 pub given_stands : (content rest new : Stretch) (place n : ℕ) (xs : List ℕ) → n ≡ length xs → Delivers xs rest new → StandsIn content place rest → StandsIn content (place + n) new
 given_stands content rest new place n xs size d stands = elim stands.reaches [
   | inl e ↦

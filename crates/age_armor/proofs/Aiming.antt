@@ -11,13 +11,12 @@ use Rattle.age_io.specs.Stretch.{nothing, from_place}
 use Rattle.age_io.specs.Reading.{IsQuiet, AddsNoReason}
 use Rattle.age_io.specs.declared.traits.Read.{Ghosts}
 use Rattle.age_io.specs.Keeping.{SameReader, KeepsReader, OrSeek}
-use Rattle.age_io.specs.Cursor.{Seeks, IsOutside, MayLead, moved_to, place_at, sought}
-use Rattle.age_io.proofs.Keeping.{same-self, same-later, keeps-refused, seek-narrows}
+use Rattle.age_io.specs.Cursor.{Seeks, IsOutside, moved_to, place_at, sought}
+use Rattle.age_io.proofs.Keeping.{same-self, same-later, keeps-refused}
 use Rattle.age_armor.specs.Delivered.{Ending, Clean, Refused, InnerFault, is_clean}
 use Rattle.age_armor.specs.Stages.{IsNamed}
-use Rattle.age_armor.specs.Seeking.{Goes, OrAstray, AsksPast, SeeksText, ComesBack}
+use Rattle.age_armor.specs.Seeking.{Goes, OrAstray, SeeksText, ComesBack}
 use Rattle.age_armor.proofs.Keeping.{goes-unrefused}
-use Rattle.age_armor.proofs.Taking.{quiet_after}
 
 -- ---- where a target leads
 
@@ -104,7 +103,7 @@ clean-unnamed InnerFault e clean named = true≢false (sym clean)
 -- ---- a whole seek
 
 -- the count of faults stays the same in each part, where it does in the whole
-quiet-first : (a b c : ℕ) → a ≤ b → b ≤ c → IsQuiet a c → IsQuiet a b
+pub quiet-first : (a b c : ℕ) → a ≤ b → b ≤ c → IsQuiet a c → IsQuiet a b
 quiet-first a b c first last quiet = record { same = omega (arith, first, last, quiet.same); below = omega (arith, first, last, quiet.same, quiet.below) }
 
 module _ {R : Type 0} (read : Ghosts R) (failed : R → Bool) (below : Error → Type 0) where
@@ -113,7 +112,7 @@ module _ {R : Type 0} (read : Ghosts R) (failed : R → Bool) (below : Error →
   own = OrAstray below
 
   -- a refusal that isn't an interruption
-  seeks-refused : (old new : R) (to : SeekFrom) (e : Error) → KeepsReader {T = ℕ} read (OrSeek own read.refuses) old new (Err e) →
+  pub seeks-refused : (old new : R) (to : SeekFrom) (e : Error) → KeepsReader {T = ℕ} read (OrSeek own read.refuses) old new (Err e) →
       (IsOutside e → AddsNoReason read.refuses old new) → (IsTrue (read.tells old) → read.place new ≡ read.place old) →
       (IsTrue (read.tells old) → IsTrue (read.steady old) → read.rest old ≡ from_place (read.place old) (read.content old) → IsOutside e → read.rest new ≡ read.rest old) →
       (IsTrue (read.tells old) → IsTrue (read.content old).ends_well → IsOutside e → sought to (read.place old) (length (read.content old).bytes) ≡ Err e) →
@@ -139,107 +138,6 @@ module _ {R : Type 0} (read : Ghosts R) (failed : R → Bool) (below : Error →
     refused = refused;
     cause = cause;
   }
-
-  pub arrived : (old new : R) (to : SeekFrom) (ends_well : Bool) (ending : Ending) (n : ℕ) → Goes read (OrSeek own read.refuses) old new (Ok n) → AddsNoReason read.refuses old new →
-      failed new ≡ false →
-      (IsTrue (read.tells old) → read.place new ≡ n) → (IsTrue (read.tells old) → MayLead to (read.place old) n) →
-      (IsTrue (read.tells old) → IsTrue (read.steady old) →
-      (sought to (read.place old) (length (read.content old).bytes) ≡ Ok n) × (read.rest new ≡ from_place n (read.content old))) →
-      SeeksText read failed own old new to ends_well ending (Ok n)
-  arrived old new to ends_well ending n goes narrows good at leads exact = record {
-    seeks = record {
-      same_tells = goes.keeps.same.tells;
-      same_steady = goes.keeps.same.steady;
-      no_fewer_faults = goes.keeps.same.faults;
-      device = tt;
-      unspent = goes.unspent;
-      why = tt;
-      narrows = narrows;
-      again = tt;
-      missed = tt;
-      same_content = goes.keeps.same.content;
-      arrives = at;
-      leads = leads;
-      stays = λ told. tt;
-      interrupted = λ told. tt;
-      moves = exact;
-      kept = λ told steady stands. tt;
-      refused = λ told well. tt;
-      cause = λ told well. tt;
-    };
-    patient = tt;
-    good = good;
-    unmoved = tt;
-    fails = tt;
-    named = λ told well. tt;
-    early = λ told steady badly. tt;
-  }
-
-  pub missed : (old middle new : R) (to : SeekFrom) (ends_well : Bool) (ending : Ending) (error answer : Error) →
-      (IsTrue (read.tells old) → IsTrue (read.content old).ends_well → IsTrue (read.steady old) × IsTrue ends_well × ((e : Error) → IsNamed ending e → ⊥)) →
-      (failed old ≡ true → read.rest old ≡ nothing) →
-      (IsTrue (read.tells old) → IsTrue ends_well → IsTrue (read.steady old)) →
-      (failed old ≡ true → read.refuses old Failed) →
-      Goes {A = ℕ} read (OrSeek own read.refuses) old middle (Err error) → (IsOutside error → AddsNoReason read.refuses old middle) →
-      (IsTrue (read.tells old) → IsTrue (read.steady old) → IsOutside error →
-      IsTrue (read.content old).ends_well × (sought to (read.place old) (length (read.content old).bytes) ≡ Err error)) →
-      (IsTrue (read.tells old) → IsTrue ends_well → (IsOutside error → ⊥) → error ≢ OutOfMemory → IsQuiet (read.faults old) (read.faults middle) →
-      IsNamed ending error × AsksPast to (read.place old) (length (read.content old).bytes)) →
-      ComesBack read failed own middle new (read.place old) (failed old) error answer →
-      SeeksText read failed own old new to ends_well ending (Err answer)
-  missed old middle new to ends_well ending error answer well_known gone steady_known owns went narrows refused named back =
-      let goes = went.keeps in
-      let first = goes.same.faults in
-      let last = back.same.faults in
-      let keeps : KeepsReader {T = ℕ} read (OrSeek own read.refuses) old new (Err answer) = record {
-        same = same-later read old middle new goes.same back.same;
-        device = λ device. elim (refusal_or_not error) [
-          | inl is ↦ omega (arith, first, back.device (refusal-device error is) device)
-          | inr not ↦ omega (arith, last, goes.device (subst IsDevice (back.other not) device))
-        ];
-        patient = λ interruption. elim (refusal_or_not error) [
-          | inl is ↦ back.patient (refusal-interruption error is) interruption
-          | inr not ↦ goes.patient (subst IsInterruption (back.other not) interruption)
-        ];
-        why = elim (refusal_or_not error) [
-          | inl is ↦ seek-narrows own read.refuses old middle (narrows is) answer (back.why is)
-          | inr not ↦ subst (OrSeek own read.refuses old) (sym (back.other not)) goes.why
-        ];
-        narrows = tt;
-      } in
-      let returns : (IsTrue (read.tells old) → IsTrue (read.content old).ends_well → IsOutside error → answer ≢ OutOfMemory →
-      IsQuiet (read.faults old) (read.faults new) → IsOutside answer) = λ told well is other quiet.
-      back.cause (goes.same.tells ∙ told) (subst (λ s. IsTrue s.ends_well) (sym (goes.same.content told)) well) is other (quiet_after _ _ _ first last quiet) in
-      record {
-        seeks = seeks-refused old new to answer keeps
-            (λ refusal e h. elim (back.narrows refusal e h) [
-              | inl own ↦ subst (read.refuses old) (sym own.1) (owns own.0)
-              | inr earlier ↦ narrows (back.unmoved refusal).0 e earlier
-            ])
-            (λ told. back.stays (goes.same.tells ∙ told))
-            (λ told is_steady stands refusal. elim (cases_Bool (failed old)) [
-              | inl had ↦ back.gone had ∙ sym (gone had)
-              | inr fine ↦ back.back (goes.same.tells ∙ told) (goes.same.steady ∙ is_steady) fine refusal ∙ ap (from_place (read.place old)) (goes.same.content told) ∙ sym stands
-            ])
-            (λ told well refusal. subst (λ e. sought to (read.place old) (length (read.content old).bytes) ≡ Err e) (sym (back.unmoved refusal).1)
-            (refused told (well_known told well).0 (back.unmoved refusal).0).1)
-            (λ told well other quiet. elim (refusal_or_not error) [
-              | inl is ↦ returns told well is other quiet
-              | inr not ↦ absurd ((well_known told well).2 error
-                  (named told (well_known told well).1 not (λ memory. other (back.other not ∙ memory)) (quiet-first _ _ _ first last quiet)).0)
-            ]);
-        patient = keeps.patient;
-        good = tt;
-        unmoved = λ refusal. (back.unmoved refusal).2;
-        fails = back.fails;
-        named = λ told well own other quiet. elim (refusal_or_not error) [
-          | inl is ↦ absurd (own (returns told (refused told (steady_known told well) is).0 is other quiet))
-          | inr not ↦
-              let is_named = named told well not (λ memory. other (back.other not ∙ memory)) (quiet-first _ _ _ first last quiet) in
-              (subst (IsNamed ending) (sym (back.other not)) is_named.0, is_named.1)
-        ];
-        early = λ told is_steady badly_ends refusal. absurd (true≢false (sym (refused told is_steady (back.unmoved refusal).0).0 ∙ badly_ends));
-      }
 
   -- a reader that had failed, or an error that doesn't refuse a seek
   pub stays-failed : (old new : R) (stood : ℕ) (had : Bool) (error : Error) → SameReader read old new → read.place new ≡ stood → failed new ≡ true →

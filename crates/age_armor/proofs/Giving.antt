@@ -1,5 +1,5 @@
 -- The steps of a reader of armor, as one is passed on by another.
-use Rattle.std.proofs.Common.{◌≡◌, ◌≢◌, ◌∙◌, ◌+◌, ◌-◌, ◌≤◌, ℕ, Bool, true, false, IsTrue, List, length, take, Result, Ok, Err, arith, ap, sym, refl, inr}
+use Rattle.std.proofs.Common.{◌≡◌, ◌≢◌, ◌∙◌, ◌+◌, ◌-◌, ◌≤◌, ℕ, Bool, true, false, IsTrue, List, length, take, Result, Ok, Err, IfOk, OnOk, arith, ap, sym, refl, inr}
 use Rattle.std.proofs.lemmas.Bool.{true≢false}
 use Rattle.age_error.specs.Refusals.{IsInterruption}
 use Rattle.age_error.specs.declared.io.Error.{Error}
@@ -37,6 +37,11 @@ fails-passed old new e fails = record { failed = fails.failed; fails = fails.fai
 pub ends-passed : {A B : Type 0} (tells failed : Bool) (old_faults new_faults : ℕ) (old new : Ending) (e : Error) →
     KeepsEnding {A = A} tells failed old_faults new_faults old new (Err e) → KeepsEnding {A = B} tells failed old_faults new_faults old new (Err e)
 ends-passed tells failed old_faults new_faults old new e ends = record { same = λ told. tt; named = ends.named }
+
+-- what holds of each answer holds where there is one
+pub on_if : (result : Result ℕ Error) (P : ℕ → Type 0) (Q : Type 0) → ((n : ℕ) → P n → Q) → IfOk result P → OnOk result Q
+on_if (Ok n) P Q from h = from n h
+on_if (Err e) P Q from h = tt
 
 module _ {R : Type 0} {buf : buffered.Ghosts R} {read : Ghosts R} where
   -- ---- the text

@@ -1,6 +1,8 @@
 -- The steps of a seek in armor, one after the other.
-use Rattle.std.proofs.Common.{◌≡◌, ◌≢◌, ◌∙◌, ◌-◌, ◌<◌, ◌≤◌, ℕ, ℤ, false, IsTrue, length, Result, Ok, Err, arith, ap, sym, subst, refl, inl}
+use Rattle.std.proofs.Common.{◌≡◌, ◌≢◌, ◌∙◌, ◌-◌, ◌<◌, ◌≤◌, ℕ, ℤ, false, IsTrue, length, Result, Ok, Err, arith, ap, sym, subst, refl, inl, inr}
+use Rattle.std.proofs.lemmas.Bool.{cases_Bool, true≢false}
 use Rattle.std.proofs.lemmas.Result.{IfOk-weaker, IfErr-weaker, on_ok_weaker}
+use Rattle.age_error.specs.Refusals.{IsDevice, IsInterruption}
 use Rattle.age_error.specs.declared.io.Error.{Error}
 use Rattle.age_error.specs.declared.io.Error.TheVariants.{OutOfMemory, Failed}
 use Rattle.age_error.specs.declared.io.SeekFrom.{SeekFrom}
@@ -8,10 +10,10 @@ use Rattle.age_error.specs.declared.io.SeekFrom.TheVariants.{Start, End}
 use Rattle.age_io.specs.declared.traits.Read.{Ghosts}
 use Rattle.age_io.specs.declared.bufread.BufRead as buffered
 use Rattle.age_io.specs.Stretch.{from_place, IsCleanEnd}
-use Rattle.age_io.specs.Keeping.{SameReader, OrSeek}
+use Rattle.age_io.specs.Keeping.{SameReader, KeepsReader, OrSeek}
 use Rattle.age_io.specs.Reading.{IsQuiet, AddsNoReason, TriedAgain, most_faults}
 use Rattle.age_io.specs.Cursor.{IsOutside, sought, target}
-use Rattle.age_io.proofs.Keeping.{same-later, keeps-done}
+use Rattle.age_io.proofs.Keeping.{same-later, keeps-done, seek-narrows}
 use Rattle.age_armor.specs.declared.reader.ArmoredReader.{ArmoredReader}
 use Rattle.age_armor.specs.Delivered.{delivered}
 use Rattle.age_armor.specs.Stages.{IsNamed, is_start}
@@ -26,7 +28,7 @@ use Rattle.age_armor.proofs.OwnEndings.{still_named}
 use Rattle.age_armor.proofs.Taking.{quiet_after}
 use Rattle.age_armor.proofs.Walking.{ends_at}
 use Rattle.age_armor.proofs.Giving.{text-later}
-use Rattle.age_armor.proofs.Aiming.{clean-unnamed, moved-within, within-moved, arrived, missed}
+use Rattle.age_armor.proofs.Aiming.{clean-unnamed, moved-within, within-moved, quiet-first, refusal_or_not, refusal-device, refusal-interruption, seeks-refused}
 
 module _ {R : Type 0} {buf : buffered.Ghosts R} {read : Ghosts R} where
   pub ends-later : (a b c : ArmoredReader R buf read) → SameReader armored_reader a b → KeepsText a b → EndsAsText b c → EndsAsText a c
@@ -39,7 +41,7 @@ module _ {R : Type 0} {buf : buffered.Ghosts R} {read : Ghosts R} where
   stands-none a b e = record { good = tt; rest = λ told steady. tt; ending = λ told steady. tt }
 
   pub reaches-none : (a b : ArmoredReader R buf read) (to : SeekFrom) (e : Error) → Reaches a b to (Err e)
-  reaches-none a b to e = record { there = tt; place = λ told. tt; exact = λ told steady. tt }
+  reaches-none a b to e = record { stands = stands-none a b e; there = tt; place = λ told. tt; exact = λ told steady. tt }
 
   pub misses-none : (a b : ArmoredReader R buf read) (to : SeekFrom) (n : ℕ) → Misses a b to (Ok n)
   misses-none a b to n = record { missed = tt; refused = λ told steady. tt; named = λ told well. tt }
@@ -138,7 +140,7 @@ module _ {R : Type 0} {buf : buffered.Ghosts R} {read : Ghosts R} where
 
   -- ---- a step, and then one to a target that was found from the end
 
-  pub stands-later : {A : Type 0} (a b c : ArmoredReader R buf read) (result : Result A Error) → SameReader armored_reader a b → KeepsText a b →
+  stands-later : {A : Type 0} (a b c : ArmoredReader R buf read) (result : Result A Error) → SameReader armored_reader a b → KeepsText a b →
       Stands b c result → Stands a c result
   stands-later a b c result same text stands = record {
     good = stands.good;
@@ -149,10 +151,11 @@ module _ {R : Type 0} {buf : buffered.Ghosts R} {read : Ghosts R} where
         (stands.ending (same.tells ∙ told) (same.steady ∙ steady));
   }
 
-  pub reaches-end : (a b c : ArmoredReader R buf read) (d : ℤ) (aim : ℕ) (result : Result ℕ Error) → SameReader armored_reader a b →
+  pub reaches-end : (a b c : ArmoredReader R buf read) (d : ℤ) (aim : ℕ) (result : Result ℕ Error) → SameReader armored_reader a b → KeepsText a b →
       (IsTrue (read.tells a.source.inner) → IsTrue (read.steady a.source.inner) → sought (End d) a.place (length (armored_content a).bytes) ≡ Ok aim) →
       Reaches b c (Start aim) result → Reaches a c (End d) result
-  reaches-end a b c d aim result same found reaches = record {
+  reaches-end a b c d aim result same text found reaches = record {
+    stands = stands-later a b c result same text reaches.stands;
     there = IfOk-weaker result _ _ (λ n there. tt) reaches.there;
     place = λ told. reaches.place (same.tells ∙ told);
     exact = λ told steady. IfOk-weaker result _ _ (λ n there. found told steady ∙ ap Ok (sym there)) reaches.there;
@@ -180,11 +183,37 @@ module _ {R : Type 0} {buf : buffered.Ghosts R} {read : Ghosts R} where
   -- ---- a whole seek
 
   pub seek-done : (below : Error → Type 0) (a b : ArmoredReader R buf read) (to : SeekFrom) (n : ℕ) →
-      Goes armored_reader (OrSeek (OrAstray below) refuses_of) a b (Ok n) → Stands a b (Ok n) → Reaches a b to (Ok n) →
+      Goes armored_reader (OrSeek (OrAstray below) refuses_of) a b (Ok n) → Reaches a b to (Ok n) →
       SeeksText armored_reader (λ r. r.failed) (OrAstray below) a b to (read.content a.source.inner).ends_well (text_outcome_of a).ending (Ok n)
-  seek-done below a b to n goes stands reaches =
-      arrived armored_reader (λ r. r.failed) below a b to _ _ n goes (armor-plain a b goes.keeps.narrows) stands.good reaches.place (λ told. reaches.there)
-      (λ told steady. (reaches.exact told steady, stands.rest told steady ∙ ap (λ n. from_place n (armored_content a)) (reaches.place told)))
+  seek-done below a b to n goes reaches = record {
+    seeks = record {
+      same_tells = goes.keeps.same.tells;
+      same_steady = goes.keeps.same.steady;
+      no_fewer_faults = goes.keeps.same.faults;
+      device = tt;
+      unspent = goes.unspent;
+      why = tt;
+      narrows = armor-plain a b goes.keeps.narrows;
+      again = tt;
+      missed = tt;
+      same_content = goes.keeps.same.content;
+      arrives = reaches.place;
+      leads = λ told. reaches.there;
+      stays = λ told. tt;
+      interrupted = λ told. tt;
+      moves = λ told steady.
+          (reaches.exact told steady, reaches.stands.rest told steady ∙ ap (λ n. from_place n (armored_content a)) (reaches.place told));
+      kept = λ told steady stands. tt;
+      refused = λ told well. tt;
+      cause = λ told well. tt;
+    };
+    patient = tt;
+    good = reaches.stands.good;
+    unmoved = tt;
+    fails = tt;
+    named = λ told well. tt;
+    early = λ told steady badly. tt;
+  }
 
   -- a step that was refused, and then the way back
   pub seek-missed : (below : Error → Type 0) (a b c : ArmoredReader R buf read) (to : SeekFrom) (error answer : Error) →
@@ -192,13 +221,62 @@ module _ {R : Type 0} {buf : buffered.Ghosts R} {read : Ghosts R} where
       Goes {A = ℕ} armored_reader (OrSeek (OrAstray below) refuses_of) a b (Err error) → Misses a b to (Err error) →
       ComesBack armored_reader (λ r. r.failed) (OrAstray below) b c a.place a.failed error answer →
       SeeksText armored_reader (λ r. r.failed) (OrAstray below) a c to (read.content a.source.inner).ends_well (text_outcome_of a).ending (Err answer)
-  seek-missed below a b c to error answer law goes misses back =
-      missed armored_reader (λ r. r.failed) below a b c to _ _ error answer
-      (λ told well.
-      let inner = well_inner (read.content a.source.inner) (read.place a.source.inner - a.source.taken) well in
-      (law told inner, inner, λ e. clean-unnamed _ e well))
-      (rest_gone a.failed a.bytes a.given a.filled a.stage (read.rest a.source.inner)) law (λ had. inl (had, refl))
-      goes misses.missed misses.refused misses.named back
+  seek-missed below a b c to error answer law went misses back =
+      let goes = went.keeps in
+      let inner : (IsTrue (armored_content a).ends_well → IsTrue (read.content a.source.inner).ends_well) =
+      well_inner (read.content a.source.inner) (read.place a.source.inner - a.source.taken) in
+      let gone = rest_gone a.failed a.bytes a.given a.filled a.stage (read.rest a.source.inner) in
+      let first = goes.same.faults in
+      let last = back.same.faults in
+      let keeps : KeepsReader {T = ℕ} armored_reader (OrSeek (OrAstray below) refuses_of) a c (Err answer) = record {
+        same = same-later armored_reader a b c goes.same back.same;
+        device = λ device. elim (refusal_or_not error) [
+          | inl is ↦ omega (arith, first, back.device (refusal-device error is) device)
+          | inr not ↦ omega (arith, last, goes.device (subst IsDevice (back.other not) device))
+        ];
+        patient = λ interruption. elim (refusal_or_not error) [
+          | inl is ↦ back.patient (refusal-interruption error is) interruption
+          | inr not ↦ goes.patient (subst IsInterruption (back.other not) interruption)
+        ];
+        why = elim (refusal_or_not error) [
+          | inl is ↦ seek-narrows (OrAstray below) refuses_of a b (misses.missed is) answer (back.why is)
+          | inr not ↦ subst (OrSeek (OrAstray below) refuses_of a) (sym (back.other not)) goes.why
+        ];
+        narrows = tt;
+      } in
+      let returns : (IsTrue (armored_reader.tells a) → IsTrue (armored_content a).ends_well → IsOutside error → answer ≢ OutOfMemory →
+      IsQuiet (armored_reader.faults a) (armored_reader.faults c) → IsOutside answer) = λ told well is other quiet.
+      back.cause (goes.same.tells ∙ told) (subst (λ s. IsTrue s.ends_well) (sym (goes.same.content told)) well) is other (quiet_after _ _ _ first last quiet) in
+      record {
+        seeks = seeks-refused armored_reader (λ r. r.failed) below a c to answer keeps
+            (λ refusal e h. elim (back.narrows refusal e h) [
+              | inl own ↦ subst (refuses_of a) (sym own.1) (inl (own.0, refl))
+              | inr earlier ↦ misses.missed (back.unmoved refusal).0 e earlier
+            ])
+            (λ told. back.stays (goes.same.tells ∙ told))
+            (λ told is_steady stands refusal. elim (cases_Bool a.failed) [
+              | inl had ↦ back.gone had ∙ sym (gone had)
+              | inr fine ↦ back.back (goes.same.tells ∙ told) (goes.same.steady ∙ is_steady) fine refusal ∙ ap (from_place a.place) (goes.same.content told) ∙ sym stands
+            ])
+            (λ told well refusal. subst (λ e. sought to a.place (length (armored_content a).bytes) ≡ Err e) (sym (back.unmoved refusal).1)
+            (misses.refused told (law told (inner well)) (back.unmoved refusal).0).1)
+            (λ told well other quiet. elim (refusal_or_not error) [
+              | inl is ↦ returns told well is other quiet
+              | inr not ↦ absurd (clean-unnamed _ error well
+                  (misses.named told (inner well) not (λ memory. other (back.other not ∙ memory)) (quiet-first _ _ _ first last quiet)).0)
+            ]);
+        patient = keeps.patient;
+        good = tt;
+        unmoved = λ refusal. (back.unmoved refusal).2;
+        fails = back.fails;
+        named = λ told well own other quiet. elim (refusal_or_not error) [
+          | inl is ↦ absurd (own (returns told (misses.refused told (law told well) is).0 is other quiet))
+          | inr not ↦
+              let is_named = misses.named told well not (λ memory. other (back.other not ∙ memory)) (quiet-first _ _ _ first last quiet) in
+              (subst (IsNamed (text_outcome_of a).ending) (sym (back.other not)) is_named.0, is_named.1)
+        ];
+        early = λ told is_steady badly_ends refusal. absurd (true≢false (sym (misses.refused told is_steady (back.unmoved refusal).0).0 ∙ badly_ends));
+      }
 
   pub takes-back : {may : ArmoredReader R buf read → Error → Type 0} {below : Error → Type 0} (a b c : ArmoredReader R buf read) (to : SeekFrom) (error answer : Error) →
       Goes {A = ℕ} armored_reader may a b (Err error) → SparesReading a b to (Err error) →

@@ -17,7 +17,6 @@ pub mod Testing
 pub mod Taking
 pub mod Staging
 pub mod Pieces
-pub mod ReaderSteps
 pub mod Walking
 pub mod OwnEndings
 pub mod Asking

@@ -61,8 +61,9 @@ module _ {R : Type 0} {buf : buffered.Ghosts R} {read : readers.Ghosts R} where
 
   -- ---- to where a seek asks for
 
-  -- a success answers the place, which is the one that the seek asks for
+  -- a success answers the place where it stands, which is the one that the seek asks for
   pub record Reaches (old new : ArmoredReader R buf read) (to : SeekFrom) (result : Result ℕ Error) : Type 0 where
+    pub stands : Stands old new result
     pub there : IfOk result (MayLead to (place_of old))
     pub place : IsTrue (read.tells (inner_of old)) → IfOk result (λ n. place_of new ≡ n)
     pub exact : IsTrue (read.tells (inner_of old)) → IsTrue (read.steady (inner_of old)) →

@@ -166,7 +166,7 @@ impl<R: BufRead> ArmoredReader<R> {
 impl<R: BufRead + Seek> ArmoredReader<R> {
     ghost use Rattle.age_armor.specs.Reader.{inner_of, furthest_of, armored_content};
     ghost use Rattle.age_armor.specs.Giving.{KeepsText};
-    ghost use Rattle.age_armor.specs.Going.{Stands, Reaches, Misses, FindsEnd, SparesReading, StaysThere};
+    ghost use Rattle.age_armor.specs.Going.{Reaches, Misses, FindsEnd, SparesReading, StaysThere};
 
     // Whether a reader that has begun, and hasn't failed, stands at a place.
     fn is_at(&self, place: u64) -> bool
@@ -183,7 +183,6 @@ impl<R: BufRead + Seek> ArmoredReader<R> {
     fn go_to(&mut self, target: u64) -> Result<u64, Error>
         ensures goes { let reader = ⟦<ArmoredReader<R> as Read>⟧ in Goes reader (OrSeek (OrAstray R.Seek.seek_refuses) reader.refuses) self.old self.new result }
         ensures text { KeepsText self.old self.new }
-        ensures stands { Stands self.old self.new result }
         ensures reaches { Reaches self.old self.new (Start target) result }
         ensures misses { Misses self.old self.new (Start target) result }
         ensures spares { SparesReading self.old self.new (Start target) result }
@@ -215,7 +214,6 @@ impl<R: BufRead + Seek> ArmoredReader<R> {
     fn look_from_end(&mut self, distance: i64) -> Result<u64, Error>
         ensures goes { let reader = ⟦<ArmoredReader<R> as Read>⟧ in Goes reader (OrSeek (OrAstray R.Seek.seek_refuses) reader.refuses) self.old self.new result }
         ensures text { KeepsText self.old self.new }
-        ensures stands { Stands self.old self.new result }
         ensures reaches { Reaches self.old self.new (End distance) result }
         ensures misses { Misses self.old self.new (End distance) result }
         ensures finds { FindsEnd self.old self.new result }
@@ -263,7 +261,6 @@ impl<R: BufRead + Seek> ArmoredReader<R> {
     fn go_from_end(&mut self, distance: i64) -> Result<u64, Error>
         ensures goes { let reader = ⟦<ArmoredReader<R> as Read>⟧ in Goes reader (OrSeek (OrAstray R.Seek.seek_refuses) reader.refuses) self.old self.new result }
         ensures text { KeepsText self.old self.new }
-        ensures stands { Stands self.old self.new result }
         ensures reaches { Reaches self.old self.new (End distance) result }
         ensures misses { Misses self.old self.new (End distance) result }
         ensures finds { FindsEnd self.old self.new result }

@@ -43,11 +43,11 @@ returns-in-Ok g c =
     let now = c.in-Ok.ensures in
     let place : (IsTrue (g.R.Read.tells before.source.inner) → c.go_to.new.self.place ≡ c.args.place) = λ told. now.reaches.place told ∙ now.reaches.there in
     record {
-      back = came _ _ g.R.Seek.seek_refuses _ _ _ _ _ now.goes.keeps.same now.stands.good place
-          (λ told steady. now.stands.rest told steady ∙ ap (λ n. from_place n (armored_content before)) (place told)) c.if-failed.false
+      back = came _ _ g.R.Seek.seek_refuses _ _ _ _ _ now.goes.keeps.same now.reaches.stands.good place
+          (λ told steady. now.reaches.stands.rest told steady ∙ ap (λ n. from_place n (armored_content before)) (place told)) c.if-failed.false
           (c.is_outside.ensures.yes c.if-not-is_outside.false) (armor-plain before c.go_to.new.self now.goes.keeps.narrows);
       text = now.text;
-      ending = λ told steady good. now.stands.ending told steady;
+      ending = λ told steady good. now.reaches.stands.ending told steady;
       lines = λ told steady had at refusal. now.stays.unmoved told steady (had ∙ c.if-failed.false) at;
     }
 

@@ -9,7 +9,7 @@ use Rattle.age_armor.specs.Going.{Reaches, Misses}
 use Rattle.age_armor.specs.Reader.{armored_reader, armored_content}
 use Rattle.age_armor.proofs.Keeping.{goes-refused}
 use Rattle.age_armor.proofs.Giving.{text-still}
-use Rattle.age_armor.proofs.Going.{stands-none, reaches-none, reaches-end, misses-end, finds-none}
+use Rattle.age_armor.proofs.Going.{reaches-none, reaches-end, misses-end, finds-none}
 use Rattle.age_armor.proofs.reader.ArmoredReader.go_from_end.Goals as goal
 
 pub returns-in-None : goal.returns-in-None
@@ -21,7 +21,6 @@ returns-in-None g c =
     record {
       goes = now.goes;
       text = now.text;
-      stands = now.stands;
       reaches = subst (λ d. Reaches before after (End d) c.look_from_end.result) (to_z-of_z {w = w64} c.ranges.distance) now.reaches;
       misses = subst (λ d. Misses before after (End d) c.look_from_end.result) (to_z-of_z {w = w64} c.ranges.distance) now.misses;
       finds = now.finds;
@@ -36,7 +35,6 @@ returns-in-Err g c =
       goes = goes-refused armored_reader _ before before before c.in-Err.e (same-self _ before) (same-self _ before) now.other
           (elim now.why [ inl out ↦ inl (inl out) | inr long ↦ inl (inr (inl long)) ]);
       text = text-still _ _ refl refl;
-      stands = stands-none _ _ _;
       reaches = reaches-none _ _ _ _;
       misses = record {
         missed = λ refusal e h. h;
@@ -64,13 +62,12 @@ returns-in-Ok g c =
     record {
       goes = now.goes;
       text = now.text;
-      stands = now.stands;
-      reaches = reaches-end before before after c.args.distance aim c.go_to.result (same-self _ before) found now.reaches;
+      reaches = reaches-end before before after c.args.distance aim c.go_to.result (same-self _ before) (text-still _ _ refl refl) found now.reaches;
       misses = misses-end before before after c.args.distance aim c.go_to.result (g.met.R.Read.well before.source.inner) (same-self _ before)
           (text-still _ _ refl refl) (λ e h. h) found now.goes now.misses;
       finds = record {
-        well = λ told steady. on_ok_weaker c.go_to.result (λ good. c.target_from_end.ensures.well told steady) now.stands.good;
-        knows = on_ok_weaker c.go_to.result (λ good. now.text.learns.end (ap is_known (sym c.length.ensures ∙ c.in-Some.is))) now.stands.good;
+        well = λ told steady. on_ok_weaker c.go_to.result (λ good. c.target_from_end.ensures.well told steady) now.reaches.stands.good;
+        knows = on_ok_weaker c.go_to.result (λ good. now.text.learns.end (ap is_known (sym c.length.ensures ∙ c.in-Some.is))) now.reaches.stands.good;
       };
       spares = record { lines = λ told steady noting known. now.spares.lines told steady noting (c.in-Ok.ensures.within told steady).1; outside = now.spares.outside };
     }

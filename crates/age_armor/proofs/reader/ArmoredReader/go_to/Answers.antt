@@ -11,7 +11,7 @@ use Rattle.age_armor.proofs.Aiming.{moved-within, moved-past}
 use Rattle.age_armor.proofs.Keeping.{goes-passed, goes-refused, armor-plain}
 use Rattle.age_armor.proofs.Pacing.{known_length, some_length}
 use Rattle.age_armor.proofs.Giving.{text-still, text-later}
-use Rattle.age_armor.proofs.Going.{stands-none, reaches-none, misses-none, misses-own, spares-own, stays-none, came-on, came-goes, came-stands, came-out, walk-goes, walk-misses}
+use Rattle.age_armor.proofs.Going.{reaches-none, misses-none, misses-own, spares-own, stays-none, came-on, came-goes, came-stands, came-out, walk-goes, walk-misses}
 use Rattle.age_armor.proofs.reader.ArmoredReader.go_to.Goals as goal
 
 -- ---- where nothing is read
@@ -23,12 +23,12 @@ returns-then-is_at g c =
     record {
       goes = record { keeps = keeps-done _ _ _ _ (same-self _ before) (λ e h. h); unspent = before.unspent at.0 at.1 };
       text = text-still _ _ refl refl;
-      stands = record {
-        good = at.0;
-        rest = λ told steady. (before.here told steady at.0 at.1).0;
-        ending = λ told steady. (before.here told steady at.0 at.1).1;
-      };
       reaches = record {
+        stands = record {
+          good = at.0;
+          rest = λ told steady. (before.here told steady at.0 at.1).0;
+          ending = λ told steady. (before.here told steady at.0 at.1).1;
+        };
         there = refl;
         place = λ told. at.2;
         exact = λ told steady. moved-within c.args.target (length (armored_content before).bytes)
@@ -46,7 +46,6 @@ returns-then-ends_before g c =
     record {
       goes = goes-refused armored_reader _ before before before PastEnd (same-self _ before) (same-self _ before) (λ device. device) (inl (inl tt));
       text = text-still _ _ refl refl;
-      stands = stands-none _ _ _;
       reaches = reaches-none _ _ _ _;
       misses = record {
         missed = λ refusal e h. h;
@@ -67,7 +66,6 @@ returns-in-Err g c =
     record {
       goes = goes-passed armored_reader _ _ _ _ now.goes;
       text = now.text;
-      stands = stands-none _ _ _;
       reaches = reaches-none _ _ _ _;
       misses = misses-own _ _ _ _ now.fails.other (λ told well other quiet. absurd (now.cause told well other quiet));
       spares = spares-own _ _ _ _ now.fails.other;
@@ -84,7 +82,6 @@ returns-in-Err-walk g c =
     record {
       goes = walk-goes g.R.Seek.seek_refuses before middle c.walk.new.self c.in-Err-walk.e c.unrefused.result first.goes last.goes made.kept;
       text = text-later before middle c.walk.new.self first.goes.keeps.same first.text last.text;
-      stands = stands-none _ _ _;
       reaches = reaches-none _ _ _ _;
       misses = walk-misses before middle c.walk.new.self (Start c.args.target) c.args.target c.in-Err-walk.e c.unrefused.result
           (g.met.R.Read.well before.source.inner) first.goes first.stands last.goes last.along last.ending made.other made.same (λ len past. past);
@@ -103,7 +100,6 @@ returns-else-there g c =
     record {
       goes = goes-refused armored_reader _ before new new PastEnd came.same (same-self _ new) (λ device. device) (inl (inl tt));
       text = came.text;
-      stands = stands-none _ _ _;
       reaches = reaches-none _ _ _ _;
       misses = record {
         missed = λ refusal. armor-plain before new came.narrows;
@@ -146,8 +142,7 @@ returns-then-there g c =
     record {
       goes = came-goes before new came;
       text = came.text;
-      stands = came-stands before new came;
-      reaches = record { there = refl; place = place; exact = λ told steady. moved-within c.args.target len (within told steady) };
+      reaches = record { stands = came-stands before new came; there = refl; place = place; exact = λ told steady. moved-within c.args.target len (within told steady) };
       misses = misses-none _ _ _ _;
       spares = record {
         lines = λ told steady noting near. elim (cases_Bool (begins_armor (text_of before).bytes)) [

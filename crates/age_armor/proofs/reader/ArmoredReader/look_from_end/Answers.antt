@@ -9,7 +9,7 @@ use Rattle.age_armor.specs.Reader.{armored_reader, armored_content}
 use Rattle.age_armor.proofs.Keeping.{goes-passed, goes-later, goes-refused, armor-plain, seeks-plain}
 use Rattle.age_armor.proofs.Aiming.{moved-refusal, from-end}
 use Rattle.age_armor.proofs.Giving.{text-later}
-use Rattle.age_armor.proofs.Going.{stands-none, stands-later, reaches-none, reaches-end, misses-none, misses-own, misses-end, finds-none, came-on, came-goes, came-stands, came-out, walk-goes, walk-misses}
+use Rattle.age_armor.proofs.Going.{reaches-none, reaches-end, misses-none, misses-own, misses-end, finds-none, came-on, came-goes, came-stands, came-out, walk-goes, walk-misses}
 use Rattle.age_armor.proofs.reader.ArmoredReader.look_from_end.Goals as goal
 
 pub returns-in-Err : goal.returns-in-Err
@@ -18,7 +18,6 @@ returns-in-Err g c =
     record {
       goes = goes-passed armored_reader _ _ _ _ now.goes;
       text = now.text;
-      stands = stands-none _ _ _;
       reaches = reaches-none _ _ _ _;
       misses = misses-own _ _ _ _ now.fails.other (λ told well other quiet. absurd (now.cause told well other quiet));
       finds = finds-none _ _ _;
@@ -34,7 +33,6 @@ returns-in-Err-walk g c =
     record {
       goes = walk-goes g.R.Seek.seek_refuses before middle c.walk.new.self c.in-Err-walk.e c.unrefused.result first.goes last.goes made.kept;
       text = text-later before middle c.walk.new.self first.goes.keeps.same first.text last.text;
-      stands = stands-none _ _ _;
       reaches = reaches-none _ _ _ _;
       misses = walk-misses before middle c.walk.new.self (End c.args.distance) _ c.in-Err-walk.e c.unrefused.result
           (g.met.R.Read.well before.source.inner) first.goes first.stands last.goes last.along last.ending made.other made.same (λ len past. tt);
@@ -51,7 +49,6 @@ returns-then-there g c =
     record {
       goes = goes-refused armored_reader _ before c.approach.new.self new TooLong back last.goes.keeps.same (λ device. device) (inl (inr (inl refl)));
       text = text-later before c.approach.new.self new back first.text last.text;
-      stands = stands-none _ _ _;
       reaches = reaches-none _ _ _ _;
       misses = misses-own _ _ _ _ (λ refusal. refusal) (λ told well other quiet.
           let told_middle = back.tells ∙ told in
@@ -75,7 +72,6 @@ returns-in-Err-from_end g c =
       goes = goes-refused armored_reader _ before new new e came.same (same-self _ new) c.in-Err-from_end.ensures.other
           (elim c.in-Err-from_end.ensures.why [ inl out ↦ inl (inl out) | inr long ↦ inl (inr (inl long)) ]);
       text = came.text;
-      stands = stands-none _ _ _;
       reaches = reaches-none _ _ _ _;
       misses = record {
         missed = λ refusal. armor-plain before new came.narrows;
@@ -101,8 +97,8 @@ returns-then-target-len g c =
     record {
       goes = came-goes before new came;
       text = came.text;
-      stands = came-stands before new came;
       reaches = record {
+        stands = came-stands before new came;
         there = tt;
         place = λ told. sym c.if-target-len.true;
         exact = λ told steady.
@@ -136,11 +132,10 @@ returns-else-target-len g c =
     record {
       goes = goes-later _ _ _ before new after came.same came.narrows (seeks-plain (OrAstray g.R.Seek.seek_refuses) before new came.narrows) now.goes;
       text = text-later before new after came.same came.text now.text;
-      stands = stands-later before new after c.go_to.result came.same came.text now.stands;
-      reaches = reaches-end before new after c.args.distance aim c.go_to.result came.same found now.reaches;
+      reaches = reaches-end before new after c.args.distance aim c.go_to.result came.same came.text found now.reaches;
       misses = misses-end before new after c.args.distance aim c.go_to.result (g.met.R.Read.well before.source.inner) came.same came.text plain found now.goes now.misses;
       finds = record {
-        well = λ told steady. on_ok_weaker c.go_to.result (λ good. (out told steady).0) now.stands.good;
-        knows = on_ok_weaker c.go_to.result (λ good. now.text.learns.end (last.comes.knows c.if-there.false)) now.stands.good;
+        well = λ told steady. on_ok_weaker c.go_to.result (λ good. (out told steady).0) now.reaches.stands.good;
+        knows = on_ok_weaker c.go_to.result (λ good. now.text.learns.end (last.comes.knows c.if-there.false)) now.reaches.stands.good;
       };
     }

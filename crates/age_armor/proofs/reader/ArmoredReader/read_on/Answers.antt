@@ -10,9 +10,8 @@ use Rattle.age_armor.specs.Seeking.{Goes}
 use Rattle.age_armor.specs.Stages.{is_start, is_armored}
 use Rattle.age_armor.proofs.Ahead.{length_held, shown_small}
 use Rattle.age_armor.proofs.Forms.{form_kept, binary_form}
-use Rattle.age_armor.proofs.Giving.{fails-passed, ends-passed, good-done, text-still, text-later, goes-given, reads-done, reads-failed, learned}
+use Rattle.age_armor.proofs.Giving.{on_if, fails-passed, ends-passed, good-done, text-still, text-later, goes-given, reads-done, reads-failed, learned}
 use Rattle.age_armor.proofs.Pacing.{shown_reached}
-use Rattle.age_armor.proofs.ReaderSteps.{on_if}
 use Rattle.age_armor.proofs.Resuming.{not_binary}
 use Rattle.age_armor.proofs.reader.ArmoredReader.read_on.Goals as goal
 

@@ -10,11 +10,11 @@ returns-in-Ok g c =
     let now = c.in-Ok.ensures in
     let reaches = subst (λ d. Reaches c.args.self.now c.go_from_end.new.self (End d) (Ok c.in-Ok.there)) (to_z-of_z {w = w64} c.ranges.distance) now.reaches in
     record {
-      seeks = seek-done g.R.Seek.seek_refuses _ _ _ _ now.goes now.stands reaches;
+      seeks = seek-done g.R.Seek.seek_refuses _ _ _ _ now.goes reaches;
       text = now.text;
       finds = now.finds;
       takes = record { lines = now.spares.lines; outside = λ told steady known. tt };
-      ending = λ told steady good. now.stands.ending told steady;
+      ending = λ told steady good. now.reaches.stands.ending told steady;
     }
 
 pub returns-in-Err : goal.returns-in-Err

@@ -7,11 +7,11 @@ pub returns-in-Ok : goal.returns-in-Ok
 returns-in-Ok g c =
     let now = c.in-Ok.ensures in
     record {
-      seeks = seek-done g.R.Seek.seek_refuses _ _ _ _ now.goes now.stands now.reaches;
+      seeks = seek-done g.R.Seek.seek_refuses _ _ _ _ now.goes now.reaches;
       text = now.text;
       takes = record { lines = now.spares.lines; outside = λ told steady known. tt };
       still = λ good begun at. (sym c.in-Ok.is ∙ (c.go_to.ensures.stays.still good begun at).0, (c.go_to.ensures.stays.still good begun at).1);
-      ending = λ told steady good. now.stands.ending told steady;
+      ending = λ told steady good. now.reaches.stands.ending told steady;
     }
 
 pub returns-in-Err : goal.returns-in-Err

@@ -1,10 +1,12 @@
-use Rattle.std.proofs.Common.{◌≡◌, ◌∙◌, arith, refl, ap, sym, inl, length}
+use Rattle.std.proofs.Common.{ℕ, ◌≡◌, ◌∙◌, arith, refl, ap, sym, inl, length}
 use Rattle.std.proofs.lemmas.Bool.{true≢false, eqb-true, eqb-false}
+use Rattle.age_error.specs.declared.io.Error.TheVariants.{Failed}
 use Rattle.age_io.proofs.Keeping.{same-self}
 use Rattle.age_armor.specs.Delivered.{delivered}
 use Rattle.age_armor.specs.Reader.{armored_reader}
 use Rattle.age_armor.proofs.Ahead.{fault_gone, shown_small}
-use Rattle.age_armor.proofs.Giving.{text-still, learned}
+use Rattle.age_armor.proofs.Giving.{text-still, reads-failed, learned}
+use Rattle.age_armor.proofs.Keeping.{goes-refused}
 use Rattle.age_armor.proofs.Pacing.{learns_none}
 use Rattle.age_armor.proofs.reader.ArmoredReaderRead.read.Goals as goal
 
@@ -13,25 +15,8 @@ returns-then-self g c =
     let before = c.args.self.now in
     let gone = c.if-self.true in
     record {
-      reads = record {
-        count = tt;
-        same_tells = refl;
-        same_steady = refl;
-        no_fewer_faults = omega arith;
-        device = λ device. absurd device;
-        unspent = tt;
-        why = inl (gone, refl);
-        narrows = tt;
-        again = λ again. absurd again;
-        same_content = λ told. refl;
-        bytes = λ told. tt;
-        moves = λ told. tt;
-        end = λ told. tt;
-        stays = λ told. refl;
-        left = λ told. inl refl;
-        interrupted = λ told again. absurd again;
-        cause = λ told other quiet. fault_gone before.failed before.bytes before.given before.filled before.stage (g.R.Read.rest before.source.inner) gone;
-      };
+      reads = reads-failed before before _ Failed (goes-refused armored_reader {T = ℕ} _ before before before Failed (same-self _ before) (same-self _ before) (λ device. device) (inl (gone, refl)))
+          refl gone (λ told other quiet. fault_gone before.failed before.bytes before.given before.filled before.stage (g.R.Read.rest before.source.inner) gone);
       good = record { failed = λ had. refl; fails = gone; good = tt; patient = λ again. again };
       ending = record { same = λ told. tt; named = λ told good. absurd (true≢false (sym gone ∙ good)) };
       whole = λ told. refl;
