@@ -1,10 +1,12 @@
 -- A reader of which bytes are taken and counted.
-use Rattle.std.specs.Prelude.{◌≡◌, ℕ, ◌+◌, ◌-◌, ◌*◌, ◌^◌, ◌≤◌, ◌<◌, Bool, true, false, ◌||◌, IsTrue, List, ◌∷◌, length, min, Result, OnOk}
+use Rattle.std.specs.Prelude.{◌≡◌, ℕ, ◌+◌, ◌-◌, ◌*◌, ◌^◌, ◌≤◌, ◌<◌, Bool, true, false, ◌||◌, IsTrue, List, ◌∷◌, length, min, Result, OnOk, OnErr}
 use Rattle.age_io.specs.Stretch.{Stretch, IsCleanEnd}
 use Rattle.age_io.specs.Reading.{most_faults}
 use Rattle.age_io.specs.Keeping.{KeepsReader}
 use Rattle.age_io.specs.declared.traits.Read.{Ghosts}
 use Rattle.age_error.specs.declared.io.Error.{Error}
+use Rattle.age_io.specs.declared.bufread.BufRead as buffered
+use Rattle.age_armor.specs.declared.counted.Counted.{Counted}
 use Rattle.age_armor.specs.declared.stages.Stage.{Stage}
 use Rattle.age_armor.specs.declared.stages.Stage.TheVariants.{Lines}
 use Rattle.age_armor.specs.Stages.{is_start, is_armored, is_open}
@@ -19,6 +21,12 @@ pub record Kept {R A : Type 0} (read : Ghosts R) (old : R) (old_taken : ℕ) (ne
   pub unspent : OnOk result (read.faults new < most_faults)
   pub origin : IsTrue (read.tells old) → read.place new - new_taken ≡ read.place old - old_taken
   pub more : IsTrue (read.tells old) → old_taken ≤ new_taken
+
+-- nothing was taken, neither of bytes nor of lines
+pub record TakesNone {R A : Type 0} {buf : buffered.Ghosts R} {read : Ghosts R} (old new : Counted R buf read) (result : Result A Error) : Type 0 where
+  pub taken : new.taken ≡ old.taken
+  pub lines : new.lines ≡ old.lines
+  pub same : IsTrue (read.tells old.inner) → OnOk result (read.rest new.inner ≡ read.rest old.inner)
 
 -- a line was taken: the first of what was left, empty only at a clean end
 pub record TakesLine (line : List ℕ) (old new : Stretch) : Type 0 where
@@ -41,6 +49,13 @@ pub record IsFew (count : ℕ) (ends_well : Bool) (rest : Stretch) : Type 0 wher
 -- one more, as far as the number goes
 abbrev pub one_line_more : ℕ → ℕ
 one_line_more lines = min (lines + 1) (2 ^ 64 - 1)
+
+-- a line of so many bytes is one more, where it has any, and a refusal counts none
+pub record CountsOne {A : Type 0} (size old new : ℕ) (result : Result A Error) : Type 0 where
+  pub lines : OnOk result (0 < size → new ≡ one_line_more old)
+  pub no_line : OnOk result (size ≡ 0 → new ≡ old)
+  pub none_taken : OnErr result (new ≡ old)
+  pub counts : old ≤ new
 
 -- How a read that found bytes changes a reader of armor: its stage, its place, how many bytes it holds, and how many lines were taken.
 pub record TakesLines (old new : Stage) (old_place old_held old_lines new_place new_held new_lines : ℕ) : Type 0 where

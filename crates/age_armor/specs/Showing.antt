@@ -1,5 +1,5 @@
 -- What is done with the bytes that a reader shows.
-use Rattle.std.specs.Prelude.{◌≡◌, ◌≢◌, ℕ, ◌+◌, ◌-◌, ◌*◌, ◌≤◌, ◌<◌, IsTrue, List, ◌++◌, length, take, drop, Result, IfErr, OnOk, OnErr}
+use Rattle.std.specs.Prelude.{◌≡◌, ◌≢◌, ℕ, ◌+◌, ◌-◌, ◌*◌, ◌≤◌, ◌<◌, IsTrue, List, ◌++◌, length, take, drop, Result, IfOk, IfErr, OnOk, OnErr}
 use Rattle.age_error.specs.Bytes.{AreBytes}
 use Rattle.age_error.specs.Refusals.{IsDevice, IsInterruption}
 use Rattle.age_error.specs.declared.io.Error.{Error}
@@ -27,6 +27,17 @@ pub record Asks {R A : Type 0} (read : Ghosts R) (refuses : R → Error → Type
   pub stays : IsTrue (read.tells old) → OnErr result (read.place new ≡ read.place old)
   pub interrupted : IsTrue (read.tells old) → IfErr result (λ e. IsInterruption e → read.rest new ≡ read.rest old)
   pub cause : IsTrue (read.tells old) → IfErr result (λ e. e ≢ OutOfMemory → IsQuiet (read.faults old) (read.faults new) → IsFault (read.rest old))
+
+-- where it succeeds neither was anything
+pub record TakesNothing {R A : Type 0} (read : Ghosts R) (old new : R) (result : Result A Error) : Type 0 where
+  pub stays : IsTrue (read.tells old) → OnOk result (read.place new ≡ read.place old)
+  pub same : IsTrue (read.tells old) → OnOk result (read.rest new ≡ read.rest old)
+
+-- a line, of so many bytes before and after, gets no shorter, and longer by each part of it
+pub record Lengthens (old new : ℕ) (result : Result Run Error) : Type 0 where
+  pub longer : old ≤ new
+  pub grows : IfOk result (λ run. run ≡ Open → old < new)
+  pub ended : IfOk result (λ run. run ≡ Ended → old < new)
 
 -- a line of 64 columns that stands for these 48 bytes was taken
 pub record TakesFull (bytes : List ℕ) (old new : Stretch) : Type 0 where

@@ -53,7 +53,7 @@ fn are_spaces(bytes: &[u8]) -> bool
 }
 
 impl<R: BufRead> Counted<R> {
-    ghost use Rattle.age_armor.specs.Counting.{Kept, TakesLine, IsCutShort, IsFew, one_line_more};
+    ghost use Rattle.age_armor.specs.Counting.{Kept, TakesNone, TakesLine, IsCutShort, IsFew, CountsOne, one_line_more};
     ghost use Rattle.age_armor.specs.Showing.{TakesFull};
     ghost use Rattle.age_armor.specs.Stages.{IsNamed};
     ghost use Rattle.age_armor.specs.Delivered.{trailing, Clean};
@@ -62,9 +62,7 @@ impl<R: BufRead> Counted<R> {
     #[tactic(auto, using(crate::proofs::AheadLines::ahead_none))]
     pub(crate) fn is_at_end(&mut self) -> Result<bool, Error>
         ensures kept { Kept ⟦<R as Read>⟧ self.old.inner self.old.taken self.new.inner self.new.taken result }
-        ensures lines { self.new.lines ≡ self.old.lines }
-        ensures taken { self.new.taken ≡ self.old.taken }
-        ensures same { IsTrue (R.Read.tells self.old.inner) → OnOk result (R.Read.rest self.new.inner ≡ R.Read.rest self.old.inner) }
+        ensures none { TakesNone self.old self.new result }
         ensures some { IsTrue (R.Read.tells self.old.inner) → IfOk result (λ is. is ≡ false → 0 < length (R.Read.rest self.old.inner).bytes) }
         ensures end { IsTrue (R.Read.tells self.old.inner) → IfOk result (λ is. IsTrue is → IsCleanEnd (R.Read.rest self.old.inner)) }
         ensures cause { IsTrue (R.Read.tells self.old.inner) → IfErr result (λ e. e ≢ OutOfMemory → IsQuiet (R.Read.faults self.old.inner) (R.Read.faults self.new.inner) →
@@ -123,9 +121,7 @@ impl<R: BufRead> Counted<R> {
     #[tactic(auto, using(crate::proofs::AheadLines::ahead_none))]
     fn look_ahead(&mut self, decoder: &Decoder) -> Result<(), Error>
         ensures kept { Kept ⟦<R as Read>⟧ self.old.inner self.old.taken self.new.inner self.new.taken result }
-        ensures lines { self.new.lines ≡ self.old.lines }
-        ensures same { IsTrue (R.Read.tells self.old.inner) → OnOk result (R.Read.rest self.new.inner ≡ R.Read.rest self.old.inner) }
-        ensures taken { self.new.taken ≡ self.old.taken }
+        ensures none { TakesNone self.old self.new result }
         ensures cause { IsTrue (R.Read.tells self.old.inner) → IfErr result (λ e. e ≢ OutOfMemory → IsQuiet (R.Read.faults self.old.inner) (R.Read.faults self.new.inner) →
             IsFault (R.Read.rest self.old.inner)) }
     {
@@ -193,10 +189,7 @@ impl<R: BufRead> Counted<R> {
     /// Takes a line up to its LF, or to the end, and puts it in `line`. It is empty at a clean end alone.
     pub(crate) fn take_line(&mut self, line: &mut Vec<u8>) -> Result<(), Error>
         ensures kept { Kept ⟦<R as Read>⟧ self.old.inner self.old.taken self.new.inner self.new.taken result }
-        ensures lines { OnOk result (0 < length line.new.items → self.new.lines ≡ one_line_more self.old.lines) }
-        ensures no_line { OnOk result (length line.new.items ≡ 0 → self.new.lines ≡ self.old.lines) }
-        ensures none_taken { OnErr result (self.new.lines ≡ self.old.lines) }
-        ensures counts { self.old.lines ≤ self.new.lines }
+        ensures counts { CountsOne (length line.new.items) self.old.lines self.new.lines result }
         ensures taken { IsTrue (R.Read.tells self.old.inner) → OnOk result (self.new.taken ≡ self.old.taken + length line.new.items) }
         ensures line { IsTrue (R.Read.tells self.old.inner) → OnOk result (TakesLine line.new.items (R.Read.rest self.old.inner) (R.Read.rest self.new.inner)) }
         ensures cause { IsTrue (R.Read.tells self.old.inner) → IfErr result (λ e. e ≢ OutOfMemory → IsQuiet (R.Read.faults self.old.inner) (R.Read.faults self.new.inner) →

@@ -4,8 +4,7 @@ ghost use Rattle.age_error.specs.Refusals.{IsInterruption};
 ghost use Rattle.age_io.specs.Stretch.{IsCleanEnd};
 ghost use Rattle.age_io.specs.Reading.{TriedAgain};
 ghost use Rattle.age_base64.specs.Lines.{Lacks};
-ghost use Rattle.age_armor.specs.Showing.{Asks, IsAhead, TakesRun, IsLineEnd};
-ghost use Rattle.age_armor.specs.declared.showing.Run.TheVariants.{Open as open_run, Ended as ended_run};
+ghost use Rattle.age_armor.specs.Showing.{Asks, TakesNothing, Lengthens, IsAhead, TakesRun, IsLineEnd};
 
 use crate::decoding::Decoder;
 use crate::gathering::decode_ahead;
@@ -25,8 +24,7 @@ pub(crate) enum Run {
 
 fn look_once<B: BufRead>(reader: &mut B) -> Result<bool, Error>
     ensures asks { Asks ⟦<B as Read>⟧ B.Read.refuses reader.old reader.new result }
-    ensures stays { IsTrue (B.Read.tells reader.old) → OnOk result (B.Read.place reader.new ≡ B.Read.place reader.old) }
-    ensures same { IsTrue (B.Read.tells reader.old) → OnOk result (B.Read.rest reader.new ≡ B.Read.rest reader.old) }
+    ensures nothing { TakesNothing ⟦<B as Read>⟧ reader.old reader.new result }
     ensures some { IsTrue (B.Read.tells reader.old) → IfOk result (λ is. is ≡ false → 0 < length (B.Read.rest reader.old).bytes) }
     ensures end { IsTrue (B.Read.tells reader.old) → IfOk result (λ is. IsTrue is → IsCleanEnd (B.Read.rest reader.old)) }
 {
@@ -38,8 +36,7 @@ fn look_once<B: BufRead>(reader: &mut B) -> Result<bool, Error>
 pub(crate) fn look<B: BufRead>(reader: &mut B) -> Result<bool, Error>
     ensures asks { Asks ⟦<B as Read>⟧ (TriedAgain B.Read.refuses) reader.old reader.new result }
     ensures patient { IfErr result (λ e. IsInterruption e → ⊥) }
-    ensures stays { IsTrue (B.Read.tells reader.old) → OnOk result (B.Read.place reader.new ≡ B.Read.place reader.old) }
-    ensures same { IsTrue (B.Read.tells reader.old) → OnOk result (B.Read.rest reader.new ≡ B.Read.rest reader.old) }
+    ensures nothing { TakesNothing ⟦<B as Read>⟧ reader.old reader.new result }
     ensures some { IsTrue (B.Read.tells reader.old) → IfOk result (λ is. is ≡ false → 0 < length (B.Read.rest reader.old).bytes) }
     ensures end { IsTrue (B.Read.tells reader.old) → IfOk result (λ is. IsTrue is → IsCleanEnd (B.Read.rest reader.old)) }
 {
@@ -52,8 +49,7 @@ fn show_once<B: BufRead>(
     ahead: &mut [u8; 768],
 ) -> Result<usize, Error>
     ensures asks { Asks ⟦<B as Read>⟧ B.Read.refuses reader.old reader.new result }
-    ensures stays { IsTrue (B.Read.tells reader.old) → OnOk result (B.Read.place reader.new ≡ B.Read.place reader.old) }
-    ensures same { IsTrue (B.Read.tells reader.old) → OnOk result (B.Read.rest reader.new ≡ B.Read.rest reader.old) }
+    ensures nothing { TakesNothing ⟦<B as Read>⟧ reader.old reader.new result }
     ensures ahead { IfOk result (λ n. IsAhead ahead.new 0 n (B.shown reader.new)) }
     ensures size { length ahead.new ≡ 768 }
 {
@@ -69,8 +65,7 @@ pub(crate) fn show_lines<B: BufRead>(
 ) -> Result<usize, Error>
     ensures asks { Asks ⟦<B as Read>⟧ (TriedAgain B.Read.refuses) reader.old reader.new result }
     ensures patient { IfErr result (λ e. IsInterruption e → ⊥) }
-    ensures stays { IsTrue (B.Read.tells reader.old) → OnOk result (B.Read.place reader.new ≡ B.Read.place reader.old) }
-    ensures same { IsTrue (B.Read.tells reader.old) → OnOk result (B.Read.rest reader.new ≡ B.Read.rest reader.old) }
+    ensures nothing { TakesNothing ⟦<B as Read>⟧ reader.old reader.new result }
     ensures ahead { IfOk result (λ n. IsAhead ahead.new 0 n (B.shown reader.new)) }
     ensures size { length ahead.new ≡ 768 }
 {
@@ -91,9 +86,7 @@ fn line_end(bytes: &[u8]) -> Option<usize>
 
 fn run_once<B: BufRead>(reader: &mut B, line: &mut Vec<u8>) -> Result<Run, Error>
     ensures asks { Asks ⟦<B as Read>⟧ B.Read.refuses reader.old reader.new result }
-    ensures longer { vec_len line.old ≤ vec_len line.new }
-    ensures grows { IfOk result (λ run. run ≡ open_run → vec_len line.old < vec_len line.new) }
-    ensures ended { IfOk result (λ run. run ≡ ended_run → vec_len line.old < vec_len line.new) }
+    ensures grows { Lengthens (vec_len line.old) (vec_len line.new) result }
     ensures kept { OnErr result (line.new.items ≡ line.old.items) }
     ensures run { IsTrue (B.Read.tells reader.old) → IfOk result (λ run.
         TakesRun run line.old.items line.new.items (B.Read.rest reader.old) (B.Read.rest reader.new)) }
@@ -123,9 +116,7 @@ fn run_once<B: BufRead>(reader: &mut B, line: &mut Vec<u8>) -> Result<Run, Error
 pub(crate) fn take_run<B: BufRead>(reader: &mut B, line: &mut Vec<u8>) -> Result<Run, Error>
     ensures asks { Asks ⟦<B as Read>⟧ (TriedAgain B.Read.refuses) reader.old reader.new result }
     ensures patient { IfErr result (λ e. IsInterruption e → ⊥) }
-    ensures longer { vec_len line.old ≤ vec_len line.new }
-    ensures grows { IfOk result (λ run. run ≡ open_run → vec_len line.old < vec_len line.new) }
-    ensures ended { IfOk result (λ run. run ≡ ended_run → vec_len line.old < vec_len line.new) }
+    ensures grows { Lengthens (vec_len line.old) (vec_len line.new) result }
     ensures kept { OnErr result (line.new.items ≡ line.old.items) }
     ensures run { IsTrue (B.Read.tells reader.old) → IfOk result (λ run.
         TakesRun run line.old.items line.new.items (B.Read.rest reader.old) (B.Read.rest reader.new)) }

@@ -11,7 +11,7 @@ returns-in-Err g c =
     let now = c.in-Err.ensures in
     record {
       kept = kept-error _ _ _ _ _ c.in-Err.e now.kept;
-      counts = (now.counts, omega (arith, now.none_taken));
+      counts = (now.counts.counts, omega (arith, now.counts.none_taken));
       piece = piece-none _ _ _;
       gives = gives-none _ _ _ _ _ (λ told other quiet. cut_line c.args.after_short (g.R.Read.rest c.args.source.now.inner) c.in-Err.e (now.cause told other quiet));
       lines = tt;
@@ -23,7 +23,7 @@ returns-then-is_empty g c =
     let none : length c.take_line.new.line.items ≡ 0 = omega (arith, eqb-true c.take_line.new.line.len 0 (sym c.is_empty.ensures ∙ c.if-is_empty.true)) in
     record {
       kept = kept-refused _ _ _ _ _ _ line.kept (λ is. is) tt;
-      counts = counts_once _ _ _ _ line.counts line.lines line.no_line refl;
+      counts = counts_once _ _ _ _ line.counts.counts line.counts.lines line.counts.no_line refl;
       piece = piece-none _ _ _;
       gives = gives-none _ _ _ _ _ (λ told other quiet.
           empty_line c.args.after_short c.take_line.new.line.items (g.R.Read.rest c.args.source.now.inner) (g.R.Read.rest c.take_line.new.self.inner) (line.line told) none);
@@ -36,7 +36,7 @@ returns-in-Refuses g c =
     let some : 0 < length c.take_line.new.line.items = omega (arith, eqb-false c.take_line.new.line.len 0 (sym c.is_empty.ensures ∙ c.if-is_empty.false)) in
     record {
       kept = kept-refused _ _ _ _ _ _ line.kept (λ is. is) tt;
-      counts = counts_once _ _ _ _ line.counts line.lines line.no_line refl;
+      counts = counts_once _ _ _ _ line.counts.counts line.counts.lines line.counts.no_line refl;
       piece = piece-none _ _ _;
       gives = gives-none _ _ _ _ _ (λ told other quiet.
           line_refuses c.args.after_short c.take_line.new.line.items (g.R.Read.rest c.args.source.now.inner) (g.R.Read.rest c.take_line.new.self.inner) _ _
@@ -54,7 +54,7 @@ returns-in-Ok-take_trailing g c =
     (line.line told) some (rw c.deref.ensures.value at (rw c.in-Ends.is at c.judge.ensures)) (last.clean (line.kept.keeps.same.tells ∙ told)) in
     record {
       kept = kept-as _ _ _ _ _ (kept-later _ _ c.args.source.now.inner c.take_line.new.self.inner _ _ _ _ line.kept last.kept);
-      counts = counts_once _ _ _ _ line.counts line.lines line.no_line last.lines;
+      counts = counts_once _ _ _ _ line.counts.counts line.counts.lines line.counts.no_line last.lines;
       piece = record { fits = omega arith; full = λ is. absurd (cc is); ended = λ is. refl; begun = refl; end = λ told none. ends told };
       gives = record {
         taken = λ told. omega (arith, line.kept.more told, last.kept.more (line.kept.keeps.same.tells ∙ told));
@@ -71,7 +71,7 @@ returns-in-Err-take_trailing g c =
     let some : 0 < length c.take_line.new.line.items = omega (arith, eqb-false c.take_line.new.line.len 0 (sym c.is_empty.ensures ∙ c.if-is_empty.false)) in
     record {
       kept = kept-error _ _ _ _ _ c.in-Err-take_trailing.e (kept-later _ _ c.args.source.now.inner c.take_line.new.self.inner _ _ _ _ line.kept last.kept);
-      counts = counts_once _ _ _ _ line.counts line.lines line.no_line last.lines;
+      counts = counts_once _ _ _ _ line.counts.counts line.counts.lines line.counts.no_line last.lines;
       piece = piece-none _ _ _;
       gives = gives-none _ _ _ _ _ (λ told other quiet.
           line_trails c.args.after_short c.take_line.new.line.items (g.R.Read.rest c.args.source.now.inner) (g.R.Read.rest c.take_line.new.self.inner) c.in-Err-take_trailing.e
@@ -89,7 +89,7 @@ returns-in-Holds g c =
     let fits = holds_count c.args.after_short raw c.judge.new.bytes c.in-Holds.count h.0 (omega arith) h.2 in
     record {
       kept = kept-as _ _ _ _ _ line.kept;
-      counts = counts_once _ _ _ _ line.counts line.lines line.no_line refl;
+      counts = counts_once _ _ _ _ line.counts.counts line.counts.lines line.counts.no_line refl;
       piece = record {
         fits = h.2;
         full = λ full.

@@ -45,7 +45,7 @@ returns-in-Ok-true-is_at_end g c =
     record {
       kept = kept-refused _ _ _ _ _ _ (kept-later _ _ start c.take_front.new.self.inner _ _ c.take_front.new.self.taken _ got.kept now.kept) (λ is. is)
           (text-well g.R.Read start (g.met.R.Read.stands start) (λ told. sym (bytes told).end ∙ (end told).ends_well));
-      counts = now.lines ∙ got.lines;
+      counts = now.none.lines ∙ got.lines;
       fits = tt;
       gives = gives-none _ _ _ _ _ (λ told other quiet.
           few_clean 36 (g.R.Read.rest start) (omega arith) (few_end c.take_front.new.front _ (g.R.Read.rest c.take_front.new.self.inner) (omega arith) (bytes told) (end told)));
@@ -60,7 +60,7 @@ returns-in-Err-is_at_end g c =
     let now = c.in-Err-is_at_end.ensures in
     record {
       kept = kept-error _ _ _ _ _ c.in-Err-is_at_end.e (kept-later _ _ start c.take_front.new.self.inner _ _ c.take_front.new.self.taken _ got.kept now.kept);
-      counts = now.lines ∙ got.lines;
+      counts = now.none.lines ∙ got.lines;
       fits = tt;
       gives = gives-none _ _ _ _ _ (λ told other quiet.
           few_fault 36 (g.R.Read.rest start) c.in-Err-is_at_end.e (omega arith) (few_bad c.take_front.new.front _ (g.R.Read.rest c.take_front.new.self.inner) (omega arith)
@@ -78,7 +78,7 @@ follows g c told =
     let got = c.in-Ok-true.ensures in
     let now = c.in-Ok-false-is_at_end.ensures in
     let mid = got.kept.keeps.same.tells ∙ told in
-    let same = now.same mid in
+    let same = now.none.same mid in
     (now.kept.keeps.same.tells ∙ mid, rw same (got.bytes told c.in-Ok-true.field-0-test), rw same (now.some mid c.in-Ok-false-is_at_end.field-0-test))
 
 pub returns : goal.returns
@@ -90,14 +90,14 @@ returns g c =
     record {
       kept = kept-later _ _ start c.is_at_end.new.self.inner _ _ c.is_at_end.new.self.taken _
           (kept-later _ _ start c.take_front.new.self.inner _ _ c.take_front.new.self.taken _ got.kept now.kept) last.kept;
-      counts = last.counts ∙ now.lines ∙ got.lines;
+      counts = last.counts ∙ now.none.lines ∙ got.lines;
       fits = IfOk-weaker c.after_front.result _ _ (λ piece fits. omega (arith, fits)) last.fits;
       gives = record {
         taken = λ told.
             let all = got.taken told c.in-Ok-true.field-0-test in
             let more = last.kept.more (follows g c told).0 in
             let size : length c.take_front.new.front ≡ 35 = omega arith in
-            IfOk-weaker c.after_front.result _ _ (λ piece fits. omega (arith, fits, all, size, now.taken, more)) last.fits;
+            IfOk-weaker c.after_front.result _ _ (λ piece fits. omega (arith, fits, all, size, now.none.taken, more)) last.fits;
         bytes = λ told. let on = follows g c told in last.bytes on.0 (g.R.Read.rest start) on.1 on.2;
         cause = λ told.
             let on = follows g c told in
