@@ -25,6 +25,7 @@ pub mod Refusing
 pub mod Keeping
 pub mod Aiming
 pub mod Forms
+pub mod Invariants
 pub mod Flushing
 pub mod Marking
 pub mod Resuming

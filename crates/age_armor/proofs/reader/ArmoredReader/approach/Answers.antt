@@ -8,39 +8,16 @@ use Rattle.age_armor.specs.Delivered.{delivered}
 use Rattle.age_armor.specs.Marks.{CanResume, Resumes}
 use Rattle.age_armor.specs.Stages.{is_armored}
 use Rattle.age_armor.proofs.Keeping.{same-text, rewound, rewind-refused}
-use Rattle.age_armor.proofs.Ahead.{rest_failed}
 use Rattle.age_armor.proofs.Forms.{form_kept}
 use Rattle.age_armor.proofs.Pacing.{learns_none}
 use Rattle.age_armor.proofs.Resuming.{knows_later, resumed_rest, resumed_ending}
+use Rattle.age_armor.proofs.Invariants.{sound-failed}
 use Rattle.age_armor.proofs.Giving.{text-moved}
 use Rattle.age_armor.proofs.Going.{stands-none}
 use Rattle.age_armor.proofs.reader.ArmoredReader.approach.Goals as goal
 
 pub invariant_of-self : goal.invariant_of-self
-invariant_of-self g c =
-    let before = c.args.self.now in
-    let reader = g.R.Read in
-    let now = c.in-Err.ensures in
-    let source = c.go.new.self in
-    let same = same-text reader before.source.inner before.source.taken source.inner source.taken now.goes.keeps.same now.origin in
-    record {
-      room = before.room;
-      order = before.order;
-      within = before.within;
-      fresh = before.fresh;
-      untaken = λ good. absurd (true≢false good);
-      form = λ told steady begun. form_kept (is_armored before.stage) _ _ (before.form (same.told told) (same.steady steady) begun) (same.text told);
-      unspent = λ good. absurd (true≢false good);
-      counted = λ told good. absurd (true≢false good);
-      fits = λ told. before.fits (same.told told);
-      inside = λ told steady. subst (λ s. before.place ≤ length s.bytes) (sym (same.content told)) (before.inside (same.told told) (same.steady steady));
-      follows = λ told steady some. absurd (some (rest_failed before.bytes before.given before.filled before.stage (reader.rest source.inner)));
-      ends = λ told steady some. absurd (some (rest_failed before.bytes before.given before.filled before.stage (reader.rest source.inner)));
-      known = λ told. knows_later _ _ _ _ _ same.steady (same.text told) (before.known (same.told told));
-      done = before.done;
-      here = λ told steady good. absurd (true≢false good);
-      paced = λ told good. absurd (true≢false good);
-    }
+invariant_of-self g c = sound-failed c.args.self.now c.go.new.self c.in-Err.ensures.goes.keeps.same c.in-Err.ensures.origin
 
 pub invariant_of-self-in-Ok : goal.invariant_of-self-in-Ok
 invariant_of-self-in-Ok g c =

@@ -1,4 +1,4 @@
-use Rattle.std.proofs.Common.{ℕ, refl, ◌≡◌, ◌∙◌, ◌+◌, ◌-◌, ◌≤◌, arith, take, length, length-take-le, sym, ap, subst, IsTrue}
+use Rattle.std.proofs.Common.{ℕ, refl, ◌≡◌, ◌∙◌, ◌+◌, ◌-◌, ◌≤◌, arith, take, length, length-take-le, sym, ap, IsTrue}
 use Rattle.std.proofs.lemmas.Bool.{true≢false}
 use Rattle.age_io.specs.Reading.{StandsIn}
 use Rattle.age_io.specs.Stretch.{from_place}
@@ -8,11 +8,12 @@ use Rattle.age_armor.specs.Seeking.{text_outcome}
 use Rattle.age_armor.proofs.Walking.{further}
 use Rattle.age_armor.specs.DeliveredLaws.{content_of, stands_by}
 use Rattle.age_armor.proofs.Keeping.{same-text, armor-done, armor-refused}
-use Rattle.age_armor.proofs.Ahead.{given_stands, rest_failed, pass_delivers, pass_end, pass_fault, pass_named, pass_ending, shown_none}
+use Rattle.age_armor.proofs.Ahead.{given_stands, pass_delivers, pass_end, pass_fault, pass_named, pass_ending, shown_none}
 use Rattle.age_armor.specs.Stages.{is_start, is_armored, is_ended}
 use Rattle.age_armor.specs.Delivered.{delivered}
 use Rattle.age_armor.proofs.Resuming.{knows_later, length_at_end, not_binary, reaches_content}
 use Rattle.age_armor.proofs.Forms.{form_kept}
+use Rattle.age_armor.proofs.Invariants.{sound-failed}
 use Rattle.age_armor.proofs.Giving.{good-done, good-failed, text-moved, reads-done, reads-failed}
 use Rattle.age_armor.proofs.Pacing.{learns_none}
 use Rattle.age_armor.proofs.reader.ArmoredReader.pass.Goals as goal
@@ -95,30 +96,7 @@ invariant_of-self g c =
     }
 
 pub invariant_of-self-in-Err : goal.invariant_of-self-in-Err
-invariant_of-self-in-Err g c =
-    let before = c.args.self.now in
-    let reader = g.R.Read in
-    let now = c.in-Err.ensures in
-    let source = c.read.new.self in
-    let same = same-text reader before.source.inner before.source.taken source.inner source.taken now.kept.keeps.same now.kept.origin in
-    record {
-      room = before.room;
-      order = before.order;
-      within = before.within;
-      fresh = before.fresh;
-      untaken = λ good. absurd (true≢false good);
-      form = λ told steady begun. form_kept (is_armored before.stage) _ _ (before.form (same.told told) (same.steady steady) begun) (same.text told);
-      unspent = λ good. absurd (true≢false good);
-      counted = λ told good. absurd (true≢false good);
-      fits = λ told. before.fits (same.told told);
-      inside = λ told steady. subst (λ s. before.place ≤ length s.bytes) (sym (same.content told)) (before.inside (same.told told) (same.steady steady));
-      follows = λ told steady some. absurd (some (rest_failed before.bytes before.given before.filled before.stage (reader.rest source.inner)));
-      ends = λ told steady some. absurd (some (rest_failed before.bytes before.given before.filled before.stage (reader.rest source.inner)));
-      known = λ told. knows_later _ _ _ _ _ same.steady (same.text told) (before.known (same.told told));
-      done = before.done;
-      here = λ told steady good. absurd (true≢false good);
-      paced = λ told good. absurd (true≢false good);
-    }
+invariant_of-self-in-Err g c = sound-failed c.args.self.now c.read.new.self c.in-Err.ensures.kept.keeps.same c.in-Err.ensures.kept.origin
 
 pub returns-in-Ok : goal.returns-in-Ok
 returns-in-Ok g c =

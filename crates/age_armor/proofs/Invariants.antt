@@ -1,0 +1,130 @@
+-- What a reader of armor always is, over a step that fails, and over one that gives what is held.
+use Rattle.std.proofs.Common.{arith, inl, inr, ◌≡◌, ◌∙◌, ◌+◌, ◌-◌, ◌<◌, ◌≤◌, ◌^◌, ℕ, Bool, true, false, IsTrue, List, length, sym, subst}
+use Rattle.std.proofs.lemmas.Bool.{cases_Bool, true≢false}
+use Rattle.age_io.specs.declared.traits.Read.{Ghosts}
+use Rattle.age_io.specs.declared.bufread.BufRead as buffered
+use Rattle.age_io.specs.Keeping.{SameReader}
+use Rattle.age_io.specs.Reading.{Delivers, StandsIn, most_faults}
+use Rattle.age_io.specs.Stretch.{nothing, from_place}
+use Rattle.age_armor.specs.declared.counted.Counted.{Counted}
+use Rattle.age_armor.specs.declared.reader.ArmoredReader.{ArmoredReader}
+use Rattle.age_armor.specs.declared.marks.Marks.{Marks}
+use Rattle.age_armor.specs.declared.stages.Stage.{Stage}
+use Rattle.age_armor.specs.Ahead.{outcome_ahead, rest_ahead}
+use Rattle.age_armor.specs.Delivered.{begins_armor}
+use Rattle.age_armor.specs.DeliveredLaws.{content_of, stands_by, stands_follows}
+use Rattle.age_armor.specs.Marks.{Knows, IsPaced, is_known}
+use Rattle.age_armor.specs.Seeking.{text_outcome}
+use Rattle.age_armor.specs.Stages.{is_start, is_armored, is_ended}
+use Rattle.age_armor.proofs.Ahead.{rest_failed, given_stands, ending_same}
+use Rattle.age_armor.proofs.Forms.{form_kept}
+use Rattle.age_armor.proofs.Keeping.{same-text}
+use Rattle.age_armor.proofs.Resuming.{knows_later, some_before}
+use Rattle.age_armor.proofs.Walking.{further}
+
+module _ {R : Type 0} {buf : buffered.Ghosts R} {read : Ghosts R} where
+  -- the ghost fields
+  abbrev pub IsSound : Counted R buf read → Stage → List ℕ → ℕ → ℕ → ℕ → Bool → Marks → Type 0
+  IsSound source stage bytes given filled place failed marks = record {
+    room : length bytes ≡ 48;
+    order : given ≤ filled;
+    within : filled ≤ 48;
+    fresh : is_start stage ≡ true → given ≡ filled;
+    untaken : failed ≡ false → is_start stage ≡ true → source.taken ≡ 0;
+    form : IsTrue (read.tells source.inner) → IsTrue (read.steady source.inner) → is_start stage ≡ false →
+        is_armored stage ≡ begins_armor (from_place (read.place source.inner - source.taken) (read.content source.inner)).bytes;
+    unspent : failed ≡ false → is_start stage ≡ false → read.faults source.inner < most_faults;
+    counted : IsTrue (read.tells source.inner) → failed ≡ false → place + (filled - given) ≤ source.taken;
+    fits : IsTrue (read.tells source.inner) → place < 2 ^ 63;
+    inside : IsTrue (read.tells source.inner) → IsTrue (read.steady source.inner) →
+        place ≤ length (content_of (read.content source.inner) (read.place source.inner - source.taken)).bytes;
+    follows : IsTrue (read.tells source.inner) → IsTrue (read.steady source.inner) →
+        (rest_ahead failed bytes given filled stage (read.rest source.inner) ≡ nothing → ⊥) →
+        rest_ahead failed bytes given filled stage (read.rest source.inner)
+        ≡ from_place place (content_of (read.content source.inner) (read.place source.inner - source.taken));
+    ends : IsTrue (read.tells source.inner) → IsTrue (read.steady source.inner) →
+        (rest_ahead failed bytes given filled stage (read.rest source.inner) ≡ nothing → ⊥) →
+        (outcome_ahead bytes given filled stage (read.rest source.inner)).ending
+        ≡ (text_outcome (read.content source.inner) (read.place source.inner - source.taken)).ending;
+    known : IsTrue (read.tells source.inner) → Knows (read.steady source.inner)
+        (from_place (read.place source.inner - source.taken) (read.content source.inner)) marks;
+    done : is_ended stage ≡ true → is_known marks.length ≡ true;
+    here : IsTrue (read.tells source.inner) → IsTrue (read.steady source.inner) → failed ≡ false → is_start stage ≡ false →
+        (rest_ahead failed bytes given filled stage (read.rest source.inner)
+        ≡ from_place place (content_of (read.content source.inner) (read.place source.inner - source.taken)))
+        × ((outcome_ahead bytes given filled stage (read.rest source.inner)).ending
+        ≡ (text_outcome (read.content source.inner) (read.place source.inner - source.taken)).ending);
+    paced : IsTrue (read.tells source.inner) → failed ≡ false → IsPaced stage place (filled - given) marks.furthest;
+  }
+
+  -- the reader that gives the text was moved, and this one has failed
+  pub sound-failed : (a : ArmoredReader R buf read) (source : Counted R buf read) → SameReader read a.source.inner source.inner →
+      (IsTrue (read.tells a.source.inner) → read.place source.inner - source.taken ≡ read.place a.source.inner - a.source.taken) →
+      IsSound source a.stage a.bytes a.given a.filled a.place true a.marks
+  sound-failed a source same origin =
+      let text = same-text read a.source.inner a.source.taken source.inner source.taken same origin in
+      record {
+        room = a.room;
+        order = a.order;
+        within = a.within;
+        fresh = a.fresh;
+        untaken = λ good. absurd (true≢false good);
+        form = λ told steady begun. form_kept (is_armored a.stage) _ _ (a.form (text.told told) (text.steady steady) begun) (text.text told);
+        unspent = λ good. absurd (true≢false good);
+        counted = λ told good. absurd (true≢false good);
+        fits = λ told. a.fits (text.told told);
+        inside = λ told steady. subst (λ s. a.place ≤ length s.bytes) (sym (text.content told)) (a.inside (text.told told) (text.steady steady));
+        follows = λ told steady some. absurd (some (rest_failed a.bytes a.given a.filled a.stage (read.rest source.inner)));
+        ends = λ told steady some. absurd (some (rest_failed a.bytes a.given a.filled a.stage (read.rest source.inner)));
+        known = λ told. knows_later _ _ _ _ _ text.steady (text.text told) (a.known (text.told told));
+        done = a.done;
+        here = λ told steady good. absurd (true≢false good);
+        paced = λ told good. absurd (true≢false good);
+      }
+
+  -- so many bytes of what is held were given
+  pub sound-given : (a : ArmoredReader R buf read) (n place : ℕ) (front : List ℕ) → n ≤ a.filled - a.given → n ≡ length front →
+      Delivers front (rest_ahead a.failed a.bytes a.given a.filled a.stage (read.rest a.source.inner))
+      (rest_ahead a.failed a.bytes (a.given + n) a.filled a.stage (read.rest a.source.inner)) →
+      (IsTrue (read.tells a.source.inner) → place ≡ a.place + n) → (a.failed ≡ true → n ≡ 0) →
+      (IsTrue (read.tells a.source.inner) → read.place a.source.inner < 2 ^ 63) →
+      IsSound a.source a.stage a.bytes (a.given + n) a.filled place a.failed a.marks
+  sound-given a n place front most size d moves none fits =
+      let content = content_of (read.content a.source.inner) (read.place a.source.inner - a.source.taken) in
+      let rest = rest_ahead a.failed a.bytes a.given a.filled a.stage (read.rest a.source.inner) in
+      let new = rest_ahead a.failed a.bytes (a.given + n) a.filled a.stage (read.rest a.source.inner) in
+      let stands : (IsTrue (read.tells a.source.inner) → IsTrue (read.steady a.source.inner) → StandsIn content place new) = λ told steady.
+      rw (moves told) (given_stands content rest new a.place n front size d (stands_by content rest a.place (a.inside told steady) (a.follows told steady))) in
+      let same : (outcome_ahead a.bytes (a.given + n) a.filled a.stage (read.rest a.source.inner)).ending
+      ≡ (outcome_ahead a.bytes a.given a.filled a.stage (read.rest a.source.inner)).ending =
+      ending_same a.bytes a.given a.filled (a.given + n) a.stage (read.rest a.source.inner) in
+      record {
+        room = a.room;
+        order = omega (arith, a.order, most);
+        within = a.within;
+        fresh = λ start. omega (arith, a.fresh start, most);
+        untaken = a.untaken;
+        form = a.form;
+        unspent = a.unspent;
+        counted = λ told good. omega (arith, a.counted told good, moves told, most);
+        fits = λ told. elim (cases_Bool a.failed) [
+          | inl gone ↦ omega (arith, a.fits told, moves told, none gone)
+          | inr good ↦ omega (arith, a.counted told good, moves told, most, a.source.behind told, fits told)
+        ];
+        inside = λ told steady. (stands told steady).within;
+        follows = λ told steady some. stands_follows content new place (stands told steady) some;
+        ends = λ told steady some. same ∙ a.ends told steady (some_before rest new front d some);
+        known = a.known;
+        done = a.done;
+        here = λ told steady good begun.
+            let at = a.here told steady good begun in
+            (further content rest new a.place place n front at.0 d size (moves told), same ∙ at.1);
+        paced = λ told good.
+            let pace = a.paced told good in
+            let held : place + (a.filled - (a.given + n)) ≡ a.place + (a.filled - a.given) = omega (arith, moves told, most) in
+            record {
+              within = omega (arith, held, pace.within);
+              first = λ start. omega (arith, pace.first start, a.fresh start, most, moves told);
+              lines = λ full. omega (arith, held, pace.lines full);
+            };
+      }
