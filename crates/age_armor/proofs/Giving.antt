@@ -15,13 +15,14 @@ use Rattle.age_io.proofs.Retrying.{tried-narrows}
 use Rattle.age_armor.specs.declared.reader.ArmoredReader.{ArmoredReader}
 use Rattle.age_armor.specs.Delivered.{Ending, begins_armor}
 use Rattle.age_armor.specs.Ending.{KeepsEnding}
-use Rattle.age_armor.specs.Marks.{IsPaced, LearnsMore}
+use Rattle.age_armor.specs.Marks.{LearnsMore}
+use Rattle.age_armor.specs.Stages.{is_start, is_armored}
 use Rattle.age_armor.specs.Seeking.{Goes}
 use Rattle.age_armor.specs.Reader.{Learns, text_of, armored_reader, armored_rest, refuses_of}
 use Rattle.age_armor.specs.Giving.{KeepsText}
-use Rattle.age_armor.proofs.Ahead.{rest_gone}
-use Rattle.age_armor.proofs.Keeping.{same-source, same-source-text, armor-plain, still-narrows}
-use Rattle.age_armor.proofs.Pacing.{learns_later, learns_none, shown_reached}
+use Rattle.age_armor.proofs.Forms.{form_kept}
+use Rattle.age_armor.proofs.Keeping.{gone, reached, same-source, same-source-text, armor-plain, still-narrows}
+use Rattle.age_armor.proofs.Pacing.{learns_later, learns_none}
 
 -- ---- a reader that fails for good
 
@@ -72,16 +73,21 @@ module _ {R : Type 0} {buf : buffered.Ghosts R} {read : Ghosts R} where
 
   -- all that it holds is before the furthest place
   pub learned : {A : Type 0} {x : A} (a b : ArmoredReader R buf read) → SameReader armored_reader a b → KeepsText a b →
-      b.source.lines ≤ a.source.lines + 1 → b.failed ≡ false → b.filled ≤ length b.bytes →
-      (IsTrue (read.tells b.source.inner) → b.failed ≡ false → IsPaced b.stage b.place (b.filled - b.given) b.marks.furthest) →
+      b.source.lines ≤ a.source.lines + 1 → b.failed ≡ false →
       (IsTrue (read.tells a.source.inner) → IsTrue (read.steady a.source.inner) → begins_armor (text_of a).bytes ≡ false → b.source.lines ≡ a.source.lines) →
       Learns a b (Ok x)
-  learned a b same text once good all paced bare = record {
+  learned a b same text once good bare = record {
     more = text.learns;
-    reaches = λ told. shown_reached b.failed b.bytes b.given b.filled b.place b.marks.furthest b.stage all good (paced (same.tells ∙ told) good);
+    reaches = λ told. reached b (same.tells ∙ told) good;
     lines = (text.counts, once);
     bare = bare;
   }
+
+  -- whether it has armor is what the text says
+  pub form-found : (a b : ArmoredReader R buf read) → SameReader armored_reader a b → KeepsText a b → is_start b.stage ≡ false →
+      IsTrue (read.tells a.source.inner) → IsTrue (read.steady a.source.inner) → is_armored b.stage ≡ begins_armor (text_of a).bytes
+  form-found a b same text begun told steady =
+      form_kept (is_armored b.stage) (text_of b) (text_of a) (b.form (same.tells ∙ told) (same.steady ∙ steady) begun) (sym (text.same_text told))
 
   -- ---- a read
 
@@ -137,7 +143,7 @@ module _ {R : Type 0} {buf : buffered.Ghosts R} {read : Ghosts R} where
     moves = λ told. tt;
     end = λ told. tt;
     stays = λ told. stays;
-    left = λ told. inr (rest_gone b.failed b.bytes b.given b.filled b.stage (read.rest b.source.inner) fails);
+    left = λ told. inr (gone b fails);
     interrupted = λ told again. absurd (goes.keeps.patient again);
     cause = cause;
   }

@@ -22,8 +22,7 @@ use Rattle.age_armor.specs.Seeking.{Goes, OrAstray, AsksPast, SeeksText, ComesBa
 use Rattle.age_armor.specs.Reader.{outcome_of, text_outcome_of, armored_reader, armored_content, armored_rest, refuses_of}
 use Rattle.age_armor.specs.Giving.{KeepsText, EndsAsBefore}
 use Rattle.age_armor.specs.Going.{EndsAsText, Stands, WalksAlong, Reaches, Misses, FindsEnd, StaysThere, SparesReading, TakesFew}
-use Rattle.age_armor.proofs.Ahead.{rest_gone}
-use Rattle.age_armor.proofs.Keeping.{goes-later, goes-seeking, goes-unrefused, armor-plain, seeks-plain}
+use Rattle.age_armor.proofs.Keeping.{gone, goes-later, goes-seeking, goes-unrefused, armor-plain, seeks-plain}
 use Rattle.age_armor.proofs.OwnEndings.{still_named}
 use Rattle.age_armor.proofs.Taking.{quiet_after}
 use Rattle.age_armor.proofs.Walking.{ends_at}
@@ -225,7 +224,6 @@ module _ {R : Type 0} {buf : buffered.Ghosts R} {read : Ghosts R} where
       let goes = went.keeps in
       let inner : (IsTrue (armored_content a).ends_well → IsTrue (read.content a.source.inner).ends_well) =
       well_inner (read.content a.source.inner) (read.place a.source.inner - a.source.taken) in
-      let gone = rest_gone a.failed a.bytes a.given a.filled a.stage (read.rest a.source.inner) in
       let first = goes.same.faults in
       let last = back.same.faults in
       let keeps : KeepsReader {T = ℕ} armored_reader (OrSeek (OrAstray below) refuses_of) a c (Err answer) = record {
@@ -255,7 +253,7 @@ module _ {R : Type 0} {buf : buffered.Ghosts R} {read : Ghosts R} where
             ])
             (λ told. back.stays (goes.same.tells ∙ told))
             (λ told is_steady stands refusal. elim (cases_Bool a.failed) [
-              | inl had ↦ back.gone had ∙ sym (gone had)
+              | inl had ↦ back.gone had ∙ sym (gone a had)
               | inr fine ↦ back.back (goes.same.tells ∙ told) (goes.same.steady ∙ is_steady) fine refusal ∙ ap (from_place a.place) (goes.same.content told) ∙ sym stands
             ])
             (λ told well refusal. subst (λ e. sought to a.place (length (armored_content a).bytes) ≡ Err e) (sym (back.unmoved refusal).1)

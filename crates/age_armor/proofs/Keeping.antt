@@ -1,23 +1,23 @@
 -- Steps that keep a reader, and what seeks make of them.
-use Rattle.std.proofs.Common.{◌≡◌, ◌≢◌, ◌⊎◌, ◌∙◌, ◌-◌, ℕ, false, IsTrue, Result, Ok, Err, arith, ap, subst, sym, refl, inl, inr}
+use Rattle.std.proofs.Common.{◌≤◌, true, ◌+◌, ◌<◌, length, ◌≡◌, ◌≢◌, ◌⊎◌, ◌∙◌, ◌-◌, ℕ, false, IsTrue, Result, Ok, Err, arith, ap, subst, sym, refl, inl, inr}
 use Rattle.std.proofs.lemmas.Bool.{true≢false}
 use Rattle.age_error.specs.Refusals.{IsDevice, IsInterruption}
 use Rattle.age_error.specs.declared.io.Error.{Error}
 use Rattle.age_error.specs.declared.io.Error.TheVariants.{Failed}
 use Rattle.age_io.specs.declared.traits.Read.{Ghosts}
-use Rattle.age_io.specs.Stretch.{from_place}
-use Rattle.age_io.specs.Keeping.{SameReader, OrSeek}
-use Rattle.age_io.specs.Reading.{AddsNoReason, TriedAgain}
+use Rattle.age_io.specs.Stretch.{nothing, from_place}
+use Rattle.age_io.specs.Keeping.{SameReader, KeepsReader, OrSeek}
+use Rattle.age_io.specs.Reading.{AddsNoReason, TriedAgain, most_faults}
 use Rattle.age_io.proofs.Keeping.{same-later, keeps-done, keeps-later, keeps-more, keeps-refused, seek-narrows}
 use Rattle.age_io.proofs.Retrying.{tried-patient, tried-narrows}
 use Rattle.age_io.specs.declared.bufread.BufRead as buffered
 use Rattle.age_armor.specs.declared.reader.ArmoredReader.{ArmoredReader}
 use Rattle.age_armor.specs.declared.counted.Counted.{Counted}
-use Rattle.age_armor.specs.Counting.{Kept}
-use Rattle.age_armor.specs.Reader.{armored_reader, refuses_of}
+use Rattle.age_armor.specs.Reader.{armored_reader, armored_rest, refuses_of, shown_of}
 use Rattle.age_armor.specs.Refusing.{OrText}
 use Rattle.age_armor.specs.DeliveredLaws.{content_of}
 use Rattle.age_armor.specs.Seeking.{Goes, OrAstray}
+use Rattle.age_armor.proofs.Ahead.{length_held, rest_gone}
 use Rattle.age_armor.proofs.Refusing.{failed-or-kept, plain-narrows, text-patient, text-narrows}
 
 module _ {R : Type 0} (read : Ghosts R) where
@@ -141,50 +141,36 @@ module _ {R : Type 0} {buf : buffered.Ghosts R} {read : Ghosts R} where
     content = λ told. rw (same.content told, origin told) refl;
   }
 
-  -- a step of what counts the bytes
-  pub armor-done : {A B : Type 0} {x : A} {y : B} (a b : ArmoredReader R buf read) →
-      Kept {A = A} read a.source.inner a.source.taken b.source.inner b.source.taken (Ok x) → b.failed ≡ false → Goes {A = B} armored_reader refuses_of a b (Ok y)
-  armor-done a b kept good = record {
-    keeps = keeps-done armored_reader refuses_of a b (same-armored a b kept.keeps.same kept.origin)
-        (tried-narrows refuses_of a b (armor-narrows a b kept.keeps.same kept.keeps.narrows good));
-    unspent = kept.unspent;
+  -- a step of the reader that gives the text
+  pub armored-done : {A B : Type 0} {x : A} {y : B} {below : R → Error → Type 0} (may : ArmoredReader R buf read → Error → Type 0) (a b : ArmoredReader R buf read) →
+      KeepsReader {T = A} read below a.source.inner b.source.inner (Ok x) →
+      (IsTrue (read.tells a.source.inner) → read.place b.source.inner - b.source.taken ≡ read.place a.source.inner - a.source.taken) →
+      read.faults b.source.inner < most_faults → b.failed ≡ false → Goes {A = B} armored_reader may a b (Ok y)
+  armored-done may a b keeps origin few good = record {
+    keeps = keeps-done armored_reader may a b (same-armored a b keeps.same origin)
+        (tried-narrows refuses_of a b (armor-narrows a b keeps.same keeps.narrows good));
+    unspent = few;
   }
 
-  pub armor-refused : {A B : Type 0} (a b : ArmoredReader R buf read) (e : Error) →
-      Kept {A = A} read a.source.inner a.source.taken b.source.inner b.source.taken (Err e) → Goes {A = B} armored_reader refuses_of a b (Err e)
-  armor-refused a b e kept = record {
-    keeps = record {
-      same = same-armored a b kept.keeps.same kept.origin;
-      device = kept.keeps.device;
-      patient = kept.keeps.patient;
-      why = inr kept.keeps.why;
-      narrows = tt;
-    };
+  pub armored-refused : {A B : Type 0} {below : R → Error → Type 0} (may : ArmoredReader R buf read → Error → Type 0) (a b : ArmoredReader R buf read) (e : Error) →
+      KeepsReader {T = A} read below a.source.inner b.source.inner (Err e) →
+      (IsTrue (read.tells a.source.inner) → read.place b.source.inner - b.source.taken ≡ read.place a.source.inner - a.source.taken) →
+      (below a.source.inner e → may a e) → Goes {A = B} armored_reader may a b (Err e)
+  armored-refused may a b e keeps origin wider = record {
+    keeps = record { same = same-armored a b keeps.same origin; device = keeps.device; patient = keeps.patient; why = wider keeps.why; narrows = tt };
     unspent = tt;
   }
 
-  -- back to the front of the text
-  pub rewound : {A B : Type 0} {x : A} {y : B} (own : Error → Type 0) (a b : ArmoredReader R buf read) →
-      Goes {A = A} read (OrSeek own (TriedAgain read.refuses)) a.source.inner b.source.inner (Ok x) →
-      (IsTrue (read.tells a.source.inner) → read.place b.source.inner - b.source.taken ≡ read.place a.source.inner - a.source.taken) →
-      b.failed ≡ false → Goes {A = B} armored_reader (OrSeek own refuses_of) a b (Ok y)
-  rewound own a b goes origin good = record {
-    keeps = keeps-done armored_reader (OrSeek own refuses_of) a b (same-armored a b goes.keeps.same origin)
-        (tried-narrows refuses_of a b (armor-narrows a b goes.keeps.same goes.keeps.narrows good));
-    unspent = goes.unspent;
-  }
+  -- ---- what it holds and shows
 
-  pub rewind-refused : {A B : Type 0} (own : Error → Type 0) (a b : ArmoredReader R buf read) (e : Error) →
-      Goes {A = A} read (OrSeek own (TriedAgain read.refuses)) a.source.inner b.source.inner (Err e) →
-      (IsTrue (read.tells a.source.inner) → read.place b.source.inner - b.source.taken ≡ read.place a.source.inner - a.source.taken) →
-      Goes {A = B} armored_reader (OrSeek own refuses_of) a b (Err e)
-  rewind-refused own a b e goes origin = record {
-    keeps = record {
-      same = same-armored a b goes.keeps.same origin;
-      device = goes.keeps.device;
-      patient = goes.keeps.patient;
-      why = elim goes.keeps.why [ inl is ↦ inl is | inr tried ↦ inr (inr (inr tried)) ];
-      narrows = tt;
-    };
-    unspent = tt;
-  }
+  pub all_held : (r : ArmoredReader R buf read) → r.filled ≤ length r.bytes
+  all_held r = omega (arith, r.within, r.room)
+
+  pub held_shown : (r : ArmoredReader R buf read) → r.failed ≡ false → length (shown_of r) ≡ r.filled - r.given
+  held_shown r good = length_held r.failed r.bytes r.given r.filled (all_held r) good
+
+  pub reached : (r : ArmoredReader R buf read) → IsTrue (read.tells r.source.inner) → r.failed ≡ false → r.place + length (shown_of r) ≤ r.marks.furthest
+  reached r told good = omega (arith, (r.paced told good).within, held_shown r good)
+
+  pub gone : (r : ArmoredReader R buf read) → r.failed ≡ true → armored_rest r ≡ nothing
+  gone r fails = rest_gone r.failed r.bytes r.given r.filled r.stage (read.rest r.source.inner) fails

@@ -1,5 +1,5 @@
 -- How many lines a walk takes.
-use Rattle.std.proofs.Common.{◌≡◌, ◌∙◌, inl, inr, ℕ, ◌+◌, ◌*◌, ◌-◌, ◌<◌, ◌≤◌, Bool, true, false, List, [], ◌++◌, length, refl, arith, ap, sym, subst, length-append, Option, Some, None}
+use Rattle.std.proofs.Common.{◌≡◌, ◌∙◌, inl, inr, ℕ, ◌+◌, ◌*◌, ◌<◌, ◌≤◌, Bool, true, false, List, [], ◌++◌, length, refl, arith, ap, sym, subst, length-append, Option, Some, None}
 use Rattle.std.proofs.lemmas.Bool.{true≢false, cases_Bool, cases_lt}
 use Rattle.age_io.specs.Stretch.{Stretch}
 use Rattle.age_io.specs.Reading.{Delivers}
@@ -9,7 +9,7 @@ use Rattle.age_armor.specs.declared.stages.Stage.TheVariants.{Start, Binary, Lin
 use Rattle.age_armor.specs.Stages.{ahead, is_start, is_open}
 use Rattle.age_armor.specs.Ahead.{rest_ahead, shown_ahead}
 use Rattle.age_armor.specs.declared.marks.Marks.{Marks}
-use Rattle.age_armor.specs.Marks.{EndsBefore, IsPaced, LearnsMore, is_known}
+use Rattle.age_armor.specs.Marks.{EndsBefore, LearnsMore, is_known}
 use Rattle.age_armor.proofs.Ahead.{length_held}
 use Rattle.age_armor.specs.Delivered.{raw_lines}
 use Rattle.age_armor.specs.Counting.{TakesLines, IsCounted}
@@ -69,12 +69,6 @@ learns_later old middle new first last = record {
 
 pub learns_none : (old new : Marks) → new ≡ old → LearnsMore old new
 learns_none old new same = rw same (record { further = omega arith; end = λ known. known; noting = λ noting. noting })
-
--- what is shown is held
-pub shown_reached : (failed : Bool) (bytes : List ℕ) (given filled place furthest : ℕ) (stage : Stage) → filled ≤ length bytes → failed ≡ false →
-    IsPaced stage place (filled - given) furthest → place + length (shown_ahead failed bytes given filled) ≤ furthest
-shown_reached failed bytes given filled place furthest stage all good pace =
-    omega (arith, pace.within, length_held failed bytes given filled all good)
 
 pub known_length : (length : Option ℕ) (place : ℕ) → EndsBefore length place → (n : ℕ) × (length ≡ Some n) × (n < place)
 known_length None place ends = absurd ends

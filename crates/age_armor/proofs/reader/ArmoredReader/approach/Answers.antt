@@ -1,13 +1,13 @@
-use Rattle.std.proofs.Common.{◌∙◌, ◌-◌, ◌≤◌, ◌≡◌, false, arith, length, length-drop, sym, ap, subst, refl, IsTrue}
+use Rattle.std.proofs.Common.{inl, inr, ◌∙◌, ◌-◌, ◌≤◌, ◌≡◌, false, arith, length, length-drop, sym, ap, subst, refl, IsTrue}
 use Rattle.std.proofs.lemmas.Bool.{true≢false}
 use Rattle.age_io.specs.Stretch.{from_place}
 use Rattle.age_armor.specs.Ahead.{outcome_ahead, rest_ahead}
 use Rattle.age_armor.specs.DeliveredLaws.{content_of}
-use Rattle.age_armor.specs.Seeking.{OrAstray, text_outcome}
+use Rattle.age_armor.specs.Seeking.{text_outcome}
 use Rattle.age_armor.specs.Delivered.{delivered}
 use Rattle.age_armor.specs.Marks.{CanResume, Resumes}
 use Rattle.age_armor.specs.Stages.{is_armored}
-use Rattle.age_armor.proofs.Keeping.{same-text, rewound, rewind-refused}
+use Rattle.age_armor.proofs.Keeping.{same-text, armored-done, armored-refused}
 use Rattle.age_armor.proofs.Forms.{form_kept}
 use Rattle.age_armor.proofs.Pacing.{learns_none}
 use Rattle.age_armor.proofs.Resuming.{knows_later, resumed_rest, resumed_ending}
@@ -81,7 +81,7 @@ returns-in-Ok g c =
     Resumes (from_place origin content) mark.stage mark.place mark.taken) = λ told steady.
     (c.last-mark.ensures.each (reader.steady before.source.inner) (from_place origin content) (before.known told)).0.1 steady in
     record {
-      goes = rewound (OrAstray g.R.Seek.seek_refuses) _ _ now.goes now.origin refl;
+      goes = armored-done _ _ _ now.goes.keeps now.origin now.goes.unspent refl;
       text = text-moved _ _ now.goes.keeps.same now.origin (learns_none _ _ refl) (omega (arith, now.lines));
       stands = record {
         good = refl;
@@ -105,7 +105,7 @@ returns-in-Err g c =
     let origin = reader.place before.source.inner - before.source.taken in
     let content = reader.content before.source.inner in
     record {
-      goes = rewind-refused (OrAstray g.R.Seek.seek_refuses) _ _ c.in-Err.e now.goes now.origin;
+      goes = armored-refused _ _ _ c.in-Err.e now.goes.keeps now.origin (λ why. elim why [ inl is ↦ inl is | inr tried ↦ inr (inr (inr tried)) ]);
       text = text-moved _ _ now.goes.keeps.same now.origin (learns_none _ _ refl) (omega (arith, now.lines));
       stands = stands-none _ _ _;
       before = tt;

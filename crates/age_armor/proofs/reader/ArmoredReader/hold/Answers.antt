@@ -1,4 +1,4 @@
-use Rattle.std.proofs.Common.{◌≡◌, ◌∙◌, ◌-◌, ◌≤◌, true, arith, drop, length, length-take-le, take, sym, ap, refl, IsTrue}
+use Rattle.std.proofs.Common.{inr, ◌≡◌, ◌∙◌, ◌-◌, ◌≤◌, true, arith, drop, length, length-take-le, take, sym, ap, refl, IsTrue}
 use Rattle.age_armor.specs.declared.stages.Stage.TheVariants.{Lines}
 use Rattle.std.proofs.lemmas.Bool.{true≢false}
 use Rattle.age_io.specs.Reading.{StandsIn}
@@ -7,7 +7,7 @@ use Rattle.age_armor.specs.Marks.{is_known}
 use Rattle.age_armor.specs.Seeking.{text_outcome}
 use Rattle.age_io.specs.Stretch.{from_place}
 use Rattle.age_armor.specs.DeliveredLaws.{content_of, stands_by}
-use Rattle.age_armor.proofs.Keeping.{same-text, armor-done, armor-refused}
+use Rattle.age_armor.proofs.Keeping.{same-text, all_held, armored-done, armored-refused}
 use Rattle.age_armor.proofs.Ahead.{kept_stands, hold_rest, hold_ending, hold_end, hold_fault, hold_named, ended_clean, shown_none, front_held}
 use Rattle.age_armor.specs.Delivered.{delivered}
 use Rattle.age_armor.specs.Stages.{is_start, is_ended}
@@ -27,7 +27,6 @@ invariant_of-self g c =
     let piece = c.in-Ok.piece in
     let source = c.advance.new.source in
     let bytes = c.advance.new.bytes in
-    let all : before.filled ≤ length before.bytes = omega (arith, before.within, before.room) in
     let empty : before.filled ≤ before.given = omega (arith, c.is_ready.ensures.none c.if-is_ready.false) in
     let content = content_of (reader.content before.source.inner) (reader.place before.source.inner - before.source.taken) in
     let other = content_of (reader.content source.inner) (reader.place source.inner - source.taken) in
@@ -36,7 +35,7 @@ invariant_of-self g c =
     let same = same-text reader before.source.inner before.source.taken source.inner source.taken now.kept.keeps.same now.kept.origin in
     let kept : (IsTrue (reader.tells source.inner) → new ≡ rest) = λ told.
     hold_rest before.failed before.bytes bytes before.given before.filled piece.count before.stage piece.next (reader.rest before.source.inner) (reader.rest source.inner)
-    c.requires all empty (now.gives.bytes (same.told told)) in
+    c.requires (all_held before) empty (now.gives.bytes (same.told told)) in
     let stands : (IsTrue (reader.tells source.inner) → IsTrue (reader.steady source.inner) → StandsIn other before.place new) = λ told steady.
     kept_stands content other rest new before.place (same.content told) (kept told)
     (stands_by content rest before.place (before.inside (same.told told) (same.steady steady)) (before.follows (same.told told) (same.steady steady))) in
@@ -51,7 +50,7 @@ invariant_of-self g c =
     let told_before = same.told told in
     let held = front_held before.failed bytes 0 piece.count piece.next (reader.rest source.inner) c.requires in
     let some = not_nothing rest front held.more piece.count (ap (λ s. s.bytes) (sym (kept told)) ∙ held.bytes) size
-    (λ none. hold_end before.failed before.bytes before.given before.filled before.stage (reader.rest before.source.inner) c.requires all empty (now.piece.end told_before none)) in (
+    (λ none. hold_end before.failed before.bytes before.given before.filled before.stage (reader.rest before.source.inner) c.requires (all_held before) empty (now.piece.end told_before none)) in (
       kept told ∙ before.follows told_before (same.steady steady) some ∙ ap (from_place before.place) (sym (same.content told)),
       hold_ending before.bytes bytes before.given before.filled piece.count before.stage piece.next (reader.rest before.source.inner) (reader.rest source.inner) (now.gives.bytes told_before)
           ∙ before.ends told_before (same.steady steady) some ∙ sym (ap (λ t. (delivered t.bytes t.ends_well).ending) (same.text told)),
@@ -79,12 +78,12 @@ invariant_of-self g c =
           knows_later (reader.steady before.source.inner) _ _ _ _ same.steady (same.text told)
           (c.learn.ensures.knows (reader.steady before.source.inner) _ (before.known told_before) (omega (arith, pace.within))
           (λ none steady. length_at_end (reader.content before.source.inner) rest _ before.place
-          (hold_end before.failed before.bytes before.given before.filled before.stage (reader.rest before.source.inner) c.requires all empty (now.piece.end told_before none))
+          (hold_end before.failed before.bytes before.given before.filled before.stage (reader.rest before.source.inner) c.requires (all_held before) empty (now.piece.end told_before none))
           (before.inside told_before steady) (before.follows told_before steady))
           (λ some lines. (
             omega (arith, before.counted told_before c.requires, empty, before.order),
             λ steady. resumes_line (reader.content before.source.inner) (reader.rest before.source.inner) _ before.source.taken before.place before.bytes before.given before.filled
-                before.stage _ front lines (before.source.behind told_before) (g.met.R.Read.stands before.source.inner told_before steady) all empty (now.gives.bytes told_before)
+                before.stage _ front lines (before.source.behind told_before) (g.met.R.Read.stands before.source.inner told_before steady) (all_held before) empty (now.gives.bytes told_before)
                 (omega (arith, size, some)) (before.inside told_before steady) (rw c.requires at (before.follows told_before steady)) (rw c.requires at (before.ends told_before steady))
                 (before.form told_before steady (ap is_start lines)),
           ))
@@ -129,7 +128,7 @@ returns-then-is_ready g c =
         begun = begun;
         end = λ told none.
             hold_end before.failed before.bytes before.given before.filled before.stage (g.R.Read.rest before.source.inner) c.requires
-            (omega (arith, before.within, before.room)) (omega (arith, none)) (ended_clean before.stage (g.R.Read.rest before.source.inner) (end none));
+            (all_held before) (omega (arith, none)) (ended_clean before.stage (g.R.Read.rest before.source.inner) (end none));
         knows = λ none. before.done (end none);
         same = λ some. (refl, refl);
       };
@@ -152,11 +151,10 @@ returns-in-Ok g c =
     let now = c.in-Ok.ensures in
     let piece = c.in-Ok.piece in
     let source = c.advance.new.source in
-    let all : before.filled ≤ length before.bytes = omega (arith, before.within, before.room) in
     let none : before.given ≡ before.filled = c.is_ready.ensures.none c.if-is_ready.false in
     let empty : before.filled ≤ before.given = omega (arith, none) in
     record {
-      goes = armor-done _ _ now.kept c.requires;
+      goes = armored-done _ _ _ now.kept.keeps now.kept.origin now.kept.unspent c.requires;
       good = good-done _ _ c.requires c.requires;
       ending = record {
         same = λ told. hold_ending before.bytes c.advance.new.bytes before.given before.filled piece.count before.stage piece.next
@@ -167,12 +165,12 @@ returns-in-Ok g c =
       holds = record {
         place = refl;
         rest = λ told. hold_rest before.failed before.bytes c.advance.new.bytes before.given before.filled piece.count before.stage piece.next
-            (reader.rest before.source.inner) (reader.rest source.inner) c.requires all empty (now.gives.bytes told);
+            (reader.rest before.source.inner) (reader.rest source.inner) c.requires (all_held before) empty (now.gives.bytes told);
         begun = now.piece.begun;
-        end = λ told found. hold_end before.failed before.bytes before.given before.filled before.stage (reader.rest before.source.inner) c.requires all empty
+        end = λ told found. hold_end before.failed before.bytes before.given before.filled before.stage (reader.rest before.source.inner) c.requires (all_held before) empty
             (now.piece.end told (sym found));
         knows = λ found. ap is_known (c.learn.ensures.ends (sym found));
-        same = λ some. absurd (omega (arith, ap length (shown_none before.failed before.bytes before.given before.filled all none), some));
+        same = λ some. absurd (omega (arith, ap length (shown_none before.failed before.bytes before.given before.filled (all_held before) none), some));
       };
       counts = λ told. record {
         held = λ some. absurd (omega (arith, some, none));
@@ -191,10 +189,9 @@ returns-in-Err g c =
     let before = c.args.self.now in
     let reader = g.R.Read in
     let now = c.in-Err.ensures in
-    let all : before.filled ≤ length before.bytes = omega (arith, before.within, before.room) in
     let none : before.given ≡ before.filled = c.is_ready.ensures.none c.if-is_ready.false in
     record {
-      goes = armor-refused _ _ c.in-Err.e now.kept;
+      goes = armored-refused _ _ _ c.in-Err.e now.kept.keeps now.kept.origin (λ why. inr why);
       good = good-failed _ _ c.in-Err.e c.requires refl now.kept.keeps.patient;
       ending = record {
         same = λ told. tt;
@@ -208,11 +205,11 @@ returns-in-Err g c =
         begun = tt;
         end = λ told. tt;
         knows = tt;
-        same = λ some. absurd (omega (arith, ap length (shown_none before.failed before.bytes before.given before.filled all none), some));
+        same = λ some. absurd (omega (arith, ap length (shown_none before.failed before.bytes before.given before.filled (all_held before) none), some));
       };
       counts = λ told. tt;
       lines = now.counts.1;
       cause = λ told other quiet.
           hold_fault before.failed before.bytes before.given before.filled before.stage (reader.rest before.source.inner) c.in-Err.e c.requires
-          all (omega (arith, none)) (now.gives.cause told other quiet);
+          (all_held before) (omega (arith, none)) (now.gives.cause told other quiet);
     }

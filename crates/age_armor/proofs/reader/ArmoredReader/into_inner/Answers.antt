@@ -1,6 +1,7 @@
-use Rattle.std.proofs.Common.{◌≤◌, arith, length}
+use Rattle.std.proofs.Common.{arith}
 use Rattle.age_armor.proofs.Ahead.{length_held}
 use Rattle.age_armor.proofs.Forms.{stands_in_text, binary_left}
+use Rattle.age_armor.proofs.Keeping.{all_held}
 use Rattle.age_armor.proofs.reader.ArmoredReader.into_inner.Goals as goal
 
 pub returns-clause-stands : goal.returns-clause-stands
@@ -13,8 +14,7 @@ returns-clause-stands g c = λ told steady.
 pub returns-clause-behind : goal.returns-clause-behind
 returns-clause-behind g c = λ told good.
     let self = c.args.self in
-    let all : self.filled ≤ length self.bytes = omega (arith, self.within, self.room) in
-    omega (arith, length_held self.failed self.bytes self.given self.filled all good, self.counted told good)
+    omega (arith, length_held self.failed self.bytes self.given self.filled (all_held self) good, self.counted told good)
 
 pub returns-clause-binary : goal.returns-clause-binary
 returns-clause-binary g c = λ good plain some.

@@ -1,4 +1,4 @@
-use Rattle.std.proofs.Common.{ℕ, refl, ◌≡◌, ◌∙◌, ◌+◌, ◌-◌, ◌≤◌, arith, take, length, length-take-le, sym, ap, IsTrue}
+use Rattle.std.proofs.Common.{inr, ℕ, refl, ◌≡◌, ◌∙◌, ◌+◌, ◌-◌, arith, take, length, length-take-le, sym, ap, IsTrue}
 use Rattle.std.proofs.lemmas.Bool.{true≢false}
 use Rattle.age_io.specs.Reading.{StandsIn}
 use Rattle.age_io.specs.Stretch.{from_place}
@@ -7,7 +7,7 @@ use Rattle.age_armor.specs.Marks.{is_known}
 use Rattle.age_armor.specs.Seeking.{text_outcome}
 use Rattle.age_armor.proofs.Walking.{further}
 use Rattle.age_armor.specs.DeliveredLaws.{content_of, stands_by}
-use Rattle.age_armor.proofs.Keeping.{same-text, armor-done, armor-refused}
+use Rattle.age_armor.proofs.Keeping.{same-text, all_held, armored-done, armored-refused}
 use Rattle.age_armor.proofs.Ahead.{given_stands, pass_delivers, pass_end, pass_fault, pass_named, pass_ending, shown_none}
 use Rattle.age_armor.specs.Stages.{is_start, is_armored, is_ended}
 use Rattle.age_armor.specs.Delivered.{delivered}
@@ -25,7 +25,6 @@ invariant_of-self g c =
     let now = c.in-Ok.ensures in
     let n = c.in-Ok.count in
     let source = c.read.new.self in
-    let all : before.filled ≤ length before.bytes = omega (arith, before.within, before.room) in
     let content = content_of (reader.content before.source.inner) (reader.place before.source.inner - before.source.taken) in
     let other = content_of (reader.content source.inner) (reader.place source.inner - source.taken) in
     let rest = rest_ahead before.failed before.bytes before.given before.filled before.stage (reader.rest before.source.inner) in
@@ -37,7 +36,7 @@ invariant_of-self g c =
     omega (arith, c.saturating_add-self.ensures, before.counted (same.told told) c.requires.good, now.taken (same.told told), source.behind told, g.met.R.Read.place_fits source.inner told) in
     let stands : (IsTrue (reader.tells source.inner) → IsTrue (reader.steady source.inner) → StandsIn other c.saturating_add-self.result new) = λ told steady.
     rw (place told, same.content told) (given_stands content rest new before.place n front size
-    (pass_delivers before.failed before.bytes front before.given before.filled before.stage _ _ c.requires.good c.requires.binary all c.requires.given (now.bytes (same.told told)))
+    (pass_delivers before.failed before.bytes front before.given before.filled before.stage _ _ c.requires.good c.requires.binary (all_held before) c.requires.given (now.bytes (same.told told)))
     (stands_by content rest before.place (before.inside (same.told told) (same.steady steady)) (before.follows (same.told told) (same.steady steady)))) in
     let here : (IsTrue (reader.tells source.inner) → IsTrue (reader.steady source.inner) →
     (new ≡ from_place c.saturating_add-self.result other)
@@ -46,7 +45,7 @@ invariant_of-self g c =
     let told_before = same.told told in
     let at = before.here told_before (same.steady steady) c.requires.good (ap is_start c.requires.binary) in (
       further content rest new before.place _ n front at.0
-          (pass_delivers before.failed before.bytes front before.given before.filled before.stage _ _ c.requires.good c.requires.binary all c.requires.given (now.bytes told_before))
+          (pass_delivers before.failed before.bytes front before.given before.filled before.stage _ _ c.requires.good c.requires.binary (all_held before) c.requires.given (now.bytes told_before))
           size (place told) ∙ ap (from_place c.saturating_add-self.result) (sym (same.content told)),
       pass_ending before.bytes _ before.given before.filled before.stage _ _ c.requires.binary (now.bytes told_before)
           ∙ at.1 ∙ sym (ap (λ t. (delivered t.bytes t.ends_well).ending) (same.text told)),
@@ -70,11 +69,11 @@ invariant_of-self g c =
           knows_later (reader.steady before.source.inner) _ _ _ _ same.steady (same.text told)
           (c.learn.ensures.knows (reader.steady before.source.inner) _ (before.known told_before) (omega (arith, pace.within))
           (λ none steady. length_at_end (reader.content before.source.inner) rest _ before.place
-          (pass_end before.failed before.bytes before.given before.filled before.stage _ c.requires.good c.requires.binary all c.requires.given (now.end told_before none))
+          (pass_end before.failed before.bytes before.given before.filled before.stage _ c.requires.good c.requires.binary (all_held before) c.requires.given (now.end told_before none))
           (before.inside told_before steady) (before.follows told_before steady))
           (λ some lines. not_binary lines)
           (λ steady. reaches_content content rest before.place n front new.bytes (before.inside told_before steady) (before.follows told_before steady)
-          (pass_delivers before.failed before.bytes front before.given before.filled before.stage _ _ c.requires.good c.requires.binary all c.requires.given (now.bytes told_before)).bytes
+          (pass_delivers before.failed before.bytes front before.given before.filled before.stage _ _ c.requires.good c.requires.binary (all_held before) c.requires.given (now.bytes told_before)).bytes
           (sym size))
           (λ steady armored. absurd (true≢false (sym armored ∙ sym (before.form told_before steady (ap is_start c.requires.binary)) ∙ ap is_armored c.requires.binary))));
       done = λ ended. absurd (true≢false (sym ended ∙ ap is_ended c.requires.binary));
@@ -106,20 +105,19 @@ returns-in-Ok g c =
     let after = c.read.new.self in
     let good = c.requires.good in
     let binary = c.requires.binary in
-    let all : before.filled ≤ length before.bytes = omega (arith, before.within, before.room) in
     record {
-      reads = reads-done _ _ _ _ (armor-done _ _ now.kept good) now.count
-          (λ told. pass_delivers before.failed before.bytes _ before.given before.filled before.stage _ _ good binary all c.requires.given (now.bytes told))
+      reads = reads-done _ _ _ _ (armored-done _ _ _ now.kept.keeps now.kept.origin now.kept.unspent good) now.count
+          (λ told. pass_delivers before.failed before.bytes _ before.given before.filled before.stage _ _ good binary (all_held before) c.requires.given (now.bytes told))
           (λ told.
           let told_now : IsTrue (reader.tells after.inner) = now.kept.keeps.same.tells ∙ told in
           omega (arith, c.saturating_add-self.ensures, before.counted told good, now.taken told, after.behind told_now, g.met.R.Read.place_fits after.inner told_now))
-          (λ told none. pass_end before.failed before.bytes before.given before.filled before.stage _ good binary all c.requires.given (now.end told none));
+          (λ told none. pass_end before.failed before.bytes before.given before.filled before.stage _ good binary (all_held before) c.requires.given (now.end told none));
       good = good-done _ _ good good;
       ending = record { same = λ told. pass_ending before.bytes _ before.given before.filled before.stage _ _ binary (now.bytes told); named = λ told fine. tt };
       text = text-moved _ _ now.kept.keeps.same now.kept.origin c.learn.ensures.more (omega (arith, now.lines));
       stays = record {
         stage = binary;
-        shown = shown_none before.failed before.bytes before.given before.filled all c.requires.given;
+        shown = shown_none before.failed before.bytes before.given before.filled (all_held before) c.requires.given;
         holds = (refl, refl);
         lines = now.lines;
       };
@@ -132,10 +130,9 @@ returns-in-Err g c =
     let now = c.in-Err.ensures in
     let good = c.requires.good in
     let binary = c.requires.binary in
-    let all : before.filled ≤ length before.bytes = omega (arith, before.within, before.room) in
     record {
-      reads = reads-failed _ _ _ c.in-Err.e (armor-refused {B = ℕ} _ _ c.in-Err.e now.kept) refl refl
-          (λ told other quiet. pass_fault before.failed before.bytes before.given before.filled before.stage _ good binary all c.requires.given (now.cause told other quiet));
+      reads = reads-failed _ _ _ c.in-Err.e (armored-refused {B = ℕ} _ _ _ c.in-Err.e now.kept.keeps now.kept.origin (λ why. inr why)) refl refl
+          (λ told other quiet. pass_fault before.failed before.bytes before.given before.filled before.stage _ good binary (all_held before) c.requires.given (now.cause told other quiet));
       good = good-failed _ _ c.in-Err.e good refl now.kept.keeps.patient;
       ending = record {
         same = λ told. tt;
@@ -144,7 +141,7 @@ returns-in-Err g c =
       text = text-moved _ _ now.kept.keeps.same now.kept.origin (learns_none _ _ refl) (omega (arith, now.lines));
       stays = record {
         stage = binary;
-        shown = shown_none before.failed before.bytes before.given before.filled all c.requires.given;
+        shown = shown_none before.failed before.bytes before.given before.filled (all_held before) c.requires.given;
         holds = (refl, refl);
         lines = now.lines;
       };

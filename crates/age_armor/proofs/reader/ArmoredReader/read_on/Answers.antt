@@ -1,17 +1,17 @@
-use Rattle.std.proofs.Common.{◌≡◌, ◌∙◌, ◌≤◌, IsTrue, false, Ok, arith, length, take, length-drop, ap, sym, subst, refl}
+use Rattle.std.proofs.Common.{◌≡◌, ◌∙◌, false, Ok, arith, length, take, length-drop, ap, sym, subst, refl}
 use Rattle.std.proofs.lemmas.Bool.{true≢false}
 use Rattle.std.proofs.lemmas.Result.{on_ok_weaker}
 use Rattle.age_io.specs.Reading.{Delivers}
+use Rattle.age_io.proofs.Keeping.{same-read}
 use Rattle.age_armor.specs.Ahead.{rest_ahead, shown_ahead}
-use Rattle.age_armor.specs.Delivered.{begins_armor}
 use Rattle.age_armor.specs.Marks.{is_known}
 use Rattle.age_armor.specs.Reader.{text_of, armored_reader, refuses_of}
 use Rattle.age_armor.specs.Seeking.{Goes}
 use Rattle.age_armor.specs.Stages.{is_start, is_armored}
-use Rattle.age_armor.proofs.Ahead.{length_held, shown_small}
-use Rattle.age_armor.proofs.Forms.{form_kept, binary_form}
-use Rattle.age_armor.proofs.Giving.{on_if, fails-passed, ends-passed, good-done, text-still, text-later, goes-given, reads-done, reads-failed, learned}
-use Rattle.age_armor.proofs.Pacing.{shown_reached}
+use Rattle.age_armor.proofs.Ahead.{shown_small}
+use Rattle.age_armor.proofs.Forms.{binary_form}
+use Rattle.age_armor.proofs.Giving.{on_if, form-found, fails-passed, ends-passed, good-done, text-still, text-later, goes-given, reads-done, reads-failed, learned}
+use Rattle.age_armor.proofs.Keeping.{held_shown, reached}
 use Rattle.age_armor.proofs.Resuming.{not_binary}
 use Rattle.age_armor.proofs.reader.ArmoredReader.read_on.Goals as goal
 
@@ -22,7 +22,6 @@ returns-then-is_passing g c =
     let now = c.pass.ensures in
     let passing = c.is_passing.ensures c.if-is_passing.true in
     let bare : is_armored after.stage ≡ false = ap is_armored now.stays.stage in
-    let all : after.filled ≤ length after.bytes = omega (arith, after.within, after.room) in
     record {
       reads = now.reads;
       good = now.good;
@@ -32,9 +31,8 @@ returns-then-is_passing g c =
         held = λ some. absurd (omega (arith, ap length now.stays.shown, some));
         line = λ armored. absurd (true≢false (sym armored ∙ bare));
         form = λ told steady.
-            let is = form_kept (is_armored after.stage) (text_of after) (text_of before)
-            (after.form (now.reads.same_tells ∙ told) (now.reads.same_steady ∙ steady) (ap is_start now.stays.stage)) (sym (now.text.same_text told)) in
-            on_ok_weaker c.pass.result (λ good. is) now.good.good;
+            let same = same-read armored_reader before after now.reads in
+            on_ok_weaker c.pass.result (λ good. form-found before after same now.text (ap is_start now.stays.stage) told steady) now.good.good;
         beyond = λ armored. absurd (true≢false (sym armored ∙ bare));
         untouched = λ armored. absurd (true≢false (sym armored ∙ bare));
         spared = λ told steady armor. binary_form before.stage (text_of before) passing.0 (before.form told steady (ap is_start passing.0)) armor;
@@ -49,8 +47,7 @@ returns-then-is_passing g c =
       }) (now.reads.moves told);
       learns = record {
         more = now.text.learns;
-        reaches = λ told. on_ok_weaker c.pass.result (λ good. shown_reached after.failed after.bytes after.given after.filled after.place after.marks.furthest after.stage all good
-            (after.paced (now.reads.same_tells ∙ told) good)) now.good.good;
+        reaches = λ told. on_ok_weaker c.pass.result (λ good. reached after (now.reads.same_tells ∙ told) good) now.good.good;
         lines = (now.text.counts, omega (arith, now.stays.lines));
         bare = λ told steady plain. on_ok_weaker c.pass.result (λ good. now.stays.lines) now.good.good;
       };
@@ -92,10 +89,8 @@ returns-in-Ok g c =
     let goes : Goes armored_reader refuses_of before after (Ok n) = goes-given before held after now.goes given.reads.source given.reads.fresh in
     let text = text-later before held after back now.text (text-still held after given.reads.source given.reads.marks) in
     let left = rest_ahead after.failed after.bytes after.given after.filled after.stage (reader.rest after.source.inner) in
-    let all : held.filled ≤ length held.bytes = omega (arith, held.within, held.room) in
-    let size = length_held held.failed held.bytes held.given held.filled all now.good.good in
-    let form : (IsTrue (reader.tells before.source.inner) → IsTrue (reader.steady before.source.inner) → is_armored held.stage ≡ begins_armor (text_of before).bytes) = λ told steady.
-    form_kept (is_armored held.stage) (text_of held) (text_of before) (held.form (back.tells ∙ told) (back.steady ∙ steady) now.holds.begun) (sym (now.text.same_text told)) in
+    let size = held_shown held now.good.good in
+    let form = form-found before held back now.text now.holds.begun in
     record {
       reads = reads-done before after c.give.new.buf n goes (omega (arith, given.count, c.give.auto.buf))
           (λ told. subst (λ s. Delivers (take n c.give.new.buf) s left) (now.holds.rest told) given.bytes)
@@ -125,7 +120,7 @@ returns-in-Ok g c =
             begun = ap is_start given.reads.stage ∙ taken.begun;
             on = omega (arith, taken.on, given.moves (back.tells ∙ told));
           };
-      learns = learned before after goes.keeps.same text (omega (arith, lines, now.lines)) given.reads.fresh (omega (arith, after.within, after.room)) after.paced
+      learns = learned before after goes.keeps.same text (omega (arith, lines, now.lines)) given.reads.fresh
           (λ told steady plain. lines ∙ (now.counts told).bare (form told steady ∙ plain));
       knows = λ none.
           ap (λ m. is_known m.length) given.reads.marks ∙ now.holds.knows (omega (arith, none, given.count, c.requires.some, held.order));

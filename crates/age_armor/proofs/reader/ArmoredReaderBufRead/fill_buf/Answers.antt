@@ -1,14 +1,11 @@
-use Rattle.std.proofs.Common.{◌≡◌, ◌≤◌, ◌∙◌, IsTrue, arith, length, refl, ap, sym, subst, inl, inr}
+use Rattle.std.proofs.Common.{◌∙◌, arith, length, refl, ap, sym, subst, inl, inr}
 use Rattle.std.proofs.lemmas.Bool.{true≢false}
 use Rattle.age_io.specs.Filling.{IsFront}
-use Rattle.age_armor.proofs.Ahead.{fault_gone, rest_gone, length_held}
-use Rattle.age_armor.proofs.Giving.{fails-passed, ends-passed, good-done, learned}
+use Rattle.age_armor.proofs.Ahead.{fault_gone}
+use Rattle.age_armor.proofs.Giving.{form-found, fails-passed, ends-passed, good-done, learned}
 use Rattle.age_armor.proofs.Pacing.{learns_none}
-use Rattle.age_armor.specs.Delivered.{begins_armor, delivered}
-use Rattle.age_armor.specs.Stages.{is_armored}
-use Rattle.age_armor.specs.Reader.{text_of}
-use Rattle.age_armor.proofs.Forms.{form_kept}
-use Rattle.age_armor.proofs.Keeping.{armor-plain}
+use Rattle.age_armor.specs.Delivered.{delivered}
+use Rattle.age_armor.proofs.Keeping.{armor-plain, gone, held_shown}
 use Rattle.age_armor.proofs.reader.ArmoredReaderBufRead.fill_buf.Goals as goal
 
 pub returns-then-self : goal.returns-then-self
@@ -84,7 +81,7 @@ returns-in-Err g c =
           same_content = now.goes.keeps.same.content;
           stays = λ told. now.holds.place;
           same_rest = λ told. tt;
-          left = λ told. inr (rest_gone after.failed after.bytes after.given after.filled after.stage (g.R.Read.rest after.source.inner) now.good.fails);
+          left = λ told. inr (gone after now.good.fails);
           interrupted = λ told again. absurd (now.goes.keeps.patient again);
           cause = now.cause;
         },
@@ -98,10 +95,7 @@ returns-in-Ok g c =
     let now = c.in-Ok.ensures in
     let after = c.hold.new.self in
     let held = c.as_held.ensures in
-    let all : after.filled ≤ length after.bytes = omega (arith, after.within, after.room) in
-    let form : (IsTrue (g.R.Read.tells before.source.inner) → IsTrue (g.R.Read.steady before.source.inner) → is_armored after.stage ≡ begins_armor (text_of before).bytes) = λ told steady.
-    form_kept (is_armored after.stage) (text_of after) (text_of before)
-    (after.form (now.goes.keeps.same.tells ∙ told) (now.goes.keeps.same.steady ∙ steady) now.holds.begun) (sym (now.text.same_text told)) in (
+    let form = form-found before after now.goes.keeps.same now.text now.holds.begun in (
       (
         refl,
         λ r. tt,
@@ -121,9 +115,9 @@ returns-in-Ok g c =
             λ told. ap (λ t. delivered t.bytes t.ends_well) (now.text.same_text told),
             now.text.same_text,
             form,
-            learned before after now.goes.keeps.same now.text now.lines now.good.good all after.paced
+            learned before after now.goes.keeps.same now.text now.lines now.good.good
                 (λ told steady plain. (now.counts told).bare (form told steady ∙ plain)),
-            λ none. now.holds.knows (omega (arith, ap length none, length_held after.failed after.bytes after.given after.filled all now.good.good, after.order)),
+            λ none. now.holds.knows (omega (arith, ap length none, held_shown after now.good.good, after.order)),
           );
           same_content = now.goes.keeps.same.content;
           stays = λ told. now.holds.place;

@@ -68,7 +68,7 @@ returns-then-is_empty g c =
       untouched = λ armored. tt;
       form = λ some. absurd (omega (arith, none, some));
       spared = λ told steady armor. tt;
-      learns = learned before before (same-self armored_reader before) (text-still _ _ refl refl) (omega arith) good (omega (arith, before.within, before.room)) before.paced
+      learns = learned before before (same-self armored_reader before) (text-still _ _ refl refl) (omega arith) good
           (λ told steady plain. refl);
       knows = λ some. absurd (omega (arith, none, some));
       failed = λ had. absurd (true≢false (sym had ∙ good));

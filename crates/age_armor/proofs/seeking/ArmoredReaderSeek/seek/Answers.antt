@@ -1,8 +1,9 @@
-use Rattle.std.proofs.Common.{rules, ◌≡◌, ◌≤◌, ◌∙◌, Ok, arith, length, sym, Some, None, SFits, to_z, of_z, to_z-of_z, w64, ap, subst}
+use Rattle.std.proofs.Common.{rules, ◌≡◌, ◌∙◌, Ok, sym, Some, None, SFits, to_z, of_z, to_z-of_z, w64, ap, subst}
 use Rattle.std.proofs.lemmas.Result.{on_ok_weaker}
 use Rattle.age_io.specs.Cursor.{place_at}
 use Rattle.age_armor.specs.Delivered.{delivered}
-use Rattle.age_armor.proofs.Pacing.{shown_reached, shown_begun}
+use Rattle.age_armor.proofs.Pacing.{shown_begun}
+use Rattle.age_armor.proofs.Keeping.{all_held, reached}
 use Rattle.age_armor.proofs.seeking.ArmoredReaderSeek.seek.Goals as goal
 
 pub returns-in-Start : goal.returns-in-Start
@@ -10,7 +11,6 @@ returns-in-Start g c =
     let before = c.args.self.now in
     let after = c.seek_to.new.self in
     let now = c.seek_to.ensures in
-    let all : after.filled ≤ length after.bytes = omega (arith, after.within, after.room) in
     record {
       seeks = rw c.in-Start.is now.seeks.seeks;
       patient = now.seeks.patient;
@@ -24,15 +24,14 @@ returns-in-Start g c =
       marks = λ told steady noting near. now.takes.lines told steady noting (rw c.in-Start.is at near);
       outside = now.takes.outside;
       still = λ told some here.
-          let holds = shown_begun before.failed before.bytes before.given before.filled before.stage before.order (omega (arith, before.within, before.room)) before.fresh some in
+          let holds = shown_begun before.failed before.bytes before.given before.filled before.stage before.order (all_held before) before.fresh some in
           let at = rw c.in-Start.is at here in
           let still = now.still holds.0 holds.1 (sym at) in
           (still.0 ∙ ap Ok at, still.1);
       learns = now.text.learns;
       counts = now.text.counts;
       knows = λ asked. absurd (rw c.in-Start.is at asked);
-      reaches = λ told. on_ok_weaker c.seek_to.result (λ good. shown_reached after.failed after.bytes after.given after.filled after.place after.marks.furthest after.stage all good
-          (after.paced (now.seeks.seeks.same_tells ∙ told) good)) now.seeks.good;
+      reaches = λ told. on_ok_weaker c.seek_to.result (λ good. reached after (now.seeks.seeks.same_tells ∙ told) good) now.seeks.good;
       ending = λ told steady later good. now.ending told steady good;
       early = rw c.in-Start.is now.seeks.early;
       at_once = λ told early. absurd (rw c.in-Start.is at early);
@@ -44,7 +43,6 @@ returns-in-End g c =
     let now = c.seek_from_end.ensures in
     let fits : SFits w64 c.in-End.distance = search rules in
     let same : to_z w64 (of_z w64 c.in-End.distance) ≡ c.in-End.distance = to_z-of_z {w = w64} fits in
-    let all : after.filled ≤ length after.bytes = omega (arith, after.within, after.room) in
     record {
       seeks = rw (c.in-End.is, ← same) now.seeks.seeks;
       patient = now.seeks.patient;
@@ -61,8 +59,7 @@ returns-in-End g c =
       learns = now.text.learns;
       counts = now.text.counts;
       knows = λ asked. now.finds.knows;
-      reaches = λ told. on_ok_weaker c.seek_from_end.result (λ good. shown_reached after.failed after.bytes after.given after.filled after.place after.marks.furthest after.stage all good
-          (after.paced (now.seeks.seeks.same_tells ∙ told) good)) now.seeks.good;
+      reaches = λ told. on_ok_weaker c.seek_from_end.result (λ good. reached after (now.seeks.seeks.same_tells ∙ told) good) now.seeks.good;
       ending = λ told steady later good. now.ending told steady good;
       early = rw c.in-End.is now.seeks.early;
       at_once = λ told early. absurd (rw c.in-End.is at early);
@@ -75,7 +72,6 @@ returns-in-Current g c =
     let now = c.seek_by.ensures in
     let fits : SFits w64 c.in-Current.distance = search rules in
     let same : to_z w64 (of_z w64 c.in-Current.distance) ≡ c.in-Current.distance = to_z-of_z {w = w64} fits in
-    let all : after.filled ≤ length after.bytes = omega (arith, after.within, after.room) in
     record {
       seeks = rw (c.in-Current.is, ← same) now.seeks.seeks;
       patient = now.seeks.patient;
@@ -91,13 +87,12 @@ returns-in-Current g c =
           now.takes.lines told steady noting (λ n is. near_by n (subst (λ d. place_at before.place d ≡ Some n) same is));
       outside = now.takes.outside;
       still = λ told some here.
-          let holds = shown_begun before.failed before.bytes before.given before.filled before.stage before.order (omega (arith, before.within, before.room)) before.fresh some in
+          let holds = shown_begun before.failed before.bytes before.given before.filled before.stage before.order (all_held before) before.fresh some in
           now.still told holds.0 holds.1 (subst (λ d. place_at before.place d ≡ Some before.place) (sym same) (rw c.in-Current.is at here));
       learns = now.text.learns;
       counts = now.text.counts;
       knows = λ asked. absurd (rw c.in-Current.is at asked);
-      reaches = λ told. on_ok_weaker c.seek_by.result (λ good. shown_reached after.failed after.bytes after.given after.filled after.place after.marks.furthest after.stage all good
-          (after.paced (now.seeks.seeks.same_tells ∙ told) good)) now.seeks.good;
+      reaches = λ told. on_ok_weaker c.seek_by.result (λ good. reached after (now.seeks.seeks.same_tells ∙ told) good) now.seeks.good;
       ending = λ told steady later good. now.ending (subst (λ d. place_at before.place d ≡ None → ⊥) (sym same) (rw c.in-Current.is at later)) told steady good;
       early = rw (c.in-Current.is, ← same) now.seeks.early;
       at_once = rw (c.in-Current.is, ← same) now.at_once;
