@@ -19,7 +19,7 @@ use Rattle.age_armor.specs.Marks.{LearnsMore}
 use Rattle.age_armor.specs.Stages.{is_start, is_armored}
 use Rattle.age_armor.specs.Seeking.{Goes}
 use Rattle.age_armor.specs.Reader.{Learns, text_of, armored_reader, armored_rest, refuses_of}
-use Rattle.age_armor.specs.Giving.{KeepsText}
+use Rattle.age_armor.specs.Giving.{WhereTold, KeepsText}
 use Rattle.age_armor.proofs.Forms.{form_kept}
 use Rattle.age_armor.proofs.Keeping.{gone, reached, same-source, same-source-text, armor-plain, still-narrows}
 use Rattle.age_armor.proofs.Pacing.{learns_later, learns_none}
@@ -67,7 +67,7 @@ module _ {R : Type 0} {buf : buffered.Ghosts R} {read : Ghosts R} where
     counts = omega (arith, first.counts, last.counts);
   }
 
-  pub text-learned : {A : Type 0} {result : Result A Error} (a b : ArmoredReader R buf read) → (IsTrue (read.tells a.source.inner) → text_of b ≡ text_of a) →
+  pub text-learned : {A : Type 0} {result : Result A Error} (a b : ArmoredReader R buf read) → WhereTold a (text_of b ≡ text_of a) →
       Learns a b result → KeepsText a b
   text-learned a b same learns = record { same_text = same; learns = learns.more; counts = learns.lines.0 }
 
@@ -101,8 +101,8 @@ module _ {R : Type 0} {buf : buffered.Ghosts R} {read : Ghosts R} where
   }
 
   pub reads-done : (a b : ArmoredReader R buf read) (into : List ℕ) (n : ℕ) → Goes armored_reader refuses_of a b (Ok n) → n ≤ length into →
-      (IsTrue (read.tells a.source.inner) → Delivers (take n into) (armored_rest a) (armored_rest b)) →
-      (IsTrue (read.tells a.source.inner) → b.place ≡ a.place + n) → (IsTrue (read.tells a.source.inner) → n ≡ 0 → IsCleanEnd (armored_rest a)) →
+      WhereTold a (Delivers (take n into) (armored_rest a) (armored_rest b)) →
+      WhereTold a (b.place ≡ a.place + n) → WhereTold a (n ≡ 0 → IsCleanEnd (armored_rest a)) →
       Reads armored_reader.tells armored_reader.steady armored_reader.content armored_reader.place armored_reader.rest armored_reader.faults refuses_of a b into (Ok n)
   reads-done a b into n goes count bytes moves end = record {
     count = count;

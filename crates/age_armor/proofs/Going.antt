@@ -20,7 +20,7 @@ use Rattle.age_armor.specs.Stages.{IsNamed, is_start}
 use Rattle.age_armor.specs.ReaderLaws.{well_inner}
 use Rattle.age_armor.specs.Seeking.{Goes, OrAstray, AsksPast, SeeksText, ComesBack}
 use Rattle.age_armor.specs.Reader.{outcome_of, text_outcome_of, armored_reader, armored_content, armored_rest, refuses_of}
-use Rattle.age_armor.specs.Giving.{KeepsText, EndsAsBefore}
+use Rattle.age_armor.specs.Giving.{WhereSteady, KeepsText, EndsAsBefore}
 use Rattle.age_armor.specs.Going.{EndsAsText, Stands, WalksAlong, Reaches, Misses, FindsEnd, StaysThere, SparesReading, TakesFew}
 use Rattle.age_armor.proofs.Keeping.{gone, goes-later, goes-seeking, goes-unrefused, armor-plain, seeks-plain}
 use Rattle.age_armor.proofs.OwnEndings.{still_named}
@@ -78,9 +78,9 @@ module _ {R : Type 0} {buf : buffered.Ghosts R} {read : Ghosts R} where
     pub unspent : read.faults new.source.inner < most_faults
     pub text : KeepsText old new
     pub good : new.failed ≡ false
-    pub stands : IsTrue (read.tells old.source.inner) → IsTrue (read.steady old.source.inner) → armored_rest new ≡ from_place new.place (armored_content old)
-    pub within : IsTrue (read.tells old.source.inner) → IsTrue (read.steady old.source.inner) → new.place ≤ length (armored_content old).bytes
-    pub ending : IsTrue (read.tells old.source.inner) → IsTrue (read.steady old.source.inner) → (outcome_of new).ending ≡ (text_outcome_of old).ending
+    pub stands : WhereSteady old (armored_rest new ≡ from_place new.place (armored_content old))
+    pub within : WhereSteady old (new.place ≤ length (armored_content old).bytes)
+    pub ending : WhereSteady old ((outcome_of new).ending ≡ (text_outcome_of old).ending)
 
   pub came-on : {A B : Type 0} {x : A} {y : B} {may more : ArmoredReader R buf read → Error → Type 0} (a b c : ArmoredReader R buf read) (target : ℕ) →
       Goes armored_reader may a b (Ok x) → KeepsText a b → Stands a b (Ok x) →
@@ -151,7 +151,7 @@ module _ {R : Type 0} {buf : buffered.Ghosts R} {read : Ghosts R} where
   }
 
   pub reaches-end : (a b c : ArmoredReader R buf read) (d : ℤ) (aim : ℕ) (result : Result ℕ Error) → SameReader armored_reader a b → KeepsText a b →
-      (IsTrue (read.tells a.source.inner) → IsTrue (read.steady a.source.inner) → sought (End d) a.place (length (armored_content a).bytes) ≡ Ok aim) →
+      WhereSteady a (sought (End d) a.place (length (armored_content a).bytes) ≡ Ok aim) →
       Reaches b c (Start aim) result → Reaches a c (End d) result
   reaches-end a b c d aim result same text found reaches = record {
     stands = stands-later a b c result same text reaches.stands;
@@ -163,7 +163,7 @@ module _ {R : Type 0} {buf : buffered.Ghosts R} {read : Ghosts R} where
   pub misses-end : {may : ArmoredReader R buf read → Error → Type 0} (a b c : ArmoredReader R buf read) (d : ℤ) (aim : ℕ) (result : Result ℕ Error) →
       (IsTrue (read.tells a.source.inner) → IsTrue (read.content a.source.inner).ends_well → IsTrue (read.steady a.source.inner)) →
       SameReader armored_reader a b → KeepsText a b → AddsNoReason refuses_of a b →
-      (IsTrue (read.tells a.source.inner) → IsTrue (read.steady a.source.inner) → sought (End d) a.place (length (armored_content a).bytes) ≡ Ok aim) →
+      WhereSteady a (sought (End d) a.place (length (armored_content a).bytes) ≡ Ok aim) →
       Goes armored_reader may b c result → Misses b c (Start aim) result → Misses a c (End d) result
   misses-end a b c d aim result law same text narrows found goes misses =
       let within : (IsTrue (read.tells a.source.inner) → IsTrue (read.steady a.source.inner) → aim ≤ length (armored_content b).bytes) = λ told steady.

@@ -12,23 +12,21 @@ use Rattle.age_armor.specs.declared.reader.ArmoredReader.{ArmoredReader}
 use Rattle.age_armor.specs.Delivered.{begins_armor}
 use Rattle.age_armor.specs.Stages.{IsNamed, is_start}
 use Rattle.age_armor.specs.Seeking.{AsksPast, IsNear}
+use Rattle.age_armor.specs.Giving.{WhereTold, WhereSteady}
 use Rattle.age_armor.specs.Reader.{inner_of, has_failed, text_of, outcome_of, text_outcome_of, lines_of, furthest_of, notes_all, knows_end, armored_content, place_of, armored_rest, refuses_of}
 
 module _ {R : Type 0} {buf : buffered.Ghosts R} {read : readers.Ghosts R} where
   -- a reader that hasn't failed comes to the text's own end
   abbrev pub EndsAsText : ArmoredReader R buf read → ArmoredReader R buf read → Type 0
-  EndsAsText old new = IsTrue (read.tells (inner_of old)) → IsTrue (read.steady (inner_of old)) → has_failed new ≡ false →
-      (outcome_of new).ending ≡ (text_outcome_of old).ending
+  EndsAsText old new = WhereSteady old (has_failed new ≡ false → (outcome_of new).ending ≡ (text_outcome_of old).ending)
 
   -- ---- to a mark, and on from there
 
   -- after a success it is good, and has before it what the text carries from its place on, up to the text's own end
   pub record Stands {A : Type 0} (old new : ArmoredReader R buf read) (result : Result A Error) : Type 0 where
     pub good : OnOk result (has_failed new ≡ false)
-    pub rest : IsTrue (read.tells (inner_of old)) → IsTrue (read.steady (inner_of old)) →
-        OnOk result (armored_rest new ≡ from_place (place_of new) (armored_content old))
-    pub ending : IsTrue (read.tells (inner_of old)) → IsTrue (read.steady (inner_of old)) →
-        OnOk result ((outcome_of new).ending ≡ (text_outcome_of old).ending)
+    pub rest : WhereSteady old (OnOk result (armored_rest new ≡ from_place (place_of new) (armored_content old)))
+    pub ending : WhereSteady old (OnOk result ((outcome_of new).ending ≡ (text_outcome_of old).ending))
 
   -- after a refusal, which is never one of the target, it has failed at its place
   pub record FailsThere {A : Type 0} (old new : ArmoredReader R buf read) (result : Result A Error) : Type 0 where
@@ -38,26 +36,22 @@ module _ {R : Type 0} {buf : buffered.Ghosts R} {read : readers.Ghosts R} where
 
   -- it came to the place, or else to a clean end before it, which it knows from then on
   pub record ComesTo (old new : ArmoredReader R buf read) (target : ℕ) (result : Result Bool Error) : Type 0 where
-    pub there : IsTrue (read.tells (inner_of old)) → IfOk result (λ there. IsTrue there → place_of new ≡ target)
-    pub end : IsTrue (read.tells (inner_of old)) → IfOk result (λ there. there ≡ false → IsCleanEnd (armored_rest new) × (place_of new < target))
+    pub there : WhereTold old (IfOk result (λ there. IsTrue there → place_of new ≡ target))
+    pub end : WhereTold old (IfOk result (λ there. there ≡ false → IsCleanEnd (armored_rest new) × (place_of new < target)))
     pub knows : IfOk result (λ there. there ≡ false → IsTrue (knows_end new))
 
   -- where what it has before it stands in what the text carries it still does, and a fault of the text stands before the place
   pub record WalksAlong {A : Type 0} (old new : ArmoredReader R buf read) (target : ℕ) (result : Result A Error) : Type 0 where
-    pub rest : IsTrue (read.tells (inner_of old)) → armored_rest old ≡ from_place (place_of old) (armored_content old) →
-        OnOk result (armored_rest new ≡ from_place (place_of new) (armored_content old))
-    pub short : IsTrue (read.tells (inner_of old)) → IsTrue (read.steady (inner_of old)) →
-        armored_rest old ≡ from_place (place_of old) (armored_content old) →
-        IfErr result (λ e. e ≢ OutOfMemory → IsQuiet (read.faults (inner_of old)) (read.faults (inner_of new)) →
-        ((armored_content old).ends_well ≡ false) × (length (armored_content old).bytes < target))
+    pub rest : WhereTold old (armored_rest old ≡ from_place (place_of old) (armored_content old) →
+        OnOk result (armored_rest new ≡ from_place (place_of new) (armored_content old)))
+    pub short : WhereSteady old (armored_rest old ≡ from_place (place_of old) (armored_content old) → IfErr result (λ e. e ≢ OutOfMemory →
+        IsQuiet (read.faults (inner_of old)) (read.faults (inner_of new)) → ((armored_content old).ends_well ≡ false) × (length (armored_content old).bytes < target)))
 
   -- each line but the last that it takes stands for 48 bytes on the way, and of a binary text it takes none
   pub record CountsLines (old new : ArmoredReader R buf read) (target : ℕ) (result : Result Bool Error) : Type 0 where
-    pub lines : IsTrue (read.tells (inner_of old)) → IsTrue (read.steady (inner_of old)) →
-        armored_rest old ≡ from_place (place_of old) (armored_content old) → target ≤ length (armored_content old).bytes →
-        IfOk result (λ there. IsTrue there → 48 * lines_of new + place_of old < 48 * lines_of old + target + 48)
-    pub bare : IsTrue (read.tells (inner_of old)) → IsTrue (read.steady (inner_of old)) → begins_armor (text_of old).bytes ≡ false →
-        OnOk result (lines_of new ≡ lines_of old)
+    pub lines : WhereSteady old (armored_rest old ≡ from_place (place_of old) (armored_content old) → target ≤ length (armored_content old).bytes →
+        IfOk result (λ there. IsTrue there → 48 * lines_of new + place_of old < 48 * lines_of old + target + 48))
+    pub bare : WhereSteady old (begins_armor (text_of old).bytes ≡ false → OnOk result (lines_of new ≡ lines_of old))
 
   -- ---- to where a seek asks for
 
@@ -65,42 +59,36 @@ module _ {R : Type 0} {buf : buffered.Ghosts R} {read : readers.Ghosts R} where
   pub record Reaches (old new : ArmoredReader R buf read) (to : SeekFrom) (result : Result ℕ Error) : Type 0 where
     pub stands : Stands old new result
     pub there : IfOk result (MayLead to (place_of old))
-    pub place : IsTrue (read.tells (inner_of old)) → IfOk result (λ n. place_of new ≡ n)
-    pub exact : IsTrue (read.tells (inner_of old)) → IsTrue (read.steady (inner_of old)) →
-        IfOk result (λ n. sought to (place_of old) (length (armored_content old).bytes) ≡ Ok n)
+    pub place : WhereTold old (IfOk result (λ n. place_of new ≡ n))
+    pub exact : WhereSteady old (IfOk result (λ n. sought to (place_of old) (length (armored_content old).bytes) ≡ Ok n))
 
   -- A refusal of the target adds no reason, and is the right one. Any other that neither the device nor memory made is that of the text's
   -- end, and the target asks for more than the bytes before it.
   pub record Misses (old new : ArmoredReader R buf read) (to : SeekFrom) (result : Result ℕ Error) : Type 0 where
     pub missed : IfErr result (λ e. IsOutside e → AddsNoReason refuses_of old new)
-    pub refused : IsTrue (read.tells (inner_of old)) → IsTrue (read.steady (inner_of old)) → IfErr result (λ e. IsOutside e →
-        IsTrue (armored_content old).ends_well × (sought to (place_of old) (length (armored_content old).bytes) ≡ Err e))
+    pub refused : WhereSteady old (IfErr result (λ e. IsOutside e → IsTrue (armored_content old).ends_well
+        × (sought to (place_of old) (length (armored_content old).bytes) ≡ Err e)))
     pub named : IsTrue (read.tells (inner_of old)) → IsTrue (read.content (inner_of old)).ends_well →
         IfErr result (λ e. (IsOutside e → ⊥) → e ≢ OutOfMemory → IsQuiet (read.faults (inner_of old)) (read.faults (inner_of new)) →
         IsNamed (text_outcome_of old).ending e × AsksPast to (place_of old) (length (armored_content old).bytes))
 
   -- after a success the end is known, and it is a clean one
   pub record FindsEnd {A : Type 0} (old new : ArmoredReader R buf read) (result : Result A Error) : Type 0 where
-    pub well : IsTrue (read.tells (inner_of old)) → IsTrue (read.steady (inner_of old)) → OnOk result (IsTrue (armored_content old).ends_well)
+    pub well : WhereSteady old (OnOk result (IsTrue (armored_content old).ends_well))
     pub knows : OnOk result (IsTrue (knows_end new))
 
   -- nothing is read for the place at which a reader stands that has begun, and no line is taken for the front
   pub record StaysThere (old new : ArmoredReader R buf read) (target : ℕ) (result : Result ℕ Error) : Type 0 where
     pub still : has_failed old ≡ false → is_start old.stage ≡ false → place_of old ≡ target → (result ≡ Ok target) × (new ≡ old)
-    pub unmoved : IsTrue (read.tells (inner_of old)) → IsTrue (read.steady (inner_of old)) → has_failed old ≡ false → place_of old ≡ target →
-        OnOk result (lines_of new ≤ lines_of old)
+    pub unmoved : WhereSteady old (has_failed old ≡ false → place_of old ≡ target → OnOk result (lines_of new ≤ lines_of old))
 
   -- Where each mark had memory, few lines are taken to where the text was read before. Once the end is known, nothing changes for a
   -- target outside of it.
   pub record SparesReading (old new : ArmoredReader R buf read) (to : SeekFrom) (result : Result ℕ Error) : Type 0 where
-    pub lines : IsTrue (read.tells (inner_of old)) → IsTrue (read.steady (inner_of old)) → IsTrue (notes_all old) →
-        IsNear to (place_of old) (furthest_of old) (knows_end old) → OnOk result (lines_of new ≤ lines_of old + 1024)
-    pub outside : IsTrue (read.tells (inner_of old)) → IsTrue (read.steady (inner_of old)) → IsTrue (knows_end old) →
-        IfErr result (λ e. IsOutside e → new ≡ old)
+    pub lines : WhereSteady old (IsTrue (notes_all old) → IsNear to (place_of old) (furthest_of old) (knows_end old) → OnOk result (lines_of new ≤ lines_of old + 1024))
+    pub outside : WhereSteady old (IsTrue (knows_end old) → IfErr result (λ e. IsOutside e → new ≡ old))
 
   -- the same of a whole seek, which goes back to its place after such a refusal, and takes no line for that
   pub record TakesFew (old new : ArmoredReader R buf read) (to : SeekFrom) (result : Result ℕ Error) : Type 0 where
-    pub lines : IsTrue (read.tells (inner_of old)) → IsTrue (read.steady (inner_of old)) → IsTrue (notes_all old) →
-        IsNear to (place_of old) (furthest_of old) (knows_end old) → OnOk result (lines_of new ≤ lines_of old + 1024)
-    pub outside : IsTrue (read.tells (inner_of old)) → IsTrue (read.steady (inner_of old)) → IsTrue (knows_end old) →
-        IfErr result (λ e. IsOutside e → lines_of new ≤ lines_of old)
+    pub lines : WhereSteady old (IsTrue (notes_all old) → IsNear to (place_of old) (furthest_of old) (knows_end old) → OnOk result (lines_of new ≤ lines_of old + 1024))
+    pub outside : WhereSteady old (IsTrue (knows_end old) → IfErr result (λ e. IsOutside e → lines_of new ≤ lines_of old))

@@ -177,7 +177,7 @@ impl<R: BufRead> Read for ArmoredReader<R> {
 impl<R: BufRead> ArmoredReader<R> {
     ghost use Rattle.age_armor.specs.Reader.{inner_of, has_failed, has_armor, taken_of, text_of, outcome_of, text_outcome_of, lines_of, furthest_of, notes_all, knows_end, armored_content, place_of, armored_rest, shown_of, Learns};
     ghost use Rattle.age_armor.specs.Seeking.{Goes, text_outcome};
-    ghost use Rattle.age_armor.specs.Giving.{KeepsText, EndsAsBefore, CountsTaken, HoldsNext, ReadsNothing, StaysBinary, FillsByForm};
+    ghost use Rattle.age_armor.specs.Giving.{WhereTold, KeepsText, EndsAsBefore, CountsTaken, HoldsNext, ReadsNothing, StaysBinary, FillsByForm};
 
     /// A reader of what the text carries that begins where `inner` stands.
     ///
@@ -260,7 +260,7 @@ impl<R: BufRead> ArmoredReader<R> {
             Reads reader.tells reader.steady reader.content reader.place reader.rest reader.faults reader.refuses self.old self.new buf.new result }
         ensures good { FailsForGood (has_failed self.old) (has_failed self.new) result }
         ensures ending { EndsAsBefore self.old self.new result }
-        ensures same_text { IsTrue (R.Read.tells (inner_of self.old)) → text_of self.new ≡ text_of self.old }
+        ensures same_text { WhereTold self.old (text_of self.new ≡ text_of self.old) }
         ensures fills { FillsByForm self.old self.new buf.old buf.new result }
         ensures counts { CountsTaken self.old self.new result }
         ensures learns { Learns self.old self.new result }
@@ -334,8 +334,8 @@ impl<R: BufRead> ArmoredReader<R> {
         ensures holds { HoldsNext self.old self.new result }
         ensures counts { CountsTaken self.old self.new result }
         ensures lines { lines_of self.new ≤ lines_of self.old + 1 }
-        ensures cause { IsTrue (R.Read.tells (inner_of self.old)) → IfErr result (λ e. e ≢ OutOfMemory →
-            IsQuiet (R.Read.faults (inner_of self.old)) (R.Read.faults (inner_of self.new)) → IsFault (armored_rest self.old)) }
+        ensures cause { WhereTold self.old (IfErr result (λ e. e ≢ OutOfMemory →
+            IsQuiet (R.Read.faults (inner_of self.old)) (R.Read.faults (inner_of self.new)) → IsFault (armored_rest self.old))) }
     {
         if self.is_ready() {
             return Ok(());
@@ -373,9 +373,8 @@ impl<R: BufRead> ArmoredReader<R> {
         ensures shown { shown_of self.new ≡ drop result (shown_of self.old) }
         ensures bytes { Delivers (take result buf.new) (armored_rest self.old) (armored_rest self.new) }
         ensures beyond { drop result buf.new ≡ drop result buf.old }
-        ensures moves { IsTrue (R.Read.tells (inner_of self.old)) → self.new.place ≡ self.old.place + result }
-        ensures sum { IsTrue (R.Read.tells (inner_of self.old)) →
-            self.new.place + (self.new.filled - self.new.given) ≡ self.old.place + (self.old.filled - self.old.given) }
+        ensures moves { WhereTold self.old (self.new.place ≡ self.old.place + result) }
+        ensures sum { WhereTold self.old (self.new.place + (self.new.filled - self.new.given) ≡ self.old.place + (self.old.filled - self.old.given)) }
     {
         let count = buf.len().min(self.filled - self.given);
         buf[..count].copy_from_slice(&self.bytes[self.given..self.given + count]);

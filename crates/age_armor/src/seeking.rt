@@ -97,7 +97,7 @@ impl<R: BufRead + Seek> Counted<R> {
 
 impl<R: BufRead + Seek> ArmoredReader<R> {
     ghost use Rattle.age_armor.specs.Reader.{inner_of, text_of, furthest_of, notes_all};
-    ghost use Rattle.age_armor.specs.Giving.{KeepsText};
+    ghost use Rattle.age_armor.specs.Giving.{WhereSteady, KeepsText};
     ghost use Rattle.age_armor.specs.Going.{Stands, FailsThere};
 
     // Goes to the last mark that isn't after a place, or to the front of the text.
@@ -106,8 +106,8 @@ impl<R: BufRead + Seek> ArmoredReader<R> {
         ensures text { KeepsText self.old self.new }
         ensures stands { Stands self.old self.new result }
         ensures before { OnOk result (self.new.place ≤ target) }
-        ensures near { IsTrue (R.Read.tells (inner_of self.old)) → IsTrue (R.Read.steady (inner_of self.old)) → IsTrue (notes_all self.old) →
-            IsTrue (begins_armor (text_of self.old).bytes) → target ≤ furthest_of self.old → OnOk result (target ≤ self.new.place + 49152) }
+        ensures near { WhereSteady self.old (IsTrue (notes_all self.old) → IsTrue (begins_armor (text_of self.old).bytes) → target ≤ furthest_of self.old →
+            OnOk result (target ≤ self.new.place + 49152)) }
         ensures unread { (self.new.source.lines ≡ self.old.source.lines) × (self.new.marks ≡ self.old.marks) }
         ensures fails { FailsThere self.old self.new result }
         ensures cause { IsTrue (R.Read.tells (inner_of self.old)) → IsTrue (R.Read.content (inner_of self.old)).ends_well →
@@ -165,7 +165,7 @@ impl<R: BufRead> ArmoredReader<R> {
 
 impl<R: BufRead + Seek> ArmoredReader<R> {
     ghost use Rattle.age_armor.specs.Reader.{inner_of, furthest_of, armored_content};
-    ghost use Rattle.age_armor.specs.Giving.{KeepsText};
+    ghost use Rattle.age_armor.specs.Giving.{WhereSteady, KeepsText};
     ghost use Rattle.age_armor.specs.Going.{Reaches, Misses, FindsEnd, SparesReading, StaysThere};
 
     // Whether a reader that has begun, and hasn't failed, stands at a place.
@@ -245,12 +245,10 @@ impl<R: BufRead + Seek> ArmoredReader<R> {
     // The target at a distance from the end, which is known.
     fn target_from_end(&self, len: u64, distance: i64) -> Result<u64, Error>
         requires { self.now.marks.length ≡ Some len }
-        ensures well { IsTrue (R.Read.tells (inner_of self.now)) → IsTrue (R.Read.steady (inner_of self.now)) → IsTrue (armored_content self.now).ends_well }
-        ensures exact { IsTrue (R.Read.tells (inner_of self.now)) → IsTrue (R.Read.steady (inner_of self.now)) → (place : ℕ) →
-            result ≡ sought_by (End distance) place (length (armored_content self.now).bytes) }
-        ensures within { IsTrue (R.Read.tells (inner_of self.now)) → IsTrue (R.Read.steady (inner_of self.now)) →
-            IfOk result (λ n. (n ≤ length (armored_content self.now).bytes) × (n ≤ furthest_of self.now)) }
-        ensures outside { IsTrue (R.Read.tells (inner_of self.now)) → IsTrue (R.Read.steady (inner_of self.now)) → IfErr result IsOutside }
+        ensures well { WhereSteady self.now (IsTrue (armored_content self.now).ends_well) }
+        ensures exact { WhereSteady self.now ((place : ℕ) → result ≡ sought_by (End distance) place (length (armored_content self.now).bytes)) }
+        ensures within { WhereSteady self.now (IfOk result (λ n. (n ≤ length (armored_content self.now).bytes) × (n ≤ furthest_of self.now))) }
+        ensures outside { WhereSteady self.now (IfErr result IsOutside) }
         ensures other { IfErr result (λ e. IsDevice e → ⊥) }
         ensures why { IfErr result (IsSeekRefusal (λ e. e ≡ TooLong)) }
     {
@@ -297,7 +295,7 @@ impl<R: BufRead> ArmoredReader<R> {
 
 impl<R: BufRead + Seek> ArmoredReader<R> {
     ghost use Rattle.age_armor.specs.Reader.{inner_of, has_failed, text_of, outcome_of, text_outcome_of, lines_of, marks_of, furthest_of, notes_all, knows_end, armored_content, place_of, armored_rest, shown_of};
-    ghost use Rattle.age_armor.specs.Giving.{KeepsText};
+    ghost use Rattle.age_armor.specs.Giving.{WhereSteady, KeepsText};
     ghost use Rattle.age_armor.specs.Going.{EndsAsText, FindsEnd, TakesFew};
 
     // Back to where it stood, once a seek was refused. After any other error it has failed there, and so has one that had
@@ -307,8 +305,7 @@ impl<R: BufRead + Seek> ArmoredReader<R> {
         requires inside { IsTrue (R.Read.tells (inner_of self.old)) → IsTrue (R.Read.steady (inner_of self.old)) → place ≤ length (armored_content self.old).bytes }
         ensures back { ComesBack ⟦<ArmoredReader<R> as Read>⟧ (λ r. has_failed r) (OrAstray R.Seek.seek_refuses) self.old self.new place failed error result }
         ensures text { KeepsText self.old self.new }
-        ensures lines { IsTrue (R.Read.tells (inner_of self.old)) → IsTrue (R.Read.steady (inner_of self.old)) → self.old.failed ≡ failed → self.old.place ≡ place →
-            IsOutside result → self.new.source.lines ≤ self.old.source.lines }
+        ensures lines { WhereSteady self.old (self.old.failed ≡ failed → self.old.place ≡ place → IsOutside result → self.new.source.lines ≤ self.old.source.lines) }
         ensures ending { EndsAsText self.old self.new }
     {
         if failed {

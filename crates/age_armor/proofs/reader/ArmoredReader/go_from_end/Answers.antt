@@ -6,6 +6,7 @@ use Rattle.age_io.specs.Cursor.{sought}
 use Rattle.age_io.proofs.Keeping.{same-self}
 use Rattle.age_armor.specs.Marks.{is_known}
 use Rattle.age_armor.specs.Going.{Reaches, Misses}
+use Rattle.age_armor.specs.Giving.{WhereSteady}
 use Rattle.age_armor.specs.Reader.{armored_reader, armored_content}
 use Rattle.age_armor.proofs.Keeping.{goes-refused}
 use Rattle.age_armor.proofs.Giving.{text-still}
@@ -55,8 +56,7 @@ returns-in-Ok g c =
     let after = c.go_to.new.self in
     let now = c.go_to.ensures in
     let aim = c.in-Ok.target in
-    let found : (IsTrue (armored_reader.tells before) → IsTrue (armored_reader.steady before) →
-    sought (End c.args.distance) before.place (length (armored_content before).bytes) ≡ Ok aim) = λ told steady.
+    let found : WhereSteady before (sought (End c.args.distance) before.place (length (armored_content before).bytes) ≡ Ok aim) = λ told steady.
     subst (λ d. sought (End d) before.place (length (armored_content before).bytes) ≡ Ok aim) (to_z-of_z {w = w64} c.ranges.distance)
     (sym (c.target_from_end.ensures.exact told steady before.place) ∙ c.in-Ok.is) in
     record {

@@ -1,4 +1,4 @@
-use Rattle.std.proofs.Common.{IsTrue, ◌+◌, ◌*◌, ◌≡◌, ◌∙◌, ◌≤◌, ◌<◌, arith, length, ap, sym, subst, refl, inl, inr}
+use Rattle.std.proofs.Common.{◌+◌, ◌*◌, ◌≡◌, ◌∙◌, ◌≤◌, ◌<◌, arith, length, ap, sym, subst, refl, inl, inr}
 use Rattle.std.proofs.lemmas.Bool.{cases_Bool}
 use Rattle.age_io.specs.Stretch.{from_place}
 use Rattle.age_io.proofs.Keeping.{keeps-done, same-self}
@@ -6,6 +6,7 @@ use Rattle.age_error.specs.declared.io.Error.TheVariants.{PastEnd}
 use Rattle.age_error.specs.declared.io.SeekFrom.TheVariants.{Start}
 use Rattle.age_armor.specs.Delivered.{begins_armor}
 use Rattle.age_armor.specs.Stages.{is_start}
+use Rattle.age_armor.specs.Giving.{WhereTold, WhereSteady}
 use Rattle.age_armor.specs.Reader.{armored_reader, text_of, armored_content}
 use Rattle.age_armor.proofs.Aiming.{moved-within, moved-past}
 use Rattle.age_armor.proofs.Keeping.{goes-passed, goes-refused, armor-plain}
@@ -132,11 +133,10 @@ returns-then-there g c =
     let last = c.in-Ok-walk.ensures in
     let came = came-on before middle new c.args.target first.goes first.text first.stands last.goes last.text last.good.good last.along last.ending new.inside in
     let len = length (armored_content before).bytes in
-    let place : (IsTrue (armored_reader.tells before) → new.place ≡ c.args.target) = λ told. last.comes.there (back.tells ∙ told) c.if-there.true in
-    let within : (IsTrue (armored_reader.tells before) → IsTrue (armored_reader.steady before) → c.args.target ≤ len) = λ told steady.
+    let place : WhereTold before (new.place ≡ c.args.target) = λ told. last.comes.there (back.tells ∙ told) c.if-there.true in
+    let within : WhereSteady before (c.args.target ≤ len) = λ told steady.
     subst (λ n. n ≤ len) (place told) (came.within told steady) in
-    let walked : (IsTrue (armored_reader.tells before) → IsTrue (armored_reader.steady before) →
-    48 * new.source.lines + middle.place < 48 * middle.source.lines + c.args.target + 48) = λ told steady.
+    let walked : WhereSteady before (48 * new.source.lines + middle.place < 48 * middle.source.lines + c.args.target + 48) = λ told steady.
     last.takes.lines (back.tells ∙ told) (back.steady ∙ steady) (first.stands.rest told steady ∙ ap (from_place middle.place) (sym (back.content told)))
     (subst (λ s. c.args.target ≤ length s.bytes) (sym (back.content told)) (within told steady)) c.if-there.true in
     record {

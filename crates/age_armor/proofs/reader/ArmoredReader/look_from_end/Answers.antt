@@ -5,6 +5,7 @@ use Rattle.age_error.specs.declared.io.SeekFrom.TheVariants.{End}
 use Rattle.age_io.specs.Cursor.{sought, target}
 use Rattle.age_io.proofs.Keeping.{same-self}
 use Rattle.age_armor.specs.Seeking.{OrAstray}
+use Rattle.age_armor.specs.Giving.{WhereTold, WhereSteady}
 use Rattle.age_armor.specs.Reader.{armored_reader, armored_content}
 use Rattle.age_armor.proofs.Keeping.{goes-passed, goes-later, goes-refused, armor-plain, seeks-plain}
 use Rattle.age_armor.proofs.Aiming.{moved-refusal, from-end}
@@ -65,7 +66,7 @@ returns-in-Err-from_end g c =
     let last = c.in-Ok-walk.ensures in
     let e = c.in-Err-from_end.e in
     let came = came-on before c.approach.new.self new _ first.goes first.text first.stands last.goes last.text last.good.good last.along last.ending new.inside in
-    let answer : (IsTrue (armored_reader.tells before) → (place : ℕ) → sought (End c.args.distance) place new.place ≡ Err e) = λ told.
+    let answer : WhereTold before ((place : ℕ) → sought (End c.args.distance) place new.place ≡ Err e) = λ told.
     let fits : new.place < 2 ^ 63 = new.fits (came.same.tells ∙ told) in
     from-end _ c.args.distance new.place _ (Err e) (to_z-of_z {w = w64} c.ranges.distance) (c.from_end.ensures.exact fits) c.in-Err-from_end.is in
     record {
@@ -91,8 +92,7 @@ returns-then-target-len g c =
     let last = c.in-Ok-walk.ensures in
     let aim = c.in-Ok-from_end.target in
     let came = came-on before c.approach.new.self new _ first.goes first.text first.stands last.goes last.text last.good.good last.along last.ending new.inside in
-    let out : (IsTrue (armored_reader.tells before) → IsTrue (armored_reader.steady before) →
-    IsTrue (armored_content before).ends_well × (new.place ≡ length (armored_content before).bytes)) = λ told steady.
+    let out : WhereSteady before (IsTrue (armored_content before).ends_well × (new.place ≡ length (armored_content before).bytes)) = λ told steady.
     came-out before new came told steady (last.comes.end (first.goes.keeps.same.tells ∙ told) c.if-there.false).0 in
     record {
       goes = came-goes before new came;
@@ -121,11 +121,9 @@ returns-else-target-len g c =
     let aim = c.in-Ok-from_end.target in
     let came = came-on before c.approach.new.self new _ first.goes first.text first.stands last.goes last.text last.good.good last.along last.ending new.inside in
     let plain = armor-plain before new came.narrows in
-    let out : (IsTrue (armored_reader.tells before) → IsTrue (armored_reader.steady before) →
-    IsTrue (armored_content before).ends_well × (new.place ≡ length (armored_content before).bytes)) = λ told steady.
+    let out : WhereSteady before (IsTrue (armored_content before).ends_well × (new.place ≡ length (armored_content before).bytes)) = λ told steady.
     came-out before new came told steady (last.comes.end (first.goes.keeps.same.tells ∙ told) c.if-there.false).0 in
-    let found : (IsTrue (armored_reader.tells before) → IsTrue (armored_reader.steady before) →
-    sought (End c.args.distance) before.place (length (armored_content before).bytes) ≡ Ok aim) = λ told steady.
+    let found : WhereSteady before (sought (End c.args.distance) before.place (length (armored_content before).bytes) ≡ Ok aim) = λ told steady.
     let fits : new.place < 2 ^ 63 = new.fits (came.same.tells ∙ told) in
     subst (λ n. sought (End c.args.distance) before.place n ≡ Ok aim) (out told steady).1
     (from-end _ c.args.distance new.place _ (Ok aim) (to_z-of_z {w = w64} c.ranges.distance) (c.from_end.ensures.exact fits) c.in-Ok-from_end.is before.place) in
