@@ -13,7 +13,9 @@ use Rattle.age_armor.specs.declared.stages.Stage.{Stage}
 use Rattle.age_armor.specs.Ahead.{outcome_ahead, rest_ahead}
 use Rattle.age_armor.specs.Delivered.{begins_armor}
 use Rattle.age_armor.specs.DeliveredLaws.{content_of, stands_by, stands_follows}
+use Rattle.age_armor.specs.Giving.{WhereTold, WhereSteady}
 use Rattle.age_armor.specs.Marks.{Knows, IsPaced, is_known}
+use Rattle.age_armor.specs.Reader.{armored_content}
 use Rattle.age_armor.specs.Seeking.{text_outcome}
 use Rattle.age_armor.specs.Stages.{is_start, is_armored, is_ended}
 use Rattle.age_armor.proofs.Ahead.{rest_failed, given_stands, ending_same}
@@ -23,6 +25,14 @@ use Rattle.age_armor.proofs.Resuming.{knows_later, some_before}
 use Rattle.age_armor.proofs.Walking.{further}
 
 module _ {R : Type 0} {buf : buffered.Ghosts R} {read : Ghosts R} where
+  -- what it has before it stands in what the text carries, up to the text's own end
+  abbrev pub IsHere : Counted R buf read → Stage → List ℕ → ℕ → ℕ → ℕ → Bool → Type 0
+  IsHere source stage bytes given filled place failed =
+      (rest_ahead failed bytes given filled stage (read.rest source.inner)
+      ≡ from_place place (content_of (read.content source.inner) (read.place source.inner - source.taken)))
+      × ((outcome_ahead bytes given filled stage (read.rest source.inner)).ending
+      ≡ (text_outcome (read.content source.inner) (read.place source.inner - source.taken)).ending)
+
   -- the ghost fields
   abbrev pub IsSound : Counted R buf read → Stage → List ℕ → ℕ → ℕ → ℕ → Bool → Marks → Type 0
   IsSound source stage bytes given filled place failed marks = record {
@@ -50,18 +60,16 @@ module _ {R : Type 0} {buf : buffered.Ghosts R} {read : Ghosts R} where
         (from_place (read.place source.inner - source.taken) (read.content source.inner)) marks;
     done : is_ended stage ≡ true → is_known marks.length ≡ true;
     here : IsTrue (read.tells source.inner) → IsTrue (read.steady source.inner) → failed ≡ false → is_start stage ≡ false →
-        (rest_ahead failed bytes given filled stage (read.rest source.inner)
-        ≡ from_place place (content_of (read.content source.inner) (read.place source.inner - source.taken)))
-        × ((outcome_ahead bytes given filled stage (read.rest source.inner)).ending
-        ≡ (text_outcome (read.content source.inner) (read.place source.inner - source.taken)).ending);
+        IsHere source stage bytes given filled place failed;
     paced : IsTrue (read.tells source.inner) → failed ≡ false → IsPaced stage place (filled - given) marks.furthest;
   }
 
-  -- the reader that gives the text was moved, and this one has failed
-  pub sound-failed : (a : ArmoredReader R buf read) (source : Counted R buf read) → SameReader read a.source.inner source.inner →
+  -- the reader that gives the text was moved, and this one has failed at this place
+  pub sound-failed : (a : ArmoredReader R buf read) (source : Counted R buf read) (place : ℕ) → SameReader read a.source.inner source.inner →
       (IsTrue (read.tells a.source.inner) → read.place source.inner - source.taken ≡ read.place a.source.inner - a.source.taken) →
-      IsSound source a.stage a.bytes a.given a.filled a.place true a.marks
-  sound-failed a source same origin =
+      WhereTold a (place < 2 ^ 63) → WhereSteady a (place ≤ length (armored_content a).bytes) →
+      IsSound source a.stage a.bytes a.given a.filled place true a.marks
+  sound-failed a source place same origin fits inside =
       let text = same-text read a.source.inner a.source.taken source.inner source.taken same origin in
       record {
         room = a.room;
@@ -72,8 +80,8 @@ module _ {R : Type 0} {buf : buffered.Ghosts R} {read : Ghosts R} where
         form = λ told steady begun. form_kept (is_armored a.stage) _ _ (a.form (text.told told) (text.steady steady) begun) (text.text told);
         unspent = λ good. absurd (true≢false good);
         counted = λ told good. absurd (true≢false good);
-        fits = λ told. a.fits (text.told told);
-        inside = λ told steady. subst (λ s. a.place ≤ length s.bytes) (sym (text.content told)) (a.inside (text.told told) (text.steady steady));
+        fits = λ told. fits (text.told told);
+        inside = λ told steady. subst (λ s. place ≤ length s.bytes) (sym (text.content told)) (inside (text.told told) (text.steady steady));
         follows = λ told steady some. absurd (some (rest_failed a.bytes a.given a.filled a.stage (read.rest source.inner)));
         ends = λ told steady some. absurd (some (rest_failed a.bytes a.given a.filled a.stage (read.rest source.inner)));
         known = λ told. knows_later _ _ _ _ _ text.steady (text.text told) (a.known (text.told told));

@@ -8,8 +8,9 @@ use Rattle.age_error.specs.declared.io.ErrorKind.TheVariants.{Interrupted}
 use Rattle.age_io.specs.Reading.{AddsNoReason, TriedAgain, StandsIn, most_faults}
 use Rattle.age_io.specs.Keeping.{SameReader}
 use Rattle.age_io.specs.declared.traits.Read.{Ghosts}
-use Rattle.age_io.proofs.Keeping.{keeps-done, keeps-later, keeps-refused, same-self}
+use Rattle.age_io.proofs.Keeping.{keeps-done, keeps-later, keeps-refused, same-later, same-self}
 use Rattle.age_armor.specs.Counting.{Kept}
+use Rattle.age_armor.specs.Showing.{Asks}
 use Rattle.age_armor.specs.Refusing.{IsTextRefusal, OrText}
 
 -- ---- an error
@@ -68,6 +69,16 @@ module _ {R : Type 0} (read : Ghosts R) where
   pub kept-later : {A B : Type 0} {x : A} (result : Result B Error) (a b c : R) (k l m : ℕ) → Kept read a k b l (Ok x) → Kept read b l c m result →
       Kept read a k c m result
   kept-later result a b c k l m first second = kept-on result a b c k l m first.keeps.same first.keeps.narrows first.origin first.more second
+
+  pub kept-asked : {A B : Type 0} {x : A} {y : B} (a b c : R) (k m : ℕ) → SameReader read a b → AddsNoReason (TriedAgain read.refuses) a b →
+      Asks read (TriedAgain read.refuses) b c (Ok x) → (IsTrue (read.tells a) → read.place c - m ≡ read.place a - k) → (IsTrue (read.tells a) → k ≤ m) →
+      Kept read a k c m (Ok y)
+  kept-asked a b c k m same narrows asks origin more = record {
+    keeps = keeps-done read (OrText read) a c (same-later read a b c same asks.same) (λ e h. narrows e (asks.narrows e h));
+    unspent = asks.unspent;
+    origin = origin;
+    more = more;
+  }
 
   -- no step
   pub kept-still : {A : Type 0} (x : A) (a : R) (k : ℕ) → read.faults a < most_faults → Kept read a k a k (Ok x)

@@ -1,7 +1,7 @@
 use Rattle.std.proofs.Common.{◌∙◌, arith, rules, sym}
 use Rattle.std.proofs.lemmas.Bool.{eqb-false, eqb-true}
-use Rattle.age_io.proofs.Keeping.{same-later, keeps-done}
-use Rattle.age_armor.proofs.Refusing.{text-asked}
+use Rattle.age_io.proofs.Keeping.{same-later}
+use Rattle.age_armor.proofs.Refusing.{text-asked, kept-asked}
 use Rattle.age_armor.proofs.AheadLines.{ahead_none}
 use Rattle.age_armor.proofs.Taking.{cut_short, quiet_after, run_on, taken_none, taken_run}
 use Rattle.age_armor.proofs.counted.Counted.take_line.Goals as goal
@@ -68,12 +68,7 @@ returns-then-is_empty g c =
     let loop = c.runs.invariant in
     let now = c.in-Ok.ensures in
     record {
-      kept = record {
-        keeps = keeps-done _ _ _ _ (same-later _ _ _ _ loop.same now.asks.same) (λ e h. loop.narrows e (now.asks.narrows e h));
-        unspent = now.asks.unspent;
-        origin = search rules;
-        more = search rules;
-      };
+      kept = kept-asked _ _ _ _ _ _ loop.same loop.narrows now.asks (search rules) (search rules);
       counts = record {
         lines = λ some. absurd (omega (arith, eqb-true c.take_run-answer.new.line.len 0 (sym c.is_empty.ensures ∙ c.if-is_empty.true), some));
         no_line = λ none. loop.lines;
@@ -91,12 +86,7 @@ returns-in-Nothing g c =
     let loop = c.runs.invariant in
     let now = c.in-Ok.ensures in
     record {
-      kept = record {
-        keeps = keeps-done _ _ _ _ (same-later _ _ _ _ loop.same now.asks.same) (λ e h. loop.narrows e (now.asks.narrows e h));
-        unspent = now.asks.unspent;
-        origin = search rules;
-        more = search rules;
-      };
+      kept = kept-asked _ _ _ _ _ _ loop.same loop.narrows now.asks (search rules) (search rules);
       counts = record {
         lines = λ some. rw loop.lines at c.saturating_add-self-in-Nothing.ensures;
         no_line = λ none. absurd (omega (arith, eqb-false c.take_run-answer.new.line.len 0 (sym c.is_empty.ensures ∙ c.if-is_empty.false), none));
@@ -114,12 +104,7 @@ returns-in-Ended g c =
     let loop = c.runs.invariant in
     let now = c.in-Ok.ensures in
     record {
-      kept = record {
-        keeps = keeps-done _ _ _ _ (same-later _ _ _ _ loop.same now.asks.same) (λ e h. loop.narrows e (now.asks.narrows e h));
-        unspent = now.asks.unspent;
-        origin = search rules;
-        more = search rules;
-      };
+      kept = kept-asked _ _ _ _ _ _ loop.same loop.narrows now.asks (search rules) (search rules);
       counts = record {
         lines = λ some. rw loop.lines at c.saturating_add-self-in-Ended.ensures;
         no_line = λ none. absurd (omega (arith, now.grows.ended c.in-Ended.is, none));

@@ -1,9 +1,6 @@
-use Rattle.std.proofs.Common.{inl, inr, ◌∙◌, ◌-◌, ◌≤◌, ◌≡◌, false, arith, length, length-drop, sym, ap, subst, refl, IsTrue}
+use Rattle.std.proofs.Common.{inl, inr, ◌∙◌, ◌-◌, ◌≤◌, false, arith, length, length-drop, sym, ap, subst, refl, IsTrue}
 use Rattle.std.proofs.lemmas.Bool.{true≢false}
 use Rattle.age_io.specs.Stretch.{from_place}
-use Rattle.age_armor.specs.Ahead.{outcome_ahead, rest_ahead}
-use Rattle.age_armor.specs.DeliveredLaws.{content_of}
-use Rattle.age_armor.specs.Seeking.{text_outcome}
 use Rattle.age_armor.specs.Delivered.{delivered}
 use Rattle.age_armor.specs.Marks.{CanResume, Resumes}
 use Rattle.age_armor.specs.Stages.{is_armored}
@@ -11,13 +8,15 @@ use Rattle.age_armor.proofs.Keeping.{same-text, armored-done, armored-refused}
 use Rattle.age_armor.proofs.Forms.{form_kept}
 use Rattle.age_armor.proofs.Pacing.{learns_none}
 use Rattle.age_armor.proofs.Resuming.{knows_later, resumed_rest, resumed_ending}
-use Rattle.age_armor.proofs.Invariants.{sound-failed}
+use Rattle.age_armor.proofs.Invariants.{IsHere, sound-failed}
 use Rattle.age_armor.proofs.Giving.{text-moved}
 use Rattle.age_armor.proofs.Going.{stands-none}
 use Rattle.age_armor.proofs.reader.ArmoredReader.approach.Goals as goal
 
 pub invariant_of-self : goal.invariant_of-self
-invariant_of-self g c = sound-failed c.args.self.now c.go.new.self c.in-Err.ensures.goes.keeps.same c.in-Err.ensures.origin
+invariant_of-self g c =
+    let before = c.args.self.now in
+    sound-failed before c.go.new.self before.place c.in-Err.ensures.goes.keeps.same c.in-Err.ensures.origin before.fits before.inside
 
 pub invariant_of-self-in-Ok : goal.invariant_of-self-in-Ok
 invariant_of-self-in-Ok g c =
@@ -34,11 +33,7 @@ invariant_of-self-in-Ok g c =
     CanResume steady_then (from_place origin content) mark.stage mark.place mark.taken × (mark.place ≤ before.marks.furthest)) = λ told.
     c.last-mark.ensures.each steady_then (from_place origin content) (before.known (same.told told)) in
     let can : (IsTrue (reader.tells source.inner) → CanResume steady_then (from_place origin content) mark.stage mark.place mark.taken) = λ told. (found told).0 in
-    let here : (IsTrue (reader.tells source.inner) → IsTrue (reader.steady source.inner) →
-    (rest_ahead false before.bytes 0 0 mark.stage (reader.rest source.inner)
-    ≡ from_place mark.place (content_of (reader.content source.inner) (reader.place source.inner - source.taken)))
-    × ((outcome_ahead before.bytes 0 0 mark.stage (reader.rest source.inner)).ending
-    ≡ (text_outcome (reader.content source.inner) (reader.place source.inner - source.taken)).ending)) = λ told steady.
+    let here : (IsTrue (reader.tells source.inner) → IsTrue (reader.steady source.inner) → IsHere source mark.stage before.bytes 0 0 mark.place false) = λ told steady.
     let there = now.rest (same.told told) (same.steady steady) in
     let resumes = (can told).1 (same.steady steady) in (
       resumed_rest content (reader.rest source.inner) origin mark.place mark.taken mark.stage before.bytes resumes there ∙ ap (from_place mark.place) (sym (same.content told)),

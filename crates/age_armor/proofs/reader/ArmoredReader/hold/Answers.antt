@@ -2,9 +2,8 @@ use Rattle.std.proofs.Common.{inr, ◌≡◌, ◌∙◌, ◌-◌, ◌≤◌, tru
 use Rattle.age_armor.specs.declared.stages.Stage.TheVariants.{Lines}
 use Rattle.std.proofs.lemmas.Bool.{true≢false}
 use Rattle.age_io.specs.Reading.{StandsIn}
-use Rattle.age_armor.specs.Ahead.{outcome_ahead, rest_ahead}
+use Rattle.age_armor.specs.Ahead.{rest_ahead}
 use Rattle.age_armor.specs.Marks.{is_known}
-use Rattle.age_armor.specs.Seeking.{text_outcome}
 use Rattle.age_io.specs.Stretch.{from_place}
 use Rattle.age_armor.specs.DeliveredLaws.{content_of, stands_by}
 use Rattle.age_armor.proofs.Keeping.{same-text, all_held, armored-done, armored-refused}
@@ -14,7 +13,7 @@ use Rattle.age_armor.specs.Stages.{is_start, is_ended}
 use Rattle.age_armor.proofs.Resuming.{knows_later, resumes_line, length_at_end, not_nothing, reaches_content, none_after, still_full, after_full}
 use Rattle.age_armor.proofs.Forms.{form_held}
 use Rattle.age_io.proofs.Keeping.{keeps-done, same-self}
-use Rattle.age_armor.proofs.Invariants.{sound-failed}
+use Rattle.age_armor.proofs.Invariants.{IsHere, sound-failed}
 use Rattle.age_armor.proofs.Giving.{good-done, good-failed, text-still, text-moved}
 use Rattle.age_armor.proofs.Pacing.{learns_none}
 use Rattle.age_armor.proofs.reader.ArmoredReader.hold.Goals as goal
@@ -43,10 +42,7 @@ invariant_of-self g c =
     let size : length front ≡ piece.count = length-take-le piece.count bytes (omega (arith, now.piece.fits, c.advance.array_long)) in
     let short : (IsTrue (reader.tells before.source.inner) → before.stage ≡ Lines true → piece.count ≡ 0) = λ told.
     none_after before.stage (reader.rest before.source.inner) front piece.count _ (now.gives.bytes told) size in
-    let here : (IsTrue (reader.tells source.inner) → IsTrue (reader.steady source.inner) →
-    (new ≡ from_place before.place other)
-    × ((outcome_ahead bytes 0 piece.count piece.next (reader.rest source.inner)).ending
-    ≡ (text_outcome (reader.content source.inner) (reader.place source.inner - source.taken)).ending)) = λ told steady.
+    let here : (IsTrue (reader.tells source.inner) → IsTrue (reader.steady source.inner) → IsHere source piece.next bytes 0 piece.count before.place before.failed) = λ told steady.
     let told_before = same.told told in
     let held = front_held before.failed bytes 0 piece.count piece.next (reader.rest source.inner) c.requires in
     let some = not_nothing rest front held.more piece.count (ap (λ s. s.bytes) (sym (kept told)) ∙ held.bytes) size
@@ -110,7 +106,9 @@ invariant_of-self g c =
     }
 
 pub invariant_of-self-in-Err : goal.invariant_of-self-in-Err
-invariant_of-self-in-Err g c = sound-failed c.args.self.now c.advance.new.source c.in-Err.ensures.kept.keeps.same c.in-Err.ensures.kept.origin
+invariant_of-self-in-Err g c =
+    let before = c.args.self.now in
+    sound-failed before c.advance.new.source before.place c.in-Err.ensures.kept.keeps.same c.in-Err.ensures.kept.origin before.fits before.inside
 
 pub returns-then-is_ready : goal.returns-then-is_ready
 returns-then-is_ready g c =

@@ -2,9 +2,8 @@ use Rattle.std.proofs.Common.{inr, ℕ, refl, ◌≡◌, ◌∙◌, ◌+◌, ◌
 use Rattle.std.proofs.lemmas.Bool.{true≢false}
 use Rattle.age_io.specs.Reading.{StandsIn}
 use Rattle.age_io.specs.Stretch.{from_place}
-use Rattle.age_armor.specs.Ahead.{outcome_ahead, rest_ahead}
+use Rattle.age_armor.specs.Ahead.{rest_ahead}
 use Rattle.age_armor.specs.Marks.{is_known}
-use Rattle.age_armor.specs.Seeking.{text_outcome}
 use Rattle.age_armor.proofs.Walking.{further}
 use Rattle.age_armor.specs.DeliveredLaws.{content_of, stands_by}
 use Rattle.age_armor.proofs.Keeping.{same-text, all_held, armored-done, armored-refused}
@@ -13,7 +12,7 @@ use Rattle.age_armor.specs.Stages.{is_start, is_armored, is_ended}
 use Rattle.age_armor.specs.Delivered.{delivered}
 use Rattle.age_armor.proofs.Resuming.{knows_later, length_at_end, not_binary, reaches_content}
 use Rattle.age_armor.proofs.Forms.{form_kept}
-use Rattle.age_armor.proofs.Invariants.{sound-failed}
+use Rattle.age_armor.proofs.Invariants.{IsHere, sound-failed}
 use Rattle.age_armor.proofs.Giving.{good-done, good-failed, text-moved, reads-done, reads-failed}
 use Rattle.age_armor.proofs.Pacing.{learns_none}
 use Rattle.age_armor.proofs.reader.ArmoredReader.pass.Goals as goal
@@ -38,10 +37,7 @@ invariant_of-self g c =
     rw (place told, same.content told) (given_stands content rest new before.place n front size
     (pass_delivers before.failed before.bytes front before.given before.filled before.stage _ _ c.requires.good c.requires.binary (all_held before) c.requires.given (now.bytes (same.told told)))
     (stands_by content rest before.place (before.inside (same.told told) (same.steady steady)) (before.follows (same.told told) (same.steady steady)))) in
-    let here : (IsTrue (reader.tells source.inner) → IsTrue (reader.steady source.inner) →
-    (new ≡ from_place c.saturating_add-self.result other)
-    × ((outcome_ahead before.bytes before.given before.filled before.stage (reader.rest source.inner)).ending
-    ≡ (text_outcome (reader.content source.inner) (reader.place source.inner - source.taken)).ending)) = λ told steady.
+    let here : (IsTrue (reader.tells source.inner) → IsTrue (reader.steady source.inner) → IsHere source before.stage before.bytes before.given before.filled c.saturating_add-self.result before.failed) = λ told steady.
     let told_before = same.told told in
     let at = before.here told_before (same.steady steady) c.requires.good (ap is_start c.requires.binary) in (
       further content rest new before.place _ n front at.0
@@ -95,7 +91,9 @@ invariant_of-self g c =
     }
 
 pub invariant_of-self-in-Err : goal.invariant_of-self-in-Err
-invariant_of-self-in-Err g c = sound-failed c.args.self.now c.read.new.self c.in-Err.ensures.kept.keeps.same c.in-Err.ensures.kept.origin
+invariant_of-self-in-Err g c =
+    let before = c.args.self.now in
+    sound-failed before c.read.new.self before.place c.in-Err.ensures.kept.keeps.same c.in-Err.ensures.kept.origin before.fits before.inside
 
 pub returns-in-Ok : goal.returns-in-Ok
 returns-in-Ok g c =
