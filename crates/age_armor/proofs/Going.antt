@@ -20,13 +20,11 @@ use Rattle.age_armor.specs.Stages.{IsNamed, is_start}
 use Rattle.age_armor.specs.ReaderLaws.{well_inner}
 use Rattle.age_armor.specs.Seeking.{Goes, OrAstray, AsksPast, SeeksText, ComesBack}
 use Rattle.age_armor.specs.Reader.{outcome_of, text_outcome_of, armored_reader, armored_content, armored_rest, refuses_of}
-use Rattle.age_armor.specs.Giving.{WhereSteady, KeepsText, EndsAsBefore}
-use Rattle.age_armor.specs.Going.{EndsAsText, Stands, WalksAlong, Reaches, Misses, FindsEnd, StaysThere, SparesReading, TakesFew}
-use Rattle.age_armor.proofs.Keeping.{gone, goes-later, goes-seeking, goes-unrefused, armor-plain, seeks-plain}
+use Rattle.age_armor.specs.Steps.{WhereSteady, KeepsText, EndsAsBefore, EndsAsText, Stands, WalksAlong, Reaches, Misses, FindsEnd, StaysThere, SparesReading, TakesFew}
+use Rattle.age_armor.proofs.Keeping.{gone, goes-later, goes-seeking, goes-unrefused, armor-plain, seeks-plain, text-later}
 use Rattle.age_armor.proofs.OwnEndings.{still_named}
 use Rattle.age_armor.proofs.Taking.{quiet_after}
 use Rattle.age_armor.proofs.Walking.{ends_at}
-use Rattle.age_armor.proofs.Giving.{text-later}
 use Rattle.age_armor.proofs.Aiming.{clean-unnamed, moved-within, within-moved, quiet-first, refusal_or_not, refusal-device, refusal-interruption, seeks-refused}
 
 module _ {R : Type 0} {buf : buffered.Ghosts R} {read : Ghosts R} where

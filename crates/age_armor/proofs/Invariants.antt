@@ -13,7 +13,7 @@ use Rattle.age_armor.specs.declared.stages.Stage.{Stage}
 use Rattle.age_armor.specs.Ahead.{outcome_ahead, rest_ahead}
 use Rattle.age_armor.specs.Delivered.{begins_armor}
 use Rattle.age_armor.specs.DeliveredLaws.{content_of, stands_by, stands_follows}
-use Rattle.age_armor.specs.Giving.{WhereTold, WhereSteady}
+use Rattle.age_armor.specs.Steps.{WhereTold, WhereSteady}
 use Rattle.age_armor.specs.Marks.{Knows, IsPaced, is_known}
 use Rattle.age_armor.specs.Reader.{armored_content}
 use Rattle.age_armor.specs.Seeking.{text_outcome}

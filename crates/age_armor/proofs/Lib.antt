@@ -16,7 +16,6 @@ pub mod Whole
 pub mod Testing
 pub mod Taking
 pub mod Staging
-pub mod Pieces
 pub mod Walking
 pub mod OwnEndings
 pub mod Asking
@@ -29,5 +28,4 @@ pub mod Invariants
 pub mod Flushing
 pub mod Marking
 pub mod Resuming
-pub mod Giving
 pub mod Going

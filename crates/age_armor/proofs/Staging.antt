@@ -1,14 +1,13 @@
 -- The next bytes of armor.
-use Rattle.std.proofs.Common.{◌≡◌, ◌≢◌, ℕ, suc, zero, ◌≤◌, ◌<◌, Bool, true, false, ◌||◌, List, [], ◌∷◌, ◌++◌, length, take, drop, refl, ap, sym, subst, arith, ◌∙◌, append_assoc, length-append, nat_lt, nat_eq}
+use Rattle.std.proofs.Common.{◌≡◌, ◌≢◌, ℕ, suc, zero, ◌≤◌, ◌<◌, Bool, true, false, ◌||◌, List, [], ◌∷◌, ◌++◌, length, take, drop, refl, ap, sym, subst, arith, ◌∙◌, append_assoc, length-append, nat_lt, nat_eq, inl, inr, IsTrue, Result, Err}
 use Rattle.std.specs.Prelude.{slice_index}
 use Rattle.std.specs.List.{concat, starts_with}
 use Rattle.std.proofs.lemmas.Bool.{cases_Bool, false_from_ne_true, le-ltb, lt-ltb, or_right, true≢false}
 use Rattle.std.proofs.lemmas.List.{append-nil, take-append-le, drop-append-le, length-take-le}
-use Rattle.std.proofs.Common.{inl, inr}
 use Rattle.age_io.specs.Stretch.{Stretch, IsCleanEnd, IsFault}
-use Rattle.age_io.specs.Reading.{Delivers}
+use Rattle.age_io.specs.Reading.{Delivers, IsQuiet}
 use Rattle.age_error.specs.declared.io.Error.{Error}
-use Rattle.age_error.specs.declared.io.Error.TheVariants.{Armor, UnexpectedEof}
+use Rattle.age_error.specs.declared.io.Error.TheVariants.{Armor, UnexpectedEof, OutOfMemory}
 use Rattle.age_error.specs.declared.io.ArmoredReadError.TheVariants.{InvalidBeginMarker, NotWrappedAt64Chars}
 use Rattle.age_base64.specs.Lines.{Lacks}
 use Rattle.age_armor.specs.Armor.{begin_marker}
@@ -16,14 +15,21 @@ use Rattle.age_base64.specs.Base64.{padded_columns}
 use Rattle.age_base64.proofs.PaddedColumns.{padded_columns-nil, Lacks_padded_columns, length-padded_columns}
 use Rattle.age_armor.specs.LineVerdict.{LineVerdict, Refuses, Ends, Holds, verdict, is_short, line_columns, last_is, IsLineVerdict}
 use Rattle.age_armor.specs.Delivered.{Outcome, Ending, Clean, Refused, InnerFault, ends, at_end, raw_lines, section, trailing, after_line, after_marker, delivered}
-use Rattle.age_armor.specs.Counting.{TakesLine, IsFew, IsCutShort}
+use Rattle.age_armor.specs.Counting.{TakesLine, IsFew, IsCutShort, GivesPiece, IsPiece}
 use Rattle.age_armor.specs.Showing.{TakesFull}
-use Rattle.age_armor.specs.Stages.{Advances, Stops, FindsForm, IsNamed}
+use Rattle.age_armor.specs.Stages.{Advances, Stops, FindsForm, IsNamed, ahead}
 use Rattle.age_armor.proofs.RawLines.{raw_lines_ended, columns_lf, last_is_end, full_not_short, not_short_full}
 use Rattle.age_armor.specs.DeliveredLaws.{length_line_columns, concat_raw}
 use Rattle.age_armor.proofs.Verdicts.{one_verdict}
 use Rattle.age_armor.proofs.Delivering.{good_line}
 use Rattle.age_armor.proofs.Shapes.{begins_back}
+use Rattle.std.proofs.lemmas.Result.{IfOk-weaker, IfErr-weaker}
+use Rattle.age_io.specs.declared.traits.Read.{Ghosts}
+use Rattle.age_io.specs.declared.bufread.BufRead as buffered
+use Rattle.age_armor.specs.declared.counted.Counted.{Counted}
+use Rattle.age_armor.specs.declared.stages.Stage.{Stage}
+use Rattle.age_armor.specs.declared.stages.Piece.{Piece}
+use Rattle.age_armor.proofs.Taking.{quiet_after}
 
 pub stops_of : (o : Outcome) (e : Error) (end : Ending) → o ≡ ends end → IsNamed end e → Stops o e
 stops_of o e end same named = record { nothing = ap (λ x. x.bytes) same; named = subst (λ x. IsNamed x e) (sym (ap (λ x. x.ending) same)) named }
@@ -223,3 +229,41 @@ none_after_short (raw ∷ more) w = elim (cases_Bool (w || last_is 10 raw)) [
   | inl e ↦ rw e (none_held raw (verdict true raw) (section (is_short (line_columns raw)) more w) (trailing (concat more) w) (one_verdict true raw))
   | inr e ↦ rw e refl
 ]
+
+-- ---- what one call passes on from another
+
+module _ {R : Type 0} {buf : buffered.Ghosts R} {read : Ghosts R} where
+  -- ---- a refusal
+
+  pub piece-none : (stage : Stage) (old : Counted R buf read) (e : Error) → IsPiece stage old (Err e)
+  piece-none stage old e = record { fits = tt; full = tt; ended = tt; begun = tt; end = λ told. tt }
+
+  pub gives-none : (stage : Stage) (old new : Counted R buf read) (found : List ℕ) (e : Error) →
+      (IsTrue (read.tells old.inner) → e ≢ OutOfMemory → IsQuiet (read.faults old.inner) (read.faults new.inner) → Stops (ahead stage (read.rest old.inner)) e) →
+      GivesPiece stage old new found (Err e)
+  gives-none stage old new found e cause = record { taken = λ told. tt; bytes = λ told. tt; cause = cause }
+
+  -- ---- a step that gave nothing, and then a call
+
+  pub piece-later : (stage next : Stage) (old middle : Counted R buf read) (result : Result Piece Error) →
+      (IsTrue (read.tells old.inner) → IsTrue (read.tells middle.inner)) →
+      (IsTrue (read.tells old.inner) → ahead stage (read.rest old.inner) ≡ ahead next (read.rest middle.inner)) → IsPiece next middle result → IsPiece stage old result
+  piece-later stage next old middle result tells same is = record {
+    fits = is.fits;
+    full = is.full;
+    ended = is.ended;
+    begun = is.begun;
+    end = λ told. IfOk-weaker result _ _ (λ piece end none. same told ∙ end none) (is.end (tells told));
+  }
+
+  pub gives-later : (stage next : Stage) (old middle new : Counted R buf read) (found : List ℕ) (result : Result Piece Error) →
+      (IsTrue (read.tells old.inner) → IsTrue (read.tells middle.inner)) →
+      read.faults old.inner ≤ read.faults middle.inner → read.faults middle.inner ≤ read.faults new.inner → (IsTrue (read.tells old.inner) → old.taken ≤ middle.taken) →
+      (IsTrue (read.tells old.inner) → ahead stage (read.rest old.inner) ≡ ahead next (read.rest middle.inner)) →
+      GivesPiece next middle new found result → GivesPiece stage old new found result
+  gives-later stage next old middle new found result tells first last more same gives = record {
+    taken = λ told. IfOk-weaker result _ _ (λ piece h. omega (arith, more told, h)) (gives.taken (tells told));
+    bytes = λ told. IfOk-weaker result _ _ (λ piece is. record { same = same told ∙ is.same }) (gives.bytes (tells told));
+    cause = λ told. IfErr-weaker result _ _
+        (λ e stops other quiet. subst (λ o. Stops o e) (sym (same told)) (stops other (quiet_after _ _ _ first last quiet))) (gives.cause (tells told));
+  }

@@ -1,7 +1,7 @@
 -- A reader of which bytes are taken and counted.
-use Rattle.std.specs.Prelude.{◌≡◌, ℕ, ◌+◌, ◌-◌, ◌*◌, ◌^◌, ◌≤◌, ◌<◌, Bool, true, false, ◌||◌, IsTrue, List, ◌∷◌, length, min, Result, OnOk, OnErr}
+use Rattle.std.specs.Prelude.{◌≡◌, ℕ, ◌+◌, ◌-◌, ◌*◌, ◌^◌, ◌≤◌, ◌<◌, Bool, true, false, ◌||◌, IsTrue, List, ◌∷◌, length, min, Result, OnOk, OnErr, ◌≢◌, take, IfOk, IfErr}
 use Rattle.age_io.specs.Stretch.{Stretch, IsCleanEnd}
-use Rattle.age_io.specs.Reading.{most_faults}
+use Rattle.age_io.specs.Reading.{most_faults, IsQuiet}
 use Rattle.age_io.specs.Keeping.{KeepsReader}
 use Rattle.age_io.specs.declared.traits.Read.{Ghosts}
 use Rattle.age_error.specs.declared.io.Error.{Error}
@@ -9,10 +9,12 @@ use Rattle.age_io.specs.declared.bufread.BufRead as buffered
 use Rattle.age_armor.specs.declared.counted.Counted.{Counted}
 use Rattle.age_armor.specs.declared.stages.Stage.{Stage}
 use Rattle.age_armor.specs.declared.stages.Stage.TheVariants.{Lines}
-use Rattle.age_armor.specs.Stages.{is_start, is_armored, is_open}
+use Rattle.age_armor.specs.Stages.{is_start, is_armored, is_open, ahead, Advances, Stops, is_ended}
 use Rattle.age_armor.specs.LineVerdict.{last_is}
 use Rattle.age_armor.specs.Refusing.{OrText}
-use Rattle.age_armor.specs.Delivered.{raw_lines, section, ends, InnerFault}
+use Rattle.age_armor.specs.Delivered.{raw_lines, section, ends, InnerFault, Clean}
+use Rattle.age_error.specs.declared.io.Error.TheVariants.{OutOfMemory}
+use Rattle.age_armor.specs.declared.stages.Piece.{Piece}
 
 -- the reader is the same but for where it stands, it refuses as reading a text may, and what stands before the bytes that were taken
 -- is as much as before
@@ -73,3 +75,22 @@ pub record TakesLines (old new : Stage) (old_place old_held old_lines new_place 
 pub record IsCounted (stage : Stage) (start counted target place held lines : ℕ) : Type 0 where
   pub at_most : is_open stage ≡ true → 48 * lines + start ≤ 48 * counted + place + held
   pub bound : 48 * lines + start < 48 * counted + target + 48
+
+-- ---- the next bytes of a text
+
+module _ {R : Type 0} {buf : buffered.Ghosts R} {read : Ghosts R} where
+  -- what was found comes first of what stood before the reader at this stage, and where it refuses nothing comes before that error
+  pub record GivesPiece (stage : Stage) (old new : Counted R buf read) (found : List ℕ) (result : Result Piece Error) : Type 0 where
+    pub taken : IsTrue (read.tells old.inner) → IfOk result (λ piece. old.taken + piece.count ≤ new.taken)
+    pub bytes : IsTrue (read.tells old.inner) → IfOk result (λ piece.
+        Advances (ahead stage (read.rest old.inner)) (take piece.count found) (ahead piece.next (read.rest new.inner)))
+    pub cause : IsTrue (read.tells old.inner) → IfErr result (λ e. e ≢ OutOfMemory → IsQuiet (read.faults old.inner) (read.faults new.inner) →
+        Stops (ahead stage (read.rest old.inner)) e)
+
+  -- it is no longer than a line, 48 bytes where lines go on behind it, and empty at a clean end alone
+  pub record IsPiece (stage : Stage) (old : Counted R buf read) (result : Result Piece Error) : Type 0 where
+    pub fits : IfOk result (λ piece. piece.count ≤ 48)
+    pub full : IfOk result (λ piece. piece.next ≡ Lines false → piece.count ≡ 48)
+    pub ended : IfOk result (λ piece. is_ended piece.next ≡ true → piece.count ≡ 0)
+    pub begun : IfOk result (λ piece. is_start piece.next ≡ false)
+    pub end : IsTrue (read.tells old.inner) → IfOk result (λ piece. piece.count ≡ 0 → ahead stage (read.rest old.inner) ≡ ends Clean)

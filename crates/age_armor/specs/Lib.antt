@@ -13,12 +13,10 @@ pub mod Showing
 pub mod Refusing
 pub mod Counting
 pub mod Stages
-pub mod Pieces
 pub mod Marks
 pub mod Ahead
 pub mod ReaderLaws
 pub mod Ending
 pub mod Seeking
 pub mod Reader
-pub mod Giving
-pub mod Going
+pub mod Steps

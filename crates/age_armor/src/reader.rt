@@ -177,7 +177,7 @@ impl<R: BufRead> Read for ArmoredReader<R> {
 impl<R: BufRead> ArmoredReader<R> {
     ghost use Rattle.age_armor.specs.Reader.{inner_of, has_failed, has_armor, taken_of, text_of, outcome_of, text_outcome_of, lines_of, furthest_of, notes_all, knows_end, armored_content, place_of, armored_rest, shown_of, Learns};
     ghost use Rattle.age_armor.specs.Seeking.{Goes, text_outcome};
-    ghost use Rattle.age_armor.specs.Giving.{WhereTold, KeepsText, EndsAsBefore, CountsTaken, HoldsNext, ReadsNothing, StaysBinary, FillsByForm};
+    ghost use Rattle.age_armor.specs.Steps.{WhereTold, KeepsText, EndsAsBefore, CountsTaken, HoldsNext, ReadsNothing, StaysBinary, FillsByForm};
 
     /// A reader of what the text carries that begins where `inner` stands.
     ///

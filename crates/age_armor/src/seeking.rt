@@ -97,8 +97,7 @@ impl<R: BufRead + Seek> Counted<R> {
 
 impl<R: BufRead + Seek> ArmoredReader<R> {
     ghost use Rattle.age_armor.specs.Reader.{inner_of, text_of, furthest_of, notes_all};
-    ghost use Rattle.age_armor.specs.Giving.{WhereSteady, KeepsText};
-    ghost use Rattle.age_armor.specs.Going.{Stands, FailsThere};
+    ghost use Rattle.age_armor.specs.Steps.{WhereSteady, KeepsText, Stands, FailsThere};
 
     // Goes to the last mark that isn't after a place, or to the front of the text.
     fn approach(&mut self, target: u64) -> Result<(), Error>
@@ -133,8 +132,7 @@ impl<R: BufRead + Seek> ArmoredReader<R> {
 
 impl<R: BufRead> ArmoredReader<R> {
     ghost use Rattle.age_armor.specs.Reader.{inner_of, has_failed};
-    ghost use Rattle.age_armor.specs.Giving.{KeepsText, EndsAsBefore};
-    ghost use Rattle.age_armor.specs.Going.{ComesTo, WalksAlong, CountsLines};
+    ghost use Rattle.age_armor.specs.Steps.{KeepsText, EndsAsBefore, ComesTo, WalksAlong, CountsLines};
 
     // Reads on to a place, or to a clean end before it, and tells whether it came to the place.
     fn walk(&mut self, target: u64) -> Result<bool, Error>
@@ -165,8 +163,7 @@ impl<R: BufRead> ArmoredReader<R> {
 
 impl<R: BufRead + Seek> ArmoredReader<R> {
     ghost use Rattle.age_armor.specs.Reader.{inner_of, furthest_of, armored_content};
-    ghost use Rattle.age_armor.specs.Giving.{WhereSteady, KeepsText};
-    ghost use Rattle.age_armor.specs.Going.{Reaches, Misses, FindsEnd, SparesReading, StaysThere};
+    ghost use Rattle.age_armor.specs.Steps.{WhereSteady, KeepsText, Reaches, Misses, FindsEnd, SparesReading, StaysThere};
 
     // Whether a reader that has begun, and hasn't failed, stands at a place.
     fn is_at(&self, place: u64) -> bool
@@ -295,8 +292,7 @@ impl<R: BufRead> ArmoredReader<R> {
 
 impl<R: BufRead + Seek> ArmoredReader<R> {
     ghost use Rattle.age_armor.specs.Reader.{inner_of, has_failed, text_of, outcome_of, text_outcome_of, lines_of, marks_of, furthest_of, notes_all, knows_end, armored_content, place_of, armored_rest, shown_of};
-    ghost use Rattle.age_armor.specs.Giving.{WhereSteady, KeepsText};
-    ghost use Rattle.age_armor.specs.Going.{EndsAsText, FindsEnd, TakesFew};
+    ghost use Rattle.age_armor.specs.Steps.{WhereSteady, KeepsText, EndsAsText, FindsEnd, TakesFew};
 
     // Back to where it stood, once a seek was refused. After any other error it has failed there, and so has one that had
     // failed before.

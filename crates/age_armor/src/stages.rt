@@ -33,7 +33,7 @@ pub(crate) struct Piece {
 }
 
 ghost use Rattle.age_armor.specs.Stages.{ahead, Advances, Stops, IsFound, FindsForm, is_start, is_armored, is_ended};
-ghost use Rattle.age_armor.specs.Pieces.{GivesPiece, IsPiece};
+ghost use Rattle.age_armor.specs.Counting.{GivesPiece, IsPiece};
 ghost use Rattle.age_armor.specs.declared.stages.Stage.TheVariants.{Start, Binary, Lines};
 
 /// Reads the first 35 bytes and looks at the next; takes the begin marker's line, where it stands there.

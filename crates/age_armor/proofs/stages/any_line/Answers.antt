@@ -1,7 +1,6 @@
 use Rattle.std.proofs.Common.{◌≡◌, ◌∙◌, ◌<◌, IsTrue, arith, false, length, refl, sym}
 use Rattle.std.proofs.lemmas.Bool.{eqb-false, eqb-true, true≢false}
-use Rattle.age_armor.proofs.Pieces.{piece-none, gives-none}
-use Rattle.age_armor.proofs.Staging.{advances_none, cut_line, empty_line, held_full, holds_count, line_ends, line_holds, line_refuses, line_trails}
+use Rattle.age_armor.proofs.Staging.{piece-none, gives-none, advances_none, cut_line, empty_line, held_full, holds_count, line_ends, line_holds, line_refuses, line_trails}
 use Rattle.age_armor.proofs.Refusing.{kept-later, kept-as, kept-error, kept-refused}
 use Rattle.age_armor.proofs.Taking.{counts_once, quiet_after}
 use Rattle.age_armor.proofs.stages.any_line.Goals as goal

@@ -1,10 +1,9 @@
 use Rattle.std.proofs.Common.{◌≡◌, ◌<◌, ◌∙◌, IsTrue, length, arith, sym}
 use Rattle.std.proofs.lemmas.Result.{IfErr-weaker, IfOk-weaker}
 use Rattle.age_io.specs.Reading.{Delivers}
-use Rattle.age_armor.proofs.Pieces.{gives-none}
+use Rattle.age_armor.proofs.Staging.{gives-none, few_clean, few_fault, few_end, few_bad}
 use Rattle.age_armor.proofs.Refusing.{kept-later, kept-error, kept-refused, text-well}
 use Rattle.age_armor.proofs.Taking.{quiet_after}
-use Rattle.age_armor.proofs.Staging.{few_clean, few_fault, few_end, few_bad}
 use Rattle.age_armor.proofs.stages.detect.Given as given
 use Rattle.age_armor.proofs.stages.detect.Goals as goal
 

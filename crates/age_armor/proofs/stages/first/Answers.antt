@@ -3,8 +3,7 @@ use Rattle.std.proofs.lemmas.Bool.{true≢false}
 use Rattle.std.proofs.lemmas.Result.{IfOk-weaker}
 use Rattle.age_armor.specs.declared.stages.Stage.TheVariants.{Start, Lines}
 use Rattle.age_armor.specs.Stages.{ahead, FindsForm}
-use Rattle.age_armor.proofs.Pieces.{piece-later, gives-later}
-use Rattle.age_armor.proofs.Staging.{found_none}
+use Rattle.age_armor.proofs.Staging.{piece-later, gives-later, found_none}
 use Rattle.age_armor.proofs.Refusing.{kept-later}
 use Rattle.age_armor.proofs.stages.first.Goals as goal
 

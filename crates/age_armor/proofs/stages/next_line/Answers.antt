@@ -3,9 +3,8 @@ use Rattle.std.proofs.lemmas.Bool.{true≢false}
 use Rattle.std.proofs.lemmas.List.{take_all}
 use Rattle.age_armor.specs.declared.stages.Stage.TheVariants.{Lines}
 use Rattle.age_armor.specs.Stages.{ahead}
-use Rattle.age_armor.proofs.Pieces.{piece-none, gives-none, piece-later, gives-later}
+use Rattle.age_armor.proofs.Staging.{piece-none, gives-none, piece-later, gives-later, no_line, full_step}
 use Rattle.age_armor.proofs.Refusing.{kept-later, kept-as, kept-error}
-use Rattle.age_armor.proofs.Staging.{no_line, full_step}
 use Rattle.age_armor.proofs.stages.next_line.Given as given
 use Rattle.age_armor.proofs.stages.next_line.Goals as goal
 use Rattle.age_armor.proofs.stages.next_line.Goals.{then-not-after_short+in-Ok+else-full, else-not-after_short}

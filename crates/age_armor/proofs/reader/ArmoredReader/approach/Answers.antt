@@ -4,12 +4,11 @@ use Rattle.age_io.specs.Stretch.{from_place}
 use Rattle.age_armor.specs.Delivered.{delivered}
 use Rattle.age_armor.specs.Marks.{CanResume, Resumes}
 use Rattle.age_armor.specs.Stages.{is_armored}
-use Rattle.age_armor.proofs.Keeping.{same-text, armored-done, armored-refused}
+use Rattle.age_armor.proofs.Keeping.{same-text, armored-done, armored-refused, text-moved}
 use Rattle.age_armor.proofs.Forms.{form_kept}
 use Rattle.age_armor.proofs.Pacing.{learns_none}
 use Rattle.age_armor.proofs.Resuming.{knows_later, resumed_rest, resumed_ending}
 use Rattle.age_armor.proofs.Invariants.{IsHere, sound-failed}
-use Rattle.age_armor.proofs.Giving.{text-moved}
 use Rattle.age_armor.proofs.Going.{stands-none}
 use Rattle.age_armor.proofs.reader.ArmoredReader.approach.Goals as goal
 

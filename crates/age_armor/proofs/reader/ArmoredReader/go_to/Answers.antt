@@ -6,12 +6,11 @@ use Rattle.age_error.specs.declared.io.Error.TheVariants.{PastEnd}
 use Rattle.age_error.specs.declared.io.SeekFrom.TheVariants.{Start}
 use Rattle.age_armor.specs.Delivered.{begins_armor}
 use Rattle.age_armor.specs.Stages.{is_start}
-use Rattle.age_armor.specs.Giving.{WhereTold, WhereSteady}
+use Rattle.age_armor.specs.Steps.{WhereTold, WhereSteady}
 use Rattle.age_armor.specs.Reader.{armored_reader, text_of, armored_content}
 use Rattle.age_armor.proofs.Aiming.{moved-within, moved-past}
-use Rattle.age_armor.proofs.Keeping.{goes-passed, goes-refused, armor-plain}
+use Rattle.age_armor.proofs.Keeping.{goes-passed, goes-refused, armor-plain, text-still, text-later}
 use Rattle.age_armor.proofs.Pacing.{known_length, some_length}
-use Rattle.age_armor.proofs.Giving.{text-still, text-later}
 use Rattle.age_armor.proofs.Going.{reaches-none, misses-none, misses-own, spares-own, stays-none, came-on, came-goes, came-stands, came-out, walk-goes, walk-misses}
 use Rattle.age_armor.proofs.reader.ArmoredReader.go_to.Goals as goal
 

@@ -6,7 +6,7 @@ use Rattle.age_armor.specs.Ahead.{rest_ahead}
 use Rattle.age_armor.specs.Marks.{is_known}
 use Rattle.age_io.specs.Stretch.{from_place}
 use Rattle.age_armor.specs.DeliveredLaws.{content_of, stands_by}
-use Rattle.age_armor.proofs.Keeping.{same-text, all_held, armored-done, armored-refused}
+use Rattle.age_armor.proofs.Keeping.{same-text, all_held, armored-done, armored-refused, good-done, good-failed, text-still, text-moved}
 use Rattle.age_armor.proofs.Ahead.{kept_stands, hold_rest, hold_ending, hold_end, hold_fault, hold_named, ended_clean, shown_none, front_held}
 use Rattle.age_armor.specs.Delivered.{delivered}
 use Rattle.age_armor.specs.Stages.{is_start, is_ended}
@@ -14,7 +14,6 @@ use Rattle.age_armor.proofs.Resuming.{knows_later, resumes_line, length_at_end, 
 use Rattle.age_armor.proofs.Forms.{form_held}
 use Rattle.age_io.proofs.Keeping.{keeps-done, same-self}
 use Rattle.age_armor.proofs.Invariants.{IsHere, sound-failed}
-use Rattle.age_armor.proofs.Giving.{good-done, good-failed, text-still, text-moved}
 use Rattle.age_armor.proofs.Pacing.{learns_none}
 use Rattle.age_armor.proofs.reader.ArmoredReader.hold.Goals as goal
 

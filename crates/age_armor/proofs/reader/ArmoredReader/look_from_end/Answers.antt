@@ -5,11 +5,10 @@ use Rattle.age_error.specs.declared.io.SeekFrom.TheVariants.{End}
 use Rattle.age_io.specs.Cursor.{sought, target}
 use Rattle.age_io.proofs.Keeping.{same-self}
 use Rattle.age_armor.specs.Seeking.{OrAstray}
-use Rattle.age_armor.specs.Giving.{WhereTold, WhereSteady}
+use Rattle.age_armor.specs.Steps.{WhereTold, WhereSteady}
 use Rattle.age_armor.specs.Reader.{armored_reader, armored_content}
-use Rattle.age_armor.proofs.Keeping.{goes-passed, goes-later, goes-refused, armor-plain, seeks-plain}
+use Rattle.age_armor.proofs.Keeping.{goes-passed, goes-later, goes-refused, armor-plain, seeks-plain, text-later}
 use Rattle.age_armor.proofs.Aiming.{moved-refusal, from-end}
-use Rattle.age_armor.proofs.Giving.{text-later}
 use Rattle.age_armor.proofs.Going.{reaches-none, reaches-end, misses-none, misses-own, misses-end, finds-none, came-on, came-goes, came-stands, came-out, walk-goes, walk-misses}
 use Rattle.age_armor.proofs.reader.ArmoredReader.look_from_end.Goals as goal
 

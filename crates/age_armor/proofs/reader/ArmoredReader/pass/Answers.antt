@@ -6,14 +6,13 @@ use Rattle.age_armor.specs.Ahead.{rest_ahead}
 use Rattle.age_armor.specs.Marks.{is_known}
 use Rattle.age_armor.proofs.Walking.{further}
 use Rattle.age_armor.specs.DeliveredLaws.{content_of, stands_by}
-use Rattle.age_armor.proofs.Keeping.{same-text, all_held, armored-done, armored-refused}
+use Rattle.age_armor.proofs.Keeping.{same-text, all_held, armored-done, armored-refused, good-done, good-failed, text-moved, reads-done, reads-failed}
 use Rattle.age_armor.proofs.Ahead.{given_stands, pass_delivers, pass_end, pass_fault, pass_named, pass_ending, shown_none}
 use Rattle.age_armor.specs.Stages.{is_start, is_armored, is_ended}
 use Rattle.age_armor.specs.Delivered.{delivered}
 use Rattle.age_armor.proofs.Resuming.{knows_later, length_at_end, not_binary, reaches_content}
 use Rattle.age_armor.proofs.Forms.{form_kept}
 use Rattle.age_armor.proofs.Invariants.{IsHere, sound-failed}
-use Rattle.age_armor.proofs.Giving.{good-done, good-failed, text-moved, reads-done, reads-failed}
 use Rattle.age_armor.proofs.Pacing.{learns_none}
 use Rattle.age_armor.proofs.reader.ArmoredReader.pass.Goals as goal
 

@@ -10,8 +10,7 @@ use Rattle.age_armor.specs.Seeking.{Goes}
 use Rattle.age_armor.specs.Stages.{is_start, is_armored}
 use Rattle.age_armor.proofs.Ahead.{shown_small}
 use Rattle.age_armor.proofs.Forms.{binary_form}
-use Rattle.age_armor.proofs.Giving.{on_if, form-found, fails-passed, ends-passed, good-done, text-still, text-later, goes-given, reads-done, reads-failed, learned}
-use Rattle.age_armor.proofs.Keeping.{held_shown, reached}
+use Rattle.age_armor.proofs.Keeping.{on_if, form-found, fails-passed, ends-passed, good-done, text-still, text-later, goes-given, reads-done, reads-failed, learned, held_shown, reached}
 use Rattle.age_armor.proofs.Resuming.{not_binary}
 use Rattle.age_armor.proofs.reader.ArmoredReader.read_on.Goals as goal
 

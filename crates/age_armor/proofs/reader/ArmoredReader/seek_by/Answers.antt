@@ -1,8 +1,7 @@
 use Rattle.std.proofs.Common.{◌≡◌, ◌∙◌, ◌<◌, ◌^◌, IsTrue, Some, None, Ok, ap, arith, sym, subst, w64, to_z-of_z, refl}
 use Rattle.age_io.specs.Cursor.{place_at}
-use Rattle.age_armor.proofs.Keeping.{same-source}
+use Rattle.age_armor.proofs.Keeping.{same-source, text-still}
 use Rattle.age_armor.proofs.Aiming.{too-long, too-early, counted-on}
-use Rattle.age_armor.proofs.Giving.{text-still}
 use Rattle.age_armor.proofs.reader.ArmoredReader.seek_by.Goals as goal
 
 pub returns-then-self : goal.returns-then-self

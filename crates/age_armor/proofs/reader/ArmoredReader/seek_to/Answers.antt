@@ -1,5 +1,5 @@
 use Rattle.std.proofs.Common.{◌∙◌, sym}
-use Rattle.age_armor.proofs.Giving.{text-later}
+use Rattle.age_armor.proofs.Keeping.{text-later}
 use Rattle.age_armor.proofs.Going.{ends-later, seek-done, seek-missed, takes-back}
 use Rattle.age_armor.proofs.reader.ArmoredReader.seek_to.Goals as goal
 

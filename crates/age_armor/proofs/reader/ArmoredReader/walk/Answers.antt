@@ -4,8 +4,7 @@ use Rattle.age_io.proofs.Keeping.{same-later, same-read, keeps-done, keeps-later
 use Rattle.age_io.proofs.Retrying.{tried-narrows}
 use Rattle.age_armor.specs.Delivered.{begins_armor}
 use Rattle.age_armor.specs.Reader.{armored_reader, refuses_of}
-use Rattle.age_armor.proofs.Giving.{good-done, good-failed, text-learned, text-later}
-use Rattle.age_armor.proofs.Keeping.{armor-plain}
+use Rattle.age_armor.proofs.Keeping.{good-done, good-failed, text-learned, text-later, armor-plain}
 use Rattle.age_armor.proofs.Pacing.{open_stage, counted_on}
 use Rattle.age_armor.proofs.Taking.{quiet_after}
 use Rattle.age_armor.proofs.Walking.{further, still_clean, ends_before}

@@ -2,10 +2,9 @@ use Rattle.std.proofs.Common.{◌∙◌, arith, length, refl, ap, sym, subst, in
 use Rattle.std.proofs.lemmas.Bool.{true≢false}
 use Rattle.age_io.specs.Filling.{IsFront}
 use Rattle.age_armor.proofs.Ahead.{fault_gone}
-use Rattle.age_armor.proofs.Giving.{form-found, fails-passed, ends-passed, good-done, learned}
+use Rattle.age_armor.proofs.Keeping.{form-found, fails-passed, ends-passed, good-done, learned, armor-plain, gone, held_shown}
 use Rattle.age_armor.proofs.Pacing.{learns_none}
 use Rattle.age_armor.specs.Delivered.{delivered}
-use Rattle.age_armor.proofs.Keeping.{armor-plain, gone, held_shown}
 use Rattle.age_armor.proofs.reader.ArmoredReaderBufRead.fill_buf.Goals as goal
 
 pub returns-then-self : goal.returns-then-self

@@ -5,8 +5,7 @@ use Rattle.age_io.proofs.Keeping.{same-self}
 use Rattle.age_armor.specs.Delivered.{delivered}
 use Rattle.age_armor.specs.Reader.{armored_reader}
 use Rattle.age_armor.proofs.Ahead.{fault_gone, shown_small}
-use Rattle.age_armor.proofs.Giving.{text-still, reads-failed, learned}
-use Rattle.age_armor.proofs.Keeping.{goes-refused}
+use Rattle.age_armor.proofs.Keeping.{text-still, reads-failed, learned, goes-refused}
 use Rattle.age_armor.proofs.Pacing.{learns_none}
 use Rattle.age_armor.proofs.reader.ArmoredReaderRead.read.Goals as goal
 
