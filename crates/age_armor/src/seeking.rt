@@ -1,10 +1,10 @@
 //! Seeks in armor.
-ghost use Rattle.std.specs.Prelude.{◌≡◌, ◌≢◌, ℕ, ◌+◌, ◌*◌, ◌-◌, ◌^◌, ◌≤◌, ◌<◌, Bool, true, false, IsTrue, List, [], length, Result, IfOk, IfErr, OnOk, OnErr, Ok, Err, Some, None, IfSome};
+ghost use Rattle.std.specs.Prelude.{◌≡◌, ◌≢◌, ℕ, ◌+◌, ◌-◌, ◌^◌, ◌≤◌, ◌<◌, Bool, true, false, IsTrue, List, [], length, Result, IfOk, IfErr, OnOk, OnErr, Ok, Err, Some, None, IfSome};
 ghost use Rattle.age_error.specs.Refusals.{IsDevice, IsInterruption};
 ghost use Rattle.age_error.specs.declared.io.Error.TheVariants.{OutOfMemory, BeforeStart, PastEnd, TooLong};
 ghost use Rattle.age_error.specs.declared.io.SeekFrom.TheVariants.{Start, End, Current};
-ghost use Rattle.age_io.specs.Stretch.{Stretch, nothing, from_place, IsCleanEnd};
-ghost use Rattle.age_io.specs.Reading.{IsQuiet, AddsNoReason, TriedAgain, most_faults};
+ghost use Rattle.age_io.specs.Stretch.{Stretch, nothing, from_place};
+ghost use Rattle.age_io.specs.Reading.{IsQuiet, TriedAgain, most_faults};
 ghost use Rattle.age_io.specs.Keeping.{OrSeek};
 ghost use Rattle.age_io.specs.Failing.{FailsForGood};
 ghost use Rattle.age_io.specs.Cursor.{Seeks, IsOutside, IsSeekRefusal, place_at as place_by, sought as sought_by};
@@ -162,7 +162,7 @@ impl<R: BufRead> ArmoredReader<R> {
 }
 
 impl<R: BufRead + Seek> ArmoredReader<R> {
-    ghost use Rattle.age_armor.specs.Reader.{inner_of, furthest_of, armored_content};
+    ghost use Rattle.age_armor.specs.Reader.{furthest_of, armored_content};
     ghost use Rattle.age_armor.specs.Steps.{WhereSteady, KeepsText, Reaches, Misses, FindsEnd, SparesReading, StaysThere};
 
     // Whether a reader that has begun, and hasn't failed, stands at a place.
@@ -272,7 +272,7 @@ impl<R: BufRead + Seek> ArmoredReader<R> {
 }
 
 impl<R: BufRead> ArmoredReader<R> {
-    ghost use Rattle.age_armor.specs.Reader.{inner_of, has_failed, armored_content, armored_rest};
+    ghost use Rattle.age_armor.specs.Reader.{inner_of, armored_content, armored_rest};
 
     // A reader that has failed, at this place of the content.
     #[tactic(auto, using(crate::proofs::Ahead::rest_failed))]
@@ -291,7 +291,7 @@ impl<R: BufRead> ArmoredReader<R> {
 }
 
 impl<R: BufRead + Seek> ArmoredReader<R> {
-    ghost use Rattle.age_armor.specs.Reader.{inner_of, has_failed, text_of, outcome_of, text_outcome_of, lines_of, marks_of, furthest_of, notes_all, knows_end, armored_content, place_of, armored_rest, shown_of};
+    ghost use Rattle.age_armor.specs.Reader.{inner_of, has_failed, text_outcome_of, armored_content, place_of};
     ghost use Rattle.age_armor.specs.Steps.{WhereSteady, KeepsText, EndsAsText, FindsEnd, TakesFew};
 
     // Back to where it stood, once a seek was refused. After any other error it has failed there, and so has one that had
@@ -380,7 +380,7 @@ impl<R: BufRead + Seek> ArmoredReader<R> {
 }
 
 impl<R: BufRead + Seek> Seek for ArmoredReader<R> {
-    ghost use Rattle.age_armor.specs.Reader.{inner_of, has_failed, text_of, outcome_of, text_outcome_of, lines_of, marks_of, furthest_of, notes_all, knows_end, armored_content, place_of, armored_rest, shown_of};
+    ghost use Rattle.age_armor.specs.Reader.{inner_of, has_failed, text_of, outcome_of, text_outcome_of, lines_of, marks_of, furthest_of, notes_all, knows_end, armored_content, place_of, shown_of};
 
     ghost seek_refuses = { OrAstray R.Seek.seek_refuses };
 
