@@ -1,5 +1,5 @@
 -- The steps of a seek in armor, one after the other.
-use Rattle.std.proofs.Common.{◌≡◌, ◌≢◌, ◌∙◌, ◌-◌, ◌<◌, ◌≤◌, ℕ, ℤ, false, IsTrue, length, Result, Ok, Err, arith, ap, sym, subst, refl, inl, inr}
+use Rattle.std.proofs.Common.{◌^◌, ◌≡◌, ◌≢◌, ◌∙◌, ◌-◌, ◌<◌, ◌≤◌, ℕ, ℤ, false, IsTrue, length, Result, Ok, Err, arith, ap, sym, subst, refl, inl, inr}
 use Rattle.std.proofs.lemmas.Bool.{cases_Bool, true≢false}
 use Rattle.std.proofs.lemmas.Result.{IfOk-weaker, IfErr-weaker, on_ok_weaker}
 use Rattle.age_error.specs.Refusals.{IsDevice, IsInterruption}
@@ -20,12 +20,12 @@ use Rattle.age_armor.specs.Stages.{IsNamed, is_start}
 use Rattle.age_armor.specs.ReaderLaws.{well_inner}
 use Rattle.age_armor.specs.Seeking.{Goes, OrAstray, AsksPast, SeeksText, ComesBack}
 use Rattle.age_armor.specs.Reader.{outcome_of, text_outcome_of, armored_reader, armored_content, armored_rest, refuses_of}
-use Rattle.age_armor.specs.Steps.{WhereSteady, KeepsText, EndsAsBefore, EndsAsText, Stands, WalksAlong, Reaches, Misses, FindsEnd, StaysThere, SparesReading, TakesFew}
+use Rattle.age_armor.specs.Steps.{WhereTold, WhereSteady, KeepsText, EndsAsBefore, EndsAsText, Stands, WalksAlong, Reaches, Misses, FindsEnd, StaysThere, SparesReading, TakesFew}
 use Rattle.age_armor.proofs.Keeping.{gone, goes-later, goes-seeking, goes-unrefused, armor-plain, seeks-plain, text-later}
 use Rattle.age_armor.proofs.OwnEndings.{still_named}
 use Rattle.age_armor.proofs.Taking.{quiet_after}
 use Rattle.age_armor.proofs.Walking.{ends_at}
-use Rattle.age_armor.proofs.Aiming.{clean-unnamed, moved-within, within-moved, quiet-first, refusal_or_not, refusal-device, refusal-interruption, seeks-refused}
+use Rattle.age_armor.proofs.Aiming.{from-end, clean-unnamed, moved-within, within-moved, quiet-first, refusal_or_not, refusal-device, refusal-interruption, seeks-refused}
 
 module _ {R : Type 0} {buf : buffered.Ghosts R} {read : Ghosts R} where
   pub ends-later : (a b c : ArmoredReader R buf read) → SameReader armored_reader a b → KeepsText a b → EndsAsText b c → EndsAsText a c
@@ -106,9 +106,17 @@ module _ {R : Type 0} {buf : buffered.Ghosts R} {read : Ghosts R} where
   came-stands a b came = record { good = came.good; rest = came.stands; ending = came.ending }
 
   -- its clean end is that of what the text carries
-  pub came-out : (a b : ArmoredReader R buf read) → Came a b → IsTrue (read.tells a.source.inner) → IsTrue (read.steady a.source.inner) → IsCleanEnd (armored_rest b) →
-      IsTrue (armored_content a).ends_well × (b.place ≡ length (armored_content a).bytes)
-  came-out a b came told steady clean = ends_at (armored_content a) (armored_rest b) b.place (came.stands told steady) clean (came.within told steady)
+  pub came-end : (a b : ArmoredReader R buf read) → Came a b → WhereTold a (IsCleanEnd (armored_rest b)) →
+      WhereSteady a (IsTrue (armored_content a).ends_well × (b.place ≡ length (armored_content a).bytes))
+  came-end a b came clean told steady = ends_at (armored_content a) (armored_rest b) b.place (came.stands told steady) (clean told) (came.within told steady)
+
+  -- there the length is known, and with it the target at a distance from it, which is written in another way
+  pub found-end : (a b : ArmoredReader R buf read) (d e : ℤ) (r answer : Result ℕ Error) → Came a b →
+      WhereSteady a (IsTrue (armored_content a).ends_well × (b.place ≡ length (armored_content a).bytes)) → d ≡ e →
+      (b.place < 2 ^ 63 → (place : ℕ) → r ≡ sought (End d) place b.place) → r ≡ answer →
+      WhereSteady a (sought (End e) a.place (length (armored_content a).bytes) ≡ answer)
+  found-end a b d e r answer came end same exact is told steady =
+      subst (λ n. sought (End e) a.place n ≡ answer) (end told steady).1 (from-end d e b.place r answer same (exact (b.fits (came.same.tells ∙ told))) is a.place)
 
   -- the walk refused
   pub walk-goes : {A B : Type 0} {x : A} (below : Error → Type 0) (a b c : ArmoredReader R buf read) (e answer : Error) →

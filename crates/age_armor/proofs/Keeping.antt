@@ -20,6 +20,8 @@ use Rattle.age_armor.specs.Seeking.{Goes, OrAstray}
 use Rattle.age_armor.proofs.Ahead.{length_held, rest_gone}
 use Rattle.age_armor.proofs.Refusing.{failed-or-kept, plain-narrows, text-patient, text-narrows}
 use Rattle.age_io.specs.Failing.{FailsForGood}
+use Rattle.age_io.specs.Filling.{Fills}
+use denote.Ref.{Bor}
 use Rattle.age_armor.specs.Delivered.{Ending, begins_armor}
 use Rattle.age_armor.specs.Ending.{KeepsEnding}
 use Rattle.age_armor.specs.Marks.{LearnsMore}
@@ -259,24 +261,24 @@ module _ {R : Type 0} {buf : buffered.Ghosts R} {read : Ghosts R} where
     unspent = omega (arith, ap (λ s. read.faults s.inner) source, goes.unspent);
   }
 
-  pub reads-done : (a b : ArmoredReader R buf read) (into : List ℕ) (n : ℕ) → Goes armored_reader refuses_of a b (Ok n) → n ≤ length into →
-      WhereTold a (Delivers (take n into) (armored_rest a) (armored_rest b)) →
-      WhereTold a (b.place ≡ a.place + n) → WhereTold a (n ≡ 0 → IsCleanEnd (armored_rest a)) →
+  pub reads-done : (a b : ArmoredReader R buf read) (into : List ℕ) (n : ℕ) → KeepsReader armored_reader refuses_of a b (Ok n) →
+      (0 < length into → read.faults b.source.inner < most_faults) → n ≤ length into → WhereTold a (Delivers (take n into) (armored_rest a) (armored_rest b)) →
+      WhereTold a (b.place ≡ a.place + n) → WhereTold a (n ≡ 0 → 0 < length into → IsCleanEnd (armored_rest a)) →
       Reads armored_reader.tells armored_reader.steady armored_reader.content armored_reader.place armored_reader.rest armored_reader.faults refuses_of a b into (Ok n)
-  reads-done a b into n goes count bytes moves end = record {
+  reads-done a b into n keeps few count bytes moves end = record {
     count = count;
-    same_tells = goes.keeps.same.tells;
-    same_steady = goes.keeps.same.steady;
-    no_fewer_faults = goes.keeps.same.faults;
+    same_tells = keeps.same.tells;
+    same_steady = keeps.same.steady;
+    no_fewer_faults = keeps.same.faults;
     device = tt;
-    unspent = λ some. goes.unspent;
+    unspent = few;
     why = tt;
-    narrows = armor-plain a b goes.keeps.narrows;
+    narrows = armor-plain a b keeps.narrows;
     again = tt;
-    same_content = goes.keeps.same.content;
+    same_content = keeps.same.content;
     bytes = bytes;
     moves = moves;
-    end = λ told none some. end told none;
+    end = end;
     stays = λ told. tt;
     left = λ told. tt;
     interrupted = λ told. tt;
@@ -302,6 +304,29 @@ module _ {R : Type 0} {buf : buffered.Ghosts R} {read : Ghosts R} where
     moves = λ told. tt;
     end = λ told. tt;
     stays = λ told. stays;
+    left = λ told. inr (gone b fails);
+    interrupted = λ told again. absurd (goes.keeps.patient again);
+    cause = cause;
+  }
+
+  pub fills-failed : {A : Type 0} {shown : ArmoredReader R buf read → List ℕ} {besides : ArmoredReader R buf read → ArmoredReader R buf read → Result (Bor (List ℕ)) Error → Type 0}
+      (a b : ArmoredReader R buf read) (e : Error) → Goes {A = A} armored_reader refuses_of a b (Err e) → b.place ≡ a.place → b.failed ≡ true →
+      WhereTold a (e ≢ OutOfMemory → IsQuiet (read.faults a.source.inner) (read.faults b.source.inner) → IsFault (armored_rest a)) → besides a b (Err e) →
+      Fills armored_reader.tells armored_reader.steady armored_reader.content armored_reader.place armored_reader.rest armored_reader.faults refuses_of shown besides a b (Err e)
+  fills-failed a b e goes stays fails cause own = record {
+    same_tells = goes.keeps.same.tells;
+    same_steady = goes.keeps.same.steady;
+    no_fewer_faults = goes.keeps.same.faults;
+    device = goes.keeps.device;
+    unspent = tt;
+    why = goes.keeps.why;
+    narrows = tt;
+    again = λ again. absurd (goes.keeps.patient again);
+    shows = tt;
+    own = own;
+    same_content = goes.keeps.same.content;
+    stays = λ told. stays;
+    same_rest = λ told. tt;
     left = λ told. inr (gone b fails);
     interrupted = λ told again. absurd (goes.keeps.patient again);
     cause = cause;

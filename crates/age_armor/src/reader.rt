@@ -296,7 +296,8 @@ impl<R: BufRead> ArmoredReader<R> {
         ensures good { FailsForGood (has_failed self.old) (has_failed self.new) result }
         ensures ending { EndsAsBefore self.old self.new result }
         ensures text { KeepsText self.old self.new }
-        ensures stays { StaysBinary self.old self.new }
+        ensures binary { StaysBinary self.old self.new }
+        ensures stays { OnErr result (self.new.place ≡ self.old.place) }
         ensures knows { IfOk result (λ n. n ≡ 0 → IsTrue (knows_end self.new)) }
     {
         match self.source.read(buf) {

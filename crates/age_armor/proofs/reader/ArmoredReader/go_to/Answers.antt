@@ -1,17 +1,17 @@
 use Rattle.std.proofs.Common.{◌+◌, ◌*◌, ◌≡◌, ◌∙◌, ◌≤◌, ◌<◌, arith, length, ap, sym, subst, refl, inl, inr}
 use Rattle.std.proofs.lemmas.Bool.{cases_Bool}
-use Rattle.age_io.specs.Stretch.{from_place}
+use Rattle.age_io.specs.Stretch.{from_place, IsCleanEnd}
 use Rattle.age_io.proofs.Keeping.{keeps-done, same-self}
 use Rattle.age_error.specs.declared.io.Error.TheVariants.{PastEnd}
 use Rattle.age_error.specs.declared.io.SeekFrom.TheVariants.{Start}
 use Rattle.age_armor.specs.Delivered.{begins_armor}
 use Rattle.age_armor.specs.Stages.{is_start}
 use Rattle.age_armor.specs.Steps.{WhereTold, WhereSteady}
-use Rattle.age_armor.specs.Reader.{armored_reader, text_of, armored_content}
+use Rattle.age_armor.specs.Reader.{armored_reader, text_of, armored_content, armored_rest}
 use Rattle.age_armor.proofs.Aiming.{moved-within, moved-past}
 use Rattle.age_armor.proofs.Keeping.{goes-passed, goes-refused, armor-plain, text-still, text-later}
 use Rattle.age_armor.proofs.Pacing.{known_length, some_length}
-use Rattle.age_armor.proofs.Going.{reaches-none, misses-none, misses-own, spares-own, stays-none, came-on, came-goes, came-stands, came-out, walk-goes, walk-misses}
+use Rattle.age_armor.proofs.Going.{reaches-none, misses-none, misses-own, spares-own, stays-none, came-on, came-goes, came-stands, came-end, walk-goes, walk-misses}
 use Rattle.age_armor.proofs.reader.ArmoredReader.go_to.Goals as goal
 
 -- ---- where nothing is read
@@ -96,6 +96,8 @@ returns-else-there g c =
     let first = c.in-Ok.ensures in
     let last = c.in-Ok-walk.ensures in
     let came = came-on before c.approach.new.self new c.args.target first.goes first.text first.stands last.goes last.text last.good.good last.along last.ending new.inside in
+    let ends : WhereTold before (IsCleanEnd (armored_rest new) × (new.place < c.args.target)) = λ told. last.comes.end (first.goes.keeps.same.tells ∙ told) c.if-there.false in
+    let end = came-end before new came (λ told. (ends told).0) in
     let len = length (armored_content before).bytes in
     record {
       goes = goes-refused armored_reader _ before new new PastEnd came.same (same-self _ new) (λ device. device) (inl (inl tt));
@@ -104,20 +106,16 @@ returns-else-there g c =
       misses = record {
         missed = λ refusal. armor-plain before new came.narrows;
         refused = λ told steady refusal.
-            let end = last.comes.end (first.goes.keeps.same.tells ∙ told) c.if-there.false in
-            let out = came-out before new came told steady end.0 in
-            let at : new.place ≡ len = out.1 in
-            (out.0, moved-past c.args.target len (omega (arith, at, end.1)));
+            let out = end told steady in
+            (out.0, moved-past c.args.target len (omega (arith, out.1, (ends told).1)));
         named = λ told well own. absurd (own tt);
       };
       spares = record {
         lines = λ told steady noting near. tt;
         outside = λ told steady known refusal.
-            let end = last.comes.end (first.goes.keeps.same.tells ∙ told) c.if-there.false in
-            let at : new.place ≡ len = (came-out before new came told steady end.0).1 in
             let some = some_length before.marks.length known in
             let is = (before.known told).end some.0 some.1 steady in
-            absurd (omega (arith, at, end.1, is.same, c.ends_before.ensures.no c.if-ends_before.false some.0 some.1));
+            absurd (omega (arith, (end told steady).1, (ends told).1, is.same, c.ends_before.ensures.no c.if-ends_before.false some.0 some.1));
       };
       stays = stays-none _ _ _ _ (c.is_at.ensures.no c.if-is_at.false);
     }

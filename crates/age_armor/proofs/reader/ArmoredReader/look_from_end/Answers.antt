@@ -1,15 +1,14 @@
-use Rattle.std.proofs.Common.{◌≡◌, ◌∙◌, ◌<◌, ◌^◌, ℕ, Ok, Err, arith, to_z-of_z, w64, length, subst, sym, refl, inl, inr, IsTrue}
+use Rattle.std.proofs.Common.{◌∙◌, Ok, Err, arith, to_z-of_z, w64, length, sym, refl, inl, inr}
 use Rattle.std.proofs.lemmas.Result.{on_ok_weaker}
 use Rattle.age_error.specs.declared.io.Error.TheVariants.{TooLong}
 use Rattle.age_error.specs.declared.io.SeekFrom.TheVariants.{End}
-use Rattle.age_io.specs.Cursor.{sought, target}
+use Rattle.age_io.specs.Cursor.{target}
 use Rattle.age_io.proofs.Keeping.{same-self}
 use Rattle.age_armor.specs.Seeking.{OrAstray}
-use Rattle.age_armor.specs.Steps.{WhereTold, WhereSteady}
 use Rattle.age_armor.specs.Reader.{armored_reader, armored_content}
 use Rattle.age_armor.proofs.Keeping.{goes-passed, goes-later, goes-refused, armor-plain, seeks-plain, text-later}
-use Rattle.age_armor.proofs.Aiming.{moved-refusal, from-end}
-use Rattle.age_armor.proofs.Going.{reaches-none, reaches-end, misses-none, misses-own, misses-end, finds-none, came-on, came-goes, came-stands, came-out, walk-goes, walk-misses}
+use Rattle.age_armor.proofs.Aiming.{moved-refusal}
+use Rattle.age_armor.proofs.Going.{reaches-none, reaches-end, misses-none, misses-own, misses-end, finds-none, came-on, came-goes, came-stands, came-end, found-end, walk-goes, walk-misses}
 use Rattle.age_armor.proofs.reader.ArmoredReader.look_from_end.Goals as goal
 
 pub returns-in-Err : goal.returns-in-Err
@@ -65,9 +64,8 @@ returns-in-Err-from_end g c =
     let last = c.in-Ok-walk.ensures in
     let e = c.in-Err-from_end.e in
     let came = came-on before c.approach.new.self new _ first.goes first.text first.stands last.goes last.text last.good.good last.along last.ending new.inside in
-    let answer : WhereTold before ((place : ℕ) → sought (End c.args.distance) place new.place ≡ Err e) = λ told.
-    let fits : new.place < 2 ^ 63 = new.fits (came.same.tells ∙ told) in
-    from-end _ c.args.distance new.place _ (Err e) (to_z-of_z {w = w64} c.ranges.distance) (c.from_end.ensures.exact fits) c.in-Err-from_end.is in
+    let end = came-end before new came (λ told. (last.comes.end (first.goes.keeps.same.tells ∙ told) c.if-there.false).0) in
+    let found = found-end before new _ c.args.distance _ (Err e) came end (to_z-of_z {w = w64} c.ranges.distance) c.from_end.ensures.exact c.in-Err-from_end.is in
     record {
       goes = goes-refused armored_reader _ before new new e came.same (same-self _ new) c.in-Err-from_end.ensures.other
           (elim c.in-Err-from_end.ensures.why [ inl out ↦ inl (inl out) | inr long ↦ inl (inr (inl long)) ]);
@@ -75,10 +73,10 @@ returns-in-Err-from_end g c =
       reaches = reaches-none _ _ _ _;
       misses = record {
         missed = λ refusal. armor-plain before new came.narrows;
-        refused = λ told steady refusal.
-            let out = came-out before new came told steady (last.comes.end (first.goes.keeps.same.tells ∙ told) c.if-there.false).0 in
-            (out.0, subst (λ n. sought (End c.args.distance) before.place n ≡ Err e) out.1 (answer told before.place));
-        named = λ told well own other quiet. absurd (own (moved-refusal (target (End c.args.distance) 0 new.place) new.place e (answer told 0)));
+        refused = λ told steady refusal. ((end told steady).0, found told steady);
+        named = λ told well own other quiet.
+            let len = length (armored_content before).bytes in
+            absurd (own (moved-refusal (target (End c.args.distance) before.place len) len e (found told (g.met.R.Read.well before.source.inner told well))));
       };
       finds = finds-none _ _ _;
     }
@@ -91,8 +89,8 @@ returns-then-target-len g c =
     let last = c.in-Ok-walk.ensures in
     let aim = c.in-Ok-from_end.target in
     let came = came-on before c.approach.new.self new _ first.goes first.text first.stands last.goes last.text last.good.good last.along last.ending new.inside in
-    let out : WhereSteady before (IsTrue (armored_content before).ends_well × (new.place ≡ length (armored_content before).bytes)) = λ told steady.
-    came-out before new came told steady (last.comes.end (first.goes.keeps.same.tells ∙ told) c.if-there.false).0 in
+    let end = came-end before new came (λ told. (last.comes.end (first.goes.keeps.same.tells ∙ told) c.if-there.false).0) in
+    let found = found-end before new _ c.args.distance _ (Ok aim) came end (to_z-of_z {w = w64} c.ranges.distance) c.from_end.ensures.exact c.in-Ok-from_end.is in
     record {
       goes = came-goes before new came;
       text = came.text;
@@ -100,13 +98,10 @@ returns-then-target-len g c =
         stands = came-stands before new came;
         there = tt;
         place = λ told. sym c.if-target-len.true;
-        exact = λ told steady.
-            let fits : new.place < 2 ^ 63 = new.fits (came.same.tells ∙ told) in
-            subst (λ n. sought (End c.args.distance) before.place n ≡ Ok aim) (out told steady).1
-            (from-end _ c.args.distance new.place _ (Ok aim) (to_z-of_z {w = w64} c.ranges.distance) (c.from_end.ensures.exact fits) c.in-Ok-from_end.is before.place);
+        exact = found;
       };
       misses = misses-none _ _ _ _;
-      finds = record { well = λ told steady. (out told steady).0; knows = last.comes.knows c.if-there.false };
+      finds = record { well = λ told steady. (end told steady).0; knows = last.comes.knows c.if-there.false };
     }
 
 pub returns-else-target-len : goal.returns-else-target-len
@@ -120,19 +115,15 @@ returns-else-target-len g c =
     let aim = c.in-Ok-from_end.target in
     let came = came-on before c.approach.new.self new _ first.goes first.text first.stands last.goes last.text last.good.good last.along last.ending new.inside in
     let plain = armor-plain before new came.narrows in
-    let out : WhereSteady before (IsTrue (armored_content before).ends_well × (new.place ≡ length (armored_content before).bytes)) = λ told steady.
-    came-out before new came told steady (last.comes.end (first.goes.keeps.same.tells ∙ told) c.if-there.false).0 in
-    let found : WhereSteady before (sought (End c.args.distance) before.place (length (armored_content before).bytes) ≡ Ok aim) = λ told steady.
-    let fits : new.place < 2 ^ 63 = new.fits (came.same.tells ∙ told) in
-    subst (λ n. sought (End c.args.distance) before.place n ≡ Ok aim) (out told steady).1
-    (from-end _ c.args.distance new.place _ (Ok aim) (to_z-of_z {w = w64} c.ranges.distance) (c.from_end.ensures.exact fits) c.in-Ok-from_end.is before.place) in
+    let end = came-end before new came (λ told. (last.comes.end (first.goes.keeps.same.tells ∙ told) c.if-there.false).0) in
+    let found = found-end before new _ c.args.distance _ (Ok aim) came end (to_z-of_z {w = w64} c.ranges.distance) c.from_end.ensures.exact c.in-Ok-from_end.is in
     record {
       goes = goes-later _ _ _ before new after came.same came.narrows (seeks-plain (OrAstray g.R.Seek.seek_refuses) before new came.narrows) now.goes;
       text = text-later before new after came.same came.text now.text;
       reaches = reaches-end before new after c.args.distance aim c.go_to.result came.same came.text found now.reaches;
       misses = misses-end before new after c.args.distance aim c.go_to.result (g.met.R.Read.well before.source.inner) came.same came.text plain found now.goes now.misses;
       finds = record {
-        well = λ told steady. on_ok_weaker c.go_to.result (λ good. (out told steady).0) now.reaches.stands.good;
+        well = λ told steady. on_ok_weaker c.go_to.result (λ good. (end told steady).0) now.reaches.stands.good;
         knows = on_ok_weaker c.go_to.result (λ good. now.text.learns.end (last.comes.knows c.if-there.false)) now.reaches.stands.good;
       };
     }

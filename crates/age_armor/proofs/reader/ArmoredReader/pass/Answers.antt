@@ -102,22 +102,24 @@ returns-in-Ok g c =
     let after = c.read.new.self in
     let good = c.requires.good in
     let binary = c.requires.binary in
+    let goes = armored-done {y = c.in-Ok.count} _ _ _ now.kept.keeps now.kept.origin now.kept.unspent good in
     record {
-      reads = reads-done _ _ _ _ (armored-done _ _ _ now.kept.keeps now.kept.origin now.kept.unspent good) now.count
+      reads = reads-done _ _ _ _ goes.keeps (λ some. goes.unspent) now.count
           (λ told. pass_delivers before.failed before.bytes _ before.given before.filled before.stage _ _ good binary (all_held before) c.requires.given (now.bytes told))
           (λ told.
           let told_now : IsTrue (reader.tells after.inner) = now.kept.keeps.same.tells ∙ told in
           omega (arith, c.saturating_add-self.ensures, before.counted told good, now.taken told, after.behind told_now, g.met.R.Read.place_fits after.inner told_now))
-          (λ told none. pass_end before.failed before.bytes before.given before.filled before.stage _ good binary (all_held before) c.requires.given (now.end told none));
+          (λ told none some. pass_end before.failed before.bytes before.given before.filled before.stage _ good binary (all_held before) c.requires.given (now.end told none));
       good = good-done _ _ good good;
       ending = record { same = λ told. pass_ending before.bytes _ before.given before.filled before.stage _ _ binary (now.bytes told); named = λ told fine. tt };
       text = text-moved _ _ now.kept.keeps.same now.kept.origin c.learn.ensures.more (omega (arith, now.lines));
-      stays = record {
+      binary = record {
         stage = binary;
         shown = shown_none before.failed before.bytes before.given before.filled (all_held before) c.requires.given;
         holds = (refl, refl);
         lines = now.lines;
       };
+      stays = tt;
       knows = λ none. ap is_known (c.learn.ensures.ends none);
     }
 
@@ -136,11 +138,12 @@ returns-in-Err g c =
         named = λ told fine other quiet. pass_named before.bytes before.given before.filled before.stage _ c.in-Err.e binary (now.cause told other quiet);
       };
       text = text-moved _ _ now.kept.keeps.same now.kept.origin (learns_none _ _ refl) (omega (arith, now.lines));
-      stays = record {
+      binary = record {
         stage = binary;
         shown = shown_none before.failed before.bytes before.given before.filled (all_held before) c.requires.given;
         holds = (refl, refl);
         lines = now.lines;
       };
+      stays = refl;
       knows = tt;
     }

@@ -20,35 +20,35 @@ returns-then-is_passing g c =
     let after = c.pass.new.self in
     let now = c.pass.ensures in
     let passing = c.is_passing.ensures c.if-is_passing.true in
-    let bare : is_armored after.stage ≡ false = ap is_armored now.stays.stage in
+    let bare : is_armored after.stage ≡ false = ap is_armored now.binary.stage in
     record {
       reads = now.reads;
       good = now.good;
       ending = now.ending;
       same_text = now.text.same_text;
       fills = record {
-        held = λ some. absurd (omega (arith, ap length now.stays.shown, some));
+        held = λ some. absurd (omega (arith, ap length now.binary.shown, some));
         line = λ armored. absurd (true≢false (sym armored ∙ bare));
         form = λ told steady.
             let same = same-read armored_reader before after now.reads in
-            on_ok_weaker c.pass.result (λ good. form-found before after same now.text (ap is_start now.stays.stage) told steady) now.good.good;
+            on_ok_weaker c.pass.result (λ good. form-found before after same now.text (ap is_start now.binary.stage) told steady) now.good.good;
         beyond = λ armored. absurd (true≢false (sym armored ∙ bare));
         untouched = λ armored. absurd (true≢false (sym armored ∙ bare));
         spared = λ told steady armor. binary_form before.stage (text_of before) passing.0 (before.form told steady (ap is_start passing.0)) armor;
       };
       counts = λ told. on_if c.pass.result _ _ (λ n moves. record {
         held = λ some. absurd (omega (arith, some, passing.1));
-        more = (omega (arith, now.stays.lines), omega (arith, now.stays.lines));
-        full = λ none full. not_binary (sym now.stays.stage ∙ full);
-        bare = λ is. now.stays.lines;
-        begun = ap is_start now.stays.stage;
+        more = (omega (arith, now.binary.lines), omega (arith, now.binary.lines));
+        full = λ none full. not_binary (sym now.binary.stage ∙ full);
+        bare = λ is. now.binary.lines;
+        begun = ap is_start now.binary.stage;
         on = omega (arith, moves);
       }) (now.reads.moves told);
       learns = record {
         more = now.text.learns;
         reaches = λ told. on_ok_weaker c.pass.result (λ good. reached after (now.reads.same_tells ∙ told) good) now.good.good;
-        lines = (now.text.counts, omega (arith, now.stays.lines));
-        bare = λ told steady plain. on_ok_weaker c.pass.result (λ good. now.stays.lines) now.good.good;
+        lines = (now.text.counts, omega (arith, now.binary.lines));
+        bare = λ told steady plain. on_ok_weaker c.pass.result (λ good. now.binary.lines) now.good.good;
       };
       knows = now.knows;
     }
@@ -91,10 +91,10 @@ returns-in-Ok g c =
     let size = held_shown held now.good.good in
     let form = form-found before held back now.text now.holds.begun in
     record {
-      reads = reads-done before after c.give.new.buf n goes (omega (arith, given.count, c.give.auto.buf))
+      reads = reads-done before after c.give.new.buf n goes.keeps (λ some. goes.unspent) (omega (arith, given.count, c.give.auto.buf))
           (λ told. subst (λ s. Delivers (take n c.give.new.buf) s left) (now.holds.rest told) given.bytes)
           (λ told. omega (arith, given.moves (back.tells ∙ told), now.holds.place))
-          (λ told none. now.holds.end told (omega (arith, none, given.count, held.order, c.requires.some)));
+          (λ told none some. now.holds.end told (omega (arith, none, given.count, held.order, c.requires.some)));
       good = good-done _ _ c.requires.good given.reads.fresh;
       ending = record { same = λ told. given.reads.ending ∙ now.ending.same told; named = λ told good. tt };
       same_text = text.same_text;

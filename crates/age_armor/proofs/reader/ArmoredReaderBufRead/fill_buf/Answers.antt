@@ -1,89 +1,52 @@
-use Rattle.std.proofs.Common.{◌∙◌, arith, length, refl, ap, sym, subst, inl, inr}
+use Rattle.std.proofs.Common.{ℕ, ◌∙◌, arith, length, refl, ap, sym, subst, inl}
 use Rattle.std.proofs.lemmas.Bool.{true≢false}
+use Rattle.age_error.specs.declared.io.Error.TheVariants.{Failed}
+use Rattle.age_io.proofs.Keeping.{same-self}
+use Rattle.age_armor.specs.Reader.{armored_reader}
 use Rattle.age_io.specs.Filling.{IsFront}
 use Rattle.age_armor.proofs.Ahead.{fault_gone}
-use Rattle.age_armor.proofs.Keeping.{form-found, fails-passed, ends-passed, good-done, learned, armor-plain, gone, held_shown}
+use Rattle.age_armor.proofs.Keeping.{fills-failed, goes-refused, form-found, fails-passed, ends-passed, good-done, learned, armor-plain, held_shown}
 use Rattle.age_armor.proofs.Pacing.{learns_none}
 use Rattle.age_armor.specs.Delivered.{delivered}
 use Rattle.age_armor.proofs.reader.ArmoredReaderBufRead.fill_buf.Goals as goal
 
 pub returns-then-self : goal.returns-then-self
 returns-then-self g c =
-    let before = c.args.self.now in (
+    let before = c.args.self.now in
+    let failed = c.if-self.true in (
       (
         refl,
         λ r. tt,
-        record {
-          same_tells = refl;
-          same_steady = refl;
-          no_fewer_faults = omega arith;
-          device = λ device. absurd device;
-          unspent = tt;
-          why = inl (c.if-self.true, refl);
-          narrows = tt;
-          again = λ again. absurd again;
-          shows = tt;
-          own = (
-            record {
-              failed = λ gone. refl;
-              fails = c.if-self.true;
-              good = tt;
-              patient = λ again. absurd again;
-            },
-            record {
-              same = λ told. tt;
-              named = λ told good. absurd (true≢false (sym c.if-self.true ∙ good));
-            },
-            λ told. refl,
-            λ told. refl,
-            λ told steady. tt,
-            record { more = learns_none _ _ refl; reaches = λ told. tt; lines = (omega arith, omega arith); bare = λ told steady plain. tt },
-            tt,
-          );
-          same_content = λ told. refl;
-          stays = λ told. refl;
-          same_rest = λ told. tt;
-          left = λ told. inl refl;
-          interrupted = λ told again. absurd again;
-          cause = λ told other quiet. fault_gone before.failed before.bytes before.given before.filled before.stage (g.R.Read.rest before.source.inner) c.if-self.true;
-        },
+        fills-failed before before Failed
+            (goes-refused armored_reader {T = ℕ} _ before before before Failed (same-self _ before) (same-self _ before) (λ device. device) (inl (failed, refl))) refl failed
+            (λ told other quiet. fault_gone before.failed before.bytes before.given before.filled before.stage (g.R.Read.rest before.source.inner) failed) (
+              record { failed = λ had. refl; fails = failed; good = tt; patient = λ again. again },
+              record { same = λ told. tt; named = λ told good. absurd (true≢false (sym failed ∙ good)) },
+              λ told. refl,
+              λ told. refl,
+              λ told steady. tt,
+              record { more = learns_none _ _ refl; reaches = λ told. tt; lines = (omega arith, omega arith); bare = λ told steady plain. tt },
+              tt,
+            ),
       ),
       record { front = λ told. tt; end = λ told. tt; after = tt },
     )
 
 pub returns-in-Err : goal.returns-in-Err
 returns-in-Err g c =
-    let now = c.in-Err.ensures in
-    let after = c.hold.new.self in (
+    let now = c.in-Err.ensures in (
       (
         refl,
         λ r. tt,
-        record {
-          same_tells = now.goes.keeps.same.tells;
-          same_steady = now.goes.keeps.same.steady;
-          no_fewer_faults = now.goes.keeps.same.faults;
-          device = now.goes.keeps.device;
-          unspent = tt;
-          why = now.goes.keeps.why;
-          narrows = tt;
-          again = λ again. absurd (now.goes.keeps.patient again);
-          shows = tt;
-          own = (
-            fails-passed _ _ c.in-Err.e now.good,
-            ends-passed _ _ _ _ _ _ c.in-Err.e now.ending,
-            λ told. ap (λ t. delivered t.bytes t.ends_well) (now.text.same_text told),
-            now.text.same_text,
-            λ told steady. tt,
-            record { more = now.text.learns; reaches = λ told. tt; lines = (now.text.counts, now.lines); bare = λ told steady plain. tt },
-            tt,
-          );
-          same_content = now.goes.keeps.same.content;
-          stays = λ told. now.holds.place;
-          same_rest = λ told. tt;
-          left = λ told. inr (gone after now.good.fails);
-          interrupted = λ told again. absurd (now.goes.keeps.patient again);
-          cause = now.cause;
-        },
+        fills-failed c.args.self.now c.hold.new.self c.in-Err.e now.goes now.holds.place now.good.fails now.cause (
+          fails-passed _ _ c.in-Err.e now.good,
+          ends-passed _ _ _ _ _ _ c.in-Err.e now.ending,
+          λ told. ap (λ t. delivered t.bytes t.ends_well) (now.text.same_text told),
+          now.text.same_text,
+          λ told steady. tt,
+          record { more = now.text.learns; reaches = λ told. tt; lines = (now.text.counts, now.lines); bare = λ told steady plain. tt },
+          tt,
+        ),
       ),
       record { front = λ told. tt; end = λ told. tt; after = tt },
     )

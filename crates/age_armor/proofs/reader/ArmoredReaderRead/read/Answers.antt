@@ -1,11 +1,11 @@
 use Rattle.std.proofs.Common.{ℕ, ◌≡◌, ◌∙◌, arith, refl, ap, sym, inl, length}
 use Rattle.std.proofs.lemmas.Bool.{true≢false, eqb-true, eqb-false}
 use Rattle.age_error.specs.declared.io.Error.TheVariants.{Failed}
-use Rattle.age_io.proofs.Keeping.{same-self}
+use Rattle.age_io.proofs.Keeping.{keeps-done, same-self}
 use Rattle.age_armor.specs.Delivered.{delivered}
 use Rattle.age_armor.specs.Reader.{armored_reader}
 use Rattle.age_armor.proofs.Ahead.{fault_gone, shown_small}
-use Rattle.age_armor.proofs.Keeping.{text-still, reads-failed, learned, goes-refused}
+use Rattle.age_armor.proofs.Keeping.{text-still, reads-done, reads-failed, learned, goes-refused}
 use Rattle.age_armor.proofs.Pacing.{learns_none}
 use Rattle.age_armor.proofs.reader.ArmoredReaderRead.read.Goals as goal
 
@@ -38,25 +38,8 @@ returns-then-is_empty g c =
     let good = c.if-self.false in
     let none : length c.args.buf.now ≡ 0 = eqb-true (length c.args.buf.now) 0 (sym c.is_empty.ensures ∙ c.if-is_empty.true) in
     record {
-      reads = record {
-        count = omega arith;
-        same_tells = refl;
-        same_steady = refl;
-        no_fewer_faults = omega arith;
-        device = tt;
-        unspent = λ some. absurd (omega (arith, none, some));
-        why = tt;
-        narrows = λ e h. h;
-        again = tt;
-        same_content = λ told. refl;
-        bytes = λ told. record { bytes = refl; end = refl };
-        moves = λ told. omega arith;
-        end = λ told zero some. absurd (omega (arith, none, some));
-        stays = λ told. tt;
-        left = λ told. tt;
-        interrupted = λ told. tt;
-        cause = λ told. tt;
-      };
+      reads = reads-done before before _ 0 (keeps-done _ _ _ _ (same-self armored_reader before) (λ e h. h)) (λ some. absurd (omega (arith, none, some))) (omega arith)
+          (λ told. record { bytes = refl; end = refl }) (λ told. omega arith) (λ told zero some. absurd (omega (arith, none, some)));
       good = record { failed = λ had. absurd (true≢false (sym had ∙ good)); fails = tt; good = good; patient = tt };
       ending = record { same = λ told. refl; named = λ told fine. tt };
       whole = λ told. refl;
