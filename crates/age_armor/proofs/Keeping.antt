@@ -12,7 +12,6 @@ use Rattle.age_io.proofs.Keeping.{same-later, keeps-done, keeps-later, keeps-mor
 use Rattle.age_io.proofs.Retrying.{tried-patient, tried-narrows}
 use Rattle.age_io.specs.declared.bufread.BufRead as buffered
 use Rattle.age_armor.specs.declared.reader.ArmoredReader.{ArmoredReader}
-use Rattle.age_armor.specs.declared.counted.Counted.{Counted}
 use Rattle.age_armor.specs.Reader.{armored_reader, armored_rest, refuses_of, shown_of, Learns, text_of}
 use Rattle.age_armor.specs.Refusing.{OrText}
 use Rattle.age_armor.specs.DeliveredLaws.{content_of}
@@ -63,7 +62,7 @@ module _ {R : Type 0} (read : Ghosts R) where
       Goes read (OrSeek own may) a b result
   goes-seeking own may result a b goes = record { keeps = keeps-more read may (OrSeek own may) result a b (λ e why. inr why) goes.keeps; unspent = goes.unspent }
 
-  -- a refusal of which nothing is left but that it failed, where it was that of a seek
+  -- a refusal of which nothing is left but that it failed, where it was that of a seek, or the same one
   pub goes-unrefused : {T U : Type 0} (below : Error → Type 0) (may : R → Error → Type 0) (a b : R) (e answer : Error) → (answer ≢ Failed → answer ≡ e) →
       Goes {A = T} read (OrSeek (OrAstray below) may) a b (Err e) → Goes {A = U} read (OrSeek (OrAstray below) may) a b (Err answer)
   goes-unrefused below may a b e answer kept goes = record {
@@ -80,14 +79,7 @@ module _ {R : Type 0} (read : Ghosts R) where
     unspent = tt;
   }
 
-  -- an error that is passed on
-  pub goes-passed : {T U : Type 0} (may : R → Error → Type 0) (a b : R) (e : Error) → Goes {A = T} read may a b (Err e) → Goes {A = U} read may a b (Err e)
-  goes-passed may a b e goes = record {
-    keeps = record { same = goes.keeps.same; device = goes.keeps.device; patient = goes.keeps.patient; why = goes.keeps.why; narrows = tt };
-    unspent = tt;
-  }
-
--- over the same source it is the same reader, and the same text
+-- over the same source it is the same reader
 module _ {R : Type 0} {buf : buffered.Ghosts R} {read : Ghosts R} where
   pub same-source : (old new : ArmoredReader R buf read) → new.source ≡ old.source → SameReader armored_reader old new
   same-source old new is = record {
@@ -96,10 +88,6 @@ module _ {R : Type 0} {buf : buffered.Ghosts R} {read : Ghosts R} where
     faults = omega (arith, ap (λ s. read.faults s.inner) is);
     content = λ told. ap (λ s. content_of (read.content s.inner) (read.place s.inner - s.taken)) is;
   }
-
-  pub same-source-text : (old new : Counted R buf read) → new ≡ old →
-      from_place (read.place new.inner - new.taken) (read.content new.inner) ≡ from_place (read.place old.inner - old.taken) (read.content old.inner)
-  same-source-text old new is = ap (λ s. from_place (read.place s.inner - s.taken) (read.content s.inner)) is
 
 -- ---- an armored reader
 
@@ -210,7 +198,7 @@ module _ {R : Type 0} {buf : buffered.Ghosts R} {read : Ghosts R} where
 
   pub text-still : (a b : ArmoredReader R buf read) → b.source ≡ a.source → b.marks ≡ a.marks → KeepsText a b
   text-still a b source marks = record {
-    same_text = λ told. same-source-text _ _ source;
+    same_text = λ told. ap (λ s. from_place (read.place s.inner - s.taken) (read.content s.inner)) source;
     learns = learns_none _ _ marks;
     counts = omega (arith, ap (λ s. s.lines) source);
   }

@@ -7,9 +7,9 @@ use Rattle.age_error.specs.declared.io.SeekFrom.TheVariants.{Start}
 use Rattle.age_armor.specs.Delivered.{begins_armor}
 use Rattle.age_armor.specs.Stages.{is_start}
 use Rattle.age_armor.specs.Steps.{WhereTold, WhereSteady}
-use Rattle.age_armor.specs.Reader.{armored_reader, text_of, armored_content, armored_rest}
+use Rattle.age_armor.specs.Reader.{armored_reader, text_of, armored_content, armored_rest, refuses_of}
 use Rattle.age_armor.proofs.Aiming.{moved-within, moved-past}
-use Rattle.age_armor.proofs.Keeping.{goes-passed, goes-refused, armor-plain, text-still, text-later}
+use Rattle.age_armor.proofs.Keeping.{goes-unrefused, goes-refused, armor-plain, text-still, text-later}
 use Rattle.age_armor.proofs.Pacing.{known_length, some_length}
 use Rattle.age_armor.proofs.Going.{reaches-none, misses-none, misses-own, spares-own, stays-none, came-on, came-goes, came-stands, came-end, walk-goes, walk-misses}
 use Rattle.age_armor.proofs.reader.ArmoredReader.go_to.Goals as goal
@@ -64,7 +64,7 @@ pub returns-in-Err : goal.returns-in-Err
 returns-in-Err g c =
     let now = c.in-Err.ensures in
     record {
-      goes = goes-passed armored_reader _ _ _ _ now.goes;
+      goes = goes-unrefused armored_reader g.R.Seek.seek_refuses refuses_of _ _ c.in-Err.e c.in-Err.e (λ other. refl) now.goes;
       text = now.text;
       reaches = reaches-none _ _ _ _;
       misses = misses-own _ _ _ _ now.fails.other (λ told well other quiet. absurd (now.cause told well other quiet));

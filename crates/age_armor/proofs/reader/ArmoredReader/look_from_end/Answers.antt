@@ -5,8 +5,8 @@ use Rattle.age_error.specs.declared.io.SeekFrom.TheVariants.{End}
 use Rattle.age_io.specs.Cursor.{target}
 use Rattle.age_io.proofs.Keeping.{same-self}
 use Rattle.age_armor.specs.Seeking.{OrAstray}
-use Rattle.age_armor.specs.Reader.{armored_reader, armored_content}
-use Rattle.age_armor.proofs.Keeping.{goes-passed, goes-later, goes-refused, armor-plain, seeks-plain, text-later}
+use Rattle.age_armor.specs.Reader.{armored_reader, armored_content, refuses_of}
+use Rattle.age_armor.proofs.Keeping.{goes-unrefused, goes-later, goes-refused, armor-plain, seeks-plain, text-later}
 use Rattle.age_armor.proofs.Aiming.{moved-refusal}
 use Rattle.age_armor.proofs.Going.{reaches-none, reaches-end, misses-none, misses-own, misses-end, finds-none, came-on, came-goes, came-stands, came-end, found-end, walk-goes, walk-misses}
 use Rattle.age_armor.proofs.reader.ArmoredReader.look_from_end.Goals as goal
@@ -15,7 +15,7 @@ pub returns-in-Err : goal.returns-in-Err
 returns-in-Err g c =
     let now = c.in-Err.ensures in
     record {
-      goes = goes-passed armored_reader _ _ _ _ now.goes;
+      goes = goes-unrefused armored_reader g.R.Seek.seek_refuses refuses_of _ _ c.in-Err.e c.in-Err.e (λ other. refl) now.goes;
       text = now.text;
       reaches = reaches-none _ _ _ _;
       misses = misses-own _ _ _ _ now.fails.other (λ told well other quiet. absurd (now.cause told well other quiet));
