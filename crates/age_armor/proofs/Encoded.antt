@@ -37,12 +37,6 @@ columns_at bytes n fits =
 pub filled : (cols old new : List ℕ) (n : ℕ) → new ≡ cols ++ drop n old → length old ≤ n → new ≡ cols
 filled cols old new n is over = is ∙ ap (λ z. cols ++ z) (drop_all n old over) ∙ append-nil cols
 
--- LF after the columns of a line
-pub line_written : (cols text : List ℕ) (k j : ℕ) → length cols ≡ k → length text ≡ k + 1 → j ≡ k → slice_set (put_mid 0 j text cols) k 10 ≡ line cols
-line_written cols text k j size room same =
-    let back : drop k text ≡ slice_index text k ∷ [] = drop_more text k 0 (omega (arith, room)) ∙ ap (λ z. slice_index text k ∷ z) (drop_all (k + 1) text (omega (arith, room))) in
-    ap (λ i. slice_set (put_mid 0 i text cols) k 10) same ∙ ap (λ z. slice_set (cols ++ z) k 10) back ∙ set_at cols (slice_index text k) [] 10 k size
-
 -- another line in its place
 pub another_line : (bytes text ys : List ℕ) (n k : ℕ) → 65 * n ≤ length text → length ys ≡ 65 →
     take (65 * n) text ≡ full_lines n bytes → ys ≡ line (padded_columns (take 48 (drop (48 * n) bytes))) →
