@@ -15,6 +15,7 @@ pub mod Last
 pub mod Cached
 pub mod Moving
 pub mod Sound
+pub mod Asking
 pub mod Keeping
 pub mod Stepping
 pub mod ReadSteps

@@ -1,6 +1,6 @@
 -- What the steps of a seek do to what a `StreamReader` keeps.
 use Rattle.std.specs.Prelude.{◌≡◌, ℕ, ◌+◌, ◌-◌, ◌*◌, ◌^◌, ◌<◌, ◌≤◌, Option, Some, Bool, true, false, List, length, min}
-use Rattle.std.proofs.Common.{sym, ap, subst, ◌∙◌, arith}
+use Rattle.std.proofs.Common.{sym, subst, ◌∙◌, arith}
 use Rattle.std.proofs.lemmas.Bool.{true≢false}
 use Rattle.std.proofs.lemmas.List.Elements.{All-drop}
 use Rattle.age_error.specs.Bytes.{AreBytes}
@@ -25,13 +25,6 @@ module _ (opened : List ℕ → List ℕ → List ℕ → Option (List ℕ)) (ke
     is_past = λ good. absurd (true≢false (sym is ∙ good));
     front = λ _ good. absurd (true≢false (sym is ∙ good));
   }
-
-  -- a seek of the inner reader was refused, which left it where it stood
-  pub sound-missed : (new_place : ℕ) (new_content new_rest : Stretch) → failed ≡ true → new_place ≡ place → new_content ≡ content →
-      IsSound opened key failed held at chunk last sought number taken new_place new_content new_rest
-  sound-missed new_place new_content new_rest is stays same =
-      sound-moved failed sought taken new_place new_content new_rest is
-      (ap (λ p. payload_at p taken new_content) stays ∙ ap (payload_at place taken) same) (omega (arith, stays, sound.fits))
 
   -- a reader that has failed holds no chunk
   pub sound-shut : (new_chunk : List ℕ) (new_last : Bool) → failed ≡ true → IsSound opened key failed false at new_chunk new_last sought number taken place content rest

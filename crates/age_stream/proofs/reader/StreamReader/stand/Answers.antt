@@ -3,19 +3,15 @@ use Rattle.age_io.specs.Cursor.{IsOutside}
 use Rattle.std.proofs.Common.{ap, ◌≢◌, ◌≡◌, ◌-◌, ◌+◌, ◌∙◌, arith, length, refl, sym, subst, length-drop, IsTrue, ◌&&◌}
 use Rattle.std.proofs.lemmas.Bool.{true≢false}
 use Rattle.age_io.specs.Stretch.{from_place}
-use Rattle.age_stream.specs.Reading.{payload_at}
 use Rattle.age_stream.specs.ReadingLaws.{and-left, and-right}
-use Rattle.age_stream.proofs.Cached.{kept-same}
-use Rattle.age_stream.proofs.Inner.{start-at, payload-place, same-payload, refused-start}
-use Rattle.age_stream.proofs.Moving.{sound-moved, sound-missed}
+use Rattle.age_stream.proofs.Asking.{kept-asked, sound-asked}
+use Rattle.age_stream.proofs.Inner.{start-at, payload-place, refused-start}
 use Rattle.age_stream.proofs.reader.StreamReader.stand.Goals as goal
 
 pub invariant_of-self : goal.invariant_of-self
 invariant_of-self g c =
     let self = c.args.self.now in
-    let read = g.R.Read in
     let seek = c.in-Err.ensures.seeks in
-    let after = c.seek_retrying.new.reader in
     record {
       key_bytes = self.key_bytes;
       room = self.room;
@@ -24,18 +20,10 @@ invariant_of-self g c =
       chunk = self.chunk;
       count_fits = self.count_fits;
       unspent = λ good. absurd (true≢false (sym c.requires.failed ∙ good));
-      kept = λ told.
-          let told_before : IsTrue (read.tells self.inner && read.steady self.inner) = rw (seek.same_tells, seek.same_steady) at told in
-          let t = and-left (read.tells self.inner) (read.steady self.inner) told_before in
-          kept-same g.S.Suite.opened self.key self.cache (payload_at (read.place self.inner) self.taken (read.content self.inner)) (payload_at (read.place after) self.taken (read.content after))
-          (same-payload (read.content self.inner) (read.content after) (read.place self.inner) (read.place after) self.taken self.taken (seek.same_content t) (omega (arith, seek.stays t)))
-          (self.kept told_before);
-      sound = λ told.
-          let told_before : IsTrue (read.tells self.inner && read.steady self.inner) = rw (seek.same_tells, seek.same_steady) at told in
-          let t = and-left (read.tells self.inner) (read.steady self.inner) told_before in
-          sound-missed g.S.Suite.opened self.key self.failed self.held self.at self.cache.chunk.items self.cache.last self.sought self.number self.taken
-          (read.place self.inner) (read.content self.inner) (read.rest self.inner) (self.sound told_before)
-          (read.place after) (read.content after) (read.rest after) c.requires.failed (seek.stays t) (seek.same_content t);
+      kept = kept-asked self c.seek_retrying.new.reader self.taken c.requires.failed seek.same_tells seek.same_steady seek.same_content
+          (λ told. omega (arith, seek.stays (and-left _ _ told), (self.sound told).fits));
+      sound = sound-asked self c.seek_retrying.new.reader self.taken c.requires.failed seek.same_tells seek.same_steady seek.same_content
+          (λ told. omega (arith, seek.stays (and-left _ _ told), (self.sound told).fits));
     }
 
 pub invariant_of-self-in-Ok : goal.invariant_of-self-in-Ok
@@ -44,8 +32,6 @@ invariant_of-self-in-Ok g c =
     let read = g.R.Read in
     let seek = c.in-Ok.ensures.seeks in
     let after = c.seek_retrying.new.reader in
-    let before : IsTrue (read.tells after && read.steady after) → IsTrue (read.tells self.inner && read.steady self.inner) =
-    λ told. rw (seek.same_tells, seek.same_steady) at told in
     let taken : (told : IsTrue (read.tells self.inner && read.steady self.inner)) → c.args.place + (read.place self.inner - self.taken) ≡ read.place after = λ told.
     let t = and-left (read.tells self.inner) (read.steady self.inner) told in
     let s = and-right (read.tells self.inner) (read.steady self.inner) told in
@@ -61,10 +47,6 @@ invariant_of-self-in-Ok g c =
       g.met.R.Read.short self.inner t,
       g.met.R.Read.place_fits self.inner t,
     ) in
-    let same : (told : IsTrue (read.tells self.inner && read.steady self.inner)) →
-    payload_at (read.place after) c.args.place (read.content after) ≡ payload_at (read.place self.inner) self.taken (read.content self.inner) = λ told.
-    same-payload (read.content self.inner) (read.content after) (read.place self.inner) (read.place after) self.taken c.args.place
-    (seek.same_content (and-left (read.tells self.inner) (read.steady self.inner) told)) (omega (arith, taken told)) in
     record {
       key_bytes = self.key_bytes;
       room = self.room;
@@ -73,10 +55,8 @@ invariant_of-self-in-Ok g c =
       chunk = self.chunk;
       count_fits = self.count_fits;
       unspent = λ good. absurd (true≢false (sym c.requires.failed ∙ good));
-      kept = λ told. kept-same g.S.Suite.opened self.key self.cache _ _ (same (before told)) (self.kept (before told));
-      sound = λ told. sound-moved g.S.Suite.opened self.key self.failed self.held self.at self.cache.chunk.items self.cache.last self.sought self.number self.taken
-          (read.place self.inner) (read.content self.inner) (read.rest self.inner) (self.sound (before told)) self.failed self.sought
-          c.args.place (read.place after) (read.content after) (read.rest after) c.requires.failed (same (before told)) (omega (arith, taken (before told)));
+      kept = kept-asked self after c.args.place c.requires.failed seek.same_tells seek.same_steady seek.same_content taken;
+      sound = sound-asked self after c.args.place c.requires.failed seek.same_tells seek.same_steady seek.same_content taken;
     }
 
 pub returns-in-Err-clause-refused : goal.returns-in-Err-clause-refused
