@@ -1,8 +1,8 @@
 -- The laws of `Appended` and of `Refused`.
-use Rattle.std.specs.Prelude.{◌≡◌, ℕ, ◌+◌, ◌*◌, ◌/◌, ◌%◌, ◌≤◌, ◌<◌, Bool, true, false, List, [], ◌++◌, length, drop}
+use Rattle.std.specs.Prelude.{◌≡◌, ℕ, ◌+◌, ◌*◌, ◌/◌, ◌≤◌, ◌<◌, Bool, true, false, List, [], ◌++◌, length, drop}
 use Rattle.std.proofs.Common.{refl, sym, ap, ◌∙◌, inl, inr, arith, append_assoc, length-append, length-drop, subst}
 use Rattle.std.proofs.lemmas.Bool.{true≢false}
-use Rattle.std.proofs.lemmas.List.{append-nil, drop_all, drop-append-le, drop-drop}
+use Rattle.std.proofs.lemmas.List.{append-nil, drop-append-le, drop-drop}
 use Rattle.age_error.specs.declared.io.Error.{Error}
 use Rattle.age_error.specs.declared.io.Error.TheVariants.{Device}
 use Rattle.age_error.specs.declared.io.ErrorKind.TheVariants.{Interrupted}
@@ -46,16 +46,6 @@ module _ {W : Type 0} (inner_appended : W → List ℕ → W → Type 0) where
         sent = subst (λ (z : List ℕ). inner_appended a.inner (full_lines (length z / 48) z) c.inner) (sym all) now_sent;
       }
 
-  -- what was held and these bytes fill lines, and they went out
-  pub Took-lines : (a : ArmoredWriter W) (x : List ℕ) (c : ArmoredWriter W) (whole : List ℕ) → whole ≡ a.held.items ++ x → length whole % 48 ≡ 0 →
-      c.held.items ≡ [] → inner_appended a.inner (full_lines (length whole / 48) whole) c.inner → Took inner_appended a x c
-  Took-lines a x c whole is full held sent =
-      let over : drop (48 * (length whole / 48)) whole ≡ [] = drop_all (48 * (length whole / 48)) whole (omega (arith, full)) in
-      record {
-        held = subst (λ (z : List ℕ). c.held.items ≡ drop (48 * (length z / 48)) z) is (held ∙ sym over);
-        sent = subst (λ (z : List ℕ). inner_appended a.inner (full_lines (length z / 48) z) c.inner) is sent;
-      }
-
   -- these bytes found room
   pub Took-holding : ((w : W) → inner_appended w [] w) → (a : ArmoredWriter W) (x : List ℕ) (c : ArmoredWriter W) → length a.held.items + length x < 48 →
       c.held.items ≡ a.held.items ++ x → c.inner ≡ a.inner → Took inner_appended a x c
@@ -63,12 +53,6 @@ module _ {W : Type 0} (inner_appended : W → List ℕ → W → Type 0) where
   Took-holding nothing a x c fit held same =
       let none : length (a.held.items ++ x) / 48 ≡ 0 = rw length-append (omega (arith, fit)) in
       record { held = rw none held; sent = rw (none, same) (nothing a.inner) }
-
-  -- in armor it took these bytes
-  pub Appended-took : (a c : ArmoredWriter W) (x : List ℕ) → a.failed ≡ false → c.failed ≡ false → a.armored ≡ true → c.armored ≡ true →
-      Took inner_appended a x c → Appended inner_appended a x c
-  Appended-took a c x good good_after armored same took =
-      inr (good, good_after, same ∙ sym armored, subst (λ f. Takes inner_appended f a x c) (sym armored) took)
 
   Takes-nothing : ((w : W) → inner_appended w [] w) → (s : ArmoredWriter W) (b : Bool) → Takes inner_appended b s [] s
   Takes-nothing nothing s true = Took-nothing s (omega (arith, s.part, s.held.ok.0)) (nothing s.inner)
@@ -136,12 +120,6 @@ module _ {W : Type 0} (refuses : W → ℕ → Error → Type 0) where
       ((e : Error) → HandsOn refuses c.inner e → HandsOn refuses a.inner e) → Narrows (Refused refuses) a n c
   Refused-armored a c n good good_after form form_after narrows more e h =
       Refused-good a true (n + more) e good form (narrows e (Refused-may c true more e good_after form_after h))
-
-  -- in binary
-  pub Refused-binary : (a c : ArmoredWriter W) (n : ℕ) → a.failed ≡ false → c.failed ≡ false → a.armored ≡ false → c.armored ≡ false →
-      Narrows refuses a.inner n c.inner → Narrows (Refused refuses) a n c
-  Refused-binary a c n good good_after form form_after narrows more e h =
-      Refused-good a false (n + more) e good form (narrows more e (Refused-may c false more e good_after form_after h))
 
   -- what the inner writer refuses whatever it is given, and what the writer of armor does
   pub handed-back : (s : ArmoredWriter W) (e : Error) → s.failed ≡ false → HandsOn refuses s.inner e → HandsOn (Refused refuses) s e

@@ -1,5 +1,5 @@
 -- The chunks that a reader has opened stay those of its payload.
-use Rattle.std.specs.Prelude.{◌≡◌, ℕ, ◌+◌, ◌-◌, ◌*◌, ◌/◌, ◌^◌, ◌<◌, ◌≤◌, ◌⊎◌, Bool, true, false, cond, Option, Some, None, option_map, Ok, List, length, min}
+use Rattle.std.specs.Prelude.{◌≡◌, ℕ, ◌+◌, ◌-◌, ◌*◌, ◌/◌, ◌^◌, ◌<◌, ◌≤◌, ◌⊎◌, Bool, true, false, cond, Option, Some, None, option_map, Ok, List, length}
 use Rattle.std.proofs.Common.{◌∙◌, ap, arith, inl, inr, refl, sym, subst}
 use Rattle.std.proofs.lemmas.Bool.{cases_lt, eq-eqb, false_from_ne_true}
 use Rattle.std.proofs.lemmas.List.Elements.{All-drop}
@@ -14,7 +14,7 @@ use Rattle.age_stream.specs.OpeningLaws.{Shorter}
 use Rattle.age_stream.specs.Payload.{nonce}
 use Rattle.age_stream.specs.Reading.{payload_at, IsHeld, TookText}
 use Rattle.age_stream.specs.WellLaws.{accepted}
-use Rattle.age_stream.proofs.Holding.{payload-read, stood-taken, text-read}
+use Rattle.age_stream.proofs.Holding.{stood-taken, text-read}
 use Rattle.age_stream.proofs.Last.{text-held}
 use Rattle.age_stream.proofs.TextLengths.{some-within}
 
@@ -119,11 +119,3 @@ module _ (opened : List ℕ → List ℕ → List ℕ → Option (List ℕ)) (ke
   -- the payload is the same
   pub kept-same : (old new : Stretch) → new ≡ old → IsKept opened key old cache → IsKept opened key new cache
   kept-same old new same kept = subst (λ p. IsKept opened key p cache) (sym same) kept
-
-  -- the inner reader was read
-  pub kept-read : (content new_content : Stretch) (place new_place taken new_taken count : ℕ) → new_content ≡ content → new_place ≡ place + count → new_place < 2 ^ 63 →
-      new_taken ≡ min (taken + count) (2 ^ 64 - 1) → taken ≤ place → IsKept opened key (payload_at place taken content) cache →
-      IsKept opened key (payload_at new_place new_taken new_content) cache
-  kept-read content new_content place new_place taken new_taken count same moved short took fits =
-      kept-same (payload_at place taken content) (payload_at new_place new_taken new_content)
-      (payload-read content new_content place new_place taken new_taken count same moved short took fits).1

@@ -302,20 +302,6 @@ module _ (opened : List ℕ → List ℕ → List ℕ → Option (List ℕ)) (ke
 
   module _ (failed held : Bool) (at : ℕ) (chunk : List ℕ) (last sought : Bool) (number taken place : ℕ) (content rest : Stretch)
       (sound : IsSound opened key failed held at chunk last sought number taken place content rest) where
-    -- the inner reader was read, and the reader has failed
-    pub sound-failed : (new_taken new_place count : ℕ) (new_content new_rest : Stretch) → new_content ≡ content → new_place ≡ place + count → new_place < 2 ^ 63 →
-        new_taken ≡ min (taken + count) (2 ^ 64 - 1) → IsSound opened key true held at chunk last sought number new_taken new_place new_content new_rest
-    sound-failed new_taken new_place count new_content new_rest same moved short took =
-        let read = payload-read content new_content place new_place taken new_taken count same moved short took sound.fits in
-        record {
-          fits = omega (arith, read.0, moved, sound.fits);
-          inside = subst (λ p. IsInside (length p.bytes) number at) (sym read.1) sound.inside;
-          before = λ good. absurd (true≢false good);
-          is_held = λ held_now. subst (λ p. IsHeld opened key p number last at chunk) (sym read.1) (sound.is_held held_now);
-          is_past = λ good. absurd (true≢false good);
-          front = λ _ good. absurd (true≢false good);
-        }
-
     -- bytes of the chunk that is held were given
     pub sound-given : (law : Shorter opened key) (count : ℕ) → AreBytes content.bytes → failed ≡ false → held ≡ true → at + count ≤ length chunk → length chunk ≤ 65536 →
         IsSound opened key failed held (at + count) chunk last sought number taken place content rest

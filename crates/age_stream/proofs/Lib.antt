@@ -15,8 +15,8 @@ pub mod Last
 pub mod Cached
 pub mod Moving
 pub mod Sound
-pub mod Asking
 pub mod Keeping
+pub mod Asking
 pub mod Stepping
 pub mod ReadSteps
 pub mod Opening

@@ -17,6 +17,8 @@ use Rattle.age_stream.specs.Reader.{payload_of, tells_of}
 use Rattle.age_stream.specs.Reading.{IsSound}
 use Rattle.age_stream.specs.ReadingLaws.{and-left, and-right}
 use Rattle.age_stream.specs.Steps.{Stays, TakesBytes}
+use Rattle.std.proofs.lemmas.Bool.{true≢false}
+use Rattle.age_stream.proofs.Asking.{IsReader}
 use Rattle.age_stream.proofs.Cached.{brought, is-text, IsOpenedText}
 use Rattle.age_stream.proofs.Holding.{opened-before, sound-opened}
 use Rattle.age_stream.proofs.Keeping.{told-before}
@@ -47,13 +49,27 @@ module _ {S R : Type 0} {suite : SuiteGhosts S} {read : Ghosts R} (old mid : Str
         brings (payload_of mid) (mid.kept told) (rw stays.number (subst (λ p. IsText p old.number (take count mid.sealed.items)) (sym (keeps.payload b)) (text-came b)))
 
     -- whatever they are, the reader has failed until one of them is held
-    pub sound-unopened : mid.failed ≡ true → IsTrue (tells_of mid) → IsSound suite.opened mid.key mid.failed mid.held mid.at cache.chunk.items cache.last mid.sought mid.number mid.taken
+    sound-unopened : mid.failed ≡ true → IsTrue (tells_of mid) → IsSound suite.opened mid.key mid.failed mid.held mid.at cache.chunk.items cache.last mid.sought mid.number mid.taken
         (read.place mid.inner) (read.content mid.inner) (read.rest mid.inner)
     sound-unopened failed told =
         subst (λ h. IsSound suite.opened mid.key mid.failed h mid.at cache.chunk.items cache.last mid.sought mid.number mid.taken (read.place mid.inner) (read.content mid.inner) (read.rest mid.inner))
         (sym (stays.held ∙ closed))
         (sound-shut suite.opened mid.key mid.failed mid.held mid.at mid.cache.chunk.items mid.cache.last mid.sought mid.number mid.taken (read.place mid.inner) (read.content mid.inner)
         (read.rest mid.inner) (mid.sound told) cache.chunk.items cache.last failed)
+
+    pub reader-unopened : (opens : ℕ) → mid.failed ≡ true → opens < 2 ^ 64 →
+        IsReader suite.opened read mid.key mid.sealed.items mid.number mid.at mid.held cache mid.inner mid.taken mid.failed mid.sought opens
+    reader-unopened opens failed fits = record {
+      key_bytes = mid.key_bytes;
+      room = mid.room;
+      offset = mid.offset;
+      limit = mid.limit;
+      chunk = λ held. absurd (true≢false (sym held ∙ stays.held ∙ closed));
+      count_fits = fits;
+      unspent = mid.unspent;
+      kept = kept-brought;
+      sound = sound-unopened failed;
+    }
 
     module _ (first : (cache.judged ≡ true) × (cache.number ≡ mid.number) × (cache.used ≡ true)) where
       -- the first of them is that of the text

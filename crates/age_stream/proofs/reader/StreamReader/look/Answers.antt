@@ -1,7 +1,6 @@
-use Rattle.std.proofs.Common.{◌≡◌, ◌-◌, ◌+◌, ◌∙◌, arith, length, sym, ap, length-drop, IsTrue, ◌&&◌}
-use Rattle.std.proofs.lemmas.Bool.{true≢false}
+use Rattle.std.proofs.Common.{◌≡◌, ◌-◌, ◌+◌, ◌∙◌, arith, length, ap, length-drop, IsTrue, ◌&&◌}
 use Rattle.age_stream.specs.ReadingLaws.{and-left, and-right}
-use Rattle.age_stream.proofs.Asking.{kept-asked, sound-asked}
+use Rattle.age_stream.proofs.Asking.{reader-asked}
 use Rattle.age_stream.proofs.Inner.{current-zero, end-zero}
 use Rattle.age_stream.proofs.reader.StreamReader.look.Goals as goal
 
@@ -9,19 +8,8 @@ pub invariant_of-self : goal.invariant_of-self
 invariant_of-self g c =
     let self = c.args.self.now in
     let seek = c.in-Err.ensures.seeks in
-    record {
-      key_bytes = self.key_bytes;
-      room = self.room;
-      offset = self.offset;
-      limit = self.limit;
-      chunk = self.chunk;
-      count_fits = self.count_fits;
-      unspent = λ good. absurd (true≢false (sym c.requires.failed ∙ good));
-      kept = kept-asked self c.seek_retrying.new.reader self.taken c.requires.failed seek.same_tells seek.same_steady seek.same_content
-          (λ told. omega (arith, seek.stays (and-left _ _ told), (self.sound told).fits));
-      sound = sound-asked self c.seek_retrying.new.reader self.taken c.requires.failed seek.same_tells seek.same_steady seek.same_content
-          (λ told. omega (arith, seek.stays (and-left _ _ told), (self.sound told).fits));
-    }
+    reader-asked self c.seek_retrying.new.reader self.taken self.sealed.items self.failed c.requires.failed self.room seek.same_tells seek.same_steady seek.same_content
+    (λ told. omega (arith, seek.stays (and-left _ _ told), (self.sound told).fits))
 
 pub returns-in-Ok-seek_retrying-clause-found : goal.returns-in-Ok-seek_retrying-clause-found
 returns-in-Ok-seek_retrying-clause-found g c = λ told.
@@ -56,17 +44,7 @@ invariant_of-self-in-Err-seek_retrying-2 g c =
     let t = and-left (read.tells self.inner) (read.steady self.inner) told in
     let stayed = current-zero (read.place self.inner) (length (read.content self.inner).bytes) c.in-Ok.place (first.moves t (and-right _ _ told)).0 in
     omega (arith, second.stays (first.same_tells ∙ t), first.arrives t, stayed, (self.sound told).fits) in
-    record {
-      key_bytes = self.key_bytes;
-      room = self.room;
-      offset = self.offset;
-      limit = self.limit;
-      chunk = self.chunk;
-      count_fits = self.count_fits;
-      unspent = λ good. absurd (true≢false (sym c.requires.failed ∙ good));
-      kept = kept-asked self c.seek_retrying-in-Ok.new.reader self.taken c.requires.failed (second.same_tells ∙ first.same_tells) (second.same_steady ∙ first.same_steady) content start;
-      sound = sound-asked self c.seek_retrying-in-Ok.new.reader self.taken c.requires.failed (second.same_tells ∙ first.same_tells) (second.same_steady ∙ first.same_steady) content start;
-    }
+    reader-asked self c.seek_retrying-in-Ok.new.reader self.taken self.sealed.items self.failed c.requires.failed self.room (second.same_tells ∙ first.same_tells) (second.same_steady ∙ first.same_steady) content start
 
 pub invariant_of-self-in-Ok-seek_retrying : goal.invariant_of-self-in-Ok-seek_retrying
 invariant_of-self-in-Ok-seek_retrying g c =
@@ -86,14 +64,4 @@ invariant_of-self-in-Ok-seek_retrying g c =
     let len : length (read.content c.seek_retrying.new.reader).bytes ≡ length (read.content self.inner).bytes = ap (λ k. length k.bytes) (first.same_content t) in
     omega (arith, c.saturating_sub-start.ensures, stayed, second.arrives t2, c.saturating_sub-size.ensures, end, len, (g.met.R.Read.stands self.inner t s).within, (self.sound told).fits) in
     let content = λ (t : IsTrue (read.tells self.inner)). second.same_content (first.same_tells ∙ t) ∙ first.same_content t in
-    record {
-      key_bytes = self.key_bytes;
-      room = self.room;
-      offset = self.offset;
-      limit = self.limit;
-      chunk = self.chunk;
-      count_fits = self.count_fits;
-      unspent = λ good. absurd (true≢false (sym c.requires.failed ∙ good));
-      kept = kept-asked self after size c.requires.failed (second.same_tells ∙ first.same_tells) (second.same_steady ∙ first.same_steady) content taken;
-      sound = sound-asked self after size c.requires.failed (second.same_tells ∙ first.same_tells) (second.same_steady ∙ first.same_steady) content taken;
-    }
+    reader-asked self after size self.sealed.items self.failed c.requires.failed self.room (second.same_tells ∙ first.same_tells) (second.same_steady ∙ first.same_steady) content taken

@@ -8,7 +8,7 @@ use Rattle.age_stream.proofs.Holding.{open-early, open-refused, rest-opened, cle
 use Rattle.age_error.specs.declared.io.Error.TheVariants.{OutOfMemory, Truncated}
 use Rattle.age_stream.specs.FrontToEnd.{StopsAt}
 use Rattle.age_stream.specs.Reading.{payload_at}
-use Rattle.age_stream.proofs.Opening.{inside-text, kept-brought, opened-text, sound-held, sound-unopened}
+use Rattle.age_stream.proofs.Opening.{inside-text, kept-brought, opened-text, reader-unopened, sound-held}
 use Rattle.age_stream.proofs.Stepping.{has-next, next-held, opens-next}
 use Rattle.age_stream.proofs.Keeping.{payload-done, payload-refused, payload-more, payload-ended}
 use Rattle.std.proofs.lemmas.Bool.{true≢false}
@@ -168,40 +168,16 @@ returns-else-self-len g c =
 
 pub invariant_of-self : goal.invariant_of-self
 invariant_of-self g c =
-    let mid = c.take.new.self in
-    let taken = c.in-Ok.ensures in
-    let none = λ (held : mid.held ≡ true). true≢false (sym held ∙ taken.stays.held ∙ c.requires.closed) in
-    record {
-      key_bytes = mid.key_bytes;
-      room = mid.room;
-      offset = mid.offset;
-      limit = mid.limit;
-      chunk = λ held. absurd (none held);
-      count_fits = c.bring.ensures.opens.fits mid.count_fits;
-      unspent = mid.unspent;
-      kept = kept-brought c.args.self.now c.take.new.self g.met.S.Suite.cipher g.met.R.Read.are_bytes g.met.R.Read.stands g.met.R.Read.place_fits c.requires.good c.requires.closed c.in-Ok.count c.in-Ok.ensures.stays
-          c.in-Ok.ensures.failed.1 c.in-Ok.ensures.takes c.in-Ok.ensures.keeps c.bring.new.self (λ payload kept read. c.bring.ensures.kept payload kept (rw c.deref.ensures.value read));
-      sound = sound-unopened c.args.self.now c.take.new.self g.met.S.Suite.cipher g.met.R.Read.are_bytes g.met.R.Read.stands g.met.R.Read.place_fits c.requires.good c.requires.closed c.in-Ok.count c.in-Ok.ensures.stays
-          c.in-Ok.ensures.failed.1 c.in-Ok.ensures.takes c.in-Ok.ensures.keeps c.bring.new.self (λ payload kept read. c.bring.ensures.kept payload kept (rw c.deref.ensures.value read)) taken.failed.0;
-    }
+    reader-unopened c.args.self.now c.take.new.self g.met.S.Suite.cipher g.met.R.Read.are_bytes g.met.R.Read.stands g.met.R.Read.place_fits c.requires.good c.requires.closed c.in-Ok.count
+    c.in-Ok.ensures.stays c.in-Ok.ensures.failed.1 c.in-Ok.ensures.takes c.in-Ok.ensures.keeps c.bring.new.self
+    (λ payload kept read. c.bring.ensures.kept payload kept (rw c.deref.ensures.value read)) c.bring.new.opens c.in-Ok.ensures.failed.0 (c.bring.ensures.opens.fits c.take.new.self.count_fits)
 
-pub invariant_of-self-then-self-len-clause-chunk : goal.invariant_of-self-then-self-len-clause-chunk
-invariant_of-self-then-self-len-clause-chunk g c = λ held. absurd (true≢false (sym held ∙ c.in-Ok.ensures.stays.held ∙ c.requires.closed))
-
-pub invariant_of-self-then-self-len-clause-count_fits : goal.invariant_of-self-then-self-len-clause-count_fits
-invariant_of-self-then-self-len-clause-count_fits g c = c.bring.ensures.opens.fits c.take.new.self.count_fits
-
-pub invariant_of-self-then-self-len-clause-kept : goal.invariant_of-self-then-self-len-clause-kept
-invariant_of-self-then-self-len-clause-kept g c = λ told.
-    let k = kept-brought c.args.self.now c.take.new.self g.met.S.Suite.cipher g.met.R.Read.are_bytes g.met.R.Read.stands g.met.R.Read.place_fits c.requires.good c.requires.closed c.in-Ok.count c.in-Ok.ensures.stays
-    c.in-Ok.ensures.failed.1 c.in-Ok.ensures.takes c.in-Ok.ensures.keeps c.bring.new.self (λ payload kept read. c.bring.ensures.kept payload kept (rw c.deref.ensures.value read)) told in
-    record { first = k.first; other = k.other }
-
-pub invariant_of-self-then-self-len-clause-sound : goal.invariant_of-self-then-self-len-clause-sound
-invariant_of-self-then-self-len-clause-sound g c =
-    let taken = c.in-Ok.ensures in
-    sound-unopened c.args.self.now c.take.new.self g.met.S.Suite.cipher g.met.R.Read.are_bytes g.met.R.Read.stands g.met.R.Read.place_fits c.requires.good c.requires.closed c.in-Ok.count c.in-Ok.ensures.stays
-    c.in-Ok.ensures.failed.1 c.in-Ok.ensures.takes c.in-Ok.ensures.keeps c.bring.new.self (λ payload kept read. c.bring.ensures.kept payload kept (rw c.deref.ensures.value read)) taken.failed.0
+pub invariant_of-self-then-self-len : goal.invariant_of-self-then-self-len
+invariant_of-self-then-self-len g c =
+    reader-unopened c.args.self.now c.take.new.self g.met.S.Suite.cipher g.met.R.Read.are_bytes g.met.R.Read.stands g.met.R.Read.place_fits c.requires.good c.requires.closed c.in-Ok.count
+    c.in-Ok.ensures.stays c.in-Ok.ensures.failed.1 c.in-Ok.ensures.takes c.in-Ok.ensures.keeps _
+    (λ payload kept read. let k = c.bring.ensures.kept payload kept (rw c.deref.ensures.value read) in record { first = k.first; other = k.other })
+    c.bring.new.opens c.in-Ok.ensures.failed.0 (c.bring.ensures.opens.fits c.take.new.self.count_fits)
 
 pub invariant_of-self-in-Ok-bring-2 : goal.invariant_of-self-in-Ok-bring-2
 invariant_of-self-in-Ok-bring-2 g c =

@@ -1,10 +1,9 @@
 use Rattle.age_error.specs.declared.io.Error.TheVariants.{OutOfMemory}
 use Rattle.age_io.specs.Cursor.{IsOutside}
-use Rattle.std.proofs.Common.{ap, ◌≢◌, ◌≡◌, ◌-◌, ◌+◌, ◌∙◌, arith, length, refl, sym, subst, length-drop, IsTrue, ◌&&◌}
-use Rattle.std.proofs.lemmas.Bool.{true≢false}
+use Rattle.std.proofs.Common.{ap, ◌≢◌, ◌≡◌, ◌-◌, ◌+◌, ◌∙◌, arith, length, refl, subst, length-drop, IsTrue, ◌&&◌}
 use Rattle.age_io.specs.Stretch.{from_place}
 use Rattle.age_stream.specs.ReadingLaws.{and-left, and-right}
-use Rattle.age_stream.proofs.Asking.{kept-asked, sound-asked}
+use Rattle.age_stream.proofs.Asking.{reader-asked}
 use Rattle.age_stream.proofs.Inner.{start-at, payload-place, refused-start}
 use Rattle.age_stream.proofs.reader.StreamReader.stand.Goals as goal
 
@@ -12,19 +11,8 @@ pub invariant_of-self : goal.invariant_of-self
 invariant_of-self g c =
     let self = c.args.self.now in
     let seek = c.in-Err.ensures.seeks in
-    record {
-      key_bytes = self.key_bytes;
-      room = self.room;
-      offset = self.offset;
-      limit = self.limit;
-      chunk = self.chunk;
-      count_fits = self.count_fits;
-      unspent = λ good. absurd (true≢false (sym c.requires.failed ∙ good));
-      kept = kept-asked self c.seek_retrying.new.reader self.taken c.requires.failed seek.same_tells seek.same_steady seek.same_content
-          (λ told. omega (arith, seek.stays (and-left _ _ told), (self.sound told).fits));
-      sound = sound-asked self c.seek_retrying.new.reader self.taken c.requires.failed seek.same_tells seek.same_steady seek.same_content
-          (λ told. omega (arith, seek.stays (and-left _ _ told), (self.sound told).fits));
-    }
+    reader-asked self c.seek_retrying.new.reader self.taken self.sealed.items self.failed c.requires.failed self.room seek.same_tells seek.same_steady seek.same_content
+    (λ told. omega (arith, seek.stays (and-left _ _ told), (self.sound told).fits))
 
 pub invariant_of-self-in-Ok : goal.invariant_of-self-in-Ok
 invariant_of-self-in-Ok g c =
@@ -47,17 +35,7 @@ invariant_of-self-in-Ok g c =
       g.met.R.Read.short self.inner t,
       g.met.R.Read.place_fits self.inner t,
     ) in
-    record {
-      key_bytes = self.key_bytes;
-      room = self.room;
-      offset = self.offset;
-      limit = self.limit;
-      chunk = self.chunk;
-      count_fits = self.count_fits;
-      unspent = λ good. absurd (true≢false (sym c.requires.failed ∙ good));
-      kept = kept-asked self after c.args.place c.requires.failed seek.same_tells seek.same_steady seek.same_content taken;
-      sound = sound-asked self after c.args.place c.requires.failed seek.same_tells seek.same_steady seek.same_content taken;
-    }
+    reader-asked self after c.args.place self.sealed.items self.failed c.requires.failed self.room seek.same_tells seek.same_steady seek.same_content taken
 
 pub returns-in-Err-clause-refused : goal.returns-in-Err-clause-refused
 returns-in-Err-clause-refused g c = record {

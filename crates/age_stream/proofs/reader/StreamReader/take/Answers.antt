@@ -1,10 +1,9 @@
-use Rattle.std.proofs.Common.{◌≡◌, ◌∙◌, ◌&&◌, arith, ap, length, IsTrue}
-use Rattle.std.proofs.lemmas.Bool.{true≢false}
+use Rattle.std.proofs.Common.{◌≡◌, ◌∙◌, ◌&&◌, arith, ap, length, refl, IsTrue, true}
 use Rattle.age_io.proofs.Delivering.{refilled}
 use Rattle.age_stream.specs.ReadingLaws.{and-left}
-use Rattle.age_stream.proofs.Cached.{kept-read}
-use Rattle.age_stream.proofs.Holding.{payload-read, sound-failed}
-use Rattle.age_stream.proofs.Keeping.{told-before, payload-asked, payload-filled}
+use Rattle.age_stream.proofs.Asking.{reader-asked}
+use Rattle.age_stream.proofs.Holding.{payload-read}
+use Rattle.age_stream.proofs.Keeping.{payload-asked, payload-filled}
 use Rattle.age_stream.proofs.reader.StreamReader.take.Goals as goal
 
 pub invariant_of-self : goal.invariant_of-self
@@ -13,29 +12,13 @@ invariant_of-self g c =
     let read = g.R.Read in
     let after = c.fill_front-answer.new.reader in
     let filled = c.fill_front-answer.ensures in
-    let before = told-before read self.inner after filled.keeps.same in
     let size : length c.fill_front-answer.new.room ≡ 65552 = omega (arith, c.fill_front-answer.auto.room, c.deref_mut.ensures.len, self.room, self.sealed.ok.0) in
     let room = refilled self.sealed.items c.fill_front-answer.new.room self.sealed.len self.sealed.ok.0 (omega (arith, size, self.room)) in
-    record {
-      key_bytes = self.key_bytes;
-      room = ap length room ∙ size;
-      offset = self.offset;
-      limit = self.limit;
-      chunk = self.chunk;
-      count_fits = self.count_fits;
-      unspent = λ good. absurd (true≢false good);
-      kept = λ told.
-          let t = and-left (read.tells self.inner) (read.steady self.inner) (before told) in
-          kept-read g.S.Suite.opened self.key self.cache (read.content self.inner) (read.content after) (read.place self.inner) (read.place after) self.taken
-          c.saturating_add-self.result c.fill_front-answer.new.filled (filled.keeps.same.content t) (filled.moves t) (g.met.R.Read.place_fits after (and-left _ _ told))
-          c.saturating_add-self.ensures (self.sound (before told)).fits (self.kept (before told));
-      sound = λ told.
-          let t = and-left (read.tells self.inner) (read.steady self.inner) (before told) in
-          sound-failed g.S.Suite.opened self.key self.failed self.held self.at self.cache.chunk.items self.cache.last self.sought self.number self.taken
-          (read.place self.inner) (read.content self.inner) (read.rest self.inner) (self.sound (before told)) c.saturating_add-self.result (read.place after)
-          c.fill_front-answer.new.filled (read.content after) (read.rest after) (filled.keeps.same.content t) (filled.moves t)
-          (g.met.R.Read.place_fits after (and-left _ _ told)) c.saturating_add-self.ensures;
-    }
+    reader-asked self after c.saturating_add-self.result _ true refl (ap length room ∙ size) filled.keeps.same.tells filled.keeps.same.steady filled.keeps.same.content
+    (λ told.
+    let t = and-left (read.tells self.inner) (read.steady self.inner) told in
+    let fits = g.met.R.Read.place_fits after (filled.keeps.same.tells ∙ t) in
+    omega (arith, c.saturating_add-self.ensures, filled.moves t, fits, (self.sound told).fits))
 
 pub returns-in-Err-clause-keeps : goal.returns-in-Err-clause-keeps
 returns-in-Err-clause-keeps g c =
