@@ -35,6 +35,7 @@ module _ {S R : Type 0} {suite : SuiteGhosts S} {read : Ghosts R} where
   abbrev pub ToEnd : StreamReader S R suite read → SeekFrom → Type 0
   ToEnd r to = IsToEnd (length (payload_of r).bytes) to (place_of r)
 
+  -- all that a seek of a `StreamReader` ensures: a field for each clause of it
   pub record SeeksPayload (below : Error → Type 0) (old new : StreamReader S R suite read) (to : SeekFrom) (result : Result ℕ Error) : Type 0 where
     pub seeks : Seeks tells_of steady_of content_of place_of plain_rest_of faults_of refuses_of (OrTooLong below) old new to result
     pub patient : IfErr result (λ e. IsInterruption e → ⊥)

@@ -23,7 +23,7 @@ pub(crate) fn lost(error: Error) -> Error
     }
 }
 
-// Fills the front of the room, which has so many bytes, or takes all that are left. `filled` says how many bytes came, also after a refusal.
+// Reads so many bytes into the front of the room, or all that are left. `filled` says how many came, also after a refusal.
 #[tactic(auto, using(crate::proofs::Holding::took_text))]
 fn fill_front<R: Read>(
     reader: &mut R,
@@ -46,7 +46,7 @@ fn fill_front<R: Read>(
 impl<S: Suite, R: Read> StreamReader<S, R> {
     ghost use Rattle.age_stream.specs.Steps.{Stays, TakesBytes};
 
-    // TakesBytes so many bytes of the inner reader into the front of the room for a sealed text, or all that are left, and answers how many they are.
+    // Takes so many bytes of the inner reader into the front of the room for a sealed text, or all that are left, and answers how many they are.
     // Until they are found good the reader has failed.
     pub(crate) fn take(&mut self, asked: usize) -> Result<usize, Error>
         requires some { 0 < asked }
