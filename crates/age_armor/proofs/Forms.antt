@@ -1,5 +1,5 @@
 -- Whether a text begins as armor does, as a reader finds it out, and where it leaves the reader that gives the text.
-use Rattle.std.proofs.Common.{◌≡◌, ℕ, ◌+◌, ◌-◌, ◌<◌, ◌≤◌, Bool, true, false, List, drop, length, refl, ap, sym, arith, ◌∙◌, inl, inr, length-drop}
+use Rattle.std.proofs.Common.{subst, ◌≡◌, ℕ, ◌+◌, ◌<◌, Bool, true, false, List, drop, length, refl, ap, sym, arith, ◌∙◌, inl, inr, length-drop}
 use Rattle.std.proofs.lemmas.List.{drop-drop}
 use Rattle.std.proofs.lemmas.Bool.{cases_Bool, true≢false}
 use Rattle.age_io.specs.Stretch.{Stretch, from_place}
@@ -10,39 +10,51 @@ use Rattle.age_armor.specs.Delivered.{Clean, is_clean, at_end, begins_armor}
 use Rattle.age_armor.specs.Stages.{FindsForm, is_start, is_armored}
 use Rattle.age_armor.specs.Ahead.{rest_ahead, shown_ahead}
 
-form_found : (content rest : Stretch) (place taken : ℕ) (armored : Bool) → StandsIn content place rest → taken ≡ 0 → FindsForm armored rest.bytes →
-    armored ≡ begins_armor (from_place (place - taken) content).bytes
-form_found content rest place taken armored stands none found = elim stands.reaches [
-  | inl e ↦
-      let origin : place ≡ place - taken = omega (arith, none) in
-      found.same ∙ ap (λ s. begins_armor s.bytes) e ∙ ap (λ n. begins_armor (drop n content.bytes)) origin
-  | inr e ↦ absurd (omega (arith, found.some, ap (λ s. length s.bytes) e))
+form_found : (content rest : Stretch) (place origin : ℕ) (armored : Bool) → StandsIn content place rest → origin ≡ place → FindsForm armored rest.bytes →
+    FindsForm armored (from_place origin content).bytes
+form_found content rest place origin armored stands at found = elim stands.reaches [
+  | inl e ↦ rw at (subst (λ s. FindsForm armored s.bytes) e found)
+  | inr e ↦ absurd (omega (arith, found.long, ap (λ s. length s.bytes) e))
 ]
 
 -- the first bytes tell it, and what comes after them keeps it
-pub form_held : (content rest text : Stretch) (place taken : ℕ) (stage next : Stage) → StandsIn content place rest → (is_start stage ≡ true → taken ≡ 0) →
+pub form_held : (content rest text : Stretch) (place origin : ℕ) (stage next : Stage) → StandsIn content place rest → (is_start stage ≡ true → origin ≡ place) →
     (is_start stage ≡ true → FindsForm (is_armored next) rest.bytes) → (is_start stage ≡ false → is_armored next ≡ is_armored stage) →
-    (is_start stage ≡ false → is_armored stage ≡ begins_armor (from_place (place - taken) content).bytes) →
-    text ≡ from_place (place - taken) content → is_armored next ≡ begins_armor text.bytes
-form_held content rest text place taken stage next stands none found kept before same = elim (cases_Bool (is_start stage)) [
-  | inl start ↦ form_found content rest place taken (is_armored next) stands (none start) (found start) ∙ ap (λ s. begins_armor s.bytes) (sym same)
-  | inr begun ↦ kept begun ∙ before begun ∙ ap (λ s. begins_armor s.bytes) (sym same)
+    (is_start stage ≡ false → FindsForm (is_armored stage) (from_place origin content).bytes) →
+    text ≡ from_place origin content → FindsForm (is_armored next) text.bytes
+form_held content rest text place origin stage next stands at found kept before same = elim (cases_Bool (is_start stage)) [
+  | inl start ↦ rw same (form_found content rest place origin (is_armored next) stands (at start) (found start))
+  | inr begun ↦ rw (same, kept begun) (before begun)
 ]
 
-pub form_kept : (armored : Bool) (old new : Stretch) → armored ≡ begins_armor old.bytes → new ≡ old → armored ≡ begins_armor new.bytes
-form_kept armored old new is same = is ∙ ap (λ s. begins_armor s.bytes) (sym same)
+pub form_kept : (armored : Bool) (old new : Stretch) → FindsForm armored old.bytes → new ≡ old → FindsForm armored new.bytes
+form_kept armored old new is same = rw same is
+
+-- a text that doesn't begin as armor does is read without lines
+pub plain_stage : (stage : Stage) (text : Stretch) → (is_start stage ≡ false → FindsForm (is_armored stage) text.bytes) → begins_armor text.bytes ≡ false →
+    is_armored stage ≡ false
+plain_stage Start text form plain = refl
+plain_stage Binary text form plain = refl
+plain_stage (Lines s) text form plain = (form refl).same ∙ plain
+plain_stage Ended text form plain = (form refl).same ∙ plain
+
+pub plain_rest : (content rest : Stretch) (place origin : ℕ) → StandsIn content place rest → origin ≡ place → begins_armor (from_place origin content).bytes ≡ false →
+    begins_armor rest.bytes ≡ false
+plain_rest content rest place origin stands at plain = elim stands.reaches [
+  | inl e ↦ ap (λ s. begins_armor s.bytes) e ∙ (rw at at plain)
+  | inr e ↦ ap (λ s. begins_armor s.bytes) e
+]
 
 -- ---- the reader that gives the text, handed back
 
 -- where it stands in the text
-pub stands_in_text : (content rest : Stretch) (place taken : ℕ) → taken ≤ place → StandsIn content place rest →
-    StandsIn (from_place (place - taken) content) taken rest
-stands_in_text content rest place taken behind stands =
-    let origin : place - taken + taken ≡ place = omega (arith, behind) in
-    let same : from_place place content ≡ from_place taken (from_place (place - taken) content) =
-    sym (ap (λ bytes. stretch bytes content.ends_well) (drop-drop taken (place - taken) content.bytes ∙ ap (λ n. drop n content.bytes) origin)) in
+pub stands_in_text : (content rest : Stretch) (place origin taken : ℕ) → origin + taken ≡ place → StandsIn content place rest →
+    StandsIn (from_place origin content) taken rest
+stands_in_text content rest place origin taken at stands =
+    let same : from_place place content ≡ from_place taken (from_place origin content) =
+    sym (ap (λ bytes. stretch bytes content.ends_well) (drop-drop taken origin content.bytes ∙ ap (λ n. drop n content.bytes) at)) in
     record {
-      within = omega (arith, stands.within, behind, length-drop (place - taken) content.bytes);
+      within = omega (arith, stands.within, at, length-drop origin content.bytes);
       reaches = elim stands.reaches [ inl e ↦ inl (e ∙ same) | inr e ↦ inr e ];
     }
   where
@@ -71,6 +83,6 @@ binary_left failed bytes given filled taken stage rest good none plain some =
 -- ---- a text that isn't armor
 
 -- a text that passes unchanged doesn't begin so
-pub binary_form : {X : Type 0} (stage : Stage) (text : Stretch) → stage ≡ Binary → is_armored stage ≡ begins_armor text.bytes →
+pub binary_form : {X : Type 0} (stage : Stage) (text : Stretch) → stage ≡ Binary → FindsForm (is_armored stage) text.bytes →
     begins_armor text.bytes ≡ true → X
-binary_form stage text binary is armor = absurd (true≢false (sym armor ∙ sym is ∙ ap is_armored binary))
+binary_form stage text binary is armor = absurd (true≢false (sym armor ∙ sym is.same ∙ ap is_armored binary))

@@ -1,5 +1,5 @@
 -- The steps of a seek in armor, one after the other.
-use Rattle.std.proofs.Common.{◌^◌, ◌≡◌, ◌≢◌, ◌∙◌, ◌-◌, ◌<◌, ◌≤◌, ℕ, ℤ, false, IsTrue, length, Result, Ok, Err, arith, ap, sym, subst, refl, inl, inr}
+use Rattle.std.proofs.Common.{◌^◌, ◌≡◌, ◌≢◌, ◌∙◌, ◌<◌, ◌≤◌, ℕ, ℤ, false, IsTrue, length, Result, Ok, Err, ◌⊎◌, IfOk, OnOk, IfErr, arith, ap, sym, subst, refl, inl, inr}
 use Rattle.std.proofs.lemmas.Bool.{cases_Bool, true≢false}
 use Rattle.std.proofs.lemmas.Result.{IfOk-weaker, IfErr-weaker, on_ok_weaker}
 use Rattle.age_error.specs.Refusals.{IsDevice, IsInterruption}
@@ -11,7 +11,7 @@ use Rattle.age_io.specs.declared.traits.Read.{Ghosts}
 use Rattle.age_io.specs.declared.bufread.BufRead as buffered
 use Rattle.age_io.specs.Stretch.{from_place, IsCleanEnd}
 use Rattle.age_io.specs.Keeping.{SameReader, KeepsReader, OrSeek}
-use Rattle.age_io.specs.Reading.{IsQuiet, AddsNoReason, TriedAgain, most_faults}
+use Rattle.age_io.specs.Reading.{most_faults, IsQuiet, AddsNoReason}
 use Rattle.age_io.specs.Cursor.{IsOutside, sought, target}
 use Rattle.age_io.proofs.Keeping.{same-later, keeps-done, seek-narrows}
 use Rattle.age_armor.specs.declared.reader.ArmoredReader.{ArmoredReader}
@@ -19,13 +19,15 @@ use Rattle.age_armor.specs.Delivered.{delivered}
 use Rattle.age_armor.specs.Stages.{IsNamed, is_start}
 use Rattle.age_armor.specs.ReaderLaws.{well_inner}
 use Rattle.age_armor.specs.Seeking.{Goes, OrAstray, AsksPast, SeeksText, ComesBack}
-use Rattle.age_armor.specs.Reader.{outcome_of, text_outcome_of, armored_reader, armored_content, armored_rest, refuses_of}
-use Rattle.age_armor.specs.Steps.{WhereTold, WhereSteady, KeepsText, EndsAsBefore, EndsAsText, Stands, WalksAlong, Reaches, Misses, FindsEnd, StaysThere, SparesReading, TakesFew}
-use Rattle.age_armor.proofs.Keeping.{gone, goes-later, goes-seeking, goes-unrefused, armor-plain, seeks-plain, text-later}
+use Rattle.age_armor.specs.Refusing.{OrText}
+use Rattle.age_armor.specs.Reader.{knows_end, origin_of, text_outcome_of, armored_reader, armored_content, armored_rest, refuses_of}
+use Rattle.age_armor.specs.Steps.{WhereTold, WhereSteady, KeepsText, Came, GoesTo, ReachesEnd, FailsThere, LandsBelow, EndsAsBefore, EndsAsText, Stands, WalksAlong, Reaches, Misses, FindsEnd, StaysThere, SparesReading, TakesFew}
+use Rattle.age_armor.proofs.Keeping.{armor-narrows, armored-refused, armored-done, same-armored, gone, goes-later, goes-seeking, goes-unrefused, armor-plain, seeks-plain, text-later}
 use Rattle.age_armor.proofs.OwnEndings.{still_named}
 use Rattle.age_armor.proofs.Taking.{quiet_after}
 use Rattle.age_armor.proofs.Walking.{ends_at}
 use Rattle.age_armor.proofs.Aiming.{from-end, clean-unnamed, moved-within, within-moved, quiet-first, refusal_or_not, refusal-device, refusal-interruption, seeks-refused}
+use Rattle.age_io.proofs.Retrying.{tried-narrows}
 
 module _ {R : Type 0} {buf : buffered.Ghosts R} {read : Ghosts R} where
   pub ends-later : (a b c : ArmoredReader R buf read) → SameReader armored_reader a b → KeepsText a b → EndsAsText b c → EndsAsText a c
@@ -68,17 +70,6 @@ module _ {R : Type 0} {buf : buffered.Ghosts R} {read : Ghosts R} where
   }
 
   -- ---- to a mark, and on from there
-
-  -- it came to a mark, and walked on in what the text carries
-  pub record Came (old new : ArmoredReader R buf read) : Type 0 where
-    pub same : SameReader armored_reader old new
-    pub narrows : AddsNoReason (TriedAgain refuses_of) old new
-    pub unspent : read.faults new.source.inner < most_faults
-    pub text : KeepsText old new
-    pub good : new.failed ≡ false
-    pub stands : WhereSteady old (armored_rest new ≡ from_place new.place (armored_content old))
-    pub within : WhereSteady old (new.place ≤ length (armored_content old).bytes)
-    pub ending : WhereSteady old ((outcome_of new).ending ≡ (text_outcome_of old).ending)
 
   pub came-on : {A B : Type 0} {x : A} {y : B} {may more : ArmoredReader R buf read → Error → Type 0} (a b c : ArmoredReader R buf read) (target : ℕ) →
       Goes armored_reader may a b (Ok x) → KeepsText a b → Stands a b (Ok x) →
@@ -185,6 +176,128 @@ module _ {R : Type 0} {buf : buffered.Ghosts R} {read : Ghosts R} where
             (misses.named (same.tells ∙ told) (subst IsTrue (sym (ap (λ t. t.ends_well) (text.same_text told))) well));
       }
 
+  -- ---- a step that keeps the place, and then another
+
+  pub reaches-later : (a b c : ArmoredReader R buf read) (aim : ℕ) (result : Result ℕ Error) → SameReader armored_reader a b → KeepsText a b →
+      Reaches b c (Start aim) result → Reaches a c (Start aim) result
+  reaches-later a b c aim result same text reaches = record {
+    stands = stands-later a b c result same text reaches.stands;
+    there = reaches.there;
+    place = λ told. reaches.place (same.tells ∙ told);
+    exact = λ told steady. IfOk-weaker result _ _ (λ n exact. subst (λ s. sought (Start aim) a.place (length s.bytes) ≡ Ok n) (same.content told) exact)
+        (reaches.exact (same.tells ∙ told) (same.steady ∙ steady));
+  }
+
+  -- a seek that isn't counted from the place
+  pub misses-later : (a b c : ArmoredReader R buf read) (to : SeekFrom) (result : Result ℕ Error) →
+      SameReader armored_reader a b → KeepsText a b → AddsNoReason refuses_of a b →
+      ((len : ℕ) → sought to a.place len ≡ sought to b.place len) → ((len : ℕ) → AsksPast to b.place len → AsksPast to a.place len) →
+      read.faults b.source.inner ≤ read.faults c.source.inner → Misses b c to result → Misses a c to result
+  misses-later a b c to result same text narrows leads asks more misses = record {
+    missed = IfErr-weaker result _ _ (λ e missed refusal f h. narrows f (missed refusal f h)) misses.missed;
+    refused = λ told steady. IfErr-weaker result _ _
+        (λ e refused refusal.
+        let is = refused refusal in (
+          subst (λ s. IsTrue s.ends_well) (same.content told) is.0,
+          leads (length (armored_content a).bytes) ∙ subst (λ s. sought to b.place (length s.bytes) ≡ Err e) (same.content told) is.1,
+        ))
+        (misses.refused (same.tells ∙ told) (same.steady ∙ steady));
+    named = λ told well. IfErr-weaker result _ _
+        (λ e named own other quiet.
+        let is = named own other (quiet_after _ _ _ same.faults more quiet) in (
+          subst (λ o. IsNamed o e) (ap (λ t. (delivered t.bytes t.ends_well).ending) (text.same_text told)) is.0,
+          asks (length (armored_content a).bytes) (subst (λ s. AsksPast to b.place (length s.bytes)) (same.content told) is.1),
+        ))
+        (misses.named (same.tells ∙ told) (subst IsTrue (sym (ap (λ t. t.ends_well) (text.same_text told))) well));
+  }
+
+  pub goes-to-later : {T : Type 0} {x : T} {may : ArmoredReader R buf read → Error → Type 0} (below : Error → Type 0) (a b c : ArmoredReader R buf read) (aim : ℕ)
+      (result : Result ℕ Error) → KeepsReader armored_reader may a b (Ok x) → KeepsText a b →
+      GoesTo below b c (Start aim) result → GoesTo below a c (Start aim) result
+  goes-to-later below a b c aim result keeps text next =
+      let same = keeps.same in
+      record {
+        goes = goes-later armored_reader _ result a b c same keeps.narrows (seeks-plain (OrAstray below) a b keeps.narrows) next.goes;
+        text = text-later a b c same text next.text;
+        reaches = reaches-later a b c aim result same text next.reaches;
+        misses = misses-later a b c (Start aim) result same text (armor-plain a b keeps.narrows) (λ len. refl) (λ len past. past) next.goes.keeps.same.faults next.misses;
+      }
+
+  came-later : {T : Type 0} {x : T} {may : ArmoredReader R buf read → Error → Type 0} (a b c : ArmoredReader R buf read) →
+      KeepsReader armored_reader may a b (Ok x) → KeepsText a b → Came b c → Came a c
+  came-later a b c keeps text came =
+      let same = keeps.same in
+      record {
+        same = same-later armored_reader a b c same came.same;
+        narrows = λ e h. keeps.narrows e (came.narrows e h);
+        unspent = came.unspent;
+        text = text-later a b c same text came.text;
+        good = came.good;
+        stands = λ told steady. came.stands (same.tells ∙ told) (same.steady ∙ steady) ∙ ap (from_place c.place) (same.content told);
+        within = λ told steady. subst (λ s. c.place ≤ length s.bytes) (same.content told) (came.within (same.tells ∙ told) (same.steady ∙ steady));
+        ending = λ told steady.
+            came.ending (same.tells ∙ told) (same.steady ∙ steady) ∙ ap (λ t. (delivered t.bytes t.ends_well).ending) (text.same_text told);
+      }
+
+  pub reaches-end-later : {T : Type 0} {x : T} {may : ArmoredReader R buf read → Error → Type 0} (below : Error → Type 0) (a b c : ArmoredReader R buf read)
+      (result : Result (Unit {0}) Error) → KeepsReader armored_reader may a b (Ok x) → KeepsText a b → ReachesEnd below b c result → ReachesEnd below a c result
+  reaches-end-later below a b c result keeps text next =
+      let same = keeps.same in
+      record {
+        goes = goes-later armored_reader _ result a b c same keeps.narrows (seeks-plain (OrAstray below) a b keeps.narrows) next.goes;
+        text = text-later a b c same text next.text;
+        came = on_ok_weaker result (came-later a b c keeps text) next.came;
+        end = λ told. next.end (same.tells ∙ told);
+        knows = next.knows;
+        misses = IfErr-weaker result _ _ (λ e misses d.
+            misses-later a b c (End d) (Err e) same text (armor-plain a b keeps.narrows) (λ len. refl) (λ len past. tt) next.goes.keeps.same.faults (misses d))
+            next.misses;
+      }
+
+  -- the reader that gives the text was asked for the end
+  pub jumped-to-end : (below : Error → Type 0) (a b : ArmoredReader R buf read) (result : Result (Unit {0}) Error) →
+      KeepsReader read (OrSeek (OrAstray below) (OrText read)) a.source.inner b.source.inner result → OnOk result (read.faults b.source.inner < most_faults) →
+      WhereTold a (origin_of b ≡ origin_of a) → KeepsText a b → Stands a b result → WhereSteady a (b.place ≤ length (armored_content b).bytes) →
+      WhereTold a (OnOk result (IsCleanEnd (armored_rest b))) → OnOk result (IsTrue (knows_end b)) → FailsThere a b result →
+      (IsTrue (read.tells a.source.inner) → IsTrue (read.content a.source.inner).ends_well →
+      IfErr result (λ e. e ≢ OutOfMemory → IsQuiet (read.faults a.source.inner) (read.faults b.source.inner) → ⊥)) → ReachesEnd below a b result
+  jumped-to-end below a b (Ok x) keeps few origin text stands inside end knows fails cause =
+      let same = same-armored a b keeps.same origin in
+      record {
+        goes = armored-done _ a b keeps origin few stands.good;
+        text = text;
+        came = record {
+          same = same;
+          narrows = tried-narrows refuses_of a b (armor-narrows a b keeps.same keeps.narrows stands.good);
+          unspent = few;
+          text = text;
+          good = stands.good;
+          stands = stands.rest;
+          within = λ told steady. subst (λ s. b.place ≤ length s.bytes) (same.content told) (inside told steady);
+          ending = stands.ending;
+        };
+        end = end;
+        knows = knows;
+        misses = tt;
+      }
+  jumped-to-end below a b (Err e) keeps few origin text stands inside end knows fails cause = record {
+    goes = armored-refused _ a b e keeps origin (λ why. elim why [ inl is ↦ inl is | inr reading ↦ inr (inr reading) ]);
+    text = text;
+    came = tt;
+    end = λ told. tt;
+    knows = tt;
+    misses = λ d. misses-own a b (End d) e fails.other (λ told well other quiet. absurd (cause told well other quiet));
+  }
+
+  -- from where it landed it lands again
+  pub lands-again : (a b c : ArmoredReader R buf read) (result : Result ℕ Error) → IfOk result (λ n. c.place ≡ n) → LandsBelow b b.place →
+      IfOk result (λ n. (c ≡ b) ⊎ LandsBelow c n) → IfOk result (λ n. (c ≡ a) ⊎ LandsBelow c n)
+  lands-again a b c (Ok n) place first last = elim last [
+    | inl is ↦ inr (subst (λ m. LandsBelow c m) place (subst (λ r. LandsBelow r r.place) (sym is) first))
+    | inr lands ↦ inr lands
+  ]
+  lands-again a b c (Err e) place first last = tt
+
   -- ---- a whole seek
 
   pub seek-done : (below : Error → Type 0) (a b : ArmoredReader R buf read) (to : SeekFrom) (n : ℕ) →
@@ -229,7 +342,7 @@ module _ {R : Type 0} {buf : buffered.Ghosts R} {read : Ghosts R} where
   seek-missed below a b c to error answer law went misses back =
       let goes = went.keeps in
       let inner : (IsTrue (armored_content a).ends_well → IsTrue (read.content a.source.inner).ends_well) =
-      well_inner (read.content a.source.inner) (read.place a.source.inner - a.source.taken) in
+      well_inner (read.content a.source.inner) (origin_of a) in
       let first = goes.same.faults in
       let last = back.same.faults in
       let keeps : KeepsReader {T = ℕ} armored_reader (OrSeek (OrAstray below) refuses_of) a c (Err answer) = record {

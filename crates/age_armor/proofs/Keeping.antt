@@ -12,7 +12,7 @@ use Rattle.age_io.proofs.Keeping.{same-later, keeps-done, keeps-later, keeps-mor
 use Rattle.age_io.proofs.Retrying.{tried-patient, tried-narrows}
 use Rattle.age_io.specs.declared.bufread.BufRead as buffered
 use Rattle.age_armor.specs.declared.reader.ArmoredReader.{ArmoredReader}
-use Rattle.age_armor.specs.Reader.{armored_reader, armored_rest, refuses_of, shown_of, Learns, text_of}
+use Rattle.age_armor.specs.Reader.{origin_of, armored_reader, armored_rest, refuses_of, shown_of, Learns, text_of}
 use Rattle.age_armor.specs.Refusing.{OrText}
 use Rattle.age_armor.specs.DeliveredLaws.{content_of}
 use Rattle.age_armor.specs.Seeking.{Goes, OrAstray}
@@ -25,21 +25,21 @@ use Rattle.age_armor.specs.Delivered.{Ending, begins_armor}
 use Rattle.age_armor.specs.Ending.{KeepsEnding}
 use Rattle.age_armor.specs.Marks.{LearnsMore}
 use Rattle.age_armor.specs.Stages.{is_start, is_armored}
-use Rattle.age_armor.specs.Steps.{WhereTold, KeepsText}
+use Rattle.age_armor.specs.Steps.{WhereTold, WhereSteady, KeepsText}
 use Rattle.age_armor.proofs.Forms.{form_kept}
 use Rattle.age_armor.proofs.Pacing.{learns_later, learns_none}
 
 module _ {R : Type 0} (read : Ghosts R) where
-  -- the new reader stands in the text that the old one stood in
-  pub record SameText (old : R) (old_taken : ℕ) (new : R) (new_taken : ℕ) : Type 0 where
+  -- the new reader stands in the text that the old one stood in, which begins at this place
+  pub record SameText (old : R) (old_origin : ℕ) (new : R) (new_origin : ℕ) : Type 0 where
     pub told : IsTrue (read.tells new) → IsTrue (read.tells old)
     pub steady : IsTrue (read.steady new) → IsTrue (read.steady old)
-    pub text : IsTrue (read.tells new) → from_place (read.place new - new_taken) (read.content new) ≡ from_place (read.place old - old_taken) (read.content old)
-    pub content : IsTrue (read.tells new) → content_of (read.content new) (read.place new - new_taken) ≡ content_of (read.content old) (read.place old - old_taken)
+    pub text : IsTrue (read.tells new) → from_place new_origin (read.content new) ≡ from_place old_origin (read.content old)
+    pub content : IsTrue (read.tells new) → content_of (read.content new) new_origin ≡ content_of (read.content old) old_origin
 
-  pub same-text : (old : R) (old_taken : ℕ) (new : R) (new_taken : ℕ) → SameReader read old new →
-      (IsTrue (read.tells old) → read.place new - new_taken ≡ read.place old - old_taken) → SameText old old_taken new new_taken
-  same-text old old_taken new new_taken same origin = record {
+  pub same-text : (old : R) (old_origin : ℕ) (new : R) (new_origin : ℕ) → SameReader read old new →
+      (IsTrue (read.tells old) → new_origin ≡ old_origin) → SameText old old_origin new new_origin
+  same-text old old_origin new new_origin same origin = record {
     told = λ told. sym same.tells ∙ told;
     steady = λ steady. sym same.steady ∙ steady;
     text = λ told. rw (same.content (sym same.tells ∙ told), origin (sym same.tells ∙ told)) refl;
@@ -56,6 +56,13 @@ module _ {R : Type 0} (read : Ghosts R) where
   pub goes-refused : {T : Type 0} (may : R → Error → Type 0) (a b c : R) (e : Error) → SameReader read a b → SameReader read b c → (IsDevice e → ⊥) →
       may a e → Goes {A = T} read may a c (Err e)
   goes-refused may a b c e first second other why = record { keeps = keeps-refused read may a c e (same-later read a b c first second) other why; unspent = tt }
+
+  -- the refusal of a call is passed on
+  pub goes-error : {A B : Type 0} (may : R → Error → Type 0) (a b : R) (e : Error) → KeepsReader {T = A} read may a b (Err e) → Goes {A = B} read may a b (Err e)
+  goes-error may a b e keeps = record {
+    keeps = record { same = keeps.same; device = keeps.device; patient = keeps.patient; why = keeps.why; narrows = tt };
+    unspent = tt;
+  }
 
   -- a call that refuses as one that seeks may
   pub goes-seeking : {T : Type 0} (own : Error → Type 0) (may : R → Error → Type 0) (result : Result T Error) (a b : R) → Goes read may a b result →
@@ -81,17 +88,23 @@ module _ {R : Type 0} (read : Ghosts R) where
 
 -- over the same source it is the same reader
 module _ {R : Type 0} {buf : buffered.Ghosts R} {read : Ghosts R} where
-  pub same-source : (old new : ArmoredReader R buf read) → new.source ≡ old.source → SameReader armored_reader old new
-  same-source old new is = record {
+  pub same-source : (old new : ArmoredReader R buf read) → new.source ≡ old.source → new.preceding ≡ old.preceding → SameReader armored_reader old new
+  same-source old new is before = record {
     tells = ap (λ s. read.tells s.inner) is;
     steady = ap (λ s. read.steady s.inner) is;
     faults = omega (arith, ap (λ s. read.faults s.inner) is);
-    content = λ told. ap (λ s. content_of (read.content s.inner) (read.place s.inner - s.taken)) is;
+    content = λ told. ap (λ s. content_of (read.content s.inner) (read.place s.inner - s.taken + new.preceding)) is
+        ∙ ap (λ n. content_of (read.content old.source.inner) (read.place old.source.inner - old.source.taken + n)) before;
   }
 
 -- ---- an armored reader
 
 module _ {R : Type 0} {buf : buffered.Ghosts R} {read : Ghosts R} where
+  -- where no more bytes precede the text, it begins where it began
+  pub origin-kept : (a b : ArmoredReader R buf read) → b.preceding ≡ a.preceding →
+      WhereTold a (read.place b.source.inner - b.source.taken ≡ read.place a.source.inner - a.source.taken) → WhereTold a (origin_of b ≡ origin_of a)
+  origin-kept a b before same told = omega (arith, before, same told)
+
   pub armor-patient : (r : ArmoredReader R buf read) (e : Error) → refuses_of r e → IsInterruption e → ⊥
   armor-patient r e h is = elim h [
     | inl own ↦ subst IsInterruption own.1 is
@@ -130,7 +143,7 @@ module _ {R : Type 0} {buf : buffered.Ghosts R} {read : Ghosts R} where
   ]
 
   pub same-armored : (a b : ArmoredReader R buf read) → SameReader read a.source.inner b.source.inner →
-      (IsTrue (read.tells a.source.inner) → read.place b.source.inner - b.source.taken ≡ read.place a.source.inner - a.source.taken) →
+      WhereTold a (origin_of b ≡ origin_of a) →
       SameReader armored_reader a b
   same-armored a b same origin = record {
     tells = same.tells;
@@ -142,7 +155,7 @@ module _ {R : Type 0} {buf : buffered.Ghosts R} {read : Ghosts R} where
   -- a step of the reader that gives the text
   pub armored-done : {A B : Type 0} {x : A} {y : B} {below : R → Error → Type 0} (may : ArmoredReader R buf read → Error → Type 0) (a b : ArmoredReader R buf read) →
       KeepsReader {T = A} read below a.source.inner b.source.inner (Ok x) →
-      (IsTrue (read.tells a.source.inner) → read.place b.source.inner - b.source.taken ≡ read.place a.source.inner - a.source.taken) →
+      WhereTold a (origin_of b ≡ origin_of a) →
       read.faults b.source.inner < most_faults → b.failed ≡ false → Goes {A = B} armored_reader may a b (Ok y)
   armored-done may a b keeps origin few good = record {
     keeps = keeps-done armored_reader may a b (same-armored a b keeps.same origin)
@@ -152,7 +165,7 @@ module _ {R : Type 0} {buf : buffered.Ghosts R} {read : Ghosts R} where
 
   pub armored-refused : {A B : Type 0} {below : R → Error → Type 0} (may : ArmoredReader R buf read → Error → Type 0) (a b : ArmoredReader R buf read) (e : Error) →
       KeepsReader {T = A} read below a.source.inner b.source.inner (Err e) →
-      (IsTrue (read.tells a.source.inner) → read.place b.source.inner - b.source.taken ≡ read.place a.source.inner - a.source.taken) →
+      WhereTold a (origin_of b ≡ origin_of a) →
       (below a.source.inner e → may a e) → Goes {A = B} armored_reader may a b (Err e)
   armored-refused may a b e keeps origin wider = record {
     keeps = record { same = same-armored a b keeps.same origin; device = keeps.device; patient = keeps.patient; why = wider keeps.why; narrows = tt };
@@ -196,55 +209,63 @@ on_if (Err e) P Q from h = tt
 module _ {R : Type 0} {buf : buffered.Ghosts R} {read : Ghosts R} where
   -- ---- the text
 
-  pub text-still : (a b : ArmoredReader R buf read) → b.source ≡ a.source → b.marks ≡ a.marks → KeepsText a b
-  text-still a b source marks = record {
-    same_text = λ told. ap (λ s. from_place (read.place s.inner - s.taken) (read.content s.inner)) source;
+  pub text-still : (a b : ArmoredReader R buf read) → b.source ≡ a.source → b.preceding ≡ a.preceding → b.marks ≡ a.marks → KeepsText a b
+  text-still a b source before marks = record {
+    same_text = λ told. ap (λ s. from_place (read.place s.inner - s.taken + b.preceding) (read.content s.inner)) source
+        ∙ ap (λ n. from_place (read.place a.source.inner - a.source.taken + n) (read.content a.source.inner)) before;
     learns = learns_none _ _ marks;
     counts = omega (arith, ap (λ s. s.lines) source);
+    bare = λ told steady plain. ap (λ s. s.lines) source;
   }
 
   -- the reader that gives it was moved
   pub text-moved : (a b : ArmoredReader R buf read) → SameReader read a.source.inner b.source.inner →
-      (IsTrue (read.tells a.source.inner) → read.place b.source.inner - b.source.taken ≡ read.place a.source.inner - a.source.taken) →
-      LearnsMore a.marks b.marks → a.source.lines ≤ b.source.lines → KeepsText a b
-  text-moved a b same origin learns counts = record { same_text = λ told. rw (same.content told, origin told) refl; learns = learns; counts = counts }
+      WhereTold a (origin_of b ≡ origin_of a) →
+      LearnsMore a.marks b.marks → a.source.lines ≤ b.source.lines →
+      WhereSteady a (begins_armor (text_of a).bytes ≡ false → b.source.lines ≡ a.source.lines) → KeepsText a b
+  text-moved a b same origin learns counts bare = record {
+    same_text = λ told. rw (same.content told, origin told) refl;
+    learns = learns;
+    counts = counts;
+    bare = bare;
+  }
 
   pub text-later : (a b c : ArmoredReader R buf read) → SameReader armored_reader a b → KeepsText a b → KeepsText b c → KeepsText a c
   text-later a b c same first last = record {
     same_text = λ told. last.same_text (same.tells ∙ told) ∙ first.same_text told;
     learns = learns_later a.marks b.marks c.marks first.learns last.learns;
     counts = omega (arith, first.counts, last.counts);
+    bare = λ told steady plain.
+        last.bare (same.tells ∙ told) (same.steady ∙ steady) (ap (λ t. begins_armor t.bytes) (first.same_text told) ∙ plain) ∙ first.bare told steady plain;
   }
 
   pub text-learned : {A : Type 0} {result : Result A Error} (a b : ArmoredReader R buf read) → WhereTold a (text_of b ≡ text_of a) →
       Learns a b result → KeepsText a b
-  text-learned a b same learns = record { same_text = same; learns = learns.more; counts = learns.lines.0 }
+  text-learned a b same learns = record { same_text = same; learns = learns.more; counts = learns.lines.0; bare = learns.bare }
 
   -- all that it holds is before the furthest place
   pub learned : {A : Type 0} {x : A} (a b : ArmoredReader R buf read) → SameReader armored_reader a b → KeepsText a b →
-      b.source.lines ≤ a.source.lines + 1 → b.failed ≡ false →
-      (IsTrue (read.tells a.source.inner) → IsTrue (read.steady a.source.inner) → begins_armor (text_of a).bytes ≡ false → b.source.lines ≡ a.source.lines) →
-      Learns a b (Ok x)
-  learned a b same text once good bare = record {
+      b.source.lines ≤ a.source.lines + 1 → b.failed ≡ false → Learns a b (Ok x)
+  learned a b same text once good = record {
     more = text.learns;
     reaches = λ told. reached b (same.tells ∙ told) good;
     lines = (text.counts, once);
-    bare = bare;
+    bare = text.bare;
   }
 
   -- whether it has armor is what the text says
   pub form-found : (a b : ArmoredReader R buf read) → SameReader armored_reader a b → KeepsText a b → is_start b.stage ≡ false →
       IsTrue (read.tells a.source.inner) → IsTrue (read.steady a.source.inner) → is_armored b.stage ≡ begins_armor (text_of a).bytes
   form-found a b same text begun told steady =
-      form_kept (is_armored b.stage) (text_of b) (text_of a) (b.form (same.tells ∙ told) (same.steady ∙ steady) begun) (sym (text.same_text told))
+      (form_kept (is_armored b.stage) (text_of b) (text_of a) (b.form (same.tells ∙ told) (same.steady ∙ steady) begun) (sym (text.same_text told))).same
 
   -- ---- a read
 
   -- what is given was read before
   pub goes-given : {A B : Type 0} {x : A} {y : B} (a b c : ArmoredReader R buf read) → Goes armored_reader refuses_of a b (Ok x) →
-      c.source ≡ b.source → c.failed ≡ false → Goes armored_reader refuses_of a c (Ok y)
-  goes-given a b c goes source good = record {
-    keeps = keeps-done armored_reader refuses_of a c (same-later armored_reader a b c goes.keeps.same (same-source b c source))
+      c.source ≡ b.source → c.preceding ≡ b.preceding → c.failed ≡ false → Goes armored_reader refuses_of a c (Ok y)
+  goes-given a b c goes source before good = record {
+    keeps = keeps-done armored_reader refuses_of a c (same-later armored_reader a b c goes.keeps.same (same-source b c source before))
         (λ e h. goes.keeps.narrows e (tried-narrows refuses_of b c (still-narrows b c source good) e h));
     unspent = omega (arith, ap (λ s. read.faults s.inner) source, goes.unspent);
   }

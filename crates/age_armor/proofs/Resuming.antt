@@ -1,5 +1,5 @@
 -- What a reader knows of its text, and how it is read on from a mark.
-use Rattle.std.proofs.Common.{◌≡◌, ◌∙◌, inl, inr, ℕ, ◌+◌, ◌-◌, ◌%◌, ◌<◌, ◌≤◌, ◌⊎◌, Bool, true, false, IsTrue, List, [], ◌∷◌, ◌++◌, length, drop, refl, arith, ap, sym, subst, length-append, length-drop}
+use Rattle.std.proofs.Common.{le-ltb, nat_lt, nat_eq, ◌≡◌, ◌∙◌, inl, inr, ℕ, ◌+◌, ◌%◌, ◌<◌, ◌≤◌, ◌⊎◌, Bool, true, false, IsTrue, List, [], ◌∷◌, ◌++◌, length, drop, refl, arith, ap, sym, subst, length-append, length-drop}
 use Rattle.std.proofs.lemmas.Bool.{true≢false}
 use Rattle.std.proofs.lemmas.List.{drop-drop, nil_from_length}
 use Rattle.age_io.specs.Stretch.{Stretch, nothing, from_place, stretch-ext, IsCleanEnd}
@@ -8,9 +8,11 @@ use Rattle.age_io.specs.BehindLaws.{held-empty}
 use Rattle.age_armor.specs.declared.marks.Marks.{Marks}
 use Rattle.age_armor.specs.declared.stages.Stage.{Stage}
 use Rattle.age_armor.specs.declared.stages.Stage.TheVariants.{Start, Binary, Lines, Ended}
-use Rattle.age_armor.specs.Stages.{ahead, Advances, is_start, is_armored, is_ended}
+use Rattle.age_armor.specs.Stages.{ahead, Advances, FindsForm, is_start, is_armored, is_ended}
 use Rattle.age_armor.specs.Ahead.{outcome_ahead, rest_ahead}
-use Rattle.age_armor.specs.Delivered.{Outcome, prepend, stretch_of, raw_lines, delivered, begins_armor}
+use Rattle.std.specs.List.{starts_with}
+use Rattle.age_armor.specs.Armor.{begin_marker}
+use Rattle.age_armor.specs.Delivered.{Outcome, Clean, at_end, is_clean, prepend, stretch_of, raw_lines, delivered, begins_armor}
 use Rattle.age_armor.specs.DeliveredLaws.{content_of, stands_follows}
 use Rattle.age_armor.specs.Marks.{Resumes, IsLength, Knows}
 use Rattle.age_armor.specs.ReaderLaws.{nothing_delivered}
@@ -34,25 +36,23 @@ some_before rest new front d some gone =
     let none : [] ≡ front ++ new.bytes = ap (λ s. s.bytes) (sym gone) ∙ d.bytes in
     some (stretch-ext new nothing (nil_from_length new.bytes (omega (arith, ap length none, length-append front new.bytes))) (d.end ∙ ap (λ s. s.ends_well) gone))
 
--- the text behind the bytes that were taken is the content behind the place
-pub behind_taken : (content : Stretch) (place taken : ℕ) → taken ≤ place → from_place taken (from_place (place - taken) content) ≡ from_place place content
-behind_taken content place taken behind =
-    let origin : place - taken + taken ≡ place = omega (arith, behind) in
-    ap (λ bytes. stretch bytes content.ends_well) (drop-drop taken (place - taken) content.bytes ∙ ap (λ n. drop n content.bytes) origin)
+-- behind the front and so many bytes, or behind these bytes of the text
+pub along_text : (content : Stretch) (origin taken : ℕ) → from_place (origin + taken) content ≡ from_place taken (from_place origin content)
+along_text content origin taken = ap (λ bytes. stretch bytes content.ends_well) (sym (drop-drop taken origin content.bytes))
   where
     stretch : List ℕ → Bool → Stretch
     stretch bytes ends_well = record { bytes = bytes; ends_well = ends_well }
 
 -- ---- a line that was read can be read again
 
-module _ (content rest : Stretch) (at taken : ℕ) (place : ℕ) (bytes : List ℕ) (given filled : ℕ) where
-  pub resumes_line : (stage : Stage) (after : Outcome) (front : List ℕ) → stage ≡ Lines false → taken ≤ at → StandsIn content at rest → filled ≤ length bytes → filled ≤ given →
-      Advances (ahead stage rest) front after → 0 < length front → place ≤ length (content_of content (at - taken)).bytes →
-      ((rest_ahead false bytes given filled stage rest ≡ nothing → ⊥) → rest_ahead false bytes given filled stage rest ≡ from_place place (content_of content (at - taken))) →
+module _ (content rest : Stretch) (at origin taken : ℕ) (place : ℕ) (bytes : List ℕ) (given filled : ℕ) where
+  pub resumes_line : (stage : Stage) (after : Outcome) (front : List ℕ) → stage ≡ Lines false → origin + taken ≡ at → StandsIn content at rest → filled ≤ length bytes → filled ≤ given →
+      Advances (ahead stage rest) front after → 0 < length front → place ≤ length (content_of content origin).bytes →
+      ((rest_ahead false bytes given filled stage rest ≡ nothing → ⊥) → rest_ahead false bytes given filled stage rest ≡ from_place place (content_of content origin)) →
       ((rest_ahead false bytes given filled stage rest ≡ nothing → ⊥) →
-      (outcome_ahead bytes given filled stage rest).ending ≡ (delivered (drop (at - taken) content.bytes) content.ends_well).ending) →
-      is_armored stage ≡ begins_armor (from_place (at - taken) content).bytes →
-      Resumes (from_place (at - taken) content) (Lines false) place taken
+      (outcome_ahead bytes given filled stage rest).ending ≡ (delivered (drop origin content.bytes) content.ends_well).ending) →
+      FindsForm (is_armored stage) (from_place origin content).bytes →
+      Resumes (from_place origin content) (Lines false) place taken
   unfolding rest_ahead outcome_ahead
   resumes_line stage after front lines behind stands full empty advances some within follows ends form =
       let none = held-empty bytes given filled full empty in
@@ -61,12 +61,12 @@ module _ (content rest : Stretch) (at taken : ℕ) (place : ℕ) (bytes : List �
       let no_bytes : [] ≡ front ++ after.bytes = ap (λ s. s.bytes) (sym gone) ∙ bytes_ahead in
       omega (arith, ap length no_bytes, length-append front after.bytes, some) in
       let here : rest ≡ from_place at content = stands_follows content rest at stands (λ gone. left (rw gone refl)) in
-      let same : from_place taken (from_place (at - taken) content) ≡ rest = behind_taken content at taken behind ∙ sym here in
+      let same : from_place taken (from_place origin content) ≡ rest = sym (along_text content origin taken) ∙ ap (λ n. from_place n content) behind ∙ sym here in
       record {
         rest = ap (λ s. stretch_of (ahead (Lines false) s)) same ∙ (rw (lines, none) at follows) left;
         ending = ap (λ s. (ahead (Lines false) s).ending) same ∙ (rw (lines, none) at ends) left;
         within = within;
-        reaches = omega (arith, length-drop (at - taken) content.bytes, stands.within, behind);
+        reaches = omega (arith, length-drop origin content.bytes, stands.within, behind);
         form = λ begun. rw lines at form;
       }
 
@@ -107,11 +107,11 @@ still_full (Lines false) next place count opens form first lines short full is =
 still_full Ended next place count opens form first lines short full is = absurd (true≢false opens)
 
 -- in armor bytes come at the front, or after full lines
-pub after_full : (stage : Stage) (place count : ℕ) (text : List ℕ) → is_ended stage ≡ false → (is_start stage ≡ false → is_armored stage ≡ begins_armor text) →
+pub after_full : (stage : Stage) (place count : ℕ) (text : List ℕ) → is_ended stage ≡ false → (is_start stage ≡ false → FindsForm (is_armored stage) text) →
     (is_start stage ≡ true → place ≡ 0) → (stage ≡ Lines false → place % 48 ≡ 0) → (stage ≡ Lines true → count ≡ 0) → count ≤ 48 →
     IsTrue (begins_armor text) → 0 < count → (place % 48 ≡ 0) × (count ≤ 48) × ((stage ≡ Lines false) ⊎ (place ≡ 0))
 after_full Start place count text opens form first lines short fits armored some = (omega (arith, first refl), fits, inr (first refl))
-after_full Binary place count text opens form first lines short fits armored some = absurd (true≢false (sym armored ∙ sym (form refl)))
+after_full Binary place count text opens form first lines short fits armored some = absurd (true≢false (sym armored ∙ sym (form refl).same))
 after_full (Lines true) place count text opens form first lines short fits armored some = absurd (omega (arith, short refl, some))
 after_full (Lines false) place count text opens form first lines short fits armored some = (lines refl, fits, inl refl)
 after_full Ended place count text opens form first lines short fits armored some = absurd (true≢false opens)
@@ -139,13 +139,6 @@ starts_at content rest place bytes stands some =
 
 -- ---- a reader that is taken to a mark
 
--- behind the front and so many bytes, or behind these bytes of the text
-along_text : (content : Stretch) (origin taken : ℕ) → from_place (origin + taken) content ≡ from_place taken (from_place origin content)
-along_text content origin taken = ap (λ bytes. stretch bytes content.ends_well) (sym (drop-drop taken origin content.bytes))
-  where
-    stretch : List ℕ → Bool → Stretch
-    stretch bytes ends_well = record { bytes = bytes; ends_well = ends_well }
-
 pub resumed_rest : (content rest : Stretch) (origin place taken : ℕ) (stage : Stage) (bytes : List ℕ) → Resumes (from_place origin content) stage place taken →
     rest ≡ from_place (origin + taken) content → rest_ahead false bytes 0 0 stage rest ≡ from_place place (content_of content origin)
 unfolding rest_ahead
@@ -157,3 +150,59 @@ pub resumed_ending : (content rest : Stretch) (origin place taken : ℕ) (stage 
 unfolding outcome_ahead
 resumed_ending content rest origin place taken stage bytes resumes here =
     ap (λ s. (ahead stage s).ending) (here ∙ along_text content origin taken) ∙ resumes.ending
+
+-- ---- a binary text
+
+-- it passes unchanged
+pub carried_binary : (text : Stretch) → FindsForm false text.bytes →
+    delivered text.bytes text.ends_well ≡ record { bytes = text.bytes; ending = at_end text.ends_well Clean }
+unfolding delivered
+carried_binary text form =
+    let long : nat_lt (length text.bytes) 36 ≡ false = le-ltb (length text.bytes) 36 form.long in
+    let plain : starts_with nat_eq text.bytes begin_marker ≡ false = sym form.same in
+    rw (long, plain) refl
+
+-- so it can be read on from each of its places
+pub resumes_binary : (text : Stretch) (place : ℕ) → FindsForm false text.bytes → place ≤ length text.bytes → Resumes text Binary place place
+resumes_binary text place form within =
+    let is = carried_binary text form in
+    record {
+      rest = sym (ap (λ o. from_place place (stretch_of o)) is);
+      ending = sym (ap (λ o. o.ending) is);
+      within = subst (λ o. place ≤ length o.bytes) (sym is) within;
+      reaches = within;
+      form = λ begun. form;
+    }
+
+ends_clean : (w : Bool) → IsTrue w → IsTrue (is_clean (at_end w Clean))
+ends_clean true well = well
+ends_clean false well = well
+
+-- of such a text the length is that of what it carries
+pub length_binary : (text : Stretch) (n : ℕ) → FindsForm false text.bytes → n ≡ length text.bytes → IsTrue text.ends_well → IsLength text n
+length_binary text n form same well =
+    let is = carried_binary text form in
+    record { well = subst (λ o. IsTrue (is_clean o.ending)) (sym is) (ends_clean text.ends_well well); same = same ∙ ap (λ o. length o.bytes) (sym is) }
+
+-- a text that doesn't begin as armor does is binary once anything was read
+pub is_plain : (stage : Stage) → is_start stage ≡ false → is_armored stage ≡ false → (stage ≡ Binary → ⊥) → ⊥
+is_plain Start begun plain other = true≢false begun
+is_plain Binary begun plain other = other refl
+is_plain (Lines s) begun plain other = true≢false plain
+is_plain Ended begun plain other = true≢false plain
+
+-- and any other begins so
+pub armored_stage : (stage : Stage) (text : Stretch) → is_start stage ≡ false → FindsForm (is_armored stage) text.bytes → (stage ≡ Binary → ⊥) →
+    IsTrue (begins_armor text.bytes)
+armored_stage Start text begun form other = absurd (true≢false begun)
+armored_stage Binary text begun form other = absurd (other refl)
+armored_stage (Lines s) text begun form other = sym form.same
+armored_stage Ended text begun form other = sym form.same
+
+-- at its clean end nothing is left of it
+pub clean_binary : (bytes : List ℕ) (stage : Stage) (rest : Stretch) → stage ≡ Binary → IsCleanEnd rest → IsCleanEnd (rest_ahead false bytes 0 0 stage rest)
+unfolding rest_ahead
+clean_binary bytes stage rest binary clean = rw binary (record {
+  bytes = clean.bytes;
+  ends_well = ends_clean rest.ends_well clean.ends_well;
+})

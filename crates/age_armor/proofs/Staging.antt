@@ -73,7 +73,7 @@ begins_same front old mid size d =
 pub finds_form : (front : List ℕ) (old mid : Stretch) (armored : Bool) → length front ≡ 35 → Delivers front old mid → 0 < length mid.bytes →
     starts_with nat_eq front begin_marker ≡ armored → FindsForm armored old.bytes
 finds_form front old mid armored size d some is = record {
-  some = omega (arith, some, ap length d.bytes ∙ length-append front mid.bytes);
+  long = omega (arith, size, some, ap length d.bytes ∙ length-append front mid.bytes);
   same = sym (begins_same front old mid size d ∙ is);
 }
 

@@ -5,7 +5,7 @@ use Rattle.age_armor.specs.declared.stages.Stage.{Stage}
 use Rattle.age_armor.specs.declared.stages.Stage.TheVariants.{Lines}
 use Rattle.age_armor.specs.declared.marks.Marks.{Marks}
 use Rattle.age_armor.specs.Delivered.{delivered, stretch_of, begins_armor}
-use Rattle.age_armor.specs.Stages.{ahead, is_start, is_armored}
+use Rattle.age_armor.specs.Stages.{ahead, FindsForm, is_start, is_armored}
 
 -- what a text carries before its end
 abbrev pub carried : Stretch → Stretch
@@ -17,7 +17,7 @@ pub record Resumes (text : Stretch) (stage : Stage) (place taken : ℕ) : Type 0
   pub ending : (ahead stage (from_place taken text)).ending ≡ (delivered text.bytes text.ends_well).ending
   pub within : place ≤ length (carried text).bytes
   pub reaches : taken ≤ length text.bytes
-  pub form : is_start stage ≡ false → is_armored stage ≡ begins_armor text.bytes
+  pub form : is_start stage ≡ false → FindsForm (is_armored stage) text.bytes
 
 -- the text carries so many bytes, and ends well
 pub record IsLength (text : Stretch) (n : ℕ) : Type 0 where

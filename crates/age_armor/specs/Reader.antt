@@ -35,15 +35,19 @@ module _ {R : Type 0} {buf : buffered.Ghosts R} {read : readers.Ghosts R} where
 
   -- how many bytes of the text were taken from the reader that gives it
   abbrev pub taken_of : ArmoredReader R buf read → ℕ
-  taken_of r = r.source.taken
+  taken_of r = r.source.taken - r.preceding
+
+  -- the place in the content of that reader at which the text begins
+  abbrev pub origin_of : ArmoredReader R buf read → ℕ
+  origin_of r = read.place r.source.inner - r.source.taken + r.preceding
 
   -- the text: what stands in the content of that reader from where it stood when this one was made
   abbrev pub text_of : ArmoredReader R buf read → Stretch
-  text_of r = from_place (read.place r.source.inner - r.source.taken) (read.content r.source.inner)
+  text_of r = from_place (origin_of r) (read.content r.source.inner)
 
   -- what the whole text delivers, and how it ends
   abbrev pub text_outcome_of : ArmoredReader R buf read → Outcome
-  text_outcome_of r = text_outcome (read.content r.source.inner) (read.place r.source.inner - r.source.taken)
+  text_outcome_of r = text_outcome (read.content r.source.inner) (origin_of r)
 
   -- how many lines were taken of it
   abbrev pub lines_of : ArmoredReader R buf read → ℕ
@@ -69,7 +73,7 @@ module _ {R : Type 0} {buf : buffered.Ghosts R} {read : readers.Ghosts R} where
 
   -- what the text delivers from where the inner reader stood when this reader was made
   abbrev pub armored_content : ArmoredReader R buf read → Stretch
-  armored_content r = content_of (read.content r.source.inner) (read.place r.source.inner - r.source.taken)
+  armored_content r = content_of (read.content r.source.inner) (origin_of r)
 
   -- how many bytes of that stand before the place
   abbrev pub place_of : ArmoredReader R buf read → ℕ
@@ -108,4 +112,4 @@ module _ {R : Type 0} {buf : buffered.Ghosts R} {read : readers.Ghosts R} where
     pub reaches : IsTrue (read.tells (inner_of old)) → OnOk result (place_of new + length (shown_of new) ≤ furthest_of new)
     pub lines : (lines_of old ≤ lines_of new) × (lines_of new ≤ lines_of old + 1)
     pub bare : IsTrue (read.tells (inner_of old)) → IsTrue (read.steady (inner_of old)) → begins_armor (text_of old).bytes ≡ false →
-        OnOk result (lines_of new ≡ lines_of old)
+        lines_of new ≡ lines_of old

@@ -1,5 +1,5 @@
 -- What a reader of armor has before it, by what it has found so far.
-use Rattle.std.specs.Prelude.{◌≡◌, ℕ, ◌<◌, Bool, true, false, not, List, [], length}
+use Rattle.std.specs.Prelude.{◌≡◌, ℕ, ◌≤◌, ◌<◌, Bool, true, false, not, List, [], length}
 use Rattle.age_io.specs.Stretch.{Stretch}
 use Rattle.age_error.specs.declared.io.Error.{Error}
 use Rattle.age_armor.specs.declared.stages.Stage.{Stage}
@@ -51,9 +51,9 @@ pub record Stops (before : Outcome) (e : Error) : Type 0 where
   pub nothing : before.bytes ≡ []
   pub named : IsNamed before.ending e
 
--- the text has bytes, and it was found out whether it begins as armor does
+-- the text has as many bytes as it takes to find out whether it begins as armor does
 pub record FindsForm (armored : Bool) (text : List ℕ) : Type 0 where
-  pub some : 0 < length text
+  pub long : 36 ≤ length text
   pub same : armored ≡ begins_armor text
 
 -- a binary text that begins with so many bytes, or lines that are still to be read

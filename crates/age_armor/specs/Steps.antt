@@ -1,5 +1,5 @@
 -- What the steps of a reader of armor say of it, before and after.
-use Rattle.std.specs.Prelude.{◌≡◌, ℕ, ◌+◌, ◌-◌, ◌≤◌, ◌<◌, false, IsTrue, List, [], length, drop, Result, Ok, IfOk, OnOk, OnErr, ⊤, ◌≢◌, ◌*◌, Bool, true, Err, IfErr}
+use Rattle.std.specs.Prelude.{◌≡◌, ◌⊎◌, ℕ, ℤ, ◌+◌, ◌-◌, ◌≤◌, ◌<◌, false, IsTrue, List, [], length, drop, Result, Ok, IfOk, OnOk, OnErr, ⊤, ◌≢◌, ◌*◌, Bool, true, Err, IfErr}
 use Rattle.age_error.specs.declared.io.Error.{Error}
 use Rattle.age_io.specs.declared.traits.Read as readers
 use Rattle.age_io.specs.declared.bufread.BufRead as buffered
@@ -11,12 +11,14 @@ use Rattle.age_armor.specs.Delivered.{begins_armor}
 use Rattle.age_armor.specs.Ending.{KeepsEnding}
 use Rattle.age_armor.specs.Marks.{LearnsMore}
 use Rattle.age_armor.specs.Stages.{is_start, IsNamed}
-use Rattle.age_armor.specs.Reader.{inner_of, has_failed, has_armor, text_of, outcome_of, lines_of, marks_of, knows_end, place_of, armored_rest, shown_of, text_outcome_of, furthest_of, notes_all, armored_content, refuses_of}
+use Rattle.age_armor.specs.Reader.{inner_of, taken_of, armored_reader, has_failed, has_armor, text_of, outcome_of, lines_of, marks_of, knows_end, place_of, armored_rest, shown_of, text_outcome_of, furthest_of, notes_all, armored_content, refuses_of}
 use Rattle.age_error.specs.declared.io.Error.TheVariants.{OutOfMemory}
 use Rattle.age_error.specs.declared.io.SeekFrom.{SeekFrom}
-use Rattle.age_io.specs.Reading.{IsQuiet, AddsNoReason}
+use Rattle.age_error.specs.declared.io.SeekFrom.TheVariants.{End}
+use Rattle.age_io.specs.Reading.{IsQuiet, AddsNoReason, TriedAgain, most_faults}
+use Rattle.age_io.specs.Keeping.{SameReader, OrSeek}
 use Rattle.age_io.specs.Cursor.{IsOutside, MayLead, sought}
-use Rattle.age_armor.specs.Seeking.{AsksPast, IsNear}
+use Rattle.age_armor.specs.Seeking.{Goes, OrAstray, AsksPast, IsNear}
 
 module _ {R : Type 0} {buf : buffered.Ghosts R} {read : readers.Ghosts R} where
   -- of a reader that tells its bytes, and of one that is steady besides
@@ -26,13 +28,18 @@ module _ {R : Type 0} {buf : buffered.Ghosts R} {read : readers.Ghosts R} where
   abbrev pub WhereSteady : ArmoredReader R buf read → Type 0 → Type 0
   WhereSteady r fact = IsTrue (read.tells (inner_of r)) → IsTrue (read.steady (inner_of r)) → fact
 
+  -- of one whose text isn't armor
+  abbrev pub WherePlain : ArmoredReader R buf read → Type 0 → Type 0
+  WherePlain r fact = WhereSteady r (begins_armor (text_of r).bytes ≡ false → fact)
+
   -- ---- each step
 
-  -- the text is the same, what is known of it only grows, and so does the count of lines
+  -- the text is the same, what is known of it only grows, and so does the count of lines, of which a binary text has none
   pub record KeepsText (old new : ArmoredReader R buf read) : Type 0 where
     pub same_text : WhereTold old (text_of new ≡ text_of old)
     pub learns : LearnsMore (marks_of old) (marks_of new)
     pub counts : lines_of old ≤ lines_of new
+    pub bare : WherePlain old (lines_of new ≡ lines_of old)
 
   -- a success keeps how the text ends, and a refusal that neither the device nor memory made is that end's
   abbrev pub EndsAsBefore : {A : Type 0} → ArmoredReader R buf read → ArmoredReader R buf read → Result A Error → Type 0
@@ -59,6 +66,7 @@ module _ {R : Type 0} {buf : buffered.Ghosts R} {read : readers.Ghosts R} where
   -- what is held is given, and nothing is read
   pub record ReadsNothing (old new : ArmoredReader R buf read) : Type 0 where
     pub source : new.source ≡ old.source
+    pub preceding : new.preceding ≡ old.preceding
     pub stage : new.stage ≡ old.stage
     pub marks : marks_of new ≡ marks_of old
     pub fresh : new.failed ≡ false
@@ -84,6 +92,10 @@ module _ {R : Type 0} {buf : buffered.Ghosts R} {read : readers.Ghosts R} where
   -- a reader that hasn't failed comes to the text's own end
   abbrev pub EndsAsText : ArmoredReader R buf read → ArmoredReader R buf read → Type 0
   EndsAsText old new = WhereSteady old (has_failed new ≡ false → (outcome_of new).ending ≡ (text_outcome_of old).ending)
+
+  -- nothing was read of a text
+  abbrev pub IsNew : ArmoredReader R buf read → Type 0
+  IsNew r = (is_start r.stage ≡ true) × (furthest_of r ≡ 0)
 
   -- ---- to a mark, and on from there
 
@@ -112,11 +124,21 @@ module _ {R : Type 0} {buf : buffered.Ghosts R} {read : readers.Ghosts R} where
     pub short : WhereSteady old (armored_rest old ≡ from_place (place_of old) (armored_content old) → IfErr result (λ e. e ≢ OutOfMemory →
         IsQuiet (read.faults (inner_of old)) (read.faults (inner_of new)) → ((armored_content old).ends_well ≡ false) × (length (armored_content old).bytes < target)))
 
-  -- each line but the last that it takes stands for 48 bytes on the way, and of a binary text it takes none
-  pub record CountsLines (old new : ArmoredReader R buf read) (target : ℕ) (result : Result Bool Error) : Type 0 where
-    pub lines : WhereSteady old (armored_rest old ≡ from_place (place_of old) (armored_content old) → target ≤ length (armored_content old).bytes →
-        IfOk result (λ there. IsTrue there → 48 * lines_of new + place_of old < 48 * lines_of old + target + 48))
-    pub bare : WhereSteady old (begins_armor (text_of old).bytes ≡ false → OnOk result (lines_of new ≡ lines_of old))
+  -- each line but the last that it takes stands for 48 bytes on the way
+  abbrev pub CountsLines : ArmoredReader R buf read → ArmoredReader R buf read → ℕ → Result Bool Error → Type 0
+  CountsLines old new target result = WhereSteady old (armored_rest old ≡ from_place (place_of old) (armored_content old) →
+      target ≤ length (armored_content old).bytes → IfOk result (λ there. IsTrue there → 48 * lines_of new + place_of old < 48 * lines_of old + target + 48))
+
+  -- it stands in what the text carries, which is what it was, and hasn't failed
+  pub record Came (old new : ArmoredReader R buf read) : Type 0 where
+    pub same : SameReader armored_reader old new
+    pub narrows : AddsNoReason (TriedAgain refuses_of) old new
+    pub unspent : read.faults (inner_of new) < most_faults
+    pub text : KeepsText old new
+    pub good : has_failed new ≡ false
+    pub stands : WhereSteady old (armored_rest new ≡ from_place (place_of new) (armored_content old))
+    pub within : WhereSteady old (place_of new ≤ length (armored_content old).bytes)
+    pub ending : WhereSteady old ((outcome_of new).ending ≡ (text_outcome_of old).ending)
 
   -- ---- to where a seek asks for
 
@@ -136,6 +158,31 @@ module _ {R : Type 0} {buf : buffered.Ghosts R} {read : readers.Ghosts R} where
     pub named : IsTrue (read.tells (inner_of old)) → IsTrue (read.content (inner_of old)).ends_well →
         IfErr result (λ e. (IsOutside e → ⊥) → e ≢ OutOfMemory → IsQuiet (read.faults (inner_of old)) (read.faults (inner_of new)) →
         IsNamed (text_outcome_of old).ending e × AsksPast to (place_of old) (length (armored_content old).bytes))
+
+  -- to a place, or refused
+  pub record GoesTo (seek_refuses : Error → Type 0) (old new : ArmoredReader R buf read) (to : SeekFrom) (result : Result ℕ Error) : Type 0 where
+    pub goes : Goes armored_reader (OrSeek (OrAstray seek_refuses) refuses_of) old new result
+    pub text : KeepsText old new
+    pub reaches : Reaches old new to result
+    pub misses : Misses old new to result
+
+  -- to the end, which is a clean one and known then, or refused as each seek that is counted from it
+  pub record ReachesEnd (seek_refuses : Error → Type 0) (old new : ArmoredReader R buf read) (result : Result ⊤ Error) : Type 0 where
+    pub goes : Goes armored_reader (OrSeek (OrAstray seek_refuses) refuses_of) old new result
+    pub text : KeepsText old new
+    pub came : OnOk result (Came old new)
+    pub end : WhereTold old (OnOk result (IsCleanEnd (armored_rest new)))
+    pub knows : OnOk result (IsTrue (knows_end new))
+    pub misses : IfErr result (λ e. (distance : ℤ) → Misses old new (End distance) (Err e))
+
+  -- the reader that gives the text stands at this place of it, and nothing is held
+  pub record LandsBelow (r : ArmoredReader R buf read) (place : ℕ) : Type 0 where
+    pub taken : taken_of r ≡ place
+    pub shown : shown_of r ≡ []
+
+  -- in a text that isn't armor it does after a success, unless nothing was done
+  abbrev pub StandsBelow : ArmoredReader R buf read → ArmoredReader R buf read → Result ℕ Error → Type 0
+  StandsBelow old new result = WherePlain old (IfOk result (λ n. (new ≡ old) ⊎ LandsBelow new n))
 
   -- after a success the end is known, and it is a clean one
   pub record FindsEnd {A : Type 0} (old new : ArmoredReader R buf read) (result : Result A Error) : Type 0 where

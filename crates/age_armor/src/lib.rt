@@ -8,6 +8,7 @@ mod format;
 mod gathering;
 mod judging;
 mod laws;
+mod leaping;
 mod marks;
 mod reader;
 mod seeking;

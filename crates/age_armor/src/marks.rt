@@ -96,6 +96,24 @@ impl Marks {
         }
     }
 
+    /// Takes note that a place of a binary text was come to, which has no marks.
+    pub(crate) fn reach(&mut self, place: u64)
+        ensures knows { (steady : Bool) (text : Stretch) → Knows steady text self.old → (IsTrue steady → place ≤ length (carried text).bytes) →
+            (IsTrue steady → begins_armor text.bytes ≡ false) → Knows steady text self.new }
+        ensures reaches { place ≤ self.new.furthest }
+        ensures more { LearnsMore self.old self.new }
+    {
+        self.furthest = self.furthest.max(place);
+    }
+
+    /// Whether nothing was read that a text carries.
+    pub(crate) fn knows_none(&self) -> bool
+        ensures yes { IsTrue result → self.now.furthest ≡ 0 }
+        ensures no { result ≡ false → self.now.furthest ≡ 0 → ⊥ }
+    {
+        self.furthest == 0
+    }
+
     /// The last mark that isn't after a place, or the front of the text.
     pub(crate) fn last(&self, place: u64) -> Mark
         ensures each { (steady : Bool) (text : Stretch) → Knows steady text self.now →
@@ -105,6 +123,7 @@ impl Marks {
         ensures front { is_start result.stage ≡ true → (result.taken ≡ 0) × (result.place ≡ 0) }
         ensures going { is_ended result.stage ≡ false }
         ensures whole { result.place % 48 ≡ 0 }
+        ensures zero { result.place ≡ 0 → is_start result.stage ≡ true }
     {
         let front = Mark {
             stage: Stage::Start,

@@ -10,7 +10,7 @@ ghost use Rattle.age_io.specs.Filling.{IsFront, Consumes};
 ghost use Rattle.age_io.specs.Failing.{FailsForGood};
 ghost use Rattle.age_armor.specs.Armor.{Carries};
 ghost use Rattle.age_armor.specs.Delivered.{stretch_of, delivered, begins_armor};
-ghost use Rattle.age_armor.specs.Stages.{is_start, is_armored, is_ended};
+ghost use Rattle.age_armor.specs.Stages.{FindsForm, is_start, is_armored, is_ended};
 ghost use Rattle.age_armor.specs.Ending.{KeepsEnding};
 ghost use Rattle.age_armor.specs.Refusing.{OrText};
 ghost use Rattle.age_armor.specs.declared.stages.Stage.TheVariants.{Binary};
@@ -40,6 +40,9 @@ use std::fmt;
 #[derive(Drop)]
 pub struct ArmoredReader<R: BufRead> {
     pub(crate) source: Counted<R>,
+    // How many of the counted bytes precede the text: none until the inner reader was asked for its place, and from then on all
+    // that stand before it.
+    pub(crate) preceding: u64,
     decoder: Decoder,
     pub(crate) stage: Stage,
     // The text of a line, where the inner reader doesn't show it in one piece.
@@ -55,31 +58,35 @@ pub struct ArmoredReader<R: BufRead> {
     ghost order: { given ≤ filled },
     ghost within: { filled ≤ 48 },
     ghost fresh: { is_start stage ≡ true → given ≡ filled },
-    ghost untaken: { failed ≡ false → is_start stage ≡ true → source.taken ≡ 0 },
+    ghost untaken: { failed ≡ false → is_start stage ≡ true → source.taken ≡ preceding },
     ghost form: { IsTrue (R.Read.tells source.inner) → IsTrue (R.Read.steady source.inner) → is_start stage ≡ false →
-        is_armored stage ≡ begins_armor (from_place (R.Read.place source.inner - source.taken) (R.Read.content source.inner)).bytes },
+        FindsForm (is_armored stage) (from_place (R.Read.place source.inner - source.taken + preceding) (R.Read.content source.inner)).bytes },
     ghost unspent: { failed ≡ false → is_start stage ≡ false → R.Read.faults source.inner < most_faults },
-    ghost counted: { IsTrue (R.Read.tells source.inner) → failed ≡ false → place + (filled - given) ≤ source.taken },
+    ghost counted: { IsTrue (R.Read.tells source.inner) → failed ≡ false → place + (filled - given) + preceding ≤ source.taken },
     ghost fits: { IsTrue (R.Read.tells source.inner) → place < 2 ^ 63 },
     ghost inside: { IsTrue (R.Read.tells source.inner) → IsTrue (R.Read.steady source.inner) →
-        place ≤ length (content_of (R.Read.content source.inner) (R.Read.place source.inner - source.taken)).bytes },
+        place ≤ length (content_of (R.Read.content source.inner) (R.Read.place source.inner - source.taken + preceding)).bytes },
     ghost follows: { IsTrue (R.Read.tells source.inner) → IsTrue (R.Read.steady source.inner) →
         (rest_ahead failed bytes given filled stage (R.Read.rest source.inner) ≡ nothing → ⊥) →
         rest_ahead failed bytes given filled stage (R.Read.rest source.inner)
-        ≡ from_place place (content_of (R.Read.content source.inner) (R.Read.place source.inner - source.taken)) },
+        ≡ from_place place (content_of (R.Read.content source.inner) (R.Read.place source.inner - source.taken + preceding)) },
     ghost ends: { IsTrue (R.Read.tells source.inner) → IsTrue (R.Read.steady source.inner) →
         (rest_ahead failed bytes given filled stage (R.Read.rest source.inner) ≡ nothing → ⊥) →
         (outcome_ahead bytes given filled stage (R.Read.rest source.inner)).ending
-        ≡ (text_outcome (R.Read.content source.inner) (R.Read.place source.inner - source.taken)).ending },
+        ≡ (text_outcome (R.Read.content source.inner) (R.Read.place source.inner - source.taken + preceding)).ending },
     ghost known: { IsTrue (R.Read.tells source.inner) → Knows (R.Read.steady source.inner)
-        (from_place (R.Read.place source.inner - source.taken) (R.Read.content source.inner)) marks },
+        (from_place (R.Read.place source.inner - source.taken + preceding) (R.Read.content source.inner)) marks },
     ghost done: { is_ended stage ≡ true → is_known marks.length ≡ true },
     ghost here: { IsTrue (R.Read.tells source.inner) → IsTrue (R.Read.steady source.inner) → failed ≡ false → is_start stage ≡ false →
         (rest_ahead failed bytes given filled stage (R.Read.rest source.inner)
-        ≡ from_place place (content_of (R.Read.content source.inner) (R.Read.place source.inner - source.taken)))
+        ≡ from_place place (content_of (R.Read.content source.inner) (R.Read.place source.inner - source.taken + preceding)))
         × ((outcome_ahead bytes given filled stage (R.Read.rest source.inner)).ending
-        ≡ (text_outcome (R.Read.content source.inner) (R.Read.place source.inner - source.taken)).ending) },
+        ≡ (text_outcome (R.Read.content source.inner) (R.Read.place source.inner - source.taken + preceding)).ending) },
     ghost paced: { IsTrue (R.Read.tells source.inner) → failed ≡ false → IsPaced stage place (filled - given) marks.furthest },
+    ghost behind: { IsTrue (R.Read.tells source.inner) → IsTrue (R.Read.steady source.inner) → preceding ≤ source.taken },
+    ghost unread: { IsTrue (R.Read.tells source.inner) → IsTrue (R.Read.steady source.inner) → is_start stage ≡ true → 0 < marks.furthest →
+        IsTrue (begins_armor (from_place (R.Read.place source.inner - source.taken + preceding) (R.Read.content source.inner)).bytes) },
+    ghost begins: { IsTrue (R.Read.tells source.inner) → R.Read.place source.inner - source.taken + preceding < 2 ^ 63 },
 }
 
 impl<R: BufRead> Read for ArmoredReader<R> {
@@ -104,14 +111,14 @@ impl<R: BufRead> Read for ArmoredReader<R> {
     ghost spent = { λ r told is. spent_ahead r.failed r.bytes r.given r.filled r.stage (R.Read.rest r.source.inner)
         (R.Read.faults r.source.inner) r.fresh r.unspent is (R.Read.spent r.source.inner told is) };
 
-    ghost well = { λ r told well. R.Read.well r.source.inner told (well_inner (R.Read.content r.source.inner) (R.Read.place r.source.inner - r.source.taken) well) };
+    ghost well = { λ r told well. R.Read.well r.source.inner told (well_inner (R.Read.content r.source.inner) (R.Read.place r.source.inner - r.source.taken + r.preceding) well) };
 
     ghost stands = { λ r told steady. stands_by (armored_content r) (armored_rest r) r.place (r.inside told steady) (r.follows told steady) };
 
-    ghost are_bytes = { λ r told. content_bytes (R.Read.content r.source.inner) (R.Read.place r.source.inner - r.source.taken)
+    ghost are_bytes = { λ r told. content_bytes (R.Read.content r.source.inner) (R.Read.place r.source.inner - r.source.taken + r.preceding)
         (R.Read.are_bytes r.source.inner told) };
 
-    ghost short = { λ r told. content_short (R.Read.content r.source.inner) (R.Read.place r.source.inner - r.source.taken)
+    ghost short = { λ r told. content_short (R.Read.content r.source.inner) (R.Read.place r.source.inner - r.source.taken + r.preceding)
         (R.Read.are_bytes r.source.inner told) (R.Read.short r.source.inner told) };
 
     ghost place_fits = { λ r told. r.fits told };
@@ -214,6 +221,7 @@ impl<R: BufRead> ArmoredReader<R> {
                 next: 0,
                 left: 0,
             },
+            preceding: 0,
             decoder: Decoder::new(),
             stage: Stage::Start,
             line: Vec::new(alloc),
@@ -342,7 +350,7 @@ impl<R: BufRead> ArmoredReader<R> {
         }
         // Read apart: a refusal leaves the reader's bytes as they are.
         let mut bytes = self.bytes;
-        let taken = self.source.taken;
+        let taken = self.source.taken.saturating_sub(self.preceding);
         match advance(
             &mut self.source,
             &self.decoder,

@@ -1,11 +1,11 @@
 //! Seeks in armor.
-ghost use Rattle.std.specs.Prelude.{◌≡◌, ◌≢◌, ℕ, ◌+◌, ◌-◌, ◌^◌, ◌≤◌, ◌<◌, Bool, true, false, IsTrue, List, [], length, Result, IfOk, IfErr, OnOk, OnErr, Ok, Err, Some, None, IfSome};
+ghost use Rattle.std.specs.Prelude.{◌≡◌, ◌≢◌, ℕ, ◌+◌, ◌^◌, ◌≤◌, ◌<◌, ◌⊎◌, Bool, true, false, IsTrue, List, [], length, Result, IfOk, IfErr, OnOk, OnErr, Ok, Err, Some, None, IfSome};
 ghost use Rattle.age_error.specs.Refusals.{IsDevice, IsInterruption};
 ghost use Rattle.age_error.specs.declared.io.Error.TheVariants.{OutOfMemory, BeforeStart, PastEnd, TooLong};
 ghost use Rattle.age_error.specs.declared.io.SeekFrom.TheVariants.{Start, End, Current};
-ghost use Rattle.age_io.specs.Stretch.{Stretch, nothing, from_place};
+ghost use Rattle.age_io.specs.Stretch.{Stretch, nothing, IsCleanEnd};
 ghost use Rattle.age_io.specs.Reading.{IsQuiet, TriedAgain, most_faults};
-ghost use Rattle.age_io.specs.Keeping.{OrSeek};
+ghost use Rattle.age_io.specs.Keeping.{KeepsReader, OrSeek};
 ghost use Rattle.age_io.specs.Failing.{FailsForGood};
 ghost use Rattle.age_io.specs.Cursor.{Seeks, IsOutside, IsSeekRefusal, place_at as place_by, sought as sought_by};
 ghost use Rattle.age_io.specs.CursorLaws.{or_too_long_no_device, or_failed_no_device};
@@ -13,12 +13,13 @@ ghost use Rattle.age_armor.specs.Delivered.{begins_armor};
 ghost use Rattle.age_armor.specs.Seeking.{Goes, OrAstray, AsksPast, IsEarly, IsFromEnd, IsNear, IsTo, SeeksText, ComesBack};
 ghost use Rattle.age_armor.specs.Marks.{LearnsMore};
 ghost use Rattle.age_armor.specs.Stages.{IsNamed, is_start};
+ghost use Rattle.age_armor.specs.Refusing.{OrText};
+ghost use Rattle.age_armor.specs.declared.stages.Stage.TheVariants.{Binary};
 
-use crate::counted::Counted;
 use crate::reader::ArmoredReader;
 use crate::stages::Stage;
 use age_error::io::{Error, SeekFrom};
-use age_io::{BufRead, Read, Seek, distance_back, is_outside, place_at, seek_retrying, unrefused};
+use age_io::{BufRead, Read, Seek, is_outside, place_at, unrefused};
 
 // The target at this distance from the end. A length of 2^63 or more is `TooLong`.
 fn from_end(len: u64, distance: i64) -> Result<u64, Error>
@@ -40,17 +41,12 @@ fn from_end(len: u64, distance: i64) -> Result<u64, Error>
     }
 }
 
-// The distance from one place to another.
-fn distance(from: u64, to: u64) -> i64
-    requires from { from < 2 ^ 63 }
-    requires to { to < 2 ^ 63 }
-    ensures { (place : ℕ) → from ≤ place → place_by place result ≡ Some (place - from + to) }
+// Whether a text is known to be binary.
+fn is_binary(stage: Stage) -> bool
+    ensures yes { IsTrue result → stage ≡ Binary }
+    ensures no { result ≡ false → stage ≡ Binary → ⊥ }
 {
-    if from <= to {
-        (to - from) as i64
-    } else {
-        distance_back(from - to)
-    }
+    matches!(stage, Stage::Binary)
 }
 
 // Whether anything was read.
@@ -61,46 +57,13 @@ fn has_begun(stage: Stage) -> bool
     !matches!(stage, Stage::Start)
 }
 
-impl<R: BufRead + Seek> Counted<R> {
-    /// Goes to where so many bytes of the text had been taken.
-    #[tactic(auto, using(crate::proofs::AheadLines::ahead_none))]
-    pub(crate) fn go(&mut self, taken: u64) -> Result<(), Error>
-        ensures goes { Goes ⟦<R as Read>⟧ (OrSeek (OrAstray R.Seek.seek_refuses) (TriedAgain R.Read.refuses)) self.old.inner self.new.inner result }
-        ensures taken { OnOk result (self.new.taken ≡ taken) }
-        ensures stays { OnErr result (self.new.taken ≡ self.old.taken) }
-        ensures lines { self.new.lines ≡ self.old.lines }
-        ensures origin { IsTrue (R.Read.tells self.old.inner) →
-            R.Read.place self.new.inner - self.new.taken ≡ R.Read.place self.old.inner - self.old.taken }
-        ensures rest { IsTrue (R.Read.tells self.old.inner) → IsTrue (R.Read.steady self.old.inner) → OnOk result
-            (R.Read.rest self.new.inner ≡ from_place (R.Read.place self.old.inner - self.old.taken + taken) (R.Read.content self.old.inner)) }
-        ensures other { IfErr result (λ e. IsOutside e → ⊥) }
-        ensures cause { IsTrue (R.Read.tells self.old.inner) → IsTrue (R.Read.content self.old.inner).ends_well →
-            R.Read.place self.old.inner - self.old.taken + taken ≤ length (R.Read.content self.old.inner).bytes →
-            IfErr result (λ e. e ≢ OutOfMemory → IsQuiet (R.Read.faults self.old.inner) (R.Read.faults self.new.inner) → ⊥) }
-    {
-        self.left = 0;
-        if self.taken > i64::MAX as u64 || taken > i64::MAX as u64 {
-            return Err(Error::TooLong);
-        }
-        match seek_retrying(
-            &mut self.inner,
-            SeekFrom::Current(distance(self.taken, taken)),
-        ) {
-            Ok(_place) => {
-                self.taken = taken;
-                Ok(())
-            }
-            Err(e) => Err(unrefused(e)),
-        }
-    }
-}
-
 impl<R: BufRead + Seek> ArmoredReader<R> {
-    ghost use Rattle.age_armor.specs.Reader.{inner_of, text_of, furthest_of, notes_all};
+    ghost use Rattle.age_armor.specs.Reader.{inner_of, taken_of, text_of, furthest_of, notes_all, shown_of};
     ghost use Rattle.age_armor.specs.Steps.{WhereSteady, KeepsText, Stands, FailsThere};
 
-    // Goes to the last mark that isn't after a place, or to the front of the text.
+    // Goes to the last mark that isn't after a place, or to the front of the text. A binary text has no marks.
     fn approach(&mut self, target: u64) -> Result<(), Error>
+        requires { self.old.stage ≡ Binary → ⊥ }
         ensures goes { let reader = ⟦<ArmoredReader<R> as Read>⟧ in Goes reader (OrSeek (OrAstray R.Seek.seek_refuses) reader.refuses) self.old self.new result }
         ensures text { KeepsText self.old self.new }
         ensures stands { Stands self.old self.new result }
@@ -108,12 +71,13 @@ impl<R: BufRead + Seek> ArmoredReader<R> {
         ensures near { WhereSteady self.old (IsTrue (notes_all self.old) → IsTrue (begins_armor (text_of self.old).bytes) → target ≤ furthest_of self.old →
             OnOk result (target ≤ self.new.place + 49152)) }
         ensures unread { (self.new.source.lines ≡ self.old.source.lines) × (self.new.marks ≡ self.old.marks) }
+        ensures front { target ≡ 0 → OnOk result ((taken_of self.new ≡ 0) × (shown_of self.new ≡ [])) }
         ensures fails { FailsThere self.old self.new result }
         ensures cause { IsTrue (R.Read.tells (inner_of self.old)) → IsTrue (R.Read.content (inner_of self.old)).ends_well →
             IfErr result (λ e. e ≢ OutOfMemory → IsQuiet (R.Read.faults (inner_of self.old)) (R.Read.faults (inner_of self.new)) → ⊥) }
     {
         let mark = self.marks.last(target);
-        match self.source.go(mark.taken) {
+        match self.source.go(self.preceding.saturating_add(mark.taken)) {
             Err(e) => {
                 self.failed = true;
                 Err(e)
@@ -132,7 +96,7 @@ impl<R: BufRead + Seek> ArmoredReader<R> {
 
 impl<R: BufRead> ArmoredReader<R> {
     ghost use Rattle.age_armor.specs.Reader.{inner_of, has_failed};
-    ghost use Rattle.age_armor.specs.Steps.{KeepsText, EndsAsBefore, ComesTo, WalksAlong, CountsLines};
+    ghost use Rattle.age_armor.specs.Steps.{WhereTold, KeepsText, EndsAsBefore, ComesTo, WalksAlong, CountsLines};
 
     // Reads on to a place, or to a clean end before it, and tells whether it came to the place.
     fn walk(&mut self, target: u64) -> Result<bool, Error>
@@ -146,6 +110,8 @@ impl<R: BufRead> ArmoredReader<R> {
         ensures comes { ComesTo self.old self.new target result }
         ensures along { WalksAlong self.old self.new target result }
         ensures takes { CountsLines self.old self.new target result }
+        ensures begun { WhereTold self.old (self.old.place < target → OnOk result (is_start self.new.stage ≡ false)) }
+        ensures still { self.old.place ≡ target → (result ≡ Ok true) × (self.new ≡ self.old) }
     {
         let mut room = [0; 1024];
         let mut left = target - self.place;
@@ -162,8 +128,8 @@ impl<R: BufRead> ArmoredReader<R> {
 }
 
 impl<R: BufRead + Seek> ArmoredReader<R> {
-    ghost use Rattle.age_armor.specs.Reader.{furthest_of, armored_content};
-    ghost use Rattle.age_armor.specs.Steps.{WhereSteady, KeepsText, Reaches, Misses, FindsEnd, SparesReading, StaysThere};
+    ghost use Rattle.age_armor.specs.Reader.{inner_of, origin_of, place_of, furthest_of, notes_all, knows_end, armored_content, armored_rest};
+    ghost use Rattle.age_armor.specs.Steps.{WhereTold, WhereSteady, WherePlain, KeepsText, IsNew, Stands, FailsThere, LandsBelow, StandsBelow, GoesTo, ReachesEnd, Reaches, Misses, FindsEnd, SparesReading, StaysThere};
 
     // Whether a reader that has begun, and hasn't failed, stands at a place.
     fn is_at(&self, place: u64) -> bool
@@ -176,21 +142,108 @@ impl<R: BufRead + Seek> ArmoredReader<R> {
         has_begun(self.stage)
     }
 
-    // Goes to a place. Nothing is read where it stands there, or where the text is known to end before it.
-    fn go_to(&mut self, target: u64) -> Result<u64, Error>
-        ensures goes { let reader = ⟦<ArmoredReader<R> as Read>⟧ in Goes reader (OrSeek (OrAstray R.Seek.seek_refuses) reader.refuses) self.old self.new result }
-        ensures text { KeepsText self.old self.new }
-        ensures reaches { Reaches self.old self.new (Start target) result }
-        ensures misses { Misses self.old self.new (Start target) result }
-        ensures spares { SparesReading self.old self.new (Start target) result }
-        ensures stays { StaysThere self.old self.new target result }
+    // Whether nothing was read, so that the form of the text isn't known.
+    fn is_new(&self) -> bool
+        ensures yes { IsTrue result → IsNew self.now }
+        ensures no { result ≡ false → IsNew self.now → ⊥ }
     {
-        if self.is_at(target) {
-            return Ok(target);
+        if has_begun(self.stage) {
+            return false;
         }
-        if self.marks.ends_before(target) {
-            return Err(Error::PastEnd);
+        self.marks.knows_none()
+    }
+
+    // Finds out which form the text has, where nothing was read and the target is behind the front: it reads a byte for that.
+    fn find_form(&mut self, target: u64) -> Result<(), Error>
+        ensures keeps { let reader = ⟦<ArmoredReader<R> as Read>⟧ in KeepsReader reader (OrSeek (OrAstray R.Seek.seek_refuses) reader.refuses) self.old self.new result }
+        ensures text { KeepsText self.old self.new }
+        ensures finds { OnOk result ((self.new ≡ self.old) ⊎ (IsNew self.old × (0 < target))) }
+        ensures known { WherePlain self.old (0 < target → OnOk result (is_start self.new.stage ≡ false)) }
+        ensures other { IfErr result (λ e. IsOutside e → ⊥) }
+        ensures misses { IfErr result (λ e. (to : SeekFrom) → ((len : ℕ) → len < target → AsksPast to (place_of self.old) len) → Misses self.old self.new to (Err e)) }
+    {
+        if target == 0 || !self.is_new() {
+            return Ok(());
         }
+        match self.approach(0) {
+            Err(e) => return Err(e),
+            Ok(()) => {}
+        }
+        match self.walk(1) {
+            Err(e) => Err(unrefused(e)),
+            Ok(_there) => Ok(()),
+        }
+    }
+
+    // Goes to the end of a binary text, for which the inner reader is asked.
+    fn jump_to_end(&mut self) -> Result<(), Error>
+        requires { self.old.stage ≡ Binary }
+        ensures below { KeepsReader ⟦<R as Read>⟧ (OrSeek (OrAstray R.Seek.seek_refuses) (OrText ⟦<R as Read>⟧)) (inner_of self.old) (inner_of self.new) result }
+        ensures unspent { OnOk result (R.Read.faults (inner_of self.new) < most_faults) }
+        ensures origin { WhereTold self.old (origin_of self.new ≡ origin_of self.old) }
+        ensures text { KeepsText self.old self.new }
+        ensures stands { Stands self.old self.new result }
+        ensures end { WhereTold self.old (OnOk result (IsCleanEnd (armored_rest self.new))) }
+        ensures knows { OnOk result (IsTrue (knows_end self.new)) }
+        ensures lands { OnOk result (LandsBelow self.new self.new.place) }
+        ensures lines { self.new.source.lines ≡ self.old.source.lines }
+        ensures fails { FailsThere self.old self.new result }
+        ensures cause { IsTrue (R.Read.tells (inner_of self.old)) → IsTrue (R.Read.content (inner_of self.old)).ends_well →
+            IfErr result (λ e. e ≢ OutOfMemory → IsQuiet (R.Read.faults (inner_of self.old)) (R.Read.faults (inner_of self.new)) → ⊥) }
+    {
+        self.failed = true;
+        match self.source.go_to_end(&mut self.preceding) {
+            Err(e) => return Err(e),
+            Ok(()) => {}
+        }
+        if self.source.taken < self.preceding {
+            return Err(Error::Failed);
+        }
+        let len = self.source.taken - self.preceding;
+        self.marks.reach(len);
+        self.marks.learn(Stage::Binary, len, len, 0);
+        self.given = 0;
+        self.filled = 0;
+        self.place = len;
+        self.failed = false;
+        Ok(())
+    }
+
+    // Goes to a place of a binary text, for which the inner reader is asked. A target past the end is refused once it is seen that
+    // this is a clean one.
+    fn jump(&mut self, target: u64) -> Result<u64, Error>
+        requires { self.old.stage ≡ Binary }
+        ensures goes { GoesTo R.Seek.seek_refuses self.old self.new (Start target) result }
+        ensures lands { IfOk result (λ n. LandsBelow self.new n) }
+        ensures lines { self.new.source.lines ≡ self.old.source.lines }
+    {
+        self.failed = true;
+        match self.source.leap(self.preceding.saturating_add(target)) {
+            Err(e) => return Err(e),
+            Ok(there) => {
+                if !there {
+                    return match self.jump_to_end() {
+                        Err(e) => Err(e),
+                        Ok(()) => Err(Error::PastEnd),
+                    };
+                }
+            }
+        }
+        self.marks.reach(target);
+        self.given = 0;
+        self.filled = 0;
+        self.place = target;
+        self.failed = false;
+        Ok(target)
+    }
+
+    // Goes to a place through what stands before it, from the last mark on.
+    fn go_along(&mut self, target: u64) -> Result<u64, Error>
+        requires { self.old.stage ≡ Binary → ⊥ }
+        ensures goes { GoesTo R.Seek.seek_refuses self.old self.new (Start target) result }
+        ensures lines { WhereSteady self.old (IsTrue (notes_all self.old) → target ≤ furthest_of self.old → OnOk result (self.new.source.lines ≤ self.old.source.lines + 1024)) }
+        ensures front { target ≡ 0 → IfOk result (λ n. (self.new.source.lines ≡ self.old.source.lines) × LandsBelow self.new n) }
+    {
         match self.approach(target) {
             Err(e) => return Err(e),
             Ok(()) => {}
@@ -207,25 +260,94 @@ impl<R: BufRead + Seek> ArmoredReader<R> {
         }
     }
 
-    // Goes to a place counted from the end, where the text wasn't read to its end yet. At the end itself it stands then already.
-    fn look_from_end(&mut self, distance: i64) -> Result<u64, Error>
+    // Goes to a place as the form of the text allows, where that is known or the place is the front.
+    fn go_by_form(&mut self, target: u64) -> Result<u64, Error>
+        ensures goes { GoesTo R.Seek.seek_refuses self.old self.new (Start target) result }
+        ensures lines { WhereSteady self.old (IsTrue (notes_all self.old) → target ≤ furthest_of self.old → OnOk result (self.new.source.lines ≤ self.old.source.lines + 1024)) }
+        ensures unread { target ≡ 0 → OnOk result (self.new.source.lines ≡ self.old.source.lines) }
+        ensures lands { WherePlain self.old ((is_start self.old.stage ≡ true → target ≡ 0) → IfOk result (λ n. LandsBelow self.new n)) }
+    {
+        if is_binary(self.stage) {
+            self.jump(target)
+        } else {
+            self.go_along(target)
+        }
+    }
+
+    // Goes to a place. Nothing is asked where it stands there, or where the text is known to end before it.
+    fn go_to(&mut self, target: u64) -> Result<u64, Error>
         ensures goes { let reader = ⟦<ArmoredReader<R> as Read>⟧ in Goes reader (OrSeek (OrAstray R.Seek.seek_refuses) reader.refuses) self.old self.new result }
         ensures text { KeepsText self.old self.new }
-        ensures reaches { Reaches self.old self.new (End distance) result }
-        ensures misses { Misses self.old self.new (End distance) result }
-        ensures finds { FindsEnd self.old self.new result }
+        ensures reaches { Reaches self.old self.new (Start target) result }
+        ensures misses { Misses self.old self.new (Start target) result }
+        ensures spares { SparesReading self.old self.new (Start target) result }
+        ensures stays { StaysThere self.old self.new target result }
+        ensures below { StandsBelow self.old self.new result }
+    {
+        if self.is_at(target) {
+            return Ok(target);
+        }
+        if self.marks.ends_before(target) {
+            return Err(Error::PastEnd);
+        }
+        match self.find_form(target) {
+            Err(e) => return Err(e),
+            Ok(()) => {}
+        }
+        self.go_by_form(target)
+    }
+
+    // Goes to the end of a text that isn't binary: it is read from the last mark on.
+    fn walk_to_end(&mut self) -> Result<(), Error>
+        requires { self.old.stage ≡ Binary → ⊥ }
+        ensures { ReachesEnd R.Seek.seek_refuses self.old self.new result }
     {
         match self.approach(u64::MAX) {
             Err(e) => return Err(e),
             Ok(()) => {}
         }
         match self.walk(u64::MAX) {
-            Err(e) => return Err(unrefused(e)),
-            Ok(there) => {
-                if there {
-                    return Err(Error::TooLong);
-                }
-            }
+            Err(e) => Err(unrefused(e)),
+            Ok(there) => { if there { Err(Error::TooLong) } else { Ok(()) } }
+        }
+    }
+
+    // Goes to the end of a text as its form allows, where that is known.
+    fn end_by_form(&mut self) -> Result<(), Error>
+        ensures end { ReachesEnd R.Seek.seek_refuses self.old self.new result }
+        ensures lands { WherePlain self.old (is_start self.old.stage ≡ false → OnOk result (LandsBelow self.new self.new.place)) }
+    {
+        if is_binary(self.stage) {
+            self.jump_to_end()
+        } else {
+            self.walk_to_end()
+        }
+    }
+
+    // Goes to the end of a text, which it knows from then on.
+    fn reach_end(&mut self) -> Result<(), Error>
+        ensures end { ReachesEnd R.Seek.seek_refuses self.old self.new result }
+        ensures lands { WherePlain self.old (OnOk result (LandsBelow self.new self.new.place)) }
+    {
+        match self.find_form(u64::MAX) {
+            Err(e) => return Err(e),
+            Ok(()) => {}
+        }
+        self.end_by_form()
+    }
+
+    // Goes to a place counted from the end, which isn't known yet. At the end itself it stands then already.
+    fn look_from_end(&mut self, distance: i64) -> Result<u64, Error>
+        ensures goes { let reader = ⟦<ArmoredReader<R> as Read>⟧ in Goes reader (OrSeek (OrAstray R.Seek.seek_refuses) reader.refuses) self.old self.new result }
+        ensures text { KeepsText self.old self.new }
+        ensures reaches { Reaches self.old self.new (End distance) result }
+        ensures misses { Misses self.old self.new (End distance) result }
+        ensures finds { FindsEnd self.old self.new result }
+        ensures below { StandsBelow self.old self.new result }
+    {
+        match self.reach_end() {
+            Err(e) => return Err(e),
+            Ok(()) => {}
         }
         let len = self.place;
         match from_end(len, distance) {
@@ -260,6 +382,7 @@ impl<R: BufRead + Seek> ArmoredReader<R> {
         ensures misses { Misses self.old self.new (End distance) result }
         ensures finds { FindsEnd self.old self.new result }
         ensures spares { SparesReading self.old self.new (End distance) result }
+        ensures below { StandsBelow self.old self.new result }
     {
         match self.marks.length() {
             None => self.look_from_end(distance),
@@ -280,6 +403,7 @@ impl<R: BufRead> ArmoredReader<R> {
         requires fits { IsTrue (R.Read.tells (inner_of self.old)) → place < 2 ^ 63 }
         requires inside { IsTrue (R.Read.tells (inner_of self.old)) → IsTrue (R.Read.steady (inner_of self.old)) → place ≤ length (armored_content self.old).bytes }
         ensures source { self.new.source ≡ self.old.source }
+        ensures preceding { self.new.preceding ≡ self.old.preceding }
         ensures marks { self.new.marks ≡ self.old.marks }
         ensures failed { self.new.failed ≡ true }
         ensures place { self.new.place ≡ place }
@@ -292,7 +416,7 @@ impl<R: BufRead> ArmoredReader<R> {
 
 impl<R: BufRead + Seek> ArmoredReader<R> {
     ghost use Rattle.age_armor.specs.Reader.{inner_of, has_failed, text_outcome_of, armored_content, place_of};
-    ghost use Rattle.age_armor.specs.Steps.{WhereSteady, KeepsText, EndsAsText, FindsEnd, TakesFew};
+    ghost use Rattle.age_armor.specs.Steps.{WhereSteady, KeepsText, StandsBelow, EndsAsText, FindsEnd, TakesFew};
 
     // Back to where it stood, once a seek was refused. After any other error it has failed there, and so has one that had
     // failed before.
@@ -327,6 +451,7 @@ impl<R: BufRead + Seek> ArmoredReader<R> {
             (R.Read.content (inner_of self.old)).ends_well (text_outcome_of self.old).ending result }
         ensures text { KeepsText self.old self.new }
         ensures takes { TakesFew self.old self.new (Start target) result }
+        ensures below { StandsBelow self.old self.new result }
         ensures still { self.old.failed ≡ false → is_start self.old.stage ≡ false → self.old.place ≡ target →
             (result ≡ Ok target) × (self.new ≡ self.old) }
         ensures ending { EndsAsText self.old self.new }
@@ -346,6 +471,7 @@ impl<R: BufRead + Seek> ArmoredReader<R> {
         ensures text { KeepsText self.old self.new }
         ensures finds { FindsEnd self.old self.new result }
         ensures takes { TakesFew self.old self.new (End distance) result }
+        ensures below { StandsBelow self.old self.new result }
         ensures ending { EndsAsText self.old self.new }
     {
         let place = self.place;
@@ -362,6 +488,7 @@ impl<R: BufRead + Seek> ArmoredReader<R> {
             (R.Read.content (inner_of self.old)).ends_well (text_outcome_of self.old).ending result }
         ensures text { KeepsText self.old self.new }
         ensures takes { TakesFew self.old self.new (Current distance) result }
+        ensures below { StandsBelow self.old self.new result }
         ensures still { IsTrue (R.Read.tells (inner_of self.old)) → self.old.failed ≡ false → is_start self.old.stage ≡ false →
             place_by self.old.place distance ≡ Some self.old.place → (result ≡ Ok self.old.place) × (self.new ≡ self.old) }
         ensures ending { (IsEarly (Current distance) (place_of self.old) → ⊥) → EndsAsText self.old self.new }
@@ -381,6 +508,7 @@ impl<R: BufRead + Seek> ArmoredReader<R> {
 
 impl<R: BufRead + Seek> Seek for ArmoredReader<R> {
     ghost use Rattle.age_armor.specs.Reader.{inner_of, has_failed, text_of, outcome_of, text_outcome_of, lines_of, marks_of, furthest_of, notes_all, knows_end, armored_content, place_of, shown_of};
+    ghost use Rattle.age_armor.specs.Steps.{StandsBelow};
 
     ghost seek_refuses = { OrAstray R.Seek.seek_refuses };
 
@@ -388,8 +516,9 @@ impl<R: BufRead + Seek> Seek for ArmoredReader<R> {
 
     /// Moves within what the text carries, and answers the new place in bytes from its front.
     ///
-    /// The text is read on from the last mark that isn't after the target, or else from its front, as far as the target asks,
-    /// and for `SeekFrom::End` once to its end. So a target that stands before the first fault of the text is moved to, and
+    /// In a text that isn't armor the inner reader is asked for the place, counted from where the text begins, and no byte of the text
+    /// is read but the 36 that tell its form. In armor the text is read on from the last mark that isn't after the target, or else
+    /// from its front, as far as the target asks, and for `SeekFrom::End` once to its end. So a target that stands before the first fault of the text is moved to, and
     /// makes a failed reader good again. A target not beyond the furthest place that was come to takes at most 1,024 lines, as
     /// `lines` counts them. Nothing is read for the place at which a reader stands that has begun, nor, once the end was read,
     /// for a target outside of what the text carries. A refusal is
@@ -450,6 +579,12 @@ impl<R: BufRead + Seek> Seek for ArmoredReader<R> {
         // Of a text that ends in a fault the only such refusal is that of a target that is counted from the place.
         ensures early { IsTrue (R.Read.tells (inner_of self.old)) → IsTrue (R.Read.steady (inner_of self.old)) → (armored_content self.old).ends_well ≡ false →
             IfErr result (λ e. IsOutside e → (e ≡ BeforeStart) × IsEarly to (place_of self.old)) }
+
+        // In a text that isn't armor no line is taken, and where it moves, the inner reader stands at the place itself, counted from where
+        // the text begins: nothing is read ahead or held.
+        ensures bare { IsTrue (R.Read.tells (inner_of self.old)) → IsTrue (R.Read.steady (inner_of self.old)) → begins_armor (text_of self.old).bytes ≡ false →
+            lines_of self.new ≡ lines_of self.old }
+        ensures below { StandsBelow self.old self.new result }
 
         // A target that is counted from the place and lies below 0 is refused at once: nothing is read, and nothing changes.
         ensures at_once { IsTrue (R.Read.tells (inner_of self.old)) → IsEarly to (place_of self.old) →

@@ -3,7 +3,7 @@ ghost use Rattle.std.specs.Prelude.{◌≡◌, ◌≢◌, ℕ, ◌+◌, ◌≤�
 ghost use Rattle.age_io.specs.Stretch.{Stretch};
 ghost use Rattle.age_io.specs.Reading.{IsQuiet, Delivers, most_faults};
 ghost use Rattle.age_error.specs.declared.io.Error.TheVariants.{OutOfMemory};
-ghost use Rattle.age_armor.specs.Delivered.{delivered};
+ghost use Rattle.age_armor.specs.Delivered.{delivered, begins_armor};
 ghost use Rattle.age_armor.specs.Counting.{Kept};
 
 use crate::counted::Counted;
@@ -190,6 +190,7 @@ fn first<R: BufRead>(
     ensures piece { IsPiece Start source.old result }
     ensures gives { GivesPiece Start source.old source.new bytes.new result }
     ensures bare { IfOk result (λ piece. is_armored piece.next ≡ false → source.new.lines ≡ source.old.lines) }
+    ensures binary { IsTrue (R.Read.tells source.old.inner) → begins_armor (R.Read.rest source.old.inner).bytes ≡ false → source.new.lines ≡ source.old.lines }
     ensures form { IsTrue (R.Read.tells source.old.inner) → IfOk result (λ piece. FindsForm (is_armored piece.next) (R.Read.rest source.old.inner).bytes) }
 {
     match detect(source, bytes) {
@@ -233,6 +234,8 @@ pub(crate) fn advance<R: BufRead>(
     ensures piece { IsPiece stage source.old result }
     ensures gives { GivesPiece stage source.old source.new bytes.new result }
     ensures bare { IfOk result (λ piece. is_armored piece.next ≡ false → source.new.lines ≡ source.old.lines) }
+    ensures binary { IsTrue (R.Read.tells source.old.inner) → is_armored stage ≡ false →
+        (is_start stage ≡ true → begins_armor (R.Read.rest source.old.inner).bytes ≡ false) → source.new.lines ≡ source.old.lines }
     ensures form { IsTrue (R.Read.tells source.old.inner) → is_start stage ≡ true →
         IfOk result (λ piece. FindsForm (is_armored piece.next) (R.Read.rest source.old.inner).bytes) }
     ensures kept_form { is_start stage ≡ false → IfOk result (λ piece. is_armored piece.next ≡ is_armored stage) }

@@ -1,4 +1,5 @@
-use Rattle.std.proofs.Common.{◌∙◌, arith, sym}
+use Rattle.std.proofs.Common.{◌∙◌, arith, ap, sym}
+use Rattle.age_armor.specs.Stages.{is_start}
 use Rattle.std.proofs.lemmas.Bool.{true≢false}
 use Rattle.std.proofs.lemmas.Result.{IfOk-weaker}
 use Rattle.age_armor.proofs.stages.advance.Goals as goal
@@ -12,6 +13,7 @@ returns-in-Start g c =
       piece = rw c.in-Start.is now.piece;
       gives = rw c.in-Start.is now.gives;
       bare = now.bare;
+      binary = λ told plain start. now.binary told (start (ap is_start c.in-Start.is));
       form = λ told start. now.form told;
       kept_form = λ no. absurd (true≢false (rw c.in-Start.is at no));
     }
@@ -25,6 +27,7 @@ returns-in-Binary g c =
       piece = rw c.in-Binary.is now.piece;
       gives = rw c.in-Binary.is now.gives;
       bare = IfOk-weaker c.next_bytes.result _ _ (λ piece is no. now.counts) now.binary;
+      binary = λ told plain start. now.counts;
       form = λ told start. absurd (true≢false (sym (rw c.in-Binary.is at start)));
       kept_form = λ no. rw c.in-Binary.is now.binary;
     }
@@ -38,6 +41,7 @@ returns-in-Lines g c =
       piece = rw c.in-Lines.is now.piece;
       gives = rw c.in-Lines.is now.gives;
       bare = IfOk-weaker c.next_line.result _ _ (λ piece is no. absurd (true≢false (sym is ∙ no))) now.lines;
+      binary = λ told plain start. absurd (true≢false (rw c.in-Lines.is at plain));
       form = λ told start. absurd (true≢false (sym (rw c.in-Lines.is at start)));
       kept_form = λ no. rw c.in-Lines.is now.lines;
     }

@@ -24,6 +24,7 @@ returns-in-Lines g c =
       gives = gives-later Start (Lines c.in-Lines.after_short) old middle c.next_line.new.source c.next_line.new.bytes c.next_line.result tells
           before.kept.keeps.same.faults now.kept.keeps.same.faults before.kept.more same now.gives;
       bare = IfOk-weaker c.next_line.result _ _ (λ piece is no. absurd (true≢false (sym is ∙ no))) now.lines;
+      binary = λ told plain. absurd (true≢false ((rw c.in-Lines.is at (before.form told)).same ∙ plain));
       form = λ told.
           let found = rw c.in-Lines.is at (before.form told) in
           IfOk-weaker c.next_line.result _ _ (λ piece is. subst (λ b. FindsForm b (reader.rest old.inner).bytes) (sym is) found) now.lines;

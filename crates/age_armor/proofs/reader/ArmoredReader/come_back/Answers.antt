@@ -1,7 +1,7 @@
-use Rattle.std.proofs.Common.{IsTrue, ◌≡◌, ◌∙◌, ◌-◌, ◌<◌, ◌≤◌, ap, length, arith, sym, subst, inl, inr}
+use Rattle.std.proofs.Common.{IsTrue, ◌≡◌, ◌∙◌, ◌<◌, ◌≤◌, ap, length, arith, sym, subst, inl, inr}
 use Rattle.std.proofs.lemmas.Bool.{true≢false}
 use Rattle.age_io.specs.Stretch.{from_place}
-use Rattle.age_armor.specs.Reader.{armored_content}
+use Rattle.age_armor.specs.Reader.{origin_of, armored_content}
 use Rattle.age_armor.specs.ReaderLaws.{well_inner}
 use Rattle.age_armor.proofs.Keeping.{same-source, source-narrows, armor-plain, text-still, text-later}
 use Rattle.age_armor.proofs.Aiming.{refusal_or_not, past-moved, stays-failed, came, lost}
@@ -11,8 +11,8 @@ pub returns-then-failed : goal.returns-then-failed
 returns-then-failed g c =
     let now = c.fail_at.ensures in
     record {
-      back = stays-failed _ _ g.R.Seek.seek_refuses _ _ _ _ _ (same-source _ _ now.source) now.place now.failed now.rest (source-narrows c.args.self.now c.fail_at.new.self now.source) (inl c.if-failed.true);
-      text = text-still _ _ now.source now.marks;
+      back = stays-failed _ _ g.R.Seek.seek_refuses _ _ _ _ _ (same-source _ _ now.source now.preceding) now.place now.failed now.rest (source-narrows c.args.self.now c.fail_at.new.self now.source) (inl c.if-failed.true);
+      text = text-still _ _ now.source now.preceding now.marks;
       ending = λ told steady good. absurd (true≢false (sym now.failed ∙ good));
       lines = λ told steady had at refusal. omega (arith, ap (λ s. s.lines) now.source);
     }
@@ -21,8 +21,8 @@ pub returns-then-not-is_outside : goal.returns-then-not-is_outside
 returns-then-not-is_outside g c =
     let now = c.fail_at-then-not-is_outside.ensures in
     record {
-      back = stays-failed _ _ g.R.Seek.seek_refuses _ _ _ _ _ (same-source _ _ now.source) now.place now.failed now.rest (source-narrows c.args.self.now c.fail_at-then-not-is_outside.new.self now.source) (inr (c.is_outside.ensures.no c.if-not-is_outside.true));
-      text = text-still _ _ now.source now.marks;
+      back = stays-failed _ _ g.R.Seek.seek_refuses _ _ _ _ _ (same-source _ _ now.source now.preceding) now.place now.failed now.rest (source-narrows c.args.self.now c.fail_at-then-not-is_outside.new.self now.source) (inr (c.is_outside.ensures.no c.if-not-is_outside.true));
+      text = text-still _ _ now.source now.preceding now.marks;
       ending = λ told steady good. absurd (true≢false (sym now.failed ∙ good));
       lines = λ told steady had at refusal. omega (arith, ap (λ s. s.lines) now.source);
     }
@@ -59,10 +59,10 @@ returns-in-Err g c =
     let made = c.unrefused.ensures in
     let len = length (armored_content before).bytes in
     record {
-      back = lost _ _ g.R.Seek.seek_refuses before c.go_to.new.self c.fail_at-in-Err.new.self _ _ _ c.in-Err.e c.unrefused.result missed.goes (same-source _ _ now.source) now.place now.failed now.rest
+      back = lost _ _ g.R.Seek.seek_refuses before c.go_to.new.self c.fail_at-in-Err.new.self _ _ _ c.in-Err.e c.unrefused.result missed.goes (same-source _ _ now.source now.preceding) now.place now.failed now.rest
           (c.is_outside.ensures.yes c.if-not-is_outside.false) made.other made.kept
           (λ told well other quiet.
-          let inner = well_inner (reader.content before.source.inner) (reader.place before.source.inner - before.source.taken) well in
+          let inner = well_inner (reader.content before.source.inner) (origin_of before) well in
           let steady = g.met.R.Read.well before.source.inner told inner in
           let within : c.args.place ≤ len = c.requires.inside told steady in
           let beyond : len < c.args.place = elim (refusal_or_not c.in-Err.e) [
@@ -70,7 +70,7 @@ returns-in-Err g c =
             | inr not ↦ (missed.misses.named told inner not (λ memory. other (made.same not ∙ memory)) quiet).1
           ] in
           absurd (omega (arith, beyond, within)));
-      text = text-later before c.go_to.new.self c.fail_at-in-Err.new.self missed.goes.keeps.same missed.text (text-still _ _ now.source now.marks);
+      text = text-later before c.go_to.new.self c.fail_at-in-Err.new.self missed.goes.keeps.same missed.text (text-still _ _ now.source now.preceding now.marks);
       ending = λ told steady good. absurd (true≢false (sym now.failed ∙ good));
       lines = λ told steady had at refusal. absurd (made.other refusal);
     }

@@ -33,6 +33,7 @@ returns g c =
       count = c.min-count.ensures;
       reads = record {
         source = refl;
+        preceding = refl;
         stage = refl;
         marks = refl;
         fresh = c.requires;

@@ -23,6 +23,7 @@ returns-in-None g c =
       reaches = subst (λ d. Reaches before after (End d) c.look_from_end.result) (to_z-of_z {w = w64} c.ranges.distance) now.reaches;
       misses = subst (λ d. Misses before after (End d) c.look_from_end.result) (to_z-of_z {w = w64} c.ranges.distance) now.misses;
       finds = now.finds;
+      below = now.below;
       spares = record { lines = λ told steady noting known. absurd (unknown known); outside = λ told steady known. absurd (unknown known) };
     }
 
@@ -33,7 +34,7 @@ returns-in-Err g c =
     record {
       goes = goes-refused armored_reader _ before before before c.in-Err.e (same-self _ before) (same-self _ before) now.other
           (elim now.why [ inl out ↦ inl (inl out) | inr long ↦ inl (inr (inl long)) ]);
-      text = text-still _ _ refl refl;
+      text = text-still _ _ refl refl refl;
       reaches = reaches-none _ _ _ _;
       misses = record {
         missed = λ refusal e h. h;
@@ -45,6 +46,7 @@ returns-in-Err g c =
         named = λ told well own other quiet. absurd (own (now.outside told (g.met.R.Read.well before.source.inner told well)));
       };
       finds = finds-none _ _ _;
+      below = λ told steady plain. tt;
       spares = record { lines = λ told steady noting known. tt; outside = λ told steady known refusal. refl };
     }
 
@@ -60,12 +62,13 @@ returns-in-Ok g c =
     record {
       goes = now.goes;
       text = now.text;
-      reaches = reaches-end before before after c.args.distance aim c.go_to.result (same-self _ before) (text-still _ _ refl refl) found now.reaches;
+      reaches = reaches-end before before after c.args.distance aim c.go_to.result (same-self _ before) (text-still _ _ refl refl refl) found now.reaches;
       misses = misses-end before before after c.args.distance aim c.go_to.result (g.met.R.Read.well before.source.inner) (same-self _ before)
-          (text-still _ _ refl refl) (λ e h. h) found now.goes now.misses;
+          (text-still _ _ refl refl refl) (λ e h. h) found now.goes now.misses;
       finds = record {
         well = λ told steady. on_ok_weaker c.go_to.result (λ good. c.target_from_end.ensures.well told steady) now.reaches.stands.good;
         knows = on_ok_weaker c.go_to.result (λ good. now.text.learns.end (ap is_known (sym c.length.ensures ∙ c.in-Some.is))) now.reaches.stands.good;
       };
+      below = now.below;
       spares = record { lines = λ told steady noting known. now.spares.lines told steady noting (c.in-Ok.ensures.within told steady).1; outside = now.spares.outside };
     }

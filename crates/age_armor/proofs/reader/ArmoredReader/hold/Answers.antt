@@ -1,4 +1,4 @@
-use Rattle.std.proofs.Common.{inr, ◌≡◌, ◌∙◌, ◌-◌, ◌≤◌, true, arith, drop, length, length-take-le, take, sym, ap, refl, IsTrue}
+use Rattle.std.proofs.Common.{inr, ◌+◌, ◌≡◌, ◌∙◌, ◌-◌, ◌≤◌, true, arith, drop, length, length-take-le, take, sym, ap, refl, IsTrue}
 use Rattle.age_armor.specs.declared.stages.Stage.TheVariants.{Lines}
 use Rattle.std.proofs.lemmas.Bool.{true≢false}
 use Rattle.age_io.specs.Reading.{StandsIn}
@@ -11,7 +11,8 @@ use Rattle.age_armor.proofs.Ahead.{kept_stands, hold_rest, hold_ending, hold_end
 use Rattle.age_armor.specs.Delivered.{delivered}
 use Rattle.age_armor.specs.Stages.{is_start, is_ended}
 use Rattle.age_armor.proofs.Resuming.{knows_later, resumes_line, length_at_end, not_nothing, reaches_content, none_after, still_full, after_full}
-use Rattle.age_armor.proofs.Forms.{form_held}
+use Rattle.age_armor.proofs.Forms.{form_held, plain_stage, plain_rest}
+use Rattle.age_armor.specs.Reader.{origin_of, text_of}
 use Rattle.age_io.proofs.Keeping.{keeps-done, same-self}
 use Rattle.age_armor.proofs.Invariants.{IsHere, sound-failed}
 use Rattle.age_armor.proofs.Pacing.{learns_none}
@@ -26,11 +27,13 @@ invariant_of-self g c =
     let source = c.advance.new.source in
     let bytes = c.advance.new.bytes in
     let empty : before.filled ≤ before.given = omega (arith, c.is_ready.ensures.none c.if-is_ready.false) in
-    let content = content_of (reader.content before.source.inner) (reader.place before.source.inner - before.source.taken) in
-    let other = content_of (reader.content source.inner) (reader.place source.inner - source.taken) in
+    let origin = origin_of before in
+    let next = reader.place source.inner - source.taken + before.preceding in
+    let content = content_of (reader.content before.source.inner) origin in
+    let other = content_of (reader.content source.inner) next in
     let rest = rest_ahead before.failed before.bytes before.given before.filled before.stage (reader.rest before.source.inner) in
     let new = rest_ahead before.failed bytes 0 piece.count piece.next (reader.rest source.inner) in
-    let same = same-text reader before.source.inner before.source.taken source.inner source.taken now.kept.keeps.same now.kept.origin in
+    let same = same-text reader before.source.inner origin source.inner next now.kept.keeps.same (λ told. ap (λ n. n + before.preceding) (now.kept.origin told)) in
     let kept : (IsTrue (reader.tells source.inner) → new ≡ rest) = λ told.
     hold_rest before.failed before.bytes bytes before.given before.filled piece.count before.stage piece.next (reader.rest before.source.inner) (reader.rest source.inner)
     c.requires (all_held before) empty (now.gives.bytes (same.told told)) in
@@ -41,7 +44,7 @@ invariant_of-self g c =
     let size : length front ≡ piece.count = length-take-le piece.count bytes (omega (arith, now.piece.fits, c.advance.array_long)) in
     let short : (IsTrue (reader.tells before.source.inner) → before.stage ≡ Lines true → piece.count ≡ 0) = λ told.
     none_after before.stage (reader.rest before.source.inner) front piece.count _ (now.gives.bytes told) size in
-    let here : (IsTrue (reader.tells source.inner) → IsTrue (reader.steady source.inner) → IsHere source piece.next bytes 0 piece.count before.place before.failed) = λ told steady.
+    let here : (IsTrue (reader.tells source.inner) → IsTrue (reader.steady source.inner) → IsHere source before.preceding piece.next bytes 0 piece.count before.place before.failed) = λ told steady.
     let told_before = same.told told in
     let held = front_held before.failed bytes 0 piece.count piece.next (reader.rest source.inner) c.requires in
     let some = not_nothing rest front held.more piece.count (ap (λ s. s.bytes) (sym (kept told)) ∙ held.bytes) size
@@ -58,8 +61,9 @@ invariant_of-self g c =
       untaken = λ good start. absurd (true≢false (sym start ∙ now.piece.begun));
       form = λ told steady begun.
           form_held (reader.content before.source.inner) (reader.rest before.source.inner) _
-          (reader.place before.source.inner) before.source.taken before.stage piece.next
-          (g.met.R.Read.stands before.source.inner (same.told told) (same.steady steady)) (before.untaken c.requires)
+          (reader.place before.source.inner) origin before.stage piece.next
+          (g.met.R.Read.stands before.source.inner (same.told told) (same.steady steady))
+          (λ start. omega (arith, before.untaken c.requires start, before.source.behind (same.told told)))
           (now.form (same.told told)) now.kept_form (before.form (same.told told) (same.steady steady)) (same.text told);
       unspent = λ good begun. now.kept.unspent;
       counted = λ told good. omega (arith, before.counted (same.told told) c.requires, now.gives.taken (same.told told));
@@ -76,9 +80,10 @@ invariant_of-self g c =
           (hold_end before.failed before.bytes before.given before.filled before.stage (reader.rest before.source.inner) c.requires (all_held before) empty (now.piece.end told_before none))
           (before.inside told_before steady) (before.follows told_before steady))
           (λ some lines. (
-            omega (arith, before.counted told_before c.requires, empty, before.order),
-            λ steady. resumes_line (reader.content before.source.inner) (reader.rest before.source.inner) _ before.source.taken before.place before.bytes before.given before.filled
-                before.stage _ front lines (before.source.behind told_before) (g.met.R.Read.stands before.source.inner told_before steady) (all_held before) empty (now.gives.bytes told_before)
+            omega (arith, before.counted told_before c.requires, empty, before.order, c.saturating_sub-taken.ensures),
+            λ steady. resumes_line (reader.content before.source.inner) (reader.rest before.source.inner) _ origin c.saturating_sub-taken.result before.place before.bytes before.given
+                before.filled before.stage _ front lines
+                (omega (arith, before.source.behind told_before, before.behind told_before steady, c.saturating_sub-taken.ensures)) (g.met.R.Read.stands before.source.inner told_before steady) (all_held before) empty (now.gives.bytes told_before)
                 (omega (arith, size, some)) (before.inside told_before steady) (rw c.requires at (before.follows told_before steady)) (rw c.requires at (before.ends told_before steady))
                 (before.form told_before steady (ap is_start lines)),
           ))
@@ -86,7 +91,7 @@ invariant_of-self g c =
           (front_held before.failed bytes 0 piece.count piece.next (reader.rest source.inner) c.requires).more
           (before.inside told_before steady) (before.follows told_before steady)
           (ap (λ s. s.bytes) (sym (kept told)) ∙ (front_held before.failed bytes 0 piece.count piece.next (reader.rest source.inner) c.requires).bytes) size)
-          (λ steady. after_full before.stage before.place piece.count (drop (reader.place before.source.inner - before.source.taken) (reader.content before.source.inner).bytes)
+          (λ steady. after_full before.stage before.place piece.count (drop origin (reader.content before.source.inner).bytes)
           (c.is_ready.ensures.more c.if-is_ready.false) (before.form told_before steady) pace.first (λ full. omega (arith, pace.lines full, empty)) (short told_before) now.piece.fits));
       done = λ ended. ap is_known (c.learn.ensures.ends (now.piece.ended ended));
       here = λ told steady good begun. here told steady;
@@ -102,12 +107,18 @@ invariant_of-self g c =
                   pace.first (λ is. omega (arith, pace.lines is, empty)) (short told_before) now.piece.full full,
             );
           };
+      behind = λ told steady. omega (arith, before.behind (same.told told) (same.steady steady), now.kept.more (same.told told));
+      unread = λ told steady start. absurd (true≢false (sym start ∙ now.piece.begun));
+      begins = λ told. omega (arith, before.begins (same.told told), now.kept.origin (same.told told));
     }
 
 pub invariant_of-self-in-Err : goal.invariant_of-self-in-Err
 invariant_of-self-in-Err g c =
     let before = c.args.self.now in
-    sound-failed before c.advance.new.source before.place c.in-Err.ensures.kept.keeps.same c.in-Err.ensures.kept.origin before.fits before.inside
+    let source = c.advance.new.source in
+    let kept = c.in-Err.ensures.kept in
+    sound-failed before source before.preceding before.place kept.keeps.same (λ told. ap (λ n. n + before.preceding) (kept.origin told))
+    (λ told steady. omega (arith, before.behind told steady, kept.more told)) before.fits before.inside
 
 pub returns-then-is_ready : goal.returns-then-is_ready
 returns-then-is_ready g c =
@@ -118,7 +129,7 @@ returns-then-is_ready g c =
       goes = record { keeps = keeps-done _ _ _ _ (same-self _ before) (λ e h. h); unspent = before.unspent c.requires begun };
       good = good-done _ _ c.requires c.requires;
       ending = record { same = λ told. refl; named = λ told good. tt };
-      text = text-still _ _ refl refl;
+      text = text-still _ _ refl refl refl;
       holds = record {
         place = refl;
         rest = λ told. refl;
@@ -151,14 +162,17 @@ returns-in-Ok g c =
     let none : before.given ≡ before.filled = c.is_ready.ensures.none c.if-is_ready.false in
     let empty : before.filled ≤ before.given = omega (arith, none) in
     record {
-      goes = armored-done _ _ _ now.kept.keeps now.kept.origin now.kept.unspent c.requires;
+      goes = armored-done _ _ _ now.kept.keeps (λ told. ap (λ n. n + before.preceding) (now.kept.origin told)) now.kept.unspent c.requires;
       good = good-done _ _ c.requires c.requires;
       ending = record {
         same = λ told. hold_ending before.bytes c.advance.new.bytes before.given before.filled piece.count before.stage piece.next
             (reader.rest before.source.inner) (reader.rest source.inner) (now.gives.bytes told);
         named = λ told good. tt;
       };
-      text = text-moved _ _ now.kept.keeps.same now.kept.origin c.learn.ensures.more now.counts.0;
+      text = text-moved _ _ now.kept.keeps.same (λ told. ap (λ n. n + before.preceding) (now.kept.origin told)) c.learn.ensures.more now.counts.0
+          (λ told steady plain. now.binary told (plain_stage before.stage (text_of before) (before.form told steady) plain)
+          (λ start. plain_rest (reader.content before.source.inner) _ _ (origin_of before) (g.met.R.Read.stands before.source.inner told steady)
+          (omega (arith, before.untaken c.requires start, before.source.behind told)) plain));
       holds = record {
         place = refl;
         rest = λ told. hold_rest before.failed before.bytes c.advance.new.bytes before.given before.filled piece.count before.stage piece.next
@@ -188,14 +202,17 @@ returns-in-Err g c =
     let now = c.in-Err.ensures in
     let none : before.given ≡ before.filled = c.is_ready.ensures.none c.if-is_ready.false in
     record {
-      goes = armored-refused _ _ _ c.in-Err.e now.kept.keeps now.kept.origin (λ why. inr why);
+      goes = armored-refused _ _ _ c.in-Err.e now.kept.keeps (λ told. ap (λ n. n + before.preceding) (now.kept.origin told)) (λ why. inr why);
       good = good-failed _ _ c.in-Err.e c.requires refl now.kept.keeps.patient;
       ending = record {
         same = λ told. tt;
         named = λ told good other quiet.
             hold_named before.bytes before.given before.filled before.stage (reader.rest before.source.inner) c.in-Err.e (now.gives.cause told other quiet);
       };
-      text = text-moved _ _ now.kept.keeps.same now.kept.origin (learns_none _ _ refl) now.counts.0;
+      text = text-moved _ _ now.kept.keeps.same (λ told. ap (λ n. n + before.preceding) (now.kept.origin told)) (learns_none _ _ refl) now.counts.0
+          (λ told steady plain. now.binary told (plain_stage before.stage (text_of before) (before.form told steady) plain)
+          (λ start. plain_rest (reader.content before.source.inner) _ _ (origin_of before) (g.met.R.Read.stands before.source.inner told steady)
+          (omega (arith, before.untaken c.requires start, before.source.behind told)) plain));
       holds = record {
         place = refl;
         rest = λ told. tt;

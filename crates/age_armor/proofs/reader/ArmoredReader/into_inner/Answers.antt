@@ -1,4 +1,5 @@
-use Rattle.std.proofs.Common.{arith}
+use Rattle.std.proofs.Common.{◌-◌, arith}
+use Rattle.age_armor.specs.Reader.{origin_of}
 use Rattle.age_armor.proofs.Ahead.{length_held}
 use Rattle.age_armor.proofs.Forms.{stands_in_text, binary_left}
 use Rattle.age_armor.proofs.Keeping.{all_held}
@@ -8,7 +9,8 @@ pub returns-clause-stands : goal.returns-clause-stands
 returns-clause-stands g c = λ told steady.
     let reader = g.R.Read in
     let source = c.args.self.source in
-    stands_in_text (reader.content source.inner) (reader.rest source.inner) (reader.place source.inner) source.taken (source.behind told)
+    stands_in_text (reader.content source.inner) (reader.rest source.inner) (reader.place source.inner) (origin_of c.args.self) (source.taken - c.args.self.preceding)
+    (omega (arith, source.behind told, c.args.self.behind told steady))
     (g.met.R.Read.stands source.inner told steady)
 
 pub returns-clause-behind : goal.returns-clause-behind
@@ -19,4 +21,5 @@ returns-clause-behind g c = λ told good.
 pub returns-clause-binary : goal.returns-clause-binary
 returns-clause-binary g c = λ good plain some.
     let self = c.args.self in
-    binary_left self.failed self.bytes self.given self.filled self.source.taken self.stage (g.R.Read.rest self.source.inner) good (self.untaken good) plain some
+    binary_left self.failed self.bytes self.given self.filled (self.source.taken - self.preceding) self.stage (g.R.Read.rest self.source.inner) good
+    (λ start. omega (arith, self.untaken good start)) plain some

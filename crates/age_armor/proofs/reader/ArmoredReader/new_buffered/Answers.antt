@@ -1,4 +1,4 @@
-use Rattle.std.proofs.Common.{◌≡◌, ◌-◌, ◌^◌, ◌<◌, ◌≤◌, ◌∙◌, arith, ap, sym, refl, IsTrue, false}
+use Rattle.std.proofs.Common.{◌≡◌, ◌+◌, ◌-◌, ◌^◌, ◌<◌, ◌≤◌, ◌∙◌, arith, ap, sym, refl, IsTrue, false}
 use Rattle.std.proofs.lemmas.Bool.{true≢false}
 use Rattle.age_io.specs.Reading.{StandsIn}
 use Rattle.age_armor.specs.declared.stages.Stage.TheVariants.{Start}
@@ -17,8 +17,8 @@ pub invariant_of-result-2 : goal.invariant_of-result-2
 invariant_of-result-2 g c =
     let reader = g.R.Read in
     let inner = c.args.inner in
-    let place = reader.place inner - 0 in
-    let zero : reader.place inner - 0 ≡ reader.place inner = omega arith in
+    let place = reader.place inner - 0 + 0 in
+    let zero : reader.place inner - 0 + 0 ≡ reader.place inner = omega arith in
     let content = content_of (reader.content inner) place in
     let rest = rest_ahead false _ 0 0 Start (reader.rest inner) in
     let stands : (IsTrue (reader.tells inner) → IsTrue (reader.steady inner) → StandsIn content 0 rest) = λ told steady.
@@ -46,6 +46,9 @@ invariant_of-result-2 g c =
         first = λ start. refl;
         lines = λ full. absurd (true≢false (ap is_start full));
       };
+      behind = λ told steady. let h : 0 ≤ 0 = omega arith in h;
+      unread = λ told steady start some. absurd (omega (arith, some, c.new-3.ensures.none.0));
+      begins = λ told. omega (arith, zero, g.met.R.Read.place_fits inner told);
     }
 
 pub returns-clause-shown : goal.returns-clause-shown

@@ -12,6 +12,7 @@ use Rattle.age_armor.specs.Stages.{is_start, is_armored, is_ended}
 use Rattle.age_armor.specs.Delivered.{delivered}
 use Rattle.age_armor.proofs.Resuming.{knows_later, length_at_end, not_binary, reaches_content}
 use Rattle.age_armor.proofs.Forms.{form_kept}
+use Rattle.age_armor.specs.Reader.{origin_of}
 use Rattle.age_armor.proofs.Invariants.{IsHere, sound-failed}
 use Rattle.age_armor.proofs.Pacing.{learns_none}
 use Rattle.age_armor.proofs.reader.ArmoredReader.pass.Goals as goal
@@ -23,20 +24,22 @@ invariant_of-self g c =
     let now = c.in-Ok.ensures in
     let n = c.in-Ok.count in
     let source = c.read.new.self in
-    let content = content_of (reader.content before.source.inner) (reader.place before.source.inner - before.source.taken) in
-    let other = content_of (reader.content source.inner) (reader.place source.inner - source.taken) in
+    let origin = origin_of before in
+    let next = reader.place source.inner - source.taken + before.preceding in
+    let content = content_of (reader.content before.source.inner) origin in
+    let other = content_of (reader.content source.inner) next in
     let rest = rest_ahead before.failed before.bytes before.given before.filled before.stage (reader.rest before.source.inner) in
     let new = rest_ahead before.failed before.bytes before.given before.filled before.stage (reader.rest source.inner) in
     let front = take n c.read.new.buf in
     let size : n ≡ length front = sym (length-take-le n c.read.new.buf now.count) in
-    let same = same-text reader before.source.inner before.source.taken source.inner source.taken now.kept.keeps.same now.kept.origin in
+    let same = same-text reader before.source.inner origin source.inner next now.kept.keeps.same (λ told. ap (λ n. n + before.preceding) (now.kept.origin told)) in
     let place : (IsTrue (reader.tells source.inner) → c.saturating_add-self.result ≡ before.place + n) = λ told.
     omega (arith, c.saturating_add-self.ensures, before.counted (same.told told) c.requires.good, now.taken (same.told told), source.behind told, g.met.R.Read.place_fits source.inner told) in
     let stands : (IsTrue (reader.tells source.inner) → IsTrue (reader.steady source.inner) → StandsIn other c.saturating_add-self.result new) = λ told steady.
     rw (place told, same.content told) (given_stands content rest new before.place n front size
     (pass_delivers before.failed before.bytes front before.given before.filled before.stage _ _ c.requires.good c.requires.binary (all_held before) c.requires.given (now.bytes (same.told told)))
     (stands_by content rest before.place (before.inside (same.told told) (same.steady steady)) (before.follows (same.told told) (same.steady steady)))) in
-    let here : (IsTrue (reader.tells source.inner) → IsTrue (reader.steady source.inner) → IsHere source before.stage before.bytes before.given before.filled c.saturating_add-self.result before.failed) = λ told steady.
+    let here : (IsTrue (reader.tells source.inner) → IsTrue (reader.steady source.inner) → IsHere source before.preceding before.stage before.bytes before.given before.filled c.saturating_add-self.result before.failed) = λ told steady.
     let told_before = same.told told in
     let at = before.here told_before (same.steady steady) c.requires.good (ap is_start c.requires.binary) in (
       further content rest new before.place _ n front at.0
@@ -70,7 +73,7 @@ invariant_of-self g c =
           (λ steady. reaches_content content rest before.place n front new.bytes (before.inside told_before steady) (before.follows told_before steady)
           (pass_delivers before.failed before.bytes front before.given before.filled before.stage _ _ c.requires.good c.requires.binary (all_held before) c.requires.given (now.bytes told_before)).bytes
           (sym size))
-          (λ steady armored. absurd (true≢false (sym armored ∙ sym (before.form told_before steady (ap is_start c.requires.binary)) ∙ ap is_armored c.requires.binary))));
+          (λ steady armored. absurd (true≢false (sym armored ∙ sym (before.form told_before steady (ap is_start c.requires.binary)).same ∙ ap is_armored c.requires.binary))));
       done = λ ended. absurd (true≢false (sym ended ∙ ap is_ended c.requires.binary));
       here = λ told steady good begun. here told steady;
       paced = λ told good.
@@ -87,12 +90,17 @@ invariant_of-self g c =
             first = λ start. absurd (true≢false (sym start ∙ ap is_start c.requires.binary));
             lines = λ full. not_binary (sym c.requires.binary ∙ full);
           };
+      behind = λ told steady. omega (arith, before.behind (same.told told) (same.steady steady), now.kept.more (same.told told));
+      unread = λ told steady start. absurd (true≢false (sym start ∙ ap is_start c.requires.binary));
+      begins = λ told. omega (arith, before.begins (same.told told), now.kept.origin (same.told told));
     }
 
 pub invariant_of-self-in-Err : goal.invariant_of-self-in-Err
 invariant_of-self-in-Err g c =
     let before = c.args.self.now in
-    sound-failed before c.read.new.self before.place c.in-Err.ensures.kept.keeps.same c.in-Err.ensures.kept.origin before.fits before.inside
+    let kept = c.in-Err.ensures.kept in
+    sound-failed before c.read.new.self before.preceding before.place kept.keeps.same (λ told. ap (λ n. n + before.preceding) (kept.origin told))
+    (λ told steady. omega (arith, before.behind told steady, kept.more told)) before.fits before.inside
 
 pub returns-in-Ok : goal.returns-in-Ok
 returns-in-Ok g c =
@@ -102,7 +110,7 @@ returns-in-Ok g c =
     let after = c.read.new.self in
     let good = c.requires.good in
     let binary = c.requires.binary in
-    let goes = armored-done {y = c.in-Ok.count} _ _ _ now.kept.keeps now.kept.origin now.kept.unspent good in
+    let goes = armored-done {y = c.in-Ok.count} _ _ _ now.kept.keeps (λ told. ap (λ n. n + before.preceding) (now.kept.origin told)) now.kept.unspent good in
     record {
       reads = reads-done _ _ _ _ goes.keeps (λ some. goes.unspent) now.count
           (λ told. pass_delivers before.failed before.bytes _ before.given before.filled before.stage _ _ good binary (all_held before) c.requires.given (now.bytes told))
@@ -112,7 +120,8 @@ returns-in-Ok g c =
           (λ told none some. pass_end before.failed before.bytes before.given before.filled before.stage _ good binary (all_held before) c.requires.given (now.end told none));
       good = good-done _ _ good good;
       ending = record { same = λ told. pass_ending before.bytes _ before.given before.filled before.stage _ _ binary (now.bytes told); named = λ told fine. tt };
-      text = text-moved _ _ now.kept.keeps.same now.kept.origin c.learn.ensures.more (omega (arith, now.lines));
+      text = text-moved _ _ now.kept.keeps.same (λ told. ap (λ n. n + before.preceding) (now.kept.origin told)) c.learn.ensures.more (omega (arith, now.lines))
+          (λ told steady plain. now.lines);
       binary = record {
         stage = binary;
         shown = shown_none before.failed before.bytes before.given before.filled (all_held before) c.requires.given;
@@ -130,14 +139,15 @@ returns-in-Err g c =
     let good = c.requires.good in
     let binary = c.requires.binary in
     record {
-      reads = reads-failed _ _ _ c.in-Err.e (armored-refused {B = ℕ} _ _ _ c.in-Err.e now.kept.keeps now.kept.origin (λ why. inr why)) refl refl
+      reads = reads-failed _ _ _ c.in-Err.e (armored-refused {B = ℕ} _ _ _ c.in-Err.e now.kept.keeps (λ told. ap (λ n. n + before.preceding) (now.kept.origin told)) (λ why. inr why)) refl refl
           (λ told other quiet. pass_fault before.failed before.bytes before.given before.filled before.stage _ good binary (all_held before) c.requires.given (now.cause told other quiet));
       good = good-failed _ _ c.in-Err.e good refl now.kept.keeps.patient;
       ending = record {
         same = λ told. tt;
         named = λ told fine other quiet. pass_named before.bytes before.given before.filled before.stage _ c.in-Err.e binary (now.cause told other quiet);
       };
-      text = text-moved _ _ now.kept.keeps.same now.kept.origin (learns_none _ _ refl) (omega (arith, now.lines));
+      text = text-moved _ _ now.kept.keeps.same (λ told. ap (λ n. n + before.preceding) (now.kept.origin told)) (learns_none _ _ refl) (omega (arith, now.lines))
+          (λ told steady plain. now.lines);
       binary = record {
         stage = binary;
         shown = shown_none before.failed before.bytes before.given before.filled (all_held before) c.requires.given;

@@ -48,7 +48,7 @@ returns-then-is_passing g c =
         more = now.text.learns;
         reaches = λ told. on_ok_weaker c.pass.result (λ good. reached after (now.reads.same_tells ∙ told) good) now.good.good;
         lines = (now.text.counts, omega (arith, now.binary.lines));
-        bare = λ told steady plain. on_ok_weaker c.pass.result (λ good. now.binary.lines) now.good.good;
+        bare = now.text.bare;
       };
       knows = now.knows;
     }
@@ -70,7 +70,7 @@ returns-in-Err g c =
         spared = λ told steady armor. refl;
       };
       counts = λ told. tt;
-      learns = record { more = now.text.learns; reaches = λ told. tt; lines = (now.text.counts, now.lines); bare = λ told steady plain. tt };
+      learns = record { more = now.text.learns; reaches = λ told. tt; lines = (now.text.counts, now.lines); bare = now.text.bare };
       knows = tt;
     }
 
@@ -85,8 +85,8 @@ returns-in-Ok g c =
     let n = c.give.result in
     let lines = ap (λ s. s.lines) given.reads.source in
     let back = now.goes.keeps.same in
-    let goes : Goes armored_reader refuses_of before after (Ok n) = goes-given before held after now.goes given.reads.source given.reads.fresh in
-    let text = text-later before held after back now.text (text-still held after given.reads.source given.reads.marks) in
+    let goes : Goes armored_reader refuses_of before after (Ok n) = goes-given before held after now.goes given.reads.source given.reads.preceding given.reads.fresh in
+    let text = text-later before held after back now.text (text-still held after given.reads.source given.reads.preceding given.reads.marks) in
     let left = rest_ahead after.failed after.bytes after.given after.filled after.stage (reader.rest after.source.inner) in
     let size = held_shown held now.good.good in
     let form = form-found before held back now.text now.holds.begun in
@@ -119,8 +119,7 @@ returns-in-Ok g c =
             begun = ap is_start given.reads.stage ∙ taken.begun;
             on = omega (arith, taken.on, given.moves (back.tells ∙ told));
           };
-      learns = learned before after goes.keeps.same text (omega (arith, lines, now.lines)) given.reads.fresh
-          (λ told steady plain. lines ∙ (now.counts told).bare (form told steady ∙ plain));
+      learns = learned before after goes.keeps.same text (omega (arith, lines, now.lines)) given.reads.fresh;
       knows = λ none.
           ap (λ m. is_known m.length) given.reads.marks ∙ now.holds.knows (omega (arith, none, given.count, c.requires.some, held.order));
     }

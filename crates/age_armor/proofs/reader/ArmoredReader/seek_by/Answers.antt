@@ -11,8 +11,9 @@ returns-then-self g c =
     let untold : (IsTrue (g.R.Read.tells before.source.inner) → ⊥) = λ told.
     let fits : before.place < 2 ^ 63 = before.fits told in omega (arith, fits, c.if-self.true) in
     record {
-      seeks = too-long _ _ g.R.Seek.seek_refuses before c.fail_at.new.self _ _ _ (same-source _ _ now.source) now.failed untold;
-      text = text-still _ _ now.source now.marks;
+      seeks = too-long _ _ g.R.Seek.seek_refuses before c.fail_at.new.self _ _ _ (same-source _ _ now.source now.preceding) now.failed untold;
+      text = text-still _ _ now.source now.preceding now.marks;
+      below = λ told steady plain. tt;
       takes = record { lines = λ told steady noting near. tt; outside = λ told steady known refusal. absurd refusal };
       still = λ told good begun same. absurd (untold told);
       ending = λ later told steady good. absurd (untold told);
@@ -26,7 +27,8 @@ returns-in-None g c =
     subst (λ d. place_at before.place d ≡ None) (to_z-of_z {w = w64} c.ranges.distance) (sym c.in-None.ensures) in
     record {
       seeks = too-early _ _ g.R.Seek.seek_refuses before c.args.distance _ _ none;
-      text = text-still _ _ refl refl;
+      text = text-still _ _ refl refl refl;
+      below = λ told steady plain. tt;
       takes = record { lines = λ told steady noting near. tt; outside = λ told steady known refusal. omega arith };
       still = λ told good begun same. absurd (cc (sym none ∙ same));
       ending = λ later. absurd (later none);
@@ -42,6 +44,7 @@ returns-in-Some g c =
     record {
       seeks = counted-on _ _ g.R.Seek.seek_refuses before c.seek_to.new.self c.args.distance c.in-Some.target _ _ c.seek_to.result some now.seeks;
       text = now.text;
+      below = now.below;
       takes = record {
         lines = λ told steady noting near. now.takes.lines told steady noting (near c.in-Some.target some);
         outside = now.takes.outside;

@@ -13,6 +13,7 @@ returns-in-Ok g c =
       seeks = seek-done g.R.Seek.seek_refuses _ _ _ _ now.goes reaches;
       text = now.text;
       finds = now.finds;
+      below = now.below;
       takes = record { lines = now.spares.lines; outside = λ told steady known. tt };
       ending = λ told steady good. now.reaches.stands.ending told steady;
     }
@@ -29,6 +30,7 @@ returns-in-Err g c =
       seeks = seek-missed g.R.Seek.seek_refuses before middle after _ c.in-Err.e c.come_back.result (g.met.R.Read.well before.source.inner) now.goes misses back.back;
       text = text-later before middle after now.goes.keeps.same now.text back.text;
       finds = finds-none _ _ _;
+      below = λ told steady plain. tt;
       takes = takes-back before middle after _ c.in-Err.e c.come_back.result now.goes
           (record { lines = λ told steady noting known. tt; outside = now.spares.outside }) back.back back.lines;
       ending = ends-later before middle after now.goes.keeps.same now.text back.ending;

@@ -9,6 +9,7 @@ returns-in-Ok g c =
     record {
       seeks = seek-done g.R.Seek.seek_refuses _ _ _ _ now.goes now.reaches;
       text = now.text;
+      below = now.below;
       takes = record { lines = now.spares.lines; outside = λ told steady known. tt };
       still = λ good begun at. (sym c.in-Ok.is ∙ (c.go_to.ensures.stays.still good begun at).0, (c.go_to.ensures.stays.still good begun at).1);
       ending = λ told steady good. now.reaches.stands.ending told steady;
@@ -24,6 +25,7 @@ returns-in-Err g c =
     record {
       seeks = seek-missed g.R.Seek.seek_refuses before middle after _ c.in-Err.e c.come_back.result (g.met.R.Read.well before.source.inner) now.goes now.misses back.back;
       text = text-later before middle after now.goes.keeps.same now.text back.text;
+      below = λ told steady plain. tt;
       takes = takes-back before middle after _ c.in-Err.e c.come_back.result now.goes now.spares back.back back.lines;
       still = λ good begun at. absurd (cc (sym c.in-Err.is ∙ (c.go_to.ensures.stays.still good begun at).0));
       ending = ends-later before middle after now.goes.keeps.same now.text back.ending;

@@ -1,9 +1,9 @@
-use Rattle.std.proofs.Common.{◌≡◌, ◌-◌, arith, length, to_z-of_z, w64}
+use Rattle.std.proofs.Common.{◌≡◌, arith, length, to_z-of_z, w64}
 use Rattle.std.proofs.lemmas.Result.{IfOk-weaker}
 use Rattle.age_error.specs.declared.io.SeekFrom.TheVariants.{End}
 use Rattle.age_io.specs.Cursor.{sought, target}
 use Rattle.age_armor.specs.DeliveredLaws.{content_short}
-use Rattle.age_armor.specs.Reader.{armored_content}
+use Rattle.age_armor.specs.Reader.{origin_of, armored_content}
 use Rattle.age_armor.proofs.Aiming.{from-known-end, aims_within, aims_outside}
 use Rattle.age_armor.proofs.reader.ArmoredReader.target_from_end.Goals as goal
 
@@ -14,7 +14,7 @@ pub returns-clause-exact : goal.returns-clause-exact
 returns-clause-exact g c = λ told steady place.
     let before = c.args.self.now in
     let is = (before.known told).end c.args.len c.requires steady in
-    let fits = content_short (g.R.Read.content before.source.inner) (g.R.Read.place before.source.inner - before.source.taken)
+    let fits = content_short (g.R.Read.content before.source.inner) (origin_of before)
     (g.met.R.Read.are_bytes before.source.inner told) (g.met.R.Read.short before.source.inner told) in
     from-known-end _ c.args.distance c.args.len _ c.from_end.result (to_z-of_z {w = w64} c.ranges.distance) is.same fits c.from_end.ensures.exact place
 

@@ -1,8 +1,7 @@
-use Rattle.std.proofs.Common.{rules, ◌≡◌, ◌∙◌, arith, ap, take, length, length-take, length-take-le, sym}
+use Rattle.std.proofs.Common.{refl, rules, ◌≡◌, ◌∙◌, arith, take, length, length-take, length-take-le, sym}
 use Rattle.std.proofs.lemmas.Bool.{true≢false}
 use Rattle.age_io.proofs.Keeping.{same-later, same-read, keeps-done, keeps-later}
 use Rattle.age_io.proofs.Retrying.{tried-narrows}
-use Rattle.age_armor.specs.Delivered.{begins_armor}
 use Rattle.age_armor.specs.Reader.{armored_reader, refuses_of}
 use Rattle.age_armor.proofs.Keeping.{good-done, good-failed, text-learned, text-later, armor-plain}
 use Rattle.age_armor.proofs.Pacing.{open_stage, counted_on}
@@ -42,7 +41,9 @@ returns-in-Err g c =
             let fault = reads.cause told_now other (quiet_after _ _ _ loop.same.faults reads.no_fewer_faults quiet) in
             ends_before _ _ c.reads.self.place c.args.target (loop.rest told stands) fault (omega (arith, loop.place told, c.reads-test.true));
       };
-      takes = record { lines = λ told steady stands inside. tt; bare = λ told steady plain. tt };
+      takes = λ told steady stands inside. tt;
+      begun = λ told before. tt;
+      still = λ at. absurd (omega (arith, at, loop.left, c.reads-test.true));
     }
 
 pub returns-in-Ok-eq0 : goal.returns-in-Ok-eq0
@@ -78,13 +79,9 @@ returns-in-Ok-eq0 g c =
             further _ _ _ c.reads.self.place _ n front (loop.rest told stands) (reads.bytes told_now) (sym size) (reads.moves told_now);
         short = λ told steady stands. tt;
       };
-      takes = record {
-        lines = λ told steady stands inside there. absurd (true≢false (sym there));
-        bare = λ told steady plain.
-            let told_now = loop.same.tells ∙ told in
-            (now.counts told_now).bare (now.fills.form told_now (loop.same.steady ∙ steady) ∙ ap (λ t. begins_armor t.bytes) (loop.text.same_text told) ∙ plain)
-            ∙ loop.bare told steady plain;
-      };
+      takes = λ told steady stands inside there. absurd (true≢false (sym there));
+      begun = λ told before. (now.counts (loop.same.tells ∙ told)).begun;
+      still = λ at. absurd (omega (arith, at, loop.left, c.reads-test.true));
     }
 
 pub returns : goal.returns
@@ -101,7 +98,9 @@ returns g c =
         knows = λ none. absurd (true≢false none);
       };
       along = record { rest = loop.rest; short = λ told steady stands. tt };
-      takes = record { lines = λ told steady stands inside there. (loop.counted told steady stands inside).bound; bare = loop.bare };
+      takes = λ told steady stands inside there. (loop.counted told steady stands inside).bound;
+      begun = λ told before. loop.begun told (omega (arith, before, c.reads-test.false));
+      still = λ at. (refl, loop.still at);
     }
 
 pub overflow_sub-left-in-Ok : goal.overflow_sub-left-in-Ok
@@ -131,9 +130,7 @@ reads-preserved g c =
           counted_on _ _ _ _ _ _ _ _ _ _ _ (c.in-Ok.ensures.counts told_now) (loop.counted told steady stands inside) (omega (arith, loop.place told, c.reads-test.true))
           (λ none. open_stage now.failed now.bytes now.given now.filled now.stage (g.R.Read.rest now.source.inner) _ front loop.good (omega (arith, now.within, now.room))
           (omega (arith, none)) (reads.bytes told_now) (omega (arith, size, c.in-Ok.count-test)));
-      bare = λ told steady plain.
-          let told_now = loop.same.tells ∙ told in
-          (c.in-Ok.ensures.counts told_now).bare
-          (c.in-Ok.ensures.fills.form told_now (loop.same.steady ∙ steady) ∙ ap (λ t. begins_armor t.bytes) (loop.text.same_text told) ∙ plain)
-          ∙ loop.bare told steady plain;
+      begun = λ told further. (c.in-Ok.ensures.counts (loop.same.tells ∙ told)).begun;
+      left = omega (arith, loop.left);
+      still = λ at. absurd (omega (arith, at, loop.left, c.reads-test.true));
     }

@@ -1,10 +1,10 @@
 use Rattle.std.proofs.Common.{◌≡◌, ◌+◌, ◌-◌, ◌<◌, ◌≤◌, IsTrue, false, length}
-use Rattle.age_armor.specs.Delivered.{begins_armor}
 use Rattle.age_armor.specs.Counting.{IsCounted}
+use Rattle.age_armor.specs.Stages.{is_start}
 use Rattle.age_io.specs.Stretch.{from_place}
 use Rattle.age_io.specs.Reading.{AddsNoReason, TriedAgain, most_faults}
 use Rattle.age_io.specs.Keeping.{SameReader}
-use Rattle.age_armor.specs.Reader.{outcome_of, text_of, refuses_of, armored_reader, armored_content, armored_rest}
+use Rattle.age_armor.specs.Reader.{outcome_of, refuses_of, armored_reader, armored_content, armored_rest}
 use Rattle.age_armor.specs.Steps.{KeepsText}
 use Rattle.age_armor.proofs.reader.ArmoredReader.walk.Given as goal
 
@@ -22,11 +22,12 @@ invariant-reads g l =
           armored_rest l.self ≡ from_place l.self.place (armored_content l.fn.self);
       ending : IsTrue (reader.tells l.fn.self.source.inner) → (outcome_of l.self).ending ≡ (outcome_of l.fn.self).ending;
       text : KeepsText l.fn.self l.self;
+      left : l.left ≤ l.target - l.fn.self.place;
+      begun : IsTrue (reader.tells l.fn.self.source.inner) → l.left < l.target - l.fn.self.place → is_start l.self.stage ≡ false;
+      still : l.fn.self.place ≡ l.target → l.self ≡ l.fn.self;
       counted : IsTrue (reader.tells l.fn.self.source.inner) → IsTrue (reader.steady l.fn.self.source.inner) →
           armored_rest l.fn.self ≡ from_place l.fn.self.place (armored_content l.fn.self) → l.target ≤ length (armored_content l.fn.self).bytes →
           IsCounted l.self.stage l.fn.self.place l.fn.self.source.lines l.target l.self.place (l.self.filled - l.self.given) l.self.source.lines;
-      bare : IsTrue (reader.tells l.fn.self.source.inner) → IsTrue (reader.steady l.fn.self.source.inner) → begins_armor (text_of l.fn.self).bytes ≡ false →
-          l.self.source.lines ≡ l.fn.self.source.lines;
     }
 
 abbrev pub decreases-reads : goal.decreases-reads

@@ -28,6 +28,8 @@ returns-in-Start g c =
           let at = rw c.in-Start.is at here in
           let still = now.still holds.0 holds.1 (sym at) in
           (still.0 ∙ ap Ok at, still.1);
+      bare = now.text.bare;
+      below = now.below;
       learns = now.text.learns;
       counts = now.text.counts;
       knows = λ asked. absurd (rw c.in-Start.is at asked);
@@ -56,6 +58,8 @@ returns-in-End g c =
       marks = λ told steady noting near. now.takes.lines told steady noting (rw c.in-End.is at near);
       outside = now.takes.outside;
       still = λ told some here. absurd (rw c.in-End.is at here);
+      bare = now.text.bare;
+      below = now.below;
       learns = now.text.learns;
       counts = now.text.counts;
       knows = λ asked. now.finds.knows;
@@ -89,6 +93,8 @@ returns-in-Current g c =
       still = λ told some here.
           let holds = shown_begun before.failed before.bytes before.given before.filled before.stage before.order (all_held before) before.fresh some in
           now.still told holds.0 holds.1 (subst (λ d. place_at before.place d ≡ Some before.place) (sym same) (rw c.in-Current.is at here));
+      bare = now.text.bare;
+      below = now.below;
       learns = now.text.learns;
       counts = now.text.counts;
       knows = λ asked. absurd (rw c.in-Current.is at asked);

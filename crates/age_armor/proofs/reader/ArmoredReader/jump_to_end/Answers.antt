@@ -1,0 +1,66 @@
+use Rattle.std.proofs.Common.{◌≡◌, ◌∙◌, ◌+◌, ◌-◌, ◌≤◌, IsTrue, false, length, length-drop, arith, ap, sym, subst, refl}
+use Rattle.std.proofs.lemmas.Bool.{true≢false}
+use Rattle.age_io.specs.Stretch.{from_place}
+use Rattle.age_armor.specs.declared.stages.Stage.TheVariants.{Binary}
+use Rattle.age_armor.specs.Reader.{origin_of, text_of}
+use Rattle.age_armor.specs.Marks.{Resumes}
+use Rattle.age_armor.specs.Stages.{FindsForm, is_start, is_armored}
+use Rattle.age_armor.specs.Steps.{WhereTold, WhereSteady}
+use Rattle.age_armor.proofs.Ahead.{shown_none}
+use Rattle.age_armor.proofs.Invariants.{IsSound, sound-failed, sound-resumed}
+use Rattle.age_armor.proofs.Resuming.{resumes_binary, length_binary, clean_binary}
+use Rattle.age_armor.proofs.reader.ArmoredReader.jump_to_end.Goals as goal
+
+pub invariant_of-self : goal.invariant_of-self
+invariant_of-self g c =
+    let before = c.args.self.now in
+    let now = c.go_to_end.ensures in
+    sound-failed before c.go_to_end.new.self c.go_to_end.new.preceding before.place now.goes.keeps.same
+    now.origin (λ told steady. now.behind told steady (before.behind told steady)) before.fits before.inside
+
+pub returns-then-self-clause-cause : goal.returns-then-self-clause-cause
+returns-then-self-clause-cause g c = λ told well other quiet.
+    let before = c.args.self.now in
+    let steady = g.met.R.Read.well before.source.inner told well in
+    absurd (omega (arith, c.go_to_end.ensures.behind told steady (before.behind told steady), c.if-self.true))
+
+pub invariant_of-self-2 : goal.invariant_of-self-2
+invariant_of-self-2 g c =
+    let before = c.args.self.now in
+    let reader = g.R.Read in
+    let now = c.in-Ok.ensures in
+    let source = c.go_to_end.new.self in
+    let preceding = c.go_to_end.new.preceding in
+    let content = reader.content before.source.inner in
+    let len = source.taken - preceding in
+    let form : WhereSteady before (FindsForm false (text_of before).bytes) = λ told steady.
+    subst (λ s. FindsForm (is_armored s) (text_of before).bytes) c.requires (before.form told steady (ap is_start c.requires)) in
+    let all : WhereTold before (len + origin_of before ≡ reader.place source.inner) = λ told. omega (arith, (now.all told).0, (now.all told).1, c.if-self.false) in
+    let size : WhereSteady before (len ≡ length (text_of before).bytes) = λ told steady.
+    omega (arith, all told, (now.rest told steady).1, length-drop (origin_of before) content.bytes) in
+    let within : WhereSteady before (len ≤ length (text_of before).bytes) = λ told steady. omega (arith, size told steady) in
+    let ends : WhereSteady before (IsTrue content.ends_well) = λ told steady.
+    subst (λ s. IsTrue s.ends_well) (now.rest told steady).0 (now.end told).ends_well in
+    let resumes : WhereSteady before (Resumes (text_of before) Binary len len) = λ told steady.
+    resumes_binary (text_of before) len (form told steady) (within told steady) in
+    subst (λ s. IsSound source preceding s before.bytes 0 0 len false c.learn.new.self) (sym c.requires)
+    (sound-resumed before source preceding Binary len len c.learn.new.self now.goes.keeps.same now.origin (omega (arith, c.if-self.false)) now.goes.unspent
+    (g.met.R.Read.place_fits source.inner) (λ start. absurd (true≢false (sym start))) refl (λ full. absurd (true≢false (sym (ap is_armored full))))
+    (λ told. (omega arith, resumes told))
+    (λ told steady. (now.rest told steady).0 ∙ ap (λ n. from_place n content) (omega (arith, all told)))
+    (λ told. (
+      c.learn.ensures.knows (reader.steady before.source.inner) (text_of before)
+          (c.reach.ensures.knows (reader.steady before.source.inner) (text_of before) (before.known told) (λ steady. (resumes told steady).within) (λ steady. sym (form told steady).same))
+          c.reach.ensures.reaches
+          (λ none steady. length_binary (text_of before) len (form told steady) (size told steady) (ends told steady))
+          (λ some. absurd (omega (arith, some))) (λ steady. omega (arith, (resumes told steady).within)) (λ steady armored some. absurd (omega (arith, some))),
+      omega (arith, c.reach.ensures.reaches, c.learn.ensures.more.further),
+    ))
+    (λ told steady start. absurd (true≢false (sym start))))
+
+pub returns-clause-end : goal.returns-clause-end
+returns-clause-end g c = λ told.
+    clean_binary c.args.self.now.bytes c.args.self.now.stage (g.R.Read.rest c.go_to_end.new.self.inner) c.requires (c.in-Ok.ensures.end told)
+
+pub returns-clause-lands : goal.returns-clause-lands
+returns-clause-lands g c = record { taken = refl; shown = shown_none false c.args.self.now.bytes 0 0 (omega arith) refl }
