@@ -36,7 +36,7 @@ use std::fmt;
 /// finds out which of the two it is. One line is held at a time. Up to 16 lines that the inner reader shows are decoded in
 /// one call, each is taken from it only when it is asked for. Of each 1,024 full lines that were read a mark is kept, in 8
 /// bytes, from which seeks read on, and the length of what the text carries once its end was read. Where memory for a mark is
-/// refused, none is kept from then on, and the answers are the same.
+/// refused, none is kept from then on, and the answers are the same. A seek in a binary text is one of the inner reader.
 #[derive(Drop)]
 pub struct ArmoredReader<R: BufRead> {
     pub(crate) source: Counted<R>,

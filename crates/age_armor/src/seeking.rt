@@ -516,8 +516,8 @@ impl<R: BufRead + Seek> Seek for ArmoredReader<R> {
 
     /// Moves within what the text carries, and answers the new place in bytes from its front.
     ///
-    /// In a text that isn't armor the inner reader is asked for the place, counted from where the text begins, and no byte of the text
-    /// is read but the 36 that tell its form. In armor the text is read on from the last mark that isn't after the target, or else
+    /// A seek in a binary text is one of the inner reader, counted from where the text begins: no byte of the text is read but the 36
+    /// that tell its form, and for its end, once, the inner reader is asked for bytes behind it. Armor is read on from the last mark that isn't after the target, or else
     /// from its front, as far as the target asks, and for `SeekFrom::End` once to its end. So a target that stands before the first fault of the text is moved to, and
     /// makes a failed reader good again. A target not beyond the furthest place that was come to takes at most 1,024 lines, as
     /// `lines` counts them. Nothing is read for the place at which a reader stands that has begun, nor, once the end was read,
@@ -530,8 +530,8 @@ impl<R: BufRead + Seek> Seek for ArmoredReader<R> {
     /// - that of the inner reader, where it refuses a read or a seek. Its interruptions are tried again up to 16 times in
     ///   a row; after that the answer is `Device(Other)`.
     /// - `OutOfMemory`: memory for a line's text was refused.
-    /// - `TooLong` and `Failed`: the inner reader doesn't tell its bytes, and has more than a content may have or refuses
-    ///   to go back to its own.
+    /// - `TooLong` and `Failed`: the inner reader doesn't tell its bytes, or its content ends badly, and it has more than a
+    ///   content may have, refuses to go to what it has, or has more behind the end that it went to.
     ///
     /// Every refusal leaves the place. After `BeforeStart` and `PastEnd` the reader stands there as before; one that had
     /// failed stays so. After any other it has failed.
@@ -580,8 +580,8 @@ impl<R: BufRead + Seek> Seek for ArmoredReader<R> {
         ensures early { IsTrue (R.Read.tells (inner_of self.old)) → IsTrue (R.Read.steady (inner_of self.old)) → (armored_content self.old).ends_well ≡ false →
             IfErr result (λ e. IsOutside e → (e ≡ BeforeStart) × IsEarly to (place_of self.old)) }
 
-        // In a text that isn't armor no line is taken, and where it moves, the inner reader stands at the place itself, counted from where
-        // the text begins: nothing is read ahead or held.
+        // In a binary text no line is taken, and where it moves, the inner reader stands at the place itself, counted from where the text
+        // begins: nothing is read ahead or held.
         ensures bare { IsTrue (R.Read.tells (inner_of self.old)) → IsTrue (R.Read.steady (inner_of self.old)) → begins_armor (text_of self.old).bytes ≡ false →
             lines_of self.new ≡ lines_of self.old }
         ensures below { StandsBelow self.old self.new result }

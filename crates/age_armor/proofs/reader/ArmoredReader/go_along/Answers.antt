@@ -89,7 +89,8 @@ returns-then-there g c =
       ];
       front = λ zero.
           let still : new ≡ middle = (last.still (omega (arith, first.before, zero))).1 in
-          let front = first.front zero in
-          (ap (λ r. r.source.lines) still ∙ first.unread.0,
-          subst (λ r. LandsBelow r c.args.target) (sym still) (record { taken = front.0 ∙ sym zero; shown = front.1 }));
+          let front = first.front zero in (
+            ap (λ r. r.source.lines) still ∙ first.unread.0,
+            subst (λ r. LandsBelow r c.args.target) (sym still) (record { taken = front.0 ∙ sym zero; shown = front.1 }),
+          );
     }

@@ -94,9 +94,11 @@ returns-in-Ok-jump_to_end-clause-goes g c =
             (subst (λ s. new.place ≤ length s.bytes) content (new.inside (armored.tells ∙ told) (armored.steady ∙ steady))) in
             let well = well_inner (reader.content before.source.inner) (origin_of before) end.0 in
             let past = first.past told well c.if-not-there.true in
-            let size : length (armored_content before).bytes ≡ length (text_of before).bytes = ap (λ o. length o.bytes) (carried_binary (text_of before) (form told steady)) in
-            (end.0, moved-past c.args.target (length (armored_content before).bytes)
-            (omega (arith, past, size, c.saturating_add.ensures, (form told steady).long, length-drop (origin_of before) (reader.content before.source.inner).bytes)));
+            let size : length (armored_content before).bytes ≡ length (text_of before).bytes = ap (λ o. length o.bytes) (carried_binary (text_of before) (form told steady)) in (
+              end.0,
+              moved-past c.args.target (length (armored_content before).bytes)
+                  (omega (arith, past, size, c.saturating_add.ensures, (form told steady).long, length-drop (origin_of before) (reader.content before.source.inner).bytes)),
+            );
         named = λ told well own. absurd (own tt);
       };
     }
