@@ -1,29 +1,36 @@
 #!/usr/bin/env bash
-# Seeks in a payload, each with a read of one byte: seconds, and how many chunks were opened for a read. Places at random, a random
-# walk over 4 chunks, and back and forth between two chunks, on the payload of so many MiB (the argument, else 64) bare and in armor.
-# In armor the first seek reads the text to its end, and each later one reads on from marks. The least of three runs, less that of a run
-# with one place.
+# What a seek and a read of one byte cost, of a file of so many MiB on the disk (the argument, else 64): seconds, and how many chunks were opened for a read.
+#
+# Three forms side by side: a payload alone, by `StreamReader`; and what a user has, a whole file bare and in armor, by `open_text`. Of each the
+# first seek, with all that comes before it, and later ones: at random, in a random walk over 4 chunks, and back and forth between two chunks. In armor the
+# first seek reads all lines. The least of three runs; the later ones less a run with one place.
+# Then `sazh part`, which reads 10 bytes at the end of such files, with how many bytes the process read (proc(5), /proc/PID/io).
 set -euo pipefail
 size=${1:-64}
 top=$(cd "$(dirname "$0")/.." && pwd)
 key=000102030405060708090a0b0c0d0e0f101112131415161718191a1b1c1d1e1f
 "$top/agebench" seal "$key" </dev/null >/dev/null
+"$top/sazh" --version >/dev/null
 python3 "$top/build.py" probe seeks "$top/crates/probe/data/payload" </dev/null
-folder=$(mktemp -d -p "${TMPDIR:-/dev/shm}")
+folder=$(mktemp -d -p "${TMPDIR:-/tmp}")
 trap 'rm -rf "$folder"' EXIT
-python3 - "$folder" "$top/crates/probe/out/probe" "$top/crates/agebench/out/agebench" "$key" "$size" <<'PYTHON'
+python3 - "$folder" "$top" "$key" "$size" <<'PYTHON'
 import os, random, subprocess, sys, time
-folder, probe, agebench, key, size = sys.argv[1:]
+folder, top, key, size = sys.argv[1:]
+probe, agebench, sazh = (os.path.join(top, "crates", it, "out", it) for it in ("probe", "agebench", "sazh"))
 name = lambda it: os.path.join(folder, it)
 length, piece, chance = int(size) << 20, 65536, random.Random(1)
 plain = os.urandom(length)
-sealed = subprocess.run([agebench, "seal", key], input=plain, capture_output=True, check=True).stdout
-with open(name("bare"), "wb") as file:
-    file.write(sealed)
-with open(name("armored"), "wb") as file:
-    file.write(b"-----BEGIN AGE ENCRYPTED FILE-----\n")
-    file.write(subprocess.run(["base64", "-w", "64"], input=sealed, capture_output=True, check=True).stdout)
-    file.write(b"-----END AGE ENCRYPTED FILE-----\n")
+
+
+def write(file, words, given=plain):
+    with open(name(file), "wb") as out:
+        subprocess.run(words, input=given, stdout=out, check=True)
+
+
+write("payload", [agebench, "seal", key])
+write("bare", [agebench, "encrypt", "bench", "00" * 32])
+write("armored", [agebench, "encrypt", "bench", "00" * 32, "armor"])
 
 
 def walk(count):
@@ -48,11 +55,37 @@ def run(words, places):
 
 
 print(f"{size} MiB, least of three runs:")
-for form, words, count in [("bare", [name("bare")], 10000), ("armored", ["armor", name("armored")], 10000)]:
-    start = min(run(words, [0])[0] for _ in range(3))
+count = 10000
+for form, words in [("payload", [name("payload")]), ("bare", ["file", name("bare")]), ("armored", ["file", name("armored")])]:
+    none = min(run(words, [])[0] for _ in range(3))
+    first = min(run(words, [length // 2])[0] for _ in range(3))
+    print(f"{form:<8} the first seek        {(first - none) * 1e6:9.1f} microseconds, and {none * 1e6:.1f} for the process and what is read before it")
     for pattern, places in [("at random", [chance.randrange(length) for _ in range(count)]), ("a walk over 4 chunks", walk(count)),
                             ("back and forth", [0, piece] * (count // 2))]:
         took, opens = min(run(words, places) for _ in range(3))
-        each = (took - start) / count
-        print(f"{form:<8} {pattern:<21} {each * 1e6:9.1f} microseconds a read, {opens / count:.3f} chunks opened a read")
+        print(f"{form:<8} {pattern:<21} {(took - first) / count * 1e6:9.1f} microseconds a read, {opens / count:.3f} chunks opened a read")
+
+
+def part(file):
+    """The seconds that `sazh part` takes for 10 bytes at the end, and how many bytes it reads."""
+    start = time.perf_counter()
+    with subprocess.Popen([sazh, "part", "-i", name("key"), str(length - 10), "10", name(file)], stdout=subprocess.PIPE) as process:
+        shown = process.stdout.read()
+        os.waitid(os.P_PID, process.pid, os.WEXITED | os.WNOWAIT)
+        took = time.perf_counter() - start
+        with open(f"/proc/{process.pid}/io", encoding="ascii") as told:
+            read = int(dict(line.split(": ") for line in told.read().splitlines())["rchar"])
+    if shown != plain[-10:]:
+        sys.exit(f"{file}: {shown}")
+    return took, read
+
+
+subprocess.run([sazh, "keygen", "-o", name("key")], check=True)
+with open(name("key"), encoding="ascii") as file:
+    recipient = file.readline().split()[-1]
+write("sazh_bare", [sazh, "encrypt", "-r", recipient])
+write("sazh_armored", [sazh, "encrypt", "-r", recipient, "-a"])
+for form in ("bare", "armored"):
+    took, read = min(part(f"sazh_{form}") for _ in range(5))
+    print(f"{form:<8} sazh part, at the end {took * 1e6:9.1f} microseconds, {read} bytes read")
 PYTHON

@@ -9,12 +9,16 @@ import stat
 import subprocess
 import sys
 import tempfile
+import time
 from pathlib import Path
 
 VECTORS = Path(__file__).resolve().parent.parent / "vectors"
 IDENTITY_OF_THE_PROTECTED_FILE = b"AGE-SECRET-KEY-1YZ3PRM0AJDSQEWZVRM7NKJL58NQMG3DRAA0JKHX5UL6ND5DJ5P2QJCU2JK"
 RECIPIENT_OF_THE_PROTECTED_FILE = "age1ysxuaeqlk7xd8uqsh8lsnfwt9jzzjlqf49ruhpjrrj5yatlcuf7qke4pqe"
 SIZES = [0, 1, 65_535, 65_536, 65_537, 200_000]
+SMALL, BIG = 1 << 20, 1 << 30
+# What a part of a bare file may read: two chunks, buffers, the file of keys and what the system's loader reads.
+MOST_READ = 400_000
 
 
 def plaintext(size):
@@ -43,6 +47,24 @@ class Runs:
         """It succeeds, and this is what standard output shows."""
         done = self.run(words, given)
         self.ends(f"{what}: status {done.returncode}, {done.stderr!r}", done.returncode == 0 and done.stdout == wanted and not done.stderr)
+
+    def reads(self, words, given=subprocess.DEVNULL):
+        """What it shows, and how many bytes it read, by what Linux tells of a process that has ended (proc(5), /proc/PID/io)."""
+        with subprocess.Popen([self.program, *words], stdin=given, stdout=subprocess.PIPE, cwd=self.folder) as process:
+            shown = process.stdout.read()
+            os.waitid(os.P_PID, process.pid, os.WEXITED | os.WNOWAIT)
+            told = dict(line.split(": ") for line in Path(f"/proc/{process.pid}/io").read_text("ascii").splitlines())
+        return shown, int(told["rchar"])
+
+    def takes(self, words, wanted):
+        """The least of the times that runs take which show this."""
+        times = []
+        for _ in range(20):
+            start = time.perf_counter()
+            good = self.run(words).stdout == wanted
+            times.append(time.perf_counter() - start)
+            self.ends(f"{words}", good)
+        return min(times)
 
     def refuses(self, what, words, given=b"", front=None, status=1, says=b""):
         """It refuses with one line, or a wrong command line with its usage, after a beginning of this output, or none."""
@@ -121,6 +143,42 @@ def files(runs):
     return recipient
 
 
+def sparse(runs, recipient, size, name):
+    """The file of so many zeros to a recipient, of which only its front and its end are kept, and the rest are holes."""
+    with open(runs.path("zeros"), "wb") as zeros:
+        zeros.truncate(size)
+    with open(runs.path("zeros"), "rb") as zeros, open(runs.path(name), "wb") as file:
+        with subprocess.Popen([runs.program, "encrypt", "-r", recipient], stdin=zeros, stdout=subprocess.PIPE) as process:
+            at, last = 0, b""
+            while block := process.stdout.read(SMALL):
+                if at == 0:
+                    file.write(block[:4096])
+                at, last = at + len(block), (last + block)[-200_000:]
+            file.seek(at - len(last))
+            file.write(last)
+    runs.ends(f"a file of {size} zeros", process.returncode == 0 and at > size)
+
+
+def seeks(runs, recipient):
+    """A part of a bare file reads a chunk or two, however long the file is, also where it is standard input, from where that stands."""
+    end = lambda size, name: ["part", "-i", "key", str(size - 10), "10", name]
+    for size, name in ((SMALL, "of_a_mib"), (BIG, "of_a_gib")):
+        sparse(runs, recipient, size, name)
+        shown, read = runs.reads(end(size, name))
+        runs.ends(f"the end of {name}: {shown}, {read} bytes read", shown == bytes(10) and read < MOST_READ)
+        with open(runs.path(name), "rb") as file:
+            shown, read = runs.reads(end(size, "-"), file)
+        runs.ends(f"the end of {name} as standard input: {shown}, {read} bytes read", shown == bytes(10) and read < MOST_READ)
+    small, big = (runs.takes(end(size, name), bytes(10)) for size, name in ((SMALL, "of_a_mib"), (BIG, "of_a_gib")))
+    runs.ends(f"the end of a GiB takes {big:.4f} s, of a MiB {small:.4f} s", big < 2 * small)
+    runs.path("behind").write_bytes(b"before" + runs.path("file").read_bytes())
+    with open(runs.path("behind"), "rb") as file:
+        file.seek(6)
+        shown, read = runs.reads(["part", "-i", "key", "70000", "100", "-"], file)
+    runs.ends(f"behind other bytes: {len(shown)}, {read} bytes read", shown == plaintext(100_000)[70_000:70_100] and read < MOST_READ)
+    runs.gives("from a pipe", ["part", "-i", "key", "70000", "100", "-"], plaintext(100_000)[70_000:70_100], runs.path("file").read_bytes())
+
+
 def outputs(runs):
     """A file that is there stays, and one that doesn't become whole isn't there."""
     before = runs.path("back").read_bytes()
@@ -182,6 +240,7 @@ def main():
         runs = Runs(sys.argv[1], folder)
         vectors(runs)
         recipient = files(runs)
+        seeks(runs, recipient)
         outputs(runs)
         refusals(runs, recipient)
         command_lines(runs, recipient)

@@ -2,6 +2,8 @@
 #![tactic(auto)]
 
 #[cfg(test)]
+mod asked_tests;
+#[cfg(test)]
 mod both_suites_tests;
 #[cfg(test)]
 mod buffered_tests;

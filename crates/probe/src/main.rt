@@ -1,6 +1,6 @@
 //! Probes: what a bench and runs with failing memory and reads ask of the library, and no command of `agebench` shows.
 //!
-//! `probe seeks` reads one byte of a payload at each of many places, and `probe recipients` prints the recipients of a protected identity
+//! `probe seeks` reads one byte of a plaintext at each of many places, and `probe recipients` prints the recipients of a protected identity
 //! file twice.
 #![tactic(auto)]
 
@@ -11,7 +11,7 @@ use std::env;
 use std::process::ExitCode;
 
 const USAGE: &str =
-    "usage: probe seeks [armor] FILE, with a place a line on standard input; or probe recipients [PASSPHRASE], with the file there";
+    "usage: probe seeks [file] FILE, with a place a line on standard input; or probe recipients [PASSPHRASE], with the file there";
 
 /// What a probe came to.
 enum Outcome {

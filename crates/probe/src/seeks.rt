@@ -1,15 +1,16 @@
-//! Reads one byte of a payload at each of the places that standard input names, one a line: what `bench/seeks.sh` times. The payload stands in
-//! the file of the last word, under the key 0, 1, .., 31 and the bench suite; the word `armor` before it says that it is in armor. Prints how many
-//! bytes were read, their sum, and how many chunks were opened for them.
+//! Reads one byte of a plaintext at each of the places that standard input names, one a line: what `bench/seeks.sh` times. The file of the last word
+//! is a payload alone, under the key 0, 1, .., 31 and the bench suite, or, where the word `file` stands before it, a whole file to `bench`, bare or in
+//! armor, that is opened by `open_text`. Prints how many bytes were read, their sum, and how many chunks were opened for them.
 
 use crate::Outcome;
-use age::armor::ArmoredReader;
 use age::io::{Error, Read, Seek, SeekFrom, Std, device_error, read_to_end};
 use age::stream::StreamReader;
+use age::streaming::{FileError, open_text};
+use age_bench::recipient::BenchIdentity;
 use age_bench::suite::BenchSuite;
 use std::alloc::Global;
 use std::fs::File;
-use std::str;
+use std::{slice, str};
 
 const KEY: [u8; 32] = [
     0, 1, 2, 3, 4, 5, 6, 7, 8, 9, 10, 11, 12, 13, 14, 15, 16, 17, 18, 19, 20, 21, 22, 23, 24, 25,
@@ -46,8 +47,7 @@ fn places(rt: &HostRuntime) -> Result<Option<Vec<u64>>, Error> {
 }
 
 // Reads a byte at each place. At the end of the plaintext none comes.
-fn visit<R: Seek + Drop>(alloc: Global, inner: R, places: &[u64]) -> Result<Walk, Error> {
-    let mut reader = StreamReader::<BenchSuite, R>::with_payload_key(alloc, KEY, inner)?;
+fn visit<R: Seek>(reader: &mut StreamReader<BenchSuite, R>, places: &[u64]) -> Result<Walk, Error> {
     let mut reads = 0u64;
     let mut sum = 0u64;
     for place in places {
@@ -70,16 +70,43 @@ fn open(rt: &HostRuntime, name: &str) -> Result<Std<File>, Error> {
     }
 }
 
+// In a payload alone.
+fn walk_payload(alloc: Global, payload: Std<File>, places: &[u64]) -> Result<Walk, Error> {
+    let mut reader = StreamReader::<BenchSuite, Std<File>>::with_payload_key(alloc, KEY, payload)?;
+    visit(&mut reader, places)
+}
+
+// In a whole file, bare or in armor.
+fn walk_file(alloc: Global, file: Std<File>, places: &[u64]) -> Result<Walk, FileError> {
+    let mut identity = BenchIdentity;
+    let mut reader = open_text::<BenchSuite, BenchIdentity, Std<File>>(
+        alloc,
+        slice::from_mut(&mut identity),
+        file,
+    )?;
+    match visit(&mut reader, places) {
+        Ok(walk) => Ok(walk),
+        Err(error) => Err(FileError::Io(error)),
+    }
+}
+
 // What the reader of the file of this name came to, or `None` where standard input names no places.
-fn walk_in(rt: &HostRuntime, armored: bool, name: &str) -> Result<Option<Walk>, Error> {
-    let Some(places) = places(rt)? else {
-        return Ok(None);
+fn walk_in(rt: &HostRuntime, whole: bool, name: &str) -> Result<Option<Walk>, FileError> {
+    let places = match places(rt) {
+        Ok(Some(places)) => places,
+        Ok(None) => return Ok(None),
+        Err(error) => return Err(FileError::Io(error)),
     };
-    let file = open(rt, name)?;
-    if armored {
-        Ok(Some(visit(rt.alloc(), ArmoredReader::new(rt.alloc(), file)?, &places)?))
-    } else {
-        Ok(Some(visit(rt.alloc(), file, &places)?))
+    let file = match open(rt, name) {
+        Ok(file) => file,
+        Err(error) => return Err(FileError::Io(error)),
+    };
+    if whole {
+        return Ok(Some(walk_file(rt.alloc(), file, &places)?));
+    }
+    match walk_payload(rt.alloc(), file, &places) {
+        Ok(walk) => Ok(Some(walk)),
+        Err(error) => Err(FileError::Io(error)),
     }
 }
 
@@ -87,7 +114,7 @@ fn walk_in(rt: &HostRuntime, armored: bool, name: &str) -> Result<Option<Walk>, 
 pub fn probe(rt: &HostRuntime, words: &[String]) -> Outcome {
     let walked = match words {
         [name] => walk_in(rt, false, name),
-        [form, name] if form.as_str() == "armor" => walk_in(rt, true, name),
+        [form, name] if form.as_str() == "file" => walk_in(rt, true, name),
         _ => return Outcome::Usage,
     };
     match walked {

@@ -1,7 +1,7 @@
 //! The commands.
 
 use crate::failure::{Failure, done};
-use crate::files::open;
+use crate::files::{open, open_input};
 use crate::jobs::{Decrypting, Encrypting, Job, To, flushed, run_job};
 use crate::keys::{
     Holder, identities, passphrase_identity, passphrase_recipient, recipient, recipients,
@@ -128,7 +128,7 @@ fn with(rt: &HostRuntime, asked: &Identities) -> Result<Vec<Holder>, Failure> {
 
 // So many bytes of the plaintext of standard input, in which nobody can seek, from a place on, to standard output. It is read into memory
 // first.
-fn part_of_input(
+fn part_of_pipe(
     rt: &HostRuntime,
     identities: &mut [Holder],
     place: u64,
@@ -149,18 +149,17 @@ fn part_of_input(
     flushed(rt, &mut writer)
 }
 
-// So many bytes of the plaintext of the file of this name, in which is sought, from a place on, to standard output.
+// So many bytes of the plaintext of a file, in which is sought, from a place on, to standard output.
 fn part_of_file(
     rt: &HostRuntime,
     identities: &mut [Holder],
     place: u64,
     count: u64,
-    name: &str,
+    file: Std<File>,
 ) -> Result<(), Failure> {
-    let text = open(rt, name)?;
     let mut stream = done(
         rt,
-        open_text::<StandardSuite, Holder, Std<File>>(rt.alloc(), identities, text),
+        open_text::<StandardSuite, Holder, Std<File>>(rt.alloc(), identities, file),
     )?;
     let mut writer = Std::new(io::writer(rt));
     done(
@@ -179,10 +178,13 @@ fn part(
     input: &str,
 ) -> Result<(), Failure> {
     let mut identities = with(rt, asked)?;
-    if input == "-" {
-        part_of_input(rt, &mut identities, place, count)
-    } else {
-        part_of_file(rt, &mut identities, place, count, input)
+    if input != "-" {
+        let file = open(rt, input)?;
+        return part_of_file(rt, &mut identities, place, count, file);
+    }
+    match open_input(rt) {
+        Some(file) => part_of_file(rt, &mut identities, place, count, file),
+        None => part_of_pipe(rt, &mut identities, place, count),
     }
 }
 

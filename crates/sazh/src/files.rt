@@ -1,11 +1,19 @@
-//! Files that are read whole, and a random number.
+//! Files that are opened or read whole, and a random number.
 
 use crate::failure::{Failure, refused, said};
-use age::io::{Std, device_error, read_to_end};
+use age::io::{Seek, SeekFrom, Std, device_error, read_to_end};
 use age::util::LimitedReader;
 use age_tool::error::RandomError;
+use sazh_command::told_place;
+use std::fs;
 use std::fs::File;
 use std::random::RandomSource;
+
+// Standard input by a name.
+const INPUT: &str = "/dev/stdin";
+
+// What Linux tells of it, its place among that (proc(5)).
+const INPUT_TOLD: &str = "/proc/self/fdinfo/0";
 
 // The most bytes that a file of recipients or of a passphrase may have: 16 MiB.
 const MOST_BYTES: usize = 16_777_216;
@@ -30,6 +38,37 @@ pub fn read(rt: &HostRuntime, name: &str) -> Result<Vec<u8>, Failure> {
     match read_to_end(rt.alloc(), &mut reader, &mut text) {
         Ok(_) => Ok(text),
         Err(error) => Err(refused(rt, name, error)),
+    }
+}
+
+// The place at which standard input stands, where the system tells it.
+fn input_place(rt: &HostRuntime) -> Option<u64> {
+    let Ok(text) = read(rt, INPUT_TOLD) else {
+        return None;
+    };
+    let Ok(text) = str::from_utf8(&text) else {
+        return None;
+    };
+    told_place(text)
+}
+
+/// Standard input as a file in which can be sought, at the place where it stands: opened anew, where it is a regular file.
+///
+/// `None` where it is a pipe, say, and where the system doesn't tell its place or doesn't open it.
+pub fn open_input(rt: &HostRuntime) -> Option<Std<File>> {
+    let Ok(found) = fs::metadata(rt, INPUT) else {
+        return None;
+    };
+    if !found.is_file() {
+        return None;
+    }
+    let place = input_place(rt)?;
+    let Ok(mut file) = open(rt, INPUT) else {
+        return None;
+    };
+    match file.seek(SeekFrom::Start(place)) {
+        Ok(_) => Some(file),
+        Err(_) => None,
     }
 }
 

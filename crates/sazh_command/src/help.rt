@@ -25,7 +25,7 @@ encrypt  encrypts IN to each of the recipients, or to who knows a passphrase.
 decrypt  decrypts IN, in armor or not.
 part     decrypts COUNT bytes of IN from byte PLACE on (0 is the first), or
          fewer where the content ends, and writes them to standard output. It
-         seeks in a file, and reads standard input into memory first.
+         seeks in a file, also as standard input, and reads a pipe into memory.
 
 IN and OUT are names of files; -, or none, is standard input or output.
 

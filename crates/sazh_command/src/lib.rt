@@ -9,6 +9,7 @@
 
 mod command;
 mod help;
+mod input;
 mod laws;
 mod meaning;
 mod mistakes;
@@ -19,6 +20,7 @@ mod reading;
 
 pub use command::{Command, Identities, Output, Recipient, Recipients};
 pub use help::{HELP, USAGE};
+pub use input::told_place;
 pub use laws::command_laws;
 pub use mistakes::UsageError;
 pub use options::{Operand, ValueOption};

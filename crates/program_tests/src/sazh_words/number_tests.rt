@@ -1,6 +1,7 @@
 //! PLACE and COUNT.
 
 use crate::sazh_words::answers::words_ask;
+use sazh_command::told_place;
 use std::alloc::{AllocError, Global};
 use std::test::Fail;
 
@@ -84,4 +85,23 @@ fn other_words_are_no_numbers(rt: HostRuntime) -> Result<(), Fail> {
         );
     }
     Ok(())
+}
+
+// What Linux tells of a descriptor, and the place that is read there.
+const TOLD: [(&str, Option<u64>); 8] = [
+    ("pos:\t0\nflags:\t0100000\nmnt_id:\t28\n", Some(0)),
+    ("pos:\t1073742024\n", Some(1_073_742_024)),
+    ("pos:\t18446744073709551615\n", Some(u64::MAX)),
+    ("pos:\t18446744073709551616\n", None),
+    ("pos:\t5", None),
+    ("pos: 5\n", None),
+    ("flags:\t0100000\npos:\t5\n", None),
+    ("", None),
+];
+
+#[test]
+fn a_place_that_is_told_is_read(rt: HostRuntime) {
+    for (text, place) in TOLD {
+        assert!(rt; told_place(text) == place, "{text}");
+    }
 }
