@@ -24,6 +24,8 @@ mod recipient_tests;
 #[cfg(test)]
 mod shared;
 #[cfg(test)]
+mod short_draw_tests;
+#[cfg(test)]
 mod uses;
 #[cfg(test)]
 mod whole_file_tests;

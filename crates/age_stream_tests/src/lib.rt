@@ -3,6 +3,8 @@
 #![tactic(auto)]
 
 #[cfg(test)]
+mod damaged_tests;
+#[cfg(test)]
 mod device_tests;
 #[cfg(test)]
 mod fault_tests;
