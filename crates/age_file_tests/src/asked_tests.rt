@@ -18,7 +18,7 @@ use std::test::Fail;
 
 type Stream<R> = StreamReader<BenchSuite, ArmoredReader<BufReader<R>>>;
 
-// How many chunks the file has, and at how many places it is read: one in each tenth chunk, the last among them.
+// How many chunks the file has, and at how many places it is read: one in every tenth chunk, the last among them.
 const CHUNKS: usize = 1_000;
 
 const PLACES: usize = 100;
@@ -38,8 +38,15 @@ fn chunk_of(number: usize) -> usize {
     10 * number.min(PLACES - 1) + 9
 }
 
+// The place of this number.
 fn place(number: usize) -> u64 {
-    65_536 * chunk_of(number) as u64 + 653 * number.min(PLACES - 1) as u64
+    let chunk = chunk_of(number) as u64;
+    chunk.saturating_mul(65_536).saturating_add(number as u64)
+}
+
+// Whether a chunk holds one of them.
+fn is_read(chunk: usize) -> bool {
+    chunk % 10 == 9
 }
 
 // The byte that a chunk of this number is made of.
@@ -59,12 +66,14 @@ fn sealed(alloc: Global, key: &[u8; 32], number: usize) -> Result<Vec<u8>, Fail>
 // A file of so many chunks, of which those that are read are sealed.
 fn file(alloc: Global) -> Result<Vec<u8>, Fail> {
     let key = hkdf(&[0; 16], b"payload", &[0; 16]);
-    let mut file = vec![in alloc; 0; FRONT + SEALED * CHUNKS]?;
-    file[..FRONT].copy_from_slice(part(&message_file(alloc, b"")?, 0, FRONT));
-    for number in 0..PLACES {
-        let chunk = chunk_of(number);
-        let start = FRONT + SEALED * chunk;
-        file[start..start + SEALED].copy_from_slice(&sealed(alloc, &key, chunk)?);
+    let hole = vec![in alloc; 0; SEALED]?;
+    let mut file = Vec::from_slice(alloc, part(&message_file(alloc, b"")?, 0, FRONT))?;
+    for chunk in 0..CHUNKS {
+        if is_read(chunk) {
+            file.extend_from_slice(&sealed(alloc, &key, chunk)?)?;
+        } else {
+            file.extend_from_slice(&hole)?;
+        }
     }
     Ok(file)
 }
