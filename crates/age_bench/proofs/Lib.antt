@@ -10,3 +10,5 @@ pub mod Hex
 pub mod Words
 pub mod Numbers
 pub mod Keys
+pub mod Scripted
+pub mod Showing

@@ -8,6 +8,8 @@ mod both_suites_tests;
 #[cfg(test)]
 mod buffered_tests;
 #[cfg(test)]
+mod device_tests;
+#[cfg(test)]
 mod file_tests;
 #[cfg(test)]
 mod legacy_tests;

@@ -3,6 +3,8 @@
 #![tactic(auto)]
 
 #[cfg(test)]
+mod cursor_tests;
+#[cfg(test)]
 mod damaged_tests;
 #[cfg(test)]
 mod device_tests;

@@ -1,0 +1,19 @@
+use Rattle.std.proofs.Common.{◌≡◌, ◌∙◌, ◌-◌, ap, arith, []}
+use Rattle.std.specs.Prelude.{◌∷◌, ◌+◌}
+use Rattle.age.specs.ErrorKindVariants.{Other}
+use Rattle.age_bench.specs.declared.script.Step.TheVariants.{Fail}
+use Rattle.age_bench.specs.Devices.{step_of, most_bytes}
+use Rattle.age_bench.proofs.Scripted.{step_there, moves_else}
+use Rattle.age_bench.proofs.script.Script.failing_at.Goals as goal
+
+pub returns-then-call-eq0-clause-others : goal.returns-then-call-eq0-clause-others
+returns-then-call-eq0-clause-others c i other = c.new.ensures i
+
+pub returns-clause-fails : goal.returns-clause-fails
+returns-clause-fails c i is =
+    let here : i ≡ c.args.call - 1 = omega (arith, is, c.if-call-eq0.false) in
+    ap (λ n. step_of 0 0 (c.args.call - 1) (Fail Other ∷ []) most_bytes n) here ∙ step_there (c.args.call - 1) most_bytes (Fail Other)
+
+pub returns-clause-others : goal.returns-clause-others
+returns-clause-others c i other =
+    moves_else (c.args.call - 1) i (Fail Other) (λ same. other (omega (arith, same, c.if-call-eq0.false)))

@@ -1,0 +1,17 @@
+use Rattle.std.proofs.Common.{refl}
+use Rattle.age_bench.proofs.Showing.{gives-of-shown, shown-further}
+use Rattle.age_bench.proofs.source.SourceBufRead.consume.Goals as goal
+
+pub returns : goal.returns
+returns c =
+    let before = c.args.self.now in
+    record {
+      same_tells = refl;
+      same_steady = refl;
+      same_faults = refl;
+      narrows = λ e h. h;
+      shows = shown-further before.bytes.now before.place before.end c.args.amount;
+      same_content = λ told. refl;
+      bytes = λ told. gives-of-shown before.bytes.now before.place before.end c.args.amount before.order before.within c.requires;
+      moves = λ told. refl;
+    }
