@@ -6,8 +6,6 @@ mod armor_tests;
 #[cfg(test)]
 mod definition_tests;
 #[cfg(test)]
-mod fakes;
-#[cfg(test)]
 mod reader_tests;
 #[cfg(test)]
 mod retry_tests;

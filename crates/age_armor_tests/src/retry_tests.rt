@@ -1,8 +1,8 @@
 //! Armor over a reader that is interrupted.
 
-use crate::fakes::Restless;
 use crate::reader_tests::{armored, counting};
 use age_armor::ArmoredReader;
+use age_bench::devices::{Script, Source};
 use age_error::io::{Error, ErrorKind};
 use age_io::{BufRead, Read, read_to_end};
 use std::alloc::Global;
@@ -22,12 +22,17 @@ fn by_showing<R: BufRead>(reader: &mut R, bytes: &mut Vec<u8>) -> Result<(), Err
     Err(Error::TooLong)
 }
 
+// A text that comes in pieces, with so many interruptions before each.
+fn restless(text: &[u8], size: usize, times: u32) -> Source<'_> {
+    Source::new(Script::interrupted(times, size), text)
+}
+
 // Whether a reader of a text that comes in pieces, with so many interruptions before each, gives these bytes.
 fn gives(alloc: Global, text: &[u8], size: usize, times: u32, whole: &[u8]) -> Result<bool, Error> {
-    let mut reader = ArmoredReader::new_buffered(alloc, Restless::new(text, size, times))?;
+    let mut reader = ArmoredReader::new_buffered(alloc, restless(text, size, times))?;
     let mut bytes = Vec::new(alloc);
     read_to_end(alloc, &mut reader, &mut bytes)?;
-    let mut other = ArmoredReader::new_buffered(alloc, Restless::new(text, size, times))?;
+    let mut other = ArmoredReader::new_buffered(alloc, restless(text, size, times))?;
     let mut shown = Vec::new(alloc);
     by_showing(&mut other, &mut shown)?;
     Ok(bytes.as_slice() == whole && shown.as_slice() == whole)
@@ -35,7 +40,7 @@ fn gives(alloc: Global, text: &[u8], size: usize, times: u32, whole: &[u8]) -> R
 
 // Whether it has failed for good after the first call.
 fn gives_up(alloc: Global, text: &[u8], size: usize) -> Result<bool, Error> {
-    let mut reader = ArmoredReader::new_buffered(alloc, Restless::new(text, size, 17))?;
+    let mut reader = ArmoredReader::new_buffered(alloc, restless(text, size, 17))?;
     let mut room = [7; 4];
     Ok(
         reader.read(&mut room) == Err(Error::Device(ErrorKind::Other))

@@ -4,16 +4,15 @@ use crate::fixtures::{File, count};
 use crate::line_tests::text_of;
 use age::io::Write;
 use age::x25519::Recipient;
+use age_bench::devices::{Script, Sink, Step};
 use age_bench::suite::BenchSuite;
 use age_error::EncryptError;
 use age_error::io::{Error, ErrorKind};
 use age_error::resolve::ResolveError;
 use age_identity::{IdentityFileConvertError, NoCallbacks};
-use age_io::{Bytes, Std};
+use age_io::Bytes;
 use age_try::answers::is_refusal;
-use age_try::fakes::{Script, Sink, Step};
 use std::alloc::Global;
-use std::io::ErrorKind as StdKind;
 use std::test::Fail;
 
 const RECIPIENT_LINE: &[u8] = b"age1rfgm2376djkhc042ahllca4xeu6g5tqx8eya6wf4py2ddcjypgpquw0u5y\n";
@@ -125,15 +124,11 @@ fn fails<W: Write>(alloc: Global, file: &File, output: &mut W, fault: Error) -> 
 }
 
 // An output that takes a byte, and refuses the next one.
-const SECOND_FAILS: [Step; 2] = [Step::Move(1), Step::Fail(StdKind::PermissionDenied)];
+const SECOND_FAILS: [Step; 2] = [Step::Move(1), Step::Fail(ErrorKind::PermissionDenied)];
 
 // A device that does these steps, and then takes at most 100 bytes in a call.
-fn sink<'a>(alloc: Global, steps: &'a [Step]) -> Std<Sink<'a>> {
-    let script = Script { steps, most: 100 };
-    Std::new(Sink {
-        script,
-        bytes: Vec::new(alloc),
-    })
+fn sink<'a>(alloc: Global, steps: &'a [Step]) -> Sink<'a> {
+    Sink::new(alloc, Script::new(steps, 100))
 }
 
 #[test]

@@ -1,13 +1,12 @@
 //! Readers with a limit.
 
 use crate::fixtures::{reads, refuses, shows};
+use age_bench::devices::{Script, Source, Step};
 use age_error::io::{Error, ErrorKind};
 use age_identity::util::LimitedReader;
-use age_io::{BufRead, BufReader, Bytes, Read, Std, read_to_end};
+use age_io::{BufRead, BufReader, Bytes, Read, read_to_end};
 use age_try::answers::delivers_until;
-use age_try::fakes::{Script, Source, Step};
 use std::alloc::Global;
-use std::io::ErrorKind as StdKind;
 use std::test::Fail;
 
 // Whether `read_to_end` of a reader answers this, and has `abc` then.
@@ -81,21 +80,14 @@ fn what_is_shown_ends_at_the_limit(rt: HostRuntime) -> Result<(), Fail> {
 // What a device does that moves a byte and fails, and moves more and fails.
 const FAULTS: [Step; 4] = [
     Step::Move(1),
-    Step::Fail(StdKind::PermissionDenied),
+    Step::Fail(ErrorKind::PermissionDenied),
     Step::Move(8),
-    Step::Fail(StdKind::Interrupted),
+    Step::Fail(ErrorKind::Interrupted),
 ];
 
 // A device of three bytes that does those steps.
-fn faulty() -> Std<Source<'static>> {
-    let script = Script {
-        steps: &FAULTS,
-        most: 8,
-    };
-    Std::new(Source {
-        script,
-        bytes: b"abc",
-    })
+fn faulty() -> Source<'static> {
+    Source::new(Script::new(&FAULTS, 8), b"abc")
 }
 
 // Whether a reader of a limit of 2 over that device answers so.

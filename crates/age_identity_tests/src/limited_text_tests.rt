@@ -1,11 +1,10 @@
 //! Texts within a limit and past it.
 
 use crate::fixtures::{reads, refuses, shows};
+use age_bench::devices::{Script, Source, Step};
 use age_error::io::{Error, ErrorKind};
 use age_identity::util::LimitedReader;
-use age_io::{BufRead, Bytes, Read, Std};
-use age_try::fakes::{Script, Source, Step};
-use std::io;
+use age_io::{BufRead, Bytes, Read};
 use std::test::Fail;
 
 // Whether a reader gives these bytes, by at most 20 reads into some room, and then answers so.
@@ -157,14 +156,11 @@ fn a_limit_is_exceeded_for_good_by_what_is_shown(rt: HostRuntime) -> Result<(), 
 }
 
 // A device that is interrupted after its first two bytes.
-fn interrupted<'a>(steps: &'a [Step]) -> Std<Source<'a>> {
-    Std::new(Source {
-        script: Script { steps, most: 2 },
-        bytes: b"a text",
-    })
+fn interrupted<'a>(steps: &'a [Step]) -> Source<'a> {
+    Source::new(Script::new(steps, 2), b"a text")
 }
 
-const STEPS: [Step; 2] = [Step::Move(2), Step::Fail(io::ErrorKind::Interrupted)];
+const STEPS: [Step; 2] = [Step::Move(2), Step::Fail(ErrorKind::Interrupted)];
 
 const INTERRUPTED: Error = Error::Device(ErrorKind::Interrupted);
 

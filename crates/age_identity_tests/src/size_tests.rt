@@ -1,11 +1,10 @@
 //! The limit of identity files.
 
 use crate::fixtures::{File, K, refuses_file};
+use age_bench::devices::{Script, Source, Step};
 use age_error::io::{Error, ErrorKind};
-use age_io::{BufRead, BufReader, Bytes, Std};
-use age_try::fakes::{Script, Source, Step};
+use age_io::{BufRead, BufReader, Bytes};
 use std::alloc::Global;
-use std::io::ErrorKind as StdKind;
 use std::test::Fail;
 
 const LIMIT: usize = 16_777_216;
@@ -68,12 +67,9 @@ fn device<'a>(
     alloc: Global,
     text: &'a [u8],
     steps: &'a [Step],
-) -> Result<BufReader<Std<Source<'a>>>, Fail> {
-    let source = Source {
-        script: Script { steps, most: 100 },
-        bytes: text,
-    };
-    Ok(BufReader::new(alloc, Std::new(source))?)
+) -> Result<BufReader<Source<'a>>, Fail> {
+    let source = Source::new(Script::new(steps, 100), text);
+    Ok(BufReader::new(alloc, source)?)
 }
 
 // How many identities that text has on a device that does these steps.
@@ -87,9 +83,9 @@ fn refuses(alloc: Global, text: &[u8], steps: &[Step], kind: ErrorKind) -> Resul
     Ok(answer.err() == Some(Error::Device(kind)))
 }
 
-const INTERRUPTED: Step = Step::Fail(StdKind::Interrupted);
+const INTERRUPTED: Step = Step::Fail(ErrorKind::Interrupted);
 
-const DENIED: Step = Step::Fail(StdKind::PermissionDenied);
+const DENIED: Step = Step::Fail(ErrorKind::PermissionDenied);
 
 // Whether both identities are read past interruptions.
 fn interruptions_are_passed_over(alloc: Global, text: &[u8]) -> Result<bool, Fail> {

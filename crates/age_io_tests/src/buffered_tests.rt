@@ -1,12 +1,11 @@
 //! Readers that show what they hold, and the reader with a buffer.
 
-use crate::fixtures::{buffered, fills, gives, long_text, refuses, source};
+use crate::fixtures::{Device, buffered, fills, gives, long_text, refuses, source};
+use age_bench::devices::Step;
 use age_error::io::{Error, ErrorKind};
-use age_io::{BufRead, BufReader, Bytes, Read, Std};
+use age_io::{BufRead, BufReader, Bytes, Read};
 use age_try::answers::delivers;
-use age_try::fakes::{Source, Step};
 use std::alloc::Global;
-use std::io;
 use std::test::Fail;
 
 // More bytes than a buffer holds.
@@ -149,7 +148,7 @@ fn buffered_reader_begins_where_the_inner_one_stands(rt: HostRuntime) -> Result<
 }
 
 // A reader with a buffer over a device of these steps and of the bytes `a text`, of which it gives two at a time.
-fn over_device<'a>(alloc: Global, steps: &'a [Step]) -> Result<BufReader<Std<Source<'a>>>, Fail> {
+fn over_device<'a>(alloc: Global, steps: &'a [Step]) -> Result<BufReader<Device<'a>>, Fail> {
     buffered(alloc, source(steps, 2, b"a text"))
 }
 
@@ -165,7 +164,7 @@ fn gives_two(alloc: Global, steps: &[Step]) -> Result<bool, Fail> {
 
 #[test]
 fn buffered_reader_tries_again_sixteen_times(rt: HostRuntime) -> Result<(), Fail> {
-    let steps = [Step::Fail(io::ErrorKind::Interrupted); 16];
+    let steps = [Step::Fail(ErrorKind::Interrupted); 16];
     assert!(rt; shows_two(rt.alloc(), &steps)?);
     assert!(rt; gives_two(rt.alloc(), &steps)?);
     Ok(())
@@ -191,7 +190,7 @@ fn fails_as_it_reads<R: BufRead>(reader: &mut R, room: &mut [u8]) -> bool {
 }
 
 // A device that fails in its first call.
-const DENIED: [Step; 1] = [Step::Fail(io::ErrorKind::PermissionDenied)];
+const DENIED: [Step; 1] = [Step::Fail(ErrorKind::PermissionDenied)];
 
 // Whether one over that device does.
 fn device_fails_as_it_reads(alloc: Global, room: &mut [u8]) -> Result<bool, Fail> {
@@ -200,7 +199,7 @@ fn device_fails_as_it_reads(alloc: Global, room: &mut [u8]) -> Result<bool, Fail
 
 #[test]
 fn buffered_reader_fails_for_good(rt: HostRuntime) -> Result<(), Fail> {
-    let steps = [Step::Fail(io::ErrorKind::Interrupted); 17];
+    let steps = [Step::Fail(ErrorKind::Interrupted); 17];
     assert!(rt; device_fails_as_it_shows(rt.alloc(), &steps)?);
     assert!(rt; device_fails_as_it_reads(rt.alloc(), &mut [0; 2])?);
     assert!(rt; device_fails_as_it_reads(rt.alloc(), &mut [0; 9_000])?);

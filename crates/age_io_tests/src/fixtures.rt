@@ -1,11 +1,10 @@
 //! What these tests share: bytes, a device, and what a reader answered, as a `bool`.
 
-use age_error::io::{Error, SeekFrom};
-use age_io::{Answer, BufReader, Op, Read, Seek, Std, read_exact, run};
-use age_try::fakes::{Disk, Script, Sink, Source, Step};
+use age_bench::devices::{Script, Sink, Source, Step};
+use age_error::io::{Error, ErrorKind, SeekFrom};
+use age_io::{Answer, BufReader, IntoStd, Op, Read, Seek, Std, read_exact, run};
 use age_try::fixtures::part;
 use std::alloc::Global;
-use std::io;
 use std::test::Fail;
 
 /// So many bytes of which neighbours differ.
@@ -19,36 +18,26 @@ pub fn long_text(alloc: Global, size: usize) -> Result<Vec<u8>, Fail> {
     Ok(text)
 }
 
-/// A device that reads and seeks in bytes, as its steps say. Behind the last of them it moves all that it is asked for.
-pub fn device<'a>(steps: &'a [Step], bytes: &'a [u8]) -> Std<Disk<'a>> {
-    let script = Script {
-        steps,
-        most: usize::MAX,
-    };
-    Std::new(Disk {
-        script,
-        bytes,
-        place: 0,
-    })
+/// A device as std's, and that as this port's.
+pub type Device<'a> = Std<IntoStd<Source<'a>>>;
+
+/// A device that gives bytes, and seeks in them, as its steps say, and behind the last of them gives at most `most` in a call.
+pub fn source<'a>(steps: &'a [Step], most: usize, bytes: &'a [u8]) -> Device<'a> {
+    Std::new(IntoStd::new(Source::new(Script::new(steps, most), bytes)))
 }
 
-/// A device that gives bytes as its steps say, and behind the last of them at most `most` in a call.
-pub fn source<'a>(steps: &'a [Step], most: usize, bytes: &'a [u8]) -> Std<Source<'a>> {
-    let script = Script { steps, most };
-    Std::new(Source { script, bytes })
+/// One that behind the last of its steps gives all that it is asked for.
+pub fn device<'a>(steps: &'a [Step], bytes: &'a [u8]) -> Device<'a> {
+    source(steps, usize::MAX, bytes)
 }
 
 /// A device that takes bytes as its steps say, and behind the last of them at most two in a call.
-pub fn sink<'a>(alloc: Global, steps: &'a [Step]) -> Std<Sink<'a>> {
-    let script = Script { steps, most: 2 };
-    Std::new(Sink {
-        script,
-        bytes: Vec::new(alloc),
-    })
+pub fn sink<'a>(alloc: Global, steps: &'a [Step]) -> Std<IntoStd<Sink<'a>>> {
+    Std::new(IntoStd::new(Sink::new(alloc, Script::new(steps, 2))))
 }
 
 /// A fault, a byte that is moved, and the fault again.
-pub fn two_faults(kind: io::ErrorKind) -> [Step; 3] {
+pub fn two_faults(kind: ErrorKind) -> [Step; 3] {
     [Step::Fail(kind), Step::Move(1), Step::Fail(kind)]
 }
 

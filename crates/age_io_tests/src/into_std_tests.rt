@@ -1,12 +1,12 @@
 //! Readers and writers of this port that std reads and writes, and a file on a disk.
 
 use crate::fixtures::{buffered, fills, gives, leads, leads_nowhere, sink, source, two_faults};
+use age_bench::devices::Step;
 use age_error::io::{ArmoredReadError, Error, ErrorKind, SeekFrom};
 use age_io::{
     BufReader, Bytes, IntoStd, Read, Seek, Std, Write, device_error, standard_error, write_all,
 };
 use age_try::answers::{delivers, is_refusal};
-use age_try::fakes::Step;
 use std::alloc::Global;
 use std::fs::File;
 use std::path::{Path, PathBuf};
@@ -132,27 +132,24 @@ fn both_fault(alloc: Global, steps: &[Step], told: io::ErrorKind) -> bool {
 }
 
 // Whether a fault of the first kind comes back as one of the second.
-fn comes_back_as(alloc: Global, given: io::ErrorKind, told: io::ErrorKind) -> bool {
+fn comes_back_as(alloc: Global, given: ErrorKind, told: io::ErrorKind) -> bool {
     both_fault(alloc, &two_faults(given), told)
 }
 
-// A kind of std, and the kind that comes back.
-const RETURNS: [(io::ErrorKind, io::ErrorKind); 9] = [
-    (io::ErrorKind::NotFound, io::ErrorKind::NotFound),
-    (
-        io::ErrorKind::PermissionDenied,
-        io::ErrorKind::PermissionDenied,
-    ),
-    (io::ErrorKind::Interrupted, io::ErrorKind::Interrupted),
-    (io::ErrorKind::UnexpectedEof, io::ErrorKind::UnexpectedEof),
-    (io::ErrorKind::WriteZero, io::ErrorKind::WriteZero),
-    (io::ErrorKind::InvalidData, io::ErrorKind::InvalidData),
-    (io::ErrorKind::InvalidInput, io::ErrorKind::InvalidInput),
-    (io::ErrorKind::OutOfMemory, io::ErrorKind::OutOfMemory),
-    (io::ErrorKind::BrokenPipe, io::ErrorKind::Other),
+// The kind of a fault here, and of std what it comes back as.
+const RETURNS: [(ErrorKind, io::ErrorKind); 9] = [
+    (ErrorKind::NotFound, io::ErrorKind::NotFound),
+    (ErrorKind::PermissionDenied, io::ErrorKind::PermissionDenied),
+    (ErrorKind::Interrupted, io::ErrorKind::Interrupted),
+    (ErrorKind::UnexpectedEof, io::ErrorKind::UnexpectedEof),
+    (ErrorKind::WriteZero, io::ErrorKind::WriteZero),
+    (ErrorKind::InvalidData, io::ErrorKind::InvalidData),
+    (ErrorKind::InvalidInput, io::ErrorKind::InvalidInput),
+    (ErrorKind::OutOfMemory, io::ErrorKind::OutOfMemory),
+    (ErrorKind::Other, io::ErrorKind::Other),
 ];
 
-// A fault goes there and back: std's, this port's, and std's again.
+// A fault goes there and back: this port's, std's, this port's, and std's again.
 #[test]
 fn faults_come_back_with_their_kinds(rt: HostRuntime) -> Result<(), Fail> {
     for (given, told) in RETURNS {

@@ -3,11 +3,10 @@
 use crate::fixtures::{
     Wanted, answers_so, buffered, device, gives, leads, leads_nowhere, long_text, refuses,
 };
+use age_bench::devices::Step;
 use age_error::io::{Error, ErrorKind, SeekFrom};
 use age_io::{Bytes, Op, Read, Seek, seek_retrying};
-use age_try::fakes::Step;
 use std::alloc::Global;
-use std::io;
 use std::test::Fail;
 
 // The reads and seeks of a test, on 20,000 bytes.
@@ -108,7 +107,7 @@ fn is_mended<R: Seek>(reader: &mut R) -> bool {
 }
 
 // A device that fails in its first call.
-const FIRST_FAILS: [Step; 1] = [Step::Fail(io::ErrorKind::NotFound)];
+const FIRST_FAILS: [Step; 1] = [Step::Fail(ErrorKind::NotFound)];
 
 #[test]
 fn buffered_mends(rt: HostRuntime) -> Result<(), Fail> {
@@ -137,7 +136,7 @@ fn leads_at_the_second<R: Seek>(reader: &mut R) -> bool {
 #[test]
 fn interrupted_seek(rt: HostRuntime) -> Result<(), Fail> {
     let text = long_text(rt.alloc(), 100)?;
-    let steps = [Step::Fail(io::ErrorKind::Interrupted); 17];
+    let steps = [Step::Fail(ErrorKind::Interrupted); 17];
     assert!(rt; leads_at_the_second(&mut device(&steps, &text)));
     assert!(rt; leads_in_the_end(&mut device(&steps[..16], &text), SeekFrom::End(-5), 95));
     Ok(())
@@ -161,7 +160,7 @@ fn device_seeks_again(alloc: Global, steps: &[Step], text: &[u8]) -> Result<bool
 
 const GOOD: Step = Step::Move(usize::MAX);
 
-const BAD: Step = Step::Fail(io::ErrorKind::PermissionDenied);
+const BAD: Step = Step::Fail(ErrorKind::PermissionDenied);
 
 // Devices that fail in one of the calls of a seek.
 const PLANS: [&[Step]; 4] = [

@@ -1,10 +1,9 @@
 //! Lists of reads and seeks on a device that fails in between.
 
 use crate::fixtures::{Wanted, answers_so, buffered, device};
+use age_bench::devices::Step;
 use age_error::io::{Error, ErrorKind, SeekFrom};
 use age_io::Op;
-use age_try::fakes::Step;
-use std::io;
 use std::test::Fail;
 
 // What a device holds: the letters from a to j.
@@ -14,7 +13,7 @@ const LETTERS: &[u8] = b"abcdefghij";
 const THIRD_FAILS: [Step; 3] = [
     Step::Move(3),
     Step::Move(2),
-    Step::Fail(io::ErrorKind::NotFound),
+    Step::Fail(ErrorKind::NotFound),
 ];
 
 // Reads over a fault, and then near the end.
@@ -50,9 +49,9 @@ fn what_came_before_a_fault(rt: HostRuntime) -> Result<(), Fail> {
 // A device whose first seek fails, and a read later.
 const SEEK_FAILS: [Step; 4] = [
     Step::Move(3),
-    Step::Fail(io::ErrorKind::PermissionDenied),
+    Step::Fail(ErrorKind::PermissionDenied),
     Step::Move(1),
-    Step::Fail(io::ErrorKind::Interrupted),
+    Step::Fail(ErrorKind::Interrupted),
 ];
 
 // A seek to the start between reads.

@@ -1,9 +1,9 @@
 //! Readers and writers in memory, and those of std.
 
 use crate::fixtures::{fills, gives, refuses, sink, source, two_faults};
+use age_bench::devices::Step;
 use age_error::io::{Error, ErrorKind};
 use age_io::{Bytes, Read, Std, Write, read_exact, read_to_end, write_all};
-use age_try::fakes::Step;
 use std::alloc::Global;
 use std::io;
 use std::test::Fail;
@@ -134,9 +134,40 @@ fn both_fault(alloc: Global, steps: &[Step], fault: Error) -> bool {
         && faults_as_it_writes(&mut sink(alloc, steps), fault)
 }
 
+#[test]
+fn a_device_is_asked_again_after_a_fault(rt: HostRuntime) -> Result<(), Fail> {
+    let kind = ErrorKind::PermissionDenied;
+    assert!(rt; both_fault(rt.alloc(), &two_faults(kind), Error::Device(kind)));
+    Ok(())
+}
+
+// Refuses each call with this kind of std.
+#[derive(Clone, Copy, Drop)]
+struct Broken(io::ErrorKind);
+
+impl io::Read for Broken {
+    fn read(&mut self, _buf: &mut [u8]) -> io::Result<usize> {
+        Err(io::Error::from(self.0))
+    }
+}
+
+impl io::Write for Broken {
+    fn write(&mut self, _buf: &[u8]) -> io::Result<usize> {
+        Err(io::Error::from(self.0))
+    }
+
+    fn flush(&mut self) -> io::Result<()> {
+        Err(io::Error::from(self.0))
+    }
+}
+
 // Whether a fault of the first kind is one of the second here.
-fn has_kind(alloc: Global, given: io::ErrorKind, kind: ErrorKind) -> bool {
-    both_fault(alloc, &two_faults(given), Error::Device(kind))
+fn has_kind(given: io::ErrorKind, kind: ErrorKind) -> bool {
+    let mut device = Std::new(Broken(given));
+    let fault = Error::Device(kind);
+    refuses(&mut device, &mut [0; 4], fault)
+        && device.write(b"abc") == Err(fault)
+        && device.flush() == Err(fault)
 }
 
 // A kind of std, and what it is here.
@@ -154,11 +185,10 @@ const KINDS: [(io::ErrorKind, ErrorKind); 11] = [
     (io::ErrorKind::Other, ErrorKind::Other),
 ];
 
-// A fault is answered once: the next call asks the device again.
 #[test]
 fn faults_of_std_have_kinds(rt: HostRuntime) -> Result<(), Fail> {
     for (given, kind) in KINDS {
-        assert!(rt; has_kind(rt.alloc(), given, kind));
+        assert!(rt; has_kind(given, kind));
     }
     Ok(())
 }

@@ -1,22 +1,24 @@
 //! Seeks over a device that fails in one of their steps: the answer, the state after it, and what seeks and reads give then.
 
 use crate::fixtures::{Call, answers, reader_of, sealed};
-use age::io::{Error, ErrorKind, Read, Seek, SeekFrom, Std};
+use age::io::{Error, ErrorKind, IntoStd, Read, Seek, SeekFrom, Std};
 use age::stream::StreamReader;
+use age_bench::devices::{Script, Source, Step};
 use age_bench::suite::BenchSuite;
-use age_try::fakes::{Disk, Script, Step};
 use std::alloc::Global;
-use std::io;
 use std::process::Abort;
 use std::test::Fail;
 
-type Reader<'a> = StreamReader<BenchSuite, Std<Disk<'a>>>;
+// A device as std's, which a seek asks three times.
+type Device<'a> = Std<IntoStd<Source<'a>>>;
+
+type Reader<'a> = StreamReader<BenchSuite, Device<'a>>;
 
 const ALL: usize = usize::MAX;
 
 const DONE: Step = Step::Move(ALL);
 
-const GONE: Step = Step::Fail(io::ErrorKind::PermissionDenied);
+const GONE: Step = Step::Fail(ErrorKind::PermissionDenied);
 
 const FAULT: Error = Error::Device(ErrorKind::PermissionDenied);
 
@@ -34,12 +36,8 @@ fn steps_before_a_fault(calls: usize) -> [Step; 13] {
 }
 
 // A device with this payload, which does these steps.
-fn disk<'a>(steps: &'a [Step], payload: &'a [u8]) -> Std<Disk<'a>> {
-    Std::new(Disk {
-        script: Script { steps, most: ALL },
-        bytes: payload,
-        place: 0,
-    })
+fn disk<'a>(steps: &'a [Step], payload: &'a [u8]) -> Device<'a> {
+    Std::new(IntoStd::new(Source::new(Script::new(steps, ALL), payload)))
 }
 
 // Whether the reader shows that it stands before the second byte.
@@ -95,7 +93,7 @@ fn meets_a_fault(
     to: SeekFrom,
 ) -> Result<(), Fail> {
     let steps = steps_before_a_fault(done);
-    let mut reader = reader_of::<BenchSuite, Std<Disk>>(alloc, disk(&steps, payload))?;
+    let mut reader = reader_of::<BenchSuite, Device>(alloc, disk(&steps, payload))?;
     is_refused(rt, alloc, &mut reader, to)?;
     opens_its_chunk_anew(rt, alloc, &mut reader, done)
 }
@@ -161,7 +159,7 @@ fn is_exact_after_a_fault(
     done: usize,
 ) -> Result<(), Fail> {
     let steps = steps_before_a_fault(done);
-    let mut reader = reader_of::<BenchSuite, Std<Disk>>(alloc, disk(&steps, payload))?;
+    let mut reader = reader_of::<BenchSuite, Device>(alloc, disk(&steps, payload))?;
     goes_where_it_should(rt, alloc, &mut reader, done)
 }
 
@@ -210,7 +208,7 @@ fn asks_no_more(
     opens: u64,
 ) -> Result<(), Fail> {
     let steps = steps_before_a_fault(calls);
-    let mut reader = reader_of::<BenchSuite, Std<Disk>>(alloc, disk(&steps, payload))?;
+    let mut reader = reader_of::<BenchSuite, Device>(alloc, disk(&steps, payload))?;
     meets_it_next(rt, alloc, &mut reader, seek, next, opens)
 }
 

@@ -1,28 +1,27 @@
 //! Devices that fail: what the calls above them answer, at that call and at the next.
 
 use crate::fixtures::{reader_of, sealed};
-use age::io::{Error, ErrorKind, Read, Std, Write, read_exact, read_to_end, write_all};
+use age::io::{Error, ErrorKind, Read, Write, read_exact, read_to_end, write_all};
 use age::stream::StreamWriter;
+use age_bench::devices::{Script, Sink, Source, Step};
 use age_bench::payload::{open_all, seal_all};
 use age_bench::suite::BenchSuite;
 use age_try::answers::delivers;
-use age_try::fakes::{Script, Sink, Source, Step};
 use age_try::fixtures::{KEY, digest, plaintext};
 use age_try::whole::seal_whole;
 use std::alloc::Global;
-use std::io;
 use std::process::Abort;
 use std::test::Fail;
 
-type Writer<'a, 'b> = StreamWriter<BenchSuite, Std<&'b mut Sink<'a>>>;
+type Writer<'a, 'b> = StreamWriter<BenchSuite, &'b mut Sink<'a>>;
 
-const INTERRUPTED: Step = Step::Fail(io::ErrorKind::Interrupted);
+const INTERRUPTED: Step = Step::Fail(ErrorKind::Interrupted);
 
-const GONE: Step = Step::Fail(io::ErrorKind::NotFound);
+const GONE: Step = Step::Fail(ErrorKind::NotFound);
 
-const CLOSED: Step = Step::Fail(io::ErrorKind::BrokenPipe);
+const CLOSED: Step = Step::Fail(ErrorKind::Other);
 
-const ENDED: Step = Step::Fail(io::ErrorKind::UnexpectedEof);
+const ENDED: Step = Step::Fail(ErrorKind::UnexpectedEof);
 
 const CHUNK: Step = Step::Move(65_552);
 
@@ -35,24 +34,18 @@ const OTHER: Error = Error::Device(ErrorKind::Other);
 const ALL: usize = usize::MAX;
 
 // A reader of these bytes, whose first calls do this.
-fn source<'a>(steps: &'a [Step], bytes: &'a [u8]) -> Std<Source<'a>> {
-    Std::new(Source {
-        script: Script { steps, most: ALL },
-        bytes,
-    })
+fn source<'a>(steps: &'a [Step], bytes: &'a [u8]) -> Source<'a> {
+    Source::new(Script::new(steps, ALL), bytes)
 }
 
 // A writer that has nothing, whose first calls do this.
 fn sink(alloc: Global, steps: &[Step]) -> Sink<'_> {
-    Sink {
-        script: Script { steps, most: ALL },
-        bytes: Vec::new(alloc),
-    }
+    Sink::new(alloc, Script::new(steps, ALL))
 }
 
 // A writer of a payload into these bytes.
 fn writer_to<'a, 'b>(alloc: Global, out: &'b mut Sink<'a>) -> Result<Writer<'a, 'b>, Fail> {
-    Ok(Writer::with_payload_key(alloc, KEY, Std::new(out))?)
+    Ok(Writer::with_payload_key(alloc, KEY, out)?)
 }
 
 // Whether three bytes are read from such a device with this answer.
@@ -85,7 +78,7 @@ fn is_read_twice(
     first: Result<usize, Error>,
     second: Result<usize, Error>,
 ) -> Result<bool, Fail> {
-    let mut reader = reader_of::<BenchSuite, Std<Source>>(alloc, source(steps, payload))?;
+    let mut reader = reader_of::<BenchSuite, Source>(alloc, source(steps, payload))?;
     Ok(reads_twice(&mut reader, first, second))
 }
 
@@ -120,7 +113,7 @@ fn reads_are_tried_17_times(rt: HostRuntime) -> Result<(), Fail> {
 // Whether three bytes are written to such a device with this answer.
 fn are_written(alloc: Global, steps: &[Step], answer: Result<(), Error>) -> bool {
     let mut out = sink(alloc, steps);
-    write_all(&mut Std::new(&mut out), b"abc") == answer
+    write_all(&mut out, b"abc") == answer
 }
 
 // Whether a write answers this, and a write of one byte after it.
@@ -205,8 +198,7 @@ fn gives_them(steps: &[Step]) -> bool {
 // Whether such a device takes three bytes.
 fn takes_them(alloc: Global, steps: &[Step]) -> bool {
     let mut out = sink(alloc, steps);
-    write_all(&mut Std::new(&mut out), b"abc") == Ok(())
-        && out.bytes.as_slice() == b"abc".as_slice()
+    write_all(&mut out, b"abc") == Ok(()) && out.bytes() == b"abc".as_slice()
 }
 
 // 16 interruptions before each of three bytes are no more than 16 in a row.
@@ -221,12 +213,6 @@ fn interruptions_are_counted_afresh_after_each_byte(rt: HostRuntime) -> Result<(
     Ok(())
 }
 
-// A device that moves one byte at each call.
-const BY_BYTES: Script<'static> = Script {
-    steps: &[],
-    most: 1,
-};
-
 // A write that is whole, and the payload's end.
 fn writes_all(rt: &impl Abort, mut writer: Writer<'_, '_>, plain: &[u8]) {
     assert!(rt; writer.write(plain) == Ok(plain.len()));
@@ -235,21 +221,15 @@ fn writes_all(rt: &impl Abort, mut writer: Writer<'_, '_>, plain: &[u8]) {
 
 // The payload of this plaintext, written byte by byte.
 fn written_by_bytes(rt: &impl Abort, alloc: Global, plain: &[u8]) -> Result<Vec<u8>, Fail> {
-    let mut out = Sink {
-        script: BY_BYTES,
-        bytes: Vec::new(alloc),
-    };
+    let mut out = Sink::new(alloc, Script::by_bytes());
     writes_all(rt, writer_to(alloc, &mut out)?, plain);
-    Ok(out.bytes)
+    Ok(Vec::from_slice(alloc, out.bytes())?)
 }
 
 // Whether a payload, read byte by byte, gives this plaintext.
 fn is_read_by_bytes(alloc: Global, payload: &[u8], plain: &[u8]) -> Result<bool, Fail> {
-    let bytes = Source {
-        script: BY_BYTES,
-        bytes: payload,
-    };
-    let mut reader = reader_of::<BenchSuite, Std<Source>>(alloc, Std::new(bytes))?;
+    let bytes = Source::new(Script::by_bytes(), payload);
+    let mut reader = reader_of::<BenchSuite, Source>(alloc, bytes)?;
     Ok(delivers(alloc, &mut reader, plain))
 }
 
@@ -284,7 +264,7 @@ fn fails_a_reader(
     refusal: Error,
 ) -> Result<(), Fail> {
     let mut room = vec![in alloc; 0; 65_536]?;
-    let mut reader = reader_of::<BenchSuite, Std<Source>>(alloc, source(steps, payload))?;
+    let mut reader = reader_of::<BenchSuite, Source>(alloc, source(steps, payload))?;
     stops(rt, &mut reader, &mut room, chunks, refusal);
     Ok(())
 }
@@ -338,7 +318,7 @@ fn fails_an_end(rt: &impl Abort, alloc: Global, step: Step, refusal: Error) -> R
     let mut out = sink(alloc, &steps);
     let writer = writer_to(alloc, &mut out)?;
     assert!(rt; writer.finish().err() == Some(refusal), "not {refusal:?}");
-    assert!(rt; out.bytes.len() == 3, "at {refusal:?}");
+    assert!(rt; out.bytes().len() == 3, "at {refusal:?}");
     Ok(())
 }
 
@@ -350,7 +330,7 @@ fn refuses_a_write(rt: &impl Abort, mut writer: Writer<'_, '_>, plain: &[u8], re
 
 // Whether a beginning of the payload of that length was sent.
 fn was_sent(out: &Sink<'_>, payload: &[u8], sent: usize) -> bool {
-    payload.strip_prefix(out.bytes.as_slice()).is_some() && out.bytes.len() == sent
+    payload.strip_prefix(out.bytes()).is_some() && out.bytes().len() == sent
 }
 
 // A write to such a device is refused so, after so much of the plaintext's payload.
@@ -397,13 +377,13 @@ fn is_done<E: Drop>(answer: Result<(), E>) -> bool {
 
 // Whether three bytes are sealed from such a device to such a device.
 fn seals(alloc: Global, input: &[Step], output: &[Step]) -> bool {
-    let mut out = Std::new(sink(alloc, output));
+    let mut out = sink(alloc, output);
     is_done(seal_all(alloc, KEY, &mut source(input, b"abc"), &mut out))
 }
 
 // Whether a payload is opened from such a device to such a device.
 fn opens(alloc: Global, input: &[Step], output: &[Step], payload: &[u8]) -> bool {
-    let mut out = Std::new(sink(alloc, output));
+    let mut out = sink(alloc, output);
     is_done(open_all(alloc, KEY, &mut source(input, payload), &mut out))
 }
 
