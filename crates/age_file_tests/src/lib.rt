@@ -10,6 +10,8 @@ mod buffered_tests;
 #[cfg(test)]
 mod file_tests;
 #[cfg(test)]
+mod hostile_text_tests;
+#[cfg(test)]
 mod legacy_tests;
 #[cfg(test)]
 mod opening_tests;
