@@ -1,4 +1,4 @@
-//! Tests of whole files, of the plaintext of a file that is opened, of its parts, and of the uses of `age`.
+//! Tests of whole files, of the plaintext of a file that is opened, of its parts, of bad armor and bad headers, and of the uses of `age`.
 #![tactic(auto)]
 
 #[cfg(test)]
@@ -11,6 +11,8 @@ mod buffered_tests;
 mod device_tests;
 #[cfg(test)]
 mod file_tests;
+#[cfg(test)]
+mod hostile_text_tests;
 #[cfg(test)]
 mod legacy_tests;
 #[cfg(test)]
