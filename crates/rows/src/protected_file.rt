@@ -2,12 +2,12 @@
 
 ghost use Rattle.std.specs.Prelude.{⊤};
 
-use crate::lines::{done, ready, say};
+use crate::lines::{done, is_done, ready, say};
 use crate::readers::seek;
 use age::armor::ArmoredReader;
 use age::format::{HeaderV1, Stanza};
 use age::io::{BufReader, Bytes, Error, Read, SeekFrom};
-use age::secrecy::SecretString;
+use age::secrecy::{FileKey, SecretString};
 use age::{Callbacks, DecryptError, Identity, encrypted, scrypt};
 use age_bench::suite::BenchSuite;
 use std::alloc::{AllocError, Global};
@@ -81,17 +81,12 @@ fn weak(alloc: Global) -> Result<scrypt::Identity<BenchSuite>, AllocError> {
     Ok(scrypt::Identity::new(passphrase, 5))
 }
 
-// Whether an answer to a stanza is want of memory. It is printed.
-fn is_refused<T: Drop>(
-    rt: &HostRuntime,
-    what: &str,
-    answer: Option<Result<T, DecryptError>>,
-) -> bool {
+// Prints what an identity answers to stanzas.
+fn say_answer(rt: &HostRuntime, what: &str, answer: Option<Result<FileKey, DecryptError>>) {
     match answer {
-        Some(answer) => { done(rt, OF, what, answer).is_none() }
-        None => {
-            say(rt, OF, what, &"none");
-            false
+        None => say(rt, OF, what, &"none"),
+        Some(answer) => {
+            is_done(rt, OF, what, answer);
         }
     }
 }
@@ -100,7 +95,7 @@ fn is_refused<T: Drop>(
 fn ask(rt: &HostRuntime, stanza: &Stanza) {
     if let Some(mut identity) = done(rt, OF, "identity", weak(rt.alloc())) {
         for _ in 0..2 {
-            is_refused(rt, "work", identity.unwrap_stanza(rt.alloc(), stanza));
+            say_answer(rt, "work", identity.unwrap_stanza(rt.alloc(), stanza));
         }
     }
 }
@@ -140,15 +135,13 @@ fn protected<'a>(rt: &HostRuntime, text: &'a [u8], asked: &'a Cell<u64>) -> Opti
 
 // Its recipients, and how often a passphrase was asked for then.
 fn print_recipients(rt: &HostRuntime, identity: &mut Protected, asked: &Cell<u64>) {
-    if done(rt, OF, "recipients", identity.recipients(rt.alloc())).is_some() {
-        say(rt, OF, "recipients", &"done");
-    }
+    is_done(rt, OF, "recipients", identity.recipients(rt.alloc()));
     say(rt, OF, "asked", &asked.get());
 }
 
 // What it answers to no stanzas, and how often a passphrase was asked for then.
 fn print_unwrapped(rt: &HostRuntime, identity: &mut Protected, asked: &Cell<u64>) {
-    is_refused(rt, "unwrapped", identity.unwrap_stanzas(rt.alloc(), &[]));
+    say_answer(rt, "unwrapped", identity.unwrap_stanzas(rt.alloc(), &[]));
     say(rt, OF, "asked", &asked.get());
 }
 

@@ -1,7 +1,7 @@
 //! Several recipients and few random bytes: which encryptions are refused, and what is left of the random bytes.
 
 use crate::files::{key, passphrase, prepared, zeros};
-use crate::lines::{done, ready, say};
+use crate::lines::{done, is_done, ready, say};
 use age::draw::Draw;
 use age::secrecy::FileKey;
 use age::{Recipient, scrypt, x25519};
@@ -55,9 +55,7 @@ fn of_zeros(rt: &HostRuntime) -> Option<x25519::Identity<BenchSuite>> {
 // Wraps a file key.
 fn wrap(rt: &HostRuntime, to: &x25519::Recipient<BenchSuite>, draw: &mut Draw) {
     let wrapped = to.wrap_file_key(rt.alloc(), &FileKey::new([0; 16]), draw);
-    if done(rt, "zero", "wrapped", wrapped).is_some() {
-        say(rt, "zero", "wrapped", &"done");
-    }
+    is_done(rt, "zero", "wrapped", wrapped);
     say(rt, "zero", "left", &draw.left());
 }
 
