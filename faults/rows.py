@@ -4,6 +4,9 @@ The answers are those of a second implementation (`second.py`), or stand in a st
 don't hang on each other: a section has its good lines, and in place of them each of the lists of lines that want of memory
 may make of it. Only one request is refused in a run, so at most one section is not good.
 """
+import hashlib
+import hmac
+
 import second
 
 NO_MEMORY = "out of memory"
@@ -12,7 +15,6 @@ NO_ALLOCATION = "memory allocation failed"
 FAILED = "failed earlier"
 MESSAGE = b"This is a test message. For testing."
 KEY = bytes(range(32))
-FRONT = b"-----BEGIN AGE ENCRYPTED FILE-----\n"
 IDENTITY = "AGE-SECRET-KEY-1GQ9778VQXMMJVE8SK7J6VT8UJ4HDQAJUVSFCWCM02D8GEWQ72PVQ2Y5J33"
 PUBLIC = second.public(second.carried_by(IDENTITY))
 PLUGIN = "AGE-PLUGIN-FOOBAR-1QVHULF"
@@ -196,6 +198,32 @@ def identity_file():
             (b"AGE-", bad, [["ready", f"file read: {NO_MEMORY}"]]), identity_text(key + b"\n" + PLUGIN.encode())]
 
 
+def beginnings(parts):
+    """The digests of the first of these parts, of two, and so on, from none on."""
+    whole, size = hmac.new(b"", b"", hashlib.sha256), 0
+    for part in [b"", *parts]:
+        whole.update(part)
+        size += len(part)
+        yield f"{size} bytes, {whole.hexdigest()}"
+
+
+def written(of, parts):
+    """The section of a writer of these parts, of which a refusal leaves the first: it has failed for good."""
+    *others, whole = beginnings(parts)
+    wants = [[f"{of} writer: {NO_MEMORY}", f"{of} written: {others[0]}"]]
+    for other in [*others, whole]:
+        wants += [[f"{of} finish: {NO_MEMORY}", f"{of} written: {other}"],
+                  [f"{of} write: {NO_MEMORY}", f"{of} write: {FAILED}", f"{of} flush: {FAILED}", f"{of} finish: {FAILED}", f"{of} written: {other}"]]
+    return [f"{of} written: {whole}"], wants
+
+
+def long_writes():
+    plain = bytes(i % 251 for i in range(2 * second.PIECE))
+    sealed, chunk = second.payload(KEY, plain), second.PIECE + 16
+    lines = [line + b"\n" for line in second.armor_lines(plain)]
+    return [(plain, *runs([written("payload", [sealed[:chunk], sealed[chunk:]]), written("armor", lines)]))]
+
+
 def prepared(of, draws, answer, more=0):
     """The sections of an encryption whose draws that succeed are these, and which leaves so many random bytes more."""
     tail = [*draws, more]
@@ -216,7 +244,7 @@ def recipients():
 
 
 ROWS = {"files": files, "cut_payload": cut_payload, "armor_seeks": armor_seeks, "key_texts": key_texts,
-        "protected_file": protected_file, "identity_file": identity_file, "recipients": recipients}
+        "protected_file": protected_file, "identity_file": identity_file, "recipients": recipients, "long_writes": long_writes}
 
 # RFC 4231, test case 1, and RFC 5869, test case 1.
 HMAC = "b0344c61d8db38535ca8afceaf0bf12b881dc200c9833da726e9376c2e32cff7"

@@ -2,9 +2,10 @@
 //! encryptor, and in armor by one call. Both are decrypted then. What is refused memory, and can be asked again, is asked once more.
 
 use crate::lines::{Digest, done, ready, say};
+use crate::writers::write;
 use age::draw::Draw;
 use age::format::{Grease, Stanza};
-use age::io::{Write, write_all};
+use age::io::Write;
 use age::secrecy::SecretString;
 use age::stream::StreamWriter;
 use age::{EncryptError, Encryptor, decrypt, encrypt_and_armor, scrypt, x25519};
@@ -133,16 +134,13 @@ fn encryptor(
     made
 }
 
-// Whether a payload is written and finished. A writer that was refused is asked again.
+// Whether a payload is written and finished.
 fn is_finished<W: Write + Drop>(
     rt: &HostRuntime,
     of: &str,
     mut writer: StreamWriter<BenchSuite, W>,
 ) -> bool {
-    if done(rt, of, "write", write_all(&mut writer, MESSAGE)).is_none() {
-        let _ = done(rt, of, "write", writer.write(MESSAGE));
-        let _ = done(rt, of, "flush", writer.flush());
-    }
+    write(rt, of, &mut writer, MESSAGE);
     done(rt, of, "finish", writer.finish()).is_some()
 }
 
@@ -164,7 +162,7 @@ fn is_written<W: Write + Drop>(
     }
 }
 
-// The message's file. It has room from the start, so a refusal is none of its own; what was written before is printed too.
+// The message's file. It has room from the start, so that it asks for no memory; what was written is printed, also of a refusal.
 fn file(rt: &HostRuntime, of: &str, encryptor: Encryptor<BenchSuite>) -> Option<Vec<u8>> {
     let mut out = done(rt, of, "room", Vec::with_capacity(rt.alloc(), 1024))?;
     let is_written = is_written(rt, of, encryptor, &mut out);

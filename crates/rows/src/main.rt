@@ -16,13 +16,14 @@ mod lines;
 mod protected_file;
 mod readers;
 mod recipients;
+mod writers;
 
 use age::io::{Std, read_to_end};
 use std::env;
 use std::process::ExitCode;
 
 const USAGE: &str =
-    "usage: rows files|key_texts|recipients|calls, or rows cut_payload|armor_seeks|protected_file|identity_file with a text on standard input";
+    "usage: rows files|key_texts|recipients|calls, or rows cut_payload|armor_seeks|protected_file|identity_file|long_writes with bytes on standard input";
 
 // The one word after the program's name.
 fn word(rt: &HostRuntime) -> Option<String> {
@@ -60,6 +61,7 @@ fn is_done(rt: &HostRuntime, name: &str, text: &[u8]) -> bool {
         "armor_seeks" => armor_seeks::row(rt, text),
         "protected_file" => protected_file::row(rt, text),
         "identity_file" => identity_file::row(rt, text),
+        "long_writes" => writers::row(rt, text),
         _ => return false,
     }
     true
