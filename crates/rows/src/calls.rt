@@ -104,6 +104,7 @@ fn readers(rt: &HostRuntime) {
 }
 
 /// The parts of a stanza.
+#[derive(Drop)]
 struct Parts {
     tag: String,
     args: Vec<String>,
@@ -147,13 +148,14 @@ fn verify(rt: &HostRuntime, header: &HeaderV1, bytes: [u8; 16]) {
     say(rt, "header", "verify_mac", &header.verify_mac(&key));
 }
 
-fn header(rt: &HostRuntime, header: &HeaderV1) {
+fn header(rt: &HostRuntime, header: HeaderV1) {
     for stanza in header.stanzas() {
         say(rt, "header", "tag", &stanza.tag());
     }
     say(rt, "header", "mac", &Digits(header.mac()));
-    verify(rt, header, [0; 16]);
-    verify(rt, header, [1; 16]);
+    verify(rt, &header, [0; 16]);
+    verify(rt, &header, [1; 16]);
+    say(rt, "header", "stanzas", &header.into_stanzas().len());
 }
 
 type Writer = StreamWriter<BenchSuite, Vec<u8>>;
@@ -192,18 +194,27 @@ fn with_draw(rt: &HostRuntime) {
     }
 }
 
-fn with_parts(rt: &HostRuntime, tag: &str) {
-    if let Some(parts) = done(rt, "stanza", "parts", parts_of(rt.alloc(), tag)) {
+// A stanza of grease, one of another tag, and none.
+fn with_parts(rt: &HostRuntime) {
+    let Some(grease) = done(rt, "stanza", "parts", parts_of(rt.alloc(), "x-grease")) else {
+        return;
+    };
+    let Some(other) = done(rt, "stanza", "parts", parts_of(rt.alloc(), "grease")) else {
+        return;
+    };
+    if let Some(bad) = done(rt, "stanza", "parts", parts_of(rt.alloc(), "x grease")) {
         with_draw(rt);
-        stanza(rt, parts);
+        stanza(rt, grease);
+        stanza(rt, other);
+        stanza(rt, bad);
     }
 }
 
 fn with_header(rt: &HostRuntime) {
     let read = HeaderV1::read(rt.alloc(), &mut Bytes::new(TEXT));
     if let Some(it) = done(rt, "header", "read", read) {
-        with_parts(rt, "x-grease");
-        header(rt, &it);
+        with_parts(rt);
+        header(rt, it);
     }
 }
 
