@@ -3,6 +3,7 @@
  * INJECT names the calls: alloc, read, write, read-short, write-short, read-interrupted, write-interrupted or
  * read-interrupted-on, write-interrupted-on (that call and all after it). INJECT_AT is the number of the call, from 1.
  * Where the call came, the file INJECT_MARK is made. Reads count on descriptor 0 and writes on descriptor 1 alone.
+ * later-alloc and later-alloc-on count the requests for memory that come after the first write on descriptor 1.
  */
 #define _GNU_SOURCE
 #include <errno.h>
@@ -16,6 +17,9 @@ extern void *__libc_malloc(size_t);
 extern void *__libc_realloc(void *, size_t);
 
 static long calls;
+
+/* Whether something was written on descriptor 1. */
+static int has_written;
 
 static const char *kind(void) {
     const char *name = getenv("INJECT");
@@ -44,12 +48,17 @@ static int hit(const char *these, int and_later) {
     return 1;
 }
 
+/* Whether a request for memory is refused. */
+static int no_memory(void) {
+    return hit("alloc", 0) || (has_written && (hit("later-alloc", 0) || hit("later-alloc-on", 1)));
+}
+
 void *malloc(size_t size) {
-    return hit("alloc", 0) ? NULL : __libc_malloc(size);
+    return no_memory() ? NULL : __libc_malloc(size);
 }
 
 void *realloc(void *old, size_t size) {
-    return hit("alloc", 0) ? NULL : __libc_realloc(old, size);
+    return no_memory() ? NULL : __libc_realloc(old, size);
 }
 
 static int refused(const char *fault, const char *interrupted, const char *interrupted_on) {
@@ -76,6 +85,7 @@ ssize_t read(int descriptor, void *room, size_t size) {
 
 static ssize_t write_some(int descriptor, const void *bytes, size_t size) {
     if (descriptor == 1) {
+        has_written = 1;
         if (refused("write", "write-interrupted", "write-interrupted-on"))
             return -1;
         if (size > 1 && hit("write-short", 0))

@@ -1,6 +1,7 @@
 #!/usr/bin/env python3
 """Runs agebench where memory, reads and writes fail or fall short, and on damaged payloads, files and armor, and so a
-program that opens protected identity files (crates/probe).
+program that opens protected identity files (crates/probe), and one that makes calls of the library in rows where memory
+is refused (crates/rows).
 
 Each run must answer the right bytes, or a beginning of them and the refusal that belongs to the fault. The right
 bytes are those of a second implementation, `second.py`, written from the format's own words. Prints each run that
@@ -13,6 +14,7 @@ import sys
 import tempfile
 from concurrent.futures import ProcessPoolExecutor
 
+import rows
 import second
 from second import BEGIN, END, PIECE, VERSION, armor, stanza
 
@@ -113,6 +115,21 @@ class Runs:
             at += 1
         self.judge(f"{name}: {inject}: no call of this kind", at > 1, got)
         self.judge(f"{name}: {inject}: without it", (status, out, err) == (0, want, ""), got)
+
+    def later(self, name, words, given, good, others):
+        """Each request for memory after the first line in turn, until none is left, and how many there were: `good` are the
+        lines where none is refused, and may stand where one is, as may each of `others`."""
+        at = 1
+        while True:
+            got = self.run(words, given, "later-alloc", at)
+            status, out, err, came = got
+            lines = out.decode().splitlines()
+            if not came:
+                break
+            self.judge(f"{name}: request {at} for memory", (status, err) == (0, "") and (lines == good or lines in others), got)
+            at += 1
+        self.judge(f"{name}: no request for memory refused", (status, lines, err) == (0, good, ""), got)
+        return at - 1
 
 
 def damaged(runs, open_words, plain, sealed):
@@ -561,6 +578,23 @@ def marked(runs):
     runs.injected("at in armor", ["at", "bench", "98303", "700"], text, plain[98303:99003], "alloc", NO_MEMORY)
 
 
+def row(runs, name):
+    """A row of calls, each request for memory of which is refused in turn: each line that it prints is the row's answer,
+    or the want of memory by its name, and then what state that leaves."""
+    requests = sum(runs.later(f"row {name}", [name], given, good, others) for given, good, others in rows.ROWS[name]())
+    runs.judge(f"row {name}: no request for memory", requests > 0, (0, b"", "", False))
+    print(f"row {name}: {requests} requests for memory", flush=True)
+
+
+def calls(runs):
+    """The calls that take no memory, where each request for it is refused: they answer as where none is. That requests are
+    refused there is seen by two calls that make one."""
+    got = runs.run(["calls"], b"")
+    runs.judge("calls", got[:3] == (0, rows.text(rows.CALLS + rows.controls(True)), ""), got)
+    got = runs.run(["calls"], b"", "later-alloc-on", 1)
+    runs.judge("calls without memory", got == (0, rows.text(rows.CALLS + rows.controls(False)), "", True), got)
+
+
 def damaged_payloads(runs):
     plain = random.Random(3).randbytes(200000)
     damaged(runs, OPEN, plain, payload(plain))
@@ -570,12 +604,17 @@ FAULTY = ["seal", "open", "encrypt", "decrypt", "encrypt in armor", "decrypt arm
 # The long ones first: they are run side by side.
 PARTS = [(seek_memory, 1), (seek_memory, 10), (marked,), *[(faulty, name) for name in reversed(FAULTY)], (protected,), (injected_keys,), (injected_passphrases,),
          (messages,), (damaged_armor,), (armored_files,), (files,), (parts,), (keys,), (passphrases,), (damaged_payloads,), (sealing,),
-         (command_lines,)]
+         (command_lines,), *[(row, name) for name in rows.ROWS], (calls,)]
+# The programs of the parts that don't run agebench.
+PROGRAMS = {protected: "probe", row: "rows", calls: "rows"}
 
 
-def judged(program, shim, folder, part, *about):
+def judged(agebench, shim, folder, part, *about):
     """How many runs of a part passed and failed."""
     os.mkdir(folder)
+    crates = os.path.dirname(os.path.dirname(os.path.dirname(agebench)))
+    name = PROGRAMS.get(part)
+    program = os.path.join(crates, name, "out", name) if name else agebench
     runs = Runs(program, shim, folder)
     part(runs, *about)
     return runs.passed, runs.failed
@@ -584,14 +623,12 @@ def judged(program, shim, folder, part, *about):
 def main():
     program = os.path.abspath(sys.argv[1])
     here = os.path.dirname(os.path.abspath(__file__))
-    crates = os.path.dirname(os.path.dirname(os.path.dirname(program)))
-    other = os.path.join(crates, "probe", "out", "probe")
     with tempfile.TemporaryDirectory() as folder:
         shim = os.path.join(folder, "inject.so")
         compiler = os.environ.get("CC", "cc")
         subprocess.run([compiler, "-O1", "-shared", "-fPIC", "-o", shim, os.path.join(here, "inject.c")], check=True)
         with ProcessPoolExecutor(len(os.sched_getaffinity(0))) as pool:
-            started = [pool.submit(judged, other if part[0] is protected else program, shim, os.path.join(folder, str(number)), *part)
+            started = [pool.submit(judged, program, shim, os.path.join(folder, str(number)), *part)
                        for number, part in enumerate(PARTS)]
             counts = [it.result() for it in started]
     passed, failed = (sum(it) for it in zip(*counts))

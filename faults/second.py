@@ -131,6 +131,12 @@ def bech32(prefix, given):
     return prefix + "1" + "".join(LETTERS[x] for x in values + [remainder >> 5 * (5 - i) & 31 for i in range(6)])
 
 
+def carried_by(text):
+    """The bytes that a text of Bech32 carries, whatever its last six letters check."""
+    bits = "".join(f"{LETTERS.index(c):05b}" for c in text.lower()[text.rindex("1") + 1:-6])
+    return bytes(int(bits[i:i + 8], 2) for i in range(0, len(bits) // 8 * 8, 8))
+
+
 def armor_lines(given):
     """The lines of the armor of these bytes, without their endings."""
     text = base64.b64encode(given)
