@@ -1,7 +1,11 @@
 -- What a caller sees of a device that is read, and of one that is written.
-use Rattle.std.specs.Prelude.{ℕ, List}
+use Rattle.std.specs.Prelude.{◌≡◌, ℕ, ◌+◌, ◌-◌, ◌<◌, List, length, min, max, Result, Ok, Err}
+use denote.Ref.{Bor}
 use Rattle.age.specs.Buffering.{held}
+use Rattle.age.specs.Types.{Error}
+use Rattle.age.specs.ErrorVariants.{Device}
 use Rattle.age_bench.specs.AtCalls.{call_of, faults_in}
+use Rattle.age_bench.specs.Devices.{by_step, TakesStep, most_failures}
 use Rattle.age_bench.specs.declared.script.Step.{Step}
 use Rattle.age_bench.specs.declared.source.Source.{Source}
 
@@ -24,3 +28,14 @@ faults_of s = faults_in s.calls
 -- what it shows
 abbrev pub shown_of : Source → List ℕ
 shown_of s = held s.bytes.now s.place s.end
+
+-- how many bytes were shown
+abbrev pub length_shown : Result (Bor (List ℕ)) Error → Result ℕ Error
+length_shown (Ok front) = Ok (length front.now)
+length_shown (Err e) = Err e
+
+-- What `fill_buf` does as its script says: it shows at most as many bytes, but one at least where one is left, or fails.
+abbrev pub ShowsAsScripted : Source → Source → Result (Bor (List ℕ)) Error → Type 0
+ShowsAsScripted old new result = faults_of old < most_failures →
+    TakesStep (call old) (call new) (faults_of old) (faults_of new)
+    × (length_shown result ≡ by_step (call old 0) (λ most. Ok (min (max most 1) (length (bytes_of old) - place_of old))))

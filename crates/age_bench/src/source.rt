@@ -119,9 +119,12 @@ impl<'a> Read for Source<'a> {
 }
 
 impl<'a> BufRead for Source<'a> {
-    ghost use Rattle.age_bench.specs.Sources.{shown_of};
+    ghost use Rattle.age_bench.specs.Sources.{shown_of, ShowsAsScripted};
 
     ghost shown = { λ r. shown_of r };
+
+    // What it shows is exact.
+    ghost besides = { ShowsAsScripted };
 
     /// Shows the next bytes, at most as many as its script says of this call, but one at least where one is left. Each time it is
     /// called it is a call of the device.

@@ -1,4 +1,4 @@
-use Rattle.std.proofs.Common.{rules, refl}
+use Rattle.std.proofs.Common.{rules, arith, refl}
 use Rattle.age_bench.proofs.Showing.{shown-next, is-front, shows-none, ends-there}
 use Rattle.age_bench.proofs.source.SourceBufRead.fill_buf.Goals as goal
 
@@ -18,7 +18,7 @@ returns c =
           narrows = λ e h. h;
           again = tt;
           shows = shown-next before.bytes.now before.place c.count.result;
-          own = tt;
+          own = λ below. (search rules, search rules);
           same_content = λ told. refl;
           stays = λ told. refl;
           same_rest = λ told. refl;
@@ -30,7 +30,7 @@ returns c =
       record {
         front = λ told. is-front before.bytes.now before.place _;
         end = λ told none. ends-there before.bytes.now before.place
-            (c.count.ensures.none (shows-none before.bytes.now before.place c.count.result c.count.ensures.there none) search);
+            (c.count.ensures.none (shows-none before.bytes.now before.place c.count.result c.count.ensures.there none) (omega arith));
         after = tt;
       },
     )
