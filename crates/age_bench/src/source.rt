@@ -5,6 +5,7 @@ ghost use Rattle.age.specs.Bytes.{AreBytes};
 ghost use Rattle.age.specs.Refusals.{IsDevice};
 ghost use Rattle.age.specs.Stretch.{Stretch, whole, from_place};
 ghost use Rattle.age.specs.Reading.{Reads};
+ghost use Rattle.age.specs.Filling.{Consumes};
 ghost use Rattle.age.specs.Cursor;
 ghost use Rattle.age.specs.Cursor.{Seeks};
 ghost use Rattle.age_bench.specs.Devices.{by_step, TakesStep, most_failures};
@@ -119,7 +120,7 @@ impl<'a> Read for Source<'a> {
 }
 
 impl<'a> BufRead for Source<'a> {
-    ghost use Rattle.age_bench.specs.Sources.{shown_of, ShowsAsScripted};
+    ghost use Rattle.age_bench.specs.Sources.{call, shown_of, ShowsAsScripted};
 
     ghost shown = { λ r. shown_of r };
 
@@ -138,7 +139,13 @@ impl<'a> BufRead for Source<'a> {
         Ok(&self.bytes[self.place..self.end])
     }
 
-    fn consume(&mut self, amount: usize) {
+    /// Takes the first `amount` bytes of what was shown. It is no call of the device.
+    fn consume(&mut self, amount: usize)
+        requires { amount ≤ length (shown_of self.old) }
+        ensures consumes { let reader = ⟦<Source<'a> as Read>⟧ in
+            Consumes reader.tells reader.steady reader.content reader.place reader.rest reader.faults reader.refuses (λ r. shown_of r) self.old self.new amount }
+        ensures script { (i : ℕ) → call self.new i ≡ call self.old i }
+    {
         self.place += amount;
     }
 }

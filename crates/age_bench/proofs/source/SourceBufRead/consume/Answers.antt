@@ -2,8 +2,8 @@ use Rattle.std.proofs.Common.{refl}
 use Rattle.age_bench.proofs.Showing.{gives-of-shown, shown-further}
 use Rattle.age_bench.proofs.source.SourceBufRead.consume.Goals as goal
 
-pub returns : goal.returns
-returns c =
+pub returns-clause-consumes : goal.returns-clause-consumes
+returns-clause-consumes c =
     let before = c.args.self.now in
     record {
       same_tells = refl;
