@@ -5,3 +5,4 @@ pub mod Decimal
 pub mod Synopsis
 pub mod Written
 pub mod Messages
+pub mod Place
