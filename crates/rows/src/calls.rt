@@ -79,19 +79,21 @@ fn read(rt: &HostRuntime, reader: &mut Bytes) {
     say(rt, "bytes", "room", &Digits(&room));
 }
 
-fn show(rt: &HostRuntime, reader: &mut Bytes) {
-    match reader.fill_buf() {
-        Ok(shown) => say(rt, "bytes", "fill_buf", &Digits(shown)),
-        Err(error) => say(rt, "bytes", "fill_buf", &error),
-    }
+// Shows what is left, and takes so many bytes of it.
+fn show<R: BufRead>(rt: &HostRuntime, reader: &mut R, most: usize) {
+    let Ok(shown) = reader.fill_buf() else {
+        return;
+    };
+    say(rt, "bytes", "fill_buf", &Digits(shown));
+    let amount = shown.len().min(most);
+    reader.consume(amount);
 }
 
 fn readers(rt: &HostRuntime) {
     let mut reader = Bytes::new(b"abcdef");
     read(rt, &mut reader);
-    show(rt, &mut reader);
-    reader.consume(1);
-    show(rt, &mut reader);
+    show(rt, &mut reader, 1);
+    show(rt, &mut reader, 0);
     for to in [
         SeekFrom::Start(7),
         SeekFrom::End(-5),
