@@ -1,7 +1,7 @@
 -- What the steps of scripts come to.
 use Rattle.std.specs.Prelude.{◌≡◌, ◌≢◌, ℕ, zero, suc, ◌+◌, ◌-◌, ◌<◌, List, [], ◌∷◌}
 use Rattle.std.proofs.Common.{ap, ◌∙◌, sym, refl, arith}
-use Rattle.age.specs.ErrorKindVariants.{Interrupted, Other}
+use Rattle.age.specs.ErrorKindVariants.{Interrupted}
 use Rattle.age_bench.specs.Devices.{step_of, step_among, most_bytes}
 use Rattle.age_bench.specs.declared.script.Step.{Step}
 use Rattle.age_bench.specs.declared.script.Step.TheVariants.{Move, Fail}

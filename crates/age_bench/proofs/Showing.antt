@@ -1,6 +1,6 @@
 -- What a device shows of its bytes, and gives.
 use Rattle.std.specs.Prelude.{◌≡◌, ℕ, ◌+◌, ◌-◌, ◌≤◌, List, ◌++◌, length, take, drop}
-use Rattle.std.proofs.Common.{ap, ◌∙◌, sym, refl, arith, []}
+use Rattle.std.proofs.Common.{ap, ◌∙◌, sym, refl, arith}
 use Rattle.std.proofs.lemmas.List.{take-append-drop, drop-take, drop-drop, take-take, take_at, length-take-le, length-drop, drop_all}
 use Rattle.age.specs.Stretch.{whole, from_place, IsCleanEnd}
 use Rattle.age.specs.Reading.{Delivers}

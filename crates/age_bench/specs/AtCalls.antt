@@ -1,5 +1,5 @@
 -- What a script says of each call.
-use Rattle.std.specs.Prelude.{◌≡◌, ℕ, ◌+◌, ◌<◌, List}
+use Rattle.std.specs.Prelude.{◌≡◌, ℕ, ◌+◌, ◌<◌}
 use Rattle.age.specs.ErrorKindVariants.{Interrupted}
 use Rattle.age_bench.specs.Devices.{step_of}
 use Rattle.age_bench.specs.declared.script.Step.{Step}

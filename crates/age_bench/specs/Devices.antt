@@ -1,5 +1,5 @@
 -- What a device does at its calls, and what comes of it.
-use Rattle.std.specs.Prelude.{◌≡◌, ℕ, ◌+◌, ◌-◌, ◌^◌, ◌<◌, suc, zero, List, [], ◌∷◌, Result, Ok, Err}
+use Rattle.std.specs.Prelude.{◌≡◌, ℕ, ◌+◌, ◌-◌, ◌^◌, suc, zero, List, [], ◌∷◌, Result, Err}
 use Rattle.age.specs.Types.{Error}
 use Rattle.age.specs.ErrorVariants.{Device}
 use Rattle.age.specs.ErrorKindVariants.{Interrupted}

@@ -1,9 +1,8 @@
 -- What a caller sees of a device that is read, and of one that is written.
-use Rattle.std.specs.Prelude.{◌≡◌, ℕ, ◌+◌, ◌-◌, ◌<◌, List, length, min, max, Result, Ok, Err}
+use Rattle.std.specs.Prelude.{◌≡◌, ℕ, ◌-◌, ◌<◌, List, length, min, max, Result, Ok, Err}
 use denote.Ref.{Bor}
 use Rattle.age.specs.Buffering.{held}
 use Rattle.age.specs.Types.{Error}
-use Rattle.age.specs.ErrorVariants.{Device}
 use Rattle.age_bench.specs.AtCalls.{call_of, faults_in}
 use Rattle.age_bench.specs.Devices.{by_step, TakesStep, most_failures}
 use Rattle.age_bench.specs.declared.script.Step.{Step}

@@ -1,5 +1,5 @@
 use Rattle.std.proofs.Common.{◌≡◌, ◌∙◌, ◌-◌, ap, arith, []}
-use Rattle.std.specs.Prelude.{◌∷◌, ◌+◌}
+use Rattle.std.specs.Prelude.{◌∷◌}
 use Rattle.age.specs.ErrorKindVariants.{Other}
 use Rattle.age_bench.specs.declared.script.Step.TheVariants.{Fail}
 use Rattle.age_bench.specs.Devices.{step_of, most_bytes}
