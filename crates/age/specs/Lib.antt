@@ -46,6 +46,7 @@ pub use Rattle.age_io.specs.CursorLaws
 pub use Rattle.age_io.specs.Replies
 pub use Rattle.age_io.specs.Slices
 pub use Rattle.age_io.specs.Buffering
+pub use Rattle.age_io.proofs.Holding as BufferLemmas
 pub use Rattle.age_io.specs.Buffered
 pub use Rattle.age_io.specs.Standard
 pub use Rattle.age_io.specs.StandardFaults
@@ -94,6 +95,7 @@ pub use Rattle.age_format.specs.Header
 pub use Rattle.age_format.specs.Verdict
 pub use Rattle.age_format.specs.HeaderV1
 pub use Rattle.age_format.specs.ReadingHeader
+pub use Rattle.age_format.specs.OldHeader
 pub use Rattle.age_format.specs.Wrapping
 pub use Rattle.age_format.specs.Drawing
 pub use Rattle.age_format.specs.Unwrapping

@@ -24,6 +24,7 @@ pub mod laws {
 /// Whole files from readers to writers in flat memory, files opened for reads and seeks, and parts of their plaintexts.
 pub mod streaming {
     pub use age_protocol::error::FileError;
+    pub use age_protocol::migrate::migrate;
     pub use age_protocol::opening::{answers, open_file, open_file_by_one, open_text};
     pub use age_protocol::part::{at, write_part};
     pub use age_protocol::whole::{decrypt_all, encrypt_all};
@@ -78,13 +79,14 @@ pub mod secrecy {
 
 /// Stanzas and headers.
 pub mod format {
-    pub use age_format::{Grease, HeaderV1, Stanza, is_string};
+    pub use age_format::{Grease, HeaderV1, OldHeader, Stanza, is_string, keeps_scrypt_rule};
 
     /// What is true of stanzas and headers, for proofs alone.
     pub mod laws {
         pub use age_format::{
             canonical_text_is_text, canonical_text_reads_back, covered_front,
-            equal_stanzas_are_same, header_text_reads_back, header_text_tells, verdict_is_unique,
+            equal_stanzas_are_same, header_text_is_canonical, header_text_reads_back,
+            header_text_tells, verdict_is_unique,
         };
     }
 }

@@ -11,7 +11,6 @@ use Rattle.age.specs.Drawing.{drawn}
 use Rattle.age.specs.Encrypting.{Prepared}
 use Rattle.age.proofs.Outcomes.{same_value, no_refusal}
 use Rattle.age.specs.File.{file_text, IsFileOf}
-use Rattle.age.specs.HeaderV1.{reads_legacy}
 use Rattle.age_bench.specs.Bench.{bench_seal}
 use Rattle.age_bench.specs.Names.{file_by}
 use Rattle.age_bench.specs.Recipient.{bench_stanza, bench_grease, bench_file}
@@ -65,7 +64,7 @@ bench_filed draws plain text h =
 pub is_file : IsMade → IsBenchFile
 is_file made draws plain text b is =
     let (long, same) = bench_filed draws plain text is in
-    subst (λ t. IsFileOf reads_legacy bench_seal (take 16 draws) (bench_stanza (take 16 draws) ∷ bench_grease ∷ []) plain t) (sym same) (made draws plain b long)
+    subst (λ t. IsFileOf bench_seal (take 16 draws) (bench_stanza (take 16 draws) ∷ bench_grease ∷ []) plain t) (sym same) (made draws plain b long)
 
 pub is_carried : IsCarriedAs → IsCarried
 is_carried carried format draws plain text b p is =

@@ -14,7 +14,7 @@ use Rattle.age.specs.FormatVariants.{Binary, AsciiArmor}
 use Rattle.age.specs.ArmorWriting.{text_of}
 use Rattle.age.specs.Stanza.{StanzaValue, stanza_text, first_line, body_text}
 use Rattle.age.specs.Header.{version_line, mac_line, covered_text, header_text}
-use Rattle.age.specs.HeaderV1.{header_mac, reads_legacy}
+use Rattle.age.specs.HeaderV1.{header_mac}
 use Rattle.age.specs.Payload.{payload}
 use Rattle.age.specs.StreamLaws.{PayloadLength}
 use Rattle.age.specs.File.{file_front, file_text, payload_key, IsFileOf}
@@ -120,7 +120,7 @@ IsCarriedAs = (format : Format) (draws plain : List ℕ) → AreBytes draws → 
 abbrev pub IsGivenBack : Type 0
 IsGivenBack = (format : Format) (draws plain bytes file_key : List ℕ) (stanzas : List StanzaValue) (given : List ℕ)
     → AreBytes draws → 32 ≤ length draws → AreBytes plain → Carries (text_of format (bench_file draws plain)) bytes
-    → HoldsBenchKey file_key stanzas → IsFileOf reads_legacy bench_seal file_key stanzas given bytes → given ≡ plain
+    → HoldsBenchKey file_key stanzas → IsFileOf bench_seal file_key stanzas given bytes → given ≡ plain
 
 module _ (armored : (bytes : List ℕ) → AreBytes bytes → Carries (armor bytes) bytes) (size : PayloadLength bench_seal) where
   pub is_carried : IsCarriedAs
@@ -134,4 +134,4 @@ module _ (armored : (bytes : List ℕ) → AreBytes bytes → Carries (armor byt
   pub gives_back : ((text bytes others : List ℕ) → Carries text bytes → Carries text others → bytes ≡ others) → IsAlone → IsGivenBack
   gives_back one alone format draws plain bytes file_key stanzas given b long p carries holds f =
       let is : bytes ≡ bench_file draws plain = one (text_of format (bench_file draws plain)) bytes (bench_file draws plain) carries (is_carried format draws plain b long p) in
-      alone draws plain file_key stanzas given b long p holds (subst (λ x. IsFileOf reads_legacy bench_seal file_key stanzas given x) is f)
+      alone draws plain file_key stanzas given b long p holds (subst (λ x. IsFileOf bench_seal file_key stanzas given x) is f)

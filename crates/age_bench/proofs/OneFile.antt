@@ -7,8 +7,8 @@ use Rattle.age.specs.Bytes.{AreBytes, AreBytesOf}
 use Rattle.age.specs.Mac.{hmac_of}
 use Rattle.age.specs.Digests.{hmac_of-bytes, hkdf_of-bytes}
 use Rattle.age.specs.Stanza.{StanzaValue, IsStanza}
-use Rattle.age.specs.Header.{IsHeader, IsHeaderText, covered, covered_text, header_text}
-use Rattle.age.specs.HeaderV1.{HeaderValue, header_mac, reads_legacy}
+use Rattle.age.specs.Header.{covered_text}
+use Rattle.age.specs.HeaderV1.{HeaderValue, header_mac}
 use Rattle.age.proofs.Strings.{string_tested}
 use Rattle.age.specs.Payload.{piece, nonce, middle_seals, last_piece, payload}
 use Rattle.age.specs.StreamLaws.{ArePieces, PayloadLength, OnePlaintext, joined}
@@ -65,12 +65,12 @@ payload_opened key plain pieces b =
 -- it is a file under the file key that its bench stanza holds
 abbrev pub IsMade : Type 0
 IsMade = (draws plain : List ℕ) → AreBytes draws → 32 ≤ length draws
-    → IsFileOf reads_legacy bench_seal (take 16 draws) (bench_stanza (take 16 draws) ∷ bench_grease ∷ []) plain (bench_file draws plain)
+    → IsFileOf bench_seal (take 16 draws) (bench_stanza (take 16 draws) ∷ bench_grease ∷ []) plain (bench_file draws plain)
 
 -- it is a file of no other plaintext under the file key that its first bench stanza holds
 abbrev pub IsAlone : Type 0
 IsAlone = (draws plain file_key : List ℕ) (stanzas : List StanzaValue) (given : List ℕ) → AreBytes draws → 32 ≤ length draws → AreBytes plain
-    → HoldsBenchKey file_key stanzas → IsFileOf reads_legacy bench_seal file_key stanzas given (bench_file draws plain) → given ≡ plain
+    → HoldsBenchKey file_key stanzas → IsFileOf bench_seal file_key stanzas given (bench_file draws plain) → given ≡ plain
 
 -- the first of a list, or the grease where there is none
 abbrev first_of : List StanzaValue → StanzaValue
@@ -93,50 +93,46 @@ stanza_good file_key b = record { tag = (string_tested (codes "bench")).0 refl; 
 grease_good : IsStanza bench_grease
 grease_good = record { tag = (string_tested (codes "agebench-grease")).0 refl; args = tt; body = All-nil (λ x. x < 2 ^ 8) }
 
-module _ (is_text : (legacy : Bool) (stanzas : List StanzaValue) (mac : List ℕ) → IsHeader stanzas mac → IsHeaderText legacy (header_text stanzas mac) stanzas mac)
-    (covers : (stanzas : List StanzaValue) (mac : List ℕ) → length mac ≡ 32 → covered (header_text stanzas mac) ≡ covered_text stanzas) where
-  pub is_bench_file : IsMade
-  is_bench_file draws plain b long =
-      let file_key = take 16 draws in
-      let stanzas = bench_stanza file_key ∷ bench_grease ∷ [] in
-      let front = covered_text stanzas in
-      let mac = header_mac file_key front in
-      let h : HeaderValue = record { stanzas = stanzas; mac = mac; covered = front } in
-      let ready : IsReady file_key h (take 16 (drop 16 draws)) = record {
-        header = record {
-          each = (stanza_good file_key (All-take (λ x. x < 2 ^ 8) 16 draws b), (grease_good, tt));
-          some = no_stanzas (bench_stanza file_key) (bench_grease ∷ []);
-          is_mac = header_mac-bytes file_key front;
-        };
-        rule = inl (other_tags.0, (other_tags.1, tt));
-        front = refl;
-        right = refl;
-        sixteen = record {
-          len = length-take-le 16 (drop 16 draws) (omega (arith, long, length-drop 16 draws));
-          bytes = All-take (λ x. x < 2 ^ 8) 16 (drop 16 draws) (All-drop (λ x. x < 2 ^ 8) 16 draws b);
-        };
-      } in
-      is_file bench_seal file_key h (take 16 (drop 16 draws)) plain ready is_text covers
+pub is_bench_file : IsMade
+is_bench_file draws plain b long =
+    let file_key = take 16 draws in
+    let stanzas = bench_stanza file_key ∷ bench_grease ∷ [] in
+    let mac = header_mac file_key (covered_text stanzas) in
+    let h : HeaderValue = record { stanzas = stanzas; mac = mac } in
+    let ready : IsReady file_key h (take 16 (drop 16 draws)) = record {
+      header = record {
+        each = (stanza_good file_key (All-take (λ x. x < 2 ^ 8) 16 draws b), (grease_good, tt));
+        some = no_stanzas (bench_stanza file_key) (bench_grease ∷ []);
+        is_mac = header_mac-bytes file_key (covered_text stanzas);
+      };
+      rule = inl (other_tags.0, (other_tags.1, tt));
+      right = refl;
+      sixteen = record {
+        len = length-take-le 16 (drop 16 draws) (omega (arith, long, length-drop 16 draws));
+        bytes = All-take (λ x. x < 2 ^ 8) 16 (drop 16 draws) (All-drop (λ x. x < 2 ^ 8) 16 draws b);
+      };
+    } in
+    is_file bench_seal file_key h (take 16 (drop 16 draws)) plain ready
 
-  -- the key of the first bench stanza
-  first_key : (key file_key : List ℕ) (passed later : List StanzaValue) → bench_stanza key ∷ bench_grease ∷ [] ≡ passed ++ bench_stanza file_key ∷ later
-      → All (λ s. s.tag ≢ codes "bench") passed → key ≡ file_key
-  first_key key file_key [] later is others = ap (λ l. (first_of l).body) is
-  first_key key file_key (p ∷ passed) later is others =
-      absurd (All-head (λ s. s.tag ≢ codes "bench") p passed others (sym (ap (λ l. (first_of l).tag) is)))
+-- the key of the first bench stanza
+first_key : (key file_key : List ℕ) (passed later : List StanzaValue) → bench_stanza key ∷ bench_grease ∷ [] ≡ passed ++ bench_stanza file_key ∷ later
+    → All (λ s. s.tag ≢ codes "bench") passed → key ≡ file_key
+first_key key file_key [] later is others = ap (λ l. (first_of l).body) is
+first_key key file_key (p ∷ passed) later is others =
+    absurd (All-head (λ s. s.tag ≢ codes "bench") p passed others (sym (ap (λ l. (first_of l).tag) is)))
 
-  pub is_alone : ReadsAlone → HasOneVerdict → PayloadLength bench_seal → OnePlaintext bench_seal → ((plain : List ℕ) → ArePieces plain) → IsAlone
-  is_alone alone one size law pieces draws plain file_key stanzas given b long p holds f =
-      let key = take 16 draws in
-      let text = bench_file draws plain in
-      let made = is_bench_file draws plain b long in
-      let same = one_header alone one bench_seal key file_key _ stanzas plain given text made f in
-      let is : key ≡ file_key = first_key key file_key holds.passed holds.later (same ∙ holds.all) holds.others in
-      let g : IsFileOf reads_legacy bench_seal key stanzas given text = subst (λ k. IsFileOf reads_legacy bench_seal k stanzas given text) (sym is) f in
-      let sealing = payload_key key g.nonce in
-      let is_payload : payload bench_seal sealing given ≡ payload bench_seal sealing plain =
-      same_payload alone one bench_seal key stanzas _ given plain text g made in
-      let whole : AreBytesOf (length plain + 16 * (last_piece (length plain) + 1)) (payload bench_seal sealing plain) =
-      size sealing plain (payload_key-bytes key g.nonce) p in
-      let opened : AreBytes given = payload_opened sealing given (pieces given) (subst AreBytes (sym is_payload) whole.bytes) in
-      law sealing given plain (payload_key-bytes key g.nonce) opened p is_payload
+pub is_alone : ReadsAlone → HasOneVerdict → PayloadLength bench_seal → OnePlaintext bench_seal → ((plain : List ℕ) → ArePieces plain) → IsAlone
+is_alone alone one size law pieces draws plain file_key stanzas given b long p holds f =
+    let key = take 16 draws in
+    let text = bench_file draws plain in
+    let made = is_bench_file draws plain b long in
+    let same = one_header alone one bench_seal key file_key _ stanzas plain given text made f in
+    let is : key ≡ file_key = first_key key file_key holds.passed holds.later (same ∙ holds.all) holds.others in
+    let g : IsFileOf bench_seal key stanzas given text = subst (λ k. IsFileOf bench_seal k stanzas given text) (sym is) f in
+    let sealing = payload_key key g.nonce in
+    let is_payload : payload bench_seal sealing given ≡ payload bench_seal sealing plain =
+    same_payload alone one bench_seal key stanzas _ given plain text g made in
+    let whole : AreBytesOf (length plain + 16 * (last_piece (length plain) + 1)) (payload bench_seal sealing plain) =
+    size sealing plain (payload_key-bytes key g.nonce) p in
+    let opened : AreBytes given = payload_opened sealing given (pieces given) (subst AreBytes (sym is_payload) whole.bytes) in
+    law sealing given plain (payload_key-bytes key g.nonce) opened p is_payload

@@ -5,7 +5,6 @@ use Rattle.age.specs.Armor.{Carries}
 use Rattle.age.specs.Types.{Format}
 use Rattle.age.specs.ArmorWriting.{text_of}
 use Rattle.age.specs.Stanza.{StanzaValue}
-use Rattle.age.specs.HeaderV1.{reads_legacy}
 use Rattle.age.specs.File.{IsFileOf}
 use Rattle.age.specs.Parts.{IsFileFor}
 use Rattle.age_bench.specs.Bench.{bench_seal}
@@ -18,7 +17,7 @@ use Rattle.age_bench.specs.declared.names.With.TheVariants as with_
 -- it is a file of the plaintext under the file key that its bench stanza holds
 abbrev pub IsBenchFile : Type 0
 IsBenchFile = (draws plain text : List ℕ) → AreBytes draws → file_by to.Bench draws plain ≡ Ok text
-    → IsFileOf reads_legacy bench_seal (take 16 draws) (bench_stanza (take 16 draws) ∷ bench_grease ∷ []) plain text
+    → IsFileOf bench_seal (take 16 draws) (bench_stanza (take 16 draws) ∷ bench_grease ∷ []) plain text
 
 -- the text in either form carries it
 abbrev pub IsCarried : Type 0
@@ -29,7 +28,7 @@ IsCarried = (format : Format) (draws plain text : List ℕ) → AreBytes draws �
 abbrev pub GivesBack : Type 0
 GivesBack = (format : Format) (draws plain text bytes file_key : List ℕ) (stanzas : List StanzaValue) (given : List ℕ)
     → AreBytes draws → AreBytes plain → file_by to.Bench draws plain ≡ Ok text → Carries (text_of format text) bytes
-    → gives_of with_.Bench file_key stanzas → IsFileOf reads_legacy bench_seal file_key stanzas given bytes → given ≡ plain
+    → gives_of with_.Bench file_key stanzas → IsFileOf bench_seal file_key stanzas given bytes → given ≡ plain
 
 -- a file whose first bench stanza holds its file key is one for the bench identity
 abbrev pub IsForBench : Type 0

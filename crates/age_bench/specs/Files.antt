@@ -3,7 +3,6 @@ use Rattle.std.specs.Prelude.{ℕ, ◌^◌, ◌≤◌, List, length}
 use Rattle.age.specs.Bytes.{AreBytes}
 use Rattle.age.specs.Stanza.{StanzaValue}
 use Rattle.age.specs.Payload.{LastIsNoMiddle}
-use Rattle.age.specs.HeaderV1.{reads_legacy}
 use Rattle.age.specs.File.{IsFileOf, payload_key}
 use Rattle.age_bench.specs.Bench.{bench_seal}
 use Rattle.age_bench.specs.Recipient.{HoldsBenchKey}
@@ -12,7 +11,7 @@ use Rattle.age_bench.specs.Recipient.{HoldsBenchKey}
 pub record IsFileForBench (plain text : List ℕ) : Type 0 where
   pub file_key : List ℕ
   pub stanzas : List StanzaValue
-  pub is_file : IsFileOf reads_legacy bench_seal file_key stanzas plain text
+  pub is_file : IsFileOf bench_seal file_key stanzas plain text
   pub bytes : AreBytes plain
   pub within : length plain ≤ 2 ^ 60
   pub last : LastIsNoMiddle bench_seal (payload_key file_key is_file.nonce) plain

@@ -10,9 +10,7 @@ use crate::names::{To, With};
 use crate::recipient::{BenchIdentity, BenchRecipient};
 use crate::suite::BenchSuite;
 use age::armor::laws::{armor_is_carrying, carried_is_unique};
-use age::format::laws::{
-    canonical_text_is_text, canonical_text_reads_back, header_text_reads_back, verdict_is_unique,
-};
+use age::format::laws::{header_text_reads_back, verdict_is_unique};
 use age::scrypt::Identity as PassphraseIdentity;
 use age::scrypt::laws::scrypt_pair;
 use age::stream::laws::{payload_laws, piece_law};
@@ -33,8 +31,6 @@ pub fn bench_file_laws()
     ensures gives_back { GivesBack }
     ensures is_for_bench { IsForBench }
 {
-    canonical_text_is_text();
-    canonical_text_reads_back();
     header_text_reads_back();
     verdict_is_unique();
     piece_law();

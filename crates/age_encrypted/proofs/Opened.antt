@@ -9,7 +9,7 @@ use Rattle.age_error.specs.declared.io.Error.{Error}
 use Rattle.age_suite.specs.declared.suite.Suite.{Ghosts as SuiteMembers}
 use Rattle.age_io.specs.declared.traits.Read.{Ghosts as ReadMembers}
 use Rattle.age_io.specs.Stretch.{Stretch, whole}
-use Rattle.age_format.specs.HeaderV1.{HeaderValue, reads_legacy}
+use Rattle.age_format.specs.HeaderV1.{HeaderValue}
 use Rattle.age_format.specs.Unwrapping.{UnwrapAnswer}
 use Rattle.age_keys.specs.Scrypt.{PassphraseIdentity}
 use Rattle.age_stream.specs.declared.reader.StreamReader.{StreamReader}
@@ -54,7 +54,7 @@ module _ {S R : Type 0} (suite : SuiteMembers S) (read : ReadMembers R) (stream_
     plain_entries : {A : Type 0} (entries : A → List Entry) (h : HeaderValue) (nonce : List ℕ) (input : R) (identity : PassphraseIdentity)
         (stream : StreamReader S R suite read) (x : A) → ReadsFile stream_read most_bytes entries stream (Ok x)
         → IsTrue (read.tells input && read.steady input) → (start : Stretch) (place : ℕ)
-        → ReadsFront reads_legacy start (read.rest input) place (read.place input) h nonce
+        → ReadsFront start (read.rest input) place (read.place input) h nonce
         → (answer : UnwrapAnswer) → UnwrapsPassphrase suite identity h.stanzas answer identity
         → Decrypts (of_passphrase (decided answer)) h nonce input (Ok stream)
         → IsFileOfEntries suite stream_read h.stanzas start identity (entries x)

@@ -8,7 +8,7 @@ use Rattle.age_error.specs.declared.io.Error.{Error}
 use Rattle.age_suite.specs.declared.suite.Suite.{Ghosts as SuiteMembers}
 use Rattle.age_io.specs.declared.traits.Read.{Ghosts as ReadMembers}
 use Rattle.age_io.specs.Stretch.{Stretch}
-use Rattle.age_format.specs.HeaderV1.{HeaderValue, reads_legacy}
+use Rattle.age_format.specs.HeaderV1.{HeaderValue}
 use Rattle.age_format.specs.Stanza.{StanzaValue}
 use Rattle.age_format.specs.Unwrapping.{UnwrapAnswer}
 use Rattle.age_keys.specs.Scrypt.{PassphraseIdentity}
@@ -100,14 +100,14 @@ module _ {S R : Type 0} (suite : SuiteMembers S) {read : ReadMembers R} (stream_
     pub plain : List ℕ
     pub gives : UnwrapsPassphrase suite identity stanzas (Some (Ok file_key)) identity
     pub well : IsTrue start.ends_well
-    pub is_file : IsFileOf reads_legacy suite.seal_of file_key stanzas plain start.bytes
+    pub is_file : IsFileOf suite.seal_of file_key stanzas plain start.bytes
     pub fits : length plain ≤ most_bytes
     pub good : AreEntries (lines plain) entries
 
   -- So it is where the reader tells its bytes and is steady, and the passphrase was given.
   abbrev pub EntriesAreThose : {C : Type 0} → (C → List ℕ → Option (List ℕ) → C → Type 0) → Option (List ℕ) → Protected R C → Opened C → Type 0
   EntriesAreThose gives filename file opened = IsTrue (read.tells file.input && read.steady file.input) → (start : Stretch) (place : ℕ)
-      → ReadsFront reads_legacy start (read.rest file.input) place (read.place file.input) file.header file.nonce
+      → ReadsFront start (read.rest file.input) place (read.place file.input) file.header file.nonce
       → (passphrase : List ℕ) × gives file.callbacks (description filename) (Some passphrase) opened.callbacks
       × IsFileOfEntries file.header.stanzas start (identity_under file passphrase) opened.entries
 

@@ -4,7 +4,6 @@ use Rattle.std.proofs.lemmas.List.{append-nil, nil_from_length}
 use Rattle.std.specs.List.{AllByRecursion}
 use Rattle.age_error.specs.declared.io.Error.{Error}
 use Rattle.age_error.specs.declared.io.Error.TheVariants as io
-use Rattle.age_error.specs.declared.decrypt.DecryptError.{DecryptError}
 use Rattle.age_error.specs.declared.decrypt.DecryptError.TheVariants as decrypt
 use Rattle.age_error.specs.DecryptErrors.{IfIoRefusal, decrypt_refusal, decrypt_of_io}
 use Rattle.age_io.specs.Stretch.{Stretch}
@@ -13,10 +12,9 @@ use Rattle.age_io.proofs.Delivering.{Delivers-joined}
 use Rattle.age_base64.specs.Base64.{columns}
 use Rattle.age_base64.specs.Lines.{line}
 use Rattle.age_format.specs.Stanza.{StanzaValue, IsStanza}
-use Rattle.age_format.specs.Header.{AreStanzaTexts, IsHeaderText, IsHeader, covered, mac_line, version_line}
-use Rattle.age_format.specs.Verdict.{Verdict, Header, Decides, IsUndecided, IsVerdict}
-use Rattle.age_format.specs.HeaderV1.{HeaderValue}
-use Rattle.age_format.specs.ReadingHeader.{TookVerdict, ReadsHeader, TookFront, RunsOut, RefusesHeader}
+use Rattle.age_format.specs.Header.{AreStanzaTexts, IsHeaderText, IsHeader, mac_line, version_line}
+use Rattle.age_format.specs.Verdict.{Verdict, Decides, IsUndecided, IsVerdict}
+use Rattle.age_format.specs.ReadingHeader.{TookVerdict, TookFront, RunsOut, RefusesHeader}
 use Rattle.age_base64.proofs.Columns.{length-columns}
 use Rattle.age_format.proofs.Deciding.{none_shorter, verdict_here}
 
@@ -31,17 +29,6 @@ took_verdict own old middle new start place end t b v same so_far here moved ste
       moved = omega (arith, moved, step, length-append t (b ∷ []));
       verdict = subst (λ l. IsVerdict l old.bytes (t ++ b ∷ []) v) same (verdict_here own old.bytes t new.bytes b v joined.bytes quiet decides);
     }
-
--- a header that was made of the front says what the front does
-pub reads_header : {legacy : Bool} (old new : Stretch) (start end : ℕ) (front text : List ℕ) (stanzas : List StanzaValue) (mac : List ℕ) (h : HeaderValue)
-    → TookVerdict legacy old new start end front (Header stanzas mac) → text ≡ front → h.stanzas ≡ stanzas → h.mac ≡ mac → h.covered ≡ covered text
-    → ReadsHeader legacy old new start end h
-reads_header {legacy} old new start end front text stanzas mac h took same ss m told = record {
-  front = front;
-  took = subst (λ xs. TookVerdict legacy old new start end front (Header xs h.mac)) (sym ss)
-      (subst (λ xs. TookVerdict legacy old new start end front (Header stanzas xs)) (sym m) took);
-  told = told ∙ ap covered same;
-}
 
 -- memory was refused for the byte after a front that decides nothing
 pub ran_out_after : {legacy : Bool} (own : Bool) (old middle new : Stretch) (start place end : ℕ) (t : List ℕ) (b : ℕ) → own ≡ legacy → Delivers t old middle

@@ -1,11 +1,9 @@
 -- What the tests of a header say.
-use Rattle.std.proofs.Common.{◌≡◌, ◌≢◌, ◌↔◌, ℕ, ◌<◌, ◌≤◌, inl, inr, Bool, IsTrue, List, [], ◌∷◌, length, get_or, All, ap, sym, arith, subst, ◌∙◌}
+use Rattle.std.proofs.Common.{◌≡◌, ◌↔◌, ℕ, ◌<◌, ◌≤◌, Bool, IsTrue, List, [], ◌∷◌, length, get_or, ap, sym, arith, subst, ◌∙◌}
 use Rattle.std.proofs.lemmas.List.{nil_from_length}
-use Rattle.std.proofs.lemmas.List.Elements.{All-from_recursion, recursion_from_All}
 use Rattle.std.specs.Prelude.{codes}
 use Rattle.age_suite.specs.Mac.{hmac_of, hkdf_of}
 use Rattle.age_format.specs.Stanza.{StanzaValue}
-use Rattle.age_format.specs.Header.{KeepsScryptRule}
 use Rattle.age_format.specs.HeaderV1.{header_mac, IsScrypt}
 
 -- the HMAC under the key that HKDF gives is the header's MAC
@@ -27,14 +25,3 @@ scrypt_told b xs x least most e told =
       λ t. (x, one, told.0 t),
       λ (y, same, tag). told.1 (ap (λ s. s.tag) (let both : x ∷ [] ≡ y ∷ [] = sym one ∙ same in let alike : x ≡ y = cc in alike) ∙ tag),
     )
-
--- where they are none or several, no tag may be scrypt
-pub rule_told : (b : Bool) (xs : List StanzaValue) → length xs ≢ 1
-    → IsTrue b ↔ All (λ s. s.tag ≢ codes "scrypt") xs → IsTrue b ↔ KeepsScryptRule xs
-rule_told b xs several told = (
-  λ t. inl (recursion_from_All (λ s. s.tag ≢ codes "scrypt") xs (told.0 t)),
-  λ rule. elim rule [
-    | inl each ↦ told.1 (All-from_recursion (λ s. s.tag ≢ codes "scrypt") xs each)
-    | inr one ↦ absurd (several one)
-  ],
-)

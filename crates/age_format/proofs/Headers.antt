@@ -8,7 +8,7 @@ use Rattle.age_format.specs.Reading.{IsBody}
 use Rattle.age_base64.specs.Lines.{Lacks}
 use Rattle.age_base64.specs.Lines.{line}
 use Rattle.age_base64.specs.Base64.{columns}
-use Rattle.age_format.specs.Stanza.{StanzaValue, body_text, stanza_text, first_line, IsStanzaText, IsStanza}
+use Rattle.age_format.specs.Stanza.{StanzaValue, body_text, stanza_text, first_line, IsStanzaText, IsStanza, canonical}
 use Rattle.age_format.specs.Header.{mac_line, version_line, AreStanzaTexts, IsHeaderText, IsHeader, header_text}
 use Rattle.age_base64.proofs.Lines.{split_line}
 use Rattle.age_format.proofs.Words.{Lacks_words, same_words}
@@ -117,3 +117,15 @@ module _ (legacy : Bool) where
   pub canonical_header : (ss : List StanzaValue) (m : List ℕ) → IsHeader ss m → IsHeaderText legacy (header_text ss m) ss m
   unfolding header_text
   canonical_header ss m h = record { middle = flat_map stanza_text ss; texts = canonical_texts ss h.each; some = h.some; is_mac = h.is_mac; spelled = refl }
+
+-- without the legacy form they are the only ones
+only_texts : (t : List ℕ) (ss : List StanzaValue) → AreStanzaTexts canonical t ss → t ≡ flat_map stanza_text ss
+only_texts t [] texts = texts
+only_texts t (s ∷ ss) (first, rest, parts, here, more) = elim here.spelled [
+  | inl is ↦ parts ∙ ap (λ x. x ++ rest) is ∙ ap (λ x. stanza_text s ++ x) (only_texts rest ss more)
+  | inr (legacy, _) ↦ absurd (Prim.cc)
+]
+
+pub only_text : (t : List ℕ) (ss : List StanzaValue) (m : List ℕ) → IsHeaderText canonical t ss m → t ≡ header_text ss m
+unfolding header_text
+only_text t ss m h = h.spelled ∙ ap (λ x. line version_line ++ (x ++ line (mac_line m))) (only_texts h.middle ss h.texts)

@@ -1,24 +1,17 @@
 -- A header that was read or made, and its MAC.
-use Rattle.std.specs.Prelude.{◌≡◌, ℕ, Bool, true, List, [], ◌∷◌, codes}
-use Rattle.age_error.specs.Bytes.{AreBytes}
+use Rattle.std.specs.Prelude.{◌≡◌, ℕ, List, [], ◌∷◌, codes}
 use Rattle.age_suite.specs.Mac.{hmac_of, hkdf_of}
 use Rattle.age_format.specs.Stanza.{StanzaValue}
 use Rattle.age_format.specs.Header.{IsHeader}
 
--- what a header says, and the front of its text that the MAC covers
+-- what a header says
 pub record HeaderValue : Type 0 where
   pub stanzas : List StanzaValue
   pub mac : List ℕ
-  pub covered : List ℕ
 
--- one or more stanzas, a MAC of 32 bytes, and the bytes that it covers
-pub record IsHeaderValue (h : HeaderValue) : Type 0 where
-  pub header : IsHeader h.stanzas h.mac
-  pub front : AreBytes h.covered
-
--- whether `HeaderV1` reads the legacy form of a stanza too
-abbrev pub reads_legacy : Bool
-reads_legacy = true
+-- one or more stanzas, and a MAC of 32 bytes
+abbrev pub IsHeaderValue : HeaderValue → Type 0
+IsHeaderValue h = IsHeader h.stanzas h.mac
 
 -- the MAC of a header whose text up to and with `---` is the front
 -- standard: "Header MAC": HMAC-SHA-256 over the header up to and including the `---`, under the key that HKDF-SHA-256

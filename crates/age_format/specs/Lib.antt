@@ -7,6 +7,7 @@ pub mod Progress
 pub mod Steps
 pub mod HeaderV1
 pub mod ReadingHeader
+pub mod OldHeader
 pub mod Wrapping
 pub mod Drawing
 pub mod Unwrapping

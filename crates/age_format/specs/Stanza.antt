@@ -1,6 +1,6 @@
 -- The text of a stanza: age-encryption.org/v1, section "Header", its part on recipient stanzas. Under "standard" stands what
 -- it asks, in our words. A text of a stanza is the canonical one, or also the legacy form where `legacy` is true.
-use Rattle.std.specs.Prelude.{◌≡◌, ℕ, Bool, true, ◌%◌, ◌/◌, List, ◌∷◌, ◌++◌, length, nat_eq, codes, ◌⊎◌}
+use Rattle.std.specs.Prelude.{◌≡◌, ℕ, Bool, true, false, ◌%◌, ◌/◌, List, ◌∷◌, ◌++◌, length, nat_eq, codes, ◌⊎◌}
 use Rattle.std.specs.List.{AllByRecursion, join_with_byte, flat_map}
 use Rattle.std.specs.Cmp.Lexicographic.{pointwise}
 use Rattle.std.specs.Ordering.{on, eq_of_both}
@@ -52,8 +52,15 @@ stanza_text s = line (first_line s) ++ body_text s.body
 abbrev pub IsLegacyText : List ℕ → StanzaValue → Type 0
 IsLegacyText text s = (length (columns s.body) % 64 ≡ 0) × (line text ≡ stanza_text s)
 
+-- Which texts of a stanza are meant: the canonical one alone, or the legacy form too, as in files from before the standard.
+abbrev pub canonical : Bool
+canonical = false
+
+abbrev pub or_legacy : Bool
+or_legacy = true
+
 -- text is a text of the stanza
--- standard: the canonical text and no other, so `legacy` is false there
+-- standard: the canonical text and no other
 pub record IsStanzaText (legacy : Bool) (text : List ℕ) (s : StanzaValue) : Type 0 where
   pub stanza : IsStanza s
   pub spelled : (text ≡ stanza_text s) ⊎ ((legacy ≡ true) × IsLegacyText text s)

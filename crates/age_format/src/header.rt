@@ -1,39 +1,31 @@
 //! Headers that are read from a reader and written to a writer, and their MAC.
 
-ghost use Rattle.std.specs.Prelude.{◌≡◌, ◌≢◌, ◌≤◌, ◌<◌, ◌↔◌, [], ◌∷◌, ◌+◌, ◌++◌, IsTrue, IfOk, OnOk, IfErr, OnErr, codes};
+ghost use Rattle.std.specs.Prelude.{◌≡◌, ◌≢◌, ◌↔◌, [], IsTrue, IfOk, IfErr, codes};
 ghost use Rattle.std.specs.List.{AllByRecursion};
-ghost use Rattle.age_error.specs.Refusals.{IsDevice, IsInterruption};
-ghost use Rattle.age_error.specs.declared.io.Error.TheVariants.{OutOfMemory};
-ghost use Rattle.age_error.specs.DecryptErrors.{decrypt_refusal, IfIoRefusal, IsDeviceRefusal, IsInterruptedRefusal};
-ghost use Rattle.age_io.specs.Keeping.{SameReader, KeepsReader, OrEarly};
-ghost use Rattle.age_io.specs.Reading.{Delivers, IsQuiet, IsShort, StaysOrFails, AddsNoReason, TriedAgain, most_faults};
+ghost use Rattle.age_error.specs.Refusals.{IsInterruption};
 ghost use Rattle.age_io.specs.Writing.{WritesAll, Retried, OrMemory};
-ghost use Rattle.age_suite.specs.Mac.{hkdf_of};
-ghost use Rattle.age_base64.specs.Lines.{line};
-ghost use Rattle.age_base64.specs.Base64.{columns};
-ghost use Rattle.age_format.specs.Stanza.{IsStanza};
-ghost use Rattle.age_format.specs.Header.{covered, covered_text, header_text, IsHeader, IsHeaderText, KeepsScryptRule};
-ghost use Rattle.age_format.specs.HeaderV1.{header_mac, reads_legacy, IsScrypt};
-ghost use Rattle.age_format.specs.ReadingHeader.{ReadsHeader, RefusesHeader};
+ghost use Rattle.age_format.specs.Stanza.{IsStanza, canonical};
+ghost use Rattle.age_format.specs.Header.{covered_text, header_text, IsHeader, KeepsScryptRule};
+ghost use Rattle.age_format.specs.HeaderV1.{header_mac, IsScrypt};
+ghost use Rattle.age_format.specs.ReadingHeader.{ReadsHeader, ReadsOrRefuses};
 
-use crate::bytewise::{HeaderReader, Step};
+use crate::mac::mac_key;
+use crate::reading::{HeaderText, read_header_text};
 use crate::stanza::Stanza;
-use crate::write::push_columns;
-use age_base64::header_engine;
-use age_error::bytes::{known_array, known_bytes};
+use crate::write::{write_covered, write_mac};
+use age_error::bytes::known_array;
 use age_error::{DecryptError, io};
-use age_io::{Read, Write, read_retrying, write_all};
-use age_suite::mac::{HmacWriter, hkdf, hmac};
+use age_io::{Read, Write, write_all};
+use age_suite::mac::{HmacWriter, hmac};
 use age_suite::secrecy::FileKey;
 use std::alloc::{AllocError, Global};
 use std::marker::Model;
 
-/// A header (age-encryption.org/v1, "Header"): one or more stanzas, a MAC, and the bytes that the MAC covers.
+/// A header (age-encryption.org/v1, "Header"): one or more stanzas, and a MAC.
 #[derive(Drop)]
 pub struct HeaderV1 {
     stanzas: Vec<Stanza>,
     mac: [u8; 32],
-    covered: Vec<u8>,
 }
 
 impl Model for HeaderV1 {
@@ -41,54 +33,13 @@ impl Model for HeaderV1 {
 
     ghost Value = { HeaderValue };
 
-    ghost view = { λ h. record { stanzas = h.stanzas.items; mac = h.mac; covered = h.covered.items } };
+    ghost view = { λ h. record { stanzas = h.stanzas.items; mac = h.mac } };
 
-    ghost invariant = { λ h. IsHeaderValue (record { stanzas = h.stanzas.items; mac = h.mac; covered = h.covered.items }) };
-}
-
-// The next byte, tried again after an interruption. `UnexpectedEof` says that none is left and the rest ends well; any
-// other refusal is that of the read that met it.
-fn next_byte<R: Read>(reader: &mut R) -> Result<u8, io::Error>
-    ensures keeps { KeepsReader ⟦<R as Read>⟧ (OrEarly ⟦<R as Read>⟧) reader.old reader.new result }
-    ensures unspent { OnOk result (R.faults reader.new < most_faults) }
-    ensures byte { IsTrue (R.tells reader.old) → IfOk result (λ b.
-        Delivers (b ∷ []) (R.rest reader.old) (R.rest reader.new)) }
-    ensures moves { IsTrue (R.tells reader.old) → OnOk result (R.place reader.new ≡ R.place reader.old + 1) }
-    ensures stays { IsTrue (R.tells reader.old) → OnErr result (R.place reader.new ≡ R.place reader.old) }
-    ensures left { IsTrue (R.tells reader.old) → OnErr result
-        (StaysOrFails (R.rest reader.old) (R.rest reader.new)) }
-    ensures cause { IsTrue (R.tells reader.old) → IfErr result (λ e. e ≢ OutOfMemory →
-        IsQuiet (R.faults reader.old) (R.faults reader.new) → IsShort 1 (R.rest reader.old) e) }
-{
-    let mut byte = [0u8; 1];
-    match read_retrying(reader, &mut byte) {
-        Err(e) => Err(e),
-        Ok(0) => Err(io::Error::UnexpectedEof),
-        Ok(_) => Ok(byte[0]),
-    }
+    ghost invariant = { λ h. IsHeaderValue (record { stanzas = h.stanzas.items; mac = h.mac }) };
 }
 
 // Whether headers with the legacy form of a stanza are read.
-const READS_LEGACY: bool = true;
-
-// How many bytes of a header's text the MAC doesn't cover: a space, the 43 columns of the MAC, and LF.
-const UNCOVERED: usize = 45;
-
-// The header that a text says.
-fn header_of_text(stanzas: Vec<Stanza>, mac: [u8; 32], mut text: Vec<u8>) -> HeaderV1
-    requires { IsHeaderText reads_legacy text.items stanzas.items mac }
-    ensures stanzas { result.stanzas ≡ stanzas.items }
-    ensures mac { result.mac ≡ mac }
-    ensures covered { result.covered ≡ covered text.items }
-{
-    text.truncate(text.len() - UNCOVERED);
-    known_bytes(text.as_slice());
-    HeaderV1 {
-        stanzas,
-        mac,
-        covered: text,
-    }
-}
+const READS_LEGACY: bool = false;
 
 // Whether a stanza has the tag `scrypt`.
 fn has_tag_scrypt(stanza: &Stanza) -> bool
@@ -97,40 +48,27 @@ fn has_tag_scrypt(stanza: &Stanza) -> bool
     stanza.tag() == "scrypt"
 }
 
-// The front that the MAC covers, of the canonical text.
+/// Whether stanzas keep the rule on passphrases: one with the tag `scrypt` is the only one (age-encryption.org/v1, "The scrypt
+/// recipient type").
+pub fn keeps_scrypt_rule(stanzas: &[Stanza]) -> bool
+    ensures { IsTrue result ↔ KeepsScryptRule stanzas.now }
+{
+    stanzas.len() == 1 || stanzas.iter().all(|stanza| !has_tag_scrypt(stanza))
+}
+
+// The front that the MAC covers.
 fn covered_bytes(alloc: Global, stanzas: &[Stanza]) -> Result<Vec<u8>, AllocError>
     ensures text { IfOk result (λ text. text.items ≡ covered_text stanzas.now) }
-    ensures each { OnOk result (AllByRecursion IsStanza stanzas.now) }
+    ensures each { IfOk result (λ text. AllByRecursion IsStanza stanzas.now) }
 {
     let mut text = Vec::new(alloc);
-    text.extend_from_slice(b"age-encryption.org/v1\n")?;
-    for stanza in stanzas {
-        stanza.known();
-        stanza.write(&mut text)?;
-    }
-    text.extend_from_slice(b"---")?;
+    write_covered(stanzas, &mut text)?;
     Ok(text)
 }
 
-// Appends what follows the covered front: a space, the columns of the MAC, and LF.
-fn push_mac(mac: &[u8; 32], text: &mut Vec<u8>) -> Result<(), AllocError>
-    ensures { OnOk result (text.new.items ≡ text.old.items ++ 32 ∷ line (columns mac.now)) }
-{
-    text.push(b' ')?;
-    push_columns(&header_engine(), mac.as_slice(), text)
-}
-
-// The key of a header's MAC.
-fn mac_key(file_key: &FileKey) -> [u8; 32]
-    ensures { result ≡ hkdf_of [] (codes "header") file_key.now }
-{
-    hkdf(&[], b"header", file_key.expose_secret())
-}
-
 impl HeaderV1 {
-    /// Reads the header at the front of what `reader` still has, and no byte more. The legacy form of a stanza is read too,
-    /// which leaves out the final line of the body where it would be empty. The covered bytes are those that were read, in
-    /// whichever form.
+    /// Reads the header at the front of what `reader` still has, and no byte more. What was read is the text that `write`
+    /// writes.
     ///
     /// `InvalidHeader` comes at the first byte that departs from how each header begins or that is neither LF nor
     /// printable, and at the LF of a line that no header has there; `UnknownFormat` at the LF of another version's line.
@@ -138,34 +76,22 @@ impl HeaderV1 {
     /// `Io(UnexpectedEof)`, or the reader's own refusal where that doesn't end well, and no other `Io`. `OutOfMemory` comes
     /// where memory is refused, here or by the reader. Interruptions are tried again up to 16 times in a row.
     pub fn read<R: Read>(alloc: Global, reader: &mut R) -> Result<HeaderV1, DecryptError>
-        ensures keeps { SameReader ⟦<R as Read>⟧ reader.old reader.new }
-        ensures device { IfErr result (λ e. IsDeviceRefusal (decrypt_refusal e) → R.faults reader.old < R.faults reader.new) }
-        ensures unspent { OnOk result (R.faults reader.new < most_faults) }
-        ensures patient { IfErr result (λ e. IsInterruptedRefusal (decrypt_refusal e) → ⊥) }
-        ensures header { IsTrue (R.tells reader.old) → IfOk result (λ h.
-            ReadsHeader reads_legacy (R.rest reader.old) (R.rest reader.new) (R.place reader.old) (R.place reader.new) h) }
-        ensures refused { IsTrue (R.tells reader.old) → IfErr result (λ e.
-            RefusesHeader reads_legacy (R.faults reader.old) (R.faults reader.new) (R.rest reader.old) (R.rest reader.new)
-            (R.place reader.old) (R.place reader.new) (decrypt_refusal e)) }
-        ensures io { IfErr result (λ e. IfIoRefusal (OrEarly ⟦<R as Read>⟧ reader.old) (decrypt_refusal e)) }
-        ensures narrows { OnOk result (AddsNoReason (TriedAgain R.refuses) reader.old reader.new) }
+        ensures { ReadsOrRefuses ⟦<R as Read>⟧ canonical ReadsHeader reader.old reader.new result }
     {
-        let mut header = HeaderReader::new(alloc, READS_LEGACY);
-        'bytes: loop {
-            // It tells the proof that nothing decides so far, and that the text's length is a usize: so the loop ends.
-            let _size = header.text().len();
-            let byte = next_byte(reader)?;
-            match header.push(alloc, byte)? {
-                Step::More(more) => header = more,
-                Step::Header(stanzas, mac, text) => return Ok(header_of_text(stanzas, mac, text)),
-                Step::UnknownVersion => return Err(DecryptError::UnknownFormat),
-                Step::Bad => return Err(DecryptError::InvalidHeader),
+        match read_header_text(alloc, reader, READS_LEGACY) {
+            Ok(read) => {
+                let HeaderText {
+                    stanzas,
+                    mac,
+                    text: _,
+                } = read;
+                Ok(HeaderV1 { stanzas, mac })
             }
+            Err(e) => Err(e),
         }
     }
 
-    /// The header of one or more stanzas, with its MAC under the file key. The covered bytes are those of its canonical
-    /// text.
+    /// The header of one or more stanzas, with its MAC under the file key.
     pub fn new(
         alloc: Global,
         stanzas: Vec<Stanza>,
@@ -173,32 +99,25 @@ impl HeaderV1 {
     ) -> Result<HeaderV1, AllocError>
         requires some { stanzas.items ≢ [] }
         ensures stanzas { IfOk result (λ h. h.stanzas ≡ stanzas.items) }
-        ensures covered { IfOk result (λ h. h.covered ≡ covered_text stanzas.items) }
         ensures mac { IfOk result (λ h. h.mac ≡ header_mac file_key.now (covered_text stanzas.items)) }
     {
         let covered = covered_bytes(alloc, stanzas.as_slice())?;
         let mac = hmac(&mac_key(file_key), covered.as_slice());
         known_array(&mac);
-        known_bytes(covered.as_slice());
-        Ok(HeaderV1 {
-            stanzas,
-            mac,
-            covered,
-        })
+        Ok(HeaderV1 { stanzas, mac })
     }
 
-    /// The canonical text.
+    /// The text, which is the same whether the header was read or made.
     pub fn text(&self, alloc: Global) -> Result<Vec<u8>, AllocError>
         ensures { IfOk result (λ text. text.items ≡ header_text self.now.stanzas self.now.mac) }
     {
         let mut text = covered_bytes(alloc, self.stanzas.as_slice())?;
-        push_mac(&self.mac, &mut text)?;
+        write_mac(&self.mac, &mut text)?;
         Ok(text)
     }
 
-    /// Writes the canonical text, also of a header that was read in the legacy form, whose MAC covers other bytes.
-    /// `OutOfMemory` comes before a byte is written, where memory for the text is refused. Any other refusal is that of the
-    /// writer, and leaves a beginning of the text written.
+    /// Writes the text. `OutOfMemory` comes before a byte is written, where memory for the text is refused. Any other refusal
+    /// is that of the writer, and leaves a beginning of the text written.
     pub fn write<W: Write>(&self, alloc: Global, writer: &mut W) -> Result<(), io::Error>
         ensures writes { WritesAll W.tells W.faults (OrMemory (Retried W.refuses)) W.appended writer.old writer.new
             (header_text self.now.stanzas self.now.mac) result }
@@ -208,14 +127,15 @@ impl HeaderV1 {
         write_all(writer, text.as_slice())
     }
 
-    /// Whether the MAC is that of the covered bytes under the file key: of the bytes as they were read, where the header was
-    /// read, and so also where that was the legacy form. It takes no memory.
+    /// Whether the MAC is right under the file key: whether it is that of the text up to and with `---`. It takes no memory.
     pub fn verify_mac(&self, file_key: &FileKey) -> bool
-        ensures { IsTrue result ↔ (self.now.mac ≡ header_mac file_key.now self.now.covered) }
+        ensures { IsTrue result ↔ (self.now.mac ≡ header_mac file_key.now (covered_text self.now.stanzas)) }
     {
         let mut writer = HmacWriter::new(&mac_key(file_key));
-        writer.update(self.covered.as_slice());
-        writer.verify(&self.mac)
+        match write_covered(self.stanzas.as_slice(), &mut writer) {
+            Ok(()) => writer.verify(&self.mac),
+            Err(_) => unreachable!(),
+        }
     }
 
     /// The stanzas, in their order: one or more.
@@ -231,11 +151,7 @@ impl HeaderV1 {
         ensures stanzas { result.items ≡ self.stanzas }
         ensures header { IsHeader self.stanzas self.mac }
     {
-        let HeaderV1 {
-            stanzas,
-            mac: _,
-            covered: _,
-        } = self;
+        let HeaderV1 { stanzas, mac: _ } = self;
         stanzas
     }
 
@@ -244,13 +160,6 @@ impl HeaderV1 {
         ensures { result.now ≡ self.now.mac }
     {
         &self.mac
-    }
-
-    /// Whether a stanza with the tag `scrypt` is the only one (age-encryption.org/v1, "The scrypt recipient type").
-    pub fn keeps_scrypt_rule(&self) -> bool
-        ensures { IsTrue result ↔ KeepsScryptRule self.now.stanzas }
-    {
-        self.stanzas.len() == 1 || self.stanzas.iter().all(|stanza| !has_tag_scrypt(stanza))
     }
 
     /// Whether the only stanza has the tag `scrypt`.

@@ -3,7 +3,7 @@
 
 ghost use Rattle.std.specs.Prelude.{◌≡◌, ◌++◌, ◌↔◌, Bool, IsTrue, length, List, [], ℕ, codes};
 ghost use Rattle.age_base64.specs.Lines.{line};
-ghost use Rattle.age_format.specs.Stanza.{StanzaValue, stanza_eq};
+ghost use Rattle.age_format.specs.Stanza.{StanzaValue, stanza_eq, canonical};
 ghost use Rattle.age_format.specs.Header.{IsHeader, IsHeaderText, covered, covered_text, header_text, version_line};
 ghost use Rattle.age_format.specs.Verdict.{IsVerdict, Verdict, Header};
 
@@ -11,6 +11,12 @@ ghost use Rattle.age_format.specs.Verdict.{IsVerdict, Verdict, Header};
 pub fn canonical_text_is_text()
     ensures { (legacy : Bool) (stanzas : List StanzaValue) (mac : List ℕ) → IsHeader stanzas mac
         → IsHeaderText legacy (header_text stanzas mac) stanzas mac }
+{}
+
+/// Without the legacy form the canonical text is the only text of a header.
+pub fn header_text_is_canonical()
+    ensures { (text : List ℕ) (stanzas : List StanzaValue) (mac : List ℕ) → IsHeaderText canonical text stanzas mac
+        → text ≡ header_text stanzas mac }
 {}
 
 /// A text of a header is read as that header, whatever follows: no shorter front of it decides.

@@ -1,11 +1,12 @@
 //! Stanzas.
 
-ghost use Rattle.std.specs.Prelude.{◌≡◌, ◌++◌, ◌↔◌, map, IsSome, IfSome, IfOk, OnOk, IsTrue, nat_eq, string_bytes};
+ghost use Rattle.std.specs.Prelude.{◌≡◌, ◌↔◌, map, IsSome, IfSome, IfOk, OnOk, OnErr, IsTrue, nat_eq, string_bytes};
 ghost use Rattle.std.specs.Cmp.Lexicographic.{pointwise};
 ghost use Rattle.std.specs.List.{AllByRecursion, list_all};
 ghost use Rattle.age_format.specs.Bytes.{IsString, is_graphic, is_string_of};
 
-use crate::write::{push_body, push_first_line};
+use crate::sink::Sink;
+use crate::write::{write_body, write_first_line};
 use std::alloc::AllocError;
 use std::marker::Model;
 
@@ -98,12 +99,13 @@ impl Stanza {
         self.body.extend_from_slice(bytes)
     }
 
-    /// Appends the canonical text. `AllocError` comes only for want of memory, and part of the text may be there then.
-    pub(crate) fn write(&self, out: &mut Vec<u8>) -> Result<(), AllocError>
-        ensures { OnOk result (out.new.items ≡ out.old.items ++ stanza_text self.now) }
+    /// Writes the canonical text. `AllocError` comes only for want of memory, and part of the text may have been taken then.
+    pub(crate) fn write<T: Sink>(&self, out: &mut T) -> Result<(), AllocError>
+        ensures took { OnOk result (T.took out.old (stanza_text self.now) out.new) }
+        ensures refused { OnErr result T.refuses }
     {
-        push_first_line(self.tag.as_str(), self.args.as_slice(), out)?;
-        push_body(self.body.as_slice(), out)
+        write_first_line(self.tag.as_str(), self.args.as_slice(), out)?;
+        write_body(self.body.as_slice(), out)
     }
 
     /// What a stanza holds is a stanza: a fact for proofs alone, which costs nothing.

@@ -1,12 +1,15 @@
 //! Writing of header texts.
 
-ghost use Rattle.std.specs.Prelude.{◌≡◌, ◌++◌, ◌∷◌, ◌≤◌, length, map, OnOk, string_bytes, codes};
-ghost use Rattle.std.specs.List.{join_with_byte};
+ghost use Rattle.std.specs.Prelude.{◌++◌, ◌∷◌, ◌≤◌, length, map, OnOk, OnErr, string_bytes, codes};
+ghost use Rattle.std.specs.List.{AllByRecursion, join_with_byte};
 ghost use Rattle.age_base64.specs.Lines.{line};
 ghost use Rattle.age_base64.specs.Base64.{columns};
-ghost use Rattle.age_format.specs.Stanza.{body_text};
 ghost use Rattle.age_base64.specs.Engine.{IsHeaderEngine};
+ghost use Rattle.age_format.specs.Stanza.{IsStanza, body_text};
+ghost use Rattle.age_format.specs.Header.{covered_text};
 
+use crate::sink::Sink;
+use crate::stanza::Stanza;
 use age_base64::header_engine;
 use base64::engine::general_purpose::GeneralPurpose;
 use std::alloc::AllocError;
@@ -14,55 +17,79 @@ use std::alloc::AllocError;
 /// How many bytes a whole line of base64 stands for.
 const LINE_BYTES: usize = 48;
 
-/// Appends the base64 of a piece as a line.
-pub(crate) fn push_columns(
+/// Writes the base64 of a piece as a line.
+pub(crate) fn write_columns<T: Sink>(
     engine: &GeneralPurpose,
     piece: &[u8],
-    out: &mut Vec<u8>,
+    out: &mut T,
 ) -> Result<(), AllocError>
     requires engine { IsHeaderEngine engine.now }
     requires short { length piece.now ≤ 48 }
-    ensures { OnOk result (out.new.items ≡ out.old.items ++ line (columns piece.now)) }
+    ensures took { OnOk result (T.took out.old (line (columns piece.now)) out.new) }
+    ensures refused { OnErr result T.refuses }
 {
     let mut buffer = [0u8; 64];
     let Ok(size) = engine.encode_slice(piece, &mut buffer) else {
         unreachable!();
     };
     let written = &buffer[..size];
-    out.extend_from_slice(written)?;
-    out.push(b'\n')?;
-    Ok(())
+    out.take(written)?;
+    out.take(b"\n")
 }
 
-/// Appends the text of a body.
-pub(crate) fn push_body(body: &[u8], out: &mut Vec<u8>) -> Result<(), AllocError>
-    ensures { OnOk result (out.new.items ≡ out.old.items ++ body_text body.now) }
+/// Writes the text of a body.
+pub(crate) fn write_body<T: Sink>(body: &[u8], out: &mut T) -> Result<(), AllocError>
+    ensures took { OnOk result (T.took out.old (body_text body.now) out.new) }
+    ensures refused { OnErr result T.refuses }
 {
     let engine = header_engine();
     let mut rest = body;
     while rest.len() >= LINE_BYTES {
         let (piece, more) = rest.split_at(LINE_BYTES);
-        push_columns(&engine, piece, out)?;
+        write_columns(&engine, piece, out)?;
         rest = more;
     }
-    push_columns(&engine, rest, out)
+    write_columns(&engine, rest, out)
 }
 
-/// Appends the first line of a stanza.
-pub(crate) fn push_first_line(
+/// Writes the first line of a stanza.
+pub(crate) fn write_first_line<T: Sink>(
     tag: &str,
     args: &[String],
-    out: &mut Vec<u8>,
+    out: &mut T,
 ) -> Result<(), AllocError>
-    ensures { OnOk result (out.new.items ≡ out.old.items
-        ++ line (codes "-> " ++ join_with_byte 32 (tag.now ∷ map (λ a. string_bytes a) args.now))) }
+    ensures took { OnOk result (T.took out.old
+        (line (codes "-> " ++ join_with_byte 32 (tag.now ∷ map (λ a. string_bytes a) args.now))) out.new) }
+    ensures refused { OnErr result T.refuses }
 {
-    out.extend_from_slice(b"-> ")?;
-    out.extend_from_slice(tag.as_bytes())?;
+    out.take(b"-> ")?;
+    out.take(tag.as_bytes())?;
     for arg in args {
-        out.push(b' ')?;
-        out.extend_from_slice(arg.as_bytes())?;
+        out.take(b" ")?;
+        out.take(arg.as_bytes())?;
     }
-    out.push(b'\n')?;
-    Ok(())
+    out.take(b"\n")
+}
+
+/// Writes the front that the MAC covers, of the canonical text.
+pub(crate) fn write_covered<T: Sink>(stanzas: &[Stanza], out: &mut T) -> Result<(), AllocError>
+    ensures took { OnOk result (T.took out.old (covered_text stanzas.now) out.new) }
+    ensures each { OnOk result (AllByRecursion IsStanza stanzas.now) }
+    ensures refused { OnErr result T.refuses }
+{
+    out.take(b"age-encryption.org/v1\n")?;
+    for stanza in stanzas {
+        stanza.known();
+        stanza.write(out)?;
+    }
+    out.take(b"---")
+}
+
+/// Writes what follows that front: a space, the columns of the MAC, and LF.
+pub(crate) fn write_mac<T: Sink>(mac: &[u8; 32], out: &mut T) -> Result<(), AllocError>
+    ensures took { OnOk result (T.took out.old (32 ∷ line (columns mac.now)) out.new) }
+    ensures refused { OnErr result T.refuses }
+{
+    out.take(b" ")?;
+    write_columns(&header_engine(), mac.as_slice(), out)
 }

@@ -4,17 +4,19 @@ use Rattle.age_error.specs.DecryptErrors as refusals
 use Rattle.age_error.specs.DecryptErrors.{DecryptRefusal, decrypt_refusal, decrypt_of_io}
 use Rattle.age_error.specs.declared.io.Error.{Error}
 use Rattle.age_error.specs.declared.io.Error.TheVariants as io
+use Rattle.age_error.specs.Bytes.{AreBytesOf}
 use Rattle.age_io.specs.declared.traits.Read.{Ghosts}
 use Rattle.age_io.specs.Stretch.{Stretch}
 use Rattle.age_io.specs.Reading.{IsQuiet}
-use Rattle.age_format.specs.Stanza.{StanzaValue}
-use Rattle.age_format.specs.Header.{IsHeaderText, KeepsScryptRule, covered}
-use Rattle.age_format.specs.HeaderV1.{header_mac, reads_legacy}
+use Rattle.age_format.specs.Stanza.{StanzaValue, canonical}
+use Rattle.age_format.specs.Header.{IsHeaderText, KeepsScryptRule, covered_text, header_text}
+use Rattle.age_format.proofs.Headers.{canonical_header}
+use Rattle.age_format.specs.HeaderV1.{header_mac}
 use Rattle.age_format.specs.Verdict.{Verdict, Header, UnknownVersion, Bad, IsVerdict}
 use Rattle.age_format.specs.ReadingHeader.{RefusesHeader}
 use Rattle.age_stream.specs.Payload.{Seal, payload}
-use Rattle.age_protocol.specs.File.{BeginsAsFile, payload_key}
-use Rattle.age_protocol.specs.Decrypting.{LacksNonce, BreaksRule, WhyNoFront}
+use Rattle.age_protocol.specs.File.{BeginsAsFile, IsFileOf, payload_key, file_front, file_text}
+use Rattle.age_protocol.specs.Decrypting.{TookHeaderAndNonce, RefusesAfter, WhyNoFront}
 use Rattle.age_protocol.specs.Laws.{ReadsBack, RefusesNoFile, FileOpens}
 
 -- two lists of one length with something after them
@@ -48,6 +50,33 @@ memory_or_not (io.NotIdentity line) = inr (λ is. cc)
 memory_or_not io.Failed = inr (λ is. cc)
 memory_or_not io.OutOfMemory = inl refl
 
+-- The bytes begin with a header's text, whose stanzas keep the rule on passphrases, and a nonce.
+pub record BeginsAs (legacy : Bool) (text : List ℕ) (stanzas : List StanzaValue) (mac nonce more bytes : List ℕ) : Type 0 where
+  pub header : IsHeaderText legacy text stanzas mac
+  pub rule : KeepsScryptRule stanzas
+  pub sixteen : AreBytesOf 16 nonce
+  pub whole : bytes ≡ text ++ (nonce ++ more)
+
+-- as each file does
+pub begins_as : (stanzas : List StanzaValue) (mac nonce more bytes : List ℕ) → BeginsAsFile stanzas mac nonce more bytes
+    → BeginsAs canonical (header_text stanzas mac) stanzas mac nonce more bytes
+begins_as stanzas mac nonce more bytes begins = record {
+  header = canonical_header canonical stanzas mac begins.header;
+  rule = begins.rule;
+  sixteen = begins.sixteen;
+  whole = begins.whole;
+}
+
+pub begins : (seal_of : Seal) (file_key : List ℕ) (stanzas : List StanzaValue) (plain text : List ℕ) (f : IsFileOf seal_of file_key stanzas plain text)
+    → BeginsAsFile stanzas (header_mac file_key (covered_text stanzas)) f.nonce (payload seal_of (payload_key file_key f.nonce) plain) text
+unfolding file_text file_front
+begins seal_of file_key stanzas plain text f = record {
+  header = f.header;
+  rule = f.rule;
+  sixteen = f.sixteen;
+  whole = f.whole ∙ append_assoc (header_text stanzas (header_mac file_key (covered_text stanzas))) f.nonce (payload seal_of (payload_key file_key f.nonce) plain);
+}
+
 -- a header's text is read as that header, whatever follows
 abbrev pub ReadsAlone : Type 0
 ReadsAlone = (legacy : Bool) (text more : List ℕ) (stanzas : List StanzaValue) (mac : List ℕ)
@@ -58,95 +87,99 @@ abbrev pub HasOneVerdict : Type 0
 HasOneVerdict = (legacy : Bool) (input front other : List ℕ) (v w : Verdict) → IsVerdict legacy input front v
     → IsVerdict legacy input other w → (front ≡ other) × (v ≡ w)
 
-module _ (alone : ReadsAlone) (one : HasOneVerdict) where
-  -- the verdict on bytes that begin as a file
-  verdict_of : (header : List ℕ) (stanzas : List StanzaValue) (mac nonce more bytes : List ℕ) → BeginsAsFile header stanzas mac nonce more bytes
-      → IsVerdict reads_legacy bytes header (Header stanzas mac)
-  verdict_of header stanzas mac nonce more bytes begins =
-      subst (λ input. IsVerdict reads_legacy input header (Header stanzas mac)) (sym begins.whole) (alone reads_legacy header (nonce ++ more) stanzas mac begins.text)
+-- What was read from bytes that begin so: the same text, stanzas, MAC and nonce, and no byte of what follows.
+pub record IsReadBack (text other : List ℕ) (stanzas others : List StanzaValue) (mac own nonce read more : List ℕ) (start rest : Stretch) : Type 0 where
+  pub text_is : other ≡ text
+  pub stanzas_are : others ≡ stanzas
+  pub mac_is : own ≡ mac
+  pub nonce_is : read ≡ nonce
+  pub left : rest.bytes ≡ more
+  pub end : rest.ends_well ≡ start.ends_well
 
-  pub reads_back : ReadsBack
-  reads_back start rest start_place place h read header stanzas mac nonce more front begins =
-      let took = front.took in
-      let same = one reads_legacy start.bytes took.header header (Header h.stanzas h.mac) (Header stanzas mac) took.verdict
-      (verdict_of header stanzas mac nonce more start.bytes begins) in
+module _ (alone : ReadsAlone) (one : HasOneVerdict) (legacy : Bool) (text : List ℕ) (stanzas : List StanzaValue) (mac nonce more : List ℕ) where
+  -- the verdict on them
+  pub verdict_of : (bytes : List ℕ) → BeginsAs legacy text stanzas mac nonce more bytes → IsVerdict legacy bytes text (Header stanzas mac)
+  verdict_of bytes begins = subst (λ input. IsVerdict legacy input text (Header stanzas mac)) (sym begins.whole) (alone legacy text (nonce ++ more) stanzas mac begins.header)
+
+  pub read_back : (start rest : Stretch) (start_place place : ℕ) (other : List ℕ) (others : List StanzaValue) (own read : List ℕ)
+      → TookHeaderAndNonce legacy start rest start_place place other others own read → BeginsAs legacy text stanzas mac nonce more start.bytes
+      → IsReadBack text other stanzas others mac own nonce read more start rest
+  read_back start rest start_place place other others own read took begins =
+      let same = one legacy start.bytes other text (Header others own) (Header stanzas mac) took.verdict (verdict_of start.bytes begins) in
       let after : read ++ rest.bytes ≡ nonce ++ more =
-      rest_same took.header header (read ++ rest.bytes) (nonce ++ more) (ap length same.0)
-      (sym (append_assoc took.header read rest.bytes) ∙ sym took.delivered.bytes ∙ begins.whole) in
-      let size : length read ≡ length nonce = took.sixteen.len ∙ sym begins.sixteen.len in (
-        same_stanzas h.stanzas stanzas h.mac mac same.1,
-        same_mac h.stanzas stanzas h.mac mac same.1,
-        took.told ∙ ap covered same.0,
-        front_same read nonce rest.bytes more size after,
-        rest_same read nonce rest.bytes more size after,
-        took.delivered.end,
-      )
+      rest_same other text (read ++ rest.bytes) (nonce ++ more) (ap length same.0)
+      (sym (append_assoc other read rest.bytes) ∙ sym took.delivered.bytes ∙ begins.whole) in
+      let size : length read ≡ length nonce = took.sixteen.len ∙ sym begins.sixteen.len in record {
+        text_is = same.0;
+        stanzas_are = same_stanzas others stanzas own mac same.1;
+        mac_is = same_mac others stanzas own mac same.1;
+        nonce_is = front_same read nonce rest.bytes more size after;
+        left = rest_same read nonce rest.bytes more size after;
+        end = took.delivered.end;
+      }
 
-  module _ (header : List ℕ) (stanzas : List StanzaValue) (mac nonce more : List ℕ) where
-    header_accepted : (f g : ℕ) (old new : Stretch) (p q : ℕ) (e : DecryptRefusal) → BeginsAsFile header stanzas mac nonce more old.bytes
-        → IsQuiet f g → RefusesHeader reads_legacy f g old new p q e → e ≡ refusals.OutOfMemory
-    header_accepted f g old new p q refusals.OutOfMemory begins quiet why = refl
-    header_accepted f g old new p q refusals.InvalidHeader begins quiet why =
-        let same = (one reads_legacy old.bytes why.0 header Bad (Header stanzas mac) why.1.verdict (verdict_of header stanzas mac nonce more old.bytes begins)).1 in cc
-    header_accepted f g old new p q refusals.UnknownFormat begins quiet why =
-        let same = (one reads_legacy old.bytes why.0 header UnknownVersion (Header stanzas mac) why.1.verdict (verdict_of header stanzas mac nonce more old.bytes begins)).1 in cc
-    header_accepted f g old new p q (refusals.Io e) begins quiet why =
-        absurd (why.undecided header (nonce ++ more) (Header stanzas mac) (why.all quiet ∙ begins.whole) begins.text)
-    header_accepted f g old new p q refusals.DecryptionFailed begins quiet why = absurd why
-    header_accepted f g old new p q (refusals.ExcessiveWork a b) begins quiet why = absurd why
-    header_accepted f g old new p q refusals.InvalidMac begins quiet why = absurd why
-    header_accepted f g old new p q refusals.KeyDecryptionFailed begins quiet why = absurd why
-    header_accepted f g old new p q refusals.NoMatchingKeys begins quiet why = absurd why
-    header_accepted f g old new p q (refusals.PluginResolve r) begins quiet why = absurd why
+  header_accepted : (f g : ℕ) (old new : Stretch) (p q : ℕ) (e : DecryptRefusal) → BeginsAs legacy text stanzas mac nonce more old.bytes
+      → IsQuiet f g → RefusesHeader legacy f g old new p q e → e ≡ refusals.OutOfMemory
+  header_accepted f g old new p q refusals.OutOfMemory begins quiet why = refl
+  header_accepted f g old new p q refusals.InvalidHeader begins quiet why =
+      let same = (one legacy old.bytes why.0 text Bad (Header stanzas mac) why.1.verdict (verdict_of old.bytes begins)).1 in cc
+  header_accepted f g old new p q refusals.UnknownFormat begins quiet why =
+      let same = (one legacy old.bytes why.0 text UnknownVersion (Header stanzas mac) why.1.verdict (verdict_of old.bytes begins)).1 in cc
+  header_accepted f g old new p q (refusals.Io e) begins quiet why =
+      absurd (why.undecided text (nonce ++ more) (Header stanzas mac) (why.all quiet ∙ begins.whole) begins.header)
+  header_accepted f g old new p q refusals.DecryptionFailed begins quiet why = absurd why
+  header_accepted f g old new p q (refusals.ExcessiveWork a b) begins quiet why = absurd why
+  header_accepted f g old new p q refusals.InvalidMac begins quiet why = absurd why
+  header_accepted f g old new p q refusals.KeyDecryptionFailed begins quiet why = absurd why
+  header_accepted f g old new p q refusals.NoMatchingKeys begins quiet why = absurd why
+  header_accepted f g old new p q (refusals.PluginResolve r) begins quiet why = absurd why
 
-    nonce_follows : (f g : ℕ) (old new : Stretch) (p q : ℕ) (e : DecryptRefusal) → BeginsAsFile header stanzas mac nonce more old.bytes
-        → IsQuiet f g → LacksNonce f g old new p q e → e ≡ refusals.OutOfMemory
-    nonce_follows f g old new p q e begins quiet lacks = elim (memory_or_not lacks.error) [
-      | inl memory ↦ lacks.is ∙ ap (λ x. decrypt_refusal (decrypt_of_io x)) memory
-      | inr other ↦
-          let reads = lacks.header in
-          let same = one reads_legacy old.bytes reads.front header (Header lacks.h.stanzas lacks.h.mac) (Header stanzas mac) reads.took.verdict
-          (verdict_of header stanzas mac nonce more old.bytes begins) in
-          let left : lacks.after.bytes ≡ nonce ++ more =
-          rest_same reads.front header lacks.after.bytes (nonce ++ more) (ap length same.0) (sym reads.took.delivered.bytes ∙ begins.whole) in
-          let few : length lacks.after.bytes < 16 = (lacks.short other quiet).short in
-          let size : length nonce ≡ 16 = begins.sixteen.len in
-          absurd (omega (arith, few, size, ap length left, length-append nonce more))
-    ]
+  -- what follows the header is the nonce, and the stanzas keep the rule
+  after_accepted : (f g : ℕ) (old new : Stretch) (p q : ℕ) (e : DecryptRefusal) → BeginsAs legacy text stanzas mac nonce more old.bytes
+      → IsQuiet f g → RefusesAfter legacy f g old new p q e → e ≡ refusals.OutOfMemory
+  after_accepted f g old new p q e begins quiet why =
+      let same = one legacy old.bytes why.text text (Header why.stanzas why.mac) (Header stanzas mac) why.header.verdict (verdict_of old.bytes begins) in
+      let left : why.after.bytes ≡ nonce ++ more =
+      rest_same why.text text why.after.bytes (nonce ++ more) (ap length same.0) (sym why.header.delivered.bytes ∙ begins.whole) in
+      elim why.why [
+        | inl lacks ↦ elim (memory_or_not lacks.error) [
+          | inl memory ↦ lacks.is ∙ ap (λ x. decrypt_refusal (decrypt_of_io x)) memory
+          | inr other ↦
+              let few : length why.after.bytes < 16 = (lacks.short other quiet).short in
+              let size : length nonce ≡ 16 = begins.sixteen.len in
+              absurd (omega (arith, few, size, ap length left, length-append nonce more))
+        ]
+        | inr breaks ↦ absurd (breaks.broken (subst (λ xs. KeepsScryptRule xs) (sym (same_stanzas why.stanzas stanzas why.mac mac same.1)) begins.rule))
+      ]
 
-    rule_kept : (old new : Stretch) (p q : ℕ) (e : DecryptRefusal) → BeginsAsFile header stanzas mac nonce more old.bytes
-        → BreaksRule old new p q e → e ≡ refusals.OutOfMemory
-    rule_kept old new p q e begins breaks =
-        let same = one reads_legacy old.bytes breaks.took.header header (Header breaks.h.stanzas breaks.h.mac) (Header stanzas mac) breaks.took.verdict
-        (verdict_of header stanzas mac nonce more old.bytes begins) in
-        absurd (breaks.broken (subst (λ xs. KeepsScryptRule xs) (sym (same_stanzas breaks.h.stanzas stanzas breaks.h.mac mac same.1)) begins.rule))
+  -- they are refused for want of memory alone
+  pub front_accepted : (f g : ℕ) (old new : Stretch) (p q : ℕ) (e : DecryptRefusal) → BeginsAs legacy text stanzas mac nonce more old.bytes
+      → IsQuiet f g → WhyNoFront legacy f g old new p q e → e ≡ refusals.OutOfMemory
+  front_accepted f g old new p q e begins quiet why = elim why [
+    | inl why ↦ header_accepted f g old new p q e begins quiet why
+    | inr why ↦ after_accepted f g old new p q e begins quiet why
+  ]
 
-    -- bytes that begin as a file are refused for want of memory alone
-    pub front_accepted : (f g : ℕ) (old new : Stretch) (p q : ℕ) (e : DecryptRefusal) → BeginsAsFile header stanzas mac nonce more old.bytes
-        → IsQuiet f g → WhyNoFront f g old new p q e → e ≡ refusals.OutOfMemory
-    front_accepted f g old new p q e begins quiet why = elim why [
-      | inl why ↦ header_accepted f g old new p q e begins quiet why
-      | inr (inl lacks) ↦ nonce_follows f g old new p q e begins quiet lacks
-      | inr (inr breaks) ↦ rule_kept old new p q e begins breaks
-    ]
+module _ (alone : ReadsAlone) (one : HasOneVerdict) where
+  pub reads_back : ReadsBack
+  reads_back start rest start_place place h read stanzas mac nonce more front begins =
+      let back = read_back alone one canonical (header_text stanzas mac) stanzas mac nonce more start rest start_place place (header_text h.stanzas h.mac) h.stanzas h.mac read
+      front.took (begins_as stanzas mac nonce more start.bytes begins) in
+      (back.stanzas_are, back.mac_is, back.nonce_is, back.left, back.end)
 
   pub accepted : {R : Type 0} (read : Ghosts R) → RefusesNoFile read
-  accepted read old new e header stanzas mac nonce more refuses told quiet begins =
-      front_accepted header stanzas mac nonce more (read.faults old) (read.faults new) (read.rest old) (read.rest new) (read.place old) (read.place new)
-      e begins quiet (refuses.why told)
+  accepted read old new e stanzas mac nonce more refuses told quiet begins =
+      front_accepted alone one canonical (header_text stanzas mac) stanzas mac nonce more (read.faults old) (read.faults new) (read.rest old) (read.rest new)
+      (read.place old) (read.place new) e (begins_as stanzas mac nonce more (read.rest old).bytes begins) quiet (refuses.why told)
 
 pub opens : (back : ReadsBack) (seal_of : Seal) → FileOpens seal_of
 opens back seal_of start rest start_place place h nonce file_key stanzas plain front file =
+    let mac = header_mac file_key (covered_text stanzas) in
     let sealed = payload seal_of (payload_key file_key file.nonce) plain in
-    let (stanzas_are, mac_is, covered_is, nonce_is, left, end) =
-    back start rest start_place place h nonce file.header stanzas file.mac file.nonce sealed front (record {
-      text = file.text;
-      rule = file.rule;
-      sixteen = file.sixteen;
-      whole = file.whole;
-    }) in (
+    let (stanzas_are, mac_is, nonce_is, left, end) =
+    back start rest start_place place h nonce stanzas mac file.nonce sealed front (begins seal_of file_key stanzas plain start.bytes file) in (
       stanzas_are,
-      mac_is ∙ file.right ∙ ap (λ f. header_mac file_key f) (sym covered_is),
+      mac_is ∙ ap (λ s. header_mac file_key (covered_text s)) (sym stanzas_are),
       nonce_is,
       left ∙ ap (λ n. payload seal_of (payload_key file_key n) plain) (sym nonce_is),
       end,

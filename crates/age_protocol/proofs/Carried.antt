@@ -4,9 +4,10 @@ use Rattle.age_error.specs.DecryptErrors.{DecryptRefusal, OutOfMemory, decrypt_r
 use Rattle.age_io.specs.Stretch.{whole, stretch-ext}
 use Rattle.age_armor.specs.Armor.{Carries}
 use Rattle.age_armor.specs.Delivered.{delivered, stretch_of, Clean}
-use Rattle.age_format.specs.Stanza.{StanzaValue}
-use Rattle.age_format.specs.HeaderV1.{header_mac, reads_legacy}
+use Rattle.age_format.specs.Stanza.{StanzaValue, canonical}
+use Rattle.age_format.specs.HeaderV1.{header_mac}
 use Rattle.age_format.specs.Unwrapping.{UnwrapAnswer, Unwraps}
+use Rattle.age_format.specs.Header.{covered_text}
 use Rattle.age_stream.specs.Payload.{Seal, payload, LastIsNoMiddle}
 use Rattle.age_protocol.specs.Answering.{decided}
 use Rattle.age_protocol.specs.File.{BeginsAsFile, IsFileOf, payload_key}
@@ -14,7 +15,7 @@ use Rattle.age_protocol.specs.Parts.{FirstAnswer, IsFileFor}
 use Rattle.age_protocol.specs.WholeFiles.{read_of, RefusesRest, RefusesAsked, Refuses}
 use Rattle.age_protocol.specs.Laws.{OneHeader, OnePlain, GivesBack, RefusesNone}
 use Rattle.age_protocol.proofs.Alone.{alone_answers}
-use Rattle.age_protocol.proofs.Accepted.{ReadsAlone, HasOneVerdict, front_accepted, reads_back, memory_or_not}
+use Rattle.age_protocol.proofs.Accepted.{ReadsAlone, HasOneVerdict, front_accepted, reads_back, memory_or_not, begins as file_begins, begins_as}
 
 -- a text carries one list
 abbrev pub CarriesOne : Type 0
@@ -34,39 +35,35 @@ module _ {I : Type 0} (seal_of : Seal) (unwraps : I → List StanzaValue → Unw
   pub gives_back : CarriesOne → OneHeader seal_of → OnePlain seal_of → GivesBack seal_of unwraps
   gives_back one_list one_header one_plain before after text file plain given carries for is =
       let same : is.carried ≡ file = one_list text is.carried file is.carries carries in
-      let got : IsFileOf reads_legacy seal_of is.file_key is.stanzas given file = subst (λ x. IsFileOf reads_legacy seal_of is.file_key is.stanzas given x) same is.is_file in
+      let got : IsFileOf seal_of is.file_key is.stanzas given file = subst (λ x. IsFileOf seal_of is.file_key is.stanzas given x) same is.is_file in
       let stanzas : is.stanzas ≡ for.stanzas = one_header is.file_key for.file_key is.stanzas for.stanzas given plain file got for.is_file in
       elim (for.right (Some (Ok is.file_key)) (alone_answers unwraps before for.stanzas (Some (Ok is.file_key)) after
       (subst (λ s. Unwraps unwraps before s (Some (Ok is.file_key)) after) stanzas is.asked))) [
         | inl answer ↦
             let key : is.file_key ≡ for.file_key = same_key is.file_key for.file_key answer in
             one_plain for.file_key is.stanzas for.stanzas given plain file is.bytes for.bytes
-            (subst (λ k. IsFileOf reads_legacy seal_of k is.stanzas given file) key got) for.is_file
+            (subst (λ k. IsFileOf seal_of k is.stanzas given file) key got) for.is_file
         | inr none ↦ no_key is.file_key OutOfMemory none
       ]
 
   module _ (alone : ReadsAlone) (one : HasOneVerdict) (before after : I) (text file plain : List ℕ) (refusal : DecryptRefusal)
       (for : IsFileFor seal_of (FirstAnswer unwraps (before ∷ [])) plain file) (start_is : read_of text ≡ whole file) where
-    abbrev f : IsFileOf reads_legacy seal_of for.file_key for.stanzas plain file
+    abbrev f : IsFileOf seal_of for.file_key for.stanzas plain file
     f = for.is_file
 
     abbrev sealed : List ℕ
     sealed = payload seal_of (payload_key for.file_key f.nonce) plain
 
-    begins : BeginsAsFile f.header for.stanzas f.mac f.nonce sealed (read_of text).bytes
-    begins = record {
-      text = f.text;
-      rule = f.rule;
-      sixteen = f.sixteen;
-      whole = ap (λ s. s.bytes) start_is ∙ f.whole;
-    }
+    begins : BeginsAsFile for.stanzas (header_mac for.file_key (covered_text for.stanzas)) f.nonce sealed (read_of text).bytes
+    begins = subst (λ bytes. BeginsAsFile for.stanzas (header_mac for.file_key (covered_text for.stanzas)) f.nonce sealed bytes)
+        (sym (ap (λ s. s.bytes) start_is)) (file_begins seal_of for.file_key for.stanzas plain file f)
 
     asked_none : RefusesAsked seal_of unwraps before (read_of text) after refusal → refusal ≡ OutOfMemory
     asked_none asked =
         let h = asked.h in
-        let (stanzas_are, mac_is, covered_is, nonce_is, left, end) = reads_back alone one (read_of text) asked.left 0 asked.place h asked.nonce
-        f.header for.stanzas f.mac f.nonce sealed asked.front begins in
-        let right : h.mac ≡ header_mac for.file_key h.covered = mac_is ∙ f.right ∙ ap (λ front. header_mac for.file_key front) (sym covered_is) in
+        let (stanzas_are, mac_is, nonce_is, left, end) = reads_back alone one (read_of text) asked.left 0 asked.place h asked.nonce
+        for.stanzas _ f.nonce sealed asked.front begins in
+        let right : h.mac ≡ header_mac for.file_key (covered_text h.stanzas) = mac_is ∙ ap (λ s. header_mac for.file_key (covered_text s)) (sym stanzas_are) in
         let key : payload_key for.file_key f.nonce ≡ payload_key for.file_key asked.nonce = ap (λ n. payload_key for.file_key n) (sym nonce_is) in
         let all : asked.left ≡ whole (payload seal_of (payload_key for.file_key asked.nonce) plain) =
         stretch-ext asked.left (whole (payload seal_of (payload_key for.file_key asked.nonce) plain))
@@ -87,7 +84,7 @@ module _ {I : Type 0} (seal_of : Seal) (unwraps : I → List StanzaValue → Unw
     none why = elim why [
       | inl (same, inl memory) ↦ memory
       | inl (same, inr lacks) ↦
-          front_accepted alone one f.header for.stanzas f.mac f.nonce sealed 0 0 (read_of text) lacks.left 0 lacks.place refusal begins
+          front_accepted alone one canonical _ for.stanzas _ f.nonce sealed 0 0 (read_of text) lacks.left 0 lacks.place refusal (begins_as for.stanzas _ f.nonce sealed (read_of text).bytes begins)
           (record { same = refl; below = omega arith }) lacks.why
       | inr asked ↦ asked_none asked
     ]

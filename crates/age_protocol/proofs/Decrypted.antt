@@ -6,13 +6,13 @@ use Rattle.age_error.specs.DecryptErrors.{DecryptRefusal, decrypt_refusal}
 use Rattle.age_io.specs.declared.traits.Read.{Ghosts}
 use Rattle.age_io.specs.Stretch.{Stretch}
 use Rattle.age_armor.specs.Delivered.{delivered, stretch_of}
-use Rattle.age_format.specs.ReadingHeader.{RefusesHeader}
-use Rattle.age_protocol.specs.Decrypting.{ReadsFront, RefusesFront, LacksNonce, BreaksRule}
+use Rattle.age_protocol.specs.Decrypting.{ReadsFront, RefusesFront, WhyNoFront}
 use Rattle.age_protocol.specs.FileErrors.{DecryptsUnless}
 use Rattle.age_protocol.specs.Texts.{RefusesKey, RefusesText, BeginsText}
 use Rattle.age_protocol.specs.declared.error.FileError.{FileError}
 use Rattle.age_protocol.specs.declared.error.FileError.TheVariants.{Io, Encrypt, Decrypt}
-use Rattle.age_format.specs.HeaderV1.{HeaderValue, reads_legacy}
+use Rattle.age_format.specs.HeaderV1.{HeaderValue}
+use Rattle.age_format.specs.Stanza.{canonical}
 use Rattle.age_suite.specs.declared.suite.Suite.{Ghosts as SuiteMembers}
 use Rattle.age_io.specs.declared.traits.Read.{Ghosts as ReadMembers}
 use Rattle.age_stream.specs.declared.reader.StreamReader.{StreamReader}
@@ -33,17 +33,11 @@ module _ {S R : Type 0} {suite : SuiteMembers S} {read : ReadMembers R} where
 pub both_told : (a b a' b' : Bool) → a' ≡ a → b' ≡ b → IsTrue (a && b) → IsTrue (a' && b')
 both_told a b a' b' p q t = rw (p, q) t
 
--- the causes by which what a text delivers doesn't begin as a file
-abbrev Causes : ℕ → ℕ → Stretch → Stretch → ℕ → ℕ → DecryptRefusal → Type 0
-Causes old_faults new_faults old new old_place new_place e = RefusesHeader reads_legacy old_faults new_faults old new old_place new_place e
-    ⊎ LacksNonce old_faults new_faults old new old_place new_place e
-    ⊎ BreaksRule old new old_place new_place e
-
--- of a reader of a text they are those of the reader that gives the text
+-- why what a text delivers doesn't begin as a file, said of the reader that gives the text
 pub refuses_text : {A R : Type 0} (read : Ghosts A) (r_tells : R → Bool) (r_rest : R → Stretch) (r_faults : R → ℕ) (text last : A) (reader r_last : R) (e : DecryptRefusal)
     → read.tells text ≡ r_tells reader → read.faults text ≡ r_faults reader → read.faults last ≡ r_faults r_last → read.place text ≡ 0
     → read.rest text ≡ stretch_of (delivered (r_rest reader).bytes (r_rest reader).ends_well)
-    → RefusesFront read text last e → RefusesText r_tells r_rest r_faults reader r_last e
+    → RefusesFront canonical read text last e → RefusesText r_tells r_rest r_faults reader r_last e
 refuses_text read r_tells r_rest r_faults text last reader r_last e told old_faults new_faults start is refuses = record {
   no_fewer_faults = subst (λ (n : ℕ). n ≤ r_faults r_last) old_faults (subst (λ (n : ℕ). read.faults text ≤ n) new_faults refuses.same.faults);
   device = λ d. subst (λ (n : ℕ). n < r_faults r_last) old_faults (subst (λ (n : ℕ). read.faults text < n) new_faults (refuses.device d));
@@ -51,26 +45,26 @@ refuses_text read r_tells r_rest r_faults text last reader r_last e told old_fau
   place = read.place last;
   why = λ tells_text.
       let delivers = stretch_of (delivered (r_rest reader).bytes (r_rest reader).ends_well) in
-      let by_text : Causes (read.faults text) (read.faults last) delivers (read.rest last) (read.place text) (read.place last) e =
-      subst (λ (s : Stretch). Causes (read.faults text) (read.faults last) s (read.rest last) (read.place text) (read.place last) e) is (refuses.why (told ∙ tells_text)) in
-      let by_place : Causes (read.faults text) (read.faults last) delivers (read.rest last) 0 (read.place last) e =
-      subst (λ (p : ℕ). Causes (read.faults text) (read.faults last) delivers (read.rest last) p (read.place last) e) start by_text in
-      let by_faults : Causes (r_faults reader) (read.faults last) delivers (read.rest last) 0 (read.place last) e =
-      subst (λ (n : ℕ). Causes n (read.faults last) delivers (read.rest last) 0 (read.place last) e) old_faults by_place in
-      subst (λ (n : ℕ). Causes (r_faults reader) n delivers (read.rest last) 0 (read.place last) e) new_faults by_faults;
+      let by_text : WhyNoFront canonical (read.faults text) (read.faults last) delivers (read.rest last) (read.place text) (read.place last) e =
+      subst (λ (s : Stretch). WhyNoFront canonical (read.faults text) (read.faults last) s (read.rest last) (read.place text) (read.place last) e) is (refuses.why (told ∙ tells_text)) in
+      let by_place : WhyNoFront canonical (read.faults text) (read.faults last) delivers (read.rest last) 0 (read.place last) e =
+      subst (λ (p : ℕ). WhyNoFront canonical (read.faults text) (read.faults last) delivers (read.rest last) p (read.place last) e) start by_text in
+      let by_faults : WhyNoFront canonical (r_faults reader) (read.faults last) delivers (read.rest last) 0 (read.place last) e =
+      subst (λ (n : ℕ). WhyNoFront canonical n (read.faults last) delivers (read.rest last) 0 (read.place last) e) old_faults by_place in
+      subst (λ (n : ℕ). WhyNoFront canonical (r_faults reader) n delivers (read.rest last) 0 (read.place last) e) new_faults by_faults;
 }
 
 -- and so is the header that was read
 pub begins_text : {R : Type 0} (r_tells : R → Bool) (r_rest : R → Stretch) (reader : R) (h : HeaderValue) (nonce : List ℕ)
     (tells : Bool) (start left : Stretch) (start_place place : ℕ) → tells ≡ r_tells reader → start_place ≡ 0
     → start ≡ stretch_of (delivered (r_rest reader).bytes (r_rest reader).ends_well)
-    → (IsTrue tells → ReadsFront reads_legacy start left start_place place h nonce) → BeginsText r_tells r_rest reader h nonce left
+    → (IsTrue tells → ReadsFront start left start_place place h nonce) → BeginsText r_tells r_rest reader h nonce left
 begins_text r_tells r_rest reader h nonce tells start left start_place place told at_front is front = record {
   place = place;
   front = λ tells_text.
-      let by_place : ReadsFront reads_legacy start left 0 place h nonce =
-      subst (λ (p : ℕ). ReadsFront reads_legacy start left p place h nonce) at_front (front (told ∙ tells_text)) in
-      subst (λ (s : Stretch). ReadsFront reads_legacy s left 0 place h nonce) is by_place;
+      let by_place : ReadsFront start left 0 place h nonce =
+      subst (λ (p : ℕ). ReadsFront start left p place h nonce) at_front (front (told ∙ tells_text)) in
+      subst (λ (s : Stretch). ReadsFront s left 0 place h nonce) is by_place;
 }
 
 -- what follows from each cause follows

@@ -7,9 +7,10 @@ use Rattle.age_error.specs.Bytes.{AreBytes, AreBytesOf}
 use Rattle.age_error.specs.declared.io.Error.{Error}
 use Rattle.age_suite.specs.Mac.{hkdf_of}
 use Rattle.age_base64.specs.Lines.{line}
-use Rattle.age_format.specs.Header.{IsHeader, IsHeaderText, covered, covered_text, header_text, mac_line, version_line}
+use Rattle.std.specs.List.{flat_map}
+use Rattle.age_format.specs.Header.{IsHeader, covered_text, header_text, mac_line, version_line}
 use Rattle.age_format.specs.HeaderV1.{HeaderValue, header_mac}
-use Rattle.age_format.specs.Stanza.{StanzaValue}
+use Rattle.age_format.specs.Stanza.{stanza_text}
 use Rattle.age_stream.specs.Payload.{Seal, payload}
 use Rattle.age_stream.specs.Laws.{PayloadLength}
 use Rattle.age_stream.specs.declared.writer.StreamWriter.{StreamWriter}
@@ -50,11 +51,14 @@ file_bytes seal_of file_key h nonce plain key_bytes size ready front each =
 
 -- a file carries itself: it has 36 bytes or more, and doesn't begin as armor does
 pub carries_itself : (seal_of : Seal) → CarriesItself seal_of
+unfolding file_text file_front header_text
 carries_itself seal_of file_key stanzas plain bytes each f =
-    let middle = f.text.middle in
-    let last = line (mac_line f.mac) in
+    let mac = header_mac file_key (covered_text stanzas) in
+    let middle = flat_map stanza_text stanzas in
+    let last = line (mac_line mac) in
     let sealed = payload seal_of (payload_key file_key f.nonce) plain in
-    let whole : bytes ≡ (line version_line ++ (middle ++ last)) ++ (f.nonce ++ sealed) = f.whole ∙ ap (λ h. h ++ (f.nonce ++ sealed)) f.text.spelled in
+    let whole : bytes ≡ (line version_line ++ (middle ++ last)) ++ (f.nonce ++ sealed) =
+    f.whole ∙ append_assoc (line version_line ++ (middle ++ last)) f.nonce sealed in
     let first : length (line version_line) ≡ 22 = refl in
     record {
       each = each;
@@ -76,22 +80,12 @@ carries_itself seal_of file_key stanzas plain bytes each f =
     }
 
 -- the file of a plaintext is a file of it
-pub is_file : {legacy : Bool} (seal_of : Seal) (file_key : List ℕ) (h : HeaderValue) (nonce plain : List ℕ) → IsReady file_key h nonce
-    → ((legacy : Bool) (stanzas : List StanzaValue) (mac : List ℕ) → IsHeader stanzas mac → IsHeaderText legacy (header_text stanzas mac) stanzas mac)
-    → ((stanzas : List StanzaValue) (mac : List ℕ) → length mac ≡ 32 → covered (header_text stanzas mac) ≡ covered_text stanzas)
-    → IsFileOf legacy seal_of file_key h.stanzas plain (file_text seal_of file_key h.stanzas nonce plain)
-unfolding file_text file_front
-is_file {legacy} seal_of file_key h nonce plain ready is_text covers =
-    let mac = header_mac file_key (covered_text h.stanzas) in
-    let header = header_text h.stanzas mac in
-    let good : IsHeader h.stanzas mac = subst (λ m. IsHeader h.stanzas m) ready.right ready.header in
-    record {
-      header = header;
-      mac = mac;
-      nonce = nonce;
-      text = is_text legacy h.stanzas mac good;
-      rule = ready.rule;
-      right = ap (λ front. header_mac file_key front) (sym (covers h.stanzas mac good.is_mac.len));
-      sixteen = ready.sixteen;
-      whole = append_assoc header nonce (payload seal_of (payload_key file_key nonce) plain);
-    }
+pub is_file : (seal_of : Seal) (file_key : List ℕ) (h : HeaderValue) (nonce plain : List ℕ) → IsReady file_key h nonce
+    → IsFileOf seal_of file_key h.stanzas plain (file_text seal_of file_key h.stanzas nonce plain)
+is_file seal_of file_key h nonce plain ready = record {
+  nonce = nonce;
+  header = subst (λ mac. IsHeader h.stanzas mac) ready.right ready.header;
+  rule = ready.rule;
+  sixteen = ready.sixteen;
+  whole = refl;
+}

@@ -4,6 +4,7 @@ pub mod Sets
 pub mod Files
 pub mod Refusing
 pub mod Fronts
+pub mod Migrating
 pub mod Rule
 pub mod Accepted
 pub mod OneFile

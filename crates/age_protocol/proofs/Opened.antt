@@ -9,6 +9,7 @@ use Rattle.age_io.specs.declared.traits.Read.{Ghosts}
 use Rattle.age_io.specs.Stretch.{Stretch, whole}
 use Rattle.age_format.specs.HeaderV1.{HeaderValue}
 use Rattle.age_format.specs.Unwrapping.{UnwrapAnswer}
+use Rattle.age_format.specs.Stanza.{canonical}
 use Rattle.age_armor.specs.Refusing.{IsTextRefusal}
 use Rattle.age_stream.specs.Payload.{Seal}
 use Rattle.age_stream.specs.Keeping.{Stops}
@@ -22,7 +23,7 @@ use Rattle.age_protocol.specs.Texts.{RefusesKey}
 use Rattle.age_protocol.specs.WholeFiles.{LacksFront, RefusesPayload, RefusesRest}
 
 -- of a reader whose device never fails
-pub lacks_front : {R : Type 0} (read : Ghosts R) (old last : R) (e : DecryptRefusal) (start : Stretch) → RefusesFront read old last e
+pub lacks_front : {R : Type 0} (read : Ghosts R) (old last : R) (e : DecryptRefusal) (start : Stretch) → RefusesFront canonical read old last e
     → IsTrue (read.tells old) → read.rest old ≡ start → read.place old ≡ 0 → read.faults old ≡ 0 → read.faults last ≡ 0
     → IfIoRefusal (λ f. (f ≡ io.UnexpectedEof) ⊎ IsTextRefusal true true true f) e → LacksFront start e
 lacks_front read old last e start refuses told rest_is place_is none still named = record {

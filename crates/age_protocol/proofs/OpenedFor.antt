@@ -8,13 +8,12 @@ use Rattle.age_suite.specs.declared.suite.Suite.{Ghosts as SuiteMembers}
 use Rattle.age_io.specs.declared.traits.Read.{Ghosts as ReadMembers}
 use Rattle.age_io.specs.Reading.{IsQuiet}
 use Rattle.age_format.specs.Stanza.{StanzaValue}
-use Rattle.age_format.specs.HeaderV1.{HeaderValue, header_mac, reads_legacy}
+use Rattle.age_format.specs.HeaderV1.{HeaderValue, header_mac}
 use Rattle.age_format.specs.Unwrapping.{UnwrapAnswer}
-use Rattle.age_stream.specs.Payload.{Seal, payload}
+use Rattle.age_format.specs.Header.{covered_text}
 use Rattle.age_stream.specs.ReadingLaws.{and-left}
 use Rattle.age_stream.specs.declared.reader.StreamReader.{StreamReader}
 use Rattle.age_protocol.specs.Answering.{decided}
-use Rattle.age_protocol.specs.File.{BeginsAsFile, IsFileOf, payload_key}
 use Rattle.age_protocol.specs.OpeningFile.{Decrypts, StandsBefore}
 use Rattle.age_protocol.proofs.Decrypted.{both_told, refused_key}
 use Rattle.age_protocol.proofs.Opened.{decided_key}
@@ -22,15 +21,11 @@ use Rattle.age_protocol.specs.Laws.{RefusesNoFile, FileOpens, FileIsContent}
 use Rattle.age_protocol.specs.Opened.{Asks, IsOpened, IsNotOpened}
 use Rattle.age_protocol.specs.Parts.{FirstAnswer, IsFileFor}
 use Rattle.age_protocol.specs.Texts.{RefusesKey}
+use Rattle.age_protocol.proofs.Accepted.{begins}
 
 -- a device that never fails
 pub never_fails : {T : Type 0} (faults : T → ℕ) (a b : T) → ((t : T) → faults t ≡ 0) → IsQuiet (faults a) (faults b)
 never_fails faults a b none = record { same = none b ∙ sym (none a); below = omega (arith, none b) }
-
--- a file begins as one
-pub begins : (seal_of : Seal) (file_key : List ℕ) (stanzas : List StanzaValue) (plain text : List ℕ) (f : IsFileOf reads_legacy seal_of file_key stanzas plain text)
-    → BeginsAsFile f.header stanzas f.mac f.nonce (payload seal_of (payload_key file_key f.nonce) plain) text
-begins seal_of file_key stanzas plain text f = record { text = f.text; rule = f.rule; sixteen = f.sixteen; whole = f.whole }
 
 module _ {I S T : Type 0} {suite : SuiteMembers S} {read : ReadMembers T} (unwraps : I → List StanzaValue → UnwrapAnswer → I → Type 0)
     (old new : List I) (text : T) (h : HeaderValue) (nonce : List ℕ) (input : T) where
@@ -53,7 +48,7 @@ module _ {I S T : Type 0} (suite : SuiteMembers S) (read : ReadMembers T) (unwra
     (accepted : RefusesNoFile read) (opens : FileOpens suite.seal_of) (is_content : FileIsContent suite read) (old new : List I) (text : T)
     (told : IsTrue (read.tells text && read.steady text)) (well : IsTrue (read.rest text).ends_well) (plain : List ℕ)
     (for : IsFileFor suite.seal_of (FirstAnswer unwraps old) plain (read.rest text).bytes) where
-  right_key : (h : HeaderValue) (e : DecryptRefusal) (answer : UnwrapAnswer) → h.mac ≡ header_mac for.file_key h.covered → RefusesKey (decided answer) h e
+  right_key : (h : HeaderValue) (e : DecryptRefusal) (answer : UnwrapAnswer) → h.mac ≡ header_mac for.file_key (covered_text h.stanzas) → RefusesKey (decided answer) h e
       → (answer ≡ Some (Ok for.file_key)) ⊎ (answer ≡ Some (Err OutOfMemory)) → e ≡ OutOfMemory
   right_key h e answer right why (inl is) = elim (rw is at why) [
     | inl wrong ↦ absurd (wrong.0 right)
@@ -78,7 +73,7 @@ module _ {I S T : Type 0} (suite : SuiteMembers S) (read : ReadMembers T) (unwra
       is_content (read.rest text) (read.place text) is.h is.nonce for.file_key for.stanzas plain is.input stream front for.is_file for.bytes for.within for.last well
       (both_told _ _ _ _ asks.same.tells asks.same.steady told) (rw key at is.opens)
   stands_or_want (Err e) none (inl (same, (last, refuses))) = λ still.
-      accepted text last (decrypt_refusal e) _ _ _ _ _ refuses (and-left _ _ told) (never_fails read.faults text last still)
+      accepted text last (decrypt_refusal e) _ _ _ _ refuses (and-left _ _ told) (never_fails read.faults text last still)
       (begins suite.seal_of for.file_key for.stanzas plain (read.rest text).bytes for.is_file)
   stands_or_want (Err e) none (inr (h, nonce, input, answer, asks, why)) = λ still.
       let front = asks.front (and-left _ _ told) in

@@ -1,5 +1,5 @@
 -- Why a reader of a payload and a reader of a text refuse, told of the reader below.
-use Rattle.std.specs.Prelude.{◌≡◌, ◌⊎◌, ℕ, ◌+◌, ◌<◌, Bool, true, List, ◌++◌, length, drop}
+use Rattle.std.specs.Prelude.{◌≡◌, ◌⊎◌, ℕ, ◌+◌, ◌<◌, true, List, ◌++◌, length, drop, Result, Ok, Err, IsErrAnd}
 use Rattle.std.proofs.Common.{◌∙◌, sym, ap, subst, refl, inl, inr, arith, drop_at, length-append}
 use Rattle.std.proofs.lemmas.List.{drop-drop}
 use Rattle.age_error.specs.declared.io.Error.{Error}
@@ -15,6 +15,7 @@ use Rattle.age_stream.specs.Payload.{Seal}
 use Rattle.age_stream.specs.FrontToEnd.{StopsAt}
 use Rattle.age_stream.specs.Keeping.{Stops}
 use Rattle.age_format.specs.HeaderV1.{HeaderValue}
+use Rattle.age_format.specs.Header.{header_text}
 use Rattle.age_protocol.specs.Decrypting.{ReadsFront}
 
 -- from the reader of a payload to the reader of the text that it was in
@@ -64,12 +65,13 @@ left-stands content rest left place front stands came some =
     ]
 
 -- after the header and the nonce the rest is that of the content
-pub front-stands : {legacy : Bool} (content rest left : Stretch) (place after : ℕ) (h : HeaderValue) (nonce : List ℕ) → StandsIn content place rest
-    → ReadsFront legacy rest left place after h nonce → from_place after content ≡ left
+pub front-stands : (content rest left : Stretch) (place after : ℕ) (h : HeaderValue) (nonce : List ℕ) → StandsIn content place rest
+    → ReadsFront rest left place after h nonce → from_place after content ≡ left
 front-stands content rest left place after h nonce stands front =
     let took = front.took in
-    let some : 0 < length (took.header ++ nonce) = omega (arith, length-append took.header nonce, took.sixteen.len) in
-    ap (λ n. from_place n content) took.moved ∙ sym (left-stands content rest left place (took.header ++ nonce) stands took.delivered some)
+    let text = header_text h.stanzas h.mac in
+    let some : 0 < length (text ++ nonce) = omega (arith, length-append text nonce, took.sixteen.len) in
+    ap (λ n. from_place n content) took.moved ∙ sym (left-stands content rest left place (text ++ nonce) stands took.delivered some)
 
 -- what is said of a payload is said of another name of it
 pub stops-as : (seal_of : Seal) (key : List ℕ) (payload other : Stretch) (known told : Type 0) (e : Error) → (told → known) → (told → payload ≡ other)
@@ -84,3 +86,8 @@ pub io_refusal_weaker : (Holds More : Error → Type 0) → ((e : Error) → Hol
     → IfIoRefusal More refusal
 io_refusal_weaker Holds More wider (Io e) h = wider e h
 io_refusal_weaker Holds More wider _ h = tt
+
+-- what holds of a refusal holds of a result that is this refusal
+pub refused_as : {T E : Type 0} (Holds : Result T E → Type 0) (result : Result T E) (e : E) → IsErrAnd result (λ x. x ≡ e) → Holds (Err e) → Holds result
+refused_as Holds (Ok x) e is h = absurd is
+refused_as Holds (Err x) e is h = subst (λ y. Holds (Err y)) (sym is) h

@@ -8,7 +8,7 @@ use Rattle.age_io.specs.Stretch.{Stretch, from_place, stretch-ext}
 use Rattle.age_io.specs.Reading.{Delivers}
 use Rattle.age_armor.specs.Delivered.{delivered, stretch_of}
 use Rattle.age_armor.specs.DeliveredLaws.{content_of}
-use Rattle.age_format.specs.HeaderV1.{HeaderValue, reads_legacy}
+use Rattle.age_format.specs.HeaderV1.{HeaderValue}
 use Rattle.age_format.specs.Stanza.{StanzaValue}
 use Rattle.age_format.specs.Unwrapping.{UnwrapAnswer, Unwraps}
 use Rattle.age_protocol.specs.Decrypting.{ReadsFront}
@@ -152,6 +152,6 @@ pub begins-read : {R : Type 0} (tells : R → Bool) (rest : R → Stretch) (read
 begins-read tells rest reader input bytes well h nonce left begins = record {
   place = begins.0;
   front = λ told.
-      subst (λ (w : Bool). ReadsFront reads_legacy (stretch_of (delivered (rest reader).bytes w)) left 0 begins.0 h nonce) (sym well)
-      (subst (λ (l : List ℕ). ReadsFront reads_legacy (stretch_of (delivered l true)) left 0 begins.0 h nonce) bytes begins.1);
+      subst (λ (w : Bool). ReadsFront (stretch_of (delivered (rest reader).bytes w)) left 0 begins.0 h nonce) (sym well)
+      (subst (λ (l : List ℕ). ReadsFront (stretch_of (delivered l true)) left 0 begins.0 h nonce) bytes begins.1);
 }

@@ -13,7 +13,7 @@ use Rattle.age_error.specs.declared.io.Error.TheVariants.{OutOfMemory as out_of_
 use Rattle.age_io.specs.Writing.{HandsOn}
 use Rattle.age_io.specs.Copying.{AppendsFront}
 use Rattle.age_armor.specs.Armor.{Carries}
-use Rattle.age_format.specs.HeaderV1.{HeaderValue, reads_legacy}
+use Rattle.age_format.specs.HeaderV1.{HeaderValue}
 use Rattle.age_format.specs.Stanza.{StanzaValue}
 use Rattle.age_format.specs.Unwrapping.{UnwrapAnswer, Unwraps}
 use Rattle.age_stream.specs.Chunks.{delivered}
@@ -50,7 +50,7 @@ pub record DecryptsAll {S R W T : Type 0} (suite : SuiteGhosts S) (read : ReadGh
       × gives file_key stanzas
       × IsTrue (read.rest input).ends_well
       × Carries (read.rest input).bytes bytes
-      × IsFileOf reads_legacy suite.seal_of file_key stanzas plain bytes
+      × IsFileOf suite.seal_of file_key stanzas plain bytes
       × AreBytes plain
       × write.appended old plain new)
   -- After a refusal of the header or of the identities nothing was appended.

@@ -7,7 +7,8 @@ use Rattle.age_io.specs.declared.traits.Read.{Ghosts}
 use Rattle.age_io.specs.Keeping.{SameReader}
 use Rattle.age_io.specs.Reading.{AddsNoReason, TriedAgain, most_faults}
 use Rattle.age_format.specs.Header.{KeepsScryptRule}
-use Rattle.age_format.specs.HeaderV1.{HeaderValue, reads_legacy}
+use Rattle.age_format.specs.HeaderV1.{HeaderValue}
+use Rattle.age_format.specs.Stanza.{canonical}
 use Rattle.age_protocol.specs.Decrypting.{ReadsFront, RefusesFront}
 use Rattle.age_protocol.specs.declared.decryptor.Decryptor.{Decryptor}
 
@@ -34,7 +35,7 @@ pub record OpensFront {S R : Type 0} (read : Ghosts R) (input : R) (result : Res
   pub rule : IfOk result (λ d. KeepsScryptRule (header_of d).stanzas)
   -- of a reader that tells its bytes: the header and the nonce were taken from the front of its rest, and no byte more
   pub front : IsTrue (read.tells input) → IfOk result (λ d.
-      ReadsFront reads_legacy (read.rest input) (read.rest (input_of d)) (read.place input) (read.place (input_of d)) (header_of d) (nonce_of d))
+      ReadsFront (read.rest input) (read.rest (input_of d)) (read.place input) (read.place (input_of d)) (header_of d) (nonce_of d))
   -- a refusal is no interruption, and has one of the causes
   pub patient : IfErr result (λ e. IsInterruptedRefusal (decrypt_refusal e) → ⊥)
-  pub refused : IfErr result (λ e. (last : R) × RefusesFront read input last (decrypt_refusal e))
+  pub refused : IfErr result (λ e. (last : R) × RefusesFront canonical read input last (decrypt_refusal e))

@@ -7,9 +7,9 @@ use Rattle.age_io.specs.declared.traits.Read.{Ghosts}
 use Rattle.age_io.specs.Stretch.{Stretch}
 use Rattle.age_io.specs.Reading.{IsQuiet}
 use Rattle.age_armor.specs.Armor.{Carries}
-use Rattle.age_format.specs.Stanza.{StanzaValue}
-use Rattle.age_format.specs.Header.{covered}
-use Rattle.age_format.specs.HeaderV1.{HeaderValue, header_mac, reads_legacy}
+use Rattle.age_format.specs.Stanza.{StanzaValue, canonical}
+use Rattle.age_format.specs.Header.{covered_text}
+use Rattle.age_format.specs.HeaderV1.{HeaderValue, header_mac}
 use Rattle.age_format.specs.Unwrapping.{UnwrapAnswer}
 use Rattle.age_stream.specs.Payload.{Seal, payload, LastIsNoMiddle}
 use Rattle.age_stream.specs.declared.reader.StreamReader.{StreamReader}
@@ -21,46 +21,46 @@ use Rattle.age_protocol.specs.WholeFiles.{Decrypts, Refuses}
 
 -- what a decryptor reads from bytes that begin as a file: the header, the nonce, and no byte of what follows
 abbrev pub ReadsBack : Type 0
-ReadsBack = (start rest : Stretch) (start_place place : ℕ) (h : HeaderValue) (read : List ℕ) (header : List ℕ) (stanzas : List StanzaValue) (mac nonce more : List ℕ)
-    → ReadsFront reads_legacy start rest start_place place h read → BeginsAsFile header stanzas mac nonce more start.bytes
-    → (h.stanzas ≡ stanzas) × (h.mac ≡ mac) × (h.covered ≡ covered header) × (read ≡ nonce) × (rest.bytes ≡ more) × (rest.ends_well ≡ start.ends_well)
+ReadsBack = (start rest : Stretch) (start_place place : ℕ) (h : HeaderValue) (read : List ℕ) (stanzas : List StanzaValue) (mac nonce more : List ℕ)
+    → ReadsFront start rest start_place place h read → BeginsAsFile stanzas mac nonce more start.bytes
+    → (h.stanzas ≡ stanzas) × (h.mac ≡ mac) × (read ≡ nonce) × (rest.bytes ≡ more) × (rest.ends_well ≡ start.ends_well)
 
 -- bytes that begin as a file are refused for want of memory or after a fault of the device alone
 abbrev pub RefusesNoFile : {R : Type 0} → Ghosts R → Type 0
 RefusesNoFile {R} read =
-    (old new : R) (e : DecryptRefusal) (header : List ℕ) (stanzas : List StanzaValue) (mac nonce more : List ℕ)
-    → RefusesFront read old new e → IsTrue (read.tells old) → IsQuiet (read.faults old) (read.faults new)
-    → BeginsAsFile header stanzas mac nonce more (read.rest old).bytes → e ≡ OutOfMemory
+    (old new : R) (e : DecryptRefusal) (stanzas : List StanzaValue) (mac nonce more : List ℕ)
+    → RefusesFront canonical read old new e → IsTrue (read.tells old) → IsQuiet (read.faults old) (read.faults new)
+    → BeginsAsFile stanzas mac nonce more (read.rest old).bytes → e ≡ OutOfMemory
 
 -- where a file is read, the header's MAC is right under its file key, and the payload of its plaintext is left
 abbrev pub FileOpens : Seal → Type 0
 FileOpens seal_of = (start rest : Stretch) (start_place place : ℕ) (h : HeaderValue) (nonce file_key : List ℕ) (stanzas : List StanzaValue) (plain : List ℕ)
-    → ReadsFront reads_legacy start rest start_place place h nonce → (file : IsFileOf reads_legacy seal_of file_key stanzas plain start.bytes)
-    → (h.stanzas ≡ stanzas) × (h.mac ≡ header_mac file_key h.covered) × (nonce ≡ file.nonce)
+    → ReadsFront start rest start_place place h nonce → (file : IsFileOf seal_of file_key stanzas plain start.bytes)
+    → (h.stanzas ≡ stanzas) × (h.mac ≡ header_mac file_key (covered_text h.stanzas)) × (nonce ≡ file.nonce)
     × (rest.bytes ≡ payload seal_of (payload_key file_key nonce) plain) × (rest.ends_well ≡ start.ends_well)
 
 -- and the reader that is given under that file key stands before the plaintext
 abbrev pub FileIsContent : {S R : Type 0} → SuiteGhosts S → Ghosts R → Type 0
 FileIsContent {S} {R} suite read = (start : Stretch) (start_place : ℕ) (h : HeaderValue) (nonce file_key : List ℕ) (stanzas : List StanzaValue)
     (plain : List ℕ) (input : R) (r : StreamReader S R suite read)
-    → ReadsFront reads_legacy start (read.rest input) start_place (read.place input) h nonce → (file : IsFileOf reads_legacy suite.seal_of file_key stanzas plain start.bytes)
+    → ReadsFront start (read.rest input) start_place (read.place input) h nonce → (file : IsFileOf suite.seal_of file_key stanzas plain start.bytes)
     → AreBytes plain → length plain ≤ 2 ^ 60 → LastIsNoMiddle suite.seal_of (payload_key file_key file.nonce) plain
     → IsTrue start.ends_well → IsTrue (read.tells input && read.steady input) → OpensFile file_key h nonce input r → StandsBefore plain r
 
 -- the bytes of a file tell its stanzas
 abbrev pub OneHeader : Seal → Type 0
 OneHeader seal_of = (file_key other : List ℕ) (stanzas others : List StanzaValue) (first second bytes : List ℕ)
-    → IsFileOf reads_legacy seal_of file_key stanzas first bytes → IsFileOf reads_legacy seal_of other others second bytes → stanzas ≡ others
+    → IsFileOf seal_of file_key stanzas first bytes → IsFileOf seal_of other others second bytes → stanzas ≡ others
 
 -- and under one file key its plaintext
 abbrev pub OnePlain : Seal → Type 0
 OnePlain seal_of = (file_key : List ℕ) (stanzas others : List StanzaValue) (first second bytes : List ℕ) → AreBytes first → AreBytes second
-    → IsFileOf reads_legacy seal_of file_key stanzas first bytes → IsFileOf reads_legacy seal_of file_key others second bytes → first ≡ second
+    → IsFileOf seal_of file_key stanzas first bytes → IsFileOf seal_of file_key others second bytes → first ≡ second
 
 -- a file is what it carries itself
 abbrev pub CarriesItself : Seal → Type 0
 CarriesItself seal_of = (file_key : List ℕ) (stanzas : List StanzaValue) (plain bytes : List ℕ) → AreBytes bytes
-    → IsFileOf reads_legacy seal_of file_key stanzas plain bytes → Carries bytes bytes
+    → IsFileOf seal_of file_key stanzas plain bytes → Carries bytes bytes
 
 module _ {I : Type 0} (seal_of : Seal) (unwraps : I → List StanzaValue → UnwrapAnswer → I → Type 0) where
   -- what carries a file for the identity is decrypted to nothing but its plaintext

@@ -6,6 +6,7 @@ pub mod Answers
 pub mod File
 pub mod Starting
 pub mod Decrypting
+pub mod Migrating
 pub mod Decryptor
 pub mod OpeningFile
 pub mod WholeFiles

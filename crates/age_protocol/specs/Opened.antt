@@ -5,8 +5,8 @@ use Rattle.age_suite.specs.declared.suite.Suite.{Ghosts as SuiteMembers}
 use Rattle.age_io.specs.declared.traits.Read.{Ghosts as ReadMembers}
 use Rattle.age_io.specs.Reading.{AddsNoReason, TriedAgain}
 use Rattle.age_io.specs.Keeping.{SameReader}
-use Rattle.age_format.specs.HeaderV1.{HeaderValue, reads_legacy}
-use Rattle.age_format.specs.Stanza.{StanzaValue}
+use Rattle.age_format.specs.HeaderV1.{HeaderValue}
+use Rattle.age_format.specs.Stanza.{StanzaValue, canonical}
 use Rattle.age_format.specs.Unwrapping.{UnwrapAnswer, Unwraps}
 use Rattle.age_stream.specs.declared.reader.StreamReader.{StreamReader}
 use Rattle.age_protocol.specs.Answering.{FirstThatAnswers, decided}
@@ -21,12 +21,12 @@ module _ {I T : Type 0} (unwraps : I → List StanzaValue → UnwrapAnswer → I
   pub record Asks (old new : List I) (text : T) (h : HeaderValue) (nonce : List ℕ) (input : T) (answer : UnwrapAnswer) : Type 0 where
     pub same : SameReader read text input
     pub narrows : AddsNoReason (TriedAgain read.refuses) text input
-    pub front : IsTrue (read.tells text) → ReadsFront reads_legacy (read.rest text) (read.rest input) (read.place text) (read.place input) h nonce
+    pub front : IsTrue (read.tells text) → ReadsFront (read.rest text) (read.rest input) (read.place text) (read.place input) h nonce
     pub first : FirstThatAnswers (λ identity own next. Unwraps unwraps identity h.stanzas own next) old answer new
 
   -- No file begins the text, and no identity was asked; or the identities, the MAC or the reader's memory are why.
   abbrev pub IsNotOpened : List I → List I → T → DecryptRefusal → Type 0
-  IsNotOpened old new text e = ((new ≡ old) × ((last : T) × RefusesFront read text last e))
+  IsNotOpened old new text e = ((new ≡ old) × ((last : T) × RefusesFront canonical read text last e))
       ⊎ ((h : HeaderValue) × (nonce : List ℕ) × (input : T) × (answer : UnwrapAnswer)
       × Asks old new text h nonce input answer × RefusesKey (decided answer) h e)
 

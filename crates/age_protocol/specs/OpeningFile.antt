@@ -6,7 +6,8 @@ use Rattle.age_error.specs.declared.decrypt.DecryptError.{DecryptError}
 use Rattle.age_suite.specs.declared.suite.Suite.{Ghosts as SuiteGhosts}
 use Rattle.age_io.specs.declared.traits.Read.{Ghosts}
 use Rattle.age_io.specs.Stretch.{Stretch, whole, from_place}
-use Rattle.age_format.specs.HeaderV1.{HeaderValue, header_mac, reads_legacy}
+use Rattle.age_format.specs.HeaderV1.{HeaderValue, header_mac}
+use Rattle.age_format.specs.Header.{covered_text}
 use Rattle.age_stream.specs.Payload.{payload, LastIsNoMiddle}
 use Rattle.age_stream.specs.Chunks.{delivered}
 use Rattle.age_stream.specs.Reader.{payload_of, key_of, inner_rest_of, HasFailed, HasSought, opens_of, tells_of, content_of, place_of, plain_rest_of, faults_of, refuses_of}
@@ -41,13 +42,13 @@ module _ {S R : Type 0} {suite : SuiteGhosts S} {read : Ghosts R} where
 
   -- The header's MAC is right under the file key, and the reader is that of the payload.
   pub record OpensFile (file_key : List ℕ) (h : HeaderValue) (nonce : List ℕ) (input : R) (r : StreamReader S R suite read) : Type 0 where
-    pub right : h.mac ≡ header_mac file_key h.covered
+    pub right : h.mac ≡ header_mac file_key (covered_text h.stanzas)
     pub reader : IsReaderOf (payload_key file_key nonce) input r
     -- Success means file: where the header and the nonce were read from the front of a stretch, and a plaintext is read to
     -- a clean end, the stretch was a file of that plaintext and then a clean end.
     pub file : IsTrue (read.tells input && read.steady input) → (start : Stretch) (start_place : ℕ) (plain : List ℕ)
-        → ReadsFront reads_legacy start (read.rest input) start_place (read.place input) h nonce → plain_rest_of r ≡ whole plain
-        → IsTrue start.ends_well × IsFileOf reads_legacy suite.seal_of file_key h.stanzas plain start.bytes
+        → ReadsFront start (read.rest input) start_place (read.place input) h nonce → plain_rest_of r ≡ whole plain
+        → IsTrue start.ends_well × IsFileOf suite.seal_of file_key h.stanzas plain start.bytes
 
   -- It reads this plaintext, of which nothing was read yet.
   pub record StandsBefore (plain : List ℕ) (r : StreamReader S R suite read) : Type 0 where
@@ -62,6 +63,6 @@ module _ {S R : Type 0} {suite : SuiteGhosts S} {read : Ghosts R} where
   abbrev pub Decrypts : Result (List ℕ) DecryptRefusal → HeaderValue → List ℕ → R → Result (StreamReader S R suite read) DecryptError → Type 0
   Decrypts (Err refusal) h nonce input result = IsErrAnd result (λ e. decrypt_refusal e ≡ refusal)
   Decrypts (Ok file_key) h nonce input result =
-      ((h.mac ≢ header_mac file_key h.covered) × IsErrAnd result (λ e. decrypt_refusal e ≡ InvalidMac))
-      ⊎ ((h.mac ≡ header_mac file_key h.covered)
+      ((h.mac ≢ header_mac file_key (covered_text h.stanzas)) × IsErrAnd result (λ e. decrypt_refusal e ≡ InvalidMac))
+      ⊎ ((h.mac ≡ header_mac file_key (covered_text h.stanzas))
       × MatchResult result (λ r. OpensFile file_key h nonce input r) (λ e. decrypt_refusal e ≡ OutOfMemory))

@@ -9,7 +9,7 @@ use Rattle.age_io.specs.Stretch.{Stretch}
 use Rattle.age_io.specs.Copying.{AppendsFront, AppendsSome}
 use Rattle.age_format.specs.Stanza.{StanzaValue}
 use Rattle.age_format.specs.Unwrapping.{UnwrapAnswer, Unwraps}
-use Rattle.age_format.specs.HeaderV1.{HeaderValue, reads_legacy}
+use Rattle.age_format.specs.HeaderV1.{HeaderValue}
 use Rattle.age_stream.specs.Keeping.{Stops}
 use Rattle.age_stream.specs.Payload.{Seal, LastIsNoMiddle, plain_len}
 use Rattle.age_stream.specs.Answering.{StandAt, IsGoodEnd}
@@ -29,7 +29,7 @@ FirstAnswer {I} unwraps identities stanzas answer =
 pub record IsFileFor (seal_of : Seal) (answers : List StanzaValue → UnwrapAnswer → Type 0) (plain text : List ℕ) : Type 0 where
   pub file_key : List ℕ
   pub stanzas : List StanzaValue
-  pub is_file : IsFileOf reads_legacy seal_of file_key stanzas plain text
+  pub is_file : IsFileOf seal_of file_key stanzas plain text
   pub bytes : AreBytes plain
   pub within : length plain ≤ 2 ^ 60
   pub last : LastIsNoMiddle seal_of (payload_key file_key is_file.nonce) plain

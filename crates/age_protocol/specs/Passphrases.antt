@@ -3,7 +3,6 @@ use Rattle.std.specs.Prelude.{◌≡◌, ◌⊎◌, ℕ, ◌^◌, ◌≤◌, tru
 use Rattle.age_error.specs.Bytes.{AreBytes, AreBytesOf}
 use Rattle.age_error.specs.EncryptErrors.{EncryptRefusal, ShortRandom, WorkFactorRefused, OutOfMemory}
 use Rattle.age_suite.specs.declared.suite.Suite.{Ghosts}
-use Rattle.age_format.specs.HeaderV1.{reads_legacy}
 use Rattle.age_format.specs.Stanza.{StanzaValue}
 use Rattle.age_format.specs.Wrapping.{WrapAnswer}
 use Rattle.age_format.specs.Unwrapping.{UnwrapAnswer, Steady, FirstOf}
@@ -49,6 +48,6 @@ module _ {S : Type 0} (suite : Ghosts S) where
       (recipient : PassphraseRecipient) (identity : PassphraseIdentity) (draws left : List ℕ) (file : Prepared) (plain text : List ℕ)
       → AreBytes recipient.passphrase → 1 ≤ recipient.factor → recipient.factor ≤ 63 → IsMeantFor recipient identity
       → Prepares WrapsPassphrase (recipient ∷ []) None draws (Ok file) left
-      → (is_file : IsFileOf reads_legacy suite.seal_of file.file_key file.stanzas plain text)
+      → (is_file : IsFileOf suite.seal_of file.file_key file.stanzas plain text)
       → AreBytes plain → length plain ≤ 2 ^ 60 → LastIsNoMiddle suite.seal_of (payload_key file.file_key is_file.nonce) plain
       → IsFileFor suite.seal_of (FirstAnswer UnwrapsPassphrase (identity ∷ [])) plain text

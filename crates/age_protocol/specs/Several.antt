@@ -4,7 +4,6 @@ use Rattle.std.specs.List.{AllZip}
 use Rattle.age_error.specs.Bytes.{AreBytes}
 use Rattle.age_error.specs.DecryptErrors.{OutOfMemory}
 use Rattle.age_format.specs.Stanza.{StanzaValue}
-use Rattle.age_format.specs.HeaderV1.{reads_legacy}
 use Rattle.age_format.specs.Wrapping.{WrapAnswer, Wrapped}
 use Rattle.age_format.specs.Unwrapping.{UnwrapAnswer, Unwraps}
 use Rattle.age_format.specs.Belonging.{MayWrap, BelongsTo}
@@ -30,7 +29,7 @@ abbrev pub OneDecrypts : {I : Type 0} → (I → List StanzaValue → UnwrapAnsw
 OneDecrypts {I} unwraps seal_of =
     (identity : I) (file_key : List ℕ) (stanzas : List StanzaValue) (plain text : List ℕ)
     → ((answer : UnwrapAnswer) (after : I) → Unwraps unwraps identity stanzas answer after → (answer ≡ Some (Ok file_key)) ⊎ (answer ≡ Some (Err OutOfMemory)))
-    → (is_file : IsFileOf reads_legacy seal_of file_key stanzas plain text)
+    → (is_file : IsFileOf seal_of file_key stanzas plain text)
     → AreBytes plain → length plain ≤ 2 ^ 60 → LastIsNoMiddle seal_of (payload_key file_key is_file.nonce) plain
     → IsFileFor seal_of (FirstAnswer unwraps (identity ∷ [])) plain text
 
@@ -68,6 +67,6 @@ module _ {R : Type 0} (wraps : R → List ℕ → List ℕ → WrapAnswer → Li
     AnyDecrypts seal_of =
         (recipients : List R) (identity : I) (grease : Option StanzaValue) (draws left : List ℕ) (file : Prepared) (plain text : List ℕ)
         → BelongsToOne recipients identity → Prepares wraps recipients grease draws (Ok file) left
-        → (is_file : IsFileOf reads_legacy seal_of file.file_key file.stanzas plain text)
+        → (is_file : IsFileOf seal_of file.file_key file.stanzas plain text)
         → AreBytes plain → length plain ≤ 2 ^ 60 → LastIsNoMiddle seal_of (payload_key file.file_key is_file.nonce) plain
         → IsFileFor seal_of (FirstAnswer unwraps (identity ∷ [])) plain text

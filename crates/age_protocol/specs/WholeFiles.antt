@@ -12,9 +12,10 @@ use Rattle.age_armor.specs.Armor.{Carries}
 use Rattle.age_armor.specs.Refusing.{IsTextRefusal}
 use Rattle.age_armor.specs.Writing.{text_of}
 use Rattle.age_armor.specs.Delivered.{delivered, stretch_of}
-use Rattle.age_format.specs.Stanza.{StanzaValue}
-use Rattle.age_format.specs.HeaderV1.{HeaderValue, header_mac, reads_legacy}
+use Rattle.age_format.specs.Stanza.{StanzaValue, canonical}
+use Rattle.age_format.specs.HeaderV1.{HeaderValue, header_mac}
 use Rattle.age_format.specs.Unwrapping.{UnwrapAnswer, Unwraps}
+use Rattle.age_format.specs.Header.{covered_text}
 use Rattle.age_stream.specs.Keeping.{Stops}
 use Rattle.age_stream.specs.Sending.{RefusesChunk}
 use Rattle.age_stream.specs.Payload.{Seal, payload, LastIsNoMiddle}
@@ -42,7 +43,7 @@ pub record IsWritten (seal_of : Seal) (form : List ℕ → List ℕ) (plain : Li
   pub within : length plain ≤ 2 ^ 60
   pub text : written ≡ form (file_text seal_of file.file_key file.stanzas file.nonce plain)
   pub carries : Carries written (file_text seal_of file.file_key file.stanzas file.nonce plain)
-  pub is_file : IsFileOf reads_legacy seal_of file.file_key file.stanzas plain (file_text seal_of file.file_key file.stanzas file.nonce plain)
+  pub is_file : IsFileOf seal_of file.file_key file.stanzas plain (file_text seal_of file.file_key file.stanzas file.nonce plain)
 
 -- Between two states of a writer the file of all that was left of an input was appended, in this form, and the input ended well,
 -- within the limit.
@@ -50,7 +51,7 @@ pub record IsWritten (seal_of : Seal) (form : List ℕ → List ℕ) (plain : Li
 pub record AppendsFile {W : Type 0} (seal_of : Seal) (appended : W → List ℕ → W → Type 0) (format : Format) (file : Prepared) (input : Stretch) (old new : W) : Type 0 where
   pub ended : IsTrue input.ends_well
   pub within : length input.bytes ≤ 2 ^ 60
-  pub is_file : IsFileOf reads_legacy seal_of file.file_key file.stanzas input.bytes (file_text seal_of file.file_key file.stanzas file.nonce input.bytes)
+  pub is_file : IsFileOf seal_of file.file_key file.stanzas input.bytes (file_text seal_of file.file_key file.stanzas file.nonce input.bytes)
   pub carries : let text = file_text seal_of file.file_key file.stanzas file.nonce input.bytes in AreBytes input.bytes → Carries (text_of format text) text
   pub out : appended old (text_of format (file_text seal_of file.file_key file.stanzas file.nonce input.bytes)) new
 
@@ -69,7 +70,7 @@ read_of file = stretch_of (delivered file true)
 pub record LacksFront (start : Stretch) (refusal : DecryptRefusal) : Type 0 where
   pub left : Stretch
   pub place : ℕ
-  pub why : WhyNoFront 0 0 start left 0 place refusal
+  pub why : WhyNoFront canonical 0 0 start left 0 place refusal
   -- where a read was refused, the bytes had an end too early, or a fault as a text
   pub named : IfIoRefusal (λ e. (e ≡ io.UnexpectedEof) ⊎ IsTextRefusal true true true e) refusal
   pub no_device : IsDeviceRefusal refusal → ⊥
@@ -89,8 +90,8 @@ pub record RefusesPayload (seal_of : Seal) (key : List ℕ) (left : Stretch) (re
 abbrev pub RefusesRest : Seal → Result (List ℕ) DecryptRefusal → HeaderValue → List ℕ → Stretch → DecryptRefusal → Type 0
 RefusesRest seal_of (Err own) h nonce left refusal = refusal ≡ own
 RefusesRest seal_of (Ok file_key) h nonce left refusal =
-    ((h.mac ≢ header_mac file_key h.covered) × (refusal ≡ InvalidMac))
-    ⊎ ((h.mac ≡ header_mac file_key h.covered) × RefusesPayload seal_of (payload_key file_key nonce) left refusal)
+    ((h.mac ≢ header_mac file_key (covered_text h.stanzas)) × (refusal ≡ InvalidMac))
+    ⊎ ((h.mac ≡ header_mac file_key (covered_text h.stanzas)) × RefusesPayload seal_of (payload_key file_key nonce) left refusal)
 
 module _ {I : Type 0} (seal_of : Seal) (unwraps : I → List StanzaValue → UnwrapAnswer → I → Type 0) where
   -- The bytes carry a file of the plaintext, under the file key that the identity got from the header's stanzas.
@@ -101,7 +102,7 @@ module _ {I : Type 0} (seal_of : Seal) (unwraps : I → List StanzaValue → Unw
     pub stanzas : List StanzaValue
     pub asked : Unwraps unwraps before stanzas (Some (Ok file_key)) after
     pub bytes : AreBytes plain
-    pub is_file : IsFileOf reads_legacy seal_of file_key stanzas plain carried
+    pub is_file : IsFileOf seal_of file_key stanzas plain carried
 
   -- The header and the nonce were read from the front, and the identity was asked.
   pub record RefusesAsked (before : I) (start : Stretch) (after : I) (refusal : DecryptRefusal) : Type 0 where
@@ -109,7 +110,7 @@ module _ {I : Type 0} (seal_of : Seal) (unwraps : I → List StanzaValue → Unw
     pub nonce : List ℕ
     pub left : Stretch
     pub place : ℕ
-    pub front : ReadsFront reads_legacy start left 0 place h nonce
+    pub front : ReadsFront start left 0 place h nonce
     pub answer : UnwrapAnswer
     pub asked : Unwraps unwraps before h.stanzas answer after
     pub why : RefusesRest seal_of (decided answer) h nonce left refusal

@@ -5,11 +5,11 @@ ghost use Rattle.age_protocol.specs.Answering.{FirstThatAnswers, decided};
 ghost use Rattle.age_protocol.specs.OpeningFile.{Decrypts};
 
 use crate::answering::{file_key_by_one, file_key_of};
+use crate::front::read_nonce;
 use crate::keys::payload_key_of;
 use age_error::DecryptError;
-use age_error::bytes::known_array;
 use age_format::{HeaderV1, Identity};
-use age_io::{BufRead, Read, read_exact};
+use age_io::{BufRead, Read};
 use age_stream::reader::StreamReader;
 use age_suite::secrecy::FileKey;
 use age_suite::suite::Suite;
@@ -27,8 +27,7 @@ pub struct Decryptor<S, R> {
 impl<S: Suite, R: Read + Drop> Decryptor<S, R> {
     ghost use Rattle.age_protocol.specs.Decryptor.{header_of, nonce_of, input_of, OpensFront};
 
-    /// Reads the header and the nonce of 16 bytes from the front of the input, and no byte after them. The header may be in
-    /// the legacy form, as by `HeaderV1::read`, and its MAC then covers the bytes as they were read.
+    /// Reads the header and the nonce of 16 bytes from the front of the input, and no byte after them.
     ///
     /// The refusals, in the order in which they are looked for: those of `HeaderV1::read`; where fewer than 16 bytes follow
     /// the header `Io(UnexpectedEof)`, or the reader's own refusal where it doesn't end well; `InvalidHeader` where a stanza
@@ -38,12 +37,7 @@ impl<S: Suite, R: Read + Drop> Decryptor<S, R> {
     {
         let mut input = input;
         let header = HeaderV1::read(alloc, &mut input)?;
-        let mut nonce = [0; 16];
-        read_exact(&mut input, &mut nonce)?;
-        known_array(&nonce);
-        if !header.keeps_scrypt_rule() {
-            return Err(DecryptError::InvalidHeader);
-        }
+        let nonce = read_nonce(&mut input, header.stanzas())?;
         Ok(Decryptor {
             input,
             header,

@@ -5,7 +5,6 @@ ghost use Rattle.age_error.specs.Refusals.{IsInterruption};
 ghost use Rattle.age_error.specs.declared.io.Error.TheVariants.{OutOfMemory};
 ghost use Rattle.age_protocol.specs.Answers.{encrypt_answer};
 ghost use Rattle.age_format.specs.Header.{header_text, IsHeader, KeepsScryptRule};
-ghost use Rattle.age_format.specs.HeaderV1.{reads_legacy};
 ghost use Rattle.age_format.specs.Drawing.{IsOrNoMemory};
 ghost use Rattle.age_keys.specs.Scrypt.{WrapsUnder};
 ghost use Rattle.age_protocol.specs.Encrypting.{Prepares};
@@ -17,9 +16,7 @@ use crate::encrypting::prepare;
 use crate::keys::payload_key_of;
 use age_error::bytes::{known_array, known_bytes};
 use age_error::{EncryptError, io};
-use age_format::{
-    Grease, HeaderV1, Recipient, Stanza, canonical_text_is_text, canonical_text_reads_back,
-};
+use age_format::{Grease, HeaderV1, Recipient, Stanza};
 use age_io::{Write, write_all};
 use age_keys::scrypt;
 use age_stream::laws::payload_laws;
@@ -58,8 +55,8 @@ fn known_header(header: &HeaderV1)
     let _stanzas = header.stanzas();
 }
 
-// What stands before the payload: the header's text and the nonce.
-fn text_before_payload(
+/// What stands before the payload: the header's text and the nonce.
+pub(crate) fn text_before_payload(
     alloc: Global,
     header: &HeaderV1,
     nonce: &[u8; 16],
@@ -186,13 +183,11 @@ impl<S: Suite> Encryptor<S> {
         ensures file { IsTrue (W.tells output) → IfOk result (WritesFile S.seal_of W.appended ⟦<StreamWriter<S, W> as Write>⟧.appended self output) }
         // By the definition of a file that decryptors are proved by, what it writes is one.
         ensures is_file { OnOk result ((plain : List ℕ) →
-            IsFileOf reads_legacy S.seal_of self.file_key self.stanzas plain (file_text S.seal_of self.file_key self.stanzas self.nonce plain)) }
+            IsFileOf S.seal_of self.file_key self.stanzas plain (file_text S.seal_of self.file_key self.stanzas self.nonce plain)) }
         ensures bytes { OnOk result ((plain : List ℕ) → AreBytes plain → AreBytes (file_text S.seal_of self.file_key self.stanzas self.nonce plain)) }
         ensures refused { IfErr result (GivesUp W.tells W.faults W.refuses W.appended self output) }
         ensures patient { IfErr result (λ e. IsInterruption e → ⊥) }
     {
-        canonical_text_is_text();
-        canonical_text_reads_back();
         payload_laws::<S>();
         mac_laws();
         let mut output = output;

@@ -2,7 +2,6 @@
 use Rattle.std.specs.Prelude.{◌≡◌, ℕ, ◌^◌, ◌≤◌, List, length, Some, Ok}
 use Rattle.age.specs.Bytes.{AreBytes}
 use Rattle.age.specs.Armor.{Carries}
-use Rattle.age.specs.HeaderV1.{reads_legacy}
 use Rattle.age.specs.Payload.{Seal}
 use Rattle.age.specs.File.{IsFileOf}
 use Rattle.age.specs.Stanza.{StanzaValue}
@@ -24,5 +23,5 @@ GiveKeysBack {R} {I} wraps unwraps recipients grease identities =
 pub record IsWhole (seal_of : Seal) (prepared : Prepared) (plain file : List ℕ) : Type 0 where
   pub bytes : AreBytes plain
   pub within : length plain ≤ 2 ^ 60
-  pub is_file : IsFileOf reads_legacy seal_of prepared.file_key prepared.stanzas plain file
+  pub is_file : IsFileOf seal_of prepared.file_key prepared.stanzas plain file
   pub carries : Carries file file

@@ -6,13 +6,11 @@ use Rattle.age_bench.proofs.laws.bench_file_laws.Goals as goal
 
 pub returns : goal.returns
 returns c =
-    let is_text = c.canonical_text_is_text.ensures in
-    let covers = c.canonical_text_reads_back.ensures.covers in
     let payloads = c.payload_laws.ensures in
-    let alone = is_alone is_text covers c.header_text_reads_back.ensures c.verdict_is_unique.ensures payloads.length payloads.one_plaintext c.piece_law.ensures in
+    let alone = is_alone c.header_text_reads_back.ensures c.verdict_is_unique.ensures payloads.length payloads.one_plaintext c.piece_law.ensures in
     let armored = c.armor_is_carrying.ensures.itself in
     record {
-      is_file = bench.is_file (is_bench_file is_text covers);
+      is_file = bench.is_file is_bench_file;
       is_carried = bench.is_carried (is_carried armored payloads.length);
       gives_back = bench.gives_back (gives_back armored payloads.length c.carried_is_unique.ensures alone);
       is_for_bench = for_bench;

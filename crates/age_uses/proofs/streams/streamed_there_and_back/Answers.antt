@@ -3,7 +3,6 @@ use Rattle.std.proofs.lemmas.Result.{on_ok_weaker}
 use Rattle.age.specs.Bytes.{AreBytes}
 use Rattle.age.specs.Stretch.{whole}
 use Rattle.age.specs.Armor.{Carries}
-use Rattle.age.specs.HeaderV1.{reads_legacy}
 use Rattle.age.specs.File.{file_text, IsFileOf}
 use Rattle.age.specs.ArmorWriting.{text_of}
 use Rattle.age.specs.StreamReadingLaws.{and-left, and-right}
@@ -27,10 +26,10 @@ returns g c = λ fits reader_told writer_told.
     let (key, stanzas, back, bytes, first, well, carries, is_file, back_bytes, appended) = done in
     let carried : Carries (text_of c.args.format text) bytes = rw (ap (λ s. s.bytes) input) at carries in
     let same : bytes ≡ text = c.carried_is_unique.ensures (text_of c.args.format text) bytes text carried (made.carries plain_bytes) in
-    let opened : IsFileOf reads_legacy seal_of key stanzas back text = subst (λ (l : List ℕ). IsFileOf reads_legacy seal_of key stanzas back l) same is_file in
+    let opened : IsFileOf seal_of key stanzas back text = subst (λ (l : List ℕ). IsFileOf seal_of key stanzas back l) same is_file in
     let same_stanzas = c.one_plaintext.ensures.header prepared.file_key key prepared.stanzas stanzas plain back text made.is_file opened in
     let same_key : key ≡ prepared.file_key = fits c.args.draw.now _ prepared key _ prepares (rw (← same_stanzas) at first) in
     let is : back ≡ plain = c.one_plaintext.ensures.plaintext prepared.file_key stanzas prepared.stanzas back plain text back_bytes plain_bytes
-    (subst (λ (k : List ℕ). IsFileOf reads_legacy seal_of k stanzas back text) same_key opened) made.is_file in
+    (subst (λ (k : List ℕ). IsFileOf seal_of k stanzas back text) same_key opened) made.is_file in
     subst (λ (l : List ℕ). g.W.Write.appended c.args.writer.now l c.decrypt_all.new.writer) is appended)
     (c.decrypt_all.ensures.file refl writer_told)

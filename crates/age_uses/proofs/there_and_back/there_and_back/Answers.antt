@@ -2,7 +2,6 @@ use Rattle.std.proofs.Common.{rules, ◌≡◌, ◌∙◌, refl, sym, ap, subst,
 use Rattle.age.specs.Bytes.{AreBytes}
 use Rattle.age.specs.Stretch.{whole, stretch-ext}
 use Rattle.age.specs.Decryptor.{header_of}
-use Rattle.age.specs.HeaderV1.{reads_legacy}
 use Rattle.age.specs.File.{file_text, IsFileOf}
 use Rattle.age.proofs.Opened.{decided_key}
 use Rattle.age_uses.proofs.Opened.{same_front}
@@ -18,7 +17,7 @@ returns g c = λ fits.
     let taken = c.in_ok-write_all.ensures.writes.takes_all refl in
     let is : c.in_ok-file.file.items ≡ text =
     rw c.new.ensures.items at (started.file refl plain c.write_all.new.writer (Ok c.in_ok-file.file) taken (c.in_ok-file.ensures.ok refl)) in
-    let written : IsFileOf reads_legacy seal_of prepared.file_key prepared.stanzas plain text = started.is_file plain in
+    let written : IsFileOf seal_of prepared.file_key prepared.stanzas plain text = started.is_file plain in
     let (answer, first, decrypts) = c.in_ok-reader.ensures in
     let (key, is_key, opens) = decided_key answer _ _ _ _ decrypts in
     let h = header_of c.in_ok-decryptor.decryptor in
@@ -28,7 +27,7 @@ returns g c = λ fits.
     let front = same_front _ (whole c.in_ok-file.file.items) _ _ 0 _ _ _ (c.new-2.ensures.rest ∙ ap whole c.deref.ensures.value) c.new-2.ensures.place
     (c.in_ok-decryptor.ensures.front refl) in
     let given = opens.file refl (whole c.in_ok-file.file.items) 0 back front all in
-    let opened : IsFileOf reads_legacy seal_of key h.stanzas back text = subst (λ bytes. IsFileOf reads_legacy seal_of key h.stanzas back bytes) is given.1 in
+    let opened : IsFileOf seal_of key h.stanzas back text = subst (λ bytes. IsFileOf seal_of key h.stanzas back bytes) is given.1 in
     let same_stanzas = c.one_plaintext.ensures.header prepared.file_key key prepared.stanzas h.stanzas plain back text written opened in
     let asked = rw (← same_stanzas) at first in
     let same_key : key ≡ prepared.file_key =
@@ -36,4 +35,4 @@ returns g c = λ fits.
     let plain_bytes : AreBytes plain = search rules in
     let back_bytes : AreBytes back = search rules in
     c.one_plaintext.ensures.plaintext prepared.file_key h.stanzas prepared.stanzas back plain text back_bytes plain_bytes
-    (subst (λ (k : List ℕ). IsFileOf reads_legacy seal_of k h.stanzas back text) same_key opened) written
+    (subst (λ (k : List ℕ). IsFileOf seal_of k h.stanzas back text) same_key opened) written

@@ -1,5 +1,6 @@
 use Rattle.std.proofs.Common.{rules, ◌≡◌, IsTrue, inr, subst}
 use Rattle.age_format.specs.HeaderV1.{header_mac}
+use Rattle.age_format.specs.Header.{covered_text}
 use Rattle.age_protocol.specs.File.{payload_key}
 use Rattle.age_protocol.specs.OpeningFile.{IsReaderOf}
 use Rattle.age_protocol.proofs.Fronts.{file_of}
@@ -11,7 +12,7 @@ returns g c =
     let self = c.args.self in
     let file_key = c.args.file_key.now in
     let yes : IsTrue c.verify_mac.result = search rules in
-    let right : self.header.mac ≡ header_mac file_key self.header.covered = c.verify_mac.ensures.0 yes in
+    let right : self.header.mac ≡ header_mac file_key (covered_text self.header.stanzas) = c.verify_mac.ensures.0 yes in
     let reader : IsReaderOf (payload_key file_key self.nonce) self.input c.in_ok-reader.reader =
     subst (λ key. IsReaderOf key self.input c.in_ok-reader.reader) c.payload_key_of-key.ensures (record {
       good = made.good;

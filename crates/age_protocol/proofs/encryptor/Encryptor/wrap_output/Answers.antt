@@ -1,7 +1,6 @@
 use Rattle.std.proofs.Common.{Err, refl, subst}
 use Rattle.age_error.specs.Bytes.{AreBytes}
 use Rattle.age_io.specs.Writing.{WritesAll, Retried, OrMemory}
-use Rattle.age_format.specs.HeaderV1.{reads_legacy}
 use Rattle.age_stream.specs.Writing.{WasMade}
 use Rattle.age_protocol.specs.File.{file_front, file_text, IsFileOf}
 use Rattle.age_protocol.specs.Starting.{Starts}
@@ -51,9 +50,8 @@ returns-clause-file g c = λ told. writes_file g.S.Suite.seal_of g.W.Write.tells
 pub returns-clause-is_file : goal.returns-clause-is_file
 returns-clause-is_file g c = λ plain.
     let inside = c.self.inside in
-    subst (λ file. IsFileOf reads_legacy g.S.Suite.seal_of file.file_key file.stanzas plain (file_text g.S.Suite.seal_of file.file_key file.stanzas file.nonce plain)) c.self.view_is
-    (is_file g.S.Suite.seal_of inside.file_key inside.header inside.nonce plain c.self.invariant
-    c.canonical_text_is_text.ensures c.canonical_text_reads_back.ensures.covers)
+    subst (λ file. IsFileOf g.S.Suite.seal_of file.file_key file.stanzas plain (file_text g.S.Suite.seal_of file.file_key file.stanzas file.nonce plain)) c.self.view_is
+    (is_file g.S.Suite.seal_of inside.file_key inside.header inside.nonce plain c.self.invariant)
 
 pub returns-clause-bytes : goal.returns-clause-bytes
 returns-clause-bytes g c = λ plain each.
