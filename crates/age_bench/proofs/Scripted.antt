@@ -2,7 +2,8 @@
 use Rattle.std.specs.Prelude.{◌≡◌, ◌≢◌, ℕ, zero, suc, ◌+◌, ◌-◌, ◌<◌, List, [], ◌∷◌}
 use Rattle.std.proofs.Common.{ap, ◌∙◌, sym, refl, arith}
 use Rattle.age.specs.ErrorKindVariants.{Interrupted}
-use Rattle.age_bench.specs.Devices.{step_of, step_among, most_bytes}
+use Rattle.age_bench.specs.Devices.{step_among, most_bytes}
+use Rattle.age_bench.specs.AtCalls.{step_of}
 use Rattle.age_bench.specs.declared.script.Step.{Step}
 use Rattle.age_bench.specs.declared.script.Step.TheVariants.{Move, Fail}
 

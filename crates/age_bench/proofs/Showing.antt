@@ -6,14 +6,7 @@ use Rattle.age.specs.Stretch.{whole, from_place, IsCleanEnd}
 use Rattle.age.specs.Reading.{Delivers}
 use Rattle.age.specs.Buffering.{held}
 use Rattle.age.specs.Filling.{IsFront}
-
--- how many bytes are shown
-pub length-shown : (xs : List ℕ) (place end : ℕ) → end ≤ length xs → length (held xs place end) ≡ end - place
-length-shown xs place end within = length-drop place (take end xs) ∙ ap (λ n. n - place) (length-take-le end xs within)
-
--- what is shown once n of them were taken
-pub shown-further : (xs : List ℕ) (place end n : ℕ) → held xs (place + n) end ≡ drop n (held xs place end)
-shown-further xs place end n = sym (drop-drop n place (take end xs))
+use Rattle.age.specs.BufferLemmas.{length-held}
 
 -- the next bytes are a beginning of the rest
 pub gives-next : (xs front : List ℕ) (place n : ℕ) → front ≡ take n (drop place xs) →
@@ -28,7 +21,7 @@ gives-next xs front place n is = record {
 pub gives-of-shown : (xs : List ℕ) (place end n : ℕ) → place ≤ end → end ≤ length xs → n ≤ length (held xs place end) →
     Delivers (take n (held xs place end)) (from_place place (whole xs)) (from_place (place + n) (whole xs))
 gives-of-shown xs place end n order within most =
-    let fits : n ≤ end - place = rw length-shown at most in
+    let fits : n ≤ end - place = rw length-held at most in
     let split : place + (end - place) ≡ end = omega arith in
     let is : held xs place end ≡ take (end - place) (drop place xs) =
     ap (λ m. drop place (take m xs)) (sym split) ∙ drop-take place (end - place) xs in

@@ -1,11 +1,24 @@
 -- What a script says of each call.
-use Rattle.std.specs.Prelude.{◌≡◌, ℕ, ◌+◌, ◌<◌}
+use Rattle.std.specs.Prelude.{◌≡◌, ℕ, suc, zero, ◌+◌, ◌<◌, List, [], ◌∷◌}
 use Rattle.age.specs.ErrorKindVariants.{Interrupted}
-use Rattle.age_bench.specs.Devices.{step_of}
+use Rattle.age_bench.specs.Devices.{most_bytes}
 use Rattle.age_bench.specs.declared.script.Step.{Step}
 use Rattle.age_bench.specs.declared.script.Step.TheVariants.{Move, Fail}
 use Rattle.age_bench.specs.declared.script.Script.{Script}
 use Rattle.age_bench.specs.declared.calls.Calls.{Calls}
+
+-- What the parts of a script mean: the step of this number, from 0, of a device that is interrupted so often before each call, and so
+-- often before the next one. So many of its calls move all; then come these steps, and then calls that move at most so many bytes.
+-- What each way to make a script comes to stands in its contract.
+abbrev pub step_of : (times left good : ℕ) → List Step → (most i : ℕ) → Step
+step_of times (suc left) good steps most zero = Fail Interrupted
+step_of times (suc left) good steps most (suc i) = step_of times left good steps most i
+step_of times zero (suc good) steps most zero = Move most_bytes
+step_of times zero (suc good) steps most (suc i) = step_of times times good steps most i
+step_of times zero zero [] most zero = Move most
+step_of times zero zero [] most (suc i) = step_of times times zero [] most i
+step_of times zero zero (s ∷ steps) most zero = s
+step_of times zero zero (s ∷ steps) most (suc i) = step_of times times zero steps most i
 
 -- what the device does at the call of this number from now on, from 0
 abbrev pub at_call : Script → ℕ → Step

@@ -2,7 +2,6 @@
 use Rattle.std.specs.Prelude.{◌≡◌, ℕ, ◌+◌, ◌-◌, ◌^◌, suc, zero, List, [], ◌∷◌, Result, Err}
 use Rattle.age.specs.Types.{Error}
 use Rattle.age.specs.ErrorVariants.{Device}
-use Rattle.age.specs.ErrorKindVariants.{Interrupted}
 use Rattle.age_bench.specs.declared.script.Step.{Step}
 use Rattle.age_bench.specs.declared.script.Step.TheVariants.{Move, Fail}
 
@@ -15,18 +14,6 @@ abbrev pub step_among : List Step → ℕ → ℕ → Step
 step_among [] most i = Move most
 step_among (s ∷ steps) most zero = s
 step_among (s ∷ steps) most (suc i) = step_among steps most i
-
--- The step of this number, from 0, of a device that is interrupted so often before each call, and so often before the next one. So
--- many of its calls move all; then come these steps, and then calls that move at most so many bytes.
-abbrev pub step_of : (times left good : ℕ) → List Step → (most i : ℕ) → Step
-step_of times (suc left) good steps most zero = Fail Interrupted
-step_of times (suc left) good steps most (suc i) = step_of times left good steps most i
-step_of times zero (suc good) steps most zero = Move most_bytes
-step_of times zero (suc good) steps most (suc i) = step_of times times good steps most i
-step_of times zero zero [] most zero = Move most
-step_of times zero zero [] most (suc i) = step_of times times zero [] most i
-step_of times zero zero (s ∷ steps) most zero = s
-step_of times zero zero (s ∷ steps) most (suc i) = step_of times times zero steps most i
 
 -- what comes of a step: what a call does that moves at most so many bytes, or the fault
 abbrev pub by_step : {T : Type 0} → Step → (ℕ → Result T Error) → Result T Error

@@ -1,5 +1,5 @@
 -- What a caller sees of a device that is read, and of one that is written.
-use Rattle.std.specs.Prelude.{◌≡◌, ℕ, ◌-◌, ◌<◌, List, length, min, max, Result, Ok, Err}
+use Rattle.std.specs.Prelude.{◌≡◌, ℕ, ◌-◌, ◌<◌, ◌≤◌, List, length, min, max, Result, Ok, Err, IsOk}
 use denote.Ref.{Bor}
 use Rattle.age.specs.Buffering.{held}
 use Rattle.age.specs.Types.{Error}
@@ -33,8 +33,10 @@ abbrev pub length_shown : Result (Bor (List ℕ)) Error → Result ℕ Error
 length_shown (Ok front) = Ok (length front.now)
 length_shown (Err e) = Err e
 
--- What `fill_buf` does as its script says: it shows at most as many bytes, but one at least where one is left, or fails.
+-- What `fill_buf` does as its script says: it shows at most as many bytes, but one at least where one is left, or fails. Where the
+-- device has failed as often as it may, it doesn't.
 abbrev pub ShowsAsScripted : Source → Source → Result (Bor (List ℕ)) Error → Type 0
-ShowsAsScripted old new result = faults_of old < most_failures →
-    TakesStep (call old) (call new) (faults_of old) (faults_of new)
-    × (length_shown result ≡ by_step (call old 0) (λ most. Ok (min (max most 1) (length (bytes_of old) - place_of old))))
+ShowsAsScripted old new result =
+    (faults_of old < most_failures → TakesStep (call old) (call new) (faults_of old) (faults_of new)
+    × (length_shown result ≡ by_step (call old 0) (λ most. Ok (min (max most 1) (length (bytes_of old) - place_of old)))))
+    × (most_failures ≤ faults_of old → IsOk result)

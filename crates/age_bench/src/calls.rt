@@ -1,5 +1,5 @@
 //! The calls on a device, and how often they failed.
-ghost use Rattle.std.specs.Prelude.{◌≡◌, ℕ, ◌+◌, ◌-◌, ◌<◌, ◌≤◌, ◌^◌, Ok, IfOk, IfErr};
+ghost use Rattle.std.specs.Prelude.{◌≡◌, ℕ, ◌+◌, ◌-◌, ◌<◌, ◌≤◌, ◌^◌, Ok, IsOk, IfOk, IfErr};
 ghost use Rattle.age.specs.Refusals.{IsDevice};
 ghost use Rattle.age_bench.specs.Devices.{by_step, TakesStep, most_failures};
 
@@ -36,6 +36,7 @@ impl<'a> Calls<'a> {
     pub(crate) fn next(&mut self) -> Result<usize, Error>
         ensures told { faults_in self.old < most_failures → result ≡ by_step (call_of self.old 0) Ok }
         ensures step { faults_in self.old < most_failures → TakesStep (call_of self.old) (call_of self.new) (faults_in self.old) (faults_in self.new) }
+        ensures last { most_failures ≤ faults_in self.old → IsOk result }
         ensures fine { IfOk result (λ _. faults_in self.new ≡ faults_in self.old) }
         ensures fault { IfErr result (λ e. IsDevice e × (faults_in self.new ≡ faults_in self.old + 1)) }
     {

@@ -1,5 +1,5 @@
 //! A device that is written.
-ghost use Rattle.std.specs.Prelude.{◌≡◌, ℕ, ◌+◌, ◌^◌, ◌≤◌, ◌<◌, ◌⊎◌, true, List, [], ◌++◌, length, take, min, Ok, Err, IfOk, MatchResult};
+ghost use Rattle.std.specs.Prelude.{◌≡◌, ℕ, ◌+◌, ◌^◌, ◌≤◌, ◌<◌, ◌⊎◌, true, List, [], ◌++◌, length, take, min, Ok, Err, IfOk, IfErr};
 ghost use Rattle.std.proofs.Common.{arith};
 ghost use Rattle.std.proofs.lemmas.Grind.{common_steps};
 ghost use Rattle.age.specs.Refusals.{IsDevice};
@@ -78,6 +78,7 @@ impl<'a> Write for Sink<'a> {
         ensures step { faults_of self.old < most_failures → TakesStep (call self.old) (call self.new) (faults_of self.old) (faults_of self.new) }
         ensures answer { faults_of self.old < most_failures →
             (result ≡ by_step (call self.old 0) (λ most. Ok (min (length bytes.now) most))) ⊎ (result ≡ Err OutOfMemory) }
+        ensures last { most_failures ≤ faults_of self.old → IfErr result (λ e. e ≡ OutOfMemory) }
     {
         let most = match self.calls.next() {
             Err(e) => return Err(e),
@@ -94,6 +95,7 @@ impl<'a> Write for Sink<'a> {
             Flushes writer.tells writer.faults writer.refuses writer.appended self.old self.new result }
         ensures step { faults_of self.old < most_failures → TakesStep (call self.old) (call self.new) (faults_of self.old) (faults_of self.new) }
         ensures answer { faults_of self.old < most_failures → result ≡ by_step (call self.old 0) (λ _. Ok tt) }
+        ensures last { most_failures ≤ faults_of self.old → result ≡ Ok tt }
     {
         match self.calls.next() {
             Err(e) => Err(e),

@@ -1,5 +1,5 @@
 //! A device that is read.
-ghost use Rattle.std.specs.Prelude.{◌≡◌, ℕ, ◌+◌, ◌-◌, ◌^◌, ◌≤◌, ◌<◌, true, List, length, take, drop, min, max, Ok, IfOk, refl};
+ghost use Rattle.std.specs.Prelude.{◌≡◌, ℕ, ◌+◌, ◌-◌, ◌^◌, ◌≤◌, ◌<◌, true, List, length, take, drop, min, max, Ok, IsOk, IfOk, refl};
 ghost use Rattle.std.proofs.Common.{inl, arith};
 ghost use Rattle.age.specs.Bytes.{AreBytes};
 ghost use Rattle.age.specs.Refusals.{IsDevice};
@@ -105,6 +105,7 @@ impl<'a> Read for Source<'a> {
         ensures step { faults_of self.old < most_failures → TakesStep (call self.old) (call self.new) (faults_of self.old) (faults_of self.new) }
         ensures answer { faults_of self.old < most_failures → result ≡ by_step (call self.old 0) (λ most.
             Ok (min (min (length buf.old) (max most 1)) (length (bytes_of self.old) - place_of self.old))) }
+        ensures last { most_failures ≤ faults_of self.old → IsOk result }
         ensures behind { IfOk result (λ n. drop n buf.new ≡ drop n buf.old) }
     {
         let most = match self.calls.next() {
@@ -165,6 +166,7 @@ impl<'a> Seek for Source<'a> {
         ensures step { faults_of self.old < most_failures → TakesStep (call self.old) (call self.new) (faults_of self.old) (faults_of self.new) }
         ensures answer { faults_of self.old < most_failures → result ≡ by_step (call self.old 0) (λ _.
             Cursor.sought to (place_of self.old) (length (bytes_of self.old))) }
+        ensures last { most_failures ≤ faults_of self.old → result ≡ Cursor.sought to (place_of self.old) (length (bytes_of self.old)) }
     {
         match self.calls.next() {
             Err(e) => return Err(e),

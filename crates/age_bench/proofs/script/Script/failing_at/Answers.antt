@@ -2,7 +2,8 @@ use Rattle.std.proofs.Common.{◌≡◌, ◌∙◌, ◌-◌, ap, arith, []}
 use Rattle.std.specs.Prelude.{◌∷◌}
 use Rattle.age.specs.ErrorKindVariants.{Other}
 use Rattle.age_bench.specs.declared.script.Step.TheVariants.{Fail}
-use Rattle.age_bench.specs.Devices.{step_of, most_bytes}
+use Rattle.age_bench.specs.Devices.{most_bytes}
+use Rattle.age_bench.specs.AtCalls.{step_of}
 use Rattle.age_bench.proofs.Scripted.{step_there, moves_else}
 use Rattle.age_bench.proofs.script.Script.failing_at.Goals as goal
 

@@ -1,5 +1,6 @@
-use Rattle.std.proofs.Common.{refl}
-use Rattle.age_bench.proofs.Showing.{gives-of-shown, shown-further}
+use Rattle.std.proofs.Common.{refl, sym}
+use Rattle.age.specs.BufferLemmas.{held-further}
+use Rattle.age_bench.proofs.Showing.{gives-of-shown}
 use Rattle.age_bench.proofs.source.SourceBufRead.consume.Goals as goal
 
 pub returns-clause-consumes : goal.returns-clause-consumes
@@ -10,7 +11,7 @@ returns-clause-consumes c =
       same_steady = refl;
       same_faults = refl;
       narrows = λ e h. h;
-      shows = shown-further before.bytes.now before.place before.end c.args.amount;
+      shows = sym (held-further before.bytes.now before.place before.end c.args.amount);
       same_content = λ told. refl;
       bytes = λ told. gives-of-shown before.bytes.now before.place before.end c.args.amount before.order before.within c.requires;
       moves = λ told. refl;
