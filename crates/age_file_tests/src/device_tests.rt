@@ -198,8 +198,8 @@ fn each_call_of_an_armored_file_fails_in_turn(rt: HostRuntime) -> Result<(), Fai
     written.fails_in_turn(&rt, rt.alloc())
 }
 
-// Whether the front of a file is refused by the fault of its device, or not.
-fn is_refused<T: Drop>(answer: Result<T, DecryptError>) -> Result<bool, Fail> {
+/// Whether it is refused by the fault of a device, or succeeds.
+pub fn is_refused<T: Drop>(answer: Result<T, DecryptError>) -> Result<bool, Fail> {
     match answer {
         Ok(_) => Ok(false),
         Err(DecryptError::Io(FAULT)) => Ok(true),

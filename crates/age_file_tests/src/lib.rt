@@ -1,4 +1,4 @@
-//! Tests of whole files, of the plaintext of a file that is opened, of its parts, of bad armor and bad headers, and of the uses of `age`.
+//! Tests of whole files, of files from before the standard, of the plaintext of a file that is opened, of its parts, of bad armor and bad headers, and of the uses of `age`.
 #![tactic(auto)]
 
 #[cfg(test)]
@@ -14,7 +14,9 @@ mod file_tests;
 #[cfg(test)]
 mod hostile_text_tests;
 #[cfg(test)]
-mod legacy_tests;
+mod migrate_device_tests;
+#[cfg(test)]
+mod migrate_tests;
 #[cfg(test)]
 mod opening_tests;
 #[cfg(test)]

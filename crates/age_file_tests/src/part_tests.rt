@@ -31,17 +31,15 @@ pub fn is_given(alloc: Global, file: &[u8], place: u64, count: u64, expected: &[
     appends(alloc, file, place, count, &mut got, None) && got.as_slice() == expected
 }
 
+/// Whether a part of a file's plaintext is refused with this text, and nothing is given.
+pub fn no_part_is_given(alloc: Global, file: &[u8], place: u64, count: u64, text: &str) -> bool {
+    let mut got = Vec::new(alloc);
+    appends(alloc, file, place, count, &mut got, Some(text)) && got.is_empty()
+}
+
 // Whether a part is refused since it begins past the end of a file's plaintext, and nothing is given.
 fn is_past_end(alloc: Global, file: &[u8], place: u64, count: u64) -> bool {
-    let mut got = Vec::new(alloc);
-    appends(
-        alloc,
-        file,
-        place,
-        count,
-        &mut got,
-        Some("cannot seek past the end"),
-    ) && got.is_empty()
+    no_part_is_given(alloc, file, place, count, "cannot seek past the end")
 }
 
 // Whether a file has these parts of the message.
