@@ -1,7 +1,7 @@
 #!/usr/bin/env python3
 """Runs agebench where memory, reads and writes fail or fall short, and on damaged payloads, files and armor, and so a
 program that opens protected identity files (crates/probe), and one that makes calls of the library in rows where memory
-is refused (crates/rows).
+is refused (crates/rows). Runs sazh on a file from before the standard.
 
 Each run must answer the right bytes, or a beginning of them and the refusal that belongs to the fault. The right
 bytes are those of a second implementation, `second.py`, written from the format's own words. Prints each run that
@@ -16,6 +16,7 @@ from concurrent.futures import ProcessPoolExecutor
 
 import rows
 import second
+import standard
 from second import BEGIN, END, PIECE, VERSION, armor, stanza
 
 KEY = bytes(range(32))
@@ -190,10 +191,9 @@ def files(runs):
                                  ("another key", [stanza([b"bench"], bytes(16))], BAD_MAC)]:
         runs.refuses(f"decrypt a file with {words}", decrypt, second.file(key, stanzas, name, plain), b"", text)
     old = [other, second.legacy([b"x-old"], b""), body, second.legacy([b"long"], bytes(96))]
-    runs.answers("decrypt a file of stanzas in the legacy form", decrypt, second.file(key, old, name, plain), plain)
-    canonical = second.header(key, [other, stanza([b"x-old"], b""), body, long])
-    runs.refuses("a legacy header under the canonical one's MAC", decrypt,
-                 second.header(key, old)[:-48] + canonical[-48:] + rest, b"", BAD_MAC)
+    runs.refuses("decrypt a file of stanzas in the legacy form", decrypt, second.file(key, old, name, plain), b"", BAD_HEADER)
+    new = [other, stanza([b"x-old"], b""), body, long]
+    runs.answers("decrypt a file of the same stanzas", decrypt, second.file(key, new, name, plain), plain)
     good = second.header(key, [body])
     runs.refuses("a changed MAC", decrypt, good[:-2] + second.columns(bytes(32))[-1:] + b"\n" + rest, b"", BAD_MAC)
     front, last = VERSION + body, good[len(VERSION + body):]
@@ -207,7 +207,7 @@ def files(runs):
             ("65 columns", VERSION + b"-> bench\n" + b"A" * 65 + b"\n", BAD_HEADER),
             ("padding", VERSION + b"-> bench\nYQ==\n", BAD_HEADER),
             ("a second spelling", VERSION + b"-> bench\nYR\n", BAD_HEADER),
-            ("no end of a body of whole lines", VERSION + b"-> long\n" + b"A" * 64 + b"\n" + last + rest, NO_KEYS),
+            ("no end of a body of whole lines", VERSION + b"-> long\n" + b"A" * 64 + b"\n" + last + rest, BAD_HEADER),
             ("no body", VERSION + b"-> bench\n" + last + rest, BAD_HEADER),
             ("a MAC of 42 columns", front + b"--- " + b"A" * 42 + b"\n", BAD_HEADER),
             ("a MAC of 44 columns", front + b"--- " + b"A" * 44 + b"\n", BAD_HEADER),
@@ -479,6 +479,30 @@ def protected(runs):
             runs.injected("recipients", asked, given, want, f"{call}-interrupted-on", DEVICE, 2)
 
 
+def carried_over(runs):
+    """A file from before the standard: `sazh` refuses to decrypt it, and carries it over to the file of the same stanzas, nonce and
+    payload in whose header each stanza is canonical."""
+    folder = os.path.dirname(runs.mark)
+    key, old, new = (os.path.join(folder, name) for name in ["key", "old", "new"])
+    plain = b"This is a test message. For testing."
+    file_key, ephemeral, name = KEY_DRAW[:16], KEY_DRAW[16:48], KEY_DRAW[48:]
+    own = standard.x25519_stanza(file_key, standard.public(SECRET), ephemeral)
+    files = {form: standard.file(file_key, [form([b"x-first"], b""), own, form([b"x-old", b"one"], bytes(48))], name, plain)
+             for form in [second.legacy, stanza]}
+    for path, given in [(key, IDENTITY.encode() + b"\n"), (old, files[second.legacy]), (new, files[stanza])]:
+        with open(path, "wb") as out:
+            out.write(given)
+    runs.refuses("sazh decrypt of a file in the legacy form", ["decrypt", "-i", key, old], b"", b"", BAD_HEADER)
+    runs.answers("sazh decrypt of the same file in the canonical form", ["decrypt", "-i", key, new], b"", plain)
+    status, written, err, _ = got = runs.run(["migrate", "-i", key, old], b"")
+    runs.judge("sazh migrate of a file in the legacy form", (status, written, err) == (0, files[stanza], ""), got)
+    try:
+        shown = standard.decrypted(SECRET, written)
+    except (ValueError, IndexError):
+        shown = None
+    runs.judge("what sazh migrate wrote, by the second implementation", shown == plain, got)
+
+
 def command_lines(runs):
     key = KEY.hex()
     lines = [[], ["--help"], ["seal"], ["open"], ["seal", key[:-1]], ["open", key + "0"], ["seal", key, "x"],
@@ -604,9 +628,9 @@ FAULTY = ["seal", "open", "encrypt", "decrypt", "encrypt in armor", "decrypt arm
 # The long ones first: they are run side by side.
 PARTS = [(seek_memory, 1), (seek_memory, 10), (marked,), *[(faulty, name) for name in reversed(FAULTY)], (protected,), (injected_keys,), (injected_passphrases,),
          (messages,), (damaged_armor,), (armored_files,), (files,), (parts,), (keys,), (passphrases,), (damaged_payloads,), (sealing,),
-         (command_lines,), *[(row, name) for name in rows.ROWS], (calls,)]
+         (command_lines,), (carried_over,), *[(row, name) for name in rows.ROWS], (calls,)]
 # The programs of the parts that don't run agebench.
-PROGRAMS = {protected: "probe", row: "rows", calls: "rows"}
+PROGRAMS = {protected: "probe", row: "rows", calls: "rows", carried_over: "sazh"}
 
 
 def judged(agebench, shim, folder, part, *about):
