@@ -1,5 +1,5 @@
-//! Headers: what is read and how much of the input is taken, what refuses, and what is written. A header in the legacy form is read by
-//! `OldHeader` alone.
+//! Headers: what is read and how much of the input is taken, what refuses, and what is written. A header in the legacy form is read
+//! by `OldHeader` alone.
 
 use crate::fixtures::{owned, shows, stanza};
 use age::format::{Grease, HeaderV1, OldHeader, Stanza};
@@ -472,7 +472,8 @@ fn the_mac_of_a_header_is_that_of_its_canonical_text(rt: HostRuntime) -> Result<
     Ok(())
 }
 
-// Whether so many bytes are written for a header, and one of so many stanzas is read from them that says the same, under the key too.
+// Whether so many bytes are written for a header, and one of so many stanzas is read from them that says the same, under the key
+// too.
 fn is_read_back(
     alloc: Global,
     header: &HeaderV1,
@@ -490,7 +491,8 @@ fn is_read_back(
     )
 }
 
-// Whether what is written for a header is read where the legacy form is read too, with the same stanzas and the MAC of this key alone.
+// Whether what is written for a header is read where the legacy form is read too, with the same stanzas and the MAC of this key
+// alone.
 fn is_read_back_as_old(
     alloc: Global,
     header: &HeaderV1,
