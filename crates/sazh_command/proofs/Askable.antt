@@ -68,6 +68,9 @@ asked-ok name.Part given =
     and_then-ok HasIdentity IsAskable _ (identities_of given.identity_files given.passphrase_file)
     (identities_of-ok given.identity_files given.passphrase_file) (λ identities known.
     and_then-ok IsSmall IsAskable _ (range_of given.operands) (range_of-ok given.operands) (λ range small. (known, small.0, small.1)))
+asked-ok name.Migrate given =
+    and_then-ok HasIdentity IsAskable _ (identities_of given.identity_files given.passphrase_file)
+    (identities_of-ok given.identity_files given.passphrase_file) (λ identities known. always IsAskable _ (input_of given.operands) (λ input. known))
 
 named_command_of-ok : (word : List ℕ) (command : Option CommandName) (words : List (List ℕ)) → IfOk (named_command_of word command words) IsAskable
 named_command_of-ok word None words = tt

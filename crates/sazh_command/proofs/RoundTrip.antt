@@ -6,7 +6,7 @@ use Rattle.std.proofs.lemmas.List.{append-nil, append_assoc}
 use Rattle.sazh_command.specs.declared.options.CommandName.{CommandName}
 use Rattle.sazh_command.specs.declared.options.CommandName.TheVariants as name
 use Rattle.sazh_command.specs.declared.reading.Next.TheVariants.{Operand}
-use Rattle.sazh_command.specs.Asked.{RecipientValue, Text, File, Listed, ToPassphraseFile, IdentitiesValue, Files, ProtectedFiles, WithPassphraseFile, CommandValue, Help, Version, Keygen, Encrypt, Decrypt, Part}
+use Rattle.sazh_command.specs.Asked.{RecipientValue, Text, File, Listed, ToPassphraseFile, IdentitiesValue, Files, ProtectedFiles, WithPassphraseFile, CommandValue, Help, Version, Keygen, Encrypt, Decrypt, Part, Migrate}
 use Rattle.sazh_command.specs.Reading.{GivenValue, nothing, and_then, with_words, finished, asks_for_help}
 use Rattle.sazh_command.specs.Synopsis.{asked, named_command_of, range_of, command_of}
 use Rattle.sazh_command.specs.Written.{switch_words, listed_words, files_words, words_of, IsAskable}
@@ -37,28 +37,37 @@ listed-given (File file ∷ more) before others =
     listed-given more (before ++ File file ∷ []) others
     ∙ ap (λ l. with_words name.Encrypt others (record nothing { recipients = l })) (append_assoc before (File file ∷ []) more)
 
--- the commands that decrypt
-abbrev decrypting : Bool → CommandName
-decrypting true = name.Part
-decrypting false = name.Decrypt
+-- the commands that take identities
+data WithIdentities : Type 0 where
+  ToDecrypt : WithIdentities
+  ToPart : WithIdentities
+  ToMigrate : WithIdentities
 
-files-help : (part : Bool) (names others : List (List ℕ))
-    → asks_for_help (Some (decrypting part)) false (files_words names others) ≡ asks_for_help (Some (decrypting part)) false others
-files-help true [] others = refl
-files-help true (file ∷ more) others = files-help true more others
-files-help false [] others = refl
-files-help false (file ∷ more) others = files-help false more others
+abbrev name_of : WithIdentities → CommandName
+name_of ToDecrypt = name.Decrypt
+name_of ToPart = name.Part
+name_of ToMigrate = name.Migrate
 
-files-given : (part : Bool) (names before others : List (List ℕ))
-    → with_words (decrypting part) (files_words names others) (record nothing { identity_files = before })
-    ≡ with_words (decrypting part) others (record nothing { identity_files = before ++ names })
-files-given part [] before others = ap (λ l. with_words (decrypting part) others (record nothing { identity_files = l })) (sym (append-nil before))
-files-given true (file ∷ more) before others =
-    files-given true more (before ++ file ∷ []) others
-    ∙ ap (λ l. with_words name.Part others (record nothing { identity_files = l })) (append_assoc before (file ∷ []) more)
-files-given false (file ∷ more) before others =
-    files-given false more (before ++ file ∷ []) others
+files-help : (to : WithIdentities) (names others : List (List ℕ))
+    → asks_for_help (Some (name_of to)) false (files_words names others) ≡ asks_for_help (Some (name_of to)) false others
+files-help to [] others = refl
+files-help ToDecrypt (file ∷ more) others = files-help ToDecrypt more others
+files-help ToPart (file ∷ more) others = files-help ToPart more others
+files-help ToMigrate (file ∷ more) others = files-help ToMigrate more others
+
+files-given : (to : WithIdentities) (names before others : List (List ℕ))
+    → with_words (name_of to) (files_words names others) (record nothing { identity_files = before })
+    ≡ with_words (name_of to) others (record nothing { identity_files = before ++ names })
+files-given to [] before others = ap (λ l. with_words (name_of to) others (record nothing { identity_files = l })) (sym (append-nil before))
+files-given ToDecrypt (file ∷ more) before others =
+    files-given ToDecrypt more (before ++ file ∷ []) others
     ∙ ap (λ l. with_words name.Decrypt others (record nothing { identity_files = l })) (append_assoc before (file ∷ []) more)
+files-given ToPart (file ∷ more) before others =
+    files-given ToPart more (before ++ file ∷ []) others
+    ∙ ap (λ l. with_words name.Part others (record nothing { identity_files = l })) (append_assoc before (file ∷ []) more)
+files-given ToMigrate (file ∷ more) before others =
+    files-given ToMigrate more (before ++ file ∷ []) others
+    ∙ ap (λ l. with_words name.Migrate others (record nothing { identity_files = l })) (append_assoc before (file ∷ []) more)
 
 -- what follows recipients or identities asks for no help, and gives this
 
@@ -88,20 +97,29 @@ encrypt-given false false output input recipients file = refl
 abbrev decrypt_rest : Bool → List ℕ → List ℕ → List (List ℕ)
 decrypt_rest overwrite output input = switch_words (codes "-f") overwrite (codes "-o" ∷ output ∷ codes "--" ∷ input ∷ [])
 
-decrypt-help : (overwrite : Bool) (output input : List ℕ)
-    → asks_for_help (Some name.Decrypt) false (decrypt_rest overwrite output input) ≡ false
-decrypt-help true output input = refl
-decrypt-help false output input = refl
+-- the commands that write a whole file with identities: `migrate`, or `decrypt`
+abbrev whole : Bool → CommandName
+whole true = name.Migrate
+whole false = name.Decrypt
+
+decrypt-help : (migrates overwrite : Bool) (output input : List ℕ)
+    → asks_for_help (Some (whole migrates)) false (decrypt_rest overwrite output input) ≡ false
+decrypt-help true true output input = refl
+decrypt-help true false output input = refl
+decrypt-help false true output input = refl
+decrypt-help false false output input = refl
 
 -- what identities alone have given
 abbrev given_identities : List (List ℕ) → Option (List ℕ) → GivenValue
 given_identities names file = record nothing { identity_files = names; passphrase_file = file }
 
-decrypt-given : (overwrite : Bool) (output input : List ℕ) (names : List (List ℕ)) (file : Option (List ℕ))
-    → with_words name.Decrypt (decrypt_rest overwrite output input) (given_identities names file)
+decrypt-given : (migrates overwrite : Bool) (output input : List ℕ) (names : List (List ℕ)) (file : Option (List ℕ))
+    → with_words (whole migrates) (decrypt_rest overwrite output input) (given_identities names file)
     ≡ Ok (record (given_identities names file) { next = Operand; overwrite = overwrite; output = Some output; operands = input ∷ [] })
-decrypt-given true output input names file = refl
-decrypt-given false output input names file = refl
+decrypt-given true true output input names file = refl
+decrypt-given true false output input names file = refl
+decrypt-given false true output input names file = refl
+decrypt-given false false output input names file = refl
 
 keygen_written : (overwrite : Bool) (output : List ℕ)
     → command_of (codes "keygen" ∷ switch_words (codes "-f") overwrite (codes "-o" ∷ output ∷ []))
@@ -134,30 +152,46 @@ written (Decrypt (Files []) input output) askable = absurd askable
 written (Decrypt (Files (first ∷ more)) input output) askable =
     let rest = decrypt_rest output.overwrite output.name input in
     answer (codes "decrypt") name.Decrypt (files_words (first ∷ more) rest) _
-    (files-help false (first ∷ more) rest ∙ decrypt-help output.overwrite output.name input)
-    (files-given false (first ∷ more) [] rest ∙ decrypt-given output.overwrite output.name input (first ∷ more) None)
+    (files-help ToDecrypt (first ∷ more) rest ∙ decrypt-help false output.overwrite output.name input)
+    (files-given ToDecrypt (first ∷ more) [] rest ∙ decrypt-given false output.overwrite output.name input (first ∷ more) None)
 written (Decrypt (ProtectedFiles [] file) input output) askable = absurd askable
 written (Decrypt (ProtectedFiles (first ∷ more) file) input output) askable =
     let rest = codes "-p" ∷ file ∷ decrypt_rest output.overwrite output.name input in
     answer (codes "decrypt") name.Decrypt (files_words (first ∷ more) rest) _
-    (files-help false (first ∷ more) rest ∙ decrypt-help output.overwrite output.name input)
-    (files-given false (first ∷ more) [] rest ∙ decrypt-given output.overwrite output.name input (first ∷ more) (Some file))
+    (files-help ToDecrypt (first ∷ more) rest ∙ decrypt-help false output.overwrite output.name input)
+    (files-given ToDecrypt (first ∷ more) [] rest ∙ decrypt-given false output.overwrite output.name input (first ∷ more) (Some file))
 written (Decrypt (WithPassphraseFile file) input output) askable =
     let rest = decrypt_rest output.overwrite output.name input in
-    answer (codes "decrypt") name.Decrypt (codes "-p" ∷ file ∷ rest) _ (decrypt-help output.overwrite output.name input)
-    (decrypt-given output.overwrite output.name input [] (Some file))
+    answer (codes "decrypt") name.Decrypt (codes "-p" ∷ file ∷ rest) _ (decrypt-help false output.overwrite output.name input)
+    (decrypt-given false output.overwrite output.name input [] (Some file))
 written (Part (Files []) place count input) askable = absurd askable.0
 written (Part (Files (first ∷ more)) place count input) askable =
     let rest : List (List ℕ) = codes "--" ∷ decimal place ∷ decimal count ∷ input ∷ [] in
-    answer (codes "part") name.Part (files_words (first ∷ more) rest) _ (files-help true (first ∷ more) rest) (files-given true (first ∷ more) [] rest)
+    answer (codes "part") name.Part (files_words (first ∷ more) rest) _ (files-help ToPart (first ∷ more) rest) (files-given ToPart (first ∷ more) [] rest)
     ∙ part_written (Files (first ∷ more)) place count input askable.1 askable.2
 written (Part (ProtectedFiles [] file) place count input) askable = absurd askable.0
 written (Part (ProtectedFiles (first ∷ more) file) place count input) askable =
     let rest : List (List ℕ) = codes "-p" ∷ file ∷ codes "--" ∷ decimal place ∷ decimal count ∷ input ∷ [] in
-    answer (codes "part") name.Part (files_words (first ∷ more) rest) _ (files-help true (first ∷ more) rest) (files-given true (first ∷ more) [] rest)
+    answer (codes "part") name.Part (files_words (first ∷ more) rest) _ (files-help ToPart (first ∷ more) rest) (files-given ToPart (first ∷ more) [] rest)
     ∙ part_written (ProtectedFiles (first ∷ more) file) place count input askable.1 askable.2
 written (Part (WithPassphraseFile file) place count input) askable =
     let rest : List (List ℕ) = codes "--" ∷ decimal place ∷ decimal count ∷ input ∷ [] in
     answer (codes "part") name.Part (codes "-p" ∷ file ∷ rest)
     (record (given_identities [] (Some file)) { next = Operand; operands = decimal place ∷ decimal count ∷ input ∷ [] }) refl refl
     ∙ part_written (WithPassphraseFile file) place count input askable.1 askable.2
+written (Migrate (Files []) input output) askable = absurd askable
+written (Migrate (Files (first ∷ more)) input output) askable =
+    let rest = decrypt_rest output.overwrite output.name input in
+    answer (codes "migrate") name.Migrate (files_words (first ∷ more) rest) _
+    (files-help ToMigrate (first ∷ more) rest ∙ decrypt-help true output.overwrite output.name input)
+    (files-given ToMigrate (first ∷ more) [] rest ∙ decrypt-given true output.overwrite output.name input (first ∷ more) None)
+written (Migrate (ProtectedFiles [] file) input output) askable = absurd askable
+written (Migrate (ProtectedFiles (first ∷ more) file) input output) askable =
+    let rest = codes "-p" ∷ file ∷ decrypt_rest output.overwrite output.name input in
+    answer (codes "migrate") name.Migrate (files_words (first ∷ more) rest) _
+    (files-help ToMigrate (first ∷ more) rest ∙ decrypt-help true output.overwrite output.name input)
+    (files-given ToMigrate (first ∷ more) [] rest ∙ decrypt-given true output.overwrite output.name input (first ∷ more) (Some file))
+written (Migrate (WithPassphraseFile file) input output) askable =
+    let rest = decrypt_rest output.overwrite output.name input in
+    answer (codes "migrate") name.Migrate (codes "-p" ∷ file ∷ rest) _ (decrypt-help true output.overwrite output.name input)
+    (decrypt-given true output.overwrite output.name input [] (Some file))

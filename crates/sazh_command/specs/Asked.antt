@@ -37,7 +37,8 @@ pub record OutputValue : Type 0 where
   pub name : List ℕ
   pub overwrite : Bool
 
--- a command: `Encrypt recipients armored input output`, `Decrypt identities input output`, `Part identities place count input`
+-- a command: `Encrypt recipients armored input output`, `Decrypt identities input output`, `Part identities place count input`,
+-- `Migrate identities input output`
 pub data CommandValue : Type 0 where
   Help : CommandValue
   Version : CommandValue
@@ -45,6 +46,7 @@ pub data CommandValue : Type 0 where
   Encrypt : RecipientsValue → Bool → List ℕ → OutputValue → CommandValue
   Decrypt : IdentitiesValue → List ℕ → OutputValue → CommandValue
   Part : IdentitiesValue → ℕ → ℕ → List ℕ → CommandValue
+  Migrate : IdentitiesValue → List ℕ → OutputValue → CommandValue
 
 -- what is wrong
 pub data UsageErrorValue : Type 0 where
@@ -86,6 +88,7 @@ command_value (command.Encrypt recipients armored input output) =
     Encrypt (recipients_value recipients) armored (string_bytes input) (output_value output)
 command_value (command.Decrypt identities input output) = Decrypt (identities_value identities) (string_bytes input) (output_value output)
 command_value (command.Part identities place count input) = Part (identities_value identities) place count (string_bytes input)
+command_value (command.Migrate identities input output) = Migrate (identities_value identities) (string_bytes input) (output_value output)
 
 abbrev pub error_value : UsageError → UsageErrorValue
 error_value mistake.NoCommand = NoCommand

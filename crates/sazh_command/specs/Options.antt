@@ -4,7 +4,7 @@ use Rattle.sazh_command.specs.declared.options.ValueOption.TheVariants.{Recipien
 use Rattle.sazh_command.specs.declared.options.CommandOption.{CommandOption}
 use Rattle.sazh_command.specs.declared.options.CommandOption.TheVariants.{Armor, Overwrite, Valued}
 use Rattle.sazh_command.specs.declared.options.CommandName.{CommandName}
-use Rattle.sazh_command.specs.declared.options.CommandName.TheVariants.{Keygen, Encrypt, Decrypt, Part, Version}
+use Rattle.sazh_command.specs.declared.options.CommandName.TheVariants.{Keygen, Encrypt, Decrypt, Part, Migrate, Version}
 
 -- what the first word of a command line names
 abbrev pub command_named : List ℕ → Option CommandName
@@ -13,6 +13,7 @@ command_named word =
     else if bytes_eq word (codes "encrypt") then Some Encrypt
     else if bytes_eq word (codes "decrypt") then Some Decrypt
     else if bytes_eq word (codes "part") then Some Part
+    else if bytes_eq word (codes "migrate") then Some Migrate
     else if bytes_eq word (codes "--version") then Some Version
     else None
 
@@ -34,7 +35,7 @@ option_of_encrypt word =
     else if bytes_eq word (codes "-o") then Some (Valued Output)
     else None
 
--- sazh decrypt (-i FILE.. [-p FILE] | -p FILE) [-f] [-o OUT] [IN]
+-- sazh decrypt (-i FILE.. [-p FILE] | -p FILE) [-f] [-o OUT] [IN], and migrate with the same options
 abbrev pub option_of_decrypt : List ℕ → Option CommandOption
 option_of_decrypt word =
     if bytes_eq word (codes "-i") then Some (Valued IdentityFile)
@@ -56,6 +57,7 @@ option_of Keygen word = option_of_keygen word
 option_of Encrypt word = option_of_encrypt word
 option_of Decrypt word = option_of_decrypt word
 option_of Part word = option_of_part word
+option_of Migrate word = option_of_decrypt word
 option_of Version word = None
 
 -- a word is written as an option: it begins with '-', and more follows

@@ -5,7 +5,7 @@ use Rattle.sazh_command.specs.declared.options.Operand.{Operand}
 use Rattle.sazh_command.specs.declared.options.Operand.TheVariants as operand
 use Rattle.sazh_command.specs.declared.options.CommandName.{CommandName}
 use Rattle.sazh_command.specs.declared.options.CommandName.TheVariants as name
-use Rattle.sazh_command.specs.Asked.{RecipientValue, RecipientsValue, Listed, ToPassphraseFile, IdentitiesValue, Files, ProtectedFiles, WithPassphraseFile, OutputValue, CommandValue, Help, Version, Keygen, Encrypt, Decrypt, Part, UsageErrorValue, NoCommand, UnknownCommand, PassphraseBesideRecipients, NoRecipient, NoIdentity, MissingOperand, NotANumber, ExtraOperand}
+use Rattle.sazh_command.specs.Asked.{RecipientValue, RecipientsValue, Listed, ToPassphraseFile, IdentitiesValue, Files, ProtectedFiles, WithPassphraseFile, OutputValue, CommandValue, Help, Version, Keygen, Encrypt, Decrypt, Part, Migrate, UsageErrorValue, NoCommand, UnknownCommand, PassphraseBesideRecipients, NoRecipient, NoIdentity, MissingOperand, NotANumber, ExtraOperand}
 use Rattle.sazh_command.specs.Decimal.{number_of}
 use Rattle.sazh_command.specs.Options.{command_named}
 use Rattle.sazh_command.specs.Reading.{GivenValue, and_then, given_of, asks_for_help}
@@ -71,6 +71,10 @@ asked name.Decrypt given =
 asked name.Part given =
     and_then (λ identities. and_then (λ range. Ok (Part identities range.0 range.1 range.2)) (range_of given.operands))
     (identities_of given.identity_files given.passphrase_file)
+-- sazh migrate (-i FILE.. [-p FILE] | -p FILE) [-f] [-o OUT] [IN]
+asked name.Migrate given =
+    and_then (λ identities. and_then (λ input. Ok (Migrate identities input (output_of given.output given.overwrite)))
+    (input_of given.operands)) (identities_of given.identity_files given.passphrase_file)
 
 -- the command that the first word names, and the words after it
 abbrev pub named_command_of : List ℕ → Option CommandName → List (List ℕ) → Result CommandValue UsageErrorValue

@@ -1,7 +1,7 @@
 -- The words that ask for a command, in the order of the synopsis: so each command can be asked for. A word is a list of bytes.
 use Rattle.std.specs.Prelude.{ℕ, ◌<◌, ◌^◌, Bool, List, [], ◌∷◌, codes, if◌then◌else◌, ⊤}
 use Rattle.std.specs.Fmt.{decimal}
-use Rattle.sazh_command.specs.Asked.{RecipientValue, Text, File, RecipientsValue, Listed, ToPassphraseFile, IdentitiesValue, Files, ProtectedFiles, WithPassphraseFile, OutputValue, CommandValue, Help, Version, Keygen, Encrypt, Decrypt, Part}
+use Rattle.sazh_command.specs.Asked.{RecipientValue, Text, File, RecipientsValue, Listed, ToPassphraseFile, IdentitiesValue, Files, ProtectedFiles, WithPassphraseFile, OutputValue, CommandValue, Help, Version, Keygen, Encrypt, Decrypt, Part, Migrate}
 
 -- The words of a part of a command, in front of the others.
 
@@ -39,6 +39,7 @@ words_of (Encrypt recipients armored input output) =
 words_of (Decrypt identities input output) = codes "decrypt" ∷ identities_words identities (output_words output (codes "--" ∷ input ∷ []))
 words_of (Part identities place count input) =
     codes "part" ∷ identities_words identities (codes "--" ∷ decimal place ∷ decimal count ∷ input ∷ [])
+words_of (Migrate identities input output) = codes "migrate" ∷ identities_words identities (output_words output (codes "--" ∷ input ∷ []))
 
 -- a command that can be asked for has a recipient or a file of identities, and numbers below 2^64
 abbrev pub HasRecipient : RecipientsValue → Type 0
@@ -54,4 +55,5 @@ abbrev pub IsAskable : CommandValue → Type 0
 IsAskable (Encrypt recipients armored input output) = HasRecipient recipients
 IsAskable (Decrypt identities input output) = HasIdentity identities
 IsAskable (Part identities place count input) = HasIdentity identities × (place < 2 ^ 64) × (count < 2 ^ 64)
+IsAskable (Migrate identities input output) = HasIdentity identities
 IsAskable command = ⊤

@@ -69,4 +69,10 @@ pub enum Command {
         count: u64,
         input: String,
     },
+    /// Write the input, a file whose header may be of the early form, with a header of the standard. Where no input is named it is `-`.
+    Migrate {
+        identities: Identities,
+        input: String,
+        output: Output,
+    },
 }

@@ -6,6 +6,7 @@ pub const USAGE: &str = "usage: sazh keygen [-f] [-o OUT]
        sazh encrypt -p FILE [-a] [-f] [-o OUT] [IN]
        sazh decrypt (-i FILE.. [-p FILE] | -p FILE) [-f] [-o OUT] [IN]
        sazh part (-i FILE.. [-p FILE] | -p FILE) PLACE COUNT IN
+       sazh migrate (-i FILE.. [-p FILE] | -p FILE) [-f] [-o OUT] [IN]
        sazh --help
        sazh --version";
 
@@ -15,6 +16,7 @@ pub const HELP: &str = "usage: sazh keygen [-f] [-o OUT]
        sazh encrypt -p FILE [-a] [-f] [-o OUT] [IN]
        sazh decrypt (-i FILE.. [-p FILE] | -p FILE) [-f] [-o OUT] [IN]
        sazh part (-i FILE.. [-p FILE] | -p FILE) PLACE COUNT IN
+       sazh migrate (-i FILE.. [-p FILE] | -p FILE) [-f] [-o OUT] [IN]
        sazh --help
        sazh --version
 
@@ -26,6 +28,8 @@ decrypt  decrypts IN, in armor or not.
 part     decrypts COUNT bytes of IN from byte PLACE on (0 is the first), or
          fewer where the content ends, and writes them to standard output. It
          seeks in a file, also as standard input, and reads a pipe into memory.
+migrate  rewrites IN, a file from before the standard, with a header that the
+         other commands read. The content stays encrypted as it is.
 
 IN and OUT are names of files; -, or none, is standard input or output.
 
@@ -55,4 +59,5 @@ examples:
     -r age1ql3z7hjy54pw3hyww5ayyfg7zqgvc7w3j2elw8zmrj2kg5sfn9aqmcac8p notes.txt
   sazh decrypt -i key.txt -o notes.txt notes.age
   sazh encrypt -p passphrase.txt -a < notes.txt > notes.age
-  sazh part -i key.txt 1000000 4096 disk.age > piece";
+  sazh part -i key.txt 1000000 4096 disk.age > piece
+  sazh migrate -i key.txt -o new.age old.age";

@@ -184,6 +184,22 @@ fn asked_of_part(alloc: Global, given: &mut Given) -> Result<Command, Stop>
     })
 }
 
+// `migrate`.
+#[tactic(auto, using(crate::proofs::Stops::and_then_stops))]
+fn asked_of_migrate(alloc: Global, given: &mut Given) -> Result<Command, Stop>
+    ensures { IsAnswer command_value result (asked CommandName.Migrate (given_value given.old)) }
+{
+    let files = mem::replace(&mut given.identity_files, Vec::new(alloc));
+    let identities = identities_of(files, given.passphrase_file.take())?;
+    let input = input_of(alloc, given.operands.as_slice())?;
+    let output = output_of(alloc, given.output.take(), given.overwrite)?;
+    Ok(Command::Migrate {
+        identities,
+        input,
+        output,
+    })
+}
+
 // `--version`.
 #[tactic(auto, using(crate::proofs::Stops::and_then_stops))]
 fn asked_of_version(alloc: Global, given: &Given) -> Result<Command, Stop>
@@ -204,5 +220,6 @@ pub fn asked(alloc: Global, command: CommandName, given: &mut Given) -> Result<C
         CommandName::Encrypt => asked_of_encrypt(alloc, given),
         CommandName::Decrypt => asked_of_decrypt(alloc, given),
         CommandName::Part => asked_of_part(alloc, given),
+        CommandName::Migrate => asked_of_migrate(alloc, given),
     }
 }

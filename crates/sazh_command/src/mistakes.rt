@@ -26,7 +26,7 @@ pub enum UsageError {
     PassphraseBesideRecipients,
     /// `encrypt` has none of `-r`, `-R` and `-p`.
     NoRecipient,
-    /// `decrypt` or `part` has neither `-i` nor `-p`.
+    /// `decrypt`, `part` or `migrate` has neither `-i` nor `-p`.
     NoIdentity,
     /// `part` lacks this operand.
     MissingOperand(Operand),

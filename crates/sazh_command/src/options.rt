@@ -75,6 +75,7 @@ pub enum CommandName {
     Encrypt,
     Decrypt,
     Part,
+    Migrate,
     Version,
 }
 
@@ -87,6 +88,7 @@ pub fn command_named(word: &str) -> Option<CommandName>
         "encrypt" => Some(CommandName::Encrypt),
         "decrypt" => Some(CommandName::Decrypt),
         "part" => Some(CommandName::Part),
+        "migrate" => Some(CommandName::Migrate),
         "--version" => Some(CommandName::Version),
         _ => None,
     }
@@ -118,7 +120,7 @@ fn option_of_encrypt(word: &str) -> Option<CommandOption>
     }
 }
 
-// The option of `decrypt` that a word is.
+// The option of `decrypt` that a word is, and of `migrate`, which has the same.
 fn option_of_decrypt(word: &str) -> Option<CommandOption>
     ensures { result ≡ option_of_decrypt word.now }
 {
@@ -151,6 +153,7 @@ pub fn option_of(command: CommandName, word: &str) -> Option<CommandOption>
         CommandName::Encrypt => option_of_encrypt(word),
         CommandName::Decrypt => option_of_decrypt(word),
         CommandName::Part => option_of_part(word),
+        CommandName::Migrate => option_of_decrypt(word),
         CommandName::Version => None,
     }
 }
