@@ -4,6 +4,9 @@ Each run has to end as it is said here, with this output, this status and, where
 'N passed, M failed'.
 """
 
+import base64
+import hashlib
+import hmac
 import os
 import stat
 import subprocess
@@ -17,6 +20,13 @@ IDENTITY_OF_THE_PROTECTED_FILE = b"AGE-SECRET-KEY-1YZ3PRM0AJDSQEWZVRM7NKJL58NQMG
 RECIPIENT_OF_THE_PROTECTED_FILE = "age1ysxuaeqlk7xd8uqsh8lsnfwt9jzzjlqf49ruhpjrrj5yatlcuf7qke4pqe"
 SIZES = [0, 1, 65_535, 65_536, 65_537, 200_000]
 SMALL, BIG = 1 << 20, 1 << 30
+VERSION = b"age-encryption.org/v1\n"
+# The file key of `one_byte.age`, which its identity gets.
+FILE_KEY_OF_ONE_BYTE = bytes.fromhex("08649e8fd60556f05b45b09fdcf79fed")
+# Stanzas that no identity knows, in the early form: the empty line after a body of whole lines, or of none, is missing.
+LINE = b"A" * 64 + b"\n"
+EARLY_STANZAS = {"an empty body": b"-> early\n", "a body of a line": b"-> early with words\n" + LINE, "a body of two lines": b"-> early\n" + LINE + LINE}
+HINT = b": a header of an early form: sazh migrate rewrites it\n"
 # What a part of a bare file may read: two chunks, buffers, the file of keys and what the system's loader reads.
 MOST_READ = 400_000
 
@@ -179,6 +189,99 @@ def seeks(runs, recipient):
     runs.gives("from a pipe", ["part", "-i", "key", "70000", "100", "-"], plaintext(100_000)[70_000:70_100], runs.path("file").read_bytes())
 
 
+def mac(key, text):
+    return hmac.new(key, text, hashlib.sha256).digest()
+
+
+def header(file_key, stanzas):
+    """A header of these stanzas, as they are written (age-encryption.org/v1, "Header"): its key is HKDF-SHA-256 of the file key (RFC 5869)."""
+    text = VERSION + stanzas + b"---"
+    key = mac(mac(b"", file_key), b"header\x01")
+    return text + b" " + base64.b64encode(mac(key, text)).rstrip(b"=") + b"\n"
+
+
+def armor(file):
+    text = base64.b64encode(file)
+    lines = [text[i : i + 64] for i in range(0, len(text), 64)]
+    return b"\n".join([b"-----BEGIN AGE ENCRYPTED FILE-----", *lines, b"-----END AGE ENCRYPTED FILE-----", b""])
+
+
+def early_file(runs, what, early, canonical):
+    """A file whose header is of the early form is refused with a hint, and rewritten as the file of the same stanzas."""
+    key = ["-i", VECTORS / "key.txt"]
+    for form, file in (("bare", early), ("in armor", armor(early))):
+        runs.path("early").write_bytes(file)
+        runs.gives(f"{what}, {form}, rewritten", ["migrate", *key, "early"], canonical)
+        runs.gives(f"{what}, {form}, rewritten from a pipe", ["migrate", *key], canonical, file)
+        runs.gives(f"{what}, {form}, rewritten to a file", ["migrate", *key, "-f", "-o", "rewritten", "early"], b"")
+        runs.ends("the same", runs.path("rewritten").read_bytes() == canonical)
+        runs.gives(f"{what}, {form}, opened", ["decrypt", *key, "rewritten"], plaintext(1))
+        runs.gives(f"a part of {what}, {form}", ["part", *key, "0", "1", "rewritten"], plaintext(1))
+        runs.refuses(f"{what}, {form}, as it is", ["decrypt", *key, "early"], says=b"sazh: early" + HINT)
+        runs.refuses(f"a part of {what}, {form}, as it is", ["part", *key, "0", "1", "early"], says=b"sazh: early" + HINT)
+        for words in (["decrypt", *key], ["decrypt", *key, "/dev/stdin"], ["part", *key, "0", "1", "-"], ["part", *key, "0", "1", "/dev/stdin"]):
+            runs.refuses(f"{words} of a pipe, {what}, {form}", words, file, says=b"sazh: invalid header\n")
+
+
+def migrates(runs):
+    """An early file is rewritten, any other stays as it is, and nothing is written where a header is refused."""
+    key = ["-i", VECTORS / "key.txt"]
+    file = Path(VECTORS, "one_byte.age").read_bytes()
+    end = file.index(b"\n", file.index(b"\n---") + 1) + 1
+    stanza, rest = file[len(VERSION) : file.index(b"---")], file[end:]
+    runs.ends("the file key of one_byte.age", header(FILE_KEY_OF_ONE_BYTE, stanza) == file[:end])
+    for what, early in EARLY_STANZAS.items():
+        for place, old, new in (
+            ("before", early + stanza, early + b"\n" + stanza),
+            ("after", stanza + early, stanza + early + b"\n"),
+            ("on both sides", early + stanza + early, early + b"\n" + stanza + early + b"\n"),
+        ):
+            early_file(runs, f"{what} {place}", header(FILE_KEY_OF_ONE_BYTE, old) + rest, header(FILE_KEY_OF_ONE_BYTE, new) + rest)
+
+    at = lambda name: VECTORS / name
+    protected = ["-i", at("protected_identity.age"), "-p", at("protected_identity.passphrase")]
+    for name, who in (("empty.age", key), ("one_byte.age", key), ("whole_chunk.age", key), ("under_passphrase.age", ["-p", at("passphrase.txt")])):
+        runs.gives(f"{name} stays", ["migrate", *who, at(name)], at(name).read_bytes())
+    for name, who in (("one_byte_more.age", key), ("to_protected.age", protected)):
+        lines = at(name).read_bytes().split()[4:-4]
+        runs.gives(f"{name} without its armor", ["migrate", *who, at(name)], base64.b64decode(b"".join(lines)))
+
+    early = header(FILE_KEY_OF_ONE_BYTE, stanza + EARLY_STANZAS["a body of a line"])
+    cases = {
+        "another identity": (["-i", "key"], early + rest, b"sazh: no matching keys\n"),
+        "a passphrase": (["-p", "passphrase"], early + rest, b"sazh: no matching keys\n"),
+        "another MAC": (key, header(bytes(16), stanza + EARLY_STANZAS["a body of a line"]) + rest, b"sazh: invalid header MAC\n"),
+        "another header": (key, early.replace(b"AAAA", b"AAAB", 1) + rest, b"sazh: invalid header MAC\n"),
+        "the header alone": (key, early, b"sazh: "),
+        "no header": (key, plaintext(1_000), b"sazh: invalid header\n"),
+        "an empty file": (key, b"", b"sazh: "),
+    }
+    for what, (who, given, says) in cases.items():
+        runs.path("early").write_bytes(given)
+        runs.refuses(f"{what} is rewritten", ["migrate", *who, "early"], says=says)
+        runs.refuses(f"{what} is rewritten from a pipe", ["migrate", *who], given, says=says)
+        runs.refuses(f"{what} is rewritten to a file", ["migrate", *who, "-o", "never", "early"], says=says)
+        runs.ends("no file", not runs.path("never").exists())
+    runs.ends("nothing is left beside", not [name for name in os.listdir(runs.folder) if name.endswith(".part")])
+
+    runs.path("early").write_bytes(early + rest)
+    runs.refuses("a file that is there", ["migrate", *key, "-o", "rewritten", "early"], says=b"rewritten: there is such a file already")
+    runs.refuses("a file that is there, for a plaintext", ["decrypt", *key, "-o", "rewritten", "early"], says=b"rewritten: there is such a file already")
+    runs.refuses("no such file", ["migrate", *key, "none"], says=b"none: no such file")
+    runs.refuses("no such identities", ["migrate", "-i", "none", "early"], says=b"none: no such file")
+    with open(runs.path("early"), "rb") as given:
+        done = subprocess.run([runs.program, "decrypt", *key], stdin=given, capture_output=True, check=False)
+    runs.ends("an early file as standard input", done.returncode == 1 and not done.stdout and done.stderr == b"sazh: invalid header\n")
+    # A header of the standard that is refused for what its stanzas are isn't told as an early one.
+    beside = header(FILE_KEY_OF_ONE_BYTE, stanza + b"-> scrypt " + b"A" * 22 + b" 10\n" + b"A" * 43 + b"\n")
+    runs.path("beside").write_bytes(beside + rest)
+    for words in (["decrypt", *key, "beside"], ["part", *key, "0", "1", "beside"], ["migrate", *key, "beside"]):
+        runs.refuses(f"{words}", words, says=b"sazh: invalid header\n")
+    # The payload isn't looked at.
+    runs.gives("an early file that is cut", ["migrate", *key, "-o", "cut_late"], b"", early + rest[:-1])
+    runs.refuses("which isn't opened", ["decrypt", *key, "cut_late"])
+
+
 def outputs(runs):
     """A file that is there stays, and one that doesn't become whole isn't there."""
     before = runs.path("back").read_bytes()
@@ -226,9 +329,10 @@ def command_lines(runs, recipient):
         [], ["no"], ["encrypt"], ["decrypt"], ["decrypt", "-x"], ["encrypt", "-r"], ["encrypt", "-r", recipient, "-p", "passphrase"],
         ["encrypt", "-r", recipient, "-o", "a", "-o", "b"], ["decrypt", "-i", "key", "a", "b"], ["part", "-i", "key", "1", "file"],
         ["part", "-i", "key", "x", "1", "file"], ["part", "-i", "key", "1", "-1", "file"], ["keygen", "more"],
+        ["migrate"], ["migrate", "file"], ["migrate", "-i", "key", "-a"], ["migrate", "-i", "key", "a", "b"], ["migrate", "-i", "key", "-o", "a", "-o", "b"],
     ):
         runs.refuses(f"{words}", words, status=2, says=b"usage: sazh")
-    for words in (["--help"], ["-h"], ["decrypt", "--help"]):
+    for words in (["--help"], ["-h"], ["decrypt", "--help"], ["migrate", "-h"]):
         done = runs.run(words)
         runs.ends(f"{words}", done.returncode == 0 and not done.stderr and b"sazh encrypt" in done.stdout)
     done = runs.run(["--version"])
@@ -241,6 +345,7 @@ def main():
         vectors(runs)
         recipient = files(runs)
         seeks(runs, recipient)
+        migrates(runs)
         outputs(runs)
         refusals(runs, recipient)
         command_lines(runs, recipient)

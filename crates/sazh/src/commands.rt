@@ -1,8 +1,9 @@
 //! The commands.
 
-use crate::failure::{Failure, done};
+use crate::early::answered;
+use crate::failure::{Failure, done, done_with_file};
 use crate::files::{open, open_input};
-use crate::jobs::{Decrypting, Encrypting, Job, To, flushed, run_job};
+use crate::jobs::{Decrypting, Encrypting, Job, Migrating, To, flushed, run_job};
 use crate::keys::{
     Holder, identities, passphrase_identity, passphrase_recipient, recipient, recipients,
 };
@@ -157,7 +158,7 @@ fn part_of_file(
     count: u64,
     file: Std<File>,
 ) -> Result<(), Failure> {
-    let mut stream = done(
+    let mut stream = done_with_file(
         rt,
         open_text::<StandardSuite, Holder, Std<File>>(rt.alloc(), identities, file),
     )?;
@@ -180,7 +181,8 @@ fn part(
     let mut identities = with(rt, asked)?;
     if input != "-" {
         let file = open(rt, input)?;
-        return part_of_file(rt, &mut identities, place, count, file);
+        let answer = part_of_file(rt, &mut identities, place, count, file);
+        return answered(rt, input, answer);
     }
     match open_input(rt) {
         Some(file) => part_of_file(rt, &mut identities, place, count, file),
@@ -248,7 +250,19 @@ fn decrypt(
     output: &Output,
 ) -> Result<(), Failure> {
     let identities = with(rt, asked)?;
-    run_job(rt, Decrypting { identities }, input, output, FOR_ALL)
+    let answer = run_job(rt, Decrypting { identities }, input, output, FOR_ALL);
+    answered(rt, input, answer)
+}
+
+// Rewrites an input to an output, with a header of the standard.
+fn migrate(
+    rt: &HostRuntime,
+    asked: &Identities,
+    input: &str,
+    output: &Output,
+) -> Result<(), Failure> {
+    let identities = with(rt, asked)?;
+    run_job(rt, Migrating { identities }, input, output, FOR_ALL)
 }
 
 /// Does what a command line asks for.
@@ -274,5 +288,10 @@ pub fn run(rt: &HostRuntime, command: &Command) -> Result<(), Failure> {
             count,
             input,
         } => part(rt, identities, *place, *count, input),
+        Command::Migrate {
+            identities,
+            input,
+            output,
+        } => migrate(rt, identities, input, output),
     }
 }

@@ -1,6 +1,8 @@
 //! Why a command was refused.
 
+use age::DecryptError;
 use age::io::{Error, ErrorKind};
+use age::streaming::FileError;
 use std::alloc::{AllocError, AllocFailed};
 use std::fmt;
 use std::fmt::Display;
@@ -10,8 +12,17 @@ use std::fmt::Display;
 pub enum Failure {
     /// Memory was refused.
     OutOfMemory,
+    /// The file to open has no header of the standard.
+    InvalidHeader,
     /// As this text says.
     Said(String),
+}
+
+impl Failure {
+    /// Whether a file was refused for its header.
+    pub fn is_invalid_header(&self) -> bool {
+        matches!(self, Failure::InvalidHeader)
+    }
 }
 
 /// That something was refused for this reason.
@@ -53,6 +64,23 @@ pub fn done_with<T, E: Display + Drop>(
     }
 }
 
+// Whether a file was refused for its header.
+fn is_invalid_header(error: &FileError) -> bool {
+    matches!(error, FileError::Decrypt(DecryptError::InvalidHeader))
+}
+
+/// What was answered, or that a file wasn't opened or written.
+pub fn done_with_file<T>(rt: &HostRuntime, answer: Result<T, FileError>) -> Result<T, Failure> {
+    match answer {
+        Ok(value) => Ok(value),
+        Err(error) => Err(if is_invalid_header(&error) {
+            Failure::InvalidHeader
+        } else {
+            said(rt, &error)
+        }),
+    }
+}
+
 /// What a text says, or that there was no memory for it.
 pub fn told(text: Result<String, AllocError>) -> Failure {
     match text {
@@ -65,6 +93,7 @@ impl fmt::Display for Failure {
     fn fmt<W: fmt::Write>(&self, f: &mut fmt::Formatter<W>) -> fmt::Result {
         match self {
             Failure::OutOfMemory => f.write_str("out of memory"),
+            Failure::InvalidHeader => write!(f, "{}", DecryptError::InvalidHeader),
             Failure::Said(text) => f.write_str(text),
         }
     }

@@ -1,7 +1,8 @@
 //! Files that are opened or read whole, and a random number.
 
 use crate::failure::{Failure, refused, said};
-use age::io::{Seek, SeekFrom, Std, device_error, read_to_end};
+use age::armor::ArmoredReader;
+use age::io::{BufReader, Seek, SeekFrom, Std, device_error, read_to_end};
 use age::util::LimitedReader;
 use age_tool::error::RandomError;
 use sazh_command::told_place;
@@ -28,6 +29,17 @@ pub fn open(rt: &HostRuntime, name: &str) -> Result<Std<File>, Failure> {
     match File::open(rt, name) {
         Ok(file) => Ok(Std::new(file)),
         Err(error) => Err(refused(rt, name, device_error(&error))),
+    }
+}
+
+/// The text of the file of this name, bare or in armor.
+pub fn text_in(
+    rt: &HostRuntime,
+    name: &str,
+) -> Result<ArmoredReader<BufReader<Std<File>>>, Failure> {
+    match ArmoredReader::new(rt.alloc(), open(rt, name)?) {
+        Ok(text) => Ok(text),
+        Err(_) => Err(Failure::OutOfMemory),
     }
 }
 

@@ -1,17 +1,18 @@
 //! What is done from an input to an output.
 
-use crate::failure::{Failure, done};
+use crate::failure::{Failure, done, done_with_file};
 use crate::files::open;
 use crate::keys::Holder;
 use crate::output::{create, finish, give_up};
-use age::armor::Format;
+use age::armor::{ArmoredReader, Format};
 use age::draw::Draw;
 use age::format::Grease;
-use age::io::{Read, Std, Write, flush_retrying};
-use age::streaming::{decrypt_all, encrypt_all};
+use age::io::{BufReader, Read, Std, Write, flush_retrying};
+use age::streaming::{FileError, decrypt_all, encrypt_all, migrate};
 use age::{scrypt, x25519};
 use age_standard::StandardSuite;
 use sazh_command::Output;
+use std::alloc::Global;
 use std::io;
 
 /// To whom is encrypted.
@@ -107,9 +108,45 @@ impl Job for Decrypting {
         writer: &mut W,
     ) -> Result<(), Failure> {
         let mut identities = self.identities;
-        done(
+        done_with_file(
             rt,
             decrypt_all::<StandardSuite, Holder, R, W>(rt.alloc(), &mut identities, reader, writer),
+        )?;
+        flushed(rt, writer)
+    }
+}
+
+// Rewrites a file, bare or in armor, as a bare one with a header of the standard.
+fn migrate_text<R: Read, W: Write>(
+    alloc: Global,
+    identities: &mut [Holder],
+    reader: &mut R,
+    writer: &mut W,
+) -> Result<(), FileError> {
+    let mut text = ArmoredReader::new(alloc, reader)?;
+    migrate::<StandardSuite, Holder, ArmoredReader<BufReader<&mut R>>, W>(
+        alloc, identities, &mut text, writer,
+    )?;
+    Ok(())
+}
+
+/// Rewrites the input with a header of the standard.
+#[derive(Drop)]
+pub struct Migrating {
+    pub identities: Vec<Holder>,
+}
+
+impl Job for Migrating {
+    fn run<R: Read, W: Write>(
+        self,
+        rt: &HostRuntime,
+        reader: &mut R,
+        writer: &mut W,
+    ) -> Result<(), Failure> {
+        let mut identities = self.identities;
+        done(
+            rt,
+            migrate_text(rt.alloc(), &mut identities, reader, writer),
         )?;
         flushed(rt, writer)
     }

@@ -3,7 +3,7 @@ ghost use Rattle.std.specs.Prelude.{◌≡◌, IfOk};
 ghost use Rattle.age.specs.KeyTexts.{recipient_prefix, IsKeyText};
 
 use crate::failure::{Failure, done_with, named, refused, told};
-use crate::files::{copied, open, read};
+use crate::files::{copied, read, text_in};
 use age::armor::ArmoredReader;
 use age::format::Stanza;
 use age::io::{BufReader, Error, Std};
@@ -125,14 +125,6 @@ fn found_or_none<T, E: Drop>(answer: Result<Option<T>, E>) -> Option<T> {
     match answer {
         Ok(found) => found,
         Err(_) => None,
-    }
-}
-
-// The text of the file of this name, bare or in armor.
-fn text_in(rt: &HostRuntime, name: &str) -> Result<ArmoredReader<BufReader<Std<File>>>, Failure> {
-    match ArmoredReader::new(rt.alloc(), open(rt, name)?) {
-        Ok(text) => Ok(text),
-        Err(_) => Err(Failure::OutOfMemory),
     }
 }
 

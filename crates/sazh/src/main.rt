@@ -2,6 +2,7 @@
 #![tactic(auto)]
 
 mod commands;
+mod early;
 mod failure;
 mod files;
 mod jobs;

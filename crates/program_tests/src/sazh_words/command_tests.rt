@@ -87,6 +87,22 @@ part 0 18446744073709551615 file -p secret => Ok(Part { identities: PassphraseFi
     )
 }
 
+// The options and operands of `decrypt`.
+#[test]
+fn migrate(rt: HostRuntime) -> Result<(), Fail> {
+    all_ask(
+        &rt,
+        rt.alloc(),
+        r#"
+migrate -i key => Ok(Migrate { identities: Files(["key"]), input: "-", output: Output { name: "-", overwrite: false } })
+migrate -i b file -i a -f -o new => Ok(Migrate { identities: Files(["b", "a"]), input: "file", output: Output { name: "new", overwrite: true } })
+migrate -o new -i b -p secret -i a file => Ok(Migrate { identities: ProtectedFiles(["b", "a"], "secret"), input: "file", output: Output { name: "new", overwrite: false } })
+migrate -p secret - => Ok(Migrate { identities: PassphraseFile("secret"), input: "-", output: Output { name: "-", overwrite: false } })
+migrate -i -o -- -f => Ok(Migrate { identities: Files(["-o"]), input: "-f", output: Output { name: "-", overwrite: false } })
+"#,
+    )
+}
+
 #[test]
 fn version(rt: HostRuntime) -> Result<(), Fail> {
     all_ask(

@@ -17,6 +17,7 @@ encrypt -h => Ok(Help)
 encrypt -r a plain -h => Ok(Help)
 decrypt --help -i key => Ok(Help)
 part -h => Ok(Help)
+migrate -i key --help => Ok(Help)
 --version --help => Ok(Help)
 -h -- encrypt => Ok(Help)
 "#,
@@ -39,6 +40,7 @@ keygen -r --help => Ok(Help)
 encrypt -o a -o b --help => Ok(Help)
 decrypt -p a -i b -h -o => Ok(Help)
 part one two three four -h => Ok(Help)
+migrate one two -h => Ok(Help)
 "#,
     )
 }
@@ -51,6 +53,7 @@ fn help_is_not_asked_for(rt: HostRuntime) -> Result<(), Fail> {
         r#"
 encrypt -r --help => Ok(Encrypt { recipients: Listed([Text("--help")]), armored: false, input: "-", output: Output { name: "-", overwrite: false } })
 encrypt -r a -o -h => Ok(Encrypt { recipients: Listed([Text("a")]), armored: false, input: "-", output: Output { name: "-h", overwrite: false } })
+migrate -i -h -- -h => Ok(Migrate { identities: Files(["-h"]), input: "-h", output: Output { name: "-", overwrite: false } })
 decrypt -i key -- --help => Ok(Decrypt { identities: Files(["key"]), input: "--help", output: Output { name: "-", overwrite: false } })
 keygen -o -h -x => Err(UnknownOption("-x"))
 -- --help => Err(UnknownCommand("--"))
@@ -76,7 +79,7 @@ fn texts_fit_a_terminal(rt: HostRuntime) {
 }
 
 // The beginnings of lines, and two texts that stand within them.
-const PARTS: [&str; 16] = [
+const PARTS: [&str; 17] = [
     "\n  -r RECIPIENT ",
     "\n  -R FILE ",
     "\n  -i FILE ",
@@ -89,6 +92,7 @@ const PARTS: [&str; 16] = [
     "\nencrypt ",
     "\ndecrypt ",
     "\npart ",
+    "\nmigrate ",
     "\nexit status: 0 ",
     "\nexamples:\n",
     "kept secret",

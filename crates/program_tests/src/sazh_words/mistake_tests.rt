@@ -20,6 +20,7 @@ mend => Err(UnknownCommand("mend"))
 - keygen => Err(UnknownCommand("-"))
 -- keygen => Err(UnknownCommand("--"))
 version => Err(UnknownCommand("version"))
+Migrate -i key => Err(UnknownCommand("Migrate"))
 "#,
     )
 }
@@ -41,6 +42,8 @@ encrypt -r a --version => Err(UnknownOption("--version"))
 encrypt -A => Err(UnknownOption("-A"))
 decrypt -r a => Err(UnknownOption("-r"))
 decrypt -i key -a => Err(UnknownOption("-a"))
+migrate -a => Err(UnknownOption("-a"))
+migrate -i key -r a => Err(UnknownOption("-r"))
 part -i key -o out 1 2 file => Err(UnknownOption("-o"))
 part -i key -f 1 2 file => Err(UnknownOption("-f"))
 part -i key -1 2 file => Err(UnknownOption("-1"))
@@ -59,10 +62,12 @@ encrypt -r => Err(MissingValue(Recipient))
 encrypt -r a -R => Err(MissingValue(RecipientsFile))
 decrypt plain -i => Err(MissingValue(IdentityFile))
 part -p => Err(MissingValue(PassphraseFile))
+migrate -o => Err(MissingValue(Output))
 keygen -o a -o b => Err(GivenTwice(Output))
 keygen -o a -o a => Err(GivenTwice(Output))
 encrypt -p a -p b => Err(GivenTwice(PassphraseFile))
 part -p a 1 2 file -p a => Err(GivenTwice(PassphraseFile))
+migrate -p a -p a => Err(GivenTwice(PassphraseFile))
 "#,
     )
 }
@@ -79,6 +84,7 @@ encrypt -p secret -r a => Err(PassphraseBesideRecipients)
 encrypt -R team -p secret => Err(PassphraseBesideRecipients)
 decrypt file => Err(NoIdentity)
 part 1 2 file => Err(NoIdentity)
+migrate file => Err(NoIdentity)
 "#,
     )
 }
@@ -92,6 +98,7 @@ fn operands(rt: HostRuntime) -> Result<(), Fail> {
 keygen key => Err(ExtraOperand("key"))
 encrypt -r a one two three => Err(ExtraOperand("two"))
 decrypt one -i key - two => Err(ExtraOperand("-"))
+migrate -p secret one two => Err(ExtraOperand("two"))
 part -i key => Err(MissingOperand(Place))
 part -i key 1 => Err(MissingOperand(Count))
 part 1 2 -i key => Err(MissingOperand(Input))
@@ -117,6 +124,8 @@ encrypt -p a -r b -o => Err(MissingValue(Output))
 encrypt one two => Err(NoRecipient)
 encrypt -p a -r b one two => Err(PassphraseBesideRecipients)
 decrypt one two => Err(NoIdentity)
+migrate one two => Err(NoIdentity)
+migrate one two -a => Err(UnknownOption("-a"))
 part one => Err(NoIdentity)
 part -i key one => Err(MissingOperand(Count))
 part -i key one two => Err(MissingOperand(Input))
@@ -169,6 +178,7 @@ keygen -o a -o b => the option -o is given twice
 encrypt -p a -r b => the option -p is given beside -r or -R
 encrypt => no recipient is given: -r, -R or -p is needed
 decrypt => no identity is given: -i or -p is needed
+migrate => no identity is given: -i or -p is needed
 "#,
     )
 }

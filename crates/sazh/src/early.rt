@@ -1,0 +1,60 @@
+//! Files from before the standard, whose headers may have an early form, in which a body's last line is missing where it would be empty.
+
+use crate::failure::{Failure, named};
+use crate::files::text_in;
+use age::DecryptError;
+use age::format::{HeaderV1, OldHeader};
+use std::fs;
+
+// Whether the file of this name has no header of the standard.
+fn has_invalid_header(rt: &HostRuntime, name: &str) -> bool {
+    match text_in(rt, name) {
+        Ok(mut text) => matches!(
+            HeaderV1::read(rt.alloc(), &mut text),
+            Err(DecryptError::InvalidHeader)
+        ),
+        Err(_) => false,
+    }
+}
+
+// Whether the file of this name has a header of the standard or of the early form.
+fn has_old_header(rt: &HostRuntime, name: &str) -> bool {
+    match text_in(rt, name) {
+        Ok(mut text) => OldHeader::read(rt.alloc(), &mut text).is_ok(),
+        Err(_) => false,
+    }
+}
+
+// Whether this is the name of a regular file, which can be read again.
+fn is_regular(rt: &HostRuntime, name: &str) -> bool {
+    match fs::metadata(rt, name) {
+        Ok(found) => found.is_file(),
+        Err(_) => false,
+    }
+}
+
+// Whether the file of this name can be read again, and has a header of the early form that isn't one of the standard.
+fn is_early(rt: &HostRuntime, name: &str) -> bool {
+    is_regular(rt, name) && has_invalid_header(rt, name) && has_old_header(rt, name)
+}
+
+// Why the input of this name was refused, told anew where that was for a header of the early form.
+fn reason(rt: &HostRuntime, input: &str, failure: Failure) -> Failure {
+    if failure.is_invalid_header() && input != "-" && is_early(rt, input) {
+        return named(
+            rt,
+            input,
+            &"a header of an early form: sazh migrate rewrites it",
+        );
+    }
+    failure
+}
+
+/// What was answered of the input of this name. Where its header was refused, the input is looked at again: one of the early form is
+/// told as such, with the command that rewrites it. Standard input, a pipe, and what can't be read again stay refused as they were.
+pub fn answered(rt: &HostRuntime, input: &str, answer: Result<(), Failure>) -> Result<(), Failure> {
+    match answer {
+        Ok(()) => Ok(()),
+        Err(failure) => Err(reason(rt, input, failure)),
+    }
+}
