@@ -28,8 +28,8 @@ decrypt  decrypts IN, in armor or not.
 part     decrypts COUNT bytes of IN from byte PLACE on (0 is the first), or
          fewer where the content ends, and writes them to standard output. It
          seeks in a file, also as standard input, and reads a pipe into memory.
-migrate  rewrites IN, a file from before the standard, with a header that the
-         other commands read. The content stays encrypted as it is.
+migrate  rewrites IN, a file from before the standard, without armor and with a
+         header that the other commands read. Its content stays encrypted.
 
 IN and OUT are names of files; -, or none, is standard input or output.
 
