@@ -1,7 +1,7 @@
 #!/usr/bin/env python3
 """Runs agebench where memory, reads and writes fail or fall short, and on damaged payloads, files and armor, and so a
 program that opens protected identity files (crates/probe), and one that makes calls of the library in rows where memory
-is refused (crates/rows). Runs sazh on a file from before the standard.
+is refused (crates/rows).
 
 Each run must answer the right bytes, or a beginning of them and the refusal that belongs to the fault. The right
 bytes are those of a second implementation, `second.py`, written from the format's own words. Prints each run that
@@ -16,7 +16,6 @@ from concurrent.futures import ProcessPoolExecutor
 
 import rows
 import second
-import standard
 from second import BEGIN, END, PIECE, VERSION, armor, stanza
 
 KEY = bytes(range(32))
@@ -479,30 +478,6 @@ def protected(runs):
             runs.injected("recipients", asked, given, want, f"{call}-interrupted-on", DEVICE, 2)
 
 
-def carried_over(runs):
-    """A file from before the standard: `sazh` refuses to decrypt it, and carries it over to the file of the same stanzas, nonce and
-    payload in whose header each stanza is canonical."""
-    folder = os.path.dirname(runs.mark)
-    key, old, new = (os.path.join(folder, name) for name in ["key", "old", "new"])
-    plain = b"This is a test message. For testing."
-    file_key, ephemeral, name = KEY_DRAW[:16], KEY_DRAW[16:48], KEY_DRAW[48:]
-    own = standard.x25519_stanza(file_key, standard.public(SECRET), ephemeral)
-    files = {form: standard.file(file_key, [form([b"x-first"], b""), own, form([b"x-old", b"one"], bytes(48))], name, plain)
-             for form in [second.legacy, stanza]}
-    for path, given in [(key, IDENTITY.encode() + b"\n"), (old, files[second.legacy]), (new, files[stanza])]:
-        with open(path, "wb") as out:
-            out.write(given)
-    runs.refuses("sazh decrypt of a file in the legacy form", ["decrypt", "-i", key, old], b"", b"", BAD_HEADER)
-    runs.answers("sazh decrypt of the same file in the canonical form", ["decrypt", "-i", key, new], b"", plain)
-    status, written, err, _ = got = runs.run(["migrate", "-i", key, old], b"")
-    runs.judge("sazh migrate of a file in the legacy form", (status, written, err) == (0, files[stanza], ""), got)
-    try:
-        shown = standard.decrypted(SECRET, written)
-    except (ValueError, IndexError):
-        shown = None
-    runs.judge("what sazh migrate wrote, by the second implementation", shown == plain, got)
-
-
 def command_lines(runs):
     key = KEY.hex()
     lines = [[], ["--help"], ["seal"], ["open"], ["seal", key[:-1]], ["open", key + "0"], ["seal", key, "x"],
@@ -628,9 +603,9 @@ FAULTY = ["seal", "open", "encrypt", "decrypt", "encrypt in armor", "decrypt arm
 # The long ones first: they are run side by side.
 PARTS = [(seek_memory, 1), (seek_memory, 10), (marked,), *[(faulty, name) for name in reversed(FAULTY)], (protected,), (injected_keys,), (injected_passphrases,),
          (messages,), (damaged_armor,), (armored_files,), (files,), (parts,), (keys,), (passphrases,), (damaged_payloads,), (sealing,),
-         (command_lines,), (carried_over,), *[(row, name) for name in rows.ROWS], (calls,)]
+         (command_lines,), *[(row, name) for name in rows.ROWS], (calls,)]
 # The programs of the parts that don't run agebench.
-PROGRAMS = {protected: "probe", row: "rows", calls: "rows", carried_over: "sazh"}
+PROGRAMS = {protected: "probe", row: "rows", calls: "rows"}
 
 
 def judged(agebench, shim, folder, part, *about):

@@ -45,14 +45,6 @@ def columns(given):
     return base64.b64encode(given).rstrip(b"=")
 
 
-def uncolumned(text):
-    """The bytes that columns of Base64 without padding say."""
-    given = base64.b64decode(text + b"=" * (-len(text) % 4), validate=True)
-    if columns(given) != text:
-        raise ValueError("no canonical Base64")
-    return given
-
-
 def stanza(words, body):
     """A stanza's text: its body in lines of 64 columns, and a last one of fewer, which may be empty."""
     text = columns(body)
