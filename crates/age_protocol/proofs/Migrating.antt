@@ -166,7 +166,7 @@ module _ {I R W T : Type 0} (alone : ReadsAlone) (one : HasOneVerdict) (mac_byte
         on_ok_weaker result
         (λ done.
         let (h, nonce, rest, key, asks, right, all) = done in
-        subst (λ t. write.appended old t new) (text_is h nonce rest key asks) all.1)
+        subst (λ t. write.appended old t new) (text_is h nonce rest key asks) all.2)
         (migrates.done told writer_told);
     front = elim (migrates.front told writer_told) [
       | inl same ↦ subst (λ w. AppendsFront write.appended (file_text seal_of file_key stanzas is.nonce plain) old w) (sym same)
@@ -186,8 +186,8 @@ module _ {I R W T : Type 0} (alone : ReadsAlone) (one : HasOneVerdict) (mac_byte
         | inl (same, none, refuses) ↦
             (io.OutOfMemory, front_accepted alone one or_legacy is.text stanzas is.mac is.nonce sealed _ _ _ _ _ _ (decrypt_refusal e) begun quiet (refuses.why told), inl refl)
         | inr (inl (none, asked)) ↦
-            let (h, nonce, rest, answer, asks, because) = asked in
-            (io.OutOfMemory, refused_asked h nonce rest answer (decrypt_refusal e) asks because, inl refl)
+            let (h, nonce, answer, asks, because) = asked in
+            (io.OutOfMemory, refused_asked h nonce last answer (decrypt_refusal e) asks because, inl refl)
         | inr (inr under) ↦
             let (h, nonce, rest, key, asks, right, stops) = under in
             (stops.error, stops.is, stops.quiet told well quiet)

@@ -10,7 +10,7 @@ use Rattle.age_io.specs.declared.traits.Read.{Ghosts as ReadGhosts}
 use Rattle.age_io.specs.declared.traits.Write.{Ghosts as WriteGhosts}
 use Rattle.age_io.specs.Stretch.{Stretch}
 use Rattle.age_io.specs.Keeping.{SameReader}
-use Rattle.age_io.specs.Reading.{AddsNoReason, TriedAgain, IsQuiet}
+use Rattle.age_io.specs.Reading.{AddsNoReason, TriedAgain, IsQuiet, Delivers}
 use Rattle.age_io.specs.Writing.{HandsOn}
 use Rattle.age_io.specs.Copying.{AppendsFront}
 use Rattle.age_format.specs.Stanza.{StanzaValue, or_legacy}
@@ -104,9 +104,10 @@ pub record StopsAfterMac {R W : Type 0} (read : ReadGhosts R) (write : WriteGhos
 pub record Migrates {I R W T : Type 0} (unwraps : I → List StanzaValue → UnwrapAnswer → I → Type 0) (read : ReadGhosts R) (write : WriteGhosts W)
     (before after : List I) (input last : R) (old new : W) (result : Result T DecryptError) : Type 0 where
   -- A success says that the input began with an old header whose MAC is right and a nonce, and ended well; the header of the same
-  -- stanzas with its own MAC, the nonce and all that was left were appended.
+  -- stanzas with its own MAC, the nonce and all that was left were appended, and the input was taken to its end.
   pub done : IsTrue (read.tells input) → IsTrue (write.tells old) → OnOk result (UnderOldMac unwraps read before after input
-      (λ front rest. IsTrue (read.rest rest).ends_well × write.appended old (front ++ (read.rest rest).bytes) new))
+      (λ front rest. IsTrue (read.rest rest).ends_well × Delivers (read.rest rest).bytes (read.rest rest) (read.rest last)
+      × write.appended old (front ++ (read.rest rest).bytes) new))
   -- Whatever it answers, nothing was appended before the MAC was found to be right, and then a beginning of these.
   pub front : IsTrue (read.tells input) → IsTrue (write.tells old) → (new ≡ old)
       ⊎ UnderOldMac unwraps read before after input (λ front rest. AppendsFront write.appended (front ++ (read.rest rest).bytes) old new)
@@ -114,8 +115,8 @@ pub record Migrates {I R W T : Type 0} (unwraps : I → List StanzaValue → Unw
   -- memory is why; after both nothing was appended. Or it ends after that.
   pub refused : IfErr result (λ e. let refusal = decrypt_refusal e in
       ((after ≡ before) × (new ≡ old) × RefusesFront or_legacy read input last refusal)
-      ⊎ ((new ≡ old) × ((h : OldHeaderValue) × (nonce : List ℕ) × (rest : R) × (answer : UnwrapAnswer)
-      × AsksOld unwraps read before after input h nonce rest answer × RefusesOld (decided answer) h refusal))
+      ⊎ ((new ≡ old) × ((h : OldHeaderValue) × (nonce : List ℕ) × (answer : UnwrapAnswer)
+      × AsksOld unwraps read before after input h nonce last answer × RefusesOld (decided answer) h refusal))
       ⊎ UnderOldMac unwraps read before after input (λ front rest. StopsAfterMac read write input last old new refusal))
 
 -- Of an old file the file of the same plaintext was appended, or after a refusal a beginning of it.

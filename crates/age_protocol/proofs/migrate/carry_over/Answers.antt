@@ -112,8 +112,19 @@ returns g c =
     let copies = c.in_ok-copy_all.ensures in
     record {
       done = λ told writer_told.
-          let (well, all) = copies.all (begins.keeps.tells ∙ told) (writes.same_tells ∙ writer_told) in
-          (h, nonce, rest, under.key, under.asks, under.right, (well, g.met.W.Write.joins old c.write_all.new.writer c.copy_all.new.writer _ _ (writes.takes_all writer_told) all));
+          let (well, all) = copies.all (begins.keeps.tells ∙ told) (writes.same_tells ∙ writer_told) in (
+            h,
+            nonce,
+            rest,
+            under.key,
+            under.asks,
+            under.right,
+            (
+              well,
+              copies.stands.bytes (begins.keeps.tells ∙ told),
+              g.met.W.Write.joins old c.write_all.new.writer c.copy_all.new.writer _ _ (writes.takes_all writer_told) all,
+            ),
+          );
       front = λ told writer_told.
           inr (
             h,
