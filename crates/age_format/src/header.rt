@@ -91,7 +91,8 @@ impl HeaderV1 {
         }
     }
 
-    /// The header of one or more stanzas, with its MAC under the file key.
+    /// The header of one or more stanzas, with its MAC under the file key. `AllocError` comes where memory for its text is refused,
+    /// and the stanzas are gone then.
     pub fn new(
         alloc: Global,
         stanzas: Vec<Stanza>,
@@ -107,7 +108,7 @@ impl HeaderV1 {
         Ok(HeaderV1 { stanzas, mac })
     }
 
-    /// The text, which is the same whether the header was read or made.
+    /// The text, which is the same whether the header was read or made. `AllocError` comes only for want of memory.
     pub fn text(&self, alloc: Global) -> Result<Vec<u8>, AllocError>
         ensures { IfOk result (λ text. text.items ≡ header_text self.now.stanzas self.now.mac) }
     {

@@ -64,7 +64,7 @@ fn header_of_text(read: HeaderText) -> OldHeader
 
 impl OldHeader {
     /// Reads the header at the front of what `reader` still has, and no byte more, as `HeaderV1::read` does and with its
-    /// refusals, but also where stanzas have the legacy form.
+    /// refusals, after which the reader stands as there, but also where stanzas have the legacy form.
     pub fn read<R: Read>(alloc: Global, reader: &mut R) -> Result<OldHeader, DecryptError>
         ensures { ReadsOrRefuses ⟦<R as Read>⟧ or_legacy ReadsOldHeader reader.old reader.new result }
     {

@@ -1,6 +1,6 @@
 //! Where the text of a header goes, piece by piece: into a list of bytes, or into its MAC.
 
-ghost use Rattle.std.specs.Prelude.{◌≡◌, ◌++◌, ℕ, List, [], OnOk, OnErr};
+ghost use Rattle.std.specs.Prelude.{◌≡◌, ◌++◌, ℕ, List, [], Bool, IsTrue, OnOk, OnErr};
 
 use age_suite::mac::HmacWriter;
 use std::alloc::AllocError;
@@ -10,13 +10,13 @@ pub(crate) trait Sink {
     // The second state is the first after it has taken these bytes.
     ghost took: { Self → List ℕ → Self → Type 0 };
 
-    // What holds where bytes can be refused.
-    ghost refuses: { Type 0 };
+    // Whether bytes can be refused.
+    ghost refuses: { Bool };
 
     /// Takes the next bytes of the text. `AllocError` comes only for want of memory.
     fn take(&mut self, bytes: &[u8]) -> Result<(), AllocError>
         ensures took { OnOk result (took self.old bytes.now self.new) }
-        ensures refused { OnErr result refuses };
+        ensures refused { OnErr result (IsTrue refuses) };
 
     /// A state and itself are related by no bytes.
     ghost takes_nothing: { (s : Self) → took s [] s };
@@ -26,13 +26,13 @@ pub(crate) trait Sink {
 }
 
 impl Sink for Vec<u8> {
-    ghost use Rattle.std.specs.Prelude.{◌≡◌, ◌++◌};
+    ghost use Rattle.std.specs.Prelude.{◌≡◌, ◌++◌, true};
     ghost use Rattle.std.proofs.Common.{arith};
     ghost use Rattle.std.proofs.lemmas.Grind.{common_steps};
 
     ghost took = { λ a x b. b.items ≡ a.items ++ x };
 
-    ghost refuses = { Unit {0} };
+    ghost refuses = { true };
 
     ghost takes_nothing = { λ s. Prim.grind (arith, common_steps) };
 
@@ -44,7 +44,7 @@ impl Sink for Vec<u8> {
 }
 
 impl Sink for HmacWriter {
-    ghost use Rattle.std.specs.Prelude.{ℕ, List, ◌++◌};
+    ghost use Rattle.std.specs.Prelude.{ℕ, List, ◌++◌, false};
     ghost use Rattle.std.proofs.Common.{subst, sym, append_assoc};
     ghost use Rattle.std.proofs.lemmas.List.{append-nil};
     ghost use Rattle.age_suite.specs.Mac.{WasGiven};
@@ -52,7 +52,7 @@ impl Sink for HmacWriter {
     // Whatever text it was given before, and under whatever key.
     ghost took = { λ a x b. (key text : List ℕ) → WasGiven a key text → WasGiven b key (text ++ x) };
 
-    ghost refuses = { ⊥ };
+    ghost refuses = { false };
 
     ghost takes_nothing = { λ s key text given. subst (λ t. WasGiven s key t) (sym (append-nil text)) given };
 

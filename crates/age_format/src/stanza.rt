@@ -102,7 +102,7 @@ impl Stanza {
     /// Writes the canonical text. `AllocError` comes only for want of memory, and part of the text may have been taken then.
     pub(crate) fn write<T: Sink>(&self, out: &mut T) -> Result<(), AllocError>
         ensures took { OnOk result (T.took out.old (stanza_text self.now) out.new) }
-        ensures refused { OnErr result T.refuses }
+        ensures refused { OnErr result (IsTrue T.refuses) }
     {
         write_first_line(self.tag.as_str(), self.args.as_slice(), out)?;
         write_body(self.body.as_slice(), out)

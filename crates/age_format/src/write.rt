@@ -1,6 +1,6 @@
 //! Writing of header texts.
 
-ghost use Rattle.std.specs.Prelude.{◌++◌, ◌∷◌, ◌≤◌, length, map, OnOk, OnErr, string_bytes, codes};
+ghost use Rattle.std.specs.Prelude.{◌++◌, ◌∷◌, ◌≤◌, length, map, IsTrue, OnOk, OnErr, string_bytes, codes};
 ghost use Rattle.std.specs.List.{AllByRecursion, join_with_byte};
 ghost use Rattle.age_base64.specs.Lines.{line};
 ghost use Rattle.age_base64.specs.Base64.{columns};
@@ -26,7 +26,7 @@ pub(crate) fn write_columns<T: Sink>(
     requires engine { IsHeaderEngine engine.now }
     requires short { length piece.now ≤ 48 }
     ensures took { OnOk result (T.took out.old (line (columns piece.now)) out.new) }
-    ensures refused { OnErr result T.refuses }
+    ensures refused { OnErr result (IsTrue T.refuses) }
 {
     let mut buffer = [0u8; 64];
     let Ok(size) = engine.encode_slice(piece, &mut buffer) else {
@@ -40,7 +40,7 @@ pub(crate) fn write_columns<T: Sink>(
 /// Writes the text of a body.
 pub(crate) fn write_body<T: Sink>(body: &[u8], out: &mut T) -> Result<(), AllocError>
     ensures took { OnOk result (T.took out.old (body_text body.now) out.new) }
-    ensures refused { OnErr result T.refuses }
+    ensures refused { OnErr result (IsTrue T.refuses) }
 {
     let engine = header_engine();
     let mut rest = body;
@@ -60,7 +60,7 @@ pub(crate) fn write_first_line<T: Sink>(
 ) -> Result<(), AllocError>
     ensures took { OnOk result (T.took out.old
         (line (codes "-> " ++ join_with_byte 32 (tag.now ∷ map (λ a. string_bytes a) args.now))) out.new) }
-    ensures refused { OnErr result T.refuses }
+    ensures refused { OnErr result (IsTrue T.refuses) }
 {
     out.take(b"-> ")?;
     out.take(tag.as_bytes())?;
@@ -75,7 +75,7 @@ pub(crate) fn write_first_line<T: Sink>(
 pub(crate) fn write_covered<T: Sink>(stanzas: &[Stanza], out: &mut T) -> Result<(), AllocError>
     ensures took { OnOk result (T.took out.old (covered_text stanzas.now) out.new) }
     ensures each { OnOk result (AllByRecursion IsStanza stanzas.now) }
-    ensures refused { OnErr result T.refuses }
+    ensures refused { OnErr result (IsTrue T.refuses) }
 {
     out.take(b"age-encryption.org/v1\n")?;
     for stanza in stanzas {
@@ -88,7 +88,7 @@ pub(crate) fn write_covered<T: Sink>(stanzas: &[Stanza], out: &mut T) -> Result<
 /// Writes what follows that front: a space, the columns of the MAC, and LF.
 pub(crate) fn write_mac<T: Sink>(mac: &[u8; 32], out: &mut T) -> Result<(), AllocError>
     ensures took { OnOk result (T.took out.old (32 ∷ line (columns mac.now)) out.new) }
-    ensures refused { OnErr result T.refuses }
+    ensures refused { OnErr result (IsTrue T.refuses) }
 {
     out.take(b" ")?;
     write_columns(&header_engine(), mac.as_slice(), out)

@@ -56,8 +56,9 @@ fn rewritten<I: Identity>(
 /// The refusals, in the order in which they are looked for: those of `OldHeader::read`; where fewer than 16 bytes follow the header
 /// `Io(UnexpectedEof)`, or the reader's own refusal where it doesn't end well; `InvalidHeader` where a stanza with the tag `scrypt`
 /// stands beside another; that of the first identity whose answer isn't `None`, and `NoMatchingKeys` where none answers;
-/// `InvalidMac` where the MAC isn't that of the header as it was read. After these nothing was written. Any later refusal is one of
-/// the reader, of the writer or of memory, as `Io` or `OutOfMemory`, and a beginning of the file may have been written.
+/// `InvalidMac` where the MAC isn't that of the header as it was read. After these nothing was written, and no byte after the nonce was
+/// read. Any later refusal is one of the reader, of the writer or of memory, as `Io` or `OutOfMemory`: a beginning of the file may have been
+/// written, and the reader stands after what was taken of it, or has failed. After a success it stands at its end.
 pub fn migrate<S: Suite, I: Identity, R: Read, W: Write>(
     alloc: Global,
     identities: &mut [I],
