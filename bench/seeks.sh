@@ -5,6 +5,7 @@
 # first seek, with all that comes before it, and later ones: at random, in a random walk over 4 chunks, and back and forth between two chunks. In armor the
 # first seek reads all lines. The least of three runs; the later ones less a run with one place.
 # Then `sazh part`, which reads 10 bytes at the end of such files, with how many bytes the process read (proc(5), /proc/PID/io).
+# Then 1,000 random ones of 100,000 sealed records of 100 bytes, in the same three forms, beside reading all of such a file by `agebench`.
 set -euo pipefail
 size=${1:-64}
 top=$(cd "$(dirname "$0")/.." && pwd)
@@ -88,4 +89,47 @@ write("sazh_armored", [sazh, "encrypt", "-r", recipient, "-a"])
 for form in ("bare", "armored"):
     took, read = min(part(f"sazh_{form}") for _ in range(5))
     print(f"{form:<8} sazh part, at the end {took * 1e6:9.1f} microseconds, {read} bytes read")
+
+
+# Sealed records: their number, the end of each, and their bytes.
+count, size, gets = 100_000, 100, 1000
+record = lambda number: data[number * size : (number + 1) * size]
+data = os.urandom(count * size)
+text = b"".join(it.to_bytes(8, "big") for it in [count, *range(size, (count + 1) * size, size)]) + data
+asked = [chance.randrange(count) for _ in range(gets)]
+key_words = ["bench", "00" * 32]
+forms = [("payload", [], [agebench, "seal", key], [agebench, "open", key]), ("bare", ["file"], [agebench, "encrypt", *key_words], [agebench, "decrypt", "bench"]),
+         ("armored", ["file"], [agebench, "encrypt", *key_words, "armor"], [agebench, "decrypt", "bench"])]
+
+
+def get(words, numbers):
+    """The seconds that getting these records takes, and how many chunks it opens. It gets the right bytes."""
+    start = time.perf_counter()
+    done = subprocess.run([probe, "records", *words], input="".join(f"{it}\n" for it in numbers).encode(), capture_output=True, check=True)
+    took = time.perf_counter() - start
+    told = done.stdout.decode().split()
+    want = [str(len(numbers)), "read,", str(sum(sum(record(it)) for it in numbers)), "in", "all,"]
+    if told[:5] != want:
+        sys.exit(f"{words}: {told}, not {want}")
+    return took, int(told[5])
+
+
+def whole(words, file):
+    """The seconds that reading a whole file takes."""
+    start = time.perf_counter()
+    with open(name(file), "rb") as given:
+        shown = subprocess.run(words, stdin=given, stdout=subprocess.PIPE, check=True).stdout
+    if shown != text:
+        sys.exit(f"{words}: {len(shown)} bytes, not {len(text)}")
+    return time.perf_counter() - start
+
+
+print(f"{count:,} records of {size} bytes, {gets:,} of them at random, least of three runs:")
+for form, words, write_words, read_words in forms:
+    write("records", write_words, text)
+    first, first_opens = min(get([*words, name("records")], []) for _ in range(3))
+    took, opens = min(get([*words, name("records")], asked) for _ in range(3))
+    all_of_it = min(whole(read_words, "records") for _ in range(3))
+    print(f"{form:<8} a record             {(took - first) / gets * 1e6:9.1f} microseconds, {(opens - first_opens) / gets:.3f} chunks opened a record;"
+          f" {first * 1e3:.1f} ms and {first_opens} chunks to open the records, {all_of_it * 1e3:.1f} ms to read the whole file")
 PYTHON

@@ -224,6 +224,25 @@ def long_writes():
     return [(plain, *runs([written("payload", [sealed[:chunk], sealed[chunk:]]), written("armor", lines)]))]
 
 
+# Three records, and their text: their number, the end of each, and their bytes.
+RECORDS = [b"first", b"", bytes(i % 251 for i in range(second.PIECE + 4464))]
+RECORDS_TEXT = bytes.fromhex("0000000000000003 0000000000000005 0000000000000005 0000000000011175") + b"".join(RECORDS)
+
+
+def write_records():
+    sealed, chunk = second.payload(KEY, RECORDS_TEXT), second.PIECE + 16
+    return [(RECORDS[2], *runs([written("records", [sealed[:chunk], sealed[chunk:]])]))]
+
+
+def records():
+    good = ["records len: 3", *(f"records get: {digest(RECORDS[number])}" for number in [2, 1, 0]),
+            "records get: no such record", f"records get: {digest(RECORDS[0])}"]
+    # Memory is asked for to open the records, and for each that is there; asked for once more, it is given.
+    wants = [[f"records {name}: {NO_MEMORY}"] for name in ["reader", "open"]]
+    wants += [[*good[:number], f"records get: {NO_MEMORY}", *good[number:]] for number in [1, 2, 3, 5]]
+    return [(second.payload(KEY, RECORDS_TEXT), *runs([(good, wants)]))]
+
+
 def prepared(of, draws, answer, more=0):
     """The sections of an encryption whose draws that succeed are these, and which leaves so many random bytes more."""
     tail = [*draws, more]
@@ -244,7 +263,8 @@ def recipients():
 
 
 ROWS = {"files": files, "cut_payload": cut_payload, "armor_seeks": armor_seeks, "key_texts": key_texts,
-        "protected_file": protected_file, "identity_file": identity_file, "recipients": recipients, "long_writes": long_writes}
+        "protected_file": protected_file, "identity_file": identity_file, "recipients": recipients, "long_writes": long_writes,
+        "records": records, "write_records": write_records}
 
 # RFC 4231, test case 1, and RFC 5869, test case 1.
 HMAC = "b0344c61d8db38535ca8afceaf0bf12b881dc200c9833da726e9376c2e32cff7"

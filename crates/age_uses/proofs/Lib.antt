@@ -4,3 +4,5 @@ pub mod Alone
 pub mod ProtectedKeys
 pub mod BeforeEnd
 pub mod Looked
+pub mod RecordCalls
+pub mod RecordsBack

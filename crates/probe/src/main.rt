@@ -1,17 +1,18 @@
 //! Probes: what a bench and runs with failing memory and reads ask of the library, and no command of `agebench` shows.
 //!
-//! `probe seeks` reads one byte of a plaintext at each of many places, and `probe recipients` prints the recipients of a protected identity
-//! file twice.
+//! `probe seeks` reads one byte of a plaintext at each of many places, `probe records` gets sealed records by their numbers, and
+//! `probe recipients` prints the recipients of a protected identity file twice.
 #![tactic(auto)]
 
 mod recipients;
+mod records;
 mod seeks;
 
 use std::env;
 use std::process::ExitCode;
 
 const USAGE: &str =
-    "usage: probe seeks [file] FILE, with a place a line on standard input; or probe recipients [PASSPHRASE], with the file there";
+    "usage: probe seeks|records [file] FILE, with a place or number a line on standard input; or probe recipients [PASSPHRASE], with the file there";
 
 /// What a probe came to.
 enum Outcome {
@@ -43,6 +44,7 @@ fn probe(rt: &HostRuntime, words: &[String]) -> Outcome {
     };
     match first.as_str() {
         "seeks" => seeks::probe(rt, rest),
+        "records" => records::probe(rt, rest),
         "recipients" => recipients::probe(rt, rest),
         _ => Outcome::Usage,
     }

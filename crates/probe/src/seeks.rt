@@ -12,38 +12,40 @@ use std::alloc::Global;
 use std::fs::File;
 use std::{slice, str};
 
-const KEY: [u8; 32] = [
+/// The key of a payload alone.
+pub const KEY: [u8; 32] = [
     0, 1, 2, 3, 4, 5, 6, 7, 8, 9, 10, 11, 12, 13, 14, 15, 16, 17, 18, 19, 20, 21, 22, 23, 24, 25,
     26, 27, 28, 29, 30, 31,
 ];
 
-// What the reader came to.
-struct Walk {
-    reads: u64,
-    sum: u64,
-    opens: u64,
+/// What a reader came to: how often something was read, the sum of the bytes that came, and how many chunks were opened.
+#[derive(Clone, Copy)]
+pub struct Walk {
+    pub reads: u64,
+    pub sum: u64,
+    pub opens: u64,
 }
 
-// The places, or `None` where a line is no number below 2^64.
-fn places_of(alloc: Global, text: &[u8]) -> Result<Option<Vec<u64>>, Error> {
+// The numbers, or `None` where a line is none below 2^64.
+fn numbers_of(alloc: Global, text: &[u8]) -> Result<Option<Vec<u64>>, Error> {
     let Ok(text) = str::from_utf8(text) else {
         return Ok(None);
     };
-    let mut places = Vec::new(alloc);
+    let mut numbers = Vec::new(alloc);
     for line in text.lines() {
         match line.parse::<u64>() {
-            Ok(place) => places.push(place)?,
+            Ok(number) => numbers.push(number)?,
             Err(_) => return Ok(None),
         }
     }
-    Ok(Some(places))
+    Ok(Some(numbers))
 }
 
-// The places that standard input names.
-fn places(rt: &HostRuntime) -> Result<Option<Vec<u64>>, Error> {
+/// The numbers that standard input names, one a line, or `None` where a line is none below 2^64.
+pub fn numbers(rt: &HostRuntime) -> Result<Option<Vec<u64>>, Error> {
     let mut text = Vec::new(rt.alloc());
     read_to_end(rt.alloc(), &mut Std::new(rt.reader()), &mut text)?;
-    places_of(rt.alloc(), &text)
+    numbers_of(rt.alloc(), &text)
 }
 
 // Reads a byte at each place. At the end of the plaintext none comes.
@@ -62,8 +64,8 @@ fn visit<R: Seek>(reader: &mut StreamReader<BenchSuite, R>, places: &[u64]) -> R
     Ok(Walk { reads, sum, opens })
 }
 
-// The file of this name.
-fn open(rt: &HostRuntime, name: &str) -> Result<Std<File>, Error> {
+/// The file of this name.
+pub fn open(rt: &HostRuntime, name: &str) -> Result<Std<File>, Error> {
     match File::open(rt, name) {
         Ok(file) => Ok(Std::new(file)),
         Err(error) => Err(device_error(&error)),
@@ -92,7 +94,7 @@ fn walk_file(alloc: Global, file: Std<File>, places: &[u64]) -> Result<Walk, Fil
 
 // What the reader of the file of this name came to, or `None` where standard input names no places.
 fn walk_in(rt: &HostRuntime, whole: bool, name: &str) -> Result<Option<Walk>, FileError> {
-    let places = match places(rt) {
+    let places = match numbers(rt) {
         Ok(Some(places)) => places,
         Ok(None) => return Ok(None),
         Err(error) => return Err(FileError::Io(error)),
@@ -110,6 +112,15 @@ fn walk_in(rt: &HostRuntime, whole: bool, name: &str) -> Result<Option<Walk>, Fi
     }
 }
 
+/// Prints what a reader came to.
+pub fn told(rt: &HostRuntime, walk: &Walk) -> Outcome {
+    let _ = println!(rt;
+        "{} read, {} in all, {} opened",
+        walk.reads, walk.sum, walk.opens
+    );
+    Outcome::Done
+}
+
 /// Does what the words ask for.
 pub fn probe(rt: &HostRuntime, words: &[String]) -> Outcome {
     let walked = match words {
@@ -118,10 +129,7 @@ pub fn probe(rt: &HostRuntime, words: &[String]) -> Outcome {
         _ => return Outcome::Usage,
     };
     match walked {
-        Ok(Some(Walk { reads, sum, opens })) => {
-            let _ = println!(rt; "{reads} read, {sum} in all, {opens} opened");
-            Outcome::Done
-        }
+        Ok(Some(walk)) => told(rt, &walk),
         Ok(None) => Outcome::Usage,
         Err(error) => {
             let _ = eprintln!(rt; "probe: {error}");

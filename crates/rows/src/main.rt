@@ -16,6 +16,7 @@ mod lines;
 mod protected_file;
 mod readers;
 mod recipients;
+mod records;
 mod writers;
 
 use age::io::{Std, read_to_end};
@@ -23,7 +24,7 @@ use std::env;
 use std::process::ExitCode;
 
 const USAGE: &str =
-    "usage: rows files|key_texts|recipients|calls, or rows cut_payload|armor_seeks|protected_file|identity_file|long_writes with bytes on standard input";
+    "usage: rows files|key_texts|recipients|calls, or rows cut_payload|armor_seeks|protected_file|identity_file|long_writes|records|write_records with bytes on standard input";
 
 // The one word after the program's name.
 fn word(rt: &HostRuntime) -> Option<String> {
@@ -62,6 +63,8 @@ fn is_done(rt: &HostRuntime, name: &str, text: &[u8]) -> bool {
         "protected_file" => protected_file::row(rt, text),
         "identity_file" => identity_file::row(rt, text),
         "long_writes" => writers::row(rt, text),
+        "records" => records::row(rt, text),
+        "write_records" => records::write_row(rt, text),
         _ => return false,
     }
     true
