@@ -1,11 +1,10 @@
 -- The words and the bytes of a block, place by place.
-use Rattle.std.proofs.Common.{◌≡◌, ℕ, zero, suc, ◌+◌, ◌*◌, ◌/◌, ◌%◌, ◌^◌, ◌<◌, ◌≤◌, List, [], ◌∷◌, ◌++◌, length, take, get_or, refl, ap, sym, arith, ◌∙◌, length-append}
-use Rattle.std.proofs.lemmas.List.{take_more, length-set, length-take-le}
+use Rattle.std.proofs.Common.{◌≡◌, ℕ, zero, suc, inl, inr, ◌+◌, ◌-◌, ◌*◌, ◌/◌, ◌%◌, ◌^◌, ◌<◌, List, [], ◌∷◌, length, take, get_or, refl, ap, sym, arith, ◌∙◌, length-append}
+use Rattle.std.proofs.lemmas.Bool.{cases_lt}
+use Rattle.std.proofs.lemmas.List.{ext_get_or, length-set, length-take-le}
 use Rattle.std.proofs.lemmas.List.Concat.{get_or-flat_map}
-use Rattle.std.proofs.lemmas.Grind.{flat_map-append}
-use Rattle.std.proofs.lemmas.Slice.{take-put_mid}
 use Rattle.std.specs.Int.{w32, to_le_bytes}
-use borrow.Rule.Slice.PartMut.{put_mid}
+use Rattle.std.specs.Prelude.{slice_index}
 use Rattle.chacha20.specs.Rounds.{word_sum, column_round, diagonal_round, double_rounds}
 use Rattle.chacha20.specs.Block.{initial_state, added, block_words, serialized, chacha20_block}
 use Rattle.chacha20.specs.Encryption.{keystream_byte}
@@ -24,18 +23,6 @@ unfolding added
 length-added [] ys e = refl
 length-added (x ∷ xs) [] e = absurd (omega arith)
 length-added (x ∷ xs) (y ∷ ys) e = ap suc (length-added xs ys (omega arith))
-
--- one word more
-pub serialized_more : (words bytes four : List ℕ) (i k : ℕ) → i < length words → take (4 * i) bytes ≡ serialized (take i words)
-    → 4 * i ≤ length bytes → four ≡ to_le_bytes w32 (get_or words i 0)
-    → take (4 * (i + 1)) (put_mid (4 * i) k bytes four) ≡ serialized (take (i + 1) words)
-serialized_more words bytes four i k below held fits written =
-    let long : length four ≡ 4 = rw written refl in
-    let front : take (4 * (i + 1)) (put_mid (4 * i) k bytes four) ≡ take (4 * i) bytes ++ four
-    = take-put_mid (4 * i) k bytes four (4 * (i + 1)) (omega arith) fits in
-    let next : serialized (take (i + 1) words) ≡ serialized (take i words) ++ to_le_bytes w32 (get_or words i 0)
-    = ap serialized (take_more words i 0 below) ∙ flat_map-append (to_le_bytes w32) (take i words) (get_or words i 0 ∷ []) in
-    rw (front, next, held, written) refl
 
 pub length-serialized : (words : List ℕ) → length (serialized words) ≡ 4 * length words
 length-serialized [] = refl
@@ -90,20 +77,44 @@ get_or-serialized words k b h l =
     let e = get_or-flat_map (to_le_bytes w32) words k b 0 0 h (omega arith) in
     rw front at e
 
--- the bytes of four blocks, one after another, are the key stream
-pub serialized-keystream : (key : List ℕ) (counter : ℕ) (nonce words : List ℕ) → length words ≡ 64
-    → ((j k : ℕ) → j < 4 → k < 16 → get_or words (16 * j + k) 0 ≡ get_or (block_words key ((counter + j) % 2 ^ 32) nonce) k 0)
-    → (i : ℕ) → i < 256 → get_or (serialized words) i 0 ≡ keystream_byte key counter nonce i
+-- a byte of the key stream is a byte of a word of its block
+pub keystream_byte-at : (key : List ℕ) (counter : ℕ) (nonce : List ℕ) (m j k i : ℕ) → k < 16 → m ≡ 64 * j + 4 * k + i % 4
+    → slice_index (to_le_bytes w32 (slice_index (block_words key ((counter + j) % 2 ^ 32) nonce) k)) (i % 4) ≡ keystream_byte key counter nonce m
 unfolding chacha20_block
-serialized-keystream key counter nonce words long is i h =
-    let j = i / 64 in
-    let k = i % 64 / 4 in
-    let b = i % 4 in
+keystream_byte-at key counter nonce m j k i h e =
     let block = block_words key ((counter + j) % 2 ^ 32) nonce in
-    let place : 4 * (16 * j + k) + b ≡ i = omega arith in
-    let inside : 4 * k + b ≡ i % 64 = omega arith in
-    let one : get_or (serialized words) i 0 ≡ get_or (to_le_bytes w32 (get_or words (16 * j + k) 0)) b 0
-    = rw place at (get_or-serialized words (16 * j + k) b (omega arith) (omega arith)) in
-    let other : get_or (serialized block) (i % 64) 0 ≡ get_or (to_le_bytes w32 (get_or block k 0)) b 0
-    = rw inside at (get_or-serialized block k b (omega (arith, length-block_words key ((counter + j) % 2 ^ 32) nonce)) (omega arith)) in
-    one ∙ ap (λ word. get_or (to_le_bytes w32 word) b 0) (is j k (omega arith) (omega arith)) ∙ sym other
+    let number : m / 64 ≡ j = omega arith in
+    let place : m % 64 ≡ 4 * k + i % 4 = omega arith in
+    sym (
+    ap (λ n. get_or (serialized (block_words key ((counter + n) % 2 ^ 32) nonce)) (m % 64) 0) number
+    ∙ ap (λ p. get_or (serialized block) p 0) place
+    ∙ get_or-serialized block k (i % 4) (omega (arith, length-block_words key ((counter + j) % 2 ^ 32) nonce)) (omega arith))
+
+-- the bytes of the first block, the first half and the other
+pub first_block : (key : List ℕ) (counter : ℕ) (nonce block front back fronts backs : List ℕ) → length block ≡ 64
+    → ((k : ℕ) → k < 32 → (get_or block k 0 ≡ get_or front k 0) × (get_or block (32 + k) 0 ≡ get_or back k 0))
+    → ((i : ℕ) → i < 32 → slice_index front i ≡ slice_index (to_le_bytes w32 (slice_index fronts (i / 4))) (i % 4))
+    → ((i : ℕ) → i < 32 → slice_index back i ≡ slice_index (to_le_bytes w32 (slice_index backs (i / 4))) (i % 4))
+    → ((k : ℕ) → k < 8 → slice_index fronts k ≡ slice_index (block_words key counter nonce) k)
+    → ((k : ℕ) → k < 8 → slice_index backs k ≡ slice_index (block_words key counter nonce) (8 + k))
+    → block ≡ chacha20_block key counter nonce
+unfolding chacha20_block
+first_block key counter nonce block front back fronts backs long places front_is back_is fronts_are backs_are =
+    let words = block_words key counter nonce in
+    let sixteen = length-block_words key counter nonce in
+    ext_get_or 0 block (serialized words) (long ∙ sym (length-serialized words ∙ ap (λ n. 4 * n) sixteen)) (λ i h.
+    elim (cases_lt i 32) as (λ _. get_or block i 0 ≡ get_or (serialized words) i 0) [
+      | inl below ↦
+          let place : 4 * (i / 4) + i % 4 ≡ i = omega arith in
+          let byte = get_or-serialized words (i / 4) (i % 4) (omega arith) (omega arith) in
+          (places i below).0 ∙ front_is i below ∙ ap (λ w. get_or (to_le_bytes w32 w) (i % 4) 0) (fronts_are (i / 4) (omega arith))
+          ∙ sym byte ∙ ap (λ p. get_or (serialized words) p 0) place
+      | inr above ↦
+          let k = i - 32 in
+          let here : 32 + k ≡ i = omega arith in
+          let place : 4 * (8 + k / 4) + k % 4 ≡ i = omega arith in
+          let byte = get_or-serialized words (8 + k / 4) (k % 4) (omega arith) (omega arith) in
+          ap (λ p. get_or block p 0) (sym here) ∙ (places k (omega arith)).1 ∙ back_is k (omega arith)
+          ∙ ap (λ w. get_or (to_le_bytes w32 w) (k % 4) 0) (backs_are (k / 4) (omega arith))
+          ∙ sym byte ∙ ap (λ p. get_or (serialized words) p 0) place
+    ])

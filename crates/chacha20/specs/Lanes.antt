@@ -1,4 +1,4 @@
--- Four states side by side: a word is a vector then, with one lane for each state.
+-- Eight states side by side: a word is a vector then, with one lane for each state.
 use Rattle.std.specs.Prelude.{ℕ, List, map, slice_index}
 
 -- the state in lane j

@@ -1,19 +1,22 @@
-//! The block function (RFC 8439, 2.3), on four blocks side by side.
-ghost use Rattle.std.specs.Prelude.{◌≡◌, ◌+◌, ◌*◌, ◌%◌, ◌^◌, ◌<◌, ◌≤◌, ℕ, length, slice_index};
-ghost use Rattle.chacha20.specs.Block.{block_words, chacha20_block, initial_state, serialized, word};
-ghost use Rattle.chacha20.specs.Encryption.{keystream_byte};
+//! The block function (RFC 8439, 2.3), on eight blocks side by side.
+ghost use Rattle.std.specs.Prelude.{◌≡◌, ◌+◌, ◌*◌, ◌/◌, ◌%◌, ◌^◌, ◌<◌, ◌≤◌, ℕ, length, slice_index};
+ghost use Rattle.std.specs.Int.{w32, to_le_bytes};
+ghost use Rattle.chacha20.specs.Block.{block_words, chacha20_block, initial_state, word};
+ghost use Rattle.chacha20.specs.Rounds.{word_sum};
 ghost use Rattle.chacha20.specs.Lanes.{lane};
+ghost use Rattle.chacha20.specs.Blocks.{IsBlocks};
 
 use crate::rounds::{sum, ten_double_rounds};
-use std::simd::u32x4;
+use crate::transposed::transposed;
+use std::simd::u32x8;
 
 /// Word `i` of these bytes, the low byte first, in each lane.
 #[inline(always)]
-fn word(bytes: &[u8], i: usize) -> u32x4
+fn word(bytes: &[u8], i: usize) -> u32x8
     requires { 4 * i + 4 ≤ length bytes.now }
-    ensures { (j : ℕ) → j < 4 → slice_index result j ≡ word bytes.now i }
+    ensures { (j : ℕ) → j < 8 → slice_index result j ≡ word bytes.now i }
 {
-    u32x4::splat(u32::from_le_bytes([
+    u32x8::splat(u32::from_le_bytes([
         bytes[4 * i],
         bytes[4 * i + 1],
         bytes[4 * i + 2],
@@ -21,23 +24,23 @@ fn word(bytes: &[u8], i: usize) -> u32x4
     ]))
 }
 
-/// The counters of four blocks, which begin again at 0 after 2^32 - 1.
+/// The counters of eight blocks, which begin again at 0 after 2^32 - 1.
 #[inline(always)]
-fn counters(counter: u32) -> u32x4
-    ensures { (j : ℕ) → j < 4 → slice_index result j ≡ (counter + j) % 2 ^ 32 }
+fn counters(counter: u32) -> u32x8
+    ensures { (j : ℕ) → j < 8 → slice_index result j ≡ (counter + j) % 2 ^ 32 }
 {
-    u32x4::splat(counter) + u32x4::from_array([0, 1, 2, 3])
+    u32x8::splat(counter) + u32x8::from_array([0, 1, 2, 3, 4, 5, 6, 7])
 }
 
-/// The states of four blocks before the rounds.
-fn initial_states(key: &[u8; 32], counter: u32, nonce: &[u8; 12]) -> [u32x4; 16]
-    ensures { (j : ℕ) → j < 4 → lane j result ≡ initial_state key.now ((counter + j) % 2 ^ 32) nonce.now }
+/// The states of eight blocks before the rounds.
+fn initial_states(key: &[u8; 32], counter: u32, nonce: &[u8; 12]) -> [u32x8; 16]
+    ensures { (j : ℕ) → j < 8 → lane j result ≡ initial_state key.now ((counter + j) % 2 ^ 32) nonce.now }
 {
     [
-        u32x4::splat(0x6170_7865),
-        u32x4::splat(0x3320_646e),
-        u32x4::splat(0x7962_2d32),
-        u32x4::splat(0x6b20_6574),
+        u32x8::splat(0x6170_7865),
+        u32x8::splat(0x3320_646e),
+        u32x8::splat(0x7962_2d32),
+        u32x8::splat(0x6b20_6574),
         word(key, 0),
         word(key, 1),
         word(key, 2),
@@ -53,52 +56,61 @@ fn initial_states(key: &[u8; 32], counter: u32, nonce: &[u8; 12]) -> [u32x4; 16]
     ]
 }
 
-/// The words of four blocks, one block after another.
-fn words_of_blocks(key: &[u8; 32], counter: u32, nonce: &[u8; 12]) -> [u32; 64]
-    ensures { (j k : ℕ) → j < 4 → k < 16 →
-        slice_index result (16 * j + k) ≡ slice_index (block_words key.now ((counter + j) % 2 ^ 32) nonce.now) k }
+/// Eight words of each of eight states, from place `from` on, with those of the states before added.
+#[inline(always)]
+fn sums(states: &[u32x8; 16], before: &[u32x8; 16], from: usize) -> [u32x8; 8]
+    requires { from ≤ 8 }
+    ensures { (j k : ℕ) → j < 8 → k < 8 → slice_index (lane j result) k
+        ≡ word_sum (slice_index (lane j states.now) (from + k)) (slice_index (lane j before.now) (from + k)) }
+{
+    [
+        sum(states[from], before[from]),
+        sum(states[from + 1], before[from + 1]),
+        sum(states[from + 2], before[from + 2]),
+        sum(states[from + 3], before[from + 3]),
+        sum(states[from + 4], before[from + 4]),
+        sum(states[from + 5], before[from + 5]),
+        sum(states[from + 6], before[from + 6]),
+        sum(states[from + 7], before[from + 7]),
+    ]
+}
+
+/// The words of eight blocks: of block `j` the first eight in the lanes of vector `j`, the others in those of vector `8 + j`.
+#[inline(always)]
+pub fn keystream(key: &[u8; 32], counter: u32, nonce: &[u8; 12]) -> [u32x8; 16]
+    ensures { IsBlocks key.now counter nonce.now result }
 {
     let before = initial_states(key, counter, nonce);
     let mut states = before;
     ten_double_rounds(&mut states);
-    let mut words = [0; 64];
-    'places: for k in 0..16 {
-        let [first, second, third, fourth] = sum(states[k], before[k]).to_array();
-        words[k] = first;
-        words[16 + k] = second;
-        words[32 + k] = third;
-        words[48 + k] = fourth;
-    }
-    words
+    let fronts = transposed(&sums(&states, &before, 0));
+    let backs = transposed(&sums(&states, &before, 8));
+    [
+        fronts[0], fronts[1], fronts[2], fronts[3], fronts[4], fronts[5], fronts[6], fronts[7],
+        backs[0], backs[1], backs[2], backs[3], backs[4], backs[5], backs[6], backs[7],
+    ]
 }
 
-/// Words one after another, each with its low byte first.
-fn serialized(words: &[u32; 64]) -> [u8; 256]
-    ensures { result ≡ serialized words.now }
+/// The bytes of eight words, each with its low byte first.
+#[inline(always)]
+pub fn bytes_of(words: u32x8) -> [u8; 32]
+    ensures { (i : ℕ) → i < 32 → slice_index result i ≡ slice_index (to_le_bytes w32 (slice_index words (i / 4))) (i % 4) }
 {
-    let mut bytes = [0; 256];
-    'places: for i in 0..64 {
-        bytes[4 * i..4 * i + 4].copy_from_slice(&words[i].to_le_bytes());
-    }
-    bytes
-}
-
-/// The key stream of four blocks.
-pub fn keystream(key: &[u8; 32], counter: u32, nonce: &[u8; 12]) -> [u8; 256]
-    ensures { (i : ℕ) → i < 256 → slice_index result i ≡ keystream_byte key.now counter nonce.now i }
-{
-    serialized(&words_of_blocks(key, counter, nonce))
+    words.to_le_bytes().to_array()
 }
 
 /// The 64 bytes of the key stream that a key of 32 bytes, a block counter and a nonce of 12 bytes give (RFC 8439, 2.3). It takes
-/// no memory and never refuses. It makes four blocks, and hands out the first.
+/// no memory and never refuses. It makes eight blocks, and hands out the first.
 pub fn chacha20_block(key: &[u8; 32], counter: u32, nonce: &[u8; 12]) -> [u8; 64]
     ensures { result ≡ chacha20_block key.now counter nonce.now }
 {
-    let stream = keystream(key, counter, nonce);
+    let blocks = keystream(key, counter, nonce);
+    let front = bytes_of(blocks[0]);
+    let back = bytes_of(blocks[8]);
     let mut block = [0; 64];
-    'places: for i in 0..64 {
-        block[i] = stream[i];
+    'places: for i in 0..32 {
+        block[i] = front[i];
+        block[32 + i] = back[i];
     }
     block
 }

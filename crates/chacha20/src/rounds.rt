@@ -1,33 +1,33 @@
-//! The rounds (RFC 8439, 2.1 to 2.3), on four states side by side.
+//! The rounds (RFC 8439, 2.1 to 2.3), on eight states side by side.
 ghost use Rattle.std.specs.Prelude.{◌≡◌, ◌<◌, ℕ, slice_index};
 ghost use Rattle.chacha20.specs.Rounds.{column_round, diagonal_round, double_rounds, quarter_round, quarter_round_on, word_sum, xor_rotate};
 ghost use Rattle.chacha20.specs.Lanes.{lane};
 
-use std::simd::u32x4;
+use std::simd::u32x8;
 
 /// The sums of words.
 #[inline(always)]
-pub fn sum(a: u32x4, b: u32x4) -> u32x4
-    ensures { (j : ℕ) → j < 4 → slice_index result j ≡ word_sum (slice_index a j) (slice_index b j) }
+pub fn sum(a: u32x8, b: u32x8) -> u32x8
+    ensures { (j : ℕ) → j < 8 → slice_index result j ≡ word_sum (slice_index a j) (slice_index b j) }
 {
     a + b
 }
 
 /// Exclusive or, and then a rotation to the left by `n` bits.
 #[inline(always)]
-fn xor_rotate(d: u32x4, a: u32x4, n: u32) -> u32x4
+fn xor_rotate(d: u32x8, a: u32x8, n: u32) -> u32x8
     requires { (0 < n) × (n < 32) }
-    ensures { (j : ℕ) → j < 4 → slice_index result j ≡ xor_rotate (slice_index d j) (slice_index a j) n }
+    ensures { (j : ℕ) → j < 8 → slice_index result j ≡ xor_rotate (slice_index d j) (slice_index a j) n }
 {
     let word = d ^ a;
-    word << u32x4::splat(n) | word >> u32x4::splat(32 - n)
+    word << u32x8::splat(n) | word >> u32x8::splat(32 - n)
 }
 
 /// The quarter round on four words of each state.
 #[inline(always)]
 #[tactic(auto, unfolding(crate::specs::Rounds::quarter_round))]
-fn quarter_round(a0: u32x4, b0: u32x4, c0: u32x4, d0: u32x4) -> (u32x4, u32x4, u32x4, u32x4)
-    ensures { (j : ℕ) → j < 4 →
+fn quarter_round(a0: u32x8, b0: u32x8, c0: u32x8, d0: u32x8) -> (u32x8, u32x8, u32x8, u32x8)
+    ensures { (j : ℕ) → j < 8 →
         (slice_index result.0 j, slice_index result.1 j, slice_index result.2 j, slice_index result.3 j)
         ≡ quarter_round (slice_index a0 j) (slice_index b0 j) (slice_index c0 j) (slice_index d0 j) }
 {
@@ -44,9 +44,9 @@ fn quarter_round(a0: u32x4, b0: u32x4, c0: u32x4, d0: u32x4) -> (u32x4, u32x4, u
 
 /// The quarter round on the words of each state at four places.
 #[inline(always)]
-fn quarter_round_on(states: &mut [u32x4; 16], x: usize, y: usize, z: usize, w: usize)
+fn quarter_round_on(states: &mut [u32x8; 16], x: usize, y: usize, z: usize, w: usize)
     requires { (x < 16) × (y < 16) × (z < 16) × (w < 16) }
-    ensures { (j : ℕ) → j < 4 → lane j states.new ≡ quarter_round_on (lane j states.old) x y z w }
+    ensures { (j : ℕ) → j < 8 → lane j states.new ≡ quarter_round_on (lane j states.old) x y z w }
 {
     let (a, b, c, d) = quarter_round(states[x], states[y], states[z], states[w]);
     states[x] = a;
@@ -57,8 +57,8 @@ fn quarter_round_on(states: &mut [u32x4; 16], x: usize, y: usize, z: usize, w: u
 
 /// The quarter round on each column.
 #[inline(always)]
-fn column_round(states: &mut [u32x4; 16])
-    ensures { (j : ℕ) → j < 4 → lane j states.new ≡ column_round (lane j states.old) }
+fn column_round(states: &mut [u32x8; 16])
+    ensures { (j : ℕ) → j < 8 → lane j states.new ≡ column_round (lane j states.old) }
 {
     quarter_round_on(states, 0, 4, 8, 12);
     quarter_round_on(states, 1, 5, 9, 13);
@@ -68,8 +68,8 @@ fn column_round(states: &mut [u32x4; 16])
 
 /// The quarter round on each diagonal.
 #[inline(always)]
-fn diagonal_round(states: &mut [u32x4; 16])
-    ensures { (j : ℕ) → j < 4 → lane j states.new ≡ diagonal_round (lane j states.old) }
+fn diagonal_round(states: &mut [u32x8; 16])
+    ensures { (j : ℕ) → j < 8 → lane j states.new ≡ diagonal_round (lane j states.old) }
 {
     quarter_round_on(states, 0, 5, 10, 15);
     quarter_round_on(states, 1, 6, 11, 12);
@@ -78,8 +78,8 @@ fn diagonal_round(states: &mut [u32x4; 16])
 }
 
 /// The ten double rounds of a block.
-pub fn ten_double_rounds(states: &mut [u32x4; 16])
-    ensures { (j : ℕ) → j < 4 → lane j states.new ≡ double_rounds 10 (lane j states.old) }
+pub fn ten_double_rounds(states: &mut [u32x8; 16])
+    ensures { (j : ℕ) → j < 8 → lane j states.new ≡ double_rounds 10 (lane j states.old) }
 {
     'rounds: for _round in 0..10u32 {
         column_round(states);

@@ -1,28 +1,50 @@
 //! The key stream over bytes (RFC 8439, 2.4).
-ghost use Rattle.std.specs.Prelude.{◌≡◌};
+ghost use Rattle.std.specs.Prelude.{◌≡◌, ◌+◌, ◌<◌, ◌^◌, ℕ, List, length};
 ghost use Rattle.chacha20.specs.Encryption.{chacha20_encrypt};
+ghost use Rattle.chacha20.specs.Blocks.{IsEncryptedTo, IsStreamFrom};
 
-use crate::block::keystream;
+use crate::block::{bytes_of, keystream};
+use std::simd::u32x8;
+
+/// Combines 32 bytes from a place on, or as many as there are, with the bytes of eight words.
+#[inline(always)]
+fn combine(bytes: &mut [u8], at: usize, words: u32x8)
+    requires { at + 32 < 2 ^ 64 }
+    ensures length { length bytes.new ≡ length bytes.old }
+    ensures encrypts { (key : List ℕ) (counter : ℕ) (nonce text : List ℕ) → IsStreamFrom key counter nonce at words
+        → IsEncryptedTo key counter nonce text at bytes.old → IsEncryptedTo key counter nonce text (at + 32) bytes.new }
+{
+    let len = bytes.len();
+    let stream = bytes_of(words);
+    if at + 32 <= len {
+        'whole: for k in 0..32 {
+            bytes[at + k] ^= stream[k];
+        }
+    } else if at < len {
+        'part: for k in 0..len - at {
+            bytes[at + k] ^= stream[k];
+        }
+    }
+}
 
 /// Combines each byte by exclusive or with its byte of the key stream, in place: this encrypts, and done once more it decrypts
 /// (RFC 8439, 2.4). The key has 32 bytes, the nonce 12; the stream begins with the block of this counter. The bytes may be of any
 /// length, which stays. It takes no memory and never refuses.
 ///
 /// After block 2^32 - 1 the counter begins again at 0, and with it a stream that was used before: the RFC forbids such texts.
-#[tactic(auto, unfolding(crate::specs::Encryption::chacha20_encrypt))]
 pub fn apply_keystream(key: &[u8; 32], counter: u32, nonce: &[u8; 12], bytes: &mut [u8])
     ensures { bytes.new ≡ chacha20_encrypt key.now counter nonce.now bytes.old }
 {
     let len = bytes.len();
-    'each: for n in 0..len.div_ceil(256) {
-        let start = 256 * n;
-        let stream = keystream(
+    'each: for n in 0..len.div_ceil(512) {
+        let blocks = keystream(
             key,
-            counter.wrapping_add((4 * n % 0x1_0000_0000) as u32),
+            counter.wrapping_add((8 * n % 0x1_0000_0000) as u32),
             nonce,
         );
-        'inner: for k in 0..(len - start).min(256) {
-            bytes[start + k] ^= stream[k];
+        'places: for j in 0..8 {
+            combine(bytes, 512 * n + 64 * j, blocks[j]);
+            combine(bytes, 512 * n + 64 * j + 32, blocks[8 + j]);
         }
     }
 }

@@ -1,54 +1,64 @@
 -- Groups of blocks in one step, by powers of r.
-use Rattle.std.proofs.Common.{◌≡◌, ◌≢◌, ℕ, suc, ◌+◌, ◌-◌, ◌*◌, ◌/◌, ◌%◌, ◌^◌, ◌<◌, List, ◌++◌, Some, length, take, drop, set, get_or, replicate, sym, ap, subst, inl, inr, ◌∙◌, arith, mul_assoc, length-append, length-drop, take-add}
+use Rattle.std.proofs.Common.{◌≡◌, ◌≢◌, ℕ, suc, ◌+◌, ◌-◌, ◌*◌, ◌/◌, ◌%◌, ◌^◌, ◌<◌, List, ◌++◌, Some, length, take, drop, set, get_or, replicate, refl, sym, ap, subst, inl, inr, ◌∙◌, arith, add_assoc, mul_assoc, length-append, length-drop, take-add}
 use Rattle.std.proofs.lemmas.Bool.{cases_lt}
 use Rattle.std.proofs.lemmas.List.{append_assoc, get_or-set_same, get_or-set_other, get_or-replicate, length-replicate, length-set, length-take-le, take_all}
 use Rattle.std.proofs.lemmas.Nat.{mul-mod_first}
 use Rattle.std.proofs.lemmas.Option.{get_or_from_slice_get, slice_get-get_or, slice_get_within}
-use Rattle.std.proofs.Math.Nat.{add-mul, mul-one, one-mul, pow-suc, pow-succ', pow-zero}
+use Rattle.std.proofs.Math.Nat.{add-mul, add-zero, zero-add, mul-one, one-mul, pow-suc, pow-succ', pow-zero}
 use Rattle.std.specs.Prelude.{slice_get}
 use Rattle.poly1305.specs.declared.groups.Multiplier.{Multiplier}
 use Rattle.poly1305.specs.Mac.{accumulated, block_number, prime}
-use Rattle.poly1305.specs.Groups.{IsAccumulator}
+use Rattle.poly1305.specs.Groups.{bits_beyond, IsAccumulator}
 use Rattle.poly1305.proofs.Accumulating.{accumulated-mod, accumulated_whole, take_more_block}
 use Rattle.poly1305.proofs.Multiplying.{congruent_product, congruent_sum}
 
--- a number is, modulo the prime, the accumulator of a text of whole blocks, times a power of r
+-- a number is, modulo the prime, the accumulator of a text of whole blocks, times a power of r, and the bits beyond the blocks to come
 pub record IsScaled (r n number : ℕ) (text : List ℕ) : Type 0 where
   pub whole : length text % 16 ≡ 0
-  pub value : number % prime ≡ (accumulated r text (length text / 16) * r ^ n) % prime
+  pub value : number % prime ≡ (bits_beyond r n + accumulated r text (length text / 16) * r ^ n) % prime
 
--- the accumulator times a power of r
-pub scaled_first : (r n h power number : ℕ) (text : List ℕ) → power % prime ≡ r ^ n % prime → number % prime ≡ (h * power) % prime
-    → IsAccumulator r (h % prime) text → IsScaled r n number text
-scaled_first r n h power number text is_power is_number is = record {
+-- the accumulator times a power of r, and the bits beyond all blocks
+pub scaled_first : (r n h power beyond number : ℕ) (text : List ℕ) → power % prime ≡ r ^ n % prime → beyond % prime ≡ bits_beyond r n % prime
+    → number % prime ≡ (beyond + h * power) % prime → IsAccumulator r (h % prime) text → IsScaled r n number text
+scaled_first r n h power beyond number text is_power is_beyond is_number is = record {
   whole = is.whole;
-  value = is_number ∙ sym (mul-mod_first h power prime) ∙ congruent_product (h % prime) power (r ^ n) is_power
-      ∙ ap (λ a. (a * r ^ n) % prime) is.value;
+  value = is_number ∙ congruent_sum beyond (h * power) (bits_beyond r n) (accumulated r text (length text / 16) * r ^ n) is_beyond
+      (sym (mul-mod_first h power prime) ∙ congruent_product (h % prime) power (r ^ n) is_power ∙ ap (λ a. (a * r ^ n) % prime) is.value);
 }
 
 -- of the sum of an accumulator and a block a power of r is one of the next accumulator
 same_power : (r n a m : ℕ) → a * r ^ suc n + m * r ^ suc n ≡ ((a + m) * r) * r ^ n
 same_power r n a m = sym (add-mul a m (r ^ suc n)) ∙ ap (λ k. (a + m) * k) (pow-succ' r n) ∙ sym (mul_assoc (a + m) r (r ^ n))
 
+-- the bit beyond a block's bytes joins them
+bit_joins : (r n before m : ℕ) → bits_beyond r (suc n) + before * r ^ suc n + m * r ^ suc n ≡ bits_beyond r n + (before * r ^ suc n + (m + 2 ^ 128) * r ^ suc n)
+unfolding bits_beyond
+bit_joins r n before m = regrouped (r ^ suc n) (bits_beyond r n) before m
+  where
+    regrouped : (power beyond before m : ℕ) → 2 ^ 128 * power + beyond + before * power + m * power ≡ beyond + (before * power + (m + 2 ^ 128) * power)
+    regrouped power beyond before m = omega arith
+
 -- one more block, times the same power of r
-scaled_more : (r n number power block next : ℕ) (text bytes : List ℕ) → length bytes ≡ 16 → block ≡ block_number bytes
+scaled_more : (r n number power block next : ℕ) (text bytes : List ℕ) → length bytes ≡ 16 → block + 2 ^ 128 ≡ block_number bytes
     → power % prime ≡ r ^ suc n % prime → next % prime ≡ (number + block * power) % prime
     → IsScaled r (suc n) number text → IsScaled r n next (text ++ bytes)
 scaled_more r n number power block next text bytes size is_block is_power is_next is =
     let before = accumulated r text (length text / 16) in
+    let whole = block + 2 ^ 128 in
     record {
       whole = omega (arith, is.whole, size, length-append text bytes);
-      value = is_next ∙ congruent_sum number (block * power) (before * r ^ suc n) (block * r ^ suc n) is.value
+      value = is_next ∙ congruent_sum number (block * power) (bits_beyond r (suc n) + before * r ^ suc n) (block * r ^ suc n) is.value
           (congruent_product block power (r ^ suc n) is_power)
-          ∙ ap (λ k. k % prime) (same_power r n before block)
-          ∙ sym (mul-mod_first ((before + block) * r) (r ^ n) prime)
+          ∙ ap (λ k. k % prime) (bit_joins r n before block ∙ ap (λ k. bits_beyond r n + k) (same_power r n before whole))
+          ∙ congruent_sum (bits_beyond r n) (((before + whole) * r) * r ^ n) (bits_beyond r n) (accumulated r (text ++ bytes) (length (text ++ bytes) / 16) * r ^ n) refl (
+          sym (mul-mod_first ((before + whole) * r) (r ^ n) prime)
           ∙ ap (λ m. (((before + m) * r) % prime * r ^ n) % prime) is_block
-          ∙ ap (λ a. (a * r ^ n) % prime) (sym (accumulated_whole r text bytes is.whole size));
+          ∙ ap (λ a. (a * r ^ n) % prime) (sym (accumulated_whole r text bytes is.whole size)));
     }
 
 -- block i of a group, times its power of r
 pub scaled_block : (r i number power block next : ℕ) (text group : List ℕ) → i < 32 → length group ≡ 512
-    → block ≡ block_number (take (16 * i + 16 - 16 * i) (drop (16 * i) group))
+    → block + 2 ^ 128 ≡ block_number (take (16 * i + 16 - 16 * i) (drop (16 * i) group))
     → power % prime ≡ r ^ (32 - i) % prime → next % prime ≡ (number + block * power) % prime
     → IsScaled r (32 - i) number (text ++ take (16 * i) group) → IsScaled r (32 - (i + 1)) next (text ++ take (16 * (i + 1)) group)
 scaled_block r i number power block next text group within size is_block is_power is_next is =
@@ -65,6 +75,33 @@ scaled_block r i number power block next text group within size is_block is_powe
     subst (λ (k : ℕ). IsScaled r k next (text ++ take (16 * (i + 1)) group)) after
     (subst (λ (l : List ℕ). IsScaled r (31 - i) next l) joined step)
 
+nothing_beyond : (r n : ℕ) → bits_beyond r 0 + n ≡ n
+unfolding bits_beyond
+nothing_beyond r n = zero-add n
+
+bit_more : (r n number : ℕ) → number + 2 ^ 128 * r ^ suc n + bits_beyond r n ≡ number + bits_beyond r (suc n)
+unfolding bits_beyond
+bit_more r n number = add_assoc number (2 ^ 128 * r ^ suc n) (bits_beyond r n)
+
+-- the bits beyond one block more
+pub beyond_more : (r i number power next : ℕ) → i < 32 → power % prime ≡ r ^ (32 - i) % prime → next % prime ≡ (number + 2 ^ 128 * power) % prime
+    → (number + bits_beyond r (32 - i)) % prime ≡ bits_beyond r 32 % prime → (next + bits_beyond r (32 - (i + 1))) % prime ≡ bits_beyond r 32 % prime
+beyond_more r i number power next within is_power is_next is =
+    let before : 32 - i ≡ suc (31 - i) = omega arith in
+    let after : 32 - (i + 1) ≡ 31 - i = omega arith in
+    let rest = bits_beyond r (31 - i) in
+    ap (λ k. (next + bits_beyond r k) % prime) after
+    ∙ congruent_sum next rest (number + 2 ^ 128 * r ^ suc (31 - i)) rest (is_next
+    ∙ congruent_sum number (2 ^ 128 * power) number (2 ^ 128 * r ^ suc (31 - i)) refl
+    (congruent_product (2 ^ 128) power (r ^ suc (31 - i)) (is_power ∙ ap (λ k. r ^ k % prime) before))) refl
+    ∙ ap (λ k. k % prime) (bit_more r (31 - i) number) ∙ ap (λ k. (number + bits_beyond r k) % prime) (sym before) ∙ is
+
+pub beyond_all : (r i number : ℕ) → i ≡ 32 → (number + bits_beyond r (32 - i)) % prime ≡ bits_beyond r 32 % prime → number % prime ≡ bits_beyond r 32 % prime
+unfolding bits_beyond
+beyond_all r i number all is =
+    let none : 32 - i ≡ 0 = omega arith in
+    ap (λ k. k % prime) (sym (add-zero number)) ∙ ap (λ k. (number + bits_beyond r k) % prime) (sym none) ∙ is
+
 -- no power of r is left
 pub scaled_last : (r i number result : ℕ) (text group : List ℕ) → i ≡ 32 → length group ≡ 512 → result % prime ≡ number % prime
     → IsScaled r (32 - i) number (text ++ take (16 * i) group) → IsAccumulator r (result % prime) (text ++ group)
@@ -76,7 +113,7 @@ scaled_last r i number result text group all size is_result is =
     let end = accumulated r (text ++ group) (length (text ++ group) / 16) in
     record {
       whole = last.whole;
-      value = is_result ∙ last.value ∙ ap (λ k. (end * k) % prime) (pow-zero r) ∙ ap (λ k. k % prime) (mul-one end)
+      value = is_result ∙ last.value ∙ ap (λ k. k % prime) (nothing_beyond r (end * r ^ 0)) ∙ ap (λ k. (end * k) % prime) (pow-zero r) ∙ ap (λ k. k % prime) (mul-one end)
           ∙ accumulated-mod r (text ++ group) (length (text ++ group) / 16);
     }
 

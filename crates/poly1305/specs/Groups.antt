@@ -1,5 +1,5 @@
 -- Groups of blocks, each absorbed in one step.
-use Rattle.std.specs.Prelude.{◌≡◌, ℕ, ◌+◌, ◌-◌, ◌*◌, ◌/◌, ◌%◌, ◌^◌, ◌<◌, List, Some, length, slice_get}
+use Rattle.std.specs.Prelude.{◌≡◌, ℕ, zero, suc, ◌+◌, ◌-◌, ◌*◌, ◌/◌, ◌%◌, ◌^◌, ◌<◌, List, Some, length, slice_get}
 use Rattle.poly1305.specs.declared.groups.Multiplier.{Multiplier}
 use Rattle.poly1305.specs.declared.groups.ShortColumns.{ShortColumns}
 use Rattle.poly1305.specs.declared.groups.ShortLimbs.{ShortLimbs}
@@ -39,6 +39,11 @@ AreMultipliers multipliers = (i : ℕ) (multiplier : Multiplier) → slice_get m
 abbrev pub ArePowers : ℕ → List Multiplier → Type 0
 ArePowers r multipliers =
     (i : ℕ) (multiplier : Multiplier) → slice_get multipliers i ≡ Some multiplier → multiplier_number multiplier % prime ≡ r ^ (32 - i) % prime
+
+-- 2^128 times each power of r, from this one down: what the bits beyond the bytes of so many blocks make
+unfoldable pub bits_beyond : ℕ → ℕ → ℕ
+bits_beyond r zero = 0
+bits_beyond r (suc n) = 2 ^ 128 * r ^ suc n + bits_beyond r n
 
 -- a text of whole blocks has this accumulator
 pub record IsAccumulator (r accumulator : ℕ) (text : List ℕ) : Type 0 where

@@ -1,5 +1,5 @@
 //! Bytes as numbers: the first half of a key, and blocks (RFC 8439, 2.5).
-ghost use Rattle.std.specs.Prelude.{◌≡◌, ◌+◌, ◌<◌, ◌≤◌, ◌++◌, length, take};
+ghost use Rattle.std.specs.Prelude.{◌≡◌, ◌+◌, ◌^◌, ◌<◌, ◌≤◌, ◌++◌, length, take};
 ghost use Rattle.std.specs.Int.{w128, from_le_bytes};
 ghost use Rattle.poly1305.specs.Mac.{block_number, clamped};
 ghost use Rattle.poly1305.specs.Limbs.{factor_number, number_of, IsFactor};
@@ -29,6 +29,16 @@ pub fn clamped(half: &[u8]) -> Factor
         low: (bits % 0x1_0000_0000_0000_0000) as u64,
         high: (bits / 0x1_0000_0000_0000_0000) as u64,
     }
+}
+
+/// The number of a whole block, without the bit beyond its bytes.
+#[inline(always)]
+pub fn whole_bytes(block: &[u8]) -> Limbs
+    requires { length block.now ≡ 16 }
+    ensures value { number_of result + 2 ^ 128 ≡ block_number block.now }
+    ensures high { result.high ≡ 0 }
+{
+    limbs_of(number(block))
 }
 
 /// The number of a whole block, with the bit beyond its bytes.

@@ -1,6 +1,6 @@
 //! Thirty-two blocks in one step. Block by block the accumulator h becomes (..((h + a) r + b) r + ..) r (RFC 8439, 2.5), where each
 //! product waits for the one before. This is h r^32 + a r^32 + b r^31 + .., whose products wait for nothing, and are summed before their
-//! carries are taken once.
+//! carries are taken once. The bits beyond the blocks' bytes make the same sum in each group, so it is made once.
 //!
 //! What is multiplied has limbs of 64 bits, as the accumulator and blocks have them. The powers of r have short limbs, of 44 bits, so that
 //! the sums stay below 2^128. `/` and `%` by powers of two are compiled to shifts and masks: 0x400_0000_0000 is 2^42,
@@ -8,9 +8,9 @@
 ghost use Rattle.std.specs.Prelude.{◌≡◌, ℕ, ◌+◌, ◌-◌, ◌*◌, ◌%◌, ◌^◌, ◌<◌, ◌≤◌, List, ◌++◌, Some, length, slice_get};
 ghost use Rattle.poly1305.specs.Mac.{prime};
 ghost use Rattle.poly1305.specs.Limbs.{factor_number, number_of, IsFactor};
-ghost use Rattle.poly1305.specs.Groups.{multiplier_number, short_column_number, short_number, AreBelow, AreMultipliers, ArePowers, AreShort, IsAccumulator, IsMultiplier};
+ghost use Rattle.poly1305.specs.Groups.{bits_beyond, multiplier_number, short_column_number, short_number, AreBelow, AreMultipliers, ArePowers, AreShort, IsAccumulator, IsMultiplier};
 
-use crate::blocks::whole_block;
+use crate::blocks::whole_bytes;
 use crate::limbs::{Factor, Limbs, product, shifted, small_product};
 
 /// How many bytes the blocks of a group have.
@@ -174,20 +174,50 @@ fn power_at(powers: &[Multiplier; 32], i: usize) -> Multiplier
     powers[i]
 }
 
-/// The accumulator after one more group of a text. The powers are those of r.
+/// What the bits beyond the bytes of a group's blocks make before its carries: 2^128 times each power.
+fn columns_beyond(powers: &[Multiplier; 32]) -> ShortColumns
+    requires { AreMultipliers powers.now }
+    ensures value { (r : ℕ) → ArePowers r powers.now → short_column_number result % prime ≡ bits_beyond r 32 % prime }
+    ensures bounds { AreBelow (33 * 2 ^ 112) result }
+{
+    let bit = Limbs {
+        low: 0,
+        middle: 0,
+        high: 1,
+    };
+    let mut columns = ShortColumns {
+        low: 0,
+        middle: 0,
+        high: 0,
+    };
+    'each: for i in 0..32usize {
+        columns = with_product(columns, bit, power_at(powers, i));
+    }
+    columns
+}
+
+/// The accumulator after one more group of a text. The powers are those of r, and `beyond` is what the bits beyond the blocks' bytes
+/// make.
 // (compiled on its own, so that its loop has all registers)
 #[inline(never)]
-fn group_absorbed(accumulator: Limbs, powers: &[Multiplier; 32], group: &[u8]) -> Limbs
+fn group_absorbed(
+    accumulator: Limbs,
+    powers: &[Multiplier; 32],
+    beyond: &ShortColumns,
+    group: &[u8],
+) -> Limbs
     requires accumulator { accumulator.high ≤ 4 }
     requires multipliers { AreMultipliers powers.now }
+    requires beyond { AreBelow (33 * 2 ^ 112) beyond.now }
     requires group { length group.now ≡ GROUP }
-    ensures value { (r : ℕ) (text : List ℕ) → ArePowers r powers.now → IsAccumulator r (number_of accumulator % prime) text
+    ensures value { (r : ℕ) (text : List ℕ) → ArePowers r powers.now → short_column_number beyond.now % prime ≡ bits_beyond r 32 % prime
+        → IsAccumulator r (number_of accumulator % prime) text
         → IsAccumulator r (number_of result % prime) (text ++ group.now) }
     ensures high { result.high ≤ 4 }
 {
-    let mut columns = columns_of(accumulator, power_at(powers, 0));
+    let mut columns = with_product(*beyond, accumulator, power_at(powers, 0));
     'each: for i in 0..32usize {
-        let block = whole_block(&group[16 * i..16 * i + 16]);
+        let block = whole_bytes(&group[16 * i..16 * i + 16]);
         columns = with_product(columns, block, power_at(powers, i));
     }
     carried(columns)
@@ -203,9 +233,15 @@ pub fn groups_absorbed(accumulator: Limbs, r: Factor, groups: &[u8]) -> Limbs
     ensures high { result.high ≤ 4 }
 {
     let powers = powers_of(r);
+    let beyond = columns_beyond(&powers);
     let mut next = accumulator;
     'each: for i in 0..groups.len() / GROUP {
-        next = group_absorbed(next, &powers, &groups[GROUP * i..GROUP * i + GROUP]);
+        next = group_absorbed(
+            next,
+            &powers,
+            &beyond,
+            &groups[GROUP * i..GROUP * i + GROUP],
+        );
     }
     next
 }

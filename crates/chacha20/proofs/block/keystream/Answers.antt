@@ -1,8 +1,23 @@
-use Rattle.std.proofs.Common.{◌∙◌, ap, get_or, arith}
-use Rattle.chacha20.proofs.Blocks.{serialized-keystream}
+use Rattle.std.proofs.Common.{◌≡◌, ◌+◌, ◌%◌, ◌^◌, ◌<◌, ◌∙◌, ℕ, arith}
+use native.Mathlib.Nat.{zero-add}
+use Rattle.std.specs.Prelude.{slice_index}
+use Rattle.chacha20.specs.Rounds.{word_sum}
+use Rattle.chacha20.specs.Block.{block_words}
+use Rattle.chacha20.specs.Lanes.{lane}
+use Rattle.chacha20.proofs.Blocks.{block_words-at}
+use Rattle.chacha20.proofs.Sides.{front_of, back_of}
 use Rattle.chacha20.proofs.block.keystream.Goals as goal
 
 pub returns : goal.returns
-returns c i h =
-    ap (λ bytes. get_or bytes i 0) c.serialized.ensures
-    ∙ serialized-keystream c.args.key.now c.args.counter c.args.nonce.now c.words_of_blocks.result (omega arith) c.words_of_blocks.ensures i h
+returns c =
+    let fronts = c.transposed-fronts.result in
+    let backs = c.transposed-backs.result in
+    let after = c.ten_double_rounds.new.states in
+    let before = c.initial_states-before.result in
+    let word : (j k : ℕ) → j < 8 → k < 16 → word_sum (slice_index (lane j after) k) (slice_index (lane j before) k)
+    ≡ slice_index (block_words c.args.key.now ((c.args.counter + j) % 2 ^ 32) c.args.nonce.now) k
+    = λ j k h l. block_words-at c.args.key.now _ c.args.nonce.now (lane j after) (lane j before) k l (c.initial_states-before.ensures j h) (c.ten_double_rounds.ensures j h) in
+    record {
+      front = λ j k h l. front_of fronts backs j k h ∙ c.transposed-fronts.ensures j k h l ∙ c.sums.ensures j k h l ∙ rw zero-add (word j k h (omega arith));
+      back = λ j k h l. back_of fronts backs j k h ∙ c.transposed-backs.ensures j k h l ∙ c.sums-2.ensures j k h l ∙ word j (8 + k) h (omega arith);
+    }

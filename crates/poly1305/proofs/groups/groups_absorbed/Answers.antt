@@ -13,7 +13,8 @@ pub each-preserved : goal.each-preserved
 each-preserved c = record {
   value = λ text given.
       let before = c.each.invariant.value text given in
-      let more = c.group_absorbed-next.ensures.value _ _ c.powers_of-powers.ensures.powers before in
+      let more = c.group_absorbed-next.ensures.value _ _ c.powers_of-powers.ensures.powers
+      (c.columns_beyond-beyond.ensures.value _ c.powers_of-powers.ensures.powers) before in
       rw (append_assoc, take_more_group c.args.groups.now c.each.i) at more;
   high = c.group_absorbed-next.ensures.high;
 }
