@@ -3,7 +3,7 @@ use Rattle.std.specs.Prelude.{◌≡◌, ℕ, ◌+◌, ◌/◌, ◌%◌, ◌^◌
 use Rattle.std.specs.Int.{w32, to_le_bytes}
 use Rattle.chacha20.specs.Block.{block_words}
 use Rattle.chacha20.specs.Lanes.{lane}
-use Rattle.chacha20.specs.Encryption.{chacha20_encrypt, keystream_byte}
+use Rattle.chacha20.specs.Encryption.{encrypted_from, keystream_byte}
 
 -- the words of the eight blocks from this counter on: the first eight of each block in a list, and then the other eight of each
 pub record IsBlocks (key : List ℕ) (counter : ℕ) (nonce : List ℕ) (blocks : List (List ℕ)) : Type 0 where
@@ -15,6 +15,6 @@ abbrev pub IsStreamFrom : List ℕ → ℕ → List ℕ → ℕ → List ℕ →
 IsStreamFrom key counter nonce at words =
     (i : ℕ) → i < 32 → slice_index (to_le_bytes w32 (slice_index words (i / 4))) (i % 4) ≡ keystream_byte key counter nonce (at + i)
 
--- of this text the bytes before a place are encrypted
-abbrev pub IsEncryptedTo : List ℕ → ℕ → List ℕ → List ℕ → ℕ → List ℕ → Type 0
-IsEncryptedTo key counter nonce text place bytes = bytes ≡ chacha20_encrypt key counter nonce (take place text) ++ drop place text
+-- of this text, which stands at a place of the stream, the bytes before another place are encrypted
+abbrev pub IsEncryptedTo : List ℕ → ℕ → List ℕ → ℕ → List ℕ → ℕ → List ℕ → Type 0
+IsEncryptedTo key counter nonce from text place bytes = bytes ≡ encrypted_from key counter nonce from (take place text) ++ drop place text

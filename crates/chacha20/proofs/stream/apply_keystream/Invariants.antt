@@ -1,10 +1,7 @@
-use Rattle.std.proofs.Common.{◌≡◌, ◌+◌, ◌*◌, length}
+use Rattle.std.proofs.Common.{◌≡◌, ◌*◌, length}
 use Rattle.chacha20.specs.Blocks.{IsEncryptedTo}
 use Rattle.chacha20.proofs.stream.apply_keystream.Given as goal
 
 -- the bytes of the blocks so far are encrypted
 abbrev pub invariant-each : goal.invariant-each
-invariant-each l = (length l.bytes ≡ length l.fn.bytes) × IsEncryptedTo l.key l.counter l.nonce l.fn.bytes (512 * l.n) l.bytes
-
-abbrev pub invariant-places : goal.invariant-places
-invariant-places l = (length l.bytes ≡ length l.fn.bytes) × IsEncryptedTo l.key l.counter l.nonce l.fn.bytes (512 * l.n + 64 * l.j) l.bytes
+invariant-each l = (length l.bytes ≡ length l.fn.bytes) × IsEncryptedTo l.key l.counter l.nonce 0 l.fn.bytes (512 * l.n) l.bytes
