@@ -7,6 +7,10 @@ is proved by `rt lib` over what earlier runs have kept, as soon as those that it
 chain above it first, with most of the processors' time and by as many jobs as there are processors, four at most, one whose
 chain is nearly as long by half as many, the others by one. `rt` locks a crate and all below it, so each is proved in a folder
 of its own, with the libraries below it beside it. Exit status 3 where a crate isn't proved.
+
+The program is compiled for the level of the processors here, x86-64-v3 where they have all of it and x86-64-v2 elsewhere, or for the
+one that SAZH_CPU names, as for a program that is carried to another machine. The proofs are the same: for another level the program alone is
+built anew. Exit status 2 where SAZH_CPU names no level, or one that the processors here lack.
 """
 import hashlib
 import os
@@ -23,6 +27,9 @@ PROGRAM, WORDS = sys.argv[1], sys.argv[2:]
 STAMP = f"{TOP}/crates/{PROGRAM}/out/built_from"
 # What a job of a check takes, in GB.
 MEMORY = 1.5
+# The levels that a program can be compiled for, and what a processor of the second has beyond the first, in the words of Linux.
+LEVELS = ["x86-64-v2", "x86-64-v3"]
+OF_V3 = {"abm", "avx", "avx2", "bmi1", "bmi2", "f16c", "fma", "movbe", "xsave"}
 
 
 def crates():
@@ -39,6 +46,22 @@ def crates():
     return found
 
 
+def level():
+    """The level to compile the program for."""
+    with open("/proc/cpuinfo", encoding="utf-8") as file:
+        flags = [set(line.partition(":")[2].split()) for line in file if line.startswith("flags")]
+    here = LEVELS[1] if flags and all(OF_V3 <= it for it in flags) else LEVELS[0]
+    asked = os.environ.get("SAZH_CPU") or here
+    if asked not in LEVELS:
+        print(f"{PROGRAM}: SAZH_CPU is {asked}, and not one of {', '.join(LEVELS)}", file=sys.stderr)
+        sys.exit(2)
+    if LEVELS.index(asked) > LEVELS.index(here):
+        # (a program is run as soon as it is built, so none is built here for a better machine)
+        print(f"{PROGRAM}: the processors here lack a feature of {asked}, which SAZH_CPU asks for", file=sys.stderr)
+        sys.exit(2)
+    return asked
+
+
 def sources(name):
     for at, folders, files in os.walk(f"{TOP}/crates/{name}"):
         folders[:] = sorted(it for it in folders if it not in ("out", "must-fail"))
@@ -46,7 +69,7 @@ def sources(name):
 
 
 def built_from(names):
-    """A digest of all that the program is made of."""
+    """A digest of all that the program is made of, whatever it is compiled for."""
     digest = hashlib.sha256(subprocess.run(["rt", "version"], capture_output=True, check=True).stdout)
     for path in [f"{TOP}/crates.txt", *(it for name in sorted(names) for it in sources(name))]:
         with open(path, "rb") as file:
@@ -86,7 +109,7 @@ def below(name, uses):
 class Run:
     """A crate that is proved in a folder of its own."""
 
-    def __init__(self, name, uses, jobs, niceness):
+    def __init__(self, name, uses, cpu, jobs, niceness):
         self.name, self.jobs = name, jobs
         self.room = tempfile.mkdtemp(prefix=f"{PROGRAM}-")
         libraries = below(name, uses)
@@ -101,7 +124,7 @@ class Run:
         shutil.copytree(f"{TOP}/crates/{name}", folder, copy_function=link)
         words = ["nice", f"-n{niceness}", "rt", "lib", "--jobs", str(jobs)]
         if name == PROGRAM:
-            words = ["rt", "run", "--jobs", str(jobs), "--", *WORDS]
+            words = ["rt", "run", f"--cpu={cpu}", "--jobs", str(jobs), "--", *WORDS]
         self.log = f"{self.room}/log"
         with open(self.log, "wb") as log:
             # (a group and no session of its own: between sessions Linux shares the processors out whatever `nice` says)
@@ -124,7 +147,8 @@ class Run:
         shutil.rmtree(self.room, ignore_errors=True)
 
 
-def build(uses):
+def build(uses, cpu, done):
+    """Proves and builds all that isn't done."""
     above = {name: [it for it in uses if name in uses[it]] for name in uses}
     weight = {name: work(name) for name in uses}
     chains = {name: chain(name, above, weight) for name in uses}
@@ -134,8 +158,11 @@ def build(uses):
     lanes = max(1, min(len(os.sched_getaffinity(0)), int(free_memory() / MEMORY)))
     most = min(4, lanes)
     room = max(lanes, int(free_memory() / MEMORY))
-    done, running, began = set(), [], time.monotonic()
-    print(f"{PROGRAM}: proving {len(uses)} crates on {lanes} processors", file=sys.stderr)
+    done, running, began = set(done), [], time.monotonic()
+    if done:
+        print(f"{PROGRAM}: building it for {cpu}, with the libraries that are proved", file=sys.stderr)
+    else:
+        print(f"{PROGRAM}: proving {len(uses)} crates on {lanes} processors, for {cpu}", file=sys.stderr)
     try:
         while len(done) < len(uses):
             begun = done | {it.name for it in running}
@@ -147,7 +174,7 @@ def build(uses):
                 jobs = most if chains[name] == left else max(1, most // 2) if chains[name] > 0.75 * left else 1
                 if ahead >= lanes or (running and sum(it.jobs for it in running) + jobs > room):
                     break
-                running.append(Run(name, uses, jobs, round(19 * (1 - chains[name] / longest))))
+                running.append(Run(name, uses, cpu, jobs, round(19 * (1 - chains[name] / longest))))
             time.sleep(0.2)
             for run in [it for it in running if it.process.poll() is not None]:
                 if run.process.returncode != 0:
@@ -165,17 +192,22 @@ def build(uses):
 
 
 def main():
+    cpu = level()
     uses = crates()
     digest = built_from(uses)
+    kept = []
     try:
         with open(STAMP, encoding="utf-8") as file:
-            if file.read() == digest and os.path.exists(f"{TOP}/crates/{PROGRAM}/out/{PROGRAM}"):
-                return
+            kept = file.read().split()
     except OSError:
         pass
-    build(uses)
+    same = kept[:1] == [digest]
+    if same and kept[1:] == [cpu] and os.path.exists(f"{TOP}/crates/{PROGRAM}/out/{PROGRAM}"):
+        return
+    # (where the sources are those of the last run, its libraries stand as they were proved: nothing of them hangs on the level)
+    build(uses, cpu, below(PROGRAM, uses) if same else ())
     with open(STAMP, "w", encoding="utf-8") as file:
-        file.write(digest)
+        file.write(f"{digest} {cpu}\n")
 
 
 main()
