@@ -1,3 +1,4 @@
 pub mod Recipients
 pub mod Passphrase
 pub mod Keygen
+pub mod Random
