@@ -2,3 +2,4 @@ pub mod Recipients
 pub mod Passphrase
 pub mod Keygen
 pub mod Random
+pub mod Words

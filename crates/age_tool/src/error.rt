@@ -19,6 +19,20 @@ pub enum RecipientsError {
     OutOfMemory,
 }
 
+/// Why the words of a command line name no recipients. A word's number is counted from 0.
+#[derive(Debug, Drop, Error)]
+pub enum WordsError {
+    /// This word is the text of no recipient.
+    #[error("no recipient: {why}")]
+    NotRecipient { word: usize, why: &'static str },
+    /// This word names a file whose bytes aren't those of a file of recipients.
+    #[error("{why}")]
+    File { word: usize, why: RecipientsError },
+    /// Memory was refused.
+    #[error("out of memory")]
+    OutOfMemory,
+}
+
 /// Why a text isn't that of a file of a passphrase.
 #[derive(Clone, Copy, Debug, Error, PartialEq, Eq)]
 pub enum PassphraseError {

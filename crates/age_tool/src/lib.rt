@@ -8,3 +8,4 @@ pub mod keygen;
 pub mod passphrase;
 pub mod random;
 pub mod recipients;
+pub mod words;

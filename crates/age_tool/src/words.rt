@@ -1,0 +1,96 @@
+//! Recipients that the words of a command line name.
+ghost use Rattle.std.specs.Prelude.{◌≡◌, ◌++◌, ℕ, MatchResult, IfOk};
+ghost use Rattle.age_tool.specs.Words.{AreOfText, AreOfWord, AreOfWords, RefusesText, RefusesWord, RefusesWords};
+
+use crate::error::{RecipientsError, WordsError};
+use crate::recipients::recipients_of;
+use age::x25519::Recipient;
+use std::alloc::{AllocError, Global};
+use std::str::FromStr;
+
+/// A word of a command line that names recipients.
+#[derive(Drop)]
+pub enum Word {
+    /// The text of a recipient.
+    Text(String),
+    /// A file of recipients, which has these bytes.
+    File(Vec<u8>),
+}
+
+// The recipient of a text, which stands in the word of this number.
+fn keys_of_text<S>(
+    alloc: Global,
+    text: &str,
+    number: usize,
+) -> Result<Vec<Recipient<S>>, WordsError>
+    ensures { MatchResult result (λ keys. AreOfText text.now keys.items) (λ e. RefusesText number text.now e) }
+{
+    match Recipient::from_str(text) {
+        Err(why) => Err(WordsError::NotRecipient { word: number, why }),
+        Ok(key) => {
+            let mut keys = Vec::new(alloc);
+            match keys.push(key) {
+                Err(_) => Err(WordsError::OutOfMemory),
+                Ok(()) => Ok(keys),
+            }
+        }
+    }
+}
+
+// The recipients of a word of this number.
+fn keys_of_word<S>(
+    alloc: Global,
+    word: &Word,
+    number: usize,
+) -> Result<Vec<Recipient<S>>, WordsError>
+    ensures { MatchResult result (λ keys. AreOfWord word.now keys.items) (λ e. RefusesWord number word.now e) }
+{
+    match word {
+        Word::Text(text) => keys_of_text(alloc, text.as_str(), number),
+        Word::File(bytes) => match recipients_of(alloc, bytes) {
+            Ok(keys) => Ok(keys),
+            Err(why) => Err(WordsError::File { word: number, why }),
+        },
+    }
+}
+
+// Recipients, and then others.
+fn joined<S>(
+    first: Vec<Recipient<S>>,
+    others: Vec<Recipient<S>>,
+) -> Result<Vec<Recipient<S>>, AllocError>
+    ensures { IfOk result (λ all. all.items ≡ first.items ++ others.items) }
+{
+    let mut all = first;
+    for key in others {
+        all.push(key)?;
+    }
+    Ok(all)
+}
+
+/// The recipients that words name, each word's after those of the words before it: of a text its recipient, and of a file those of its
+/// lines, in their order. There is no other.
+///
+/// # Errors
+///
+/// Those of the first word that is refused, whose number is counted from 0:
+///
+/// - `NotRecipient`: it is the text of no recipient, and why.
+/// - `File`: its bytes aren't those of a file of recipients, and why.
+///
+/// `OutOfMemory`: memory was refused.
+pub fn keys_of_words<S>(alloc: Global, words: &[Word]) -> Result<Vec<Recipient<S>>, WordsError>
+    ensures { MatchResult result (λ keys. AreOfWords words.now keys.items) (λ e. RefusesWords words.now e) }
+{
+    let mut keys: Vec<Recipient<S>> = Vec::new(alloc);
+    for i in 0..words.len() {
+        match keys_of_word(alloc, &words[i], i) {
+            Err(error) => return Err(error),
+            Ok(more) => match joined(keys, more) {
+                Err(_) => return Err(WordsError::OutOfMemory),
+                Ok(all) => keys = all,
+            },
+        }
+    }
+    Ok(keys)
+}
