@@ -1,2 +1,4 @@
 pub mod Added
 pub mod Named
+pub mod Secrets
+pub mod Prepared

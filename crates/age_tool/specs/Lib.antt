@@ -3,3 +3,4 @@ pub mod Passphrase
 pub mod Keygen
 pub mod Random
 pub mod Words
+pub mod Encrypting

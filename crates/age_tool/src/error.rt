@@ -1,5 +1,9 @@
-//! What is wrong with a file of recipients or of a passphrase, and with a source of random bytes.
+//! What is wrong with a file of recipients or of a passphrase, and with a source of random bytes, and why a command on a file isn't done.
+ghost use Rattle.std.specs.Prelude.{◌≡◌};
+ghost use Rattle.age_tool.specs.declared.error.CommandError.TheVariants as command;
 
+use age::EncryptError;
+use age::streaming::FileError;
 use thiserror::Error;
 
 /// Why a text isn't that of a file of recipients.
@@ -56,4 +60,41 @@ pub enum RandomError {
     /// Memory was refused.
     #[error("out of memory")]
     OutOfMemory,
+}
+
+/// Why a command on a file isn't done. Its text is that of the error in it.
+#[derive(Debug, Drop, Error)]
+pub enum CommandError {
+    /// There are no random bytes. Nothing was read or written.
+    #[error("{0}")]
+    Random(RandomError),
+    /// As the call of the library on the file refuses.
+    #[error("{0}")]
+    File(FileError),
+}
+
+impl From<RandomError> for CommandError {
+    ghost from_gives = { λ error e. e ≡ command.Random error };
+
+    fn from(error: RandomError) -> CommandError {
+        CommandError::Random(error)
+    }
+}
+
+impl From<FileError> for CommandError {
+    ghost from_gives = { λ error e. e ≡ command.File error };
+
+    fn from(error: FileError) -> CommandError {
+        CommandError::File(error)
+    }
+}
+
+impl From<EncryptError> for CommandError {
+    ghost use Rattle.age.specs.FileErrorVariants.{Encrypt};
+
+    ghost from_gives = { λ error e. e ≡ command.File (Encrypt error) };
+
+    fn from(error: EncryptError) -> CommandError {
+        CommandError::File(FileError::Encrypt(error))
+    }
 }

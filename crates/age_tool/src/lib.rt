@@ -2,6 +2,7 @@
 #![tactic(auto)]
 
 pub mod callbacks;
+pub mod encrypting;
 pub mod error;
 pub mod grease;
 pub mod keygen;
