@@ -19,4 +19,5 @@ pub use Rattle.age_protocol.proofs.Files
 pub use Rattle.age_protocol.proofs.Decrypted
 pub use Rattle.age_protocol.proofs.DecryptingStreams
 pub use Rattle.age_protocol.proofs.OpenedFor
+pub use Rattle.age_protocol.proofs.Parts
 pub use Rattle.age_protocol.proofs.Standing

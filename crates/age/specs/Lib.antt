@@ -129,6 +129,7 @@ pub use Rattle.age_protocol.specs.Opened
 pub use Rattle.age_protocol.specs.Parts
 pub use Rattle.age_protocol.specs.Several
 pub use Rattle.age_protocol.specs.Passphrases
+pub use Rattle.age_protocol.specs.Migrating
 pub use Rattle.age_protocol.specs.Laws as FileLaws
 -- identity files: age_identity
 pub use Rattle.age_identity.specs.Entries

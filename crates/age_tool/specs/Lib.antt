@@ -4,3 +4,4 @@ pub mod Keygen
 pub mod Random
 pub mod Words
 pub mod Encrypting
+pub mod Holder

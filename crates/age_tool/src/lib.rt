@@ -5,6 +5,7 @@ pub mod callbacks;
 pub mod encrypting;
 pub mod error;
 pub mod grease;
+pub mod holder;
 pub mod keygen;
 pub mod passphrase;
 pub mod random;
