@@ -2,3 +2,4 @@ pub mod Added
 pub mod Named
 pub mod Secrets
 pub mod Prepared
+pub mod Flushed

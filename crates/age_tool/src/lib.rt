@@ -2,6 +2,7 @@
 #![tactic(auto)]
 
 pub mod callbacks;
+pub mod decrypting;
 pub mod encrypting;
 pub mod error;
 pub mod grease;
