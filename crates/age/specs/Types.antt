@@ -27,4 +27,5 @@ pub use Rattle.age_identity.specs.declared.error.IdentityFileConvertError.{Ident
 pub use Rattle.age_identity.specs.declared.identity.IdentityFile.{IdentityFile}
 pub use Rattle.age_identity.specs.declared.util.LimitedReader.{LimitedReader}
 pub use Rattle.age_encrypted.specs.declared.encrypted_identity.EncryptedIdentity.{EncryptedIdentity}
+pub use Rattle.age_encrypted.specs.declared.encrypted_identity.NotOpened.{NotOpened}
 pub use Rattle.age_encrypted.specs.declared.identity.Identity.{Identity as ProtectedIdentity}

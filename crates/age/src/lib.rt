@@ -133,7 +133,7 @@ pub mod util {
 
 /// Identity files that are encrypted with a passphrase.
 pub mod encrypted {
-    pub use age_encrypted::{EncryptedIdentity, Identity};
+    pub use age_encrypted::{EncryptedIdentity, Identity, NotOpened};
 
     /// What is true of them, for proofs alone.
     pub mod laws {

@@ -1,3 +1,4 @@
+pub mod Answered
 pub mod Decrypted
 pub mod Opened
 pub mod Refused

@@ -21,7 +21,7 @@ use Rattle.age_protocol.specs.Passphrases.{UnwrapsPassphrase}
 use Rattle.age_identity.specs.Entries.{Entry, AreEntries}
 use Rattle.age_identity.specs.Reading.{ReadsFile, most_bytes}
 use Rattle.age_identity.proofs.SameEntries.{reads_so, refuses_so}
-use Rattle.age_encrypted.specs.Protected.{Protected, IsFileOfEntries, EntriesAreThose, Opened, Opens, HoldsEntries, OpensUnder, identity_under, of_passphrase, opened_with, description}
+use Rattle.age_encrypted.specs.Protected.{Protected, IsFileOfEntries, EntriesAreThose, Opens, HoldsEntries, OpensUnder, identity_under, of_passphrase, opened_with, description}
 
 -- what was read as a value that has entries was read as these entries
 reads_entries : {R A : Type 0} (read : ReadMembers R) (limit : ℕ) (entries : A → List Entry) (input : R) (result : Result A Error)
@@ -105,16 +105,16 @@ module _ {S R : Type 0} (suite : SuiteMembers S) (read : ReadMembers R) (stream_
 
       given_entries : (passphrase : List ℕ) (after : C) → gives file.callbacks (description filename) (Some passphrase) after
           → (entries : Result (List Entry) DecryptRefusal) → OpensUnder suite stream_read file passphrase entries
-          → IfOk (result_map_both (opened_with after) (λ e. e) entries) (λ opened. EntriesAreThose suite stream_read gives filename file opened)
+          → IfOk entries (λ all. EntriesAreThose suite stream_read gives filename file (opened_with after all))
       given_entries passphrase after given (Err refusal) under = tt
       given_entries passphrase after given (Ok entries) under = under_entries passphrase after given entries under.answer under.asked under.stream under.decrypts under.entries
 
       -- so whatever opened the file, its entries are those of the file
-      pub opened_entries : (outcome : Result (Opened C) DecryptRefusal) → Opens suite stream_read gives filename file outcome
-          → IfOk outcome (λ opened. EntriesAreThose suite stream_read gives filename file opened)
-      opened_entries outcome (inl memory) = rw memory tt
-      opened_entries outcome (inr (None, after, given, none)) = rw none tt
-      opened_entries outcome (inr (Some passphrase, after, given, (entries, under, is))) = rw is (given_entries passphrase after given entries under)
+      pub opened_entries : (outcome : Result (List Entry) DecryptRefusal) (after : C) → Opens suite stream_read gives filename file outcome after
+          → IfOk outcome (λ entries. EntriesAreThose suite stream_read gives filename file (opened_with after entries))
+      opened_entries outcome after (inl (memory, same)) = rw memory tt
+      opened_entries outcome after (inr (None, given, none)) = rw none tt
+      opened_entries outcome after (inr (Some passphrase, given, under)) = given_entries passphrase after given outcome under
 
   module _ {C : Type 0} (gives : C → List ℕ → Option (List ℕ) → C → Type 0) (filename : Option (List ℕ)) (file : Protected R C) where
     pub given_opens : (words passphrase : List ℕ) (after : C) → words ≡ description filename → gives file.callbacks words (Some passphrase) after
@@ -123,13 +123,12 @@ module _ {S R : Type 0} (suite : SuiteMembers S) (read : ReadMembers R) (stream_
         → ((answer : UnwrapAnswer) × UnwrapsPassphrase suite identity file.header.stanzas answer identity
         × Decrypts (of_passphrase (decided answer)) file.header file.nonce file.input stream)
         → (entries : Result (List Entry) DecryptRefusal) → HoldsEntries suite stream_read stream entries
-        → Opens suite stream_read gives filename file (result_map_both (opened_with after) (λ e. e) entries)
+        → Opens suite stream_read gives filename file entries after
     given_opens words passphrase after words_are given identity is stream (answer, asked, decrypts) entries holds =
         inr (
           Some passphrase,
-          after,
           rw words_are at given,
-          (entries, record { answer = answer; asked = rw is at asked; stream = stream; decrypts = decrypts; entries = holds }, refl),
+          record { answer = answer; asked = rw is at asked; stream = stream; decrypts = decrypts; entries = holds },
         )
 
     -- the same where an error is answered
@@ -138,10 +137,10 @@ module _ {S R : Type 0} (suite : SuiteMembers S) (read : ReadMembers R) (stream_
         → (stream : Result (StreamReader S R suite read) DecryptError)
         → ((answer : UnwrapAnswer) × UnwrapsPassphrase suite identity file.header.stanzas answer identity
         × Decrypts (of_passphrase (decided answer)) file.header file.nonce file.input stream)
-        → (f : A → Opened C) (result : Result A DecryptError) (e : DecryptError) → IsErrAnd result (λ x. x ≡ e)
+        → (f : A → List Entry) (result : Result A DecryptError) (e : DecryptError) → IsErrAnd result (λ x. x ≡ e)
         → HoldsEntries suite stream_read stream (Err (decrypt_refusal e))
-        → Opens suite stream_read gives filename file (result_map_both f (λ own. decrypt_refusal own) result)
+        → Opens suite stream_read gives filename file (result_map_both f (λ own. decrypt_refusal own) result) after
     given_refuses words passphrase after words_are given identity is stream found f (Ok x) e same holds = absurd same
     given_refuses words passphrase after words_are given identity is stream found f (Err x) e same holds =
-        subst (λ y. Opens suite stream_read gives filename file (Err (decrypt_refusal y))) (sym same)
+        subst (λ y. Opens suite stream_read gives filename file (Err (decrypt_refusal y)) after) (sym same)
         (given_opens words passphrase after words_are given identity is stream found (Err (decrypt_refusal e)) holds)

@@ -1,6 +1,5 @@
 -- What a protected file is refused with carries no text.
 use Rattle.std.specs.Prelude.{ℕ, ◌&&◌, Bool, true, false, List, [], ◌∷◌, if◌then◌else◌, nat_le, Option, None, Some, Result, Ok, Err, IfErr, ⊤}
-use Rattle.std.specs.Result.{result_map_both}
 use Rattle.std.proofs.Common.{inl, inr}
 use Rattle.age_error.specs.DecryptErrors.{DecryptRefusal, DecryptionFailed, ExcessiveWork, InvalidHeader, InvalidMac, Io, KeyDecryptionFailed, NoMatchingKeys, PluginResolve, UnknownFormat, OutOfMemory, HasText, decrypt_refusal, decrypt_of_io}
 use Rattle.age_error.specs.declared.decrypt.DecryptError.{DecryptError}
@@ -18,7 +17,7 @@ use Rattle.age_protocol.specs.Answering.{decided}
 use Rattle.age_protocol.specs.OpeningFile.{Decrypts}
 use Rattle.age_protocol.specs.Passphrases.{UnwrapsPassphrase}
 use Rattle.age_identity.specs.Entries.{Entry}
-use Rattle.age_encrypted.specs.Protected.{Protected, Opened, Opens, HoldsEntries, of_passphrase, identity_under, opened_with, own_refusal}
+use Rattle.age_encrypted.specs.Protected.{Protected, Opens, HoldsEntries, of_passphrase, identity_under, own_refusal}
 
 -- where it is a refusal, that carries no text
 abbrev NoText : {A : Type 0} → Result A DecryptRefusal → Type 0
@@ -85,18 +84,13 @@ module _ {S R : Type 0} (suite : SuiteMembers S) {read : ReadMembers R} (stream_
   entries_no_text key bare h nonce input (Ok stream) decrypts entries (Ok own, reads, is) = rw is tt
   entries_no_text key bare h nonce input (Ok stream) decrypts entries (Err e, reads, is) = rw is (io_no_text e)
 
-  with_no_text : {C : Type 0} (after : C) (entries : Result (List Entry) DecryptRefusal) → NoText entries → NoText (result_map_both (opened_with after) (λ e. e) entries)
-  with_no_text after (Ok entries) bare = tt
-  with_no_text after (Err refusal) bare = bare
-
   -- whatever opening comes to
   pub opens_no_text : {C : Type 0} (gives : C → List ℕ → Option (List ℕ) → C → Type 0) (filename : Option (List ℕ)) (file : Protected R C)
-      (outcome : Result (Opened C) DecryptRefusal) → Opens suite stream_read gives filename file outcome → IfErr outcome (λ refusal. HasText refusal → ⊥)
-  opens_no_text gives filename file outcome (inl memory) = rw memory (λ h. h)
-  opens_no_text gives filename file outcome (inr (None, after, given, is)) = rw is (λ h. h)
-  opens_no_text gives filename file outcome (inr (Some passphrase, after, given, (entries, under, is))) =
-      rw is
-      (with_no_text after entries
-      (entries_no_text (of_passphrase (decided under.answer))
+      (outcome : Result (List Entry) DecryptRefusal) (after : C) → Opens suite stream_read gives filename file outcome after
+      → IfErr outcome (λ refusal. HasText refusal → ⊥)
+  opens_no_text gives filename file outcome after (inl (memory, same)) = rw memory (λ h. h)
+  opens_no_text gives filename file outcome after (inr (None, given, is)) = rw is (λ h. h)
+  opens_no_text gives filename file outcome after (inr (Some passphrase, given, under)) =
+      entries_no_text (of_passphrase (decided under.answer))
       (decided_no_text under.answer (stanzas_no_text (identity_under file passphrase) file.header.stanzas under.answer (identity_under file passphrase) under.asked))
-      file.header file.nonce file.input under.stream under.decrypts entries under.entries))
+      file.header file.nonce file.input under.stream under.decrypts outcome under.entries

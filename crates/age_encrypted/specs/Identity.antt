@@ -4,10 +4,10 @@ use Rattle.std.specs.Option.{option_map}
 use Rattle.age_error.specs.DecryptErrors.{decrypt_refusal}
 use Rattle.age_error.specs.declared.decrypt.DecryptError.{DecryptError}
 use Rattle.age_format.specs.HeaderV1.{IsScrypt}
-use Rattle.age_identity.specs.IdentityFile.{entries_of, callbacks_of}
+use Rattle.age_identity.specs.IdentityFile.{entries_of}
 use Rattle.age_protocol.specs.Decryptor.{header_of}
 use Rattle.age_protocol.specs.declared.decryptor.Decryptor.{Decryptor}
-use Rattle.age_encrypted.specs.EncryptedIdentity.{protected_of, file_of}
+use Rattle.age_encrypted.specs.EncryptedIdentity.{file_by, file_of}
 use Rattle.age_encrypted.specs.Protected.{opened_with}
 use Rattle.age_encrypted.specs.ProtectedIdentity.{State, Encrypted, Decrypted, Failed}
 use Rattle.age_encrypted.specs.declared.identity.IdentityState.{IdentityState}
@@ -15,15 +15,15 @@ use Rattle.age_encrypted.specs.declared.identity.IdentityState.TheVariants as ow
 use Rattle.age_encrypted.specs.declared.identity.Identity.{Identity}
 
 module _ {S R C : Type 0} where
-  -- what became of a file, apart from where it lies in memory
-  abbrev pub of_state : IdentityState S R C → State R C
-  of_state (own.Encrypted file) = Encrypted (protected_of file)
-  of_state (own.Decrypted file) = Decrypted (opened_with (callbacks_of file) (entries_of file))
-  of_state (own.Failed e) = Failed (decrypt_refusal e)
+  -- what became of a file, apart from where it lies in memory, with who is asked or was
+  abbrev pub of_state : IdentityState S R → C → State R C
+  of_state (own.Encrypted front) callbacks = Encrypted (file_by front callbacks)
+  of_state (own.Decrypted file) callbacks = Decrypted (opened_with callbacks (entries_of file))
+  of_state (own.Failed e) callbacks = Failed (decrypt_refusal e) callbacks
 
   -- what became of the file of an identity
   abbrev pub state_of : Identity S R C → State R C
-  state_of identity = of_state identity.state
+  state_of identity = of_state identity.state identity.callbacks
 
   -- the file's name, if it has one
   abbrev pub filename_of : Identity S R C → Option (List ℕ)

@@ -81,17 +81,16 @@ module _ {S R : Type 0} (suite : SuiteMembers S) {read : ReadMembers R} (stream_
       pub entries : HoldsEntries stream outcome
 
     -- what the answer of those who are asked makes of it
-    abbrev pub OpensBy : Protected R C → Option (List ℕ) → C → Result (Opened C) DecryptRefusal → Type 0
-    OpensBy file None callbacks outcome = outcome ≡ Err KeyDecryptionFailed
-    OpensBy file (Some passphrase) callbacks outcome = (entries : Result (List Entry) DecryptRefusal)
-        × OpensUnder file passphrase entries
-        × (outcome ≡ result_map_both (opened_with callbacks) (λ e. e) entries)
+    abbrev pub OpensBy : Protected R C → Option (List ℕ) → Result (List Entry) DecryptRefusal → Type 0
+    OpensBy file None outcome = outcome ≡ Err KeyDecryptionFailed
+    OpensBy file (Some passphrase) outcome = OpensUnder file passphrase outcome
 
-    -- What opening the file comes to: a passphrase is asked for once, but where memory for the words of the question is refused.
-    abbrev pub Opens : (C → List ℕ → Option (List ℕ) → C → Type 0) → Option (List ℕ) → Protected R C → Result (Opened C) DecryptRefusal → Type 0
-    Opens gives filename file outcome =
-        (outcome ≡ Err OutOfMemory)
-        ⊎ ((given : Option (List ℕ)) × (after : C) × gives file.callbacks (description filename) given after × OpensBy file given after outcome)
+    -- What opening the file comes to, and what becomes of those who are asked, whatever it comes to: a passphrase is asked for once, and they
+    -- are as that question left them. Where memory for the words of the question is refused they are as they were.
+    abbrev pub Opens : (C → List ℕ → Option (List ℕ) → C → Type 0) → Option (List ℕ) → Protected R C → Result (List Entry) DecryptRefusal → C → Type 0
+    Opens gives filename file outcome after =
+        ((outcome ≡ Err OutOfMemory) × (after ≡ file.callbacks))
+        ⊎ ((given : Option (List ℕ)) × gives file.callbacks (description filename) given after × OpensBy file given outcome)
 
   -- Whatever was read before the payload: the file was one of a plaintext, under a file key that the identity of a passphrase got from its
   -- stanzas, and these are the entries of the plaintext's lines.
@@ -113,10 +112,10 @@ module _ {S R : Type 0} (suite : SuiteMembers S) {read : ReadMembers R} (stream_
 
   -- so it is of each file that opens
   abbrev pub HoldsItsEntries : {C : Type 0} → (C → List ℕ → Option (List ℕ) → C → Type 0) → Type 0
-  HoldsItsEntries {C} gives = (filename : Option (List ℕ)) (file : Protected R C) (opened : Opened C) → Opens gives filename file (Ok opened)
-      → EntriesAreThose gives filename file opened
+  HoldsItsEntries {C} gives = (filename : Option (List ℕ)) (file : Protected R C) (entries : List Entry) (after : C)
+      → Opens gives filename file (Ok entries) after → EntriesAreThose gives filename file (opened_with after entries)
 
   -- whatever is refused, a copy of it takes no memory
   abbrev pub RefusesWithoutText : {C : Type 0} → (C → List ℕ → Option (List ℕ) → C → Type 0) → Type 0
-  RefusesWithoutText {C} gives = (filename : Option (List ℕ)) (file : Protected R C) (refusal : DecryptRefusal) → Opens gives filename file (Err refusal)
-      → HasText refusal → ⊥
+  RefusesWithoutText {C} gives = (filename : Option (List ℕ)) (file : Protected R C) (refusal : DecryptRefusal) (after : C)
+      → Opens gives filename file (Err refusal) after → HasText refusal → ⊥

@@ -10,25 +10,26 @@ use Rattle.age_format.specs.Unwrapping.{UnwrapAnswer}
 use Rattle.age_keys.specs.X25519.{UnwrapsBy}
 use Rattle.age_stream.specs.declared.reader.StreamReader.{StreamReader}
 use Rattle.age_identity.specs.Asking.{EntriesAnswer}
+use Rattle.age_identity.specs.Entries.{Entry}
 use Rattle.age_identity.specs.Converting.{native_secrets, plugin_names, RefusesRecipients}
 use Rattle.age_encrypted.specs.Protected.{Protected, Opened, Opens, opened_with}
 
--- A file that isn't opened yet, one that is, or why it isn't to be opened.
+-- A file that isn't opened yet, one that is, or why it isn't to be opened, and who was asked.
 pub data State (R C : Type 0) : Type 0 where
   Encrypted : Protected R C → State R C
   Decrypted : Opened C → State R C
-  Failed : DecryptRefusal → State R C
+  Failed : DecryptRefusal → C → State R C
 
 -- nothing was tried yet
 abbrev pub is_encrypted : {R C : Type 0} → State R C → Bool
 is_encrypted (Encrypted _) = true
 is_encrypted (Decrypted _) = false
-is_encrypted (Failed _) = false
+is_encrypted (Failed _ _) = false
 
--- what opening comes to is what stays
-abbrev pub state_after : {R C : Type 0} → Result (Opened C) DecryptRefusal → State R C
-state_after (Ok opened) = Decrypted opened
-state_after (Err refusal) = Failed refusal
+-- what opening comes to is what stays, with those who were asked
+abbrev pub state_after : {R C : Type 0} → Result (List Entry) DecryptRefusal → C → State R C
+state_after (Ok entries) callbacks = Decrypted (opened_with callbacks entries)
+state_after (Err refusal) callbacks = Failed refusal callbacks
 
 -- what a user is told in the use that opened the file, if no identity in it answered
 abbrev pub no_key_matches : List ℕ
@@ -44,7 +45,7 @@ GivesRecipients public_of (Encrypted _) answer = ⊥
 GivesRecipients public_of (Decrypted opened) (Ok recipients) =
     (plugin_names opened.entries ≡ []) × (recipients ≡ map (λ secret. public_of secret) (native_secrets opened.entries))
 GivesRecipients public_of (Decrypted opened) (Err refusal) = RefusesRecipients opened.entries refusal
-GivesRecipients public_of (Failed refusal) answer = Repeats (λ e. Err (EncryptedIdentities e)) (Err no_memory) refusal answer
+GivesRecipients public_of (Failed refusal callbacks) answer = Repeats (λ e. Err (EncryptedIdentities e)) (Err no_memory) refusal answer
 
 -- a user is told that no identity answered, in the use that opened the file
 abbrev pub Shows : {C : Type 0} → (C → List ℕ → C → Type 0) → Bool → UnwrapAnswer → C → C → Type 0
@@ -53,11 +54,13 @@ Shows displays _ _ before after = after ≡ before
 
 module _ {S R : Type 0} (suite : SuiteMembers S) {read : ReadMembers R} (stream_read : ReadMembers (StreamReader S R suite read))
     {C : Type 0} (gives : C → List ℕ → Option (List ℕ) → C → Type 0) (filename : Option (List ℕ)) where
-  -- The first use opens the file. One that was opened, or that failed, stays as it is, and nobody is asked again.
+  -- The first use opens the file, and those who were asked stay, whether it opened or not. One that was opened, or that failed, stays as it
+  -- is, and so do they: nobody is asked again.
   abbrev pub IsOpened : State R C → State R C → Type 0
-  IsOpened (Encrypted file) after = (outcome : Result (Opened C) DecryptRefusal) × Opens suite stream_read gives filename file outcome × (after ≡ state_after outcome)
+  IsOpened (Encrypted file) after = (outcome : Result (List Entry) DecryptRefusal) × (asked : C)
+      × Opens suite stream_read gives filename file outcome asked × (after ≡ state_after outcome asked)
   IsOpened (Decrypted opened) after = after ≡ Decrypted opened
-  IsOpened (Failed refusal) after = after ≡ Failed refusal
+  IsOpened (Failed refusal callbacks) after = after ≡ Failed refusal callbacks
 
   module _ (displays : C → List ℕ → C → Type 0) where
     -- what the file answers once it was tried to open it
@@ -66,8 +69,8 @@ module _ {S R : Type 0} (suite : SuiteMembers S) {read : ReadMembers R} (stream_
     AnswersOpened first (Decrypted opened) stanzas answer after =
         EntriesAnswer (UnwrapsBy suite.opened suite.shared_of suite.public_of) opened.entries stanzas answer
         × ((shown : C) × Shows displays first answer opened.callbacks shown × (after ≡ Decrypted (opened_with shown opened.entries)))
-    AnswersOpened first (Failed refusal) stanzas answer after =
-        Repeats (λ e. Some (Err e)) (Some (Err OutOfMemory)) refusal answer × (after ≡ Failed refusal)
+    AnswersOpened first (Failed refusal callbacks) stanzas answer after =
+        Repeats (λ e. Some (Err e)) (Some (Err OutOfMemory)) refusal answer × (after ≡ Failed refusal callbacks)
 
     -- What a use answers to stanzas: the file is opened unless it was, and then its identities are asked.
     abbrev pub Uses : State R C → List StanzaValue → UnwrapAnswer → State R C → Type 0

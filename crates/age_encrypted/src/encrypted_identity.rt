@@ -10,7 +10,7 @@ ghost use Rattle.age_protocol.specs.Decryptor.{header_of, nonce_of, input_of};
 ghost use Rattle.age_protocol.specs.OpeningFile.{Decrypts};
 ghost use Rattle.age_protocol.specs.Passphrases.{UnwrapsPassphrase};
 ghost use Rattle.age_identity.specs.IdentityFile.{entries_of, callbacks_of};
-ghost use Rattle.age_encrypted.specs.Protected.{Opens, EntriesAreThose, OpensUnder, description, of_passphrase, own_refusal, opened_with, most_of};
+ghost use Rattle.age_encrypted.specs.Protected.{Opens, EntriesAreThose, description, of_passphrase, own_refusal, opened_with, most_of};
 
 use age_error::DecryptError;
 use age_identity::identity::read_file;
@@ -23,18 +23,76 @@ use age_suite::secrecy::SecretString;
 use age_suite::suite::Suite;
 use std::alloc::{AllocError, Global};
 
-/// The front of a file of identities that is encrypted with a passphrase, its payload, which isn't read yet, and who is asked for the
-/// passphrase.
+// The front of a file of identities that is encrypted with a passphrase, its payload, which isn't read yet, and the work factors that are
+// taken.
 #[derive(Drop)]
-pub struct EncryptedIdentity<S, R: Drop, C> {
+pub(crate) struct Front<S, R: Drop> {
     decryptor: Decryptor<S, R>,
-    callbacks: C,
     target: u8,
     max_work_factor: Option<u8>,
     ghost bounded: { target ≤ 63 },
 }
 
-impl<S, R: Drop, C: Callbacks> EncryptedIdentity<S, R, C> {
+impl<S: Suite, R: Read + Drop> Front<S, R> {
+    ghost use Rattle.age_encrypted.specs.EncryptedIdentity.{file_by};
+
+    // Asks those who are lent for the passphrase, once, and reads the identities of the file to its end.
+    pub(crate) fn open_with<C: Callbacks>(
+        self,
+        alloc: Global,
+        filename: Option<&str>,
+        callbacks: &mut C,
+    ) -> Result<IdentityFile<S, NoCallbacks>, DecryptError>
+        ensures { Opens ⟦<S as Suite>⟧ ⟦<StreamReader<S, R> as Read>⟧ C.gives_passphrase (option_map (λ name. name.now) filename.entry)
+            (file_by self callbacks.old) (result_map_both (λ file. entries_of file) (λ e. decrypt_refusal e) result) callbacks.new }
+    {
+        let Front {
+            decryptor,
+            target,
+            max_work_factor,
+        } = self;
+        let description = description_of(alloc, filename)?;
+        let Some(passphrase) = callbacks.request_passphrase(description.as_str()) else {
+            return Err(DecryptError::KeyDecryptionFailed);
+        };
+        let identity = identity_of(passphrase, target, max_work_factor);
+        let stream = decrypted(alloc, decryptor, identity)?;
+        let file = read_file(alloc, stream)?;
+        Ok(file)
+    }
+}
+
+/// The front of a file of identities that is encrypted with a passphrase, its payload, which isn't read yet, and who is asked for the
+/// passphrase.
+#[derive(Drop)]
+pub struct EncryptedIdentity<S, R: Drop, C> {
+    pub(crate) front: Front<S, R>,
+    pub(crate) callbacks: C,
+}
+
+/// Why a file didn't open, and those who were asked. `?` makes the `DecryptError` of it, and lets them go.
+#[derive(Drop)]
+pub struct NotOpened<C> {
+    /// Why it didn't.
+    pub error: DecryptError,
+    /// Those who were asked, as the one question left them.
+    pub callbacks: C,
+}
+
+impl<C: Drop> From<NotOpened<C>> for DecryptError {
+    ghost from_gives = { λ refused e. e ≡ refused.error };
+
+    fn from(refused: NotOpened<C>) -> DecryptError {
+        let NotOpened {
+            error,
+            callbacks: _,
+        } = refused;
+        error
+    }
+}
+
+// Callbacks aren't known as such here, so none of them can be called.
+impl<S, R: Drop, C: Drop> EncryptedIdentity<S, R, C> {
     ghost use Rattle.age_encrypted.specs.EncryptedIdentity.{protected_of, file_of};
 
     /// The file whose front a decryptor has read, if it is one of a passphrase: if its header's only stanza has the tag `scrypt`
@@ -55,20 +113,20 @@ impl<S, R: Drop, C: Callbacks> EncryptedIdentity<S, R, C> {
         if !decryptor.is_scrypt() {
             return None;
         }
-        Some(EncryptedIdentity {
+        let front = Front {
             decryptor,
-            callbacks,
             target,
             max_work_factor,
-        })
+        };
+        Some(EncryptedIdentity { front, callbacks })
     }
 }
 
 impl<S: Suite, R: Read + Drop, C: Callbacks> EncryptedIdentity<S, R, C> {
-    ghost use Rattle.age_encrypted.specs.EncryptedIdentity.{protected_of};
+    ghost use Rattle.age_encrypted.specs.EncryptedIdentity.{protected_of, callbacks_left};
 
     /// Asks for the passphrase, once, and reads the identities of the file to its end, as `IdentityFile::from_buffer` does. Whoever asks
-    /// is told the name of the file, where there is one.
+    /// is told the name of the file, where there is one. Nothing is displayed, and nothing else is asked, whatever the answer.
     ///
     /// # Errors
     ///
@@ -78,32 +136,24 @@ impl<S: Suite, R: Read + Drop, C: Callbacks> EncryptedIdentity<S, R, C> {
     /// - `Io`: the refusals of `IdentityFile::from_buffer`, and those of `StreamReader` where the payload is none.
     /// - `OutOfMemory`: memory was refused, perhaps before the passphrase was asked for.
     ///
-    /// After a refusal the reader and those who were asked are gone.
+    /// After a refusal the reader is gone. Those who were asked come back with the error, as that one question left them, or, where
+    /// memory was refused before it, as they were.
     pub fn decrypt(
         self,
         alloc: Global,
         filename: Option<&str>,
-    ) -> Result<IdentityFile<S, C>, DecryptError>
+    ) -> Result<IdentityFile<S, C>, NotOpened<C>>
         ensures opens { Opens ⟦<S as Suite>⟧ ⟦<StreamReader<S, R> as Read>⟧ C.gives_passphrase (option_map (λ name. name.now) filename.entry) (protected_of self)
-            (result_map_both (λ file. opened_with (callbacks_of file) (entries_of file)) (λ e. decrypt_refusal e) result) }
+            (result_map_both (λ file. entries_of file) (λ e. decrypt_refusal e.error) result) (callbacks_left result) }
         ensures entries { IfOk result (λ file. EntriesAreThose ⟦<S as Suite>⟧ ⟦<StreamReader<S, R> as Read>⟧ C.gives_passphrase
             (option_map (λ name. name.now) filename.entry) (protected_of self) (opened_with (callbacks_of file) (entries_of file))) }
     {
-        let EncryptedIdentity {
-            decryptor,
-            callbacks,
-            target,
-            max_work_factor,
-        } = self;
+        let EncryptedIdentity { front, callbacks } = self;
         let mut callbacks = callbacks;
-        let description = description_of(alloc, filename)?;
-        let Some(passphrase) = callbacks.request_passphrase(description.as_str()) else {
-            return Err(DecryptError::KeyDecryptionFailed);
-        };
-        let identity = identity_of(passphrase, target, max_work_factor);
-        let stream = decrypted(alloc, decryptor, identity)?;
-        let file: IdentityFile<S, NoCallbacks> = read_file(alloc, stream)?;
-        Ok(file.with_callbacks(callbacks))
+        match front.open_with(alloc, filename, &mut callbacks) {
+            Ok(file) => Ok(file.with_callbacks(callbacks)),
+            Err(error) => Err(NotOpened { error, callbacks }),
+        }
     }
 }
 

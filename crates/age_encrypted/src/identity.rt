@@ -1,5 +1,5 @@
 //! Identities whose file is encrypted with a passphrase.
-ghost use Rattle.std.specs.Prelude.{◌≡◌, ◌≤◌, Result, string_bytes};
+ghost use Rattle.std.specs.Prelude.{◌≡◌, ◌≤◌, List, Result, string_bytes};
 ghost use Rattle.std.specs.Option.{option_map};
 ghost use Rattle.std.specs.Result.{result_map_both};
 ghost use Rattle.age_error.specs.DecryptErrors.{DecryptRefusal, OutOfMemory, decrypt_refusal};
@@ -7,20 +7,21 @@ ghost use Rattle.age_error.specs.declared.decrypt.DecryptError.{DecryptError as 
 ghost use Rattle.age_error.specs.EncryptErrors.{encrypt_refusal};
 ghost use Rattle.age_format.specs.Unwrapping.{Unwraps, unwrap_answer};
 ghost use Rattle.age_identity.specs.Asking.{EntriesAnswer};
-ghost use Rattle.age_identity.specs.IdentityFile.{callbacks_of, entries_of};
+ghost use Rattle.age_identity.specs.Entries.{Entry};
+ghost use Rattle.age_identity.specs.IdentityFile.{entries_of};
 ghost use Rattle.age_keys.specs.X25519.{UnwrapsBy};
 ghost use Rattle.age_protocol.specs.Decryptor.{OpensFront};
 ghost use Rattle.age_protocol.specs.declared.decryptor.Decryptor.{Decryptor as DecryptorValue};
-ghost use Rattle.age_encrypted.specs.Protected.{Opened, Opens};
-ghost use Rattle.age_encrypted.specs.EncryptedIdentity.{protected_of};
+ghost use Rattle.age_encrypted.specs.Protected.{Opens};
+ghost use Rattle.age_encrypted.specs.EncryptedIdentity.{file_by};
 ghost use Rattle.age_encrypted.specs.Identity.{IsMadeOf, filename_of, of_state, state_of};
 ghost use Rattle.age_encrypted.specs.ProtectedIdentity.{is_encrypted, state_after, GivesRecipients, IsOpened, Repeats, Shows, Uses};
 
-use crate::encrypted_identity::EncryptedIdentity;
+use crate::encrypted_identity::{EncryptedIdentity, Front};
 use age_error::{DecryptError, EncryptError};
 use age_format::Stanza;
-use age_identity::identity::{answer_of, show};
-use age_identity::{Callbacks, IdentityFile};
+use age_identity::identity::answer_of;
+use age_identity::{Callbacks, IdentityFile, NoCallbacks};
 use age_io::Read;
 use age_keys::x25519;
 use age_protocol::Decryptor;
@@ -32,25 +33,28 @@ use std::{mem, slice};
 
 // What became of a file.
 #[derive(Drop)]
-enum IdentityState<S, R: Drop, C> {
+enum IdentityState<S, R: Drop> {
     // Nothing was tried yet.
-    Encrypted(EncryptedIdentity<S, R, C>),
+    Encrypted(Front<S, R>),
     // The file was opened.
-    Decrypted(IdentityFile<S, C>),
+    Decrypted(IdentityFile<S, NoCallbacks>),
     // It wasn't to be opened, and never will be.
     Failed(DecryptError),
 }
 
 /// The identities in a file that is encrypted with a passphrase.
 ///
-/// The first use asks for the passphrase and opens the file. If that fails, each later use answers the same, and nobody is asked again.
+/// The first use asks for the passphrase and opens the file. If that fails, each later use answers the same, and nobody is asked again:
+/// those who were asked stay as the one question left them.
 #[derive(Drop)]
 pub struct Identity<S, R: Drop, C> {
-    state: IdentityState<S, R, C>,
+    state: IdentityState<S, R>,
+    callbacks: C,
     filename: Option<String>,
 }
 
-impl<S: Suite, R: Read + Drop, C: Callbacks> Identity<S, R, C> {
+// Callbacks aren't known as such here, so none of them can be called.
+impl<S: Suite, R: Read + Drop, C: Drop> Identity<S, R, C> {
     /// The identities of a file whose header and nonce are read now, by `Decryptor::new`, if it is one of a passphrase. Else `None`, and
     /// all that was handed in is gone. A file in armor is read through an `ArmoredReader`.
     ///
@@ -77,12 +81,16 @@ impl<S: Suite, R: Read + Drop, C: Callbacks> Identity<S, R, C> {
         else {
             return Ok(None);
         };
+        let EncryptedIdentity { front, callbacks } = file;
         Ok(Some(Identity {
-            state: IdentityState::Encrypted(file),
+            state: IdentityState::Encrypted(front),
+            callbacks,
             filename,
         }))
     }
+}
 
+impl<S: Suite, R: Read + Drop, C: Callbacks> Identity<S, R, C> {
     /// The recipients of the identities, in the order of the file. It opens the file if nothing did yet, and shows no message.
     ///
     /// # Errors
@@ -104,16 +112,6 @@ impl<S: Suite, R: Read + Drop, C: Callbacks> Identity<S, R, C> {
         }
     }
 
-    // The file's name.
-    fn name(&self) -> Option<&str>
-        ensures { option_map (λ name. name.now) result ≡ filename_of self.now }
-    {
-        match &self.filename {
-            None => None,
-            Some(name) => Some(name.as_str()),
-        }
-    }
-
     // Opens the file, if nothing was tried yet. Whether it did.
     fn open(&mut self, alloc: Global) -> bool
         ensures opens { IsOpened ⟦<S as Suite>⟧ ⟦<StreamReader<S, R> as Read>⟧ C.gives_passphrase (filename_of self.old) (state_of self.old) (state_of self.new) }
@@ -122,8 +120,9 @@ impl<S: Suite, R: Read + Drop, C: Callbacks> Identity<S, R, C> {
     {
         let failed = IdentityState::Failed(DecryptError::KeyDecryptionFailed);
         match mem::replace(&mut self.state, failed) {
-            IdentityState::Encrypted(file) => {
-                self.state = opened(alloc, file, self.name());
+            IdentityState::Encrypted(front) => {
+                let name = name_of(&self.filename);
+                self.state = opened(alloc, front, name, &mut self.callbacks);
                 true
             }
             other => {
@@ -140,25 +139,39 @@ impl<S: Suite, R: Read + Drop, C: Callbacks> Identity<S, R, C> {
         ensures name { filename_of self.new ≡ filename_of self.old }
     {
         let first = self.open(alloc);
-        match &mut self.state {
+        match &self.state {
             IdentityState::Encrypted(_) => unreachable!(),
-            IdentityState::Decrypted(file) => ask(alloc, file, stanzas, first),
+            IdentityState::Decrypted(file) => {
+                ask(alloc, file, stanzas, first, &mut self.callbacks)
+            }
             IdentityState::Failed(e) => Some(Err(repeated(e))),
         }
     }
 }
 
-// What becomes of a file that is opened.
+// The name of a file, if it has one.
+fn name_of(filename: &Option<String>) -> Option<&str>
+    ensures { option_map (λ name. name.now) result ≡ option_map (λ text. string_bytes text) filename.now }
+{
+    match filename {
+        None => None,
+        Some(name) => Some(name.as_str()),
+    }
+}
+
+// What becomes of a file that is opened by those who are lent, and of them.
 fn opened<S: Suite, R: Read + Drop, C: Callbacks>(
     alloc: Global,
-    file: EncryptedIdentity<S, R, C>,
+    front: Front<S, R>,
     filename: Option<&str>,
-) -> IdentityState<S, R, C>
-    ensures { (outcome : Result (Opened C) DecryptRefusal)
-        × Opens ⟦<S as Suite>⟧ ⟦<StreamReader<S, R> as Read>⟧ C.gives_passphrase (option_map (λ name. name.now) filename.entry) (protected_of file) outcome
-        × (of_state result ≡ state_after outcome) }
+    callbacks: &mut C,
+) -> IdentityState<S, R>
+    ensures { (outcome : Result (List Entry) DecryptRefusal)
+        × Opens ⟦<S as Suite>⟧ ⟦<StreamReader<S, R> as Read>⟧ C.gives_passphrase (option_map (λ name. name.now) filename.entry)
+        (file_by front callbacks.old) outcome callbacks.new
+        × (of_state result callbacks.new ≡ state_after outcome callbacks.new) }
 {
-    match file.decrypt(alloc, filename) {
+    match front.open_with(alloc, filename, callbacks) {
         Ok(file) => IdentityState::Decrypted(file),
         Err(e) => IdentityState::Failed(e),
     }
@@ -167,17 +180,17 @@ fn opened<S: Suite, R: Read + Drop, C: Callbacks>(
 // What the identities of an opened file answer. A user is told where none of them does, if the file was opened just now.
 fn ask<S: Suite, C: Callbacks>(
     alloc: Global,
-    file: &mut IdentityFile<S, C>,
+    file: &IdentityFile<S, NoCallbacks>,
     stanzas: &[Stanza],
     first: bool,
+    callbacks: &mut C,
 ) -> Option<Result<FileKey, DecryptError>>
-    ensures answers { EntriesAnswer (UnwrapsBy S.opened S.shared_of S.public_of) (entries_of file.old) stanzas.now (unwrap_answer result) }
-    ensures shows { Shows C.displays first (unwrap_answer result) (callbacks_of file.old) (callbacks_of file.new) }
-    ensures entries { entries_of file.new ≡ entries_of file.old }
+    ensures answers { EntriesAnswer (UnwrapsBy S.opened S.shared_of S.public_of) (entries_of file.now) stanzas.now (unwrap_answer result) }
+    ensures shows { Shows C.displays first (unwrap_answer result) callbacks.old callbacks.new }
 {
     let answer = answer_of(alloc, file, stanzas);
     if first && answer.is_none() {
-        show(file, "no key of the encrypted identity matches");
+        callbacks.display_message("no key of the encrypted identity matches");
     }
     answer
 }

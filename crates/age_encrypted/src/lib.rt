@@ -5,5 +5,5 @@ mod encrypted_identity;
 mod identity;
 pub mod laws;
 
-pub use encrypted_identity::EncryptedIdentity;
+pub use encrypted_identity::{EncryptedIdentity, NotOpened};
 pub use identity::Identity;

@@ -1,13 +1,14 @@
 //! Files of identities that are encrypted with a passphrase, opened once.
 
 use crate::fixtures::{
-    Counts, Knows, NEVER, count, one_who_knows, protected, protected_by_nobody, protected_key,
+    Counts, Knows, NEVER, QUESTION, count, counted, one_who_knows, protected, protected_by_nobody,
+    protected_key,
 };
-use age::Decryptor;
 use age::armor::ArmoredReader;
 use age::io::{Bytes, Read};
+use age::{Callbacks, DecryptError, Decryptor, IdentityFile};
 use age_bench::suite::BenchSuite;
-use age_encrypted::EncryptedIdentity;
+use age_encrypted::{EncryptedIdentity, NotOpened};
 use age_try::answers::is_refusal;
 use age_try::fixtures::armored;
 use std::alloc::Global;
@@ -28,6 +29,15 @@ fn encrypted<'a, R: Read + Drop>(
     }
 }
 
+// What becomes of a file whose name is that of the question.
+fn decrypted<'a, R: Read + Drop>(
+    alloc: Global,
+    file: EncryptedIdentity<BenchSuite, R, Knows<'a>>,
+) -> Result<IdentityFile<BenchSuite, Knows<'a>>, DecryptError> {
+    let file = file.decrypt(alloc, Some("key.age"))?;
+    Ok(file)
+}
+
 // How many identities the file, whose name is that of a question, has by a passphrase. Each of them prints `K`.
 fn opened<R: Read + Drop>(
     alloc: Global,
@@ -37,7 +47,7 @@ fn opened<R: Read + Drop>(
 ) -> Result<usize, Fail> {
     let mut counts = NEVER;
     let file = encrypted(alloc, input, Some(text), most, &mut counts)?;
-    count(alloc, file.decrypt(alloc, Some("key.age"))?)
+    count(alloc, decrypted(alloc, file)?)
 }
 
 // Whether it is refused with this text by a passphrase, if there is one.
@@ -50,7 +60,7 @@ fn refused<R: Read + Drop>(
 ) -> Result<bool, Fail> {
     let mut counts = NEVER;
     let file = encrypted(alloc, input, text, most, &mut counts)?;
-    Ok(is_refusal(alloc, file.decrypt(alloc, Some("key.age")), refusal))
+    Ok(is_refusal(alloc, decrypted(alloc, file), refusal))
 }
 
 // Whether these bytes are refused so.
@@ -181,5 +191,39 @@ fn closed(
 fn a_file_that_none_has_the_passphrase_of(rt: HostRuntime) -> Result<(), Fail> {
     assert!(rt; closed(rt.alloc(), None, None, FAILED)?);
     assert!(rt; closed(rt.alloc(), Some("foobar"), Some(5), EXCESSIVE)?);
+    Ok(())
+}
+
+// Asks those who were asked for a passphrase again, and whether they have none.
+fn has_none_left(callbacks: Knows) -> bool {
+    let mut callbacks = callbacks;
+    callbacks.request_passphrase(QUESTION).is_none()
+}
+
+// Whether a file didn't open, and those who come back have no passphrase left.
+fn comes_back<T: Drop>(answer: Result<T, NotOpened<Knows>>) -> bool {
+    match answer {
+        Ok(_) => false,
+        Err(
+            NotOpened {
+                error: _,
+                callbacks,
+            },
+        ) => has_none_left(callbacks),
+    }
+}
+
+// Whether a file doesn't open by this passphrase, which is asked for once before it is asked for again here.
+fn is_asked_once(alloc: Global, bytes: &[u8], text: &str) -> Result<bool, Fail> {
+    let mut counts = NEVER;
+    let file = encrypted(alloc, Bytes::new(bytes), Some(text), None, &mut counts)?;
+    let back = comes_back(file.decrypt(alloc, Some("key.age")));
+    Ok(back && counted(&counts, 2, 0))
+}
+
+#[test]
+fn one_who_was_asked_comes_back(rt: HostRuntime) -> Result<(), Fail> {
+    let bytes = protected_key(rt.alloc())?;
+    assert!(rt; is_asked_once(rt.alloc(), bytes.as_slice(), "foobaz")?);
     Ok(())
 }
