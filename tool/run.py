@@ -15,6 +15,9 @@ import tempfile
 import time
 from pathlib import Path
 
+from harm import harms
+from told import armor, tells
+
 VECTORS = Path(__file__).resolve().parent.parent / "vectors"
 IDENTITY_OF_THE_PROTECTED_FILE = b"AGE-SECRET-KEY-1YZ3PRM0AJDSQEWZVRM7NKJL58NQMG3DRAA0JKHX5UL6ND5DJ5P2QJCU2JK"
 RECIPIENT_OF_THE_PROTECTED_FILE = "age1ysxuaeqlk7xd8uqsh8lsnfwt9jzzjlqf49ruhpjrrj5yatlcuf7qke4pqe"
@@ -200,12 +203,6 @@ def header(file_key, stanzas):
     return text + b" " + base64.b64encode(mac(key, text)).rstrip(b"=") + b"\n"
 
 
-def armor(file):
-    text = base64.b64encode(file)
-    lines = [text[i : i + 64] for i in range(0, len(text), 64)]
-    return b"\n".join([b"-----BEGIN AGE ENCRYPTED FILE-----", *lines, b"-----END AGE ENCRYPTED FILE-----", b""])
-
-
 def early_file(runs, what, early, canonical):
     """A file whose header is of the early form is refused with a hint, and rewritten as the file of the same stanzas."""
     key = ["-i", VECTORS / "key.txt"]
@@ -248,13 +245,13 @@ def migrates(runs):
 
     early = header(FILE_KEY_OF_ONE_BYTE, stanza + EARLY_STANZAS["a body of a line"])
     cases = {
-        "another identity": (["-i", "key"], early + rest, b"sazh: no matching keys\n"),
-        "a passphrase": (["-p", "passphrase"], early + rest, b"sazh: no matching keys\n"),
+        "another identity": (["-i", "key"], early + rest, b": none of the keys in key opens it\n"),
+        "a passphrase": (["-p", "passphrase"], early + rest, b": it is encrypted to keys, and not with a passphrase: give them by -i FILE\n"),
         "another MAC": (key, header(bytes(16), stanza + EARLY_STANZAS["a body of a line"]) + rest, b"sazh: invalid header MAC\n"),
         "another header": (key, early.replace(b"AAAA", b"AAAB", 1) + rest, b"sazh: invalid header MAC\n"),
-        "the header alone": (key, early, b"sazh: "),
-        "no header": (key, plaintext(1_000), b"sazh: invalid header\n"),
-        "an empty file": (key, b"", b"sazh: "),
+        "the header alone": (key, early, b": it ends in its header\n"),
+        "no header": (key, plaintext(1_000), b': no age file: it begins with "\\x00\\x07\\x0e'),
+        "an empty file": (key, b"", b": it is empty\n"),
     }
     for what, (who, given, says) in cases.items():
         runs.path("early").write_bytes(given)
@@ -297,9 +294,8 @@ def outputs(runs):
     runs.gives("over a file", ["encrypt", "-R", "recipients", "-f", "-o", "back", "small"], b"")
     runs.gives("which is the new one", ["decrypt", "-i", "key", "back"], b"small")
     runs.ends("nothing is left beside", not [name for name in os.listdir(runs.folder) if name.endswith(".part")])
-    runs.refuses("a device", ["keygen", "-f", "-o", "/dev/null"], says=b"/dev/null: no file")
     runs.path("folder").mkdir()
-    runs.refuses("a folder", ["keygen", "-o", "folder"], says=b"folder: no file")
+    runs.refuses("a folder", ["keygen", "-o", "folder"], says=b"folder: it is a folder")
     runs.refuses("a folder that isn't there", ["keygen", "-o", "none/key"], says=b"none/key")
 
 
@@ -310,15 +306,15 @@ def refusals(runs, recipient):
     cases = {
         "no such file": (["decrypt", "-i", "key", "none"], b"none: no such file"),
         "no such identities": (["decrypt", "-i", "none", "file"], b"none: no such file"),
-        "no identities": (["decrypt", "-i", "recipients", "file"], b"recipients: identity file contains non-identity data on line 3"),
-        "no recipient": (["encrypt", "-r", "age1x"], b"age1x"),
+        "no identities": (["decrypt", "-i", "recipients", "file"], b"recipients: line 3: a recipient, where an identity is wanted"),
+        "no recipient": (["encrypt", "-r", "age1x"], b"-r: too short or too long for a key"),
         "a bad file of recipients": (["encrypt", "-R", "bad"], b"bad: line 3"),
         "an empty file of recipients": (["encrypt", "-R", "empty"], b"empty: "),
         "no passphrase": (["encrypt", "-p", "empty"], b"empty: "),
         "a passphrase that is no text": (["encrypt", "-p", "latin"], b"latin: "),
-        "no age file": (["decrypt", "-i", "key", "plain"], b"sazh: "),
-        "an empty file": (["decrypt", "-i", "key", "empty"], b"sazh: "),
-        "another key": (["decrypt", "-i", VECTORS / "key.txt", "file"], b"sazh: "),
+        "no age file": (["decrypt", "-i", "key", "plain"], b"plain: no age file: "),
+        "an empty file": (["decrypt", "-i", "key", "empty"], b"empty: it is empty"),
+        "another key": (["decrypt", "-i", VECTORS / "key.txt", "file"], b"file: none of the keys in "),
     }
     for what, (words, says) in cases.items():
         runs.refuses(what, words, says=says)
@@ -348,6 +344,8 @@ def main():
         migrates(runs)
         outputs(runs)
         refusals(runs, recipient)
+        tells(runs, recipient)
+        harms(runs, recipient)
         command_lines(runs, recipient)
     print(f"{runs.passed} passed, {runs.failed} failed")
     return 1 if runs.failed else 0

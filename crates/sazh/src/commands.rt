@@ -1,16 +1,19 @@
 //! The commands.
 
-use crate::early::answered;
-use crate::failure::{Failure, done, done_with_file};
+use crate::early::{answered, rewritten};
+use crate::failure::{Failure, done, done_with_file, named, tell};
 use crate::files::{open, open_input};
-use crate::jobs::{Decrypting, Encrypting, Job, Migrating, To, flushed, run_job};
+use crate::jobs::{
+    Decrypting, Encrypting, Job, Migrating, ReadingPart, SeekingPart, To, flushed, run_job,
+    run_to_output,
+};
 use crate::keys::{
     Holder, identities, passphrase_identity, passphrase_recipient, recipient, recipients,
 };
 use age::armor::Format;
 use age::draw::Draw;
 use age::io::{Read, Std, Write, write_all};
-use age::streaming::{at, open_text, write_part};
+use age::streaming::open_text;
 use age::x25519;
 use age_standard::StandardSuite;
 use age_tool::grease::grease;
@@ -18,7 +21,6 @@ use age_tool::keygen::new_key_file;
 use age_tool::random::random;
 use sazh_command::{Command, HELP, Identities, Output, Recipient, Recipients};
 use std::fs::File;
-use std::io;
 
 const VERSION: &str = "sazh 0.1.0";
 
@@ -118,36 +120,32 @@ fn passphrase_alone(rt: &HostRuntime, name: &str) -> Result<Vec<Holder>, Failure
     Ok(one)
 }
 
+// What is told of a passphrase that nobody asks for.
+const UNUSED: &str = "its passphrase isn't needed: no file of identities is encrypted";
+
+// Whether one of those who decrypt has the keys in an encrypted file.
+fn has_protected(all: &[Holder]) -> bool {
+    for one in all {
+        if let Holder::File(_) = one {
+            return true;
+        }
+    }
+    false
+}
+
 // Who decrypts.
 fn with(rt: &HostRuntime, asked: &Identities) -> Result<Vec<Holder>, Failure> {
     match asked {
         Identities::Files(names) => identities(rt, names, None),
-        Identities::ProtectedFiles(names, file) => identities(rt, names, Some(file.as_str())),
+        Identities::ProtectedFiles(names, file) => {
+            let all = identities(rt, names, Some(file.as_str()))?;
+            if !has_protected(&all) {
+                tell(rt, &named(rt, file, &UNUSED));
+            }
+            Ok(all)
+        }
         Identities::PassphraseFile(name) => passphrase_alone(rt, name),
     }
-}
-
-// So many bytes of the plaintext of standard input, in which nobody can seek, from a place on, to standard output. It is read into memory
-// first.
-fn part_of_pipe(
-    rt: &HostRuntime,
-    identities: &mut [Holder],
-    place: u64,
-    count: u64,
-) -> Result<(), Failure> {
-    let mut writer = Std::new(io::writer(rt));
-    done(
-        rt,
-        at::<StandardSuite, Holder, _, _>(
-            rt.alloc(),
-            identities,
-            place,
-            count,
-            &mut Std::new(rt.reader()),
-            &mut writer,
-        ),
-    )?;
-    flushed(rt, &mut writer)
 }
 
 // So many bytes of the plaintext of a file, in which is sought, from a place on, to standard output.
@@ -156,18 +154,43 @@ fn part_of_file(
     identities: &mut [Holder],
     place: u64,
     count: u64,
+    name: &str,
     file: Std<File>,
 ) -> Result<(), Failure> {
-    let mut stream = done_with_file(
-        rt,
-        open_text::<StandardSuite, Holder, Std<File>>(rt.alloc(), identities, file),
-    )?;
-    let mut writer = Std::new(io::writer(rt));
-    done(
-        rt,
-        write_part(rt.alloc(), &mut stream, place, count, &mut writer),
-    )?;
-    flushed(rt, &mut writer)
+    let stream = done_with_file(open_text::<StandardSuite, Holder, Std<File>>(
+        rt.alloc(),
+        identities,
+        file,
+    ))?;
+    let job = SeekingPart {
+        stream,
+        name,
+        place,
+        count,
+    };
+    run_to_output(rt, job, "-")
+}
+
+// So many bytes of the plaintext of standard input from a place on, to standard output. Where nobody can seek in it, it is read into memory
+// first.
+fn part_of_input(
+    rt: &HostRuntime,
+    identities: Vec<Holder>,
+    place: u64,
+    count: u64,
+) -> Result<(), Failure> {
+    let mut identities = identities;
+    match open_input(rt) {
+        Some(file) => { part_of_file(rt, &mut identities, place, count, "standard input", file) }
+        None => {
+            let job = ReadingPart {
+                identities,
+                place,
+                count,
+            };
+            run_to_output(rt, job, "-")
+        }
+    }
 }
 
 // So many bytes of a file's plaintext from a place on, to standard output.
@@ -179,26 +202,20 @@ fn part(
     input: &str,
 ) -> Result<(), Failure> {
     let mut identities = with(rt, asked)?;
-    if input != "-" {
+    let answer = if input == "-" {
+        part_of_input(rt, identities, place, count)
+    } else {
         let file = open(rt, input)?;
-        let answer = part_of_file(rt, &mut identities, place, count, file);
-        return answered(rt, input, answer);
-    }
-    match open_input(rt) {
-        Some(file) => part_of_file(rt, &mut identities, place, count, file),
-        None => part_of_pipe(rt, &mut identities, place, count),
-    }
+        part_of_file(rt, &mut identities, place, count, input, file)
+    };
+    answered(rt, asked, input, answer)
 }
 
 // Writes a text and a line feed to standard output.
 fn print(rt: &HostRuntime, text: &str) -> Result<(), Failure> {
     let mut line = Vec::from_slice(rt.alloc(), text.as_bytes())?;
     line.push(b'\n')?;
-    Writing { text: line }.run(
-        rt,
-        &mut Std::new(rt.reader()),
-        &mut Std::new(io::writer(rt)),
-    )
+    run_to_output(rt, Writing { text: line }, "-")
 }
 
 // The file of a new key.
@@ -251,7 +268,7 @@ fn decrypt(
 ) -> Result<(), Failure> {
     let identities = with(rt, asked)?;
     let answer = run_job(rt, Decrypting { identities }, input, output, FOR_ALL);
-    answered(rt, input, answer)
+    answered(rt, asked, input, answer)
 }
 
 // Rewrites an input to an output, with a header of the standard.
@@ -262,7 +279,8 @@ fn migrate(
     output: &Output,
 ) -> Result<(), Failure> {
     let identities = with(rt, asked)?;
-    run_job(rt, Migrating { identities }, input, output, FOR_ALL)
+    let answer = run_job(rt, Migrating { identities }, input, output, FOR_ALL);
+    rewritten(rt, asked, input, answer)
 }
 
 /// Does what a command line asks for.

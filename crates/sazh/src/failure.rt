@@ -1,19 +1,29 @@
 //! Why a command was refused.
 
+use crate::lines::bad_identity;
 use age::DecryptError;
 use age::io::{Error, ErrorKind};
 use age::streaming::FileError;
 use std::alloc::{AllocError, AllocFailed};
-use std::fmt;
 use std::fmt::Display;
+use std::fs::File;
+use std::{fmt, fs, io};
 
 /// Why a command was refused. Its text is one line, without the program's name.
 #[derive(Drop)]
 pub enum Failure {
     /// Memory was refused.
     OutOfMemory,
+    /// Nobody reads standard output any more.
+    ClosedPipe,
     /// The file to open has no header of the standard.
     InvalidHeader,
+    /// Nobody who was asked has the key of the file to open, which was encrypted with a passphrase or to keys.
+    NoKeys { of_passphrase: bool },
+    /// The passphrase opens no encrypted file of identities.
+    WrongPassphrase,
+    /// A file wasn't opened or written, and nobody has looked at it yet.
+    File(FileError),
     /// As this text says.
     Said(String),
 }
@@ -30,9 +40,63 @@ pub fn said<E: Display>(rt: &HostRuntime, why: &E) -> Failure {
     told(format!(in rt.alloc(); "{why}"))
 }
 
+/// A name or a word as it is printed: with its control characters escaped, so that it is one line and steers no terminal.
+#[derive(Clone, Copy)]
+pub struct Shown<'a>(pub &'a str);
+
+impl<'a> fmt::Display for Shown<'a> {
+    fn fmt<W: fmt::Write>(&self, f: &mut fmt::Formatter<W>) -> fmt::Result {
+        for c in self.0.chars() {
+            if c.is_control() {
+                write!(f, "{}", c.escape_default())?;
+            } else {
+                f.write_char(c)?;
+            }
+        }
+        Ok(())
+    }
+}
+
+/// Why the system refused, in words.
+#[derive(Clone, Copy)]
+pub struct Reason(pub io::Error);
+
+impl fmt::Display for Reason {
+    fn fmt<W: fmt::Write>(&self, f: &mut fmt::Formatter<W>) -> fmt::Result {
+        match self.0.kind() {
+            io::ErrorKind::NotFound => f.write_str("no such file"),
+            io::ErrorKind::PermissionDenied => f.write_str("permission denied"),
+            io::ErrorKind::IsADirectory => f.write_str("it is a folder"),
+            io::ErrorKind::StorageFull => f.write_str("no space is left on the device"),
+            io::ErrorKind::InvalidFilename => f.write_str("the name is too long"),
+            io::ErrorKind::BrokenPipe => f.write_str("nobody reads it any more"),
+            _ => write!(f, "{}", self.0),
+        }
+    }
+}
+
 /// That what has this name was refused for this reason.
 pub fn named<E: Display>(rt: &HostRuntime, name: &str, why: &E) -> Failure {
+    let name = Shown(name);
     told(format!(in rt.alloc(); "{name}: {why}"))
+}
+
+/// That the system refused what has this name.
+pub fn refused_by(rt: &HostRuntime, name: &str, error: io::Error) -> Failure {
+    named(rt, name, &Reason(error))
+}
+
+// Why the file of this name can't be read, where the system says it again: a folder, or a file that can't be opened.
+fn reason_again(rt: &HostRuntime, name: &str) -> Option<Failure> {
+    match fs::metadata(rt, name) {
+        Err(error) => Some(refused_by(rt, name, error)),
+        Ok(found) if found.is_dir() => Some(named(rt, name, &"it is a folder")),
+        Ok(found) if found.is_file() => match File::open(rt, name) {
+            Err(error) => Some(refused_by(rt, name, error)),
+            Ok(_) => None,
+        },
+        Ok(_) => None,
+    }
 }
 
 /// That the file of this name can't be opened, read or written.
@@ -40,8 +104,18 @@ pub fn refused(rt: &HostRuntime, name: &str, error: Error) -> Failure {
     match error {
         Error::Device(ErrorKind::NotFound) => named(rt, name, &"no such file"),
         Error::Device(ErrorKind::PermissionDenied) => named(rt, name, &"permission denied"),
+        Error::Device(_) => match reason_again(rt, name) {
+            Some(failure) => failure,
+            None => named(rt, name, &error),
+        },
+        Error::NotIdentity { line } => bad_identity(rt, name, line),
         error => named(rt, name, &error),
     }
+}
+
+/// Tells of something on standard error.
+pub fn tell<E: Display>(rt: &HostRuntime, what: &E) {
+    let _ = eprintln!(rt; "sazh: {what}");
 }
 
 /// What was answered, or that it was refused.
@@ -64,20 +138,11 @@ pub fn done_with<T, E: Display + Drop>(
     }
 }
 
-// Whether a file was refused for its header.
-fn is_invalid_header(error: &FileError) -> bool {
-    matches!(error, FileError::Decrypt(DecryptError::InvalidHeader))
-}
-
 /// What was answered, or that a file wasn't opened or written.
-pub fn done_with_file<T>(rt: &HostRuntime, answer: Result<T, FileError>) -> Result<T, Failure> {
+pub fn done_with_file<T>(answer: Result<T, FileError>) -> Result<T, Failure> {
     match answer {
         Ok(value) => Ok(value),
-        Err(error) => Err(if is_invalid_header(&error) {
-            Failure::InvalidHeader
-        } else {
-            said(rt, &error)
-        }),
+        Err(error) => Err(Failure::File(error)),
     }
 }
 
@@ -93,7 +158,11 @@ impl fmt::Display for Failure {
     fn fmt<W: fmt::Write>(&self, f: &mut fmt::Formatter<W>) -> fmt::Result {
         match self {
             Failure::OutOfMemory => f.write_str("out of memory"),
+            Failure::ClosedPipe => f.write_str("nobody reads standard output any more"),
             Failure::InvalidHeader => write!(f, "{}", DecryptError::InvalidHeader),
+            Failure::NoKeys { .. } => write!(f, "{}", DecryptError::NoMatchingKeys),
+            Failure::WrongPassphrase => write!(f, "{}", DecryptError::KeyDecryptionFailed),
+            Failure::File(error) => write!(f, "{error}"),
             Failure::Said(text) => f.write_str(text),
         }
     }

@@ -1,8 +1,9 @@
 //! Files that are opened or read whole, and a random number.
 
-use crate::failure::{Failure, refused, said};
+use crate::failure::{Failure, named, refused_by, said};
+use crate::watch::Watched;
 use age::armor::ArmoredReader;
-use age::io::{BufReader, Seek, SeekFrom, Std, device_error, read_to_end};
+use age::io::{BufReader, Seek, SeekFrom, Std, read_to_end};
 use age::util::LimitedReader;
 use age_tool::error::RandomError;
 use sazh_command::told_place;
@@ -24,12 +25,26 @@ pub fn copied(rt: &HostRuntime, word: &str) -> Result<String, Failure> {
     Ok(String::from_str(rt.alloc(), word)?)
 }
 
-/// Opens the file of this name to read it.
-pub fn open(rt: &HostRuntime, name: &str) -> Result<Std<File>, Failure> {
-    match File::open(rt, name) {
-        Ok(file) => Ok(Std::new(file)),
-        Err(error) => Err(refused(rt, name, device_error(&error))),
+// Whether this is a folder, which the system opens and refuses to read.
+fn is_folder(file: &File) -> bool {
+    match file.metadata() {
+        Ok(found) => found.is_dir(),
+        Err(_) => false,
     }
+}
+
+/// Opens the file of this name to read it.
+pub fn open_file(rt: &HostRuntime, name: &str) -> Result<File, Failure> {
+    match File::open(rt, name) {
+        Ok(file) if is_folder(&file) => Err(named(rt, name, &"it is a folder")),
+        Ok(file) => Ok(file),
+        Err(error) => Err(refused_by(rt, name, error)),
+    }
+}
+
+/// Opens the file of this name to read it, as a reader.
+pub fn open(rt: &HostRuntime, name: &str) -> Result<Std<File>, Failure> {
+    Ok(Std::new(open_file(rt, name)?))
 }
 
 /// The text of the file of this name, bare or in armor.
@@ -45,11 +60,21 @@ pub fn text_in(
 
 /// All that the file of this name holds, up to 16 MiB.
 pub fn read(rt: &HostRuntime, name: &str) -> Result<Vec<u8>, Failure> {
-    let mut reader = LimitedReader::new(open(rt, name)?, MOST_BYTES);
+    let mut device = Std::new(Watched::new(open_file(rt, name)?));
     let mut text = Vec::new(rt.alloc());
-    match read_to_end(rt.alloc(), &mut reader, &mut text) {
+    match read_to_end(
+        rt.alloc(),
+        &mut LimitedReader::new(&mut device, MOST_BYTES),
+        &mut text,
+    ) {
         Ok(_) => Ok(text),
-        Err(error) => Err(refused(rt, name, error)),
+        Err(error) => {
+            let (_, seen) = device.into_inner().into_parts();
+            Err(match seen.error {
+                Some(why) => refused_by(rt, name, why),
+                None => named(rt, name, &error),
+            })
+        }
     }
 }
 

@@ -1,18 +1,24 @@
 //! What is done from an input to an output.
 
-use crate::failure::{Failure, done, done_with_file};
-use crate::files::open;
+use crate::explain::{explained, of_part};
+use crate::failure::{Failure, done, done_with_file, refused_by};
+use crate::files::open_file;
 use crate::keys::Holder;
-use crate::output::{create, finish, give_up};
+use crate::output::{
+    NewFile, Place, create, finish, give_up, open_stream, replace, tell_links, where_to,
+};
+use crate::watch::{Seen, Watched};
 use age::armor::{ArmoredReader, Format};
 use age::draw::Draw;
 use age::format::Grease;
 use age::io::{BufReader, Read, Std, Write, flush_retrying};
-use age::streaming::{FileError, decrypt_all, encrypt_all, migrate};
+use age::stream::StreamReader;
+use age::streaming::{FileError, at, decrypt_all, encrypt_all, migrate, write_part};
 use age::{scrypt, x25519};
 use age_standard::StandardSuite;
 use sazh_command::Output;
 use std::alloc::Global;
+use std::fs::File;
 use std::io;
 
 /// To whom is encrypted.
@@ -108,10 +114,12 @@ impl Job for Decrypting {
         writer: &mut W,
     ) -> Result<(), Failure> {
         let mut identities = self.identities;
-        done_with_file(
-            rt,
-            decrypt_all::<StandardSuite, Holder, R, W>(rt.alloc(), &mut identities, reader, writer),
-        )?;
+        done_with_file(decrypt_all::<StandardSuite, Holder, R, W>(
+            rt.alloc(),
+            &mut identities,
+            reader,
+            writer,
+        ))?;
         flushed(rt, writer)
     }
 }
@@ -144,30 +152,149 @@ impl Job for Migrating {
         writer: &mut W,
     ) -> Result<(), Failure> {
         let mut identities = self.identities;
-        done(
-            rt,
-            migrate_text(rt.alloc(), &mut identities, reader, writer),
-        )?;
+        done_with_file(migrate_text(rt.alloc(), &mut identities, reader, writer))?;
         flushed(rt, writer)
     }
 }
 
-// Does it from the input of this name, which is standard input where it is `-`.
-fn run_from<J: Job, W: Write>(
-    rt: &HostRuntime,
-    job: J,
-    input: &str,
-    writer: &mut W,
-) -> Result<(), Failure> {
-    if input == "-" {
-        job.run(rt, &mut Std::new(rt.reader()), writer)
-    } else {
-        job.run(rt, &mut open(rt, input)?, writer)
+/// Decrypts a part of the input, which is read into memory first.
+#[derive(Drop)]
+pub struct ReadingPart {
+    pub identities: Vec<Holder>,
+    pub place: u64,
+    pub count: u64,
+}
+
+impl Job for ReadingPart {
+    fn run<R: Read, W: Write>(
+        self,
+        rt: &HostRuntime,
+        reader: &mut R,
+        writer: &mut W,
+    ) -> Result<(), Failure> {
+        let mut identities = self.identities;
+        done_with_file(at::<StandardSuite, Holder, R, W>(
+            rt.alloc(),
+            &mut identities,
+            self.place,
+            self.count,
+            reader,
+            writer,
+        ))?;
+        flushed(rt, writer)
     }
 }
 
-/// Does it from the input of this name to a new file, or to standard output where the name of the output is `-`. A file that doesn't
-/// become whole is taken away.
+/// Decrypts a part of a file that was opened, in which is sought. No other input is read.
+#[derive(Drop)]
+pub struct SeekingPart<'a> {
+    pub stream: StreamReader<StandardSuite, ArmoredReader<BufReader<Std<File>>>>,
+    pub name: &'a str,
+    pub place: u64,
+    pub count: u64,
+}
+
+impl<'a> Job for SeekingPart<'a> {
+    fn run<R: Read, W: Write>(
+        self,
+        rt: &HostRuntime,
+        _reader: &mut R,
+        writer: &mut W,
+    ) -> Result<(), Failure> {
+        let mut stream = self.stream;
+        match write_part(rt.alloc(), &mut stream, self.place, self.count, writer) {
+            Ok(()) => flushed(rt, writer),
+            Err(error) => Err(of_part(rt, self.name, self.place, error)),
+        }
+    }
+}
+
+// Why something that was done between these was refused: as the system said, where it did. The names are those of the input and the
+// output; an output without a name is standard output, and where nobody reads that any more, there is nobody to tell.
+fn reason(
+    rt: &HostRuntime,
+    failure: Failure,
+    read: Seen,
+    input: &str,
+    written: Seen,
+    output: Option<&str>,
+) -> Failure {
+    if let Some(error) = written.error {
+        return match output {
+            Some(name) => refused_by(rt, name, error),
+            None if error.kind() == io::ErrorKind::BrokenPipe => Failure::ClosedPipe,
+            None => refused_by(rt, "standard output", error),
+        };
+    }
+    if let Some(error) = read.error {
+        return refused_by(rt, input, error);
+    }
+    match failure {
+        Failure::File(error) => explained(rt, input, &read, written.count, error),
+        failure => failure,
+    }
+}
+
+// Does it from a reader to a writer of std.
+fn run_between<J: Job, R: io::Read + Drop, W: io::Write + Drop>(
+    rt: &HostRuntime,
+    job: J,
+    from: R,
+    input: &str,
+    to: W,
+    output: Option<&str>,
+) -> Result<(), Failure> {
+    let mut reader = Std::new(Watched::new(from));
+    let mut writer = Std::new(Watched::new(to));
+    match job.run(rt, &mut reader, &mut writer) {
+        Ok(()) => Ok(()),
+        Err(failure) => {
+            let (_, read) = reader.into_inner().into_parts();
+            let (_, written) = writer.into_inner().into_parts();
+            Err(reason(rt, failure, read, input, written, output))
+        }
+    }
+}
+
+// Does it from the input of this name, which is standard input where it is `-`.
+fn run_from<J: Job, W: io::Write + Drop>(
+    rt: &HostRuntime,
+    job: J,
+    input: &str,
+    to: W,
+    output: Option<&str>,
+) -> Result<(), Failure> {
+    if input == "-" {
+        run_between(rt, job, rt.reader(), "standard input", to, output)
+    } else {
+        run_between(rt, job, open_file(rt, input)?, input, to, output)
+    }
+}
+
+// Does it from the input of this name to a new file. One that doesn't become whole is taken away.
+fn run_to_file<J: Job>(
+    rt: &HostRuntime,
+    job: J,
+    input: &str,
+    name: &str,
+    new: NewFile,
+) -> Result<(), Failure> {
+    match run_from(rt, job, input, new.file(), Some(name)) {
+        Ok(()) => finish(rt, new, name),
+        Err(failure) => {
+            give_up(rt, new);
+            Err(failure)
+        }
+    }
+}
+
+/// Does it from the input of this name to standard output.
+pub fn run_to_output<J: Job>(rt: &HostRuntime, job: J, input: &str) -> Result<(), Failure> {
+    run_from(rt, job, input, io::writer(rt), None)
+}
+
+/// Does it from the input of this name to an output: to standard output, to what is there and is no regular file, or to a new file, which
+/// has its name once it is whole. A file that is replaced keeps its mode and its owner.
 pub fn run_job<J: Job>(
     rt: &HostRuntime,
     job: J,
@@ -175,15 +302,15 @@ pub fn run_job<J: Job>(
     output: &Output,
     mode: u32,
 ) -> Result<(), Failure> {
-    if output.name.as_str() == "-" {
-        return run_from(rt, job, input, &mut Std::new(io::writer(rt)));
-    }
-    let mut new = create(rt, &output.name, output.overwrite, mode)?;
-    match run_from(rt, job, input, &mut new.file) {
-        Ok(()) => finish(rt, new, &output.name, output.overwrite),
-        Err(failure) => {
-            give_up(rt, new);
-            Err(failure)
+    let name = output.name.as_str();
+    match where_to(rt, output)? {
+        Place::Standard => run_to_output(rt, job, input),
+        Place::Stream => run_from(rt, job, input, open_stream(rt, name)?, Some(name)),
+        Place::Free => run_to_file(rt, job, input, name, create(rt, name, mode)?),
+        Place::Taken(target, old) => {
+            run_to_file(rt, job, input, name, replace(rt, name, target, &old)?)?;
+            tell_links(rt, name, &old);
+            Ok(())
         }
     }
 }

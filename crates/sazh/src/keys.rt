@@ -2,8 +2,9 @@
 ghost use Rattle.std.specs.Prelude.{◌≡◌, IfOk};
 ghost use Rattle.age.specs.KeyTexts.{recipient_prefix, IsKeyText};
 
-use crate::failure::{Failure, done_with, named, refused, told};
+use crate::failure::{Failure, done_with, named, refused};
 use crate::files::{copied, read, text_in};
+use crate::lines::{Wanted, bad_line, bad_plugin, bad_word};
 use age::armor::ArmoredReader;
 use age::format::Stanza;
 use age::io::{BufReader, Error, Std};
@@ -11,6 +12,7 @@ use age::secrecy::{FileKey, SecretString};
 use age::{DecryptError, Identity, IdentityFile, NoCallbacks, encrypted, scrypt, x25519};
 use age_standard::StandardSuite;
 use age_tool::callbacks::GivesOnce;
+use age_tool::error::RecipientsError;
 use age_tool::passphrase::{WORK_FACTOR, identity_of, passphrase_of, recipient_of};
 use age_tool::recipients::recipients_of;
 use std::alloc::Global;
@@ -94,7 +96,7 @@ pub fn recipient(rt: &HostRuntime, word: &str) -> Result<x25519::Recipient<Stand
 {
     match x25519::Recipient::from_str(word) {
         Ok(recipient) => Ok(recipient),
-        Err(why) => Err(told(format!(in rt.alloc(); "{word}: no recipient: {why}"))),
+        Err(_) => Err(bad_word(rt, word)),
     }
 }
 
@@ -104,7 +106,13 @@ pub fn recipients(
     name: &str,
 ) -> Result<Vec<x25519::Recipient<StandardSuite>>, Failure> {
     let text = read(rt, name)?;
-    done_with(rt, name, recipients_of(rt.alloc(), &text))
+    match recipients_of(rt.alloc(), &text) {
+        Ok(recipients) => Ok(recipients),
+        Err(RecipientsError::NotRecipient { line }) => {
+            Err(bad_line(rt, name, &text, line, Wanted::Recipient))
+        }
+        Err(error) => Err(named(rt, name, &error)),
+    }
 }
 
 // Adds the identities of a file that isn't encrypted.
@@ -114,10 +122,16 @@ fn add_bare(
     file: IdentityFile<StandardSuite, NoCallbacks>,
     name: &str,
 ) -> Result<(), Failure> {
-    for identity in done_with(rt, name, file.into_identities(rt.alloc()))? {
-        identities.push(Holder::Key(identity))?;
+    match done_with(rt, name, file.into_identities(rt.alloc())) {
+        Err(failure) => Err(bad_plugin(rt, name, failure)),
+        Ok(found) if found.is_empty() => Err(named(rt, name, &"no identity is in it")),
+        Ok(found) => {
+            for identity in found {
+                identities.push(Holder::Key(identity))?;
+            }
+            Ok(())
+        }
     }
-    Ok(())
 }
 
 // What was found, or nothing where something else was.

@@ -1,26 +1,37 @@
 //! The program `sazh`: encrypts and decrypts files of age-encryption.org/v1.
 #![tactic(auto)]
 
+mod checks;
 mod commands;
 mod early;
+mod explain;
 mod failure;
 mod files;
 mod jobs;
 mod keys;
+mod lines;
 mod output;
+mod watch;
 
+use crate::checks::{Clash, clash_of, looked};
 use crate::commands::run;
-use crate::failure::Failure;
+use crate::failure::{Failure, tell};
 use sazh_command::{Command, USAGE, UsageError, parse};
 use std::process::ExitCode;
 use std::{env, io};
 
+// The status where nobody reads standard output any more: what a shell tells of a program that such a write ended.
+const CLOSED_PIPE: u8 = 141;
+
 // What is wrong with a command line.
+#[derive(Drop)]
 enum Wrong {
     // A word is no text.
     NotText,
     // What the words ask for isn't told.
     Usage(UsageError),
+    // Two words name one stream.
+    Clash(Clash),
 }
 
 // The words after the program's name, or `None` where one is no text.
@@ -45,28 +56,48 @@ fn asked(rt: &HostRuntime) -> Result<Result<Command, Wrong>, Failure> {
         return Ok(Err(Wrong::NotText));
     };
     match parse(rt.alloc(), &words)? {
-        Ok(command) => Ok(Ok(command)),
+        Ok(command) => match clash_of(rt, &command)? {
+            None => Ok(Ok(command)),
+            Some(clash) => Ok(Err(Wrong::Clash(clash))),
+        },
         Err(error) => Ok(Err(Wrong::Usage(error))),
     }
 }
 
+// Does what a command asks for.
+fn done(rt: &HostRuntime, command: &Command) -> Result<(), Failure> {
+    looked(rt, command)?;
+    run(rt, command)
+}
+
+// Says what is wrong with a command line.
+fn say(rt: &HostRuntime, wrong: &Wrong) {
+    let _ = match wrong {
+        Wrong::NotText => eprintln!(rt; "sazh: a word isn't UTF-8\n{USAGE}"),
+        Wrong::Usage(error) => eprintln!(rt; "sazh: {error}\n{USAGE}"),
+        Wrong::Clash(clash) => {
+            let (first, second) = (clash.first, clash.second);
+            eprintln!(rt;
+                "sazh: {first} and {second} name the same stream, which can be read once\n{USAGE}"
+            )
+        }
+    };
+}
+
 fn main(rt: HostRuntime) -> ExitCode {
     let done = match asked(&rt) {
-        Ok(Ok(command)) => run(&rt, &command),
-        Ok(Err(Wrong::NotText)) => {
-            let _ = eprintln!(rt; "sazh: a word isn't UTF-8\n{USAGE}");
-            return ExitCode::from(2);
-        }
-        Ok(Err(Wrong::Usage(error))) => {
-            let _ = eprintln!(rt; "sazh: {error}\n{USAGE}");
+        Ok(Ok(command)) => done(&rt, &command),
+        Ok(Err(wrong)) => {
+            say(&rt, &wrong);
             return ExitCode::from(2);
         }
         Err(failure) => Err(failure),
     };
     match done {
         Ok(()) => ExitCode::SUCCESS,
+        Err(Failure::ClosedPipe) => ExitCode::from(CLOSED_PIPE),
         Err(failure) => {
-            let _ = eprintln!(rt; "sazh: {failure}");
+            tell(&rt, &failure);
             ExitCode::FAILURE
         }
     }
