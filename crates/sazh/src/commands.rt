@@ -1,26 +1,16 @@
 //! The commands.
 
 use crate::early::{answered, rewritten};
-use crate::failure::{Failure, done, done_with_file, named, tell};
+use crate::failure::{Failure, done, named, tell};
 use crate::files::{open, open_input};
 use crate::jobs::{
-    Decrypting, Encrypting, Job, Migrating, ReadingPart, SeekingPart, To, flushed, run_job,
+    Decrypting, Encrypting, Job, Migrating, NewKey, ReadingPart, SeekingPart, To, run_job,
     run_to_output,
 };
-use crate::keys::{
-    Holder, identities, passphrase_identity, passphrase_recipient, recipient, recipients,
-};
+use crate::keys::{Holder, identities, keys, passphrase_identity, passphrase_in};
 use age::armor::Format;
-use age::draw::Draw;
-use age::io::{Read, Std, Write, write_all};
-use age::streaming::open_text;
-use age::x25519;
-use age_standard::StandardSuite;
-use age_tool::grease::grease;
-use age_tool::keygen::new_key_file;
-use age_tool::random::random;
-use sazh_command::{Command, HELP, Identities, Output, Recipient, Recipients};
-use std::fs::File;
+use age::io::{Read, Write, flush_retrying, write_all};
+use sazh_command::{Command, HELP, Identities, Output, Recipients};
 
 const VERSION: &str = "sazh 0.1.0";
 
@@ -28,17 +18,6 @@ const VERSION: &str = "sazh 0.1.0";
 const FOR_ALL: u32 = 0o666;
 
 const FOR_ITS_OWNER: u32 = 0o600;
-
-// How many random bytes a file takes: its key and the nonce of its payload, and for each recipient an ephemeral secret, or for a
-// passphrase a salt and a label.
-const OF_A_FILE: usize = 32;
-
-const OF_A_RECIPIENT: usize = 32;
-
-const OF_A_PASSPHRASE: usize = 40;
-
-// How many random bytes are a secret.
-const OF_A_SECRET: usize = 32;
 
 // A text is written, and nothing is read.
 #[derive(Drop)]
@@ -54,61 +33,15 @@ impl Job for Writing {
         writer: &mut W,
     ) -> Result<(), Failure> {
         done(rt, write_all(writer, &self.text))?;
-        flushed(rt, writer)
+        done(rt, flush_retrying(writer))
     }
 }
 
-// Adds the recipients of a word of a command line.
-fn add_recipients(
-    rt: &HostRuntime,
-    word: &Recipient,
-    all: &mut Vec<x25519::Recipient<StandardSuite>>,
-) -> Result<(), Failure> {
-    match word {
-        Recipient::Text(text) => all.push(recipient(rt, text)?)?,
-        Recipient::File(name) => {
-            for found in recipients(rt, name)? {
-                all.push(found)?;
-            }
-        }
-    }
-    Ok(())
-}
-
-// The recipients of the words of a command line, in their order.
-fn all_recipients(
-    rt: &HostRuntime,
-    words: &[Recipient],
-) -> Result<Vec<x25519::Recipient<StandardSuite>>, Failure> {
-    let mut all = Vec::new(rt.alloc());
-    for word in words {
-        add_recipients(rt, word, &mut all)?;
-    }
-    Ok(all)
-}
-
-// So many random bytes.
-fn drawn(rt: &HostRuntime, count: usize) -> Result<Draw, Failure> {
-    Ok(Draw::new(done(rt, random(rt.alloc(), rt, count))?))
-}
-
-// To whom is encrypted, and the random bytes for that.
-fn to(rt: &HostRuntime, recipients: &Recipients) -> Result<(To, Draw), Failure> {
+// To whom is encrypted.
+fn to(rt: &HostRuntime, recipients: &Recipients) -> Result<To, Failure> {
     match recipients {
-        Recipients::Listed(words) => {
-            let keys = all_recipients(rt, words)?;
-            let count = OF_A_RECIPIENT
-                .saturating_mul(keys.len())
-                .saturating_add(OF_A_FILE);
-            Ok((To::Keys(keys), drawn(rt, count)?))
-        }
-        Recipients::PassphraseFile(name) => {
-            let recipient = passphrase_recipient(rt, name)?;
-            Ok((
-                To::Passphrase(recipient),
-                drawn(rt, OF_A_FILE + OF_A_PASSPHRASE)?,
-            ))
-        }
+        Recipients::Listed(words) => Ok(To::Keys(keys(rt, words)?)),
+        Recipients::PassphraseFile(name) => Ok(To::Passphrase(passphrase_in(rt, name)?)),
     }
 }
 
@@ -148,29 +81,6 @@ fn with(rt: &HostRuntime, asked: &Identities) -> Result<Vec<Holder>, Failure> {
     }
 }
 
-// So many bytes of the plaintext of a file, in which is sought, from a place on, to standard output.
-fn part_of_file(
-    rt: &HostRuntime,
-    identities: &mut [Holder],
-    place: u64,
-    count: u64,
-    name: &str,
-    file: Std<File>,
-) -> Result<(), Failure> {
-    let stream = done_with_file(open_text::<StandardSuite, Holder, Std<File>>(
-        rt.alloc(),
-        identities,
-        file,
-    ))?;
-    let job = SeekingPart {
-        stream,
-        name,
-        place,
-        count,
-    };
-    run_to_output(rt, job, "-")
-}
-
 // So many bytes of the plaintext of standard input from a place on, to standard output. Where nobody can seek in it, it is read into memory
 // first.
 fn part_of_input(
@@ -179,18 +89,40 @@ fn part_of_input(
     place: u64,
     count: u64,
 ) -> Result<(), Failure> {
-    let mut identities = identities;
-    match open_input(rt) {
-        Some(file) => { part_of_file(rt, &mut identities, place, count, "standard input", file) }
-        None => {
-            let job = ReadingPart {
-                identities,
-                place,
-                count,
-            };
-            run_to_output(rt, job, "-")
-        }
-    }
+    let Some(file) = open_input(rt) else {
+        let job = ReadingPart {
+            identities,
+            place,
+            count,
+        };
+        return run_to_output(rt, job, "-");
+    };
+    let job = SeekingPart {
+        identities,
+        file,
+        name: "standard input",
+        place,
+        count,
+    };
+    run_to_output(rt, job, "-")
+}
+
+// So many bytes of the plaintext of the file of this name, in which is sought, from a place on, to standard output.
+fn part_of_file(
+    rt: &HostRuntime,
+    identities: Vec<Holder>,
+    place: u64,
+    count: u64,
+    name: &str,
+) -> Result<(), Failure> {
+    let job = SeekingPart {
+        identities,
+        file: open(rt, name)?,
+        name,
+        place,
+        count,
+    };
+    run_to_output(rt, job, "-")
 }
 
 // So many bytes of a file's plaintext from a place on, to standard output.
@@ -201,12 +133,11 @@ fn part(
     count: u64,
     input: &str,
 ) -> Result<(), Failure> {
-    let mut identities = with(rt, asked)?;
+    let identities = with(rt, asked)?;
     let answer = if input == "-" {
         part_of_input(rt, identities, place, count)
     } else {
-        let file = open(rt, input)?;
-        part_of_file(rt, &mut identities, place, count, input, file)
+        part_of_file(rt, identities, place, count, input)
     };
     answered(rt, asked, input, answer)
 }
@@ -218,18 +149,9 @@ fn print(rt: &HostRuntime, text: &str) -> Result<(), Failure> {
     run_to_output(rt, Writing { text: line }, "-")
 }
 
-// The file of a new key.
-fn new_key(rt: &HostRuntime) -> Result<Vec<u8>, Failure> {
-    done(
-        rt,
-        new_key_file::<StandardSuite>(rt.alloc(), &mut drawn(rt, OF_A_SECRET)?),
-    )
-}
-
 // Writes a new key to an output.
 fn keygen(rt: &HostRuntime, output: &Output) -> Result<(), Failure> {
-    let job = Writing { text: new_key(rt)? };
-    run_job(rt, job, "-", output, FOR_ITS_OWNER)
+    run_job(rt, NewKey, "-", output, FOR_ITS_OWNER)
 }
 
 // The form of a file, which is armor where that is asked for.
@@ -249,11 +171,8 @@ fn encrypt(
     input: &str,
     output: &Output,
 ) -> Result<(), Failure> {
-    let (to, draw) = to(rt, recipients)?;
     let job = Encrypting {
-        to,
-        draw,
-        grease: done(rt, grease(rt.alloc()))?,
+        to: to(rt, recipients)?,
         format,
     };
     run_job(rt, job, input, output, FOR_ALL)

@@ -64,7 +64,7 @@ fn reason(rt: &HostRuntime, input: &str, failure: Failure) -> Failure {
 // Why the input of this name was refused, where a part of it was asked for: it is looked at again, where it can be.
 fn looked_at(rt: &HostRuntime, input: &str, failure: Failure) -> Failure {
     match failure {
-        Failure::File(error) if input != "-" && is_regular(rt, input) => explained_again(
+        Failure::Part(error) if input != "-" && is_regular(rt, input) => explained_again(
             rt, input, error,
         ),
         failure => failure,

@@ -24,6 +24,8 @@ pub enum Failure {
     WrongPassphrase,
     /// A file wasn't opened or written, and nobody has looked at it yet.
     File(FileError),
+    /// The same of a file of which a part was asked for.
+    Part(FileError),
     /// As this text says.
     Said(String),
 }
@@ -162,7 +164,7 @@ impl fmt::Display for Failure {
             Failure::InvalidHeader => write!(f, "{}", DecryptError::InvalidHeader),
             Failure::NoKeys { .. } => write!(f, "{}", DecryptError::NoMatchingKeys),
             Failure::WrongPassphrase => write!(f, "{}", DecryptError::KeyDecryptionFailed),
-            Failure::File(error) => write!(f, "{error}"),
+            Failure::File(error) | Failure::Part(error) => write!(f, "{error}"),
             Failure::Said(text) => f.write_str(text),
         }
     }

@@ -7,17 +7,18 @@ use crate::keys::Holder;
 use crate::output::{
     NewFile, Place, create, finish, give_up, open_stream, replace, tell_links, where_to,
 };
+use crate::random::System;
 use crate::watch::{Seen, Watched};
-use age::armor::{ArmoredReader, Format};
-use age::draw::Draw;
-use age::format::Grease;
-use age::io::{BufReader, Read, Std, Write, flush_retrying};
-use age::stream::StreamReader;
-use age::streaming::{FileError, at, decrypt_all, encrypt_all, migrate, write_part};
-use age::{scrypt, x25519};
+use age::armor::Format;
+use age::io::{Read, Std, Write};
+use age::secrecy::SecretString;
+use age::streaming::FileError;
+use age::x25519;
 use age_standard::StandardSuite;
+use age_tool::decrypting::{decrypt, decrypt_part, migrate_text, seek_part};
+use age_tool::encrypting::{encrypt_to_keys, encrypt_under};
+use age_tool::keygen::write_new_key;
 use sazh_command::Output;
-use std::alloc::Global;
 use std::fs::File;
 use std::io;
 
@@ -27,12 +28,7 @@ pub enum To {
     /// To the recipients of keys.
     Keys(Vec<x25519::Recipient<StandardSuite>>),
     /// To all who know a passphrase.
-    Passphrase(scrypt::Recipient<StandardSuite>),
-}
-
-/// Flushes a writer.
-pub fn flushed<W: Write>(rt: &HostRuntime, writer: &mut W) -> Result<(), Failure> {
-    done(rt, flush_retrying(writer))
+    Passphrase(SecretString),
 }
 
 /// Something that is done from an input to an output.
@@ -46,12 +42,10 @@ pub trait Job: Drop {
     ) -> Result<(), Failure>;
 }
 
-/// Encrypts the input.
+/// Encrypts the input, with the system's random bytes.
 #[derive(Drop)]
 pub struct Encrypting {
     pub to: To,
-    pub draw: Draw,
-    pub grease: Grease,
     pub format: Format,
 }
 
@@ -62,41 +56,46 @@ impl Job for Encrypting {
         reader: &mut R,
         writer: &mut W,
     ) -> Result<(), Failure> {
-        let Encrypting {
-            to,
-            draw,
-            grease,
-            format,
-        } = self;
-        let mut draw = draw;
-        let alloc = rt.alloc();
-        match to {
-            To::Keys(recipients) => done(
-                rt,
-                encrypt_all::<StandardSuite, x25519::Recipient<StandardSuite>, R, W>(
-                    alloc,
-                    &recipients,
-                    &mut draw,
-                    grease,
-                    format,
-                    reader,
-                    writer,
-                ),
-            )?,
-            To::Passphrase(recipient) => done(
-                rt,
-                encrypt_all::<StandardSuite, scrypt::Recipient<StandardSuite>, R, W>(
-                    alloc,
-                    &[recipient],
-                    &mut draw,
-                    grease,
-                    format,
-                    reader,
-                    writer,
-                ),
-            )?,
-        }
-        flushed(rt, writer)
+        let Encrypting { to, format } = self;
+        let mut source = System::new(rt);
+        let answer = match to {
+            To::Keys(keys) => encrypt_to_keys::<StandardSuite, System, R, W>(
+                rt.alloc(),
+                &keys,
+                &mut source,
+                format,
+                reader,
+                writer,
+            ),
+            To::Passphrase(passphrase) => encrypt_under::<StandardSuite, System, R, W>(
+                rt.alloc(),
+                passphrase,
+                &mut source,
+                format,
+                reader,
+                writer,
+            ),
+        };
+        done(rt, answer)
+    }
+}
+
+/// Writes a new key, whose secret is the system's random bytes. No input is read.
+#[derive(Clone, Copy)]
+pub struct NewKey;
+
+impl Job for NewKey {
+    fn run<R: Read, W: Write>(
+        self,
+        rt: &HostRuntime,
+        _reader: &mut R,
+        writer: &mut W,
+    ) -> Result<(), Failure> {
+        let mut source = System::new(rt);
+        done(
+            rt,
+            write_new_key::<StandardSuite, System, W>(rt.alloc(), &mut source, writer),
+        )
     }
 }
 
@@ -114,28 +113,13 @@ impl Job for Decrypting {
         writer: &mut W,
     ) -> Result<(), Failure> {
         let mut identities = self.identities;
-        done_with_file(decrypt_all::<StandardSuite, Holder, R, W>(
+        done_with_file(decrypt::<StandardSuite, Holder, R, W>(
             rt.alloc(),
             &mut identities,
             reader,
             writer,
-        ))?;
-        flushed(rt, writer)
+        ))
     }
-}
-
-// Rewrites a file, bare or in armor, as a bare one with a header of the standard.
-fn migrate_text<R: Read, W: Write>(
-    alloc: Global,
-    identities: &mut [Holder],
-    reader: &mut R,
-    writer: &mut W,
-) -> Result<(), FileError> {
-    let mut text = ArmoredReader::new(alloc, reader)?;
-    migrate::<StandardSuite, Holder, ArmoredReader<BufReader<&mut R>>, W>(
-        alloc, identities, &mut text, writer,
-    )?;
-    Ok(())
 }
 
 /// Rewrites the input with a header of the standard.
@@ -152,8 +136,12 @@ impl Job for Migrating {
         writer: &mut W,
     ) -> Result<(), Failure> {
         let mut identities = self.identities;
-        done_with_file(migrate_text(rt.alloc(), &mut identities, reader, writer))?;
-        flushed(rt, writer)
+        done_with_file(migrate_text::<StandardSuite, Holder, &mut R, W>(
+            rt.alloc(),
+            &mut identities,
+            reader,
+            writer,
+        ))
     }
 }
 
@@ -173,22 +161,22 @@ impl Job for ReadingPart {
         writer: &mut W,
     ) -> Result<(), Failure> {
         let mut identities = self.identities;
-        done_with_file(at::<StandardSuite, Holder, R, W>(
+        done_with_file(decrypt_part::<StandardSuite, Holder, R, W>(
             rt.alloc(),
             &mut identities,
             self.place,
             self.count,
             reader,
             writer,
-        ))?;
-        flushed(rt, writer)
+        ))
     }
 }
 
-/// Decrypts a part of a file that was opened, in which is sought. No other input is read.
+/// Decrypts a part of a file, in which is sought. No other input is read.
 #[derive(Drop)]
 pub struct SeekingPart<'a> {
-    pub stream: StreamReader<StandardSuite, ArmoredReader<BufReader<Std<File>>>>,
+    pub identities: Vec<Holder>,
+    pub file: Std<File>,
     pub name: &'a str,
     pub place: u64,
     pub count: u64,
@@ -201,10 +189,25 @@ impl<'a> Job for SeekingPart<'a> {
         _reader: &mut R,
         writer: &mut W,
     ) -> Result<(), Failure> {
-        let mut stream = self.stream;
-        match write_part(rt.alloc(), &mut stream, self.place, self.count, writer) {
-            Ok(()) => flushed(rt, writer),
-            Err(error) => Err(of_part(rt, self.name, self.place, error)),
+        let SeekingPart {
+            identities,
+            file,
+            name,
+            place,
+            count,
+        } = self;
+        let mut identities = identities;
+        match seek_part::<StandardSuite, Holder, Std<File>, W>(
+            rt.alloc(),
+            &mut identities,
+            place,
+            count,
+            file,
+            writer,
+        ) {
+            Ok(()) => Ok(()),
+            Err(FileError::Io(error)) => Err(of_part(rt, name, place, error)),
+            Err(error) => Err(Failure::Part(error)),
         }
     }
 }

@@ -1,83 +1,35 @@
 //! Whom to encrypt to, and with what to decrypt.
 ghost use Rattle.std.specs.Prelude.{◌≡◌, IfOk};
-ghost use Rattle.age.specs.KeyTexts.{recipient_prefix, IsKeyText};
 
-use crate::failure::{Failure, done_with, named, refused};
+use crate::failure::{Failure, done_with, named, refused, said};
 use crate::files::{copied, read, text_in};
 use crate::lines::{Wanted, bad_line, bad_plugin, bad_word};
 use age::armor::ArmoredReader;
-use age::format::Stanza;
 use age::io::{BufReader, Error, Std};
-use age::secrecy::{FileKey, SecretString};
-use age::{DecryptError, Identity, IdentityFile, NoCallbacks, encrypted, scrypt, x25519};
+use age::secrecy::SecretString;
+use age::{IdentityFile, NoCallbacks, encrypted, scrypt, x25519};
 use age_standard::StandardSuite;
 use age_tool::callbacks::GivesOnce;
-use age_tool::error::RecipientsError;
-use age_tool::passphrase::{WORK_FACTOR, identity_of, passphrase_of, recipient_of};
-use age_tool::recipients::recipients_of;
-use std::alloc::Global;
+use age_tool::error::{RecipientsError, WordsError};
+use age_tool::holder;
+use age_tool::passphrase::{WORK_FACTOR, identity_of, passphrase_of};
+use age_tool::words::{Word, keys_of_words};
+use sazh_command::Recipient;
 use std::fs::File;
-use std::str::FromStr;
 
-// A file of identities that is encrypted with a passphrase.
-type Protected = encrypted::Identity<StandardSuite, ArmoredReader<BufReader<Std<File>>>, GivesOnce>;
+// What a file of identities holds that is encrypted with a passphrase.
+type Text = ArmoredReader<BufReader<Std<File>>>;
+
+// Such a file.
+type Protected = encrypted::Identity<StandardSuite, Text, GivesOnce>;
 
 /// One who decrypts.
-#[derive(Drop)]
-pub enum Holder {
-    /// Who has a key.
-    Key(x25519::Identity<StandardSuite>),
-    /// Who has the keys in an encrypted file.
-    File(Protected),
-    /// Who knows a passphrase.
-    Passphrase(scrypt::Identity<StandardSuite>),
-}
+pub type Holder = holder::Holder<StandardSuite, Text, GivesOnce>;
 
-// Each answers as what it holds; the contract says nothing of it.
-impl Identity for Holder {
-    ghost use Rattle.std.specs.Prelude.{⊤};
-
-    ghost unwraps = { λ _ _ _ _. ⊤ };
-
-    fn unwrap_stanza(
-        &mut self,
-        alloc: Global,
-        stanza: &Stanza,
-    ) -> Option<Result<FileKey, DecryptError>> {
-        match self {
-            Holder::Key(identity) => identity.unwrap_stanza(alloc, stanza),
-            Holder::File(identity) => identity.unwrap_stanza(alloc, stanza),
-            Holder::Passphrase(identity) => identity.unwrap_stanza(alloc, stanza),
-        }
-    }
-
-    fn unwrap_stanzas(
-        &mut self,
-        alloc: Global,
-        stanzas: &[Stanza],
-    ) -> Option<Result<FileKey, DecryptError>> {
-        match self {
-            Holder::Key(identity) => identity.unwrap_stanzas(alloc, stanzas),
-            Holder::File(identity) => identity.unwrap_stanzas(alloc, stanzas),
-            Holder::Passphrase(identity) => identity.unwrap_stanzas(alloc, stanzas),
-        }
-    }
-}
-
-// The passphrase that the file of this name gives.
-fn passphrase_in(rt: &HostRuntime, name: &str) -> Result<SecretString, Failure> {
+/// The passphrase that the file of this name gives.
+pub fn passphrase_in(rt: &HostRuntime, name: &str) -> Result<SecretString, Failure> {
     let text = read(rt, name)?;
     done_with(rt, name, passphrase_of(rt.alloc(), &text))
-}
-
-/// The recipient of the passphrase that the file of this name gives.
-pub fn passphrase_recipient(
-    rt: &HostRuntime,
-    name: &str,
-) -> Result<scrypt::Recipient<StandardSuite>, Failure>
-    ensures { IfOk result (λ recipient. recipient.factor ≡ 18) }
-{
-    Ok(recipient_of(passphrase_in(rt, name)?))
 }
 
 /// The identity of the passphrase that the file of this name gives.
@@ -90,28 +42,59 @@ pub fn passphrase_identity(
     Ok(identity_of(passphrase_in(rt, name)?))
 }
 
-/// The recipient whose text a word is.
-pub fn recipient(rt: &HostRuntime, word: &str) -> Result<x25519::Recipient<StandardSuite>, Failure>
-    ensures { IfOk result (λ recipient. IsKeyText recipient_prefix word.now recipient) }
-{
-    match x25519::Recipient::from_str(word) {
-        Ok(recipient) => Ok(recipient),
-        Err(_) => Err(bad_word(rt, word)),
+// A word that names recipients, with the bytes of the file that it names.
+fn word_of(rt: &HostRuntime, word: &Recipient) -> Result<Word, Failure> {
+    match word {
+        Recipient::Text(text) => Ok(Word::Text(copied(rt, text)?)),
+        Recipient::File(name) => Ok(Word::File(read(rt, name)?)),
     }
 }
 
-/// The recipients in the file of this name.
-pub fn recipients(
-    rt: &HostRuntime,
-    name: &str,
-) -> Result<Vec<x25519::Recipient<StandardSuite>>, Failure> {
-    let text = read(rt, name)?;
-    match recipients_of(rt.alloc(), &text) {
-        Ok(recipients) => Ok(recipients),
-        Err(RecipientsError::NotRecipient { line }) => {
-            Err(bad_line(rt, name, &text, line, Wanted::Recipient))
+// The words that name recipients, in their order.
+fn words_of(rt: &HostRuntime, asked: &[Recipient]) -> Result<Vec<Word>, Failure> {
+    let mut words: Vec<Word> = Vec::new(rt.alloc());
+    for word in asked {
+        words.push(word_of(rt, word)?)?;
+    }
+    Ok(words)
+}
+
+// That the file of this name, which has these bytes, is none of recipients.
+fn bad_file(rt: &HostRuntime, name: &str, bytes: &[u8], why: RecipientsError) -> Failure {
+    match why {
+        RecipientsError::NotRecipient { line } => {
+            bad_line(rt, name, bytes, line, Wanted::Recipient)
         }
-        Err(error) => Err(named(rt, name, &error)),
+        why => named(rt, name, &why),
+    }
+}
+
+// That one of these words was refused.
+fn bad_words(rt: &HostRuntime, asked: &[Recipient], words: &[Word], error: WordsError) -> Failure {
+    match error {
+        WordsError::OutOfMemory => Failure::OutOfMemory,
+        WordsError::NotRecipient { word, why } => match asked.get(word) {
+            Some(Recipient::Text(text)) => bad_word(rt, text),
+            _ => said(rt, &why),
+        },
+        WordsError::File { word, why } => match (asked.get(word), words.get(word)) {
+            (Some(Recipient::File(name)), Some(Word::File(bytes))) => bad_file(
+                rt, name, bytes, why,
+            ),
+            _ => said(rt, &why),
+        },
+    }
+}
+
+/// The keys that words name as recipients, in their order.
+pub fn keys(
+    rt: &HostRuntime,
+    asked: &[Recipient],
+) -> Result<Vec<x25519::Recipient<StandardSuite>>, Failure> {
+    let words = words_of(rt, asked)?;
+    match keys_of_words(rt.alloc(), &words) {
+        Ok(keys) => Ok(keys),
+        Err(error) => Err(bad_words(rt, asked, &words, error)),
     }
 }
 

@@ -11,6 +11,7 @@ mod jobs;
 mod keys;
 mod lines;
 mod output;
+mod random;
 mod watch;
 
 use crate::checks::{Clash, clash_of, looked};
