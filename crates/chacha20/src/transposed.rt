@@ -46,22 +46,22 @@ fn halves(a: u32x8, b: u32x8) -> (u32x8, u32x8)
     )
 }
 
-/// Rows for columns.
+/// Rows for columns: first words are put beside each other, then pairs of words, then halves of vectors.
 #[inline(always)]
 pub fn transposed(columns: &[u32x8; 8]) -> [u32x8; 8]
     ensures { (j k : ℕ) → j < 8 → k < 8 → slice_index (lane k result) j ≡ slice_index (lane j columns.now) k }
 {
-    let (a, b) = words_by_turns(columns[0], columns[1]);
-    let (c, d) = words_by_turns(columns[2], columns[3]);
-    let (e, f) = words_by_turns(columns[4], columns[5]);
-    let (g, h) = words_by_turns(columns[6], columns[7]);
-    let (p, q) = pairs_by_turns(a, c);
-    let (r, s) = pairs_by_turns(b, d);
-    let (t, u) = pairs_by_turns(e, g);
-    let (v, w) = pairs_by_turns(f, h);
-    let (zeroth, fourth) = halves(p, t);
-    let (first, fifth) = halves(q, u);
-    let (second, sixth) = halves(r, v);
-    let (third, seventh) = halves(s, w);
+    let (rows_0145_of_01, rows_2367_of_01) = words_by_turns(columns[0], columns[1]);
+    let (rows_0145_of_23, rows_2367_of_23) = words_by_turns(columns[2], columns[3]);
+    let (rows_0145_of_45, rows_2367_of_45) = words_by_turns(columns[4], columns[5]);
+    let (rows_0145_of_67, rows_2367_of_67) = words_by_turns(columns[6], columns[7]);
+    let (left_04, left_15) = pairs_by_turns(rows_0145_of_01, rows_0145_of_23);
+    let (left_26, left_37) = pairs_by_turns(rows_2367_of_01, rows_2367_of_23);
+    let (right_04, right_15) = pairs_by_turns(rows_0145_of_45, rows_0145_of_67);
+    let (right_26, right_37) = pairs_by_turns(rows_2367_of_45, rows_2367_of_67);
+    let (zeroth, fourth) = halves(left_04, right_04);
+    let (first, fifth) = halves(left_15, right_15);
+    let (second, sixth) = halves(left_26, right_26);
+    let (third, seventh) = halves(left_37, right_37);
     [zeroth, first, second, third, fourth, fifth, sixth, seventh]
 }
