@@ -1,5 +1,7 @@
 //! Records that are read from devices, and written to such, that move few bytes a call, are interrupted, or fail at each of their
 //! calls in turn.
+ghost use Rattle.std.specs.Prelude.{◌≡◌};
+ghost use Rattle.age.specs.StreamWriting.{taken_len};
 
 use crate::fixtures::{opened, three_of, written};
 use age::armor::ArmoredReader;
@@ -228,7 +230,9 @@ enum Course {
 }
 
 // Records are written, or refused by the fault; the writer has failed then.
-fn put<W: Write>(writer: &mut StreamWriter<BenchSuite, W>, list: &[Vec<u8>]) -> Course {
+fn put<W: Write>(writer: &mut StreamWriter<BenchSuite, W>, list: &[Vec<u8>]) -> Course
+    requires { taken_len writer.old ≡ 0 }
+{
     match write_records(list, writer) {
         Ok(()) => Course::On,
         Err(FAULT) if writer.write(b"a") == Err(Error::Failed) => Course::Failed,

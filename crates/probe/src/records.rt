@@ -86,10 +86,14 @@ fn in_file(rt: &HostRuntime, file: Std<File>, numbers: &[u64]) -> Outcome {
 
 // In the file of this name, which is a whole one or a payload alone.
 fn in_named(rt: &HostRuntime, whole: bool, name: &str, numbers: &[u64]) -> Outcome {
-    match open(rt, name) {
-        Ok(file) if whole => in_file(rt, file, numbers),
-        Ok(file) => in_payload(rt, file, numbers),
-        Err(error) => refused(rt, &error),
+    let file = match open(rt, name) {
+        Ok(file) => file,
+        Err(error) => return refused(rt, &error),
+    };
+    if whole {
+        in_file(rt, file, numbers)
+    } else {
+        in_payload(rt, file, numbers)
     }
 }
 

@@ -25,14 +25,18 @@ fn listed(rt: &HostRuntime, long: &[u8]) -> Result<Vec<Vec<u8>>, AllocError> {
 
 // Writes records. A writer that refuses them is asked again.
 fn write_payload<W: Write + Drop>(rt: &HostRuntime, records: &[Vec<u8>], out: W) {
-    let made = StreamWriter::<BenchSuite, W>::with_payload_key(rt.alloc(), KEY, out);
-    if let Some(mut writer) = done(rt, OF, "writer", made) {
-        if done(rt, OF, "write", write_records(records, &mut writer)).is_none() {
-            let _ = done(rt, OF, "write", writer.write(&[0]));
-            let _ = done(rt, OF, "flush", writer.flush());
+    let mut writer = match StreamWriter::<BenchSuite, W>::with_payload_key(rt.alloc(), KEY, out) {
+        Ok(writer) => writer,
+        Err(error) => {
+            say(rt, OF, "writer", &error);
+            return;
         }
-        let _ = done(rt, OF, "finish", writer.finish());
+    };
+    if done(rt, OF, "write", write_records(records, &mut writer)).is_none() {
+        let _ = done(rt, OF, "write", writer.write(&[0]));
+        let _ = done(rt, OF, "flush", writer.flush());
     }
+    let _ = done(rt, OF, "finish", writer.finish());
 }
 
 /// Writes three records, of which the last one is these bytes.
