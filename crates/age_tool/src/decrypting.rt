@@ -92,8 +92,7 @@ fn part_of<S: Suite, I: Identity, R: Seek + Drop, W: Write>(
         Err(error) => return Err(FileError::Io(error)),
         Ok(text) => text,
     };
-    let mut stream = match open_file::<S, I, ArmoredReader<BufReader<R>>>(alloc, identities, text)
-    {
+    let mut stream = match open_file::<S, I, ArmoredReader<BufReader<R>>>(alloc, identities, text) {
         Err(error) => return Err(FileError::Decrypt(error)),
         Ok(stream) => stream,
     };

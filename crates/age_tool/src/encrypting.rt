@@ -47,9 +47,7 @@ fn encrypt_with<S: Suite, T: Recipient, B: RandomBytes, R: Read, W: Write>(
 {
     let grease = grease(alloc)?;
     let mut draw = drawn(alloc, source, count)?;
-    match encrypt_all::<S, T, R, W>(
-        alloc, recipients, &mut draw, grease, format, reader, writer,
-    ) {
+    match encrypt_all::<S, T, R, W>(alloc, recipients, &mut draw, grease, format, reader, writer) {
         Ok(()) => Ok(()),
         Err(error) => Err(CommandError::File(error)),
     }

@@ -85,12 +85,12 @@ pub fn drawn<B: RandomBytes>(
 ) -> Result<Draw, RandomError>
     ensures { Draws B.gives source.old count source.new result }
 {
-    let mut bytes = Vec::new(alloc);
-    let Ok(()) = bytes.resize(count, 0) else {
+    let mut given = Vec::new(alloc);
+    let Ok(()) = given.resize(count, 0) else {
         return Err(RandomError::OutOfMemory);
     };
-    match source.fill(&mut bytes) {
-        Ok(()) => Ok(Draw::new(bytes)),
+    match source.fill(&mut given) {
+        Ok(()) => Ok(Draw::new(given)),
         Err(error) => Err(error),
     }
 }

@@ -58,7 +58,8 @@ returns-in-Err-write_part g c =
           inr (
             c.in-Ok.text,
             record { tells = text.tells; steady = text.steady; faults = text.faults; place = text.place; rest = text.rest; honest = text.honest },
-            c.in-Ok-open_file.stream, made.opened,
+            c.in-Ok-open_file.stream,
+            made.opened,
             writes.standing (made.tells ∙ both_told _ _ _ _ text.tells text.steady told) writer_told,
           );
       given = λ told writer_told. tt;
@@ -86,13 +87,15 @@ returns g c =
           inr (
             c.in-Ok.text,
             record { tells = text.tells; steady = text.steady; faults = text.faults; place = text.place; rest = text.rest; honest = text.honest },
-            c.in-Ok-open_file.stream, made.opened,
+            c.in-Ok-open_file.stream,
+            made.opened,
             writes.standing (made.tells ∙ both_told _ _ _ _ text.tells text.steady told) writer_told,
           );
       given = λ told writer_told. (
         c.in-Ok.text,
         record { tells = text.tells; steady = text.steady; faults = text.faults; place = text.place; rest = text.rest; honest = text.honest },
-        c.in-Ok-open_file.stream, made.opened,
+        c.in-Ok-open_file.stream,
+        made.opened,
         writes.given (made.tells ∙ both_told _ _ _ _ text.tells text.steady told) writer_told,
       );
       refused = tt;

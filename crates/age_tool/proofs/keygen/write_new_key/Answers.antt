@@ -32,8 +32,12 @@ returns-in-Err-flush_retrying g c =
     record {
       key = λ told. tt;
       front = λ told.
-          inr (c.in_ok-draw.draw, gave, all_of g.W.Write.appended _ _ c.args.writer.now c.flush_retrying.new.writer is
-          (then_none g.W.Write.appended g.met.W.Write.joins _ _ _ _ _ refl (writes.takes_all told) (flushes.nothing (writes.same_tells ∙ told))));
+          inr (
+            c.in_ok-draw.draw,
+            gave,
+            all_of g.W.Write.appended _ _ c.args.writer.now c.flush_retrying.new.writer is
+                (then_none g.W.Write.appended g.met.W.Write.joins _ _ _ _ _ refl (writes.takes_all told) (flushes.nothing (writes.same_tells ∙ told))),
+          );
       random = tt;
       refused = λ none. absurd none;
       why = tt;
@@ -51,8 +55,12 @@ returns g c =
     record {
       key = λ told. (c.in_ok-draw.draw, gave, then_none g.W.Write.appended g.met.W.Write.joins _ _ _ _ _ is (writes.takes_all told) (flushes.nothing (writes.same_tells ∙ told)));
       front = λ told.
-          inr (c.in_ok-draw.draw, gave, all_of g.W.Write.appended _ _ c.args.writer.now c.flush_retrying.new.writer is
-          (then_none g.W.Write.appended g.met.W.Write.joins _ _ _ _ _ refl (writes.takes_all told) (flushes.nothing (writes.same_tells ∙ told))));
+          inr (
+            c.in_ok-draw.draw,
+            gave,
+            all_of g.W.Write.appended _ _ c.args.writer.now c.flush_retrying.new.writer is
+                (then_none g.W.Write.appended g.met.W.Write.joins _ _ _ _ _ refl (writes.takes_all told) (flushes.nothing (writes.same_tells ∙ told))),
+          );
       random = tt;
       refused = tt;
       why = tt;
