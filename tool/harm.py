@@ -40,6 +40,16 @@ def refuse(calls):
         raise OSError(ctypes.get_errno(), "no filter")
 
 
+def is_possible(what, **how):
+    """Whether the system here lets a test begin a process so. Where it doesn't, that is said, and what stands on it isn't tested."""
+    try:
+        subprocess.run(["true"], check=True, **how)
+    except (OSError, subprocess.SubprocessError) as why:
+        print(f"{what} can't be tested here: {why}")
+        return False
+    return True
+
+
 class Harm:
     """Runs that find files, and what they leave of them."""
 
@@ -47,6 +57,10 @@ class Harm:
         self.runs, self.path = runs, runs.path
         self.plain = runs.path("plain").read_bytes()
         self.decrypt = ["decrypt", "-i", "key"]
+        # One who hasn't all rights: whoever runs the tests, or nobody in the place of root.
+        self.other = {"user": NOBODY, "group": NOBODY, "extra_groups": []} if os.getuid() == 0 else {}
+        self.has_other = is_possible("another user", **self.other)
+        self.has_filters = is_possible("refused calls", preexec_fn=lambda: refuse(LINK))
 
     def run(self, words, given=b"", **more):
         """As `Runs.run`, and for a while, since what waits for a stream waits for ever."""
@@ -87,11 +101,17 @@ class Harm:
             print("owners: they can be tested by root alone")
             return
         path = self.old("kept", mode=0o640)
-        os.chown(path, 12_345, 12_346)
+        try:
+            os.chown(path, 12_345, 12_346)
+        except OSError as why:
+            print(f"owners can't be tested here: {why}")
+            return
         done = self.run([*self.decrypt, "-f", "-o", "kept", "file"])
         it = path.stat()
         good = (it.st_uid, it.st_gid, stat.S_IMODE(it.st_mode)) == (12_345, 12_346, 0o640)
         self.ends("the owner is kept", done.returncode == 0 and not done.stderr and good and path.read_bytes() == self.plain, done)
+        if not self.has_other:
+            return
         self.shared("owned", 0o777)
         path = self.old("owned/out", mode=0o666)
         os.chown(path, 12_345, 12_346)
@@ -110,15 +130,15 @@ class Harm:
         return folder
 
     def as_other(self, words, stdout=subprocess.PIPE):
-        """Run as one who hasn't all rights: as whoever runs the tests, or as nobody in the place of root."""
-        program, who = self.runs.program, {}
-        if os.getuid() == 0:
-            program, who = self.path("program"), {"user": NOBODY, "group": NOBODY, "extra_groups": []}
+        """Run as one who hasn't all rights, who may not be let to where the program stands."""
+        program = self.runs.program
+        if self.other:
+            program = self.path("program")
             if not program.exists():
                 shutil.copyfile(self.runs.program, program)
                 program.chmod(0o755)
         how = {"stdin": subprocess.DEVNULL, "stdout": stdout, "stderr": subprocess.PIPE, "cwd": self.runs.folder, "timeout": WAIT}
-        return subprocess.run([program, *words], check=False, **how, **who)
+        return subprocess.run([program, *words], check=False, **how, **self.other)
 
     def links(self):
         path = self.old("kept")
@@ -159,8 +179,16 @@ class Harm:
             reader.join()
             good = done.returncode == 0 and got == [self.plain] and stat.S_ISFIFO(fifo.stat().st_mode)
             self.ends(f"a FIFO {force}", good and not self.left(), done)
-        # (by one who may not write to /dev: a program that is wrong would replace what stands there)
         self.shared("below", 0o755)
+        for force in ([], ["-f"]):
+            done = self.run(["decrypt", "-i", "none", *force, "-o", "below", "file"])
+            good = self.is_refused(done, b"below: it is a folder")
+            self.ends(f"a folder, before anything is read {force}", good and b"-f" not in done.stderr, done)
+        if self.has_other:
+            self.devices()
+
+    def devices(self):
+        """By one who may not write to /dev: a program that is wrong would replace what stands there."""
         for force in ([], ["-f"]):
             done = self.as_other([*self.decrypt, *force, "-o", "/dev/null", "file"])
             good = done.returncode == 0 and not done.stderr
@@ -174,9 +202,6 @@ class Harm:
             with open(path, "ab") as shown:
                 done = self.as_other([*self.decrypt, *force, "-o", "/dev/stdout", "file"], shown)
             self.ends(f"/dev/stdout that is a file {force}", done.returncode == 0 and path.read_bytes() == b"before" + self.plain, done)
-            done = self.run(["decrypt", "-i", "none", *force, "-o", "below", "file"])
-            good = self.is_refused(done, b"below: it is a folder")
-            self.ends(f"a folder, before anything is read {force}", good and b"-f" not in done.stderr, done)
 
     @staticmethod
     def read_for(fifo, seconds):
@@ -215,7 +240,7 @@ class Harm:
         done = self.run(["encrypt", "-R", "recipients", "recipients"])
         self.runs.gives("a file twice is no stream", self.decrypt, self.path("recipients").read_bytes(), done.stdout)
 
-    def calls(self):
+    def refused(self):
         """What is left where the system refuses a call."""
         new, over = [*self.decrypt, "-o", "refused", "file"], [*self.decrypt, "-f", "-o", "kept", "file"]
         out = self.path("refused")
@@ -237,12 +262,17 @@ class Harm:
             done = self.run(over, preexec_fn=lambda calls=refused: refuse(calls))
             good = path.read_bytes() == b"before" and stat.S_IMODE(path.stat().st_mode) == 0o640 and not self.left()
             self.ends(what, self.is_refused(done, b"kept: permission denied") and good, done)
+
+    def names(self):
+        """A name as long as one may be, and a folder in which no file can be made."""
         name = "n" * 255
         done = self.run([*self.decrypt, "-o", name, "file"])
         good = done.returncode == 0 and self.path(name).exists()
         self.ends("a name of 255 bytes", good and self.path(name).read_bytes() == self.plain, done)
         done = self.run([*self.decrypt, "-f", "-o", name, "recipients"])
         self.ends("which stays", self.path(name).exists() and not self.left(), done)
+        if not self.has_other:
+            return
         self.shared("closed", 0o755)
         path = self.old("closed/out", mode=0o666)
         self.path("closed").chmod(0o555)
@@ -343,5 +373,7 @@ def to_two(runs, recipient):
 def harms(runs, recipient):
     to_two(runs, recipient)
     harm = Harm(runs)
-    for it in (harm.modes, harm.owners, harm.links, harm.streams, harm.clashes, harm.calls, harm.full, harm.killed, harm.reasons):
+    for it in (harm.modes, harm.owners, harm.links, harm.streams, harm.clashes, harm.names, harm.full, harm.killed, harm.reasons):
         it()
+    if harm.has_filters:
+        harm.refused()
