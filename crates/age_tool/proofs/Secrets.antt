@@ -1,6 +1,6 @@
 -- A secret that all random bytes are which were asked for, and what is written of it.
 use Rattle.std.specs.Prelude.{if◌then◌else◌, nat_le, Option, Some, None}
-use Rattle.std.proofs.Common.{◌≡◌, ◌∙◌, ◌≤◌, drop, ℕ, Bool, true, false, List, [], ◌++◌, length, take, sym, ap, subst, arith}
+use Rattle.std.proofs.Common.{◌≡◌, ◌∙◌, drop, ℕ, Bool, true, false, List, [], ◌++◌, length, take, sym, subst, arith}
 use Rattle.std.proofs.lemmas.List.{append-nil, take-append-drop, take_all}
 use Rattle.age.specs.Draw.{taken}
 use Rattle.age.specs.Copying.{AppendsFront}

@@ -1,5 +1,5 @@
 -- What a command comes to that decrypts, and flushes where that succeeded.
-use Rattle.std.specs.Prelude.{◌≡◌, ◌⊎◌, ◌&&◌, ℕ, List, Option, Result, Ok, Err, IsTrue, IsErrAnd, OnOk, IfErr}
+use Rattle.std.specs.Prelude.{◌≡◌, ◌⊎◌, ◌&&◌, ℕ, List, Result, Ok, Err, IsTrue, IsErrAnd, OnOk, IfErr}
 use Rattle.std.specs.Result.{result_map_both}
 use Rattle.age.specs.Types.{Error, DecryptError, FileError, StreamReader}
 use Rattle.age.specs.ErrorVariants.{OutOfMemory}

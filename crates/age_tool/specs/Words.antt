@@ -4,7 +4,6 @@ use Rattle.std.specs.Str.{IsUtf8}
 use Rattle.std.specs.Str.Lines.{lines}
 use Rattle.age.specs.KeyTexts.{recipient_prefix, IsRefusedAs}
 use Rattle.age_tool.specs.Recipients as file
-use Rattle.age_tool.specs.declared.error.RecipientsError.{RecipientsError}
 use Rattle.age_tool.specs.declared.error.WordsError.{WordsError}
 use Rattle.age_tool.specs.declared.error.WordsError.TheVariants as error
 use Rattle.age_tool.specs.declared.words.Word.{Word}

@@ -1,4 +1,4 @@
-use Rattle.std.proofs.Common.{◌≡◌, ◌∙◌, ap, inr, List, ℕ, refl}
+use Rattle.std.proofs.Common.{◌≡◌, ◌∙◌, ap, inr, refl}
 use Rattle.age_tool.specs.Keygen.{key_file}
 use Rattle.age_tool.proofs.Secrets.{all_of, all_taken, front_of, then_none}
 use Rattle.age_tool.proofs.keygen.write_new_key.Goals as goal
