@@ -1,5 +1,5 @@
 //! Random bytes.
-ghost use Rattle.std.specs.Prelude.{◌≡◌, ℕ, List, Option, Some, None, IfOk, MatchResult, length};
+ghost use Rattle.std.specs.Prelude.{◌≡◌, ℕ, List, Option, Some, None, MatchResult, length};
 ghost use Rattle.age_tool.specs.Random.{Draws};
 ghost use Rattle.age_tool.specs.declared.error.RandomError.TheVariants.{NoRandom};
 
@@ -7,7 +7,6 @@ use crate::error::RandomError;
 use age::draw::Draw;
 use std::alloc::Global;
 use std::marker::Model;
-use std::random::RandomSource;
 
 /// A source of random bytes.
 ///
@@ -92,25 +91,5 @@ pub fn drawn<B: RandomBytes>(
     match source.fill(&mut given) {
         Ok(()) => Ok(Draw::new(given)),
         Err(error) => Err(error),
-    }
-}
-
-/// So many random bytes of a source.
-///
-/// `NoRandom` where the source refuses, and `OutOfMemory` where memory for the bytes is refused.
-pub fn random<R: RandomSource>(
-    alloc: Global,
-    source: &R,
-    count: usize,
-) -> Result<Vec<u8>, RandomError>
-    ensures { IfOk result (λ bytes. length bytes.items ≡ count) }
-{
-    let mut bytes = Vec::new(alloc);
-    let Ok(()) = bytes.resize(count, 0) else {
-        return Err(RandomError::OutOfMemory);
-    };
-    match source.fill_bytes(&mut bytes) {
-        Ok(()) => Ok(bytes),
-        Err(_) => Err(RandomError::NoRandom),
     }
 }
