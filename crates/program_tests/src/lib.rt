@@ -33,4 +33,6 @@ mod sazh_words;
 #[cfg(test)]
 mod standard_suite_tests;
 #[cfg(test)]
+mod tool_tests;
+#[cfg(test)]
 mod words;
