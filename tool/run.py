@@ -217,7 +217,7 @@ def early_file(runs, what, early, canonical):
         runs.refuses(f"{what}, {form}, as it is", ["decrypt", *key, "early"], says=b"sazh: early" + HINT)
         runs.refuses(f"a part of {what}, {form}, as it is", ["part", *key, "0", "1", "early"], says=b"sazh: early" + HINT)
         for words in (["decrypt", *key], ["decrypt", *key, "/dev/stdin"], ["part", *key, "0", "1", "-"], ["part", *key, "0", "1", "/dev/stdin"]):
-            runs.refuses(f"{words} of a pipe, {what}, {form}", words, file, says=b"sazh: invalid header\n")
+            runs.refuses(f"{words} of a pipe, {what}, {form}", words, file, says=b": invalid header\n")
 
 
 def migrates(runs):
@@ -247,8 +247,8 @@ def migrates(runs):
     cases = {
         "another identity": (["-i", "key"], early + rest, b": none of the keys in key opens it\n"),
         "a passphrase": (["-p", "passphrase"], early + rest, b": it is encrypted to keys, and not with a passphrase: give them by -i FILE\n"),
-        "another MAC": (key, header(bytes(16), stanza + EARLY_STANZAS["a body of a line"]) + rest, b"sazh: invalid header MAC\n"),
-        "another header": (key, early.replace(b"AAAA", b"AAAB", 1) + rest, b"sazh: invalid header MAC\n"),
+        "another MAC": (key, header(bytes(16), stanza + EARLY_STANZAS["a body of a line"]) + rest, b": invalid header MAC\n"),
+        "another header": (key, early.replace(b"AAAA", b"AAAB", 1) + rest, b": invalid header MAC\n"),
         "the header alone": (key, early, b": it ends in its header\n"),
         "no header": (key, plaintext(1_000), b': no age file: it begins with "\\x00\\x07\\x0e'),
         "an empty file": (key, b"", b": it is empty\n"),
@@ -268,12 +268,12 @@ def migrates(runs):
     runs.refuses("no such identities", ["migrate", "-i", "none", "early"], says=b"none: no such file")
     with open(runs.path("early"), "rb") as given:
         done = subprocess.run([runs.program, "decrypt", *key], stdin=given, capture_output=True, check=False)
-    runs.ends("an early file as standard input", done.returncode == 1 and not done.stdout and done.stderr == b"sazh: invalid header\n")
+    runs.ends("an early file as standard input", done.returncode == 1 and not done.stdout and done.stderr == b"sazh: standard input: invalid header\n")
     # A header of the standard that is refused for what its stanzas are isn't told as an early one.
     beside = header(FILE_KEY_OF_ONE_BYTE, stanza + b"-> scrypt " + b"A" * 22 + b" 10\n" + b"A" * 43 + b"\n")
     runs.path("beside").write_bytes(beside + rest)
     for words in (["decrypt", *key, "beside"], ["part", *key, "0", "1", "beside"], ["migrate", *key, "beside"]):
-        runs.refuses(f"{words}", words, says=b"sazh: invalid header\n")
+        runs.refuses(f"{words}", words, says=b"sazh: beside: invalid header\n")
     # The payload isn't looked at.
     runs.gives("an early file that is cut", ["migrate", *key, "-o", "cut_late"], b"", early + rest[:-1])
     runs.refuses("which isn't opened", ["decrypt", *key, "cut_late"])

@@ -68,9 +68,35 @@ def of_files(runs):
     runs.path("given").write_bytes(file[: end + NONCE + 7] + bytes([file[end + NONCE + 7] ^ 1]) + file[end + NONCE + 8 :])
     says = b"sazh: given: damaged at or after byte 0 of its content: "
     runs.refuses("a part of what is damaged", ["part", *key, "10", "3", "given"], says=says)
+    place = end + NONCE + CHUNK + TAG
+    damaged = file[: place + 7] + bytes([file[place + 7] ^ 1]) + file[place + 8 :]
+    says = f"sazh: standard input: damaged at or after byte {CHUNK} of its content: ".encode()
+    runs.refuses("a part of what is damaged, from a pipe", ["part", *key, str(CHUNK + 10), "3", "-"], damaged, says=says)
+    text = armor(file)
+    runs.path("given").write_bytes(text[:300] + b"*" + text[301:])
+    runs.refuses("migrate: its armor is damaged", ["migrate", *key, "given"], says=b"sazh: given: damaged: invalid base64 in armor")
     protected = ["-i", VECTORS / "protected_identity.age", "-p", VECTORS / "passphrase.txt"]
     says = bytes(VECTORS / "passphrase.txt") + b": wrong passphrase: it opens no encrypted file of identities"
     runs.refuses("the passphrase of identities is another", ["decrypt", *protected, VECTORS / "to_protected.age"], says=says)
+
+
+def of_protected(runs):
+    """An encrypted file of identities is read once, and passed over where it doesn't open and another identity answers."""
+    identity, plain = VECTORS / "protected_identity.age", runs.path("plain").read_bytes()
+    right, wrong = ["-p", VECTORS / "protected_identity.passphrase"], ["-p", VECTORS / "passphrase.txt"]
+    message = runs.run(["decrypt", "-i", identity, *right, VECTORS / "to_protected.age"]).stdout
+    runs.ends("a file to protected identities", message != b"")
+    once = ["decrypt", "-i", "/dev/stdin", *right, VECTORS / "to_protected.age"]
+    runs.gives("an encrypted file of identities from a pipe", once, message, identity.read_bytes())
+    for keys in (["-i", identity, "-i", "key"], ["-i", "key", "-i", identity]):
+        for words in (["decrypt", *keys, *wrong, "file"], ["decrypt", *keys, *right, "file"]):
+            runs.gives(f"{words}", words, plain)
+        runs.gives(f"a part, {keys}", ["part", *keys, *wrong, "0", "10", "file"], plain[:10])
+        says = b": wrong passphrase: it opens no encrypted file of identities"
+        runs.refuses(f"nobody, {keys}", ["decrypt", *keys, *wrong, VECTORS / "to_protected.age"], says=bytes(wrong[1]) + says)
+    runs.path("keys").write_bytes(identity.read_bytes())
+    says = b"sazh: keys: it is encrypted with a passphrase: give that by -p FILE"
+    runs.refuses("no passphrase", ["decrypt", "-i", "keys", "file"], says=says)
 
 
 def of_lines(runs, recipient):
@@ -123,4 +149,5 @@ def of_passphrases(runs):
 def tells(runs, recipient):
     of_files(runs)
     of_passphrases(runs)
+    of_protected(runs)
     of_lines(runs, recipient)

@@ -1,19 +1,23 @@
 -- What a command comes to that decrypts, and flushes where that succeeded.
-use Rattle.std.specs.Prelude.{◌≡◌, ◌⊎◌, ◌&&◌, ℕ, List, Result, Ok, Err, IsTrue, IsErrAnd, OnOk, IfErr}
+use Rattle.std.specs.Prelude.{◌≡◌, ◌⊎◌, ◌&&◌, ℕ, List, [], Result, Ok, Err, IsTrue, IsErrAnd, OnOk, IfErr}
 use Rattle.std.specs.Result.{result_map_both}
 use Rattle.age.specs.Types.{Error, DecryptError, FileError, StreamReader}
-use Rattle.age.specs.ErrorVariants.{OutOfMemory}
+use Rattle.age.specs.ErrorVariants.{OutOfMemory, PastEnd}
 use Rattle.age.specs.FileErrorVariants.{Decrypt, Io}
 use Rattle.age.specs.Members.{SuiteMembers, ReadMembers, WriteMembers}
 use Rattle.age.specs.Stanza.{StanzaValue}
 use Rattle.age.specs.Unwrapping.{UnwrapAnswer}
+use Rattle.age.specs.Reading.{TriedAgain}
 use Rattle.age.specs.Writing.{Flushes, Retried}
 use Rattle.age.specs.DecryptingStreams.{AnswersFirst, DecryptsAll, DecryptsPart, GivesFirst}
-use Rattle.age.specs.Parts.{AppendsPart, FirstAnswer, IsFileFor, IsPartAt, StandsAt}
+use Rattle.age.specs.Parts.{AppendsPart, EndsBefore, FirstAnswer, IsFileFor, IsPartAt, StandsAt}
 use Rattle.age.specs.Armor.{Carries}
-use Rattle.age.specs.Copying.{AppendsSome}
+use Rattle.age.specs.Bytes.{AreBytes}
+use Rattle.age.specs.Copying.{AppendsSome, CopyRefuses}
+use Rattle.age.specs.Cursor.{IsOutside, IsSeekRefusal, OrTooLong}
 use Rattle.age.specs.Delivered.{delivered, stretch_of}
-use Rattle.age.specs.FileErrors.{DecryptsUnless, IsDecryptError}
+use Rattle.age.specs.File.{IsFileOf}
+use Rattle.age.specs.FileErrors.{DecryptsUnless, IfIo, IsDecryptError}
 use Rattle.age.specs.Migrating.{Migrates, MigratesFiles}
 use Rattle.age.specs.Opened.{IsNotOpened, IsOpened}
 use Rattle.age.specs.Payload.{Seal}
@@ -41,6 +45,18 @@ module _ {I S R W T : Type 0} (unwraps : I → List StanzaValue → UnwrapAnswer
       (IsFileFor suite.seal_of (FirstAnswer unwraps identities)) input old between done
       × ThenFlushed write done between new result
 
+  -- A success says that the input carried a file of exactly what was appended, under the file key of that identity: over a steady reader that
+  -- tells its bytes, and a writer that always does.
+  abbrev pub GivesFile : R → W → W → Result T FileError → Type 0
+  GivesFile input old new result = IsTrue (read.tells input && read.steady input) → ((w : W) → IsTrue (write.tells w)) → OnOk result
+      ((file_key : List ℕ) × (stanzas : List StanzaValue) × (plain : List ℕ) × (bytes : List ℕ)
+      × GivesFirst unwraps identities asked file_key stanzas
+      × IsTrue (read.rest input).ends_well
+      × Carries (read.rest input).bytes bytes
+      × IsFileOf suite.seal_of file_key stanzas plain bytes
+      × AreBytes plain
+      × write.appended old plain new)
+
   -- So many bytes of the plaintext from a place on were decrypted by the first of the identities that answers, and then the writer was flushed.
   abbrev pub DecryptsSome : ℕ → ℕ → R → R → W → W → Result T FileError → Type 0
   DecryptsSome place count input last old new result = (between : W) × (done : Result T FileError)
@@ -67,6 +83,7 @@ module _ {I R T W : Type 0} (unwraps : I → List StanzaValue → UnwrapAnswer �
 
   -- So many bytes of a file's plaintext from a place on, of a file in which is sought.
   pub record SeeksPart {S V : Type 0} (suite : SuiteMembers S) (read : ReadMembers R) (text_read : ReadMembers T) (write : WriteMembers W)
+      (stream_read : ReadMembers (StreamReader S T suite text_read)) (below : Error → Type 0)
       (identities asked : List I) (place count : ℕ) (input : R) (old new : W) (result : Result V FileError) : Type 0 where
     -- Of a file for the identities they are appended.
     pub cursor : IsTrue (read.tells input && read.steady input) → IsTrue (write.tells old) → IsTrue (read.rest input).ends_well
@@ -81,12 +98,21 @@ module _ {I R T W : Type 0} (unwraps : I → List StanzaValue → UnwrapAnswer �
     pub refused : IfErr result (λ e. IsDecryptError e → new ≡ old)
     pub why : IfErr result (DecryptsUnless (λ refusal. (text : T) × ReadsText read text_read input text
         × IsNotOpened unwraps text_read identities asked text refusal))
+    -- The cause of an error of the reader or the writer: memory, or, once the file was opened, a seek or a read of its plaintext refused, or the writer.
+    pub io : IfErr result (IfIo (λ e. (e ≡ OutOfMemory) ⊎ ((text : T) × ReadsText read text_read input text
+        × (stream : StreamReader S T suite text_read) × IsOpened unwraps identities asked text stream
+        × CopyRefuses (λ e. IsSeekRefusal (OrTooLong below) e ⊎ TriedAgain stream_read.refuses stream e) (Retried write.refuses old count) e)))
+    -- That the place is outside is said where the payload ends before it, by its own length, or as the stream's own reads or the writer say it.
+    pub outside : IsTrue (read.tells input && read.steady input) → IsTrue (write.tells old) → IfErr result (IfIo (λ e. IsOutside e → (text : T)
+        × ReadsText read text_read input text × (stream : StreamReader S T suite text_read) × IsOpened unwraps identities asked text stream
+        × (TriedAgain stream_read.refuses stream e ⊎ Retried write.refuses old count e
+        ⊎ ((e ≡ PastEnd) × AppendsSome write.appended count (λ out. (out ≡ []) × EndsBefore place (payload_of stream)) old new))))
 
   -- So many bytes were appended so, and then the writer was flushed.
-  abbrev pub GivesPart : {S V : Type 0} → SuiteMembers S → ReadMembers R → ReadMembers T → WriteMembers W → List I → List I → ℕ → ℕ
-      → R → W → W → Result V FileError → Type 0
-  GivesPart {S} {V} suite read text_read write identities asked place count input old new result = (between : W) × (done : Result V FileError)
-      × SeeksPart suite read text_read write identities asked place count input old between done
+  abbrev pub GivesPart : {S V : Type 0} (suite : SuiteMembers S) (read : ReadMembers R) (text_read : ReadMembers T) → WriteMembers W
+      → ReadMembers (StreamReader S T suite text_read) → (Error → Type 0) → List I → List I → ℕ → ℕ → R → W → W → Result V FileError → Type 0
+  GivesPart {S} {V} suite read text_read write stream_read below identities asked place count input old new result = (between : W) × (done : Result V FileError)
+      × SeeksPart suite read text_read write stream_read below identities asked place count input old between done
       × ThenFlushed write done between new result
 
   -- A file that a text carries was rewritten as one of the standard, and then the writer was flushed; or memory for reading armor was refused.

@@ -3,6 +3,8 @@ pub mod Passphrase
 pub mod Keygen
 pub mod Random
 pub mod Holder
+pub mod Keyring
+pub mod Given
 pub mod Encrypting
 pub mod Decrypting
 pub mod Words

@@ -1,16 +1,12 @@
 //! The commands that decrypt.
-ghost use Rattle.std.specs.Prelude.{◌≡◌, ◌&&◌, ℕ, List, IsTrue, OnOk, IfErr};
-ghost use Rattle.age.specs.Armor.{Carries};
-ghost use Rattle.age.specs.Bytes.{AreBytes};
-ghost use Rattle.age.specs.DecryptingStreams.{GivesFirst};
-ghost use Rattle.age.specs.File.{IsFileOf};
+ghost use Rattle.std.specs.Prelude.{◌≡◌, IfErr};
 ghost use Rattle.age.specs.FileErrors.{IsDecryptError};
-ghost use Rattle.age.specs.Stanza.{StanzaValue};
-ghost use Rattle.age_tool.specs.Decrypting.{Decrypts, DecryptsSome, GivesPart, IsFlushed, Migrated, SeeksPart};
+ghost use Rattle.age_tool.specs.Decrypting.{Decrypts, DecryptsSome, GivesFile, GivesPart, IsFlushed, Migrated, SeeksPart};
 
 use age::Identity;
 use age::armor::ArmoredReader;
 use age::io::{BufReader, Read, Seek, Write, flush_retrying};
+use age::stream::StreamReader;
 use age::streaming::{FileError, at, decrypt_all, migrate, open_file, write_part};
 use age::suite::Suite;
 use std::alloc::Global;
@@ -38,15 +34,7 @@ pub fn decrypt<S: Suite, I: Identity, R: Read, W: Write>(
     writer: &mut W,
 ) -> Result<(), FileError>
     ensures steps { Decrypts I.unwraps ⟦<S as Suite>⟧ ⟦<R as Read>⟧ ⟦<W as Write>⟧ identities.old identities.new reader.old writer.old writer.new result }
-    // Of a writer that always tells its bytes.
-    ensures file { IsTrue (R.tells reader.old && R.steady reader.old) → ((w : W) → IsTrue (W.tells w)) → OnOk result
-        ((file_key : List ℕ) × (stanzas : List StanzaValue) × (plain : List ℕ) × (bytes : List ℕ)
-        × GivesFirst I.unwraps identities.old identities.new file_key stanzas
-        × IsTrue (R.rest reader.old).ends_well
-        × Carries (R.rest reader.old).bytes bytes
-        × IsFileOf S.seal_of file_key stanzas plain bytes
-        × AreBytes plain
-        × W.appended writer.old plain writer.new) }
+    ensures file { GivesFile I.unwraps ⟦<S as Suite>⟧ ⟦<R as Read>⟧ ⟦<W as Write>⟧ identities.old identities.new reader.old writer.old writer.new result }
     ensures refused { IfErr result (λ e. IsDecryptError e → writer.new ≡ writer.old) }
 {
     match decrypt_all::<S, I, R, W>(alloc, identities, reader, writer) {
@@ -86,7 +74,7 @@ fn part_of<S: Suite, I: Identity, R: Seek + Drop, W: Write>(
     writer: &mut W,
 ) -> Result<(), FileError>
     ensures { SeeksPart I.unwraps ⟦<S as Suite>⟧ ⟦<R as Read>⟧ ⟦<ArmoredReader<BufReader<R>> as Read>⟧ ⟦<W as Write>⟧
-        identities.old identities.new place count «file» writer.old writer.new result }
+        ⟦<StreamReader<S, ArmoredReader<BufReader<R>>> as Read>⟧ ⟦<ArmoredReader<BufReader<R>> as Seek>⟧.seek_refuses identities.old identities.new place count «file» writer.old writer.new result }
 {
     let text = match ArmoredReader::new(alloc, file) {
         Err(error) => return Err(FileError::Io(error)),
@@ -117,7 +105,7 @@ pub fn seek_part<S: Suite, I: Identity, R: Seek + Drop, W: Write>(
     writer: &mut W,
 ) -> Result<(), FileError>
     ensures { GivesPart I.unwraps ⟦<S as Suite>⟧ ⟦<R as Read>⟧ ⟦<ArmoredReader<BufReader<R>> as Read>⟧ ⟦<W as Write>⟧
-        identities.old identities.new place count «file» writer.old writer.new result }
+        ⟦<StreamReader<S, ArmoredReader<BufReader<R>>> as Read>⟧ ⟦<ArmoredReader<BufReader<R>> as Seek>⟧.seek_refuses identities.old identities.new place count «file» writer.old writer.new result }
 {
     match part_of::<S, I, R, W>(alloc, identities, place, count, file, writer) {
         Err(error) => Err(error),

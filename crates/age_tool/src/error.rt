@@ -1,9 +1,11 @@
-//! What is wrong with a file of recipients or of a passphrase, and with a source of random bytes, and why a command on a file isn't done.
+//! What is wrong with files of recipients, of identities and of a passphrase, and with a source of random bytes, and why a command on a file isn't done.
 ghost use Rattle.std.specs.Prelude.{◌≡◌};
 ghost use Rattle.age_tool.specs.declared.error.CommandError.TheVariants as command;
 
 use age::EncryptError;
 use age::streaming::FileError;
+use std::fmt;
+use std::fmt::Display;
 use thiserror::Error;
 
 /// Why a text isn't that of a file of recipients.
@@ -46,6 +48,32 @@ pub enum PassphraseError {
     /// Its first line is empty, or there is none.
     #[error("the passphrase is empty")]
     Empty,
+    /// Memory was refused.
+    #[error("out of memory")]
+    OutOfMemory,
+}
+
+/// Why the files that a command line gives name nobody who decrypts. A file's number is counted from 0.
+#[derive(Clone, Copy, Debug, Error, PartialEq, Eq)]
+pub enum KeyringError {
+    /// This line of this file, counted from 1, is no identity, and the file isn't one under a passphrase.
+    #[error("line {line} is no identity")]
+    NotIdentity { file: usize, line: usize },
+    /// This file has more than 16 MiB.
+    #[error("more than 16 MiB")]
+    TooLong { file: usize },
+    /// An identity in this file is a plugin's.
+    #[error("an identity of a plugin")]
+    Plugin { file: usize },
+    /// No identity is in this file.
+    #[error("no identity is in it")]
+    NoIdentity { file: usize },
+    /// This file is encrypted with a passphrase, and none is given.
+    #[error("it is encrypted with a passphrase, and none is given")]
+    NoPassphrase { file: usize },
+    /// The text of the passphrase gives none.
+    #[error("{0}")]
+    Passphrase(PassphraseError),
     /// Memory was refused.
     #[error("out of memory")]
     OutOfMemory,
@@ -96,5 +124,23 @@ impl From<EncryptError> for CommandError {
 
     fn from(error: EncryptError) -> CommandError {
         CommandError::File(FileError::Encrypt(error))
+    }
+}
+
+/// Why a command isn't done. Its text is that of the error in it.
+#[derive(Debug, Drop)]
+pub enum GivenError<G, C> {
+    /// For what it was given besides its input. Nothing was read or written.
+    Given(G),
+    /// For its input, its output, or what it takes on the way.
+    Command(C),
+}
+
+impl<G: Display, C: Display> Display for GivenError<G, C> {
+    fn fmt<W: fmt::Write>(&self, f: &mut fmt::Formatter<W>) -> fmt::Result {
+        match self {
+            GivenError::Given(error) => write!(f, "{error}"),
+            GivenError::Command(error) => write!(f, "{error}"),
+        }
     }
 }

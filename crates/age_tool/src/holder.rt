@@ -1,5 +1,7 @@
 //! Those who decrypt.
-ghost use Rattle.age_tool.specs.Holder.{HolderUnwraps};
+ghost use Rattle.std.specs.Prelude.{◌≡◌};
+ghost use Rattle.age.specs.Unwrapping.{unwrap_answer};
+ghost use Rattle.age_tool.specs.Holder.{HolderUnwraps, passed_over};
 
 use age::format::Stanza;
 use age::io::Read;
@@ -8,7 +10,8 @@ use age::suite::Suite;
 use age::{Callbacks, DecryptError, Identity, encrypted, scrypt, x25519};
 use std::alloc::Global;
 
-/// One who decrypts. It answers as the identity that it holds, and changes as that does.
+/// One who decrypts. It answers as the identity that it holds, and changes as that does. A file that its passphrase doesn't open is passed
+/// over, so that another may answer.
 #[derive(Drop)]
 pub enum Holder<S, R: Drop, C> {
     /// Who has a key.
@@ -17,6 +20,18 @@ pub enum Holder<S, R: Drop, C> {
     File(encrypted::Identity<S, R, C>),
     /// Who knows a passphrase.
     Passphrase(scrypt::Identity<S>),
+}
+
+// An answer, or none where it says that the passphrase opens no file.
+fn passed_over(
+    answer: Option<Result<FileKey, DecryptError>>,
+) -> Option<Result<FileKey, DecryptError>>
+    ensures { unwrap_answer result ≡ passed_over (unwrap_answer answer) }
+{
+    match answer {
+        Some(Err(DecryptError::KeyDecryptionFailed)) => None,
+        answer => answer,
+    }
 }
 
 impl<S: Suite, R: Read + Drop, C: Callbacks> Identity for Holder<S, R, C> {
@@ -29,7 +44,7 @@ impl<S: Suite, R: Read + Drop, C: Callbacks> Identity for Holder<S, R, C> {
     ) -> Option<Result<FileKey, DecryptError>> {
         match self {
             Holder::Key(identity) => identity.unwrap_stanza(alloc, stanza),
-            Holder::File(identity) => identity.unwrap_stanza(alloc, stanza),
+            Holder::File(identity) => passed_over(identity.unwrap_stanza(alloc, stanza)),
             Holder::Passphrase(identity) => identity.unwrap_stanza(alloc, stanza),
         }
     }
@@ -41,7 +56,7 @@ impl<S: Suite, R: Read + Drop, C: Callbacks> Identity for Holder<S, R, C> {
     ) -> Option<Result<FileKey, DecryptError>> {
         match self {
             Holder::Key(identity) => identity.unwrap_stanzas(alloc, stanzas),
-            Holder::File(identity) => identity.unwrap_stanzas(alloc, stanzas),
+            Holder::File(identity) => passed_over(identity.unwrap_stanzas(alloc, stanzas)),
             Holder::Passphrase(identity) => identity.unwrap_stanzas(alloc, stanzas),
         }
     }

@@ -1,11 +1,12 @@
 //! Recipients that the words of a command line name.
-ghost use Rattle.std.specs.Prelude.{◌≡◌, ◌++◌, ℕ, MatchResult, IfOk};
+ghost use Rattle.std.specs.Prelude.{MatchResult};
 ghost use Rattle.age_tool.specs.Words.{AreOfText, AreOfWord, AreOfWords, RefusesText, RefusesWord, RefusesWords};
 
 use crate::error::{RecipientsError, WordsError};
+use crate::lists::joined;
 use crate::recipients::recipients_of;
 use age::x25519::Recipient;
-use std::alloc::{AllocError, Global};
+use std::alloc::Global;
 use std::str::FromStr;
 
 /// A word of a command line that names recipients.
@@ -52,20 +53,6 @@ fn keys_of_word<S>(
             Err(why) => Err(WordsError::File { word: number, why }),
         },
     }
-}
-
-// Recipients, and then others.
-fn joined<S>(
-    first: Vec<Recipient<S>>,
-    others: Vec<Recipient<S>>,
-) -> Result<Vec<Recipient<S>>, AllocError>
-    ensures { IfOk result (λ all. all.items ≡ first.items ++ others.items) }
-{
-    let mut all = first;
-    for key in others {
-        all.push(key)?;
-    }
-    Ok(all)
 }
 
 /// The recipients that words name, each word's after those of the words before it: of a text its recipient, and of a file those of its

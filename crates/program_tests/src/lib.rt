@@ -17,6 +17,8 @@ mod draw_tests;
 #[cfg(test)]
 mod file_tests;
 #[cfg(test)]
+mod given_tests;
+#[cfg(test)]
 mod key_file_tests;
 #[cfg(test)]
 mod key_tests;

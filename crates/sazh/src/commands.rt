@@ -1,15 +1,16 @@
 //! The commands.
 
 use crate::early::{answered, rewritten};
-use crate::failure::{Failure, done, named, tell};
+use crate::failure::{Failure, done};
 use crate::files::{open, open_input};
 use crate::jobs::{
     Decrypting, Encrypting, Job, Migrating, NewKey, ReadingPart, SeekingPart, To, run_job,
     run_to_output,
 };
-use crate::keys::{Holder, identities, keys, passphrase_identity, passphrase_in};
+use crate::keys::{keyring, passphrase_text, words};
 use age::armor::Format;
 use age::io::{Read, Write, flush_retrying, write_all};
+use age_tool::keyring::Keyring;
 use sazh_command::{Command, HELP, Identities, Output, Recipients};
 
 const VERSION: &str = "sazh 0.1.0";
@@ -40,44 +41,8 @@ impl Job for Writing {
 // To whom is encrypted.
 fn to(rt: &HostRuntime, recipients: &Recipients) -> Result<To, Failure> {
     match recipients {
-        Recipients::Listed(words) => Ok(To::Keys(keys(rt, words)?)),
-        Recipients::PassphraseFile(name) => Ok(To::Passphrase(passphrase_in(rt, name)?)),
-    }
-}
-
-// Who knows the passphrase that the file of this name gives, as the one who decrypts.
-fn passphrase_alone(rt: &HostRuntime, name: &str) -> Result<Vec<Holder>, Failure> {
-    let identity = passphrase_identity(rt, name)?;
-    let mut one: Vec<Holder> = Vec::new(rt.alloc());
-    one.push(Holder::Passphrase(identity))?;
-    Ok(one)
-}
-
-// What is told of a passphrase that nobody asks for.
-const UNUSED: &str = "its passphrase isn't needed: no file of identities is encrypted";
-
-// Whether one of those who decrypt has the keys in an encrypted file.
-fn has_protected(all: &[Holder]) -> bool {
-    for one in all {
-        if let Holder::File(_) = one {
-            return true;
-        }
-    }
-    false
-}
-
-// Who decrypts.
-fn with(rt: &HostRuntime, asked: &Identities) -> Result<Vec<Holder>, Failure> {
-    match asked {
-        Identities::Files(names) => identities(rt, names, None),
-        Identities::ProtectedFiles(names, file) => {
-            let all = identities(rt, names, Some(file.as_str()))?;
-            if !has_protected(&all) {
-                tell(rt, &named(rt, file, &UNUSED));
-            }
-            Ok(all)
-        }
-        Identities::PassphraseFile(name) => passphrase_alone(rt, name),
+        Recipients::Listed(asked) => Ok(To::Words(words(rt, asked)?)),
+        Recipients::PassphraseFile(name) => Ok(To::Passphrase(passphrase_text(rt, name)?)),
     }
 }
 
@@ -85,20 +50,20 @@ fn with(rt: &HostRuntime, asked: &Identities) -> Result<Vec<Holder>, Failure> {
 // first.
 fn part_of_input(
     rt: &HostRuntime,
-    identities: Vec<Holder>,
+    keyring: Keyring,
     place: u64,
     count: u64,
 ) -> Result<(), Failure> {
     let Some(file) = open_input(rt) else {
         let job = ReadingPart {
-            identities,
+            keyring,
             place,
             count,
         };
         return run_to_output(rt, job, "-");
     };
     let job = SeekingPart {
-        identities,
+        keyring,
         file,
         name: "standard input",
         place,
@@ -110,13 +75,13 @@ fn part_of_input(
 // So many bytes of the plaintext of the file of this name, in which is sought, from a place on, to standard output.
 fn part_of_file(
     rt: &HostRuntime,
-    identities: Vec<Holder>,
+    keyring: Keyring,
     place: u64,
     count: u64,
     name: &str,
 ) -> Result<(), Failure> {
     let job = SeekingPart {
-        identities,
+        keyring,
         file: open(rt, name)?,
         name,
         place,
@@ -133,11 +98,11 @@ fn part(
     count: u64,
     input: &str,
 ) -> Result<(), Failure> {
-    let identities = with(rt, asked)?;
+    let keyring = keyring(rt, asked)?;
     let answer = if input == "-" {
-        part_of_input(rt, identities, place, count)
+        part_of_input(rt, keyring, place, count)
     } else {
-        part_of_file(rt, identities, place, count, input)
+        part_of_file(rt, keyring, place, count, input)
     };
     answered(rt, asked, input, answer)
 }
@@ -185,8 +150,8 @@ fn decrypt(
     input: &str,
     output: &Output,
 ) -> Result<(), Failure> {
-    let identities = with(rt, asked)?;
-    let answer = run_job(rt, Decrypting { identities }, input, output, FOR_ALL);
+    let keyring = keyring(rt, asked)?;
+    let answer = run_job(rt, Decrypting { keyring }, input, output, FOR_ALL);
     answered(rt, asked, input, answer)
 }
 
@@ -197,8 +162,8 @@ fn migrate(
     input: &str,
     output: &Output,
 ) -> Result<(), Failure> {
-    let identities = with(rt, asked)?;
-    let answer = run_job(rt, Migrating { identities }, input, output, FOR_ALL);
+    let keyring = keyring(rt, asked)?;
+    let answer = run_job(rt, Migrating { keyring }, input, output, FOR_ALL);
     rewritten(rt, asked, input, answer)
 }
 

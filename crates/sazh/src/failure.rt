@@ -1,13 +1,11 @@
 //! Why a command was refused.
 
-use crate::lines::bad_identity;
 use age::DecryptError;
-use age::io::{Error, ErrorKind};
+use age::io::Error;
 use age::streaming::FileError;
 use std::alloc::{AllocError, AllocFailed};
 use std::fmt::Display;
-use std::fs::File;
-use std::{fmt, fs, io};
+use std::{fmt, io};
 
 /// Why a command was refused. Its text is one line, without the program's name.
 #[derive(Drop)]
@@ -26,6 +24,8 @@ pub enum Failure {
     File(FileError),
     /// The same of a file of which a part was asked for.
     Part(FileError),
+    /// The text of a file that was to be rewritten was refused, and nobody has looked at it yet.
+    Text(Error),
     /// As this text says.
     Said(String),
 }
@@ -88,33 +88,6 @@ pub fn refused_by(rt: &HostRuntime, name: &str, error: io::Error) -> Failure {
     named(rt, name, &Reason(error))
 }
 
-// Why the file of this name can't be read, where the system says it again: a folder, or a file that can't be opened.
-fn reason_again(rt: &HostRuntime, name: &str) -> Option<Failure> {
-    match fs::metadata(rt, name) {
-        Err(error) => Some(refused_by(rt, name, error)),
-        Ok(found) if found.is_dir() => Some(named(rt, name, &"it is a folder")),
-        Ok(found) if found.is_file() => match File::open(rt, name) {
-            Err(error) => Some(refused_by(rt, name, error)),
-            Ok(_) => None,
-        },
-        Ok(_) => None,
-    }
-}
-
-/// That the file of this name can't be opened, read or written.
-pub fn refused(rt: &HostRuntime, name: &str, error: Error) -> Failure {
-    match error {
-        Error::Device(ErrorKind::NotFound) => named(rt, name, &"no such file"),
-        Error::Device(ErrorKind::PermissionDenied) => named(rt, name, &"permission denied"),
-        Error::Device(_) => match reason_again(rt, name) {
-            Some(failure) => failure,
-            None => named(rt, name, &error),
-        },
-        Error::NotIdentity { line } => bad_identity(rt, name, line),
-        error => named(rt, name, &error),
-    }
-}
-
 /// Tells of something on standard error.
 pub fn tell<E: Display>(rt: &HostRuntime, what: &E) {
     let _ = eprintln!(rt; "sazh: {what}");
@@ -140,14 +113,6 @@ pub fn done_with<T, E: Display + Drop>(
     }
 }
 
-/// What was answered, or that a file wasn't opened or written.
-pub fn done_with_file<T>(answer: Result<T, FileError>) -> Result<T, Failure> {
-    match answer {
-        Ok(value) => Ok(value),
-        Err(error) => Err(Failure::File(error)),
-    }
-}
-
 /// What a text says, or that there was no memory for it.
 pub fn told(text: Result<String, AllocError>) -> Failure {
     match text {
@@ -165,6 +130,7 @@ impl fmt::Display for Failure {
             Failure::NoKeys { .. } => write!(f, "{}", DecryptError::NoMatchingKeys),
             Failure::WrongPassphrase => write!(f, "{}", DecryptError::KeyDecryptionFailed),
             Failure::File(error) | Failure::Part(error) => write!(f, "{error}"),
+            Failure::Text(error) => write!(f, "{error}"),
             Failure::Said(text) => f.write_str(text),
         }
     }

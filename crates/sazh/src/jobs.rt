@@ -1,9 +1,8 @@
 //! What is done from an input to an output.
 
-use crate::explain::{explained, of_part};
-use crate::failure::{Failure, done, done_with_file, refused_by};
+use crate::explain::{explained, of_part, of_text};
+use crate::failure::{Failure, done, refused_by, said};
 use crate::files::open_file;
-use crate::keys::Holder;
 use crate::output::{
     NewFile, Place, create, finish, give_up, open_stream, replace, tell_links, where_to,
 };
@@ -11,13 +10,15 @@ use crate::random::System;
 use crate::watch::{Seen, Watched};
 use age::armor::Format;
 use age::io::{Read, Std, Write};
-use age::secrecy::SecretString;
 use age::streaming::FileError;
-use age::x25519;
 use age_standard::StandardSuite;
-use age_tool::decrypting::{decrypt, decrypt_part, migrate_text, seek_part};
-use age_tool::encrypting::{encrypt_to_keys, encrypt_under};
+use age_tool::error::{GivenError, KeyringError};
+use age_tool::given::{
+    decrypt_by, decrypt_part_by, encrypt_to_words, encrypt_under_text, migrate_by, seek_part_by,
+};
 use age_tool::keygen::write_new_key;
+use age_tool::keyring::Keyring;
+use age_tool::words::Word;
 use sazh_command::Output;
 use std::fs::File;
 use std::io;
@@ -25,10 +26,10 @@ use std::io;
 /// To whom is encrypted.
 #[derive(Drop)]
 pub enum To {
-    /// To the recipients of keys.
-    Keys(Vec<x25519::Recipient<StandardSuite>>),
-    /// To all who know a passphrase.
-    Passphrase(SecretString),
+    /// To the recipients that these words name.
+    Words(Vec<Word>),
+    /// To all who know the passphrase in this text.
+    Passphrase(Vec<u8>),
 }
 
 /// Something that is done from an input to an output.
@@ -58,25 +59,30 @@ impl Job for Encrypting {
     ) -> Result<(), Failure> {
         let Encrypting { to, format } = self;
         let mut source = System::new(rt);
-        let answer = match to {
-            To::Keys(keys) => encrypt_to_keys::<StandardSuite, System, R, W>(
-                rt.alloc(),
-                &keys,
-                &mut source,
-                format,
-                reader,
-                writer,
+        match to {
+            To::Words(words) => done(
+                rt,
+                encrypt_to_words::<StandardSuite, System, R, W>(
+                    rt.alloc(),
+                    &words,
+                    &mut source,
+                    format,
+                    reader,
+                    writer,
+                ),
             ),
-            To::Passphrase(passphrase) => encrypt_under::<StandardSuite, System, R, W>(
-                rt.alloc(),
-                passphrase,
-                &mut source,
-                format,
-                reader,
-                writer,
+            To::Passphrase(text) => done(
+                rt,
+                encrypt_under_text::<StandardSuite, System, R, W>(
+                    rt.alloc(),
+                    &text,
+                    &mut source,
+                    format,
+                    reader,
+                    writer,
+                ),
             ),
-        };
-        done(rt, answer)
+        }
     }
 }
 
@@ -99,10 +105,22 @@ impl Job for NewKey {
     }
 }
 
+// What was answered, or that a file wasn't opened or written.
+fn done_with(
+    rt: &HostRuntime,
+    answer: Result<(), GivenError<KeyringError, FileError>>,
+) -> Result<(), Failure> {
+    match answer {
+        Ok(()) => Ok(()),
+        Err(GivenError::Given(error)) => Err(said(rt, &error)),
+        Err(GivenError::Command(error)) => Err(Failure::File(error)),
+    }
+}
+
 /// Decrypts the input.
 #[derive(Drop)]
 pub struct Decrypting {
-    pub identities: Vec<Holder>,
+    pub keyring: Keyring,
 }
 
 impl Job for Decrypting {
@@ -112,20 +130,17 @@ impl Job for Decrypting {
         reader: &mut R,
         writer: &mut W,
     ) -> Result<(), Failure> {
-        let mut identities = self.identities;
-        done_with_file(decrypt::<StandardSuite, Holder, R, W>(
-            rt.alloc(),
-            &mut identities,
-            reader,
-            writer,
-        ))
+        done_with(
+            rt,
+            decrypt_by::<StandardSuite, R, W>(rt.alloc(), &self.keyring, reader, writer),
+        )
     }
 }
 
 /// Rewrites the input with a header of the standard.
 #[derive(Drop)]
 pub struct Migrating {
-    pub identities: Vec<Holder>,
+    pub keyring: Keyring,
 }
 
 impl Job for Migrating {
@@ -135,20 +150,23 @@ impl Job for Migrating {
         reader: &mut R,
         writer: &mut W,
     ) -> Result<(), Failure> {
-        let mut identities = self.identities;
-        done_with_file(migrate_text::<StandardSuite, Holder, &mut R, W>(
+        let answer = migrate_by::<StandardSuite, &mut R, W>(
             rt.alloc(),
-            &mut identities,
+            &self.keyring,
             reader,
             writer,
-        ))
+        );
+        match done_with(rt, answer) {
+            Err(Failure::File(FileError::Io(error))) => Err(Failure::Text(error)),
+            other => other,
+        }
     }
 }
 
-/// Decrypts a part of the input, which is read into memory first.
+/// Decrypts a part of standard input, which is read into memory first.
 #[derive(Drop)]
 pub struct ReadingPart {
-    pub identities: Vec<Holder>,
+    pub keyring: Keyring,
     pub place: u64,
     pub count: u64,
 }
@@ -160,22 +178,32 @@ impl Job for ReadingPart {
         reader: &mut R,
         writer: &mut W,
     ) -> Result<(), Failure> {
-        let mut identities = self.identities;
-        done_with_file(decrypt_part::<StandardSuite, Holder, R, W>(
+        let ReadingPart {
+            keyring,
+            place,
+            count,
+        } = self;
+        let answer = decrypt_part_by::<StandardSuite, R, W>(
             rt.alloc(),
-            &mut identities,
-            self.place,
-            self.count,
+            &keyring,
+            place,
+            count,
             reader,
             writer,
-        ))
+        );
+        match done_with(rt, answer) {
+            Err(Failure::File(FileError::Io(error))) => {
+                Err(of_part(rt, "standard input", place, error))
+            }
+            other => other,
+        }
     }
 }
 
 /// Decrypts a part of a file, in which is sought. No other input is read.
 #[derive(Drop)]
 pub struct SeekingPart<'a> {
-    pub identities: Vec<Holder>,
+    pub keyring: Keyring,
     pub file: Std<File>,
     pub name: &'a str,
     pub place: u64,
@@ -190,24 +218,24 @@ impl<'a> Job for SeekingPart<'a> {
         writer: &mut W,
     ) -> Result<(), Failure> {
         let SeekingPart {
-            identities,
+            keyring,
             file,
             name,
             place,
             count,
         } = self;
-        let mut identities = identities;
-        match seek_part::<StandardSuite, Holder, Std<File>, W>(
+        let answer = seek_part_by::<StandardSuite, Std<File>, W>(
             rt.alloc(),
-            &mut identities,
+            &keyring,
             place,
             count,
             file,
             writer,
-        ) {
-            Ok(()) => Ok(()),
-            Err(FileError::Io(error)) => Err(of_part(rt, name, place, error)),
-            Err(error) => Err(Failure::Part(error)),
+        );
+        match done_with(rt, answer) {
+            Err(Failure::File(FileError::Io(error))) => Err(of_part(rt, name, place, error)),
+            Err(Failure::File(error)) => Err(Failure::Part(error)),
+            other => other,
         }
     }
 }
@@ -234,6 +262,7 @@ fn reason(
     }
     match failure {
         Failure::File(error) => explained(rt, input, &read, written.count, error),
+        Failure::Text(error) => of_text(rt, input, &read, error),
         failure => failure,
     }
 }

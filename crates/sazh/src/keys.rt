@@ -1,45 +1,21 @@
-//! Whom to encrypt to, and with what to decrypt.
-ghost use Rattle.std.specs.Prelude.{◌≡◌, IfOk};
+//! Whom to encrypt to, and with what to decrypt: what the words of a command line name is read, and looked at once before anything is written.
 
-use crate::failure::{Failure, done_with, named, refused, said};
-use crate::files::{copied, read, text_in};
+use crate::failure::{Failure, done_with, named, said, tell};
+use crate::files::{copied, read};
 use crate::lines::{Wanted, bad_line, bad_plugin, bad_word};
-use age::armor::ArmoredReader;
-use age::io::{BufReader, Error, Std};
-use age::secrecy::SecretString;
-use age::{IdentityFile, NoCallbacks, encrypted, scrypt, x25519};
 use age_standard::StandardSuite;
-use age_tool::callbacks::GivesOnce;
-use age_tool::error::{RecipientsError, WordsError};
-use age_tool::holder;
-use age_tool::passphrase::{WORK_FACTOR, identity_of, passphrase_of};
+use age_tool::error::{KeyringError, RecipientsError, WordsError};
+use age_tool::holder::Holder;
+use age_tool::keyring::{Held, KeyFile, Keyring, holders_of};
+use age_tool::passphrase::passphrase_of;
 use age_tool::words::{Word, keys_of_words};
-use sazh_command::Recipient;
-use std::fs::File;
+use sazh_command::{Identities, Recipient};
 
-// What a file of identities holds that is encrypted with a passphrase.
-type Text = ArmoredReader<BufReader<Std<File>>>;
-
-// Such a file.
-type Protected = encrypted::Identity<StandardSuite, Text, GivesOnce>;
-
-/// One who decrypts.
-pub type Holder = holder::Holder<StandardSuite, Text, GivesOnce>;
-
-/// The passphrase that the file of this name gives.
-pub fn passphrase_in(rt: &HostRuntime, name: &str) -> Result<SecretString, Failure> {
+/// The text of the file of a passphrase of this name, which gives one.
+pub fn passphrase_text(rt: &HostRuntime, name: &str) -> Result<Vec<u8>, Failure> {
     let text = read(rt, name)?;
-    done_with(rt, name, passphrase_of(rt.alloc(), &text))
-}
-
-/// The identity of the passphrase that the file of this name gives.
-pub fn passphrase_identity(
-    rt: &HostRuntime,
-    name: &str,
-) -> Result<scrypt::Identity<StandardSuite>, Failure>
-    ensures { IfOk result (λ identity. identity.most ≡ 22) }
-{
-    Ok(identity_of(passphrase_in(rt, name)?))
+    done_with(rt, name, passphrase_of(rt.alloc(), &text))?;
+    Ok(text)
 }
 
 // A word that names recipients, with the bytes of the file that it names.
@@ -86,139 +62,134 @@ fn bad_words(rt: &HostRuntime, asked: &[Recipient], words: &[Word], error: Words
     }
 }
 
-/// The keys that words name as recipients, in their order.
-pub fn keys(
-    rt: &HostRuntime,
-    asked: &[Recipient],
-) -> Result<Vec<x25519::Recipient<StandardSuite>>, Failure> {
+/// The words that name recipients, in their order, with the bytes of the files that they name. Each names some.
+pub fn words(rt: &HostRuntime, asked: &[Recipient]) -> Result<Vec<Word>, Failure> {
     let words = words_of(rt, asked)?;
-    match keys_of_words(rt.alloc(), &words) {
-        Ok(keys) => Ok(keys),
+    match keys_of_words::<StandardSuite>(rt.alloc(), &words) {
+        Ok(_) => Ok(words),
         Err(error) => Err(bad_words(rt, asked, &words, error)),
     }
 }
 
-// Adds the identities of a file that isn't encrypted.
-fn add_bare(
-    rt: &HostRuntime,
-    identities: &mut Vec<Holder>,
-    file: IdentityFile<StandardSuite, NoCallbacks>,
-    name: &str,
-) -> Result<(), Failure> {
-    match done_with(rt, name, file.into_identities(rt.alloc())) {
-        Err(failure) => Err(bad_plugin(rt, name, failure)),
-        Ok(found) if found.is_empty() => Err(named(rt, name, &"no identity is in it")),
-        Ok(found) => {
-            for identity in found {
-                identities.push(Holder::Key(identity))?;
-            }
-            Ok(())
-        }
-    }
-}
-
-// What was found, or nothing where something else was.
-fn found_or_none<T, E: Drop>(answer: Result<Option<T>, E>) -> Option<T> {
-    match answer {
-        Ok(found) => found,
-        Err(_) => None,
-    }
-}
-
-// The identities in the encrypted file of this name, or `None` where it is no such file.
-fn protected(
-    rt: &HostRuntime,
-    name: &str,
-    passphrase: Option<SecretString>,
-) -> Result<Option<Protected>, Failure> {
-    let text = text_in(rt, name)?;
+// A file of identities of this name, with its bytes.
+fn key_file(rt: &HostRuntime, name: &str) -> Result<KeyFile, Failure> {
+    let bytes = read(rt, name)?;
     let name = copied(rt, name)?;
-    Ok(found_or_none(encrypted::Identity::from_buffer(
-        rt.alloc(),
-        text,
-        Some(name),
-        GivesOnce::new(passphrase),
-        WORK_FACTOR,
-        None,
-    )))
+    Ok(KeyFile { name, bytes })
 }
 
-// The passphrase that the file of this name gives, where one is named.
-fn passphrase_if_named(
-    rt: &HostRuntime,
-    name: Option<&str>,
-) -> Result<Option<SecretString>, Failure> {
-    match name {
-        None => Ok(None),
-        Some(name) => Ok(Some(passphrase_in(rt, name)?)),
+// The files of identities of these names, in their order.
+fn key_files(rt: &HostRuntime, names: &[String]) -> Result<Vec<KeyFile>, Failure> {
+    let mut files: Vec<KeyFile> = Vec::new(rt.alloc());
+    for name in names {
+        files.push(key_file(rt, name)?)?;
     }
+    Ok(files)
 }
 
-// What was found in the file of this name, which needs a passphrase; where nothing was, it is refused as its first bytes were.
-fn usable<T: Drop>(
-    rt: &HostRuntime,
-    found: Option<T>,
-    is_passphrase_given: bool,
-    name: &str,
-    error: Error,
-) -> Result<T, Failure> {
-    match found {
-        None => Err(refused(rt, name, error)),
-        Some(found) if is_passphrase_given => Ok(found),
-        Some(_) => Err(named(
+// What is wrong with a file of identities.
+fn bad_key_file(rt: &HostRuntime, file: &KeyFile, error: KeyringError) -> Failure {
+    let name = file.name.as_str();
+    match error {
+        KeyringError::NotIdentity { line, .. } => {
+            bad_line(rt, name, &file.bytes, line, Wanted::Identity)
+        }
+        KeyringError::Plugin { .. } => bad_plugin(rt, name, &file.bytes),
+        KeyringError::NoPassphrase { .. } => named(
             rt,
             name,
             &"it is encrypted with a passphrase: give that by -p FILE",
-        )),
+        ),
+        error => named(rt, name, &error),
     }
 }
 
-// Adds the identities in the file of this name, which is encrypted, or else refuses as its first bytes were refused.
-fn add_protected(
+// That these files, and the file of a passphrase of this name, name nobody who decrypts.
+fn bad_keyring(
     rt: &HostRuntime,
-    identities: &mut Vec<Holder>,
-    name: &str,
+    files: &[KeyFile],
     passphrase: Option<&str>,
-    error: Error,
-) -> Result<(), Failure> {
-    let found = protected(rt, name, passphrase_if_named(rt, passphrase)?)?;
-    let identity = usable(rt, found, passphrase.is_some(), name, error)?;
-    identities.push(Holder::File(identity))?;
-    Ok(())
-}
-
-// Adds the identities in the file of this name.
-fn add_identities(
-    rt: &HostRuntime,
-    identities: &mut Vec<Holder>,
-    name: &str,
-    passphrase: Option<&str>,
-) -> Result<(), Failure> {
-    match IdentityFile::from_file(rt, rt.alloc(), copied(rt, name)?) {
-        Ok(file) => add_bare(rt, identities, file, name),
-        Err(Error::NotIdentity { line }) => {
-            add_protected(
-                rt,
-                identities,
-                name,
-                passphrase,
-                Error::NotIdentity { line },
-            )
+    error: KeyringError,
+) -> Failure {
+    let number = match error {
+        KeyringError::OutOfMemory => return Failure::OutOfMemory,
+        KeyringError::Passphrase(why) => {
+            return match passphrase {
+                Some(name) => named(rt, name, &why),
+                None => said(rt, &why),
+            };
         }
-        Err(error) => Err(refused(rt, name, error)),
+        KeyringError::NotIdentity { file, .. }
+        | KeyringError::TooLong { file }
+        | KeyringError::Plugin { file }
+        | KeyringError::NoIdentity { file }
+        | KeyringError::NoPassphrase { file } => file,
+    };
+    match files.get(number) {
+        Some(file) => bad_key_file(rt, file, error),
+        None => said(rt, &error),
     }
 }
 
-/// The identities in the files of these names, in their order. The passphrase of those that are encrypted is the one that the file of
-/// another name gives.
-pub fn identities(
+// What is told of a passphrase that nobody asks for.
+const UNUSED: &str = "its passphrase isn't needed: no file of identities is encrypted";
+
+// Whether one of those who decrypt has the keys in an encrypted file.
+fn has_protected(all: &[Held<StandardSuite>]) -> bool {
+    for one in all {
+        if let Holder::File(_) = one {
+            return true;
+        }
+    }
+    false
+}
+
+// The text of the file of a passphrase of this name, where one is named.
+fn text_if_named(rt: &HostRuntime, name: Option<&str>) -> Result<Option<Vec<u8>>, Failure> {
+    match name {
+        None => Ok(None),
+        Some(name) => Ok(Some(read(rt, name)?)),
+    }
+}
+
+// Whether a file of identities is encrypted. Each names somebody who decrypts.
+fn is_protected(
+    rt: &HostRuntime,
+    keyring: &Keyring,
+    passphrase: Option<&str>,
+) -> Result<bool, Failure> {
+    match holders_of::<StandardSuite>(rt.alloc(), keyring) {
+        Ok(all) => Ok(has_protected(&all)),
+        Err(error) => match keyring {
+            Keyring::Files(files, _) => Err(bad_keyring(rt, files, passphrase, error)),
+            Keyring::Passphrase(_) => Err(said(rt, &error)),
+        },
+    }
+}
+
+// The identities in the files of these names, and the passphrase in that of another for those that are encrypted.
+fn keyring_of_files(
     rt: &HostRuntime,
     names: &[String],
     passphrase: Option<&str>,
-) -> Result<Vec<Holder>, Failure> {
-    let mut identities: Vec<Holder> = Vec::new(rt.alloc());
-    for name in names {
-        add_identities(rt, &mut identities, name, passphrase)?;
+) -> Result<Keyring, Failure> {
+    let files = key_files(rt, names)?;
+    let keyring = Keyring::Files(files, text_if_named(rt, passphrase)?);
+    let is_needed = is_protected(rt, &keyring, passphrase)?;
+    match passphrase {
+        Some(name) if !is_needed => tell(rt, &named(rt, name, &UNUSED)),
+        _ => {}
     }
-    Ok(identities)
+    Ok(keyring)
+}
+
+/// What there is to decrypt with. It names somebody who decrypts.
+pub fn keyring(rt: &HostRuntime, asked: &Identities) -> Result<Keyring, Failure> {
+    match asked {
+        Identities::Files(names) => keyring_of_files(rt, names, None),
+        Identities::ProtectedFiles(names, file) => {
+            keyring_of_files(rt, names, Some(file.as_str()))
+        }
+        Identities::PassphraseFile(name) => Ok(Keyring::Passphrase(passphrase_text(rt, name)?)),
+    }
 }

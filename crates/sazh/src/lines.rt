@@ -1,8 +1,6 @@
 //! What is wrong with a line of a file of keys, and with a word that is to be a recipient. None of them is printed: it may be a secret.
 
 use crate::failure::{Failure, Shown, named, told};
-use crate::files::read;
-use std::fs;
 
 // What a line was to be.
 #[derive(Clone, Copy, PartialEq, Eq)]
@@ -129,18 +127,6 @@ pub fn bad_line(rt: &HostRuntime, name: &str, text: &[u8], line: usize, wanted: 
     told(format!(in rt.alloc(); "{name}: line {line}: {what}"))
 }
 
-/// That a line of the file of this name is no identity. The file is read again, where it can be.
-pub fn bad_identity(rt: &HostRuntime, name: &str, line: usize) -> Failure {
-    let text = match fs::metadata(rt, name) {
-        Ok(found) if found.is_file() => read(rt, name),
-        _ => Ok(Vec::new(rt.alloc())),
-    };
-    match text {
-        Ok(text) => bad_line(rt, name, &text, line, Wanted::Identity),
-        Err(failure) => failure,
-    }
-}
-
 // The first line of a text that is a plugin's identity, counted from 1.
 fn plugin_line(text: &[u8]) -> Option<usize> {
     let text = str::from_utf8(text).ok()?;
@@ -151,13 +137,10 @@ fn plugin_line(text: &[u8]) -> Option<usize> {
     )
 }
 
-/// That an identity in the file of this name can't be used, for this reason: it is a plugin's, on a line that is looked for.
-pub fn bad_plugin(rt: &HostRuntime, name: &str, failure: Failure) -> Failure {
-    let Ok(text) = read(rt, name) else {
-        return failure;
-    };
-    match plugin_line(&text) {
-        Some(line) => bad_line(rt, name, &text, line, Wanted::Identity),
-        None => failure,
+/// That an identity in the file of this name, which has these bytes, is a plugin's, on a line that is looked for.
+pub fn bad_plugin(rt: &HostRuntime, name: &str, text: &[u8]) -> Failure {
+    match plugin_line(text) {
+        Some(line) => bad_line(rt, name, text, line, Wanted::Identity),
+        None => named(rt, name, &"a plugin's identity, which isn't supported"),
     }
 }

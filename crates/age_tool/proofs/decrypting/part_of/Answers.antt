@@ -15,6 +15,8 @@ returns-in-Err g c = record {
   given = λ told writer_told. tt;
   refused = λ none. refl;
   why = tt;
+  io = inl c.in-Err.ensures.memory;
+  outside = λ told writer_told is. absurd (rw c.in-Err.ensures.memory at is);
 }
 
 pub returns-in-Err-open_file : goal.returns-in-Err-open_file
@@ -35,6 +37,8 @@ returns-in-Err-open_file g c =
         record { tells = text.tells; steady = text.steady; faults = text.faults; place = text.place; rest = text.rest; honest = text.honest },
         c.in-Err-open_file.ensures.refused,
       );
+      io = tt;
+      outside = λ told writer_told. tt;
     }
 
 pub returns-in-Err-write_part : goal.returns-in-Err-write_part
@@ -65,6 +69,20 @@ returns-in-Err-write_part g c =
       given = λ told writer_told. tt;
       refused = λ none. absurd none;
       why = tt;
+      io = inr (
+        c.in-Ok.text,
+        record { tells = text.tells; steady = text.steady; faults = text.faults; place = text.place; rest = text.rest; honest = text.honest },
+        c.in-Ok-open_file.stream,
+        made.opened,
+        writes.named,
+      );
+      outside = λ told writer_told is. (
+        c.in-Ok.text,
+        record { tells = text.tells; steady = text.steady; faults = text.faults; place = text.place; rest = text.rest; honest = text.honest },
+        c.in-Ok-open_file.stream,
+        made.opened,
+        writes.outside (made.tells ∙ both_told _ _ _ _ text.tells text.steady told) writer_told is,
+      );
     }
 
 pub returns : goal.returns
@@ -100,4 +118,6 @@ returns g c =
       );
       refused = tt;
       why = tt;
+      io = tt;
+      outside = λ told writer_told. tt;
     }

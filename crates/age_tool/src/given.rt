@@ -1,0 +1,260 @@
+//! The commands, from what they are given on: the words of a command line, and the texts of the files that it names.
+ghost use Rattle.std.specs.Prelude.{◌≡◌, ◌⊎◌, List, ℕ, [], ◌∷◌, length, Err, IfErr};
+ghost use Rattle.age.specs.DecryptErrorVariants.{KeyDecryptionFailed, NoMatchingKeys};
+ghost use Rattle.age.specs.FileErrorVariants.{Decrypt};
+ghost use Rattle.age_tool.specs.Encrypting.{Encrypts, draws_for_keys, draws_for_passphrase};
+ghost use Rattle.age_tool.specs.Given.{Answers, DecryptsBy, DecryptsSomeBy, GivesPartBy, MigratedBy, WithGiven};
+ghost use Rattle.age_tool.specs.Passphrase.{RefusesText, first_line};
+ghost use Rattle.age_tool.specs.Words.{AreOfWords, RefusesWords};
+
+use crate::callbacks::GivesOnce;
+use crate::decrypting::{decrypt, decrypt_part, migrate_text, seek_part};
+use crate::encrypting::{encrypt_to_keys, encrypt_under};
+use crate::error::{CommandError, GivenError, KeyringError, PassphraseError, WordsError};
+use crate::holder::Holder;
+use crate::keyring::{Held, Keyring, holders_of};
+use crate::passphrase::passphrase_of;
+use crate::random::RandomBytes;
+use crate::words::{Word, keys_of_words};
+use age::armor::{ArmoredReader, Format};
+use age::io::{BufReader, Bytes, Read, Seek, Write};
+use age::stream::StreamReader;
+use age::streaming::FileError;
+use age::suite::Suite;
+use age::{Callbacks, DecryptError, EncryptError, Identity, Recipient, scrypt, x25519};
+use std::alloc::Global;
+
+/// Encrypts what `reader` still has to the recipients that these words name, as `encrypt_to_keys` does: to all of them, in their order, and to
+/// no other.
+///
+/// # Errors
+///
+/// - `Given`: the words name no recipients, as `keys_of_words` says. Nothing was read or written, and the source wasn't asked.
+/// - `Command`: those of `encrypt_to_keys`.
+pub fn encrypt_to_words<S: Suite, B: RandomBytes, R: Read, W: Write>(
+    alloc: Global,
+    words: &[Word],
+    source: &mut B,
+    format: Format,
+    reader: &mut R,
+    writer: &mut W,
+) -> Result<(), GivenError<WordsError, CommandError>>
+    ensures { WithGiven (λ e. RefusesWords words.now e) ((source.new ≡ source.old) × (reader.new ≡ reader.old) × (writer.new ≡ writer.old))
+        (λ (keys : List (List ℕ)). AreOfWords words.now keys)
+        (λ keys done. Encrypts B.gives ⟦<x25519::Recipient<S> as Recipient>⟧.wraps keys (draws_for_keys (length keys)) source.old source.new
+        ⟦<S as Suite>⟧ ⟦<R as Read>⟧ ⟦<W as Write>⟧ format reader.old reader.new writer.old writer.new done)
+        Answers result }
+{
+    match keys_of_words(alloc, words) {
+        Err(error) => Err(GivenError::Given(error)),
+        Ok(keys) => match encrypt_to_keys::<S, B, R, W>(
+            alloc, &keys, source, format, reader, writer,
+        ) {
+            Ok(()) => Ok(()),
+            Err(error) => Err(GivenError::Command(error)),
+        },
+    }
+}
+
+/// Encrypts what `reader` still has with the passphrase that this text gives, as `encrypt_under` does: with its first line.
+///
+/// # Errors
+///
+/// - `Given`: the text gives no passphrase, as `passphrase_of` says. Nothing was read or written, and the source wasn't asked.
+/// - `Command`: those of `encrypt_under`.
+pub fn encrypt_under_text<S: Suite, B: RandomBytes, R: Read, W: Write>(
+    alloc: Global,
+    text: &[u8],
+    source: &mut B,
+    format: Format,
+    reader: &mut R,
+    writer: &mut W,
+) -> Result<(), GivenError<PassphraseError, CommandError>>
+    ensures { WithGiven (λ e. RefusesText e text.now) ((source.new ≡ source.old) × (reader.new ≡ reader.old) × (writer.new ≡ writer.old))
+        (λ (passphrase : List ℕ). passphrase ≡ first_line text.now)
+        (λ passphrase done. Encrypts B.gives ⟦<scrypt::Recipient<S> as Recipient>⟧.wraps (record { passphrase = passphrase; factor = 18 } ∷ []) draws_for_passphrase
+        source.old source.new ⟦<S as Suite>⟧ ⟦<R as Read>⟧ ⟦<W as Write>⟧ format reader.old reader.new writer.old writer.new done)
+        Answers result }
+{
+    match passphrase_of(alloc, text) {
+        Err(error) => Err(GivenError::Given(error)),
+        Ok(passphrase) => match encrypt_under::<S, B, R, W>(
+            alloc, passphrase, source, format, reader, writer,
+        ) {
+            Ok(()) => Ok(()),
+            Err(error) => Err(GivenError::Command(error)),
+        },
+    }
+}
+
+// Whether this is a file of identities that its passphrase doesn't open.
+fn is_locked<S: Suite, R: Read + Drop, C: Callbacks>(
+    alloc: Global,
+    holder: &mut Holder<S, R, C>,
+) -> bool {
+    let Holder::File(identity) = holder else {
+        return false;
+    };
+    matches!(
+        identity.recipients(alloc),
+        Err(EncryptError::EncryptedIdentities(DecryptError::KeyDecryptionFailed))
+    )
+}
+
+// Whether one of them is such a file.
+fn has_locked<S: Suite, R: Read + Drop, C: Callbacks>(
+    alloc: Global,
+    holders: &mut [Holder<S, R, C>],
+) -> bool {
+    for i in 0..holders.len() {
+        if is_locked(alloc, &mut holders[i]) {
+            return true;
+        }
+    }
+    false
+}
+
+// Why nothing was decrypted: where nobody has a key, and a file of identities isn't opened by its passphrase, that is told.
+fn with_locked<S: Suite, R: Read + Drop, C: Callbacks>(
+    alloc: Global,
+    holders: &mut [Holder<S, R, C>],
+    error: FileError,
+) -> FileError
+    ensures { (result ≡ error) ⊎ ((error ≡ Decrypt NoMatchingKeys) × (result ≡ Decrypt KeyDecryptionFailed)) }
+{
+    match error {
+        FileError::Decrypt(DecryptError::NoMatchingKeys) => {
+            if has_locked(alloc, holders) {
+                FileError::Decrypt(DecryptError::KeyDecryptionFailed)
+            } else {
+                FileError::Decrypt(DecryptError::NoMatchingKeys)
+            }
+        }
+        error => error,
+    }
+}
+
+/// Decrypts a whole file, as `decrypt` does, by the first of those who decrypt with what is given that answers.
+///
+/// # Errors
+///
+/// - `Given`: what is given names nobody, as `holders_of` says. Nothing was read or written.
+/// - `Command`: those of `decrypt`. Where nobody has a key, and a file of identities isn't opened by its passphrase, it is `Decrypt(KeyDecryptionFailed)`.
+pub fn decrypt_by<'a, S: Suite, R: Read, W: Write>(
+    alloc: Global,
+    keyring: &'a Keyring,
+    reader: &mut R,
+    writer: &mut W,
+) -> Result<(), GivenError<KeyringError, FileError>>
+    ensures { DecryptsBy ⟦<Holder<S, ArmoredReader<BufReader<Bytes<'a>>>, GivesOnce> as Identity>⟧.unwraps ⟦<S as Suite>⟧ ⟦<ArmoredReader<BufReader<Bytes<'a>>> as Read>⟧ ⟦<W as Write>⟧ keyring.now ⟦<R as Read>⟧ reader.old reader.new writer.old writer.new result }
+{
+    match holders_of::<S>(alloc, keyring) {
+        Err(error) => Err(GivenError::Given(error)),
+        Ok(holders) => {
+            let mut holders = holders;
+            match decrypt::<S, Held<'a, S>, R, W>(alloc, &mut holders, reader, writer) {
+                Ok(()) => Ok(()),
+                Err(error) => Err(GivenError::Command(with_locked(alloc, &mut holders, error))),
+            }
+        }
+    }
+}
+
+/// Decrypts `count` bytes of a file's plaintext from `place` on, as `decrypt_part` does, by the first of those who decrypt with what is given
+/// that answers.
+///
+/// # Errors
+///
+/// - `Given`: what is given names nobody, as `holders_of` says. Nothing was read or written.
+/// - `Command`: those of `decrypt_part`. Where nobody has a key, and a file of identities isn't opened by its passphrase, it is `Decrypt(KeyDecryptionFailed)`.
+pub fn decrypt_part_by<'a, S: Suite, R: Read, W: Write>(
+    alloc: Global,
+    keyring: &'a Keyring,
+    place: u64,
+    count: u64,
+    reader: &mut R,
+    writer: &mut W,
+) -> Result<(), GivenError<KeyringError, FileError>>
+    ensures { DecryptsSomeBy ⟦<Holder<S, ArmoredReader<BufReader<Bytes<'a>>>, GivesOnce> as Identity>⟧.unwraps ⟦<S as Suite>⟧ ⟦<ArmoredReader<BufReader<Bytes<'a>>> as Read>⟧ ⟦<W as Write>⟧ keyring.now ⟦<R as Read>⟧ place count reader.old reader.new writer.old writer.new result }
+{
+    match holders_of::<S>(alloc, keyring) {
+        Err(error) => Err(GivenError::Given(error)),
+        Ok(holders) => {
+            let mut holders = holders;
+            match decrypt_part::<S, Held<'a, S>, R, W>(
+                alloc,
+                &mut holders,
+                place,
+                count,
+                reader,
+                writer,
+            ) {
+                Ok(()) => Ok(()),
+                Err(error) => Err(GivenError::Command(with_locked(alloc, &mut holders, error))),
+            }
+        }
+    }
+}
+
+/// Decrypts `count` bytes of a file's plaintext from `place` on, as `seek_part` does, by the first of those who decrypt with what is given that
+/// answers. The file is gone then.
+///
+/// # Errors
+///
+/// - `Given`: what is given names nobody, as `holders_of` says. Nothing was read or written.
+/// - `Command`: those of `seek_part`. Where nobody has a key, and a file of identities isn't opened by its passphrase, it is `Decrypt(KeyDecryptionFailed)`.
+pub fn seek_part_by<'a, S: Suite, R: Seek + Drop, W: Write>(
+    alloc: Global,
+    keyring: &'a Keyring,
+    place: u64,
+    count: u64,
+    file: R,
+    writer: &mut W,
+) -> Result<(), GivenError<KeyringError, FileError>>
+    ensures { GivesPartBy ⟦<Holder<S, ArmoredReader<BufReader<Bytes<'a>>>, GivesOnce> as Identity>⟧.unwraps ⟦<S as Suite>⟧ ⟦<ArmoredReader<BufReader<Bytes<'a>>> as Read>⟧ ⟦<W as Write>⟧ keyring.now ⟦<R as Read>⟧ ⟦<ArmoredReader<BufReader<R>> as Read>⟧
+        ⟦<StreamReader<S, ArmoredReader<BufReader<R>>> as Read>⟧ ⟦<ArmoredReader<BufReader<R>> as Seek>⟧.seek_refuses place count «file» writer.old writer.new result }
+{
+    match holders_of::<S>(alloc, keyring) {
+        Err(error) => Err(GivenError::Given(error)),
+        Ok(holders) => {
+            let mut holders = holders;
+            match seek_part::<S, Held<'a, S>, R, W>(
+                alloc,
+                &mut holders,
+                place,
+                count,
+                file,
+                writer,
+            ) {
+                Ok(()) => Ok(()),
+                Err(error) => Err(GivenError::Command(with_locked(alloc, &mut holders, error))),
+            }
+        }
+    }
+}
+
+/// Rewrites a file from before the standard, as `migrate_text` does, by the first of those who decrypt with what is given that answers.
+///
+/// # Errors
+///
+/// - `Given`: what is given names nobody, as `holders_of` says. Nothing was read or written.
+/// - `Command`: those of `migrate_text`. Where nobody has a key, and a file of identities isn't opened by its passphrase, it is `Decrypt(KeyDecryptionFailed)`.
+pub fn migrate_by<'a, S: Suite, R: Read + Drop, W: Write>(
+    alloc: Global,
+    keyring: &'a Keyring,
+    reader: R,
+    writer: &mut W,
+) -> Result<(), GivenError<KeyringError, FileError>>
+    ensures { MigratedBy ⟦<Holder<S, ArmoredReader<BufReader<Bytes<'a>>>, GivesOnce> as Identity>⟧.unwraps ⟦<S as Suite>⟧ ⟦<ArmoredReader<BufReader<Bytes<'a>>> as Read>⟧ ⟦<W as Write>⟧ keyring.now ⟦<R as Read>⟧ ⟦<ArmoredReader<BufReader<R>> as Read>⟧ reader writer.old writer.new result }
+{
+    match holders_of::<S>(alloc, keyring) {
+        Err(error) => Err(GivenError::Given(error)),
+        Ok(holders) => {
+            let mut holders = holders;
+            match migrate_text::<S, Held<'a, S>, R, W>(alloc, &mut holders, reader, writer) {
+                Ok(()) => Ok(()),
+                Err(error) => Err(GivenError::Command(with_locked(alloc, &mut holders, error))),
+            }
+        }
+    }
+}
