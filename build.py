@@ -1,6 +1,6 @@
 #!/usr/bin/env python3
 """Proves and builds a program, with the libraries below it side by side, where something has changed since the last time:
-build.py PROGRAM WORD.., where the words are those of a run of it that succeeds.
+build.py PROGRAM WORD.., where the words are those of a run of it that succeeds. build.py --level prints the level that it would be compiled for.
 
 Says on standard error which crates it proves and how many are left, and nothing where there is nothing to do. Each crate
 is proved by `rt lib` over what earlier runs have kept, as soon as those that it uses are there, the one with the longest
@@ -193,6 +193,9 @@ def build(uses, cpu, done):
 
 def main():
     cpu = level()
+    if PROGRAM == "--level":
+        print(cpu)
+        return
     uses = crates()
     digest = built_from(uses)
     kept = []

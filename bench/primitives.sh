@@ -1,31 +1,33 @@
 #!/usr/bin/env bash
-# The speed of the standard suite's primitives, seen through `sazh`, beside OpenSSL's through Python (the package `cryptography`, where it
-# is there) and beside the program `age` (where it is on the path): sealing and opening 256 MiB, scrypt with the work factor 18, and
-# X25519 by a file for 1,000 recipients, which takes two multiplications each. Each time is the least of five runs, of files in memory.
+# The speed of `sazh`, in memory, beside the program `age` (where it is on the path) and `openssl speed`: 256 MiB encrypted and decrypted, bare and in armor,
+# scrypt with the work factor 18, and X25519 by a file for 1,000 recipients, which takes two multiplications each.
+#
+# Times are processor time, of the system's part too, each the least of TURNS turns (9, if it isn't set) in which all take theirs one after the other; what the same
+# command takes for an empty file is taken off. Ratios are speeds: above 1 `sazh` is the faster. `age` is run with one processor (GOMAXPROCS=1) and as it is, and
+# its better time counts.
 set -euo pipefail
 top=$(cd "$(dirname "$0")/.." && pwd)
 "$top/sazh" --version >/dev/null
 folder=$(mktemp -d -p "${TMPDIR:-/dev/shm}")
 trap 'rm -rf "$folder"' EXIT
-python3 - "$folder" "$top/crates/sazh/out/sazh" <<'PYTHON'
-import hashlib, os, shutil, subprocess, sys, time
-folder, sazh = sys.argv[1:]
+python3 - "$folder" "$top/crates/sazh/out/sazh" "${TURNS:-9}" <<'PYTHON'
+import hashlib, os, re, resource, shutil, subprocess, sys
+folder, sazh, turns = sys.argv[1], sys.argv[2], int(sys.argv[3])
 MIB = 256
 name = lambda it: os.path.join(folder, it)
 
 
-def run(words, target=os.devnull):
+def run(words, target=os.devnull, **more):
     with open(target, "wb") as sink:
-        subprocess.run(words, stdin=subprocess.DEVNULL, stdout=sink, check=True)
+        subprocess.run(words, stdin=subprocess.DEVNULL, stdout=sink, check=True, env={**os.environ, **more})
 
 
-def least(job):
-    times = []
-    for _ in range(5):
-        start = time.perf_counter()
-        job()
-        times.append(time.perf_counter() - start)
-    return min(times)
+def cost(words, **more):
+    """The processor seconds of a run."""
+    before = resource.getrusage(resource.RUSAGE_CHILDREN)
+    run(words, **more)
+    after = resource.getrusage(resource.RUSAGE_CHILDREN)
+    return after.ru_utime + after.ru_stime - before.ru_utime - before.ru_stime
 
 
 with open(name("plain"), "wb") as file:
@@ -37,30 +39,78 @@ with open(name("key")) as file:
     recipient = file.readline().removeprefix("# public key: ").strip()
 with open(name("many"), "w") as file:
     file.write(f"{recipient}\n" * 1000)
-run([sazh, "encrypt", "-r", recipient, "-o", name("file"), name("plain")])
-start = least(lambda: run([sazh, "encrypt", "-r", recipient, name("empty")]))
-seal = least(lambda: run([sazh, "encrypt", "-r", recipient, name("plain")])) - start
-opening = least(lambda: run([sazh, "decrypt", "-i", name("key"), name("file")])) - start
-scrypt = least(lambda: run([sazh, "encrypt", "-p", name("passphrase"), name("empty")])) - start
-many = least(lambda: run([sazh, "encrypt", "-R", name("many"), name("empty")])) - start
-print(f"sazh encrypt {seal:.3f} s, {MIB / seal:.0f} MiB/s; decrypt {opening:.3f} s, {MIB / opening:.0f} MiB/s")
-print(f"sazh scrypt of factor 18 {scrypt:.3f} s; X25519 {many / 2000 * 1e6:.0f} microseconds")
-other = least(lambda: hashlib.scrypt(b"p", salt=b"s", n=1 << 18, r=8, p=1, dklen=32, maxmem=1 << 29))
-print(f"OpenSSL scrypt of factor 18 {other:.3f} s")
-try:
-    from cryptography.hazmat.primitives.ciphers.aead import ChaCha20Poly1305
-    cipher, piece = ChaCha20Poly1305(bytes(32)), bytes(65536)
-    sealed = cipher.encrypt(bytes(12), piece, None)
-    seal = least(lambda: [cipher.encrypt(bytes(12), piece, None) for _ in range(16 * MIB)])
-    opening = least(lambda: [cipher.decrypt(bytes(12), sealed, None) for _ in range(16 * MIB)])
-    print(f"OpenSSL seal {seal:.3f} s, {MIB / seal:.0f} MiB/s; open {opening:.3f} s, {MIB / opening:.0f} MiB/s")
-except ImportError:
-    print("no package cryptography")
+for form, flags in (("bare", []), ("armored", ["-a"])):
+    for what in ("plain", "empty"):
+        run([sazh, "encrypt", *flags, "-r", recipient, "-o", name(f"{what}.{form}"), name(what)])
+
+jobs = {}
+programs = [("sazh", sazh, ["encrypt"], ["decrypt"], {})]
 age = shutil.which("age")
 if age:
-    seal = least(lambda: run([age, "-r", recipient, name("plain")]))
-    opening = least(lambda: run([age, "-d", "-i", name("key"), name("file")]))
-    print(f"age {seal:.3f} s to encrypt, {opening:.3f} s to decrypt")
+    programs += [("age, one processor", age, [], ["-d"], {"GOMAXPROCS": "1"}), ("age", age, [], ["-d"], {})]
+for who, program, encrypt, decrypt, more in programs:
+    for form, flags in (("bare", []), ("armored", ["-a"])):
+        for what in ("plain", "empty"):
+            jobs[who, "encrypt", form, what] = [program, *encrypt, *flags, "-r", recipient, name(what)], more
+            jobs[who, "decrypt", form, what] = [program, *decrypt, "-i", name("key"), name(f"{what}.{form}")], more
+jobs["sazh", "scrypt", "", ""] = [sazh, "encrypt", "-p", name("passphrase"), name("empty")], {}
+jobs["sazh", "x25519", "", ""] = [sazh, "encrypt", "-R", name("many"), name("empty")], {}
+least = {}
+for _ in range(turns):
+    for job, (words, more) in jobs.items():
+        least[job] = min(cost(words, **more), least.get(job, float("inf")))
+
+
+def speed(words):
+    """What `openssl speed` says, the best of as many turns: bytes or operations a second of processor time."""
+    best = 0.0
+    for _ in range(min(turns, 5)):
+        done = subprocess.run(["openssl", "speed", "-mr", "-seconds", "1", *words], capture_output=True, text=True, check=True)
+        best = max(best, float(re.findall(r"^\+F\d?:[^:]*:[^:]*:([0-9.]+)", done.stdout, re.M)[-1]))
+    return best
+
+
+def seconds(who, what, form):
+    return least[who, what, form, "plain"] - least[who, what, form, "empty"]
+
+
+print(f"processor time, the least of {turns} turns; {MIB} MiB in memory; {os.cpu_count()} processors")
+for what in ("encrypt", "decrypt"):
+    for form in ("bare", "armored"):
+        own = seconds("sazh", what, form)
+        line = f"{what} {form}: sazh {MIB / own:.0f} MiB/s"
+        others = [seconds(who, what, form) for who, *_ in programs[1:]]
+        if others:
+            line += f", age {MIB / min(others):.0f} MiB/s: ratio {min(others) / own:.2f}"
+        print(line)
+if shutil.which("openssl"):
+    words = ["-bytes", "65536", "-evp", "chacha20-poly1305"]
+    for what, flags in (("encrypt", []), ("decrypt", ["-decrypt"])):
+        cipher = speed([*flags, *words]) / (1 << 20)
+        print(f"OpenSSL's cipher alone, {what}: {cipher:.0f} MiB/s: ratio {MIB / seconds('sazh', what, 'bare') / cipher:.2f}")
+    empty = least["sazh", "encrypt", "bare", "empty"]
+    one, other = (least["sazh", "x25519", "", ""] - empty) / 2000, 1 / speed(["ecdhx25519"])
+    print(f"X25519: sazh {one * 1e6:.0f} microseconds, OpenSSL {other * 1e6:.0f}: ratio {other / one:.2f}")
+    before = resource.getrusage(resource.RUSAGE_SELF)
+    hashlib.scrypt(b"p", salt=b"s", n=1 << 18, r=8, p=1, dklen=32, maxmem=1 << 29)
+    after = resource.getrusage(resource.RUSAGE_SELF)
+    other = after.ru_utime + after.ru_stime - before.ru_utime - before.ru_stime
+    own = least["sazh", "scrypt", "", ""] - empty
+    print(f"scrypt of factor 18: sazh {own:.2f} s, OpenSSL {other:.2f} s: ratio {other / own:.2f}")
 else:
-    print("no program age")
+    print("no program openssl")
+
+
+def peak(words):
+    """The most memory that a run takes, in MiB. (`time` begins it, since what a process began with counts as its own.)"""
+    with open(os.devnull, "wb") as sink:
+        done = subprocess.run(["time", "-f", "%M", *words], stdin=subprocess.DEVNULL, stdout=sink, stderr=subprocess.PIPE, text=True, check=True)
+    return int(done.stderr.split()[-1]) / 1024
+
+
+if shutil.which("time"):
+    for what in ("encrypt", "decrypt"):
+        print(f"peak memory to {what}: " + ", ".join(f"{form} {peak(jobs['sazh', what, form, 'plain'][0]):.1f} MiB" for form in ("bare", "armored")))
+else:
+    print("no program time")
 PYTHON
