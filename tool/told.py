@@ -73,8 +73,9 @@ def of_files(runs):
     says = f"sazh: standard input: damaged at or after byte {CHUNK} of its content: ".encode()
     runs.refuses("a part of what is damaged, from a pipe", ["part", *key, str(CHUNK + 10), "3", "-"], damaged, says=says)
     text = armor(file)
-    runs.path("given").write_bytes(text[:300] + b"*" + text[301:])
-    runs.refuses("migrate: its armor is damaged", ["migrate", *key, "given"], says=b"sazh: given: damaged: invalid base64 in armor")
+    runs.path("given").write_bytes(text[:-500] + b"*" + text[-499:])
+    says = b"sazh: given: damaged: invalid base64 in armor\n"
+    runs.refuses("migrate: its armor is damaged", ["migrate", *key, "-o", "never", "given"], says=says)
     protected = ["-i", VECTORS / "protected_identity.age", "-p", VECTORS / "passphrase.txt"]
     says = bytes(VECTORS / "passphrase.txt") + b": wrong passphrase: it opens no encrypted file of identities"
     runs.refuses("the passphrase of identities is another", ["decrypt", *protected, VECTORS / "to_protected.age"], says=says)

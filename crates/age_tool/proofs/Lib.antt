@@ -6,3 +6,4 @@ pub mod Flushed
 pub mod KeyFiles
 pub mod Leftover
 pub mod Told
+pub mod Verified

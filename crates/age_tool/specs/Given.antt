@@ -1,21 +1,35 @@
 -- Commands from what they are given on: words and texts of files.
-use Rattle.std.specs.Prelude.{◌≡◌, ◌⊎◌, ℕ, List, Result, Ok, Err, IfErr}
+use Rattle.std.specs.Prelude.{◌≡◌, ◌⊎◌, ◌&&◌, ℕ, List, [], Option, Result, Ok, Err, IsTrue, IsOk, IfOk, IfErr, MatchResult}
 use Rattle.std.specs.Result.{result_map_both}
+use Rattle.age.specs.Armor.{Carries}
 use Rattle.age.specs.DecryptErrorVariants.{KeyDecryptionFailed, NoMatchingKeys}
+use Rattle.age.specs.DecryptingStreams.{GivesFirst}
+use Rattle.age.specs.File.{IsFileOf}
 use Rattle.age.specs.FileErrorVariants.{Decrypt}
 use Rattle.age.specs.FileErrors.{IsDecryptError}
 use Rattle.age.specs.Members.{SuiteMembers, ReadMembers, WriteMembers}
 use Rattle.age.specs.Stanza.{StanzaValue}
-use Rattle.age.specs.Types.{Error, FileError, StreamReader}
+use Rattle.age.specs.Types.{Error, FileError, Format, StreamReader}
 use Rattle.age.specs.Unwrapping.{UnwrapAnswer}
+use Rattle.age.specs.Wrapping.{WrapAnswer}
 use Rattle.age_tool.specs.Decrypting.{Decrypts, DecryptsSome, GivesFile, GivesPart, Migrated}
 use Rattle.age_tool.specs.Keyring.{AreHolders, RefusesKeyring}
+use Rattle.age_tool.specs.Measuring.{IsMeasured, WasGiven}
+use Rattle.age_tool.specs.Rekeying.{KeepsPlaintext, Rekeys}
+use Rattle.age_tool.specs.Words.{AreOfWords, RefusesWords}
 use Rattle.age_tool.specs.declared.callbacks.GivesOnce.{GivesOnce}
+use Rattle.age_tool.specs.declared.error.CommandError.{CommandError}
+use Rattle.age_tool.specs.declared.error.CommandError.TheVariants.{File}
 use Rattle.age_tool.specs.declared.error.GivenError.{GivenError}
 use Rattle.age_tool.specs.declared.error.GivenError.TheVariants.{Given, Command}
 use Rattle.age_tool.specs.declared.error.KeyringError.{KeyringError}
+use Rattle.age_tool.specs.declared.error.RekeyError.{RekeyError}
+use Rattle.age_tool.specs.declared.error.RekeyError.TheVariants as refused
 use Rattle.age_tool.specs.declared.holder.Holder.{Holder}
 use Rattle.age_tool.specs.declared.keyring.Keyring.{Keyring}
+use Rattle.age_tool.specs.declared.measuring.Measured.{Measured}
+use Rattle.age_tool.specs.declared.measuring.Measuring.{Measuring}
+use Rattle.age_tool.specs.declared.words.Word.{Word}
 
 -- What was given is refused, and nothing was touched; or it stands for something, and with that the command came to what is answered.
 abbrev pub WithGiven : {G C V X : Type 0} → (G → Type 0) → Type 0 → (X → Type 0) → (X → Result V C → Type 0) → (Result V C → Result V (GivenError G C) → Type 0)
@@ -62,3 +76,47 @@ module _ {S T W V : Type 0} (unwraps : Holder S T GivesOnce → List StanzaValue
   abbrev pub MigratedBy : {R A : Type 0} → ReadMembers R → ReadMembers A → R → W → W → Result V (GivenError KeyringError FileError) → Type 0
   MigratedBy {R} {A} read armored_read input old new result = WithKeyring (new ≡ old)
       (λ holders asked done. Migrated unwraps suite.seal_of read armored_read write holders asked input old new done) result
+
+-- what was given to encrypt a file to others is refused
+abbrev pub RefusesRekey : {T : Type 0} → ReadMembers T → Type 0 → Keyring → List Word → RekeyError → Type 0
+RefusesRekey {T} text_read S given words (refused.Keyring e) = RefusesKeyring text_read S given e
+RefusesRekey {T} text_read S given words (refused.Words e) = RefusesWords words e
+
+-- what a command came to is answered, but that it may be told that a passphrase opens no file of identities, where nobody has a key
+abbrev pub AnswersCommand : {G V : Type 0} → Result V CommandError → Result V (GivenError G CommandError) → Type 0
+AnswersCommand done result = Answers done result
+    ⊎ ((done ≡ Err (File (Decrypt NoMatchingKeys))) × (result ≡ Err (Command (File (Decrypt KeyDecryptionFailed)))))
+
+module _ {S T B W V : Type 0} (unwraps : Holder S T GivesOnce → List StanzaValue → UnwrapAnswer → Holder S T GivesOnce → Type 0)
+    (gives : B → ℕ → Option (List ℕ) → B → Type 0) (wraps : List ℕ → List ℕ → List ℕ → WrapAnswer → List ℕ → Type 0) (suite : SuiteMembers S)
+    (text_read : ReadMembers T) (write : WriteMembers W) (given : Keyring) (words : List Word) where
+  -- The plaintext of a file that those who decrypt with what was given open was encrypted to the recipients that the words name.
+  abbrev pub RekeysBy : {R A : Type 0} → ReadMembers R → (armored_read : ReadMembers A) → ReadMembers (StreamReader S A suite armored_read) → Format → B → B → R → W → W
+      → Result V (GivenError RekeyError CommandError) → Type 0
+  RekeysBy {R} {A} read armored_read stream_read format before after input old new result =
+      WithGiven {X = List (Holder S T GivesOnce) × List (List ℕ)} (RefusesRekey text_read S given words) ((after ≡ before) × (new ≡ old))
+      (λ x. AreHolders text_read given x.0 × AreOfWords words x.1)
+      (λ x done. (asked : List (Holder S T GivesOnce))
+      × (Rekeys unwraps gives wraps suite write format x.0 asked x.1 before after read armored_read stream_read input old new done
+      × KeepsPlaintext unwraps gives wraps suite write format x.0 asked x.1 before after read input old new done)) AnswersCommand result
+
+module _ {S T : Type 0} (unwraps : Holder S T GivesOnce → List StanzaValue → UnwrapAnswer → Holder S T GivesOnce → Type 0) (suite : SuiteMembers S)
+    (text_read : ReadMembers T) (write : WriteMembers Measuring) (given : Keyring) where
+  -- A whole file was decrypted to one that measures its plaintext, and what that came to is answered.
+  abbrev pub Verifies : {R : Type 0} → ReadMembers R → R → R → Result Measured (GivenError KeyringError FileError) → Type 0
+  Verifies {R} read input last result = (old : Measuring) × (new : Measuring) × WasGiven old []
+      × ((done : Result (Unit {0}) (GivenError KeyringError FileError))
+      × DecryptsBy unwraps suite text_read write given read input last old new done
+      × MatchResult result (λ measured. IsOk done × ((text : List ℕ) → WasGiven new text → IsMeasured measured text)) (λ e. done ≡ Err e))
+
+  -- A success says that the input carried a file of a plaintext of which these are the length and the digest, under the file key that the first of those
+  -- who decrypt with what was given gives who answers: over a steady reader that tells its bytes.
+  abbrev pub VerifiesFile : {R : Type 0} → ReadMembers R → R → Result Measured (GivenError KeyringError FileError) → Type 0
+  VerifiesFile {R} read input result = IsTrue (read.tells input && read.steady input) → IfOk result (λ measured.
+      (holders : List (Holder S T GivesOnce)) × (asked : List (Holder S T GivesOnce)) × AreHolders text_read given holders
+      × ((file_key : List ℕ) × (stanzas : List StanzaValue) × (plain : List ℕ) × (bytes : List ℕ)
+      × GivesFirst unwraps holders asked file_key stanzas
+      × IsTrue (read.rest input).ends_well
+      × Carries (read.rest input).bytes bytes
+      × IsFileOf suite.seal_of file_key stanzas plain bytes
+      × IsMeasured measured plain))

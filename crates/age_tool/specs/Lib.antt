@@ -5,6 +5,9 @@ pub mod Random
 pub mod Holder
 pub mod Keyring
 pub mod Given
+pub mod Measuring
+pub mod MeasuringLaws
+pub mod Rekeying
 pub mod Encrypting
 pub mod Decrypting
 pub mod Words

@@ -79,6 +79,17 @@ pub enum KeyringError {
     OutOfMemory,
 }
 
+/// Why what is given to encrypt a file to others is refused.
+#[derive(Debug, Drop, Error)]
+pub enum RekeyError {
+    /// What it is to be decrypted with.
+    #[error("{0}")]
+    Keyring(KeyringError),
+    /// The words that name its recipients.
+    #[error("{0}")]
+    Words(WordsError),
+}
+
 /// Why there are no random bytes.
 #[derive(Clone, Copy, Debug, Error, PartialEq, Eq)]
 pub enum RandomError {

@@ -3,18 +3,23 @@ ghost use Rattle.std.specs.Prelude.{◌≡◌, ◌⊎◌, List, ℕ, [], ◌∷�
 ghost use Rattle.age.specs.DecryptErrorVariants.{KeyDecryptionFailed, NoMatchingKeys};
 ghost use Rattle.age.specs.FileErrorVariants.{Decrypt};
 ghost use Rattle.age_tool.specs.Encrypting.{Encrypts, draws_for_keys, draws_for_passphrase};
-ghost use Rattle.age_tool.specs.Given.{Answers, DecryptsBy, DecryptsSomeBy, GivesPartBy, MigratedBy, WithGiven};
+ghost use Rattle.age_tool.specs.Given.{Answers, DecryptsBy, DecryptsSomeBy, GivesPartBy, MigratedBy, RekeysBy, Verifies, VerifiesFile, WithGiven};
 ghost use Rattle.age_tool.specs.Passphrase.{RefusesText, first_line};
 ghost use Rattle.age_tool.specs.Words.{AreOfWords, RefusesWords};
+ghost use Rattle.age_tool.specs.declared.error.CommandError.TheVariants.{File};
 
 use crate::callbacks::GivesOnce;
 use crate::decrypting::{decrypt, decrypt_part, migrate_text, seek_part};
 use crate::encrypting::{encrypt_to_keys, encrypt_under};
-use crate::error::{CommandError, GivenError, KeyringError, PassphraseError, WordsError};
+use crate::error::{
+    CommandError, GivenError, KeyringError, PassphraseError, RekeyError, WordsError,
+};
 use crate::holder::Holder;
 use crate::keyring::{Held, Keyring, holders_of};
+use crate::measuring::{Measured, Measuring};
 use crate::passphrase::passphrase_of;
 use crate::random::RandomBytes;
+use crate::rekeying::rekey;
 use crate::words::{Word, keys_of_words};
 use age::armor::{ArmoredReader, Format};
 use age::io::{BufReader, Bytes, Read, Seek, Write};
@@ -160,6 +165,26 @@ pub fn decrypt_by<'a, S: Suite, R: Read, W: Write>(
     }
 }
 
+/// Decrypts a whole file, as `decrypt_by` does, and keeps no byte of it: answers the length of its plaintext and its digest by SHA-256.
+///
+/// A success says that the input carried a file of a plaintext of this length and this digest. The refusals are those of `decrypt_by`.
+pub fn verify_by<'a, S: Suite, R: Read>(
+    alloc: Global,
+    keyring: &'a Keyring,
+    reader: &mut R,
+) -> Result<Measured, GivenError<KeyringError, FileError>>
+    ensures steps { Verifies ⟦<Holder<S, ArmoredReader<BufReader<Bytes<'a>>>, GivesOnce> as Identity>⟧.unwraps ⟦<S as Suite>⟧
+        ⟦<ArmoredReader<BufReader<Bytes<'a>>> as Read>⟧ ⟦<Measuring as Write>⟧ keyring.now ⟦<R as Read>⟧ reader.old reader.new result }
+    ensures file { VerifiesFile ⟦<Holder<S, ArmoredReader<BufReader<Bytes<'a>>>, GivesOnce> as Identity>⟧.unwraps ⟦<S as Suite>⟧
+        ⟦<ArmoredReader<BufReader<Bytes<'a>>> as Read>⟧ ⟦<Measuring as Write>⟧ keyring.now ⟦<R as Read>⟧ reader.old result }
+{
+    let mut plaintext = Measuring::new();
+    match decrypt_by::<S, R, Measuring>(alloc, keyring, reader, &mut plaintext) {
+        Ok(()) => Ok(plaintext.finish()),
+        Err(error) => Err(error),
+    }
+}
+
 /// Decrypts `count` bytes of a file's plaintext from `place` on, as `decrypt_part` does, by the first of those who decrypt with what is given
 /// that answers.
 ///
@@ -254,6 +279,70 @@ pub fn migrate_by<'a, S: Suite, R: Read + Drop, W: Write>(
             match migrate_text::<S, Held<'a, S>, R, W>(alloc, &mut holders, reader, writer) {
                 Ok(()) => Ok(()),
                 Err(error) => Err(GivenError::Command(with_locked(alloc, &mut holders, error))),
+            }
+        }
+    }
+}
+
+// The same of a command that draws random bytes too.
+fn command_with_locked<S: Suite, R: Read + Drop, C: Callbacks>(
+    alloc: Global,
+    holders: &mut [Holder<S, R, C>],
+    error: CommandError,
+) -> CommandError
+    ensures { (result ≡ error) ⊎ ((error ≡ File (Decrypt NoMatchingKeys)) × (result ≡ File (Decrypt KeyDecryptionFailed))) }
+{
+    match error {
+        CommandError::File(error) => CommandError::File(with_locked(alloc, holders, error)),
+        error => error,
+    }
+}
+
+/// Encrypts the plaintext of a file to the recipients that these words name, as `rekey` does, decrypted by the first of those who decrypt with
+/// what is given that answers.
+///
+/// # Errors
+///
+/// - `Given`: the words name no recipients, as `keys_of_words` says, or else what is given names nobody, as `holders_of` says. Nothing was
+///   drawn or written.
+/// - `Command`: those of `rekey`. Where nobody has a key, and a file of identities isn't opened by its passphrase, it is
+///   `File(Decrypt(KeyDecryptionFailed))`.
+pub fn rekey_by<'a, S: Suite, B: RandomBytes, R: Read + Drop, W: Write>(
+    alloc: Global,
+    keyring: &'a Keyring,
+    words: &[Word],
+    source: &mut B,
+    format: Format,
+    reader: R,
+    writer: &mut W,
+) -> Result<(), GivenError<RekeyError, CommandError>>
+    ensures { RekeysBy ⟦<Holder<S, ArmoredReader<BufReader<Bytes<'a>>>, GivesOnce> as Identity>⟧.unwraps B.gives ⟦<x25519::Recipient<S> as Recipient>⟧.wraps
+        ⟦<S as Suite>⟧ ⟦<ArmoredReader<BufReader<Bytes<'a>>> as Read>⟧ ⟦<W as Write>⟧ keyring.now words.now ⟦<R as Read>⟧ ⟦<ArmoredReader<BufReader<R>> as Read>⟧
+        ⟦<StreamReader<S, ArmoredReader<BufReader<R>>> as Read>⟧ format source.old source.new reader writer.old writer.new result }
+{
+    let keys = match keys_of_words::<S>(alloc, words) {
+        Err(error) => return Err(GivenError::Given(RekeyError::Words(error))),
+        Ok(keys) => keys,
+    };
+    match holders_of::<S>(alloc, keyring) {
+        Err(error) => Err(GivenError::Given(RekeyError::Keyring(error))),
+        Ok(holders) => {
+            let mut holders = holders;
+            match rekey::<S, Held<'a, S>, B, R, W>(
+                alloc,
+                &mut holders,
+                &keys,
+                source,
+                format,
+                reader,
+                writer,
+            ) {
+                Ok(()) => Ok(()),
+                Err(error) => Err(GivenError::Command(command_with_locked(
+                    alloc,
+                    &mut holders,
+                    error,
+                ))),
             }
         }
     }

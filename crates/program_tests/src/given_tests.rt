@@ -8,7 +8,8 @@ use age::x25519::Identity;
 use age_bench::suite::BenchSuite;
 use age_tool::error::{KeyringError, PassphraseError};
 use age_tool::given::{
-    decrypt_by, decrypt_part_by, encrypt_to_words, encrypt_under_text, migrate_by, seek_part_by,
+    decrypt_by, decrypt_part_by, encrypt_to_words, encrypt_under_text, migrate_by, rekey_by,
+    seek_part_by,
 };
 use age_tool::keygen::write_new_key;
 use age_tool::keyring::{KeyFile, Keyring, holders_of};
@@ -345,5 +346,98 @@ fn a_file_of_the_standard_is_rewritten_as_it_is(rt: HostRuntime) -> Result<(), F
     let file = to_both(alloc, Format::Binary)?;
     let armored = to_both(alloc, Format::AsciiArmor)?;
     assert!(rt; migrated(alloc, &file)? == file && migrated(alloc, &armored)? == file);
+    Ok(())
+}
+
+// A file that opens for the keys of 7 and 9, or under a passphrase, encrypted to that of 8.
+fn rekeyed(
+    alloc: Global,
+    keyring: &Keyring,
+    word: String,
+    file: &[u8],
+) -> Result<Option<Vec<u8>>, Fail> {
+    let mut words = Vec::new(alloc);
+    words.push(Word::Text(word))?;
+    let mut source = source(alloc, 11, 64)?;
+    let mut out = Vec::new(alloc);
+    let answer = rekey_by::<BenchSuite, _, _, _>(
+        alloc,
+        keyring,
+        &words,
+        &mut source,
+        Format::Binary,
+        Bytes::new(file),
+        &mut out,
+    );
+    if is_done(answer) {
+        Ok(Some(out))
+    } else if out.is_empty() && source.left() == 64 {
+        Ok(None)
+    } else {
+        Err(Fail::from("something was drawn or written"))
+    }
+}
+
+// The same to the recipient of the key of 8, which must succeed.
+fn to_eight(alloc: Global, keyring: &Keyring, file: &[u8]) -> Result<Vec<u8>, Fail> {
+    let word = recipient_text(alloc, 8)?;
+    found(rekeyed(alloc, keyring, word, file)?, "a refusal")
+}
+
+#[test]
+fn a_rekeyed_file_is_for_others(rt: HostRuntime) -> Result<(), Fail> {
+    let alloc = rt.alloc();
+    let file = to_both(alloc, Format::AsciiArmor)?;
+    let keys = keyring(alloc, &[(6, false), (7, true)], Some(b"a passphrase"))?;
+    let new = to_eight(alloc, &keys, &file)?;
+    assert!(rt; opens(alloc, &keyring(alloc, &[(8, false)], None)?, &new));
+    assert!(rt;
+        refuses(
+            alloc,
+            &keyring(alloc, &[(7, false)], None)?,
+            &new,
+            "no matching keys"
+        )
+    );
+    Ok(())
+}
+
+// Whether nothing is drawn or written where nobody has the key, and where the word is no recipient.
+#[test]
+fn what_is_not_rekeyed_takes_nothing(rt: HostRuntime) -> Result<(), Fail> {
+    let alloc = rt.alloc();
+    let file = to_both(alloc, Format::Binary)?;
+    let eight = recipient_text(alloc, 8)?;
+    let other = keyring(alloc, &[(8, false)], None)?;
+    assert!(rt; rekeyed(alloc, &other, eight, &file)?.is_none());
+    let seven = keyring(alloc, &[(7, false)], None)?;
+    let word = String::from_str(alloc, "age1x")?;
+    assert!(rt; rekeyed(alloc, &seven, word, &file)?.is_none());
+    Ok(())
+}
+
+// A file whose last chunk is cut isn't rekeyed to a whole one.
+#[test]
+fn a_cut_file_has_no_rekeyed_end(rt: HostRuntime) -> Result<(), Fail> {
+    let alloc = rt.alloc();
+    let mut file = to_both(alloc, Format::Binary)?;
+    let cut = file.len() - 1;
+    file.truncate(cut);
+    let keys = keyring(alloc, &[(7, false)], None)?;
+    let mut words = Vec::new(alloc);
+    words.push(Word::Text(recipient_text(alloc, 8)?))?;
+    let mut source = source(alloc, 11, 64)?;
+    let mut out = Vec::new(alloc);
+    let answer = rekey_by::<BenchSuite, _, _, _>(
+        alloc,
+        &keys,
+        &words,
+        &mut source,
+        Format::Binary,
+        Bytes::new(&file),
+        &mut out,
+    );
+    let eight = keyring(alloc, &[(8, false)], None)?;
+    assert!(rt; !is_done(answer) && !opens(alloc, &eight, &out));
     Ok(())
 }

@@ -1,0 +1,39 @@
+-- What was measured of a file that was decrypted.
+use Rattle.std.specs.Prelude.{◌⊎◌, ◌&&◌, Result, Ok, Err, IsOk, IsTrue}
+use Rattle.std.proofs.Common.{◌≡◌, List, ℕ, [], inl, inr, refl, subst}
+use Rattle.std.proofs.lemmas.Bool.{false≢true}
+use Rattle.age.specs.Armor.{Carries}
+use Rattle.age.specs.DecryptingStreams.{GivesFirst}
+use Rattle.age.specs.File.{IsFileOf}
+use Rattle.age.specs.Members.{SuiteMembers, ReadMembers, WriteMembers}
+use Rattle.age.specs.Stanza.{StanzaValue}
+use Rattle.age.specs.Types.{FileError}
+use Rattle.age.specs.Unwrapping.{UnwrapAnswer}
+use Rattle.age_tool.specs.Given.{AnswersKeys, DecryptsBy, VerifiesFile}
+use Rattle.age_tool.specs.Measuring.{IsMeasured, TookBytes, WasGiven}
+use Rattle.age_tool.specs.declared.callbacks.GivesOnce.{GivesOnce}
+use Rattle.age_tool.specs.declared.error.GivenError.{GivenError}
+use Rattle.age_tool.specs.declared.error.KeyringError.{KeyringError}
+use Rattle.age_tool.specs.declared.holder.Holder.{Holder}
+use Rattle.age_tool.specs.declared.keyring.Keyring.{Keyring}
+use Rattle.age_tool.specs.declared.measuring.Measured.{Measured}
+use Rattle.age_tool.specs.declared.measuring.Measuring.{Measuring}
+
+ok_is_no_error : {A E : Type 0} (x : A) (e : E) → Ok x ≡ Err e → ⊥
+ok_is_no_error x e is = false≢true (subst (λ r. IsOk r) is refl)
+
+pub verified : {S T R : Type 0} (unwraps : Holder S T GivesOnce → List StanzaValue → UnwrapAnswer → Holder S T GivesOnce → Type 0) (suite : SuiteMembers S)
+    (text_read : ReadMembers T) (write : WriteMembers Measuring) (given : Keyring) (read : ReadMembers R) (input last : R) (old new : Measuring) (v : Unit {0})
+    (measured : Measured) → ((w : Measuring) → IsTrue (write.tells w)) → ((x : List ℕ) → write.appended old x new → TookBytes old x new)
+    → WasGiven old [] → ((text : List ℕ) → WasGiven new text → IsMeasured measured text)
+    → DecryptsBy unwraps suite text_read write given read input last old new (Ok v) → VerifiesFile unwraps suite text_read write given read input (Ok measured)
+verified unwraps suite text_read write given read input last old new v measured tells took none measures (inl (e, is, refuses, untouched)) = absurd (ok_is_no_error _ _ is)
+verified unwraps suite text_read write given read input last old new v measured tells took none measures (inr (holders, are, (Err e, does, answers))) =
+    elim answers [
+      | inl is ↦ absurd (ok_is_no_error _ _ is)
+      | inr (none, is) ↦ absurd (ok_is_no_error _ _ is)
+    ]
+verified unwraps suite text_read write given read input last old new v measured tells took none measures
+    (inr (holders, are, (Ok done, (asked, (steps, file, refused)), answers))) = λ told.
+    let (file_key, stanzas, plain, bytes, gives, well, carries, is_file, are_bytes, appended) = file told tells in
+    (holders, asked, are, (file_key, stanzas, plain, bytes, gives, well, carries, is_file, measures plain (took plain appended [] none)))
