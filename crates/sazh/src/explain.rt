@@ -145,6 +145,11 @@ fn of_front(rt: &HostRuntime, name: &str, front: &[u8], error: DecryptError) -> 
         DecryptError::DecryptionFailed => named(rt, name, &"wrong passphrase"),
         DecryptError::KeyDecryptionFailed => Failure::WrongPassphrase,
         DecryptError::Io(Error::UnexpectedEof) => cut_header(rt, name, front),
+        DecryptError::Io(Error::Armor(fault)) => text_or_memory(
+            rt,
+            name,
+            format!(in rt.alloc(); "damaged: {fault}"),
+        ),
         error => named(rt, name, &error),
     }
 }
@@ -171,17 +176,6 @@ pub fn of_content(rt: &HostRuntime, name: &str, good: u64, error: Error) -> Fail
 /// Why a part of a file was refused that begins at a place: the chunks from that of the place on were looked at.
 pub fn of_part(rt: &HostRuntime, name: &str, place: u64, error: Error) -> Failure {
     of_content(rt, name, place.saturating_sub(place % CHUNK), error)
-}
-
-/// Why a file was refused, of which this was seen, that was to be rewritten: for its armor, or its end. Its content isn't looked at.
-pub fn of_text(rt: &HostRuntime, name: &str, seen: &Seen, error: Error) -> Failure {
-    if seen.count == 0 {
-        return named(rt, name, &"it is empty");
-    }
-    match error {
-        Error::OutOfMemory => Failure::OutOfMemory,
-        error => text_or_memory(rt, name, format!(in rt.alloc(); "damaged: {error}")),
-    }
 }
 
 /// Why a file was refused, of which this was seen, once so many bytes of its content were written.

@@ -1,7 +1,6 @@
 //! Why a command was refused.
 
 use age::DecryptError;
-use age::io::Error;
 use age::streaming::FileError;
 use std::alloc::{AllocError, AllocFailed};
 use std::fmt::Display;
@@ -24,8 +23,6 @@ pub enum Failure {
     File(FileError),
     /// The same of a file of which a part was asked for.
     Part(FileError),
-    /// The text of a file that was to be rewritten was refused, and nobody has looked at it yet.
-    Text(Error),
     /// As this text says.
     Said(String),
 }
@@ -130,7 +127,6 @@ impl fmt::Display for Failure {
             Failure::NoKeys { .. } => write!(f, "{}", DecryptError::NoMatchingKeys),
             Failure::WrongPassphrase => write!(f, "{}", DecryptError::KeyDecryptionFailed),
             Failure::File(error) | Failure::Part(error) => write!(f, "{error}"),
-            Failure::Text(error) => write!(f, "{error}"),
             Failure::Said(text) => f.write_str(text),
         }
     }

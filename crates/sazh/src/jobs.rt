@@ -1,6 +1,6 @@
 //! What is done from an input to an output.
 
-use crate::explain::{explained, of_part, of_text};
+use crate::explain::{explained, of_part};
 use crate::failure::{Failure, done, refused_by, said};
 use crate::files::open_file;
 use crate::output::{
@@ -150,16 +150,10 @@ impl Job for Migrating {
         reader: &mut R,
         writer: &mut W,
     ) -> Result<(), Failure> {
-        let answer = migrate_by::<StandardSuite, &mut R, W>(
-            rt.alloc(),
-            &self.keyring,
-            reader,
-            writer,
-        );
-        match done_with(rt, answer) {
-            Err(Failure::File(FileError::Io(error))) => Err(Failure::Text(error)),
-            other => other,
-        }
+        done_with(
+            rt,
+            migrate_by::<StandardSuite, &mut R, W>(rt.alloc(), &self.keyring, reader, writer),
+        )
     }
 }
 
@@ -262,7 +256,6 @@ fn reason(
     }
     match failure {
         Failure::File(error) => explained(rt, input, &read, written.count, error),
-        Failure::Text(error) => of_text(rt, input, &read, error),
         failure => failure,
     }
 }
