@@ -1,4 +1,6 @@
 pub mod Numbers
-pub mod RoundTrip
-pub mod Askable
 pub mod Stops
+pub mod Apps
+pub mod Rows
+pub mod Either
+pub mod Answered
