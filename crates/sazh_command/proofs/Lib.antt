@@ -4,3 +4,4 @@ pub mod Apps
 pub mod Rows
 pub mod Either
 pub mod Answered
+pub mod Askable

@@ -5,5 +5,6 @@ pub mod Found
 pub mod Decimal
 pub mod Synopsis
 pub mod Answers
+pub mod Laws
 pub mod Messages
 pub mod Place

@@ -77,7 +77,7 @@ fn operands<'a>(alloc: Global) -> Arg<'a>
     Arg::new(alloc, "operands")
         .value_name("PLACE COUNT IN")
         .action(ArgAction::Append)
-        .help("The first byte, how many, and the file; IN alone beside --from")
+        .help("The first byte, how many, and the file")
 }
 
 // The options that say to whom is encrypted, and how.

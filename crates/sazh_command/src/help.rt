@@ -42,12 +42,12 @@ pub const ABOUT_DECRYPT: &str = "Decrypts IN, in armor or not.";
 
 pub const ABOUT_PART: &str = "Decrypts COUNT bytes of IN from byte PLACE on to standard output.";
 
-pub const ABOUT_MIGRATE: &str = "Rewrites IN, a file from before the standard, with a header of the standard.";
+pub const ABOUT_MIGRATE: &str = "Rewrites IN, a file from before the standard, with a new header.";
 
-pub const AFTER_TOP: &str = "-r, -R and -i may be given more than once. The recipients of -r come first, then
-those of -R. Of the files of -i, -R, -p and IN one may be -, standard input.
-A value that begins with - is written --output=-x, and IN so behind --. A file
-named as a command is written ./keygen.
+pub const AFTER_TOP: &str = "-r, -R and -i may be given more than once: the recipients of -r come first, and
+then those of -R. Of the files of -i, -R and -p and IN one may be -, which is
+standard input. A value that begins with - stands behind =, as in --output=-x,
+and IN behind --. An IN that is named as a command is written ./keygen.
 
 Nothing is asked on a terminal. The passphrase is the first line of the file of
 -p, without its end; beside -i it is that of files of identities that are
@@ -78,6 +78,7 @@ pub const AFTER_DECRYPT: &str = "-i may be given more than once. The passphrase 
 are encrypted. sazh --help says how to type it.";
 
 pub const AFTER_PART: &str = "PLACE, COUNT and N are decimal numbers below 2^64. It seeks in a file, also as
-standard input, and reads a pipe into memory.";
+standard input, and reads a pipe into memory. Beside --from and --count the one
+operand is IN.";
 
 pub const AFTER_MIGRATE: &str = "OUT is without armor, and its content stays encrypted.";
