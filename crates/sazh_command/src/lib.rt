@@ -16,6 +16,7 @@ mod names;
 mod number;
 mod parsing;
 mod secrets;
+mod shown;
 
 pub use command::{Command, Identities, Output, Recipient, Recipients};
 pub use help::USAGE;

@@ -13,6 +13,7 @@ use crate::meaning::{asked, asked_alone};
 use crate::mistakes::{Stop, UsageError};
 use crate::names::command_named;
 use crate::secrets::any_holds_secret;
+use crate::shown::{Shown, any_holds_line_end};
 use clap::ArgMatches;
 use clap::error::ErrorKind;
 use std::alloc::{AllocError, Global};
@@ -65,9 +66,11 @@ fn answer_of(command: Result<Command, Stop>) -> Result<Result<Command, UsageErro
     }
 }
 
-// What is told where `clap` gives no matches.
+// What is told where `clap` gives no matches for these words. It quotes them as they are, so control characters are escaped, and where a
+// word holds a line end all line ends are.
 fn refusal_of(
     alloc: Global,
+    words: &[String],
     error: &clap::Error,
 ) -> Result<Result<Command, UsageError>, AllocError>
     ensures { IfOk result (λ answer. (kinds : Kinds) → HasKind kinds error.now → IsRefusal kinds answer) }
@@ -82,9 +85,11 @@ fn refusal_of(
         ),
         _ => {
             let told = text.as_str();
-            let told = told.strip_prefix("error: ").unwrap_or(told);
-            let told = String::from_str(alloc, told.trim_end())?;
-            Ok(Err(UsageError::Words(told)))
+            let told = Shown {
+                text: told.strip_prefix("error: ").unwrap_or(told).trim_end(),
+                keeps_lines: !any_holds_line_end(words),
+            };
+            Ok(Err(UsageError::Words(format!(in alloc; "{told}")?)))
         }
     }
 }
@@ -98,7 +103,7 @@ fn read(alloc: Global, words: &[String]) -> Result<Result<Command, UsageError>, 
     }
     match sazh(alloc)?.try_get_matches_from(words) {
         Ok(matches) => answer_of(asked_by(alloc, &matches)),
-        Err(error) => refusal_of(alloc, &error),
+        Err(error) => refusal_of(alloc, words, &error),
     }
 }
 

@@ -291,6 +291,10 @@ fn control_characters_are_escaped(rt: HostRuntime) -> Result<(), Fail> {
 fn clap_escapes_control_characters(rt: HostRuntime) -> Result<(), Fail> {
     let words = owned(rt.alloc(), &["keygen", "two\u{1b}[2J"])?;
     let text = told(rt.alloc(), &words)?;
-    assert!(rt; !text.as_str().contains('\u{1b}'));
+    assert!(rt; text.as_str().starts_with("unexpected argument 'two\\u{1b}[2J' found\n\nUsage"));
+    let words = owned(rt.alloc(), &["keygen", "two\nlines"])?;
+    let text = told(rt.alloc(), &words)?;
+    assert!(rt; text.as_str().starts_with("unexpected argument 'two\\nlines' found"));
+    assert!(rt; text.as_str().lines().count() == 1);
     Ok(())
 }
