@@ -1,6 +1,5 @@
 -- The answer to the words of a command line.
-use Rattle.std.specs.Prelude.{◌≡◌, ◌≢◌, ◌⊎◌, ℕ, List, [], ◌∷◌, codes, Result, Ok, Err, ⊤}
-use Rattle.std.specs.Str.Iter.{HasSubslice}
+use Rattle.std.specs.Prelude.{◌≡◌, ◌≢◌, ◌⊎◌, ℕ, List, [], ◌∷◌, Result, Ok, Err}
 use Rattle.clap.specs.Kinds.{Kinds, IsAmong}
 use Rattle.clap.specs.Faults.{fault_of}
 use Rattle.clap.specs.Simple.{matches_of, subcommand_of}
@@ -12,6 +11,7 @@ use Rattle.sazh_command.specs.declared.mistakes.UsageError.{UsageError}
 use Rattle.sazh_command.specs.declared.mistakes.UsageError.TheVariants as mistake
 use Rattle.sazh_command.specs.App.{sazh}
 use Rattle.sazh_command.specs.Asked.{CommandValue, UsageErrorValue, answer_value, command_value}
+use Rattle.sazh_command.specs.Secrets.{AnyHoldsSecret, NamesSecret}
 use Rattle.sazh_command.specs.Synopsis.{asked_by}
 
 -- what the words ask for, as `clap` reads them
@@ -39,17 +39,11 @@ abbrev pub IsRead : List (List ℕ) → Result Command UsageError → Type 0
 IsRead [] answer = answer ≡ Err mistake.NoCommand
 IsRead (word ∷ words) answer = IsReadBy (fault_of sazh (word ∷ words)) (word ∷ words) answer
 
--- the beginning of a secret key stands in the word
-abbrev pub HoldsSecret : List ℕ → Type 0
-HoldsSecret word = HasSubslice word (codes "AGE-SECRET-KEY-") ⊎ HasSubslice word (codes "age-secret-key-")
-
-abbrev pub AnyHoldsSecret : List (List ℕ) → Type 0
-AnyHoldsSecret [] = ⊥
-AnyHoldsSecret (word ∷ words) = HoldsSecret word ⊎ AnyHoldsSecret words
-
--- the words are read, and where they are wrong and hold a secret key that is all that is told
+-- The words are read. Where they are wrong and one holds a secret key, or they are right and name one in the place of a file, that is all
+-- that is told.
 abbrev pub IsTold : List (List ℕ) → Result Command UsageError → Type 0
-IsTold words (Ok command) = IsRead words (Ok command)
+IsTold words (Ok command) = (NamesSecret (command_value command) → ⊥) × IsRead words (Ok command)
 IsTold words (Err error) =
     ((AnyHoldsSecret words → ⊥) × IsRead words (Err error))
-    ⊎ (AnyHoldsSecret words × (error ≡ mistake.HoldsSecret) × ((why : UsageError) × IsRead words (Err why)))
+    ⊎ (((error ≡ mistake.HoldsSecret) × AnyHoldsSecret words × ((why : UsageError) × IsRead words (Err why)))
+    ⊎ ((error ≡ mistake.HoldsSecret) × ((command : Command) × NamesSecret (command_value command) × IsRead words (Ok command))))

@@ -4,6 +4,7 @@ pub mod Names
 pub mod Found
 pub mod Decimal
 pub mod Synopsis
+pub mod Secrets
 pub mod Answers
 pub mod Laws
 pub mod Messages

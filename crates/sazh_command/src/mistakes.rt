@@ -18,7 +18,7 @@ pub enum UsageError {
     Words(String),
     /// `-p` lacks the name of a file.
     NoPassphraseFile,
-    /// The words are wrong, and one of them holds a secret key, so that none is repeated.
+    /// One of the words holds a secret key, so that none is repeated: other words are wrong, or this one stands in the place of a file.
     HoldsSecret,
     /// The one word that no option takes names no command, and nothing says to whom is encrypted.
     UnknownCommand(String),

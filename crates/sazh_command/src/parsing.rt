@@ -12,7 +12,7 @@ use crate::found::{given_of, is_given};
 use crate::meaning::{asked, asked_alone};
 use crate::mistakes::{Stop, UsageError};
 use crate::names::command_named;
-use crate::secrets::any_holds_secret;
+use crate::secrets::{any_holds_secret, names_secret};
 use crate::shown::{Shown, any_holds_line_end};
 use clap::ArgMatches;
 use clap::error::ErrorKind;
@@ -113,14 +113,20 @@ fn read(alloc: Global, words: &[String]) -> Result<Result<Command, UsageError>, 
 /// the options and operands of each. Where no command is named, the words are the options of `age`, which encrypt, or decrypt by `-d`. Where
 /// IN or OUT is not given, it is `-`.
 ///
-/// Where something is wrong and one of the words holds the beginning of a secret key, no word is repeated.
+/// Where something is wrong and one of the words holds the beginning of a secret key, no word is repeated. Nor is a command taken that names
+/// such a word in the place of a file.
 ///
 /// `AllocError` where memory for the texts and lists of the answer is refused.
 pub fn parse(alloc: Global, words: &[String]) -> Result<Result<Command, UsageError>, AllocError>
     ensures { IfOk result (λ answer. IsTold (map string_bytes words.now) answer) }
 {
     match read(alloc, words)? {
-        Ok(command) => Ok(Ok(command)),
+        Ok(command) => {
+            if names_secret(&command) {
+                return Ok(Err(UsageError::HoldsSecret));
+            }
+            Ok(Ok(command))
+        }
         Err(error) => {
             if any_holds_secret(words) {
                 return Ok(Err(UsageError::HoldsSecret));

@@ -1,6 +1,6 @@
 use Rattle.std.specs.Prelude.{map, string_bytes, refl}
 use Rattle.std.proofs.Common.{inl, sym, subst}
-use Rattle.sazh_command.specs.Answers.{AnyHoldsSecret, HoldsSecret}
+use Rattle.sazh_command.specs.Secrets.{AnyHoldsSecret, HoldsSecret}
 use Rattle.sazh_command.proofs.secrets.any_holds_secret.Goals as goal
 
 pub returns-then-holds_secret : goal.returns-then-holds_secret

@@ -1,5 +1,5 @@
 use Rattle.std.proofs.Common.{◌↔◌, map, string_bytes, length}
-use Rattle.sazh_command.specs.Answers.{AnyHoldsSecret}
+use Rattle.sazh_command.specs.Secrets.{AnyHoldsSecret}
 use Rattle.sazh_command.proofs.secrets.any_holds_secret.Given as goal
 
 -- one of all words holds a secret where one of the rest of them does
