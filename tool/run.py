@@ -344,7 +344,10 @@ def command_lines(runs, recipient):
     for words in (["--version"], ["-V"]):
         done = runs.run(words)
         runs.ends(f"{words}", done.returncode == 0 and re.fullmatch(rb"sazh [0-9.]+\n", done.stdout) and not done.stderr)
-    for words in ([SECRET], ["decrypt", "-i", "key", "a", SECRET], ["-d", f"-x{SECRET}"], ["-d", f"--idenity={SECRET.lower()}"], ["part", "-i", "key", SECRET, "1", "file"]):
+    for words in (
+        [SECRET], ["decrypt", "-i", "key", "a", SECRET], ["-d", f"-x{SECRET}"], ["-d", f"--idenity={SECRET.lower()}"], ["part", "-i", "key", SECRET, "1", "file"],
+        ["-d", "-i", SECRET, "file"], ["decrypt", "-i", "key", "-p", SECRET, "file"], ["-p", SECRET], ["-r", recipient, "-o", SECRET], ["-R", SECRET], ["keygen", "-o", SECRET],
+    ):
         done = runs.run(words)
         good = done.returncode == 2 and not done.stdout and done.stderr.startswith(b"sazh: a word holds a secret key")
         runs.ends("a secret key isn't repeated", good and SECRET.encode() not in done.stderr.upper())

@@ -172,10 +172,8 @@ fn output(command: &Command) -> Option<&Output> {
 // The identities that a command has words for.
 fn identities(command: &Command) -> Option<&Identities> {
     match command {
-        Command::Help(_)
-        | Command::Version(_)
-        | Command::Keygen { .. }
-        | Command::Encrypt { .. } => None,
+        Command::Help(_) | Command::Version(_) | Command::Keygen { .. } | Command::Encrypt { .. } =>
+            None,
         Command::Decrypt { identities, .. }
         | Command::Part { identities, .. }
         | Command::Migrate { identities, .. } => Some(identities),

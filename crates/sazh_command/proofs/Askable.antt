@@ -5,9 +5,9 @@ use Rattle.sazh_command.specs.declared.names.Operand.{Operand}
 use Rattle.sazh_command.specs.declared.names.Operand.TheVariants as operand
 use Rattle.sazh_command.specs.declared.names.CommandName.{CommandName}
 use Rattle.sazh_command.specs.declared.names.CommandName.TheVariants as name
-use Rattle.sazh_command.specs.Asked.{RecipientValue, CommandValue, UsageErrorValue, and_then}
+use Rattle.sazh_command.specs.Asked.{RecipientValue, UsageErrorValue, and_then}
 use Rattle.sazh_command.specs.Decimal.{number_of}
-use Rattle.sazh_command.specs.Found.{GivenValue, given_of, is_given}
+use Rattle.sazh_command.specs.Found.{GivenValue, given_of}
 use Rattle.sazh_command.specs.Names.{command_named}
 use Rattle.sazh_command.specs.Synopsis.{recipients_of, identities_of, input_of, no_operand, number_or_error, numbered, operands_range, range_of, asked, unknown_or_asked, asked_alone, asked_named, asked_by, has_words}
 use Rattle.sazh_command.specs.Laws.{HasRecipient, HasIdentity, IsAskable}

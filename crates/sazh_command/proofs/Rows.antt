@@ -4,8 +4,8 @@ use Rattle.std.specs.Borrow.{Bor}
 use Rattle.std.specs.Prelude.{Box}
 use Rattle.std.specs.Box.{box_value}
 use Rattle.std.proofs.Common.{◌∙◌, sym, ap, ap₂, true≢false}
-use Rattle.clap.specs.Matches.{first_value, found_of, matched_of, raw_values, subcommand_name_of}
-use Rattle.clap.specs.Walk.{Row, first_of, all_of, row_of, rows_of}
+use Rattle.clap.specs.Matches.{first_value, matched_of, raw_values, subcommand_name_of}
+use Rattle.clap.specs.Walk.{Row, first_of, row_of, rows_of}
 use Rattle.clap.specs.Simple.{subcommand_rows, subcommand_rows_of}
 use Rattle.clap.specs.declared.parser.matches.ArgMatches.{ArgMatches}
 use Rattle.clap.specs.declared.parser.matches.ArgMatches.TheViews.{out-ArgMatches, out-SubCommand}

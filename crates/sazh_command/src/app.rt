@@ -55,10 +55,7 @@ fn flag<'a>(alloc: Global, id: &'a str, short: char, help: &'a str) -> Arg<'a>
 fn number_option<'a>(alloc: Global, id: &'a str, value: &'a str, help: &'a str) -> Arg<'a>
     ensures { IsOption (number_rule id.now) result }
 {
-    Arg::new(alloc, id)
-        .long(id)
-        .value_name(value)
-        .help(help)
+    Arg::new(alloc, id).long(id).value_name(value).help(help)
 }
 
 // IN.
@@ -99,12 +96,7 @@ fn with_encrypting<'a>(alloc: Global, command: Command<'a>) -> Result<Command<'a
             "FILE",
             "Encrypt to the recipients in FILE, one a line",
         ))?
-        .arg(flag(
-            alloc,
-            "armor",
-            'a',
-            "Write armor, which is text",
-        ))
+        .arg(flag(alloc, "armor", 'a', "Write armor, which is text"))
 }
 
 // The option that says who decrypts.
@@ -145,12 +137,7 @@ fn with_output<'a>(alloc: Global, command: Command<'a>) -> Result<Command<'a>, A
             "OUT",
             "Write to OUT; -, or none, is standard output",
         ))?
-        .arg(flag(
-            alloc,
-            "force",
-            'f',
-            "Replace OUT where it is there",
-        ))
+        .arg(flag(alloc, "force", 'f', "Replace OUT where it is there"))
 }
 
 // `keygen`.

@@ -22,21 +22,21 @@ pub const USAGE_KEYGEN: &str = "sazh keygen [-f] [-o OUT]";
 pub const USAGE_ENCRYPT: &str = "sazh encrypt (-r RECIPIENT | -R FILE).. [-a] [-f] [-o OUT] [IN]
        sazh encrypt -p FILE [-a] [-f] [-o OUT] [IN]";
 
-pub const USAGE_DECRYPT: &str =
-    "sazh decrypt (-i FILE.. [-p FILE] | -p FILE) [-f] [-o OUT] [IN]";
+pub const USAGE_DECRYPT: &str = "sazh decrypt (-i FILE.. [-p FILE] | -p FILE) [-f] [-o OUT] [IN]";
 
 pub const USAGE_PART: &str = "sazh part (-i FILE.. [-p FILE] | -p FILE) PLACE COUNT IN
        sazh part (-i FILE.. [-p FILE] | -p FILE) --from PLACE --count N [IN]";
 
-pub const USAGE_MIGRATE: &str =
-    "sazh migrate (-i FILE.. [-p FILE] | -p FILE) [-f] [-o OUT] [IN]";
+pub const USAGE_MIGRATE: &str = "sazh migrate (-i FILE.. [-p FILE] | -p FILE) [-f] [-o OUT] [IN]";
 
 pub const ABOUT: &str = "Encrypts and decrypts files of the format age-encryption.org/v1.
 Without a command it takes the options of age, and encrypts unless -d is given.";
 
-pub const ABOUT_KEYGEN: &str = "Makes a new identity, which decrypts. Its file must be kept secret.";
+pub const ABOUT_KEYGEN: &str =
+    "Makes a new identity, which decrypts. Its file must be kept secret.";
 
-pub const ABOUT_ENCRYPT: &str = "Encrypts IN to each of the recipients, or to who knows a passphrase.";
+pub const ABOUT_ENCRYPT: &str =
+    "Encrypts IN to each of the recipients, or to who knows a passphrase.";
 
 pub const ABOUT_DECRYPT: &str = "Decrypts IN, in armor or not.";
 
@@ -44,7 +44,8 @@ pub const ABOUT_PART: &str = "Decrypts COUNT bytes of IN from byte PLACE on to s
 
 pub const ABOUT_MIGRATE: &str = "Rewrites IN, a file from before the standard, with a new header.";
 
-pub const AFTER_TOP: &str = "-r, -R and -i may be given more than once: the recipients of -r come first, and
+pub const AFTER_TOP: &str =
+    "-r, -R and -i may be given more than once: the recipients of -r come first, and
 then those of -R. Of the files of -i, -R and -p and IN one may be -, which is
 standard input. A value that begins with - stands behind =, as in --output=-x,
 and IN behind --. An IN that is named as a command is written ./keygen.
@@ -70,14 +71,17 @@ examples:
 
 pub const AFTER_KEYGEN: &str = "The first line of the file has the recipient: # public key: age1..";
 
-pub const AFTER_ENCRYPT: &str = "-r and -R may be given more than once. The passphrase is the first line of the
+pub const AFTER_ENCRYPT: &str =
+    "-r and -R may be given more than once. The passphrase is the first line of the
 file of -p, without its end: sazh --help says how to type it.";
 
-pub const AFTER_DECRYPT: &str = "-i may be given more than once. The passphrase is the first line of the file of
+pub const AFTER_DECRYPT: &str =
+    "-i may be given more than once. The passphrase is the first line of the file of
 -p, without its end: that of IN, or beside -i that of files of identities that
 are encrypted. sazh --help says how to type it.";
 
-pub const AFTER_PART: &str = "PLACE, COUNT and N are decimal numbers below 2^64. It seeks in a file, also as
+pub const AFTER_PART: &str =
+    "PLACE, COUNT and N are decimal numbers below 2^64. It seeks in a file, also as
 standard input, and reads a pipe into memory. Beside --from and --count the one
 operand is IN.";
 

@@ -46,7 +46,8 @@ pub enum UsageError {
     ExtraOperand(String),
 }
 
-const NO_PASSPHRASE_FILE: &str = "the option -p lacks its value: it is the name of a file, whose first line is the passphrase.
+const NO_PASSPHRASE_FILE: &str =
+    "the option -p lacks its value: it is the name of a file, whose first line is the passphrase.
 Nothing is asked on a terminal. To type it, or to take it from a password manager, in bash:
   read -rsp 'passphrase: ' word
   sazh -p <(printf '%s\\n' \"$word\") -o notes.age notes.txt
@@ -64,7 +65,10 @@ impl fmt::Display for UsageError {
                 "a word holds a secret key, and no word is repeated: name the key's file, by -i FILE",
             ),
             UsageError::UnknownCommand(word) => {
-                write!(f, "{word:?} is no command, and to encrypt it -r, -R or -p is needed")
+                write!(
+                    f,
+                    "{word:?} is no command, and to encrypt it -r, -R or -p is needed"
+                )
             }
             UsageError::WordBeforeCommand => {
                 f.write_str("the name of a command isn't the first word")

@@ -80,9 +80,9 @@ fn refusal_of(
         ErrorKind::OutOfMemory => Err(AllocError),
         ErrorKind::DisplayHelp => Ok(Ok(Command::Help(text))),
         ErrorKind::DisplayVersion => Ok(Ok(Command::Version(text))),
-        ErrorKind::InvalidValue if text.as_str().contains("'--passphrase-file <FILE>'") => Ok(
-            Err(UsageError::NoPassphraseFile),
-        ),
+        ErrorKind::InvalidValue if text.as_str().contains("'--passphrase-file <FILE>'") => Ok(Err(
+            UsageError::NoPassphraseFile,
+        )),
         _ => {
             let told = text.as_str();
             let told = Shown {

@@ -110,7 +110,14 @@ fn help_fits(alloc: Global, line: &str) -> Result<bool, AllocError> {
 #[test]
 fn texts_fit_a_terminal(rt: HostRuntime) -> Result<(), Fail> {
     assert!(rt; fits(USAGE) && USAGE.starts_with("Usage: sazh") && !USAGE.ends_with('\n'));
-    for line in ["-h", "keygen -h", "encrypt -h", "decrypt -h", "part -h", "migrate -h"] {
+    for line in [
+        "-h",
+        "keygen -h",
+        "encrypt -h",
+        "decrypt -h",
+        "part -h",
+        "migrate -h",
+    ] {
         assert!(rt; help_fits(rt.alloc(), line)?, "at {line}");
     }
     Ok(())

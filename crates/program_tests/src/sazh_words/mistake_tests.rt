@@ -209,7 +209,13 @@ fn misspelt_options_are_told(rt: HostRuntime) -> Result<(), Fail> {
     let likely = "tip: a similar argument exists: '--recipient'";
     assert!(rt; is_told_with(alloc, "--recipent a", likely)?);
     assert!(rt; is_told_with(alloc, "encrypt --recipent a", likely)?);
-    assert!(rt; is_told_with(alloc, "decrypt --idenity key", "similar argument exists: '--identity'")?);
+    assert!(rt;
+        is_told_with(
+            alloc,
+            "decrypt --idenity key",
+            "similar argument exists: '--identity'"
+        )?
+    );
     assert!(rt; is_told_with(alloc, "keygen -x", "Usage: sazh keygen [-f] [-o OUT]")?);
     assert!(rt; is_told_with(alloc, "-x", "Usage: sazh [-e] (-r RECIPIENT")?);
     Ok(())
@@ -219,8 +225,19 @@ fn misspelt_options_are_told(rt: HostRuntime) -> Result<(), Fail> {
 #[test]
 fn a_passphrase_without_its_file(rt: HostRuntime) -> Result<(), Fail> {
     let alloc = rt.alloc();
-    for line in ["-p", "-dp", "--passphrase-file", "-p -a", "encrypt -p", "decrypt -i key -p", "part -p"] {
-        assert!(rt; is_told_with(alloc, line, "read -rsp 'passphrase: ' word")?, "at {line}");
+    for line in [
+        "-p",
+        "-dp",
+        "--passphrase-file",
+        "-p -a",
+        "encrypt -p",
+        "decrypt -i key -p",
+        "part -p",
+    ] {
+        assert!(rt;
+            is_told_with(alloc, line, "read -rsp 'passphrase: ' word")?,
+            "at {line}"
+        );
     }
     all_ask(
         &rt,
@@ -282,7 +299,10 @@ part -i key 1 2 file more => the word "more" is one too many
 fn control_characters_are_escaped(rt: HostRuntime) -> Result<(), Fail> {
     let words = owned(rt.alloc(), &["two\nlines\r\"quoted\"\u{1b}[2J"])?;
     let text = told(rt.alloc(), &words)?;
-    assert!(rt; text.as_str().starts_with(r#""two\nlines\r\"quoted\"\u{1b}[2J" is no command"#));
+    assert!(rt;
+        text.as_str()
+            .starts_with(r#""two\nlines\r\"quoted\"\u{1b}[2J" is no command"#)
+    );
     Ok(())
 }
 
@@ -291,10 +311,16 @@ fn control_characters_are_escaped(rt: HostRuntime) -> Result<(), Fail> {
 fn clap_escapes_control_characters(rt: HostRuntime) -> Result<(), Fail> {
     let words = owned(rt.alloc(), &["keygen", "two\u{1b}[2J"])?;
     let text = told(rt.alloc(), &words)?;
-    assert!(rt; text.as_str().starts_with("unexpected argument 'two\\u{1b}[2J' found\n\nUsage"));
+    assert!(rt;
+        text.as_str()
+            .starts_with("unexpected argument 'two\\u{1b}[2J' found\n\nUsage")
+    );
     let words = owned(rt.alloc(), &["keygen", "two\nlines"])?;
     let text = told(rt.alloc(), &words)?;
-    assert!(rt; text.as_str().starts_with("unexpected argument 'two\\nlines' found"));
+    assert!(rt;
+        text.as_str()
+            .starts_with("unexpected argument 'two\\nlines' found")
+    );
     assert!(rt; text.as_str().lines().count() == 1);
     Ok(())
 }

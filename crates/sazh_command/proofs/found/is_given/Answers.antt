@@ -1,4 +1,4 @@
-use Rattle.std.proofs.Common.{◌∙◌, rules, sym, ap}
+use Rattle.std.proofs.Common.{rules, ap}
 use Rattle.clap.specs.Matches.{found_of}
 use Rattle.sazh_command.specs.Found.{is_true}
 use Rattle.sazh_command.proofs.Rows.{text_found}

@@ -1,5 +1,5 @@
 use Rattle.std.specs.Prelude.{codes}
-use Rattle.std.proofs.Common.{rules, append-nil, sym}
+use Rattle.std.proofs.Common.{rules, append-nil}
 use Rattle.clap.specs.Matches.{found_of}
 use Rattle.sazh_command.proofs.Rows.{values_found}
 use Rattle.sazh_command.proofs.found.push_recipients.Goals as goal

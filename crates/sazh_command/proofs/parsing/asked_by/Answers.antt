@@ -1,10 +1,9 @@
-use Rattle.std.specs.Prelude.{◌≡◌, codes, true, false, None, Some, refl}
+use Rattle.std.specs.Prelude.{◌≡◌, codes, true, false, refl}
 use Rattle.std.proofs.Common.{◌∙◌, sym, ap, ap₂, subst}
 use Rattle.clap.specs.Matches.{found_of}
 use Rattle.clap.specs.Walk.{rows_of}
-use Rattle.clap.specs.Simple.{subcommand_rows_of}
 use Rattle.sazh_command.specs.Asked.{IsAnswer, command_value}
-use Rattle.sazh_command.specs.Found.{given_of, given_value, is_given}
+use Rattle.sazh_command.specs.Found.{given_value, is_given}
 use Rattle.sazh_command.specs.Synopsis.{asked_alone, asked_by, has_words}
 use Rattle.sazh_command.proofs.Rows.{command_met, no_command_met, words_met}
 use Rattle.sazh_command.proofs.parsing.asked_by.Goals as goal
