@@ -232,7 +232,7 @@ class Harm:
         ):
             done = self.run(words, b"a passphrase\nand a text\n")
             good = done.returncode == 2 and not done.stdout and b"name the same stream" in done.stderr.splitlines()[0]
-            self.ends(f"{words} of one stream", good and b"usage: sazh" in done.stderr, done)
+            self.ends(f"{words} of one stream", good and b"Usage: sazh" in done.stderr, done)
         with open(self.path("recipients"), "rb") as given:
             words = [self.runs.program, "encrypt", "-R", "/dev/stdin"]
             done = subprocess.run(words, stdin=given, capture_output=True, check=False, cwd=self.runs.folder)

@@ -8,6 +8,7 @@ import base64
 import hashlib
 import hmac
 import os
+import re
 import stat
 import subprocess
 import sys
@@ -16,7 +17,7 @@ import time
 from pathlib import Path
 
 from harm import harms
-from told import armor, tells
+from told import SECRET, armor, tells
 
 VECTORS = Path(__file__).resolve().parent.parent / "vectors"
 IDENTITY_OF_THE_PROTECTED_FILE = b"AGE-SECRET-KEY-1YZ3PRM0AJDSQEWZVRM7NKJL58NQMG3DRAA0JKHX5UL6ND5DJ5P2QJCU2JK"
@@ -322,17 +323,86 @@ def refusals(runs, recipient):
 
 def command_lines(runs, recipient):
     for words in (
-        [], ["no"], ["encrypt"], ["decrypt"], ["decrypt", "-x"], ["encrypt", "-r"], ["encrypt", "-r", recipient, "-p", "passphrase"],
+        [], ["no"], ["encrypt"], ["decrypt"], ["decrypt", "-x"], ["encrypt", "-r", recipient, "-p", "passphrase"],
         ["encrypt", "-r", recipient, "-o", "a", "-o", "b"], ["decrypt", "-i", "key", "a", "b"], ["part", "-i", "key", "1", "file"],
         ["part", "-i", "key", "x", "1", "file"], ["part", "-i", "key", "1", "-1", "file"], ["keygen", "more"],
         ["migrate"], ["migrate", "file"], ["migrate", "-i", "key", "-a"], ["migrate", "-i", "key", "a", "b"], ["migrate", "-i", "key", "-o", "a", "-o", "b"],
+        ["-d", "-e", "-i", "key"], ["-d", "-r", recipient], ["-i", "key", "file"], ["-d", "file"], ["-r", recipient, "keygen"], ["-p"],
+        ["part", "-i", "key", "--from", "1", "file"],
     ):
-        runs.refuses(f"{words}", words, status=2, says=b"usage: sazh")
-    for words in (["--help"], ["-h"], ["decrypt", "--help"], ["migrate", "-h"]):
+        runs.refuses(f"{words}", words, status=2, says=b"Usage: sazh")
+    runs.refuses("an option without its value", ["encrypt", "-r"], status=2, says=b"a value is required for '--recipient <RECIPIENT>'")
+    runs.refuses("a misspelt option", ["encrypt", "--recipent", recipient], status=2, says=b"a similar argument exists: '--recipient'")
+    for command in ("keygen", "encrypt", "decrypt", "part", "migrate"):
+        for option in ("-h", "--help"):
+            done = runs.run([command, option])
+            good = done.returncode == 0 and not done.stderr and f"Usage: sazh {command} ".encode() in done.stdout
+            runs.ends(f"{command} {option}", good and done.stdout.endswith(b"\n"))
+    for words in (["--help"], ["-h"]):
         done = runs.run(words)
-        runs.ends(f"{words}", done.returncode == 0 and not done.stderr and b"sazh encrypt" in done.stdout)
-    done = runs.run(["--version"])
-    runs.ends("--version", done.returncode == 0 and done.stdout.startswith(b"sazh ") and not done.stderr)
+        runs.ends(f"{words}", done.returncode == 0 and not done.stderr and b"sazh encrypt" in done.stdout and b"read -rsp" in done.stdout)
+    for words in (["--version"], ["-V"]):
+        done = runs.run(words)
+        runs.ends(f"{words}", done.returncode == 0 and re.fullmatch(rb"sazh [0-9.]+\n", done.stdout) and not done.stderr)
+    for words in (
+        [SECRET], ["decrypt", "-i", "key", "a", SECRET], ["-d", f"-x{SECRET}"], ["-d", f"--idenity={SECRET.lower()}"], ["part", "-i", "key", SECRET, "1", "file"],
+        ["-d", "-i", SECRET, "file"], ["decrypt", "-i", "key", "-p", SECRET, "file"], ["-p", SECRET], ["-r", recipient, "-o", SECRET], ["-R", SECRET], ["keygen", "-o", SECRET],
+    ):
+        done = runs.run(words)
+        good = done.returncode == 2 and not done.stdout and done.stderr.startswith(b"sazh: a word holds a secret key")
+        runs.ends("a secret key isn't repeated", good and SECRET.encode() not in done.stderr.upper())
+
+
+def words_of_age(runs, recipient):
+    """Without a command, the options of `age` do what they do there, in their long and short forms, several behind one `-`."""
+    plain = plaintext(1_000)
+    runs.path("notes").write_bytes(plain)
+    ways = {
+        "to a recipient": (["-r", recipient], ["-d", "-i", "key"]),
+        "by long options": (["--encrypt", "--recipient", recipient, "--armor"], ["--decrypt", "--identity", "key"]),
+        "by long options with =": ([f"--recipient={recipient}"], ["--decrypt", "--identity=key"]),
+        "to a file of recipients": (["-aR", "recipients"], ["-di", "key"]),
+        "to a file of recipients, and one more": (["-R", "recipients", "-r", RECIPIENT_OF_THE_PROTECTED_FILE], ["-dikey"]),
+        "under a passphrase": (["-e", "-p", "passphrase"], ["-d", "-p", "passphrase"]),
+        "under a passphrase, by long options": (["--passphrase-file=passphrase"], ["--decrypt", "--passphrase-file", "passphrase"]),
+    }
+    for what, (to, who) in ways.items():
+        file = runs.run(to, plain).stdout
+        runs.gives(f"{what}, from standard input", who, plain, file)
+        runs.gives(f"{what}, from a file", [*to, "-f", "-o", "notes.age", "notes"], b"")
+        runs.gives(f"{what}, to a file", [*who, "--force", "--output", "notes.out", "notes.age"], b"")
+        runs.ends(what, runs.path("notes.out").read_bytes() == plain)
+    runs.gives("a part by options", ["part", "-i", "key", "--from", "70000", "--count", "100", "file"], plaintext(100_000)[70_000:70_100])
+    runs.gives("a part by options, from a pipe", ["part", "-i", "key", "--from=70000", "--count=100"], plaintext(100_000)[70_000:70_100], runs.path("file").read_bytes())
+    runs.path("keygen").write_bytes(plain)
+    runs.gives("a file named as a command", ["-f", "-o", "notes.age", "-r", recipient, "--", "keygen"], b"")
+    runs.gives("which is it", ["-d", "-i", "key", "notes.age"], plain)
+
+
+def standard_input(runs, recipient):
+    """`-` is standard input for -i, -R, -p and IN, one of them at a time."""
+    plain = plaintext(1_000)
+    runs.path("notes").write_bytes(plain)
+    key, line = runs.path("key").read_bytes(), runs.path("passphrase").read_bytes()
+    runs.gives("recipients from standard input", ["-R", "-", "-f", "-o", "notes.age", "notes"], b"", runs.path("recipients").read_bytes())
+    runs.gives("identities from standard input", ["-d", "-i", "-", "notes.age"], plain, key)
+    runs.gives("a part with identities from standard input", ["part", "-i", "-", "1", "10", "notes.age"], plain[1:11], key)
+    runs.gives("a passphrase from standard input", ["-p", "-", "-f", "-o", "notes.age", "notes"], b"", line)
+    runs.gives("which decrypts", ["-d", "-p", "-", "notes.age"], plain, line)
+    for words in (["-R", "-", "-r", recipient], ["-p", "-"], ["-d", "-i", "-"], ["-d", "-i", "-", "-"], ["-d", "-i", "-", "-p", "-", "notes.age"], ["-d", "-i", "-", "-i", "-", "notes.age"]):
+        runs.refuses(f"{words}", words, line, status=2, says=b"name the same stream")
+
+
+def recipes(runs):
+    """The ways to hand over a passphrase that the help and the manual tell, in bash: what `read` reads, and what another program writes."""
+    plain = runs.path("notes").read_bytes()
+    typed = """read -rsp 'passphrase: ' word && "$0" -p <(printf '%s\\n' "$word") -f -o notes.age notes"""
+    piped = """pass() { printf 'a passphrase\\n'; }; "$0" -d -p <(pass show notes) notes.age"""
+    how = {"capture_output": True, "check": False, "cwd": runs.folder}
+    done = subprocess.run(["bash", "-c", typed, runs.program], input=b"a passphrase\n", **how)
+    runs.ends(f"a passphrase that is typed: {done}", done.returncode == 0 and not done.stdout)
+    done = subprocess.run(["bash", "-c", piped, runs.program], input=b"", **how)
+    runs.ends(f"a passphrase that a program writes: {done}", done.returncode == 0 and done.stdout == plain and not done.stderr)
 
 
 def main():
@@ -347,6 +417,9 @@ def main():
         tells(runs, recipient)
         harms(runs, recipient)
         command_lines(runs, recipient)
+        words_of_age(runs, recipient)
+        standard_input(runs, recipient)
+        recipes(runs)
     print(f"{runs.passed} passed, {runs.failed} failed")
     return 1 if runs.failed else 0
 

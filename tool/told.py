@@ -117,7 +117,7 @@ def of_lines(runs, recipient):
     ]
     for line, says in to:
         runs.path("lines").write_bytes(f"# to\n{recipient}\n{line}\n".encode())
-        for what, words, named in (("a line", ["-R", "lines"], b"sazh: lines: line 3: "), ("a word", ["-r", line], b"sazh: -r: ")):
+        for what, words, named in (("a line", ["-R", "lines"], b"sazh: lines: line 3: "), ("a word", [f"--recipient={line}"], b"sazh: -r: ")):
             done = runs.run(["encrypt", *words], b"")
             good = done.returncode == 1 and not done.stdout and done.stderr == named + says + b"\n"
             good = good and line.encode() not in done.stderr

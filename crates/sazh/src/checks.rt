@@ -117,7 +117,7 @@ impl Streams {
     // Adds the words of a command.
     fn add_all(&mut self, rt: &HostRuntime, command: &Command) -> Result<(), AllocError> {
         match command {
-            Command::Help | Command::Version | Command::Keygen { .. } => Ok(()),
+            Command::Help(_) | Command::Version(_) | Command::Keygen { .. } => Ok(()),
             Command::Encrypt {
                 recipients,
                 input,
@@ -161,7 +161,7 @@ pub fn clash_of(rt: &HostRuntime, command: &Command) -> Result<Option<Clash>, Al
 // Where a command writes, if it has words for that.
 fn output(command: &Command) -> Option<&Output> {
     match command {
-        Command::Help | Command::Version | Command::Part { .. } => None,
+        Command::Help(_) | Command::Version(_) | Command::Part { .. } => None,
         Command::Keygen { output }
         | Command::Encrypt { output, .. }
         | Command::Decrypt { output, .. }
@@ -172,7 +172,8 @@ fn output(command: &Command) -> Option<&Output> {
 // The identities that a command has words for.
 fn identities(command: &Command) -> Option<&Identities> {
     match command {
-        Command::Help | Command::Version | Command::Keygen { .. } | Command::Encrypt { .. } => None,
+        Command::Help(_) | Command::Version(_) | Command::Keygen { .. } | Command::Encrypt { .. } =>
+            None,
         Command::Decrypt { identities, .. }
         | Command::Part { identities, .. }
         | Command::Migrate { identities, .. } => Some(identities),
@@ -184,6 +185,9 @@ fn passphrase_looked(rt: &HostRuntime, command: &Command) -> Result<(), Failure>
     let Some(Identities::ProtectedFiles(_, name)) = identities(command) else {
         return Ok(());
     };
+    if INPUT.contains(&name.as_str()) {
+        return Ok(());
+    }
     match fs::metadata(rt, name.as_str()) {
         Ok(_) => Ok(()),
         Err(error) => Err(refused_by(rt, name, error)),

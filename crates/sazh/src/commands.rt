@@ -11,9 +11,7 @@ use crate::keys::{keyring, passphrase_text, words};
 use age::armor::Format;
 use age::io::{Read, Write, flush_retrying, write_all};
 use age_tool::keyring::Keyring;
-use sazh_command::{Command, HELP, Identities, Output, Recipients};
-
-const VERSION: &str = "sazh 0.1.0";
+use sazh_command::{Command, Identities, Output, Recipients};
 
 // The permissions of a new file, before the user's mask: to read and to write for all, or for its owner alone.
 const FOR_ALL: u32 = 0o666;
@@ -107,11 +105,10 @@ fn part(
     answered(rt, asked, input, answer)
 }
 
-// Writes a text and a line feed to standard output.
+// Writes a text to standard output.
 fn print(rt: &HostRuntime, text: &str) -> Result<(), Failure> {
-    let mut line = Vec::from_slice(rt.alloc(), text.as_bytes())?;
-    line.push(b'\n')?;
-    run_to_output(rt, Writing { text: line }, "-")
+    let text = Vec::from_slice(rt.alloc(), text.as_bytes())?;
+    run_to_output(rt, Writing { text }, "-")
 }
 
 // Writes a new key to an output.
@@ -170,8 +167,7 @@ fn migrate(
 /// Does what a command line asks for.
 pub fn run(rt: &HostRuntime, command: &Command) -> Result<(), Failure> {
     match command {
-        Command::Help => print(rt, HELP),
-        Command::Version => print(rt, VERSION),
+        Command::Help(text) | Command::Version(text) => print(rt, text.as_str()),
         Command::Keygen { output } => keygen(rt, output),
         Command::Encrypt {
             recipients,

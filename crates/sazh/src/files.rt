@@ -33,9 +33,9 @@ fn is_folder(file: &File) -> bool {
     }
 }
 
-/// Opens the file of this name to read it.
+/// Opens the file of this name to read it, or standard input, whose name is `-`.
 pub fn open_file(rt: &HostRuntime, name: &str) -> Result<File, Failure> {
-    match File::open(rt, name) {
+    match File::open(rt, if name == "-" { INPUT } else { name }) {
         Ok(file) if is_folder(&file) => Err(named(rt, name, &"it is a folder")),
         Ok(file) => Ok(file),
         Err(error) => Err(refused_by(rt, name, error)),

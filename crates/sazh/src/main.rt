@@ -74,12 +74,14 @@ fn done(rt: &HostRuntime, command: &Command) -> Result<(), Failure> {
 // Says what is wrong with a command line.
 fn say(rt: &HostRuntime, wrong: &Wrong) {
     let _ = match wrong {
-        Wrong::NotText => eprintln!(rt; "sazh: a word isn't UTF-8\n{USAGE}"),
-        Wrong::Usage(error) => eprintln!(rt; "sazh: {error}\n{USAGE}"),
+        Wrong::NotText => eprintln!(rt; "sazh: a word isn't UTF-8\n\n{USAGE}"),
+        // (its text ends with the usage of the command)
+        Wrong::Usage(UsageError::Words(text)) => eprintln!(rt; "sazh: {text}"),
+        Wrong::Usage(error) => eprintln!(rt; "sazh: {error}\n\n{USAGE}"),
         Wrong::Clash(clash) => {
             let (first, second) = (clash.first, clash.second);
             eprintln!(rt;
-                "sazh: {first} and {second} name the same stream, which can be read once\n{USAGE}"
+                "sazh: {first} and {second} name the same stream, which can be read once\n\n{USAGE}"
             )
         }
     };

@@ -1,15 +1,16 @@
 -- What is asked for has a recipient or an identity, and numbers below 2^64.
-use Rattle.std.specs.Prelude.{ℕ, ◌<◌, ◌^◌, Bool, true, false, List, [], ◌∷◌, if◌then◌else◌, Option, Some, None, IfSome, Result, Ok, Err, IfOk}
-use Rattle.sazh_command.specs.declared.options.Operand.{Operand}
-use Rattle.sazh_command.specs.declared.options.Operand.TheVariants as operand
-use Rattle.sazh_command.specs.declared.options.CommandName.{CommandName}
-use Rattle.sazh_command.specs.declared.options.CommandName.TheVariants as name
-use Rattle.sazh_command.specs.Asked.{RecipientValue, CommandValue, Help, UsageErrorValue}
+use Rattle.std.specs.Prelude.{ℕ, ◌<◌, ◌^◌, Bool, true, false, List, [], ◌∷◌, if◌then◌else◌, Option, Some, None, IfSome, Result, Ok, Err, IfOk, ◌||◌, ◌&&◌, ◌==◌, not, length, is_some}
+use Rattle.clap.specs.Walk.{Row}
+use Rattle.sazh_command.specs.declared.names.Operand.{Operand}
+use Rattle.sazh_command.specs.declared.names.Operand.TheVariants as operand
+use Rattle.sazh_command.specs.declared.names.CommandName.{CommandName}
+use Rattle.sazh_command.specs.declared.names.CommandName.TheVariants as name
+use Rattle.sazh_command.specs.Asked.{RecipientValue, UsageErrorValue, and_then}
 use Rattle.sazh_command.specs.Decimal.{number_of}
-use Rattle.sazh_command.specs.Options.{command_named}
-use Rattle.sazh_command.specs.Reading.{GivenValue, and_then, given_of, asks_for_help}
-use Rattle.sazh_command.specs.Synopsis.{recipients_of, identities_of, input_of, no_operand, number_or_error, range_of, asked, named_command_of, command_of}
-use Rattle.sazh_command.specs.Written.{HasRecipient, HasIdentity, IsAskable}
+use Rattle.sazh_command.specs.Found.{GivenValue, given_of}
+use Rattle.sazh_command.specs.Names.{command_named}
+use Rattle.sazh_command.specs.Synopsis.{recipients_of, identities_of, input_of, no_operand, number_or_error, numbered, operands_range, range_of, asked, unknown_or_asked, asked_alone, asked_named, asked_by, has_words}
+use Rattle.sazh_command.specs.Laws.{HasRecipient, HasIdentity, IsAskable}
 use Rattle.sazh_command.proofs.Numbers.{number_of-small}
 
 -- P of what follows each value of which K holds
@@ -23,6 +24,11 @@ always : {T U : Type 0} (P : U → Type 0) (next : T → Result U UsageErrorValu
     → ((x : T) → IfOk (next x) P) → IfOk (and_then next found) P
 always P next (Ok x) h = h x
 always P next (Err error) h = tt
+
+-- and of one of two answers
+either : {U : Type 0} (P : U → Type 0) (test : Bool) (a b : Result U UsageErrorValue) → IfOk a P → IfOk b P → IfOk (if test then a else b) P
+either P true a b is_a is_b = is_a
+either P false a b is_a is_b = is_b
 
 recipients_of-ok : (recipients : List RecipientValue) (file : Option (List ℕ)) → IfOk (recipients_of recipients file) HasRecipient
 recipients_of-ok [] None = tt
@@ -44,44 +50,64 @@ number_or_error-ok operand word None small = tt
 abbrev IsSmall : ℕ × ℕ × List ℕ → Type 0
 IsSmall range = (range.0 < 2 ^ 64) × (range.1 < 2 ^ 64)
 
-range_of-ok : (operands : List (List ℕ)) → IfOk (range_of operands) IsSmall
-range_of-ok [] = tt
-range_of-ok (place ∷ []) = tt
-range_of-ok (place ∷ count ∷ []) = tt
-range_of-ok (place ∷ count ∷ input ∷ []) =
+numbered-ok : (place count input : List ℕ) → IfOk (numbered place count input) IsSmall
+numbered-ok place count input =
     and_then-ok (λ n. n < 2 ^ 64) IsSmall _ (number_or_error operand.Place place (number_of place))
     (number_or_error-ok operand.Place place (number_of place) (number_of-small place)) (λ start small_start.
     and_then-ok (λ n. n < 2 ^ 64) IsSmall _ (number_or_error operand.Count count (number_of count))
     (number_or_error-ok operand.Count count (number_of count) (number_of-small count)) (λ size small_size. (small_start, small_size)))
-range_of-ok (place ∷ count ∷ input ∷ word ∷ more) = tt
+
+operands_range-ok : (operands : List (List ℕ)) → IfOk (operands_range operands) IsSmall
+operands_range-ok [] = tt
+operands_range-ok (place ∷ []) = tt
+operands_range-ok (place ∷ count ∷ []) = tt
+operands_range-ok (place ∷ count ∷ input ∷ more) = always IsSmall _ (no_operand more) (λ none. numbered-ok place count input)
+
+range_of-ok : (place count : Option (List ℕ)) (operands : List (List ℕ)) → IfOk (range_of place count operands) IsSmall
+range_of-ok None None operands = operands_range-ok operands
+range_of-ok (Some place) (Some count) operands = always IsSmall _ (input_of operands) (λ input. numbered-ok place count input)
+range_of-ok None (Some count) operands = tt
+range_of-ok (Some place) None operands = tt
 
 asked-ok : (command : CommandName) (given : GivenValue) → IfOk (asked command given) IsAskable
-asked-ok name.Version given = always IsAskable _ (no_operand given.operands) (λ none. tt)
-asked-ok name.Keygen given = always IsAskable _ (no_operand given.operands) (λ none. tt)
+asked-ok name.Keygen given = tt
 asked-ok name.Encrypt given =
     and_then-ok HasRecipient IsAskable _ (recipients_of given.recipients given.passphrase_file)
-    (recipients_of-ok given.recipients given.passphrase_file) (λ recipients known. always IsAskable _ (input_of given.operands) (λ input. known))
+    (recipients_of-ok given.recipients given.passphrase_file) (λ recipients known. known)
 asked-ok name.Decrypt given =
     and_then-ok HasIdentity IsAskable _ (identities_of given.identity_files given.passphrase_file)
-    (identities_of-ok given.identity_files given.passphrase_file) (λ identities known. always IsAskable _ (input_of given.operands) (λ input. known))
+    (identities_of-ok given.identity_files given.passphrase_file) (λ identities known. known)
 asked-ok name.Part given =
     and_then-ok HasIdentity IsAskable _ (identities_of given.identity_files given.passphrase_file)
     (identities_of-ok given.identity_files given.passphrase_file) (λ identities known.
-    and_then-ok IsSmall IsAskable _ (range_of given.operands) (range_of-ok given.operands) (λ range small. (known, small.0, small.1)))
+    and_then-ok IsSmall IsAskable _ (range_of given.place given.count given.operands) (range_of-ok given.place given.count given.operands)
+    (λ range small. (known, small.0, small.1)))
 asked-ok name.Migrate given =
     and_then-ok HasIdentity IsAskable _ (identities_of given.identity_files given.passphrase_file)
-    (identities_of-ok given.identity_files given.passphrase_file) (λ identities known. always IsAskable _ (input_of given.operands) (λ input. known))
+    (identities_of-ok given.identity_files given.passphrase_file) (λ identities known. known)
 
-named_command_of-ok : (word : List ℕ) (command : Option CommandName) (words : List (List ℕ)) → IfOk (named_command_of word command words) IsAskable
-named_command_of-ok word None words = tt
-named_command_of-ok word (Some command) words = always IsAskable (λ given. asked command given) (given_of command words) (asked-ok command)
+unknown_or_asked-ok : (input : Option (List ℕ)) (given : GivenValue) → IfOk (unknown_or_asked input given) IsAskable
+unknown_or_asked-ok None given = asked-ok name.Encrypt given
+unknown_or_asked-ok (Some word) given =
+    either IsAskable (length given.recipients == 0 && not (is_some given.passphrase_file)) _ (asked name.Encrypt given) tt (asked-ok name.Encrypt given)
 
-help_or : (help : Bool) (other : Result CommandValue UsageErrorValue) → IfOk other IsAskable → IfOk (if help then Ok Help else other) IsAskable
-help_or true other h = tt
-help_or false other h = h
+to_encrypt-ok : (encrypting : Bool) (given : GivenValue) → IfOk (asked_alone encrypting false given) IsAskable
+to_encrypt-ok true given = either IsAskable (not (length given.identity_files == 0)) _ (asked name.Encrypt given) tt (asked-ok name.Encrypt given)
+to_encrypt-ok false given =
+    either IsAskable (not (length given.identity_files == 0)) _ (unknown_or_asked given.input given) tt (unknown_or_asked-ok given.input given)
+
+asked_alone-ok : (encrypting decrypting : Bool) (given : GivenValue) → IfOk (asked_alone encrypting decrypting given) IsAskable
+asked_alone-ok true true given = tt
+asked_alone-ok false true given =
+    either IsAskable (given.armored || not (length given.recipients == 0)) _ (asked name.Decrypt given) tt (asked-ok name.Decrypt given)
+asked_alone-ok true false given = to_encrypt-ok true given
+asked_alone-ok false false given = to_encrypt-ok false given
+
+asked_named-ok : (word : List ℕ) (command : Option CommandName) (rows : List Row) → IfOk (asked_named word command rows) IsAskable
+asked_named-ok word None rows = tt
+asked_named-ok word (Some command) rows = asked-ok command (given_of rows)
 
 -- whatever is asked for can be asked for
-pub askable : (words : List (List ℕ)) → IfOk (command_of words) IsAskable
-askable [] = tt
-askable (word ∷ words) =
-    help_or (asks_for_help (command_named word) false (word ∷ words)) _ (named_command_of-ok word (command_named word) words)
+pub askable : (rows : List Row) (met : Option (List ℕ × List Row)) → IfOk (asked_by rows met) IsAskable
+askable rows None = asked_alone-ok _ _ (given_of rows)
+askable rows (Some met) = either IsAskable (has_words rows) _ (asked_named met.0 (command_named met.0) met.1) tt (asked_named-ok met.0 (command_named met.0) met.1)

@@ -1,4 +1,7 @@
 pub mod Numbers
-pub mod RoundTrip
-pub mod Askable
 pub mod Stops
+pub mod Apps
+pub mod Rows
+pub mod Either
+pub mod Answered
+pub mod Askable

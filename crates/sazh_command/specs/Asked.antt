@@ -1,7 +1,6 @@
 -- What a command line asks for, and what is wrong with one, apart from where the bytes of the words lie in memory.
 use Rattle.std.specs.Prelude.{◌≡◌, ℕ, Bool, List, map, string_bytes, Result, Ok, Err, ⊤}
-use Rattle.sazh_command.specs.declared.options.ValueOption.{ValueOption}
-use Rattle.sazh_command.specs.declared.options.Operand.{Operand}
+use Rattle.sazh_command.specs.declared.names.Operand.{Operand}
 use Rattle.sazh_command.specs.declared.command.Recipient.{Recipient}
 use Rattle.sazh_command.specs.declared.command.Recipient.TheVariants as recipient
 use Rattle.sazh_command.specs.declared.command.Recipients.{Recipients}
@@ -21,7 +20,7 @@ pub data RecipientValue : Type 0 where
   Text : List ℕ → RecipientValue
   File : List ℕ → RecipientValue
 
--- recipients in the order of the words, or a file with a passphrase
+-- recipients in their order, or a file with a passphrase
 pub data RecipientsValue : Type 0 where
   Listed : List RecipientValue → RecipientsValue
   ToPassphraseFile : List ℕ → RecipientsValue
@@ -51,13 +50,18 @@ pub data CommandValue : Type 0 where
 -- what is wrong
 pub data UsageErrorValue : Type 0 where
   NoCommand : UsageErrorValue
+  Words : List ℕ → UsageErrorValue
+  NoPassphraseFile : UsageErrorValue
+  HoldsSecret : UsageErrorValue
   UnknownCommand : List ℕ → UsageErrorValue
-  UnknownOption : List ℕ → UsageErrorValue
-  MissingValue : ValueOption → UsageErrorValue
-  GivenTwice : ValueOption → UsageErrorValue
+  WordBeforeCommand : UsageErrorValue
+  EncryptAndDecrypt : UsageErrorValue
+  EncryptingOption : UsageErrorValue
+  DecryptingOption : UsageErrorValue
   PassphraseBesideRecipients : UsageErrorValue
   NoRecipient : UsageErrorValue
   NoIdentity : UsageErrorValue
+  PlaceOrCountAlone : UsageErrorValue
   MissingOperand : Operand → UsageErrorValue
   NotANumber : Operand → List ℕ → UsageErrorValue
   ExtraOperand : List ℕ → UsageErrorValue
@@ -81,8 +85,8 @@ abbrev pub output_value : Output → OutputValue
 output_value output = record { name = string_bytes output.name; overwrite = output.overwrite }
 
 abbrev pub command_value : Command → CommandValue
-command_value command.Help = Help
-command_value command.Version = Version
+command_value (command.Help text) = Help
+command_value (command.Version text) = Version
 command_value (command.Keygen output) = Keygen (output_value output)
 command_value (command.Encrypt recipients armored input output) =
     Encrypt (recipients_value recipients) armored (string_bytes input) (output_value output)
@@ -92,13 +96,18 @@ command_value (command.Migrate identities input output) = Migrate (identities_va
 
 abbrev pub error_value : UsageError → UsageErrorValue
 error_value mistake.NoCommand = NoCommand
+error_value (mistake.Words text) = Words (string_bytes text)
+error_value mistake.NoPassphraseFile = NoPassphraseFile
+error_value mistake.HoldsSecret = HoldsSecret
 error_value (mistake.UnknownCommand word) = UnknownCommand (string_bytes word)
-error_value (mistake.UnknownOption word) = UnknownOption (string_bytes word)
-error_value (mistake.MissingValue option) = MissingValue option
-error_value (mistake.GivenTwice option) = GivenTwice option
+error_value mistake.WordBeforeCommand = WordBeforeCommand
+error_value mistake.EncryptAndDecrypt = EncryptAndDecrypt
+error_value mistake.EncryptingOption = EncryptingOption
+error_value mistake.DecryptingOption = DecryptingOption
 error_value mistake.PassphraseBesideRecipients = PassphraseBesideRecipients
 error_value mistake.NoRecipient = NoRecipient
 error_value mistake.NoIdentity = NoIdentity
+error_value mistake.PlaceOrCountAlone = PlaceOrCountAlone
 error_value (mistake.MissingOperand operand) = MissingOperand operand
 error_value (mistake.NotANumber operand word) = NotANumber operand (string_bytes word)
 error_value (mistake.ExtraOperand word) = ExtraOperand (string_bytes word)
@@ -118,3 +127,8 @@ StopsAt Memory due = ⊤
 abbrev pub IsAnswer : {T U : Type 0} → (T → U) → Result T Stop → Result U UsageErrorValue → Type 0
 IsAnswer value (Ok found) due = due ≡ Ok (value found)
 IsAnswer value (Err stop) due = StopsAt stop due
+
+-- what follows, unless something is wrong already
+abbrev pub and_then : {T U : Type 0} → (T → Result U UsageErrorValue) → Result T UsageErrorValue → Result U UsageErrorValue
+and_then next (Ok found) = next found
+and_then next (Err error) = Err error

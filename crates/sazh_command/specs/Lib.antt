@@ -1,8 +1,11 @@
+pub mod App
 pub mod Asked
-pub mod Options
-pub mod Reading
+pub mod Names
+pub mod Found
 pub mod Decimal
 pub mod Synopsis
-pub mod Written
+pub mod Secrets
+pub mod Answers
+pub mod Laws
 pub mod Messages
 pub mod Place

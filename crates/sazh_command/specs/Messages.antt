@@ -1,18 +1,8 @@
--- How what is wrong is told, where no word of the command line is in it. The other lines are left open.
+-- How what is wrong is told, where no word of the command line is in it, or `clap`'s text tells it. The other lines are left open.
 use Rattle.std.specs.Prelude.{ℕ, List, ◌++◌, codes, Option, Some, None}
-use Rattle.sazh_command.specs.declared.options.ValueOption.{ValueOption}
-use Rattle.sazh_command.specs.declared.options.ValueOption.TheVariants.{Recipient, RecipientsFile, IdentityFile, PassphraseFile, Output}
-use Rattle.sazh_command.specs.declared.options.Operand.{Operand}
-use Rattle.sazh_command.specs.declared.options.Operand.TheVariants.{Place, Count, Input}
-use Rattle.sazh_command.specs.Asked.{UsageErrorValue, NoCommand, MissingValue, GivenTwice, PassphraseBesideRecipients, NoRecipient, NoIdentity, MissingOperand}
-
--- an option, as it is written
-abbrev pub option_text : ValueOption → List ℕ
-option_text Recipient = codes "-r"
-option_text RecipientsFile = codes "-R"
-option_text IdentityFile = codes "-i"
-option_text PassphraseFile = codes "-p"
-option_text Output = codes "-o"
+use Rattle.sazh_command.specs.declared.names.Operand.{Operand}
+use Rattle.sazh_command.specs.declared.names.Operand.TheVariants.{Place, Count, Input}
+use Rattle.sazh_command.specs.Asked.{UsageErrorValue, NoCommand, Words, HoldsSecret, WordBeforeCommand, EncryptAndDecrypt, EncryptingOption, DecryptingOption, PassphraseBesideRecipients, NoRecipient, NoIdentity, PlaceOrCountAlone, MissingOperand}
 
 -- an operand, as the synopsis calls it
 abbrev pub operand_text : Operand → List ℕ
@@ -20,13 +10,18 @@ operand_text Place = codes "PLACE"
 operand_text Count = codes "COUNT"
 operand_text Input = codes "IN"
 
--- the line
+-- the text
 abbrev pub message_of : UsageErrorValue → Option (List ℕ)
 message_of NoCommand = Some (codes "no command is given")
-message_of (MissingValue option) = Some (codes "the option " ++ option_text option ++ codes " lacks its value")
-message_of (GivenTwice option) = Some (codes "the option " ++ option_text option ++ codes " is given twice")
+message_of (Words text) = Some text
+message_of HoldsSecret = Some (codes "a word holds a secret key, and no word is repeated: name the key's file, by -i FILE")
+message_of WordBeforeCommand = Some (codes "the name of a command isn't the first word")
+message_of EncryptAndDecrypt = Some (codes "the option -e is given beside -d")
+message_of EncryptingOption = Some (codes "the option -d is given beside -r, -R or -a, which are to encrypt")
+message_of DecryptingOption = Some (codes "the option -i is given without -d, which is to decrypt")
 message_of PassphraseBesideRecipients = Some (codes "the option -p is given beside -r or -R")
 message_of NoRecipient = Some (codes "no recipient is given: -r, -R or -p is needed")
 message_of NoIdentity = Some (codes "no identity is given: -i or -p is needed")
+message_of PlaceOrCountAlone = Some (codes "one of the options --from and --count is given without the other")
 message_of (MissingOperand operand) = Some (operand_text operand ++ codes " is missing")
 message_of error = None

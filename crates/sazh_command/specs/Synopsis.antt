@@ -1,18 +1,26 @@
--- What a command line asks for, command by command, and which mistake counts where there are several: reading goes word by word from the
--- left, and then come the recipients or identities, the operands, and the numbers, in this order. A word is a list of bytes.
-use Rattle.std.specs.Prelude.{ℕ, Bool, false, List, [], ◌∷◌, codes, if◌then◌else◌, Option, Some, None, unwrap_or, Result, Ok, Err, ⊤}
-use Rattle.sazh_command.specs.declared.options.Operand.{Operand}
-use Rattle.sazh_command.specs.declared.options.Operand.TheVariants as operand
-use Rattle.sazh_command.specs.declared.options.CommandName.{CommandName}
-use Rattle.sazh_command.specs.declared.options.CommandName.TheVariants as name
-use Rattle.sazh_command.specs.Asked.{RecipientValue, RecipientsValue, Listed, ToPassphraseFile, IdentitiesValue, Files, ProtectedFiles, WithPassphraseFile, OutputValue, CommandValue, Help, Version, Keygen, Encrypt, Decrypt, Part, Migrate, UsageErrorValue, NoCommand, UnknownCommand, PassphraseBesideRecipients, NoRecipient, NoIdentity, MissingOperand, NotANumber, ExtraOperand}
+-- What a command line asks for, command by command, once `clap` has read its words, and which mistake counts where there are several:
+-- options that don't go together come first, and then the recipients or identities, the operands, and the numbers, in this order. A word is a
+-- list of bytes.
+use Rattle.std.specs.Prelude.{ℕ, Bool, true, false, not, ◌&&◌, ◌||◌, List, [], ◌∷◌, codes, length, ◌==◌, if◌then◌else◌, Option, Some, None, unwrap_or, is_some, Result, Ok, Err, ⊤}
+use Rattle.std.specs.List.{list_any}
+use Rattle.clap.specs.Facts.{explicit_source}
+use Rattle.clap.specs.Walk.{Row}
+use Rattle.sazh_command.specs.declared.names.Operand.{Operand}
+use Rattle.sazh_command.specs.declared.names.Operand.TheVariants as operand
+use Rattle.sazh_command.specs.declared.names.CommandName.{CommandName}
+use Rattle.sazh_command.specs.declared.names.CommandName.TheVariants as name
+use Rattle.sazh_command.specs.Asked.{RecipientValue, RecipientsValue, Listed, ToPassphraseFile, IdentitiesValue, Files, ProtectedFiles, WithPassphraseFile, OutputValue, CommandValue, Keygen, Encrypt, Decrypt, Part, Migrate, UsageErrorValue, UnknownCommand, WordBeforeCommand, EncryptAndDecrypt, EncryptingOption, DecryptingOption, PassphraseBesideRecipients, NoRecipient, NoIdentity, PlaceOrCountAlone, MissingOperand, NotANumber, ExtraOperand, and_then}
 use Rattle.sazh_command.specs.Decimal.{number_of}
-use Rattle.sazh_command.specs.Options.{command_named}
-use Rattle.sazh_command.specs.Reading.{GivenValue, and_then, given_of, asks_for_help}
+use Rattle.sazh_command.specs.Names.{command_named}
+use Rattle.sazh_command.specs.Found.{GivenValue, given_of, is_given}
 
--- [-o OUT] [-f]: the standard output where no OUT is given
+-- a file that may be left out, or standard input or output
+abbrev pub name_of : Option (List ℕ) → List ℕ
+name_of name = unwrap_or name (codes "-")
+
+-- [-o OUT] [-f]
 abbrev pub output_of : Option (List ℕ) → Bool → OutputValue
-output_of name overwrite = record { name = unwrap_or name (codes "-"); overwrite = overwrite }
+output_of name overwrite = record { name = name_of name; overwrite = overwrite }
 
 -- (-r RECIPIENT | -R FILE).., or -p FILE
 abbrev pub recipients_of : List RecipientValue → Option (List ℕ) → Result RecipientsValue UsageErrorValue
@@ -33,7 +41,7 @@ abbrev pub no_operand : List (List ℕ) → Result ⊤ UsageErrorValue
 no_operand [] = Ok tt
 no_operand (word ∷ more) = Err (ExtraOperand word)
 
--- [IN]: the standard input where no IN is given
+-- [IN] of `part`: the standard input where no IN is given
 abbrev pub input_of : List (List ℕ) → Result (List ℕ) UsageErrorValue
 input_of [] = Ok (codes "-")
 input_of (input ∷ more) = and_then (λ none. Ok input) (no_operand more)
@@ -43,47 +51,74 @@ abbrev pub number_or_error : Operand → List ℕ → Option ℕ → Result ℕ 
 number_or_error operand word (Some number) = Ok number
 number_or_error operand word None = Err (NotANumber operand word)
 
+-- both numbers, and what is read
+abbrev pub numbered : List ℕ → List ℕ → List ℕ → Result (ℕ × ℕ × List ℕ) UsageErrorValue
+numbered place count input =
+    and_then (λ start. and_then (λ size. Ok (start, size, input)) (number_or_error operand.Count count (number_of count)))
+    (number_or_error operand.Place place (number_of place))
+
 -- PLACE COUNT IN
-abbrev pub range_of : List (List ℕ) → Result (ℕ × ℕ × List ℕ) UsageErrorValue
-range_of [] = Err (MissingOperand operand.Place)
-range_of (place ∷ []) = Err (MissingOperand operand.Count)
-range_of (place ∷ count ∷ []) = Err (MissingOperand operand.Input)
-range_of (place ∷ count ∷ input ∷ more) =
-    and_then (λ none. and_then (λ start. and_then (λ size. Ok (start, size, input)) (number_or_error operand.Count count (number_of count)))
-    (number_or_error operand.Place place (number_of place))) (no_operand more)
+abbrev pub operands_range : List (List ℕ) → Result (ℕ × ℕ × List ℕ) UsageErrorValue
+operands_range [] = Err (MissingOperand operand.Place)
+operands_range (place ∷ []) = Err (MissingOperand operand.Count)
+operands_range (place ∷ count ∷ []) = Err (MissingOperand operand.Input)
+operands_range (place ∷ count ∷ input ∷ more) = and_then (λ none. numbered place count input) (no_operand more)
+
+-- PLACE COUNT IN, or --from PLACE --count N [IN]
+abbrev pub range_of : Option (List ℕ) → Option (List ℕ) → List (List ℕ) → Result (ℕ × ℕ × List ℕ) UsageErrorValue
+range_of None None operands = operands_range operands
+range_of (Some place) (Some count) operands = and_then (λ input. numbered place count input) (input_of operands)
+range_of place count operands = Err PlaceOrCountAlone
 
 -- what a command asks for, given this
 abbrev pub asked : CommandName → GivenValue → Result CommandValue UsageErrorValue
--- sazh --version
-asked name.Version given = and_then (λ none. Ok Version) (no_operand given.operands)
 -- sazh keygen [-f] [-o OUT]
-asked name.Keygen given = and_then (λ none. Ok (Keygen (output_of given.output given.overwrite))) (no_operand given.operands)
+asked name.Keygen given = Ok (Keygen (output_of given.output given.overwrite))
 -- sazh encrypt (-r RECIPIENT | -R FILE).. [-a] [-f] [-o OUT] [IN]
 -- sazh encrypt -p FILE [-a] [-f] [-o OUT] [IN]
 asked name.Encrypt given =
-    and_then (λ recipients. and_then (λ input. Ok (Encrypt recipients given.armored input (output_of given.output given.overwrite)))
-    (input_of given.operands)) (recipients_of given.recipients given.passphrase_file)
+    and_then (λ recipients. Ok (Encrypt recipients given.armored (name_of given.input) (output_of given.output given.overwrite)))
+    (recipients_of given.recipients given.passphrase_file)
 -- sazh decrypt (-i FILE.. [-p FILE] | -p FILE) [-f] [-o OUT] [IN]
 asked name.Decrypt given =
-    and_then (λ identities. and_then (λ input. Ok (Decrypt identities input (output_of given.output given.overwrite)))
-    (input_of given.operands)) (identities_of given.identity_files given.passphrase_file)
+    and_then (λ identities. Ok (Decrypt identities (name_of given.input) (output_of given.output given.overwrite)))
+    (identities_of given.identity_files given.passphrase_file)
 -- sazh part (-i FILE.. [-p FILE] | -p FILE) PLACE COUNT IN
+-- sazh part (-i FILE.. [-p FILE] | -p FILE) --from PLACE --count N [IN]
 asked name.Part given =
-    and_then (λ identities. and_then (λ range. Ok (Part identities range.0 range.1 range.2)) (range_of given.operands))
+    and_then (λ identities. and_then (λ range. Ok (Part identities range.0 range.1 range.2)) (range_of given.place given.count given.operands))
     (identities_of given.identity_files given.passphrase_file)
 -- sazh migrate (-i FILE.. [-p FILE] | -p FILE) [-f] [-o OUT] [IN]
 asked name.Migrate given =
-    and_then (λ identities. and_then (λ input. Ok (Migrate identities input (output_of given.output given.overwrite)))
-    (input_of given.operands)) (identities_of given.identity_files given.passphrase_file)
+    and_then (λ identities. Ok (Migrate identities (name_of given.input) (output_of given.output given.overwrite)))
+    (identities_of given.identity_files given.passphrase_file)
 
--- the command that the first word names, and the words after it
-abbrev pub named_command_of : List ℕ → Option CommandName → List (List ℕ) → Result CommandValue UsageErrorValue
-named_command_of word None words = Err (UnknownCommand word)
-named_command_of word (Some command) words = and_then (λ given. asked command given) (given_of command words)
+-- IN alone, and nothing that says to whom is encrypted, is a command that isn't there
+abbrev pub unknown_or_asked : Option (List ℕ) → GivenValue → Result CommandValue UsageErrorValue
+unknown_or_asked (Some word) given =
+    if length given.recipients == 0 && not (is_some given.passphrase_file) then Err (UnknownCommand word) else asked name.Encrypt given
+unknown_or_asked None given = asked name.Encrypt given
 
--- a command line. Help that is asked for comes before all mistakes
-abbrev pub command_of : List (List ℕ) → Result CommandValue UsageErrorValue
-command_of [] = Err NoCommand
-command_of (word ∷ words) =
-    if asks_for_help (command_named word) false (word ∷ words) then Ok Help
-    else named_command_of word (command_named word) words
+-- a command line without a command, with -e and -d or without
+abbrev pub asked_alone : Bool → Bool → GivenValue → Result CommandValue UsageErrorValue
+asked_alone true true given = Err EncryptAndDecrypt
+asked_alone false true given =
+    if given.armored || not (length given.recipients == 0) then Err EncryptingOption else asked name.Decrypt given
+asked_alone encrypting false given =
+    if not (length given.identity_files == 0) then Err DecryptingOption
+    else if encrypting then asked name.Encrypt given
+    else unknown_or_asked given.input given
+
+-- the command of this name
+abbrev pub asked_named : List ℕ → Option CommandName → List Row → Result CommandValue UsageErrorValue
+asked_named word None rows = Err (UnknownCommand word)
+asked_named word (Some command) rows = asked command (given_of rows)
+
+-- an option was met among the words, and isn't there by default alone
+abbrev pub has_words : List Row → Bool
+has_words rows = list_any (λ row. explicit_source row.source) rows
+
+-- what the matches of the program's own options, and those of the command that was met, ask for
+abbrev pub asked_by : List Row → Option (List ℕ × List Row) → Result CommandValue UsageErrorValue
+asked_by rows None = asked_alone (is_given (codes "encrypt") rows) (is_given (codes "decrypt") rows) (given_of rows)
+asked_by rows (Some met) = if has_words rows then Err WordBeforeCommand else asked_named met.0 (command_named met.0) met.1

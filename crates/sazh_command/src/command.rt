@@ -3,7 +3,7 @@
 /// Whom `encrypt` encrypts to.
 #[derive(Debug, Drop)]
 pub enum Recipients {
-    /// Each of these, in the order of the words, `-r` and `-R` mixed. At least one.
+    /// Each of these: those of `-r` in the order of the words, and then the files of `-R` in theirs. At least one.
     Listed(Vec<Recipient>),
     /// Who knows the passphrase in the file of this name (`-p`).
     PassphraseFile(String),
@@ -41,10 +41,10 @@ pub struct Output {
 /// What the program is to do. `input` is the name of a file, or `-` for the standard input.
 #[derive(Debug, Drop)]
 pub enum Command {
-    /// Write the help.
-    Help,
-    /// Write the version.
-    Version,
+    /// Write this text, which is the help of the program or of a command.
+    Help(String),
+    /// Write this text, which has the version.
+    Version(String),
     /// Write a new identity.
     Keygen {
         output: Output,

@@ -1,63 +1,88 @@
 //! The texts that say how a command line is written. Each ends without a line end.
 
+/// What `--version` tells.
+pub const VERSION: &str = "0.1.0";
+
 /// The synopsis alone, which follows what is wrong with a command line.
-pub const USAGE: &str = "usage: sazh keygen [-f] [-o OUT]
-       sazh encrypt (-r RECIPIENT | -R FILE).. [-a] [-f] [-o OUT] [IN]
-       sazh encrypt -p FILE [-a] [-f] [-o OUT] [IN]
-       sazh decrypt (-i FILE.. [-p FILE] | -p FILE) [-f] [-o OUT] [IN]
-       sazh part (-i FILE.. [-p FILE] | -p FILE) PLACE COUNT IN
-       sazh migrate (-i FILE.. [-p FILE] | -p FILE) [-f] [-o OUT] [IN]
-       sazh --help
-       sazh --version";
+pub const USAGE: &str = "Usage: sazh [-e] (-r RECIPIENT | -R FILE).. [-a] [-f] [-o OUT] [IN]
+       sazh [-e] -p FILE [-a] [-f] [-o OUT] [IN]
+       sazh -d (-i FILE.. [-p FILE] | -p FILE) [-f] [-o OUT] [IN]
+       sazh keygen [-f] [-o OUT]
+       sazh encrypt | decrypt | part | migrate ..
 
-/// The synopsis, what each word of it means, the exit statuses, and examples: lines of at most 80 columns.
-pub const HELP: &str = "usage: sazh keygen [-f] [-o OUT]
-       sazh encrypt (-r RECIPIENT | -R FILE).. [-a] [-f] [-o OUT] [IN]
-       sazh encrypt -p FILE [-a] [-f] [-o OUT] [IN]
-       sazh decrypt (-i FILE.. [-p FILE] | -p FILE) [-f] [-o OUT] [IN]
-       sazh part (-i FILE.. [-p FILE] | -p FILE) PLACE COUNT IN
-       sazh migrate (-i FILE.. [-p FILE] | -p FILE) [-f] [-o OUT] [IN]
-       sazh --help
-       sazh --version
+For more information, try '--help', also behind a command.";
 
-Encrypts and decrypts files of the format age-encryption.org/v1.
+pub const USAGE_TOP: &str = "sazh [-e] (-r RECIPIENT | -R FILE).. [-a] [-f] [-o OUT] [IN]
+       sazh [-e] -p FILE [-a] [-f] [-o OUT] [IN]
+       sazh -d (-i FILE.. [-p FILE] | -p FILE) [-f] [-o OUT] [IN]
+       sazh COMMAND ..";
 
-keygen   makes a new identity, which decrypts. Its file must be kept secret.
-encrypt  encrypts IN to each of the recipients, or to who knows a passphrase.
-decrypt  decrypts IN, in armor or not.
-part     decrypts COUNT bytes of IN from byte PLACE on (0 is the first), or
-         fewer where the content ends, and writes them to standard output. It
-         seeks in a file, also as standard input, and reads a pipe into memory.
-migrate  rewrites IN, a file from before the standard, without armor and with a
-         header that the other commands read. Its content stays encrypted.
+pub const USAGE_KEYGEN: &str = "sazh keygen [-f] [-o OUT]";
 
-IN and OUT are names of files; -, or none, is standard input or output.
+pub const USAGE_ENCRYPT: &str = "sazh encrypt (-r RECIPIENT | -R FILE).. [-a] [-f] [-o OUT] [IN]
+       sazh encrypt -p FILE [-a] [-f] [-o OUT] [IN]";
 
-  -r RECIPIENT  encrypt to this recipient, a text that begins with age1
-  -R FILE       encrypt to the recipients in FILE, one a line; empty lines and
-                lines that begin with # are passed over
-  -i FILE       decrypt with the identities in FILE, one a line in the same way
-  -p FILE       the passphrase is the first line of FILE, without its end: that
-                of IN, or beside -i that of files of identities that are
-                encrypted
-  -a            write armor, which is text, in place of bytes
-  -o OUT        write to OUT, a new file, in place of standard output
-  -f            replace OUT where it is there
-  --            no option follows
+pub const USAGE_DECRYPT: &str = "sazh decrypt (-i FILE.. [-p FILE] | -p FILE) [-f] [-o OUT] [IN]";
 
--r, -R and -i may be given more than once. Options may stand before, between
-and after the other words; an option's value is the next word. PLACE and COUNT
-are decimal numbers below 2^64. OUT is written beside its name, and renamed
-once it is whole. Nothing is asked on a terminal.
+pub const USAGE_PART: &str = "sazh part (-i FILE.. [-p FILE] | -p FILE) PLACE COUNT IN
+       sazh part (-i FILE.. [-p FILE] | -p FILE) --from PLACE --count N [IN]";
+
+pub const USAGE_MIGRATE: &str = "sazh migrate (-i FILE.. [-p FILE] | -p FILE) [-f] [-o OUT] [IN]";
+
+pub const ABOUT: &str = "Encrypts and decrypts files of the format age-encryption.org/v1.
+Without a command it takes the options of age, and encrypts unless -d is given.";
+
+pub const ABOUT_KEYGEN: &str =
+    "Makes a new identity, which decrypts. Its file must be kept secret.";
+
+pub const ABOUT_ENCRYPT: &str =
+    "Encrypts IN to each of the recipients, or to who knows a passphrase.";
+
+pub const ABOUT_DECRYPT: &str = "Decrypts IN, in armor or not.";
+
+pub const ABOUT_PART: &str = "Decrypts COUNT bytes of IN from byte PLACE on to standard output.";
+
+pub const ABOUT_MIGRATE: &str = "Rewrites IN, a file from before the standard, with a new header.";
+
+pub const AFTER_TOP: &str =
+    "-r, -R and -i may be given more than once: the recipients of -r come first, and
+then those of -R. Of the files of -i, -R and -p and IN one may be -, which is
+standard input. A value that begins with - stands behind =, as in --output=-x,
+and IN behind --. An IN that is named as a command is written ./keygen.
+
+Nothing is asked on a terminal. The passphrase is the first line of the file of
+-p, without its end; beside -i it is that of files of identities that are
+encrypted. To type it, or to take it from a password manager, in bash:
+  read -rsp 'passphrase: ' word
+  sazh -p <(printf '%s\\n' \"$word\") -o notes.age notes.txt
+  sazh -d -p <(pass show notes) notes.age
 
 exit status: 0 done; 1 refused, and a line on standard error says why; 2 this
-is no command line: standard error says what is wrong, then the usage.
+is no command line: standard error says what is wrong, and how one is written.
 
 examples:
   sazh keygen -o key.txt
-  sazh encrypt -o notes.age \\
-    -r age1ql3z7hjy54pw3hyww5ayyfg7zqgvc7w3j2elw8zmrj2kg5sfn9aqmcac8p notes.txt
-  sazh decrypt -i key.txt -o notes.txt notes.age
+  sazh -r age1ql3z7hjy54pw3hyww5ayyfg7zqgvc7w3j2elw8zmrj2kg5sfn9aqmcac8p \\
+    -o notes.age notes.txt
+  sazh -d -i key.txt -o notes.txt notes.age
   sazh encrypt -p passphrase.txt -a < notes.txt > notes.age
   sazh part -i key.txt 1000000 4096 disk.age > piece
   sazh migrate -i key.txt -o new.age old.age";
+
+pub const AFTER_KEYGEN: &str = "The first line of the file has the recipient: # public key: age1..";
+
+pub const AFTER_ENCRYPT: &str =
+    "-r and -R may be given more than once. The passphrase is the first line of the
+file of -p, without its end: sazh --help says how to type it.";
+
+pub const AFTER_DECRYPT: &str =
+    "-i may be given more than once. The passphrase is the first line of the file of
+-p, without its end: that of IN, or beside -i that of files of identities that
+are encrypted. sazh --help says how to type it.";
+
+pub const AFTER_PART: &str =
+    "PLACE, COUNT and N are decimal numbers below 2^64. It seeks in a file, also as
+standard input, and reads a pipe into memory. Beside --from and --count the one
+operand is IN.";
+
+pub const AFTER_MIGRATE: &str = "OUT is without armor, and its content stays encrypted.";

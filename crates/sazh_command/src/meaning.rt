@@ -1,29 +1,34 @@
 //! What a command asks for, once its words are read.
 ghost use Rattle.std.specs.Prelude.{◌≡◌, IfOk, map, string_bytes, option_map};
 ghost use Rattle.sazh_command.specs.Asked.{IsAnswer, answer_value, recipient_value, recipients_value, identities_value, output_value, command_value};
-ghost use Rattle.sazh_command.specs.Reading.{given_value};
+ghost use Rattle.sazh_command.specs.Found.{given_value};
 ghost use Rattle.sazh_command.specs.Decimal.{number_of};
-ghost use Rattle.sazh_command.specs.Synopsis.{output_of, recipients_of, identities_of, no_operand, input_of, number_or_error, range_of, asked};
+ghost use Rattle.sazh_command.specs.Synopsis.{name_of, output_of, recipients_of, identities_of, no_operand, input_of, number_or_error, numbered, operands_range, range_of, asked, asked_alone, unknown_or_asked};
 
 use crate::command::{Command, Identities, Output, Recipient, Recipients};
+use crate::found::Given;
 use crate::mistakes::{Stop, UsageError};
+use crate::names::{CommandName, Operand};
 use crate::number::parse_number;
-use crate::options::{CommandName, Operand};
-use crate::reading::Given;
 use std::alloc::{AllocError, Global};
 use std::mem;
+
+// The file of this name, or the standard input or output.
+fn name_of(alloc: Global, name: Option<String>) -> Result<String, AllocError>
+    ensures { IfOk result (λ text. string_bytes text ≡ name_of (option_map string_bytes name)) }
+{
+    match name {
+        Some(name) => Ok(name),
+        None => String::from_str(alloc, "-"),
+    }
+}
 
 // The output of this name, or the standard output.
 fn output_of(alloc: Global, name: Option<String>, overwrite: bool) -> Result<Output, AllocError>
     ensures { IfOk result (λ output. output_value output ≡ output_of (option_map string_bytes name) overwrite) }
 {
-    match name {
-        Some(name) => Ok(Output { name, overwrite }),
-        None => {
-            let name = String::from_str(alloc, "-")?;
-            Ok(Output { name, overwrite })
-        }
-    }
+    let name = name_of(alloc, name)?;
+    Ok(Output { name, overwrite })
 }
 
 // Recipients, or who knows a passphrase.
@@ -104,10 +109,25 @@ fn number_or_error(alloc: Global, operand: Operand, word: &str) -> Result<u64, S
     }
 }
 
-// PLACE, COUNT and IN, which are the operands of `part`.
+// Both numbers, and the input.
 #[tactic(auto, using(crate::proofs::Stops::and_then_stops))]
-fn range_of(alloc: Global, operands: &[String]) -> Result<(u64, u64, String), Stop>
-    ensures { IsAnswer (λ range. (range.0, range.1, string_bytes range.2)) result (range_of (map string_bytes operands.now)) }
+fn numbered(
+    alloc: Global,
+    place: &str,
+    count: &str,
+    input: String,
+) -> Result<(u64, u64, String), Stop>
+    ensures { IsAnswer (λ range. (range.0, range.1, string_bytes range.2)) result (numbered place.now count.now (string_bytes input)) }
+{
+    let place = number_or_error(alloc, Operand::Place, place)?;
+    let count = number_or_error(alloc, Operand::Count, count)?;
+    Ok((place, count, input))
+}
+
+// PLACE, COUNT and IN.
+#[tactic(auto, using(crate::proofs::Stops::and_then_stops))]
+fn operands_range(alloc: Global, operands: &[String]) -> Result<(u64, u64, String), Stop>
+    ensures { IsAnswer (λ range. (range.0, range.1, string_bytes range.2)) result (operands_range (map string_bytes operands.now)) }
 {
     let Some((place, more)) = operands.split_first() else {
         return Err(Stop::Usage(UsageError::MissingOperand(Operand::Place)));
@@ -119,18 +139,35 @@ fn range_of(alloc: Global, operands: &[String]) -> Result<(u64, u64, String), St
         return Err(Stop::Usage(UsageError::MissingOperand(Operand::Input)));
     };
     no_operand(alloc, more)?;
-    let place = number_or_error(alloc, Operand::Place, place.as_str())?;
-    let count = number_or_error(alloc, Operand::Count, count.as_str())?;
     let input = String::from_str(alloc, input.as_str())?;
-    Ok((place, count, input))
+    numbered(alloc, place.as_str(), count.as_str(), input)
+}
+
+// PLACE, COUNT and IN, by options or as operands.
+#[tactic(auto, using(crate::proofs::Stops::and_then_stops))]
+fn range_of(
+    alloc: Global,
+    place: Option<String>,
+    count: Option<String>,
+    operands: &[String],
+) -> Result<(u64, u64, String), Stop>
+    ensures { IsAnswer (λ range. (range.0, range.1, string_bytes range.2)) result
+        (range_of (option_map string_bytes place) (option_map string_bytes count) (map string_bytes operands.now)) }
+{
+    match (place, count) {
+        (None, None) => operands_range(alloc, operands),
+        (Some(place), Some(count)) => {
+            let input = input_of(alloc, operands)?;
+            numbered(alloc, place.as_str(), count.as_str(), input)
+        }
+        _ => Err(Stop::Usage(UsageError::PlaceOrCountAlone)),
+    }
 }
 
 // `keygen`.
-#[tactic(auto, using(crate::proofs::Stops::and_then_stops))]
 fn asked_of_keygen(alloc: Global, given: &mut Given) -> Result<Command, Stop>
     ensures { IsAnswer command_value result (asked CommandName.Keygen (given_value given.old)) }
 {
-    no_operand(alloc, given.operands.as_slice())?;
     let output = output_of(alloc, given.output.take(), given.overwrite)?;
     Ok(Command::Keygen { output })
 }
@@ -142,7 +179,7 @@ fn asked_of_encrypt(alloc: Global, given: &mut Given) -> Result<Command, Stop>
 {
     let listed = mem::replace(&mut given.recipients, Vec::new(alloc));
     let recipients = recipients_of(listed, given.passphrase_file.take())?;
-    let input = input_of(alloc, given.operands.as_slice())?;
+    let input = name_of(alloc, given.input.take())?;
     let output = output_of(alloc, given.output.take(), given.overwrite)?;
     Ok(Command::Encrypt {
         recipients,
@@ -159,7 +196,7 @@ fn asked_of_decrypt(alloc: Global, given: &mut Given) -> Result<Command, Stop>
 {
     let files = mem::replace(&mut given.identity_files, Vec::new(alloc));
     let identities = identities_of(files, given.passphrase_file.take())?;
-    let input = input_of(alloc, given.operands.as_slice())?;
+    let input = name_of(alloc, given.input.take())?;
     let output = output_of(alloc, given.output.take(), given.overwrite)?;
     Ok(Command::Decrypt {
         identities,
@@ -175,7 +212,8 @@ fn asked_of_part(alloc: Global, given: &mut Given) -> Result<Command, Stop>
 {
     let files = mem::replace(&mut given.identity_files, Vec::new(alloc));
     let identities = identities_of(files, given.passphrase_file.take())?;
-    let (place, count, input) = range_of(alloc, given.operands.as_slice())?;
+    let (place, count) = (given.place.take(), given.count.take());
+    let (place, count, input) = range_of(alloc, place, count, given.operands.as_slice())?;
     Ok(Command::Part {
         identities,
         place,
@@ -191,7 +229,7 @@ fn asked_of_migrate(alloc: Global, given: &mut Given) -> Result<Command, Stop>
 {
     let files = mem::replace(&mut given.identity_files, Vec::new(alloc));
     let identities = identities_of(files, given.passphrase_file.take())?;
-    let input = input_of(alloc, given.operands.as_slice())?;
+    let input = name_of(alloc, given.input.take())?;
     let output = output_of(alloc, given.output.take(), given.overwrite)?;
     Ok(Command::Migrate {
         identities,
@@ -200,26 +238,56 @@ fn asked_of_migrate(alloc: Global, given: &mut Given) -> Result<Command, Stop>
     })
 }
 
-// `--version`.
-#[tactic(auto, using(crate::proofs::Stops::and_then_stops))]
-fn asked_of_version(alloc: Global, given: &Given) -> Result<Command, Stop>
-    ensures { IsAnswer command_value result (asked CommandName.Version (given_value given.now)) }
-{
-    no_operand(alloc, given.operands.as_slice())?;
-    Ok(Command::Version)
-}
-
 /// What a command asks for, where its options and operands are these. It takes what it needs out of `given`, so that all else of it is
 /// dropped in one place, by who has it.
 pub fn asked(alloc: Global, command: CommandName, given: &mut Given) -> Result<Command, Stop>
     ensures { IsAnswer command_value result (asked command (given_value given.old)) }
 {
     match command {
-        CommandName::Version => asked_of_version(alloc, given),
         CommandName::Keygen => asked_of_keygen(alloc, given),
         CommandName::Encrypt => asked_of_encrypt(alloc, given),
         CommandName::Decrypt => asked_of_decrypt(alloc, given),
         CommandName::Part => asked_of_part(alloc, given),
         CommandName::Migrate => asked_of_migrate(alloc, given),
+    }
+}
+
+// To encrypt, unless nothing but a word is given.
+fn unknown_or_asked(alloc: Global, given: &mut Given) -> Result<Command, Stop>
+    ensures { IsAnswer command_value result (unknown_or_asked (option_map string_bytes given.old.input) (given_value given.old)) }
+{
+    if given.recipients.is_empty() && given.passphrase_file.is_none() {
+        if let Some(word) = given.input.take() {
+            return Err(Stop::Usage(UsageError::UnknownCommand(word)));
+        }
+    }
+    asked_of_encrypt(alloc, given)
+}
+
+/// What options and an operand ask for where there is no command, with `-e` and `-d` or without.
+pub fn asked_alone(
+    alloc: Global,
+    encrypting: bool,
+    decrypting: bool,
+    given: &mut Given,
+) -> Result<Command, Stop>
+    ensures { IsAnswer command_value result (asked_alone encrypting decrypting (given_value given.old)) }
+{
+    if decrypting {
+        if encrypting {
+            return Err(Stop::Usage(UsageError::EncryptAndDecrypt));
+        }
+        if given.armored || !given.recipients.is_empty() {
+            return Err(Stop::Usage(UsageError::EncryptingOption));
+        }
+        return asked_of_decrypt(alloc, given);
+    }
+    if !given.identity_files.is_empty() {
+        return Err(Stop::Usage(UsageError::DecryptingOption));
+    }
+    if encrypting {
+        asked_of_encrypt(alloc, given)
+    } else {
+        unknown_or_asked(alloc, given)
     }
 }

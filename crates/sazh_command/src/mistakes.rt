@@ -3,43 +3,55 @@ ghost use Rattle.std.specs.Prelude.{◌≡◌};
 ghost use Rattle.sazh_command.specs.Asked.{error_value};
 ghost use Rattle.sazh_command.specs.Messages.{message_of};
 
-use crate::options::{Operand, ValueOption};
+use crate::names::Operand;
 use std::alloc::AllocError;
 use std::error::Error;
 use std::fmt;
 
-/// Why the words are no command line of the program. `Display` says it in one line: a word is written as a literal of Rust is, in
-/// quotes, with its line ends escaped.
+/// Why the words are no command line of the program. `Display` says it: a word that the program itself names is written as a literal of
+/// Rust is, in quotes, with its line ends escaped.
 #[derive(Debug, Drop)]
 pub enum UsageError {
     /// There is no word.
     NoCommand,
-    /// The first word names no command.
+    /// The words are not those of a command line, for the reason that this text of `clap` gives. It ends with the usage.
+    Words(String),
+    /// `-p` lacks the name of a file.
+    NoPassphraseFile,
+    /// One of the words holds a secret key, so that none is repeated: other words are wrong, or this one stands in the place of a file.
+    HoldsSecret,
+    /// The one word that no option takes names no command, and nothing says to whom is encrypted.
     UnknownCommand(String),
-    /// This word is written as an option, and the command has none such.
-    UnknownOption(String),
-    /// The option is the last word, and its value is missing.
-    MissingValue(ValueOption),
-    /// The option may be given once, and is given again.
-    GivenTwice(ValueOption),
-    /// `encrypt` has `-p` beside `-r` or `-R`.
+    /// An option or an operand stands before the command to which it may belong.
+    WordBeforeCommand,
+    /// `-e` stands beside `-d`.
+    EncryptAndDecrypt,
+    /// `-r`, `-R` or `-a` stands beside `-d`.
+    EncryptingOption,
+    /// `-i` is given, and `-d` is not.
+    DecryptingOption,
+    /// Where is encrypted, `-p` stands beside `-r` or `-R`.
     PassphraseBesideRecipients,
-    /// `encrypt` has none of `-r`, `-R` and `-p`.
+    /// Where is encrypted, none of `-r`, `-R` and `-p` is given.
     NoRecipient,
-    /// `decrypt`, `part` or `migrate` has neither `-i` nor `-p`.
+    /// Where is decrypted, neither `-i` nor `-p` is given.
     NoIdentity,
+    /// `part` has one of `--from` and `--count`.
+    PlaceOrCountAlone,
     /// `part` lacks this operand.
     MissingOperand(Operand),
     /// The word in the place of PLACE or COUNT is no decimal number below 2^64.
     NotANumber(Operand, String),
-    /// This operand is one more than the command takes.
+    /// This operand is one more than `part` takes.
     ExtraOperand(String),
 }
 
-// A word in quotes, and what is said of it.
-fn quoted<W: fmt::Write>(f: &mut fmt::Formatter<W>, word: &str, what: &str) -> fmt::Result {
-    write!(f, "{word:?}{what}")
-}
+const NO_PASSPHRASE_FILE: &str =
+    "the option -p lacks its value: it is the name of a file, whose first line is the passphrase.
+Nothing is asked on a terminal. To type it, or to take it from a password manager, in bash:
+  read -rsp 'passphrase: ' word
+  sazh -p <(printf '%s\\n' \"$word\") -o notes.age notes.txt
+  sazh -d -p <(pass show notes) notes.age";
 
 impl fmt::Display for UsageError {
     ghost output = { λ error. message_of (error_value error) };
@@ -47,23 +59,40 @@ impl fmt::Display for UsageError {
     fn fmt<W: fmt::Write>(&self, f: &mut fmt::Formatter<W>) -> fmt::Result {
         match self {
             UsageError::NoCommand => f.write_str("no command is given"),
-            UsageError::UnknownCommand(word) => quoted(f, word, " is no command"),
-            UsageError::UnknownOption(word) => quoted(f, word, " is no option of the command"),
-            UsageError::MissingValue(option) => write!(f, "the option {option} lacks its value"),
-            UsageError::GivenTwice(option) => write!(f, "the option {option} is given twice"),
+            UsageError::Words(text) => f.write_str(text.as_str()),
+            UsageError::NoPassphraseFile => f.write_str(NO_PASSPHRASE_FILE),
+            UsageError::HoldsSecret => f.write_str(
+                "a word holds a secret key, and no word is repeated: name the key's file, by -i FILE",
+            ),
+            UsageError::UnknownCommand(word) => {
+                write!(
+                    f,
+                    "{word:?} is no command, and to encrypt it -r, -R or -p is needed"
+                )
+            }
+            UsageError::WordBeforeCommand => {
+                f.write_str("the name of a command isn't the first word")
+            }
+            UsageError::EncryptAndDecrypt => f.write_str("the option -e is given beside -d"),
+            UsageError::EncryptingOption => {
+                f.write_str("the option -d is given beside -r, -R or -a, which are to encrypt")
+            }
+            UsageError::DecryptingOption => {
+                f.write_str("the option -i is given without -d, which is to decrypt")
+            }
             UsageError::PassphraseBesideRecipients => {
                 f.write_str("the option -p is given beside -r or -R")
             }
             UsageError::NoRecipient => f.write_str("no recipient is given: -r, -R or -p is needed"),
             UsageError::NoIdentity => f.write_str("no identity is given: -i or -p is needed"),
+            UsageError::PlaceOrCountAlone => {
+                f.write_str("one of the options --from and --count is given without the other")
+            }
             UsageError::MissingOperand(operand) => write!(f, "{operand} is missing"),
             UsageError::NotANumber(operand, word) => {
                 write!(f, "{operand} is {word:?}, and no decimal number below 2^64")
             }
-            UsageError::ExtraOperand(word) => {
-                f.write_str("the word ")?;
-                quoted(f, word, " is one too many")
-            }
+            UsageError::ExtraOperand(word) => write!(f, "the word {word:?} is one too many"),
         }
     }
 }

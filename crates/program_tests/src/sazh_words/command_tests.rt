@@ -13,7 +13,9 @@ keygen => Ok(Keygen { output: Output { name: "-", overwrite: false } })
 keygen -f => Ok(Keygen { output: Output { name: "-", overwrite: true } })
 keygen -o key => Ok(Keygen { output: Output { name: "key", overwrite: false } })
 keygen -o key -f => Ok(Keygen { output: Output { name: "key", overwrite: true } })
-keygen -f -o key -f => Ok(Keygen { output: Output { name: "key", overwrite: true } })
+keygen -fo key => Ok(Keygen { output: Output { name: "key", overwrite: true } })
+keygen --force --output=key => Ok(Keygen { output: Output { name: "key", overwrite: true } })
+keygen --output key => Ok(Keygen { output: Output { name: "key", overwrite: false } })
 keygen -o - => Ok(Keygen { output: Output { name: "-", overwrite: false } })
 keygen -- => Ok(Keygen { output: Output { name: "-", overwrite: false } })
 "#,
@@ -29,20 +31,19 @@ fn encrypt_to_recipients(rt: HostRuntime) -> Result<(), Fail> {
 encrypt -r age1a => Ok(Encrypt { recipients: Listed([Text("age1a")]), armored: false, input: "-", output: Output { name: "-", overwrite: false } })
 encrypt -R team plain => Ok(Encrypt { recipients: Listed([File("team")]), armored: false, input: "plain", output: Output { name: "-", overwrite: false } })
 encrypt -r age1a -a -f -o file plain => Ok(Encrypt { recipients: Listed([Text("age1a")]), armored: true, input: "plain", output: Output { name: "file", overwrite: true } })
-encrypt plain -o file -a -a -r age1a - => Err(ExtraOperand("-"))
 encrypt - -f -r age1a => Ok(Encrypt { recipients: Listed([Text("age1a")]), armored: false, input: "-", output: Output { name: "-", overwrite: true } })
 "#,
     )
 }
 
 #[test]
-fn recipients_stay_in_order(rt: HostRuntime) -> Result<(), Fail> {
+fn recipients_come_before_files_of_them(rt: HostRuntime) -> Result<(), Fail> {
     all_ask(
         &rt,
         rt.alloc(),
         r#"
-encrypt -r b -R c -r a -r b in -R a => Ok(Encrypt { recipients: Listed([Text("b"), File("c"), Text("a"), Text("b"), File("a")]), armored: false, input: "in", output: Output { name: "-", overwrite: false } })
-encrypt -R c -r b => Ok(Encrypt { recipients: Listed([File("c"), Text("b")]), armored: false, input: "-", output: Output { name: "-", overwrite: false } })
+encrypt -r b -R c -r a -r b in -R a => Ok(Encrypt { recipients: Listed([Text("b"), Text("a"), Text("b"), File("c"), File("a")]), armored: false, input: "in", output: Output { name: "-", overwrite: false } })
+encrypt -R c -r b => Ok(Encrypt { recipients: Listed([Text("b"), File("c")]), armored: false, input: "-", output: Output { name: "-", overwrite: false } })
 "#,
     )
 }
@@ -54,6 +55,7 @@ fn encrypt_to_a_passphrase(rt: HostRuntime) -> Result<(), Fail> {
         rt.alloc(),
         r#"
 encrypt -p secret => Ok(Encrypt { recipients: PassphraseFile("secret"), armored: false, input: "-", output: Output { name: "-", overwrite: false } })
+encrypt --passphrase-file=secret => Ok(Encrypt { recipients: PassphraseFile("secret"), armored: false, input: "-", output: Output { name: "-", overwrite: false } })
 encrypt -a plain -o file -p secret => Ok(Encrypt { recipients: PassphraseFile("secret"), armored: true, input: "plain", output: Output { name: "file", overwrite: false } })
 "#,
     )
@@ -82,6 +84,9 @@ fn part(rt: HostRuntime) -> Result<(), Fail> {
 part -i key 7 20 file => Ok(Part { identities: Files(["key"]), place: 7, count: 20, input: "file" })
 part 7 -i b 20 -i a - => Ok(Part { identities: Files(["b", "a"]), place: 7, count: 20, input: "-" })
 part -p secret -i key 7 20 file => Ok(Part { identities: ProtectedFiles(["key"], "secret"), place: 7, count: 20, input: "file" })
+part -i key --from 7 --count 20 file => Ok(Part { identities: Files(["key"]), place: 7, count: 20, input: "file" })
+part --count=20 file -i key --from=7 => Ok(Part { identities: Files(["key"]), place: 7, count: 20, input: "file" })
+part -p secret --from 7 --count 20 => Ok(Part { identities: PassphraseFile("secret"), place: 7, count: 20, input: "-" })
 part 0 18446744073709551615 file -p secret => Ok(Part { identities: PassphraseFile("secret"), place: 0, count: 18446744073709551615, input: "file" })
 "#,
     )
@@ -98,7 +103,31 @@ migrate -i key => Ok(Migrate { identities: Files(["key"]), input: "-", output: O
 migrate -i b file -i a -f -o new => Ok(Migrate { identities: Files(["b", "a"]), input: "file", output: Output { name: "new", overwrite: true } })
 migrate -o new -i b -p secret -i a file => Ok(Migrate { identities: ProtectedFiles(["b", "a"], "secret"), input: "file", output: Output { name: "new", overwrite: false } })
 migrate -p secret - => Ok(Migrate { identities: PassphraseFile("secret"), input: "-", output: Output { name: "-", overwrite: false } })
-migrate -i -o -- -f => Ok(Migrate { identities: Files(["-o"]), input: "-f", output: Output { name: "-", overwrite: false } })
+migrate -i-o -- -f => Ok(Migrate { identities: Files(["-o"]), input: "-f", output: Output { name: "-", overwrite: false } })
+"#,
+    )
+}
+
+// The options of `age`, without a command.
+#[test]
+fn the_options_of_age(rt: HostRuntime) -> Result<(), Fail> {
+    all_ask(
+        &rt,
+        rt.alloc(),
+        r#"
+-r age1a => Ok(Encrypt { recipients: Listed([Text("age1a")]), armored: false, input: "-", output: Output { name: "-", overwrite: false } })
+-e -r age1a -a -o file plain => Ok(Encrypt { recipients: Listed([Text("age1a")]), armored: true, input: "plain", output: Output { name: "file", overwrite: false } })
+--encrypt --recipient age1a --armor --output file plain => Ok(Encrypt { recipients: Listed([Text("age1a")]), armored: true, input: "plain", output: Output { name: "file", overwrite: false } })
+-aR team --recipient=age1a => Ok(Encrypt { recipients: Listed([Text("age1a"), File("team")]), armored: true, input: "-", output: Output { name: "-", overwrite: false } })
+plain --recipients-file team -f => Ok(Encrypt { recipients: Listed([File("team")]), armored: false, input: "plain", output: Output { name: "-", overwrite: true } })
+-p secret plain => Ok(Encrypt { recipients: PassphraseFile("secret"), armored: false, input: "plain", output: Output { name: "-", overwrite: false } })
+-d -i key file => Ok(Decrypt { identities: Files(["key"]), input: "file", output: Output { name: "-", overwrite: false } })
+-di key -i other -o plain file => Ok(Decrypt { identities: Files(["key", "other"]), input: "file", output: Output { name: "plain", overwrite: false } })
+--decrypt --identity key --output plain --force => Ok(Decrypt { identities: Files(["key"]), input: "-", output: Output { name: "plain", overwrite: true } })
+-d -p secret - => Ok(Decrypt { identities: PassphraseFile("secret"), input: "-", output: Output { name: "-", overwrite: false } })
+-d -i key -p secret file => Ok(Decrypt { identities: ProtectedFiles(["key"], "secret"), input: "file", output: Output { name: "-", overwrite: false } })
+-r age1a -- keygen => Ok(Encrypt { recipients: Listed([Text("age1a")]), armored: false, input: "keygen", output: Output { name: "-", overwrite: false } })
+-r age1a ./keygen => Ok(Encrypt { recipients: Listed([Text("age1a")]), armored: false, input: "./keygen", output: Output { name: "-", overwrite: false } })
 "#,
     )
 }
@@ -109,15 +138,14 @@ fn version(rt: HostRuntime) -> Result<(), Fail> {
         &rt,
         rt.alloc(),
         r#"
---version => Ok(Version)
---version -- => Ok(Version)
---version --version => Err(UnknownOption("--version"))
---version plain => Err(ExtraOperand("plain"))
+--version => Ok(Version("sazh 0.1.0\n"))
+-V => Ok(Version("sazh 0.1.0\n"))
+-r age1a --version => Ok(Version("sazh 0.1.0\n"))
 "#,
     )
 }
 
-// What follows `--` are operands, and what follows an option that takes a value is its value, whatever it is.
+// What follows `--` are operands, and what stands behind `=`, or in the same word, is a value, whatever it is.
 #[test]
 fn words_that_begin_with_a_dash(rt: HostRuntime) -> Result<(), Fail> {
     all_ask(
@@ -126,10 +154,10 @@ fn words_that_begin_with_a_dash(rt: HostRuntime) -> Result<(), Fail> {
         r#"
 encrypt -r a -- -a => Ok(Encrypt { recipients: Listed([Text("a")]), armored: false, input: "-a", output: Output { name: "-", overwrite: false } })
 encrypt -r a -- -- => Ok(Encrypt { recipients: Listed([Text("a")]), armored: false, input: "--", output: Output { name: "-", overwrite: false } })
-encrypt -r -r -o -- -R -a -- => Ok(Encrypt { recipients: Listed([Text("-r"), File("-a")]), armored: false, input: "-", output: Output { name: "--", overwrite: false } })
-decrypt -i -i -i - -o -f => Ok(Decrypt { identities: Files(["-i", "-"]), input: "-", output: Output { name: "-f", overwrite: false } })
-part -p -p -- 1 2 -o => Ok(Part { identities: PassphraseFile("-p"), place: 1, count: 2, input: "-o" })
-part -p -p -- 1 -2 -o => Err(NotANumber(Count, "-2"))
+encrypt --recipient=-r -o=-- -R-a => Ok(Encrypt { recipients: Listed([Text("-r"), File("-a")]), armored: false, input: "-", output: Output { name: "--", overwrite: false } })
+decrypt -i=-i -i - -o-f => Ok(Decrypt { identities: Files(["-i", "-"]), input: "-", output: Output { name: "-f", overwrite: false } })
+part -p-p -- 1 2 -o => Ok(Part { identities: PassphraseFile("-p"), place: 1, count: 2, input: "-o" })
+part -p-p -- 1 -2 -o => Err(NotANumber(Count, "-2"))
 "#,
     )
 }

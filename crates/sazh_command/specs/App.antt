@@ -1,0 +1,103 @@
+-- The program's command line, as `clap` reads one: the rules of each option and operand, and the commands. What building adds, as `--help`
+-- and `--version`, and what a word of the command line then is, are `clap`'s definitions.
+use Rattle.std.specs.Prelude.{◌≡◌, ℕ, true, false, codes, Some}
+use Rattle.clap.specs.Walk.{Rule, Text}
+use Rattle.clap.specs.Simple.{App, app_of, new_app, new_rule, with_rule, with_subcommand}
+use Rattle.clap.specs.Walk.{rule_of}
+use Rattle.clap.specs.declared.builder.action.ArgAction.TheVariants.{Append, SetTrue}
+use Rattle.clap.specs.declared.builder.arg.Arg.{Arg}
+use Rattle.clap.specs.declared.builder.command.Command.{Command}
+use Rattle.clap.specs.declared.builder.command.Command.TheViews.{out-Command}
+
+-- an option whose value is a text, given once at most
+abbrev pub text_rule : Text → ℕ → Rule
+text_rule id short = record (new_rule id) { short = Some short; long = Some id; value_names = 1 }
+
+-- an option whose values are texts, given any number of times
+abbrev pub texts_rule : Text → ℕ → Rule
+texts_rule id short = record (text_rule id short) { action = Some Append }
+
+-- an option without a value
+abbrev pub flag_rule : Text → ℕ → Rule
+flag_rule id short = record (new_rule id) { short = Some short; long = Some id; action = Some SetTrue }
+
+-- an option whose value is a number, with a long name alone
+abbrev pub number_rule : Text → Rule
+number_rule id = record (new_rule id) { long = Some id; value_names = 1 }
+
+-- IN
+abbrev pub input_rule : Rule
+input_rule = record (new_rule (codes "input")) { value_names = 1 }
+
+-- PLACE, COUNT and IN, or IN alone
+abbrev pub operands_rule : Rule
+operands_rule = record (new_rule (codes "operands")) { value_names = 1; action = Some Append }
+
+-- -r RECIPIENT, -R FILE and -a
+abbrev pub with_encrypting : App → App
+with_encrypting app =
+    with_rule (with_rule (with_rule app (texts_rule (codes "recipient") 114)) (texts_rule (codes "recipients-file") 82)) (flag_rule (codes "armor") 97)
+
+-- -i FILE
+abbrev pub with_decrypting : App → App
+with_decrypting app = with_rule app (texts_rule (codes "identity") 105)
+
+-- -p FILE
+abbrev pub with_passphrase : App → App
+with_passphrase app = with_rule app (text_rule (codes "passphrase-file") 112)
+
+-- -o OUT and -f
+abbrev pub with_output : App → App
+with_output app = with_rule (with_rule app (text_rule (codes "output") 111)) (flag_rule (codes "force") 102)
+
+-- sazh keygen [-f] [-o OUT]
+abbrev pub keygen : App
+keygen = with_output (new_app (codes "keygen"))
+
+-- sazh encrypt, with -r, -R, -a, -p, -o, -f and IN
+abbrev pub encrypt : App
+encrypt = with_rule (with_output (with_passphrase (with_encrypting (new_app (codes "encrypt"))))) input_rule
+
+-- sazh decrypt, with -i, -p, -o, -f and IN
+abbrev pub decrypt : App
+decrypt = with_rule (with_output (with_passphrase (with_decrypting (new_app (codes "decrypt"))))) input_rule
+
+-- sazh part, with -i, -p, --from, --count and operands
+abbrev pub part : App
+part =
+    with_rule (with_rule (with_rule (with_passphrase (with_decrypting (new_app (codes "part")))) (number_rule (codes "from"))) (number_rule (codes "count")))
+    operands_rule
+
+-- sazh migrate, with the options and the operand of `decrypt`
+abbrev pub migrate : App
+migrate = with_rule (with_output (with_passphrase (with_decrypting (new_app (codes "migrate"))))) input_rule
+
+-- the program's own settings: it has a version and no command `help`, and its name is not among the words
+abbrev pub with_settings : App → App
+with_settings app =
+    record app { top = record app.top { has_version = true; no_binary_name = true; disable_help_subcommand = true } }
+
+-- sazh without a command: -e, -d, and all that `encrypt` and `decrypt` have
+abbrev pub alone : App
+alone =
+    with_rule (with_output (with_passphrase (with_decrypting (with_encrypting (with_rule (with_rule (with_settings (new_app (codes "sazh")))
+    (flag_rule (codes "encrypt") 101)) (flag_rule (codes "decrypt") 100)))))) input_rule
+
+-- the program
+abbrev pub sazh : App
+sazh =
+    with_subcommand (with_subcommand (with_subcommand (with_subcommand (with_subcommand alone keygen.top) encrypt.top) decrypt.top) part.top) migrate.top
+
+-- The same of what the program tells `clap`.
+
+-- the argument has this rule
+abbrev pub IsOption : Rule → Arg → Type 0
+IsOption rule arg = (rule_of arg ≡ rule) × (arg.global ≡ false)
+
+-- the command is this one
+abbrev pub IsCommand : App → Command → Type 0
+IsCommand app command = (app_of command ≡ app) × ((out-Command command).has_globals ≡ false)
+
+-- the command is `old` with more options
+abbrev pub Extends : (App → App) → Command → Command → Type 0
+Extends more old command = (app_of command ≡ more (app_of old)) × ((out-Command command).has_globals ≡ (out-Command old).has_globals)
