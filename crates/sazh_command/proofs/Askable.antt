@@ -5,11 +5,11 @@ use Rattle.sazh_command.specs.declared.names.Operand.{Operand}
 use Rattle.sazh_command.specs.declared.names.Operand.TheVariants as operand
 use Rattle.sazh_command.specs.declared.names.CommandName.{CommandName}
 use Rattle.sazh_command.specs.declared.names.CommandName.TheVariants as name
-use Rattle.sazh_command.specs.Asked.{RecipientValue, UsageErrorValue, and_then}
+use Rattle.sazh_command.specs.Asked.{RecipientValue, Listed, UsageErrorValue, and_then}
 use Rattle.sazh_command.specs.Decimal.{number_of}
 use Rattle.sazh_command.specs.Found.{GivenValue, given_of}
 use Rattle.sazh_command.specs.Names.{command_named}
-use Rattle.sazh_command.specs.Synopsis.{recipients_of, identities_of, input_of, no_operand, number_or_error, numbered, operands_range, range_of, asked, unknown_or_asked, asked_alone, asked_named, asked_by, has_words}
+use Rattle.sazh_command.specs.Synopsis.{recipients_of, some_recipients, identities_of, input_of, no_operand, number_or_error, numbered, operands_range, range_of, says_to_whom, asked, unknown_or_asked, asked_alone, asked_named, asked_by, has_words}
 use Rattle.sazh_command.specs.Laws.{HasRecipient, HasIdentity, IsAskable}
 use Rattle.sazh_command.proofs.Numbers.{number_of-small}
 
@@ -41,6 +41,10 @@ identities_of-ok [] None = tt
 identities_of-ok [] (Some file) = tt
 identities_of-ok (first ∷ more) None = tt
 identities_of-ok (first ∷ more) (Some file) = tt
+
+some_recipients-ok : (recipients : List RecipientValue) → IfOk (some_recipients recipients) (λ all. HasRecipient (Listed all))
+some_recipients-ok [] = tt
+some_recipients-ok (first ∷ more) = tt
 
 number_or_error-ok : (operand : Operand) (word : List ℕ) (number : Option ℕ) → IfSome number (λ n. n < 2 ^ 64)
     → IfOk (number_or_error operand word number) (λ n. n < 2 ^ 64)
@@ -85,11 +89,19 @@ asked-ok name.Part given =
 asked-ok name.Migrate given =
     and_then-ok HasIdentity IsAskable _ (identities_of given.identity_files given.passphrase_file)
     (identities_of-ok given.identity_files given.passphrase_file) (λ identities known. known)
+asked-ok name.Rekey given =
+    and_then-ok HasIdentity IsAskable _ (identities_of given.identity_files given.passphrase_file)
+    (identities_of-ok given.identity_files given.passphrase_file) (λ identities known.
+    and_then-ok (λ all. HasRecipient (Listed all)) IsAskable _ (some_recipients given.recipients) (some_recipients-ok given.recipients)
+    (λ recipients some. (known, some)))
+asked-ok name.Verify given =
+    and_then-ok HasIdentity IsAskable _ (identities_of given.identity_files given.passphrase_file)
+    (identities_of-ok given.identity_files given.passphrase_file) (λ identities known. known)
 
 unknown_or_asked-ok : (input : Option (List ℕ)) (given : GivenValue) → IfOk (unknown_or_asked input given) IsAskable
 unknown_or_asked-ok None given = asked-ok name.Encrypt given
 unknown_or_asked-ok (Some word) given =
-    either IsAskable (length given.recipients == 0 && not (is_some given.passphrase_file)) _ (asked name.Encrypt given) tt (asked-ok name.Encrypt given)
+    either IsAskable (says_to_whom given) (asked name.Encrypt given) _ (asked-ok name.Encrypt given) tt
 
 to_encrypt-ok : (encrypting : Bool) (given : GivenValue) → IfOk (asked_alone encrypting false given) IsAskable
 to_encrypt-ok true given = either IsAskable (not (length given.identity_files == 0)) _ (asked name.Encrypt given) tt (asked-ok name.Encrypt given)

@@ -46,6 +46,10 @@ with_decrypting app = with_rule app (texts_rule (codes "identity") 105)
 abbrev pub with_passphrase : App → App
 with_passphrase app = with_rule app (text_rule (codes "passphrase-file") 112)
 
+-- both
+abbrev pub with_opening : App → App
+with_opening app = with_passphrase (with_decrypting app)
+
 -- -o OUT and -f
 abbrev pub with_output : App → App
 with_output app = with_rule (with_rule app (text_rule (codes "output") 111)) (flag_rule (codes "force") 102)
@@ -72,6 +76,14 @@ part =
 abbrev pub migrate : App
 migrate = with_rule (with_output (with_passphrase (with_decrypting (new_app (codes "migrate"))))) input_rule
 
+-- sazh rekey, with -i, -p, -r, -R, -a, -o, -f and IN
+abbrev pub rekey : App
+rekey = with_rule (with_output (with_opening (with_encrypting (new_app (codes "rekey"))))) input_rule
+
+-- sazh verify, with -i, -p and IN
+abbrev pub verify : App
+verify = with_rule (with_passphrase (with_decrypting (new_app (codes "verify")))) input_rule
+
 -- the program's own settings: it has a version and no command `help`, and its name is not among the words
 abbrev pub with_settings : App → App
 with_settings app =
@@ -86,7 +98,8 @@ alone =
 -- the program
 abbrev pub sazh : App
 sazh =
-    with_subcommand (with_subcommand (with_subcommand (with_subcommand (with_subcommand alone keygen.top) encrypt.top) decrypt.top) part.top) migrate.top
+    with_subcommand (with_subcommand (with_subcommand (with_subcommand (with_subcommand (with_subcommand (with_subcommand alone keygen.top) encrypt.top)
+    decrypt.top) part.top) migrate.top) rekey.top) verify.top
 
 -- The same of what the program tells `clap`.
 

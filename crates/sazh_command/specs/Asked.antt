@@ -37,7 +37,7 @@ pub record OutputValue : Type 0 where
   pub overwrite : Bool
 
 -- a command: `Encrypt recipients armored input output`, `Decrypt identities input output`, `Part identities place count input`,
--- `Migrate identities input output`
+-- `Migrate identities input output`, `Rekey identities recipients armored input output`, `Verify identities input`
 pub data CommandValue : Type 0 where
   Help : CommandValue
   Version : CommandValue
@@ -46,6 +46,8 @@ pub data CommandValue : Type 0 where
   Decrypt : IdentitiesValue → List ℕ → OutputValue → CommandValue
   Part : IdentitiesValue → ℕ → ℕ → List ℕ → CommandValue
   Migrate : IdentitiesValue → List ℕ → OutputValue → CommandValue
+  Rekey : IdentitiesValue → List RecipientValue → Bool → List ℕ → OutputValue → CommandValue
+  Verify : IdentitiesValue → List ℕ → CommandValue
 
 -- what is wrong
 pub data UsageErrorValue : Type 0 where
@@ -93,6 +95,9 @@ command_value (command.Encrypt recipients armored input output) =
 command_value (command.Decrypt identities input output) = Decrypt (identities_value identities) (string_bytes input) (output_value output)
 command_value (command.Part identities place count input) = Part (identities_value identities) place count (string_bytes input)
 command_value (command.Migrate identities input output) = Migrate (identities_value identities) (string_bytes input) (output_value output)
+command_value (command.Rekey identities recipients armored input output) =
+    Rekey (identities_value identities) (map recipient_value recipients.items) armored (string_bytes input) (output_value output)
+command_value (command.Verify identities input) = Verify (identities_value identities) (string_bytes input)
 
 abbrev pub error_value : UsageError → UsageErrorValue
 error_value mistake.NoCommand = NoCommand

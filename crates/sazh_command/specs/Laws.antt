@@ -2,7 +2,7 @@
 use Rattle.std.specs.Prelude.{◌≡◌, ℕ, ◌<◌, ◌^◌, true, false, List, [], ◌∷◌, codes, Ok, ⊤}
 use Rattle.clap.specs.Faults.{fault_of}
 use Rattle.sazh_command.specs.App.{sazh}
-use Rattle.sazh_command.specs.Asked.{Text, File, RecipientsValue, Listed, IdentitiesValue, Files, ProtectedFiles, OutputValue, CommandValue, Encrypt, Decrypt, Part, Migrate}
+use Rattle.sazh_command.specs.Asked.{Text, File, RecipientsValue, Listed, IdentitiesValue, Files, ProtectedFiles, OutputValue, CommandValue, Encrypt, Decrypt, Part, Migrate, Rekey, Verify}
 use Rattle.sazh_command.specs.Answers.{command_of}
 
 -- a command that can be asked for has a recipient or a file of identities, and numbers below 2^64
@@ -20,6 +20,8 @@ IsAskable (Encrypt recipients armored input output) = HasRecipient recipients
 IsAskable (Decrypt identities input output) = HasIdentity identities
 IsAskable (Part identities place count input) = HasIdentity identities × (place < 2 ^ 64) × (count < 2 ^ 64)
 IsAskable (Migrate identities input output) = HasIdentity identities
+IsAskable (Rekey identities recipients armored input output) = HasIdentity identities × HasRecipient (Listed recipients)
+IsAskable (Verify identities input) = HasIdentity identities
 IsAskable command = ⊤
 
 -- `clap` has nothing against the words, and they ask for this

@@ -1,7 +1,7 @@
 -- Words that hold a secret key, and commands that name one in place of a file. A word is a list of bytes.
 use Rattle.std.specs.Prelude.{◌⊎◌, ℕ, List, [], ◌∷◌, codes}
 use Rattle.std.specs.Str.Iter.{HasSubslice}
-use Rattle.sazh_command.specs.Asked.{RecipientValue, Text, File, RecipientsValue, Listed, ToPassphraseFile, IdentitiesValue, Files, ProtectedFiles, WithPassphraseFile, OutputValue, CommandValue, Keygen, Encrypt, Decrypt, Part, Migrate}
+use Rattle.sazh_command.specs.Asked.{RecipientValue, Text, File, RecipientsValue, Listed, ToPassphraseFile, IdentitiesValue, Files, ProtectedFiles, WithPassphraseFile, OutputValue, CommandValue, Keygen, Encrypt, Decrypt, Part, Migrate, Rekey, Verify}
 
 -- the beginning of a secret key stands in the word
 abbrev pub HoldsSecret : List ℕ → Type 0
@@ -42,4 +42,6 @@ NamesSecret (Encrypt recipients armored input output) = RecipientsNameSecret rec
 NamesSecret (Decrypt identities input output) = OpeningNamesSecret identities input output
 NamesSecret (Part identities place count input) = IdentitiesNameSecret identities ⊎ HoldsSecret input
 NamesSecret (Migrate identities input output) = OpeningNamesSecret identities input output
+NamesSecret (Rekey identities recipients armored input output) = AnyFileHoldsSecret recipients ⊎ OpeningNamesSecret identities input output
+NamesSecret (Verify identities input) = IdentitiesNameSecret identities ⊎ HoldsSecret input
 NamesSecret command = ⊥

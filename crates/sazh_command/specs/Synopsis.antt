@@ -9,7 +9,7 @@ use Rattle.sazh_command.specs.declared.names.Operand.{Operand}
 use Rattle.sazh_command.specs.declared.names.Operand.TheVariants as operand
 use Rattle.sazh_command.specs.declared.names.CommandName.{CommandName}
 use Rattle.sazh_command.specs.declared.names.CommandName.TheVariants as name
-use Rattle.sazh_command.specs.Asked.{RecipientValue, RecipientsValue, Listed, ToPassphraseFile, IdentitiesValue, Files, ProtectedFiles, WithPassphraseFile, OutputValue, CommandValue, Keygen, Encrypt, Decrypt, Part, Migrate, UsageErrorValue, UnknownCommand, WordBeforeCommand, EncryptAndDecrypt, EncryptingOption, DecryptingOption, PassphraseBesideRecipients, NoRecipient, NoIdentity, PlaceOrCountAlone, MissingOperand, NotANumber, ExtraOperand, and_then}
+use Rattle.sazh_command.specs.Asked.{RecipientValue, RecipientsValue, Listed, ToPassphraseFile, IdentitiesValue, Files, ProtectedFiles, WithPassphraseFile, OutputValue, CommandValue, Keygen, Encrypt, Decrypt, Part, Migrate, Rekey, Verify, UsageErrorValue, UnknownCommand, WordBeforeCommand, EncryptAndDecrypt, EncryptingOption, DecryptingOption, PassphraseBesideRecipients, NoRecipient, NoIdentity, PlaceOrCountAlone, MissingOperand, NotANumber, ExtraOperand, and_then}
 use Rattle.sazh_command.specs.Decimal.{number_of}
 use Rattle.sazh_command.specs.Names.{command_named}
 use Rattle.sazh_command.specs.Found.{GivenValue, given_of, is_given}
@@ -35,6 +35,11 @@ identities_of [] None = Err NoIdentity
 identities_of [] (Some file) = Ok (WithPassphraseFile file)
 identities_of (first ∷ more) None = Ok (Files (first ∷ more))
 identities_of (first ∷ more) (Some file) = Ok (ProtectedFiles (first ∷ more) file)
+
+-- (-r RECIPIENT | -R FILE)..
+abbrev pub some_recipients : List RecipientValue → Result (List RecipientValue) UsageErrorValue
+some_recipients [] = Err NoRecipient
+some_recipients (first ∷ more) = Ok (first ∷ more)
 
 -- no operand
 abbrev pub no_operand : List (List ℕ) → Result ⊤ UsageErrorValue
@@ -92,11 +97,21 @@ asked name.Part given =
 asked name.Migrate given =
     and_then (λ identities. Ok (Migrate identities (name_of given.input) (output_of given.output given.overwrite)))
     (identities_of given.identity_files given.passphrase_file)
+-- sazh rekey (-i FILE.. [-p FILE] | -p FILE) (-r RECIPIENT | -R FILE).. [-a] [-f] [-o OUT] [IN]
+asked name.Rekey given =
+    and_then (λ identities. and_then
+    (λ recipients. Ok (Rekey identities recipients given.armored (name_of given.input) (output_of given.output given.overwrite)))
+    (some_recipients given.recipients)) (identities_of given.identity_files given.passphrase_file)
+-- sazh verify (-i FILE.. [-p FILE] | -p FILE) [IN]
+asked name.Verify given = and_then (λ identities. Ok (Verify identities (name_of given.input))) (identities_of given.identity_files given.passphrase_file)
+
+-- something says to whom is encrypted
+abbrev pub says_to_whom : GivenValue → Bool
+says_to_whom given = not (length given.recipients == 0) || is_some given.passphrase_file
 
 -- IN alone, and nothing that says to whom is encrypted, is a command that isn't there
 abbrev pub unknown_or_asked : Option (List ℕ) → GivenValue → Result CommandValue UsageErrorValue
-unknown_or_asked (Some word) given =
-    if length given.recipients == 0 && not (is_some given.passphrase_file) then Err (UnknownCommand word) else asked name.Encrypt given
+unknown_or_asked (Some word) given = if says_to_whom given then asked name.Encrypt given else Err (UnknownCommand word)
 unknown_or_asked None given = asked name.Encrypt given
 
 -- a command line without a command, with -e and -d or without

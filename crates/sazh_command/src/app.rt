@@ -1,11 +1,12 @@
 //! The program's command line, as `clap` is told of it: the commands, and the options and operands of each.
 ghost use Rattle.std.specs.Prelude.{IfOk};
-ghost use Rattle.sazh_command.specs.App.{IsOption, IsCommand, Extends, text_rule, texts_rule, flag_rule, number_rule, input_rule, operands_rule, sazh, alone, keygen, encrypt, decrypt, part, migrate, with_encrypting, with_decrypting, with_passphrase, with_output};
+ghost use Rattle.sazh_command.specs.App.{IsOption, IsCommand, Extends, text_rule, texts_rule, flag_rule, number_rule, input_rule, operands_rule, sazh, alone, keygen, encrypt, decrypt, part, migrate, rekey, verify, with_encrypting, with_decrypting, with_passphrase, with_opening, with_output};
 
 use crate::help::{
-    ABOUT, ABOUT_DECRYPT, ABOUT_ENCRYPT, ABOUT_KEYGEN, ABOUT_MIGRATE, ABOUT_PART, AFTER_DECRYPT,
-    AFTER_ENCRYPT, AFTER_KEYGEN, AFTER_MIGRATE, AFTER_PART, AFTER_TOP, USAGE_DECRYPT,
-    USAGE_ENCRYPT, USAGE_KEYGEN, USAGE_MIGRATE, USAGE_PART, USAGE_TOP, VERSION,
+    ABOUT, ABOUT_DECRYPT, ABOUT_ENCRYPT, ABOUT_KEYGEN, ABOUT_MIGRATE, ABOUT_PART, ABOUT_REKEY,
+    ABOUT_VERIFY, AFTER_DECRYPT, AFTER_ENCRYPT, AFTER_KEYGEN, AFTER_MIGRATE, AFTER_PART,
+    AFTER_REKEY, AFTER_TOP, AFTER_VERIFY, USAGE_DECRYPT, USAGE_ENCRYPT, USAGE_KEYGEN,
+    USAGE_MIGRATE, USAGE_PART, USAGE_REKEY, USAGE_TOP, USAGE_VERIFY, VERSION,
 };
 use clap::{Arg, ArgAction, Command};
 use std::alloc::{AllocError, Global};
@@ -125,6 +126,14 @@ fn with_passphrase<'a>(alloc: Global, command: Command<'a>) -> Result<Command<'a
     ))
 }
 
+// Both.
+fn with_opening<'a>(alloc: Global, command: Command<'a>) -> Result<Command<'a>, AllocError>
+    ensures { IfOk result (Extends with_opening command.entry) }
+{
+    let with = with_decrypting(alloc, command)?;
+    with_passphrase(alloc, with)
+}
+
 // The options that say where the output goes.
 fn with_output<'a>(alloc: Global, command: Command<'a>) -> Result<Command<'a>, AllocError>
     ensures { IfOk result (Extends with_output command.entry) }
@@ -215,6 +224,31 @@ fn migrate<'a>(alloc: Global) -> Result<Command<'a>, AllocError>
     with_output(alloc, under)?.arg(input(alloc))
 }
 
+// `rekey`.
+fn rekey<'a>(alloc: Global) -> Result<Command<'a>, AllocError>
+    ensures { IfOk result (IsCommand rekey) }
+{
+    let rekey = Command::new(alloc, "rekey")
+        .about(ABOUT_REKEY)
+        .override_usage(USAGE_REKEY)
+        .after_help(AFTER_REKEY);
+    let to = with_encrypting(alloc, rekey)?;
+    let with = with_opening(alloc, to)?;
+    with_output(alloc, with)?.arg(input(alloc))
+}
+
+// `verify`.
+fn verify<'a>(alloc: Global) -> Result<Command<'a>, AllocError>
+    ensures { IfOk result (IsCommand verify) }
+{
+    let verify = Command::new(alloc, "verify")
+        .about(ABOUT_VERIFY)
+        .override_usage(USAGE_VERIFY)
+        .after_help(AFTER_VERIFY);
+    let with = with_decrypting(alloc, verify)?;
+    with_passphrase(alloc, with)?.arg(input(alloc))
+}
+
 // The program without a command.
 fn alone<'a>(alloc: Global) -> Result<Command<'a>, AllocError>
     ensures { IfOk result (IsCommand alone) }
@@ -248,5 +282,7 @@ pub fn sazh<'a>(alloc: Global) -> Result<Command<'a>, AllocError>
         .subcommand(encrypt(alloc)?)?
         .subcommand(decrypt(alloc)?)?
         .subcommand(part(alloc)?)?
-        .subcommand(migrate(alloc)?)
+        .subcommand(migrate(alloc)?)?
+        .subcommand(rekey(alloc)?)?
+        .subcommand(verify(alloc)?)
 }

@@ -75,4 +75,18 @@ pub enum Command {
         input: String,
         output: Output,
     },
+    /// Write the decrypted input encrypted to these recipients, of whom there is at least one, in armor or not. Where no input is named it
+    /// is `-`.
+    Rekey {
+        identities: Identities,
+        recipients: Vec<Recipient>,
+        armored: bool,
+        input: String,
+        output: Output,
+    },
+    /// Read the decrypted input, and write its length and its digest. Where no input is named it is `-`.
+    Verify {
+        identities: Identities,
+        input: String,
+    },
 }

@@ -8,7 +8,7 @@ pub const USAGE: &str = "Usage: sazh [-e] (-r RECIPIENT | -R FILE).. [-a] [-f] [
        sazh [-e] -p FILE [-a] [-f] [-o OUT] [IN]
        sazh -d (-i FILE.. [-p FILE] | -p FILE) [-f] [-o OUT] [IN]
        sazh keygen [-f] [-o OUT]
-       sazh encrypt | decrypt | part | migrate ..
+       sazh encrypt | decrypt | part | migrate | rekey | verify ..
 
 For more information, try '--help', also behind a command.";
 
@@ -29,6 +29,11 @@ pub const USAGE_PART: &str = "sazh part (-i FILE.. [-p FILE] | -p FILE) PLACE CO
 
 pub const USAGE_MIGRATE: &str = "sazh migrate (-i FILE.. [-p FILE] | -p FILE) [-f] [-o OUT] [IN]";
 
+pub const USAGE_REKEY: &str = "sazh rekey (-i FILE.. [-p FILE] | -p FILE) (-r RECIPIENT | -R FILE)..
+                  [-a] [-f] [-o OUT] [IN]";
+
+pub const USAGE_VERIFY: &str = "sazh verify (-i FILE.. [-p FILE] | -p FILE) [IN]";
+
 pub const ABOUT: &str = "Encrypts and decrypts files of the format age-encryption.org/v1.
 Without a command it takes the options of age, and encrypts unless -d is given.";
 
@@ -43,6 +48,11 @@ pub const ABOUT_DECRYPT: &str = "Decrypts IN, in armor or not.";
 pub const ABOUT_PART: &str = "Decrypts COUNT bytes of IN from byte PLACE on to standard output.";
 
 pub const ABOUT_MIGRATE: &str = "Rewrites IN, a file from before the standard, with a new header.";
+
+pub const ABOUT_REKEY: &str = "Decrypts IN and encrypts it to others, in one pass.";
+
+pub const ABOUT_VERIFY: &str =
+    "Decrypts IN to its end, and writes the length and the SHA-256 of its content.";
 
 pub const AFTER_TOP: &str =
     "-r, -R and -i may be given more than once: the recipients of -r come first, and
@@ -67,7 +77,9 @@ examples:
   sazh -d -i key.txt -o notes.txt notes.age
   sazh encrypt -p passphrase.txt -a < notes.txt > notes.age
   sazh part -i key.txt 1000000 4096 disk.age > piece
-  sazh migrate -i key.txt -o new.age old.age";
+  sazh migrate -i key.txt -o new.age old.age
+  sazh rekey -i key.txt -R team.txt -o new.age old.age
+  sazh verify -i key.txt notes.age";
 
 pub const AFTER_KEYGEN: &str = "The first line of the file has the recipient: # public key: age1..";
 
@@ -84,5 +96,12 @@ pub const AFTER_PART: &str =
     "PLACE, COUNT and N are decimal numbers below 2^64. It seeks in a file, also as
 standard input, and reads a pipe into memory. Beside --from and --count the one
 operand is IN.";
+
+pub const AFTER_REKEY: &str =
+    "-i, -p: who decrypts IN. -r, -R: for whom OUT is, and for nobody else. A file that
+was cut or changed makes no whole OUT.";
+
+pub const AFTER_VERIFY: &str =
+    "Two lines tell it: `length N`, in bytes, and `sha256 X`, in hexadecimal digits.";
 
 pub const AFTER_MIGRATE: &str = "OUT is without armor, and its content stays encrypted.";

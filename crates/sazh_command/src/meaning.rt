@@ -3,7 +3,7 @@ ghost use Rattle.std.specs.Prelude.{◌≡◌, IfOk, map, string_bytes, option_m
 ghost use Rattle.sazh_command.specs.Asked.{IsAnswer, answer_value, recipient_value, recipients_value, identities_value, output_value, command_value};
 ghost use Rattle.sazh_command.specs.Found.{given_value};
 ghost use Rattle.sazh_command.specs.Decimal.{number_of};
-ghost use Rattle.sazh_command.specs.Synopsis.{name_of, output_of, recipients_of, identities_of, no_operand, input_of, number_or_error, numbered, operands_range, range_of, asked, asked_alone, unknown_or_asked};
+ghost use Rattle.sazh_command.specs.Synopsis.{name_of, output_of, recipients_of, some_recipients, identities_of, no_operand, input_of, number_or_error, numbered, operands_range, range_of, says_to_whom, asked, asked_alone, unknown_or_asked};
 
 use crate::command::{Command, Identities, Output, Recipient, Recipients};
 use crate::found::Given;
@@ -49,6 +49,16 @@ fn recipients_of(
             None => Ok(Recipients::Listed(listed)),
         }
     }
+}
+
+// Recipients, of whom there is one.
+fn some_recipients(listed: Vec<Recipient>) -> Result<Vec<Recipient>, UsageError>
+    ensures { answer_value (λ all. map recipient_value all.items) result ≡ some_recipients (map recipient_value listed.items) }
+{
+    if listed.is_empty() {
+        return Err(UsageError::NoRecipient);
+    }
+    Ok(listed)
 }
 
 // Identities, or who knows a passphrase.
@@ -238,6 +248,37 @@ fn asked_of_migrate(alloc: Global, given: &mut Given) -> Result<Command, Stop>
     })
 }
 
+// `rekey`.
+#[tactic(auto, using(crate::proofs::Stops::and_then_stops))]
+fn asked_of_rekey(alloc: Global, given: &mut Given) -> Result<Command, Stop>
+    ensures { IsAnswer command_value result (asked CommandName.Rekey (given_value given.old)) }
+{
+    let files = mem::replace(&mut given.identity_files, Vec::new(alloc));
+    let identities = identities_of(files, given.passphrase_file.take())?;
+    let listed = mem::replace(&mut given.recipients, Vec::new(alloc));
+    let recipients = some_recipients(listed)?;
+    let input = name_of(alloc, given.input.take())?;
+    let output = output_of(alloc, given.output.take(), given.overwrite)?;
+    Ok(Command::Rekey {
+        identities,
+        recipients,
+        armored: given.armored,
+        input,
+        output,
+    })
+}
+
+// `verify`.
+#[tactic(auto, using(crate::proofs::Stops::and_then_stops))]
+fn asked_of_verify(alloc: Global, given: &mut Given) -> Result<Command, Stop>
+    ensures { IsAnswer command_value result (asked CommandName.Verify (given_value given.old)) }
+{
+    let files = mem::replace(&mut given.identity_files, Vec::new(alloc));
+    let identities = identities_of(files, given.passphrase_file.take())?;
+    let input = name_of(alloc, given.input.take())?;
+    Ok(Command::Verify { identities, input })
+}
+
 /// What a command asks for, where its options and operands are these. It takes what it needs out of `given`, so that all else of it is
 /// dropped in one place, by who has it.
 pub fn asked(alloc: Global, command: CommandName, given: &mut Given) -> Result<Command, Stop>
@@ -249,19 +290,29 @@ pub fn asked(alloc: Global, command: CommandName, given: &mut Given) -> Result<C
         CommandName::Decrypt => asked_of_decrypt(alloc, given),
         CommandName::Part => asked_of_part(alloc, given),
         CommandName::Migrate => asked_of_migrate(alloc, given),
+        CommandName::Rekey => asked_of_rekey(alloc, given),
+        CommandName::Verify => asked_of_verify(alloc, given),
     }
+}
+
+// Whether something says to whom is encrypted.
+fn says_to_whom(given: &Given) -> bool
+    ensures { result ≡ says_to_whom (given_value given.now) }
+{
+    !given.recipients.is_empty() || given.passphrase_file.is_some()
 }
 
 // To encrypt, unless nothing but a word is given.
 fn unknown_or_asked(alloc: Global, given: &mut Given) -> Result<Command, Stop>
     ensures { IsAnswer command_value result (unknown_or_asked (option_map string_bytes given.old.input) (given_value given.old)) }
 {
-    if given.recipients.is_empty() && given.passphrase_file.is_none() {
-        if let Some(word) = given.input.take() {
-            return Err(Stop::Usage(UsageError::UnknownCommand(word)));
-        }
+    if says_to_whom(given) {
+        return asked_of_encrypt(alloc, given);
     }
-    asked_of_encrypt(alloc, given)
+    match given.input.take() {
+        Some(word) => Err(Stop::Usage(UsageError::UnknownCommand(word))),
+        None => asked_of_encrypt(alloc, given),
+    }
 }
 
 /// What options and an operand ask for where there is no command, with `-e` and `-d` or without.

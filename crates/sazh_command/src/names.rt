@@ -36,6 +36,8 @@ pub enum CommandName {
     Decrypt,
     Part,
     Migrate,
+    Rekey,
+    Verify,
 }
 
 /// The command of this name.
@@ -48,6 +50,8 @@ pub fn command_named(word: &str) -> Option<CommandName>
         "decrypt" => Some(CommandName::Decrypt),
         "part" => Some(CommandName::Part),
         "migrate" => Some(CommandName::Migrate),
+        "rekey" => Some(CommandName::Rekey),
+        "verify" => Some(CommandName::Verify),
         _ => None,
     }
 }

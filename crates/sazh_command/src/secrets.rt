@@ -125,6 +125,22 @@ pub fn names_secret(command: &Command) -> bool
             let in_input = holds_secret(input.as_str());
             in_keys | in_input
         }
+        Command::Rekey {
+            identities,
+            recipients,
+            input,
+            output,
+            ..
+        } => {
+            let in_recipients = any_file_holds_secret(recipients.as_slice());
+            let in_others = opening_names_secret(identities, input.as_str(), output);
+            in_recipients | in_others
+        }
+        Command::Verify { identities, input } => {
+            let in_keys = identities_name_secret(identities);
+            let in_input = holds_secret(input.as_str());
+            in_keys | in_input
+        }
         Command::Decrypt {
             identities,
             input,

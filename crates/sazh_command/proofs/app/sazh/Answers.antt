@@ -1,5 +1,5 @@
 use Rattle.clap.specs.Simple.{with_subcommand}
-use Rattle.sazh_command.specs.App.{alone, keygen, encrypt, decrypt, part, migrate}
+use Rattle.sazh_command.specs.App.{alone, keygen, encrypt, decrypt, part, migrate, rekey, verify}
 use Rattle.sazh_command.proofs.Apps.{with_command, with_commands}
 use Rattle.sazh_command.proofs.app.sazh.Goals as goal
 
@@ -16,5 +16,11 @@ returns c =
     let app_3 = with_subcommand app_2 decrypt.top in
     let fourth = with_command app_3 part c.in_ok-subcommand-3.field-0 c.in_ok-part.field-0 c.in_ok-subcommand-4.field-0 third c.in_ok-part.ensures
     c.in_ok-subcommand-4.ensures in
-    with_commands (with_subcommand app_3 part.top) migrate c.in_ok-subcommand-4.field-0 c.in_ok-migrate.field-0 c.subcommand-5.result fourth
-    c.in_ok-migrate.ensures c.subcommand-5.ensures
+    let app_4 = with_subcommand app_3 part.top in
+    let fifth = with_command app_4 migrate c.in_ok-subcommand-4.field-0 c.in_ok-migrate.field-0 c.in_ok-subcommand-5.field-0 fourth
+    c.in_ok-migrate.ensures c.in_ok-subcommand-5.ensures in
+    let app_5 = with_subcommand app_4 migrate.top in
+    let sixth = with_command app_5 rekey c.in_ok-subcommand-5.field-0 c.in_ok-rekey.field-0 c.in_ok-subcommand-6.field-0 fifth
+    c.in_ok-rekey.ensures c.in_ok-subcommand-6.ensures in
+    with_commands (with_subcommand app_5 rekey.top) verify c.in_ok-subcommand-6.field-0 c.in_ok-verify.field-0 c.subcommand-7.result sixth
+    c.in_ok-verify.ensures c.subcommand-7.ensures
