@@ -1,9 +1,10 @@
 -- The engines over the format's alphabet.
-use Rattle.std.proofs.Common.{◌≡◌, ℕ, List, Bool, true, false, ap, sym, subst, ◌∙◌}
+use Rattle.std.proofs.Common.{◌≡◌, refl, ℕ, List, Bool, true, false, ap, sym, subst, ◌∙◌}
 use Rattle.base64.specs.declared.engine.general_purpose.GeneralPurpose.{GeneralPurpose}
 use Rattle.base64.specs.declared.engine.DecodePaddingMode.{DecodePaddingMode}
 use Rattle.base64.specs.declared.engine.DecodePaddingMode.TheVariants.{RequireNone, RequireCanonical}
 use Rattle.base64.specs.GeneralPurpose.{encode_of, IsConfig, engine_symbols, engine_padding, engine_config}
+use Rattle.base64.specs.Engines.{standard, standard_no_pad}
 use Rattle.base64.specs.Rfc4648.{encode}
 use Rattle.base64.specs.Decode.{IsExact}
 use Rattle.age_base64.specs.Base64.{symbols, columns, padded_columns}
@@ -24,3 +25,10 @@ pub armor_engine_is : (e : GeneralPurpose) → engine_symbols e ≡ symbols → 
     → IsConfig (engine_config e) true false RequireCanonical → IsArmorEngine e
 unfolding padded_columns
 armor_engine_is e s p k = (written e true RequireCanonical s p k, (k.1, subst (λ m. IsExact m e.config.encode_padding) (sym k.2) k.0))
+
+-- those of the kit
+pub unpadded_is_header : IsHeaderEngine standard_no_pad
+unpadded_is_header = header_engine_is standard_no_pad refl refl (refl, refl, refl)
+
+pub padded_is_armor : IsArmorEngine standard
+padded_is_armor = armor_engine_is standard refl refl (refl, refl, refl)

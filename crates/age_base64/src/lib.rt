@@ -1,4 +1,4 @@
-//! The base64 of the format, over an alphabet that is written out here: what headers and armor share (RFC 4648 section 4;
+//! The base64 of the format, over the standard alphabet: what headers and armor share (RFC 4648 section 4;
 //! age-encryption.org/v1, sections "Header" and "ASCII armor").
 #![tactic(auto)]
 

@@ -1,7 +1,8 @@
 //! A reader of headers that is given one byte after another, and so never takes one too many.
 
-ghost use Rattle.std.specs.Prelude.{◌≡◌, ◌++◌, ◌∷◌, [], IfOk};
+ghost use Rattle.std.specs.Prelude.{◌≡◌, ◌++◌, ◌∷◌, [], IsTrue, IfOk, OnOk};
 ghost use Rattle.age_format.specs.Verdict.{IsUndecided};
+ghost use Rattle.age_format.specs.Progress.{GoesOn};
 ghost use Rattle.age_format.specs.Steps.{IsStep};
 
 use crate::stanza::Stanza;
@@ -63,6 +64,26 @@ impl HeaderReader {
         ensures undecided { IsUndecided self.now.legacy self.now.text }
     {
         self.text.as_slice()
+    }
+
+    /// Whether a byte goes on a line behind the beginning of each header, so that the text decides nothing with it.
+    pub(crate) fn goes_on(&self, byte: u8) -> bool
+        ensures { IsTrue result → GoesOn self.now.text byte }
+    {
+        if self.text.len() < MAGIC.len() {
+            return false;
+        }
+        32 <= byte && byte <= 126
+    }
+
+    /// Takes a byte that goes on a line, where the reader stands: `push` moves it, which takes longer than to read the byte. `AllocError`
+    /// comes only for want of memory.
+    pub(crate) fn extend(&mut self, byte: u8) -> Result<(), AllocError>
+        requires { GoesOn self.old.text byte }
+        ensures { OnOk result (self.new ≡ record { legacy = self.old.legacy; text = self.old.text ++ byte ∷ [] }) }
+    {
+        self.text.push(byte)?;
+        Ok(())
     }
 
     /// Takes one more byte, and says what the text says with it. `AllocError` comes only for want of memory, and the

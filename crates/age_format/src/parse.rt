@@ -85,6 +85,8 @@ pub(crate) fn parse_first_line(alloc: Global, text: &[u8]) -> Result<Option<Stan
         return Ok(None);
     };
     let tag = words.remove(0);
+    // A list that grew has room to spare, which a header of many stanzas would keep many times.
+    words.shrink_to_fit();
     let Some(stanza) = Stanza::new(tag, words, Vec::new(alloc)) else {
         unreachable!();
     };

@@ -70,6 +70,10 @@ pub(crate) fn read_header_text<R: Read>(
         // It tells the proof that nothing decides so far, and that the text's length is a usize: so the loop ends.
         let _size = header.text().len();
         let byte = next_byte(reader)?;
+        if header.goes_on(byte) {
+            header.extend(byte)?;
+            continue;
+        }
         match header.push(alloc, byte)? {
             Step::More(more) => header = more,
             Step::Header(stanzas, mac, text) => return Ok(HeaderText { stanzas, mac, text }),

@@ -35,9 +35,10 @@ fn is_regular(rt: &HostRuntime, name: &str) -> bool {
     }
 }
 
-// Whether the file of this name can be read again, and has a header of the early form that isn't one of the standard.
+// Whether the file of this name can be read again, and has a header of the early form that isn't one of the standard. That is asked
+// last, since a header that is of neither form is then read once more and not twice.
 fn is_early(rt: &HostRuntime, name: &str) -> bool {
-    is_regular(rt, name) && has_invalid_header(rt, name) && has_old_header(rt, name)
+    is_regular(rt, name) && has_old_header(rt, name) && has_invalid_header(rt, name)
 }
 
 // The name of an input as it is told.

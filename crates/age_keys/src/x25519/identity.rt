@@ -7,7 +7,7 @@ ghost use Rattle.age_keys.specs.KeyTexts.{identity_prefix};
 
 use crate::texts::{parse_key, text_of};
 use crate::x25519::recipient::Recipient;
-use crate::x25519::unwrapping::unwrap;
+use crate::x25519::unwrapping::unwrap_first;
 use age_error::DecryptError;
 use age_error::bytes::known_array;
 use age_format::Stanza;
@@ -16,6 +16,7 @@ use age_suite::secrecy::{FileKey, SecretString};
 use age_suite::suite::Suite;
 use std::alloc::{AllocError, Global};
 use std::marker::{Model, PhantomData};
+use std::slice;
 use std::str::FromStr;
 
 /// One who decrypts: a secret of 32 bytes. It has no `Debug` and no `Display`, so no text shows it by chance. In contracts it is
@@ -130,6 +131,15 @@ impl<S: Suite> age_format::Identity for Identity<S> {
         alloc: Global,
         stanza: &Stanza,
     ) -> Option<Result<FileKey, DecryptError>> {
-        unwrap::<S>(alloc, &self.secret, stanza)
+        unwrap_first::<S>(alloc, &self.secret, slice::from_ref(stanza))
+    }
+
+    // As the trait's own goes through them, but with the public value computed once.
+    fn unwrap_stanzas(
+        &mut self,
+        alloc: Global,
+        stanzas: &[Stanza],
+    ) -> Option<Result<FileKey, DecryptError>> {
+        unwrap_first::<S>(alloc, &self.secret, stanzas)
     }
 }

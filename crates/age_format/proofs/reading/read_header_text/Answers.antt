@@ -1,10 +1,13 @@
-use Rattle.std.proofs.Common.{◌∙◌, subst, sym}
+use Rattle.std.proofs.Common.{rules, ◌≡◌, ◌∙◌, ◌∷◌, ◌++◌, [], length, ap, arith, length-append, subst, sym}
 use Rattle.age_error.specs.declared.decrypt.DecryptError.TheVariants as decrypt
 use Rattle.age_error.specs.DecryptErrors.{DecryptRefusal, IfIoRefusal, decrypt_refusal, decrypt_of_io}
 use Rattle.age_error.specs.ErrorLaws.{of_error}
 use Rattle.age_io.specs.Keeping.{OrEarly}
+use Rattle.age_io.specs.Reading.{Delivers}
+use Rattle.age_io.proofs.Delivering.{Delivers-joined}
 use Rattle.age_io.proofs.Keeping.{early-narrows}
 use Rattle.age_format.specs.Header.{IsHeaderText}
+use Rattle.age_format.specs.Progress.{ReaderValue}
 use Rattle.age_format.specs.ReadingHeader.{RefusesHeader, TookVerdict}
 use Rattle.age_format.specs.Verdict.{Header, UnknownVersion, Bad}
 use Rattle.age_format.proofs.HeaderReading.{took_verdict, io_of_error, ran_out_after, reader_refused}
@@ -84,3 +87,33 @@ returns-in_err-more-clause-refused g c = λ told.
     let refuses = λ (x : DecryptRefusal). RefusesHeader c.args.legacy (read.faults c.args.reader.now) (read.faults c.next_byte.new.reader)
     (read.rest c.args.reader.now) (read.rest c.next_byte.new.reader) (read.place c.args.reader.now) (read.place c.next_byte.new.reader) x in
     of_error (λ x. refuses (decrypt_refusal x)) c.from_residual-in_err-more.result decrypt.OutOfMemory c.from_residual-in_err-more.ensures.1 ran_out
+
+pub returns-in_err-extend-clause-refused : goal.returns-in_err-extend-clause-refused
+returns-in_err-extend-clause-refused g c = λ told.
+    let read = g.R.Read in
+    let before = c.bytes.invariant in
+    let here = before.same.tells ∙ told in
+    let ran_out = ran_out_after c.bytes.header.legacy (read.rest c.args.reader.now) (read.rest c.bytes.reader) (read.rest c.next_byte.new.reader)
+    (read.place c.args.reader.now) (read.place c.bytes.reader) (read.place c.next_byte.new.reader) c.bytes.header.text c.in_ok-byte.byte before.legacy
+    (before.so_far told) (c.in_ok-byte.ensures.byte here) (before.moved told) (c.in_ok-byte.ensures.moves here) c.text-size.ensures.undecided in
+    let refuses = λ (x : DecryptRefusal). RefusesHeader c.args.legacy (read.faults c.args.reader.now) (read.faults c.next_byte.new.reader)
+    (read.rest c.args.reader.now) (read.rest c.next_byte.new.reader) (read.place c.args.reader.now) (read.place c.next_byte.new.reader) x in
+    of_error (λ x. refuses (decrypt_refusal x)) c.from_residual-in_err-extend.result decrypt.OutOfMemory c.from_residual-in_err-extend.ensures.1 ran_out
+
+pub bytes-preserved : goal.bytes-preserved
+bytes-preserved g c =
+    let before = c.bytes.invariant in
+    let text = c.bytes.header.text in
+    let b = c.in_ok-byte.byte in
+    let more : c.in-More.more ≡ record { legacy = c.bytes.header.legacy; text = text ++ b ∷ [] } = (rw c.in-More.is at c.in_ok-more.ensures) in
+    let longer : c.in-More.more.text ≡ text ++ b ∷ [] = ap (λ (r : ReaderValue). r.text) more in
+    record {
+      same = search rules;
+      narrows = search rules;
+      legacy = ap (λ (r : ReaderValue). r.legacy) more ∙ before.legacy;
+      moved = λ told.
+          omega (arith, before.moved told, c.in_ok-byte.ensures.moves (before.same.tells ∙ told), ap length longer, length-append text (b ∷ []));
+      so_far = λ told.
+          subst (λ t. Delivers t (g.R.Read.rest c.args.reader.now) (g.R.Read.rest c.next_byte.new.reader)) (sym longer)
+          (Delivers-joined text (b ∷ []) _ _ _ (before.so_far told) (c.in_ok-byte.ensures.byte (before.same.tells ∙ told)));
+    }

@@ -1,4 +1,4 @@
-use Rattle.std.proofs.Common.{rules, ◌≡◌, refl, Some}
+use Rattle.std.proofs.Common.{rules, refl, Some}
 use Rattle.age_format.specs.Unwrapping.{Steady, key_answer}
 use Rattle.age_keys.specs.Scrypt.{UnwrapsUnder}
 use Rattle.age_keys.proofs.Asking.{asked_one}
