@@ -17,6 +17,7 @@ import time
 from pathlib import Path
 
 from harm import harms
+from others import rekeys, verifies
 from told import SECRET, armor, tells
 
 VECTORS = Path(__file__).resolve().parent.parent / "vectors"
@@ -415,6 +416,8 @@ def main():
         outputs(runs)
         refusals(runs, recipient)
         tells(runs, recipient)
+        rekeys(runs, recipient)
+        verifies(runs)
         harms(runs, recipient)
         command_lines(runs, recipient)
         words_of_age(runs, recipient)

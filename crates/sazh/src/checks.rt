@@ -79,18 +79,21 @@ impl Streams {
         Ok(())
     }
 
+    // Adds files of recipients.
+    fn add_listed(&mut self, rt: &HostRuntime, words: &[Recipient]) -> Result<(), AllocError> {
+        for word in words {
+            if let Recipient::File(name) = word {
+                self.add(rt, "-R", name)?;
+            }
+        }
+        Ok(())
+    }
+
     // Adds the words that say to whom is encrypted.
     fn add_recipients(&mut self, rt: &HostRuntime, all: &Recipients) -> Result<(), AllocError> {
         match all {
             Recipients::PassphraseFile(name) => self.add(rt, "-p", name),
-            Recipients::Listed(words) => {
-                for word in words {
-                    if let Recipient::File(name) = word {
-                        self.add(rt, "-R", name)?;
-                    }
-                }
-                Ok(())
-            }
+            Recipients::Listed(words) => self.add_listed(rt, words),
         }
     }
 
@@ -140,8 +143,19 @@ impl Streams {
                 identities,
                 input,
                 ..
+            }
+            | Command::Verify { identities, input } => {
+                self.add_identities(rt, identities)?;
+                self.add(rt, "IN", input)
+            }
+            Command::Rekey {
+                identities,
+                recipients,
+                input,
+                ..
             } => {
                 self.add_identities(rt, identities)?;
+                self.add_listed(rt, recipients)?;
                 self.add(rt, "IN", input)
             }
         }
@@ -161,11 +175,13 @@ pub fn clash_of(rt: &HostRuntime, command: &Command) -> Result<Option<Clash>, Al
 // Where a command writes, if it has words for that.
 fn output(command: &Command) -> Option<&Output> {
     match command {
-        Command::Help(_) | Command::Version(_) | Command::Part { .. } => None,
+        Command::Help(_) | Command::Version(_) | Command::Part { .. } | Command::Verify { .. } =>
+            None,
         Command::Keygen { output }
         | Command::Encrypt { output, .. }
         | Command::Decrypt { output, .. }
-        | Command::Migrate { output, .. } => Some(output),
+        | Command::Migrate { output, .. }
+        | Command::Rekey { output, .. } => Some(output),
     }
 }
 
@@ -176,7 +192,9 @@ fn identities(command: &Command) -> Option<&Identities> {
             None,
         Command::Decrypt { identities, .. }
         | Command::Part { identities, .. }
-        | Command::Migrate { identities, .. } => Some(identities),
+        | Command::Migrate { identities, .. }
+        | Command::Rekey { identities, .. }
+        | Command::Verify { identities, .. } => Some(identities),
     }
 }
 

@@ -4,14 +4,14 @@ use crate::early::{answered, rewritten};
 use crate::failure::{Failure, done};
 use crate::files::{open, open_input};
 use crate::jobs::{
-    Decrypting, Encrypting, Job, Migrating, NewKey, ReadingPart, SeekingPart, To, run_job,
-    run_to_output,
+    Decrypting, Encrypting, Job, Migrating, NewKey, ReadingPart, Rekeying, SeekingPart, To,
+    Verifying, run_job, run_to_output,
 };
 use crate::keys::{keyring, passphrase_text, words};
 use age::armor::Format;
 use age::io::{Read, Write, flush_retrying, write_all};
 use age_tool::keyring::Keyring;
-use sazh_command::{Command, Identities, Output, Recipients};
+use sazh_command::{Command, Identities, Output, Recipient, Recipients};
 
 // The permissions of a new file, before the user's mask: to read and to write for all, or for its owner alone.
 const FOR_ALL: u32 = 0o666;
@@ -164,6 +164,31 @@ fn migrate(
     rewritten(rt, asked, input, answer)
 }
 
+// Encrypts the content of an input to others, to an output.
+fn rekey(
+    rt: &HostRuntime,
+    asked: &Identities,
+    recipients: &[Recipient],
+    format: Format,
+    input: &str,
+    output: &Output,
+) -> Result<(), Failure> {
+    let job = Rekeying {
+        keyring: keyring(rt, asked)?,
+        words: words(rt, recipients)?,
+        format,
+    };
+    answered(rt, asked, input, run_job(rt, job, input, output, FOR_ALL))
+}
+
+// Tells the length and the digest of an input's content on standard output.
+fn verify(rt: &HostRuntime, asked: &Identities, input: &str) -> Result<(), Failure> {
+    let job = Verifying {
+        keyring: keyring(rt, asked)?,
+    };
+    answered(rt, asked, input, run_to_output(rt, job, input))
+}
+
 /// Does what a command line asks for.
 pub fn run(rt: &HostRuntime, command: &Command) -> Result<(), Failure> {
     match command {
@@ -191,5 +216,13 @@ pub fn run(rt: &HostRuntime, command: &Command) -> Result<(), Failure> {
             input,
             output,
         } => migrate(rt, identities, input, output),
+        Command::Rekey {
+            identities,
+            recipients,
+            armored,
+            input,
+            output,
+        } => rekey(rt, identities, recipients, format(*armored), input, output),
+        Command::Verify { identities, input } => verify(rt, identities, input),
     }
 }

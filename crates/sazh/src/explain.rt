@@ -154,23 +154,44 @@ fn of_front(rt: &HostRuntime, name: &str, front: &[u8], error: DecryptError) -> 
     }
 }
 
+// Whether a file is refused so that was changed or cut.
+fn is_damage(error: &Error) -> bool {
+    matches!(
+        error,
+        Error::Truncated
+            | Error::BadChunk
+            | Error::AfterLast
+            | Error::LastChunkEmpty
+            | Error::BadEnd
+            | Error::UnexpectedEof
+            | Error::Armor(_)
+    )
+}
+
 /// Why the content of a file was refused, of which so many bytes were good.
 pub fn of_content(rt: &HostRuntime, name: &str, good: u64, error: Error) -> Failure {
-    match error {
-        Error::OutOfMemory => Failure::OutOfMemory,
-        Error::Truncated
-        | Error::BadChunk
-        | Error::AfterLast
-        | Error::LastChunkEmpty
-        | Error::BadEnd
-        | Error::UnexpectedEof
-        | Error::Armor(_) => text_or_memory(
+    if is_damage(&error) {
+        return text_or_memory(
             rt,
             name,
             format!(in rt.alloc(); "damaged at or after byte {good} of its content: {error}"),
-        ),
+        );
+    }
+    match error {
+        Error::OutOfMemory => Failure::OutOfMemory,
         error => named(rt, name, &error),
     }
+}
+
+/// Why a file was refused whose content goes nowhere as it is, so that no place in it is known.
+pub fn of_whole(rt: &HostRuntime, name: &str, seen: &Seen, error: FileError) -> Failure {
+    let FileError::Io(error) = error else {
+        return explained(rt, name, seen, 0, error);
+    };
+    if seen.count > 0 && is_damage(&error) {
+        return text_or_memory(rt, name, format!(in rt.alloc(); "damaged: {error}"));
+    }
+    explained(rt, name, seen, 0, FileError::Io(error))
 }
 
 /// Why a part of a file was refused that begins at a place: the chunks from that of the place on were looked at.

@@ -23,6 +23,8 @@ pub enum Failure {
     File(FileError),
     /// The same of a file of which a part was asked for.
     Part(FileError),
+    /// The same of a file whose content goes nowhere as it is.
+    Whole(FileError),
     /// As this text says.
     Said(String),
 }
@@ -126,7 +128,9 @@ impl fmt::Display for Failure {
             Failure::InvalidHeader => write!(f, "{}", DecryptError::InvalidHeader),
             Failure::NoKeys { .. } => write!(f, "{}", DecryptError::NoMatchingKeys),
             Failure::WrongPassphrase => write!(f, "{}", DecryptError::KeyDecryptionFailed),
-            Failure::File(error) | Failure::Part(error) => write!(f, "{error}"),
+            Failure::File(error) | Failure::Part(error) | Failure::Whole(error) => {
+                write!(f, "{error}")
+            }
             Failure::Said(text) => f.write_str(text),
         }
     }

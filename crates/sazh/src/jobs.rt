@@ -1,6 +1,6 @@
 //! What is done from an input to an output.
 
-use crate::explain::{explained, of_part};
+use crate::explain::{explained, of_part, of_whole};
 use crate::failure::{Failure, done, refused_by, said};
 use crate::files::open_file;
 use crate::output::{
@@ -9,17 +9,21 @@ use crate::output::{
 use crate::random::System;
 use crate::watch::{Seen, Watched};
 use age::armor::Format;
-use age::io::{Read, Std, Write};
+use age::io::{Read, Std, Write, flush_retrying, write_all};
 use age::streaming::FileError;
 use age_standard::StandardSuite;
-use age_tool::error::{GivenError, KeyringError};
+use age_tool::error::{CommandError, GivenError, KeyringError};
 use age_tool::given::{
-    decrypt_by, decrypt_part_by, encrypt_to_words, encrypt_under_text, migrate_by, seek_part_by,
+    decrypt_by, decrypt_part_by, encrypt_to_words, encrypt_under_text, migrate_by, rekey_by,
+    seek_part_by, verify_by,
 };
 use age_tool::keygen::write_new_key;
 use age_tool::keyring::Keyring;
+use age_tool::measuring::Measured;
 use age_tool::words::Word;
 use sazh_command::Output;
+use std::alloc::AllocError;
+use std::fmt::Write as _;
 use std::fs::File;
 use std::io;
 
@@ -134,6 +138,75 @@ impl Job for Decrypting {
             rt,
             decrypt_by::<StandardSuite, R, W>(rt.alloc(), &self.keyring, reader, writer),
         )
+    }
+}
+
+/// Encrypts the content of the input to others, with the system's random bytes.
+#[derive(Drop)]
+pub struct Rekeying {
+    pub keyring: Keyring,
+    pub words: Vec<Word>,
+    pub format: Format,
+}
+
+impl Job for Rekeying {
+    fn run<R: Read, W: Write>(
+        self,
+        rt: &HostRuntime,
+        reader: &mut R,
+        writer: &mut W,
+    ) -> Result<(), Failure> {
+        let mut source = System::new(rt);
+        let answer = rekey_by::<StandardSuite, System, &mut R, W>(
+            rt.alloc(),
+            &self.keyring,
+            &self.words,
+            &mut source,
+            self.format,
+            reader,
+            writer,
+        );
+        match answer {
+            Ok(()) => Ok(()),
+            Err(GivenError::Command(CommandError::File(error))) => Err(Failure::Whole(error)),
+            Err(error) => Err(said(rt, &error)),
+        }
+    }
+}
+
+/// Tells the length and the digest of the input's content.
+#[derive(Drop)]
+pub struct Verifying {
+    pub keyring: Keyring,
+}
+
+// The lines that tell what was measured.
+fn lines_of(rt: &HostRuntime, measured: &Measured) -> Result<String, AllocError> {
+    let mut text = String::new(rt.alloc());
+    write!(text, "length {}\nsha256 ", measured.length)?;
+    for byte in measured.sha256 {
+        write!(text, "{byte:02x}")?;
+    }
+    text.push('\n')?;
+    Ok(text)
+}
+
+impl Job for Verifying {
+    fn run<R: Read, W: Write>(
+        self,
+        rt: &HostRuntime,
+        reader: &mut R,
+        writer: &mut W,
+    ) -> Result<(), Failure> {
+        match verify_by::<StandardSuite, R>(rt.alloc(), &self.keyring, reader) {
+            Ok(measured) => {
+                let text = lines_of(rt, &measured)?;
+                done(rt, write_all(writer, text.as_bytes()))?;
+                done(rt, flush_retrying(writer))
+            }
+            Err(GivenError::Command(error)) => Err(Failure::Whole(error)),
+            Err(error) => Err(said(rt, &error)),
+        }
     }
 }
 
@@ -256,6 +329,7 @@ fn reason(
     }
     match failure {
         Failure::File(error) => explained(rt, input, &read, written.count, error),
+        Failure::Whole(error) => of_whole(rt, input, &read, error),
         failure => failure,
     }
 }

@@ -51,8 +51,7 @@ pub const ABOUT_MIGRATE: &str = "Rewrites IN, a file from before the standard, w
 
 pub const ABOUT_REKEY: &str = "Decrypts IN and encrypts it to others, in one pass.";
 
-pub const ABOUT_VERIFY: &str =
-    "Decrypts IN to its end, and writes the length and the SHA-256 of its content.";
+pub const ABOUT_VERIFY: &str = "Decrypts IN to its end, and tells its length and its SHA-256.";
 
 pub const AFTER_TOP: &str =
     "-r, -R and -i may be given more than once: the recipients of -r come first, and
@@ -102,6 +101,7 @@ pub const AFTER_REKEY: &str =
 was cut or changed makes no whole OUT.";
 
 pub const AFTER_VERIFY: &str =
-    "Two lines tell it: `length N`, in bytes, and `sha256 X`, in hexadecimal digits.";
+    "Two lines tell of its content: length N, in bytes, and sha256 X, in hexadecimal
+digits. Nothing else is written, and nothing at all where IN was cut or changed.";
 
 pub const AFTER_MIGRATE: &str = "OUT is without armor, and its content stays encrypted.";

@@ -108,6 +108,33 @@ migrate -i-o -- -f => Ok(Migrate { identities: Files(["-o"]), input: "-f", outpu
     )
 }
 
+// Who decrypts, and for whom the new file is.
+#[test]
+fn rekey(rt: HostRuntime) -> Result<(), Fail> {
+    all_ask(
+        &rt,
+        rt.alloc(),
+        r#"
+rekey -i key -r age1a => Ok(Rekey { identities: Files(["key"]), recipients: [Text("age1a")], armored: false, input: "-", output: Output { name: "-", overwrite: false } })
+rekey -R team -p word -i a -af -o new -r age1a old => Ok(Rekey { identities: ProtectedFiles(["a"], "word"), recipients: [Text("age1a"), File("team")], armored: true, input: "old", output: Output { name: "new", overwrite: true } })
+rekey -p word --recipients-file=team -- -f => Ok(Rekey { identities: PassphraseFile("word"), recipients: [File("team")], armored: false, input: "-f", output: Output { name: "-", overwrite: false } })
+"#,
+    )
+}
+
+#[test]
+fn verify(rt: HostRuntime) -> Result<(), Fail> {
+    all_ask(
+        &rt,
+        rt.alloc(),
+        r#"
+verify -i key => Ok(Verify { identities: Files(["key"]), input: "-" })
+verify file -i b -p word -i a => Ok(Verify { identities: ProtectedFiles(["b", "a"], "word"), input: "file" })
+verify --passphrase-file word - => Ok(Verify { identities: PassphraseFile("word"), input: "-" })
+"#,
+    )
+}
+
 // The options of `age`, without a command.
 #[test]
 fn the_options_of_age(rt: HostRuntime) -> Result<(), Fail> {

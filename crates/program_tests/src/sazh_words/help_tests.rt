@@ -117,6 +117,8 @@ fn texts_fit_a_terminal(rt: HostRuntime) -> Result<(), Fail> {
         "decrypt -h",
         "part -h",
         "migrate -h",
+        "rekey -h",
+        "verify -h",
     ] {
         assert!(rt; help_fits(rt.alloc(), line)?, "at {line}");
     }
@@ -141,6 +143,8 @@ const PARTS: [&str; 18] = [
     "\n  decrypt ",
     "\n  part ",
     "\n  migrate ",
+    "\n  rekey ",
+    "\n  verify ",
     "kept secret",
     "read -rsp 'passphrase: ' word",
 ];
