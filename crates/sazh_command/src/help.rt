@@ -97,8 +97,9 @@ standard input, and reads a pipe into memory. Beside --from and --count the one
 operand is IN.";
 
 pub const AFTER_REKEY: &str =
-    "-i, -p: who decrypts IN. -r, -R: for whom OUT is, and for nobody else. A file that
-was cut or changed makes no whole OUT.";
+    "IN is decrypted with the identities of -i, or the passphrase of -p, and OUT is
+for the recipients of -r and -R alone. A file that was cut or changed makes no
+whole OUT.";
 
 pub const AFTER_VERIFY: &str =
     "Two lines tell of its content: length N, in bytes, and sha256 X, in hexadecimal

@@ -126,7 +126,7 @@ fn texts_fit_a_terminal(rt: HostRuntime) -> Result<(), Fail> {
 }
 
 // The beginnings of lines of the help, and texts that stand within them.
-const PARTS: [&str; 18] = [
+const PARTS: [&str; 20] = [
     "\n  -e, --encrypt ",
     "\n  -d, --decrypt ",
     "\n  -r, --recipient <RECIPIENT> ",
