@@ -421,7 +421,7 @@ fn what_is_not_rekeyed_takes_nothing(rt: HostRuntime) -> Result<(), Fail> {
 fn a_cut_file_has_no_rekeyed_end(rt: HostRuntime) -> Result<(), Fail> {
     let alloc = rt.alloc();
     let mut file = to_both(alloc, Format::Binary)?;
-    let cut = file.len() - 1;
+    let cut = file.len().saturating_sub(1);
     file.truncate(cut);
     let keys = keyring(alloc, &[(7, false)], None)?;
     let mut words = Vec::new(alloc);
