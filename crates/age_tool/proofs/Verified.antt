@@ -1,19 +1,13 @@
 -- What was measured of a file that was decrypted.
-use Rattle.std.specs.Prelude.{◌⊎◌, ◌&&◌, Result, Ok, Err, IsOk, IsTrue}
+use Rattle.std.specs.Prelude.{Ok, Err, IsOk, IsTrue}
 use Rattle.std.proofs.Common.{◌≡◌, List, ℕ, [], inl, inr, refl, subst}
 use Rattle.std.proofs.lemmas.Bool.{false≢true}
-use Rattle.age.specs.Armor.{Carries}
-use Rattle.age.specs.DecryptingStreams.{GivesFirst}
-use Rattle.age.specs.File.{IsFileOf}
 use Rattle.age.specs.Members.{SuiteMembers, ReadMembers, WriteMembers}
 use Rattle.age.specs.Stanza.{StanzaValue}
-use Rattle.age.specs.Types.{FileError}
 use Rattle.age.specs.Unwrapping.{UnwrapAnswer}
-use Rattle.age_tool.specs.Given.{AnswersKeys, DecryptsBy, VerifiesFile}
+use Rattle.age_tool.specs.Given.{DecryptsBy, VerifiesFile}
 use Rattle.age_tool.specs.Measuring.{IsMeasured, TookBytes, WasGiven}
 use Rattle.age_tool.specs.declared.callbacks.GivesOnce.{GivesOnce}
-use Rattle.age_tool.specs.declared.error.GivenError.{GivenError}
-use Rattle.age_tool.specs.declared.error.KeyringError.{KeyringError}
 use Rattle.age_tool.specs.declared.holder.Holder.{Holder}
 use Rattle.age_tool.specs.declared.keyring.Keyring.{Keyring}
 use Rattle.age_tool.specs.declared.measuring.Measured.{Measured}

@@ -1,5 +1,5 @@
 -- Commands from what they are given on: words and texts of files.
-use Rattle.std.specs.Prelude.{◌≡◌, ◌⊎◌, ◌&&◌, ℕ, List, [], Option, Result, Ok, Err, IsTrue, IsOk, IfOk, IfErr, MatchResult}
+use Rattle.std.specs.Prelude.{◌≡◌, ◌⊎◌, ◌&&◌, ℕ, List, [], Option, Result, Err, IsTrue, IsOk, IfOk, IfErr, MatchResult}
 use Rattle.std.specs.Result.{result_map_both}
 use Rattle.age.specs.Armor.{Carries}
 use Rattle.age.specs.DecryptErrorVariants.{KeyDecryptionFailed, NoMatchingKeys}
