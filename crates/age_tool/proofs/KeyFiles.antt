@@ -54,8 +54,8 @@ pub protected_found : {S T : Type 0} (text_read : ReadMembers T) (text : T) (nam
 protected_found text_read text name bytes asked (Err e) filename (Ok it) result reads opens named is_made is_found = absurd is_made
 protected_found text_read text name bytes asked (Err e) filename (Err own) result reads opens named is_made is_found =
     elim is_found [
-      | inl none ↦ rw none (text, reads, (Err e, opens, tt))
-      | inr memory ↦ rw memory refl
+      | inl (memory, is) ↦ rw is refl
+      | inr (other, is) ↦ rw is (text, reads, (Err e, opens, λ same. other (is_made ∙ same)))
     ]
 protected_found text_read text name bytes asked (Ok front) filename (Err own) result reads opens named is_made is_found = absurd is_made
 protected_found text_read text name bytes asked (Ok front) filename (Ok None) result reads opens named is_made is_found =

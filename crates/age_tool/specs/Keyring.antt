@@ -8,6 +8,7 @@ use Rattle.age.specs.Members.{ReadMembers}
 use Rattle.age.specs.Armor.{Carries}
 use Rattle.age.specs.Converting.{native_secrets, plugin_names}
 use Rattle.age.specs.Decryptor.{OpensFront, header_of}
+use Rattle.age.specs.DecryptErrorVariants as decrypt
 use Rattle.age.specs.Delivered.{delivered, stretch_of}
 use Rattle.age.specs.EncryptedIdentities.{filename_of, state_of}
 use Rattle.age.specs.EncryptedIdentity.{file_of}
@@ -50,7 +51,7 @@ RefusesText given e = (e ≡ error.OutOfMemory)
 -- what was found in a front, or nothing where that was refused for another reason than memory
 abbrev pub FoundOrNone : {X : Type 0} → Result (Option X) DecryptError → Result (Option X) KeyringError → Type 0
 FoundOrNone (Ok found) result = result ≡ Ok found
-FoundOrNone (Err e) result = (result ≡ Ok None) ⊎ (result ≡ Err error.OutOfMemory)
+FoundOrNone (Err e) result = ((e ≡ decrypt.OutOfMemory) × (result ≡ Err error.OutOfMemory)) ⊎ ((e ≢ decrypt.OutOfMemory) × (result ≡ Ok None))
 
 module _ {S T : Type 0} where
   -- those who have the keys of these entries, in their order, of which none is a plugin's
@@ -82,9 +83,9 @@ module _ {T : Type 0} (text_read : ReadMembers T) where
       pub state : state_of identity ≡ Encrypted (file_of front asked 18 None)
       pub named : filename_of identity ≡ Some name
 
-    -- what a decryptor of these bytes comes to isn't the front of a file under a passphrase
+    -- what a decryptor of these bytes comes to isn't the front of a file under a passphrase, nor want of memory
     abbrev pub IsNotUnderPassphrase : Result (Decryptor S T) DecryptError → Type 0
-    IsNotUnderPassphrase (Err e) = Unit {0}
+    IsNotUnderPassphrase (Err e) = e ≢ decrypt.OutOfMemory
     IsNotUnderPassphrase (Ok front) = IsScrypt (header_of front).stanzas → ⊥
 
   module _ (S : Type 0) where
