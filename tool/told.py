@@ -92,6 +92,7 @@ def of_protected(runs):
     for keys in (["-i", identity, "-i", "key"], ["-i", "key", "-i", identity]):
         for words in (["decrypt", *keys, *wrong, "file"], ["decrypt", *keys, *right, "file"]):
             runs.gives(f"{words}", words, plain)
+        runs.gives(f"the other's, {keys}", ["decrypt", *keys, *right, VECTORS / "to_protected.age"], message)
         runs.gives(f"a part, {keys}", ["part", *keys, *wrong, "0", "10", "file"], plain[:10])
         says = b": wrong passphrase: it opens no encrypted file of identities"
         runs.refuses(f"nobody, {keys}", ["decrypt", *keys, *wrong, VECTORS / "to_protected.age"], says=bytes(wrong[1]) + says)
