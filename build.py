@@ -24,6 +24,8 @@ import time
 
 TOP = os.path.dirname(os.path.abspath(__file__))
 PROGRAM, WORDS = sys.argv[1], sys.argv[2:]
+# Who tells of a refusal.
+WHO = "build.py" if PROGRAM == "--level" else PROGRAM
 STAMP = f"{TOP}/crates/{PROGRAM}/out/built_from"
 # What a job of a check takes, in GB.
 MEMORY = 1.5
@@ -53,11 +55,11 @@ def level():
     here = LEVELS[1] if flags and all(OF_V3 <= it for it in flags) else LEVELS[0]
     asked = os.environ.get("SAZH_CPU") or here
     if asked not in LEVELS:
-        print(f"{PROGRAM}: SAZH_CPU is {asked}, and not one of {', '.join(LEVELS)}", file=sys.stderr)
+        print(f"{WHO}: SAZH_CPU is {asked}, and not one of {', '.join(LEVELS)}", file=sys.stderr)
         sys.exit(2)
     if LEVELS.index(asked) > LEVELS.index(here):
         # (a program is run as soon as it is built, so none is built here for a better machine)
-        print(f"{PROGRAM}: the processors here lack a feature of {asked}, which SAZH_CPU asks for", file=sys.stderr)
+        print(f"{WHO}: the processors here lack a feature of {asked}, which SAZH_CPU asks for", file=sys.stderr)
         sys.exit(2)
     return asked
 
