@@ -167,7 +167,8 @@ pub fn decrypt_by<'a, S: Suite, R: Read, W: Write>(
 
 /// Decrypts a whole file, as `decrypt_by` does, and keeps no byte of it: answers the length of its plaintext and its digest by SHA-256.
 ///
-/// A success says that the input carried a file of a plaintext of this length and this digest. The refusals are those of `decrypt_by`.
+/// A success says that the input carried a file of a plaintext of this length and this digest. The refusals are those of `decrypt_by`, and
+/// `Command(Io(TooLong))` of 2^64 bytes and more. After one of `Given` nothing was read, after any other so much as `decrypt_by` had read by then.
 pub fn verify_by<'a, S: Suite, R: Read>(
     alloc: Global,
     keyring: &'a Keyring,

@@ -296,9 +296,9 @@ fn holder_of_passphrase<'a, S: Suite>(
 /// - `Plugin`: an identity in it is a plugin's.
 /// - `NoIdentity`: none is in it.
 /// - `NoPassphrase`: it is one under a passphrase, and none is given.
-/// - `Passphrase`: the text of the passphrase gives none, and why. It is looked at where a file needs it.
+/// - `Passphrase`: the text of the passphrase gives none, and why. It is looked at where a line of a file is no identity, or there is no file.
 ///
-/// `OutOfMemory`: memory was refused.
+/// `OutOfMemory`: memory was refused. Whatever it answers, no file of identities is opened, and what is given stays.
 pub fn holders_of<'a, S: Suite>(
     alloc: Global,
     keyring: &'a Keyring,
