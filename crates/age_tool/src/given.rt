@@ -144,7 +144,8 @@ fn with_locked<S: Suite, R: Read + Drop, C: Callbacks>(
 /// # Errors
 ///
 /// - `Given`: what is given names nobody, as `holders_of` says. Nothing was read or written.
-/// - `Command`: those of `decrypt`. Where nobody has a key, and a file of identities isn't opened by its passphrase, it is `Decrypt(KeyDecryptionFailed)`.
+/// - `Command`: those of `decrypt`. Where nobody has a key, and a file of identities isn't opened by its passphrase, it is
+///   `Decrypt(KeyDecryptionFailed)`.
 pub fn decrypt_by<'a, S: Suite, R: Read, W: Write>(
     alloc: Global,
     keyring: &'a Keyring,
@@ -192,7 +193,8 @@ pub fn verify_by<'a, S: Suite, R: Read>(
 /// # Errors
 ///
 /// - `Given`: what is given names nobody, as `holders_of` says. Nothing was read or written.
-/// - `Command`: those of `decrypt_part`. Where nobody has a key, and a file of identities isn't opened by its passphrase, it is `Decrypt(KeyDecryptionFailed)`.
+/// - `Command`: those of `decrypt_part`. Where nobody has a key, and a file of identities isn't opened by its passphrase, it is
+///   `Decrypt(KeyDecryptionFailed)`.
 pub fn decrypt_part_by<'a, S: Suite, R: Read, W: Write>(
     alloc: Global,
     keyring: &'a Keyring,
@@ -228,7 +230,8 @@ pub fn decrypt_part_by<'a, S: Suite, R: Read, W: Write>(
 /// # Errors
 ///
 /// - `Given`: what is given names nobody, as `holders_of` says. Nothing was read or written.
-/// - `Command`: those of `seek_part`. Where nobody has a key, and a file of identities isn't opened by its passphrase, it is `Decrypt(KeyDecryptionFailed)`.
+/// - `Command`: those of `seek_part`. Where nobody has a key, and a file of identities isn't opened by its passphrase, it is
+///   `Decrypt(KeyDecryptionFailed)`.
 pub fn seek_part_by<'a, S: Suite, R: Seek + Drop, W: Write>(
     alloc: Global,
     keyring: &'a Keyring,
@@ -264,7 +267,8 @@ pub fn seek_part_by<'a, S: Suite, R: Seek + Drop, W: Write>(
 /// # Errors
 ///
 /// - `Given`: what is given names nobody, as `holders_of` says. Nothing was read or written.
-/// - `Command`: those of `migrate_text`. Where nobody has a key, and a file of identities isn't opened by its passphrase, it is `Decrypt(KeyDecryptionFailed)`.
+/// - `Command`: those of `migrate_text`. Where nobody has a key, and a file of identities isn't opened by its passphrase, it is
+///   `Decrypt(KeyDecryptionFailed)`.
 pub fn migrate_by<'a, S: Suite, R: Read + Drop, W: Write>(
     alloc: Global,
     keyring: &'a Keyring,
