@@ -16,8 +16,11 @@ import tempfile
 import time
 from pathlib import Path
 
+from guide import guides
 from harm import harms
+from installed import installs
 from others import rekeys, verifies
+from table import table
 from told import SECRET, armor, tells
 
 VECTORS = Path(__file__).resolve().parent.parent / "vectors"
@@ -423,6 +426,9 @@ def main():
         words_of_age(runs, recipient)
         standard_input(runs, recipient)
         recipes(runs)
+        guides(runs)
+        installs(runs)
+        table(runs.program, runs.ends)
     print(f"{runs.passed} passed, {runs.failed} failed")
     return 1 if runs.failed else 0
 
