@@ -1,6 +1,7 @@
 #!/usr/bin/env bash
-# The whole gate: whether each edit can be applied, the public names are told and the generated proofs are what their script makes, every proof from nothing,
-# the edits that must be refused, the tests and the programs' stored runs, and then `sazh` on real files, as each level of processors has it compiled, and `agebench` on
+# The whole gate: whether each edit can be applied, the public names are told, TRUSTED.md quotes what the sources say and the generated proofs are what
+# their script makes, every proof from nothing, the edits that must be refused, the tests and the programs' stored runs, and then `sazh` on real files,
+# as each level of processors has it compiled, and `agebench` on
 # damaged input, with failing memory, reads and writes. The lines of the long parts begin with the minutes and seconds since the start; the last line counts all of them.
 set -uo pipefail
 cd "$(dirname "$0")"
@@ -16,8 +17,9 @@ stamped() {
 
 # Before the long part: `rt ci` passes over a line of an edit that it doesn't know, and would try less than the edit says.
 edits/run.sh --apply || exit 1
-# Whether the table of public names is complete.
+# Whether the table of public names is complete, and the page of the definitions that a reader trusts is what the sources say.
 docs/names.py || exit 1
+docs/trusted.py --check || exit 1
 # Whether the certificates of the curve are what their script makes.
 if ! crates/curve25519/generate/certificates.py --check; then
     echo "0 passed, 1 failed"

@@ -38,7 +38,7 @@ module _ {I : Type 0} (seal_of : Seal) (unwraps : I → List StanzaValue → Unw
       let got : IsFileOf seal_of is.file_key is.stanzas given file = subst (λ x. IsFileOf seal_of is.file_key is.stanzas given x) same is.is_file in
       let stanzas : is.stanzas ≡ for.stanzas = one_header is.file_key for.file_key is.stanzas for.stanzas given plain file got for.is_file in
       elim (for.right (Some (Ok is.file_key)) (alone_answers unwraps before for.stanzas (Some (Ok is.file_key)) after
-      (subst (λ s. Unwraps unwraps before s (Some (Ok is.file_key)) after) stanzas is.asked))) [
+      (subst (λ s. Unwraps unwraps before s (Some (Ok is.file_key)) after) stanzas is.given))) [
         | inl answer ↦
             let key : is.file_key ≡ for.file_key = same_key is.file_key for.file_key answer in
             one_plain for.file_key is.stanzas for.stanzas given plain file is.bytes for.bytes

@@ -14,10 +14,11 @@ use Rattle.age_protocol.specs.Texts.{RefusesText, BeginsText, RefusesAnswered, U
 use Rattle.age_protocol.specs.DecryptingStreams.{DecryptsAll, DecryptsPart}
 use Rattle.age_protocol.specs.declared.error.FileError.{FileError}
 use Rattle.age_protocol.specs.declared.error.FileError.TheVariants.{Io, Encrypt, Decrypt}
-use Rattle.age_protocol.specs.WholeFiles.{LacksFront, read_of}
+use Rattle.age_protocol.specs.WholeFiles.{LacksFront, read_of, AppendsPlaintext}
 use Rattle.age_protocol.specs.FileErrors.{IfIo, RefusesHead, RefusesPlain}
 use Rattle.age_stream.specs.Chunks.{delivered}
 use Rattle.age_stream.specs.Keeping.{Stops}
+use Rattle.age_stream.specs.Payload.{Seal}
 use Rattle.age_io.specs.Copying.{AppendsFront}
 use Rattle.age_io.specs.Writing.{HandsOn}
 use Rattle.age_error.specs.declared.io.Error.{Error}
@@ -51,6 +52,26 @@ same_reason read refuses input old begins gives by given Says e (inr (inl writer
 same_reason read refuses input old begins gives by given Says e (inr (inr payload)) =
     inr (inr (under_mac begins begins (λ h nonce left begun. begun) gives by Says Says given (λ key sealed says. says) payload))
 
+-- the same file, told of other identities
+appends_plaintext_as : {W : Type 0} (seal_of : Seal) (gives by : List ℕ → List StanzaValue → Type 0)
+    → ((key : List ℕ) (stanzas : List StanzaValue) → gives key stanzas → by key stanzas)
+    → (appended : W → List ℕ → W → Type 0) (input : Stretch) (old new : W)
+    → AppendsPlaintext seal_of gives appended input old new → AppendsPlaintext seal_of by appended input old new
+appends_plaintext_as seal_of gives by given appended input old new done = record {
+  plain = done.plain;
+  ended = done.ended;
+  file = record {
+    carried = done.file.carried;
+    carries = done.file.carries;
+    file_key = done.file.file_key;
+    stanzas = done.file.stanzas;
+    given = given done.file.file_key done.file.stanzas done.file.given;
+    bytes = done.file.bytes;
+    is_file = done.file.is_file;
+  };
+  out = done.out;
+}
+
 -- what is given, what is answered, and which files are theirs may be said in another way
 pub decrypts_all_as : {S R W T : Type 0} (suite : SuiteGhosts S) (read : ReadGhosts R) (write : WriteGhosts W)
     (gives by : List ℕ → List StanzaValue → Type 0) (answers own : List StanzaValue → UnwrapAnswer → Type 0) (IsFor IsOwn : List ℕ → List ℕ → Type 0)
@@ -61,10 +82,7 @@ pub decrypts_all_as : {S R W T : Type 0} (suite : SuiteGhosts S) (read : ReadGho
     → DecryptsAll suite read write gives answers IsFor input old new result → DecryptsAll suite read write by own IsOwn input old new result
 decrypts_all_as {S} {R} {W} {T} suite read write gives by answers own IsFor IsOwn input old new result given answered for all = record {
   file = λ reader_told writer_told.
-      on_ok_weaker result (λ done.
-      let (key, stanzas, plain, bytes, gave, well, carries, file, plain_bytes, appended) = done in
-      (key, stanzas, plain, bytes, given key stanzas gave, well, carries, file, plain_bytes, appended))
-      (all.file reader_told writer_told);
+      on_ok_weaker result (appends_plaintext_as suite.seal_of gives by given write.appended (read.rest input) old new) (all.file reader_told writer_told);
   refused = all.refused;
   why =
       IfErr-weaker result _ _

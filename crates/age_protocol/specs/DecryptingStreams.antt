@@ -1,6 +1,5 @@
 -- What decrypting from a reader to a writer comes to: of a whole file, and of a part of its plaintext.
 use Rattle.std.specs.Prelude.{◌≡◌, ◌⊎◌, ℕ, ◌&&◌, true, List, Some, Result, Ok, IsTrue, OnOk, IfErr}
-use Rattle.age_error.specs.Bytes.{AreBytes}
 use Rattle.age_error.specs.DecryptErrors.{DecryptRefusal, OutOfMemory, IfIoRefusal}
 use Rattle.age_suite.specs.declared.suite.Suite.{Ghosts as SuiteGhosts}
 use Rattle.age_io.specs.declared.traits.Read.{Ghosts as ReadGhosts}
@@ -19,18 +18,17 @@ use Rattle.age_format.specs.Unwrapping.{UnwrapAnswer, Unwraps}
 use Rattle.age_stream.specs.Chunks.{delivered}
 use Rattle.age_stream.specs.Keeping.{IsPayloadRefusal, Stops}
 use Rattle.age_protocol.specs.Answering.{FirstThatAnswers}
-use Rattle.age_protocol.specs.File.{IsFileOf}
 use Rattle.age_protocol.specs.FileErrors.{IfIo, IsDecryptError, DecryptsUnless, RefusesHead, RefusesPlain}
 use Rattle.age_protocol.specs.Texts.{RefusesText, BeginsText, RefusesAnswered, UnderMac}
-use Rattle.age_protocol.specs.WholeFiles.{LacksFront, read_of}
+use Rattle.age_protocol.specs.WholeFiles.{LacksFront, read_of, AppendsPlaintext}
 use Rattle.age_protocol.specs.Parts.{AppendsPart, AppendsOf, StandsAt, IsPartAt, RefusesPart}
 use Rattle.age_protocol.specs.declared.error.FileError.{FileError}
 
--- what the first of the identities that answers answers to these stanzas
+-- asked in turn for these stanzas, the identities come to this answer, that of the first one that answers, and are so afterwards
 abbrev pub AnswersFirst : {I : Type 0} → (I → List StanzaValue → UnwrapAnswer → I → Type 0) → List I → List I → List StanzaValue → UnwrapAnswer → Type 0
 AnswersFirst unwraps old new stanzas answer = FirstThatAnswers (λ identity own after. Unwraps unwraps identity stanzas own after) old answer new
 
--- and the file key that it gives to them
+-- and that answer is this file key
 abbrev pub GivesFirst : {I : Type 0} → (I → List StanzaValue → UnwrapAnswer → I → Type 0) → List I → List I → List ℕ → List StanzaValue → Type 0
 GivesFirst unwraps old new file_key stanzas = AnswersFirst unwraps old new stanzas (Some (Ok file_key))
 
@@ -46,13 +44,7 @@ pub record DecryptsAll {S R W T : Type 0} (suite : SuiteGhosts S) (read : ReadGh
     (input : R) (old new : W) (result : Result T FileError) : Type 0 where
   -- A success says that the input carried a file of exactly what was appended, under the file key that was given.
   pub file : IsTrue (read.tells input && read.steady input) → IsTrue (write.tells old) → OnOk result
-      ((file_key : List ℕ) × (stanzas : List StanzaValue) × (plain : List ℕ) × (bytes : List ℕ)
-      × gives file_key stanzas
-      × IsTrue (read.rest input).ends_well
-      × Carries (read.rest input).bytes bytes
-      × IsFileOf suite.seal_of file_key stanzas plain bytes
-      × AreBytes plain
-      × write.appended old plain new)
+      (AppendsPlaintext suite.seal_of gives write.appended (read.rest input) old new)
   -- After a refusal of the header or of the identities nothing was appended.
   pub refused : IfErr result (λ e. IsDecryptError e → new ≡ old)
   -- The cause of such a refusal.

@@ -19,13 +19,13 @@ use Rattle.age_protocol.specs.FileErrors.{IfIo, DecryptsUnless, IsPastEnd}
 use Rattle.age_protocol.specs.Texts.{UnderMac}
 use Rattle.age_protocol.specs.declared.error.FileError.{FileError}
 
--- what the first of the identities that answers may answer to these stanzas
+-- asked in turn for these stanzas, the identities may come to this answer, that of the first one that answers
 abbrev pub FirstAnswer : {I : Type 0} → (I → List StanzaValue → UnwrapAnswer → I → Type 0) → List I → List StanzaValue → UnwrapAnswer → Type 0
 FirstAnswer {I} unwraps identities stanzas answer =
     (after : List I) × FirstThatAnswers (λ identity own then. Unwraps unwraps identity stanzas own then) identities answer after
 
 -- The bytes are a file of the plaintext, under the file key that is answered to its stanzas unless memory is refused. A full last
--- chunk must not open as one in the middle, which the suites of age-encryption.org/v1 keep apart.
+-- chunk doesn't open as one in the middle too, which no law of a suite says.
 pub record IsFileFor (seal_of : Seal) (answers : List StanzaValue → UnwrapAnswer → Type 0) (plain text : List ℕ) : Type 0 where
   pub file_key : List ℕ
   pub stanzas : List StanzaValue

@@ -93,16 +93,28 @@ RefusesRest seal_of (Ok file_key) h nonce left refusal =
     ((h.mac ≢ header_mac file_key (covered_text h.stanzas)) × (refusal ≡ InvalidMac))
     ⊎ ((h.mac ≡ header_mac file_key (covered_text h.stanzas)) × RefusesPayload seal_of (payload_key file_key nonce) left refusal)
 
+-- The bytes carry a file of the plaintext, under the file key that is given to the header's stanzas.
+pub record CarriesFile (seal_of : Seal) (gives : List ℕ → List StanzaValue → Type 0) (text plain : List ℕ) : Type 0 where
+  pub carried : List ℕ
+  pub carries : Carries text carried
+  pub file_key : List ℕ
+  pub stanzas : List StanzaValue
+  pub given : gives file_key stanzas
+  pub bytes : AreBytes plain
+  pub is_file : IsFileOf seal_of file_key stanzas plain carried
+
+-- Between two states of a writer the plaintext was appended of a file that all that was left of an input carried, and the input ended well.
+pub record AppendsPlaintext {W : Type 0} (seal_of : Seal) (gives : List ℕ → List StanzaValue → Type 0) (appended : W → List ℕ → W → Type 0)
+    (input : Stretch) (old new : W) : Type 0 where
+  pub plain : List ℕ
+  pub ended : IsTrue input.ends_well
+  pub file : CarriesFile seal_of gives input.bytes plain
+  pub out : appended old plain new
+
 module _ {I : Type 0} (seal_of : Seal) (unwraps : I → List StanzaValue → UnwrapAnswer → I → Type 0) where
-  -- The bytes carry a file of the plaintext, under the file key that the identity got from the header's stanzas.
-  pub record Decrypts (before : I) (file plain : List ℕ) (after : I) : Type 0 where
-    pub carried : List ℕ
-    pub carries : Carries file carried
-    pub file_key : List ℕ
-    pub stanzas : List StanzaValue
-    pub asked : Unwraps unwraps before stanzas (Some (Ok file_key)) after
-    pub bytes : AreBytes plain
-    pub is_file : IsFileOf seal_of file_key stanzas plain carried
+  -- The bytes carry a file of the plaintext, under the file key that the identity gives to the header's stanzas.
+  abbrev pub Decrypts : I → List ℕ → List ℕ → I → Type 0
+  Decrypts before text plain after = CarriesFile seal_of (λ file_key stanzas. Unwraps unwraps before stanzas (Some (Ok file_key)) after) text plain
 
   -- The header and the nonce were read from the front, and the identity was asked.
   pub record RefusesAsked (before : I) (start : Stretch) (after : I) (refusal : DecryptRefusal) : Type 0 where

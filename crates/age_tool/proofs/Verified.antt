@@ -29,5 +29,7 @@ verified unwraps suite text_read write given read input last old new v measured 
     ]
 verified unwraps suite text_read write given read input last old new v measured tells took none measures
     (inr (holders, are, (Ok done, (asked, (steps, file, refused)), answers))) = λ told.
-    let (file_key, stanzas, plain, bytes, gives, well, carries, is_file, are_bytes, appended) = file told tells in
-    (holders, asked, are, (file_key, stanzas, plain, bytes, gives, well, carries, is_file, measures plain (took plain appended [] none)))
+    let gave = file told tells in
+    let carried = gave.file in
+    let measure = measures gave.plain (took gave.plain gave.out [] none) in
+    (holders, asked, are, (carried.file_key, carried.stanzas, gave.plain, carried.carried, carried.given, gave.ended, carried.carries, carried.is_file, measure))

@@ -12,17 +12,16 @@ use Rattle.age.specs.Writing.{Flushes, Retried}
 use Rattle.age.specs.DecryptingStreams.{AnswersFirst, DecryptsAll, DecryptsPart, GivesFirst}
 use Rattle.age.specs.Parts.{AppendsPart, EndsBefore, FirstAnswer, IsFileFor, IsPartAt, StandsAt}
 use Rattle.age.specs.Armor.{Carries}
-use Rattle.age.specs.Bytes.{AreBytes}
 use Rattle.age.specs.Copying.{AppendsSome, CopyRefuses}
 use Rattle.age.specs.Cursor.{IsOutside, IsSeekRefusal, OrTooLong}
 use Rattle.age.specs.Delivered.{delivered, stretch_of}
-use Rattle.age.specs.File.{IsFileOf}
 use Rattle.age.specs.FileErrors.{DecryptsUnless, IfIo, IsDecryptError}
 use Rattle.age.specs.Migrating.{Migrates, MigratesFiles}
 use Rattle.age.specs.Opened.{IsNotOpened, IsOpened}
 use Rattle.age.specs.Payload.{Seal}
 use Rattle.age.specs.StreamReader.{key_of, payload_of}
 use Rattle.age.specs.Stretch.{Stretch, whole}
+use Rattle.age.specs.WholeFiles.{AppendsPlaintext}
 
 module _ {W T : Type 0} (write : WriteMembers W) where
   -- The writer was flushed, whose interruptions are tried again, and its refusal is the answer.
@@ -49,13 +48,7 @@ module _ {I S R W T : Type 0} (unwraps : I → List StanzaValue → UnwrapAnswer
   -- tells its bytes, and a writer that always does.
   abbrev pub GivesFile : R → W → W → Result T FileError → Type 0
   GivesFile input old new result = IsTrue (read.tells input && read.steady input) → ((w : W) → IsTrue (write.tells w)) → OnOk result
-      ((file_key : List ℕ) × (stanzas : List StanzaValue) × (plain : List ℕ) × (bytes : List ℕ)
-      × GivesFirst unwraps identities asked file_key stanzas
-      × IsTrue (read.rest input).ends_well
-      × Carries (read.rest input).bytes bytes
-      × IsFileOf suite.seal_of file_key stanzas plain bytes
-      × AreBytes plain
-      × write.appended old plain new)
+      (AppendsPlaintext suite.seal_of (GivesFirst unwraps identities asked) write.appended (read.rest input) old new)
 
   -- So many bytes of the plaintext from a place on were decrypted by the first of the identities that answers, and then the writer was flushed.
   abbrev pub DecryptsSome : ℕ → ℕ → R → R → W → W → Result T FileError → Type 0

@@ -97,7 +97,7 @@ returns-clause-success g c =
       carries = carries each;
       file_key = opened.file_key;
       stanzas = opened.h.stanzas;
-      asked = alone_is (λ identity own next. Unwraps g.I.Identity.unwraps identity opened.h.stanzas own next) c.args.identity.now _ _ opened.asks.first;
+      given = alone_is (λ identity own next. Unwraps g.I.Identity.unwraps identity opened.h.stanzas own next) c.args.identity.now _ _ opened.asks.first;
       bytes = search rules;
       is_file = file.1;
     }

@@ -178,7 +178,20 @@ returns g c =
           (g.met.R.Read.stands reader tells (and-right _ _ reader_told)) (g.met.R.Read.are_bytes reader tells) in
           let carried = text.carries tells file.0 in
           let plain_bytes = stand-bytes g.S.Suite.seal_of _ _ _ _ (c.reader_law.ensures.stands (made.opens.reader.tells ∙ told)) in
-          (made.file_key, _, _, _, asks.first, carried.0, carried.1 bytes, file.1, plain_bytes, copied.1);
+          record {
+            plain = _;
+            ended = carried.0;
+            file = record {
+              carried = _;
+              carries = carried.1 bytes;
+              file_key = made.file_key;
+              stanzas = _;
+              given = asks.first;
+              bytes = plain_bytes;
+              is_file = file.1;
+            };
+            out = copied.1;
+          };
       refused = tt;
       why = tt;
       io = tt;

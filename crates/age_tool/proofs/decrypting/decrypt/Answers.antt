@@ -3,16 +3,10 @@ use Rattle.age_tool.proofs.decrypting.decrypt.Goals as goal
 
 pub returns-in-Ok-clause-file : goal.returns-in-Ok-clause-file
 returns-in-Ok-clause-file g c = λ reader_told writer_told.
-    let (key, stanzas, plain, bytes, gave, well, carries, file, plain_bytes, appended) = c.in-Ok.ensures.file reader_told (writer_told c.args.writer.now) in
-    on_ok c.flushed.result (
-      key,
-      stanzas,
-      plain,
-      bytes,
-      gave,
-      well,
-      carries,
-      file,
-      plain_bytes,
-      appended_flushed g.W.Write g.met.W.Write.joins writer_told c.args.writer.now _ c.flushed.new.writer plain c.flushed.result appended c.flushed.ensures,
-    )
+    let done = c.in-Ok.ensures.file reader_told (writer_told c.args.writer.now) in
+    on_ok c.flushed.result (record {
+      plain = done.plain;
+      ended = done.ended;
+      file = done.file;
+      out = appended_flushed g.W.Write g.met.W.Write.joins writer_told c.args.writer.now _ c.flushed.new.writer done.plain c.flushed.result done.out c.flushed.ensures;
+    })

@@ -23,13 +23,16 @@ returns g c = λ fits reader_told writer_told.
     let input = c.new.ensures.rest ∙ ap whole (c.deref.ensures.value ∙ written) in
     on_ok_weaker c.decrypt_all.result
     (λ done.
-    let (key, stanzas, back, bytes, first, well, carries, is_file, back_bytes, appended) = done in
-    let carried : Carries (text_of c.args.format text) bytes = rw (ap (λ s. s.bytes) input) at carries in
-    let same : bytes ≡ text = c.carried_is_unique.ensures (text_of c.args.format text) bytes text carried (made.carries plain_bytes) in
-    let opened : IsFileOf seal_of key stanzas back text = subst (λ (l : List ℕ). IsFileOf seal_of key stanzas back l) same is_file in
+    let file = done.file in
+    let key = file.file_key in
+    let stanzas = file.stanzas in
+    let back = done.plain in
+    let carried : Carries (text_of c.args.format text) file.carried = rw (ap (λ s. s.bytes) input) at file.carries in
+    let same : file.carried ≡ text = c.carried_is_unique.ensures (text_of c.args.format text) file.carried text carried (made.carries plain_bytes) in
+    let opened : IsFileOf seal_of key stanzas back text = subst (λ (l : List ℕ). IsFileOf seal_of key stanzas back l) same file.is_file in
     let same_stanzas = c.one_plaintext.ensures.header prepared.file_key key prepared.stanzas stanzas plain back text made.is_file opened in
-    let same_key : key ≡ prepared.file_key = fits c.args.draw.now _ prepared key _ prepares (rw (← same_stanzas) at first) in
-    let is : back ≡ plain = c.one_plaintext.ensures.plaintext prepared.file_key stanzas prepared.stanzas back plain text back_bytes plain_bytes
+    let same_key : key ≡ prepared.file_key = fits c.args.draw.now _ prepared key _ prepares (rw (← same_stanzas) at file.given) in
+    let is : back ≡ plain = c.one_plaintext.ensures.plaintext prepared.file_key stanzas prepared.stanzas back plain text file.bytes plain_bytes
     (subst (λ (k : List ℕ). IsFileOf seal_of k stanzas back text) same_key opened) made.is_file in
-    subst (λ (l : List ℕ). g.W.Write.appended c.args.writer.now l c.decrypt_all.new.writer) is appended)
+    subst (λ (l : List ℕ). g.W.Write.appended c.args.writer.now l c.decrypt_all.new.writer) is done.out)
     (c.decrypt_all.ensures.file refl writer_told)
