@@ -33,7 +33,6 @@ fn counters(counter: u32) -> u32x8
 }
 
 /// The states of eight blocks before the rounds.
-#[inline(always)]
 fn initial_states(key: &[u8; 32], counter: u32, nonce: &[u8; 12]) -> [u32x8; 16]
     ensures { (j : ℕ) → j < 8 → lane j result ≡ initial_state key.now ((counter + j) % 2 ^ 32) nonce.now }
 {

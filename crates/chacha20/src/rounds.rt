@@ -93,8 +93,6 @@ fn diagonal_round(states: &mut [u32x8; 16])
 }
 
 /// The ten double rounds of a block.
-// (compiled into its caller, where the states then stay in registers)
-#[inline(always)]
 pub fn ten_double_rounds(states: &mut [u32x8; 16])
     ensures { (j : ℕ) → j < 8 → lane j states.new ≡ double_rounds 10 (lane j states.old) }
 {
