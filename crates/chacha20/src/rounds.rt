@@ -1,5 +1,5 @@
 //! The rounds (RFC 8439, 2.1 to 2.3), on eight states side by side.
-ghost use Rattle.std.specs.Prelude.{◌≡◌, ◌<◌, ℕ, slice_index};
+ghost use Rattle.std.specs.Prelude.{◌≡◌, ◌<◌, ℕ, List, slice_index};
 ghost use Rattle.chacha20.specs.Rounds.{column_round, diagonal_round, double_rounds, quarter_round, word_sum, xor_rotate};
 ghost use Rattle.chacha20.specs.Lanes.{lane};
 
@@ -53,7 +53,7 @@ fn xor_rotates(d: &[u32x8; 4], a: &[u32x8; 4], n: u32) -> [u32x8; 4]
 /// The quarter round on each column.
 // (the four are made side by side, step by step, so that hardly a step waits for the one before)
 #[inline(always)]
-fn column_round(states: &mut [u32x8; 16])
+pub fn column_round(states: &mut [u32x8; 16])
     ensures { (j : ℕ) → j < 8 → lane j states.new ≡ column_round (lane j states.old) }
 {
     let a0 = [states[0], states[1], states[2], states[3]];
@@ -92,11 +92,12 @@ fn diagonal_round(states: &mut [u32x8; 16])
     ];
 }
 
-/// The ten double rounds of a block.
+/// The ten double rounds of a block, of whose first the column round is done.
 pub fn ten_double_rounds(states: &mut [u32x8; 16])
-    ensures { (j : ℕ) → j < 8 → lane j states.new ≡ double_rounds 10 (lane j states.old) }
+    ensures { (j : ℕ) (start : List ℕ) → j < 8 → lane j states.old ≡ column_round start → lane j states.new ≡ double_rounds 10 start }
 {
-    'rounds: for _round in 0..10u32 {
+    diagonal_round(states);
+    'rounds: for _round in 1..10u32 {
         column_round(states);
         diagonal_round(states);
     }
