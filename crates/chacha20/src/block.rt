@@ -6,7 +6,7 @@ ghost use Rattle.chacha20.specs.Rounds.{word_sum};
 ghost use Rattle.chacha20.specs.Lanes.{lane};
 ghost use Rattle.chacha20.specs.Blocks.{IsBlocks};
 
-use crate::rounds::{sum, ten_double_rounds};
+use crate::rounds::{column_round, sum, ten_double_rounds};
 use crate::transposed::transposed;
 use std::simd::u32x8;
 
@@ -82,6 +82,7 @@ pub fn keystream(key: &[u8; 32], counter: u32, nonce: &[u8; 12]) -> [u32x8; 16]
 {
     let before = initial_states(key, counter, nonce);
     let mut states = before;
+    column_round(&mut states);
     ten_double_rounds(&mut states);
     let fronts = transposed(&sums(&states, &before, 0));
     let backs = transposed(&sums(&states, &before, 8));

@@ -56,17 +56,19 @@ fn combine_blocks(key: &[u8; 32], counter: u32, nonce: &[u8; 12], n: usize, byte
 pub fn apply_keystream(key: &[u8; 32], counter: u32, nonce: &[u8; 12], bytes: &mut [u8])
     ensures { bytes.new ≡ chacha20_encrypt key.now counter nonce.now bytes.old }
 {
+    let key = *key;
+    let nonce = *nonce;
     let whole = bytes.len() / BLOCKS;
     'each: for n in 0..whole {
         combine_blocks(
-            key,
+            &key,
             counter,
-            nonce,
+            &nonce,
             n,
             &mut bytes[BLOCKS * n..BLOCKS * n + BLOCKS],
         );
     }
     if BLOCKS * whole < bytes.len() {
-        combine_blocks(key, counter, nonce, whole, &mut bytes[BLOCKS * whole..]);
+        combine_blocks(&key, counter, &nonce, whole, &mut bytes[BLOCKS * whole..]);
     }
 }

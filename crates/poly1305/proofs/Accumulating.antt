@@ -132,12 +132,3 @@ pub put_to_end : (a k : ℕ) (xs ys : List ℕ) → length xs ≤ a + k → put_
 put_to_end a k xs ys all =
     let none : drop k (drop a xs) ≡ [] = drop_all k (drop a xs) (rw length-drop (omega arith)) in
     ap (λ tail. take a xs ++ (ys ++ tail)) none ∙ (rw append-nil refl)
-
--- a text in pieces
-pub joined : (text bytes front more blocks last : List ℕ) → front ++ more ≡ bytes → blocks ++ last ≡ more
-    → ((text ++ front) ++ blocks) ++ last ≡ text ++ bytes
-joined text bytes front more blocks last first second =
-    append_assoc (text ++ front) blocks last
-    ∙ ap (λ tail. text ++ front ++ tail) second
-    ∙ append_assoc text front more
-    ∙ ap (λ tail. text ++ tail) first

@@ -8,14 +8,9 @@ use Rattle.std.proofs.Math.Nat.{add-mul, add-zero, zero-add, mul-one, one-mul, p
 use Rattle.std.specs.Prelude.{slice_get}
 use Rattle.poly1305.specs.declared.groups.Multiplier.{Multiplier}
 use Rattle.poly1305.specs.Mac.{accumulated, block_number, prime}
-use Rattle.poly1305.specs.Groups.{bits_beyond, IsAccumulator}
+use Rattle.poly1305.specs.Groups.{bits_beyond, IsAccumulator, IsScaled}
 use Rattle.poly1305.proofs.Accumulating.{accumulated-mod, accumulated_whole, take_more_block}
 use Rattle.poly1305.proofs.Multiplying.{congruent_product, congruent_sum}
-
--- a number is, modulo the prime, the accumulator of a text of whole blocks, times a power of r, and the bits beyond the blocks to come
-pub record IsScaled (r n number : ℕ) (text : List ℕ) : Type 0 where
-  pub whole : length text % 16 ≡ 0
-  pub value : number % prime ≡ (bits_beyond r n + accumulated r text (length text / 16) * r ^ n) % prime
 
 -- the accumulator times a power of r, and the bits beyond all blocks
 pub scaled_first : (r n h power beyond number : ℕ) (text : List ℕ) → power % prime ≡ r ^ n % prime → beyond % prime ≡ bits_beyond r n % prime
@@ -57,23 +52,28 @@ scaled_more r n number power block next text bytes size is_block is_power is_nex
     }
 
 -- block i of a group, times its power of r
-pub scaled_block : (r i number power block next : ℕ) (text group : List ℕ) → i < 32 → length group ≡ 512
+pub scaled_block : (r i number power block next : ℕ) (text group : List ℕ) → i < 64 → length group ≡ 1024
     → block + 2 ^ 128 ≡ block_number (take (16 * i + 16 - 16 * i) (drop (16 * i) group))
-    → power % prime ≡ r ^ (32 - i) % prime → next % prime ≡ (number + block * power) % prime
-    → IsScaled r (32 - i) number (text ++ take (16 * i) group) → IsScaled r (32 - (i + 1)) next (text ++ take (16 * (i + 1)) group)
+    → power % prime ≡ r ^ (64 - i) % prime → next % prime ≡ (number + block * power) % prime
+    → IsScaled r (64 - i) number (text ++ take (16 * i) group) → IsScaled r (64 - (i + 1)) next (text ++ take (16 * (i + 1)) group)
 scaled_block r i number power block next text group within size is_block is_power is_next is =
-    let before : 32 - i ≡ suc (31 - i) = omega arith in
-    let after : 31 - i ≡ 32 - (i + 1) = omega arith in
+    let before : 64 - i ≡ suc (63 - i) = omega arith in
+    let after : 63 - i ≡ 64 - (i + 1) = omega arith in
     let count : 16 * i + 16 - 16 * i ≡ 16 = omega arith in
     let done = text ++ take (16 * i) group in
     let bytes = take (16 * i + 16 - 16 * i) (drop (16 * i) group) in
     let long : length bytes ≡ 16 = length-take-le (16 * i + 16 - 16 * i) (drop (16 * i) group) (omega (arith, length-drop (16 * i) group)) ∙ count in
     let joined : done ++ bytes ≡ text ++ take (16 * (i + 1)) group =
     append_assoc text (take (16 * i) group) bytes ∙ ap (λ l. text ++ l) (take_more_block group i) in
-    let step = scaled_more r (31 - i) number power block next done bytes long is_block (is_power ∙ ap (λ k. r ^ k % prime) before) is_next
+    let step = scaled_more r (63 - i) number power block next done bytes long is_block (is_power ∙ ap (λ k. r ^ k % prime) before) is_next
     (subst (λ (k : ℕ). IsScaled r k number (text ++ take (16 * i) group)) before is) in
     subst (λ (k : ℕ). IsScaled r k next (text ++ take (16 * (i + 1)) group)) after
-    (subst (λ (l : List ℕ). IsScaled r (31 - i) next l) joined step)
+    (subst (λ (l : List ℕ). IsScaled r (63 - i) next l) joined step)
+
+-- the same place of a group, in other words
+pub scaled_at : (r number i j : ℕ) (text group : List ℕ) → i ≡ j
+    → IsScaled r (64 - i) number (text ++ take (16 * i) group) → IsScaled r (64 - j) number (text ++ take (16 * j) group)
+scaled_at r number i j text group same is = subst (λ (k : ℕ). IsScaled r (64 - k) number (text ++ take (16 * k) group)) same is
 
 nothing_beyond : (r n : ℕ) → bits_beyond r 0 + n ≡ n
 unfolding bits_beyond
@@ -84,29 +84,29 @@ unfolding bits_beyond
 bit_more r n number = add_assoc number (2 ^ 128 * r ^ suc n) (bits_beyond r n)
 
 -- the bits beyond one block more
-pub beyond_more : (r i number power next : ℕ) → i < 32 → power % prime ≡ r ^ (32 - i) % prime → next % prime ≡ (number + 2 ^ 128 * power) % prime
-    → (number + bits_beyond r (32 - i)) % prime ≡ bits_beyond r 32 % prime → (next + bits_beyond r (32 - (i + 1))) % prime ≡ bits_beyond r 32 % prime
+pub beyond_more : (r i number power next : ℕ) → i < 64 → power % prime ≡ r ^ (64 - i) % prime → next % prime ≡ (number + 2 ^ 128 * power) % prime
+    → (number + bits_beyond r (64 - i)) % prime ≡ bits_beyond r 64 % prime → (next + bits_beyond r (64 - (i + 1))) % prime ≡ bits_beyond r 64 % prime
 beyond_more r i number power next within is_power is_next is =
-    let before : 32 - i ≡ suc (31 - i) = omega arith in
-    let after : 32 - (i + 1) ≡ 31 - i = omega arith in
-    let rest = bits_beyond r (31 - i) in
+    let before : 64 - i ≡ suc (63 - i) = omega arith in
+    let after : 64 - (i + 1) ≡ 63 - i = omega arith in
+    let rest = bits_beyond r (63 - i) in
     ap (λ k. (next + bits_beyond r k) % prime) after
-    ∙ congruent_sum next rest (number + 2 ^ 128 * r ^ suc (31 - i)) rest (is_next
-    ∙ congruent_sum number (2 ^ 128 * power) number (2 ^ 128 * r ^ suc (31 - i)) refl
-    (congruent_product (2 ^ 128) power (r ^ suc (31 - i)) (is_power ∙ ap (λ k. r ^ k % prime) before))) refl
-    ∙ ap (λ k. k % prime) (bit_more r (31 - i) number) ∙ ap (λ k. (number + bits_beyond r k) % prime) (sym before) ∙ is
+    ∙ congruent_sum next rest (number + 2 ^ 128 * r ^ suc (63 - i)) rest (is_next
+    ∙ congruent_sum number (2 ^ 128 * power) number (2 ^ 128 * r ^ suc (63 - i)) refl
+    (congruent_product (2 ^ 128) power (r ^ suc (63 - i)) (is_power ∙ ap (λ k. r ^ k % prime) before))) refl
+    ∙ ap (λ k. k % prime) (bit_more r (63 - i) number) ∙ ap (λ k. (number + bits_beyond r k) % prime) (sym before) ∙ is
 
-pub beyond_all : (r i number : ℕ) → i ≡ 32 → (number + bits_beyond r (32 - i)) % prime ≡ bits_beyond r 32 % prime → number % prime ≡ bits_beyond r 32 % prime
+pub beyond_all : (r i number : ℕ) → i ≡ 64 → (number + bits_beyond r (64 - i)) % prime ≡ bits_beyond r 64 % prime → number % prime ≡ bits_beyond r 64 % prime
 unfolding bits_beyond
 beyond_all r i number all is =
-    let none : 32 - i ≡ 0 = omega arith in
+    let none : 64 - i ≡ 0 = omega arith in
     ap (λ k. k % prime) (sym (add-zero number)) ∙ ap (λ k. (number + bits_beyond r k) % prime) (sym none) ∙ is
 
 -- no power of r is left
-pub scaled_last : (r i number result : ℕ) (text group : List ℕ) → i ≡ 32 → length group ≡ 512 → result % prime ≡ number % prime
-    → IsScaled r (32 - i) number (text ++ take (16 * i) group) → IsAccumulator r (result % prime) (text ++ group)
+pub scaled_last : (r i number result : ℕ) (text group : List ℕ) → i ≡ 64 → length group ≡ 1024 → result % prime ≡ number % prime
+    → IsScaled r (64 - i) number (text ++ take (16 * i) group) → IsAccumulator r (result % prime) (text ++ group)
 scaled_last r i number result text group all size is_result is =
-    let none : 32 - i ≡ 0 = omega arith in
+    let none : 64 - i ≡ 0 = omega arith in
     let whole : take (16 * i) group ≡ group = take_all (16 * i) group (omega arith) in
     let last = subst (λ (l : List ℕ). IsScaled r 0 number (text ++ l)) whole
     (subst (λ (k : ℕ). IsScaled r k number (text ++ take (16 * i) group)) none is) in
@@ -118,11 +118,11 @@ scaled_last r i number result text group all size is_result is =
     }
 
 -- the groups of a text, and the next one
-pub take_more_group : (text : List ℕ) (i : ℕ) → take (512 * i) text ++ take (512 * i + 512 - 512 * i) (drop (512 * i) text) ≡ take (512 * (i + 1)) text
+pub take_more_group : (text : List ℕ) (i : ℕ) → take (1024 * i) text ++ take (1024 * i + 1024 - 1024 * i) (drop (1024 * i) text) ≡ take (1024 * (i + 1)) text
 take_more_group text i =
-    let size : 512 * i + 512 - 512 * i ≡ 512 = omega arith in
-    let next : 512 * (i + 1) ≡ 512 * i + 512 = omega arith in
-    rw (size, next) (sym (take-add (512 * i) 512 text))
+    let size : 1024 * i + 1024 - 1024 * i ≡ 1024 = omega arith in
+    let next : 1024 * (i + 1) ≡ 1024 * i + 1024 = omega arith in
+    rw (size, next) (sym (take-add (1024 * i) 1024 text))
 
 -- the powers of r
 pub first_power : (r number : ℕ) → number ≡ r → number % prime ≡ r ^ 1 % prime

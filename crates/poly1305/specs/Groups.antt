@@ -35,10 +35,10 @@ pub record IsMultiplier (multiplier : Multiplier) : Type 0 where
 abbrev pub AreMultipliers : List Multiplier → Type 0
 AreMultipliers multipliers = (i : ℕ) (multiplier : Multiplier) → slice_get multipliers i ≡ Some multiplier → IsMultiplier multiplier
 
--- they stand for powers of r, from its thirty-second down
+-- they stand for powers of r, from its sixty-fourth down
 abbrev pub ArePowers : ℕ → List Multiplier → Type 0
 ArePowers r multipliers =
-    (i : ℕ) (multiplier : Multiplier) → slice_get multipliers i ≡ Some multiplier → multiplier_number multiplier % prime ≡ r ^ (32 - i) % prime
+    (i : ℕ) (multiplier : Multiplier) → slice_get multipliers i ≡ Some multiplier → multiplier_number multiplier % prime ≡ r ^ (64 - i) % prime
 
 -- 2^128 times each power of r, from this one down: what the bits beyond the bytes of so many blocks make
 unfoldable pub bits_beyond : ℕ → ℕ → ℕ
@@ -49,3 +49,8 @@ bits_beyond r (suc n) = 2 ^ 128 * r ^ suc n + bits_beyond r n
 pub record IsAccumulator (r accumulator : ℕ) (text : List ℕ) : Type 0 where
   pub whole : length text % 16 ≡ 0
   pub value : accumulator ≡ accumulated r text (length text / 16)
+
+-- a number is, modulo the prime, the accumulator of a text of whole blocks, times a power of r, and the bits beyond the blocks to come
+pub record IsScaled (r n number : ℕ) (text : List ℕ) : Type 0 where
+  pub whole : length text % 16 ≡ 0
+  pub value : number % prime ≡ (bits_beyond r n + accumulated r text (length text / 16) * r ^ n) % prime

@@ -116,20 +116,31 @@ impl Poly1305 {
         self.filled = 0;
     }
 
+    /// Takes bytes, where no block is begun.
+    fn take_unbegun(&mut self, bytes: &[u8])
+        requires { self.old.filled ≡ 0 }
+        ensures { (key text : List ℕ) → WasGiven self.old key text → WasGiven self.new key (text ++ bytes.now) }
+    {
+        let (blocks, last) = bytes.split_at(bytes.len() - bytes.len() % 16);
+        self.take_blocks(blocks);
+        self.hold(last);
+    }
+
     /// Gives the next bytes of the text, which may be none: they follow those given before. The tag depends on the pieces joined, and
     /// not on how the text was cut into them.
+    // (where no block is begun all whole blocks are taken together)
     pub fn update(&mut self, bytes: &[u8])
         ensures { (key text : List ℕ) → WasGiven self.old key text → WasGiven self.new key (text ++ bytes.now) }
     {
         let free = 16 - self.filled;
-        if bytes.len() < free {
+        if self.filled == 0 {
+            self.take_unbegun(bytes);
+        } else if bytes.len() < free {
             self.hold(bytes);
         } else {
             let (front, rest) = bytes.split_at(free);
-            let (blocks, last) = rest.split_at(rest.len() - rest.len() % 16);
             self.complete(front);
-            self.take_blocks(blocks);
-            self.hold(last);
+            self.take_unbegun(rest);
         }
     }
 

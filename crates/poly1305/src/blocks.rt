@@ -12,9 +12,10 @@ pub fn number(bytes: &[u8]) -> u128
     requires { length bytes.now ≡ 16 }
     ensures { result ≡ from_le_bytes w128 bytes.now }
 {
-    let mut array = [0; 16];
-    array.copy_from_slice(bytes);
-    u128::from_le_bytes(array)
+    match bytes.first_chunk::<16>() {
+        Some(array) => u128::from_le_bytes(*array),
+        None => 0,
+    }
 }
 
 /// The first half of a key, clamped (RFC 8439, 2.5.1).

@@ -1,20 +1,20 @@
-//! Thirty-two blocks in one step. Block by block the accumulator h becomes (..((h + a) r + b) r + ..) r (RFC 8439, 2.5), where each
-//! product waits for the one before. This is h r^32 + a r^32 + b r^31 + .., whose products wait for nothing, and are summed before their
+//! Sixty-four blocks in one step. Block by block the accumulator h becomes (..((h + a) r + b) r + ..) r (RFC 8439, 2.5), where each
+//! product waits for the one before. This is h r^64 + a r^64 + b r^63 + .., whose products wait for nothing, and are summed before their
 //! carries are taken once. The bits beyond the blocks' bytes make the same sum in each group, so it is made once.
 //!
 //! What is multiplied has limbs of 64 bits, as the accumulator and blocks have them. The powers of r have short limbs, of 44 bits, so that
 //! the sums stay below 2^128. `/` and `%` by powers of two are compiled to shifts and masks: 0x400_0000_0000 is 2^42,
 //! 0x1000_0000_0000 is 2^44, 0x1_0000_0000_0000_0000 is 2^64.
-ghost use Rattle.std.specs.Prelude.{◌≡◌, ℕ, ◌+◌, ◌-◌, ◌*◌, ◌%◌, ◌^◌, ◌<◌, ◌≤◌, List, ◌++◌, Some, length, slice_get};
+ghost use Rattle.std.specs.Prelude.{◌≡◌, ℕ, ◌+◌, ◌-◌, ◌*◌, ◌%◌, ◌^◌, ◌<◌, ◌≤◌, List, ◌++◌, Some, length, take, slice_get};
 ghost use Rattle.poly1305.specs.Mac.{prime};
 ghost use Rattle.poly1305.specs.Limbs.{factor_number, number_of, IsFactor};
-ghost use Rattle.poly1305.specs.Groups.{bits_beyond, multiplier_number, short_column_number, short_number, AreBelow, AreMultipliers, ArePowers, AreShort, IsAccumulator, IsMultiplier};
+ghost use Rattle.poly1305.specs.Groups.{bits_beyond, multiplier_number, short_column_number, short_number, AreBelow, AreMultipliers, ArePowers, AreShort, IsAccumulator, IsMultiplier, IsScaled};
 
 use crate::blocks::whole_bytes;
 use crate::limbs::{Factor, Limbs, product, shifted, small_product};
 
 /// How many bytes the blocks of a group have.
-pub const GROUP: usize = 512;
+pub const GROUP: usize = 1024;
 
 /// A number in short limbs: their sum, of which the second counts 2^44 and the third 2^88.
 #[derive(Clone, Copy)]
@@ -145,8 +145,8 @@ fn multiplied(number: Limbs, by: Multiplier) -> Limbs
     carried(columns_of(number, by))
 }
 
-/// The powers of a factor, from its thirty-second down to its first.
-fn powers_of(r: Factor) -> [Multiplier; 32]
+/// The powers of a factor, from its sixty-fourth down to its first.
+fn powers_of(r: Factor) -> [Multiplier; 64]
     requires { IsFactor r }
     ensures multipliers { AreMultipliers result }
     ensures powers { ArePowers (factor_number r) result }
@@ -157,28 +157,28 @@ fn powers_of(r: Factor) -> [Multiplier; 32]
         high: 0,
     };
     let first = multiplier_of(power);
-    let mut powers = [first; 32];
-    'each: for i in 1..32usize {
+    let mut powers = [first; 64];
+    'each: for i in 1..64usize {
         power = multiplied(power, first);
-        powers[31 - i] = multiplier_of(power);
+        powers[63 - i] = multiplier_of(power);
     }
     powers
 }
 
 /// The power of r that block `i` of a group is multiplied by.
 #[inline(always)]
-fn power_at(powers: &[Multiplier; 32], i: usize) -> Multiplier
-    requires { i < 32 }
+fn power_at(powers: &[Multiplier; 64], i: usize) -> Multiplier
+    requires { i < 64 }
     ensures { slice_get powers.now i ≡ Some result }
 {
     powers[i]
 }
 
 /// What the bits beyond the bytes of a group's blocks make before its carries: 2^128 times each power.
-fn columns_beyond(powers: &[Multiplier; 32]) -> ShortColumns
+fn columns_beyond(powers: &[Multiplier; 64]) -> ShortColumns
     requires { AreMultipliers powers.now }
-    ensures value { (r : ℕ) → ArePowers r powers.now → short_column_number result % prime ≡ bits_beyond r 32 % prime }
-    ensures bounds { AreBelow (33 * 2 ^ 112) result }
+    ensures value { (r : ℕ) → ArePowers r powers.now → short_column_number result % prime ≡ bits_beyond r 64 % prime }
+    ensures bounds { AreBelow (65 * 2 ^ 112) result }
 {
     let bit = Limbs {
         low: 0,
@@ -190,35 +190,57 @@ fn columns_beyond(powers: &[Multiplier; 32]) -> ShortColumns
         middle: 0,
         high: 0,
     };
-    'each: for i in 0..32usize {
+    'each: for i in 0..64usize {
         columns = with_product(columns, bit, power_at(powers, i));
     }
     columns
 }
 
+/// Columns and what block `i` of a group adds to them.
+#[inline(always)]
+fn with_block(
+    columns: ShortColumns,
+    powers: &[Multiplier; 64],
+    group: &[u8],
+    i: usize,
+) -> ShortColumns
+    requires within { i < 64 }
+    requires multipliers { AreMultipliers powers.now }
+    requires group { length group.now ≡ GROUP }
+    requires columns { AreBelow ((i + 66) * 2 ^ 112) columns }
+    ensures value { (r : ℕ) (text : List ℕ) → ArePowers r powers.now → IsScaled r (64 - i) (short_column_number columns) (text ++ take (16 * i) group.now)
+        → IsScaled r (64 - (i + 1)) (short_column_number result) (text ++ take (16 * (i + 1)) group.now) }
+    ensures bounds { AreBelow ((i + 67) * 2 ^ 112) result }
+{
+    let block = whole_bytes(&group[16 * i..16 * i + 16]);
+    with_product(columns, block, power_at(powers, i))
+}
+
 /// The accumulator after one more group of a text. The powers are those of r, and `beyond` is what the bits beyond the blocks' bytes
 /// make.
-// (compiled on its own, so that its loop has all registers)
+// (compiled on its own, so that its loop has all registers; four blocks a turn, since a turn costs as much as a third of a block)
 #[inline(never)]
 fn group_absorbed(
     accumulator: Limbs,
-    powers: &[Multiplier; 32],
+    powers: &[Multiplier; 64],
     beyond: &ShortColumns,
     group: &[u8],
 ) -> Limbs
     requires accumulator { accumulator.high ≤ 4 }
     requires multipliers { AreMultipliers powers.now }
-    requires beyond { AreBelow (33 * 2 ^ 112) beyond.now }
+    requires beyond { AreBelow (65 * 2 ^ 112) beyond.now }
     requires group { length group.now ≡ GROUP }
-    ensures value { (r : ℕ) (text : List ℕ) → ArePowers r powers.now → short_column_number beyond.now % prime ≡ bits_beyond r 32 % prime
+    ensures value { (r : ℕ) (text : List ℕ) → ArePowers r powers.now → short_column_number beyond.now % prime ≡ bits_beyond r 64 % prime
         → IsAccumulator r (number_of accumulator % prime) text
         → IsAccumulator r (number_of result % prime) (text ++ group.now) }
     ensures high { result.high ≤ 4 }
 {
     let mut columns = with_product(*beyond, accumulator, power_at(powers, 0));
-    'each: for i in 0..32usize {
-        let block = whole_bytes(&group[16 * i..16 * i + 16]);
-        columns = with_product(columns, block, power_at(powers, i));
+    'each: for i in 0..16usize {
+        columns = with_block(columns, powers, group, 4 * i);
+        columns = with_block(columns, powers, group, 4 * i + 1);
+        columns = with_block(columns, powers, group, 4 * i + 2);
+        columns = with_block(columns, powers, group, 4 * i + 3);
     }
     carried(columns)
 }

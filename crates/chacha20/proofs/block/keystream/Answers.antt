@@ -16,7 +16,7 @@ returns c =
     let before = c.initial_states-before.result in
     let word : (j k : ℕ) → j < 8 → k < 16 → word_sum (slice_index (lane j after) k) (slice_index (lane j before) k)
     ≡ slice_index (block_words c.args.key.now ((c.args.counter + j) % 2 ^ 32) c.args.nonce.now) k
-    = λ j k h l. block_words-at c.args.key.now _ c.args.nonce.now (lane j after) (lane j before) k l (c.initial_states-before.ensures j h) (c.ten_double_rounds.ensures j h) in
+    = λ j k h l. block_words-at c.args.key.now _ c.args.nonce.now (lane j after) (lane j before) k l (c.initial_states-before.ensures j h) (c.ten_double_rounds.ensures j (lane j before) h (c.column_round.ensures j h)) in
     record {
       front = λ j k h l. front_of fronts backs j k h ∙ c.transposed-fronts.ensures j k h l ∙ c.sums.ensures j k h l ∙ rw zero-add (word j k h (omega arith));
       back = λ j k h l. back_of fronts backs j k h ∙ c.transposed-backs.ensures j k h l ∙ c.sums-2.ensures j k h l ∙ word j (8 + k) h (omega arith);

@@ -1,30 +1,32 @@
-use Rattle.std.proofs.Common.{arith}
+use Rattle.std.proofs.Common.{◌+◌, ◌*◌, arith}
 use Rattle.std.proofs.lemmas.List.{append-nil}
-use Rattle.poly1305.proofs.Grouping.{scaled_block, scaled_first, scaled_last}
+use Rattle.poly1305.proofs.Grouping.{scaled_at, scaled_first, scaled_last}
 use Rattle.poly1305.proofs.groups.group_absorbed.Goals as goal
 
 pub each-init : goal.each-init
 each-init c = record {
   value = λ r text powers beyond given.
-      rw append-nil (scaled_first r 32 _ _ _ _ text (powers 0 _ c.power_at.ensures) beyond c.with_product-columns.ensures.value given);
+      rw append-nil (scaled_first r 64 _ _ _ _ text (powers 0 _ c.power_at.ensures) beyond c.with_product-columns.ensures.value given);
   bounds = (omega arith, omega arith, omega arith);
 }
 
 pub each-preserved : goal.each-preserved
 each-preserved c = record {
   value = λ r text powers beyond given.
-      scaled_block r c.each.i _ _ _ _ text c.args.group.now c.each-test.true c.requires.group c.whole_bytes-block.ensures.value
-      (powers _ _ c.power_at-in-each.ensures) c.with_product-columns-in-each.ensures.value (c.each.invariant.value r text powers beyond given);
+      let i = 4 * c.each.i in
+      let group = c.args.group.now in
+      let one = c.with_block-columns.ensures.value r text powers (c.each.invariant.value r text powers beyond given) in
+      let two = c.with_block-columns-in-each.ensures.value r text powers one in
+      let three = c.with_block-columns-in-each-2.ensures.value r text powers (scaled_at r _ (i + 1 + 1) (i + 2) text group (omega arith) two) in
+      let four = c.with_block-columns-in-each-3.ensures.value r text powers (scaled_at r _ (i + 2 + 1) (i + 3) text group (omega arith) three) in
+      scaled_at r _ (i + 3 + 1) (4 * (c.each.i + 1)) text group (omega arith) four;
   bounds = (omega arith, omega arith, omega arith);
 }
 
 pub returns-clause-value : goal.returns-clause-value
 returns-clause-value c = λ r text powers beyond given.
-    scaled_last r c.each.i _ _ text c.args.group.now (omega arith) c.requires.group c.carried.ensures.value
+    scaled_last r (4 * c.each.i) _ _ text c.args.group.now (omega arith) c.requires.group c.carried.ensures.value
     (c.each.invariant.value r text powers beyond given)
 
 pub with_product-columns-requires-clause-by : goal.with_product-columns-requires-clause-by
 with_product-columns-requires-clause-by c = c.requires.multipliers _ _ c.power_at.ensures
-
-pub with_product-columns-requires-in-each-clause-by : goal.with_product-columns-requires-in-each-clause-by
-with_product-columns-requires-in-each-clause-by c = c.requires.multipliers _ _ c.power_at-in-each.ensures

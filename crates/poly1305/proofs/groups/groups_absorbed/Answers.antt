@@ -21,5 +21,5 @@ each-preserved c = record {
 
 pub returns-clause-value : goal.returns-clause-value
 returns-clause-value c = λ text given.
-    let all = take_all (512 * c.each.i) c.args.groups.now (omega arith) in
+    let all = take_all (1024 * c.each.i) c.args.groups.now (omega arith) in
     rw all at c.each.invariant.value text given

@@ -8,6 +8,6 @@ use Rattle.poly1305.proofs.groups.groups_absorbed.Given as goal
 abbrev pub invariant-each : goal.invariant-each
 invariant-each l = record {
   value : (text : List ℕ) → IsAccumulator (factor_number l.fn.r) (number_of l.fn.accumulator % prime) text
-      → IsAccumulator (factor_number l.fn.r) (number_of l.next % prime) (text ++ take (512 * l.i) l.groups);
+      → IsAccumulator (factor_number l.fn.r) (number_of l.next % prime) (text ++ take (1024 * l.i) l.groups);
   high : l.next.high ≤ 4;
 }

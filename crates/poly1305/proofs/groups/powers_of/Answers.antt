@@ -15,8 +15,8 @@ each-init c =
       size = refl;
       high = omega arith;
       value = first_power r _ (omega arith);
-      multipliers = true_of_last (λ (k : ℕ) (x : Multiplier). IsMultiplier x) 31 first c.multiplier_of-first.ensures.multiplier;
-      powers = true_of_last (λ (k : ℕ) (x : Multiplier). multiplier_number x % prime ≡ r ^ (32 - k) % prime) 31 first
+      multipliers = true_of_last (λ (k : ℕ) (x : Multiplier). IsMultiplier x) 63 first c.multiplier_of-first.ensures.multiplier;
+      powers = true_of_last (λ (k : ℕ) (x : Multiplier). multiplier_number x % prime ≡ r ^ (64 - k) % prime) 63 first
           (first_power r _ is_first);
     }
 
@@ -28,15 +28,15 @@ each-preserved c =
     let next = c.multiplier_of.result in
     let is_first : multiplier_number c.multiplier_of-first.result ≡ r = omega (arith, c.multiplier_of-first.ensures.value) in
     let value = next_power r i _ _ _ is_first is.value c.multiplied-power.ensures.value in
-    let within : i < 32 = omega arith in
-    let place : i + 1 ≡ 32 - (31 - i) = omega arith in
+    let within : i < 64 = omega arith in
+    let place : i + 1 ≡ 64 - (63 - i) = omega arith in
     record {
       size = simp length-set is.size;
       high = c.multiplied-power.ensures.high;
       value = value;
-      multipliers = true_of_next (λ (k : ℕ) (x : Multiplier). IsMultiplier x) 31 c.each.powers i next is.size within is.multipliers
+      multipliers = true_of_next (λ (k : ℕ) (x : Multiplier). IsMultiplier x) 63 c.each.powers i next is.size within is.multipliers
           c.multiplier_of.ensures.multiplier;
-      powers = true_of_next (λ (k : ℕ) (x : Multiplier). multiplier_number x % prime ≡ r ^ (32 - k) % prime) 31 c.each.powers i next is.size
+      powers = true_of_next (λ (k : ℕ) (x : Multiplier). multiplier_number x % prime ≡ r ^ (64 - k) % prime) 63 c.each.powers i next is.size
           within is.powers (ap (λ n. n % prime) c.multiplier_of.ensures.value ∙ value ∙ ap (λ k. r ^ k % prime) place);
     }
 

@@ -9,9 +9,9 @@ use Rattle.poly1305.proofs.groups.powers_of.Given as goal
 -- the powers so far, at the end of the list, and the last of them
 abbrev pub invariant-each : goal.invariant-each
 invariant-each l = record {
-  size : length l.powers ≡ 32;
+  size : length l.powers ≡ 64;
   high : l.power.high ≤ 4;
   value : number_of l.power % prime ≡ factor_number l.fn.r ^ l.i % prime;
-  multipliers : (k : ℕ) (x : Multiplier) → 31 < k + l.i → slice_get l.powers k ≡ Some x → IsMultiplier x;
-  powers : (k : ℕ) (x : Multiplier) → 31 < k + l.i → slice_get l.powers k ≡ Some x → multiplier_number x % prime ≡ factor_number l.fn.r ^ (32 - k) % prime;
+  multipliers : (k : ℕ) (x : Multiplier) → 63 < k + l.i → slice_get l.powers k ≡ Some x → IsMultiplier x;
+  powers : (k : ℕ) (x : Multiplier) → 63 < k + l.i → slice_get l.powers k ≡ Some x → multiplier_number x % prime ≡ factor_number l.fn.r ^ (64 - k) % prime;
 }
