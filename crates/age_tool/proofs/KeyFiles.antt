@@ -12,7 +12,7 @@ use Rattle.age.specs.EncryptedIdentities.{IsMadeOf}
 use Rattle.age.specs.Entries.{Entry, AreEntries}
 use Rattle.age.specs.IdentityReading.{ReadsFile, most_bytes}
 use Rattle.age.specs.Stretch.{Stretch, whole}
-use Rattle.age_tool.specs.Keyring.{AreOfFile, AreOfFiles, FoundOrNone, IsFirstRefused, IsFound, ReadsBytes, RefusesBytes, RefusesFile}
+use Rattle.age_tool.specs.Keyring.{AreOfFile, AreOfFiles, FoundOrNone, IsFirstRefused, IsFound, IsProtected, IsUnderPassphrase, ReadsBytes, RefusesBytes, RefusesFile}
 use Rattle.age_tool.specs.declared.callbacks.GivesOnce.{GivesOnce}
 use Rattle.age_tool.specs.declared.error.KeyringError.{KeyringError}
 use Rattle.age_tool.specs.declared.holder.Holder.{Holder}
@@ -97,3 +97,8 @@ module _ {S T : Type 0} (text_read : ReadMembers T) (given : Option (List ℕ)) 
     good = good;
     refused = subst (λ n. RefusesFile text_read S n (get_or all i other) given e) (sym (length-take-le i all (omega (arith, within)))) refused;
   }
+
+-- who asks for the passphrase of a file says that the file is under one
+pub is_under_passphrase : {S T : Type 0} (text_read : ReadMembers T) (name bytes : List ℕ) (asked : GivesOnce) (identity : Protected S T GivesOnce)
+    → IsProtected text_read name bytes asked identity → IsUnderPassphrase text_read S bytes
+is_under_passphrase text_read name bytes asked identity is = (is.text, is.reads, (is.front, is.opens, is.under_passphrase))

@@ -5,5 +5,7 @@ pub mod Prepared
 pub mod Flushed
 pub mod KeyFiles
 pub mod Leftover
+pub mod Lined
+pub mod OfPlugins
 pub mod Told
 pub mod Verified

@@ -78,9 +78,9 @@ module _ {S T W V : Type 0} (unwraps : Holder S T GivesOnce → List StanzaValue
       (λ holders asked done. Migrated unwraps suite.seal_of read armored_read write holders asked input old new done) result
 
 -- what was given to encrypt a file to others is refused
-abbrev pub RefusesRekey : {T : Type 0} → ReadMembers T → Type 0 → Keyring → List Word → RekeyError → Type 0
-RefusesRekey {T} text_read S given words (refused.Keyring e) = RefusesKeyring text_read S given e
-RefusesRekey {T} text_read S given words (refused.Words e) = RefusesWords words e
+abbrev pub RefusesRekey : {T : Type 0} → ReadMembers T → Type 0 → (List ℕ → List ℕ) → Keyring → List Word → RekeyError → Type 0
+RefusesRekey {T} text_read S public_of given words (refused.Keyring e) = RefusesKeyring text_read S given e
+RefusesRekey {T} text_read S public_of given words (refused.Words e) = RefusesWords text_read S public_of words e
 
 -- what a command came to is answered, but that it may be told that a passphrase opens no file of identities, where nobody has a key
 abbrev pub AnswersCommand : {G V : Type 0} → Result V CommandError → Result V (GivenError G CommandError) → Type 0
@@ -94,8 +94,8 @@ module _ {S T B W V : Type 0} (unwraps : Holder S T GivesOnce → List StanzaVal
   abbrev pub RekeysBy : {R A : Type 0} → ReadMembers R → (armored_read : ReadMembers A) → ReadMembers (StreamReader S A suite armored_read) → Format → B → B → R → W → W
       → Result V (GivenError RekeyError CommandError) → Type 0
   RekeysBy {R} {A} read armored_read stream_read format before after input old new result =
-      WithGiven {X = List (Holder S T GivesOnce) × List (List ℕ)} (RefusesRekey text_read S given words) ((after ≡ before) × (new ≡ old))
-      (λ x. AreHolders text_read given x.0 × AreOfWords words x.1)
+      WithGiven {X = List (Holder S T GivesOnce) × List (List ℕ)} (RefusesRekey text_read S suite.public_of given words) ((after ≡ before) × (new ≡ old))
+      (λ x. AreHolders text_read given x.0 × AreOfWords suite.public_of words x.1)
       (λ x done. (asked : List (Holder S T GivesOnce))
       × (Rekeys unwraps gives wraps suite write format x.0 asked x.1 before after read armored_read stream_read input old new done
       × KeepsPlaintext unwraps gives wraps suite write format x.0 asked x.1 before after read input old new done)) AnswersCommand result

@@ -94,6 +94,11 @@ module _ {T : Type 0} (text_read : ReadMembers T) where
     IsNotProtected bytes = (text : T) × ReadsBytes bytes text
         × ((made : Result (Decryptor S T) DecryptError) × OpensFront text_read text made × IsNotUnderPassphrase made)
 
+    -- these bytes are those of a file under a passphrase
+    abbrev pub IsUnderPassphrase : List ℕ → Type 0
+    IsUnderPassphrase bytes = (text : T) × ReadsBytes bytes text
+        × ((front : Decryptor S T) × OpensFront text_read text (Ok front) × IsScrypt (header_of front).stanzas)
+
   module _ {S : Type 0} where
     -- what was found of a file: who asks for its passphrase, or that it is none under one
     abbrev pub IsFound : List ℕ → List ℕ → GivesOnce → Result (Option (Protected S T GivesOnce)) KeyringError → Type 0
@@ -132,7 +137,7 @@ module _ {T : Type 0} (text_read : ReadMembers T) where
     abbrev pub RefusesProtected : ℕ → ℕ → List ℕ → Option (List ℕ) → KeyringError → Type 0
     RefusesProtected number line bytes given e = RefusesText given e
         ⊎ ((e ≡ error.NotIdentity number line) × IsNotProtected S bytes)
-        ⊎ ((e ≡ error.NoPassphrase number) × (given ≡ None))
+        ⊎ ((e ≡ error.NoPassphrase number) × (given ≡ None) × IsUnderPassphrase S bytes)
 
     -- why the file of this number names nobody, or can't be told to
     abbrev pub RefusesFile : ℕ → KeyFile → Option (List ℕ) → KeyringError → Type 0

@@ -25,6 +25,29 @@ pub enum RecipientsError {
     OutOfMemory,
 }
 
+/// Why a text isn't that of a file of identities, or the recipients of its identities can't be told.
+#[derive(Clone, Copy, Debug, Error, PartialEq, Eq)]
+pub enum IdentitiesError {
+    /// This line, counted from 1, is no identity, and the file isn't one under a passphrase.
+    #[error("line {line} is no identity")]
+    NotIdentity { line: usize },
+    /// It has more than 16 MiB.
+    #[error("more than 16 MiB")]
+    TooLong,
+    /// An identity in it is a plugin's.
+    #[error("an identity of a plugin")]
+    Plugin,
+    /// No identity is in it.
+    #[error("no identity is in it")]
+    NoIdentity,
+    /// It is encrypted with a passphrase, and its recipients can't be told without that.
+    #[error("it is encrypted with a passphrase, without which its recipients can't be told")]
+    Encrypted,
+    /// Memory was refused.
+    #[error("out of memory")]
+    OutOfMemory,
+}
+
 /// Why the words of a command line name no recipients. A word's number is counted from 0.
 #[derive(Debug, Drop, Error)]
 pub enum WordsError {
@@ -34,6 +57,9 @@ pub enum WordsError {
     /// This word names a file whose bytes aren't those of a file of recipients.
     #[error("{why}")]
     File { word: usize, why: RecipientsError },
+    /// This word names a file whose bytes aren't those of a file of identities, or one whose recipients can't be told.
+    #[error("{why}")]
+    Identities { word: usize, why: IdentitiesError },
     /// Memory was refused.
     #[error("out of memory")]
     OutOfMemory,

@@ -36,21 +36,22 @@ use std::alloc::Global;
 ///
 /// - `Given`: the words name no recipients, as `keys_of_words` says. Nothing was read or written, and the source wasn't asked.
 /// - `Command`: those of `encrypt_to_keys`.
-pub fn encrypt_to_words<S: Suite, B: RandomBytes, R: Read, W: Write>(
+pub fn encrypt_to_words<'a, S: Suite, B: RandomBytes, R: Read, W: Write>(
     alloc: Global,
-    words: &[Word],
+    words: &'a [Word],
     source: &mut B,
     format: Format,
     reader: &mut R,
     writer: &mut W,
 ) -> Result<(), GivenError<WordsError, CommandError>>
-    ensures { WithGiven (λ e. RefusesWords words.now e) ((source.new ≡ source.old) × (reader.new ≡ reader.old) × (writer.new ≡ writer.old))
-        (λ (keys : List (List ℕ)). AreOfWords words.now keys)
+    ensures { WithGiven (λ e. RefusesWords ⟦<ArmoredReader<BufReader<Bytes<'a>>> as Read>⟧ S S.public_of words.now e)
+        ((source.new ≡ source.old) × (reader.new ≡ reader.old) × (writer.new ≡ writer.old))
+        (λ (keys : List (List ℕ)). AreOfWords S.public_of words.now keys)
         (λ keys done. Encrypts B.gives ⟦<x25519::Recipient<S> as Recipient>⟧.wraps keys (draws_for_keys (length keys)) source.old source.new
         ⟦<S as Suite>⟧ ⟦<R as Read>⟧ ⟦<W as Write>⟧ format reader.old reader.new writer.old writer.new done)
         Answers result }
 {
-    match keys_of_words(alloc, words) {
+    match keys_of_words::<S>(alloc, words) {
         Err(error) => Err(GivenError::Given(error)),
         Ok(keys) => match encrypt_to_keys::<S, B, R, W>(
             alloc, &keys, source, format, reader, writer,
@@ -315,7 +316,7 @@ fn command_with_locked<S: Suite, R: Read + Drop, C: Callbacks>(
 pub fn rekey_by<'a, S: Suite, B: RandomBytes, R: Read + Drop, W: Write>(
     alloc: Global,
     keyring: &'a Keyring,
-    words: &[Word],
+    words: &'a [Word],
     source: &mut B,
     format: Format,
     reader: R,

@@ -38,13 +38,13 @@ pub enum Keyring {
 }
 
 // What a file of identities carries that is encrypted with a passphrase.
-type Text<'a> = ArmoredReader<BufReader<Bytes<'a>>>;
+pub(crate) type Text<'a> = ArmoredReader<BufReader<Bytes<'a>>>;
 
 /// One of those who decrypt. An encrypted file of identities is read from its bytes in memory.
 pub type Held<'a, S> = Holder<S, ArmoredReader<BufReader<Bytes<'a>>>, GivesOnce>;
 
 // A reader of what these bytes carry.
-fn text_of<'a>(alloc: Global, bytes: &'a [u8]) -> Result<Text<'a>, KeyringError>
+pub(crate) fn text_of<'a>(alloc: Global, bytes: &'a [u8]) -> Result<Text<'a>, KeyringError>
     ensures { MatchResult result (λ text. ReadsBytes ⟦<ArmoredReader<BufReader<Bytes<'a>>> as Read>⟧ bytes.now text) (λ e. e ≡ refused.OutOfMemory) }
 {
     match ArmoredReader::new(alloc, Bytes::new(bytes)) {
@@ -54,7 +54,10 @@ fn text_of<'a>(alloc: Global, bytes: &'a [u8]) -> Result<Text<'a>, KeyringError>
 }
 
 // The identities in these bytes.
-fn identities_in<S>(alloc: Global, bytes: &[u8]) -> Result<IdentityFile<S, NoCallbacks>, Error>
+pub(crate) fn identities_in<S>(
+    alloc: Global,
+    bytes: &[u8],
+) -> Result<IdentityFile<S, NoCallbacks>, Error>
     ensures { MatchResult result (λ file. AreEntries (lines bytes.now) (entries_of file)) (λ e. RefusesBytes bytes.now e) }
 {
     IdentityFile::from_buffer(alloc, Bytes::new(bytes))

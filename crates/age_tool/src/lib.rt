@@ -12,6 +12,7 @@ pub mod keygen;
 pub mod keyring;
 mod lists;
 pub mod measuring;
+pub mod own_recipients;
 pub mod passphrase;
 pub mod random;
 pub mod recipients;

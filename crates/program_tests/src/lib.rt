@@ -23,6 +23,8 @@ mod key_file_tests;
 #[cfg(test)]
 mod key_tests;
 #[cfg(test)]
+mod own_recipients_tests;
+#[cfg(test)]
 mod passphrase_tests;
 #[cfg(test)]
 mod payload_tests;
