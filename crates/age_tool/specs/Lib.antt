@@ -6,6 +6,9 @@ pub mod Holder
 pub mod Keyring
 pub mod OwnRecipients
 pub mod Given
+pub mod Counting
+pub mod Placing
+pub mod Inspecting
 pub mod Measuring
 pub mod MeasuringLaws
 pub mod Rekeying

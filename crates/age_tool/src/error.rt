@@ -2,8 +2,8 @@
 ghost use Rattle.std.specs.Prelude.{◌≡◌};
 ghost use Rattle.age_tool.specs.declared.error.CommandError.TheVariants as command;
 
-use age::EncryptError;
 use age::streaming::FileError;
+use age::{DecryptError, EncryptError, io};
 use std::fmt;
 use std::fmt::Display;
 use thiserror::Error;
@@ -114,6 +114,20 @@ pub enum RekeyError {
     /// The words that name its recipients.
     #[error("{0}")]
     Words(WordsError),
+}
+
+/// Why it isn't told what a file shows. Bytes are counted of what its text carries.
+#[derive(Debug, Drop, Error)]
+pub enum InspectionError {
+    /// There is no header at its front, for this reason, which shows at the last of so many bytes.
+    #[error("{why}")]
+    Header { count: u64, why: DecryptError },
+    /// What follows the header isn't read to its end, for this reason, after so many bytes in all.
+    #[error("{why}")]
+    Rest { count: u64, why: io::Error },
+    /// Memory was refused.
+    #[error("out of memory")]
+    OutOfMemory,
 }
 
 /// Why there are no random bytes.

@@ -2,12 +2,14 @@
 #![tactic(auto)]
 
 pub mod callbacks;
+mod counting;
 pub mod decrypting;
 pub mod encrypting;
 pub mod error;
 pub mod given;
 pub mod grease;
 pub mod holder;
+pub mod inspecting;
 pub mod keygen;
 pub mod keyring;
 mod lists;

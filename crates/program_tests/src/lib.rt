@@ -19,6 +19,8 @@ mod file_tests;
 #[cfg(test)]
 mod given_tests;
 #[cfg(test)]
+mod inspection_tests;
+#[cfg(test)]
 mod key_file_tests;
 #[cfg(test)]
 mod key_tests;

@@ -1,0 +1,30 @@
+use Rattle.std.proofs.Common.{◌∙◌, arith, refl, subst, sym}
+use Rattle.age_tool.specs.Inspecting.{AreLengths}
+use Rattle.age_tool.specs.Placing.{inner_of}
+use Rattle.age_tool.proofs.inspecting.inspect_text.Goals as goal
+
+pub returns-in-Err : goal.returns-in-Err
+returns-in-Err g c = λ zero. record {
+  exact = λ told. tt;
+  refused = λ told. (inner_of c.read.new.reader, sym (c.count.ensures (c.in-Err.ensures.keeps.tells ∙ told)), c.in-Err.ensures.refused told);
+}
+
+pub returns-in-Ok-copy_all : goal.returns-in-Ok-copy_all
+returns-in-Ok-copy_all g c = λ zero.
+    record {
+      exact = λ told.
+          let read = c.in-Ok.ensures.header told in
+          let tells = c.in-Ok.ensures.keeps.tells ∙ told in
+          let copied = c.in-Ok-copy_all.ensures.all tells refl in
+          record {
+            rest = (g.T.Read.rest (inner_of c.read.new.reader)).bytes;
+            header = c.stanzas.ensures.header;
+            whole = read.delivered.bytes;
+            well = sym read.delivered.end ∙ copied.0;
+            header_length = Prim.omega (arith, zero, read.moved, c.count-header_length.ensures tells);
+            rest_length = Prim.omega (arith, copied.1, c.new-rest.ensures, c.count-in-Ok-copy_all.ensures);
+            rule = rw c.stanzas.ensures.stanzas at c.keeps_scrypt_rule.ensures;
+            lengths = subst (λ n. AreLengths n c.lengths_of.result) (Prim.omega (arith, copied.1, c.new-rest.ensures, c.count-in-Ok-copy_all-2.ensures)) c.lengths_of.ensures;
+          };
+      refused = tt;
+    }
