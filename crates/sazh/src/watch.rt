@@ -37,10 +37,12 @@ impl Seen {
     // These bytes went through it.
     fn saw(&mut self, bytes: &[u8]) {
         self.count = self.count.saturating_add(bytes.len() as u64);
-        for byte in bytes.iter().take(FRONT) {
-            if self.kept < FRONT {
-                self.front[self.kept] = *byte;
-                self.kept += 1;
+        if self.kept < FRONT {
+            for byte in bytes.iter().take(FRONT) {
+                if self.kept < FRONT {
+                    self.front[self.kept] = *byte;
+                    self.kept += 1;
+                }
             }
         }
     }
