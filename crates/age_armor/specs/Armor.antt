@@ -6,13 +6,15 @@ use Rattle.age_error.specs.Bytes.{AreBytes}
 use Rattle.age_base64.specs.Lines.{line, pieces_and_rest}
 use Rattle.age_base64.specs.Base64.{padded_columns}
 
+-- the first line of an armor, without its line ending
 abbrev pub begin_marker : List ℕ
 begin_marker = codes "-----BEGIN AGE ENCRYPTED FILE-----"
 
+-- the last one
 abbrev pub end_marker : List ℕ
 end_marker = codes "-----END AGE ENCRYPTED FILE-----"
 
--- cut in 64s, none of them empty
+-- columns of base64 cut into lines of 64 and a shorter last one, none of them empty
 unfoldable pub armor_lines : List ℕ → List (List ℕ)
 armor_lines [] = []
 armor_lines (c ∷ cols) = pieces_and_rest (length cols / 64) 64 (c ∷ cols)
@@ -53,7 +55,7 @@ pub record CarriesBinary (text bytes : List ℕ) : Type 0 where
   pub plain : (rest : List ℕ) → text ≢ begin_marker ++ rest
   pub same : text ≡ bytes
 
--- the text carries the bytes
+-- the text carries the bytes: it is an armor of them, or the bytes themselves
 pub record Carries (text bytes : List ℕ) : Type 0 where
   pub each : AreBytes bytes
   pub way : CarriesArmored text bytes ⊎ CarriesBinary text bytes

@@ -45,7 +45,7 @@ covered text = take (length text - 45) text
 unfoldable pub covered_text : List StanzaValue → List ℕ
 covered_text stanzas = line version_line ++ (flat_map stanza_text stanzas ++ codes "---")
 
--- the one canonical text
+-- the one canonical text: the version line, the stanzas in order, and the line of the MAC
 unfoldable pub header_text : List StanzaValue → List ℕ → List ℕ
 header_text stanzas mac = line version_line ++ (flat_map stanza_text stanzas ++ line (mac_line mac))
 

@@ -14,6 +14,7 @@ pub record Wrapped : Type 0 where
   pub stanzas : List StanzaValue
   pub labels : List (List ℕ)
 
+-- these, or a refusal
 abbrev pub WrapAnswer : Type 0
 WrapAnswer = Result Wrapped EncryptRefusal
 

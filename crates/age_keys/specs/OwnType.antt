@@ -11,14 +11,14 @@ abbrev pub no_nonce : List ℕ
 no_nonce = replicate 12 0
 
 module _ {P : Type 0} (Has : P → StanzaValue → Type 0) (made_of : P → List ℕ → UnwrapAnswer) where
-  -- to a stanza with the tag of the type: where it lacks what the type asks it is refused, else what it has and its body decide; memory
-  -- can be refused
+  -- What an identity of one type answers to a stanza of that type: where the stanza lacks what the type asks it is refused, else what it
+  -- has and its body decide. Memory can be refused.
   abbrev pub UnwrapsOwn : StanzaValue → UnwrapAnswer → Type 0
   UnwrapsOwn s answer =
       (((parts : P) → Has parts s → ⊥) × (answer ≡ Some (Err InvalidHeader)))
       ⊎ ((parts : P) × Has parts s × (answer ≡ made_of parts s.body))
       ⊎ (answer ≡ Some (Err OutOfMemory))
 
-  -- to any stanza: one with another tag is passed over
+  -- What it answers to any stanza: one with another tag is passed over.
   abbrev pub UnwrapsType : List ℕ → StanzaValue → UnwrapAnswer → Type 0
   UnwrapsType tag s answer = ((s.tag ≢ tag) × (answer ≡ None)) ⊎ ((s.tag ≡ tag) × UnwrapsOwn s answer)
