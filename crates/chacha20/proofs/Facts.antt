@@ -1,10 +1,11 @@
 -- Lengths and ranges, and that encryption done twice gives the text back.
-use Rattle.std.proofs.Common.{◌≡◌, ℕ, zero, suc, ◌+◌, ◌/◌, ◌%◌, ◌^◌, ◌<◌, List, [], ◌∷◌, length, bit_xor, refl, arith, lit<, ◌∙◌}
+use Rattle.std.proofs.Common.{◌≡◌, ℕ, zero, suc, ◌+◌, ◌/◌, ◌%◌, ◌^◌, ◌<◌, ◌*◌, List, [], ◌∷◌, length, replicate, get_or, bit_xor, refl, ap, sym, arith, add-zero, lit<, ◌∙◌}
 use Rattle.std.proofs.lemmas.List.Elements.{All-nil, All-cons, All-head, All-tail, All-append, All-get_or}
+use Rattle.std.proofs.lemmas.List.{ext_get_or, get_or-replicate, length-replicate}
 use Rattle.std.proofs.lemmas.Nat.{xor_lt, mod_below}
 use Rattle.std.specs.Prelude.{All}
 use Rattle.std.specs.Int.{w32, to_le_bytes, bytes_low_first, byte_at}
-use Rattle.std.specs.Int.Bits.{xor_self, xor_zero_r, xor_assoc}
+use Rattle.std.specs.Int.Bits.{xor_self, xor_zero_l, xor_zero_r, xor_assoc}
 use Rattle.chacha20.specs.Block.{serialized, block_words, chacha20_block}
 use Rattle.chacha20.specs.Encryption.{keystream_byte, encrypted_from, chacha20_encrypt}
 use Rattle.chacha20.proofs.Blocks.{length-serialized, length-block_words}
@@ -70,3 +71,28 @@ pub chacha20_encrypt_twice : (key : List ℕ) (counter : ℕ) (nonce text : List
     → chacha20_encrypt key counter nonce (chacha20_encrypt key counter nonce text) ≡ text
 unfolding chacha20_encrypt
 chacha20_encrypt_twice key counter nonce text = encrypted_twice key counter nonce 0 text
+
+-- a byte that is encrypted
+get_or-encrypted : (key : List ℕ) (counter : ℕ) (nonce : List ℕ) (i : ℕ) (xs : List ℕ) (k : ℕ) → k < length xs
+    → get_or (encrypted_from key counter nonce i xs) k 0 ≡ bit_xor (get_or xs k 0) (keystream_byte key counter nonce (i + k))
+get_or-encrypted key counter nonce i [] k h = absurd (omega arith)
+get_or-encrypted key counter nonce i (x ∷ xs) zero h = ap (λ p. bit_xor x (keystream_byte key counter nonce p)) (sym (add-zero i))
+get_or-encrypted key counter nonce i (x ∷ xs) (suc k) h =
+    let place : i + 1 + k ≡ i + suc k = omega arith in
+    get_or-encrypted key counter nonce (i + 1) xs k (omega arith) ∙ ap (λ p. bit_xor (get_or xs k 0) (keystream_byte key counter nonce p)) place
+
+-- zeros, encrypted, are the key stream
+pub block_of_zeros : (key : List ℕ) (counter : ℕ) (nonce : List ℕ) → counter < 2 ^ 32
+    → chacha20_encrypt key counter nonce (replicate 64 0) ≡ chacha20_block key counter nonce
+unfolding chacha20_encrypt
+block_of_zeros key counter nonce fits =
+    let zeros : List ℕ = replicate 64 0 in
+    let size : length zeros ≡ 64 = length-replicate {A = ℕ} 64 0 in
+    ext_get_or 0 (encrypted_from key counter nonce 0 zeros) (chacha20_block key counter nonce)
+    (length-encrypted key counter nonce 0 zeros ∙ size ∙ sym (length-chacha20_block key counter nonce)) (λ k h.
+    let within : k < 64 = omega (arith, length-encrypted key counter nonce 0 zeros, size) in
+    let number : (counter + (0 + k) / 64) % 2 ^ 32 ≡ counter = omega arith in
+    let place : (0 + k) % 64 ≡ k = omega arith in
+    get_or-encrypted key counter nonce 0 zeros k (omega (arith, size)) ∙ ap (λ z. bit_xor z (keystream_byte key counter nonce (0 + k))) (get_or-replicate 64 k 0 0 within)
+    ∙ xor_zero_l (keystream_byte key counter nonce (0 + k))
+    ∙ ap (λ n. get_or (chacha20_block key n nonce) ((0 + k) % 64) 0) number ∙ ap (λ p. get_or (chacha20_block key counter nonce) p 0) place)

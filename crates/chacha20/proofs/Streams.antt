@@ -1,6 +1,7 @@
 -- The key stream over bytes: one byte more, and one part more.
-use Rattle.std.proofs.Common.{◌≡◌, ◌∙◌, ap, sym, ℕ, ◌+◌, ◌*◌, ◌/◌, ◌%◌, ◌^◌, ◌<◌, ◌≤◌, List, [], ◌∷◌, ◌++◌, length, take, drop, bit_xor, set, get_or, refl, arith, add-zero, add_assoc}
+use Rattle.std.proofs.Common.{◌≡◌, ◌∙◌, ap, sym, subst, inl, inr, ℕ, ◌+◌, ◌*◌, ◌/◌, ◌%◌, ◌^◌, ◌<◌, ◌≤◌, List, [], ◌∷◌, ◌++◌, length, take, drop, bit_xor, set, get_or, refl, arith, add-zero, add_assoc}
 use borrow.Rule.Slice.PartMut.{mid_of, put_mid}
+use Rattle.std.proofs.lemmas.Bool.{cases_lt}
 use Rattle.std.proofs.Math.Numerals.{one-add}
 use Rattle.std.proofs.Math.Seq.{take-add}
 use Rattle.std.proofs.lemmas.List.{length-append, length-take-le, drop_all, drop_at, drop_more, drop-drop, take-append-drop, take_all, take_at, take_more, get_or_at, set_at, append_assoc, append-nil}
@@ -83,13 +84,21 @@ module _ (key : List ℕ) (counter : ℕ) (nonce : List ℕ) where
       rw (take-add a k text, encrypted-append 0 (take a text) (take k (drop a text)), place) refl in
       rw (size, new, front, rest, next, append_assoc, drop-drop k a text) refl
 
-  -- and no byte is left
-  pub blocks_end : (text bytes part : List ℕ) (a k : ℕ) → a ≤ length text → length text ≡ a + k → part ≡ encrypted_from key counter nonce a (mid_of a k bytes)
-      → IsEncryptedTo key counter nonce 0 text a bytes → put_mid a k bytes part ≡ chacha20_encrypt key counter nonce text
-  unfolding chacha20_encrypt
-  blocks_end text bytes part a k h size new e =
-      to_end 0 text (put_mid a k bytes part) (length text) (omega arith) (blocks_more text bytes part a k (length text) h size new e)
+  -- k bytes more, or what is left of a group that ends beyond the text
+  pub group_more : (text bytes part : List ℕ) (a k n : ℕ) → a + k ≤ length text → a + k ≤ n → (a + k < n → a + k ≡ length text)
+      → part ≡ encrypted_from key counter nonce a (mid_of a k bytes)
+      → IsEncryptedTo key counter nonce 0 text a bytes → IsEncryptedTo key counter nonce 0 text n (put_mid a k bytes part)
+  group_more text bytes part a k n within fits last new e =
+      let next = blocks_more text bytes part a k (a + k) (omega arith) refl new e in
+      let long = length-encrypted_to 0 text (put_mid a k bytes part) (a + k) next in
+      elim (cases_lt (a + k) n) [
+        | inl below ↦ past 0 text (put_mid a k bytes part) (a + k) n (omega (arith, long, last below)) (omega (arith, long, last below)) next
+        | inr reached ↦
+            let same : a + k ≡ n = omega arith in
+            subst (λ (m : ℕ). IsEncryptedTo key counter nonce 0 text m (put_mid a k bytes part)) same next
+      ]
 
+  -- no byte is left
   pub none_left : (text bytes : List ℕ) (p : ℕ) → length text ≤ p → IsEncryptedTo key counter nonce 0 text p bytes → bytes ≡ chacha20_encrypt key counter nonce text
   unfolding chacha20_encrypt
   none_left text bytes p h e = to_end 0 text bytes p h e

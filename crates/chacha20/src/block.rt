@@ -1,7 +1,7 @@
 //! The block function (RFC 8439, 2.3), on eight blocks side by side.
 ghost use Rattle.std.specs.Prelude.{◌≡◌, ◌+◌, ◌*◌, ◌/◌, ◌%◌, ◌^◌, ◌<◌, ◌≤◌, ℕ, length, slice_index};
 ghost use Rattle.std.specs.Int.{w32, to_le_bytes};
-ghost use Rattle.chacha20.specs.Block.{block_words, chacha20_block, initial_state, word};
+ghost use Rattle.chacha20.specs.Block.{block_words, initial_state, word};
 ghost use Rattle.chacha20.specs.Rounds.{word_sum};
 ghost use Rattle.chacha20.specs.Lanes.{lane};
 ghost use Rattle.chacha20.specs.Blocks.{IsBlocks};
@@ -98,20 +98,4 @@ pub fn bytes_of(words: u32x8) -> [u8; 32]
     ensures { (i : ℕ) → i < 32 → slice_index result i ≡ slice_index (to_le_bytes w32 (slice_index words (i / 4))) (i % 4) }
 {
     words.to_le_bytes().to_array()
-}
-
-/// The 64 bytes of the key stream that a key of 32 bytes, a block counter and a nonce of 12 bytes give (RFC 8439, 2.3). It takes
-/// no memory and never refuses. It makes eight blocks, and hands out the first.
-pub fn chacha20_block(key: &[u8; 32], counter: u32, nonce: &[u8; 12]) -> [u8; 64]
-    ensures { result ≡ chacha20_block key.now counter nonce.now }
-{
-    let blocks = keystream(key, counter, nonce);
-    let front = bytes_of(blocks[0]);
-    let back = bytes_of(blocks[8]);
-    let mut block = [0; 64];
-    'places: for i in 0..32 {
-        block[i] = front[i];
-        block[32 + i] = back[i];
-    }
-    block
 }

@@ -11,6 +11,5 @@ mod rounds;
 mod stream;
 mod transposed;
 
-pub use block::chacha20_block;
 pub use laws::chacha20_laws;
-pub use stream::apply_keystream;
+pub use stream::{apply_keystream, chacha20_block};

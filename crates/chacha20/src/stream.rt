@@ -1,7 +1,8 @@
 //! The key stream over bytes (RFC 8439, 2.4).
-ghost use Rattle.std.specs.Prelude.{◌≡◌, ◌+◌, ◌*◌, ◌<◌, ◌≤◌, ◌^◌, ℕ, List, length};
+ghost use Rattle.std.specs.Prelude.{◌≡◌, ◌+◌, ◌*◌, ◌%◌, ◌<◌, ◌≤◌, ◌^◌, ℕ, List, length};
+ghost use Rattle.chacha20.specs.Block.{chacha20_block};
 ghost use Rattle.chacha20.specs.Encryption.{chacha20_encrypt, encrypted_from};
-ghost use Rattle.chacha20.specs.Blocks.{IsEncryptedTo, IsStreamFrom};
+ghost use Rattle.chacha20.specs.Blocks.{IsBlocks, IsEncryptedTo, IsStreamFrom};
 
 use crate::block::{bytes_of, keystream};
 use std::simd::u32x8;
@@ -9,15 +10,16 @@ use std::simd::u32x8;
 /// How many bytes the blocks have that are made side by side.
 const BLOCKS: usize = 512;
 
-/// Combines 32 bytes from a place on, or as many as there are, with the bytes of eight words.
+/// Combines 32 bytes from a place on, or as many as there are, with the bytes of eight words. The length is handed in: where it is a
+/// constant no place is compared with it.
 #[inline(always)]
-fn combine(bytes: &mut [u8], at: usize, words: u32x8)
-    requires { at + 32 < 2 ^ 64 }
+fn combine(bytes: &mut [u8], len: usize, at: usize, words: u32x8)
+    requires end { at + 32 < 2 ^ 64 }
+    requires len { len ≡ length bytes.old }
     ensures length { length bytes.new ≡ length bytes.old }
     ensures encrypts { (key : List ℕ) (counter : ℕ) (nonce : List ℕ) (from : ℕ) (text : List ℕ) → IsStreamFrom key counter nonce (from + at) words
         → IsEncryptedTo key counter nonce from text at bytes.old → IsEncryptedTo key counter nonce from text (at + 32) bytes.new }
 {
-    let len = bytes.len();
     let stream = bytes_of(words);
     if at + 32 <= len {
         'whole: for k in 0..32 {
@@ -30,8 +32,22 @@ fn combine(bytes: &mut [u8], at: usize, words: u32x8)
     }
 }
 
+/// Combines the bytes of eight blocks of a text, or as many as there are, with these words of the key stream.
+#[inline(always)]
+fn combine_words(bytes: &mut [u8], len: usize, blocks: &[u32x8; 16])
+    requires len { len ≡ length bytes.old }
+    requires fits { length bytes.old ≤ BLOCKS }
+    ensures { (key : List ℕ) (counter : ℕ) (nonce : List ℕ) (n : ℕ) → IsBlocks key ((counter + 8 * n % 2 ^ 32) % 2 ^ 32) nonce blocks.now
+        → bytes.new ≡ encrypted_from key counter nonce (512 * n) bytes.old }
+{
+    'places: for j in 0..8 {
+        combine(bytes, len, 64 * j, blocks[j]);
+        combine(bytes, len, 64 * j + 32, blocks[8 + j]);
+    }
+}
+
 /// Combines the bytes of eight blocks of a text, or as many as there are, with the key stream from block `8 * n` on.
-// (compiled into its callers: where the blocks are whole it then compares no place with the length)
+// (the key stream is made at one place of the program, so that the rounds are compiled into it)
 #[inline(always)]
 fn combine_blocks(key: &[u8; 32], counter: u32, nonce: &[u8; 12], n: usize, bytes: &mut [u8])
     requires { (length bytes.old ≤ BLOCKS) × (BLOCKS * n < 2 ^ 64) }
@@ -42,10 +58,25 @@ fn combine_blocks(key: &[u8; 32], counter: u32, nonce: &[u8; 12], n: usize, byte
         counter.wrapping_add((8 * n % 0x1_0000_0000) as u32),
         nonce,
     );
-    'places: for j in 0..8 {
-        combine(bytes, 64 * j, blocks[j]);
-        combine(bytes, 64 * j + 32, blocks[8 + j]);
+    let len = bytes.len();
+    if len == BLOCKS {
+        combine_words(bytes, BLOCKS, &blocks);
+    } else {
+        combine_words(bytes, len, &blocks);
     }
+}
+
+/// How many groups of eight blocks a text of so many bytes has, with one that isn't whole.
+#[inline(always)]
+fn groups_of(len: usize) -> usize
+    ensures reach { len ≤ BLOCKS * result }
+    ensures begun { BLOCKS * result < len + BLOCKS }
+{
+    let whole = len / BLOCKS;
+    if BLOCKS * whole < len {
+        return whole + 1;
+    }
+    whole
 }
 
 /// Combines each byte by exclusive or with its byte of the key stream, in place: this encrypts, and done once more it decrypts
@@ -56,19 +87,21 @@ fn combine_blocks(key: &[u8; 32], counter: u32, nonce: &[u8; 12], n: usize, byte
 pub fn apply_keystream(key: &[u8; 32], counter: u32, nonce: &[u8; 12], bytes: &mut [u8])
     ensures { bytes.new ≡ chacha20_encrypt key.now counter nonce.now bytes.old }
 {
+    // (copies, which no write to the bytes can change: so what is made of them is made once)
     let key = *key;
     let nonce = *nonce;
-    let whole = bytes.len() / BLOCKS;
-    'each: for n in 0..whole {
-        combine_blocks(
-            &key,
-            counter,
-            &nonce,
-            n,
-            &mut bytes[BLOCKS * n..BLOCKS * n + BLOCKS],
-        );
+    'each: for n in 0..groups_of(bytes.len()) {
+        let end = bytes.len().min(BLOCKS * n + BLOCKS);
+        combine_blocks(&key, counter, &nonce, n, &mut bytes[BLOCKS * n..end]);
     }
-    if BLOCKS * whole < bytes.len() {
-        combine_blocks(&key, counter, &nonce, whole, &mut bytes[BLOCKS * whole..]);
-    }
+}
+
+/// The 64 bytes of the key stream that a key of 32 bytes, a block counter and a nonce of 12 bytes give (RFC 8439, 2.3). It takes
+/// no memory and never refuses. It makes eight blocks, and hands out the first.
+pub fn chacha20_block(key: &[u8; 32], counter: u32, nonce: &[u8; 12]) -> [u8; 64]
+    ensures { result ≡ chacha20_block key.now counter nonce.now }
+{
+    let mut block = [0; 64];
+    apply_keystream(key, counter, nonce, &mut block);
+    block
 }
