@@ -2,6 +2,7 @@ pub mod Added
 pub mod Named
 pub mod Secrets
 pub mod Prepared
+pub mod Reached
 pub mod Flushed
 pub mod KeyFiles
 pub mod Leftover

@@ -7,14 +7,16 @@ use Rattle.age.specs.DecryptingStreams.{GivesFirst}
 use Rattle.age.specs.File.{IsFileOf}
 use Rattle.age.specs.FileErrorVariants.{Decrypt}
 use Rattle.age.specs.FileErrors.{IsDecryptError}
+use Rattle.age.specs.HeaderV1.{HeaderValue}
 use Rattle.age.specs.Members.{SuiteMembers, ReadMembers, WriteMembers}
 use Rattle.age.specs.Stanza.{StanzaValue}
-use Rattle.age.specs.Types.{Error, FileError, Format, StreamReader}
+use Rattle.age.specs.Types.{DecryptError, Error, FileError, Format, StreamReader}
 use Rattle.age.specs.Unwrapping.{UnwrapAnswer}
 use Rattle.age.specs.Wrapping.{WrapAnswer}
 use Rattle.age_tool.specs.Decrypting.{Decrypts, DecryptsSome, GivesFile, GivesPart, Migrated}
 use Rattle.age_tool.specs.Keyring.{AreHolders, RefusesKeyring}
 use Rattle.age_tool.specs.Measuring.{IsMeasured, WasGiven}
+use Rattle.age_tool.specs.Opening.{OpensHeader}
 use Rattle.age_tool.specs.Rekeying.{KeepsPlaintext, Rekeys}
 use Rattle.age_tool.specs.Words.{AreOfWords, RefusesWords}
 use Rattle.age_tool.specs.declared.callbacks.GivesOnce.{GivesOnce}
@@ -76,6 +78,13 @@ module _ {S T W V : Type 0} (unwraps : Holder S T GivesOnce → List StanzaValue
   abbrev pub MigratedBy : {R A : Type 0} → ReadMembers R → ReadMembers A → R → W → W → Result V (GivenError KeyringError FileError) → Type 0
   MigratedBy {R} {A} read armored_read input old new result = WithKeyring (new ≡ old)
       (λ holders asked done. Migrated unwraps suite.seal_of read armored_read write holders asked input old new done) result
+
+-- One of those who decrypt with what was given opens a file with this header.
+abbrev pub OpensBy : {S T : Type 0} → (Holder S T GivesOnce → List StanzaValue → UnwrapAnswer → Holder S T GivesOnce → Type 0) → ReadMembers T
+    → Keyring → HeaderValue → Result ℕ (GivenError KeyringError FileError) → Type 0
+OpensBy {S} {T} unwraps text_read given h result = WithGiven (RefusesKeyring text_read S given) (Unit {0}) (AreHolders text_read given)
+    (λ (holders : List (Holder S T GivesOnce)) done. (asked : List (Holder S T GivesOnce)) × (own : Result ℕ DecryptError)
+    × OpensHeader unwraps h holders asked own × (done ≡ result_map_both (λ n. n) Decrypt own)) AnswersKeys result
 
 -- what was given to encrypt a file to others is refused
 abbrev pub RefusesRekey : {T : Type 0} → ReadMembers T → Type 0 → (List ℕ → List ℕ) → Keyring → List Word → RekeyError → Type 0

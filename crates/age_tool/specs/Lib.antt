@@ -9,6 +9,7 @@ pub mod Given
 pub mod Counting
 pub mod Placing
 pub mod Inspecting
+pub mod Opening
 pub mod Measuring
 pub mod MeasuringLaws
 pub mod Rekeying

@@ -3,7 +3,7 @@ ghost use Rattle.std.specs.Prelude.{◌≡◌, ◌⊎◌, List, ℕ, [], ◌∷�
 ghost use Rattle.age.specs.DecryptErrorVariants.{KeyDecryptionFailed, NoMatchingKeys};
 ghost use Rattle.age.specs.FileErrorVariants.{Decrypt};
 ghost use Rattle.age_tool.specs.Encrypting.{Encrypts, draws_for_keys, draws_for_passphrase};
-ghost use Rattle.age_tool.specs.Given.{Answers, DecryptsBy, DecryptsSomeBy, GivesPartBy, MigratedBy, RekeysBy, Verifies, VerifiesFile, WithGiven};
+ghost use Rattle.age_tool.specs.Given.{Answers, DecryptsBy, DecryptsSomeBy, GivesPartBy, MigratedBy, OpensBy, RekeysBy, Verifies, VerifiesFile, WithGiven};
 ghost use Rattle.age_tool.specs.Passphrase.{RefusesText, first_line};
 ghost use Rattle.age_tool.specs.Words.{AreOfWords, RefusesWords};
 ghost use Rattle.age_tool.specs.declared.error.CommandError.TheVariants.{File};
@@ -17,11 +17,13 @@ use crate::error::{
 use crate::holder::Holder;
 use crate::keyring::{Held, Keyring, holders_of};
 use crate::measuring::{Measured, Measuring};
+use crate::opening::opens_header;
 use crate::passphrase::passphrase_of;
 use crate::random::RandomBytes;
 use crate::rekeying::rekey;
 use crate::words::{Word, keys_of_words};
 use age::armor::{ArmoredReader, Format};
+use age::format::HeaderV1;
 use age::io::{BufReader, Bytes, Read, Seek, Write};
 use age::stream::StreamReader;
 use age::streaming::FileError;
@@ -185,6 +187,38 @@ pub fn verify_by<'a, S: Suite, R: Read>(
     match decrypt_by::<S, R, Measuring>(alloc, keyring, reader, &mut plaintext) {
         Ok(()) => Ok(plaintext.finish()),
         Err(error) => Err(error),
+    }
+}
+
+/// Which of those who decrypt with what is given opens a file with this header, as `opens_header` does: its number, counted from 0 in the order
+/// of `holders_of`.
+///
+/// # Errors
+///
+/// - `Given`: what is given names nobody, as `holders_of` says.
+/// - `Command(Decrypt)`: those of `opens_header`. Where nobody has a key, and a file of identities isn't opened by its passphrase, it is
+///   `KeyDecryptionFailed`.
+pub fn opens_by<'a, S: Suite>(
+    alloc: Global,
+    keyring: &'a Keyring,
+    header: &HeaderV1,
+) -> Result<usize, GivenError<KeyringError, FileError>>
+    ensures { OpensBy ⟦<Holder<S, ArmoredReader<BufReader<Bytes<'a>>>, GivesOnce> as Identity>⟧.unwraps ⟦<ArmoredReader<BufReader<Bytes<'a>>> as Read>⟧
+        keyring.now header.now result }
+{
+    match holders_of::<S>(alloc, keyring) {
+        Err(error) => Err(GivenError::Given(error)),
+        Ok(holders) => {
+            let mut holders = holders;
+            match opens_header::<Held<'a, S>>(alloc, &mut holders, header) {
+                Ok(number) => Ok(number),
+                Err(error) => Err(GivenError::Command(with_locked(
+                    alloc,
+                    &mut holders,
+                    FileError::Decrypt(error),
+                ))),
+            }
+        }
     }
 }
 

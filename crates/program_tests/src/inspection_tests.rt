@@ -4,6 +4,7 @@ use age::format::Stanza;
 use age::io::Bytes;
 use age_tool::error::InspectionError;
 use age_tool::inspecting::{Inspection, Lengths, inspect};
+use age_tool::inspection_json::inspection_json;
 use age_try::answers::is_refusal;
 use std::alloc::Global;
 use std::process::Abort;
@@ -132,7 +133,7 @@ fn fault_of_a_header_has_its_place(rt: HostRuntime) {
         ) == Some(27)
     );
     let answer = inspect(alloc, Bytes::new(b"hello, this is no file of the format"));
-    assert!(rt; is_refusal(alloc, answer, "Header is invalid"));
+    assert!(rt; is_refusal(alloc, answer, "invalid header"));
 }
 
 // The armor of a header that is cut in its second line, of 30 bytes, by another implementation of base64.
@@ -144,4 +145,27 @@ YWdlLWVuY3J5cHRpb24ub3JnL3YxCi0+IFgyNTUx
 #[test]
 fn places_are_counted_in_what_armor_carries(rt: HostRuntime) {
     assert!(rt; read_by_then(rt.alloc(), CUT) == Some(30));
+}
+
+// What is told of the header above and 40 bytes after it, as another implementation of JSON writes it, in the order of the names.
+const JSON: [&str; 3] = [
+    "{\"header_length\":187,\"keeps_rule\":true,\"payload\":{\"chunks\":1,\"length\":24,\"plaintext_length\":8},\"rest_length\":40,",
+    "\"stanzas\":[{\"arguments\":[\"AAAAAAAAAAAAAAAAAAAAAAAAAAAAAAAAAAAAAAAAAAA\"],\"body_length\":32,\"type\":\"X25519\"},",
+    "{\"arguments\":[\"one\",\"2\"],\"body_length\":0,\"type\":\"x-grease\"}],\"version\":\"age-encryption.org/v1\"}",
+];
+
+#[test]
+fn inspection_is_json(rt: HostRuntime) -> Result<(), Fail> {
+    let alloc = rt.alloc();
+    let mut wanted = String::new(alloc);
+    for part in JSON {
+        wanted.push_str(part)?;
+    }
+    let file = file(alloc, HEADER, 40)?;
+    let Some(it) = told(alloc, &file) else {
+        return Err(Fail::from("a refusal"));
+    };
+    let text = inspection_json(alloc, &it)?;
+    assert!(rt; text.as_str() == wanted.as_str());
+    Ok(())
 }

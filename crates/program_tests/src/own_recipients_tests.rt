@@ -5,7 +5,8 @@ use age::armor::Format;
 use age::io::Bytes;
 use age_standard::StandardSuite;
 use age_tool::error::IdentitiesError;
-use age_tool::given::{decrypt_by, encrypt_to_words};
+use age_tool::given::{decrypt_by, encrypt_to_words, opens_by};
+use age_tool::inspecting::inspect;
 use age_tool::keyring::{KeyFile, Keyring};
 use age_tool::own_recipients::{recipients_of_identities, write_recipients_of};
 use age_tool::random::GivenBytes;
@@ -142,5 +143,34 @@ fn word_of_an_encrypted_file_is_refused(rt: HostRuntime) -> Result<(), Fail> {
     let words = word(alloc, ENCRYPTED)?;
     let text = "it is encrypted with a passphrase, without which its recipients can't be told";
     assert!(rt; is_refusal(alloc, keys_of_words::<StandardSuite>(alloc, &words), text));
+    Ok(())
+}
+
+// The number of the identity in a file that opens another, as its header says.
+fn opens_as(alloc: Global, keys: &[u8], file: &[u8]) -> Result<Option<usize>, Fail> {
+    let name = String::from_str(alloc, "keys")?;
+    let bytes = Vec::from_slice(alloc, keys)?;
+    let mut files = Vec::new(alloc);
+    files.push(KeyFile { name, bytes })?;
+    let keyring = Keyring::Files(files, None);
+    match inspect(alloc, Bytes::new(file)) {
+        Err(_) => Err(Fail::from("a refusal")),
+        Ok(it) => Ok(opens_by::<StandardSuite>(alloc, &keyring, &it.header).ok()),
+    }
+}
+
+// The identity whose secret is 32 bytes of 1, by another implementation of Bech32.
+const OTHER: &[u8] = b"AGE-SECRET-KEY-1QYQSZQGPQYQSZQGPQYQSZQGPQYQSZQGPQYQSZQGPQYQSZQGPQYQSZ9K4CN
+";
+
+#[test]
+fn first_identity_that_opens_is_told(rt: HostRuntime) -> Result<(), Fail> {
+    let alloc = rt.alloc();
+    let file = to_both(alloc)?;
+    assert!(rt; opens_as(alloc, FILE, &file)? == Some(0));
+    assert!(rt; opens_as(alloc, OTHER, &file)? == None);
+    let mut keys = Vec::from_slice(alloc, OTHER)?;
+    keys.extend_from_slice(SECOND)?;
+    assert!(rt; opens_as(alloc, &keys, &file)? == Some(1));
     Ok(())
 }
