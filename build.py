@@ -1,6 +1,7 @@
 #!/usr/bin/env python3
 """Proves and builds a program, with the libraries below it side by side, where something has changed since the last time:
-build.py PROGRAM WORD.., where the words are those of a run of it that succeeds. build.py --level prints the level that it would be compiled for.
+build.py PROGRAM WORD.., where the words are those of a run of it that succeeds. build.py LIBRARY does the same for a static library, which is
+crates/LIBRARY/out/libLIBRARY.a then. build.py --level prints the level that it would be compiled for.
 
 Says on standard error which crates it proves and how many are left, and nothing where there is nothing to do. Each crate
 is proved by `rt lib` over what earlier runs have kept, as soon as those that it uses are there, the one with the longest
@@ -34,10 +35,20 @@ LEVELS = ["x86-64-v2", "x86-64-v3"]
 OF_V3 = {"abm", "avx", "avx2", "bmi1", "bmi2", "f16c", "fma", "movbe", "xsave"}
 
 
+def named():
+    """The lines of crates.txt, each cut at its colon."""
+    with open(f"{TOP}/crates.txt", encoding="utf-8") as file:
+        return [line.partition("#")[0].partition(":") for line in file]
+
+
+# Whether it is a static library, and what is built.
+STATIC = any(name.split() == [PROGRAM, "staticlib"] for name, _, _ in named())
+PRODUCT = f"{TOP}/crates/{PROGRAM}/out/" + (f"lib{PROGRAM}.a" if STATIC else PROGRAM)
+
+
 def crates():
     """The crates below the program and itself, with those of the repository that each uses."""
-    with open(f"{TOP}/crates.txt", encoding="utf-8") as file:
-        lines = [line.partition("#")[0].partition(":") for line in file]
+    lines = named()
     uses = {name.split()[0]: words.split() for name, _, words in lines if name.strip()}
     found, left = {}, [PROGRAM]
     while left:
@@ -116,7 +127,7 @@ class Run:
         self.room = tempfile.mkdtemp(prefix=f"{PROGRAM}-")
         libraries = below(name, uses)
         with open(f"{TOP}/crates.txt", encoding="utf-8") as file:
-            lines = [line for line in file if line.partition(":")[0].strip() in {name, *libraries}]
+            lines = [line for line in file if set(line.partition(":")[0].split()[:1]) & {name, *libraries}]
         with open(f"{self.room}/crates.txt", "w", encoding="utf-8") as file:
             file.writelines(lines)
         kept = shutil.ignore_patterns("incremental", "must-fail")
@@ -126,7 +137,8 @@ class Run:
         shutil.copytree(f"{TOP}/crates/{name}", folder, copy_function=link)
         words = ["nice", f"-n{niceness}", "rt", "lib", "--jobs", str(jobs)]
         if name == PROGRAM:
-            words = ["rt", "run", f"--cpu={cpu}", "--jobs", str(jobs), "--", *WORDS]
+            built = ["rt", "lib" if STATIC else "run", f"--cpu={cpu}", "--jobs", str(jobs)]
+            words = built if STATIC else [*built, "--", *WORDS]
         self.log = f"{self.room}/log"
         with open(self.log, "wb") as log:
             # (a group and no session of its own: between sessions Linux shares the processors out whatever `nice` says)
@@ -207,7 +219,7 @@ def main():
     except OSError:
         pass
     same = kept[:1] == [digest]
-    if same and kept[1:] == [cpu] and os.path.exists(f"{TOP}/crates/{PROGRAM}/out/{PROGRAM}"):
+    if same and kept[1:] == [cpu] and os.path.exists(PRODUCT):
         return
     # (where the sources are those of the last run, its libraries stand as they were proved: nothing of them hangs on the level)
     build(uses, cpu, below(PROGRAM, uses) if same else ())

@@ -1,8 +1,8 @@
 #!/usr/bin/env bash
 # The whole gate: whether each edit can be applied, the public names are told, TRUSTED.md quotes what the sources say and the generated proofs are what
 # their script makes, every proof from nothing, the edits that must be refused, the tests and the programs' stored runs, and then `sazh` on real files,
-# as each level of processors has it compiled, and `agebench` on
-# damaged input, with failing memory, reads and writes. The lines of the long parts begin with the minutes and seconds since the start; the last line counts all of them.
+# as each level of processors has it compiled, `agebench` on damaged input, with failing memory, reads and writes, and `age_c` from other languages.
+# The lines of the long parts begin with the minutes and seconds since the start; the last line counts all of them.
 set -uo pipefail
 cd "$(dirname "$0")"
 log=$(mktemp -d)
@@ -66,16 +66,26 @@ echo "agebench with failing memory, reads and writes, and on damaged payloads:"
 runs faults crates/agebench/out/agebench python3 faults/run.py
 faults=$counted
 
+# The library for C, where there is what its examples are built with. It is built for the level of the processors here, over what the gate has proved.
+foreign='0 passed, 0 failed'
+if command -v cc > /dev/null && command -v python3 > /dev/null; then
+    echo "age_c from C, Rust and Python:"
+    runs foreign crates/sazh/out/sazh foreign/run.sh
+    foreign=$counted
+fi
+
 read -r gate_passed _ gate_failed _ <<<"$gate"
 read -r files_passed _ files_failed _ <<<"$files"
 read -r faults_passed _ faults_failed _ <<<"$faults"
-failed=$((gate_failed + files_failed + better_failed + faults_failed))
+read -r foreign_passed _ foreign_failed _ <<<"$foreign"
+failed=$((gate_failed + files_failed + better_failed + faults_failed + foreign_failed))
 [ "$failed" -eq 0 ] || status=1
 [ "$status" -eq 0 ] || [ "$failed" -gt 0 ] || failed=1
 echo "gate: $gate"
 echo "files: $files"
 [ "$level" = x86-64-v2 ] || echo "files at $level: $better"
 echo "faults: $faults"
+echo "foreign: $foreign"
 echo "$((SECONDS / 60)) minutes on $(nproc) processors"
-echo "$((gate_passed + files_passed + better_passed + faults_passed)) passed, $failed failed"
+echo "$((gate_passed + files_passed + better_passed + faults_passed + foreign_passed)) passed, $failed failed"
 exit "$status"

@@ -1,0 +1,2 @@
+pub mod Decrypted
+pub mod Lengths

@@ -1,0 +1,4 @@
+pub mod Status
+pub mod Handing
+pub mod Decrypting
+pub mod Chunks

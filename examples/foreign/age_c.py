@@ -1,0 +1,113 @@
+"""Files encrypted and decrypted from Python, over the shared object of age_c, by ctypes alone.
+
+    import age_c
+    library = age_c.Library("libage_c.so")
+    file = library.encrypt(b"age1..\\n", b"a plaintext")
+    plain = library.decrypt(b"AGE-SECRET-KEY-1..\\n", file)
+
+As a program it does what age.c beside it does, with the same words and statuses; AGE_C_LIBRARY names the shared object.
+"""
+
+import ctypes
+import os
+import sys
+from pathlib import Path
+
+OK, OUT_TOO_SHORT, WRONG = 0, 1, 100
+RANDOM_FOR_PASSPHRASE = 72
+BYTES = [ctypes.c_char_p, ctypes.c_size_t]
+ROOM = [*BYTES, ctypes.POINTER(ctypes.c_size_t)]
+
+
+class Refused(Exception):
+    """The library refused, with this status of age_c.h."""
+
+    def __init__(self, status):
+        super().__init__(f"age_c: status {status}")
+        self.status = status
+
+
+def passed(*parts):
+    """Each list of bytes as a pointer and a length."""
+    return [it for part in parts for it in (part, len(part))]
+
+
+class Library:
+    """The calls of age_c.h. Bytes go in and come out as `bytes`."""
+
+    def __init__(self, path):
+        self.calls = ctypes.CDLL(path)
+        armored = [ctypes.c_bool]
+        self.calls.age_chunk_count.argtypes, self.calls.age_chunk_count.restype = [ctypes.c_uint64], ctypes.c_uint64
+        for name, words in {
+            "age_encrypt": [*BYTES, *BYTES, *armored, *BYTES, *ROOM],
+            "age_encrypt_passphrase": [*BYTES, *BYTES, *armored, *BYTES, *ROOM],
+            "age_decrypt": [*BYTES, *BYTES, *ROOM],
+            "age_decrypt_passphrase": [*BYTES, *BYTES, *ROOM],
+            "age_open_chunk": [*BYTES, ctypes.c_uint64, *armored, *BYTES, *ROOM],
+            "age_seal_chunk": [*BYTES, ctypes.c_uint64, *armored, *BYTES, *ROOM],
+        }.items():
+            call = getattr(self.calls, name)
+            call.argtypes, call.restype = words, ctypes.c_uint32
+
+    @staticmethod
+    def given(call, words, length):
+        """What a call hands out, where so many bytes are mostly enough for it."""
+        written = ctypes.c_size_t(length)
+        status = OUT_TOO_SHORT
+        while status == OUT_TOO_SHORT:
+            out = ctypes.create_string_buffer(max(written.value, 1))
+            status = call(*words, out, len(out), ctypes.byref(written))
+        if status != OK:
+            raise Refused(status)
+        return out.raw[: written.value]
+
+    def encrypt(self, recipients, plain, armored=False):
+        """The file of a plaintext, to the recipients in a text."""
+        random = os.urandom(32 + 32 * (recipients.count(b"\n") + 1))
+        words = [*passed(recipients, random), armored, *passed(plain)]
+        return self.given(self.calls.age_encrypt, words, len(plain) + 1024)
+
+    def encrypt_passphrase(self, passphrase, plain, armored=False):
+        """The file of a plaintext, under the passphrase in the first line of a text."""
+        words = [*passed(passphrase, os.urandom(RANDOM_FOR_PASSPHRASE)), armored, *passed(plain)]
+        return self.given(self.calls.age_encrypt_passphrase, words, len(plain) + 1024)
+
+    def decrypt(self, identities, file):
+        """The plaintext of a file, by the identities in a text."""
+        return self.given(self.calls.age_decrypt, passed(identities, file), len(file))
+
+    def decrypt_passphrase(self, passphrase, file):
+        """The plaintext of a file, by the passphrase in the first line of a text."""
+        return self.given(self.calls.age_decrypt_passphrase, passed(passphrase, file), len(file))
+
+    def open_chunk(self, key, number, last, text):
+        """What a chunk of a payload opens to, by its number, under the key of the payload."""
+        return self.given(self.calls.age_open_chunk, [*passed(key), number, last, *passed(text)], len(text))
+
+    def seal_chunk(self, key, number, last, plain):
+        """A piece of a plaintext as a chunk of a payload."""
+        return self.given(self.calls.age_seal_chunk, [*passed(key), number, last, *passed(plain)], len(plain) + 16)
+
+
+def main():
+    if len(sys.argv) != 5:
+        return WRONG
+    library = Library(os.environ["AGE_C_LIBRARY"])
+    commands = {
+        "encrypt": library.encrypt,
+        "armor": lambda keys, plain: library.encrypt(keys, plain, armored=True),
+        "encrypt-passphrase": library.encrypt_passphrase,
+        "decrypt": library.decrypt,
+        "decrypt-passphrase": library.decrypt_passphrase,
+    }
+    command, keys, given, out = sys.argv[1:]
+    try:
+        Path(out).write_bytes(commands[command](Path(keys).read_bytes(), Path(given).read_bytes()))
+    except Refused as refused:
+        return refused.status
+    return OK
+
+
+if __name__ == "__main__":
+    sys.exit(main())

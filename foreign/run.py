@@ -1,0 +1,283 @@
+"""Compares the library for C with another implementation and with the program; `run.sh` says how.
+
+run.py SAZH FOLDER: FOLDER has libage_c.a and libage_c.so.
+"""
+
+import os
+import random
+import shutil
+import subprocess
+import sys
+import tempfile
+import time
+from pathlib import Path
+
+TOP = Path(__file__).resolve().parent.parent
+sys.path[:0] = [str(TOP / "interop"), str(TOP / "examples" / "foreign")]
+sys.dont_write_bytecode = True
+
+import age_c  # noqa: E402
+import peer  # noqa: E402
+
+SIZES = [0, 1, 65_535, 65_536, 65_537, 200_000]
+PASSPHRASE = b"correct horse battery staple\n"
+# The statuses of age_c.h that are looked for by name.
+TOO_SHORT, BAD_ARGUMENT, UNEXPECTED_EOF, BAD_CHUNK, LAST_CHUNK_EMPTY, NOT_IDENTITY = 1, 3, 11, 16, 18, 22
+DECRYPTION_FAILED, INVALID_MAC, NO_MATCHING_KEYS, NO_RANDOM = 40, 43, 45, 55
+NOT_TEXT, NOT_RECIPIENT, NO_RECIPIENT, NO_PASSPHRASE = 60, 61, 62, 64
+
+
+class Count:
+    """What passed and what failed. A failure is told."""
+
+    def __init__(self):
+        self.passed = self.failed = 0
+
+    def check(self, what, good):
+        if good:
+            self.passed += 1
+        else:
+            self.failed += 1
+            print(f"FAILED: {what}")
+
+
+class Program:
+    """One of the examples, as a program: the words of age.c."""
+
+    def __init__(self, name, words, folder, environment=None):
+        self.name, self.words, self.folder, self.environment = name, words, folder, environment
+
+    def run(self, command, keys, given):
+        """The status, and what was written."""
+        paths = [f"{self.folder}/{name}" for name in ("keys", "given", "out")]
+        Path(paths[0]).write_bytes(keys)
+        Path(paths[1]).write_bytes(given)
+        Path(paths[2]).unlink(missing_ok=True)
+        words = [*self.words, command, *paths]
+        done = subprocess.run(words, env=self.environment, stdin=subprocess.DEVNULL, capture_output=True, check=False)
+        if done.returncode not in range(100) or done.stderr:
+            print(f"{self.name} {command}: status {done.returncode}: {done.stderr.decode(errors='replace')}")
+        return done.returncode, Path(paths[2]).read_bytes() if os.path.exists(paths[2]) else None
+
+
+class Sazh(Program):
+    """The program of this repository."""
+
+    def run(self, command, keys, given):
+        paths = [f"{self.folder}/{name}" for name in ("keys", "given", "out")]
+        Path(paths[0]).write_bytes(keys)
+        Path(paths[1]).write_bytes(given)
+        words = {
+            "encrypt": ["encrypt", "-R"],
+            "armor": ["encrypt", "-a", "-R"],
+            "encrypt-passphrase": ["encrypt", "-p"],
+            "decrypt": ["decrypt", "-i"],
+            "decrypt-passphrase": ["decrypt", "-p"],
+        }[command]
+        words = [*self.words, *words, paths[0], "-f", "-o", paths[2], paths[1]]
+        done = subprocess.run(words, stdin=subprocess.DEVNULL, capture_output=True, check=False)
+        return done.returncode, Path(paths[2]).read_bytes() if done.returncode == 0 else None
+
+
+def programs(folder, out, library):
+    """The examples: C, under valgrind where that is, Python, and Rust where that is."""
+    made = []
+    static = f"{out}/libage_c.a"
+    words = ["cc", "-Wall", "-Wextra", "-Werror", "-O2", f"-I{TOP}/include", f"{TOP}/examples/foreign/age.c", static]
+    subprocess.run([*words, "-o", f"{folder}/age-c"], check=True)
+    made.append(Program("C", [f"{folder}/age-c"], folder))
+    if shutil.which("valgrind"):
+        # (it knows no instructions past x86-64-v3)
+        words = ["valgrind", "-q", "--leak-check=full", "--errors-for-leak-kinds=all", "--error-exitcode=99", f"{folder}/age-c"]
+        made.append(Program("C under valgrind", words, folder))
+    if shutil.which("rustc"):
+        rust = ["rustc", "-O", "--edition=2024", "-o", f"{folder}/age-rust", f"{TOP}/examples/foreign/age.rs"]
+        subprocess.run([*rust, "-L", f"native={out}", "-l", "static=age_c"], check=True)
+        made.append(Program("Rust", [f"{folder}/age-rust"], folder))
+    python = [sys.executable, f"{TOP}/examples/foreign/age_c.py"]
+    made.append(Program("Python", python, folder, {**os.environ, "AGE_C_LIBRARY": library}))
+    return made
+
+
+def both_ways(count, program, others, keys):
+    """Files of the program are read by the others, and the other way round: to recipients, bare and in armor, and under a passphrase."""
+    recipients = "".join(key.recipient() + "\n" for key in keys).encode()
+    text = (keys[-1].text() + "\n").encode()
+    for size in SIZES[:3] if "valgrind" in program.name else SIZES:
+        plain = os.urandom(size)
+        for form in ("encrypt", "armor"):
+            status, file = program.run(form, recipients, plain)
+            count.check(f"{program.name} {form} {size}", status == 0 and peer.decrypt(keys[0], file) == plain)
+            for other in others:
+                count.check(f"{program.name} {form} {size}, read by {other.name}", other.run("decrypt", text, file) == (0, plain))
+                status, file_of_other = other.run(form, recipients, plain)
+                good = status == 0 and program.run("decrypt", text, file_of_other) == (0, plain)
+                count.check(f"{other.name} {form} {size}, read by {program.name}", good)
+        made = peer.encrypt_to([key.recipient() for key in keys], plain)
+        for given in (made, peer.armored(made)):
+            count.check(f"{program.name} reads {size} of peer.py", program.run("decrypt", text, given) == (0, plain))
+    if "valgrind" in program.name:
+        return
+    plain = os.urandom(1000)
+    status, file = program.run("encrypt-passphrase", PASSPHRASE, plain)
+    count.check(f"{program.name} under a passphrase", status == 0 and peer.decrypt(PASSPHRASE.strip(), file) == plain)
+    given = peer.encrypt_under(PASSPHRASE.strip(), plain, 10)
+    count.check(f"{program.name} reads under a passphrase", program.run("decrypt-passphrase", PASSPHRASE, given) == (0, plain))
+
+
+def vectors(count, program):
+    """Each vector opens to what vectors/README.md says."""
+    folder = TOP / "vectors"
+    own = (folder / "key.txt").read_bytes()
+    passphrase = (folder / "protected_identity.passphrase").read_bytes()
+    status, held = program.run("decrypt-passphrase", passphrase, (folder / "protected_identity.age").read_bytes())
+    count.check(f"{program.name}: protected_identity.age", status == 0 and len(held) == 189)
+    rows = [("empty.age", own, 0), ("one_byte.age", own, 1), ("whole_chunk.age", own, 65_536), ("one_byte_more.age", own, 65_537)]
+    for name, keys, size in [*rows, ("to_protected.age", held, 300)]:
+        plain = bytes(7 * i % 251 for i in range(size))
+        count.check(f"{program.name}: {name}", program.run("decrypt", keys, (folder / name).read_bytes()) == (0, plain))
+    plain = bytes(7 * i % 251 for i in range(1000))
+    answer = program.run("decrypt-passphrase", (folder / "passphrase.txt").read_bytes(), (folder / "under_passphrase.age").read_bytes())
+    count.check(f"{program.name}: under_passphrase.age", answer == (0, plain))
+
+
+def refused(call, *words):
+    """The status of a call that is refused, or 0."""
+    try:
+        call(*words)
+    except age_c.Refused as fault:
+        return fault.status
+    return 0
+
+
+def refusals(count, library, keys):
+    """Statuses, each by its name in age_c.h."""
+    text = (keys[0].text() + "\n").encode()
+    file = peer.encrypt_to([keys[0].recipient()], b"a plaintext")
+    under = peer.encrypt_under(b"another", b"a plaintext", 10)
+    end = file.index(b"---") + 4
+    for what, wanted, status in [
+        ("no file", UNEXPECTED_EOF, refused(library.decrypt, text, b"")),
+        ("a line that is no identity", NOT_IDENTITY, refused(library.decrypt, b"no key\n", file)),
+        ("another passphrase", DECRYPTION_FAILED, refused(library.decrypt_passphrase, PASSPHRASE, under)),
+        ("a MAC of another", INVALID_MAC, refused(library.decrypt, text, file[:end] + peer.encode(bytes(32)).encode() + file[end + 43 :])),
+        ("a file for another", NO_MATCHING_KEYS, refused(library.decrypt, (keys[1].text() + "\n").encode(), file)),
+        ("no identity", NO_MATCHING_KEYS, refused(library.decrypt, b"# none\n", file)),
+        ("a text that is no text", NOT_TEXT, refused(library.encrypt, b"\xff\n", b"")),
+        ("a line that is no recipient", NOT_RECIPIENT, refused(library.encrypt, b"age1\n", b"")),
+        ("no recipient", NO_RECIPIENT, refused(library.encrypt, b"# none\n", b"")),
+        ("no passphrase", NO_PASSPHRASE, refused(library.encrypt_passphrase, b"\n", b"")),
+    ]:
+        count.check(f"{what}: {status} in place of {wanted}", status == wanted)
+
+
+def rooms(count, library, keys):
+    """What a call leaves in a room that is too short, long enough, and of a file that is refused; and too few random bytes."""
+    ctypes = age_c.ctypes
+    text, plain = (keys[0].text() + "\n").encode(), b"a plaintext"
+    file = peer.encrypt_to([keys[0].recipient()], plain)
+
+    def called(given, length):
+        room, written = ctypes.create_string_buffer(b"\xaa" * 32, 32), ctypes.c_size_t(77)
+        status = library.calls.age_decrypt(*age_c.passed(text, given), room, length, ctypes.byref(written))
+        return status, written.value, room.raw
+
+    count.check("a room that is too short", called(file, 10) == (TOO_SHORT, 11, b"\xaa" * 32))
+    count.check("a room of none", called(file, 0) == (TOO_SHORT, 11, b"\xaa" * 32))
+    count.check("a room that fits", called(file, 11) == (0, 11, plain + b"\xaa" * 21))
+    count.check("a longer room", called(file, 30) == (0, 11, plain + b"\xaa" * 21))
+    status, written, room = called(file[:-1], 30)
+    count.check("a room after a refusal", (status, written, room) == (BAD_CHUNK, 0, b"\xaa" * 32))
+    for random_bytes, wanted in ((63, NO_RANDOM), (64, 0), (65, 0)):
+        room, written = ctypes.create_string_buffer(400), ctypes.c_size_t(0)
+        words = [*age_c.passed(keys[0].recipient().encode(), bytes(random_bytes)), False, *age_c.passed(plain)]
+        status = library.calls.age_encrypt(*words, room, 400, ctypes.byref(written))
+        count.check(f"{random_bytes} random bytes", status == wanted)
+
+
+def chunks(count, library, keys):
+    """Payloads of peer.py are opened chunk by chunk, and those that are sealed so are opened by peer.py; a chunk elsewhere is refused."""
+    for size in [*SIZES, 131_072]:
+        plain, file_key, start = os.urandom(size), os.urandom(16), os.urandom(16)
+        key = peer.hkdf(start, b"payload", file_key)
+        number = library.calls.age_chunk_count(size)
+        pieces = [plain[i : i + peer.PIECE] for i in range(0, size, peer.PIECE)] or [b""]
+        count.check(f"{size} bytes have {number} chunks", number == len(pieces))
+        sealed = [library.seal_chunk(key, i, i == len(pieces) - 1, piece) for i, piece in enumerate(pieces)]
+        file = peer.header(file_key, [peer.x25519_stanza(file_key, keys[0].recipient())]) + start + b"".join(sealed)
+        count.check(f"chunks of {size} bytes, read by peer.py", peer.decrypt(keys[0], file) == plain)
+        theirs = peer.sealed(file_key, [], plain)[len(peer.header(file_key, [])) :]
+        key, payload = peer.hkdf(theirs[:16], b"payload", file_key), theirs[16:]
+        texts = [payload[i : i + peer.PIECE + 16] for i in range(0, len(payload), peer.PIECE + 16)]
+        opened = [library.open_chunk(key, i, i == len(texts) - 1, text) for i, text in enumerate(texts)]
+        count.check(f"chunks of {size} bytes of peer.py", b"".join(opened) == plain)
+        for number, last in ((len(texts), True), (len(texts) - 1, False)):
+            status = refused(library.open_chunk, key, number, last, texts[-1])
+            count.check(f"the last chunk of {size} bytes as chunk {number}: {status}", status == BAD_CHUNK)
+    key = bytes(32)
+    cipher = peer.ChaCha20Poly1305(key)
+    empty = cipher.encrypt(peer.nonce(1, True), b"", None)
+    count.check("a last chunk that is empty", refused(library.open_chunk, key, 1, True, empty) == LAST_CHUNK_EMPTY)
+    count.check("an empty piece", refused(library.seal_chunk, key, 1, True, b"") == BAD_CHUNK)
+    count.check("a short piece in the middle", refused(library.seal_chunk, key, 1, False, b"short") == BAD_CHUNK)
+    count.check("a key of 31 bytes", refused(library.seal_chunk, key[:31], 1, True, b"short") == BAD_ARGUMENT)
+
+
+def damaged(count, library, keys, rounds):
+    """Damaged files through the library and through peer.py in one process: both refuse, or both give the same bytes."""
+    text = (keys[0].text() + "\n").encode()
+    took = differing = 0
+    for number in range(rounds):
+        plain = random.randbytes(random.choice([0, 1, 40, 300, 65_536, 65_600, 131_072]))
+        file = bytearray(peer.encrypt_to([keys[0].recipient()], plain))
+        kind, at = number % 4, random.randrange(len(file))
+        if kind == 0:
+            file[at] ^= 1 << random.randrange(8)
+        elif kind == 1:
+            del file[at:]
+        elif kind == 2:
+            file += random.randbytes(random.choice([1, 16, 17, 65_552]))
+        else:
+            file[at:at] = random.randbytes(1)
+        file = bytes(file)
+        try:
+            wanted = peer.decrypt(keys[0], file)
+        except (peer.Refused, ValueError, IndexError, UnicodeDecodeError):
+            wanted = None
+        began = time.perf_counter()
+        try:
+            given = library.decrypt(text, file)
+        except age_c.Refused:
+            given = None
+        took += time.perf_counter() - began
+        if given != wanted:
+            differing += 1
+            print(f"damaged file {number}, of kind {kind} at {at}: {'refused' if given is None else 'opened'}, and not by peer.py")
+    count.check(f"{differing} damaged files of {rounds} differ", differing == 0)
+    print(f"{rounds} damaged files in {took:.2f} s, {rounds / took:,.0f} a second")
+
+
+def main():
+    sazh, out = os.path.abspath(sys.argv[1]), os.path.abspath(sys.argv[2])
+    began = time.monotonic()
+    count, keys = Count(), [peer.Key() for _ in range(3)]
+    library = age_c.Library(f"{out}/libage_c.so")
+    with tempfile.TemporaryDirectory() as folder:
+        other = Sazh("sazh", [sazh], folder)
+        for program in programs(folder, out, f"{out}/libage_c.so"):
+            both_ways(count, program, [] if "valgrind" in program.name else [other], keys)
+            if "valgrind" not in program.name:
+                vectors(count, program)
+    refusals(count, library, keys)
+    rooms(count, library, keys)
+    chunks(count, library, keys)
+    damaged(count, library, keys, 2000)
+    size = os.path.getsize(f"{out}/libage_c.so")
+    print(f"libage_c.so has {size:,} bytes, and libage_c.a {os.path.getsize(f'{out}/libage_c.a'):,}")
+    print(f"{time.monotonic() - began:.0f} seconds")
+    print(f"{count.passed} passed, {count.failed} failed")
+    return 1 if count.failed else 0
+
+
+if __name__ == "__main__":
+    sys.exit(main())
