@@ -1,7 +1,7 @@
 -- Eight states side by side: what an operation on vectors does to the state in one lane.
 use Rattle.std.proofs.Common.{◌≡◌, ℕ, zero, suc, ◌+◌, ◌-◌, ◌*◌, ◌/◌, ◌%◌, ◌^◌, ◌<◌, List, [], ◌∷◌, length, replicate, map, get_or, set, bit_or, bit_xor, refl, ap, sym, arith, ◌∙◌}
 use Rattle.std.proofs.Math.ListN.{get_or-map}
-use Rattle.std.proofs.lemmas.List.{get_or-replicate}
+use Rattle.std.proofs.lemmas.List.{map-set, get_or-replicate}
 use Rattle.std.proofs.lemmas.Simd.{get_or-zip2, length-zip2, get_or_narrower, below_from_Fits}
 use Rattle.std.specs.Prelude.{slice_index}
 use Rattle.std.specs.Simd.Lanes.{zip2}
@@ -9,7 +9,7 @@ use Rattle.std.specs.Int.{w32, to_le_bytes}
 use lib.Lanes.{Each1, digits_l, number_l}
 use mir.Val.{Fits}
 use native.Mathlib.Nat.{pow-zero, div-one}
-use Rattle.chacha20.specs.Rounds.{word_sum, xor_rotate, quarter_round, column_round, diagonal_round}
+use Rattle.chacha20.specs.Rounds.{xor_rotate, quarter_round, quarter_round_on}
 use Rattle.chacha20.specs.Lanes.{lane}
 
 -- a vector whose lanes are all one word
@@ -27,14 +27,6 @@ each_lane P p0 p1 p2 p3 p4 p5 p6 p7 (suc (suc (suc (suc (suc zero))))) h = p5
 each_lane P p0 p1 p2 p3 p4 p5 p6 p7 (suc (suc (suc (suc (suc (suc zero)))))) h = p6
 each_lane P p0 p1 p2 p3 p4 p5 p6 p7 (suc (suc (suc (suc (suc (suc (suc zero))))))) h = p7
 each_lane P p0 p1 p2 p3 p4 p5 p6 p7 (suc (suc (suc (suc (suc (suc (suc (suc j)))))))) h = absurd (omega arith)
-
--- and of each of four places
-pub each_place : (P : ℕ → Type 0) → P 0 → P 1 → P 2 → P 3 → (i : ℕ) → i < 4 → P i
-each_place P p0 p1 p2 p3 zero h = p0
-each_place P p0 p1 p2 p3 (suc zero) h = p1
-each_place P p0 p1 p2 p3 (suc (suc zero)) h = p2
-each_place P p0 p1 p2 p3 (suc (suc (suc zero))) h = p3
-each_place P p0 p1 p2 p3 (suc (suc (suc (suc i)))) h = absurd (omega arith)
 
 -- two shifts are a rotation
 pub shifts_rotate : (d a : List ℕ) (n : ℕ) → 0 < n → n < 32 → length d ≡ 8 → length a ≡ 8 → (j : ℕ) → j < 8
@@ -62,73 +54,22 @@ shifts_rotate d a n low high ld la j h =
 pub slice_index-lane : (states : List (List ℕ)) (j k : ℕ) → slice_index (lane j states) k ≡ slice_index (get_or states k []) j
 slice_index-lane states j k = get_or-map (λ words. slice_index words j) states k []
 
--- the words of sixteen in a lane
-words_of : (states : List (List ℕ)) (j : ℕ) → length states ≡ 16 → lane j states ≡ slice_index (get_or states 0 []) j ∷ slice_index (get_or states 1 []) j ∷ slice_index (get_or states 2 []) j ∷ slice_index (get_or states 3 []) j
-    ∷ slice_index (get_or states 4 []) j ∷ slice_index (get_or states 5 []) j ∷ slice_index (get_or states 6 []) j ∷ slice_index (get_or states 7 []) j
-    ∷ slice_index (get_or states 8 []) j ∷ slice_index (get_or states 9 []) j ∷ slice_index (get_or states 10 []) j ∷ slice_index (get_or states 11 []) j
-    ∷ slice_index (get_or states 12 []) j ∷ slice_index (get_or states 13 []) j ∷ slice_index (get_or states 14 []) j ∷ slice_index (get_or states 15 []) j ∷ []
-words_of [] j size = absurd (omega arith)
-words_of (x0 ∷ []) j size = absurd (omega arith)
-words_of (x0 ∷ x1 ∷ []) j size = absurd (omega arith)
-words_of (x0 ∷ x1 ∷ x2 ∷ []) j size = absurd (omega arith)
-words_of (x0 ∷ x1 ∷ x2 ∷ x3 ∷ []) j size = absurd (omega arith)
-words_of (x0 ∷ x1 ∷ x2 ∷ x3 ∷ x4 ∷ []) j size = absurd (omega arith)
-words_of (x0 ∷ x1 ∷ x2 ∷ x3 ∷ x4 ∷ x5 ∷ []) j size = absurd (omega arith)
-words_of (x0 ∷ x1 ∷ x2 ∷ x3 ∷ x4 ∷ x5 ∷ x6 ∷ []) j size = absurd (omega arith)
-words_of (x0 ∷ x1 ∷ x2 ∷ x3 ∷ x4 ∷ x5 ∷ x6 ∷ x7 ∷ []) j size = absurd (omega arith)
-words_of (x0 ∷ x1 ∷ x2 ∷ x3 ∷ x4 ∷ x5 ∷ x6 ∷ x7 ∷ x8 ∷ []) j size = absurd (omega arith)
-words_of (x0 ∷ x1 ∷ x2 ∷ x3 ∷ x4 ∷ x5 ∷ x6 ∷ x7 ∷ x8 ∷ x9 ∷ []) j size = absurd (omega arith)
-words_of (x0 ∷ x1 ∷ x2 ∷ x3 ∷ x4 ∷ x5 ∷ x6 ∷ x7 ∷ x8 ∷ x9 ∷ x10 ∷ []) j size = absurd (omega arith)
-words_of (x0 ∷ x1 ∷ x2 ∷ x3 ∷ x4 ∷ x5 ∷ x6 ∷ x7 ∷ x8 ∷ x9 ∷ x10 ∷ x11 ∷ []) j size = absurd (omega arith)
-words_of (x0 ∷ x1 ∷ x2 ∷ x3 ∷ x4 ∷ x5 ∷ x6 ∷ x7 ∷ x8 ∷ x9 ∷ x10 ∷ x11 ∷ x12 ∷ []) j size = absurd (omega arith)
-words_of (x0 ∷ x1 ∷ x2 ∷ x3 ∷ x4 ∷ x5 ∷ x6 ∷ x7 ∷ x8 ∷ x9 ∷ x10 ∷ x11 ∷ x12 ∷ x13 ∷ []) j size = absurd (omega arith)
-words_of (x0 ∷ x1 ∷ x2 ∷ x3 ∷ x4 ∷ x5 ∷ x6 ∷ x7 ∷ x8 ∷ x9 ∷ x10 ∷ x11 ∷ x12 ∷ x13 ∷ x14 ∷ []) j size = absurd (omega arith)
-words_of (x0 ∷ x1 ∷ x2 ∷ x3 ∷ x4 ∷ x5 ∷ x6 ∷ x7 ∷ x8 ∷ x9 ∷ x10 ∷ x11 ∷ x12 ∷ x13 ∷ x14 ∷ x15 ∷ []) j size = refl
-words_of (x0 ∷ x1 ∷ x2 ∷ x3 ∷ x4 ∷ x5 ∷ x6 ∷ x7 ∷ x8 ∷ x9 ∷ x10 ∷ x11 ∷ x12 ∷ x13 ∷ x14 ∷ x15 ∷ more ∷ rest) j size = absurd (omega arith)
-
--- the steps of a quarter round
-pub quarter_round-steps : (a0 b0 c0 d0 a1 d1 c1 b1 a2 d2 c2 b2 : ℕ) → a1 ≡ word_sum a0 b0 → d1 ≡ xor_rotate d0 a1 16
-    → c1 ≡ word_sum c0 d1 → b1 ≡ xor_rotate b0 c1 12 → a2 ≡ word_sum a1 b1 → d2 ≡ xor_rotate d1 a2 8
-    → c2 ≡ word_sum c1 d2 → b2 ≡ xor_rotate b1 c2 7 → ◌≡◌ {A = ℕ × ℕ × ℕ × ℕ} (a2, b2, c2, d2) (quarter_round a0 b0 c0 d0)
-unfolding quarter_round
-quarter_round-steps a0 b0 c0 d0 a1 d1 c1 b1 a2 d2 c2 b2 e1 e2 e3 e4 e5 e6 e7 e8 = rw (e8, e7, e6, e5, e4, e3, e2, e1) refl
-
--- rows of which each place has the quarter round of a column
-pub column_round-rows : (states a b c d : List (List ℕ)) (j : ℕ) → length states ≡ 16
-    → ((i : ℕ) → i < 4 → ◌≡◌ {A = ℕ × ℕ × ℕ × ℕ}
-    (slice_index (lane j a) i, slice_index (lane j b) i, slice_index (lane j c) i, slice_index (lane j d) i)
-    (quarter_round (slice_index (lane j (get_or states 0 [] ∷ get_or states 1 [] ∷ get_or states 2 [] ∷ get_or states 3 [] ∷ [])) i) (slice_index (lane j (get_or states 4 [] ∷ get_or states 5 [] ∷ get_or states 6 [] ∷ get_or states 7 [] ∷ [])) i)
-    (slice_index (lane j (get_or states 8 [] ∷ get_or states 9 [] ∷ get_or states 10 [] ∷ get_or states 11 [] ∷ [])) i) (slice_index (lane j (get_or states 12 [] ∷ get_or states 13 [] ∷ get_or states 14 [] ∷ get_or states 15 [] ∷ [])) i)))
-    → lane j (get_or a 0 [] ∷ get_or a 1 [] ∷ get_or a 2 [] ∷ get_or a 3 []
-    ∷ get_or b 0 [] ∷ get_or b 1 [] ∷ get_or b 2 [] ∷ get_or b 3 []
-    ∷ get_or c 0 [] ∷ get_or c 1 [] ∷ get_or c 2 [] ∷ get_or c 3 []
-    ∷ get_or d 0 [] ∷ get_or d 1 [] ∷ get_or d 2 [] ∷ get_or d 3 [] ∷ [])
-    ≡ column_round (lane j states)
-unfolding column_round
-column_round-rows states a b c d j size are =
-    let row : ℕ → ℕ × ℕ × ℕ × ℕ = λ i. (slice_index (get_or a i []) j, slice_index (get_or b i []) j, slice_index (get_or c i []) j, slice_index (get_or d i []) j) in
-    let rounds : ℕ × ℕ × ℕ × ℕ → ℕ × ℕ × ℕ × ℕ → ℕ × ℕ × ℕ × ℕ → ℕ × ℕ × ℕ × ℕ → List ℕ =
-    λ (r0 r1 r2 r3 : ℕ × ℕ × ℕ × ℕ). r0.0 ∷ r1.0 ∷ r2.0 ∷ r3.0 ∷ r0.1 ∷ r1.1 ∷ r2.1 ∷ r3.1 ∷ r0.2 ∷ r1.2 ∷ r2.2 ∷ r3.2 ∷ r0.3 ∷ r1.3 ∷ r2.3 ∷ r3.3 ∷ [] in
-    let q : ℕ → ℕ × ℕ × ℕ × ℕ = λ i.
-    quarter_round (slice_index (get_or states i []) j) (slice_index (get_or states (4 + i) []) j) (slice_index (get_or states (8 + i) []) j) (slice_index (get_or states (12 + i) []) j) in
-    let at : (i : ℕ) → i < 4 → ◌≡◌ {A = ℕ × ℕ × ℕ × ℕ} (row i) (quarter_round (slice_index (lane j (get_or states 0 [] ∷ get_or states 1 [] ∷ get_or states 2 [] ∷ get_or states 3 [] ∷ [])) i) (slice_index (lane j (get_or states 4 [] ∷ get_or states 5 [] ∷ get_or states 6 [] ∷ get_or states 7 [] ∷ [])) i)
-    (slice_index (lane j (get_or states 8 [] ∷ get_or states 9 [] ∷ get_or states 10 [] ∷ get_or states 11 [] ∷ [])) i) (slice_index (lane j (get_or states 12 [] ∷ get_or states 13 [] ∷ get_or states 14 [] ∷ get_or states 15 [] ∷ [])) i))
-    = λ i h. rw (← slice_index-lane a j i, ← slice_index-lane b j i, ← slice_index-lane c j i, ← slice_index-lane d j i) (are i h) in
-    let same : rounds (row 0) (row 1) (row 2) (row 3) ≡ rounds (q 0) (q 1) (q 2) (q 3) =
-    ap (λ r. rounds r (row 1) (row 2) (row 3)) (at 0 (omega arith)) ∙ ap (λ r. rounds (q 0) r (row 2) (row 3)) (at 1 (omega arith))
-    ∙ ap (λ r. rounds (q 0) (q 1) r (row 3)) (at 2 (omega arith)) ∙ ap (λ r. rounds (q 0) (q 1) (q 2) r) (at 3 (omega arith)) in
-    same ∙ ap column_round (sym (words_of states j size))
-
--- rows that were turned before a column round, turned back
-pub diagonal_round-turned : (states turned : List (List ℕ)) (j : ℕ) → length states ≡ 16 → length turned ≡ 16
-    → lane j turned ≡ column_round (lane j (get_or states 0 [] ∷ get_or states 1 [] ∷ get_or states 2 [] ∷ get_or states 3 [] ∷ get_or states 5 [] ∷ get_or states 6 [] ∷ get_or states 7 [] ∷ get_or states 4 [] ∷ get_or states 10 [] ∷ get_or states 11 [] ∷ get_or states 8 [] ∷ get_or states 9 [] ∷ get_or states 15 [] ∷ get_or states 12 [] ∷ get_or states 13 [] ∷ get_or states 14 [] ∷ []))
-    → lane j (get_or turned 0 [] ∷ get_or turned 1 [] ∷ get_or turned 2 [] ∷ get_or turned 3 [] ∷ get_or turned 7 [] ∷ get_or turned 4 [] ∷ get_or turned 5 [] ∷ get_or turned 6 [] ∷ get_or turned 10 [] ∷ get_or turned 11 [] ∷ get_or turned 8 [] ∷ get_or turned 9 [] ∷ get_or turned 13 [] ∷ get_or turned 14 [] ∷ get_or turned 15 [] ∷ get_or turned 12 [] ∷ [])
-    ≡ diagonal_round (lane j states)
-unfolding column_round diagonal_round
-diagonal_round-turned states turned j size long is =
-    let turn : List ℕ → List ℕ = λ s. slice_index s 0 ∷ slice_index s 1 ∷ slice_index s 2 ∷ slice_index s 3 ∷ slice_index s 7 ∷ slice_index s 4 ∷ slice_index s 5 ∷ slice_index s 6 ∷ slice_index s 10 ∷ slice_index s 11 ∷ slice_index s 8 ∷ slice_index s 9 ∷ slice_index s 13 ∷ slice_index s 14 ∷ slice_index s 15 ∷ slice_index s 12 ∷ [] in
-    let back : lane j (get_or turned 0 [] ∷ get_or turned 1 [] ∷ get_or turned 2 [] ∷ get_or turned 3 [] ∷ get_or turned 7 [] ∷ get_or turned 4 [] ∷ get_or turned 5 [] ∷ get_or turned 6 [] ∷ get_or turned 10 [] ∷ get_or turned 11 [] ∷ get_or turned 8 [] ∷ get_or turned 9 [] ∷ get_or turned 13 [] ∷ get_or turned 14 [] ∷ get_or turned 15 [] ∷ get_or turned 12 [] ∷ []) ≡ turn (lane j turned) = ap turn (sym (words_of turned j long)) in
-    back ∙ ap turn is ∙ ap diagonal_round (sym (words_of states j size))
+-- words that are quarter rounds in a lane, written at four places
+pub lane-quarter_round_on : (states : List (List ℕ)) (x y z w : ℕ) (q : List ℕ × List ℕ × List ℕ × List ℕ) (j : ℕ)
+    → ◌≡◌ {A = ℕ × ℕ × ℕ × ℕ} (slice_index q.0 j, slice_index q.1 j, slice_index q.2 j, slice_index q.3 j)
+    (quarter_round (slice_index (get_or states x []) j) (slice_index (get_or states y []) j) (slice_index (get_or states z []) j) (slice_index (get_or states w []) j))
+    → lane j (set (set (set (set states x q.0) y q.1) z q.2) w q.3) ≡ quarter_round_on (lane j states) x y z w
+lane-quarter_round_on states x y z w q j e =
+    let words : ◌≡◌ {A = ℕ × ℕ × ℕ × ℕ} (slice_index q.0 j, slice_index q.1 j, slice_index q.2 j, slice_index q.3 j)
+    (quarter_round (slice_index (lane j states) x) (slice_index (lane j states) y) (slice_index (lane j states) z) (slice_index (lane j states) w))
+    = rw (slice_index-lane states j x, slice_index-lane states j y, slice_index-lane states j z, slice_index-lane states j w) e in
+    let f = λ (a : List (List ℕ)). map (λ (v : List ℕ). slice_index v j) a in
+    let one = map-set (λ v. slice_index v j) states x q.0 in
+    let two = map-set (λ v. slice_index v j) (set states x q.0) y q.1 in
+    let three = map-set (λ v. slice_index v j) (set (set states x q.0) y q.1) z q.2 in
+    let four = map-set (λ v. slice_index v j) (set (set (set states x q.0) y q.1) z q.2) w q.3 in
+    four ∙ ap (λ s. set s w (slice_index q.3 j)) (three ∙ ap (λ s. set s z (slice_index q.2 j)) (two ∙ ap (λ s. set s y (slice_index q.1 j)) one))
+    ∙ ap (λ (r : ℕ × ℕ × ℕ × ℕ). set (set (set (set (lane j states) x r.0) y r.1) z r.2) w r.3) words
 
 -- a byte of a word
 byte_of : (n b : ℕ) → b < 4 → n / 256 ^ b % 256 ≡ slice_index (to_le_bytes w32 n) b

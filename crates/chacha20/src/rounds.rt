@@ -1,6 +1,6 @@
 //! The rounds (RFC 8439, 2.1 to 2.3), on eight states side by side.
 ghost use Rattle.std.specs.Prelude.{◌≡◌, ◌<◌, ℕ, List, slice_index};
-ghost use Rattle.chacha20.specs.Rounds.{column_round, diagonal_round, double_rounds, quarter_round, word_sum, xor_rotate};
+ghost use Rattle.chacha20.specs.Rounds.{column_round, diagonal_round, double_rounds, quarter_round, quarter_round_on, word_sum, xor_rotate};
 ghost use Rattle.chacha20.specs.Lanes.{lane};
 
 use std::simd::u32x8;
@@ -23,73 +23,58 @@ fn xor_rotate(d: u32x8, a: u32x8, n: u32) -> u32x8
     word << u32x8::splat(n) | word >> u32x8::splat(32 - n)
 }
 
-/// The sums of the words of two rows, place by place.
+/// The quarter round on four words of each state.
 #[inline(always)]
-fn sums(a: &[u32x8; 4], b: &[u32x8; 4]) -> [u32x8; 4]
-    ensures { (i j : ℕ) → i < 4 → j < 8 → slice_index (lane j result) i ≡ word_sum (slice_index (lane j a.now) i) (slice_index (lane j b.now) i) }
+#[tactic(auto, unfolding(crate::specs::Rounds::quarter_round))]
+fn quarter_round(a0: u32x8, b0: u32x8, c0: u32x8, d0: u32x8) -> (u32x8, u32x8, u32x8, u32x8)
+    ensures { (j : ℕ) → j < 8 →
+        (slice_index result.0 j, slice_index result.1 j, slice_index result.2 j, slice_index result.3 j)
+        ≡ quarter_round (slice_index a0 j) (slice_index b0 j) (slice_index c0 j) (slice_index d0 j) }
 {
-    [
-        sum(a[0], b[0]),
-        sum(a[1], b[1]),
-        sum(a[2], b[2]),
-        sum(a[3], b[3]),
-    ]
+    let a1 = sum(a0, b0);
+    let d1 = xor_rotate(d0, a1, 16);
+    let c1 = sum(c0, d1);
+    let b1 = xor_rotate(b0, c1, 12);
+    let a2 = sum(a1, b1);
+    let d2 = xor_rotate(d1, a2, 8);
+    let c2 = sum(c1, d2);
+    let b2 = xor_rotate(b1, c2, 7);
+    (a2, b2, c2, d2)
 }
 
-/// Exclusive or of the words of two rows, place by place, and then a rotation to the left by `n` bits.
+/// The quarter round on the words of each state at four places.
 #[inline(always)]
-fn xor_rotates(d: &[u32x8; 4], a: &[u32x8; 4], n: u32) -> [u32x8; 4]
-    requires { (0 < n) × (n < 32) }
-    ensures { (i j : ℕ) → i < 4 → j < 8 → slice_index (lane j result) i ≡ xor_rotate (slice_index (lane j d.now) i) (slice_index (lane j a.now) i) n }
+fn quarter_round_on(states: &mut [u32x8; 16], x: usize, y: usize, z: usize, w: usize)
+    requires { (x < 16) × (y < 16) × (z < 16) × (w < 16) }
+    ensures { (j : ℕ) → j < 8 → lane j states.new ≡ quarter_round_on (lane j states.old) x y z w }
 {
-    [
-        xor_rotate(d[0], a[0], n),
-        xor_rotate(d[1], a[1], n),
-        xor_rotate(d[2], a[2], n),
-        xor_rotate(d[3], a[3], n),
-    ]
+    let (a, b, c, d) = quarter_round(states[x], states[y], states[z], states[w]);
+    states[x] = a;
+    states[y] = b;
+    states[z] = c;
+    states[w] = d;
 }
 
 /// The quarter round on each column.
-// (the four are made side by side, step by step, so that hardly a step waits for the one before)
 #[inline(always)]
 pub fn column_round(states: &mut [u32x8; 16])
     ensures { (j : ℕ) → j < 8 → lane j states.new ≡ column_round (lane j states.old) }
 {
-    let a0 = [states[0], states[1], states[2], states[3]];
-    let b0 = [states[4], states[5], states[6], states[7]];
-    let c0 = [states[8], states[9], states[10], states[11]];
-    let d0 = [states[12], states[13], states[14], states[15]];
-    let a1 = sums(&a0, &b0);
-    let d1 = xor_rotates(&d0, &a1, 16);
-    let c1 = sums(&c0, &d1);
-    let b1 = xor_rotates(&b0, &c1, 12);
-    let a2 = sums(&a1, &b1);
-    let d2 = xor_rotates(&d1, &a2, 8);
-    let c2 = sums(&c1, &d2);
-    let b2 = xor_rotates(&b1, &c2, 7);
-    *states = [
-        a2[0], a2[1], a2[2], a2[3], b2[0], b2[1], b2[2], b2[3], c2[0], c2[1], c2[2], c2[3], d2[0],
-        d2[1], d2[2], d2[3],
-    ];
+    quarter_round_on(states, 0, 4, 8, 12);
+    quarter_round_on(states, 1, 5, 9, 13);
+    quarter_round_on(states, 2, 6, 10, 14);
+    quarter_round_on(states, 3, 7, 11, 15);
 }
 
-/// The quarter round on each diagonal: the rows are turned so that diagonals stand in columns, and back.
+/// The quarter round on each diagonal.
 #[inline(always)]
 fn diagonal_round(states: &mut [u32x8; 16])
     ensures { (j : ℕ) → j < 8 → lane j states.new ≡ diagonal_round (lane j states.old) }
 {
-    let mut turned = [
-        states[0], states[1], states[2], states[3], states[5], states[6], states[7], states[4],
-        states[10], states[11], states[8], states[9], states[15], states[12], states[13],
-        states[14],
-    ];
-    column_round(&mut turned);
-    *states = [
-        turned[0], turned[1], turned[2], turned[3], turned[7], turned[4], turned[5], turned[6],
-        turned[10], turned[11], turned[8], turned[9], turned[13], turned[14], turned[15],
-        turned[12],
-    ];
+    quarter_round_on(states, 0, 5, 10, 15);
+    quarter_round_on(states, 1, 6, 11, 12);
+    quarter_round_on(states, 2, 7, 8, 13);
+    quarter_round_on(states, 3, 4, 9, 14);
 }
 
 /// The ten double rounds of a block, of whose first the column round is done.

@@ -208,7 +208,8 @@ fn with_block(
     requires multipliers { AreMultipliers powers.now }
     requires group { length group.now ≡ GROUP }
     requires columns { AreBelow ((i + 66) * 2 ^ 112) columns }
-    ensures value { (r : ℕ) (text : List ℕ) → ArePowers r powers.now → IsScaled r (64 - i) (short_column_number columns) (text ++ take (16 * i) group.now)
+    ensures value { (r : ℕ) (text : List ℕ) → ArePowers r powers.now
+        → IsScaled r (64 - i) (short_column_number columns) (text ++ take (16 * i) group.now)
         → IsScaled r (64 - (i + 1)) (short_column_number result) (text ++ take (16 * (i + 1)) group.now) }
     ensures bounds { AreBelow ((i + 67) * 2 ^ 112) result }
 {

@@ -1,9 +1,13 @@
-use Rattle.std.proofs.Common.{arith}
-use Rattle.chacha20.proofs.Sides.{column_round-rows, quarter_round-steps}
+use Rattle.std.proofs.Common.{refl}
+use Rattle.chacha20.specs.Rounds.{column_round}
 use Rattle.chacha20.proofs.rounds.column_round.Goals as goal
 
 pub returns : goal.returns
+unfolding column_round
 returns c j h =
-    column_round-rows c.args.states.now c.sums-a2.result c.xor_rotates-b2.result c.sums-c2.result c.xor_rotates-d2.result j (omega arith) (λ i l.
-    quarter_round-steps _ _ _ _ _ _ _ _ _ _ _ _ (c.sums-a1.ensures i j l h) (c.xor_rotates-d1.ensures i j l h) (c.sums-c1.ensures i j l h) (c.xor_rotates-b1.ensures i j l h)
-    (c.sums-a2.ensures i j l h) (c.xor_rotates-d2.ensures i j l h) (c.sums-c2.ensures i j l h) (c.xor_rotates-b2.ensures i j l h))
+    rw (
+      c.quarter_round_on-4.ensures j h,
+      c.quarter_round_on-3.ensures j h,
+      c.quarter_round_on-2.ensures j h,
+      c.quarter_round_on.ensures j h,
+    ) refl

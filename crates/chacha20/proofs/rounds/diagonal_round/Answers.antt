@@ -1,6 +1,13 @@
-use Rattle.std.proofs.Common.{arith}
-use Rattle.chacha20.proofs.Sides.{diagonal_round-turned}
+use Rattle.std.proofs.Common.{refl}
+use Rattle.chacha20.specs.Rounds.{diagonal_round}
 use Rattle.chacha20.proofs.rounds.diagonal_round.Goals as goal
 
 pub returns : goal.returns
-returns c j h = diagonal_round-turned c.args.states.now c.column_round.new.states j (omega arith) (omega arith) (c.column_round.ensures j h)
+unfolding diagonal_round
+returns c j h =
+    rw (
+      c.quarter_round_on-4.ensures j h,
+      c.quarter_round_on-3.ensures j h,
+      c.quarter_round_on-2.ensures j h,
+      c.quarter_round_on.ensures j h,
+    ) refl
