@@ -242,6 +242,9 @@ def damaged(count, library, keys, rounds):
         file = bytes(file)
         try:
             wanted = peer.decrypt(keys[0], file)
+            # (it passes over the byte after the three dashes, which has to be a space)
+            dashes = file.index(b"\n---") + 4
+            wanted = wanted if file[dashes : dashes + 1] == b" " else None
         except (peer.Refused, ValueError, IndexError, UnicodeDecodeError):
             wanted = None
         began = time.perf_counter()
