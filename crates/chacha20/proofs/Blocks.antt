@@ -1,7 +1,6 @@
 -- The words and the bytes of a block, place by place.
-use Rattle.std.proofs.Common.{◌≡◌, ℕ, zero, suc, inl, inr, ◌+◌, ◌-◌, ◌*◌, ◌/◌, ◌%◌, ◌^◌, ◌<◌, List, [], ◌∷◌, length, take, get_or, refl, ap, sym, arith, ◌∙◌, length-append}
-use Rattle.std.proofs.lemmas.Bool.{cases_lt}
-use Rattle.std.proofs.lemmas.List.{ext_get_or, length-set, length-take-le}
+use Rattle.std.proofs.Common.{◌≡◌, ℕ, zero, suc, ◌+◌, ◌*◌, ◌/◌, ◌%◌, ◌^◌, ◌<◌, List, [], ◌∷◌, length, take, get_or, refl, ap, sym, arith, ◌∙◌, length-append}
+use Rattle.std.proofs.lemmas.List.{length-set, length-take-le}
 use Rattle.std.proofs.lemmas.List.Concat.{get_or-flat_map}
 use Rattle.std.specs.Int.{w32, to_le_bytes}
 use Rattle.std.specs.Prelude.{slice_index}

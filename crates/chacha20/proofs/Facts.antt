@@ -1,5 +1,5 @@
 -- Lengths and ranges, and that encryption done twice gives the text back.
-use Rattle.std.proofs.Common.{◌≡◌, ℕ, zero, suc, ◌+◌, ◌/◌, ◌%◌, ◌^◌, ◌<◌, ◌*◌, List, [], ◌∷◌, length, replicate, get_or, bit_xor, refl, ap, sym, arith, add-zero, lit<, ◌∙◌}
+use Rattle.std.proofs.Common.{◌≡◌, ℕ, zero, suc, ◌+◌, ◌/◌, ◌%◌, ◌^◌, ◌<◌, List, [], ◌∷◌, length, replicate, get_or, bit_xor, refl, ap, sym, arith, add-zero, lit<, ◌∙◌}
 use Rattle.std.proofs.lemmas.List.Elements.{All-nil, All-cons, All-head, All-tail, All-append, All-get_or}
 use Rattle.std.proofs.lemmas.List.{ext_get_or, get_or-replicate, length-replicate}
 use Rattle.std.proofs.lemmas.Nat.{xor_lt, mod_below}

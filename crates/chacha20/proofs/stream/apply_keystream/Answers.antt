@@ -1,5 +1,4 @@
-use Rattle.std.proofs.Common.{◌≡◌, ◌+◌, ◌-◌, ◌*◌, ◌/◌, ◌≤◌, length, refl, arith}
-use Rattle.chacha20.specs.Blocks.{IsEncryptedTo}
+use Rattle.std.proofs.Common.{◌+◌, ◌*◌, refl, arith}
 use Rattle.chacha20.proofs.Streams.{group_more, length-encrypted_to, none_left}
 use Rattle.chacha20.proofs.stream.apply_keystream.Goals as goal
 

@@ -1,4 +1,3 @@
-use Rattle.std.proofs.Common.{arith}
 use Rattle.poly1305.proofs.Grouping.{scaled_block}
 use Rattle.poly1305.proofs.groups.with_block.Goals as goal
 
