@@ -43,7 +43,9 @@ def options(found):
 def read(program):
     """The commands with what each does, and the options of each, where the empty name stands for no command."""
     top = parts(program, [])
-    commands = [COMMAND.match(line).groups() for line in top["Commands"]]
+    # (what a command does may go on in a line that begins with more spaces)
+    matches = [COMMAND.match(line) for line in top["Commands"]]
+    commands = [it.groups() for it in matches if it]
     return commands, {"": options(top), **{name: options(parts(program, [name])) for name, _ in commands}}
 
 

@@ -17,7 +17,7 @@ def recipes():
     text = GUIDE.read_text("utf-8")
     part = text[text.index("## Recipes") : text.index("## What it says")]
     found, heading = [], ""
-    for match in re.finditer(r"^### (.*)$|^```sh\n(.*?)^```$", part, re.MULTILINE | re.DOTALL):
+    for match in re.finditer(r"^### ([^\n]*)$|^```sh\n(.*?)^```$", part, re.MULTILINE | re.DOTALL):
         heading = match[1] or heading
         if match[2]:
             found.append((heading, match[2]))
