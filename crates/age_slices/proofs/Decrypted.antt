@@ -1,6 +1,6 @@
 -- What is known of decrypting from a reader of a slice to an empty list, in words of slices.
-use Rattle.std.specs.Prelude.{Option, Some, Result, Ok, Err, IsTrue, ◌&&◌}
-use Rattle.std.proofs.Common.{◌≡◌, ◌⊎◌, ◌∙◌, ◌++◌, ℕ, List, [], ap, inl, inr, refl, subst, sym}
+use Rattle.std.specs.Prelude.{Some, Result, Ok, Err, IsTrue, ◌&&◌}
+use Rattle.std.proofs.Common.{◌≡◌, ◌⊎◌, ◌++◌, ℕ, List, [], ap, inl, inr, refl, subst, sym}
 use Rattle.age.specs.Armor.{Carries}
 use Rattle.age.specs.DecryptErrors.{DecryptRefusal, OutOfMemory}
 use Rattle.age.specs.DecryptingStreams.{AnswersFirst, DecryptsAll, GivesFirst}
@@ -17,8 +17,9 @@ use Rattle.age.specs.Stanza.{StanzaValue}
 use Rattle.age.specs.Stretch.{Stretch, whole}
 use Rattle.age.specs.Types.{Error, FileError}
 use Rattle.age.specs.Unwrapping.{UnwrapAnswer}
+use Rattle.age.specs.WholeFiles.{CarriesFile}
 use Rattle.age.specs.Writing.{HandsOn}
-use Rattle.age_slices.specs.Decrypting.{DecryptsBytes, IsDecrypted}
+use Rattle.age_slices.specs.Decrypting.{DecryptsBytes}
 
 -- a text carries one list
 abbrev CarriesOne : Type 0
@@ -34,13 +35,14 @@ module _ {I : Type 0} (unwraps : I → List StanzaValue → UnwrapAnswer → I �
   -- a file for the identities is a file of no other plaintext
   pub gives_back : CarriesOne → OneHeader seal_of → OnePlain seal_of → (identities asked : List I) (text carried plain given : List ℕ)
       → Carries text carried
-      → IsFileFor seal_of (FirstAnswer unwraps identities) plain carried → IsDecrypted unwraps seal_of identities asked text given → given ≡ plain
+      → IsFileFor seal_of (FirstAnswer unwraps identities) plain carried → CarriesFile seal_of (GivesFirst unwraps identities asked) text given
+      → given ≡ plain
   gives_back one_list one_header one_plain identities asked text carried plain given carries for is =
       let same : is.carried ≡ carried = one_list text is.carried carried is.carries carries in
       let got : IsFileOf seal_of is.file_key is.stanzas given carried = subst
       (λ x. IsFileOf seal_of is.file_key is.stanzas given x) same is.is_file in
       let stanzas : is.stanzas ≡ for.stanzas = one_header is.file_key for.file_key is.stanzas for.stanzas given plain carried got for.is_file in
-      elim (for.right (Some (Ok is.file_key)) (asked, subst (λ s. GivesFirst unwraps identities asked is.file_key s) stanzas is.gives)) [
+      elim (for.right (Some (Ok is.file_key)) (asked, subst (λ s. GivesFirst unwraps identities asked is.file_key s) stanzas is.given)) [
         | inl answer ↦
             let key : is.file_key ≡ for.file_key = same_key is.file_key for.file_key answer in
             one_plain for.file_key is.stanzas for.stanzas given plain carried is.bytes for.bytes
@@ -73,18 +75,11 @@ module _ {I S R W : Type 0} (unwraps : I → List StanzaValue → UnwrapAnswer �
       → CarriesOne → OneHeader suite.seal_of → OnePlain suite.seal_of → Decrypts (Ok v)
       → DecryptsBytes unwraps suite read write items identities asked text (Ok (items new))
   decrypts_ok v tells appends one_list one_header one_plain all =
-      let (file_key, stanzas, plain, bytes, gives, well, carries, is_file, are_bytes, appended) = all.file told tells in
-      let is : items new ≡ plain = rw empty at (appends plain appended) in
+      let done = all.file told tells in
+      let is : items new ≡ done.plain = rw empty at (appends done.plain done.out) in
       let text_is : (read.rest input).bytes ≡ text = ap (λ (s : Stretch). s.bytes) rest in
-      let decrypted : IsDecrypted unwraps suite.seal_of identities asked text (items new) = rw is record {
-        file_key = file_key;
-        stanzas = stanzas;
-        carried = bytes;
-        gives = gives;
-        carries = subst (λ t. Carries t bytes) text_is carries;
-        is_file = is_file;
-        bytes = are_bytes;
-      } in record {
+      let there = subst (λ t. CarriesFile suite.seal_of (GivesFirst unwraps identities asked) t done.plain) text_is done.file in
+      let decrypted : CarriesFile suite.seal_of (GivesFirst unwraps identities asked) text (items new) = rw is there in record {
         success = decrypted;
         honest = λ carried plain carries for. gives_back unwraps suite.seal_of one_list one_header one_plain identities asked text carried plain
             (items new)

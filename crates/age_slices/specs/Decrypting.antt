@@ -2,14 +2,12 @@
 use Rattle.std.specs.Prelude.{◌≡◌, ◌⊎◌, ℕ, List, [], Result, Err, IfOk, IsOk, MatchResult}
 use Rattle.std.specs.Str.Lines.{lines}
 use Rattle.age.specs.Armor.{Carries}
-use Rattle.age.specs.Bytes.{AreBytes}
 use Rattle.age.specs.Converting.{native_secrets, plugin_names, RefusesIdentities as RefusesEntries}
 use Rattle.age.specs.DecryptErrors.{OutOfMemory, decrypt_refusal}
 use Rattle.age.specs.DecryptErrorVariants as decrypt
 use Rattle.age.specs.DecryptingStreams.{AnswersFirst, DecryptsAll, GivesFirst}
 use Rattle.age.specs.Entries.{Entry, AreEntries}
 use Rattle.age.specs.ErrorVariants as io
-use Rattle.age.specs.File.{IsFileOf}
 use Rattle.age.specs.FileErrorVariants as files
 use Rattle.age.specs.FileErrors.{IsWant}
 use Rattle.age.specs.IdentityFiles.{IsFirstBad}
@@ -17,11 +15,11 @@ use Rattle.age.specs.IdentityReading.{IsTooLong, most_bytes}
 use Rattle.age.specs.Limiting.{limited}
 use Rattle.age.specs.Members.{SuiteMembers, ReadMembers, WriteMembers}
 use Rattle.age.specs.Parts.{FirstAnswer, IsFileFor}
-use Rattle.age.specs.Payload.{Seal}
 use Rattle.age.specs.Stanza.{StanzaValue}
 use Rattle.age.specs.Stretch.{whole}
 use Rattle.age.specs.Types.{DecryptError, Error, FileError}
 use Rattle.age.specs.Unwrapping.{UnwrapAnswer}
+use Rattle.age.specs.WholeFiles.{CarriesFile}
 
 -- the secrets of the identities that a text names, in the order of its lines, of which none is a plugin's
 abbrev pub AreIdentities : List ℕ → List (List ℕ) → Type 0
@@ -42,17 +40,6 @@ RefusesText text (io.NotIdentity line) = IsFirstBad (limited most_bytes (whole t
 RefusesText text io.LimitExceeded = IsTooLong most_bytes (whole text)
 RefusesText text other = ⊥
 
-module _ {I : Type 0} (unwraps : I → List StanzaValue → UnwrapAnswer → I → Type 0) (seal_of : Seal) where
-  -- The bytes carry a file of exactly this plaintext, under the file key that the first of the identities gives who answers.
-  pub record IsDecrypted (identities asked : List I) (file plain : List ℕ) : Type 0 where
-    pub file_key : List ℕ
-    pub stanzas : List StanzaValue
-    pub carried : List ℕ
-    pub gives : GivesFirst unwraps identities asked file_key stanzas
-    pub carries : Carries file carried
-    pub is_file : IsFileOf seal_of file_key stanzas plain carried
-    pub bytes : AreBytes plain
-
 -- A whole file was read from a reader of the slice to an empty list, by the identities.
 abbrev pub DecryptsFrom : {I S R W : Type 0} → (I → List StanzaValue → UnwrapAnswer → I → Type 0) → SuiteMembers S → ReadMembers R
     → WriteMembers W → List I → List I → List ℕ → (W → List ℕ) → Result (List ℕ) FileError → Type 0
@@ -67,8 +54,9 @@ module _ {I S R W : Type 0} (unwraps : I → List StanzaValue → UnwrapAnswer �
     (write : WriteMembers W) (items : W → List ℕ) where
   -- What the identities answer of a slice, which is at most what they have of its plaintext.
   pub record DecryptsBytes (identities asked : List I) (file : List ℕ) (answer : Result (List ℕ) FileError) : Type 0 where
-    -- A success says that the slice carries a file of exactly what was answered.
-    pub success : IfOk answer (IsDecrypted unwraps suite.seal_of identities asked file)
+    -- A success says that the slice carries a file of exactly what was answered, under the file key that the first of the identities gives who
+    -- answers.
+    pub success : IfOk answer (CarriesFile suite.seal_of (GivesFirst unwraps identities asked) file)
     -- A file for the identities is refused for want of memory alone, and gives nothing but its plaintext.
     pub honest : (carried plain : List ℕ) → Carries file carried → IsFileFor suite.seal_of (FirstAnswer unwraps identities) plain carried
         → MatchResult answer (λ given. given ≡ plain) IsWant
