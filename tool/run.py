@@ -189,7 +189,8 @@ def seeks(runs, recipient):
             shown, read = runs.reads(end(size, "-"), file)
         runs.ends(f"the end of {name} as standard input: {shown}, {read} bytes read", shown == bytes(10) and read < MOST_READ)
     small, big = (runs.takes(end(size, name), bytes(10)) for size, name in ((SMALL, "of_a_mib"), (BIG, "of_a_gib")))
-    runs.ends(f"the end of a GiB takes {big:.4f} s, of a MiB {small:.4f} s", big < 2 * small)
+    # (to read a GiB takes a tenth of a second or more; a busy machine makes one run or another take some milliseconds more)
+    runs.ends(f"the end of a GiB takes {big:.4f} s, of a MiB {small:.4f} s", big < small + 0.05)
     runs.path("behind").write_bytes(b"before" + runs.path("file").read_bytes())
     with open(runs.path("behind"), "rb") as file:
         file.seek(6)
