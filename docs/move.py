@@ -1,5 +1,5 @@
 #!/usr/bin/env python3
-"""Moves definitions from one file of specs to another crate's, and rewrites what imports them. Run it at the top of a clone.
+"""Moves definitions from one file of specs to another crate's, and rewrites what imports them. Run it at the top of the repository, where git shows what it did.
 
   move.py SOURCE/File[:name,name..] TARGET/File [--title TEXT] [--pass NAME]
 
@@ -86,6 +86,9 @@ def main():
     place, _, some = sys.argv[1].partition(":")
     source, target = place.replace("/", ".specs."), sys.argv[2].replace("/", ".specs.")
     crate, goal = source.split(".")[0], target.split(".")[0]
+    if source not in S.MODULES:
+        print(f"there is no file crates/{source.replace('.', '/')}.antt")
+        return 1
     module = S.MODULES[source]
     every = sorted({it for it in module.definitions.values() if it.module is module}, key=lambda it: it.first)
     moved = [it for it in every if not some or it.name in some.split(",")]
