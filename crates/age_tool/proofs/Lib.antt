@@ -4,6 +4,7 @@ pub mod Secrets
 pub mod Prepared
 pub mod Reached
 pub mod Flushed
+pub mod Inspected
 pub mod KeyFiles
 pub mod Leftover
 pub mod Lined
