@@ -8,6 +8,7 @@ pub mod Inspected
 pub mod KeyFiles
 pub mod Leftover
 pub mod Lined
+pub mod Locked
 pub mod OfPlugins
 pub mod Told
 pub mod Verified
