@@ -42,7 +42,8 @@ module _ {S R C : Type 0} where
 
   -- whether one of those who decrypt is such a file
   abbrev pub HasLocked : List (Holder S R C) → Bool → Type 0
-  HasLocked holders true = (before : List (Holder S R C)) × (it : Holder S R C) × (others : List (Holder S R C)) × (holders ≡ before ++ it ∷ others) × IsLocked it true
+  HasLocked holders true = (before : List (Holder S R C)) × (it : Holder S R C) × (others : List (Holder S R C))
+      × (holders ≡ before ++ it ∷ others) × IsLocked it true
   HasLocked holders false = All (λ it. IsLocked it false) holders
 
   -- What is told of a refusal: it, but where nobody has a key, and one of those who were asked is such a file, that.
