@@ -2,7 +2,7 @@
 # link.sh LIBRARY FOLDER: of the static library that the kit built, libage_c.a, with the kit's heap in it (malloc, realloc and free of the C
 # library), and libage_c.so, which shows the calls of include/age_c.h alone.
 set -euo pipefail
-library=$1 folder=$2
+library=$(realpath "$1") folder=$2
 top=$(cd "$(dirname "$0")/.." && pwd)
 kit=$(dirname "$(rt doc)")
 mkdir -p "$folder"

@@ -5,6 +5,7 @@ run.py SAZH FOLDER: FOLDER has libage_c.a and libage_c.so.
 
 import os
 import random
+import re
 import shutil
 import subprocess
 import sys
@@ -22,9 +23,16 @@ import peer  # noqa: E402
 SIZES = [0, 1, 65_535, 65_536, 65_537, 200_000]
 PASSPHRASE = b"correct horse battery staple\n"
 # The statuses of age_c.h that are looked for by name.
-TOO_SHORT, BAD_ARGUMENT, UNEXPECTED_EOF, BAD_CHUNK, LAST_CHUNK_EMPTY, NOT_IDENTITY = 1, 3, 11, 16, 18, 22
-DECRYPTION_FAILED, INVALID_MAC, NO_MATCHING_KEYS, NO_RANDOM = 40, 43, 45, 55
-NOT_TEXT, NOT_RECIPIENT, NO_RECIPIENT, NO_PASSPHRASE = 60, 61, 62, 64
+STATUSES = dict(re.findall(r"\bAGE_(\w+) = (\d+)", (TOP / "include" / "age_c.h").read_text()))
+TOO_SHORT, BAD_ARGUMENT, UNEXPECTED_EOF, BAD_CHUNK, LAST_CHUNK_EMPTY, NOT_IDENTITY = (
+    int(STATUSES[name]) for name in ["OUT_TOO_SHORT", "BAD_ARGUMENT", "UNEXPECTED_EOF", "BAD_CHUNK", "LAST_CHUNK_EMPTY", "NOT_IDENTITY"]
+)
+DECRYPTION_FAILED, INVALID_MAC, NO_MATCHING_KEYS, PLUGIN, NO_RANDOM = (
+    int(STATUSES[name]) for name in ["DECRYPTION_FAILED", "INVALID_MAC", "NO_MATCHING_KEYS", "PLUGIN", "NO_RANDOM"]
+)
+NOT_TEXT, NOT_RECIPIENT, NO_RECIPIENT, NO_IDENTITY, NO_PASSPHRASE, PASSPHRASE_NEEDED = (
+    int(STATUSES[name]) for name in ["NOT_TEXT", "NOT_RECIPIENT", "NO_RECIPIENT", "NO_IDENTITY", "NO_PASSPHRASE", "PASSPHRASE_NEEDED"]
+)
 
 
 class Count:
@@ -195,6 +203,48 @@ def rooms(count, library, keys):
         count.check(f"{random_bytes} random bytes", status == wanted)
 
 
+def made_keys(count, library, keys):
+    """Keys by given random bytes, and the recipients of identities, as peer.py writes them."""
+    key = keys[0]
+    lines = f"# public key: {key.recipient()}\n{key.text()}\n".encode()
+    for given, wanted in ((key.secret, lines), (key.secret + b"more", lines), (key.secret[:31], NO_RANDOM), (b"", NO_RANDOM)):
+        try:
+            answer = library.given(library.calls.age_keygen, age_c.passed(given), 152)
+        except age_c.Refused as fault:
+            answer = fault.status
+        count.check(f"a key by {len(given)} random bytes", answer == wanted)
+    made = library.keygen()
+    count.check("another key each time", made != library.keygen())
+    count.check("a key is 152 bytes", len(made) == 152)
+    file = peer.encrypt_to([made.split(b"\n")[0].removeprefix(b"# public key: ").decode()], b"a plaintext")
+    count.check("a file to the recipient that a key tells", library.decrypt(made, file) == b"a plaintext")
+    text = "".join(f"# a key\n{key.text()}\n\n" for key in keys).encode()
+    told = library.recipient_of(text)
+    count.check("the recipients of identities", told == "".join(key.recipient() + "\n" for key in keys).encode())
+    count.check("a file to them", library.decrypt((keys[-1].text() + "\n").encode(), library.encrypt(told, b"a plaintext")) == b"a plaintext")
+    plugin = peer.bech32("age-plugin-none-", b"").upper().encode()
+    for what, wanted, given in [
+        ("no identity", NO_IDENTITY, b"# none\n"),
+        ("an identity of a plugin", PLUGIN, plugin + b"\n" + text),
+        ("a line that is no identity", NOT_IDENTITY, text + b"no key\n"),
+        ("a file under a passphrase", PASSPHRASE_NEEDED, peer.encrypt_under(b"a passphrase", text, 10)),
+        ("the same in armor", PASSPHRASE_NEEDED, peer.armored(peer.encrypt_under(b"a passphrase", text, 10))),
+    ]:
+        status = refused(library.recipient_of, given)
+        count.check(f"the recipients of {what}: {status} in place of {wanted}", status == wanted)
+
+
+def lengths(count, library):
+    """Lengths of plaintexts by those of payloads that peer.py sealed, and of payloads that are none."""
+    for size in [*SIZES, 131_072]:
+        payload = len(peer.sealed(bytes(16), [], bytes(size))) - len(peer.header(bytes(16), [])) - 16
+        count.check(f"a payload of {size} bytes of plaintext", library.plain_length(payload) == size)
+    # (too short, a second chunk that is empty, one that is cut in its tag)
+    for payload in (0, 15, 65_552 + 16, 65_552 + 1, 65_552 + 15, 2 * 65_552 + 16):
+        status = refused(library.plain_length, payload)
+        count.check(f"a payload of {payload} bytes: {status}", status == BAD_ARGUMENT)
+
+
 def chunks(count, library, keys):
     """Payloads of peer.py are opened chunk by chunk, and those that are sealed so are opened by peer.py; a chunk elsewhere is refused."""
     for size in [*SIZES, 131_072]:
@@ -273,6 +323,8 @@ def main():
                 vectors(count, program)
     refusals(count, library, keys)
     rooms(count, library, keys)
+    made_keys(count, library, keys)
+    lengths(count, library)
     chunks(count, library, keys)
     damaged(count, library, keys, 2000)
     size = os.path.getsize(f"{out}/libage_c.so")

@@ -33,7 +33,7 @@ enum age_status {
     AGE_OK = 0,
     /* The room for the answer is too short. How many bytes it has to have is told in its place. */
     AGE_OUT_TOO_SHORT = 1,
-    /* A key of another length than 32 bytes. */
+    /* A key of another length than 32 bytes, or a length that no payload has. */
     AGE_BAD_ARGUMENT = 3,
     /* Memory was refused. */
     AGE_OUT_OF_MEMORY = 4,
@@ -107,15 +107,19 @@ enum age_status {
     /* A line of a text of recipients is none, and isn't empty or a comment. */
     AGE_NOT_RECIPIENT = 61,
     AGE_NO_RECIPIENT = 62,
+    /* A text whose recipients are asked for names no identity. */
     AGE_NO_IDENTITY = 63,
     /* The first line of the text of a passphrase is empty, or there is none. */
     AGE_NO_PASSPHRASE = 64,
+    /* A text whose recipients are asked for is a file under a passphrase. age_decrypt_passphrase gives the text in it. */
     AGE_PASSPHRASE_NEEDED = 65
 };
 
 /* How many random bytes a file takes that is encrypted to so many recipients, and one under a passphrase. */
 #define AGE_RANDOM_FOR_RECIPIENTS(recipients) (32 + 32 * (size_t)(recipients))
 #define AGE_RANDOM_FOR_PASSPHRASE 72
+/* How many random bytes a new key takes. */
+#define AGE_RANDOM_FOR_KEY 32
 
 /*
  * Encrypts `plain` to the recipients in a text, one `age1..` to a line, to all of them and to no other. Empty lines and lines that
@@ -150,6 +154,20 @@ uint32_t age_decrypt_passphrase(const uint8_t *passphrase, size_t passphrase_len
                                 uint8_t *out, size_t out_length, size_t *written);
 
 /*
+ * Makes a new key: a text of two lines, of which the first is "# public key: " and the recipient, and the second the identity. It is
+ * a text of identities as age_decrypt takes it. `random` are AGE_RANDOM_FOR_KEY bytes from a good source of random bytes, or more,
+ * whose first ones are the secret: AGE_NO_RANDOM where there are fewer. It has 152 bytes.
+ */
+uint32_t age_keygen(const uint8_t *random, size_t random_length, uint8_t *out, size_t out_length, size_t *written);
+
+/*
+ * Tells the recipients of all identities in a text, one `age1..` to a line, in the order of the lines: a text of recipients as
+ * age_encrypt takes it. AGE_NOT_IDENTITY where a line is no identity and isn't passed over, AGE_NO_IDENTITY where there is none,
+ * AGE_PASSPHRASE_NEEDED where the text is a file under a passphrase.
+ */
+uint32_t age_recipient_of(const uint8_t *identities, size_t identities_length, uint8_t *out, size_t out_length, size_t *written);
+
+/*
  * The payload of a file in chunks, under its key of 32 bytes, which is derived of the file key and of the nonce after the header
  * (age-encryption.org/v1, "Payload"): piece i of a plaintext, of 65,536 bytes but for the last, is chunk i, of 16 bytes more, so chunk i
  * begins 65,552 * i bytes after that nonce. The last piece has a byte at least, unless it is the only one.
@@ -163,6 +181,12 @@ uint32_t age_decrypt_passphrase(const uint8_t *passphrase, size_t passphrase_len
 
 /* How many chunks the payload of a plaintext of so many bytes has. */
 uint64_t age_chunk_count(uint64_t plain_length);
+
+/*
+ * Tells how many bytes the plaintext of a payload of so many bytes has: AGE_OK, and `*length` is how many. AGE_BAD_ARGUMENT, and 0 in
+ * `*length`, where no payload is so long. That the payload is whole only a chunk tells that opens as the last.
+ */
+uint32_t age_plain_length(uint64_t payload_length, uint64_t *length);
 
 /*
  * Opens a chunk by its number. AGE_BAD_CHUNK where it is none under the key and the number, as the last one or not, or hasn't the

@@ -15,6 +15,7 @@ from pathlib import Path
 
 OK, OUT_TOO_SHORT, WRONG = 0, 1, 100
 RANDOM_FOR_PASSPHRASE = 72
+RANDOM_FOR_KEY = 32
 BYTES = [ctypes.c_char_p, ctypes.c_size_t]
 ROOM = [*BYTES, ctypes.POINTER(ctypes.c_size_t)]
 
@@ -39,11 +40,15 @@ class Library:
         self.calls = ctypes.CDLL(path)
         armored = [ctypes.c_bool]
         self.calls.age_chunk_count.argtypes, self.calls.age_chunk_count.restype = [ctypes.c_uint64], ctypes.c_uint64
+        self.calls.age_plain_length.argtypes = [ctypes.c_uint64, ctypes.POINTER(ctypes.c_uint64)]
+        self.calls.age_plain_length.restype = ctypes.c_uint32
         for name, words in {
             "age_encrypt": [*BYTES, *BYTES, *armored, *BYTES, *ROOM],
             "age_encrypt_passphrase": [*BYTES, *BYTES, *armored, *BYTES, *ROOM],
             "age_decrypt": [*BYTES, *BYTES, *ROOM],
             "age_decrypt_passphrase": [*BYTES, *BYTES, *ROOM],
+            "age_keygen": [*BYTES, *ROOM],
+            "age_recipient_of": [*BYTES, *ROOM],
             "age_open_chunk": [*BYTES, ctypes.c_uint64, *armored, *BYTES, *ROOM],
             "age_seal_chunk": [*BYTES, ctypes.c_uint64, *armored, *BYTES, *ROOM],
         }.items():
@@ -80,6 +85,22 @@ class Library:
     def decrypt_passphrase(self, passphrase, file):
         """The plaintext of a file, by the passphrase in the first line of a text."""
         return self.given(self.calls.age_decrypt_passphrase, passed(passphrase, file), len(file))
+
+    def keygen(self):
+        """The text of a new key: a line with its recipient, and one with the identity."""
+        return self.given(self.calls.age_keygen, passed(os.urandom(RANDOM_FOR_KEY)), 152)
+
+    def recipient_of(self, identities):
+        """The recipients of the identities in a text, one to a line."""
+        return self.given(self.calls.age_recipient_of, passed(identities), len(identities))
+
+    def plain_length(self, payload_length):
+        """How many bytes the plaintext of a payload of so many bytes has."""
+        length = ctypes.c_uint64(0)
+        status = self.calls.age_plain_length(payload_length, ctypes.byref(length))
+        if status != OK:
+            raise Refused(status)
+        return length.value
 
     def open_chunk(self, key, number, last, text):
         """What a chunk of a payload opens to, by its number, under the key of the payload."""

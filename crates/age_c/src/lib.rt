@@ -4,3 +4,4 @@
 
 pub mod chunks;
 pub mod files;
+pub mod keys;

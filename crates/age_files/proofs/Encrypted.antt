@@ -1,5 +1,5 @@
 -- What is known of encrypting from a reader of a slice to an empty list, in words of slices.
-use Rattle.std.specs.Prelude.{Option, Some, None, Result, Ok, Err, IsTrue}
+use Rattle.std.specs.Prelude.{Option, Result, Err, IsTrue}
 use Rattle.std.proofs.Common.{◌≡◌, ◌∙◌, ◌⊎◌, ◌^◌, ◌<◌, ◌++◌, ℕ, List, [], ap, inl, inr, length, refl, subst, sym}
 use Rattle.age.specs.Armor.{Carries}
 use Rattle.age.specs.ArmorWriting.{text_of}

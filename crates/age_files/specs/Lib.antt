@@ -1,3 +1,4 @@
 pub mod Status
 pub mod Encrypting
 pub mod Decrypting
+pub mod Keys

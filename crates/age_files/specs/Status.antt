@@ -5,6 +5,8 @@ use Rattle.age_tool.specs.declared.error.CommandError.{CommandError}
 use Rattle.age_tool.specs.declared.error.CommandError.TheVariants as command
 use Rattle.age_tool.specs.declared.error.GivenError.{GivenError}
 use Rattle.age_tool.specs.declared.error.GivenError.TheVariants as given
+use Rattle.age_tool.specs.declared.error.IdentitiesError.{IdentitiesError}
+use Rattle.age_tool.specs.declared.error.IdentitiesError.TheVariants as identities
 use Rattle.age_tool.specs.declared.error.PassphraseError.{PassphraseError}
 use Rattle.age_tool.specs.declared.error.PassphraseError.TheVariants as passphrase
 use Rattle.age_tool.specs.declared.error.RandomError.{RandomError}
@@ -33,6 +35,15 @@ abbrev pub of_passphrase : PassphraseError → ℕ
 of_passphrase passphrase.NotText = 60
 of_passphrase passphrase.Empty = 64
 of_passphrase passphrase.OutOfMemory = 4
+
+-- why the recipients of identities aren't told
+abbrev pub of_identities : IdentitiesError → ℕ
+of_identities (identities.NotIdentity line) = 22
+of_identities identities.TooLong = 21
+of_identities identities.Plugin = 46
+of_identities identities.NoIdentity = 63
+of_identities identities.Encrypted = 65
+of_identities identities.OutOfMemory = 4
 
 -- of what was given, or of what came of it
 abbrev pub of_given : {G C : Type 0} → (G → ℕ) → (C → ℕ) → GivenError G C → ℕ

@@ -3,4 +3,5 @@
 
 pub mod decrypting;
 pub mod encrypting;
+pub mod keys;
 pub mod status;

@@ -3,7 +3,9 @@ ghost use Rattle.std.specs.Prelude.{◌≡◌, ◌<◌};
 ghost use Rattle.age_files.specs.Status;
 
 use age_slices::status::{OUT_OF_MEMORY, of_file};
-use age_tool::error::{CommandError, PassphraseError, RandomError, RecipientsError};
+use age_tool::error::{
+    CommandError, IdentitiesError, PassphraseError, RandomError, RecipientsError,
+};
 
 /// The number of why there are no random bytes.
 pub fn of_random(error: RandomError) -> u32
@@ -49,5 +51,20 @@ pub fn of_passphrase(error: PassphraseError) -> u32
         PassphraseError::NotText => 60,
         PassphraseError::Empty => 64,
         PassphraseError::OutOfMemory => OUT_OF_MEMORY,
+    }
+}
+
+/// The number of why the recipients of identities aren't told, which doesn't tell the line.
+pub fn of_identities(error: IdentitiesError) -> u32
+    ensures number { result ≡ Status.of_identities error }
+    ensures above { 1 < result }
+{
+    match error {
+        IdentitiesError::NotIdentity { .. } => 22,
+        IdentitiesError::TooLong => 21,
+        IdentitiesError::Plugin => 46,
+        IdentitiesError::NoIdentity => 63,
+        IdentitiesError::Encrypted => 65,
+        IdentitiesError::OutOfMemory => OUT_OF_MEMORY,
     }
 }
