@@ -1,6 +1,6 @@
 #!/usr/bin/env bash
 # install.sh [--built] [PREFIX]: proves and builds sazh where its sources have changed, and puts it below PREFIX, /usr/local without that word, with its
-# manual and the completions of bash, zsh and fish. --built installs the program that stands here already. SAZH_CPU=x86-64-v2 makes one for other machines.
+# manual, the completions of bash, zsh and fish, and a note of the commit and the kit. --built installs the program that stands here already. SAZH_CPU=x86-64-v2 makes one for other machines.
 set -euo pipefail
 top=$(cd "$(dirname "$0")" && pwd)
 program=$top/crates/sazh/out/sazh
@@ -27,3 +27,10 @@ put 644 "$top/docs/sazh.1" "$prefix/share/man/man1/sazh.1"
 put 644 "$top/completions/sazh.bash" "$prefix/share/bash-completion/completions/sazh"
 put 644 "$top/completions/_sazh" "$prefix/share/zsh/site-functions/_sazh"
 put 644 "$top/completions/sazh.fish" "$prefix/share/fish/vendor_completions.d/sazh.fish"
+
+# The program can't name the commit of its own sources, so a file beside it does.
+commit=$(git -C "$top" describe --always --dirty --abbrev=40 2>/dev/null) || commit=unknown
+note=$(mktemp)
+trap 'rm -f "$note"' EXIT
+printf '%s\ncommit %s\nkit %s\n' "$("$program" --version)" "$commit" "$(rt version)" > "$note"
+put 644 "$note" "$prefix/share/doc/sazh/BUILD"

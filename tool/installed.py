@@ -13,6 +13,7 @@ PLACES = {
     "share/bash-completion/completions/sazh": 0o644,
     "share/zsh/site-functions/_sazh": 0o644,
     "share/fish/vendor_completions.d/sazh.fish": 0o644,
+    "share/doc/sazh/BUILD": 0o644,
 }
 
 
@@ -27,7 +28,7 @@ def in_bash(file, *words):
 
 
 def installs(runs):
-    """It installs five files, and the program among them is this one."""
+    """It installs six files, and the program among them is this one."""
     for name, text in made(runs.program).items():
         runs.ends(f"completions/{name} is what tool/completions.py makes", FOLDER.joinpath(name).read_text("ascii") == text)
     prefix = runs.path("prefix")
@@ -38,6 +39,10 @@ def installs(runs):
         runs.ends(f"{place} is installed", prefix.joinpath(place).stat().st_mode & 0o777 == mode)
     installed = subprocess.run([prefix / "bin/sazh", "--version"], stdin=subprocess.DEVNULL, capture_output=True, check=False)
     runs.ends(f"what is installed runs: {installed}", installed.returncode == 0 and installed.stdout == runs.run(["--version"]).stdout)
+    kit = subprocess.run(["rt", "version"], capture_output=True, check=True).stdout
+    lines = (prefix / "share/doc/sazh/BUILD").read_bytes().splitlines(keepends=True)
+    good = lines[0] == installed.stdout and lines[1].startswith(b"commit ") and lines[2] == b"kit " + kit
+    runs.ends(f"the version, the commit and the kit are noted: {lines}", good and len(lines) == 3)
     done = subprocess.run([TOP / "install.sh", "--built", prefix, prefix], stdin=subprocess.DEVNULL, capture_output=True, check=False, text=True)
     runs.ends(f"install.sh of two places: {done}", done.returncode == 2 and done.stderr.startswith("usage: "))
     completes(runs, prefix)

@@ -4,9 +4,11 @@ pub mod Secrets
 pub mod Prepared
 pub mod Reached
 pub mod Flushed
+pub mod Inspected
 pub mod KeyFiles
 pub mod Leftover
 pub mod Lined
+pub mod Locked
 pub mod OfPlugins
 pub mod Told
 pub mod Verified

@@ -22,13 +22,13 @@ pub verified : {S T R : Type 0} (unwraps : Holder S T GivesOnce → List StanzaV
     → WasGiven old [] → ((text : List ℕ) → WasGiven new text → IsMeasured measured text)
     → DecryptsBy unwraps suite text_read write given read input last old new (Ok v) → VerifiesFile unwraps suite text_read write given read input (Ok measured)
 verified unwraps suite text_read write given read input last old new v measured tells took none measures (inl (e, is, refuses, untouched)) = absurd (ok_is_no_error _ _ is)
-verified unwraps suite text_read write given read input last old new v measured tells took none measures (inr (holders, are, (Err e, does, answers))) =
+verified unwraps suite text_read write given read input last old new v measured tells took none measures (inr (who, are, (Err e, does, answers))) =
     elim answers [
-      | inl is ↦ absurd (ok_is_no_error _ _ is)
-      | inr (none, is) ↦ absurd (ok_is_no_error _ _ is)
+      | inl (is, none) ↦ absurd (ok_is_no_error _ _ is)
+      | inr (none, is, has) ↦ absurd (ok_is_no_error _ _ is)
     ]
 verified unwraps suite text_read write given read input last old new v measured tells took none measures
-    (inr (holders, are, (Ok done, (asked, (steps, file, refused)), answers))) = λ told.
+    (inr ((holders, asked), are, (Ok done, (steps, file, refused), answers))) = λ told.
     let gave = file told tells in
     let carried = gave.file in
     let measure = measures gave.plain (took gave.plain gave.out [] none) in

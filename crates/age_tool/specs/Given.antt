@@ -1,5 +1,5 @@
 -- Commands from what they are given on: words and texts of files.
-use Rattle.std.specs.Prelude.{◌≡◌, ◌⊎◌, ◌&&◌, ℕ, List, [], Option, Result, Err, IsTrue, IsOk, IfOk, IfErr, MatchResult}
+use Rattle.std.specs.Prelude.{◌≡◌, ◌⊎◌, ◌&&◌, ℕ, List, [], true, false, Option, Result, Err, IsTrue, IsOk, IfOk, IfErr, MatchResult}
 use Rattle.std.specs.Result.{result_map_both}
 use Rattle.age.specs.Armor.{Carries}
 use Rattle.age.specs.DecryptErrorVariants.{KeyDecryptionFailed, NoMatchingKeys}
@@ -15,6 +15,7 @@ use Rattle.age.specs.Unwrapping.{UnwrapAnswer}
 use Rattle.age.specs.Wrapping.{WrapAnswer}
 use Rattle.age_tool.specs.Decrypting.{Decrypts, DecryptsSome, GivesFile, GivesPart, Migrated}
 use Rattle.age_tool.specs.Keyring.{AreHolders, RefusesKeyring}
+use Rattle.age_tool.specs.Locked.{HasLocked}
 use Rattle.age_tool.specs.Measuring.{IsMeasured, WasGiven}
 use Rattle.age_tool.specs.Opening.{OpensHeader}
 use Rattle.age_tool.specs.Rekeying.{KeepsPlaintext, Rekeys}
@@ -34,27 +35,28 @@ use Rattle.age_tool.specs.declared.measuring.Measuring.{Measuring}
 use Rattle.age_tool.specs.declared.words.Word.{Word}
 
 -- What was given is refused, and nothing was touched; or it stands for something, and with that the command came to what is answered.
-abbrev pub WithGiven : {G C V X : Type 0} → (G → Type 0) → Type 0 → (X → Type 0) → (X → Result V C → Type 0) → (Result V C → Result V (GivenError G C) → Type 0)
-    → Result V (GivenError G C) → Type 0
+abbrev pub WithGiven : {G C V X : Type 0} → (G → Type 0) → Type 0 → (X → Type 0) → (X → Result V C → Type 0)
+    → (X → Result V C → Result V (GivenError G C) → Type 0) → Result V (GivenError G C) → Type 0
 WithGiven {G} {C} {V} {X} Refuses Untouched StandsFor Does Answers result =
     ((e : G) × (result ≡ Err (Given e)) × Refuses e × Untouched)
-    ⊎ ((x : X) × StandsFor x × ((done : Result V C) × Does x done × Answers done result))
+    ⊎ ((x : X) × StandsFor x × ((done : Result V C) × Does x done × Answers x done result))
 
 -- what a command came to is answered
 abbrev pub Answers : {G C V : Type 0} → Result V C → Result V (GivenError G C) → Type 0
 Answers done result = result ≡ result_map_both (λ v. v) Command done
 
--- The same, but that it may be told that a passphrase opens no file of identities, where nobody has a key.
-abbrev pub AnswersKeys : {G V : Type 0} → Result V FileError → Result V (GivenError G FileError) → Type 0
-AnswersKeys done result = Answers done result ⊎ ((done ≡ Err (Decrypt NoMatchingKeys)) × (result ≡ Err (Command (Decrypt KeyDecryptionFailed))))
+-- The same, but where nobody has a key it is told whether one of those who were asked is a file of identities that its passphrase doesn't open.
+abbrev pub AnswersKeys : {S T C G V : Type 0} → List (Holder S T C) → Result V FileError → Result V (GivenError G FileError) → Type 0
+AnswersKeys asked done result = (Answers done result × (done ≡ Err (Decrypt NoMatchingKeys) → HasLocked asked false))
+    ⊎ ((done ≡ Err (Decrypt NoMatchingKeys)) × (result ≡ Err (Command (Decrypt KeyDecryptionFailed))) × HasLocked asked true)
 
 module _ {S T W V : Type 0} (unwraps : Holder S T GivesOnce → List StanzaValue → UnwrapAnswer → Holder S T GivesOnce → Type 0) (suite : SuiteMembers S)
     (text_read : ReadMembers T) (write : WriteMembers W) (given : Keyring) where
-  -- Those who decrypt with what was given are asked by the command, in their order.
+  -- Those who decrypt with what was given are asked by the command, in their order: they, and what they are after it.
   abbrev pub WithKeyring : Type 0 → (List (Holder S T GivesOnce) → List (Holder S T GivesOnce) → Result V FileError → Type 0)
       → Result V (GivenError KeyringError FileError) → Type 0
-  WithKeyring Untouched Does result = WithGiven (RefusesKeyring text_read S given) Untouched (AreHolders text_read given)
-      (λ holders done. (asked : List (Holder S T GivesOnce)) × Does holders asked done) AnswersKeys result
+  WithKeyring Untouched Does result = WithGiven {X = List (Holder S T GivesOnce) × List (Holder S T GivesOnce)} (RefusesKeyring text_read S given) Untouched
+      (λ x. AreHolders text_read given x.0) (λ x done. Does x.0 x.1 done) (λ x done told. AnswersKeys x.1 done told) result
 
   -- A whole file was decrypted so.
   abbrev pub DecryptsBy : {R : Type 0} → ReadMembers R → R → R → W → W → Result V (GivenError KeyringError FileError) → Type 0
@@ -82,19 +84,20 @@ module _ {S T W V : Type 0} (unwraps : Holder S T GivesOnce → List StanzaValue
 -- One of those who decrypt with what was given opens a file with this header.
 abbrev pub OpensBy : {S T : Type 0} → (Holder S T GivesOnce → List StanzaValue → UnwrapAnswer → Holder S T GivesOnce → Type 0) → ReadMembers T
     → Keyring → HeaderValue → Result ℕ (GivenError KeyringError FileError) → Type 0
-OpensBy {S} {T} unwraps text_read given h result = WithGiven (RefusesKeyring text_read S given) (Unit {0}) (AreHolders text_read given)
-    (λ (holders : List (Holder S T GivesOnce)) done. (asked : List (Holder S T GivesOnce)) × (own : Result ℕ DecryptError)
-    × OpensHeader unwraps h holders asked own × (done ≡ result_map_both (λ n. n) Decrypt own)) AnswersKeys result
+OpensBy {S} {T} unwraps text_read given h result = WithGiven {X = List (Holder S T GivesOnce) × List (Holder S T GivesOnce)} (RefusesKeyring text_read S given)
+    (Unit {0}) (λ x. AreHolders text_read given x.0)
+    (λ x done. (own : Result ℕ DecryptError) × OpensHeader unwraps h x.0 x.1 own × (done ≡ result_map_both (λ n. n) Decrypt own))
+    (λ x done told. AnswersKeys x.1 done told) result
 
 -- what was given to encrypt a file to others is refused
 abbrev pub RefusesRekey : {T : Type 0} → ReadMembers T → Type 0 → (List ℕ → List ℕ) → Keyring → List Word → RekeyError → Type 0
 RefusesRekey {T} text_read S public_of given words (refused.Keyring e) = RefusesKeyring text_read S given e
 RefusesRekey {T} text_read S public_of given words (refused.Words e) = RefusesWords text_read S public_of words e
 
--- what a command came to is answered, but that it may be told that a passphrase opens no file of identities, where nobody has a key
-abbrev pub AnswersCommand : {G V : Type 0} → Result V CommandError → Result V (GivenError G CommandError) → Type 0
-AnswersCommand done result = Answers done result
-    ⊎ ((done ≡ Err (File (Decrypt NoMatchingKeys))) × (result ≡ Err (Command (File (Decrypt KeyDecryptionFailed)))))
+-- the same of a command that draws random bytes too
+abbrev pub AnswersCommand : {S T C G V : Type 0} → List (Holder S T C) → Result V CommandError → Result V (GivenError G CommandError) → Type 0
+AnswersCommand asked done result = (Answers done result × (done ≡ Err (File (Decrypt NoMatchingKeys)) → HasLocked asked false))
+    ⊎ ((done ≡ Err (File (Decrypt NoMatchingKeys))) × (result ≡ Err (Command (File (Decrypt KeyDecryptionFailed)))) × HasLocked asked true)
 
 module _ {S T B W V : Type 0} (unwraps : Holder S T GivesOnce → List StanzaValue → UnwrapAnswer → Holder S T GivesOnce → Type 0)
     (gives : B → ℕ → Option (List ℕ) → B → Type 0) (wraps : List ℕ → List ℕ → List ℕ → WrapAnswer → List ℕ → Type 0) (suite : SuiteMembers S)
@@ -103,11 +106,12 @@ module _ {S T B W V : Type 0} (unwraps : Holder S T GivesOnce → List StanzaVal
   abbrev pub RekeysBy : {R A : Type 0} → ReadMembers R → (armored_read : ReadMembers A) → ReadMembers (StreamReader S A suite armored_read) → Format → B → B → R → W → W
       → Result V (GivenError RekeyError CommandError) → Type 0
   RekeysBy {R} {A} read armored_read stream_read format before after input old new result =
-      WithGiven {X = List (Holder S T GivesOnce) × List (List ℕ)} (RefusesRekey text_read S suite.public_of given words) ((after ≡ before) × (new ≡ old))
-      (λ x. AreHolders text_read given x.0 × AreOfWords suite.public_of words x.1)
-      (λ x done. (asked : List (Holder S T GivesOnce))
-      × (Rekeys unwraps gives wraps suite write format x.0 asked x.1 before after read armored_read stream_read input old new done
-      × KeepsPlaintext unwraps gives wraps suite write format x.0 asked x.1 before after read input old new done)) AnswersCommand result
+      WithGiven {X = List (Holder S T GivesOnce) × List (Holder S T GivesOnce) × List (List ℕ)} (RefusesRekey text_read S suite.public_of given words)
+      ((after ≡ before) × (new ≡ old))
+      (λ x. AreHolders text_read given x.0 × AreOfWords suite.public_of words x.2)
+      (λ x done. Rekeys unwraps gives wraps suite write format x.0 x.1 x.2 before after read armored_read stream_read input old new done
+      × KeepsPlaintext unwraps gives wraps suite write format x.0 x.1 x.2 before after read input old new done)
+      (λ x done told. AnswersCommand x.1 done told) result
 
 module _ {S T : Type 0} (unwraps : Holder S T GivesOnce → List StanzaValue → UnwrapAnswer → Holder S T GivesOnce → Type 0) (suite : SuiteMembers S)
     (text_read : ReadMembers T) (write : WriteMembers Measuring) (given : Keyring) where

@@ -1,5 +1,5 @@
 -- What a file shows without a key.
-use Rattle.std.specs.Prelude.{◌≡◌, ◌⊎◌, ◌↔◌, ℕ, ◌+◌, ◌*◌, ◌<◌, ◌≤◌, IsTrue, List, ◌++◌, length, MatchOption, Option, Result, IfOk, IfErr}
+use Rattle.std.specs.Prelude.{◌≡◌, ◌⊎◌, ◌↔◌, ℕ, ◌+◌, ◌*◌, ◌^◌, ◌<◌, ◌≤◌, IsTrue, List, ◌++◌, length, MatchOption, Option, Result, IfOk, IfErr}
 use Rattle.age.specs.DecryptErrors.{decrypt_refusal}
 use Rattle.age.specs.ErrorVariants as io
 use Rattle.age.specs.Header.{KeepsScryptRule, header_text}
@@ -54,11 +54,16 @@ module _ {T : Type 0} (read : ReadMembers T) where
     pub whole : (read.rest text).bytes ≡ header_text header.stanzas header.mac ++ rest
     pub within : length (header_text header.stanzas header.mac) ≤ count
 
+  -- a header stands at the front, and 2^64 bytes or more follow it
+  abbrev pub IsTooLong : T → ℕ → Type 0
+  IsTooLong text count = (front : HasHeader text count) × (2 ^ 64 ≤ length front.rest)
+
   -- Why a text isn't inspected, and how many of its bytes were read.
   abbrev pub RefusesInspection : T → InspectionError → Type 0
   RefusesInspection text (error.Header count why) = IsTrue (read.tells text) → (last : T) × (read.place last ≡ count)
       × RefusesHeader canonical (read.faults text) (read.faults last) (read.rest text) (read.rest last) (read.place text) (read.place last) (decrypt_refusal why)
-  RefusesInspection text (error.Rest count why) = ((why ≡ io.OutOfMemory) ⊎ (why ≡ io.TooLong) ⊎ TriedAgain read.refuses text why)
+  RefusesInspection text (error.Rest count why) =
+      ((why ≡ io.OutOfMemory) ⊎ ((why ≡ io.TooLong) × (IsTrue (read.tells text) → IsTooLong text count)) ⊎ TriedAgain read.refuses text why)
       × (IsTrue (read.tells text) → HasHeader text count)
   RefusesInspection text error.OutOfMemory = ⊥
 

@@ -4,6 +4,7 @@ pub mod Keygen
 pub mod Random
 pub mod Holder
 pub mod Keyring
+pub mod Locked
 pub mod OwnRecipients
 pub mod Given
 pub mod Counting

@@ -28,21 +28,19 @@ impl Counting {
 impl Write for Counting {
     ghost use Rattle.std.specs.Prelude.{true};
     ghost use Rattle.std.proofs.Common.{arith};
-    ghost use Rattle.age.specs.ErrorVariants.{TooLong};
-    ghost use Rattle.age_tool.specs.Counting.{CountedBytes, counted_joined, counted_nothing};
+    ghost use Rattle.age_tool.specs.Counting.{CountedBytes, RefusesCount, counted_joined, counted_nothing, refuses_more_of_them};
 
     ghost tells = { λ _. true };
 
     ghost faults = { λ _. 0 };
 
-    // Whatever it is given.
-    ghost refuses = { λ _ _ e. e ≡ TooLong };
+    ghost refuses = { RefusesCount };
 
     ghost appended = { CountedBytes };
 
     ghost faults_fit = { λ _. Prim.omega arith };
 
-    ghost refuses_more = { λ _ _ _ _ _ long. long };
+    ghost refuses_more = { refuses_more_of_them };
 
     ghost appends_nothing = { counted_nothing };
 

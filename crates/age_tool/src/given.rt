@@ -1,12 +1,11 @@
 //! The commands, from what they are given on: the words of a command line, and the texts of the files that it names.
-ghost use Rattle.std.specs.Prelude.{◌≡◌, ◌⊎◌, List, ℕ, [], ◌∷◌, length, Err, IfErr};
-ghost use Rattle.age.specs.DecryptErrorVariants.{KeyDecryptionFailed, NoMatchingKeys};
-ghost use Rattle.age.specs.FileErrorVariants.{Decrypt};
+ghost use Rattle.std.specs.Prelude.{◌≡◌, List, ℕ, [], ◌∷◌, length};
+ghost use Rattle.age.specs.EncryptErrors.{encrypt_refusal};
 ghost use Rattle.age_tool.specs.Encrypting.{Encrypts, draws_for_keys, draws_for_passphrase};
 ghost use Rattle.age_tool.specs.Given.{Answers, DecryptsBy, DecryptsSomeBy, GivesPartBy, MigratedBy, OpensBy, RekeysBy, Verifies, VerifiesFile, WithGiven};
+ghost use Rattle.age_tool.specs.Locked.{HasLocked, IsLocked, NamesCommand, NamesKeys, is_for_nobody, tells_wrong};
 ghost use Rattle.age_tool.specs.Passphrase.{RefusesText, first_line};
 ghost use Rattle.age_tool.specs.Words.{AreOfWords, RefusesWords};
-ghost use Rattle.age_tool.specs.declared.error.CommandError.TheVariants.{File};
 
 use crate::callbacks::GivesOnce;
 use crate::decrypting::{decrypt, decrypt_part, migrate_text, seek_part};
@@ -51,7 +50,7 @@ pub fn encrypt_to_words<'a, S: Suite, B: RandomBytes, R: Read, W: Write>(
         (λ (keys : List (List ℕ)). AreOfWords S.public_of words.now keys)
         (λ keys done. Encrypts B.gives ⟦<x25519::Recipient<S> as Recipient>⟧.wraps keys (draws_for_keys (length keys)) source.old source.new
         ⟦<S as Suite>⟧ ⟦<R as Read>⟧ ⟦<W as Write>⟧ format reader.old reader.new writer.old writer.new done)
-        Answers result }
+        (λ _ done told. Answers done told) result }
 {
     match keys_of_words::<S>(alloc, words) {
         Err(error) => Err(GivenError::Given(error)),
@@ -82,7 +81,7 @@ pub fn encrypt_under_text<S: Suite, B: RandomBytes, R: Read, W: Write>(
         (λ (passphrase : List ℕ). passphrase ≡ first_line text.now)
         (λ passphrase done. Encrypts B.gives ⟦<scrypt::Recipient<S> as Recipient>⟧.wraps (record { passphrase = passphrase; factor = 18 } ∷ []) draws_for_passphrase
         source.old source.new ⟦<S as Suite>⟧ ⟦<R as Read>⟧ ⟦<W as Write>⟧ format reader.old reader.new writer.old writer.new done)
-        Answers result }
+        (λ _ done told. Answers done told) result }
 {
     match passphrase_of(alloc, text) {
         Err(error) => Err(GivenError::Given(error)),
@@ -95,31 +94,53 @@ pub fn encrypt_under_text<S: Suite, B: RandomBytes, R: Read, W: Write>(
     }
 }
 
+// Whether the recipients of a file of identities are refused since its passphrase doesn't open it.
+fn is_wrong_passphrase(refused: &EncryptError) -> bool
+    ensures { result ≡ tells_wrong (encrypt_refusal refused.now) }
+{
+    matches!(
+        refused,
+        EncryptError::EncryptedIdentities(DecryptError::KeyDecryptionFailed)
+    )
+}
+
 // Whether this is a file of identities that its passphrase doesn't open.
 fn is_locked<S: Suite, R: Read + Drop, C: Callbacks>(
     alloc: Global,
     holder: &mut Holder<S, R, C>,
-) -> bool {
-    let Holder::File(identity) = holder else {
-        return false;
-    };
-    matches!(
-        identity.recipients(alloc),
-        Err(EncryptError::EncryptedIdentities(DecryptError::KeyDecryptionFailed))
-    )
+) -> bool
+    ensures { IsLocked holder.old result }
+{
+    match holder {
+        Holder::Key(_) => false,
+        Holder::Passphrase(_) => false,
+        Holder::File(identity) => match identity.recipients(alloc) {
+            Ok(_) => false,
+            Err(refused) => is_wrong_passphrase(&refused),
+        },
+    }
 }
 
 // Whether one of them is such a file.
 fn has_locked<S: Suite, R: Read + Drop, C: Callbacks>(
     alloc: Global,
     holders: &mut [Holder<S, R, C>],
-) -> bool {
-    for i in 0..holders.len() {
-        if is_locked(alloc, &mut holders[i]) {
+) -> bool
+    ensures { HasLocked holders.old result }
+{
+    for holder in holders.iter_mut() {
+        if is_locked(alloc, holder) {
             return true;
         }
     }
     false
+}
+
+// Whether a file wasn't opened since nobody has a key.
+fn is_for_nobody(error: &FileError) -> bool
+    ensures { result ≡ is_for_nobody error.now }
+{
+    matches!(error, FileError::Decrypt(DecryptError::NoMatchingKeys))
 }
 
 // Why nothing was decrypted: where nobody has a key, and a file of identities isn't opened by its passphrase, that is told.
@@ -128,18 +149,15 @@ fn with_locked<S: Suite, R: Read + Drop, C: Callbacks>(
     holders: &mut [Holder<S, R, C>],
     error: FileError,
 ) -> FileError
-    ensures { (result ≡ error) ⊎ ((error ≡ Decrypt NoMatchingKeys) × (result ≡ Decrypt KeyDecryptionFailed)) }
+    ensures { NamesKeys holders.old error result }
 {
-    match error {
-        FileError::Decrypt(DecryptError::NoMatchingKeys) => {
-            if has_locked(alloc, holders) {
-                FileError::Decrypt(DecryptError::KeyDecryptionFailed)
-            } else {
-                FileError::Decrypt(DecryptError::NoMatchingKeys)
-            }
-        }
-        error => error,
+    if !is_for_nobody(&error) {
+        return error;
     }
+    if has_locked(alloc, holders) {
+        return FileError::Decrypt(DecryptError::KeyDecryptionFailed);
+    }
+    error
 }
 
 /// Decrypts a whole file, as `decrypt` does, by the first of those who decrypt with what is given that answers.
@@ -330,11 +348,11 @@ fn command_with_locked<S: Suite, R: Read + Drop, C: Callbacks>(
     holders: &mut [Holder<S, R, C>],
     error: CommandError,
 ) -> CommandError
-    ensures { (result ≡ error) ⊎ ((error ≡ File (Decrypt NoMatchingKeys)) × (result ≡ File (Decrypt KeyDecryptionFailed))) }
+    ensures { NamesCommand holders.old error result }
 {
     match error {
+        CommandError::Random(error) => CommandError::Random(error),
         CommandError::File(error) => CommandError::File(with_locked(alloc, holders, error)),
-        error => error,
     }
 }
 

@@ -118,7 +118,8 @@ fn inspect_text<T: Read>(alloc: Global, text: &mut Placed<T>) -> Result<Inspecti
 ///
 /// - `Header`: what the text carries doesn't begin as a file does, as `HeaderV1::read` refuses it, and how many bytes were read then: the last
 ///   of them is the first that no header has there. Where the input broke off it is `Io`.
-/// - `Rest`: the header is good, and the input refused after so many bytes, with a fault of its armor, its device or its length.
+/// - `Rest`: the header is good, and the input refused after so many bytes, with a fault of its armor, its device or its length. It is `TooLong`
+///   where 2^64 bytes or more follow the header, and `OutOfMemory` where memory for reading them was refused.
 /// - `OutOfMemory`: memory for reading armor was refused. Nothing was read.
 pub fn inspect<R: Read + Drop>(alloc: Global, reader: R) -> Result<Inspection, InspectionError>
     ensures { Inspects ⟦<R as Read>⟧ ⟦<ArmoredReader<BufReader<R>> as Read>⟧ reader result }

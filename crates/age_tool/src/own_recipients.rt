@@ -167,7 +167,7 @@ pub fn write_recipients_of<'a, S: Suite, W: Write>(
     ensures { WithGiven (λ e. RefusesIdentities ⟦<ArmoredReader<BufReader<Bytes<'a>>> as Read>⟧ S bytes.now e) (writer.new ≡ writer.old)
         (λ (keys : List (List ℕ)). AreOfIdentities S.public_of bytes.now keys)
         (λ keys done. WritesText ⟦<W as Write>⟧ (recipients_text keys) writer.old writer.new done)
-        Answers result }
+        (λ _ done told. Answers done told) result }
 {
     match recipients_of_identities::<S>(alloc, bytes) {
         Err(error) => Err(GivenError::Given(error)),

@@ -1,10 +1,11 @@
 //! What is looked at before a command reads anything.
 
-use crate::failure::{Failure, refused_by};
+use crate::failure::{Failure, refused_by, told};
 use crate::output::where_to;
 use sazh_command::{Command, Identities, Output, Recipient, Recipients};
 use std::alloc::AllocError;
 use std::fs;
+use std::io::IsTerminal;
 use std::os::unix::fs::MetadataExt;
 
 // Standard input, by its names.
@@ -79,12 +80,19 @@ impl Streams {
         Ok(())
     }
 
+    // Adds the word of a recipient, where it is the name of a file.
+    fn add_recipient(&mut self, rt: &HostRuntime, word: &Recipient) -> Result<(), AllocError> {
+        match word {
+            Recipient::Text(_) => Ok(()),
+            Recipient::File(name) => self.add(rt, "-R", name),
+            Recipient::IdentityFile(name) => self.add(rt, "-i", name),
+        }
+    }
+
     // Adds files of recipients.
     fn add_listed(&mut self, rt: &HostRuntime, words: &[Recipient]) -> Result<(), AllocError> {
         for word in words {
-            if let Recipient::File(name) = word {
-                self.add(rt, "-R", name)?;
-            }
+            self.add_recipient(rt, word)?;
         }
         Ok(())
     }
@@ -121,6 +129,7 @@ impl Streams {
     fn add_all(&mut self, rt: &HostRuntime, command: &Command) -> Result<(), AllocError> {
         match command {
             Command::Help(_) | Command::Version(_) | Command::Keygen { .. } => Ok(()),
+            Command::RecipientsOf { input, .. } => self.add(rt, "IN", input),
             Command::Encrypt {
                 recipients,
                 input,
@@ -129,32 +138,30 @@ impl Streams {
                 self.add_recipients(rt, recipients)?;
                 self.add(rt, "IN", input)
             }
-            Command::Decrypt {
+            Command::Decrypt { opening, input, .. }
+            | Command::Part { opening, input, .. }
+            | Command::Migrate { opening, input, .. }
+            | Command::Verify { opening, input, .. } => {
+                self.add_identities(rt, &opening.identities)?;
+                self.add(rt, "IN", input)
+            }
+            Command::Inspect {
                 identities,
                 input,
                 ..
-            }
-            | Command::Part {
-                identities,
-                input,
-                ..
-            }
-            | Command::Migrate {
-                identities,
-                input,
-                ..
-            }
-            | Command::Verify { identities, input } => {
-                self.add_identities(rt, identities)?;
+            } => {
+                if let Some(identities) = identities {
+                    self.add_identities(rt, identities)?;
+                }
                 self.add(rt, "IN", input)
             }
             Command::Rekey {
-                identities,
+                opening,
                 recipients,
                 input,
                 ..
             } => {
-                self.add_identities(rt, identities)?;
+                self.add_identities(rt, &opening.identities)?;
                 self.add_listed(rt, recipients)?;
                 self.add(rt, "IN", input)
             }
@@ -175,9 +182,13 @@ pub fn clash_of(rt: &HostRuntime, command: &Command) -> Result<Option<Clash>, Al
 // Where a command writes, if it has words for that.
 fn output(command: &Command) -> Option<&Output> {
     match command {
-        Command::Help(_) | Command::Version(_) | Command::Part { .. } | Command::Verify { .. } =>
-            None,
-        Command::Keygen { output }
+        Command::Help(_)
+        | Command::Version(_)
+        | Command::Part { .. }
+        | Command::Verify { .. }
+        | Command::Inspect { .. } => None,
+        Command::Keygen { output, .. }
+        | Command::RecipientsOf { output, .. }
         | Command::Encrypt { output, .. }
         | Command::Decrypt { output, .. }
         | Command::Migrate { output, .. }
@@ -188,14 +199,52 @@ fn output(command: &Command) -> Option<&Output> {
 // The identities that a command has words for.
 fn identities(command: &Command) -> Option<&Identities> {
     match command {
-        Command::Help(_) | Command::Version(_) | Command::Keygen { .. } | Command::Encrypt { .. } =>
-            None,
-        Command::Decrypt { identities, .. }
-        | Command::Part { identities, .. }
-        | Command::Migrate { identities, .. }
-        | Command::Rekey { identities, .. }
-        | Command::Verify { identities, .. } => Some(identities),
+        Command::Help(_)
+        | Command::Version(_)
+        | Command::Keygen { .. }
+        | Command::RecipientsOf { .. }
+        | Command::Encrypt { .. } => None,
+        Command::Decrypt { opening, .. }
+        | Command::Part { opening, .. }
+        | Command::Migrate { opening, .. }
+        | Command::Rekey { opening, .. }
+        | Command::Verify { opening, .. } => Some(&opening.identities),
+        Command::Inspect { identities, .. } => match identities {
+            Some(identities) => Some(identities),
+            None => None,
+        },
     }
+}
+
+// Where a command writes what is no text, and what the words may be that write it as text.
+fn binary_output(command: &Command) -> Option<(&Output, &'static str)> {
+    match command {
+        Command::Encrypt {
+            armored: false,
+            output,
+            ..
+        }
+        | Command::Rekey {
+            armored: false,
+            output,
+            ..
+        } => Some((output, "-a writes text, ")),
+        Command::Migrate { output, .. } => Some((output, "")),
+        _ => None,
+    }
+}
+
+// Refuses to write what is no text to a terminal where no word asks for that.
+fn terminal_looked(rt: &HostRuntime, command: &Command) -> Result<(), Failure> {
+    let Some((output, as_text)) = binary_output(command) else {
+        return Ok(());
+    };
+    if output.name.is_some() || !rt.stdout().is_terminal() {
+        return Ok(());
+    }
+    Err(told(format!(in rt.alloc();
+        "standard output is a terminal, and this is no text: {as_text}-o FILE writes a file, and -o - writes it there all the same"
+    )))
 }
 
 // Refuses a file of the passphrase of identities that isn't there, also where no file of identities needs it.
@@ -212,8 +261,10 @@ fn passphrase_looked(rt: &HostRuntime, command: &Command) -> Result<(), Failure>
     }
 }
 
-/// Refuses an output to which nothing can be written, and a file of a passphrase that isn't there, before anything is read.
+/// Refuses an output to which nothing can be written, a terminal for what is no text, and a file of a passphrase that isn't there, before
+/// anything is read.
 pub fn looked(rt: &HostRuntime, command: &Command) -> Result<(), Failure> {
+    terminal_looked(rt, command)?;
     if let Some(output) = output(command) {
         where_to(rt, output)?;
     }

@@ -2,11 +2,10 @@
 
 use crate::explain::{explained_again, with_asked};
 use crate::failure::{Failure, named};
-use crate::files::text_in;
+use crate::files::{is_regular, text_in};
 use age::DecryptError;
 use age::format::{HeaderV1, OldHeader};
 use sazh_command::Identities;
-use std::fs;
 
 // Whether the file of this name has no header of the standard.
 fn has_invalid_header(rt: &HostRuntime, name: &str) -> bool {
@@ -27,22 +26,14 @@ fn has_old_header(rt: &HostRuntime, name: &str) -> bool {
     }
 }
 
-// Whether this is the name of a regular file, which can be read again.
-fn is_regular(rt: &HostRuntime, name: &str) -> bool {
-    match fs::metadata(rt, name) {
-        Ok(found) => found.is_file(),
-        Err(_) => false,
-    }
-}
-
 // Whether the file of this name can be read again, and has a header of the early form that isn't one of the standard. That is asked
 // last, since a header that is of neither form is then read once more and not twice.
 fn is_early(rt: &HostRuntime, name: &str) -> bool {
     is_regular(rt, name) && has_old_header(rt, name) && has_invalid_header(rt, name)
 }
 
-// The name of an input as it is told.
-fn shown_name(input: &str) -> &str {
+/// The name of an input as it is told.
+pub fn shown_name(input: &str) -> &str {
     if input == "-" {
         "standard input"
     } else {

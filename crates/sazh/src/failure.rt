@@ -25,8 +25,31 @@ pub enum Failure {
     Part(FileError),
     /// The same of a file whose content goes nowhere as it is.
     Whole(FileError),
+    /// The input is no whole file, for this reason.
+    Damaged(Fault),
+    /// The input wasn't read, for the reason that the system gave.
+    Unread,
     /// As this text says.
     Said(String),
+}
+
+/// What is wrong with a file that has a header.
+#[derive(Clone, Copy)]
+pub enum Fault {
+    /// A stanza of a passphrase is one of several.
+    PassphraseAmongOthers,
+    /// So many bytes as follow the header follow none.
+    Length,
+}
+
+impl fmt::Display for Fault {
+    fn fmt<W: fmt::Write>(&self, f: &mut fmt::Formatter<W>) -> fmt::Result {
+        f.write_str(match self {
+            Fault::PassphraseAmongOthers =>
+                "invalid header: a passphrase's stanza isn't the only one",
+            Fault::Length => "damaged: no file has so many bytes behind its header",
+        })
+    }
 }
 
 impl Failure {
@@ -131,6 +154,8 @@ impl fmt::Display for Failure {
             Failure::File(error) | Failure::Part(error) | Failure::Whole(error) => {
                 write!(f, "{error}")
             }
+            Failure::Damaged(why) => write!(f, "{why}"),
+            Failure::Unread => f.write_str("the input isn't read"),
             Failure::Said(text) => f.write_str(text),
         }
     }

@@ -9,6 +9,7 @@ use age_tool::error::RandomError;
 use sazh_command::told_place;
 use std::fs;
 use std::fs::File;
+use std::os::unix::fs::FileTypeExt;
 use std::random::RandomSource;
 
 // Standard input by a name.
@@ -78,6 +79,22 @@ pub fn read(rt: &HostRuntime, name: &str) -> Result<Vec<u8>, Failure> {
     }
 }
 
+/// Whether this is the name of a regular file, which can be read again.
+pub fn is_regular(rt: &HostRuntime, name: &str) -> bool {
+    match fs::metadata(rt, name) {
+        Ok(found) => found.is_file(),
+        Err(_) => false,
+    }
+}
+
+/// Whether this is the name of what can be read again from its front: a regular file or a block device.
+pub fn is_seekable(rt: &HostRuntime, name: &str) -> bool {
+    match fs::metadata(rt, name) {
+        Ok(found) => found.is_file() || found.file_type().is_block_device(),
+        Err(_) => false,
+    }
+}
+
 // The place at which standard input stands, where the system tells it.
 fn input_place(rt: &HostRuntime) -> Option<u64> {
     let Ok(text) = read(rt, INPUT_TOLD) else {
@@ -107,6 +124,20 @@ pub fn open_input(rt: &HostRuntime) -> Option<Std<File>> {
         Ok(_) => Some(file),
         Err(_) => None,
     }
+}
+
+/// How many bytes there are from where an input of this name is read, where it is a regular file.
+pub fn whole(rt: &HostRuntime, name: &str) -> Option<u64> {
+    let Ok(found) = fs::metadata(rt, if name == "-" { INPUT } else { name }) else {
+        return None;
+    };
+    if !found.is_file() {
+        return None;
+    }
+    if name != "-" {
+        return Some(found.len());
+    }
+    Some(found.len().saturating_sub(input_place(rt)?))
 }
 
 /// A random number.

@@ -1,11 +1,14 @@
 //! What is done from an input to an output.
 
 use crate::explain::{explained, of_part, of_whole};
-use crate::failure::{Failure, done, refused_by, said};
-use crate::files::open_file;
+use crate::failure::{Failure, done, named, refused_by, said};
+use crate::files::{open_file, whole};
+use crate::front::Fronted;
+use crate::keys::bad_identities;
 use crate::output::{
-    NewFile, Place, create, finish, give_up, open_stream, replace, tell_links, where_to,
+    NewFile, Place, create, finish, give_up, name_of, open_stream, replace, tell_links, where_to,
 };
+use crate::progress::{Metered, Progress};
 use crate::random::System;
 use crate::watch::{Seen, Watched};
 use age::armor::Format;
@@ -20,12 +23,14 @@ use age_tool::given::{
 use age_tool::keygen::write_new_key;
 use age_tool::keyring::Keyring;
 use age_tool::measuring::Measured;
+use age_tool::own_recipients::write_recipients_of;
 use age_tool::words::Word;
 use sazh_command::Output;
 use std::alloc::AllocError;
 use std::fmt::Write as _;
 use std::fs::File;
 use std::io;
+use std::io::IsTerminal;
 
 /// To whom is encrypted.
 #[derive(Drop)]
@@ -45,6 +50,19 @@ pub trait Job: Drop {
         reader: &mut R,
         writer: &mut W,
     ) -> Result<(), Failure>;
+
+    /// How many bytes the header of its input may have, where that is a file which is to be opened.
+    fn header_limit(&self) -> Option<u64> {
+        None
+    }
+
+    /// What its input begins with, where a header is looked at.
+    fn note_front(&mut self, _front: &[u8]) {}
+
+    /// How many bytes it writes at most, where that tells how far it is. Elsewhere the bytes that it has read do.
+    fn writes(&self) -> Option<u64> {
+        None
+    }
 }
 
 /// Encrypts the input, with the system's random bytes.
@@ -125,6 +143,7 @@ fn done_with(
 #[derive(Drop)]
 pub struct Decrypting {
     pub keyring: Keyring,
+    pub header_limit: u64,
 }
 
 impl Job for Decrypting {
@@ -139,12 +158,17 @@ impl Job for Decrypting {
             decrypt_by::<StandardSuite, R, W>(rt.alloc(), &self.keyring, reader, writer),
         )
     }
+
+    fn header_limit(&self) -> Option<u64> {
+        Some(self.header_limit)
+    }
 }
 
 /// Encrypts the content of the input to others, with the system's random bytes.
 #[derive(Drop)]
 pub struct Rekeying {
     pub keyring: Keyring,
+    pub header_limit: u64,
     pub words: Vec<Word>,
     pub format: Format,
 }
@@ -172,12 +196,17 @@ impl Job for Rekeying {
             Err(error) => Err(said(rt, &error)),
         }
     }
+
+    fn header_limit(&self) -> Option<u64> {
+        Some(self.header_limit)
+    }
 }
 
 /// Tells the length and the digest of the input's content.
 #[derive(Drop)]
 pub struct Verifying {
     pub keyring: Keyring,
+    pub header_limit: u64,
 }
 
 // The lines that tell what was measured.
@@ -208,12 +237,17 @@ impl Job for Verifying {
             Err(error) => Err(said(rt, &error)),
         }
     }
+
+    fn header_limit(&self) -> Option<u64> {
+        Some(self.header_limit)
+    }
 }
 
 /// Rewrites the input with a header of the standard.
 #[derive(Drop)]
 pub struct Migrating {
     pub keyring: Keyring,
+    pub header_limit: u64,
 }
 
 impl Job for Migrating {
@@ -228,17 +262,24 @@ impl Job for Migrating {
             migrate_by::<StandardSuite, &mut R, W>(rt.alloc(), &self.keyring, reader, writer),
         )
     }
+
+    fn header_limit(&self) -> Option<u64> {
+        Some(self.header_limit)
+    }
 }
 
-/// Decrypts a part of standard input, which is read into memory first.
+/// Decrypts a part of the input, which is read into memory first.
 #[derive(Drop)]
-pub struct ReadingPart {
+pub struct ReadingPart<'a> {
     pub keyring: Keyring,
+    pub header_limit: u64,
     pub place: u64,
     pub count: u64,
+    /// The input, as it is told.
+    pub name: &'a str,
 }
 
-impl Job for ReadingPart {
+impl<'a> Job for ReadingPart<'a> {
     fn run<R: Read, W: Write>(
         self,
         rt: &HostRuntime,
@@ -249,6 +290,8 @@ impl Job for ReadingPart {
             keyring,
             place,
             count,
+            name,
+            ..
         } = self;
         let answer = decrypt_part_by::<StandardSuite, R, W>(
             rt.alloc(),
@@ -259,11 +302,13 @@ impl Job for ReadingPart {
             writer,
         );
         match done_with(rt, answer) {
-            Err(Failure::File(FileError::Io(error))) => {
-                Err(of_part(rt, "standard input", place, error))
-            }
+            Err(Failure::File(FileError::Io(error))) => { Err(of_part(rt, name, place, error)) }
             other => other,
         }
+    }
+
+    fn header_limit(&self) -> Option<u64> {
+        Some(self.header_limit)
     }
 }
 
@@ -305,6 +350,32 @@ impl<'a> Job for SeekingPart<'a> {
             other => other,
         }
     }
+
+    fn writes(&self) -> Option<u64> {
+        Some(self.count)
+    }
+}
+
+/// Writes the recipients of the identities in the file of this name, which has these bytes. No input is read.
+#[derive(Clone, Copy)]
+pub struct Publishing<'a> {
+    pub name: &'a str,
+    pub bytes: &'a [u8],
+}
+
+impl<'a> Job for Publishing<'a> {
+    fn run<R: Read, W: Write>(
+        self,
+        rt: &HostRuntime,
+        _reader: &mut R,
+        writer: &mut W,
+    ) -> Result<(), Failure> {
+        match write_recipients_of::<StandardSuite, W>(rt.alloc(), self.bytes, writer) {
+            Ok(()) => Ok(()),
+            Err(GivenError::Given(error)) => Err(bad_identities(rt, self.name, self.bytes, error)),
+            Err(GivenError::Command(error)) => Err(said(rt, &error)),
+        }
+    }
 }
 
 // Why something that was done between these was refused: as the system said, where it did. The names are those of the input and the
@@ -330,28 +401,106 @@ fn reason(
     match failure {
         Failure::File(error) => explained(rt, input, &read, written.count, error),
         Failure::Whole(error) => of_whole(rt, input, &read, error),
+        Failure::Damaged(why) => named(rt, input, &why),
         failure => failure,
     }
 }
 
-// Does it from a reader to a writer of std.
+// Where it is read from: a reader of std, its name, and how many bytes it has where that is known.
+#[derive(Drop)]
+struct Source<'a, R> {
+    reader: R,
+    name: &'a str,
+    whole: Option<u64>,
+}
+
+// What came of it: the reader and the writer, what was seen of them, and how it ended.
+#[derive(Drop)]
+struct Outcome<R, W> {
+    reader: R,
+    read: Seen,
+    writer: W,
+    written: Seen,
+    answer: Result<(), Failure>,
+}
+
+// Does it, where the reader is that of what has this name, once a header was looked at.
+fn run_watched<J: Job, R: io::Read + Drop, W: io::Write + Drop>(
+    rt: &HostRuntime,
+    job: J,
+    name: &str,
+    reader: R,
+    writer: W,
+) -> Outcome<R, W> {
+    let mut job = job;
+    let mut front = Fronted::new(rt, Watched::new(reader));
+    let looked = match job.header_limit() {
+        Some(limit) => front.look(rt, name, limit),
+        None => Ok(()),
+    };
+    job.note_front(front.front());
+    let mut reader = Std::new(front);
+    let mut writer = Std::new(Watched::new(writer));
+    let answer = match looked {
+        Ok(()) => job.run(rt, &mut reader, &mut writer),
+        Err(failure) => Err(failure),
+    };
+    let (reader, read) = reader.into_inner().into_inner().into_parts();
+    let (writer, written) = writer.into_inner().into_parts();
+    Outcome {
+        reader,
+        read,
+        writer,
+        written,
+        answer,
+    }
+}
+
+// What tells how far it is, of what is read and of what is written, where there are so many bytes to read.
+fn meters<'a, J: Job>(
+    rt: &'a HostRuntime,
+    job: &J,
+    whole: Option<u64>,
+    is_told: bool,
+) -> (Progress<'a>, Progress<'a>) {
+    if !is_told {
+        return (Progress::untold(rt), Progress::untold(rt));
+    }
+    match job.writes() {
+        Some(count) => (Progress::untold(rt), Progress::begun(rt, Some(count))),
+        None => (Progress::begun(rt, whole), Progress::untold(rt)),
+    }
+}
+
+// Does it from a reader to a writer of std, and tells how far it is. What it gives is what was seen of the writer.
 fn run_between<J: Job, R: io::Read + Drop, W: io::Write + Drop>(
     rt: &HostRuntime,
     job: J,
-    from: R,
-    input: &str,
+    from: Source<'_, R>,
     to: W,
     output: Option<&str>,
-) -> Result<(), Failure> {
-    let mut reader = Std::new(Watched::new(from));
-    let mut writer = Std::new(Watched::new(to));
-    match job.run(rt, &mut reader, &mut writer) {
-        Ok(()) => Ok(()),
-        Err(failure) => {
-            let (_, read) = reader.into_inner().into_parts();
-            let (_, written) = writer.into_inner().into_parts();
-            Err(reason(rt, failure, read, input, written, output))
-        }
+    is_told: bool,
+) -> Result<Seen, Failure> {
+    let Source {
+        reader,
+        name,
+        whole,
+    } = from;
+    let (reading, writing) = meters(rt, &job, whole, is_told);
+    let reader = Metered::new(reader, reading);
+    let writer = Metered::new(to, writing);
+    let Outcome {
+        reader,
+        read,
+        writer,
+        written,
+        answer,
+    } = run_watched(rt, job, name, reader, writer);
+    reader.end();
+    writer.end();
+    match answer {
+        Ok(()) => Ok(written),
+        Err(failure) => Err(reason(rt, failure, read, name, written, output)),
     }
 }
 
@@ -362,11 +511,23 @@ fn run_from<J: Job, W: io::Write + Drop>(
     input: &str,
     to: W,
     output: Option<&str>,
-) -> Result<(), Failure> {
+    is_told: bool,
+) -> Result<Seen, Failure> {
+    let whole = whole(rt, input);
     if input == "-" {
-        run_between(rt, job, rt.reader(), "standard input", to, output)
+        let from = Source {
+            reader: rt.reader(),
+            name: "standard input",
+            whole,
+        };
+        run_between(rt, job, from, to, output, is_told)
     } else {
-        run_between(rt, job, open_file(rt, input)?, input, to, output)
+        let from = Source {
+            reader: open_file(rt, input)?,
+            name: input,
+            whole,
+        };
+        run_between(rt, job, from, to, output, is_told)
     }
 }
 
@@ -377,9 +538,13 @@ fn run_to_file<J: Job>(
     input: &str,
     name: &str,
     new: NewFile,
-) -> Result<(), Failure> {
-    match run_from(rt, job, input, new.file(), Some(name)) {
-        Ok(()) => finish(rt, new, name),
+    is_told: bool,
+) -> Result<Seen, Failure> {
+    match run_from(rt, job, input, new.file(), Some(name), is_told) {
+        Ok(seen) => {
+            finish(rt, new, name)?;
+            Ok(seen)
+        }
         Err(failure) => {
             give_up(rt, new);
             Err(failure)
@@ -387,29 +552,74 @@ fn run_to_file<J: Job>(
     }
 }
 
-/// Does it from the input of this name to standard output.
-pub fn run_to_output<J: Job>(rt: &HostRuntime, job: J, input: &str) -> Result<(), Failure> {
-    run_from(rt, job, input, io::writer(rt), None)
+// Does it from the input of this name to standard output. How far it is isn't told among what a terminal shows of that.
+fn run_to_standard<J: Job>(
+    rt: &HostRuntime,
+    job: J,
+    input: &str,
+    is_told: bool,
+) -> Result<Seen, Failure> {
+    let is_told = is_told && !rt.stdout().is_terminal();
+    run_from(rt, job, input, io::writer(rt), None, is_told)
 }
 
-/// Does it from the input of this name to an output: to standard output, to what is there and is no regular file, or to a new file, which
-/// has its name once it is whole. A file that is replaced keeps its mode and its owner.
+// That it is done, whatever was seen.
+fn ended(answer: Result<Seen, Failure>) -> Result<(), Failure> {
+    match answer {
+        Ok(_) => Ok(()),
+        Err(failure) => Err(failure),
+    }
+}
+
+/// Does it from the input of this name to standard output, and tells how far it is where `is_told`.
+pub fn run_to_output<J: Job>(
+    rt: &HostRuntime,
+    job: J,
+    input: &str,
+    is_told: bool,
+) -> Result<(), Failure> {
+    ended(run_to_standard(rt, job, input, is_told))
+}
+
+/// The same as `run_job`. What it gives is what was seen of the output.
+pub fn run_seen<J: Job>(
+    rt: &HostRuntime,
+    job: J,
+    input: &str,
+    output: &Output,
+    mode: u32,
+    is_told: bool,
+) -> Result<Seen, Failure> {
+    let name = name_of(output);
+    let skip_sync = output.skip_sync;
+    match where_to(rt, output)? {
+        Place::Standard => run_to_standard(rt, job, input, is_told),
+        Place::Stream => {
+            let file = open_stream(rt, name)?;
+            run_from(rt, job, input, file, Some(name), is_told)
+        }
+        Place::Free => {
+            let new = create(rt, name, mode, skip_sync)?;
+            run_to_file(rt, job, input, name, new, is_told)
+        }
+        Place::Taken(target, old) => {
+            let new = replace(rt, name, target, &old, skip_sync)?;
+            let seen = run_to_file(rt, job, input, name, new, is_told)?;
+            tell_links(rt, name, &old);
+            Ok(seen)
+        }
+    }
+}
+
+/// Does it from the input of this name to an output, and tells how far it is where `is_told`: to standard output, to what is there and is no
+/// regular file, or to a new file, which has its name once it is whole. A file that is replaced keeps its mode and its owner.
 pub fn run_job<J: Job>(
     rt: &HostRuntime,
     job: J,
     input: &str,
     output: &Output,
     mode: u32,
+    is_told: bool,
 ) -> Result<(), Failure> {
-    let name = output.name.as_str();
-    match where_to(rt, output)? {
-        Place::Standard => run_to_output(rt, job, input),
-        Place::Stream => run_from(rt, job, input, open_stream(rt, name)?, Some(name)),
-        Place::Free => run_to_file(rt, job, input, name, create(rt, name, mode)?),
-        Place::Taken(target, old) => {
-            run_to_file(rt, job, input, name, replace(rt, name, target, &old)?)?;
-            tell_links(rt, name, &old);
-            Ok(())
-        }
-    }
+    ended(run_seen(rt, job, input, output, mode, is_told))
 }

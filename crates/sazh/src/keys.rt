@@ -4,7 +4,7 @@ use crate::failure::{Failure, done_with, named, said, tell};
 use crate::files::{copied, read};
 use crate::lines::{Wanted, bad_line, bad_plugin, bad_word};
 use age_standard::StandardSuite;
-use age_tool::error::{KeyringError, RecipientsError, WordsError};
+use age_tool::error::{IdentitiesError, KeyringError, RecipientsError, WordsError};
 use age_tool::holder::Holder;
 use age_tool::keyring::{Held, KeyFile, Keyring, holders_of};
 use age_tool::passphrase::passphrase_of;
@@ -23,6 +23,7 @@ fn word_of(rt: &HostRuntime, word: &Recipient) -> Result<Word, Failure> {
     match word {
         Recipient::Text(text) => Ok(Word::Text(copied(rt, text)?)),
         Recipient::File(name) => Ok(Word::File(read(rt, name)?)),
+        Recipient::IdentityFile(name) => Ok(Word::Identities(read(rt, name)?)),
     }
 }
 
@@ -45,6 +46,16 @@ fn bad_file(rt: &HostRuntime, name: &str, bytes: &[u8], why: RecipientsError) ->
     }
 }
 
+/// That the recipients of the file of identities of this name, which has these bytes, can't be told.
+pub fn bad_identities(rt: &HostRuntime, name: &str, bytes: &[u8], why: IdentitiesError) -> Failure {
+    match why {
+        IdentitiesError::OutOfMemory => Failure::OutOfMemory,
+        IdentitiesError::NotIdentity { line } => bad_line(rt, name, bytes, line, Wanted::Identity),
+        IdentitiesError::Plugin => bad_plugin(rt, name, bytes),
+        why => named(rt, name, &why),
+    }
+}
+
 // That one of these words was refused.
 fn bad_words(rt: &HostRuntime, asked: &[Recipient], words: &[Word], error: WordsError) -> Failure {
     match error {
@@ -57,6 +68,12 @@ fn bad_words(rt: &HostRuntime, asked: &[Recipient], words: &[Word], error: Words
             (Some(Recipient::File(name)), Some(Word::File(bytes))) => bad_file(
                 rt, name, bytes, why,
             ),
+            _ => said(rt, &why),
+        },
+        WordsError::Identities { word, why } => match (asked.get(word), words.get(word)) {
+            (Some(Recipient::IdentityFile(name)), Some(Word::Identities(bytes))) => {
+                bad_identities(rt, name, bytes, why)
+            }
             _ => said(rt, &why),
         },
     }

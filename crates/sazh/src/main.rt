@@ -7,10 +7,14 @@ mod early;
 mod explain;
 mod failure;
 mod files;
+mod front;
+mod inspection;
 mod jobs;
 mod keys;
 mod lines;
+mod new_key;
 mod output;
+mod progress;
 mod random;
 mod watch;
 

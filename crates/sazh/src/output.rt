@@ -37,7 +37,16 @@ pub struct NewFile {
     temporary: String,
     target: String,
     is_replacing: bool,
+    skip_sync: bool,
     mode: u32,
+}
+
+/// The name of an output: standard output's where none is given.
+pub fn name_of(output: &Output) -> &str {
+    match &output.name {
+        Some(name) => name.as_str(),
+        None => "-",
+    }
 }
 
 // That there is something of this name already.
@@ -45,14 +54,14 @@ fn exists(rt: &HostRuntime, name: &str) -> Failure {
     named(rt, name, &"there is such a file already: -f writes over it")
 }
 
-// Whether this is a name of standard output.
-fn is_standard(name: &str) -> bool {
+/// Whether this is a name of standard output.
+pub fn is_standard(name: &str) -> bool {
     name == "-" || OUTPUT.contains(&name)
 }
 
 // The place of a file that is there. It may have the name of a link, and its own name is where that leads.
 fn taken(rt: &HostRuntime, output: &Output, found: Metadata) -> Result<Place, Failure> {
-    let name = output.name.as_str();
+    let name = name_of(output);
     if !output.overwrite {
         return Err(exists(rt, name));
     }
@@ -65,7 +74,7 @@ fn taken(rt: &HostRuntime, output: &Output, found: Metadata) -> Result<Place, Fa
 // The place of what the system tells this of.
 fn place_of(rt: &HostRuntime, output: &Output, found: Metadata) -> Result<Place, Failure> {
     if found.is_dir() {
-        return Err(named(rt, &output.name, &"it is a folder"));
+        return Err(named(rt, name_of(output), &"it is a folder"));
     }
     if found.is_file() {
         return taken(rt, output, found);
@@ -83,7 +92,7 @@ fn free(rt: &HostRuntime, name: &str) -> Result<Place, Failure> {
 
 /// What an output's name stands for. It refuses a folder, a file that is there and may not be replaced, and a link that leads nowhere.
 pub fn where_to(rt: &HostRuntime, output: &Output) -> Result<Place, Failure> {
-    let name = output.name.as_str();
+    let name = name_of(output);
     if is_standard(name) {
         return Ok(Place::Standard);
     }
@@ -147,7 +156,12 @@ fn not_made(rt: &HostRuntime, name: &str, is_there: bool, error: io::Error) -> F
 }
 
 /// Begins a file that will have a free name and this mode, less the user's mask.
-pub fn create(rt: &HostRuntime, name: &str, mode: u32) -> Result<NewFile, Failure> {
+pub fn create(
+    rt: &HostRuntime,
+    name: &str,
+    mode: u32,
+    skip_sync: bool,
+) -> Result<NewFile, Failure> {
     let temporary = temporary_name(rt, name)?;
     match make(rt, &temporary, mode) {
         Err(error) => Err(not_made(rt, name, false, error)),
@@ -163,6 +177,7 @@ pub fn create(rt: &HostRuntime, name: &str, mode: u32) -> Result<NewFile, Failur
                 temporary,
                 target: String::from_str(rt.alloc(), name)?,
                 is_replacing: false,
+                skip_sync,
                 mode,
             })
         }
@@ -201,6 +216,7 @@ pub fn replace(
     name: &str,
     target: String,
     old: &Metadata,
+    skip_sync: bool,
 ) -> Result<NewFile, Failure> {
     let temporary = temporary_name(rt, &target)?;
     let file = match make(rt, &temporary, FOR_ITS_OWNER) {
@@ -216,6 +232,7 @@ pub fn replace(
         temporary,
         target,
         is_replacing: true,
+        skip_sync,
         mode: old.mode() & PERMISSIONS,
     })
 }
@@ -260,9 +277,11 @@ fn set_mode(file: &File, mode: u32) -> io::Result<()> {
     file.set_permissions(Permissions::from_mode(mode))
 }
 
-// Gives a whole file its mode and its name.
+// Gives a whole file its mode and its name, once its bytes are on the disk, unless that isn't waited for.
 fn finished(rt: &HostRuntime, new: &NewFile) -> io::Result<()> {
-    new.file.sync_all()?;
+    if !new.skip_sync {
+        new.file.sync_all()?;
+    }
     set_mode(&new.file, new.mode)?;
     if new.is_replacing {
         fs::rename(rt, new.temporary.as_str(), new.target.as_str())

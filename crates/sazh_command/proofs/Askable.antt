@@ -1,16 +1,17 @@
 -- What is asked for has a recipient or an identity, and numbers below 2^64.
-use Rattle.std.specs.Prelude.{ℕ, ◌<◌, ◌^◌, Bool, true, false, List, [], ◌∷◌, if◌then◌else◌, Option, Some, None, IfSome, Result, Ok, Err, IfOk, ◌||◌, ◌&&◌, ◌==◌, not, length, is_some}
+use Rattle.std.specs.Prelude.{ℕ, ◌<◌, ◌^◌, Bool, true, false, List, [], ◌∷◌, if◌then◌else◌, Option, Some, None, IfSome, Result, Ok, Err, IfOk, ◌||◌, ◌==◌, ◌++◌, map, not, length, is_some}
+use Rattle.std.proofs.Common.{arith}
 use Rattle.clap.specs.Walk.{Row}
 use Rattle.sazh_command.specs.declared.names.Operand.{Operand}
 use Rattle.sazh_command.specs.declared.names.Operand.TheVariants as operand
 use Rattle.sazh_command.specs.declared.names.CommandName.{CommandName}
 use Rattle.sazh_command.specs.declared.names.CommandName.TheVariants as name
-use Rattle.sazh_command.specs.Asked.{RecipientValue, Listed, UsageErrorValue, and_then}
+use Rattle.sazh_command.specs.Asked.{RecipientValue, IdentityFile, Listed, UsageErrorValue, DecryptingOption, and_then}
 use Rattle.sazh_command.specs.Decimal.{number_of}
 use Rattle.sazh_command.specs.Found.{GivenValue, given_of}
 use Rattle.sazh_command.specs.Names.{command_named}
-use Rattle.sazh_command.specs.Synopsis.{recipients_of, some_recipients, identities_of, input_of, no_operand, number_or_error, numbered, operands_range, range_of, says_to_whom, asked, unknown_or_asked, asked_alone, asked_named, asked_by, has_words}
-use Rattle.sazh_command.specs.Laws.{HasRecipient, HasIdentity, IsAskable}
+use Rattle.sazh_command.specs.Synopsis.{recipients_of, some_recipients, identities_of, input_of, no_operand, no_input, number_or_error, limit_of, opening_of, numbered, operands_range, range_of, says_to_whom, asked, unknown_or_asked, asked_alone, asked_named, asked_by, has_words}
+use Rattle.sazh_command.specs.Laws.{HasRecipient, HasIdentity, IsOpenable, IsAskable}
 use Rattle.sazh_command.proofs.Numbers.{number_of-small}
 
 -- P of what follows each value of which K holds
@@ -73,40 +74,54 @@ range_of-ok (Some place) (Some count) operands = always IsSmall _ (input_of oper
 range_of-ok None (Some count) operands = tt
 range_of-ok (Some place) None operands = tt
 
+limit_of-ok : (word : Option (List ℕ)) → IfOk (limit_of word) (λ n. n < 2 ^ 64)
+limit_of-ok None = omega arith
+limit_of-ok (Some word) = number_or_error-ok operand.HeaderLimit word (number_of word) (number_of-small word)
+
+opening_of-ok : (files : List (List ℕ)) (file limit : Option (List ℕ)) → IfOk (opening_of files file limit) IsOpenable
+opening_of-ok files file limit =
+    and_then-ok HasIdentity IsOpenable _ (identities_of files file) (identities_of-ok files file) (λ identities known.
+    and_then-ok (λ n. n < 2 ^ 64) IsOpenable _ (limit_of limit) (limit_of-ok limit) (λ bytes small. (known, small)))
+
 asked-ok : (command : CommandName) (given : GivenValue) → IfOk (asked command given) IsAskable
-asked-ok name.Keygen given = tt
+asked-ok name.Keygen given = either IsAskable given.publish _ _ tt (always IsAskable _ (no_input given.input) (λ none. tt))
 asked-ok name.Encrypt given =
-    and_then-ok HasRecipient IsAskable _ (recipients_of given.recipients given.passphrase_file)
-    (recipients_of-ok given.recipients given.passphrase_file) (λ recipients known. known)
+    let all = given.recipients ++ map IdentityFile given.identity_files in
+    and_then-ok HasRecipient IsAskable _ (recipients_of all given.passphrase_file) (recipients_of-ok all given.passphrase_file)
+    (λ recipients known. known)
 asked-ok name.Decrypt given =
-    and_then-ok HasIdentity IsAskable _ (identities_of given.identity_files given.passphrase_file)
-    (identities_of-ok given.identity_files given.passphrase_file) (λ identities known. known)
+    and_then-ok IsOpenable IsAskable _ (opening_of given.identity_files given.passphrase_file given.header_limit)
+    (opening_of-ok given.identity_files given.passphrase_file given.header_limit) (λ opening known. known)
 asked-ok name.Part given =
-    and_then-ok HasIdentity IsAskable _ (identities_of given.identity_files given.passphrase_file)
-    (identities_of-ok given.identity_files given.passphrase_file) (λ identities known.
+    and_then-ok IsOpenable IsAskable _ (opening_of given.identity_files given.passphrase_file given.header_limit)
+    (opening_of-ok given.identity_files given.passphrase_file given.header_limit) (λ opening known.
     and_then-ok IsSmall IsAskable _ (range_of given.place given.count given.operands) (range_of-ok given.place given.count given.operands)
     (λ range small. (known, small.0, small.1)))
 asked-ok name.Migrate given =
-    and_then-ok HasIdentity IsAskable _ (identities_of given.identity_files given.passphrase_file)
-    (identities_of-ok given.identity_files given.passphrase_file) (λ identities known. known)
+    and_then-ok IsOpenable IsAskable _ (opening_of given.identity_files given.passphrase_file given.header_limit)
+    (opening_of-ok given.identity_files given.passphrase_file given.header_limit) (λ opening known. known)
 asked-ok name.Rekey given =
-    and_then-ok HasIdentity IsAskable _ (identities_of given.identity_files given.passphrase_file)
-    (identities_of-ok given.identity_files given.passphrase_file) (λ identities known.
+    and_then-ok IsOpenable IsAskable _ (opening_of given.identity_files given.passphrase_file given.header_limit)
+    (opening_of-ok given.identity_files given.passphrase_file given.header_limit) (λ opening known.
     and_then-ok (λ all. HasRecipient (Listed all)) IsAskable _ (some_recipients given.recipients) (some_recipients-ok given.recipients)
     (λ recipients some. (known, some)))
 asked-ok name.Verify given =
-    and_then-ok HasIdentity IsAskable _ (identities_of given.identity_files given.passphrase_file)
-    (identities_of-ok given.identity_files given.passphrase_file) (λ identities known. known)
+    and_then-ok IsOpenable IsAskable _ (opening_of given.identity_files given.passphrase_file given.header_limit)
+    (opening_of-ok given.identity_files given.passphrase_file given.header_limit) (λ opening known. known)
+asked-ok name.Inspect given =
+    and_then-ok (λ n. n < 2 ^ 64) IsAskable _ (limit_of given.header_limit) (limit_of-ok given.header_limit) (λ bytes small. small)
 
 unknown_or_asked-ok : (input : Option (List ℕ)) (given : GivenValue) → IfOk (unknown_or_asked input given) IsAskable
 unknown_or_asked-ok None given = asked-ok name.Encrypt given
 unknown_or_asked-ok (Some word) given =
     either IsAskable (says_to_whom given) (asked name.Encrypt given) _ (asked-ok name.Encrypt given) tt
 
+not_asked-ok : (given : GivenValue) → IfOk (if not (length given.identity_files == 0) then Err DecryptingOption else unknown_or_asked given.input given) IsAskable
+not_asked-ok given = either IsAskable (not (length given.identity_files == 0)) _ (unknown_or_asked given.input given) tt (unknown_or_asked-ok given.input given)
+
 to_encrypt-ok : (encrypting : Bool) (given : GivenValue) → IfOk (asked_alone encrypting false given) IsAskable
-to_encrypt-ok true given = either IsAskable (not (length given.identity_files == 0)) _ (asked name.Encrypt given) tt (asked-ok name.Encrypt given)
-to_encrypt-ok false given =
-    either IsAskable (not (length given.identity_files == 0)) _ (unknown_or_asked given.input given) tt (unknown_or_asked-ok given.input given)
+to_encrypt-ok true given = either IsAskable (is_some given.header_limit) _ (asked name.Encrypt given) tt (asked-ok name.Encrypt given)
+to_encrypt-ok false given = either IsAskable (is_some given.header_limit) _ _ tt (not_asked-ok given)
 
 asked_alone-ok : (encrypting decrypting : Bool) (given : GivenValue) → IfOk (asked_alone encrypting decrypting given) IsAskable
 asked_alone-ok true true given = tt

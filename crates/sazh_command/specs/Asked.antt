@@ -1,5 +1,5 @@
 -- What a command line asks for, and what is wrong with one, apart from where the bytes of the words lie in memory.
-use Rattle.std.specs.Prelude.{◌≡◌, ℕ, Bool, List, map, string_bytes, Result, Ok, Err, ⊤}
+use Rattle.std.specs.Prelude.{◌≡◌, ℕ, Bool, List, map, string_bytes, Option, option_map, Result, Ok, Err, ⊤}
 use Rattle.sazh_command.specs.declared.names.Operand.{Operand}
 use Rattle.sazh_command.specs.declared.command.Recipient.{Recipient}
 use Rattle.sazh_command.specs.declared.command.Recipient.TheVariants as recipient
@@ -7,6 +7,7 @@ use Rattle.sazh_command.specs.declared.command.Recipients.{Recipients}
 use Rattle.sazh_command.specs.declared.command.Recipients.TheVariants as recipients
 use Rattle.sazh_command.specs.declared.command.Identities.{Identities}
 use Rattle.sazh_command.specs.declared.command.Identities.TheVariants as identities
+use Rattle.sazh_command.specs.declared.command.Opening.{Opening}
 use Rattle.sazh_command.specs.declared.command.Output.{Output}
 use Rattle.sazh_command.specs.declared.command.Command.{Command}
 use Rattle.sazh_command.specs.declared.command.Command.TheVariants as command
@@ -15,10 +16,11 @@ use Rattle.sazh_command.specs.declared.mistakes.UsageError.TheVariants as mistak
 use Rattle.sazh_command.specs.declared.mistakes.Stop.{Stop}
 use Rattle.sazh_command.specs.declared.mistakes.Stop.TheVariants.{Usage, Memory}
 
--- a recipient by its text, or the recipients in a file
+-- a recipient by its text, the recipients in a file, or those of the identities in one
 pub data RecipientValue : Type 0 where
   Text : List ℕ → RecipientValue
   File : List ℕ → RecipientValue
+  IdentityFile : List ℕ → RecipientValue
 
 -- recipients in their order, or a file with a passphrase
 pub data RecipientsValue : Type 0 where
@@ -31,23 +33,32 @@ pub data IdentitiesValue : Type 0 where
   ProtectedFiles : List (List ℕ) → List ℕ → IdentitiesValue
   WithPassphraseFile : List ℕ → IdentitiesValue
 
--- the name of the output, and whether a file that is there may be replaced
-pub record OutputValue : Type 0 where
-  pub name : List ℕ
-  pub overwrite : Bool
+-- who decrypts, and how many bytes a header may have
+pub record OpeningValue : Type 0 where
+  pub identities : IdentitiesValue
+  pub header_limit : ℕ
 
--- a command: `Encrypt recipients armored input output`, `Decrypt identities input output`, `Part identities place count input`,
--- `Migrate identities input output`, `Rekey identities recipients armored input output`, `Verify identities input`
+-- the name of the output where one is given, whether a file that is there may be replaced, and whether a new one isn't written through
+pub record OutputValue : Type 0 where
+  pub name : Option (List ℕ)
+  pub overwrite : Bool
+  pub skip_sync : Bool
+
+-- a command: `Keygen output quiet`, `RecipientsOf input output`, `Encrypt recipients armored input output quiet`,
+-- `Decrypt opening input output quiet`, `Part opening place count input quiet`, `Migrate opening input output quiet`,
+-- `Rekey opening recipients armored input output quiet`, `Verify opening input quiet`, `Inspect identities header_limit json input`
 pub data CommandValue : Type 0 where
   Help : CommandValue
   Version : CommandValue
-  Keygen : OutputValue → CommandValue
-  Encrypt : RecipientsValue → Bool → List ℕ → OutputValue → CommandValue
-  Decrypt : IdentitiesValue → List ℕ → OutputValue → CommandValue
-  Part : IdentitiesValue → ℕ → ℕ → List ℕ → CommandValue
-  Migrate : IdentitiesValue → List ℕ → OutputValue → CommandValue
-  Rekey : IdentitiesValue → List RecipientValue → Bool → List ℕ → OutputValue → CommandValue
-  Verify : IdentitiesValue → List ℕ → CommandValue
+  Keygen : OutputValue → Bool → CommandValue
+  RecipientsOf : List ℕ → OutputValue → CommandValue
+  Encrypt : RecipientsValue → Bool → List ℕ → OutputValue → Bool → CommandValue
+  Decrypt : OpeningValue → List ℕ → OutputValue → Bool → CommandValue
+  Part : OpeningValue → ℕ → ℕ → List ℕ → Bool → CommandValue
+  Migrate : OpeningValue → List ℕ → OutputValue → Bool → CommandValue
+  Rekey : OpeningValue → List RecipientValue → Bool → List ℕ → OutputValue → Bool → CommandValue
+  Verify : OpeningValue → List ℕ → Bool → CommandValue
+  Inspect : Option IdentitiesValue → ℕ → Bool → List ℕ → CommandValue
 
 -- what is wrong
 pub data UsageErrorValue : Type 0 where
@@ -60,6 +71,7 @@ pub data UsageErrorValue : Type 0 where
   EncryptAndDecrypt : UsageErrorValue
   EncryptingOption : UsageErrorValue
   DecryptingOption : UsageErrorValue
+  LimitWithoutDecrypting : UsageErrorValue
   PassphraseBesideRecipients : UsageErrorValue
   NoRecipient : UsageErrorValue
   NoIdentity : UsageErrorValue
@@ -73,6 +85,7 @@ pub data UsageErrorValue : Type 0 where
 abbrev pub recipient_value : Recipient → RecipientValue
 recipient_value (recipient.Text text) = Text (string_bytes text)
 recipient_value (recipient.File name) = File (string_bytes name)
+recipient_value (recipient.IdentityFile name) = IdentityFile (string_bytes name)
 
 abbrev pub recipients_value : Recipients → RecipientsValue
 recipients_value (recipients.Listed listed) = Listed (map recipient_value listed.items)
@@ -83,21 +96,27 @@ identities_value (identities.Files names) = Files (map string_bytes names.items)
 identities_value (identities.ProtectedFiles names passphrase) = ProtectedFiles (map string_bytes names.items) (string_bytes passphrase)
 identities_value (identities.PassphraseFile name) = WithPassphraseFile (string_bytes name)
 
+abbrev pub opening_value : Opening → OpeningValue
+opening_value opening = record { identities = identities_value opening.identities; header_limit = opening.header_limit }
+
 abbrev pub output_value : Output → OutputValue
-output_value output = record { name = string_bytes output.name; overwrite = output.overwrite }
+output_value output = record { name = option_map string_bytes output.name; overwrite = output.overwrite; skip_sync = output.skip_sync }
 
 abbrev pub command_value : Command → CommandValue
 command_value (command.Help text) = Help
 command_value (command.Version text) = Version
-command_value (command.Keygen output) = Keygen (output_value output)
-command_value (command.Encrypt recipients armored input output) =
-    Encrypt (recipients_value recipients) armored (string_bytes input) (output_value output)
-command_value (command.Decrypt identities input output) = Decrypt (identities_value identities) (string_bytes input) (output_value output)
-command_value (command.Part identities place count input) = Part (identities_value identities) place count (string_bytes input)
-command_value (command.Migrate identities input output) = Migrate (identities_value identities) (string_bytes input) (output_value output)
-command_value (command.Rekey identities recipients armored input output) =
-    Rekey (identities_value identities) (map recipient_value recipients.items) armored (string_bytes input) (output_value output)
-command_value (command.Verify identities input) = Verify (identities_value identities) (string_bytes input)
+command_value (command.Keygen output quiet) = Keygen (output_value output) quiet
+command_value (command.RecipientsOf input output) = RecipientsOf (string_bytes input) (output_value output)
+command_value (command.Encrypt recipients armored input output quiet) =
+    Encrypt (recipients_value recipients) armored (string_bytes input) (output_value output) quiet
+command_value (command.Decrypt opening input output quiet) = Decrypt (opening_value opening) (string_bytes input) (output_value output) quiet
+command_value (command.Part opening place count input quiet) = Part (opening_value opening) place count (string_bytes input) quiet
+command_value (command.Migrate opening input output quiet) = Migrate (opening_value opening) (string_bytes input) (output_value output) quiet
+command_value (command.Rekey opening recipients armored input output quiet) =
+    Rekey (opening_value opening) (map recipient_value recipients.items) armored (string_bytes input) (output_value output) quiet
+command_value (command.Verify opening input quiet) = Verify (opening_value opening) (string_bytes input) quiet
+command_value (command.Inspect identities header_limit json input) =
+    Inspect (option_map identities_value identities) header_limit json (string_bytes input)
 
 abbrev pub error_value : UsageError → UsageErrorValue
 error_value mistake.NoCommand = NoCommand
@@ -109,6 +128,7 @@ error_value mistake.WordBeforeCommand = WordBeforeCommand
 error_value mistake.EncryptAndDecrypt = EncryptAndDecrypt
 error_value mistake.EncryptingOption = EncryptingOption
 error_value mistake.DecryptingOption = DecryptingOption
+error_value mistake.LimitWithoutDecrypting = LimitWithoutDecrypting
 error_value mistake.PassphraseBesideRecipients = PassphraseBesideRecipients
 error_value mistake.NoRecipient = NoRecipient
 error_value mistake.NoIdentity = NoIdentity

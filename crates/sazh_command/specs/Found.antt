@@ -12,6 +12,11 @@ pub record GivenValue : Type 0 where
   pub passphrase_file : Option (List ℕ)
   pub armored : Bool
   pub overwrite : Bool
+  pub skip_sync : Bool
+  pub quiet : Bool
+  pub publish : Bool
+  pub json : Bool
+  pub header_limit : Option (List ℕ)
   pub output : Option (List ℕ)
   pub input : Option (List ℕ)
   pub place : Option (List ℕ)
@@ -25,6 +30,11 @@ given_value given = record {
   passphrase_file = option_map string_bytes given.passphrase_file;
   armored = given.armored;
   overwrite = given.overwrite;
+  skip_sync = given.skip_sync;
+  quiet = given.quiet;
+  publish = given.publish;
+  json = given.json;
+  header_limit = option_map string_bytes given.header_limit;
   output = option_map string_bytes given.output;
   input = option_map string_bytes given.input;
   place = option_map string_bytes given.place;
@@ -55,6 +65,11 @@ given_of rows = record {
   passphrase_file = first_of (codes "passphrase-file") rows;
   armored = is_given (codes "armor") rows;
   overwrite = is_given (codes "force") rows;
+  skip_sync = is_given (codes "no-sync") rows;
+  quiet = is_given (codes "quiet") rows;
+  publish = is_given (codes "recipients") rows;
+  json = is_given (codes "json") rows;
+  header_limit = first_of (codes "header-limit") rows;
   output = first_of (codes "output") rows;
   input = first_of (codes "input") rows;
   place = first_of (codes "from") rows;

@@ -1,7 +1,7 @@
 -- The names of commands. A word is a list of bytes.
 use Rattle.std.specs.Prelude.{ℕ, List, bytes_eq, codes, if◌then◌else◌, Option, Some, None}
 use Rattle.sazh_command.specs.declared.names.CommandName.{CommandName}
-use Rattle.sazh_command.specs.declared.names.CommandName.TheVariants.{Keygen, Encrypt, Decrypt, Part, Migrate, Rekey, Verify}
+use Rattle.sazh_command.specs.declared.names.CommandName.TheVariants.{Keygen, Encrypt, Decrypt, Part, Migrate, Rekey, Verify, Inspect}
 
 -- what the word of a command names
 abbrev pub command_named : List ℕ → Option CommandName
@@ -13,4 +13,5 @@ command_named word =
     else if bytes_eq word (codes "migrate") then Some Migrate
     else if bytes_eq word (codes "rekey") then Some Rekey
     else if bytes_eq word (codes "verify") then Some Verify
+    else if bytes_eq word (codes "inspect") then Some Inspect
     else None

@@ -1,15 +1,19 @@
 //! The program's command line, as `clap` is told of it: the commands, and the options and operands of each.
 ghost use Rattle.std.specs.Prelude.{IfOk};
-ghost use Rattle.sazh_command.specs.App.{IsOption, IsCommand, Extends, text_rule, texts_rule, flag_rule, number_rule, input_rule, operands_rule, sazh, alone, keygen, encrypt, decrypt, part, migrate, rekey, verify, with_encrypting, with_decrypting, with_passphrase, with_opening, with_output};
+ghost use Rattle.sazh_command.specs.App.{IsOption, IsCommand, Extends, text_rule, texts_rule, flag_rule, long_flag_rule, number_rule, input_rule, operands_rule, sazh, alone, keygen, encrypt, decrypt, part, migrate, rekey, verify, inspect, with_encrypting, with_identities, with_passphrase, with_header_limit, with_opening, with_output, with_quiet};
 
 use crate::help::{
-    ABOUT, ABOUT_DECRYPT, ABOUT_ENCRYPT, ABOUT_KEYGEN, ABOUT_MIGRATE, ABOUT_PART, ABOUT_REKEY,
-    ABOUT_VERIFY, AFTER_DECRYPT, AFTER_ENCRYPT, AFTER_KEYGEN, AFTER_MIGRATE, AFTER_PART,
-    AFTER_REKEY, AFTER_TOP, AFTER_VERIFY, USAGE_DECRYPT, USAGE_ENCRYPT, USAGE_KEYGEN,
-    USAGE_MIGRATE, USAGE_PART, USAGE_REKEY, USAGE_TOP, USAGE_VERIFY, VERSION,
+    ABOUT, ABOUT_DECRYPT, ABOUT_ENCRYPT, ABOUT_INSPECT, ABOUT_KEYGEN, ABOUT_MIGRATE, ABOUT_PART,
+    ABOUT_REKEY, ABOUT_VERIFY, AFTER_DECRYPT, AFTER_ENCRYPT, AFTER_INSPECT, AFTER_KEYGEN,
+    AFTER_MIGRATE, AFTER_PART, AFTER_REKEY, AFTER_TOP, AFTER_VERIFY, USAGE_DECRYPT, USAGE_ENCRYPT,
+    USAGE_INSPECT, USAGE_KEYGEN, USAGE_MIGRATE, USAGE_PART, USAGE_REKEY, USAGE_TOP, USAGE_VERIFY,
+    VERSION,
 };
 use clap::{Arg, ArgAction, Command};
 use std::alloc::{AllocError, Global};
+
+// What `-i` is for where is decrypted.
+const WITH: &str = "Decrypt with the identities in FILE";
 
 // An option whose value is a text, given once at most.
 fn text_option<'a>(
@@ -47,6 +51,16 @@ fn flag<'a>(alloc: Global, id: &'a str, short: char, help: &'a str) -> Arg<'a>
 {
     Arg::new(alloc, id)
         .short(short)
+        .long(id)
+        .action(ArgAction::SetTrue)
+        .help(help)
+}
+
+// The same, with a long name alone.
+fn long_flag<'a>(alloc: Global, id: &'a str, help: &'a str) -> Arg<'a>
+    ensures { IsOption (long_flag_rule id.now) result }
+{
+    Arg::new(alloc, id)
         .long(id)
         .action(ArgAction::SetTrue)
         .help(help)
@@ -100,17 +114,15 @@ fn with_encrypting<'a>(alloc: Global, command: Command<'a>) -> Result<Command<'a
         .arg(flag(alloc, "armor", 'a', "Write armor, which is text"))
 }
 
-// The option that says who decrypts.
-fn with_decrypting<'a>(alloc: Global, command: Command<'a>) -> Result<Command<'a>, AllocError>
-    ensures { IfOk result (Extends with_decrypting command.entry) }
+// The option that names files of identities.
+fn with_identities<'a>(
+    alloc: Global,
+    command: Command<'a>,
+    help: &'a str,
+) -> Result<Command<'a>, AllocError>
+    ensures { IfOk result (Extends with_identities command.entry) }
 {
-    command.arg(texts_option(
-        alloc,
-        "identity",
-        'i',
-        "FILE",
-        "Decrypt with the identities in FILE",
-    ))
+    command.arg(texts_option(alloc, "identity", 'i', "FILE", help))
 }
 
 // The option that names the file of a passphrase.
@@ -126,15 +138,32 @@ fn with_passphrase<'a>(alloc: Global, command: Command<'a>) -> Result<Command<'a
     ))
 }
 
-// Both.
-fn with_opening<'a>(alloc: Global, command: Command<'a>) -> Result<Command<'a>, AllocError>
-    ensures { IfOk result (Extends with_opening command.entry) }
+// The option that says how long a header may be.
+fn with_header_limit<'a>(alloc: Global, command: Command<'a>) -> Result<Command<'a>, AllocError>
+    ensures { IfOk result (Extends with_header_limit command.entry) }
 {
-    let with = with_decrypting(alloc, command)?;
-    with_passphrase(alloc, with)
+    command.arg(number_option(
+        alloc,
+        "header-limit",
+        "BYTES",
+        "The longest header that is read, or 16 MiB",
+    ))
 }
 
-// The options that say where the output goes.
+// The options that say how a file of age is opened.
+fn with_opening<'a>(
+    alloc: Global,
+    command: Command<'a>,
+    help: &'a str,
+) -> Result<Command<'a>, AllocError>
+    ensures { IfOk result (Extends with_opening command.entry) }
+{
+    let with = with_identities(alloc, command, help)?;
+    let under = with_passphrase(alloc, with)?;
+    with_header_limit(alloc, under)
+}
+
+// The options that say where the output goes, and how.
 fn with_output<'a>(alloc: Global, command: Command<'a>) -> Result<Command<'a>, AllocError>
     ensures { IfOk result (Extends with_output command.entry) }
 {
@@ -146,7 +175,20 @@ fn with_output<'a>(alloc: Global, command: Command<'a>) -> Result<Command<'a>, A
             "OUT",
             "Write to OUT; -, or none, is standard output",
         ))?
-        .arg(flag(alloc, "force", 'f', "Replace OUT where it is there"))
+        .arg(flag(alloc, "force", 'f', "Replace OUT where it is there"))?
+        .arg(long_flag(alloc, "no-sync", "Don't wait until OUT is on the disk"))
+}
+
+// The option that silences what is told meanwhile.
+fn with_quiet<'a>(alloc: Global, command: Command<'a>) -> Result<Command<'a>, AllocError>
+    ensures { IfOk result (Extends with_quiet command.entry) }
+{
+    command.arg(flag(
+        alloc,
+        "quiet",
+        'q',
+        "Tell of no progress, and of no new recipient",
+    ))
 }
 
 // `keygen`.
@@ -157,7 +199,15 @@ fn keygen<'a>(alloc: Global) -> Result<Command<'a>, AllocError>
         .about(ABOUT_KEYGEN)
         .override_usage(USAGE_KEYGEN)
         .after_help(AFTER_KEYGEN);
-    with_output(alloc, keygen)
+    let to = with_output(alloc, keygen)?;
+    with_quiet(alloc, to)?
+        .arg(flag(
+            alloc,
+            "recipients",
+            'y',
+            "Write the recipients of the identities in IN",
+        ))?
+        .arg(input(alloc))
 }
 
 // `encrypt`.
@@ -169,8 +219,10 @@ fn encrypt<'a>(alloc: Global) -> Result<Command<'a>, AllocError>
         .override_usage(USAGE_ENCRYPT)
         .after_help(AFTER_ENCRYPT);
     let to = with_encrypting(alloc, encrypt)?;
-    let under = with_passphrase(alloc, to)?;
-    with_output(alloc, under)?.arg(input(alloc))
+    let of = with_identities(alloc, to, "Encrypt to the identities in FILE")?;
+    let under = with_passphrase(alloc, of)?;
+    let out = with_output(alloc, under)?;
+    with_quiet(alloc, out)?.arg(input(alloc))
 }
 
 // `decrypt`.
@@ -181,9 +233,9 @@ fn decrypt<'a>(alloc: Global) -> Result<Command<'a>, AllocError>
         .about(ABOUT_DECRYPT)
         .override_usage(USAGE_DECRYPT)
         .after_help(AFTER_DECRYPT);
-    let with = with_decrypting(alloc, decrypt)?;
-    let under = with_passphrase(alloc, with)?;
-    with_output(alloc, under)?.arg(input(alloc))
+    let with = with_opening(alloc, decrypt, WITH)?;
+    let out = with_output(alloc, with)?;
+    with_quiet(alloc, out)?.arg(input(alloc))
 }
 
 // `part`.
@@ -194,8 +246,8 @@ fn part<'a>(alloc: Global) -> Result<Command<'a>, AllocError>
         .about(ABOUT_PART)
         .override_usage(USAGE_PART)
         .after_help(AFTER_PART);
-    let with = with_decrypting(alloc, part)?;
-    with_passphrase(alloc, with)?
+    let with = with_opening(alloc, part, WITH)?;
+    with_quiet(alloc, with)?
         .arg(number_option(
             alloc,
             "from",
@@ -219,9 +271,9 @@ fn migrate<'a>(alloc: Global) -> Result<Command<'a>, AllocError>
         .about(ABOUT_MIGRATE)
         .override_usage(USAGE_MIGRATE)
         .after_help(AFTER_MIGRATE);
-    let with = with_decrypting(alloc, migrate)?;
-    let under = with_passphrase(alloc, with)?;
-    with_output(alloc, under)?.arg(input(alloc))
+    let with = with_opening(alloc, migrate, WITH)?;
+    let out = with_output(alloc, with)?;
+    with_quiet(alloc, out)?.arg(input(alloc))
 }
 
 // `rekey`.
@@ -233,8 +285,9 @@ fn rekey<'a>(alloc: Global) -> Result<Command<'a>, AllocError>
         .override_usage(USAGE_REKEY)
         .after_help(AFTER_REKEY);
     let to = with_encrypting(alloc, rekey)?;
-    let with = with_opening(alloc, to)?;
-    with_output(alloc, with)?.arg(input(alloc))
+    let with = with_opening(alloc, to, WITH)?;
+    let out = with_output(alloc, with)?;
+    with_quiet(alloc, out)?.arg(input(alloc))
 }
 
 // `verify`.
@@ -245,8 +298,25 @@ fn verify<'a>(alloc: Global) -> Result<Command<'a>, AllocError>
         .about(ABOUT_VERIFY)
         .override_usage(USAGE_VERIFY)
         .after_help(AFTER_VERIFY);
-    let with = with_decrypting(alloc, verify)?;
-    with_passphrase(alloc, with)?.arg(input(alloc))
+    let with = with_opening(alloc, verify, WITH)?;
+    with_quiet(alloc, with)?.arg(input(alloc))
+}
+
+// `inspect`.
+fn inspect<'a>(alloc: Global) -> Result<Command<'a>, AllocError>
+    ensures { IfOk result (IsCommand inspect) }
+{
+    let inspect = Command::new(alloc, "inspect")
+        .about(ABOUT_INSPECT)
+        .override_usage(USAGE_INSPECT)
+        .after_help(AFTER_INSPECT);
+    with_opening(
+        alloc,
+        inspect,
+        "Tell whether the identities in FILE open it",
+    )?
+    .arg(long_flag(alloc, "json", "Write JSON, one object"))?
+    .arg(input(alloc))
 }
 
 // The program without a command.
@@ -268,9 +338,13 @@ fn alone<'a>(alloc: Global) -> Result<Command<'a>, AllocError>
         ))?
         .arg(flag(alloc, "decrypt", 'd', "Decrypt"))?;
     let to = with_encrypting(alloc, program)?;
-    let with = with_decrypting(alloc, to)?;
-    let under = with_passphrase(alloc, with)?;
-    with_output(alloc, under)?.arg(input(alloc))
+    let with = with_opening(
+        alloc,
+        to,
+        "Decrypt, or by -e encrypt, with these identities",
+    )?;
+    let out = with_output(alloc, with)?;
+    with_quiet(alloc, out)?.arg(input(alloc))
 }
 
 /// The program with its commands. Its words are those after the program's name.
@@ -284,5 +358,6 @@ pub fn sazh<'a>(alloc: Global) -> Result<Command<'a>, AllocError>
         .subcommand(part(alloc)?)?
         .subcommand(migrate(alloc)?)?
         .subcommand(rekey(alloc)?)?
-        .subcommand(verify(alloc)?)
+        .subcommand(verify(alloc)?)?
+        .subcommand(inspect(alloc)?)
 }

@@ -3,19 +3,21 @@
 /// Whom `encrypt` encrypts to.
 #[derive(Debug, Drop)]
 pub enum Recipients {
-    /// Each of these: those of `-r` in the order of the words, and then the files of `-R` in theirs. At least one.
+    /// Each of these: those of `-r` in the order of the words, then the files of `-R` in theirs, and then those of `-i`. At least one.
     Listed(Vec<Recipient>),
     /// Who knows the passphrase in the file of this name (`-p`).
     PassphraseFile(String),
 }
 
-/// One recipient, or a file of them.
+/// One recipient, a file of them, or a file of identities that have some.
 #[derive(Debug, Drop)]
 pub enum Recipient {
     /// The recipient of this text (`-r`).
     Text(String),
     /// Each recipient in the file of this name (`-R`).
     File(String),
+    /// The recipient of each identity in the file of this name (`-i`, where is encrypted).
+    IdentityFile(String),
 }
 
 /// Who decrypts.
@@ -29,16 +31,28 @@ pub enum Identities {
     PassphraseFile(String),
 }
 
+/// How a file of age is opened.
+#[derive(Debug, Drop)]
+pub struct Opening {
+    /// Who decrypts.
+    pub identities: Identities,
+    /// How many bytes its header may have (`--header-limit`), or 16,777,216 where that isn't given.
+    pub header_limit: u64,
+}
+
 /// Where the output goes.
 #[derive(Debug, Drop)]
 pub struct Output {
-    /// The name of the file (`-o`), or `-` for the standard output, which is also the name where none is given.
-    pub name: String,
+    /// The name of the file, or `-` for the standard output (`-o`). `None` where none is given: the standard output too.
+    pub name: Option<String>,
     /// Whether a file that is there may be replaced (`-f`).
     pub overwrite: bool,
+    /// Whether a new file gets its name before its bytes are on the disk (`--no-sync`).
+    pub skip_sync: bool,
 }
 
-/// What the program is to do. `input` is the name of a file, or `-` for the standard input.
+/// What the program is to do. `input` is the name of a file, or `-` for the standard input; `quiet` is whether nothing but refusals and
+/// warnings goes to standard error (`-q`).
 #[derive(Debug, Drop)]
 pub enum Command {
     /// Write this text, which is the help of the program or of a command.
@@ -48,6 +62,12 @@ pub enum Command {
     /// Write a new identity.
     Keygen {
         output: Output,
+        quiet: bool,
+    },
+    /// Write the recipients of the identities in the input, a line each. Where no input is named it is `-`.
+    RecipientsOf {
+        input: String,
+        output: Output,
     },
     /// Write the input encrypted to the recipients, in armor or not. Where no input is named it is `-`.
     Encrypt {
@@ -55,38 +75,52 @@ pub enum Command {
         armored: bool,
         input: String,
         output: Output,
+        quiet: bool,
     },
     /// Write the input decrypted. Where no input is named it is `-`.
     Decrypt {
-        identities: Identities,
+        opening: Opening,
         input: String,
         output: Output,
+        quiet: bool,
     },
     /// Write `count` bytes of the decrypted input from byte `place` on, or fewer at its end.
     Part {
-        identities: Identities,
+        opening: Opening,
         place: u64,
         count: u64,
         input: String,
+        quiet: bool,
     },
     /// Write the input, a file whose header may be of the early form, with a header of the standard. Where no input is named it is `-`.
     Migrate {
-        identities: Identities,
+        opening: Opening,
         input: String,
         output: Output,
+        quiet: bool,
     },
     /// Write the decrypted input encrypted to these recipients, of whom there is at least one, in armor or not. Where no input is named it
     /// is `-`.
     Rekey {
-        identities: Identities,
+        opening: Opening,
         recipients: Vec<Recipient>,
         armored: bool,
         input: String,
         output: Output,
+        quiet: bool,
     },
     /// Read the decrypted input, and write its length and its digest. Where no input is named it is `-`.
     Verify {
-        identities: Identities,
+        opening: Opening,
+        input: String,
+        quiet: bool,
+    },
+    /// Tell what the input is, as a file of age, and whether one of the identities has its key where some are given; as JSON or as lines of
+    /// text. Its header may have this many bytes, as for `Opening`. Where no input is named it is `-`.
+    Inspect {
+        identities: Option<Identities>,
+        header_limit: u64,
+        json: bool,
         input: String,
     },
 }

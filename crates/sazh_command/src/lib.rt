@@ -18,7 +18,7 @@ mod parsing;
 mod secrets;
 mod shown;
 
-pub use command::{Command, Identities, Output, Recipient, Recipients};
+pub use command::{Command, Identities, Opening, Output, Recipient, Recipients};
 pub use help::USAGE;
 pub use input::told_place;
 pub use laws::command_laws;

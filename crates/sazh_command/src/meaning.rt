@@ -1,11 +1,11 @@
 //! What a command asks for, once its words are read.
-ghost use Rattle.std.specs.Prelude.{◌≡◌, IfOk, map, string_bytes, option_map};
-ghost use Rattle.sazh_command.specs.Asked.{IsAnswer, answer_value, recipient_value, recipients_value, identities_value, output_value, command_value};
+ghost use Rattle.std.specs.Prelude.{◌≡◌, ◌++◌, IfOk, OnOk, map, string_bytes, option_map};
+ghost use Rattle.sazh_command.specs.Asked.{IsAnswer, RecipientValue, answer_value, recipient_value, recipients_value, identities_value, opening_value, output_value, command_value};
 ghost use Rattle.sazh_command.specs.Found.{given_value};
 ghost use Rattle.sazh_command.specs.Decimal.{number_of};
-ghost use Rattle.sazh_command.specs.Synopsis.{name_of, output_of, recipients_of, some_recipients, identities_of, no_operand, input_of, number_or_error, numbered, operands_range, range_of, says_to_whom, asked, asked_alone, unknown_or_asked};
+ghost use Rattle.sazh_command.specs.Synopsis.{name_of, output_of, recipients_of, some_recipients, identities_of, identities_if_given, no_operand, no_input, input_of, number_or_error, limit_of, opening_of, numbered, operands_range, range_of, says_to_whom, asked, asked_alone, unknown_or_asked};
 
-use crate::command::{Command, Identities, Output, Recipient, Recipients};
+use crate::command::{Command, Identities, Opening, Output, Recipient, Recipients};
 use crate::found::Given;
 use crate::mistakes::{Stop, UsageError};
 use crate::names::{CommandName, Operand};
@@ -13,7 +13,10 @@ use crate::number::parse_number;
 use std::alloc::{AllocError, Global};
 use std::mem;
 
-// The file of this name, or the standard input or output.
+// How many bytes a header may have where no option says it: 16 MiB.
+const HEADER_LIMIT: u64 = 16_777_216;
+
+// The file of this name, or the standard input.
 fn name_of(alloc: Global, name: Option<String>) -> Result<String, AllocError>
     ensures { IfOk result (λ text. string_bytes text ≡ name_of (option_map string_bytes name)) }
 {
@@ -23,12 +26,15 @@ fn name_of(alloc: Global, name: Option<String>) -> Result<String, AllocError>
     }
 }
 
-// The output of this name, or the standard output.
-fn output_of(alloc: Global, name: Option<String>, overwrite: bool) -> Result<Output, AllocError>
-    ensures { IfOk result (λ output. output_value output ≡ output_of (option_map string_bytes name) overwrite) }
+// Where the output goes, and how.
+fn output_of(name: Option<String>, overwrite: bool, skip_sync: bool) -> Output
+    ensures { output_value result ≡ output_of (option_map string_bytes name) overwrite skip_sync }
 {
-    let name = name_of(alloc, name)?;
-    Ok(Output { name, overwrite })
+    Output {
+        name,
+        overwrite,
+        skip_sync,
+    }
 }
 
 // Recipients, or who knows a passphrase.
@@ -49,6 +55,21 @@ fn recipients_of(
             None => Ok(Recipients::Listed(listed)),
         }
     }
+}
+
+// The recipients of the identities in the files of these names, behind those that are there.
+fn push_identity_files(
+    alloc: Global,
+    all: &mut Vec<Recipient>,
+    names: &[String],
+) -> Result<(), AllocError>
+    ensures { OnOk result (map recipient_value all.new.items
+        ≡ map recipient_value all.old.items ++ map RecipientValue.IdentityFile (map string_bytes names.now)) }
+{
+    for name in names {
+        all.push(Recipient::IdentityFile(String::from_str(alloc, name)?))?;
+    }
+    Ok(())
 }
 
 // Recipients, of whom there is one.
@@ -77,6 +98,23 @@ fn identities_of(
         match passphrase_file {
             Some(name) => Ok(Identities::ProtectedFiles(files, name)),
             None => Ok(Identities::Files(files)),
+        }
+    }
+}
+
+// Identities, where there are any.
+fn identities_if_given(files: Vec<String>, passphrase_file: Option<String>) -> Option<Identities>
+    ensures { option_map identities_value result ≡ identities_if_given (map string_bytes files.items) (option_map string_bytes passphrase_file) }
+{
+    if files.is_empty() {
+        match passphrase_file {
+            Some(name) => Some(Identities::PassphraseFile(name)),
+            None => None,
+        }
+    } else {
+        match passphrase_file {
+            Some(name) => Some(Identities::ProtectedFiles(files, name)),
+            None => Some(Identities::Files(files)),
         }
     }
 }
@@ -117,6 +155,35 @@ fn number_or_error(alloc: Global, operand: Operand, word: &str) -> Result<u64, S
             Err(Stop::Usage(UsageError::NotANumber(operand, word)))
         }
     }
+}
+
+// How many bytes a header may have.
+fn limit_of(alloc: Global, word: Option<String>) -> Result<u64, Stop>
+    ensures { IsAnswer (λ number. number) result (limit_of (option_map string_bytes word)) }
+{
+    match word {
+        Some(word) => number_or_error(alloc, Operand::HeaderLimit, word.as_str()),
+        None => Ok(HEADER_LIMIT),
+    }
+}
+
+// How a file is opened.
+#[tactic(auto, using(crate::proofs::Stops::and_then_stops))]
+fn opening_of(
+    alloc: Global,
+    files: Vec<String>,
+    passphrase_file: Option<String>,
+    header_limit: Option<String>,
+) -> Result<Opening, Stop>
+    ensures { IsAnswer opening_value result
+        (opening_of (map string_bytes files.items) (option_map string_bytes passphrase_file) (option_map string_bytes header_limit)) }
+{
+    let identities = identities_of(files, passphrase_file)?;
+    let header_limit = limit_of(alloc, header_limit)?;
+    Ok(Opening {
+        identities,
+        header_limit,
+    })
 }
 
 // Both numbers, and the input.
@@ -174,12 +241,32 @@ fn range_of(
     }
 }
 
+// That nothing is read.
+fn no_input(input: Option<String>) -> Result<(), UsageError>
+    ensures { answer_value (λ none. none) result ≡ no_input (option_map string_bytes input) }
+{
+    match input {
+        Some(word) => Err(UsageError::ExtraOperand(word)),
+        None => Ok(()),
+    }
+}
+
 // `keygen`.
+#[tactic(auto, using(crate::proofs::Stops::and_then_stops))]
 fn asked_of_keygen(alloc: Global, given: &mut Given) -> Result<Command, Stop>
     ensures { IsAnswer command_value result (asked CommandName.Keygen (given_value given.old)) }
 {
-    let output = output_of(alloc, given.output.take(), given.overwrite)?;
-    Ok(Command::Keygen { output })
+    if given.publish {
+        let input = name_of(alloc, given.input.take())?;
+        let output = output_of(given.output.take(), given.overwrite, given.skip_sync);
+        return Ok(Command::RecipientsOf { input, output });
+    }
+    no_input(given.input.take())?;
+    let output = output_of(given.output.take(), given.overwrite, given.skip_sync);
+    Ok(Command::Keygen {
+        output,
+        quiet: given.quiet,
+    })
 }
 
 // `encrypt`.
@@ -187,15 +274,17 @@ fn asked_of_keygen(alloc: Global, given: &mut Given) -> Result<Command, Stop>
 fn asked_of_encrypt(alloc: Global, given: &mut Given) -> Result<Command, Stop>
     ensures { IsAnswer command_value result (asked CommandName.Encrypt (given_value given.old)) }
 {
-    let listed = mem::replace(&mut given.recipients, Vec::new(alloc));
+    let mut listed = mem::replace(&mut given.recipients, Vec::new(alloc));
+    push_identity_files(alloc, &mut listed, given.identity_files.as_slice())?;
     let recipients = recipients_of(listed, given.passphrase_file.take())?;
     let input = name_of(alloc, given.input.take())?;
-    let output = output_of(alloc, given.output.take(), given.overwrite)?;
+    let output = output_of(given.output.take(), given.overwrite, given.skip_sync);
     Ok(Command::Encrypt {
         recipients,
         armored: given.armored,
         input,
         output,
+        quiet: given.quiet,
     })
 }
 
@@ -205,13 +294,15 @@ fn asked_of_decrypt(alloc: Global, given: &mut Given) -> Result<Command, Stop>
     ensures { IsAnswer command_value result (asked CommandName.Decrypt (given_value given.old)) }
 {
     let files = mem::replace(&mut given.identity_files, Vec::new(alloc));
-    let identities = identities_of(files, given.passphrase_file.take())?;
+    let (passphrase_file, limit) = (given.passphrase_file.take(), given.header_limit.take());
+    let opening = opening_of(alloc, files, passphrase_file, limit)?;
     let input = name_of(alloc, given.input.take())?;
-    let output = output_of(alloc, given.output.take(), given.overwrite)?;
+    let output = output_of(given.output.take(), given.overwrite, given.skip_sync);
     Ok(Command::Decrypt {
-        identities,
+        opening,
         input,
         output,
+        quiet: given.quiet,
     })
 }
 
@@ -221,14 +312,16 @@ fn asked_of_part(alloc: Global, given: &mut Given) -> Result<Command, Stop>
     ensures { IsAnswer command_value result (asked CommandName.Part (given_value given.old)) }
 {
     let files = mem::replace(&mut given.identity_files, Vec::new(alloc));
-    let identities = identities_of(files, given.passphrase_file.take())?;
+    let (passphrase_file, limit) = (given.passphrase_file.take(), given.header_limit.take());
+    let opening = opening_of(alloc, files, passphrase_file, limit)?;
     let (place, count) = (given.place.take(), given.count.take());
     let (place, count, input) = range_of(alloc, place, count, given.operands.as_slice())?;
     Ok(Command::Part {
-        identities,
+        opening,
         place,
         count,
         input,
+        quiet: given.quiet,
     })
 }
 
@@ -238,13 +331,15 @@ fn asked_of_migrate(alloc: Global, given: &mut Given) -> Result<Command, Stop>
     ensures { IsAnswer command_value result (asked CommandName.Migrate (given_value given.old)) }
 {
     let files = mem::replace(&mut given.identity_files, Vec::new(alloc));
-    let identities = identities_of(files, given.passphrase_file.take())?;
+    let (passphrase_file, limit) = (given.passphrase_file.take(), given.header_limit.take());
+    let opening = opening_of(alloc, files, passphrase_file, limit)?;
     let input = name_of(alloc, given.input.take())?;
-    let output = output_of(alloc, given.output.take(), given.overwrite)?;
+    let output = output_of(given.output.take(), given.overwrite, given.skip_sync);
     Ok(Command::Migrate {
-        identities,
+        opening,
         input,
         output,
+        quiet: given.quiet,
     })
 }
 
@@ -254,17 +349,19 @@ fn asked_of_rekey(alloc: Global, given: &mut Given) -> Result<Command, Stop>
     ensures { IsAnswer command_value result (asked CommandName.Rekey (given_value given.old)) }
 {
     let files = mem::replace(&mut given.identity_files, Vec::new(alloc));
-    let identities = identities_of(files, given.passphrase_file.take())?;
+    let (passphrase_file, limit) = (given.passphrase_file.take(), given.header_limit.take());
+    let opening = opening_of(alloc, files, passphrase_file, limit)?;
     let listed = mem::replace(&mut given.recipients, Vec::new(alloc));
     let recipients = some_recipients(listed)?;
     let input = name_of(alloc, given.input.take())?;
-    let output = output_of(alloc, given.output.take(), given.overwrite)?;
+    let output = output_of(given.output.take(), given.overwrite, given.skip_sync);
     Ok(Command::Rekey {
-        identities,
+        opening,
         recipients,
         armored: given.armored,
         input,
         output,
+        quiet: given.quiet,
     })
 }
 
@@ -274,9 +371,31 @@ fn asked_of_verify(alloc: Global, given: &mut Given) -> Result<Command, Stop>
     ensures { IsAnswer command_value result (asked CommandName.Verify (given_value given.old)) }
 {
     let files = mem::replace(&mut given.identity_files, Vec::new(alloc));
-    let identities = identities_of(files, given.passphrase_file.take())?;
+    let (passphrase_file, limit) = (given.passphrase_file.take(), given.header_limit.take());
+    let opening = opening_of(alloc, files, passphrase_file, limit)?;
     let input = name_of(alloc, given.input.take())?;
-    Ok(Command::Verify { identities, input })
+    Ok(Command::Verify {
+        opening,
+        input,
+        quiet: given.quiet,
+    })
+}
+
+// `inspect`.
+#[tactic(auto, using(crate::proofs::Stops::and_then_stops))]
+fn asked_of_inspect(alloc: Global, given: &mut Given) -> Result<Command, Stop>
+    ensures { IsAnswer command_value result (asked CommandName.Inspect (given_value given.old)) }
+{
+    let files = mem::replace(&mut given.identity_files, Vec::new(alloc));
+    let identities = identities_if_given(files, given.passphrase_file.take());
+    let header_limit = limit_of(alloc, given.header_limit.take())?;
+    let input = name_of(alloc, given.input.take())?;
+    Ok(Command::Inspect {
+        identities,
+        header_limit,
+        json: given.json,
+        input,
+    })
 }
 
 /// What a command asks for, where its options and operands are these. It takes what it needs out of `given`, so that all else of it is
@@ -292,6 +411,7 @@ pub fn asked(alloc: Global, command: CommandName, given: &mut Given) -> Result<C
         CommandName::Migrate => asked_of_migrate(alloc, given),
         CommandName::Rekey => asked_of_rekey(alloc, given),
         CommandName::Verify => asked_of_verify(alloc, given),
+        CommandName::Inspect => asked_of_inspect(alloc, given),
     }
 }
 
@@ -333,12 +453,14 @@ pub fn asked_alone(
         }
         return asked_of_decrypt(alloc, given);
     }
+    if given.header_limit.is_some() {
+        return Err(Stop::Usage(UsageError::LimitWithoutDecrypting));
+    }
+    if encrypting {
+        return asked_of_encrypt(alloc, given);
+    }
     if !given.identity_files.is_empty() {
         return Err(Stop::Usage(UsageError::DecryptingOption));
     }
-    if encrypting {
-        asked_of_encrypt(alloc, given)
-    } else {
-        unknown_or_asked(alloc, given)
-    }
+    unknown_or_asked(alloc, given)
 }

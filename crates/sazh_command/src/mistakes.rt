@@ -28,9 +28,11 @@ pub enum UsageError {
     EncryptAndDecrypt,
     /// `-r`, `-R` or `-a` stands beside `-d`.
     EncryptingOption,
-    /// `-i` is given, and `-d` is not.
+    /// `-i` is given, and neither `-d` nor `-e` is.
     DecryptingOption,
-    /// Where is encrypted, `-p` stands beside `-r` or `-R`.
+    /// `--header-limit` is given, and `-d` is not.
+    LimitWithoutDecrypting,
+    /// Where is encrypted, `-p` stands beside `-r`, `-R` or `-i`.
     PassphraseBesideRecipients,
     /// Where is encrypted, none of `-r`, `-R` and `-p` is given.
     NoRecipient,
@@ -40,9 +42,9 @@ pub enum UsageError {
     PlaceOrCountAlone,
     /// `part` lacks this operand.
     MissingOperand(Operand),
-    /// The word in the place of PLACE or COUNT is no decimal number below 2^64.
+    /// The word in the place of PLACE, COUNT or the value of `--header-limit` is no decimal number below 2^64.
     NotANumber(Operand, String),
-    /// This operand is one more than `part` takes.
+    /// This operand is one more than `part` takes, or than `keygen` takes without `-y`.
     ExtraOperand(String),
 }
 
@@ -78,10 +80,15 @@ impl fmt::Display for UsageError {
                 f.write_str("the option -d is given beside -r, -R or -a, which are to encrypt")
             }
             UsageError::DecryptingOption => {
-                f.write_str("the option -i is given without -d, which is to decrypt")
+                f.write_str(
+                    "the option -i needs -d, to decrypt, or -e, to encrypt to the recipients of its identities",
+                )
+            }
+            UsageError::LimitWithoutDecrypting => {
+                f.write_str("the option --header-limit is given without -d, which is to decrypt")
             }
             UsageError::PassphraseBesideRecipients => {
-                f.write_str("the option -p is given beside -r or -R")
+                f.write_str("the option -p is given beside -r, -R or -i")
             }
             UsageError::NoRecipient => f.write_str("no recipient is given: -r, -R or -p is needed"),
             UsageError::NoIdentity => f.write_str("no identity is given: -i or -p is needed"),

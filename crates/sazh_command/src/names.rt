@@ -5,7 +5,7 @@ ghost use Rattle.sazh_command.specs.Names.{command_named};
 
 use std::fmt;
 
-/// A number that `part` takes.
+/// An operand of `part`, or an option whose value is a number.
 #[derive(Clone, Copy, Debug)]
 pub enum Operand {
     /// PLACE: the byte that a part begins with, from 0 on.
@@ -14,6 +14,8 @@ pub enum Operand {
     Count,
     /// IN: the file that is read.
     Input,
+    /// `--header-limit`: how many bytes a header may have.
+    HeaderLimit,
 }
 
 impl fmt::Display for Operand {
@@ -24,6 +26,7 @@ impl fmt::Display for Operand {
             Operand::Place => "PLACE",
             Operand::Count => "COUNT",
             Operand::Input => "IN",
+            Operand::HeaderLimit => "--header-limit",
         })
     }
 }
@@ -38,6 +41,7 @@ pub enum CommandName {
     Migrate,
     Rekey,
     Verify,
+    Inspect,
 }
 
 /// The command of this name.
@@ -52,6 +56,7 @@ pub fn command_named(word: &str) -> Option<CommandName>
         "migrate" => Some(CommandName::Migrate),
         "rekey" => Some(CommandName::Rekey),
         "verify" => Some(CommandName::Verify),
+        "inspect" => Some(CommandName::Inspect),
         _ => None,
     }
 }

@@ -1,9 +1,9 @@
 //! Words that hold a secret key.
-ghost use Rattle.std.specs.Prelude.{◌↔◌, IsTrue, map, string_bytes};
-ghost use Rattle.sazh_command.specs.Asked.{recipient_value, recipients_value, identities_value, output_value, command_value};
-ghost use Rattle.sazh_command.specs.Secrets.{HoldsSecret, AnyHoldsSecret, FileHoldsSecret, AnyFileHoldsSecret, RecipientsNameSecret, IdentitiesNameSecret, FilesNameSecret, OpeningNamesSecret, NamesSecret};
+ghost use Rattle.std.specs.Prelude.{◌↔◌, IsTrue, map, option_map, string_bytes};
+ghost use Rattle.sazh_command.specs.Asked.{recipient_value, recipients_value, identities_value, opening_value, output_value, command_value};
+ghost use Rattle.sazh_command.specs.Secrets.{HoldsSecret, AnyHoldsSecret, FileHoldsSecret, AnyFileHoldsSecret, RecipientsNameSecret, IdentitiesNameSecret, GivenIdentitiesNameSecret, OutputNamesSecret, FilesNameSecret, OpeningNamesSecret, NamesSecret};
 
-use crate::command::{Command, Identities, Output, Recipient, Recipients};
+use crate::command::{Command, Identities, Opening, Output, Recipient, Recipients};
 
 // Whether the beginning of a secret key stands in a word, in one of the two cases in which it may be written.
 fn holds_secret(word: &str) -> bool
@@ -34,11 +34,11 @@ fn file_holds_secret(one: &Recipient) -> bool
 {
     match one {
         Recipient::Text(_) => false,
-        Recipient::File(name) => holds_secret(name.as_str()),
+        Recipient::File(name) | Recipient::IdentityFile(name) => holds_secret(name.as_str()),
     }
 }
 
-// Whether it stands in the name of one of the files of recipients.
+// Whether it stands in the name of one of the files of recipients or identities.
 fn any_file_holds_secret(all: &[Recipient]) -> bool
     ensures { IsTrue result ↔ AnyFileHoldsSecret (map recipient_value all.now) }
 {
@@ -78,22 +78,42 @@ fn identities_name_secret(identities: &Identities) -> bool
     }
 }
 
+// Whether it stands in the name of a file that says who is asked for the key of a file, where one does.
+fn named_identities_name_secret(identities: &Option<Identities>) -> bool
+    ensures { IsTrue result ↔ GivenIdentitiesNameSecret (option_map identities_value identities.now) }
+{
+    match identities {
+        None => false,
+        Some(identities) => identities_name_secret(identities),
+    }
+}
+
+// Whether it stands in the name of the output.
+fn output_names_secret(output: &Output) -> bool
+    ensures { IsTrue result ↔ OutputNamesSecret (output_value output.now) }
+{
+    match &output.name {
+        None => false,
+        Some(name) => holds_secret(name.as_str()),
+    }
+}
+
 // Whether it stands in the name of the input or the output.
 #[tactic(auto, using(crate::proofs::Either::either))]
 fn files_name_secret(input: &str, output: &Output) -> bool
     ensures { IsTrue result ↔ FilesNameSecret input.now (output_value output.now) }
 {
     let in_input = holds_secret(input);
-    let in_output = holds_secret(output.name.as_str());
+    let in_output = output_names_secret(output);
     in_input | in_output
 }
 
 // The same of all files of a command that reads a file of age and writes one.
 #[tactic(auto, using(crate::proofs::Either::either))]
-fn opening_names_secret(identities: &Identities, input: &str, output: &Output) -> bool
-    ensures { IsTrue result ↔ OpeningNamesSecret (identities_value identities.now) input.now (output_value output.now) }
+fn opening_names_secret(opening: &Opening, input: &str, output: &Output) -> bool
+    ensures { IsTrue result ↔ OpeningNamesSecret (opening_value opening.now) input.now (output_value output.now) }
 {
-    let in_keys = identities_name_secret(identities);
+    let in_keys = identities_name_secret(&opening.identities);
     let in_files = files_name_secret(input, output);
     in_keys | in_files
 }
@@ -105,7 +125,8 @@ pub fn names_secret(command: &Command) -> bool
 {
     match command {
         Command::Help(_) | Command::Version(_) => false,
-        Command::Keygen { output } => holds_secret(output.name.as_str()),
+        Command::Keygen { output, .. } => output_names_secret(output),
+        Command::RecipientsOf { input, output } => files_name_secret(input.as_str(), output),
         Command::Encrypt {
             recipients,
             input,
@@ -116,40 +137,47 @@ pub fn names_secret(command: &Command) -> bool
             let in_files = files_name_secret(input.as_str(), output);
             in_keys | in_files
         }
-        Command::Part {
-            identities,
-            input,
-            ..
-        } => {
-            let in_keys = identities_name_secret(identities);
+        Command::Part { opening, input, .. } => {
+            let in_keys = identities_name_secret(&opening.identities);
             let in_input = holds_secret(input.as_str());
             in_keys | in_input
         }
         Command::Rekey {
-            identities,
+            opening,
             recipients,
             input,
             output,
             ..
         } => {
             let in_recipients = any_file_holds_secret(recipients.as_slice());
-            let in_others = opening_names_secret(identities, input.as_str(), output);
+            let in_others = opening_names_secret(opening, input.as_str(), output);
             in_recipients | in_others
         }
-        Command::Verify { identities, input } => {
-            let in_keys = identities_name_secret(identities);
+        Command::Verify { opening, input, .. } => {
+            let in_keys = identities_name_secret(&opening.identities);
             let in_input = holds_secret(input.as_str());
             in_keys | in_input
         }
         Command::Decrypt {
-            identities,
+            opening,
             input,
             output,
-        } => opening_names_secret(identities, input.as_str(), output),
+            ..
+        } => opening_names_secret(opening, input.as_str(), output),
         Command::Migrate {
-            identities,
+            opening,
             input,
             output,
-        } => opening_names_secret(identities, input.as_str(), output),
+            ..
+        } => opening_names_secret(opening, input.as_str(), output),
+        Command::Inspect {
+            identities,
+            input,
+            ..
+        } => {
+            let in_keys = named_identities_name_secret(identities);
+            let in_input = holds_secret(input.as_str());
+            in_keys | in_input
+        }
     }
 }

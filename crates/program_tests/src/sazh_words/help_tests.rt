@@ -37,12 +37,19 @@ fn help_is_asked_for(rt: HostRuntime) -> Result<(), Fail> {
         &rt,
         rt.alloc(),
         "
---help => sazh [-e] (-r RECIPIENT | -R FILE).. [-a] [-f] [-o OUT] [IN]
--h => sazh -d (-i FILE.. [-p FILE] | -p FILE) [-f] [-o OUT] [IN]
+--help => sazh -e (-r RECIPIENT | -R FILE | -i FILE).. [OPTION].. [IN]
+-h => sazh -d (-i FILE.. [-p FILE] | -p FILE) [OPTION].. [IN]
 -r age1a plain -h => exit status: 0 done
 -h encrypt => examples:
-keygen --help => sazh keygen [-f] [-o OUT]
-encrypt -h => sazh encrypt -p FILE [-a] [-f] [-o OUT] [IN]
+keygen --help => sazh keygen -y [-f] [--no-sync] [-o OUT] [IN]
+keygen -h => -y, --recipients
+encrypt -h => sazh encrypt -p FILE [OPTION].. [IN]
+encrypt -h => -i, --identity <FILE>
+decrypt -h => --header-limit <BYTES>
+decrypt -h => --no-sync
+verify -h => -q, --quiet
+inspect -h => --json
+inspect -h => sazh inspect [-i FILE].. [-p FILE] [OPTION].. [IN]
 encrypt -r a plain -h => -r, --recipient <RECIPIENT>
 decrypt --help -i key => -i, --identity <FILE>
 part -h => --from <PLACE>
@@ -119,6 +126,7 @@ fn texts_fit_a_terminal(rt: HostRuntime) -> Result<(), Fail> {
         "migrate -h",
         "rekey -h",
         "verify -h",
+        "inspect -h",
     ] {
         assert!(rt; help_fits(rt.alloc(), line)?, "at {line}");
     }
@@ -126,7 +134,7 @@ fn texts_fit_a_terminal(rt: HostRuntime) -> Result<(), Fail> {
 }
 
 // The beginnings of lines of the help, and texts that stand within them.
-const PARTS: [&str; 20] = [
+const PARTS: [&str; 24] = [
     "\n  -e, --encrypt ",
     "\n  -d, --decrypt ",
     "\n  -r, --recipient <RECIPIENT> ",
@@ -136,6 +144,9 @@ const PARTS: [&str; 20] = [
     "\n  -a, --armor ",
     "\n  -o, --output <OUT> ",
     "\n  -f, --force ",
+    "\n      --no-sync ",
+    "\n      --header-limit <BYTES> ",
+    "\n  -q, --quiet ",
     "\n  -h, --help ",
     "\n  -V, --version ",
     "\n  keygen ",
@@ -145,6 +156,7 @@ const PARTS: [&str; 20] = [
     "\n  migrate ",
     "\n  rekey ",
     "\n  verify ",
+    "\n  inspect ",
     "kept secret",
     "read -rsp 'passphrase: ' word",
 ];

@@ -37,8 +37,11 @@ fn options_that_do_not_go_together(rt: HostRuntime) -> Result<(), Fail> {
 -d -R team -i key => Err(EncryptingOption)
 -d -i key -a => Err(EncryptingOption)
 -i key file => Err(DecryptingOption)
--e -i key => Err(DecryptingOption)
 -r a -i key => Err(DecryptingOption)
+--header-limit 5 -r a => Err(LimitWithoutDecrypting)
+-e -i key --header-limit=5 => Err(LimitWithoutDecrypting)
+-e -i key -p secret => Err(PassphraseBesideRecipients)
+encrypt -i key -p secret => Err(PassphraseBesideRecipients)
 -r a -p secret => Err(PassphraseBesideRecipients)
 encrypt -p secret -r a => Err(PassphraseBesideRecipients)
 encrypt -R team -p secret => Err(PassphraseBesideRecipients)
@@ -67,6 +70,8 @@ migrate file => Err(NoIdentity)
 rekey -r age1a file => Err(NoIdentity)
 rekey -i key file => Err(NoRecipient)
 verify file => Err(NoIdentity)
+decrypt --header-limit x => Err(NoIdentity)
+rekey -i key --header-limit x => Err(NotANumber(HeaderLimit, "x"))
 "#,
     )
 }
@@ -86,6 +91,8 @@ part -i key 1 two file => Err(NotANumber(Count, "two"))
 part -i key --from one --count 2 => Err(NotANumber(Place, "one"))
 part -i key --from 1 --count two => Err(NotANumber(Count, "two"))
 part -i key --from 1 --count 2 file more => Err(ExtraOperand("more"))
+keygen key => Err(ExtraOperand("key"))
+decrypt -i key --header-limit 16MiB => Err(NotANumber(HeaderLimit, "16MiB"))
 "#,
     )
 }
@@ -164,7 +171,11 @@ fn unknown_options(rt: HostRuntime) -> Result<(), Fail> {
 -x => unexpected argument '-x' found
 keygen -a => unexpected argument '-a' found
 keygen -i key => unexpected argument '-i' found
-encrypt -i key => unexpected argument '-i' found
+keygen -p word => unexpected argument '-p' found
+inspect -o out => unexpected argument '-o' found
+inspect -q => unexpected argument '-q' found
+part -i key --no-sync 1 2 file => unexpected argument '--no-sync' found
+encrypt -r a --header-limit 5 => unexpected argument '--header-limit' found
 encrypt -r a --version => unexpected argument '--version' found
 encrypt -A => unexpected argument '-A' found
 decrypt -r a => unexpected argument '-r' found
@@ -173,7 +184,7 @@ migrate -a => unexpected argument '-a' found
 part -i key -o out 1 2 file => unexpected argument '-o' found
 part -i key -1 2 file => unexpected argument '-1' found
 encrypt -r -x => unexpected argument '-x' found
-keygen key => unexpected argument 'key' found
+keygen one two => unexpected argument 'two' found
 encrypt -r a one two three => unexpected argument 'two' found
 -d -i key one two => unexpected argument 'two' found
 ",
@@ -190,6 +201,8 @@ keygen -o => a value is required for '--output <OUT>' but none was supplied
 -r => a value is required for '--recipient <RECIPIENT>' but none was supplied
 encrypt -r a -R => a value is required for '--recipients-file <FILE>' but none was supplied
 decrypt plain -i => a value is required for '--identity <FILE>' but none was supplied
+decrypt --header-limit => a value is required for '--header-limit <BYTES>' but none was supplied
+-q -q => the argument '--quiet' cannot be used multiple times
 part --from => a value is required for '--from <PLACE>' but none was supplied
 keygen -o a -o b => the argument '--output <OUT>' cannot be used multiple times
 encrypt -p a -p b => the argument '--passphrase-file <FILE>' cannot be used multiple times
@@ -219,7 +232,7 @@ fn misspelt_options_are_told(rt: HostRuntime) -> Result<(), Fail> {
             "similar argument exists: '--identity'"
         )?
     );
-    assert!(rt; is_told_with(alloc, "keygen -x", "Usage: sazh keygen [-f] [-o OUT]")?);
+    assert!(rt; is_told_with(alloc, "keygen -x", "Usage: sazh keygen [-q] [-f]")?);
     assert!(rt; is_told_with(alloc, "-x", "Usage: sazh [-e] (-r RECIPIENT")?);
     Ok(())
 }
@@ -277,7 +290,13 @@ verify -i AGE-SECRET-KEY-1QQ file => Err(HoldsSecret)
 -R team -R AGE-SECRET-KEY-1QQ => Err(HoldsSecret)
 -r age1a -o AGE-SECRET-KEY-1QQ => Err(HoldsSecret)
 keygen -o AGE-SECRET-KEY-1QQ => Err(HoldsSecret)
--r AGE-SECRET-KEY-1QQ => Ok(Encrypt { recipients: Listed([Text("AGE-SECRET-KEY-1QQ")]), armored: false, input: "-", output: Output { name: "-", overwrite: false } })
+keygen -y AGE-SECRET-KEY-1QQ => Err(HoldsSecret)
+keygen -y key -o age-secret-key-1qq => Err(HoldsSecret)
+encrypt -i AGE-SECRET-KEY-1QQ => Err(HoldsSecret)
+inspect -i AGE-SECRET-KEY-1QQ file => Err(HoldsSecret)
+inspect AGE-SECRET-KEY-1QQ => Err(HoldsSecret)
+decrypt -i key --header-limit AGE-SECRET-KEY-1QQ => Err(HoldsSecret)
+-r AGE-SECRET-KEY-1QQ => Ok(Encrypt { recipients: Listed([Text("AGE-SECRET-KEY-1QQ")]), armored: false, input: "-", output: Output { name: None, overwrite: false, skip_sync: false }, quiet: false })
 "#,
     )
 }
@@ -293,8 +312,9 @@ mend => "mend" is no command, and to encrypt it -r, -R or -p is needed
 -r a encrypt => the name of a command isn't the first word
 -e -d => the option -e is given beside -d
 -d -a => the option -d is given beside -r, -R or -a, which are to encrypt
--i key => the option -i is given without -d, which is to decrypt
-encrypt -p a -r b => the option -p is given beside -r or -R
+-i key => the option -i needs -d, to decrypt, or -e, to encrypt to the recipients of its identities
+-r a --header-limit 5 => the option --header-limit is given without -d, which is to decrypt
+encrypt -p a -r b => the option -p is given beside -r, -R or -i
 encrypt => no recipient is given: -r, -R or -p is needed
 decrypt => no identity is given: -i or -p is needed
 keygen AGE-SECRET-KEY-1 => a word holds a secret key, and no word is repeated: name the key's file, by -i FILE
@@ -305,6 +325,8 @@ part -i key 1 2 => IN is missing
 part -i key one 2 file => PLACE is "one", and no decimal number below 2^64
 part -i key 1 two file => COUNT is "two", and no decimal number below 2^64
 part -i key 1 2 file more => the word "more" is one too many
+keygen more => the word "more" is one too many
+verify -i key --header-limit=-5 => --header-limit is "-5", and no decimal number below 2^64
 "#,
     )
 }
@@ -324,13 +346,13 @@ fn control_characters_are_escaped(rt: HostRuntime) -> Result<(), Fail> {
 // Nor by `clap`.
 #[test]
 fn clap_escapes_control_characters(rt: HostRuntime) -> Result<(), Fail> {
-    let words = owned(rt.alloc(), &["keygen", "two\u{1b}[2J"])?;
+    let words = owned(rt.alloc(), &["keygen", "one", "two\u{1b}[2J"])?;
     let text = told(rt.alloc(), &words)?;
     assert!(rt;
         text.as_str()
             .starts_with("unexpected argument 'two\\u{1b}[2J' found\n\nUsage")
     );
-    let words = owned(rt.alloc(), &["keygen", "two\nlines"])?;
+    let words = owned(rt.alloc(), &["keygen", "one", "two\nlines"])?;
     let text = told(rt.alloc(), &words)?;
     assert!(rt;
         text.as_str()

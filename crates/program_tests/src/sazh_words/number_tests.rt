@@ -14,7 +14,7 @@ fn part_asks(alloc: Global, place: &str, count: &str, expected: &str) -> Result<
 // Whether a word is taken as this PLACE.
 fn is_place(alloc: Global, word: &str, number: u64) -> Result<bool, AllocError> {
     let expected = format!(in alloc;
-        "Ok(Part {{ identities: Files([\"key\"]), place: {number}, count: 2, input: \"file\" }})"
+        "Ok(Part {{ opening: Opening {{ identities: Files([\"key\"]), header_limit: 16777216 }}, place: {number}, count: 2, input: \"file\", quiet: false }})"
     )?;
     part_asks(alloc, word, "2", expected.as_str())
 }
@@ -22,7 +22,7 @@ fn is_place(alloc: Global, word: &str, number: u64) -> Result<bool, AllocError> 
 // Whether a word is taken as this COUNT.
 fn is_count(alloc: Global, word: &str, number: u64) -> Result<bool, AllocError> {
     let expected = format!(in alloc;
-        "Ok(Part {{ identities: Files([\"key\"]), place: 3, count: {number}, input: \"file\" }})"
+        "Ok(Part {{ opening: Opening {{ identities: Files([\"key\"]), header_limit: 16777216 }}, place: 3, count: {number}, input: \"file\", quiet: false }})"
     )?;
     part_asks(alloc, "3", word, expected.as_str())
 }

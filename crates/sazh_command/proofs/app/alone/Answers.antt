@@ -2,7 +2,7 @@ use Rattle.std.specs.Prelude.{◌≡◌, codes, true, false}
 use Rattle.std.proofs.Common.{◌∙◌, ap}
 use Rattle.clap.specs.Simple.{with_rule, new_app, app_of, app_of_fields, on_top}
 use Rattle.clap.specs.declared.builder.command.Command.TheViews.{out-Command}
-use Rattle.sazh_command.specs.App.{IsCommand, flag_rule, input_rule, with_settings, with_encrypting, with_decrypting, with_passphrase, with_output}
+use Rattle.sazh_command.specs.App.{IsCommand, flag_rule, input_rule, with_settings, with_encrypting, with_opening, with_output, with_quiet}
 use Rattle.sazh_command.proofs.Apps.{with_more, with_option, with_options}
 use Rattle.sazh_command.proofs.app.alone.Goals as goal
 
@@ -32,9 +32,8 @@ returns c =
     let second = with_option (with_rule bare encrypt) _ c.in_ok-program.program c.flag-2.result decrypt first c.flag-2.ensures c.in_ok-program.ensures in
     let program = with_rule (with_rule bare encrypt) decrypt in
     let to = with_more with_encrypting program _ c.in_ok-to.to second c.in_ok-to.ensures in
-    let with = with_more with_decrypting (with_encrypting program) _ c.in_ok-with.with to c.in_ok-with.ensures in
-    let under = with_more with_passphrase (with_decrypting (with_encrypting program)) _ c.in_ok-under.under with c.in_ok-under.ensures in
-    let out = with_more with_output (with_passphrase (with_decrypting (with_encrypting program))) _ c.in_ok-with_output.field-0 under
-    c.in_ok-with_output.ensures in
-    with_options (with_output (with_passphrase (with_decrypting (with_encrypting program)))) _ c.input.result input_rule c.arg-3.result out
+    let with = with_more with_opening (with_encrypting program) _ c.in_ok-with.with to c.in_ok-with.ensures in
+    let out = with_more with_output (with_opening (with_encrypting program)) _ c.in_ok-out.out with c.in_ok-out.ensures in
+    let quiet = with_more with_quiet (with_output (with_opening (with_encrypting program))) _ c.in_ok-with_quiet.field-0 out c.in_ok-with_quiet.ensures in
+    with_options (with_quiet (with_output (with_opening (with_encrypting program)))) _ c.input.result input_rule c.arg-3.result quiet
     c.input.ensures c.arg-3.ensures

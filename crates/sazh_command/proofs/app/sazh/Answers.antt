@@ -1,5 +1,5 @@
 use Rattle.clap.specs.Simple.{with_subcommand}
-use Rattle.sazh_command.specs.App.{alone, keygen, encrypt, decrypt, part, migrate, rekey, verify}
+use Rattle.sazh_command.specs.App.{alone, keygen, encrypt, decrypt, part, migrate, rekey, verify, inspect}
 use Rattle.sazh_command.proofs.Apps.{with_command, with_commands}
 use Rattle.sazh_command.proofs.app.sazh.Goals as goal
 
@@ -22,5 +22,8 @@ returns c =
     let app_5 = with_subcommand app_4 migrate.top in
     let sixth = with_command app_5 rekey c.in_ok-subcommand-5.field-0 c.in_ok-rekey.field-0 c.in_ok-subcommand-6.field-0 fifth
     c.in_ok-rekey.ensures c.in_ok-subcommand-6.ensures in
-    with_commands (with_subcommand app_5 rekey.top) verify c.in_ok-subcommand-6.field-0 c.in_ok-verify.field-0 c.subcommand-7.result sixth
-    c.in_ok-verify.ensures c.subcommand-7.ensures
+    let app_6 = with_subcommand app_5 rekey.top in
+    let seventh = with_command app_6 verify c.in_ok-subcommand-6.field-0 c.in_ok-verify.field-0 c.in_ok-subcommand-7.field-0 sixth
+    c.in_ok-verify.ensures c.in_ok-subcommand-7.ensures in
+    with_commands (with_subcommand app_6 verify.top) inspect c.in_ok-subcommand-7.field-0 c.in_ok-inspect.field-0 c.subcommand-8.result seventh
+    c.in_ok-inspect.ensures c.subcommand-8.ensures
