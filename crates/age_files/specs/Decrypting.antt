@@ -21,4 +21,4 @@ module _ {S R W : Type 0} (unwraps : PassphraseIdentity → List StanzaValue →
   abbrev pub DecryptsUnder : List ℕ → List ℕ → Result (List ℕ) (GivenError PassphraseError FileError) → Type 0
   DecryptsUnder text file answer = WithGiven (λ e. RefusesText e text) (Unit {0}) (λ (secret : List ℕ). secret ≡ first_line text)
       (λ secret done. (asked : List PassphraseIdentity) × DecryptsBytes unwraps suite read write items (knows secret ∷ []) asked file done)
-      Answers answer
+      (λ _ done told. Answers done told) answer

@@ -50,7 +50,7 @@ abbrev pub EncryptsTo : (List ℕ → List ℕ → List ℕ → WrapAnswer → L
     → Result (List ℕ) (GivenError RecipientsError CommandError) → Type 0
 EncryptsTo wraps seal_of text given format plain answer = WithGiven (λ e. recipients.RefusesBytes e text) (Unit {0})
     (λ (keys : List (List ℕ)). IsUtf8 text × recipients.AreRecipients (lines text) keys)
-    (λ keys done. EncryptsBytes wraps keys (draws_for_keys (length keys)) given seal_of format plain done) Answers answer
+    (λ keys done. EncryptsBytes wraps keys (draws_for_keys (length keys)) given seal_of format plain done) (λ _ done told. Answers done told) answer
 
 -- With the passphrase that a text gives, by the work factor 18.
 abbrev pub EncryptsUnder : (PassphraseRecipient → List ℕ → List ℕ → WrapAnswer → List ℕ → Type 0) → Seal → List ℕ → List ℕ → Format → List ℕ
@@ -58,4 +58,4 @@ abbrev pub EncryptsUnder : (PassphraseRecipient → List ℕ → List ℕ → Wr
 EncryptsUnder wraps seal_of text given format plain answer = WithGiven (λ e. passphrase.RefusesText e text) (Unit {0})
     (λ (secret : List ℕ). secret ≡ passphrase.first_line text)
     (λ secret done. EncryptsBytes wraps (record { passphrase = secret; factor = 18 } ∷ []) draws_for_passphrase given seal_of format plain done)
-    Answers answer
+    (λ _ done told. Answers done told) answer
