@@ -1,5 +1,5 @@
 -- Lengths and ranges, and that encryption done twice gives the text back.
-use Rattle.std.proofs.Common.{◌≡◌, ℕ, zero, suc, ◌+◌, ◌/◌, ◌%◌, ◌^◌, ◌<◌, List, [], ◌∷◌, length, replicate, get_or, bit_xor, refl, ap, sym, arith, add-zero, lit<, ◌∙◌}
+use Rattle.std.proofs.Common.{◌≡◌, ℕ, zero, suc, ◌+◌, ◌*◌, ◌/◌, ◌%◌, ◌^◌, ◌<◌, List, [], ◌∷◌, ◌++◌, length, replicate, get_or, bit_xor, refl, ap, sym, arith, add-zero, lit<, ◌∙◌}
 use Rattle.std.proofs.lemmas.List.Elements.{All-nil, All-cons, All-head, All-tail, All-append, All-get_or}
 use Rattle.std.proofs.lemmas.List.{ext_get_or, get_or-replicate, length-replicate}
 use Rattle.std.proofs.lemmas.Nat.{xor_lt, mod_below}
@@ -9,7 +9,7 @@ use Rattle.std.specs.Int.Bits.{xor_self, xor_zero_l, xor_zero_r, xor_assoc}
 use Rattle.chacha20.specs.Block.{serialized, block_words, chacha20_block}
 use Rattle.chacha20.specs.Encryption.{keystream_byte, encrypted_from, chacha20_encrypt}
 use Rattle.chacha20.proofs.Blocks.{length-serialized, length-block_words}
-use Rattle.chacha20.proofs.Streams.{length-encrypted}
+use Rattle.chacha20.proofs.Streams.{encrypted-append, length-encrypted}
 
 -- a byte, as the laws say it
 abbrev IsByte : ℕ → Type 0
@@ -71,6 +71,33 @@ pub chacha20_encrypt_twice : (key : List ℕ) (counter : ℕ) (nonce text : List
     → chacha20_encrypt key counter nonce (chacha20_encrypt key counter nonce text) ≡ text
 unfolding chacha20_encrypt
 chacha20_encrypt_twice key counter nonce text = encrypted_twice key counter nonce 0 text
+
+-- the key stream from a later block on is the rest of the stream
+module _ (key : List ℕ) (counter : ℕ) (nonce : List ℕ) (blocks : ℕ) where
+  keystream_byte-later : (i : ℕ) → keystream_byte key ((counter + blocks) % 2 ^ 32) nonce i ≡ keystream_byte key counter nonce (64 * blocks + i)
+  keystream_byte-later i =
+      let number : ((counter + blocks) % 2 ^ 32 + i / 64) % 2 ^ 32 ≡ (counter + (64 * blocks + i) / 64) % 2 ^ 32 = omega arith in
+      let place : i % 64 ≡ (64 * blocks + i) % 64 = omega arith in
+      ap (λ n. get_or (chacha20_block key n nonce) (i % 64) 0) number
+      ∙ ap (λ p. get_or (chacha20_block key ((counter + (64 * blocks + i) / 64) % 2 ^ 32) nonce) p 0) place
+
+  encrypted-later : (i : ℕ) (xs : List ℕ)
+      → encrypted_from key ((counter + blocks) % 2 ^ 32) nonce i xs ≡ encrypted_from key counter nonce (64 * blocks + i) xs
+  encrypted-later i [] = refl
+  encrypted-later i (x ∷ xs) =
+      let next : 64 * blocks + (i + 1) ≡ 64 * blocks + i + 1 = omega arith in
+      rw (keystream_byte-later i, encrypted-later (i + 1) xs, next) refl
+
+-- a text whose front has whole blocks is encrypted in two parts
+pub chacha20_encrypt-append : (key : List ℕ) (counter : ℕ) (nonce front back : List ℕ) (blocks : ℕ) → length front ≡ 64 * blocks
+    → chacha20_encrypt key counter nonce (front ++ back)
+    ≡ chacha20_encrypt key counter nonce front ++ chacha20_encrypt key ((counter + blocks) % 2 ^ 32) nonce back
+unfolding chacha20_encrypt
+chacha20_encrypt-append key counter nonce front back blocks whole =
+    let place : 0 + length front ≡ 64 * blocks + 0 = omega (arith, whole) in
+    encrypted-append key counter nonce 0 front back
+    ∙ ap (λ p. encrypted_from key counter nonce 0 front ++ encrypted_from key counter nonce p back) place
+    ∙ ap (λ xs. encrypted_from key counter nonce 0 front ++ xs) (sym (encrypted-later key counter nonce blocks 0 back))
 
 -- a byte that is encrypted
 get_or-encrypted : (key : List ℕ) (counter : ℕ) (nonce : List ℕ) (i : ℕ) (xs : List ℕ) (k : ℕ) → k < length xs

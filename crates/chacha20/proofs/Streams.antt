@@ -18,7 +18,7 @@ module _ (key : List ℕ) (counter : ℕ) (nonce : List ℕ) where
   length-encrypted i [] = refl
   length-encrypted i (x ∷ xs) = rw (length-encrypted (i + 1) xs) refl
 
-  encrypted-append : (i : ℕ) (xs ys : List ℕ)
+  pub encrypted-append : (i : ℕ) (xs ys : List ℕ)
       → encrypted_from key counter nonce i (xs ++ ys) ≡ encrypted_from key counter nonce i xs ++ encrypted_from key counter nonce (i + length xs) ys
   encrypted-append i [] ys = rw add-zero refl
   encrypted-append i (x ∷ xs) ys = rw (encrypted-append (i + 1) xs ys, add_assoc, one-add) refl
