@@ -34,7 +34,7 @@ with open(name("plain"), "wb") as file:
     file.write(os.urandom(MIB << 20))
 with open(name("empty"), "wb"), open(name("passphrase"), "w") as file:
     file.write("correct horse battery staple\n")
-run([sazh, "keygen", "-o", name("key")])
+run([sazh, "keygen", "-q", "-o", name("key")])
 with open(name("key")) as file:
     recipient = file.readline().removeprefix("# public key: ").strip()
 with open(name("many"), "w") as file:

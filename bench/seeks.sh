@@ -81,7 +81,7 @@ def part(file):
     return took, read
 
 
-subprocess.run([sazh, "keygen", "-o", name("key")], check=True)
+subprocess.run([sazh, "keygen", "-q", "-o", name("key")], check=True)
 with open(name("key"), encoding="ascii") as file:
     recipient = file.readline().split()[-1]
 write("sazh_bare", [sazh, "encrypt", "-r", recipient])
