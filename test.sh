@@ -20,6 +20,8 @@ edits/run.sh --apply || exit 1
 # Whether the table of public names is complete, and the page of the definitions that a reader trusts is what the sources say.
 docs/names.py || exit 1
 docs/trusted.py --check || exit 1
+# Whether the pictures are those of crates.txt and of README's table of speed.
+docs/pictures.py --check || exit 1
 # Whether the certificates of the curve are what their script makes.
 if ! crates/curve25519/generate/certificates.py --check; then
     echo "0 passed, 1 failed"

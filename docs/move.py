@@ -261,4 +261,5 @@ def merged(text, modules):
     return "\n".join(out)
 
 
-sys.exit(main())
+if __name__ == "__main__":
+    sys.exit(main())

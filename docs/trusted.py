@@ -67,18 +67,19 @@ STANDARD = [
 # there: `crate/File`, or some of them by name.
 PARTS = [
     ("For any suite", "What the three claims rest on, whatever cipher, recipients, identities, readers and writers are handed in.", CLAIMS, [
-        ("The payload", ["age_error/Bytes", "age_stream/Payload"]),
-        ("Stanzas and the header", ["age_base64/Lines", "age_base64/Base64", "age_format/Bytes", "age_format/Stanza", "age_format/Header"]),
-        ("The header's MAC", ["hmac_sha256/Hmac", "hmac_sha256/Hkdf", "age_format/HeaderV1"]),
-        ("The file", ["age_protocol/File"]),
-        ("Armor", ["age_armor/Armor", "age_armor/Writing"]),
+        ("Bytes, lines and base64", ["age_error/Bytes", "age_base64/Lines", "age_base64/Base64"]),
+        ("Recipient stanza", ["age_v1/Stanza"]),
+        ("Header", ["age_v1/Header"]),
+        ("Header MAC", ["hmac_sha256/Hmac", "hmac_sha256/Hkdf", "age_v1/HeaderMac"]),
+        ("Payload", ["age_v1/Payload"]),
+        ("Encrypted file format", ["age_v1/File"]),
+        ("ASCII armor", ["age_v1/Armor"]),
         ("Refusals", ["age_error/ResolveErrors", "age_error/DecryptErrors", "age_error/EncryptErrors",
                       "age_protocol/FileErrors"]),
-        ("What recipients come to",
-         ["age_suite/Draw", "age_format/Drawing", "age_format/Wrapping", "age_protocol/Labels", "age_protocol/Encrypting"]),
-        ("What identities come to", ["age_format/Unwrapping", "age_protocol/Answering", "age_protocol/Parts", "age_protocol/DecryptingStreams"]),
+        ("What recipients come to", ["age_suite/Draw", "age_v1/Recipients", "age_v1/Encrypting"]),
+        ("What identities come to", ["age_v1/Identities"]),
         ("A cursor on a plaintext", ["age_io/Cursor", "age_io/Replies"]),
-        ("Whole files", ["age_io/Stretch", "age_protocol/WholeFiles"]),
+        ("Whole files", ["age_io/Stretch", "age_v1/Claims"]),
         ("A file by writes of one's own", ["age_stream/Writing", "age_protocol/Starting"]),
     ]),
     ("What a suite, a reader and a writer are", "The claims speak of a reader's `rest` and a writer's `appended`, of a suite's `seal_of`, of a "
@@ -90,9 +91,9 @@ PARTS = [
           ["age_error/Labels", "age_error/EncryptErrors", "age_format/Wrapping", "age_format/Unwrapping"]),
      ]),
     ("With native keys", "What the recipients and identities of X25519 and of passphrases answer, for any suite.", KEYS, [
-        ("Both", ["age_format/Unwrapping", "age_keys/OwnType"]),
-        ("X25519", ["age_keys/X25519"]),
-        ("Passphrases", ["age_keys/Scrypt"]),
+        ("Both", ["age_v1/Identities", "age_v1/RecipientType"]),
+        ("X25519", ["age_v1/X25519"]),
+        ("Passphrases", ["age_v1/Scrypt"]),
     ]),
     ("With the primitives of the standard", "What the members of `StandardSuite` are.", STANDARD, [
         ("ChaCha20 (RFC 8439)", ["chacha20/Rounds", "chacha20/Block", "chacha20/Encryption"]),
@@ -106,7 +107,8 @@ INTRODUCTION = """# What a reader trusts
 
 A proof shows that the code does what its clauses say. Whether these say what is meant, a reader has to judge: of the clauses, of each definition
 that they cite, of each that those cite, and so on. Below stand all that the three claims of README rest on, and no other, quoted from the files of
-`*/specs` with their comments, each before the first that cites it. The clauses stand at the end of each part. For these claims the other definitions
+`*/specs` with their comments, each before the first that cites it: those of the format from `age_v1`, a crate without code, whose files `Stanza` to
+`Claims` are the sections of the standard and what the calls claim; the others say what a reader makes of any bytes. The clauses stand at the end of each part. For these claims the other definitions
 of `*/specs`, and all of `*/proofs`, are steps of proofs, which the prover checks and nobody has to read.
 
 `docs/trusted.py` makes this page from the sources, and the gate compares. Lines are counted without blank ones.
@@ -117,7 +119,8 @@ of `*/specs`, and all of `*/proofs`, are steps of proofs, which the prover check
 {whole}
 
 **How to read a definition.** After its name and `:` stands its type, then its equations. `abbrev`, `unfoldable` and `pub` say who may look
-inside; they don't matter here. `module _ (x : A) where` says that each definition below it takes this `x` first.
+inside; they don't matter here. `module _ (x : A) where` says that each definition below it takes this `x` first. In a comment, what the standard asks stands
+after `standard:`, in our words.
 
 | | |
 |---|---|
@@ -137,7 +140,7 @@ inside; they don't matter here. `module _ (x : A) where` says that each definiti
 | `MatchResult r P Q` | P of x where r is `Ok x`, Q of e where it is `Err e` |
 | `x.old`, `x.new`, `x.now`, `result` | in a clause: what is lent before and after the call, what a reference shows, and what the call answers |
 | `S.seal_of`, `⟦<S as Suite>⟧` | the member `seal_of` of a type, and all members that it has by this trait |
-| `draw.old`, `grease`, `self` | of a struct with a `view` its value, as the clauses of part 1 say at their end |
+| `draw.old`, `grease`, `self` | of a struct with a `view` its value, as the clauses of part 1 say at their end; a grease is a stanza that means nothing |
 """
 
 REST = """## What else is trusted

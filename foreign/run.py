@@ -27,6 +27,9 @@ STATUSES = dict(re.findall(r"\bAGE_(\w+) = (\d+)", (TOP / "include" / "age_c.h")
 TOO_SHORT, BAD_ARGUMENT, UNEXPECTED_EOF, BAD_CHUNK, LAST_CHUNK_EMPTY, NOT_IDENTITY = (
     int(STATUSES[name]) for name in ["OUT_TOO_SHORT", "BAD_ARGUMENT", "UNEXPECTED_EOF", "BAD_CHUNK", "LAST_CHUNK_EMPTY", "NOT_IDENTITY"]
 )
+NEED_MORE, PAST_END, TRUNCATED, INVALID_HEADER, UNKNOWN_FORMAT = (
+    int(STATUSES[name]) for name in ["NEED_MORE", "PAST_END", "TRUNCATED", "INVALID_HEADER", "UNKNOWN_FORMAT"]
+)
 DECRYPTION_FAILED, INVALID_MAC, NO_MATCHING_KEYS, PLUGIN, NO_RANDOM = (
     int(STATUSES[name]) for name in ["DECRYPTION_FAILED", "INVALID_MAC", "NO_MATCHING_KEYS", "PLUGIN", "NO_RANDOM"]
 )
@@ -55,13 +58,13 @@ class Program:
     def __init__(self, name, words, folder, environment=None):
         self.name, self.words, self.folder, self.environment = name, words, folder, environment
 
-    def run(self, command, keys, given):
+    def run(self, command, keys, given, *more):
         """The status, and what was written."""
         paths = [f"{self.folder}/{name}" for name in ("keys", "given", "out")]
         Path(paths[0]).write_bytes(keys)
         Path(paths[1]).write_bytes(given)
         Path(paths[2]).unlink(missing_ok=True)
-        words = [*self.words, command, *paths]
+        words = [*self.words, command, *paths, *map(str, more)]
         done = subprocess.run(words, env=self.environment, stdin=subprocess.DEVNULL, capture_output=True, check=False)
         if done.returncode not in range(100) or done.stderr:
             print(f"{self.name} {command}: status {done.returncode}: {done.stderr.decode(errors='replace')}")
@@ -71,7 +74,7 @@ class Program:
 class Sazh(Program):
     """The program of this repository."""
 
-    def run(self, command, keys, given):
+    def run(self, command, keys, given, *more):
         paths = [f"{self.folder}/{name}" for name in ("keys", "given", "out")]
         Path(paths[0]).write_bytes(keys)
         Path(paths[1]).write_bytes(given)
@@ -81,7 +84,12 @@ class Sazh(Program):
             "encrypt-passphrase": ["encrypt", "-p"],
             "decrypt": ["decrypt", "-i"],
             "decrypt-passphrase": ["decrypt", "-p"],
+            "part": [],
         }[command]
+        if command == "part":
+            words = [*self.words, "part", "-i", paths[0], *map(str, more), paths[1]]
+            done = subprocess.run(words, stdin=subprocess.DEVNULL, capture_output=True, check=False)
+            return done.returncode, done.stdout if done.returncode == 0 else None
         words = [*self.words, *words, paths[0], "-f", "-o", paths[2], paths[1]]
         done = subprocess.run(words, stdin=subprocess.DEVNULL, capture_output=True, check=False)
         return done.returncode, Path(paths[2]).read_bytes() if done.returncode == 0 else None
@@ -131,6 +139,109 @@ def both_ways(count, program, others, keys):
     count.check(f"{program.name} under a passphrase", status == 0 and peer.decrypt(PASSPHRASE.strip(), file) == plain)
     given = peer.encrypt_under(PASSPHRASE.strip(), plain, 10)
     count.check(f"{program.name} reads under a passphrase", program.run("decrypt-passphrase", PASSPHRASE, given) == (0, plain))
+
+
+def parts(count, program, other, keys):
+    """Parts of plaintexts at many places, and whole ones by chunks, as `sazh part` and peer.py have them; of damaged and of cut files what is left."""
+    text = (keys[0].text() + "\n").encode()
+    few = "valgrind" in program.name
+    for size in [0, 65_537] if few else [*SIZES, 131_072]:
+        plain = os.urandom(size)
+        file = peer.encrypt_to([key.recipient() for key in keys], plain)
+        count.check(f"{program.name} streams {size}", program.run("stream", text, file) == (0, plain))
+        # (C at all of them, the others, which start slower, at some)
+        places = {0, 1, 10, 65_535, 65_536, 65_537, 131_071, 131_072, size - 1, size, size + 1, size // 2} if other else {0, 65_535, size, size + 1}
+        for place in sorted(place for place in places if place >= 0 and not (few and place > size)):
+            for wanted in (0, 1, 100, 65_536, 2**63) if other else (100, 2**63):
+                told = program.run("part", text, file, place, wanted)
+                good = told == (0, plain[place : place + wanted]) if place <= size else told == (PAST_END, None)
+                count.check(f"{program.name}: {wanted} bytes from {place} of {size}: {told[0]}", good)
+                if other and wanted in (1, 100) and place <= size:
+                    status, given = other.run("part", text, file, place, wanted)
+                    count.check(f"{other.name}: {wanted} bytes from {place} of {size}", (status, given) == (0, plain[place : place + wanted]))
+    if few:
+        return
+    # (three chunks: the one in the middle is damaged, or the file is cut in the last or between two)
+    plain = os.urandom(140_000)
+    file = peer.encrypt_to([keys[0].recipient()], plain)
+    begins = len(file) - (140_000 + 3 * 16)
+    bent = bytearray(file)
+    bent[begins + 65_552 + 7] ^= 1
+    for what, given in [("damaged", bytes(bent)), ("cut", file[:-1]), ("cut between chunks", file[: begins + 2 * 65_552])]:
+        count.check(f"{program.name} streams a {what} file", program.run("stream", text, given) == (BAD_CHUNK, None))
+        for place, wanted in [(0, 65_536), (5, 100), (65_536, 1), (70_000, 100), (131_072, 10), (139_990, 100), (131_000, 2**63)]:
+            status, out = program.run("part", text, given, place, wanted)
+            right = status == 0 and out == plain[place : place + wanted] or status in (BAD_CHUNK, PAST_END) and out is None
+            count.check(f"{program.name}: {wanted} bytes from {place} of a {what} file: {status}", right)
+            if other:
+                status_of_other, out_of_other = other.run("part", text, given, place, wanted)
+                agree = (status == 0) == (status_of_other == 0) and (status != 0 or out == out_of_other)
+                # (the chunk that a cut made the last is read by `sazh` as one before it, and refused by the examples)
+                agree = agree or what == "cut between chunks" and status == BAD_CHUNK and out_of_other == plain[place : place + wanted]
+                count.check(f"{program.name} and {other.name}: {wanted} bytes from {place} of a {what} file", agree)
+    status, out = program.run("part", text, bytes(bent), 10, 60_000)
+    count.check(f"{program.name}: a whole chunk before a damaged one", (status, out) == (0, plain[10:60_010]))
+    count.check(f"{program.name}: the damaged chunk", program.run("part", text, bytes(bent), 65_536, 1) == (BAD_CHUNK, None))
+    for what, wanted, given in [
+        ("a cut header", UNEXPECTED_EOF, file[:100]),
+        ("a cut nonce", UNEXPECTED_EOF, file[: begins - 1]),
+        ("no payload", TRUNCATED, file[:begins]),
+        ("a file for another", NO_MATCHING_KEYS, peer.encrypt_to([keys[1].recipient()], plain)),
+        ("a file in armor", INVALID_HEADER, peer.armored(file)),
+    ]:
+        status, out = program.run("part", text, given, 0, 10)
+        count.check(f"{program.name}: a part of {what}: {status} in place of {wanted}", (status, out) == (wanted, None))
+
+
+def headers(count, library, keys):
+    """Each front of a file: more of it is needed, or its payload is told; and fronts that are damaged, refused at the byte that tells."""
+    text = (keys[-1].text() + "\n").encode()
+    for stanzas in (1, 3, 60):
+        recipients = [keys[number % 3].recipient() for number in range(stanzas - 1)] + [keys[-1].recipient()]
+        file = peer.encrypt_to(recipients, b"a plaintext")
+        begins = len(file) - len(b"a plaintext") - 16
+        told = library.open_header(text, file)
+        count.check(f"the place of a payload after {stanzas} stanzas", told is not None and told[1] == begins)
+        key = peer.hkdf(file[begins - 16 : begins], b"payload", peer.file_key_of(peer.parsed(file)[0], keys[-1]))
+        count.check(f"its key after {stanzas} stanzas", told[0] == key)
+        count.check("the chunk by it", library.open_chunk(told[0], 0, True, file[told[1] :]) == b"a plaintext")
+        for length in range(len(file) + 1):
+            given = library.open_header(text, file[:length])
+            if given != (told if length >= begins else None):
+                count.check(f"a front of {length} bytes with {stanzas} stanzas", False)
+                break
+        else:
+            count.check(f"each front with {stanzas} stanzas", True)
+    wrong = bytearray(file)
+    changed = file.index(b"\n---") + 10
+    wrong[changed] = ord("B" if file[changed] == ord("A") else "A")  # (another letter of base64: what isn't one is a damaged header)
+    for what, wanted, given in [
+        ("another MAC", INVALID_MAC, bytes(wrong)),
+        ("another version", UNKNOWN_FORMAT, b"age-encryption.org/v2\n"),
+        ("another version that isn't told yet", None, b"age-encryption.org/v2"),
+        ("another magic", INVALID_HEADER, b"age-encryption.orz"),
+        ("armor", INVALID_HEADER, b"-"),
+        ("nothing", None, b""),
+        ("a file for another", NO_MATCHING_KEYS, peer.encrypt_to([keys[0].recipient()], b"")),
+    ]:
+        try:
+            answer = library.open_header(text, given)
+        except age_c.Refused as fault:
+            answer = fault.status
+        count.check(f"a front with {what}: {answer} in place of {wanted}", answer == wanted)
+    count.check("a bad identity is told first", refused(library.open_header, b"no key\n", b"") == NOT_IDENTITY)
+    under = peer.encrypt_under(PASSPHRASE.strip(), b"a plaintext", 10)
+    told = library.open_header(PASSPHRASE, under, under_passphrase=True)
+    count.check("a chunk under a passphrase", library.open_chunk(told[0], 0, True, under[told[1] :]) == b"a plaintext")
+    count.check("a short front under a passphrase", library.open_header(PASSPHRASE, under[:50], under_passphrase=True) is None)
+    count.check("another passphrase", refused(library.open_header, b"another\n", under, True) == DECRYPTION_FAILED)
+    count.check("a passphrase, and a file to a key", refused(library.open_header, PASSPHRASE, file, True) == NO_MATCHING_KEYS)
+    ctypes = age_c.ctypes
+    for front, length, wanted in [(file, 31, (TOO_SHORT, 32, begins)), (file[:9], 32, (NEED_MORE, 0, 0)), (b"-", 32, (INVALID_HEADER, 0, 0))]:
+        room, written, place = ctypes.create_string_buffer(b"\xaa" * 40, 40), ctypes.c_size_t(77), ctypes.c_size_t(77)
+        status = library.calls.age_open_header(*age_c.passed(text, front), room, length, ctypes.byref(written), ctypes.byref(place))
+        good = (status, written.value, place.value) == wanted and room.raw == b"\xaa" * 40
+        count.check(f"what is left after status {status} of age_open_header", good)
 
 
 def vectors(count, program):
@@ -319,6 +430,7 @@ def main():
         other = Sazh("sazh", [sazh], folder)
         for program in programs(folder, out, f"{out}/libage_c.so"):
             both_ways(count, program, [] if "valgrind" in program.name else [other], keys)
+            parts(count, program, other if program.name == "C" else None, keys)
             if "valgrind" not in program.name:
                 vectors(count, program)
     refusals(count, library, keys)
@@ -326,7 +438,11 @@ def main():
     made_keys(count, library, keys)
     lengths(count, library)
     chunks(count, library, keys)
+    headers(count, library, keys)
     damaged(count, library, keys, 2000)
+    harm = subprocess.run([f"{TOP}/foreign/harm.sh", "20000"], stdin=subprocess.DEVNULL, capture_output=True, text=True, check=False)
+    print(harm.stdout.splitlines()[-1] if harm.returncode == 0 else harm.stdout + harm.stderr)
+    count.check("20,000 damaged files of foreign/harm.c are refused", harm.returncode == 0)
     size = os.path.getsize(f"{out}/libage_c.so")
     print(f"libage_c.so has {size:,} bytes, and libage_c.a {os.path.getsize(f'{out}/libage_c.a'):,}")
     print(f"{time.monotonic() - began:.0f} seconds")

@@ -33,6 +33,8 @@ enum age_status {
     AGE_OK = 0,
     /* The room for the answer is too short. How many bytes it has to have is told in its place. */
     AGE_OUT_TOO_SHORT = 1,
+    /* The front of a file ends before its header and its nonce do: more of it is needed. */
+    AGE_NEED_MORE = 2,
     /* A key of another length than 32 bytes, or a length that no payload has. */
     AGE_BAD_ARGUMENT = 3,
     /* Memory was refused. */
@@ -166,6 +168,29 @@ uint32_t age_keygen(const uint8_t *random, size_t random_length, uint8_t *out, s
  * AGE_PASSPHRASE_NEEDED where the text is a file under a passphrase.
  */
 uint32_t age_recipient_of(const uint8_t *identities, size_t identities_length, uint8_t *out, size_t out_length, size_t *written);
+
+/*
+ * Tells the key of a file's payload, AGE_PAYLOAD_KEY bytes in `out`, and in `*place` where the payload begins, counted in bytes of the
+ * file, by the identities in a text as for age_decrypt. `front` are the first bytes of the file, as many as there are so far:
+ *
+ *   AGE_OK             the MAC of the header is right under the file key that the first of the identities gives who answers.
+ *   AGE_NEED_MORE      the header, or the nonce of 16 bytes after it, goes on behind the front, as far as that can be told of a beginning.
+ *                      No identity was asked. Call again with more of the file; where there is no more, it is cut.
+ *   AGE_OUT_TOO_SHORT  `*place` is told too.
+ *   any other status   a refusal, whatever follows the front. `*place` is 0, and so it is after AGE_NEED_MORE.
+ *
+ * A longer front tells the same, so 4,096 bytes are mostly enough, and a header of many recipients has some 100 bytes for each. It takes
+ * bare files: one in armor is AGE_INVALID_HEADER, and age_decrypt takes that whole.
+ *
+ * A success says nothing of the payload yet. By key and place the chunks are read as below.
+ */
+#define AGE_PAYLOAD_KEY 32
+uint32_t age_open_header(const uint8_t *identities, size_t identities_length, const uint8_t *front, size_t front_length, uint8_t *out,
+                         size_t out_length, size_t *written, size_t *place);
+
+/* Tells the same by the passphrase that is the first line of the text, for work factors up to 22. */
+uint32_t age_open_header_passphrase(const uint8_t *passphrase, size_t passphrase_length, const uint8_t *front, size_t front_length,
+                                    uint8_t *out, size_t out_length, size_t *written, size_t *place);
 
 /*
  * The payload of a file in chunks, under its key of 32 bytes, which is derived of the file key and of the nonce after the header

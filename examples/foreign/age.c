@@ -6,6 +6,11 @@
  *     age encrypt-passphrase PASSPHRASE IN OUT   with the passphrase in the first line of the file PASSPHRASE
  *     age decrypt IDENTITIES IN OUT              by the identities in the file IDENTITIES
  *     age decrypt-passphrase PASSPHRASE IN OUT
+ *     age stream IDENTITIES IN OUT               as decrypt, in memory for a chunk, of a bare file
+ *     age part IDENTITIES IN OUT FROM COUNT      COUNT bytes of the plaintext from byte FROM on, or fewer at its end, of a bare file
+ *
+ * `stream` and `part` read chunk by chunk: `part` the header and those chunks alone that hold the bytes, and the last one where the
+ * bytes end there. What was written before a chunk is refused is right as far as it goes; `stream` takes the output away then.
  *
  * It ends with status 0, with the library's number where that refuses, and with 100 where it is called wrongly or a file isn't read
  * or written.
@@ -119,13 +124,178 @@ static uint32_t decrypt(bool with_passphrase, struct bytes by, struct bytes file
     return status;
 }
 
+enum { PIECE = 65536, CHUNK = 65552 };
+
+/* The payload of a file that is open. */
+struct payload {
+    FILE *file;
+    uint8_t key[AGE_PAYLOAD_KEY];
+    uint64_t place, length;
+};
+
+static uint64_t length_of(FILE *file, const char *name)
+{
+    if (fseek(file, 0, SEEK_END) != 0) {
+        perror(name);
+        exit(WRONG);
+    }
+    return (uint64_t)ftell(file);
+}
+
+/* Up to so many bytes from a place on. */
+static size_t read_at(FILE *file, uint64_t place, uint8_t *to, size_t length, const char *name)
+{
+    size_t got = fseek(file, (long)place, SEEK_SET) == 0 ? fread(to, 1, length, file) : 0;
+    if (ferror(file)) {
+        perror(name);
+        exit(WRONG);
+    }
+    return got;
+}
+
+/* Reads the front of the file until the header is told, and twice as much where it isn't yet. */
+static uint32_t open_payload(struct bytes by, const char *name, struct payload *of)
+{
+    of->file = fopen(name, "rb");
+    if (of->file == NULL) {
+        perror(name);
+        exit(WRONG);
+    }
+    uint64_t all = length_of(of->file, name);
+    uint32_t status = AGE_NEED_MORE;
+    for (size_t wanted = 4096; status == AGE_NEED_MORE; wanted *= 2) {
+        struct bytes front = room(wanted < all ? wanted : (size_t)all);
+        size_t written, place;
+        front.length = read_at(of->file, 0, front.at, front.length, name);
+        status = age_open_header(by.at, by.length, front.at, front.length, of->key, sizeof of->key, &written, &place);
+        free(front.at);
+        of->place = place;
+        of->length = all - place;
+        if (status == AGE_NEED_MORE && wanted >= all)
+            return AGE_UNEXPECTED_EOF; /* there is no more */
+    }
+    return status;
+}
+
+/* Opens a chunk by its number, as the last one or as one before it, and tells how many bytes it holds. */
+static uint32_t open_chunk(const struct payload *of, uint64_t number, bool last, uint8_t piece[CHUNK], size_t *holds)
+{
+    uint8_t text[CHUNK];
+    uint64_t begins = number * CHUNK, left = of->length - begins;
+    size_t length = read_at(of->file, of->place + begins, text, left < CHUNK ? (size_t)left : CHUNK, "the payload");
+    return age_open_chunk(of->key, sizeof of->key, number, last, text, length, piece, CHUNK, holds);
+}
+
+static uint32_t open_output(const char *name, FILE **out)
+{
+    *out = fopen(name, "wb");
+    if (*out == NULL) {
+        perror(name);
+        exit(WRONG);
+    }
+    return AGE_OK;
+}
+
+static void append(FILE *out, const char *name, const uint8_t *at, size_t length)
+{
+    if (fwrite(at, 1, length, out) != length) {
+        perror(name);
+        exit(WRONG);
+    }
+}
+
+/* Closes both files. What was written of a payload that is refused is removed. */
+static uint32_t ended(struct payload *of, FILE *out, const char *out_name, uint32_t status)
+{
+    fclose(of->file);
+    if (out != NULL && fclose(out) != 0)
+        exit(WRONG);
+    if (out != NULL && status != AGE_OK)
+        remove(out_name);
+    return status;
+}
+
+/* The whole plaintext: the chunk after which nothing is left has to open as the last. */
+static uint32_t stream(struct bytes by, const char *name, const char *out_name)
+{
+    struct payload of;
+    uint32_t status = open_payload(by, name, &of);
+    FILE *out = NULL;
+    bool last = false;
+    if (status == AGE_OK)
+        status = open_output(out_name, &out);
+    for (uint64_t number = 0; status == AGE_OK && !last; number++) {
+        uint8_t piece[CHUNK];
+        size_t holds;
+        last = of.length - number * CHUNK <= CHUNK;
+        status = open_chunk(&of, number, last, piece, &holds);
+        if (status == AGE_OK)
+            append(out, out_name, piece, holds);
+    }
+    return ended(&of, out, out_name, status);
+}
+
+/*
+ * Bytes of the plaintext from a place on. How long it is the payload's length tells, which is right only where the last chunk opens as
+ * the last: so that one is opened too where fewer than COUNT bytes are there.
+ */
+static uint32_t part(struct bytes by, const char *name, const char *out_name, uint64_t from, uint64_t count)
+{
+    struct payload of;
+    uint64_t length, end;
+    FILE *out = NULL;
+    uint32_t status = open_payload(by, name, &of);
+    if (status == AGE_OK && age_plain_length(of.length, &length) != AGE_OK)
+        status = AGE_TRUNCATED;
+    if (status == AGE_OK && from > length)
+        status = AGE_PAST_END;
+    if (status == AGE_OK) {
+        uint64_t last = age_chunk_count(length) - 1;
+        uint8_t piece[CHUNK];
+        size_t holds;
+        end = count < length - from ? from + count : length;
+        status = open_output(out_name, &out);
+        for (uint64_t number = from / PIECE; status == AGE_OK && from < end && number * PIECE < end; number++) {
+            status = open_chunk(&of, number, number == last, piece, &holds);
+            if (status == AGE_OK) {
+                size_t skip = from > number * PIECE ? (size_t)(from - number * PIECE) : 0;
+                size_t stop = end - number * PIECE < holds ? (size_t)(end - number * PIECE) : holds;
+                append(out, out_name, piece + skip, stop - skip);
+            }
+        }
+        if (status == AGE_OK && from == length && count > 0)
+            status = open_chunk(&of, last, true, piece, &holds);
+    }
+    return ended(&of, out, out_name, status);
+}
+
+/* A number of the command line. */
+static uint64_t number_of(const char *word)
+{
+    char *end;
+    uint64_t number = strtoull(word, &end, 10);
+    if (*word < '0' || *word > '9' || *end != '\0') {
+        fprintf(stderr, "age: %s is no number\n", word);
+        exit(WRONG);
+    }
+    return number;
+}
+
 int main(int count, char **words)
 {
-    if (count != 5) {
-        fprintf(stderr, "usage: age encrypt|armor|encrypt-passphrase|decrypt|decrypt-passphrase KEYS IN OUT\n");
+    bool of_part = count > 1 && strcmp(words[1], "part") == 0;
+    if (count != (of_part ? 7 : 5)) {
+        fprintf(stderr, "usage: age encrypt|armor|encrypt-passphrase|decrypt|decrypt-passphrase|stream|part KEYS IN OUT [FROM COUNT]\n");
         return WRONG;
     }
     const char *command = words[1];
+    if (of_part || strcmp(command, "stream") == 0) {
+        struct bytes by = contents(words[2]);
+        uint32_t status = of_part ? part(by, words[3], words[4], number_of(words[5]), number_of(words[6]))
+                                  : stream(by, words[3], words[4]);
+        free(by.at);
+        return (int)status;
+    }
     bool with_passphrase = strstr(command, "-passphrase") != NULL;
     struct bytes keys = contents(words[2]), in = contents(words[3]), out;
     uint32_t status = strncmp(command, "decrypt", 7) == 0

@@ -13,7 +13,8 @@ import os
 import sys
 from pathlib import Path
 
-OK, OUT_TOO_SHORT, WRONG = 0, 1, 100
+OK, OUT_TOO_SHORT, NEED_MORE, UNEXPECTED_EOF, PAST_END, TRUNCATED, WRONG = 0, 1, 2, 11, 14, 15, 100
+PIECE, CHUNK = 65_536, 65_552
 RANDOM_FOR_PASSPHRASE = 72
 RANDOM_FOR_KEY = 32
 BYTES = [ctypes.c_char_p, ctypes.c_size_t]
@@ -49,6 +50,8 @@ class Library:
             "age_decrypt_passphrase": [*BYTES, *BYTES, *ROOM],
             "age_keygen": [*BYTES, *ROOM],
             "age_recipient_of": [*BYTES, *ROOM],
+            "age_open_header": [*BYTES, *BYTES, *ROOM, ctypes.POINTER(ctypes.c_size_t)],
+            "age_open_header_passphrase": [*BYTES, *BYTES, *ROOM, ctypes.POINTER(ctypes.c_size_t)],
             "age_open_chunk": [*BYTES, ctypes.c_uint64, *armored, *BYTES, *ROOM],
             "age_seal_chunk": [*BYTES, ctypes.c_uint64, *armored, *BYTES, *ROOM],
         }.items():
@@ -94,6 +97,17 @@ class Library:
         """The recipients of the identities in a text, one to a line."""
         return self.given(self.calls.age_recipient_of, passed(identities), len(identities))
 
+    def open_header(self, identities, front, under_passphrase=False):
+        """The key of the payload and where it begins, by the front of a bare file, or None where more of the file is needed."""
+        call = self.calls.age_open_header_passphrase if under_passphrase else self.calls.age_open_header
+        key, written, place = ctypes.create_string_buffer(32), ctypes.c_size_t(0), ctypes.c_size_t(0)
+        status = call(*passed(identities, front), key, 32, ctypes.byref(written), ctypes.byref(place))
+        if status == NEED_MORE:
+            return None
+        if status != OK:
+            raise Refused(status)
+        return key.raw, place.value
+
     def plain_length(self, payload_length):
         """How many bytes the plaintext of a payload of so many bytes has."""
         length = ctypes.c_uint64(0)
@@ -111,10 +125,71 @@ class Library:
         return self.given(self.calls.age_seal_chunk, [*passed(key), number, last, *passed(plain)], len(plain) + 16)
 
 
+class Payload:
+    """The payload of a bare file that is open for reads and seeks, by the identities in a text."""
+
+    def __init__(self, library, identities, file):
+        self.library, self.file = library, file
+        length = file.seek(0, os.SEEK_END)
+        wanted, told = 4096, None
+        while told is None:
+            file.seek(0)
+            told = library.open_header(identities, file.read(wanted))
+            if told is None and wanted >= length:
+                raise Refused(UNEXPECTED_EOF)
+            wanted *= 2
+        self.key, self.place = told
+        self.length = length - self.place
+
+    def chunk(self, number, last):
+        """What a chunk holds, by its number, as the last one or as one before it."""
+        self.file.seek(self.place + number * CHUNK)
+        return self.library.open_chunk(self.key, number, last, self.file.read(CHUNK))
+
+    def stream(self):
+        """The pieces of the plaintext. The chunk after which nothing is left has to open as the last."""
+        last, number = False, 0
+        while not last:
+            last = self.length - number * CHUNK <= CHUNK
+            yield self.chunk(number, last)
+            number += 1
+
+    def part(self, start, count):
+        """Pieces that are so many bytes of the plaintext from a place on, or fewer at its end, which the last chunk has to show."""
+        try:
+            length = self.library.plain_length(self.length)
+        except Refused as refused:
+            raise Refused(TRUNCATED) from refused
+        if start > length:
+            raise Refused(PAST_END)
+        last, end = self.library.calls.age_chunk_count(length) - 1, min(start + count, length)
+        if start < end:
+            for number in range(start // PIECE, (end - 1) // PIECE + 1):
+                begins = number * PIECE
+                yield self.chunk(number, number == last)[max(start - begins, 0) : end - begins]
+        elif start == length and count > 0:
+            self.chunk(last, True)
+
+
+def read_payload(library, words):
+    """Of `stream` or `part`: what it gives is written, and taken away where it refuses."""
+    command, keys, given, out = words[:4]
+    try:
+        with open(given, "rb") as file, open(out, "wb") as to:
+            payload = Payload(library, Path(keys).read_bytes(), file)
+            to.writelines(payload.part(int(words[4]), int(words[5])) if command == "part" else payload.stream())
+    except Refused as refused:
+        Path(out).unlink()
+        return refused.status
+    return OK
+
+
 def main():
+    library = Library(os.environ["AGE_C_LIBRARY"])
+    if (sys.argv[1:2], len(sys.argv)) in ((["part"], 7), (["stream"], 5)):
+        return read_payload(library, sys.argv[1:])
     if len(sys.argv) != 5:
         return WRONG
-    library = Library(os.environ["AGE_C_LIBRARY"])
     commands = {
         "encrypt": library.encrypt,
         "armor": lambda keys, plain: library.encrypt(keys, plain, armored=True),

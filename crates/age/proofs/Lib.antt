@@ -3,10 +3,10 @@ pub use Rattle.age_io.proofs.Delivering
 pub use Rattle.age_io.proofs.Copied
 pub use Rattle.age_io.proofs.PartCopied
 pub use Rattle.age_base64.proofs.Columns
-pub use Rattle.age_stream.proofs.Standing as StreamStanding
+pub use Rattle.age_v1.proofs.StandingBytes as StreamStanding
 pub use Rattle.age_stream.proofs.Remaining as StreamRemaining
 pub use Rattle.age_stream.proofs.Answered as StreamAnswered
-pub use Rattle.age_format.proofs.Strings
+pub use Rattle.age_v1.proofs.Strings
 pub use Rattle.age_format.proofs.Tags
 pub use Rattle.age_format.proofs.Outcomes
 pub use Rattle.age_keys.proofs.RefusedTexts

@@ -12,13 +12,13 @@ pub use Rattle.age_error.specs.declared.decrypt.DecryptError.TheVariants as Decr
 pub use Rattle.age_error.specs.declared.resolve.ResolveError.TheVariants as ResolveErrorVariants
 pub use Rattle.age_io.specs.declared.operations.Op.TheVariants as OpVariants
 pub use Rattle.age_io.specs.declared.operations.Answer.TheVariants as AnswerVariants
-pub use Rattle.age_armor.specs.declared.format.Format.TheVariants as FormatVariants
+pub use Rattle.age_v1.specs.declared.format.Format.TheVariants as FormatVariants
 pub use Rattle.age_protocol.specs.declared.error.FileError.TheVariants as FileErrorVariants
 pub use Rattle.age_identity.specs.declared.error.IdentityFileConvertError.TheVariants as IdentityFileConvertErrorVariants
 -- bytes, and what refusals say: age_error
 pub use Rattle.age_error.specs.Bytes
 pub use Rattle.age_error.specs.Refusals
-pub use Rattle.age_error.specs.ErrorLaws
+pub use Rattle.age_error.specs.ErrorLemmas
 pub use Rattle.age_error.specs.Messages
 pub use Rattle.age_error.specs.LongMessages
 pub use Rattle.age_error.specs.Labels
@@ -33,16 +33,16 @@ pub use Rattle.age_suite.specs.Draw
 -- readers and writers: age_io
 pub use Rattle.age_io.specs.Stretch
 pub use Rattle.age_io.specs.Reading
-pub use Rattle.age_io.specs.ReadingLaws
+pub use Rattle.age_io.specs.ReadingLemmas
 pub use Rattle.age_io.specs.Keeping
 pub use Rattle.age_io.proofs.Retrying
 pub use Rattle.age_io.specs.Filling
 pub use Rattle.age_io.specs.Failing
 pub use Rattle.age_io.specs.Writing
-pub use Rattle.age_io.specs.WritingLaws
+pub use Rattle.age_io.specs.WritingLemmas
 pub use Rattle.age_io.specs.Copying
 pub use Rattle.age_io.specs.Cursor
-pub use Rattle.age_io.specs.CursorLaws
+pub use Rattle.age_io.specs.CursorLemmas
 pub use Rattle.age_io.specs.Replies
 pub use Rattle.age_io.specs.Slices
 pub use Rattle.age_io.specs.Buffering
@@ -61,13 +61,34 @@ pub use Rattle.age_bech32.specs.Groups as Bech32Groups
 pub use Rattle.age_bech32.specs.Bech32
 pub use Rattle.age_bech32.specs.Written as Bech32Written
 pub use Rattle.age_bech32.specs.Refusals as Bech32Refusals
+-- the definition of age-encryption.org/v1: age_v1
+pub use Rattle.age_v1.specs.Stanza
+pub use Rattle.age_v1.specs.Header
+pub use Rattle.age_v1.specs.HeaderMac
+pub use Rattle.age_v1.specs.Payload
+pub use Rattle.age_v1.specs.File
+pub use Rattle.age_v1.specs.Claims
+pub use Rattle.age_v1.specs.Armor
+pub use Rattle.age_v1.specs.Recipients
+pub use Rattle.age_v1.specs.Encrypting
+pub use Rattle.age_v1.specs.Identities
+pub use Rattle.age_v1.specs.RecipientType
+pub use Rattle.age_v1.specs.X25519
+pub use Rattle.age_v1.specs.Scrypt
+-- what a reader makes of any bytes
+pub use Rattle.age_v1.specs.HeaderTexts
+pub use Rattle.age_v1.specs.HeaderVerdict
+pub use Rattle.age_v1.specs.DeliveredPayload
+pub use Rattle.age_v1.specs.PayloadRefusals
+pub use Rattle.age_v1.specs.PayloadAnswers
+pub use Rattle.age_v1.specs.PayloadTargets
+pub use Rattle.age_v1.specs.PayloadLaws
+pub use Rattle.age_v1.specs.ArmorFullLines
+pub use Rattle.age_v1.specs.ArmorLineVerdict
+pub use Rattle.age_v1.specs.ArmorFirstFault
+pub use Rattle.age_v1.specs.DeliveredArmor
 -- armor: age_armor
-pub use Rattle.age_armor.specs.Armor
-pub use Rattle.age_armor.specs.FullLines as ArmorFullLines
-pub use Rattle.age_armor.specs.LineVerdict
-pub use Rattle.age_armor.specs.FirstFault
-pub use Rattle.age_armor.specs.Delivered
-pub use Rattle.age_armor.specs.DeliveredLaws as ArmorDeliveredLaws
+pub use Rattle.age_v1.proofs.DeliveredArmors
 pub use Rattle.age_armor.specs.Stages as ArmorStages
 pub use Rattle.age_armor.specs.Ending as ArmorEnding
 pub use Rattle.age_armor.specs.Refusing as ArmorRefusing
@@ -76,50 +97,35 @@ pub use Rattle.age_armor.specs.Reader as ArmorReader
 pub use Rattle.age_armor.specs.Seeking as ArmorSeeking
 pub use Rattle.age_armor.specs.Writing as ArmorWriting
 -- payloads: age_stream
-pub use Rattle.age_stream.specs.Payload
-pub use Rattle.age_stream.specs.Chunks
-pub use Rattle.age_stream.specs.FrontToEnd
-pub use Rattle.age_stream.specs.Answering as StreamAnswering
-pub use Rattle.age_stream.specs.Targets as StreamTargets
+pub use Rattle.age_stream.specs.Seeking as StreamSeeking
+pub use Rattle.age_stream.specs.Sealed as StreamSealed
 pub use Rattle.age_stream.specs.Keeping as StreamKeeping
 pub use Rattle.age_stream.specs.Reader as StreamReader
-pub use Rattle.age_stream.specs.ReadingLaws as StreamReadingLaws
+pub use Rattle.age_stream.specs.ReadingLemmas as StreamReadingLemmas
 pub use Rattle.age_stream.specs.Sending as StreamSending
 pub use Rattle.age_stream.specs.Writing as StreamWriting
-pub use Rattle.age_stream.specs.WritingLaws as StreamWritingLaws
-pub use Rattle.age_stream.specs.Laws as StreamLaws
+pub use Rattle.age_stream.specs.WritingLemmas as StreamWritingLemmas
 -- headers: age_format
-pub use Rattle.age_format.specs.Bytes as FormatBytes
-pub use Rattle.age_format.specs.Stanza
-pub use Rattle.age_format.specs.Header
-pub use Rattle.age_format.specs.Verdict
 pub use Rattle.age_format.specs.HeaderV1
 pub use Rattle.age_format.specs.ReadingHeader
 pub use Rattle.age_format.specs.OldHeader
 pub use Rattle.age_format.specs.Wrapping
-pub use Rattle.age_format.specs.Drawing
 pub use Rattle.age_format.specs.Unwrapping
-pub use Rattle.age_format.specs.UnwrappingLaws
-pub use Rattle.age_format.specs.Belonging
-pub use Rattle.age_format.specs.BelongingLaws
+pub use Rattle.age_v1.proofs.AskedInTurn
+pub use Rattle.age_v1.specs.Belonging
+pub use Rattle.age_v1.proofs.BelongingInTurn
 pub use Rattle.age_format.specs.Boxed
 -- keys: age_keys
-pub use Rattle.age_keys.specs.OwnType
-pub use Rattle.age_keys.specs.X25519
 pub use Rattle.age_keys.specs.X25519Laws
-pub use Rattle.age_keys.specs.Scrypt
 pub use Rattle.age_keys.specs.ScryptLaws
 pub use Rattle.age_keys.specs.KeyTexts
 pub use Rattle.age_keys.specs.PluginKeys
 -- files: age_protocol
-pub use Rattle.age_protocol.specs.Labels as RecipientLabels
-pub use Rattle.age_protocol.specs.Encrypting
 pub use Rattle.age_protocol.specs.Answers
 pub use Rattle.age_protocol.specs.Starting
-pub use Rattle.age_protocol.specs.File
+pub use Rattle.age_protocol.specs.Ready
 pub use Rattle.age_protocol.specs.Decryptor
 pub use Rattle.age_protocol.specs.Decrypting
-pub use Rattle.age_protocol.specs.Answering
 pub use Rattle.age_protocol.specs.OpeningFile
 pub use Rattle.age_protocol.specs.WholeFiles
 pub use Rattle.age_protocol.specs.FileErrors
@@ -138,7 +144,7 @@ pub use Rattle.age_identity.specs.IdentityFile
 pub use Rattle.age_identity.specs.Reading as IdentityReading
 pub use Rattle.age_identity.specs.Limiting
 pub use Rattle.age_identity.specs.Limited
-pub use Rattle.age_identity.specs.LimitLaws
+pub use Rattle.age_identity.specs.LimitLemmas
 pub use Rattle.age_identity.specs.ConvertErrors
 pub use Rattle.age_identity.specs.Converting
 pub use Rattle.age_identity.specs.Asking

@@ -15,7 +15,7 @@ pub use Rattle.age_io.specs.declared.standard.Std.{Std}
 pub use Rattle.age_io.specs.declared.into_std.IntoStd.{IntoStd}
 pub use Rattle.age_io.specs.declared.operations.Op.{Op}
 pub use Rattle.age_io.specs.declared.operations.Answer.{Answer}
-pub use Rattle.age_armor.specs.declared.format.Format.{Format}
+pub use Rattle.age_v1.specs.declared.format.Format.{Format}
 pub use Rattle.age_armor.specs.declared.reader.ArmoredReader.{ArmoredReader}
 pub use Rattle.age_armor.specs.declared.writer.ArmoredWriter.{ArmoredWriter}
 pub use Rattle.age_stream.specs.declared.reader.StreamReader.{StreamReader}

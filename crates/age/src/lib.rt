@@ -167,7 +167,7 @@ pub mod stream {
     /// What is true of payloads, of their readers and of their writers, for proofs alone.
     pub mod laws {
         pub use age_stream::laws::{
-            delivery_laws, payload_laws, piece_law, reader_law, writer_law,
+            delivery_laws, payload_laws, piece_law, reader_law, sent_law, writer_law,
         };
     }
 }

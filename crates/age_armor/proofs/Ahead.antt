@@ -4,18 +4,19 @@ use Rattle.std.proofs.lemmas.Bool.{true≢false}
 use Rattle.std.proofs.lemmas.List.{drop_all, drop-drop, drop-take, take-append-drop, drop_at, nil_from_length}
 use Rattle.age_io.specs.Stretch.{Stretch, nothing, from_place, stretch-ext, IsCleanEnd, IsFault}
 use Rattle.age_io.specs.Filling.{IsFront}
-use Rattle.age_io.specs.BehindLaws.{held-empty}
+use Rattle.age_io.specs.BehindLemmas.{held-empty}
 use Rattle.age_io.proofs.Holding.{length-held}
 use Rattle.age_error.specs.declared.io.Error.{Error}
 use Rattle.age_io.specs.Reading.{Delivers, StandsIn}
 use Rattle.age_io.specs.Buffering.{held}
 use Rattle.age_armor.specs.declared.stages.Stage.{Stage}
 use Rattle.age_armor.specs.declared.stages.Stage.TheVariants.{Start, Binary, Lines, Ended}
-use Rattle.age_armor.specs.Stages.{ahead, is_ended, Advances, Stops, IsNamed}
+use Rattle.age_armor.specs.Stages.{ahead, NamesEnding}
+use Rattle.age_armor.specs.PrivateStages.{is_ended, Advances, StopsWith}
 use Rattle.age_armor.specs.Ahead.{rest_ahead, shown_ahead, outcome_ahead}
-use Rattle.age_armor.specs.Delivered.{Ending, Clean, Refused, InnerFault, ends, is_clean, at_end, stretch_of, delivered}
-use Rattle.age_armor.specs.ReaderLaws.{nothing_delivered}
-use Rattle.age_armor.specs.DeliveredLaws.{content_of}
+use Rattle.age_v1.specs.DeliveredArmor.{Ending, Clean, Refused, InnerFault, ends_in, is_clean, at_end, stretch_of, text_delivers}
+use Rattle.age_armor.specs.ReaderLemmas.{nothing_delivered}
+use Rattle.age_v1.proofs.DeliveredArmors.{content_of}
 
 pub rest_failed : (bytes : List ℕ) (given filled : ℕ) (stage : Stage) (rest : Stretch) → rest_ahead true bytes given filled stage rest ≡ nothing
 unfolding rest_ahead
@@ -145,11 +146,11 @@ pub starts_shown : (bytes : List ℕ) → shown_ahead false bytes 0 0 ≡ []
 unfolding shown_ahead
 starts_shown bytes = refl
 
-pub starts_outcome : (bytes : List ℕ) (rest : Stretch) → outcome_ahead bytes 0 0 Start rest ≡ delivered rest.bytes rest.ends_well
+pub starts_outcome : (bytes : List ℕ) (rest : Stretch) → outcome_ahead bytes 0 0 Start rest ≡ text_delivers rest.bytes rest.ends_well
 unfolding outcome_ahead
 starts_outcome bytes rest = refl
 
-pub starts_rest : (bytes : List ℕ) (rest : Stretch) → rest_ahead false bytes 0 0 Start rest ≡ stretch_of (delivered rest.bytes rest.ends_well)
+pub starts_rest : (bytes : List ℕ) (rest : Stretch) → rest_ahead false bytes 0 0 Start rest ≡ stretch_of (text_delivers rest.bytes rest.ends_well)
 unfolding rest_ahead
 starts_rest bytes rest = refl
 
@@ -159,8 +160,8 @@ unfolding rest_ahead
 starts content rest place bytes inner = record {
   within = omega arith;
   reaches = elim inner.reaches [
-    | inl e ↦ inl (ap (λ s. stretch_of (delivered s.bytes s.ends_well)) e)
-    | inr e ↦ inr (ap (λ s. stretch_of (delivered s.bytes s.ends_well)) e ∙ nothing_delivered)
+    | inl e ↦ inl (ap (λ s. stretch_of (text_delivers s.bytes s.ends_well)) e)
+    | inr e ↦ inr (ap (λ s. stretch_of (text_delivers s.bytes s.ends_well)) e ∙ nothing_delivered)
   ];
 }
 
@@ -180,28 +181,28 @@ unfolding outcome_ahead
 hold_ending old bytes given filled count stage next rest new advances = sym (ap (λ o. o.ending) advances.same)
 
 pub hold_end : (failed : Bool) (old : List ℕ) (given filled : ℕ) (stage : Stage) (rest : Stretch) → failed ≡ false →
-    filled ≤ length old → filled ≤ given → ahead stage rest ≡ ends Clean → IsCleanEnd (rest_ahead failed old given filled stage rest)
+    filled ≤ length old → filled ≤ given → ahead stage rest ≡ ends_in Clean → IsCleanEnd (rest_ahead failed old given filled stage rest)
 unfolding rest_ahead
 hold_end failed old given filled stage rest good within empty end =
     rw (good, held-empty old given filled within empty, end) (record { bytes = refl; ends_well = refl })
 
-dirty : (end : Ending) (e : Error) → IsNamed end e → is_clean end ≡ false
+dirty : (end : Ending) (e : Error) → NamesEnding end e → is_clean end ≡ false
 dirty Clean e named = absurd named
 dirty (Refused f) e named = refl
 dirty InnerFault e named = refl
 
 pub hold_fault : (failed : Bool) (old : List ℕ) (given filled : ℕ) (stage : Stage) (rest : Stretch) (e : Error) → failed ≡ false →
-    filled ≤ length old → filled ≤ given → Stops (ahead stage rest) e → IsFault (rest_ahead failed old given filled stage rest)
+    filled ≤ length old → filled ≤ given → StopsWith (ahead stage rest) e → IsFault (rest_ahead failed old given filled stage rest)
 unfolding rest_ahead
 hold_fault failed old given filled stage rest e good within empty stops =
     rw (good, held-empty old given filled within empty) (record { bytes = stops.nothing; ends_badly = dirty (ahead stage rest).ending e stops.named })
 
-pub hold_named : (old : List ℕ) (given filled : ℕ) (stage : Stage) (rest : Stretch) (e : Error) → Stops (ahead stage rest) e →
-    IsNamed (outcome_ahead old given filled stage rest).ending e
+pub hold_named : (old : List ℕ) (given filled : ℕ) (stage : Stage) (rest : Stretch) (e : Error) → StopsWith (ahead stage rest) e →
+    NamesEnding (outcome_ahead old given filled stage rest).ending e
 unfolding outcome_ahead
 hold_named old given filled stage rest e stops = stops.named
 
-pub ended_clean : (stage : Stage) (rest : Stretch) → is_ended stage ≡ true → ahead stage rest ≡ ends Clean
+pub ended_clean : (stage : Stage) (rest : Stretch) → is_ended stage ≡ true → ahead stage rest ≡ ends_in Clean
 ended_clean Start rest e = absurd (true≢false (sym e))
 ended_clean Binary rest e = absurd (true≢false (sym e))
 ended_clean (Lines s) rest e = absurd (true≢false (sym e))
@@ -232,7 +233,7 @@ pass_fault failed bytes given filled stage rest good binary within same fault =
     (record { bytes = fault.bytes; ends_badly = ap (λ w. is_clean (at_end w Clean)) fault.ends_badly })
 
 pub pass_named : (bytes : List ℕ) (given filled : ℕ) (stage : Stage) (rest : Stretch) (e : Error) → stage ≡ Binary → IsFault rest →
-    IsNamed (outcome_ahead bytes given filled stage rest).ending e
+    NamesEnding (outcome_ahead bytes given filled stage rest).ending e
 unfolding outcome_ahead
 pass_named bytes given filled stage rest e binary fault = rw (binary, fault.ends_badly) tt
 

@@ -10,11 +10,12 @@ use Rattle.age_io.specs.Reading.{Delivers}
 use Rattle.age_base64.specs.Lines.{line}
 use Rattle.age_base64.specs.Base64.{padded_columns}
 use Rattle.age_base64.proofs.PaddedColumns.{padded_columns-append, length-padded_columns}
-use Rattle.age_armor.specs.LineVerdict.{decoded}
-use Rattle.age_armor.specs.FullLines.{full_lines}
-use Rattle.age_armor.specs.FullLineLaws.{full_lines-front, full_lines-both}
-use Rattle.age_armor.specs.DeliveredLaws.{decoded_is}
-use Rattle.age_armor.specs.Showing.{IsAhead, TakesFull}
+use Rattle.age_v1.specs.ArmorLineVerdict.{decoded}
+use Rattle.age_v1.specs.ArmorFullLines.{full_lines}
+use Rattle.age_v1.proofs.FullArmorLines.{full_lines-front, full_lines-both}
+use Rattle.age_v1.proofs.DeliveredArmors.{decoded_is}
+use Rattle.age_armor.specs.Showing.{IsAhead}
+use Rattle.age_armor.specs.PrivateShowing.{TakesFull}
 use Rattle.age_armor.proofs.Encoded.{columns_at}
 
 -- ---- lines that are gathered

@@ -13,9 +13,10 @@ use Rattle.age_io.specs.declared.traits.Read.{Ghosts}
 use Rattle.age_io.specs.Keeping.{SameReader, KeepsReader, OrSeek}
 use Rattle.age_io.specs.Cursor.{Seeks, IsOutside, moved_to, place_at, sought}
 use Rattle.age_io.proofs.Keeping.{same-self, same-later, keeps-refused}
-use Rattle.age_armor.specs.Delivered.{Ending, Clean, Refused, InnerFault, is_clean}
-use Rattle.age_armor.specs.Stages.{IsNamed}
-use Rattle.age_armor.specs.Seeking.{Goes, OrAstray, SeeksText, ComesBack}
+use Rattle.age_v1.specs.DeliveredArmor.{Ending, Clean, Refused, InnerFault, is_clean}
+use Rattle.age_armor.specs.Stages.{NamesEnding}
+use Rattle.age_armor.specs.Seeking.{OrAstray}
+use Rattle.age_armor.specs.PrivateSeeking.{Goes, SeeksText, ComesBack}
 use Rattle.age_armor.proofs.Keeping.{goes-unrefused}
 
 -- ---- where a target leads
@@ -95,7 +96,7 @@ refusal-interruption BeforeStart is interruption = interruption
 refusal-interruption PastEnd is interruption = interruption
 refusal-interruption _ is interruption = is
 
-pub clean-unnamed : (ending : Ending) (e : Error) → IsTrue (is_clean ending) → IsNamed ending e → ⊥
+pub clean-unnamed : (ending : Ending) (e : Error) → IsTrue (is_clean ending) → NamesEnding ending e → ⊥
 clean-unnamed Clean e clean named = named
 clean-unnamed (Refused f) e clean named = true≢false (sym clean)
 clean-unnamed InnerFault e clean named = true≢false (sym clean)

@@ -11,8 +11,8 @@ use Rattle.base64.proofs.RoundTrip.{length-encode_symbols}
 use Rattle.age_base64.specs.Lines.{line}
 use Rattle.age_base64.specs.Base64.{padded_columns}
 use Rattle.age_base64.proofs.PaddedColumns.{padded_columns-append, length-padded_columns}
-use Rattle.age_armor.specs.FullLines.{full_lines}
-use Rattle.age_armor.specs.FullLineLaws.{full_lines-both}
+use Rattle.age_v1.specs.ArmorFullLines.{full_lines}
+use Rattle.age_v1.proofs.FullArmorLines.{full_lines-both}
 
 -- the columns of a line among those of many
 pub columns_at : (bytes : List ℕ) (n : ℕ) → 48 * n + 48 ≤ length bytes →

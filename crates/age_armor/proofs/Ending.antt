@@ -4,13 +4,13 @@ use Rattle.std.proofs.lemmas.Bool.{true≢false}
 use Rattle.std.specs.List.{flat_map}
 use Rattle.age_base64.specs.Lines.{line}
 use Rattle.age_base64.specs.Base64.{padded_columns}
-use Rattle.age_armor.specs.Armor.{armor, armor_lines, begin_marker, end_marker}
-use Rattle.age_armor.specs.declared.format.Format.{Format}
-use Rattle.age_armor.specs.declared.format.Format.TheVariants.{Binary, AsciiArmor}
+use Rattle.age_v1.specs.Armor.{armor, armor_lines, begin_marker, end_marker, text_of}
+use Rattle.age_v1.specs.declared.format.Format.{Format}
+use Rattle.age_v1.specs.declared.format.Format.TheVariants.{Binary, AsciiArmor}
 use Rattle.age_armor.specs.declared.writer.ArmoredWriter.{ArmoredWriter}
-use Rattle.age_armor.specs.FullLines.{full_lines}
-use Rattle.age_armor.specs.Writing.{Took, Takes, Appended, WasMade, text_of, in_armor}
-use Rattle.age_armor.proofs.WrittenLines.{lines_parts}
+use Rattle.age_v1.specs.ArmorFullLines.{full_lines}
+use Rattle.age_armor.specs.Writing.{Took, Takes, Appended, WasMade, in_armor}
+use Rattle.age_v1.proofs.WrittenLines.{lines_parts}
 
 -- what the end adds to full lines
 abbrev pub end_of : List ℕ → List ℕ

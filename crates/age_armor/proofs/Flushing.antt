@@ -2,9 +2,9 @@
 use Rattle.std.specs.Prelude.{◌≡◌, ℕ, Bool, true, false, List, [], Ok}
 use Rattle.age_error.specs.declared.io.Error.{Error}
 use Rattle.age_io.specs.Writing.{Flushes, Retried}
-use Rattle.age_io.specs.WritingLaws.{hands-on-narrows}
+use Rattle.age_io.specs.WritingLemmas.{hands-on-narrows}
 use Rattle.age_armor.specs.Writing.{Appended, Refused}
-use Rattle.age_armor.specs.WritingLaws.{Appended-same, Refused-armored}
+use Rattle.age_armor.specs.WritingLemmas.{Appended-same, Refused-armored}
 use Rattle.age_armor.specs.declared.writer.ArmoredWriter.{ArmoredWriter}
 
 module _ {W : Type 0} (tells : W → Bool) (faults : W → ℕ) (refuses : W → ℕ → Error → Type 0) (appended : W → List ℕ → W → Type 0)

@@ -6,8 +6,9 @@ use Rattle.age_io.specs.Stretch.{Stretch, from_place}
 use Rattle.age_io.specs.Reading.{Delivers, StandsIn}
 use Rattle.age_armor.specs.declared.stages.Stage.{Stage}
 use Rattle.age_armor.specs.declared.stages.Stage.TheVariants.{Start, Binary, Lines, Ended}
-use Rattle.age_armor.specs.Delivered.{Clean, is_clean, at_end, begins_armor}
-use Rattle.age_armor.specs.Stages.{FindsForm, is_start, is_armored}
+use Rattle.age_v1.specs.DeliveredArmor.{Clean, is_clean, at_end, begins_armor}
+use Rattle.age_armor.specs.Stages.{is_start, has_lines}
+use Rattle.age_armor.specs.PrivateStages.{FindsForm}
 use Rattle.age_armor.specs.Ahead.{rest_ahead, shown_ahead}
 
 form_found : (content rest : Stretch) (place origin : ℕ) (armored : Bool) → StandsIn content place rest → origin ≡ place → FindsForm armored rest.bytes →
@@ -19,11 +20,11 @@ form_found content rest place origin armored stands at found = elim stands.reach
 
 -- the first bytes tell it, and what comes after them keeps it
 pub form_held : (content rest text : Stretch) (place origin : ℕ) (stage next : Stage) → StandsIn content place rest → (is_start stage ≡ true → origin ≡ place) →
-    (is_start stage ≡ true → FindsForm (is_armored next) rest.bytes) → (is_start stage ≡ false → is_armored next ≡ is_armored stage) →
-    (is_start stage ≡ false → FindsForm (is_armored stage) (from_place origin content).bytes) →
-    text ≡ from_place origin content → FindsForm (is_armored next) text.bytes
+    (is_start stage ≡ true → FindsForm (has_lines next) rest.bytes) → (is_start stage ≡ false → has_lines next ≡ has_lines stage) →
+    (is_start stage ≡ false → FindsForm (has_lines stage) (from_place origin content).bytes) →
+    text ≡ from_place origin content → FindsForm (has_lines next) text.bytes
 form_held content rest text place origin stage next stands at found kept before same = elim (cases_Bool (is_start stage)) [
-  | inl start ↦ rw same (form_found content rest place origin (is_armored next) stands (at start) (found start))
+  | inl start ↦ rw same (form_found content rest place origin (has_lines next) stands (at start) (found start))
   | inr begun ↦ rw (same, kept begun) (before begun)
 ]
 
@@ -31,8 +32,8 @@ pub form_kept : (armored : Bool) (old new : Stretch) → FindsForm armored old.b
 form_kept armored old new is same = rw same is
 
 -- a text that doesn't begin as armor does is read without lines
-pub plain_stage : (stage : Stage) (text : Stretch) → (is_start stage ≡ false → FindsForm (is_armored stage) text.bytes) → begins_armor text.bytes ≡ false →
-    is_armored stage ≡ false
+pub plain_stage : (stage : Stage) (text : Stretch) → (is_start stage ≡ false → FindsForm (has_lines stage) text.bytes) → begins_armor text.bytes ≡ false →
+    has_lines stage ≡ false
 plain_stage Start text form plain = refl
 plain_stage Binary text form plain = refl
 plain_stage (Lines s) text form plain = (form refl).same ∙ plain
@@ -61,7 +62,7 @@ stands_in_text content rest place origin taken at stands =
     stretch : List ℕ → Bool → Stretch
     stretch bytes ends_well = record { bytes = bytes; ends_well = ends_well }
 
-found_binary : {X : Type 0} (stage : Stage) → (is_start stage ≡ true → X) → is_armored stage ≡ false → (stage ≡ Binary → X) → X
+found_binary : {X : Type 0} (stage : Stage) → (is_start stage ≡ true → X) → has_lines stage ≡ false → (stage ≡ Binary → X) → X
 found_binary Start start armored binary = start refl
 found_binary Binary start armored binary = binary refl
 found_binary (Lines s) start armored binary = absurd (true≢false armored)
@@ -73,7 +74,7 @@ end_passes false = refl
 
 -- of a binary text it has what comes after what is held
 pub binary_left : (failed : Bool) (bytes : List ℕ) (given filled taken : ℕ) (stage : Stage) (rest : Stretch) → failed ≡ false →
-    (is_start stage ≡ true → taken ≡ 0) → is_armored stage ≡ false → 0 < taken →
+    (is_start stage ≡ true → taken ≡ 0) → has_lines stage ≡ false → 0 < taken →
     Delivers (shown_ahead failed bytes given filled) (rest_ahead failed bytes given filled stage rest) rest
 unfolding rest_ahead shown_ahead
 binary_left failed bytes given filled taken stage rest good none plain some =
@@ -83,6 +84,6 @@ binary_left failed bytes given filled taken stage rest good none plain some =
 -- ---- a text that isn't armor
 
 -- a text that passes unchanged doesn't begin so
-pub binary_form : {X : Type 0} (stage : Stage) (text : Stretch) → stage ≡ Binary → FindsForm (is_armored stage) text.bytes →
+pub binary_form : {X : Type 0} (stage : Stage) (text : Stretch) → stage ≡ Binary → FindsForm (has_lines stage) text.bytes →
     begins_armor text.bytes ≡ true → X
-binary_form stage text binary is armor = absurd (true≢false (sym armor ∙ sym is.same ∙ ap is_armored binary))
+binary_form stage text binary is armor = absurd (true≢false (sym armor ∙ sym is.same ∙ ap has_lines binary))

@@ -15,13 +15,15 @@ use Rattle.age_io.specs.Reading.{most_faults, IsQuiet, AddsNoReason}
 use Rattle.age_io.specs.Cursor.{IsOutside, sought, target}
 use Rattle.age_io.proofs.Keeping.{same-later, keeps-done, seek-narrows}
 use Rattle.age_armor.specs.declared.reader.ArmoredReader.{ArmoredReader}
-use Rattle.age_armor.specs.Delivered.{delivered}
-use Rattle.age_armor.specs.Stages.{IsNamed, is_start}
-use Rattle.age_armor.specs.ReaderLaws.{well_inner}
-use Rattle.age_armor.specs.Seeking.{Goes, OrAstray, AsksPast, SeeksText, ComesBack}
+use Rattle.age_v1.specs.DeliveredArmor.{text_delivers}
+use Rattle.age_armor.specs.Stages.{NamesEnding, is_start}
+use Rattle.age_armor.specs.ReaderLemmas.{well_inner}
+use Rattle.age_armor.specs.Seeking.{OrAstray, AsksPast}
+use Rattle.age_armor.specs.PrivateSeeking.{Goes, SeeksText, ComesBack}
 use Rattle.age_armor.specs.Refusing.{OrText}
 use Rattle.age_armor.specs.Reader.{knows_end, origin_of, text_outcome_of, armored_reader, armored_content, armored_rest, refuses_of}
-use Rattle.age_armor.specs.Steps.{WhereTold, WhereSteady, KeepsText, Came, GoesTo, ReachesEnd, FailsThere, LandsBelow, EndsAsBefore, EndsAsText, Stands, WalksAlong, Reaches, Misses, FindsEnd, StaysThere, SparesReading, TakesFew}
+use Rattle.age_armor.specs.Steps.{WhereSteady, LandsBelow}
+use Rattle.age_armor.specs.PrivateSteps.{WhereTold, KeepsText, Came, GoesTo, ReachesEnd, FailsThere, EndsAsBefore, EndsAsText, StandsInText, WalksAlong, Reaches, Misses, FindsEnd, StaysThere, SparesReading, TakesFew}
 use Rattle.age_armor.proofs.Keeping.{armor-narrows, armored-refused, armored-done, same-armored, gone, goes-later, goes-seeking, goes-unrefused, armor-plain, seeks-plain, text-later}
 use Rattle.age_armor.proofs.OwnEndings.{still_named}
 use Rattle.age_armor.proofs.Taking.{quiet_after}
@@ -32,11 +34,11 @@ use Rattle.age_io.proofs.Retrying.{tried-narrows}
 module _ {R : Type 0} {buf : buffered.Ghosts R} {read : Ghosts R} where
   pub ends-later : (a b c : ArmoredReader R buf read) → SameReader armored_reader a b → KeepsText a b → EndsAsText b c → EndsAsText a c
   ends-later a b c same text ends = λ told steady good.
-      ends (same.tells ∙ told) (same.steady ∙ steady) good ∙ ap (λ t. (delivered t.bytes t.ends_well).ending) (text.same_text told)
+      ends (same.tells ∙ told) (same.steady ∙ steady) good ∙ ap (λ t. (text_delivers t.bytes t.ends_well).ending) (text.same_text told)
 
   -- ---- what is said of the other answer alone
 
-  pub stands-none : {A : Type 0} (a b : ArmoredReader R buf read) (e : Error) → Stands {A = A} a b (Err e)
+  pub stands-none : {A : Type 0} (a b : ArmoredReader R buf read) (e : Error) → StandsInText {A = A} a b (Err e)
   stands-none a b e = record { good = tt; rest = λ told steady. tt; ending = λ told steady. tt }
 
   pub reaches-none : (a b : ArmoredReader R buf read) (to : SeekFrom) (e : Error) → Reaches a b to (Err e)
@@ -62,7 +64,7 @@ module _ {R : Type 0} {buf : buffered.Ghosts R} {read : Ghosts R} where
   pub misses-own : (a b : ArmoredReader R buf read) (to : SeekFrom) (e : Error) → (IsOutside e → ⊥) →
       (IsTrue (read.tells a.source.inner) → IsTrue (read.content a.source.inner).ends_well → e ≢ OutOfMemory →
       IsQuiet (read.faults a.source.inner) (read.faults b.source.inner) →
-      IsNamed (text_outcome_of a).ending e × AsksPast to a.place (length (armored_content a).bytes)) → Misses a b to (Err e)
+      NamesEnding (text_outcome_of a).ending e × AsksPast to a.place (length (armored_content a).bytes)) → Misses a b to (Err e)
   misses-own a b to e own named = record {
     missed = λ refusal. absurd (own refusal);
     refused = λ told steady refusal. absurd (own refusal);
@@ -72,7 +74,7 @@ module _ {R : Type 0} {buf : buffered.Ghosts R} {read : Ghosts R} where
   -- ---- to a mark, and on from there
 
   pub came-on : {A B : Type 0} {x : A} {y : B} {may more : ArmoredReader R buf read → Error → Type 0} (a b c : ArmoredReader R buf read) (target : ℕ) →
-      Goes armored_reader may a b (Ok x) → KeepsText a b → Stands a b (Ok x) →
+      Goes armored_reader may a b (Ok x) → KeepsText a b → StandsInText a b (Ok x) →
       Goes armored_reader more b c (Ok y) → KeepsText b c → c.failed ≡ false → WalksAlong b c target (Ok y) → EndsAsBefore b c (Ok y) →
       (IsTrue (read.tells c.source.inner) → IsTrue (read.steady c.source.inner) → c.place ≤ length (armored_content c).bytes) → Came a c
   came-on a b c target went first_text first goes last_text good along ends inside =
@@ -93,7 +95,7 @@ module _ {R : Type 0} {buf : buffered.Ghosts R} {read : Ghosts R} where
   pub came-goes : {A : Type 0} {x : A} {may : ArmoredReader R buf read → Error → Type 0} (a b : ArmoredReader R buf read) → Came a b → Goes armored_reader may a b (Ok x)
   came-goes a b came = record { keeps = keeps-done _ _ _ _ came.same came.narrows; unspent = came.unspent }
 
-  pub came-stands : {A : Type 0} {x : A} (a b : ArmoredReader R buf read) → Came a b → Stands a b (Ok x)
+  pub came-stands : {A : Type 0} {x : A} (a b : ArmoredReader R buf read) → Came a b → StandsInText a b (Ok x)
   came-stands a b came = record { good = came.good; rest = came.stands; ending = came.ending }
 
   -- its clean end is that of what the text carries
@@ -119,7 +121,7 @@ module _ {R : Type 0} {buf : buffered.Ghosts R} {read : Ghosts R} where
 
   pub walk-misses : {A B : Type 0} {x : A} {may more : ArmoredReader R buf read → Error → Type 0} (a b c : ArmoredReader R buf read) (to : SeekFrom) (target : ℕ)
       (e answer : Error) → (IsTrue (read.tells a.source.inner) → IsTrue (read.content a.source.inner).ends_well → IsTrue (read.steady a.source.inner)) →
-      Goes armored_reader may a b (Ok x) → Stands a b (Ok x) →
+      Goes armored_reader may a b (Ok x) → StandsInText a b (Ok x) →
       Goes {A = B} armored_reader more b c (Err e) → WalksAlong {A = B} b c target (Err e) → EndsAsBefore {A = B} b c (Err e) →
       (IsOutside answer → ⊥) → ((IsOutside e → ⊥) → answer ≡ e) → ((len : ℕ) → len < target → AsksPast to a.place len) → Misses a c to (Err answer)
   walk-misses a b c to target e answer law went first goes along ends own same asks = misses-own a c to answer own (λ told well other quiet.
@@ -131,19 +133,19 @@ module _ {R : Type 0} {buf : buffered.Ghosts R} {read : Ghosts R} where
       let content : armored_content b ≡ armored_content a = back.content told in
       let stands : armored_rest b ≡ from_place b.place (armored_content b) = first.rest told steady ∙ ap (from_place b.place) (sym content) in
       let short = along.short told_middle (back.steady ∙ steady) stands fine calm in
-      let named : IsNamed (text_outcome_of a).ending e = subst (λ o. IsNamed o e) (first.ending told steady) (ends.named told_middle first.good fine calm) in
+      let named : NamesEnding (text_outcome_of a).ending e = subst (λ o. NamesEnding o e) (first.ending told steady) (ends.named told_middle first.good fine calm) in
       (still_named _ _ e answer named same, asks (length (armored_content a).bytes) (subst (λ s. length s.bytes < target) content short.1)))
 
   -- ---- a step, and then one to a target that was found from the end
 
   stands-later : {A : Type 0} (a b c : ArmoredReader R buf read) (result : Result A Error) → SameReader armored_reader a b → KeepsText a b →
-      Stands b c result → Stands a c result
+      StandsInText b c result → StandsInText a c result
   stands-later a b c result same text stands = record {
     good = stands.good;
     rest = λ told steady.
         on_ok_weaker result (λ is. is ∙ ap (from_place c.place) (same.content told)) (stands.rest (same.tells ∙ told) (same.steady ∙ steady));
     ending = λ told steady.
-        on_ok_weaker result (λ is. is ∙ ap (λ t. (delivered t.bytes t.ends_well).ending) (text.same_text told))
+        on_ok_weaker result (λ is. is ∙ ap (λ t. (text_delivers t.bytes t.ends_well).ending) (text.same_text told))
         (stands.ending (same.tells ∙ told) (same.steady ∙ steady));
   }
 
@@ -205,7 +207,7 @@ module _ {R : Type 0} {buf : buffered.Ghosts R} {read : Ghosts R} where
     named = λ told well. IfErr-weaker result _ _
         (λ e named own other quiet.
         let is = named own other (quiet_after _ _ _ same.faults more quiet) in (
-          subst (λ o. IsNamed o e) (ap (λ t. (delivered t.bytes t.ends_well).ending) (text.same_text told)) is.0,
+          subst (λ o. NamesEnding o e) (ap (λ t. (text_delivers t.bytes t.ends_well).ending) (text.same_text told)) is.0,
           asks (length (armored_content a).bytes) (subst (λ s. AsksPast to b.place (length s.bytes)) (same.content told) is.1),
         ))
         (misses.named (same.tells ∙ told) (subst IsTrue (sym (ap (λ t. t.ends_well) (text.same_text told))) well));
@@ -236,7 +238,7 @@ module _ {R : Type 0} {buf : buffered.Ghosts R} {read : Ghosts R} where
         stands = λ told steady. came.stands (same.tells ∙ told) (same.steady ∙ steady) ∙ ap (from_place c.place) (same.content told);
         within = λ told steady. subst (λ s. c.place ≤ length s.bytes) (same.content told) (came.within (same.tells ∙ told) (same.steady ∙ steady));
         ending = λ told steady.
-            came.ending (same.tells ∙ told) (same.steady ∙ steady) ∙ ap (λ t. (delivered t.bytes t.ends_well).ending) (text.same_text told);
+            came.ending (same.tells ∙ told) (same.steady ∙ steady) ∙ ap (λ t. (text_delivers t.bytes t.ends_well).ending) (text.same_text told);
       }
 
   pub reaches-end-later : {T : Type 0} {x : T} {may : ArmoredReader R buf read → Error → Type 0} (below : Error → Type 0) (a b c : ArmoredReader R buf read)
@@ -257,7 +259,7 @@ module _ {R : Type 0} {buf : buffered.Ghosts R} {read : Ghosts R} where
   -- the reader that gives the text was asked for the end
   pub jumped-to-end : (below : Error → Type 0) (a b : ArmoredReader R buf read) (result : Result (Unit {0}) Error) →
       KeepsReader read (OrSeek (OrAstray below) (OrText read)) a.source.inner b.source.inner result → OnOk result (read.faults b.source.inner < most_faults) →
-      WhereTold a (origin_of b ≡ origin_of a) → KeepsText a b → Stands a b result → WhereSteady a (b.place ≤ length (armored_content b).bytes) →
+      WhereTold a (origin_of b ≡ origin_of a) → KeepsText a b → StandsInText a b result → WhereSteady a (b.place ≤ length (armored_content b).bytes) →
       WhereTold a (OnOk result (IsCleanEnd (armored_rest b))) → OnOk result (IsTrue (knows_end b)) → FailsThere a b result →
       (IsTrue (read.tells a.source.inner) → IsTrue (read.content a.source.inner).ends_well →
       IfErr result (λ e. e ≢ OutOfMemory → IsQuiet (read.faults a.source.inner) (read.faults b.source.inner) → ⊥)) → ReachesEnd below a b result
@@ -390,7 +392,7 @@ module _ {R : Type 0} {buf : buffered.Ghosts R} {read : Ghosts R} where
           | inl is ↦ absurd (own (returns told (misses.refused told (law told well) is).0 is other quiet))
           | inr not ↦
               let is_named = misses.named told well not (λ memory. other (back.other not ∙ memory)) (quiet-first _ _ _ first last quiet) in
-              (subst (IsNamed (text_outcome_of a).ending) (sym (back.other not)) is_named.0, is_named.1)
+              (subst (NamesEnding (text_outcome_of a).ending) (sym (back.other not)) is_named.0, is_named.1)
         ];
         early = λ told is_steady badly_ends refusal. absurd (true≢false (sym (misses.refused told is_steady (back.unmoved refusal).0).0 ∙ badly_ends));
       }

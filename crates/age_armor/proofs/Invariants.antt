@@ -11,14 +11,17 @@ use Rattle.age_armor.specs.declared.reader.ArmoredReader.{ArmoredReader}
 use Rattle.age_armor.specs.declared.marks.Marks.{Marks}
 use Rattle.age_armor.specs.declared.stages.Stage.{Stage}
 use Rattle.age_armor.specs.Ahead.{outcome_ahead, rest_ahead}
-use Rattle.age_armor.specs.Delivered.{delivered, begins_armor}
-use Rattle.age_armor.specs.DeliveredLaws.{content_of, stands_by, stands_follows}
-use Rattle.age_armor.specs.Steps.{WhereTold, WhereSteady}
-use Rattle.age_armor.specs.Marks.{CanResume, Knows, IsPaced, is_known}
+use Rattle.age_v1.specs.DeliveredArmor.{text_delivers, begins_armor}
+use Rattle.age_v1.proofs.DeliveredArmors.{content_of, stands_by, stands_follows}
+use Rattle.age_armor.specs.Steps.{WhereSteady}
+use Rattle.age_armor.specs.PrivateSteps.{WhereTold}
+use Rattle.age_armor.specs.Marks.{is_known}
+use Rattle.age_armor.specs.PrivateMarks.{CanResume, Knows, IsPaced}
 use Rattle.age_armor.specs.declared.stages.Stage.TheVariants.{Lines}
-use Rattle.age_armor.specs.Reader.{origin_of, text_of, armored_content}
+use Rattle.age_armor.specs.Reader.{origin_of, source_of, armored_content}
 use Rattle.age_armor.specs.Seeking.{text_outcome}
-use Rattle.age_armor.specs.Stages.{FindsForm, is_start, is_armored, is_ended}
+use Rattle.age_armor.specs.Stages.{is_start, has_lines}
+use Rattle.age_armor.specs.PrivateStages.{FindsForm, is_ended}
 use Rattle.age_armor.proofs.Ahead.{rest_failed, given_stands, ending_same}
 use Rattle.age_armor.proofs.Forms.{form_kept}
 use Rattle.age_armor.proofs.Keeping.{same-text}
@@ -43,7 +46,7 @@ module _ {R : Type 0} {buf : buffered.Ghosts R} {read : Ghosts R} where
     fresh : is_start stage ≡ true → given ≡ filled;
     untaken : failed ≡ false → is_start stage ≡ true → source.taken ≡ preceding;
     form : IsTrue (read.tells source.inner) → IsTrue (read.steady source.inner) → is_start stage ≡ false →
-        FindsForm (is_armored stage) (from_place (read.place source.inner - source.taken + preceding) (read.content source.inner)).bytes;
+        FindsForm (has_lines stage) (from_place (read.place source.inner - source.taken + preceding) (read.content source.inner)).bytes;
     unspent : failed ≡ false → is_start stage ≡ false → read.faults source.inner < most_faults;
     counted : IsTrue (read.tells source.inner) → failed ≡ false → place + (filled - given) + preceding ≤ source.taken;
     fits : IsTrue (read.tells source.inner) → place < 2 ^ 63;
@@ -82,7 +85,7 @@ module _ {R : Type 0} {buf : buffered.Ghosts R} {read : Ghosts R} where
         within = a.within;
         fresh = a.fresh;
         untaken = λ good. absurd (true≢false good);
-        form = λ told steady begun. form_kept (is_armored a.stage) _ _ (a.form (text.told told) (text.steady steady) begun) (text.text told);
+        form = λ told steady begun. form_kept (has_lines a.stage) _ _ (a.form (text.told told) (text.steady steady) begun) (text.text told);
         unspent = λ good. absurd (true≢false good);
         counted = λ told good. absurd (true≢false good);
         fits = λ told. fits (text.told told);
@@ -154,10 +157,10 @@ module _ {R : Type 0} {buf : buffered.Ghosts R} {read : Ghosts R} where
       SameReader read a.source.inner source.inner → WhereTold a (read.place source.inner - source.taken + preceding ≡ origin_of a) →
       source.taken ≡ preceding + taken → read.faults source.inner < most_faults → (IsTrue (read.tells source.inner) → read.place source.inner < 2 ^ 63) →
       (is_start stage ≡ true → (taken ≡ 0) × (place ≡ 0)) → is_ended stage ≡ false → (stage ≡ Lines false → place % 48 ≡ 0) →
-      WhereTold a (CanResume (read.steady a.source.inner) (text_of a) stage place taken) →
+      WhereTold a (CanResume (read.steady a.source.inner) (source_of a) stage place taken) →
       WhereSteady a (read.rest source.inner ≡ from_place (origin_of a + taken) (read.content a.source.inner)) →
-      WhereTold a (Knows (read.steady a.source.inner) (text_of a) marks × (place ≤ marks.furthest)) →
-      WhereSteady a (is_start stage ≡ true → 0 < marks.furthest → IsTrue (begins_armor (text_of a).bytes)) →
+      WhereTold a (Knows (read.steady a.source.inner) (source_of a) marks × (place ≤ marks.furthest)) →
+      WhereSteady a (is_start stage ≡ true → 0 < marks.furthest → IsTrue (begins_armor (source_of a).bytes)) →
       IsSound source preceding stage a.bytes 0 0 place false marks
   sound-resumed a source preceding stage place taken marks same origin is_taken few place_fits start going whole can rest knows unread =
       let content = read.content a.source.inner in
@@ -167,7 +170,7 @@ module _ {R : Type 0} {buf : buffered.Ghosts R} {read : Ghosts R} where
       let resumes = (can (text.told told)).1 (text.steady steady) in (
         resumed_rest content (read.rest source.inner) (origin_of a) place taken stage a.bytes resumes there ∙ ap (from_place place) (sym (text.content told)),
         resumed_ending content (read.rest source.inner) (origin_of a) place taken stage a.bytes resumes there
-            ∙ sym (ap (λ t. (delivered t.bytes t.ends_well).ending) (text.text told)),
+            ∙ sym (ap (λ t. (text_delivers t.bytes t.ends_well).ending) (text.text told)),
       ) in
       record {
         room = a.room;
@@ -175,7 +178,7 @@ module _ {R : Type 0} {buf : buffered.Ghosts R} {read : Ghosts R} where
         within = let h : 0 ≤ 48 = omega arith in h;
         fresh = λ start. refl;
         untaken = λ good is. omega (arith, is_taken, (start is).0);
-        form = λ told steady begun. form_kept (is_armored stage) _ _ (((can (text.told told)).1 (text.steady steady)).form begun) (text.text told);
+        form = λ told steady begun. form_kept (has_lines stage) _ _ (((can (text.told told)).1 (text.steady steady)).form begun) (text.text told);
         unspent = λ good begun. few;
         counted = λ told good. omega (arith, (can (text.told told)).0, is_taken);
         fits = λ told. omega (arith, (can (text.told told)).0, is_taken, source.behind told, place_fits told);

@@ -12,20 +12,22 @@ use Rattle.age_io.proofs.Keeping.{same-later, keeps-done, keeps-later, keeps-mor
 use Rattle.age_io.proofs.Retrying.{tried-patient, tried-narrows}
 use Rattle.age_io.specs.declared.bufread.BufRead as buffered
 use Rattle.age_armor.specs.declared.reader.ArmoredReader.{ArmoredReader}
-use Rattle.age_armor.specs.Reader.{origin_of, armored_reader, armored_rest, refuses_of, shown_of, Learns, text_of}
+use Rattle.age_armor.specs.Reader.{origin_of, armored_reader, armored_rest, refuses_of, shown_of, Learns, source_of}
 use Rattle.age_armor.specs.Refusing.{OrText}
-use Rattle.age_armor.specs.DeliveredLaws.{content_of}
-use Rattle.age_armor.specs.Seeking.{Goes, OrAstray}
+use Rattle.age_v1.proofs.DeliveredArmors.{content_of}
+use Rattle.age_armor.specs.Seeking.{OrAstray}
+use Rattle.age_armor.specs.PrivateSeeking.{Goes}
 use Rattle.age_armor.proofs.Ahead.{length_held, rest_gone}
 use Rattle.age_armor.proofs.Refusing.{failed-or-kept, plain-narrows, text-patient, text-narrows}
 use Rattle.age_io.specs.Failing.{FailsForGood}
 use Rattle.age_io.specs.Filling.{Fills}
 use denote.Ref.{Bor}
-use Rattle.age_armor.specs.Delivered.{Ending, begins_armor}
+use Rattle.age_v1.specs.DeliveredArmor.{Ending, begins_armor}
 use Rattle.age_armor.specs.Ending.{KeepsEnding}
 use Rattle.age_armor.specs.Marks.{LearnsMore}
-use Rattle.age_armor.specs.Stages.{is_start, is_armored}
-use Rattle.age_armor.specs.Steps.{WhereTold, WhereSteady, KeepsText}
+use Rattle.age_armor.specs.Stages.{is_start, has_lines}
+use Rattle.age_armor.specs.Steps.{WhereSteady}
+use Rattle.age_armor.specs.PrivateSteps.{WhereTold, KeepsText}
 use Rattle.age_armor.proofs.Forms.{form_kept}
 use Rattle.age_armor.proofs.Pacing.{learns_later, learns_none}
 
@@ -222,7 +224,7 @@ module _ {R : Type 0} {buf : buffered.Ghosts R} {read : Ghosts R} where
   pub text-moved : (a b : ArmoredReader R buf read) → SameReader read a.source.inner b.source.inner →
       WhereTold a (origin_of b ≡ origin_of a) →
       LearnsMore a.marks b.marks → a.source.lines ≤ b.source.lines →
-      WhereSteady a (begins_armor (text_of a).bytes ≡ false → b.source.lines ≡ a.source.lines) → KeepsText a b
+      WhereSteady a (begins_armor (source_of a).bytes ≡ false → b.source.lines ≡ a.source.lines) → KeepsText a b
   text-moved a b same origin learns counts bare = record {
     same_text = λ told. rw (same.content told, origin told) refl;
     learns = learns;
@@ -239,7 +241,7 @@ module _ {R : Type 0} {buf : buffered.Ghosts R} {read : Ghosts R} where
         last.bare (same.tells ∙ told) (same.steady ∙ steady) (ap (λ t. begins_armor t.bytes) (first.same_text told) ∙ plain) ∙ first.bare told steady plain;
   }
 
-  pub text-learned : {A : Type 0} {result : Result A Error} (a b : ArmoredReader R buf read) → WhereTold a (text_of b ≡ text_of a) →
+  pub text-learned : {A : Type 0} {result : Result A Error} (a b : ArmoredReader R buf read) → WhereTold a (source_of b ≡ source_of a) →
       Learns a b result → KeepsText a b
   text-learned a b same learns = record { same_text = same; learns = learns.more; counts = learns.lines.0; bare = learns.bare }
 
@@ -255,9 +257,9 @@ module _ {R : Type 0} {buf : buffered.Ghosts R} {read : Ghosts R} where
 
   -- whether it has armor is what the text says
   pub form-found : (a b : ArmoredReader R buf read) → SameReader armored_reader a b → KeepsText a b → is_start b.stage ≡ false →
-      IsTrue (read.tells a.source.inner) → IsTrue (read.steady a.source.inner) → is_armored b.stage ≡ begins_armor (text_of a).bytes
+      IsTrue (read.tells a.source.inner) → IsTrue (read.steady a.source.inner) → has_lines b.stage ≡ begins_armor (source_of a).bytes
   form-found a b same text begun told steady =
-      (form_kept (is_armored b.stage) (text_of b) (text_of a) (b.form (same.tells ∙ told) (same.steady ∙ steady) begun) (sym (text.same_text told))).same
+      (form_kept (has_lines b.stage) (source_of b) (source_of a) (b.form (same.tells ∙ told) (same.steady ∙ steady) begun) (sym (text.same_text told))).same
 
   -- ---- a read
 

@@ -1,14 +1,4 @@
-pub mod ArmorLines
-pub mod Verdicts
-pub mod Carrying
-pub mod RawLines
-pub mod Shapes
-pub mod Delivering
-pub mod CleanEnds
-pub mod FirstFaults
-pub mod ArmorText
 pub mod Encoded
-pub mod WrittenLines
 pub mod Ending
 pub mod Ahead
 pub mod AheadLines

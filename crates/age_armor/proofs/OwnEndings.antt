@@ -4,10 +4,10 @@ use Rattle.std.proofs.lemmas.Bool.{cases_Bool}
 use Rattle.std.specs.List.{concat, starts_with}
 use Rattle.age_error.specs.declared.io.Error.{Error}
 use Rattle.age_io.specs.Cursor.{IsOutside}
-use Rattle.age_armor.specs.Armor.{begin_marker}
-use Rattle.age_armor.specs.LineVerdict.{LineVerdict, Refuses, Ends, Holds, verdict, is_short, line_columns, last_is}
-use Rattle.age_armor.specs.Delivered.{Outcome, Ending, Clean, Refused, InnerFault, at_end, is_space, trailing, after_line, section, raw_lines, after_marker, delivered}
-use Rattle.age_armor.specs.Stages.{IsNamed}
+use Rattle.age_v1.specs.Armor.{begin_marker}
+use Rattle.age_v1.specs.ArmorLineVerdict.{LineVerdict, Refuses, Ends, Holds, verdict, is_short, line_columns, last_is}
+use Rattle.age_v1.specs.DeliveredArmor.{Outcome, Ending, Clean, Refused, InnerFault, at_end, is_space, trailing, after_line, section, raw_lines, after_marker, text_delivers}
+use Rattle.age_armor.specs.Stages.{NamesEnding}
 
 abbrev IsOwn : Ending → Type 0
 IsOwn Clean = Unit {0}
@@ -43,18 +43,18 @@ own_marker text w =
     if_own (starts_with nat_eq text (10 ∷ [])) _ _ (own_section (raw_lines (drop 1 text)) false w)
     (if_own (starts_with nat_eq text (13 ∷ 10 ∷ [])) _ _ (own_section (raw_lines (drop 2 text)) false w) (λ r. r))
 
-own_delivered : (text : List ℕ) (w : Bool) → IsOwn (delivered text w).ending
-unfolding delivered
+own_delivered : (text : List ℕ) (w : Bool) → IsOwn (text_delivers text w).ending
+unfolding text_delivers
 own_delivered text w =
     if_own (nat_lt (length text) 36) _ _ (own_end w _ (λ r. r))
     (if_own (starts_with nat_eq text begin_marker) _ _ (own_marker (drop 34 text) w) (own_end w Clean tt))
 
-named_otherwise : (ending : Ending) (e other : Error) → IsOwn ending → IsNamed ending e → ((IsOutside e → ⊥) → other ≡ e) → IsNamed ending other
+named_otherwise : (ending : Ending) (e other : Error) → IsOwn ending → NamesEnding ending e → ((IsOutside e → ⊥) → other ≡ e) → NamesEnding ending other
 named_otherwise Clean e other own named same = named
 named_otherwise (Refused f) e other own named same = same (λ r. own (rw named at r)) ∙ named
 named_otherwise InnerFault e other own named same = tt
 
 -- where an error that isn't such a refusal stays as it is, it names the end as before
-pub still_named : (text : List ℕ) (w : Bool) (e other : Error) → IsNamed (delivered text w).ending e → ((IsOutside e → ⊥) → other ≡ e) →
-    IsNamed (delivered text w).ending other
-still_named text w e other named same = named_otherwise (delivered text w).ending e other (own_delivered text w) named same
+pub still_named : (text : List ℕ) (w : Bool) (e other : Error) → NamesEnding (text_delivers text w).ending e → ((IsOutside e → ⊥) → other ≡ e) →
+    NamesEnding (text_delivers text w).ending other
+still_named text w e other named same = named_otherwise (text_delivers text w).ending e other (own_delivered text w) named same

@@ -3,16 +3,18 @@ use Rattle.std.proofs.Common.{◌≡◌, ◌∙◌, inl, inr, ℕ, ◌+◌, ◌*
 use Rattle.std.proofs.lemmas.Bool.{true≢false, cases_Bool, cases_lt}
 use Rattle.age_io.specs.Stretch.{Stretch}
 use Rattle.age_io.specs.Reading.{Delivers}
-use Rattle.age_io.specs.BehindLaws.{held-empty}
+use Rattle.age_io.specs.BehindLemmas.{held-empty}
 use Rattle.age_armor.specs.declared.stages.Stage.{Stage}
 use Rattle.age_armor.specs.declared.stages.Stage.TheVariants.{Start, Binary, Lines, Ended}
-use Rattle.age_armor.specs.Stages.{ahead, is_start, is_open}
+use Rattle.age_armor.specs.Stages.{ahead, is_start}
+use Rattle.age_armor.specs.PrivateStages.{is_open}
 use Rattle.age_armor.specs.Ahead.{rest_ahead, shown_ahead}
 use Rattle.age_armor.specs.declared.marks.Marks.{Marks}
-use Rattle.age_armor.specs.Marks.{EndsBefore, LearnsMore, is_known}
+use Rattle.age_armor.specs.Marks.{LearnsMore, is_known}
+use Rattle.age_armor.specs.PrivateMarks.{KnowsEndBefore}
 use Rattle.age_armor.proofs.Ahead.{length_held}
-use Rattle.age_armor.specs.Delivered.{raw_lines}
-use Rattle.age_armor.specs.Counting.{TakesLines, IsCounted}
+use Rattle.age_v1.specs.DeliveredArmor.{raw_lines}
+use Rattle.age_armor.specs.PrivateCounting.{TakesLines, IsCounted}
 use Rattle.age_armor.proofs.Staging.{none_after_short}
 
 opens_next : (stage : Stage) (rest : Stretch) (front more : List ℕ) → (ahead stage rest).bytes ≡ front ++ more → 0 < length front → is_open stage ≡ true
@@ -70,7 +72,7 @@ learns_later old middle new first last = record {
 pub learns_none : (old new : Marks) → new ≡ old → LearnsMore old new
 learns_none old new same = rw same (record { further = omega arith; end = λ known. known; noting = λ noting. noting })
 
-pub known_length : (length : Option ℕ) (place : ℕ) → EndsBefore length place → (n : ℕ) × (length ≡ Some n) × (n < place)
+pub known_length : (length : Option ℕ) (place : ℕ) → KnowsEndBefore length place → (n : ℕ) × (length ≡ Some n) × (n < place)
 known_length None place ends = absurd ends
 known_length (Some n) place ends = (n, refl, ends)
 

@@ -9,8 +9,8 @@ use Rattle.age_io.specs.Reading.{AddsNoReason, TriedAgain, StandsIn, most_faults
 use Rattle.age_io.specs.Keeping.{SameReader}
 use Rattle.age_io.specs.declared.traits.Read.{Ghosts}
 use Rattle.age_io.proofs.Keeping.{keeps-done, keeps-later, keeps-refused, same-later, same-self}
-use Rattle.age_armor.specs.Counting.{Kept}
-use Rattle.age_armor.specs.Showing.{Asks}
+use Rattle.age_armor.specs.PrivateCounting.{Kept}
+use Rattle.age_armor.specs.PrivateShowing.{AsksReader}
 use Rattle.age_armor.specs.Refusing.{IsTextRefusal, OrText}
 
 -- ---- an error
@@ -71,7 +71,7 @@ module _ {R : Type 0} (read : Ghosts R) where
   kept-later result a b c k l m first second = kept-on result a b c k l m first.keeps.same first.keeps.narrows first.origin first.more second
 
   pub kept-asked : {A B : Type 0} {x : A} {y : B} (a b c : R) (k m : ℕ) → SameReader read a b → AddsNoReason (TriedAgain read.refuses) a b →
-      Asks read (TriedAgain read.refuses) b c (Ok x) → (IsTrue (read.tells a) → read.place c - m ≡ read.place a - k) → (IsTrue (read.tells a) → k ≤ m) →
+      AsksReader read (TriedAgain read.refuses) b c (Ok x) → (IsTrue (read.tells a) → read.place c - m ≡ read.place a - k) → (IsTrue (read.tells a) → k ≤ m) →
       Kept read a k c m (Ok y)
   kept-asked a b c k m same narrows asks origin more = record {
     keeps = keeps-done read (OrText read) a c (same-later read a b c same asks.same) (λ e h. narrows e (asks.narrows e h));

@@ -4,18 +4,19 @@ use Rattle.std.proofs.lemmas.Bool.{true≢false}
 use Rattle.std.proofs.lemmas.List.{drop-drop, nil_from_length}
 use Rattle.age_io.specs.Stretch.{Stretch, nothing, from_place, stretch-ext, IsCleanEnd}
 use Rattle.age_io.specs.Reading.{Delivers, StandsIn}
-use Rattle.age_io.specs.BehindLaws.{held-empty}
+use Rattle.age_io.specs.BehindLemmas.{held-empty}
 use Rattle.age_armor.specs.declared.marks.Marks.{Marks}
 use Rattle.age_armor.specs.declared.stages.Stage.{Stage}
 use Rattle.age_armor.specs.declared.stages.Stage.TheVariants.{Start, Binary, Lines, Ended}
-use Rattle.age_armor.specs.Stages.{ahead, Advances, FindsForm, is_start, is_armored, is_ended}
+use Rattle.age_armor.specs.Stages.{ahead, is_start, has_lines}
+use Rattle.age_armor.specs.PrivateStages.{Advances, FindsForm, is_ended}
 use Rattle.age_armor.specs.Ahead.{outcome_ahead, rest_ahead}
 use Rattle.std.specs.List.{starts_with}
-use Rattle.age_armor.specs.Armor.{begin_marker}
-use Rattle.age_armor.specs.Delivered.{Outcome, Clean, at_end, is_clean, prepend, stretch_of, raw_lines, delivered, begins_armor}
-use Rattle.age_armor.specs.DeliveredLaws.{content_of, stands_follows}
-use Rattle.age_armor.specs.Marks.{Resumes, IsLength, Knows}
-use Rattle.age_armor.specs.ReaderLaws.{nothing_delivered}
+use Rattle.age_v1.specs.Armor.{begin_marker}
+use Rattle.age_v1.specs.DeliveredArmor.{Outcome, Clean, at_end, is_clean, outcome_after, stretch_of, raw_lines, text_delivers, begins_armor}
+use Rattle.age_v1.proofs.DeliveredArmors.{content_of, stands_follows}
+use Rattle.age_armor.specs.PrivateMarks.{Resumes, IsLength, Knows}
+use Rattle.age_armor.specs.ReaderLemmas.{nothing_delivered}
 use Rattle.age_armor.proofs.Staging.{none_after_short}
 use Rattle.age_armor.proofs.Walking.{ends_at}
 
@@ -50,13 +51,13 @@ module _ (content rest : Stretch) (at origin taken : ℕ) (place : ℕ) (bytes :
       Advances (ahead stage rest) front after → 0 < length front → place ≤ length (content_of content origin).bytes →
       ((rest_ahead false bytes given filled stage rest ≡ nothing → ⊥) → rest_ahead false bytes given filled stage rest ≡ from_place place (content_of content origin)) →
       ((rest_ahead false bytes given filled stage rest ≡ nothing → ⊥) →
-      (outcome_ahead bytes given filled stage rest).ending ≡ (delivered (drop origin content.bytes) content.ends_well).ending) →
-      FindsForm (is_armored stage) (from_place origin content).bytes →
+      (outcome_ahead bytes given filled stage rest).ending ≡ (text_delivers (drop origin content.bytes) content.ends_well).ending) →
+      FindsForm (has_lines stage) (from_place origin content).bytes →
       Resumes (from_place origin content) (Lines false) place taken
   unfolding rest_ahead outcome_ahead
   resumes_line stage after front lines behind stands full empty advances some within follows ends form =
       let none = held-empty bytes given filled full empty in
-      let bytes_ahead : (ahead (Lines false) rest).bytes ≡ front ++ after.bytes = ap (λ o. o.bytes) (subst (λ s. ahead s rest ≡ prepend front after) lines advances.same) in
+      let bytes_ahead : (ahead (Lines false) rest).bytes ≡ front ++ after.bytes = ap (λ o. o.bytes) (subst (λ s. ahead s rest ≡ outcome_after front after) lines advances.same) in
       let left : (stretch_of (ahead (Lines false) rest) ≡ nothing → ⊥) = λ gone.
       let no_bytes : [] ≡ front ++ after.bytes = ap (λ s. s.bytes) (sym gone) ∙ bytes_ahead in
       omega (arith, ap length no_bytes, length-append front after.bytes, some) in
@@ -92,22 +93,22 @@ reaches_content content rest place count (b ∷ front) more within follows bytes
 pub none_after : (stage : Stage) (rest : Stretch) (front : List ℕ) (count : ℕ) (after : Outcome) → Advances (ahead stage rest) front after → length front ≡ count →
     stage ≡ Lines true → count ≡ 0
 none_after stage rest front count after advances size short =
-    let bytes : (ahead (Lines true) rest).bytes ≡ front ++ after.bytes = ap (λ o. o.bytes) (subst (λ s. ahead s rest ≡ prepend front after) short advances.same) in
+    let bytes : (ahead (Lines true) rest).bytes ≡ front ++ after.bytes = ap (λ o. o.bytes) (subst (λ s. ahead s rest ≡ outcome_after front after) short advances.same) in
     let none : [] ≡ front ++ after.bytes = sym (none_after_short (raw_lines rest.bytes) rest.ends_well) ∙ bytes in
     omega (arith, size, ap length none, length-append front after.bytes)
 
 -- full lines are behind full ones alone
-pub still_full : (stage next : Stage) (place count : ℕ) → is_ended stage ≡ false → (is_start stage ≡ false → is_armored next ≡ is_armored stage) →
+pub still_full : (stage next : Stage) (place count : ℕ) → is_ended stage ≡ false → (is_start stage ≡ false → has_lines next ≡ has_lines stage) →
     (is_start stage ≡ true → place ≡ 0) → (stage ≡ Lines false → place % 48 ≡ 0) → (stage ≡ Lines true → count ≡ 0) → (next ≡ Lines false → count ≡ 48) →
     next ≡ Lines false → (place + count) % 48 ≡ 0
 still_full Start next place count opens form first lines short full is = omega (arith, first refl, full is)
-still_full Binary next place count opens form first lines short full is = absurd (true≢false (sym (ap is_armored is) ∙ form refl))
+still_full Binary next place count opens form first lines short full is = absurd (true≢false (sym (ap has_lines is) ∙ form refl))
 still_full (Lines true) next place count opens form first lines short full is = absurd (omega (arith, short refl, full is))
 still_full (Lines false) next place count opens form first lines short full is = omega (arith, lines refl, full is)
 still_full Ended next place count opens form first lines short full is = absurd (true≢false opens)
 
 -- in armor bytes come at the front, or after full lines
-pub after_full : (stage : Stage) (place count : ℕ) (text : List ℕ) → is_ended stage ≡ false → (is_start stage ≡ false → FindsForm (is_armored stage) text) →
+pub after_full : (stage : Stage) (place count : ℕ) (text : List ℕ) → is_ended stage ≡ false → (is_start stage ≡ false → FindsForm (has_lines stage) text) →
     (is_start stage ≡ true → place ≡ 0) → (stage ≡ Lines false → place % 48 ≡ 0) → (stage ≡ Lines true → count ≡ 0) → count ≤ 48 →
     IsTrue (begins_armor text) → 0 < count → (place % 48 ≡ 0) × (count ≤ 48) × ((stage ≡ Lines false) ⊎ (place ≡ 0))
 after_full Start place count text opens form first lines short fits armored some = (omega (arith, first refl), fits, inr (first refl))
@@ -127,7 +128,7 @@ length_at_end content rest origin place clean within follows =
 
 -- a line of armor isn't binary
 pub not_binary : {X : Type 0} → Binary ≡ Lines false → X
-not_binary is = absurd (true≢false (sym (ap is_armored is)))
+not_binary is = absurd (true≢false (sym (ap has_lines is)))
 
 -- ---- a new reader
 
@@ -135,7 +136,7 @@ pub starts_at : (content rest : Stretch) (place : ℕ) (bytes : List ℕ) → St
     rest ≡ from_place place content
 unfolding rest_ahead
 starts_at content rest place bytes stands some =
-    stands_follows content rest place stands (λ gone. some (ap (λ s. stretch_of (delivered s.bytes s.ends_well)) gone ∙ nothing_delivered))
+    stands_follows content rest place stands (λ gone. some (ap (λ s. stretch_of (text_delivers s.bytes s.ends_well)) gone ∙ nothing_delivered))
 
 -- ---- a reader that is taken to a mark
 
@@ -146,7 +147,7 @@ resumed_rest content rest origin place taken stage bytes resumes here =
     ap (λ s. stretch_of (ahead stage s)) (here ∙ along_text content origin taken) ∙ resumes.rest
 
 pub resumed_ending : (content rest : Stretch) (origin place taken : ℕ) (stage : Stage) (bytes : List ℕ) → Resumes (from_place origin content) stage place taken →
-    rest ≡ from_place (origin + taken) content → (outcome_ahead bytes 0 0 stage rest).ending ≡ (delivered (drop origin content.bytes) content.ends_well).ending
+    rest ≡ from_place (origin + taken) content → (outcome_ahead bytes 0 0 stage rest).ending ≡ (text_delivers (drop origin content.bytes) content.ends_well).ending
 unfolding outcome_ahead
 resumed_ending content rest origin place taken stage bytes resumes here =
     ap (λ s. (ahead stage s).ending) (here ∙ along_text content origin taken) ∙ resumes.ending
@@ -155,8 +156,8 @@ resumed_ending content rest origin place taken stage bytes resumes here =
 
 -- it passes unchanged
 pub carried_binary : (text : Stretch) → FindsForm false text.bytes →
-    delivered text.bytes text.ends_well ≡ record { bytes = text.bytes; ending = at_end text.ends_well Clean }
-unfolding delivered
+    text_delivers text.bytes text.ends_well ≡ record { bytes = text.bytes; ending = at_end text.ends_well Clean }
+unfolding text_delivers
 carried_binary text form =
     let long : nat_lt (length text.bytes) 36 ≡ false = le-ltb (length text.bytes) 36 form.long in
     let plain : starts_with nat_eq text.bytes begin_marker ≡ false = sym form.same in
@@ -185,14 +186,14 @@ length_binary text n form same well =
     record { well = subst (λ o. IsTrue (is_clean o.ending)) (sym is) (ends_clean text.ends_well well); same = same ∙ ap (λ o. length o.bytes) (sym is) }
 
 -- a text that doesn't begin as armor does is binary once anything was read
-pub is_plain : (stage : Stage) → is_start stage ≡ false → is_armored stage ≡ false → (stage ≡ Binary → ⊥) → ⊥
+pub is_plain : (stage : Stage) → is_start stage ≡ false → has_lines stage ≡ false → (stage ≡ Binary → ⊥) → ⊥
 is_plain Start begun plain other = true≢false begun
 is_plain Binary begun plain other = other refl
 is_plain (Lines s) begun plain other = true≢false plain
 is_plain Ended begun plain other = true≢false plain
 
 -- and any other begins so
-pub armored_stage : (stage : Stage) (text : Stretch) → is_start stage ≡ false → FindsForm (is_armored stage) text.bytes → (stage ≡ Binary → ⊥) →
+pub armored_stage : (stage : Stage) (text : Stretch) → is_start stage ≡ false → FindsForm (has_lines stage) text.bytes → (stage ≡ Binary → ⊥) →
     IsTrue (begins_armor text.bytes)
 armored_stage Start text begun form other = absurd (true≢false begun)
 armored_stage Binary text begun form other = absurd (other refl)

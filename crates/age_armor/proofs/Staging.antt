@@ -10,19 +10,20 @@ use Rattle.age_error.specs.declared.io.Error.{Error}
 use Rattle.age_error.specs.declared.io.Error.TheVariants.{Armor, UnexpectedEof, OutOfMemory}
 use Rattle.age_error.specs.declared.io.ArmoredReadError.TheVariants.{InvalidBeginMarker, NotWrappedAt64Chars}
 use Rattle.age_base64.specs.Lines.{Lacks}
-use Rattle.age_armor.specs.Armor.{begin_marker}
+use Rattle.age_v1.specs.Armor.{begin_marker}
 use Rattle.age_base64.specs.Base64.{padded_columns}
 use Rattle.age_base64.proofs.PaddedColumns.{padded_columns-nil, Lacks_padded_columns, length-padded_columns}
-use Rattle.age_armor.specs.LineVerdict.{LineVerdict, Refuses, Ends, Holds, verdict, is_short, line_columns, last_is, IsLineVerdict}
-use Rattle.age_armor.specs.Delivered.{Outcome, Ending, Clean, Refused, InnerFault, ends, at_end, raw_lines, section, trailing, after_line, after_marker, delivered}
-use Rattle.age_armor.specs.Counting.{TakesLine, IsFew, IsCutShort, GivesPiece, IsPiece}
-use Rattle.age_armor.specs.Showing.{TakesFull}
-use Rattle.age_armor.specs.Stages.{Advances, Stops, FindsForm, IsNamed, ahead}
-use Rattle.age_armor.proofs.RawLines.{raw_lines_ended, columns_lf, last_is_end, full_not_short, not_short_full}
-use Rattle.age_armor.specs.DeliveredLaws.{length_line_columns, concat_raw}
-use Rattle.age_armor.proofs.Verdicts.{one_verdict}
-use Rattle.age_armor.proofs.Delivering.{good_line}
-use Rattle.age_armor.proofs.Shapes.{begins_back}
+use Rattle.age_v1.specs.ArmorLineVerdict.{LineVerdict, Refuses, Ends, Holds, verdict, is_short, line_columns, last_is, IsLineVerdict}
+use Rattle.age_v1.specs.DeliveredArmor.{Outcome, Ending, Clean, Refused, InnerFault, ends_in, at_end, raw_lines, section, trailing, after_line, after_marker, text_delivers}
+use Rattle.age_armor.specs.PrivateCounting.{TakesLine, IsFew, IsCutShort, GivesPiece, IsPiece}
+use Rattle.age_armor.specs.PrivateShowing.{TakesFull}
+use Rattle.age_armor.specs.Stages.{NamesEnding, ahead}
+use Rattle.age_armor.specs.PrivateStages.{Advances, StopsWith, FindsForm}
+use Rattle.age_v1.proofs.RawLines.{raw_lines_ended, columns_lf, last_is_end, full_not_short, not_short_full}
+use Rattle.age_v1.proofs.DeliveredArmors.{length_line_columns, concat_raw}
+use Rattle.age_v1.proofs.ArmorLineVerdicts.{one_verdict}
+use Rattle.age_v1.proofs.CarriedDelivered.{good_line}
+use Rattle.age_v1.proofs.ArmorShapes.{begins_back}
 use Rattle.std.proofs.lemmas.Result.{IfOk-weaker, IfErr-weaker}
 use Rattle.age_io.specs.declared.traits.Read.{Ghosts}
 use Rattle.age_io.specs.declared.bufread.BufRead as buffered
@@ -31,25 +32,25 @@ use Rattle.age_armor.specs.declared.stages.Stage.{Stage}
 use Rattle.age_armor.specs.declared.stages.Piece.{Piece}
 use Rattle.age_armor.proofs.Taking.{quiet_after}
 
-pub stops_of : (o : Outcome) (e : Error) (end : Ending) → o ≡ ends end → IsNamed end e → Stops o e
-stops_of o e end same named = record { nothing = ap (λ x. x.bytes) same; named = subst (λ x. IsNamed x e) (sym (ap (λ x. x.ending) same)) named }
+pub stops_of : (o : Outcome) (e : Error) (end : Ending) → o ≡ ends_in end → NamesEnding end e → StopsWith o e
+stops_of o e end same named = record { nothing = ap (λ x. x.bytes) same; named = subst (λ x. NamesEnding x e) (sym (ap (λ x. x.ending) same)) named }
 
 pub advances_none : (before after : Outcome) (bytes : List ℕ) → bytes ≡ [] → before ≡ after → Advances before bytes after
 advances_none before after bytes none same = record { same = rw none same }
 
 -- ---- detection
 
-few_text : (text : List ℕ) (w : Bool) → length text < 36 → delivered text w ≡ ends (at_end w (Refused UnexpectedEof))
-unfolding delivered
+few_text : (text : List ℕ) (w : Bool) → length text < 36 → text_delivers text w ≡ ends_in (at_end w (Refused UnexpectedEof))
+unfolding text_delivers
 few_text text w few = rw (lt-ltb (length text) 36 few) refl
 
-pub few_clean : (count : ℕ) (old : Stretch) → count ≤ 36 → IsFew count true old → Stops (delivered old.bytes old.ends_well) UnexpectedEof
+pub few_clean : (count : ℕ) (old : Stretch) → count ≤ 36 → IsFew count true old → StopsWith (text_delivers old.bytes old.ends_well) UnexpectedEof
 few_clean count old fits few =
-    stops_of _ _ (Refused UnexpectedEof) (few_text old.bytes old.ends_well (omega (arith, few.few)) ∙ ap (λ w. ends (at_end w (Refused UnexpectedEof))) few.end) refl
+    stops_of _ _ (Refused UnexpectedEof) (few_text old.bytes old.ends_well (omega (arith, few.few)) ∙ ap (λ w. ends_in (at_end w (Refused UnexpectedEof))) few.end) refl
 
-pub few_fault : (count : ℕ) (old : Stretch) (e : Error) → count ≤ 36 → IsFew count false old → Stops (delivered old.bytes old.ends_well) e
+pub few_fault : (count : ℕ) (old : Stretch) (e : Error) → count ≤ 36 → IsFew count false old → StopsWith (text_delivers old.bytes old.ends_well) e
 few_fault count old e fits few =
-    stops_of _ _ InnerFault (few_text old.bytes old.ends_well (omega (arith, few.few)) ∙ ap (λ w. ends (at_end w (Refused UnexpectedEof))) few.end) tt
+    stops_of _ _ InnerFault (few_text old.bytes old.ends_well (omega (arith, few.few)) ∙ ap (λ w. ends_in (at_end w (Refused UnexpectedEof))) few.end) tt
 
 pub few_end : (front : List ℕ) (old mid : Stretch) → length front ≡ 35 → Delivers front old mid → IsCleanEnd mid → IsFew 36 true old
 few_end front old mid size d clean =
@@ -83,8 +84,8 @@ outcome-same x y v w p q =
     ap (λ z. make z v) p ∙ ap (λ z. make y z) q
 
 pub detects_binary : (front : List ℕ) (old mid : Stretch) → length front ≡ 35 → Delivers front old mid → 0 < length mid.bytes →
-    starts_with nat_eq front begin_marker ≡ false → Advances (delivered old.bytes old.ends_well) front (record { bytes = mid.bytes; ending = at_end mid.ends_well Clean })
-unfolding delivered
+    starts_with nat_eq front begin_marker ≡ false → Advances (text_delivers old.bytes old.ends_well) front (record { bytes = mid.bytes; ending = at_end mid.ends_well Clean })
+unfolding text_delivers
 detects_binary front old mid size d some other = record {
   same = rw (long_text front old mid size d some, begins_same front old mid size d, other) (outcome-same _ _ _ _ d.bytes (sym d.end));
 }
@@ -97,19 +98,19 @@ last_one (suc n) [] e = absurd (omega arith)
 last_one (suc n) (x ∷ xs) e = last_one n xs (omega arith)
 
 detects_marker : (front : List ℕ) (old mid : Stretch) → length front ≡ 35 → Delivers front old mid → 0 < length mid.bytes →
-    starts_with nat_eq front begin_marker ≡ true → delivered old.bytes old.ends_well ≡ after_marker (slice_index front 34 ∷ mid.bytes) mid.ends_well
-unfolding delivered
+    starts_with nat_eq front begin_marker ≡ true → text_delivers old.bytes old.ends_well ≡ after_marker (slice_index front 34 ∷ mid.bytes) mid.ends_well
+unfolding text_delivers
 detects_marker front old mid size d some begins =
     let after : drop 34 old.bytes ≡ slice_index front 34 ∷ mid.bytes =
     ap (drop 34) d.bytes ∙ drop-append-le 34 front mid.bytes (omega (arith, size)) ∙ ap (λ x. x ++ mid.bytes) (last_one 34 front size) in
     rw (long_text front old mid size d some, begins_same front old mid size d, begins, after, d.end) refl
 
 pub detects_lf : (front : List ℕ) (old mid : Stretch) → length front ≡ 35 → Delivers front old mid → 0 < length mid.bytes →
-    starts_with nat_eq front begin_marker ≡ true → slice_index front 34 ≡ 10 → delivered old.bytes old.ends_well ≡ section false (raw_lines mid.bytes) mid.ends_well
+    starts_with nat_eq front begin_marker ≡ true → slice_index front 34 ≡ 10 → text_delivers old.bytes old.ends_well ≡ section false (raw_lines mid.bytes) mid.ends_well
 detects_lf front old mid size d some begins lf = detects_marker front old mid size d some begins ∙ rw lf refl
 
 pub detects_crlf : (front : List ℕ) (old mid new : Stretch) → length front ≡ 35 → Delivers front old mid → 0 < length mid.bytes →
-    starts_with nat_eq front begin_marker ≡ true → slice_index front 34 ≡ 13 → Delivers (10 ∷ []) mid new → delivered old.bytes old.ends_well ≡ section false (raw_lines new.bytes) new.ends_well
+    starts_with nat_eq front begin_marker ≡ true → slice_index front 34 ≡ 13 → Delivers (10 ∷ []) mid new → text_delivers old.bytes old.ends_well ≡ section false (raw_lines new.bytes) new.ends_well
 detects_crlf front old mid new size d some begins cr next = detects_marker front old mid size d some begins ∙ rw (cr, next.bytes, next.end) refl
 
 begins_other : (x y : ℕ) (xs ys : List ℕ) → x ≢ y → starts_with nat_eq (x ∷ xs) (y ∷ ys) ≡ false
@@ -119,13 +120,13 @@ begins_other_next : (x b y : ℕ) (xs : List ℕ) → b ≢ y → starts_with na
 begins_other_next x b y xs other = false_from_ne_true _ (λ e. let same : b ≡ y = cc (begins_back (13 ∷ y ∷ []) (x ∷ b ∷ xs) e) in other same)
 
 pub detects_bad : (front : List ℕ) (old mid : Stretch) → length front ≡ 35 → Delivers front old mid → 0 < length mid.bytes →
-    starts_with nat_eq front begin_marker ≡ true → slice_index front 34 ≢ 10 → slice_index front 34 ≢ 13 → Stops (delivered old.bytes old.ends_well) (Armor InvalidBeginMarker)
+    starts_with nat_eq front begin_marker ≡ true → slice_index front 34 ≢ 10 → slice_index front 34 ≢ 13 → StopsWith (text_delivers old.bytes old.ends_well) (Armor InvalidBeginMarker)
 detects_bad front old mid size d some begins no_lf no_cr =
     stops_of _ _ (Refused (Armor InvalidBeginMarker)) (detects_marker front old mid size d some begins
     ∙ rw (begins_other (slice_index front 34) 10 mid.bytes [] no_lf, begins_other (slice_index front 34) 13 mid.bytes (10 ∷ []) no_cr) refl) refl
 
 pub detects_bad_next : (front : List ℕ) (old mid new : Stretch) (b : ℕ) → length front ≡ 35 → Delivers front old mid → 0 < length mid.bytes →
-    starts_with nat_eq front begin_marker ≡ true → slice_index front 34 ≢ 10 → Delivers (b ∷ []) mid new → b ≢ 10 → Stops (delivered old.bytes old.ends_well) (Armor InvalidBeginMarker)
+    starts_with nat_eq front begin_marker ≡ true → slice_index front 34 ≢ 10 → Delivers (b ∷ []) mid new → b ≢ 10 → StopsWith (text_delivers old.bytes old.ends_well) (Armor InvalidBeginMarker)
 detects_bad_next front old mid new b size d some begins no_lf next other =
     stops_of _ _ (Refused (Armor InvalidBeginMarker)) (detects_marker front old mid size d some begins
     ∙ rw (begins_other (slice_index front 34) 10 mid.bytes [] no_lf, next.bytes, begins_other_next (slice_index front 34) b 10 new.bytes other) refl) refl
@@ -140,15 +141,15 @@ pub line_step : (s : Bool) (raw : List ℕ) (old mid : Stretch) → TakesLine ra
 line_step s raw old mid t some = rw (t.first some, t.whole some, ← t.end, concat_raw mid.bytes) refl
 
 pub line_ends : (s : Bool) (raw : List ℕ) (old mid : Stretch) → TakesLine raw old mid → 0 < length raw → verdict s raw ≡ Ends → trailing mid.bytes mid.ends_well ≡ Clean →
-    section s (raw_lines old.bytes) old.ends_well ≡ ends Clean
+    section s (raw_lines old.bytes) old.ends_well ≡ ends_in Clean
 line_ends s raw old mid t some v clean = line_step s raw old mid t some ∙ rw (v, clean) refl
 
-pub line_trails : (s : Bool) (raw : List ℕ) (old mid : Stretch) (e : Error) → TakesLine raw old mid → 0 < length raw → verdict s raw ≡ Ends → IsNamed (trailing mid.bytes mid.ends_well) e →
-    Stops (section s (raw_lines old.bytes) old.ends_well) e
+pub line_trails : (s : Bool) (raw : List ℕ) (old mid : Stretch) (e : Error) → TakesLine raw old mid → 0 < length raw → verdict s raw ≡ Ends → NamesEnding (trailing mid.bytes mid.ends_well) e →
+    StopsWith (section s (raw_lines old.bytes) old.ends_well) e
 line_trails s raw old mid e t some v named = stops_of _ _ (trailing mid.bytes mid.ends_well) (line_step s raw old mid t some ∙ rw v refl) named
 
 pub line_refuses : (s : Bool) (raw : List ℕ) (old mid : Stretch) (e : Error) (f : _) → TakesLine raw old mid → 0 < length raw → verdict s raw ≡ Refuses f → e ≡ Armor f →
-    Stops (section s (raw_lines old.bytes) old.ends_well) e
+    StopsWith (section s (raw_lines old.bytes) old.ends_well) e
 line_refuses s raw old mid e f t some v named = stops_of _ _ (Refused (Armor f)) (line_step s raw old mid t some ∙ rw v refl) named
 
 pub line_holds : (s short : Bool) (raw b : List ℕ) (old mid : Stretch) → TakesLine raw old mid → 0 < length raw →
@@ -184,17 +185,17 @@ one_of (x ∷ []) e = refl
 one_of (x ∷ y ∷ xs) e = absurd (omega (arith, e))
 
 -- no line is left before the clean end
-pub empty_line : (s : Bool) (raw : List ℕ) (old new : Stretch) → TakesLine raw old new → length raw ≡ 0 → Stops (section s (raw_lines old.bytes) old.ends_well) (Armor NotWrappedAt64Chars)
+pub empty_line : (s : Bool) (raw : List ℕ) (old new : Stretch) → TakesLine raw old new → length raw ≡ 0 → StopsWith (section s (raw_lines old.bytes) old.ends_well) (Armor NotWrappedAt64Chars)
 empty_line s raw old new t none =
     let clean = t.empty none in
     stops_of _ _ (Refused (Armor NotWrappedAt64Chars)) (rw (clean.bytes, clean.ends_well) refl) refl
 
 -- a fault comes before the line is whole
-pub cut_line : (s : Bool) (old : Stretch) (e : Error) → IsCutShort old → Stops (section s (raw_lines old.bytes) old.ends_well) e
+pub cut_line : (s : Bool) (old : Stretch) (e : Error) → IsCutShort old → StopsWith (section s (raw_lines old.bytes) old.ends_well) e
 cut_line s old e cut = stops_of _ _ InnerFault (cut s) tt
 
 -- a fault comes before the line
-pub no_line : (s : Bool) (old : Stretch) (e : Error) → IsFault old → Stops (section s (raw_lines old.bytes) old.ends_well) e
+pub no_line : (s : Bool) (old : Stretch) (e : Error) → IsFault old → StopsWith (section s (raw_lines old.bytes) old.ends_well) e
 no_line s old e fault = stops_of _ _ InnerFault (rw (fault.bytes, fault.ends_badly) refl) tt
 
 held_small : (s : Bool) (raw b : List ℕ) → verdict s raw ≡ Holds b → length b ≤ length raw
@@ -239,7 +240,7 @@ module _ {R : Type 0} {buf : buffered.Ghosts R} {read : Ghosts R} where
   piece-none stage old e = record { fits = tt; full = tt; ended = tt; begun = tt; end = λ told. tt }
 
   pub gives-none : (stage : Stage) (old new : Counted R buf read) (found : List ℕ) (e : Error) →
-      (IsTrue (read.tells old.inner) → e ≢ OutOfMemory → IsQuiet (read.faults old.inner) (read.faults new.inner) → Stops (ahead stage (read.rest old.inner)) e) →
+      (IsTrue (read.tells old.inner) → e ≢ OutOfMemory → IsQuiet (read.faults old.inner) (read.faults new.inner) → StopsWith (ahead stage (read.rest old.inner)) e) →
       GivesPiece stage old new found (Err e)
   gives-none stage old new found e cause = record { taken = λ told. tt; bytes = λ told. tt; cause = cause }
 
@@ -265,5 +266,5 @@ module _ {R : Type 0} {buf : buffered.Ghosts R} {read : Ghosts R} where
     taken = λ told. IfOk-weaker result _ _ (λ piece h. omega (arith, more told, h)) (gives.taken (tells told));
     bytes = λ told. IfOk-weaker result _ _ (λ piece is. record { same = same told ∙ is.same }) (gives.bytes (tells told));
     cause = λ told. IfErr-weaker result _ _
-        (λ e stops other quiet. subst (λ o. Stops o e) (sym (same told)) (stops other (quiet_after _ _ _ first last quiet))) (gives.cause (tells told));
+        (λ e stops other quiet. subst (λ o. StopsWith o e) (sym (same told)) (stops other (quiet_after _ _ _ first last quiet))) (gives.cause (tells told));
   }

@@ -1,25 +1,22 @@
 -- Lines that are taken from a reader.
-use Rattle.std.proofs.Common.{◌≡◌, ℕ, suc, zero, ◌+◌, ◌≤◌, ◌<◌, Bool, true, false, List, [], ◌∷◌, ◌++◌, length, take, refl, ap, sym, subst, arith, ◌∙◌}
-use Rattle.std.proofs.Common.{append_assoc, length-append}
+use Rattle.std.proofs.Common.{◌≡◌, ℕ, suc, zero, ◌+◌, ◌≤◌, ◌<◌, Bool, true, false, List, [], ◌∷◌, ◌++◌, length, take, refl, ap, sym, subst, arith, ◌∙◌, append_assoc, length-append, inl, inr}
 use Rattle.std.proofs.lemmas.Bool.{or_left, or_right, and_parts, true≢false, cases_Bool}
 use Rattle.std.proofs.lemmas.List.{append-nil}
 use Rattle.std.proofs.Math.Seq.{take-length}
 use Rattle.std.specs.List.{list_all}
-use Rattle.std.proofs.Common.{inl, inr}
 use Rattle.age_error.specs.declared.io.Error.TheVariants.{Armor}
 use Rattle.age_error.specs.declared.io.ArmoredReadError.TheVariants.{TrailingGarbage}
 use Rattle.age_io.specs.Stretch.{Stretch, IsCleanEnd, IsFault}
 use Rattle.age_io.specs.Reading.{Delivers, IsQuiet}
 use Rattle.age_base64.specs.Lines.{Lacks, line as ended}
 use Rattle.age_base64.proofs.Lines.{Lacks-append}
-use Rattle.age_armor.specs.LineVerdict.{last_is}
-use Rattle.age_armor.specs.Delivered.{raw_lines, section, ends, InnerFault}
-use Rattle.age_armor.specs.Counting.{TakesLine, IsCutShort, one_line_more}
-use Rattle.age_armor.specs.Delivered.{Refused, is_space, trailing}
-use Rattle.age_armor.specs.Stages.{IsNamed}
-use Rattle.age_armor.specs.Showing.{IsLineEnd, TakesRun}
+use Rattle.age_v1.specs.ArmorLineVerdict.{last_is}
+use Rattle.age_v1.specs.DeliveredArmor.{raw_lines, section, ends_in, InnerFault, Refused, is_space, trailing}
+use Rattle.age_armor.specs.PrivateCounting.{TakesLine, IsCutShort, one_line_more}
+use Rattle.age_armor.specs.Stages.{NamesEnding}
+use Rattle.age_armor.specs.PrivateShowing.{IsLineEnd, TakesRun}
 use Rattle.age_armor.specs.declared.showing.Run.TheVariants.{Open, Ended}
-use Rattle.age_armor.proofs.RawLines.{raw_lines_ended, raw_lines_last, last_lacks, last_is_end}
+use Rattle.age_v1.proofs.RawLines.{raw_lines_ended, raw_lines_last, last_lacks, last_is_end}
 
 pub cut_short : (line : List ℕ) (old mid : Stretch) → Lacks 10 line → Delivers line old mid → IsFault mid → IsCutShort old
 cut_short line old mid lacks d fault s =
@@ -27,7 +24,7 @@ cut_short line old mid lacks d fault s =
     let end : old.ends_well ≡ false = sym d.end ∙ fault.ends_badly in
     rw (bytes, end) (go line lacks)
   where
-    go : (line : List ℕ) → Lacks 10 line → section s (raw_lines line) false ≡ ends InnerFault
+    go : (line : List ℕ) → Lacks 10 line → section s (raw_lines line) false ≡ ends_in InnerFault
     go [] lacks = refl
     go (c ∷ line) lacks = rw (raw_lines_last c line lacks, last_lacks 10 (c ∷ line) lacks) refl
 
@@ -83,7 +80,7 @@ spaces_taken front old mid new all d same =
     sym (all_spaces front new.bytes new.ends_well all) ∙ ap (λ x. trailing x new.ends_well) (sym d.bytes) ∙ ap (λ w. trailing mid.bytes w) d.end ∙ same
 
 pub garbage_taken : (front : List ℕ) (old mid new : Stretch) → list_all is_space front ≡ false → Delivers front mid new →
-    trailing mid.bytes mid.ends_well ≡ trailing old.bytes old.ends_well → IsNamed (trailing old.bytes old.ends_well) (Armor TrailingGarbage)
+    trailing mid.bytes mid.ends_well ≡ trailing old.bytes old.ends_well → NamesEnding (trailing old.bytes old.ends_well) (Armor TrailingGarbage)
 garbage_taken front old mid new other d same =
     let found : trailing old.bytes old.ends_well ≡ Refused (Armor TrailingGarbage) =
     sym same ∙ ap (λ x. trailing x mid.ends_well) d.bytes ∙ some_other front new.bytes mid.ends_well other in

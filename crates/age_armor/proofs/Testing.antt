@@ -6,11 +6,11 @@ use Rattle.base64.proofs.EngineFacts.{decode_of_strict, decode_of_iff}
 use Rattle.age_base64.specs.Engine.{IsArmorEngine}
 use Rattle.age_base64.proofs.Columns.{bytes-by_index}
 use Rattle.age_armor.specs.Decoder.{DecodesArmor, RefusesNoArmor}
-use Rattle.age_armor.specs.LineVerdict.{LineVerdict, last_is, but_last}
-use Rattle.age_armor.specs.Judging.{IsJudged}
+use Rattle.age_v1.specs.ArmorLineVerdict.{LineVerdict, last_is, but_last}
+use Rattle.age_armor.specs.PrivateJudging.{IsJudged}
 use Rattle.age_armor.specs.declared.judging.Judged.{Judged}
 use Rattle.age_armor.specs.declared.judging.Judged.TheVariants as judged
-use Rattle.age_armor.proofs.RawLines.{last_is_end, but_last_end}
+use Rattle.age_v1.proofs.RawLines.{last_is_end, but_last_end}
 
 pub last_of : (c : ℕ) (xs front : List ℕ) (last : ℕ) → xs ≡ front ++ last ∷ [] → (last_is c xs ≡ (last == c)) × (but_last xs ≡ front)
 last_of c xs front last e = (ap (last_is c) e ∙ last_is_end front last c, ap but_last e ∙ but_last_end front last)

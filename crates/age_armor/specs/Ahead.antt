@@ -4,11 +4,11 @@ use Rattle.age_io.specs.Stretch.{Stretch}
 use Rattle.age_io.specs.Buffering.{held, rest_behind, shown_behind}
 use Rattle.age_armor.specs.declared.stages.Stage.{Stage}
 use Rattle.age_armor.specs.Stages.{ahead}
-use Rattle.age_armor.specs.Delivered.{Outcome, prepend, stretch_of}
+use Rattle.age_v1.specs.DeliveredArmor.{Outcome, outcome_after, stretch_of}
 
 -- what is held, and then what the rest of the inner reader delivers
 unfoldable pub outcome_ahead : List ℕ → ℕ → ℕ → Stage → Stretch → Outcome
-outcome_ahead bytes given filled stage rest = prepend (held bytes given filled) (ahead stage rest)
+outcome_ahead bytes given filled stage rest = outcome_after (held bytes given filled) (ahead stage rest)
 
 -- the rest: that, and nothing of a failed reader
 unfoldable pub rest_ahead : Bool → List ℕ → ℕ → ℕ → Stage → Stretch → Stretch

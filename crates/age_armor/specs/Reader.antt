@@ -1,5 +1,5 @@
 -- What a caller sees of an `ArmoredReader`, and what it means as a reader.
-use Rattle.std.specs.Prelude.{◌≡◌, ℕ, ◌+◌, ◌-◌, ◌≤◌, ◌⊎◌, Bool, true, false, IsTrue, List, length, Result, OnOk}
+use Rattle.std.specs.Prelude.{◌≡◌, ℕ, ◌+◌, ◌-◌, ◌≤◌, ◌⊎◌, Bool, true, false, IsTrue, List, length, Result, OnOk, ⊤}
 use Rattle.age_error.specs.declared.io.Error.{Error}
 use Rattle.age_error.specs.declared.io.Error.TheVariants.{Failed}
 use Rattle.age_io.specs.declared.traits.Read as readers
@@ -7,14 +7,14 @@ use Rattle.age_io.specs.declared.bufread.BufRead as buffered
 use Rattle.age_io.specs.Stretch.{Stretch, from_place}
 use Rattle.age_io.specs.Reading.{TriedAgain}
 use Rattle.age_armor.specs.declared.reader.ArmoredReader.{ArmoredReader}
-use Rattle.age_armor.specs.Delivered.{Outcome, begins_armor}
-use Rattle.age_armor.specs.Stages.{is_armored}
+use Rattle.age_v1.specs.DeliveredArmor.{Outcome, begins_armor}
+use Rattle.age_armor.specs.Stages.{has_lines}
 use Rattle.age_armor.specs.declared.marks.Marks.{Marks}
 use Rattle.age_armor.specs.Marks.{is_known, LearnsMore}
 use Rattle.age_armor.specs.Refusing.{IsTextRefusal}
 use Rattle.age_armor.specs.Seeking.{text_outcome}
 use Rattle.age_armor.specs.Ahead.{outcome_ahead, rest_ahead, shown_ahead}
-use Rattle.age_armor.specs.DeliveredLaws.{content_of}
+use Rattle.age_v1.proofs.DeliveredArmors.{content_of}
 
 module _ {R : Type 0} {buf : buffered.Ghosts R} {read : readers.Ghosts R} where
   -- the reader that gives the text
@@ -27,7 +27,7 @@ module _ {R : Type 0} {buf : buffered.Ghosts R} {read : readers.Ghosts R} where
 
   -- whether it has found the begin marker
   abbrev pub has_armor : ArmoredReader R buf read → Bool
-  has_armor r = is_armored r.stage
+  has_armor r = has_lines r.stage
 
   -- what the text still delivers, by the definition of armor, and how it ends
   abbrev pub outcome_of : ArmoredReader R buf read → Outcome
@@ -42,8 +42,8 @@ module _ {R : Type 0} {buf : buffered.Ghosts R} {read : readers.Ghosts R} where
   origin_of r = read.place r.source.inner - r.source.taken + r.preceding
 
   -- the text: what stands in the content of that reader from where it stood when this one was made
-  abbrev pub text_of : ArmoredReader R buf read → Stretch
-  text_of r = from_place (origin_of r) (read.content r.source.inner)
+  abbrev pub source_of : ArmoredReader R buf read → Stretch
+  source_of r = from_place (origin_of r) (read.content r.source.inner)
 
   -- what the whole text delivers, and how it ends
   abbrev pub text_outcome_of : ArmoredReader R buf read → Outcome
@@ -87,7 +87,7 @@ module _ {R : Type 0} {buf : buffered.Ghosts R} {read : readers.Ghosts R} where
   -- does, whose interruptions are tried again
   abbrev pub refuses_of : ArmoredReader R buf read → Error → Type 0
   refuses_of r e = ((r.failed ≡ true) × (e ≡ Failed))
-      ⊎ IsTextRefusal (read.tells r.source.inner) (read.steady r.source.inner) (text_of r).ends_well e
+      ⊎ IsTextRefusal (read.tells r.source.inner) (read.steady r.source.inner) (source_of r).ends_well e
       ⊎ TriedAgain read.refuses r.source.inner e
 
   -- all of them
@@ -100,6 +100,7 @@ module _ {R : Type 0} {buf : buffered.Ghosts R} {read : readers.Ghosts R} where
     rest = armored_rest;
     faults = λ r. read.faults r.source.inner;
     refuses = refuses_of;
+    read_besides = λ _ _ _ _ _. ⊤;
   }
 
   -- what it shows: the rest of the line that it holds
@@ -111,5 +112,5 @@ module _ {R : Type 0} {buf : buffered.Ghosts R} {read : readers.Ghosts R} where
     pub more : LearnsMore (marks_of old) (marks_of new)
     pub reaches : IsTrue (read.tells (inner_of old)) → OnOk result (place_of new + length (shown_of new) ≤ furthest_of new)
     pub lines : (lines_of old ≤ lines_of new) × (lines_of new ≤ lines_of old + 1)
-    pub bare : IsTrue (read.tells (inner_of old)) → IsTrue (read.steady (inner_of old)) → begins_armor (text_of old).bytes ≡ false →
+    pub bare : IsTrue (read.tells (inner_of old)) → IsTrue (read.steady (inner_of old)) → begins_armor (source_of old).bytes ≡ false →
         lines_of new ≡ lines_of old

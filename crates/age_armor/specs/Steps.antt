@@ -1,179 +1,27 @@
 -- What the steps of a reader of armor say of it, before and after.
-use Rattle.std.specs.Prelude.{◌≡◌, ◌⊎◌, ℕ, ℤ, ◌+◌, ◌-◌, ◌≤◌, ◌<◌, false, IsTrue, List, [], length, drop, Result, Ok, IfOk, OnOk, OnErr, ⊤, ◌≢◌, ◌*◌, Bool, true, Err, IfErr}
+use Rattle.std.specs.Prelude.{IfOk, IsTrue, Result, [], false, ℕ, ◌≡◌, ◌⊎◌}
 use Rattle.age_error.specs.declared.io.Error.{Error}
-use Rattle.age_io.specs.declared.traits.Read as readers
-use Rattle.age_io.specs.declared.bufread.BufRead as buffered
-use Rattle.age_io.specs.Stretch.{IsCleanEnd, from_place}
 use Rattle.age_armor.specs.declared.reader.ArmoredReader.{ArmoredReader}
-use Rattle.age_armor.specs.declared.stages.Stage.TheVariants.{Binary}
-use Rattle.age_armor.specs.Counting.{TakesLines}
-use Rattle.age_armor.specs.Delivered.{begins_armor}
-use Rattle.age_armor.specs.Ending.{KeepsEnding}
-use Rattle.age_armor.specs.Marks.{LearnsMore}
-use Rattle.age_armor.specs.Stages.{is_start, IsNamed}
-use Rattle.age_armor.specs.Reader.{inner_of, taken_of, armored_reader, has_failed, has_armor, text_of, outcome_of, lines_of, marks_of, knows_end, place_of, armored_rest, shown_of, text_outcome_of, furthest_of, notes_all, armored_content, refuses_of}
-use Rattle.age_error.specs.declared.io.Error.TheVariants.{OutOfMemory}
-use Rattle.age_error.specs.declared.io.SeekFrom.{SeekFrom}
-use Rattle.age_error.specs.declared.io.SeekFrom.TheVariants.{End}
-use Rattle.age_io.specs.Reading.{IsQuiet, AddsNoReason, TriedAgain, most_faults}
-use Rattle.age_io.specs.Keeping.{SameReader, OrSeek}
-use Rattle.age_io.specs.Cursor.{IsOutside, MayLead, sought}
-use Rattle.age_armor.specs.Seeking.{Goes, OrAstray, AsksPast, IsNear}
+use Rattle.age_v1.specs.DeliveredArmor.{begins_armor}
+use Rattle.age_armor.specs.Reader.{inner_of, shown_of, source_of, taken_of}
+use Rattle.age_io.specs.declared.bufread.BufRead as buffered
+use Rattle.age_io.specs.declared.traits.Read as readers
 
 module _ {R : Type 0} {buf : buffered.Ghosts R} {read : readers.Ghosts R} where
-  -- of a reader that tells its bytes, and of one that is steady besides
-  abbrev pub WhereTold : ArmoredReader R buf read → Type 0 → Type 0
-  WhereTold r fact = IsTrue (read.tells (inner_of r)) → fact
-
   abbrev pub WhereSteady : ArmoredReader R buf read → Type 0 → Type 0
   WhereSteady r fact = IsTrue (read.tells (inner_of r)) → IsTrue (read.steady (inner_of r)) → fact
 
   -- of one whose text isn't armor
   abbrev pub WherePlain : ArmoredReader R buf read → Type 0 → Type 0
-  WherePlain r fact = WhereSteady r (begins_armor (text_of r).bytes ≡ false → fact)
+  WherePlain r fact = WhereSteady r (begins_armor (source_of r).bytes ≡ false → fact)
 
   -- ---- each step
 
-  -- the text is the same, what is known of it only grows, and so does the count of lines, of which a binary text has none
-  pub record KeepsText (old new : ArmoredReader R buf read) : Type 0 where
-    pub same_text : WhereTold old (text_of new ≡ text_of old)
-    pub learns : LearnsMore (marks_of old) (marks_of new)
-    pub counts : lines_of old ≤ lines_of new
-    pub bare : WherePlain old (lines_of new ≡ lines_of old)
-
-  -- a success keeps how the text ends, and a refusal that neither the device nor memory made is that end's
-  abbrev pub EndsAsBefore : {A : Type 0} → ArmoredReader R buf read → ArmoredReader R buf read → Result A Error → Type 0
-  EndsAsBefore old new result = KeepsEnding (read.tells (inner_of old)) (has_failed old) (read.faults (inner_of old)) (read.faults (inner_of new))
-      (outcome_of old).ending (outcome_of new).ending result
-
   -- ---- of a read
-
-  -- after a success the lines that were taken are counted
-  abbrev pub CountsTaken : {A : Type 0} → ArmoredReader R buf read → ArmoredReader R buf read → Result A Error → Type 0
-  CountsTaken old new result = WhereTold old (OnOk result (TakesLines old.stage new.stage
-      (place_of old) (old.filled - old.given) (lines_of old) (place_of new) (new.filled - new.given) (lines_of new)))
-
-  -- It holds the next bytes, and what is left stays. Nothing is held at a clean end alone, of which it knows then. What is held already stays,
-  -- and nothing is read for it.
-  pub record HoldsNext (old new : ArmoredReader R buf read) (result : Result ⊤ Error) : Type 0 where
-    pub place : place_of new ≡ place_of old
-    pub rest : WhereTold old (OnOk result (armored_rest new ≡ armored_rest old))
-    pub begun : OnOk result (is_start new.stage ≡ false)
-    pub end : WhereTold old (OnOk result (new.given ≡ new.filled → IsCleanEnd (armored_rest old)))
-    pub knows : OnOk result (new.given ≡ new.filled → IsTrue (knows_end new))
-    pub same : 0 < length (shown_of old) → (result ≡ Ok tt) × (shown_of new ≡ shown_of old)
-
-  -- what is held is given, and nothing is read
-  pub record ReadsNothing (old new : ArmoredReader R buf read) : Type 0 where
-    pub source : new.source ≡ old.source
-    pub preceding : new.preceding ≡ old.preceding
-    pub stage : new.stage ≡ old.stage
-    pub marks : marks_of new ≡ marks_of old
-    pub fresh : new.failed ≡ false
-    pub ending : (outcome_of new).ending ≡ (outcome_of old).ending
-
-  -- the text is binary, of which nothing is held and no line is taken
-  pub record StaysBinary (old new : ArmoredReader R buf read) : Type 0 where
-    pub stage : new.stage ≡ Binary
-    pub shown : shown_of old ≡ []
-    pub holds : (new.given ≡ old.given) × (new.filled ≡ old.filled)
-    pub lines : lines_of new ≡ lines_of old
-
-  -- It gives what is held of a line, or of the next one, and finds out whether the text has armor. Of armor it writes nothing else, and after a
-  -- refusal nothing at all.
-  pub record FillsByForm (old new : ArmoredReader R buf read) (before after : List ℕ) (result : Result ℕ Error) : Type 0 where
-    pub held : 0 < length (shown_of old) → IfOk result (λ n. n ≤ length (shown_of old))
-    pub line : IsTrue (has_armor new) → IfOk result (λ n. n + length (shown_of new) ≤ 48)
-    pub form : WhereSteady old (OnOk result (has_armor new ≡ begins_armor (text_of old).bytes))
-    pub beyond : IsTrue (has_armor new) → IfOk result (λ n. drop n after ≡ drop n before)
-    pub untouched : IsTrue (has_armor new) → OnErr result (after ≡ before)
-    pub spared : WhereSteady old (IsTrue (begins_armor (text_of old).bytes) → OnErr result (after ≡ before))
-
-  -- a reader that hasn't failed comes to the text's own end
-  abbrev pub EndsAsText : ArmoredReader R buf read → ArmoredReader R buf read → Type 0
-  EndsAsText old new = WhereSteady old (has_failed new ≡ false → (outcome_of new).ending ≡ (text_outcome_of old).ending)
-
-  -- nothing was read of a text
-  abbrev pub IsNew : ArmoredReader R buf read → Type 0
-  IsNew r = (is_start r.stage ≡ true) × (furthest_of r ≡ 0)
 
   -- ---- to a mark, and on from there
 
-  -- after a success it is good, and has before it what the text carries from its place on, up to the text's own end
-  pub record Stands {A : Type 0} (old new : ArmoredReader R buf read) (result : Result A Error) : Type 0 where
-    pub good : OnOk result (has_failed new ≡ false)
-    pub rest : WhereSteady old (OnOk result (armored_rest new ≡ from_place (place_of new) (armored_content old)))
-    pub ending : WhereSteady old (OnOk result ((outcome_of new).ending ≡ (text_outcome_of old).ending))
-
-  -- after a refusal, which is never one of the target, it has failed at its place
-  pub record FailsThere {A : Type 0} (old new : ArmoredReader R buf read) (result : Result A Error) : Type 0 where
-    pub fails : OnErr result (has_failed new ≡ true)
-    pub stays : OnErr result (place_of new ≡ place_of old)
-    pub other : IfErr result (λ e. IsOutside e → ⊥)
-
-  -- it came to the place, or else to a clean end before it, which it knows from then on
-  pub record ComesTo (old new : ArmoredReader R buf read) (target : ℕ) (result : Result Bool Error) : Type 0 where
-    pub there : WhereTold old (IfOk result (λ there. IsTrue there → place_of new ≡ target))
-    pub end : WhereTold old (IfOk result (λ there. there ≡ false → IsCleanEnd (armored_rest new) × (place_of new < target)))
-    pub knows : IfOk result (λ there. there ≡ false → IsTrue (knows_end new))
-
-  -- where what it has before it stands in what the text carries it still does, and a fault of the text stands before the place
-  pub record WalksAlong {A : Type 0} (old new : ArmoredReader R buf read) (target : ℕ) (result : Result A Error) : Type 0 where
-    pub rest : WhereTold old (armored_rest old ≡ from_place (place_of old) (armored_content old) →
-        OnOk result (armored_rest new ≡ from_place (place_of new) (armored_content old)))
-    pub short : WhereSteady old (armored_rest old ≡ from_place (place_of old) (armored_content old) → IfErr result (λ e. e ≢ OutOfMemory →
-        IsQuiet (read.faults (inner_of old)) (read.faults (inner_of new)) → ((armored_content old).ends_well ≡ false) × (length (armored_content old).bytes < target)))
-
-  -- each line but the last that it takes stands for 48 bytes on the way
-  abbrev pub CountsLines : ArmoredReader R buf read → ArmoredReader R buf read → ℕ → Result Bool Error → Type 0
-  CountsLines old new target result = WhereSteady old (armored_rest old ≡ from_place (place_of old) (armored_content old) →
-      target ≤ length (armored_content old).bytes → IfOk result (λ there. IsTrue there → 48 * lines_of new + place_of old < 48 * lines_of old + target + 48))
-
-  -- it stands in what the text carries, which is what it was, and hasn't failed
-  pub record Came (old new : ArmoredReader R buf read) : Type 0 where
-    pub same : SameReader armored_reader old new
-    pub narrows : AddsNoReason (TriedAgain refuses_of) old new
-    pub unspent : read.faults (inner_of new) < most_faults
-    pub text : KeepsText old new
-    pub good : has_failed new ≡ false
-    pub stands : WhereSteady old (armored_rest new ≡ from_place (place_of new) (armored_content old))
-    pub within : WhereSteady old (place_of new ≤ length (armored_content old).bytes)
-    pub ending : WhereSteady old ((outcome_of new).ending ≡ (text_outcome_of old).ending)
-
   -- ---- to where a seek asks for
-
-  -- a success answers the place where it stands, which is the one that the seek asks for
-  pub record Reaches (old new : ArmoredReader R buf read) (to : SeekFrom) (result : Result ℕ Error) : Type 0 where
-    pub stands : Stands old new result
-    pub there : IfOk result (MayLead to (place_of old))
-    pub place : WhereTold old (IfOk result (λ n. place_of new ≡ n))
-    pub exact : WhereSteady old (IfOk result (λ n. sought to (place_of old) (length (armored_content old).bytes) ≡ Ok n))
-
-  -- A refusal of the target adds no reason, and is the right one. Any other that neither the device nor memory made is that of the text's
-  -- end, and the target asks for more than the bytes before it.
-  pub record Misses (old new : ArmoredReader R buf read) (to : SeekFrom) (result : Result ℕ Error) : Type 0 where
-    pub missed : IfErr result (λ e. IsOutside e → AddsNoReason refuses_of old new)
-    pub refused : WhereSteady old (IfErr result (λ e. IsOutside e → IsTrue (armored_content old).ends_well
-        × (sought to (place_of old) (length (armored_content old).bytes) ≡ Err e)))
-    pub named : IsTrue (read.tells (inner_of old)) → IsTrue (read.content (inner_of old)).ends_well →
-        IfErr result (λ e. (IsOutside e → ⊥) → e ≢ OutOfMemory → IsQuiet (read.faults (inner_of old)) (read.faults (inner_of new)) →
-        IsNamed (text_outcome_of old).ending e × AsksPast to (place_of old) (length (armored_content old).bytes))
-
-  -- to a place, or refused
-  pub record GoesTo (seek_refuses : Error → Type 0) (old new : ArmoredReader R buf read) (to : SeekFrom) (result : Result ℕ Error) : Type 0 where
-    pub goes : Goes armored_reader (OrSeek (OrAstray seek_refuses) refuses_of) old new result
-    pub text : KeepsText old new
-    pub reaches : Reaches old new to result
-    pub misses : Misses old new to result
-
-  -- to the end, which is a clean one and known then, or refused as each seek that is counted from it
-  pub record ReachesEnd (seek_refuses : Error → Type 0) (old new : ArmoredReader R buf read) (result : Result ⊤ Error) : Type 0 where
-    pub goes : Goes armored_reader (OrSeek (OrAstray seek_refuses) refuses_of) old new result
-    pub text : KeepsText old new
-    pub came : OnOk result (Came old new)
-    pub end : WhereTold old (OnOk result (IsCleanEnd (armored_rest new)))
-    pub knows : OnOk result (IsTrue (knows_end new))
-    pub misses : IfErr result (λ e. (distance : ℤ) → Misses old new (End distance) (Err e))
 
   -- the reader that gives the text stands at this place of it, and nothing is held
   pub record LandsBelow (r : ArmoredReader R buf read) (place : ℕ) : Type 0 where
@@ -183,24 +31,3 @@ module _ {R : Type 0} {buf : buffered.Ghosts R} {read : readers.Ghosts R} where
   -- in a text that isn't armor it does after a success, unless nothing was done
   abbrev pub StandsBelow : ArmoredReader R buf read → ArmoredReader R buf read → Result ℕ Error → Type 0
   StandsBelow old new result = WherePlain old (IfOk result (λ n. (new ≡ old) ⊎ LandsBelow new n))
-
-  -- after a success the end is known, and it is a clean one
-  pub record FindsEnd {A : Type 0} (old new : ArmoredReader R buf read) (result : Result A Error) : Type 0 where
-    pub well : WhereSteady old (OnOk result (IsTrue (armored_content old).ends_well))
-    pub knows : OnOk result (IsTrue (knows_end new))
-
-  -- nothing is read for the place at which a reader stands that has begun, and no line is taken for the front
-  pub record StaysThere (old new : ArmoredReader R buf read) (target : ℕ) (result : Result ℕ Error) : Type 0 where
-    pub still : has_failed old ≡ false → is_start old.stage ≡ false → place_of old ≡ target → (result ≡ Ok target) × (new ≡ old)
-    pub unmoved : WhereSteady old (has_failed old ≡ false → place_of old ≡ target → OnOk result (lines_of new ≤ lines_of old))
-
-  -- Where each mark had memory, few lines are taken to where the text was read before. Once the end is known, nothing changes for a
-  -- target outside of it.
-  pub record SparesReading (old new : ArmoredReader R buf read) (to : SeekFrom) (result : Result ℕ Error) : Type 0 where
-    pub lines : WhereSteady old (IsTrue (notes_all old) → IsNear to (place_of old) (furthest_of old) (knows_end old) → OnOk result (lines_of new ≤ lines_of old + 1024))
-    pub outside : WhereSteady old (IsTrue (knows_end old) → IfErr result (λ e. IsOutside e → new ≡ old))
-
-  -- the same of a whole seek, which goes back to its place after such a refusal, and takes no line for that
-  pub record TakesFew (old new : ArmoredReader R buf read) (to : SeekFrom) (result : Result ℕ Error) : Type 0 where
-    pub lines : WhereSteady old (IsTrue (notes_all old) → IsNear to (place_of old) (furthest_of old) (knows_end old) → OnOk result (lines_of new ≤ lines_of old + 1024))
-    pub outside : WhereSteady old (IsTrue (knows_end old) → IfErr result (λ e. IsOutside e → lines_of new ≤ lines_of old))

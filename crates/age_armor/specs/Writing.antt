@@ -1,23 +1,18 @@
 -- What an `ArmoredWriter` has taken, and what it sent to its inner writer.
-use Rattle.std.specs.Prelude.{◌≡◌, ℕ, ◌*◌, ◌/◌, ◌⊎◌, Bool, true, false, List, [], ◌++◌, length, drop, vec_len, Result, IfOk}
+use Rattle.std.specs.Prelude.{Bool, IfOk, List, Result, [], drop, false, length, true, vec_len, ℕ, ◌*◌, ◌++◌, ◌/◌, ◌≡◌, ◌⊎◌}
 use Rattle.age_base64.specs.Lines.{line}
 use Rattle.age_error.specs.declared.io.Error.{Error}
 use Rattle.age_error.specs.declared.io.Error.TheVariants.{Failed}
 use Rattle.age_io.specs.Writing.{HandsOn}
-use Rattle.age_armor.specs.Armor.{armor, begin_marker}
-use Rattle.age_armor.specs.declared.format.Format.{Format}
-use Rattle.age_armor.specs.declared.format.Format.TheVariants.{Binary, AsciiArmor}
-use Rattle.age_armor.specs.FullLines.{full_lines}
+use Rattle.age_v1.specs.Armor.{begin_marker, text_of}
+use Rattle.age_v1.specs.declared.format.Format.{Format}
+use Rattle.age_v1.specs.declared.format.Format.TheVariants.{AsciiArmor, Binary}
+use Rattle.age_v1.specs.ArmorFullLines.{full_lines}
 use Rattle.age_armor.specs.declared.writer.ArmoredWriter.{ArmoredWriter}
 
 abbrev pub in_armor : Format → Bool
 in_armor Binary = false
 in_armor AsciiArmor = true
-
--- the text in this form that carries the bytes
-abbrev pub text_of : Format → List ℕ → List ℕ
-text_of Binary bytes = bytes
-text_of AsciiArmor bytes = armor bytes
 
 -- it writes armor, and not the bytes themselves
 abbrev pub is_armored : {W : Type 0} → ArmoredWriter W → Bool
@@ -41,27 +36,27 @@ held_len writer = vec_len writer.held
 
 -- Why a writer that goes on refuses while it is given so many bytes: in armor as its inner writer does, whatever that is given and
 -- with its interruptions tried again, and in binary as its inner writer does.
-abbrev pub MayRefuse : {W : Type 0} → (W → ℕ → Error → Type 0) → Bool → W → ℕ → Error → Type 0
-MayRefuse refuses true inner n e = HandsOn refuses inner e
-MayRefuse refuses false inner n e = refuses inner n e
+abbrev pub WriterRefuses : {W : Type 0} → (W → ℕ → Error → Type 0) → Bool → W → ℕ → Error → Type 0
+WriterRefuses refuses true inner n e = HandsOn refuses inner e
+WriterRefuses refuses false inner n e = refuses inner n e
 
 -- why it refuses, which is `Failed` where it refused earlier
 abbrev pub Refused : {W : Type 0} → (W → ℕ → Error → Type 0) → ArmoredWriter W → ℕ → Error → Type 0
 Refused refuses writer n e = ((writer.failed ≡ true) × (e ≡ Failed))
-    ⊎ ((writer.failed ≡ false) × MayRefuse refuses writer.armored writer.inner n e)
+    ⊎ ((writer.failed ≡ false) × WriterRefuses refuses writer.armored writer.inner n e)
 
 module _ {W : Type 0} (inner_appended : W → List ℕ → W → Type 0) where
   -- what goes out before the first byte is taken
-  abbrev pub Begins : Bool → W → W → Type 0
-  Begins true first inner = inner_appended first (line begin_marker) inner
-  Begins false first inner = inner ≡ first
+  abbrev pub SendsMarker : Bool → W → W → Type 0
+  SendsMarker true first inner = inner_appended first (line begin_marker) inner
+  SendsMarker false first inner = inner ≡ first
 
   -- a writer in this form that has taken nothing, over an inner writer that was in this state before
   pub record WasMade (format : Format) (first : W) (writer : ArmoredWriter W) : Type 0 where
     pub good : writer.failed ≡ false
     pub same_form : writer.armored ≡ in_armor format
     pub none_held : writer.held.items ≡ []
-    pub begins : Begins (in_armor format) first writer.inner
+    pub begins : SendsMarker (in_armor format) first writer.inner
 
   -- in armor: of what was held and these bytes all full lines went out, and the rest is held
   pub record Took (before : ArmoredWriter W) (bytes : List ℕ) (after : ArmoredWriter W) : Type 0 where

@@ -5,7 +5,7 @@ ghost use Rattle.age_error.specs.declared.io.Error.TheVariants.{OutOfMemory};
 ghost use Rattle.age_io.specs.Stretch.{IsCleanEnd, IsFault};
 ghost use Rattle.age_io.specs.Reading.{Delivers, IsQuiet, most_faults};
 ghost use Rattle.std.specs.List.{list_all};
-ghost use Rattle.age_armor.specs.Delivered.{is_space as is_white};
+ghost use Rattle.age_v1.specs.DeliveredArmor.{is_space as is_white};
 ghost use Rattle.age_armor.specs.Showing.{IsAhead};
 
 use crate::decoding::Decoder;
@@ -53,10 +53,10 @@ fn are_spaces(bytes: &[u8]) -> bool
 }
 
 impl<R: BufRead> Counted<R> {
-    ghost use Rattle.age_armor.specs.Counting.{Kept, TakesNone, TakesLine, IsCutShort, IsFew, CountsOne, one_line_more};
-    ghost use Rattle.age_armor.specs.Showing.{TakesFull};
-    ghost use Rattle.age_armor.specs.Stages.{IsNamed};
-    ghost use Rattle.age_armor.specs.Delivered.{trailing, Clean};
+    ghost use Rattle.age_armor.specs.PrivateCounting.{Kept, TakesNone, TakesLine, IsCutShort, IsFew, CountsOne, one_line_more};
+    ghost use Rattle.age_armor.specs.PrivateShowing.{TakesFull};
+    ghost use Rattle.age_armor.specs.Stages.{NamesEnding};
+    ghost use Rattle.age_v1.specs.DeliveredArmor.{trailing, Clean};
 
     /// Whether nothing is left but a clean end.
     #[tactic(auto, using(crate::proofs::AheadLines::ahead_none))]
@@ -227,7 +227,7 @@ impl<R: BufRead> Counted<R> {
         ensures lines { self.new.lines ≡ self.old.lines }
         ensures clean { IsTrue (R.Read.tells self.old.inner) → OnOk result (trailing (R.Read.rest self.old.inner).bytes (R.Read.rest self.old.inner).ends_well ≡ Clean) }
         ensures cause { IsTrue (R.Read.tells self.old.inner) → IfErr result (λ e. e ≢ OutOfMemory → IsQuiet (R.Read.faults self.old.inner) (R.Read.faults self.new.inner) →
-            IsNamed (trailing (R.Read.rest self.old.inner).bytes (R.Read.rest self.old.inner).ends_well) e) }
+            NamesEnding (trailing (R.Read.rest self.old.inner).bytes (R.Read.rest self.old.inner).ends_well) e) }
     {
         for _count in 0..u64::MAX {
             match self.read(room) {

@@ -1,6 +1,6 @@
 //! Decoding the columns of a line.
 ghost use Rattle.std.specs.Prelude.{◌≡◌, ◌*◌, ◌≤◌, IsTrue, Some, None, take, length, MatchOption};
-ghost use Rattle.age_armor.specs.LineVerdict.{decoded};
+ghost use Rattle.age_v1.specs.ArmorLineVerdict.{decoded};
 ghost use Rattle.age_armor.specs.Decoder.{DecodesArmor, RefusesNoArmor};
 
 use age_base64::armor_engine;

@@ -2,7 +2,7 @@
 ghost use Rattle.std.specs.Prelude.{◌≡◌, ◌+◌, ◌*◌, ◌/◌, ◌%◌, ◌≤◌, ◌++◌, length, drop};
 ghost use Rattle.age_base64.specs.Lines.{line};
 ghost use Rattle.age_base64.specs.Base64.{padded_columns};
-ghost use Rattle.age_armor.specs.FullLines.{full_lines};
+ghost use Rattle.age_v1.specs.ArmorFullLines.{full_lines};
 
 use age_base64::armor_engine;
 use base64::engine::general_purpose::GeneralPurpose;

@@ -1,7 +1,7 @@
 //! Lines that a reader shows, decoded before they are taken: many in one call, which is faster than a call for each.
 ghost use Rattle.std.specs.Prelude.{◌≡◌, ◌+◌, ◌*◌, ◌≤◌, ◌<◌, IsTrue, List, ℕ, length, take, slice_index};
 ghost use Rattle.age_base64.specs.Base64.{padded_columns};
-ghost use Rattle.age_armor.specs.FullLines.{full_lines};
+ghost use Rattle.age_v1.specs.ArmorFullLines.{full_lines};
 ghost use Rattle.age_armor.specs.Showing.{IsAhead};
 
 use crate::decoding::Decoder;

@@ -1,7 +1,7 @@
 //! The verdict on a line.
 ghost use Rattle.std.specs.Prelude.{◌≡◌, ◌≤◌, Bool, true, false, List, take, drop, length, MatchOption};
-ghost use Rattle.age_armor.specs.LineVerdict.{verdict, columns_verdict, line_columns, is_short, last_is, but_last};
-ghost use Rattle.age_armor.specs.Judging.{IsJudged};
+ghost use Rattle.age_v1.specs.ArmorLineVerdict.{verdict, columns_verdict, line_columns, is_short, last_is, but_last};
+ghost use Rattle.age_armor.specs.PrivateJudging.{IsJudged};
 
 use crate::decoding::Decoder;
 use age_error::io::ArmoredReadError;

@@ -5,10 +5,10 @@ ghost use Rattle.std.specs.Str.{IsUtf8};
 ghost use Rattle.age_base64.specs.Base64.{padded_columns};
 ghost use Rattle.age_error.specs.Bytes.{AreBytes};
 ghost use Rattle.age_error.specs.declared.io.Error.{Error as Refusal};
-ghost use Rattle.age_armor.specs.Armor.{armor, armor_lines, begin_marker, AreEndedLines, Carries, IsEnd};
-ghost use Rattle.age_armor.specs.LineVerdict.{IsLineVerdict, LineVerdict, verdict};
-ghost use Rattle.age_armor.specs.Delivered.{delivered, Clean, Refused};
-ghost use Rattle.age_armor.specs.FirstFault.{IsFirstFault};
+ghost use Rattle.age_v1.specs.Armor.{armor, armor_lines, begin_marker, AreEndedLines, Carries, IsArmorEnd};
+ghost use Rattle.age_v1.specs.ArmorLineVerdict.{IsLineVerdict, LineVerdict, verdict};
+ghost use Rattle.age_v1.specs.DeliveredArmor.{text_delivers, Clean, Refused};
+ghost use Rattle.age_v1.specs.ArmorFirstFault.{IsFirstFault};
 
 /// Each line has exactly one verdict: the case that the tests of a line, in their order, come to.
 ///
@@ -25,7 +25,7 @@ pub fn verdict_is_unique()
 pub fn armor_is_carrying()
     ensures itself { (bytes : List ℕ) → AreBytes bytes → Carries (armor bytes) bytes }
     ensures ended { (bytes front end : List ℕ) → AreBytes bytes → AreEndedLines (begin_marker ∷ armor_lines (padded_columns bytes)) front
-        → IsEnd end → Carries (front ++ end) bytes }
+        → IsArmorEnd end → Carries (front ++ end) bytes }
 {}
 
 /// The armor of n bytes has 68 bytes for the two markers with their LF, 4 columns for each 3 bytes begun, and an LF for each
@@ -46,22 +46,22 @@ pub fn carried_is_unique()
 
 /// A text that carries bytes delivers them and then a clean end.
 pub fn carried_is_delivered()
-    ensures { (text bytes : List ℕ) → Carries text bytes → delivered text true ≡ record { bytes = bytes; ending = Clean } }
+    ensures { (text bytes : List ℕ) → Carries text bytes → text_delivers text true ≡ record { bytes = bytes; ending = Clean } }
 {}
 
 /// A text of bytes that delivers a list and then a clean end carries that list.
 pub fn delivered_is_carried()
-    ensures { (text bytes : List ℕ) → AreBytes text → delivered text true ≡ record { bytes = bytes; ending = Clean } → Carries text bytes }
+    ensures { (text bytes : List ℕ) → AreBytes text → text_delivers text true ≡ record { bytes = bytes; ending = Clean } → Carries text bytes }
 {}
 
 /// A text of bytes carries a list or has a first fault, never both.
 ///
 /// `either`: one of the two holds. `exclusive`: not both. `unique`: a text has at most one first fault, after one list of
-/// bytes. `delivered`: those bytes are what it delivers, and then that fault.
+/// bytes. `text_delivers`: those bytes are what it delivers, and then that fault.
 pub fn first_fault_is_unique()
     ensures either { (text : List ℕ) → AreBytes text
         → ((bytes : List ℕ) × Carries text bytes) ⊎ ((bytes : List ℕ) × (e : Refusal) × IsFirstFault text bytes e) }
     ensures exclusive { (text bytes others : List ℕ) (e : Refusal) → Carries text bytes → IsFirstFault text others e → ⊥ }
     ensures unique { (text bytes others : List ℕ) (e f : Refusal) → IsFirstFault text bytes e → IsFirstFault text others f → (bytes ≡ others) × (e ≡ f) }
-    ensures delivered { (text bytes : List ℕ) (e : Refusal) → IsFirstFault text bytes e → delivered text true ≡ record { bytes = bytes; ending = Refused e } }
+    ensures delivered { (text bytes : List ℕ) (e : Refusal) → IsFirstFault text bytes e → text_delivers text true ≡ record { bytes = bytes; ending = Refused e } }
 {}

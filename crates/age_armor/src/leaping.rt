@@ -5,7 +5,8 @@ ghost use Rattle.age_io.specs.Stretch.{IsCleanEnd, from_place};
 ghost use Rattle.age_io.specs.Reading.{IsQuiet, TriedAgain, most_faults};
 ghost use Rattle.age_io.specs.Keeping.{KeepsReader, OrSeek};
 ghost use Rattle.age_io.specs.Cursor.{IsOutside, place_at as place_by};
-ghost use Rattle.age_armor.specs.Seeking.{Goes, OrAstray};
+ghost use Rattle.age_armor.specs.Seeking.{OrAstray};
+ghost use Rattle.age_armor.specs.PrivateSeeking.{Goes};
 ghost use Rattle.age_armor.specs.Refusing.{OrText};
 
 use crate::counted::Counted;

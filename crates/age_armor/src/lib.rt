@@ -4,7 +4,6 @@
 mod counted;
 mod decoding;
 mod encoding;
-mod format;
 mod gathering;
 mod judging;
 mod laws;
@@ -18,7 +17,7 @@ mod stages;
 mod writer;
 mod writing;
 
-pub use format::Format;
+pub use age_v1::Format;
 pub use laws::{
     armor_is_carrying, armor_is_text, armor_length, carried_is_delivered, carried_is_unique,
     delivered_is_carried, first_fault_is_unique, verdict_is_unique,

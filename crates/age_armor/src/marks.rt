@@ -2,9 +2,11 @@
 ghost use Rattle.std.specs.Prelude.{◌≡◌, ℕ, ◌+◌, ◌%◌, ◌^◌, ◌≤◌, ◌<◌, ◌⊎◌, Bool, true, false, IsTrue, length, Some, None};
 ghost use Rattle.age_io.specs.Stretch.{Stretch};
 ghost use Rattle.age_armor.specs.declared.stages.Stage.TheVariants.{Lines};
-ghost use Rattle.age_armor.specs.Stages.{is_start, is_ended};
-ghost use Rattle.age_armor.specs.Delivered.{begins_armor};
-ghost use Rattle.age_armor.specs.Marks.{carried, CanResume, IsLength, Knows, LearnsMore, EndsBefore, reach};
+ghost use Rattle.age_armor.specs.Stages.{is_start};
+ghost use Rattle.age_armor.specs.PrivateStages.{is_ended};
+ghost use Rattle.age_v1.specs.DeliveredArmor.{begins_armor};
+ghost use Rattle.age_armor.specs.Marks.{LearnsMore};
+ghost use Rattle.age_armor.specs.PrivateMarks.{carried, CanResume, IsLength, Knows, KnowsEndBefore, reach};
 
 use crate::stages::Stage;
 use std::alloc::Global;
@@ -146,7 +148,7 @@ impl Marks {
 
     /// Whether the text's end was read, and stands before a place.
     pub(crate) fn ends_before(&self, place: u64) -> bool
-        ensures yes { IsTrue result → EndsBefore self.now.length place }
+        ensures yes { IsTrue result → KnowsEndBefore self.now.length place }
         ensures no { result ≡ false → (n : ℕ) → self.now.length ≡ Some n → place ≤ n }
     {
         match self.length {

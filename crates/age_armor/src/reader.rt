@@ -8,16 +8,18 @@ ghost use Rattle.age_io.specs.Stretch.{Stretch, nothing, whole, from_place, IsFa
 ghost use Rattle.age_io.specs.Reading.{Reads, IsQuiet, Delivers, StandsIn, most_faults};
 ghost use Rattle.age_io.specs.Filling.{IsFront, Consumes};
 ghost use Rattle.age_io.specs.Failing.{FailsForGood};
-ghost use Rattle.age_armor.specs.Armor.{Carries};
-ghost use Rattle.age_armor.specs.Delivered.{stretch_of, delivered, begins_armor};
-ghost use Rattle.age_armor.specs.Stages.{FindsForm, is_start, is_armored, is_ended};
+ghost use Rattle.age_v1.specs.Armor.{Carries};
+ghost use Rattle.age_v1.specs.DeliveredArmor.{stretch_of, text_delivers, begins_armor};
+ghost use Rattle.age_armor.specs.Stages.{is_start, has_lines};
+ghost use Rattle.age_armor.specs.PrivateStages.{FindsForm, is_ended};
 ghost use Rattle.age_armor.specs.Ending.{KeepsEnding};
 ghost use Rattle.age_armor.specs.Refusing.{OrText};
 ghost use Rattle.age_armor.specs.declared.stages.Stage.TheVariants.{Binary};
 ghost use Rattle.age_armor.specs.Ahead.{outcome_ahead, rest_ahead, shown_ahead};
-ghost use Rattle.age_armor.specs.DeliveredLaws.{content_of, content_bytes, content_short, stands_by};
-ghost use Rattle.age_armor.specs.ReaderLaws.{spent_ahead, well_inner};
-ghost use Rattle.age_armor.specs.Marks.{Knows, IsPaced, is_known};
+ghost use Rattle.age_v1.proofs.DeliveredArmors.{content_of, content_bytes, content_short, stands_by};
+ghost use Rattle.age_armor.specs.ReaderLemmas.{spent_ahead, well_inner};
+ghost use Rattle.age_armor.specs.Marks.{is_known};
+ghost use Rattle.age_armor.specs.PrivateMarks.{Knows, IsPaced};
 ghost use Rattle.age_armor.specs.Seeking.{text_outcome};
 
 use crate::counted::Counted;
@@ -60,7 +62,7 @@ pub struct ArmoredReader<R: BufRead> {
     ghost fresh: { is_start stage ≡ true → given ≡ filled },
     ghost untaken: { failed ≡ false → is_start stage ≡ true → source.taken ≡ preceding },
     ghost form: { IsTrue (R.Read.tells source.inner) → IsTrue (R.Read.steady source.inner) → is_start stage ≡ false →
-        FindsForm (is_armored stage) (from_place (R.Read.place source.inner - source.taken + preceding) (R.Read.content source.inner)).bytes },
+        FindsForm (has_lines stage) (from_place (R.Read.place source.inner - source.taken + preceding) (R.Read.content source.inner)).bytes },
     ghost unspent: { failed ≡ false → is_start stage ≡ false → R.Read.faults source.inner < most_faults },
     ghost counted: { IsTrue (R.Read.tells source.inner) → failed ≡ false → place + (filled - given) + preceding ≤ source.taken },
     ghost fits: { IsTrue (R.Read.tells source.inner) → place < 2 ^ 63 },
@@ -90,7 +92,7 @@ pub struct ArmoredReader<R: BufRead> {
 }
 
 impl<R: BufRead> Read for ArmoredReader<R> {
-    ghost use Rattle.age_armor.specs.Reader.{inner_of, has_failed, has_armor, text_of, outcome_of, text_outcome_of, knows_end, armored_content, place_of, armored_rest, refuses_of, shown_of, Learns};
+    ghost use Rattle.age_armor.specs.Reader.{inner_of, has_failed, has_armor, source_of, outcome_of, text_outcome_of, knows_end, armored_content, place_of, armored_rest, refuses_of, shown_of, Learns};
 
     ghost tells = { λ r. R.Read.tells (inner_of r) };
 
@@ -148,7 +150,7 @@ impl<R: BufRead> Read for ArmoredReader<R> {
         ensures ending { let reader = ⟦<ArmoredReader<R> as Read>⟧ in KeepsEnding (reader.tells self.old) (has_failed self.old)
             (reader.faults self.old) (reader.faults self.new) (outcome_of self.old).ending (outcome_of self.new).ending result }
         ensures whole { IsTrue (R.Read.tells (inner_of self.old)) → text_outcome_of self.new ≡ text_outcome_of self.old }
-        ensures same_text { IsTrue (R.Read.tells (inner_of self.old)) → text_of self.new ≡ text_of self.old }
+        ensures same_text { IsTrue (R.Read.tells (inner_of self.old)) → source_of self.new ≡ source_of self.old }
 
         // It gives what is held of a line, or of the next one. In armor nothing else of the buffer changes.
         ensures held { 0 < length (shown_of self.old) → IfOk result (λ n. n ≤ length (shown_of self.old)) }
@@ -159,9 +161,9 @@ impl<R: BufRead> Read for ArmoredReader<R> {
         // Whether it has armor is what the text says: a read that isn't empty has found it out, and where the text begins as armor
         // does a refusal leaves the buffer, also that of the first line.
         ensures form { 0 < length buf.old → IsTrue (R.Read.tells (inner_of self.old)) → IsTrue (R.Read.steady (inner_of self.old)) →
-            OnOk result (has_armor self.new ≡ begins_armor (text_of self.old).bytes) }
+            OnOk result (has_armor self.new ≡ begins_armor (source_of self.old).bytes) }
         ensures spared { IsTrue (R.Read.tells (inner_of self.old)) → IsTrue (R.Read.steady (inner_of self.old)) →
-            IsTrue (begins_armor (text_of self.old).bytes) → OnErr result (buf.new ≡ buf.old) }
+            IsTrue (begins_armor (source_of self.old).bytes) → OnErr result (buf.new ≡ buf.old) }
 
         // What it knows of the text only grows, and of its end it knows once it answers 0.
         ensures learns { Learns self.old self.new result }
@@ -181,9 +183,10 @@ impl<R: BufRead> Read for ArmoredReader<R> {
 }
 
 impl<R: BufRead> ArmoredReader<R> {
-    ghost use Rattle.age_armor.specs.Reader.{inner_of, has_failed, has_armor, taken_of, text_of, outcome_of, text_outcome_of, lines_of, furthest_of, notes_all, knows_end, armored_content, place_of, armored_rest, shown_of, Learns};
-    ghost use Rattle.age_armor.specs.Seeking.{Goes, text_outcome};
-    ghost use Rattle.age_armor.specs.Steps.{WhereTold, KeepsText, EndsAsBefore, CountsTaken, HoldsNext, ReadsNothing, StaysBinary, FillsByForm};
+    ghost use Rattle.age_armor.specs.Reader.{inner_of, has_failed, has_armor, taken_of, source_of, outcome_of, text_outcome_of, lines_of, furthest_of, notes_all, knows_end, armored_content, place_of, armored_rest, shown_of, Learns};
+    ghost use Rattle.age_armor.specs.Seeking.{text_outcome};
+    ghost use Rattle.age_armor.specs.PrivateSeeking.{Goes};
+    ghost use Rattle.age_armor.specs.PrivateSteps.{WhereTold, KeepsText, EndsAsBefore, CountsTaken, HoldsNext, ReadsNothing, StaysBinary, FillsByForm};
 
     /// A reader of what the text carries that begins where `inner` stands.
     ///
@@ -196,11 +199,11 @@ impl<R: BufRead> ArmoredReader<R> {
         ensures shown { IfOk result (λ r. shown_of r ≡ []) }
         ensures place { IfOk result (λ r. place_of r ≡ 0) }
         ensures content { IfOk result (λ r. armored_content r ≡ content_of (R.Read.content inner) (R.Read.place inner)) }
-        ensures outcome { IfOk result (λ r. outcome_of r ≡ delivered (R.Read.rest inner).bytes (R.Read.rest inner).ends_well) }
-        ensures text { IfOk result (λ r. text_of r ≡ from_place (R.Read.place inner) (R.Read.content inner)) }
+        ensures outcome { IfOk result (λ r. outcome_of r ≡ text_delivers (R.Read.rest inner).bytes (R.Read.rest inner).ends_well) }
+        ensures text { IfOk result (λ r. source_of r ≡ from_place (R.Read.place inner) (R.Read.content inner)) }
         ensures whole { IfOk result (λ r. text_outcome_of r ≡ text_outcome (R.Read.content inner) (R.Read.place inner)) }
         ensures form { IfOk result (λ r. has_armor r ≡ false) }
-        ensures rest { IfOk result (λ r. armored_rest r ≡ stretch_of (delivered (R.Read.rest inner).bytes (R.Read.rest inner).ends_well)) }
+        ensures rest { IfOk result (λ r. armored_rest r ≡ stretch_of (text_delivers (R.Read.rest inner).bytes (R.Read.rest inner).ends_well)) }
         ensures marks { IfOk result (λ r. (lines_of r ≡ 0) × (furthest_of r ≡ 0) × (notes_all r ≡ true) × (knows_end r ≡ false)) }
 
         // What it delivers to a clean end is what the inner reader's rest carries, and the other way.
@@ -242,7 +245,7 @@ impl<R: BufRead> ArmoredReader<R> {
     pub fn into_inner(self) -> R
         ensures inner { result ≡ inner_of self }
         ensures stands { IsTrue (R.Read.tells (inner_of self)) → IsTrue (R.Read.steady (inner_of self)) →
-            StandsIn (text_of self) (taken_of self) (R.Read.rest result) }
+            StandsIn (source_of self) (taken_of self) (R.Read.rest result) }
         ensures behind { IsTrue (R.Read.tells (inner_of self)) → has_failed self ≡ false → place_of self + length (shown_of self) ≤ taken_of self }
         ensures binary { has_failed self ≡ false → has_armor self ≡ false → 0 < taken_of self →
             Delivers (shown_of self) (armored_rest self) (R.Read.rest result) }
@@ -267,7 +270,7 @@ impl<R: BufRead> ArmoredReader<R> {
             Reads reader.tells reader.steady reader.content reader.place reader.rest reader.faults reader.refuses self.old self.new buf.new result }
         ensures good { FailsForGood (has_failed self.old) (has_failed self.new) result }
         ensures ending { EndsAsBefore self.old self.new result }
-        ensures same_text { WhereTold self.old (text_of self.new ≡ text_of self.old) }
+        ensures same_text { WhereTold self.old (source_of self.new ≡ source_of self.old) }
         ensures fills { FillsByForm self.old self.new buf.old buf.new result }
         ensures counts { CountsTaken self.old self.new result }
         ensures learns { Learns self.old self.new result }
@@ -412,7 +415,7 @@ impl<R: BufRead> fmt::Debug for ArmoredReader<R> {
 }
 
 impl<R: BufRead> BufRead for ArmoredReader<R> {
-    ghost use Rattle.age_armor.specs.Reader.{inner_of, has_failed, has_armor, text_of, outcome_of, text_outcome_of, lines_of, marks_of, knows_end, shown_of, Learns};
+    ghost use Rattle.age_armor.specs.Reader.{inner_of, has_failed, has_armor, source_of, outcome_of, text_outcome_of, lines_of, marks_of, knows_end, shown_of, Learns};
 
     ghost shown = { shown_of };
 
@@ -420,8 +423,8 @@ impl<R: BufRead> BufRead for ArmoredReader<R> {
         × KeepsEnding (R.Read.tells (inner_of old)) (has_failed old) (R.Read.faults (inner_of old)) (R.Read.faults (inner_of new))
         (outcome_of old).ending (outcome_of new).ending result
         × (IsTrue (R.Read.tells (inner_of old)) → text_outcome_of new ≡ text_outcome_of old)
-        × (IsTrue (R.Read.tells (inner_of old)) → text_of new ≡ text_of old)
-        × (IsTrue (R.Read.tells (inner_of old)) → IsTrue (R.Read.steady (inner_of old)) → OnOk result (has_armor new ≡ begins_armor (text_of old).bytes))
+        × (IsTrue (R.Read.tells (inner_of old)) → source_of new ≡ source_of old)
+        × (IsTrue (R.Read.tells (inner_of old)) → IsTrue (R.Read.steady (inner_of old)) → OnOk result (has_armor new ≡ begins_armor (source_of old).bytes))
         × Learns old new result
         × OnOk result (shown_of new ≡ [] → IsTrue (knows_end new)) };
 
@@ -447,7 +450,7 @@ impl<R: BufRead> BufRead for ArmoredReader<R> {
         ensures failed { has_failed self.new ≡ has_failed self.old }
         ensures ending { (outcome_of self.new).ending ≡ (outcome_of self.old).ending }
         ensures whole { text_outcome_of self.new ≡ text_outcome_of self.old }
-        ensures same_text { text_of self.new ≡ text_of self.old }
+        ensures same_text { source_of self.new ≡ source_of self.old }
         ensures form { has_armor self.new ≡ has_armor self.old }
         ensures marks { marks_of self.new ≡ marks_of self.old }
         ensures lines { lines_of self.new ≡ lines_of self.old }
@@ -458,7 +461,7 @@ impl<R: BufRead> BufRead for ArmoredReader<R> {
 }
 
 impl<R: Read> ArmoredReader<BufReader<R>> {
-    ghost use Rattle.age_armor.specs.Reader.{has_failed, has_armor, text_of, outcome_of, text_outcome_of, lines_of, furthest_of, notes_all, knows_end, armored_content, place_of, armored_rest, shown_of};
+    ghost use Rattle.age_armor.specs.Reader.{has_failed, has_armor, source_of, outcome_of, text_outcome_of, lines_of, furthest_of, notes_all, knows_end, armored_content, place_of, armored_rest, shown_of};
     ghost use Rattle.age_armor.specs.Seeking.{text_outcome};
 
     /// A reader of what the text carries that begins where `inner` stands, over a buffer of its own.
@@ -474,11 +477,11 @@ impl<R: Read> ArmoredReader<BufReader<R>> {
         ensures shown { IfOk result (λ r. shown_of r ≡ []) }
         ensures place { IfOk result (λ r. place_of r ≡ 0) }
         ensures content { IfOk result (λ r. armored_content r ≡ content_of (R.content inner) (R.place inner)) }
-        ensures outcome { IfOk result (λ r. outcome_of r ≡ delivered (R.rest inner).bytes (R.rest inner).ends_well) }
-        ensures text { IfOk result (λ r. text_of r ≡ from_place (R.place inner) (R.content inner)) }
+        ensures outcome { IfOk result (λ r. outcome_of r ≡ text_delivers (R.rest inner).bytes (R.rest inner).ends_well) }
+        ensures text { IfOk result (λ r. source_of r ≡ from_place (R.place inner) (R.content inner)) }
         ensures whole { IfOk result (λ r. text_outcome_of r ≡ text_outcome (R.content inner) (R.place inner)) }
         ensures form { IfOk result (λ r. has_armor r ≡ false) }
-        ensures rest { IfOk result (λ r. armored_rest r ≡ stretch_of (delivered (R.rest inner).bytes (R.rest inner).ends_well)) }
+        ensures rest { IfOk result (λ r. armored_rest r ≡ stretch_of (text_delivers (R.rest inner).bytes (R.rest inner).ends_well)) }
         ensures marks { IfOk result (λ r. (lines_of r ≡ 0) × (furthest_of r ≡ 0) × (notes_all r ≡ true) × (knows_end r ≡ false)) }
         ensures carries { IsTrue (R.tells inner) → IfOk result (λ r. IsTrue (armored_rest r).ends_well →
             IsTrue (R.rest inner).ends_well × (AreBytes (R.rest inner).bytes → Carries (R.rest inner).bytes (armored_rest r).bytes)) }

@@ -8,11 +8,12 @@ ghost use Rattle.age_io.specs.Reading.{IsQuiet, TriedAgain, most_faults};
 ghost use Rattle.age_io.specs.Keeping.{KeepsReader, OrSeek};
 ghost use Rattle.age_io.specs.Failing.{FailsForGood};
 ghost use Rattle.age_io.specs.Cursor.{Seeks, IsOutside, IsSeekRefusal, place_at as place_by, sought as sought_by};
-ghost use Rattle.age_io.specs.CursorLaws.{or_too_long_no_device, or_failed_no_device};
-ghost use Rattle.age_armor.specs.Delivered.{begins_armor};
-ghost use Rattle.age_armor.specs.Seeking.{Goes, OrAstray, AsksPast, IsEarly, IsFromEnd, IsNear, IsTo, SeeksText, ComesBack};
+ghost use Rattle.age_io.specs.CursorLemmas.{or_too_long_no_device, or_failed_no_device};
+ghost use Rattle.age_v1.specs.DeliveredArmor.{begins_armor};
+ghost use Rattle.age_armor.specs.Seeking.{OrAstray, AsksPast, IsEarly, IsFromEnd, IsNear, IsTo};
+ghost use Rattle.age_armor.specs.PrivateSeeking.{Goes, SeeksText, ComesBack};
 ghost use Rattle.age_armor.specs.Marks.{LearnsMore};
-ghost use Rattle.age_armor.specs.Stages.{IsNamed, is_start};
+ghost use Rattle.age_armor.specs.Stages.{NamesEnding, is_start};
 ghost use Rattle.age_armor.specs.Refusing.{OrText};
 ghost use Rattle.age_armor.specs.declared.stages.Stage.TheVariants.{Binary};
 
@@ -58,17 +59,18 @@ fn has_begun(stage: Stage) -> bool
 }
 
 impl<R: BufRead + Seek> ArmoredReader<R> {
-    ghost use Rattle.age_armor.specs.Reader.{inner_of, taken_of, text_of, furthest_of, notes_all, shown_of};
-    ghost use Rattle.age_armor.specs.Steps.{WhereSteady, KeepsText, Stands, FailsThere};
+    ghost use Rattle.age_armor.specs.Reader.{inner_of, taken_of, source_of, furthest_of, notes_all, shown_of};
+    ghost use Rattle.age_armor.specs.Steps.{WhereSteady};
+    ghost use Rattle.age_armor.specs.PrivateSteps.{KeepsText, StandsInText, FailsThere};
 
     // Goes to the last mark that isn't after a place, or to the front of the text. A binary text has no marks.
     fn approach(&mut self, target: u64) -> Result<(), Error>
         requires { self.old.stage ≡ Binary → ⊥ }
         ensures goes { let reader = ⟦<ArmoredReader<R> as Read>⟧ in Goes reader (OrSeek (OrAstray R.Seek.seek_refuses) reader.refuses) self.old self.new result }
         ensures text { KeepsText self.old self.new }
-        ensures stands { Stands self.old self.new result }
+        ensures stands { StandsInText self.old self.new result }
         ensures before { OnOk result (self.new.place ≤ target) }
-        ensures near { WhereSteady self.old (IsTrue (notes_all self.old) → IsTrue (begins_armor (text_of self.old).bytes) → target ≤ furthest_of self.old →
+        ensures near { WhereSteady self.old (IsTrue (notes_all self.old) → IsTrue (begins_armor (source_of self.old).bytes) → target ≤ furthest_of self.old →
             OnOk result (target ≤ self.new.place + 49152)) }
         ensures unread { (self.new.source.lines ≡ self.old.source.lines) × (self.new.marks ≡ self.old.marks) }
         ensures front { target ≡ 0 → OnOk result ((taken_of self.new ≡ 0) × (shown_of self.new ≡ [])) }
@@ -96,7 +98,7 @@ impl<R: BufRead + Seek> ArmoredReader<R> {
 
 impl<R: BufRead> ArmoredReader<R> {
     ghost use Rattle.age_armor.specs.Reader.{inner_of, has_failed};
-    ghost use Rattle.age_armor.specs.Steps.{WhereTold, KeepsText, EndsAsBefore, ComesTo, WalksAlong, CountsLines};
+    ghost use Rattle.age_armor.specs.PrivateSteps.{WhereTold, KeepsText, EndsAsBefore, ComesTo, WalksAlong, CountsLines};
 
     // Reads on to a place, or to a clean end before it, and tells whether it came to the place.
     fn walk(&mut self, target: u64) -> Result<bool, Error>
@@ -129,7 +131,8 @@ impl<R: BufRead> ArmoredReader<R> {
 
 impl<R: BufRead + Seek> ArmoredReader<R> {
     ghost use Rattle.age_armor.specs.Reader.{inner_of, origin_of, place_of, furthest_of, notes_all, knows_end, armored_content, armored_rest};
-    ghost use Rattle.age_armor.specs.Steps.{WhereTold, WhereSteady, WherePlain, KeepsText, IsNew, Stands, FailsThere, LandsBelow, StandsBelow, GoesTo, ReachesEnd, Reaches, Misses, FindsEnd, SparesReading, StaysThere};
+    ghost use Rattle.age_armor.specs.Steps.{WhereSteady, WherePlain, LandsBelow, StandsBelow};
+    ghost use Rattle.age_armor.specs.PrivateSteps.{WhereTold, KeepsText, IsNew, StandsInText, FailsThere, GoesTo, ReachesEnd, Reaches, Misses, FindsEnd, SparesReading, StaysThere};
 
     // Whether a reader that has begun, and hasn't failed, stands at a place.
     fn is_at(&self, place: u64) -> bool
@@ -182,7 +185,7 @@ impl<R: BufRead + Seek> ArmoredReader<R> {
         ensures unspent { OnOk result (R.Read.faults (inner_of self.new) < most_faults) }
         ensures origin { WhereTold self.old (origin_of self.new ≡ origin_of self.old) }
         ensures text { KeepsText self.old self.new }
-        ensures stands { Stands self.old self.new result }
+        ensures stands { StandsInText self.old self.new result }
         ensures end { WhereTold self.old (OnOk result (IsCleanEnd (armored_rest self.new))) }
         ensures knows { OnOk result (IsTrue (knows_end self.new)) }
         ensures lands { OnOk result (LandsBelow self.new self.new.place) }
@@ -416,7 +419,8 @@ impl<R: BufRead> ArmoredReader<R> {
 
 impl<R: BufRead + Seek> ArmoredReader<R> {
     ghost use Rattle.age_armor.specs.Reader.{inner_of, has_failed, text_outcome_of, armored_content, place_of};
-    ghost use Rattle.age_armor.specs.Steps.{WhereSteady, KeepsText, StandsBelow, EndsAsText, FindsEnd, TakesFew};
+    ghost use Rattle.age_armor.specs.Steps.{WhereSteady, StandsBelow};
+    ghost use Rattle.age_armor.specs.PrivateSteps.{KeepsText, EndsAsText, FindsEnd, TakesFew};
 
     // Back to where it stood, once a seek was refused. After any other error it has failed there, and so has one that had
     // failed before.
@@ -507,7 +511,7 @@ impl<R: BufRead + Seek> ArmoredReader<R> {
 }
 
 impl<R: BufRead + Seek> Seek for ArmoredReader<R> {
-    ghost use Rattle.age_armor.specs.Reader.{inner_of, has_failed, text_of, outcome_of, text_outcome_of, lines_of, marks_of, furthest_of, notes_all, knows_end, armored_content, place_of, shown_of};
+    ghost use Rattle.age_armor.specs.Reader.{inner_of, has_failed, source_of, outcome_of, text_outcome_of, lines_of, marks_of, furthest_of, notes_all, knows_end, armored_content, place_of, shown_of};
     ghost use Rattle.age_armor.specs.Steps.{StandsBelow};
 
     ghost seek_refuses = { OrAstray R.Seek.seek_refuses };
@@ -549,7 +553,7 @@ impl<R: BufRead + Seek> Seek for ArmoredReader<R> {
         // only where the target asks for more than the bytes before that end.
         ensures named { IsTrue (R.Read.tells (inner_of self.old)) → IsTrue (R.Read.content (inner_of self.old)).ends_well →
             IfErr result (λ e. (IsOutside e → ⊥) → e ≢ OutOfMemory → IsQuiet (R.Read.faults (inner_of self.old)) (R.Read.faults (inner_of self.new)) →
-            IsNamed (text_outcome_of self.old).ending e × AsksPast to (place_of self.old) (length (armored_content self.old).bytes)) }
+            NamesEnding (text_outcome_of self.old).ending e × AsksPast to (place_of self.old) (length (armored_content self.old).bytes)) }
 
         // A target counted from the end is come to only where the text carries bytes: of a bad one the length isn't known.
         ensures well { IsTrue (R.Read.tells (inner_of self.old)) → IsTrue (R.Read.steady (inner_of self.old)) → IsFromEnd to →
@@ -557,7 +561,7 @@ impl<R: BufRead + Seek> Seek for ArmoredReader<R> {
 
         // How the text ends stays the same, and a reader that hasn't failed comes to that end, unless nothing was looked for.
         ensures whole { IsTrue (R.Read.tells (inner_of self.old)) → text_outcome_of self.new ≡ text_outcome_of self.old }
-        ensures same_text { IsTrue (R.Read.tells (inner_of self.old)) → text_of self.new ≡ text_of self.old }
+        ensures same_text { IsTrue (R.Read.tells (inner_of self.old)) → source_of self.new ≡ source_of self.old }
 
         // Where each mark had memory, a seek to where the text was read before takes at most 1,024 lines.
         ensures marks { IsTrue (R.Read.tells (inner_of self.old)) → IsTrue (R.Read.steady (inner_of self.old)) → IsTrue (notes_all self.old) →
@@ -582,7 +586,7 @@ impl<R: BufRead + Seek> Seek for ArmoredReader<R> {
 
         // In a binary text no line is taken, and where it moves, the inner reader stands at the place itself, counted from where the text
         // begins: nothing is read ahead or held.
-        ensures bare { IsTrue (R.Read.tells (inner_of self.old)) → IsTrue (R.Read.steady (inner_of self.old)) → begins_armor (text_of self.old).bytes ≡ false →
+        ensures bare { IsTrue (R.Read.tells (inner_of self.old)) → IsTrue (R.Read.steady (inner_of self.old)) → begins_armor (source_of self.old).bytes ≡ false →
             lines_of self.new ≡ lines_of self.old }
         ensures below { StandsBelow self.old self.new result }
 

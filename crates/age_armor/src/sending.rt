@@ -4,8 +4,8 @@ ghost use Rattle.std.specs.List.{flat_map};
 ghost use Rattle.age_base64.specs.Lines.{line};
 ghost use Rattle.age_base64.specs.Base64.{padded_columns};
 ghost use Rattle.age_io.specs.Writing.{HandsOn, KeepsWriter};
-ghost use Rattle.age_armor.specs.Armor.{armor_lines, begin_marker, end_marker};
-ghost use Rattle.age_armor.specs.FullLines.{full_lines};
+ghost use Rattle.age_v1.specs.Armor.{armor_lines, begin_marker, end_marker};
+ghost use Rattle.age_v1.specs.ArmorFullLines.{full_lines};
 
 use crate::encoding::{COLUMNS, ColumnEncoder, LINE, LINE_TEXT, encode_lines};
 use age_error::io::Error;

@@ -4,7 +4,8 @@ ghost use Rattle.age_error.specs.Refusals.{IsInterruption};
 ghost use Rattle.age_io.specs.Stretch.{IsCleanEnd};
 ghost use Rattle.age_io.specs.Reading.{TriedAgain};
 ghost use Rattle.age_base64.specs.Lines.{Lacks};
-ghost use Rattle.age_armor.specs.Showing.{Asks, TakesNothing, Lengthens, IsAhead, TakesRun, IsLineEnd};
+ghost use Rattle.age_armor.specs.Showing.{IsAhead};
+ghost use Rattle.age_armor.specs.PrivateShowing.{AsksReader, TakesNothing, Lengthens, TakesRun, IsLineEnd};
 
 use crate::decoding::Decoder;
 use crate::gathering::decode_ahead;
@@ -23,7 +24,7 @@ pub(crate) enum Run {
 }
 
 fn look_once<B: BufRead>(reader: &mut B) -> Result<bool, Error>
-    ensures asks { Asks ⟦<B as Read>⟧ B.Read.refuses reader.old reader.new result }
+    ensures asks { AsksReader ⟦<B as Read>⟧ B.Read.refuses reader.old reader.new result }
     ensures nothing { TakesNothing ⟦<B as Read>⟧ reader.old reader.new result }
     ensures some { IsTrue (B.Read.tells reader.old) → IfOk result (λ is. is ≡ false → 0 < length (B.Read.rest reader.old).bytes) }
     ensures end { IsTrue (B.Read.tells reader.old) → IfOk result (λ is. IsTrue is → IsCleanEnd (B.Read.rest reader.old)) }
@@ -34,7 +35,7 @@ fn look_once<B: BufRead>(reader: &mut B) -> Result<bool, Error>
 
 /// Whether nothing is left but a clean end.
 pub(crate) fn look<B: BufRead>(reader: &mut B) -> Result<bool, Error>
-    ensures asks { Asks ⟦<B as Read>⟧ (TriedAgain B.Read.refuses) reader.old reader.new result }
+    ensures asks { AsksReader ⟦<B as Read>⟧ (TriedAgain B.Read.refuses) reader.old reader.new result }
     ensures patient { IfErr result (λ e. IsInterruption e → ⊥) }
     ensures nothing { TakesNothing ⟦<B as Read>⟧ reader.old reader.new result }
     ensures some { IsTrue (B.Read.tells reader.old) → IfOk result (λ is. is ≡ false → 0 < length (B.Read.rest reader.old).bytes) }
@@ -48,7 +49,7 @@ fn show_once<B: BufRead>(
     decoder: &Decoder,
     ahead: &mut [u8; 768],
 ) -> Result<usize, Error>
-    ensures asks { Asks ⟦<B as Read>⟧ B.Read.refuses reader.old reader.new result }
+    ensures asks { AsksReader ⟦<B as Read>⟧ B.Read.refuses reader.old reader.new result }
     ensures nothing { TakesNothing ⟦<B as Read>⟧ reader.old reader.new result }
     ensures ahead { IfOk result (λ n. IsAhead ahead.new 0 n (B.shown reader.new)) }
     ensures size { length ahead.new ≡ 768 }
@@ -63,7 +64,7 @@ pub(crate) fn show_lines<B: BufRead>(
     decoder: &Decoder,
     ahead: &mut [u8; 768],
 ) -> Result<usize, Error>
-    ensures asks { Asks ⟦<B as Read>⟧ (TriedAgain B.Read.refuses) reader.old reader.new result }
+    ensures asks { AsksReader ⟦<B as Read>⟧ (TriedAgain B.Read.refuses) reader.old reader.new result }
     ensures patient { IfErr result (λ e. IsInterruption e → ⊥) }
     ensures nothing { TakesNothing ⟦<B as Read>⟧ reader.old reader.new result }
     ensures ahead { IfOk result (λ n. IsAhead ahead.new 0 n (B.shown reader.new)) }
@@ -85,7 +86,7 @@ fn line_end(bytes: &[u8]) -> Option<usize>
 }
 
 fn run_once<B: BufRead>(reader: &mut B, line: &mut Vec<u8>) -> Result<Run, Error>
-    ensures asks { Asks ⟦<B as Read>⟧ B.Read.refuses reader.old reader.new result }
+    ensures asks { AsksReader ⟦<B as Read>⟧ B.Read.refuses reader.old reader.new result }
     ensures grows { Lengthens (vec_len line.old) (vec_len line.new) result }
     ensures kept { OnErr result (line.new.items ≡ line.old.items) }
     ensures run { IsTrue (B.Read.tells reader.old) → IfOk result (λ run.
@@ -114,7 +115,7 @@ fn run_once<B: BufRead>(reader: &mut B, line: &mut Vec<u8>) -> Result<Run, Error
 
 /// Appends what is shown of a line, up to its LF.
 pub(crate) fn take_run<B: BufRead>(reader: &mut B, line: &mut Vec<u8>) -> Result<Run, Error>
-    ensures asks { Asks ⟦<B as Read>⟧ (TriedAgain B.Read.refuses) reader.old reader.new result }
+    ensures asks { AsksReader ⟦<B as Read>⟧ (TriedAgain B.Read.refuses) reader.old reader.new result }
     ensures patient { IfErr result (λ e. IsInterruption e → ⊥) }
     ensures grows { Lengthens (vec_len line.old) (vec_len line.new) result }
     ensures kept { OnErr result (line.new.items ≡ line.old.items) }

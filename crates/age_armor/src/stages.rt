@@ -3,8 +3,8 @@ ghost use Rattle.std.specs.Prelude.{◌≡◌, ◌≢◌, ℕ, ◌+◌, ◌≤�
 ghost use Rattle.age_io.specs.Stretch.{Stretch};
 ghost use Rattle.age_io.specs.Reading.{IsQuiet, Delivers, most_faults};
 ghost use Rattle.age_error.specs.declared.io.Error.TheVariants.{OutOfMemory};
-ghost use Rattle.age_armor.specs.Delivered.{delivered, begins_armor};
-ghost use Rattle.age_armor.specs.Counting.{Kept};
+ghost use Rattle.age_v1.specs.DeliveredArmor.{text_delivers, begins_armor};
+ghost use Rattle.age_armor.specs.PrivateCounting.{Kept};
 
 use crate::counted::Counted;
 use crate::decoding::Decoder;
@@ -32,8 +32,9 @@ pub(crate) struct Piece {
     pub(crate) next: Stage,
 }
 
-ghost use Rattle.age_armor.specs.Stages.{ahead, Advances, Stops, IsFound, FindsForm, is_start, is_armored, is_ended};
-ghost use Rattle.age_armor.specs.Counting.{GivesPiece, IsPiece};
+ghost use Rattle.age_armor.specs.Stages.{ahead, is_start, has_lines};
+ghost use Rattle.age_armor.specs.PrivateStages.{Advances, StopsWith, IsFound, FindsForm, is_ended};
+ghost use Rattle.age_armor.specs.PrivateCounting.{GivesPiece, IsPiece};
 ghost use Rattle.age_armor.specs.declared.stages.Stage.TheVariants.{Start, Binary, Lines};
 
 /// Reads the first 35 bytes and looks at the next; takes the begin marker's line, where it stands there.
@@ -43,7 +44,7 @@ fn detect<R: BufRead>(source: &mut Counted<R>, bytes: &mut [u8; 48]) -> Result<P
     ensures fits { IfOk result (λ piece. piece.count ≤ 48) }
     ensures gives { GivesPiece Start source.old source.new bytes.new result }
     ensures found { IfOk result (λ piece. IsFound piece) }
-    ensures form { IsTrue (R.Read.tells source.old.inner) → IfOk result (λ piece. FindsForm (is_armored piece.next) (R.Read.rest source.old.inner).bytes) }
+    ensures form { IsTrue (R.Read.tells source.old.inner) → IfOk result (λ piece. FindsForm (has_lines piece.next) (R.Read.rest source.old.inner).bytes) }
 {
     let mut front = [0u8; 35];
     match source.take_front(&mut front) {
@@ -71,13 +72,13 @@ fn after_front<R: BufRead>(
     ensures fits { IfOk result (λ piece. piece.count ≤ 35) }
     ensures found { IfOk result (λ piece. IsFound piece) }
     ensures form { IsTrue (R.Read.tells source.old.inner) → (all : Stretch) → Delivers front.now all (R.Read.rest source.old.inner) →
-        0 < length (R.Read.rest source.old.inner).bytes → IfOk result (λ piece. FindsForm (is_armored piece.next) all.bytes) }
+        0 < length (R.Read.rest source.old.inner).bytes → IfOk result (λ piece. FindsForm (has_lines piece.next) all.bytes) }
     ensures bytes { IsTrue (R.Read.tells source.old.inner) → (all : Stretch) → Delivers front.now all (R.Read.rest source.old.inner) →
         0 < length (R.Read.rest source.old.inner).bytes → IfOk result (λ piece.
-        Advances (delivered all.bytes all.ends_well) (take piece.count bytes.new) (ahead piece.next (R.Read.rest source.new.inner))) }
+        Advances (text_delivers all.bytes all.ends_well) (take piece.count bytes.new) (ahead piece.next (R.Read.rest source.new.inner))) }
     ensures cause { IsTrue (R.Read.tells source.old.inner) → (all : Stretch) → Delivers front.now all (R.Read.rest source.old.inner) →
         0 < length (R.Read.rest source.old.inner).bytes → IfErr result (λ e. e ≢ OutOfMemory →
-        IsQuiet (R.Read.faults source.old.inner) (R.Read.faults source.new.inner) → Stops (delivered all.bytes all.ends_well) e) }
+        IsQuiet (R.Read.faults source.old.inner) (R.Read.faults source.new.inner) → StopsWith (text_delivers all.bytes all.ends_well) e) }
 {
     if !front.starts_with(b"-----BEGIN AGE ENCRYPTED FILE-----") {
         bytes[..35].copy_from_slice(front);
@@ -123,7 +124,7 @@ fn next_line<R: BufRead>(
     ensures counts { (source.old.lines ≤ source.new.lines) × (source.new.lines ≤ source.old.lines + 1) }
     ensures piece { IsPiece (Lines after_short) source.old result }
     ensures gives { GivesPiece (Lines after_short) source.old source.new bytes.new result }
-    ensures lines { IfOk result (λ piece. is_armored piece.next ≡ true) }
+    ensures lines { IfOk result (λ piece. has_lines piece.next ≡ true) }
 {
     if !after_short {
         match source.take_full(decoder, bytes) {
@@ -153,7 +154,7 @@ fn any_line<R: BufRead>(
     ensures counts { (source.old.lines ≤ source.new.lines) × (source.new.lines ≤ source.old.lines + 1) }
     ensures piece { IsPiece (Lines after_short) source.old result }
     ensures gives { GivesPiece (Lines after_short) source.old source.new bytes.new result }
-    ensures lines { IfOk result (λ piece. is_armored piece.next ≡ true) }
+    ensures lines { IfOk result (λ piece. has_lines piece.next ≡ true) }
 {
     match source.take_line(line) {
         Ok(()) => {}
@@ -189,9 +190,9 @@ fn first<R: BufRead>(
     ensures counts { (source.old.lines ≤ source.new.lines) × (source.new.lines ≤ source.old.lines + 1) }
     ensures piece { IsPiece Start source.old result }
     ensures gives { GivesPiece Start source.old source.new bytes.new result }
-    ensures bare { IfOk result (λ piece. is_armored piece.next ≡ false → source.new.lines ≡ source.old.lines) }
+    ensures bare { IfOk result (λ piece. has_lines piece.next ≡ false → source.new.lines ≡ source.old.lines) }
     ensures binary { IsTrue (R.Read.tells source.old.inner) → begins_armor (R.Read.rest source.old.inner).bytes ≡ false → source.new.lines ≡ source.old.lines }
-    ensures form { IsTrue (R.Read.tells source.old.inner) → IfOk result (λ piece. FindsForm (is_armored piece.next) (R.Read.rest source.old.inner).bytes) }
+    ensures form { IsTrue (R.Read.tells source.old.inner) → IfOk result (λ piece. FindsForm (has_lines piece.next) (R.Read.rest source.old.inner).bytes) }
 {
     match detect(source, bytes) {
         Ok(piece) => match piece.next {
@@ -208,7 +209,7 @@ fn next_bytes<R: BufRead>(source: &mut Counted<R>, bytes: &mut [u8; 48]) -> Resu
     ensures counts { source.new.lines ≡ source.old.lines }
     ensures piece { IsPiece Binary source.old result }
     ensures gives { GivesPiece Binary source.old source.new bytes.new result }
-    ensures binary { IfOk result (λ piece. is_armored piece.next ≡ false) }
+    ensures binary { IfOk result (λ piece. has_lines piece.next ≡ false) }
 {
     match source.read(bytes) {
         Ok(count) => Ok(Piece {
@@ -233,12 +234,12 @@ pub(crate) fn advance<R: BufRead>(
     ensures counts { (source.old.lines ≤ source.new.lines) × (source.new.lines ≤ source.old.lines + 1) }
     ensures piece { IsPiece stage source.old result }
     ensures gives { GivesPiece stage source.old source.new bytes.new result }
-    ensures bare { IfOk result (λ piece. is_armored piece.next ≡ false → source.new.lines ≡ source.old.lines) }
-    ensures binary { IsTrue (R.Read.tells source.old.inner) → is_armored stage ≡ false →
+    ensures bare { IfOk result (λ piece. has_lines piece.next ≡ false → source.new.lines ≡ source.old.lines) }
+    ensures binary { IsTrue (R.Read.tells source.old.inner) → has_lines stage ≡ false →
         (is_start stage ≡ true → begins_armor (R.Read.rest source.old.inner).bytes ≡ false) → source.new.lines ≡ source.old.lines }
     ensures form { IsTrue (R.Read.tells source.old.inner) → is_start stage ≡ true →
-        IfOk result (λ piece. FindsForm (is_armored piece.next) (R.Read.rest source.old.inner).bytes) }
-    ensures kept_form { is_start stage ≡ false → IfOk result (λ piece. is_armored piece.next ≡ is_armored stage) }
+        IfOk result (λ piece. FindsForm (has_lines piece.next) (R.Read.rest source.old.inner).bytes) }
+    ensures kept_form { is_start stage ≡ false → IfOk result (λ piece. has_lines piece.next ≡ has_lines stage) }
 {
     match stage {
         Stage::Start => first(source, decoder, line, bytes),

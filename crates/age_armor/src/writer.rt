@@ -6,10 +6,10 @@ ghost use Rattle.age_error.specs.declared.io.Error.TheVariants.{Failed, OutOfMem
 ghost use Rattle.age_io.specs.Writing.{HandsOn, KeepsWriter};
 
 use crate::encoding::{COLUMNS, ColumnEncoder, LINE, LINE_TEXT};
-use crate::format::Format;
 use crate::sending::{write_begin, write_end, write_lines};
 use age_error::io::Error;
 use age_io::{Write, room_for};
+use age_v1::Format;
 use std::alloc::Global;
 use std::fmt;
 
@@ -40,7 +40,7 @@ pub struct ArmoredWriter<W> {
 }
 
 impl<W: Write> ArmoredWriter<W> {
-    ghost use Rattle.age_armor.specs.Writing.{WasMade, Took, MayRefuse, IsGood, is_armored, inner_of, held_len, in_armor};
+    ghost use Rattle.age_armor.specs.Writing.{WasMade, Took, WriterRefuses, IsGood, is_armored, inner_of, held_len, in_armor};
 
     /// A writer that has taken nothing. The text begins where `inner` stands.
     ///
@@ -60,7 +60,7 @@ impl<W: Write> ArmoredWriter<W> {
         ensures patient { IfErr result (λ e. IsInterruption e → ⊥) }
         // What it may refuse from here on is what `inner` might.
         ensures narrows { IfOk result (λ w. (n : ℕ) (e : IoError) → ⟦<ArmoredWriter<W> as Write>⟧.refuses w n e →
-            MayRefuse W.refuses (in_armor format) inner n e) }
+            WriterRefuses W.refuses (in_armor format) inner n e) }
     {
         if let Format::Binary = format {
             return Ok(ArmoredWriter {

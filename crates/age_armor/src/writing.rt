@@ -11,7 +11,7 @@ use age_io::{Write, flush_retrying};
 /// What was appended are the bytes that were taken. Only `finish` makes the text that carries them whole.
 impl<W: Write> Write for ArmoredWriter<W> {
     ghost use Rattle.age_armor.specs.Writing.{Appended, Refused, IsFailed, IsGood, inner_of, held_len, is_armored};
-    ghost use Rattle.age_armor.specs.WritingLaws.{Appended-nothing, Appended-both, Refused-more};
+    ghost use Rattle.age_armor.specs.WritingLemmas.{Appended-nothing, Appended-both, Refused-more};
 
     ghost tells = { λ w. W.tells (inner_of w) };
 

@@ -3,7 +3,7 @@
 ghost use Rattle.std.specs.Prelude.{◌≡◌, ◌++◌, IfOk, OnOk};
 ghost use Rattle.std.specs.List.{flat_map};
 ghost use Rattle.age_base64.specs.Lines.{line};
-ghost use Rattle.age_armor.specs.Armor.{armor, armor_lines};
+ghost use Rattle.age_v1.specs.Armor.{armor, armor_lines};
 
 use age_base64::armor_engine;
 use std::alloc::{AllocError, Global};

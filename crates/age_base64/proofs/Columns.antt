@@ -2,14 +2,13 @@
 use Rattle.std.proofs.Common.{◌≡◌, ◌≢◌, ℕ, zero, suc, ◌+◌, ◌*◌, ◌/◌, ◌%◌, ◌^◌, ◌<◌, ◌≤◌, Bool, true, false, List, [], ◌∷◌, ◌++◌, length, refl, ap, sym, arith, ◌∙◌}
 use Rattle.std.proofs.lemmas.List.{append-nil}
 use Rattle.std.proofs.lemmas.List.Elements.{All-head, All-tail, All-from_get_or}
-use Rattle.std.specs.Prelude.{slice_index, nat_le, not, ◌&&◌, ◌==◌}
+use Rattle.std.specs.Prelude.{slice_index, nat_le, not, ◌&&◌, ◌==◌, Result, Ok}
 use Rattle.std.specs.List.{AllByRecursion}
 use Rattle.base64.specs.Rfc4648.{encode_symbols}
 use Rattle.base64.specs.Tables.{all_below}
 use Rattle.base64.specs.GeneralPurpose.{decode_of, encode_of, IsBytes}
 use Rattle.base64.specs.Engines.{standard_no_pad}
 use Rattle.base64.specs.declared.decode.DecodeError.{DecodeError}
-use Rattle.std.specs.Prelude.{Result, Ok}
 use Rattle.base64.proofs.EngineFacts.{encode-append, decode_of-encode_of}
 use Rattle.base64.proofs.RoundTrip.{length-encode_symbols}
 use Rattle.base64.proofs.Tables.{all_below_at}

@@ -6,8 +6,8 @@ use Rattle.base64.specs.Rfc4648.{encode}
 abbrev pub symbols : List ℕ
 symbols = codes "ABCDEFGHIJKLMNOPQRSTUVWXYZabcdefghijklmnopqrstuvwxyz0123456789+/"
 
--- the base64 of a header
--- standard: canonical base64 of RFC 4648 section 4, without padding, and refused where unused bits aren't zero
+-- the base64 characters of bytes, or columns, as they stand in a header (61 is `=`, of which there are none here)
+-- standard: canonical base64 of RFC 4648 section 4, without padding; the unused bits are zero, and characters in which they aren't are no base64 of any bytes
 unfoldable pub columns : List ℕ → List ℕ
 columns bytes = encode symbols 61 false bytes
 

@@ -8,7 +8,7 @@ use Rattle.std.specs.List.{AllByRecursion}
 abbrev pub line : List ℕ → List ℕ
 line bytes = bytes ++ 10 ∷ []
 
--- so many pieces of n, and a last one of what is left
+-- `count` parts of n items, then one part of what is left, which may be empty
 unfoldable pub pieces_and_rest : ℕ → ℕ → List ℕ → List (List ℕ)
 pieces_and_rest zero n xs = xs ∷ []
 pieces_and_rest (suc count) n xs = take n xs ∷ pieces_and_rest count n (drop n xs)

@@ -1,16 +1,15 @@
 -- Symbols and their values.
-use Rattle.std.proofs.Common.{◌≡◌, ◌≢◌, ℕ, zero, suc, ◌+◌, ◌<◌, ◌≤◌, ◌^◌, Bool, true, false, not, ◌&&◌, ◌==◌, if◌then◌else◌, List, [], ◌∷◌, ◌++◌, map, length, take, get_or, nat_lt, refl, ap, sym, ◌∙◌, arith, All, append_assoc}
-use Rattle.std.proofs.Common.{◌⊎◌, inl, inr}
+use Rattle.std.proofs.Common.{◌≡◌, ◌≢◌, ℕ, zero, suc, ◌+◌, ◌<◌, ◌≤◌, ◌^◌, Bool, true, false, not, ◌&&◌, ◌==◌, if◌then◌else◌, List, [], ◌∷◌, ◌++◌, map, length, take, get_or, nat_lt, refl, ap, sym, ◌∙◌, arith, All, append_assoc, ◌⊎◌, inl, inr}
 use Rattle.std.specs.Char.{is_ascii_uppercase, is_ascii_lowercase, to_ascii_lowercase}
 use Rattle.std.specs.List.{AllByRecursion}
 use Rattle.std.proofs.lemmas.Bool.{and_parts, cases_lt, eqb-true, eqb-false, ltb-true, not-true}
 use Rattle.std.proofs.lemmas.List.{take_more, map-append, length-map, get_or-map}
 use Rattle.std.proofs.lemmas.List.Elements.{All-head, All-tail, All-nil, All-cons, All-map}
-use Rattle.age_bech32.specs.Symbols.{symbols, symbol, symbol_in, place_of, value_of, values_of, AreSymbols, lowered}
+use Rattle.age_bech32.specs.Symbols.{symbols, symbol, symbol_in, symbol_place, value_of, values_of, AreSymbols, lowered}
 
 -- what is tested of each value
 test : ℕ → Bool
-test v = (place_of (symbol v) symbols == v) && not (symbol v == 49) && (to_ascii_lowercase (symbol_in true v) == symbol v)
+test v = (symbol_place (symbol v) symbols == v) && not (symbol v == 49) && (to_ascii_lowercase (symbol_in true v) == symbol v)
     && (to_ascii_lowercase (symbol_in false v) == symbol v) && not (is_ascii_lowercase (symbol_in true v)) && not (is_ascii_uppercase (symbol_in false v))
     && nat_lt (symbol_in true v) 128 && nat_lt (symbol_in false v) 128
 
@@ -29,11 +28,11 @@ passes p (suc n) h v lt =
     elim (cases_at v n lt) [ inl below ↦ passes p n parts.1 v below | inr here ↦ ap p here ∙ parts.0 ]
 
 all_pass : all_below test 32 ≡ true
-unfolding all_below test symbol place_of
+unfolding all_below test symbol symbol_place
 all_pass = refl
 
 pub record IsSymbol (v : ℕ) : Type 0 where
-  pub place : place_of (symbol v) symbols ≡ v
+  pub place : symbol_place (symbol v) symbols ≡ v
   pub no_one : symbol v ≢ 49
   pub lower_of_upper : to_ascii_lowercase (symbol_in true v) ≡ symbol v
   pub lower_of_lower : to_ascii_lowercase (symbol_in false v) ≡ symbol v
@@ -53,7 +52,7 @@ symbol-is v lt =
     let h2 = and_parts _ _ h3.0 in
     let h1 = and_parts _ _ h2.0 in
     record {
-      place = eqb-true (place_of (symbol v) symbols) v h1.0;
+      place = eqb-true (symbol_place (symbol v) symbols) v h1.0;
       no_one = eqb-false (symbol v) 49 (not-true (symbol v == 49) h1.1);
       lower_of_upper = eqb-true (to_ascii_lowercase (symbol_in true v)) (symbol v) h2.1;
       lower_of_lower = eqb-true (to_ascii_lowercase (symbol_in false v)) (symbol v) h3.1;
@@ -64,7 +63,7 @@ symbol-is v lt =
     }
 
 pub symbol-same : (a b : ℕ) → a < 2 ^ 5 → b < 2 ^ 5 → symbol a ≡ symbol b → a ≡ b
-symbol-same a b ha hb e = sym (symbol-is a ha).place ∙ ap (λ s. place_of s symbols) e ∙ (symbol-is b hb).place
+symbol-same a b ha hb e = sym (symbol-is a ha).place ∙ ap (λ s. symbol_place s symbols) e ∙ (symbol-is b hb).place
 
 -- symbols have one reading
 pub same_values : (vs ws : List ℕ) → All (λ v. v < 2 ^ 5) vs → All (λ v. v < 2 ^ 5) ws → map symbol vs ≡ map symbol ws → vs ≡ ws
@@ -84,10 +83,10 @@ here : (b : Bool) (c x : ℕ) (xs : List ℕ) (n : ℕ) → (c == x) ≡ b → (
 here true c x xs n e rest lt = sym (eqb-true c x e)
 here false c x xs n e rest lt = rest (omega arith)
 
-at_place : (c : ℕ) (xs : List ℕ) → place_of c xs < length xs → get_or xs (place_of c xs) 0 ≡ c
-unfolding place_of
+at_place : (c : ℕ) (xs : List ℕ) → symbol_place c xs < length xs → get_or xs (symbol_place c xs) 0 ≡ c
+unfolding symbol_place
 at_place c [] lt = absurd (omega arith)
-at_place c (x ∷ xs) lt = here (c == x) c x xs (place_of c xs) refl (at_place c xs) lt
+at_place c (x ∷ xs) lt = here (c == x) c x xs (symbol_place c xs) refl (at_place c xs) lt
 
 symbol_at : (byte : ℕ) → value_of byte < 2 ^ 5 → to_ascii_lowercase byte ≡ symbol (value_of byte)
 unfolding value_of symbol
@@ -95,7 +94,7 @@ symbol_at byte lt = sym (at_place (to_ascii_lowercase byte) symbols lt)
 
 pub value_is : (byte v : ℕ) → v < 2 ^ 5 → to_ascii_lowercase byte ≡ symbol v → value_of byte ≡ v
 unfolding value_of
-value_is byte v lt e = ap (λ s. place_of s symbols) e ∙ (symbol-is v lt).place
+value_is byte v lt e = ap (λ s. symbol_place s symbols) e ∙ (symbol-is v lt).place
 
 pub no_value : (byte : ℕ) → ((v : ℕ) → v < 2 ^ 5 → to_ascii_lowercase byte ≢ symbol v) → 2 ^ 5 ≤ value_of byte
 no_value byte none = elim (cases_lt (value_of byte) (2 ^ 5)) [ inl lt ↦ absurd (none (value_of byte) lt (symbol_at byte lt)) | inr out ↦ out ]

@@ -17,13 +17,13 @@ symbol_in true value = to_ascii_uppercase (symbol value)
 symbol_in false value = symbol value
 
 -- how many of these stand before it
-unfoldable pub place_of : ℕ → List ℕ → ℕ
-place_of byte [] = 0
-place_of byte (symbol ∷ symbols) = if byte == symbol then 0 else suc (place_of byte symbols)
+unfoldable pub symbol_place : ℕ → List ℕ → ℕ
+symbol_place byte [] = 0
+symbol_place byte (symbol ∷ symbols) = if byte == symbol then 0 else suc (symbol_place byte symbols)
 
 -- the value of a symbol in either case, and 32 where a byte is none
 unfoldable pub value_of : ℕ → ℕ
-value_of byte = place_of (to_ascii_lowercase byte) symbols
+value_of byte = symbol_place (to_ascii_lowercase byte) symbols
 
 -- the values of symbols
 abbrev pub values_of : List ℕ → List ℕ

@@ -2,10 +2,8 @@
 use Rattle.std.specs.Prelude.{◌≡◌, ℕ, List, [], ◌∷◌, ◌++◌, Option, Some, None, refl}
 use Rattle.std.proofs.Common.{sym, subst}
 use Rattle.age.specs.Stanza.{StanzaValue}
-use Rattle.age.specs.Unwrapping.{UnwrapAnswer, Steady, FirstOf, Then, Unwraps}
-use Rattle.age.specs.UnwrappingLaws.{either_way}
-use Rattle.age.specs.Answering.{FirstThatAnswers}
-use Rattle.age.specs.Parts.{FirstAnswer, IsFileFor}
+use Rattle.age.specs.Identities.{UnwrapAnswer, Steady, FirstOf, UnlessAnswered, Unwraps, FirstAnswer, IsFileFor, FirstThatAnswers}
+use Rattle.age.specs.AskedInTurn.{either_way}
 use Rattle.age_bench.specs.Bench.{bench_seal}
 use Rattle.age_bench.specs.Names.{AsksWith, answers_of}
 use Rattle.age_bench.specs.declared.names.With.{With}
@@ -34,7 +32,7 @@ module _ {S T X A : Type 0} (asks : S → X → Option A → Type 0) (others : T
     (same : (x : X) (answer : Option A) → asks one x answer → others other x answer) where
   next_as : (xs : List X) (first : Option A) (between : S) (answer : Option A) → between ≡ one
       → (FirstOf (Steady asks) one xs answer one → FirstOf (Steady others) other xs answer other)
-      → Then (λ s. FirstOf (Steady asks) s xs) first between answer one → Then (λ t. FirstOf (Steady others) t xs) first other answer other
+      → UnlessAnswered (λ s. FirstOf (Steady asks) s xs) first between answer one → UnlessAnswered (λ t. FirstOf (Steady others) t xs) first other answer other
   next_as xs None between answer is step h = step (subst (λ s. FirstOf (Steady asks) s xs answer one) is h)
   next_as xs (Some a) between answer is step h = (h.0, refl)
 

@@ -3,18 +3,16 @@ use Rattle.std.specs.Prelude.{◌≡◌, ◌≤◌, ℕ, Bool, true, false, List
 use Rattle.std.specs.Result.{result_map_both}
 use Rattle.std.proofs.Common.{◌∙◌, sym, ap, subst, arith, length-drop}
 use Rattle.std.proofs.lemmas.Bool.{leb-true}
-use Rattle.age.specs.Armor.{Carries}
-use Rattle.age.specs.ArmorWriting.{text_of}
+use Rattle.age.specs.Armor.{Carries, text_of}
 use Rattle.age.specs.Draw.{taken, left_after}
 use Rattle.age.specs.EncryptErrors.{EncryptRefusal, ShortRandom}
-use Rattle.age.specs.Drawing.{drawn}
-use Rattle.age.specs.Encrypting.{Prepared}
+use Rattle.age.specs.Encrypting.{drawn, Prepared}
 use Rattle.age.proofs.Outcomes.{same_value, no_refusal}
 use Rattle.age.specs.File.{file_text, IsFileOf}
 use Rattle.age_bench.specs.Bench.{bench_seal}
 use Rattle.age_bench.specs.Names.{file_by}
 use Rattle.age_bench.specs.Recipient.{bench_stanza, bench_grease, bench_file}
-use Rattle.age_bench.specs.FileLaws.{IsBenchFile, IsCarried, GivesBack}
+use Rattle.age_bench.specs.FileLaws.{IsBenchFile, IsCarried, CarriesOnlyIt}
 use Rattle.age_bench.specs.declared.names.To.TheVariants.{Bench}
 use Rattle.age_bench.proofs.OneFile.{IsMade}
 use Rattle.age_bench.proofs.BothForms.{IsCarriedAs, IsGivenBack}
@@ -71,7 +69,7 @@ is_carried carried format draws plain text b p is =
     let (long, same) = bench_filed draws plain text is in
     subst (λ t. Carries (text_of format t) t) (sym same) (carried format draws plain b long p)
 
-pub gives_back : IsGivenBack → GivesBack
+pub gives_back : IsGivenBack → CarriesOnlyIt
 gives_back given_back format draws plain text bytes file_key stanzas given b p is carries gives f =
     let (long, same) = bench_filed draws plain text is in
     given_back format draws plain bytes file_key stanzas given b long p (subst (λ t. Carries (text_of format t) bytes) same carries)

@@ -9,15 +9,14 @@ use Rattle.age.specs.Bytes.{AreBytes}
 use Rattle.age.specs.Base64.{columns}
 use Rattle.age.specs.Lines.{line, pieces_and_rest}
 use Rattle.age.proofs.Columns.{IsSymbol, columns_symbols}
-use Rattle.age.specs.Armor.{armor, begin_marker, Carries}
+use Rattle.age.specs.Armor.{armor, begin_marker, Carries, text_of}
 use Rattle.age.specs.FormatVariants.{Binary, AsciiArmor}
-use Rattle.age.specs.ArmorWriting.{text_of}
 use Rattle.age.specs.Stanza.{StanzaValue, stanza_text, first_line, body_text}
 use Rattle.age.specs.Header.{version_line, mac_line, covered_text, header_text}
-use Rattle.age.specs.HeaderV1.{header_mac}
-use Rattle.age.specs.Payload.{payload}
-use Rattle.age.specs.StreamLaws.{PayloadLength}
-use Rattle.age.specs.File.{file_front, file_text, payload_key, IsFileOf}
+use Rattle.age.specs.HeaderMac.{header_mac}
+use Rattle.age.specs.Payload.{payload, payload_key}
+use Rattle.age.specs.PayloadLaws.{PayloadLength}
+use Rattle.age.specs.File.{file_front, file_text, IsFileOf}
 use Rattle.age_bench.specs.Bench.{bench_seal}
 use Rattle.age_bench.specs.Recipient.{bench_stanza, bench_grease, bench_file, HoldsBenchKey}
 use Rattle.age.specs.Types.{Format}

@@ -6,7 +6,7 @@ use Rattle.std.proofs.Math.ListN.{drop_of_length-le}
 use Rattle.std.proofs.lemmas.List.{drop_more, append_assoc, append-nil}
 use Rattle.std.proofs.lemmas.Option.{none-some, same_Some}
 use Rattle.std.proofs.lemmas.Bool.Decides.{nat_tests}
-use Rattle.age_bench.specs.Command.{byte_of, bytes_of, key_of}
+use Rattle.age_bench.specs.Command.{byte_of, hex_bytes, key_word}
 
 -- what a text writes, after bytes that are known
 abbrev pub prepended : List ℕ → Option (List ℕ) → Option (List ℕ)
@@ -26,7 +26,7 @@ nothing None = refl
 nothing (Some x) = refl
 
 -- an odd number of digits writes nothing
-pub odd : (text : List ℕ) → length text % 2 ≢ 0 → bytes_of text ≡ None
+pub odd : (text : List ℕ) → length text % 2 ≢ 0 → hex_bytes text ≡ None
 odd [] h = absurd (h refl)
 odd (a ∷ []) h = refl
 odd (a ∷ b ∷ text) h =
@@ -39,18 +39,18 @@ two_more : (text : List ℕ) (n : ℕ) → n + 1 < length text
 two_more text n h = rw (drop_more text n 0 (omega arith), drop_more text (n + 1) 0 h, add_assoc) refl
 
 pub bad_byte : (text done : List ℕ) (n : ℕ) → n + 1 < length text → byte_of (get_or text n 0) (get_or text (n + 1) 0) ≡ None
-    → bytes_of text ≡ prepended done (bytes_of (drop n text)) → bytes_of text ≡ None
+    → hex_bytes text ≡ prepended done (hex_bytes (drop n text)) → hex_bytes text ≡ None
 bad_byte text done n h bad e = rw (two_more text n h, bad) at e
 
 pub byte_more : (text done : List ℕ) (n byte : ℕ) → n + 1 < length text → byte_of (get_or text n 0) (get_or text (n + 1) 0) ≡ Some byte
-    → bytes_of text ≡ prepended done (bytes_of (drop n text)) → bytes_of text ≡ prepended (done ++ byte ∷ []) (bytes_of (drop (n + 2) text))
+    → hex_bytes text ≡ prepended done (hex_bytes (drop n text)) → hex_bytes text ≡ prepended (done ++ byte ∷ []) (hex_bytes (drop (n + 2) text))
 byte_more text done n byte h good e =
-    let more : bytes_of text ≡ prepended done (option_map (λ bytes. byte ∷ bytes) (bytes_of (drop (n + 2) text))) =
+    let more : hex_bytes text ≡ prepended done (option_map (λ bytes. byte ∷ bytes) (hex_bytes (drop (n + 2) text))) =
     rw (two_more text n h, good) at e in
-    rw (← prepended-push done byte (bytes_of (drop (n + 2) text))) more
+    rw (← prepended-push done byte (hex_bytes (drop (n + 2) text))) more
 
 -- the text is written to its end
-pub text_done : (text done : List ℕ) (n : ℕ) → length text ≤ n → bytes_of text ≡ prepended done (bytes_of (drop n text)) → Some done ≡ bytes_of text
+pub text_done : (text done : List ℕ) (n : ℕ) → length text ≤ n → hex_bytes text ≡ prepended done (hex_bytes (drop n text)) → Some done ≡ hex_bytes text
 text_done text done n past e = rw (drop_of_length-le text past, append-nil) at (sym e)
 
 counted : (byte : Option ℕ) (rest : Option (List ℕ)) (done : List ℕ) → option_and_then (λ b. option_map (λ bytes. b ∷ bytes) rest) byte ≡ Some done
@@ -60,21 +60,21 @@ counted (Some b) None done e = absurd (none-some _ e)
 counted (Some b) (Some bytes) done e = (b, bytes, refl, sym (same_Some _ _ e))
 
 -- each byte is written by two digits
-pub two_a_byte : (text bytes : List ℕ) → bytes_of text ≡ Some bytes → length text ≡ 2 * length bytes
+pub two_a_byte : (text bytes : List ℕ) → hex_bytes text ≡ Some bytes → length text ≡ 2 * length bytes
 two_a_byte [] bytes e = rw (← same_Some _ _ e) refl
 two_a_byte (a ∷ []) bytes e = absurd (none-some _ e)
 two_a_byte (a ∷ b ∷ text) bytes e =
-    let (byte, rest, is, whole) = counted (byte_of a b) (bytes_of text) bytes e in
+    let (byte, rest, is, whole) = counted (byte_of a b) (hex_bytes text) bytes e in
     let shorter = two_a_byte text rest is in
     rw whole (omega (arith, shorter))
 
-key_is : (text : List ℕ) → length text ≡ 64 → key_of text ≡ bytes_of text
+key_is : (text : List ℕ) → length text ≡ 64 → key_word text ≡ hex_bytes text
 key_is text h = grind (arith, nat_tests)
 
 -- a text of 64 digits writes a key
-pub key_found : (text key : List ℕ) → length text ≡ 64 → Some key ≡ bytes_of text → Some key ≡ key_of text
+pub key_found : (text key : List ℕ) → length text ≡ 64 → Some key ≡ hex_bytes text → Some key ≡ key_word text
 key_found text key h e = rw (key_is text h) e
 
 -- and it writes 32 bytes
-pub no_key : (text bytes : List ℕ) → length text ≡ 64 → Some bytes ≡ bytes_of text → length bytes ≡ 32
+pub no_key : (text bytes : List ℕ) → length text ≡ 64 → Some bytes ≡ hex_bytes text → length bytes ≡ 32
 no_key text bytes h e = let counted = two_a_byte text bytes (sym e) in omega (arith, counted)

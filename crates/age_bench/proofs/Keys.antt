@@ -1,6 +1,7 @@
 -- What a word names that is no key and no passphrase.
 use Rattle.std.specs.Prelude.{◌≢◌, ℕ, List, codes, None}
-use Rattle.age.specs.KeyTexts.{recipient_prefix, identity_prefix, IsRefusedAs}
+use Rattle.age.specs.KeyTexts.{IsRefusedAs}
+use Rattle.age.specs.X25519.{recipient_prefix, identity_prefix}
 use Rattle.age.proofs.RefusedTexts.{refused}
 use Rattle.age_bench.specs.Command.{NamesTo, NamesWith, passphrase_word}
 

@@ -3,8 +3,8 @@ use Rattle.std.specs.Prelude.{ℕ, List, ◌++◌}
 use Rattle.std.proofs.Common.{inl, sym, subst}
 use Rattle.age.specs.Belonging.{BelongsTo}
 use Rattle.age.specs.Stanza.{StanzaValue}
-use Rattle.age.specs.Unwrapping.{UnwrapAnswer, Steady, FirstOf}
-use Rattle.age.specs.UnwrappingLaws.{either_way}
+use Rattle.age.specs.Identities.{UnwrapAnswer, Steady, FirstOf}
+use Rattle.age.specs.AskedInTurn.{either_way}
 use Rattle.age.specs.X25519.{WrapsFor, UnwrapsBy}
 use Rattle.age.specs.X25519Laws as x25519
 use Rattle.age.specs.Scrypt.{PassphraseRecipient, PassphraseIdentity, WrapsUnder, UnwrapsUnder}

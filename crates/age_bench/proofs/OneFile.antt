@@ -8,11 +8,13 @@ use Rattle.age.specs.Mac.{hmac_of}
 use Rattle.age.specs.Digests.{hmac_of-bytes, hkdf_of-bytes}
 use Rattle.age.specs.Stanza.{StanzaValue, IsStanza}
 use Rattle.age.specs.Header.{covered_text}
-use Rattle.age.specs.HeaderV1.{HeaderValue, header_mac}
+use Rattle.age.specs.HeaderV1.{HeaderValue}
+use Rattle.age.specs.HeaderMac.{header_mac}
 use Rattle.age.proofs.Strings.{string_tested}
-use Rattle.age.specs.Payload.{piece, nonce, middle_seals, last_piece, payload}
-use Rattle.age.specs.StreamLaws.{ArePieces, PayloadLength, OnePlaintext, joined}
-use Rattle.age.specs.File.{IsFileOf, IsReady, payload_key}
+use Rattle.age.specs.Payload.{piece, nonce, middle_seals, last_piece, payload, payload_key}
+use Rattle.age.specs.PayloadLaws.{ArePieces, PayloadLength, OnePlaintext, joined_pieces}
+use Rattle.age.specs.File.{IsFileOf}
+use Rattle.age.specs.Ready.{IsReady}
 use Rattle.age.proofs.Accepted.{ReadsAlone, HasOneVerdict}
 use Rattle.age.proofs.Files.{is_file}
 use Rattle.age.proofs.OneFile.{one_header, same_payload}
@@ -39,13 +41,13 @@ opened_bytes key nonce plain b =
     let mask = hmac_of key nonce in
     rw masked_twice at (masked-bytes mask 0 (masked mask plain) (hmac_of-bytes key nonce) (front_bytes (masked mask plain) (tag_of key nonce plain) b))
 
-joined_bytes : (key plain : List ℕ) (n : ℕ) → AreBytes (middle_seals bench_seal key plain n) → AreBytes (joined plain n)
+joined_bytes : (key plain : List ℕ) (n : ℕ) → AreBytes (middle_seals bench_seal key plain n) → AreBytes (joined_pieces plain n)
 joined_bytes key plain zero b = All-nil (λ x. x < 2 ^ 8)
 joined_bytes key plain (suc i) b =
     let P : ℕ → Type 0 = λ x. x < 2 ^ 8 in
     let before = middle_seals bench_seal key plain i in
     let seal = bench_seal key (nonce i false) (piece i plain) in
-    All-append P (joined plain i) (piece i plain) (joined_bytes key plain i (front_bytes before seal b))
+    All-append P (joined_pieces plain i) (piece i plain) (joined_bytes key plain i (front_bytes before seal b))
     (opened_bytes key (nonce i false) (piece i plain) (back_bytes before seal b))
 
 payload_opened : (key plain : List ℕ) → ArePieces plain → AreBytes (payload bench_seal key plain) → AreBytes plain
@@ -55,10 +57,10 @@ payload_opened key plain pieces b =
     let last = last_piece (length plain) in
     let before = middle_seals bench_seal key plain last in
     let seal = bench_seal key (nonce last true) (piece last plain) in
-    let all : AreBytes (joined plain (suc last)) = All-append P (joined plain last) (piece last plain) (joined_bytes key plain last (front_bytes before seal b))
+    let all : AreBytes (joined_pieces plain (suc last)) = All-append P (joined_pieces plain last) (piece last plain) (joined_bytes key plain last (front_bytes before seal b))
     (opened_bytes key (nonce last true) (piece last plain) (back_bytes before seal b)) in
     let next : suc last ≡ last + 1 = omega arith in
-    subst AreBytes pieces.whole (subst (λ n. AreBytes (joined plain n)) next all)
+    subst AreBytes pieces.whole (subst (λ n. AreBytes (joined_pieces plain n)) next all)
 
 -- ---- the bench file
 

@@ -2,7 +2,7 @@
 use Rattle.std.specs.Prelude.{◌≡◌, ◌≢◌, ℕ, zero, suc, ◌+◌, ◌-◌, ◌<◌, List, [], ◌∷◌}
 use Rattle.std.proofs.Common.{ap, ◌∙◌, sym, refl, arith}
 use Rattle.age.specs.ErrorKindVariants.{Interrupted}
-use Rattle.age_bench.specs.Devices.{step_among, most_bytes}
+use Rattle.age_bench.specs.Devices.{step_among, most_of_call}
 use Rattle.age_bench.specs.AtCalls.{step_of}
 use Rattle.age_bench.specs.declared.script.Step.{Step}
 use Rattle.age_bench.specs.declared.script.Step.TheVariants.{Move, Fail}
@@ -25,9 +25,9 @@ step_there zero most s = refl
 step_there (suc good) most s = step_there good most s
 
 -- and all others
-pub moves_else : (good i : ℕ) (s : Step) → i ≢ good → step_of 0 0 good (s ∷ []) most_bytes i ≡ Move most_bytes
+pub moves_else : (good i : ℕ) (s : Step) → i ≢ good → step_of 0 0 good (s ∷ []) most_of_call i ≡ Move most_of_call
 moves_else zero zero s other = absurd (other refl)
-moves_else zero (suc i) s other = none_left most_bytes i
+moves_else zero (suc i) s other = none_left most_of_call i
 moves_else (suc good) zero s other = refl
 moves_else (suc good) (suc i) s other = moves_else good i s (λ same. other (ap suc same))
 

@@ -1,6 +1,5 @@
 -- One step of each loop.
-use Rattle.std.specs.Prelude.{◌≡◌, ℕ, ◌+◌, ◌%◌, ◌<◌, List, [], ◌∷◌, ◌++◌, length, take, drop, bit_xor, set, get_or, refl}
-use Rattle.std.specs.Prelude.{◌*◌, ◌≤◌}
+use Rattle.std.specs.Prelude.{◌≡◌, ℕ, ◌+◌, ◌%◌, ◌<◌, List, [], ◌∷◌, ◌++◌, length, take, drop, bit_xor, set, get_or, refl, ◌*◌, ◌≤◌}
 use borrow.Rule.Slice.PartMut.{mid_of, put_mid}
 use Rattle.std.proofs.Common.{arith, suc, zero, add-zero, add_assoc}
 use Rattle.std.proofs.Math.Numerals.{one-add}

@@ -9,8 +9,7 @@ use Rattle.std.proofs.lemmas.Option.{none-some}
 use Rattle.std.proofs.lemmas.Slice.Eq.{bytes_eq-Decides}
 use Rattle.age.specs.DecryptErrors.{InvalidHeader}
 use Rattle.age.specs.Stanza.{StanzaValue}
-use Rattle.age.specs.Unwrapping.{UnwrapAnswer, Steady, FirstOf, Then}
-use Rattle.age.specs.Parts.{IsFileFor}
+use Rattle.age.specs.Identities.{UnwrapAnswer, Steady, FirstOf, UnlessAnswered, IsFileFor}
 use Rattle.age_bench.specs.Bench.{bench_seal}
 use Rattle.age_bench.specs.Files.{IsFileForBench}
 use Rattle.age_bench.specs.Names.{AsksWith, answers_of, gives_of}
@@ -105,7 +104,7 @@ held_answer stanzas key holds = ap (first_answer bench_unwrapped) holds.all ∙ 
 
 or_else : (s : StanzaValue) (rest : List StanzaValue) (first answer : UnwrapAnswer) (between : With) → (first ≡ bench_unwrapped s) × (between ≡ Bench)
     → (answers_of Bench rest answer → answer ≡ bench_answer rest)
-    → Then (λ with_. FirstOf (Steady AsksWith) with_ rest) first between answer Bench → answer ≡ option_or (bench_unwrapped s) (bench_answer rest)
+    → UnlessAnswered (λ with_. FirstOf (Steady AsksWith) with_ rest) first between answer Bench → answer ≡ option_or (bench_unwrapped s) (bench_answer rest)
 or_else s rest None answer between asked step h = rw (← asked.0) (step (subst (λ with_. FirstOf (Steady AsksWith) with_ rest answer Bench) asked.1 h))
 or_else s rest (Some a) answer between asked step h = rw (← asked.0) h.0
 

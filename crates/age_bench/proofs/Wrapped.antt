@@ -6,23 +6,20 @@ use Rattle.std.proofs.Common.{◌∙◌, sym, ap, subst, inl, inr, arith}
 use Rattle.std.proofs.lemmas.Bool.{false≢true}
 use Rattle.age.specs.Bytes.{AreBytesOf}
 use Rattle.age.specs.Base64.{columns}
-use Rattle.age.specs.FormatBytes.{is_string_of}
+use Rattle.age.specs.Stanza.{is_string_of, StanzaValue}
 use Rattle.age.specs.EncryptErrors.{EncryptRefusal, OutOfMemory, ShortRandom, ZeroSharedSecret, WorkFactorRefused, InvalidRecipientLabels, encrypt_refusal}
 use Rattle.age.specs.FileErrors.{EncryptsUnless}
 use Rattle.age.specs.FileErrorVariants.{Io, Encrypt, Decrypt}
 use Rattle.age.specs.Types.{FileError}
-use Rattle.age.specs.Stanza.{StanzaValue}
-use Rattle.age.specs.Wrapping.{Wrapped, WrapAnswer}
-use Rattle.age.specs.RecipientLabels.{Gathered, has_scrypt, judged, nothing_yet, with_labels}
+use Rattle.age.specs.Recipients.{Wrapped, WrapAnswer, Gathered, has_scrypt, judged, nothing_yet, with_labels}
 use Rattle.age.specs.Draw.{taken, left_after}
-use Rattle.age.specs.Drawing.{Ends, UnlessNoMemory, Then, After, drawn, and_then}
+use Rattle.age.specs.Encrypting.{Ends, UnlessNoMemory, OnSuccess, After, drawn, and_then, Prepared, PreparesNonce, PreparesRest, PreparesWith, Prepares, WrapsInTurn}
 use Rattle.age.proofs.Outcomes.{same_value, same_refusal, no_refusal}
 use Rattle.age.proofs.KeyStrings.{columns-tested}
-use Rattle.age.specs.Encrypting.{Prepared, PreparesNonce, PreparesRest, PreparesWith, Prepares, WrapsInTurn}
 use Rattle.age.specs.Several.{grease_beside}
 use Rattle.age.specs.File.{file_text}
 use Rattle.age.specs.X25519.{wrapped_with, x25519_stanza, no_secret}
-use Rattle.age.specs.Scrypt.{PassphraseRecipient, WrapsWith, wrapped_under}
+use Rattle.age.specs.Scrypt.{PassphraseRecipient, WrapsWithSalt, wrapped_under}
 use Rattle.age_bench.specs.Bench.{bench_seal, bench_shared, bench_public, bench_stretch, bench_accepts}
 use Rattle.age_bench.specs.Recipient.{bench_stanza, bench_grease}
 use Rattle.age_bench.specs.Names.{WrapsTo, wrapped_by, left_by, stanzas_beside, prepared_by, file_by}
@@ -157,7 +154,7 @@ passphrase_one false stanza label wrapped bytes is = no_refusal wrapped WorkFact
 
 passphrase_by : (salt label : Option (List ℕ)) (recipient : PassphraseRecipient) (file_key draws between kept : List ℕ) (answer : WrapAnswer) (left : List ℕ)
     → MatchOption salt (Ends (Err ShortRandom) draws answer left) (λ s. MatchOption label (Ends (Err ShortRandom) between answer left)
-    (λ l. WrapsWith bench_seal bench_stretch bench_accepts recipient file_key s l kept answer left))
+    (λ l. WrapsWithSalt bench_seal bench_stretch bench_accepts recipient file_key s l kept answer left))
     → Answers (drawn salt (λ s. drawn label (λ l. wrapped_under bench_seal bench_stretch bench_accepts recipient file_key s l))) kept answer left
 passphrase_by None label recipient file_key draws between kept answer left h = refused_as ShortRandom _ kept answer left h.0 (inl h.0)
 passphrase_by (Some s) None recipient file_key draws between kept answer left h = refused_as ShortRandom _ kept answer left h.0 (inl h.0)
@@ -225,7 +222,7 @@ rest_due file_key stanza labels draws outcome left h = rest_by (has_scrypt (stan
 gathered_due : (file_key : List ℕ) (stanza : StanzaValue) (labels : List (List ℕ)) (draws : List ℕ) (gathered : Result Gathered EncryptRefusal)
     (between : List ℕ) (outcome : Result Prepared EncryptRefusal) (left : List ℕ)
     → UnlessNoMemory (Ends (Ok (gathered_by stanza labels)) draws gathered between) draws gathered between
-    → Then gathered (λ all. PreparesRest file_key (Some bench_grease) all) between outcome left
+    → OnSuccess gathered (λ all. PreparesRest file_key (Some bench_grease) all) between outcome left
     → IsDue (finished file_key (record { stanzas = stanza ∷ []; labels = labels }) draws) outcome
 gathered_due file_key stanza labels draws gathered between outcome left (inl ended) rest =
     let on : PreparesRest file_key (Some bench_grease) (gathered_by stanza labels) draws outcome left = rw (ended.0, ended.1) at rest in

@@ -1,7 +1,7 @@
 -- What a script says of each call.
 use Rattle.std.specs.Prelude.{◌≡◌, ℕ, suc, zero, ◌+◌, ◌<◌, List, [], ◌∷◌}
 use Rattle.age.specs.ErrorKindVariants.{Interrupted}
-use Rattle.age_bench.specs.Devices.{most_bytes}
+use Rattle.age_bench.specs.Devices.{most_of_call}
 use Rattle.age_bench.specs.declared.script.Step.{Step}
 use Rattle.age_bench.specs.declared.script.Step.TheVariants.{Move, Fail}
 use Rattle.age_bench.specs.declared.script.Script.{Script}
@@ -13,7 +13,7 @@ use Rattle.age_bench.specs.declared.calls.Calls.{Calls}
 abbrev pub step_of : (times left good : ℕ) → List Step → (most i : ℕ) → Step
 step_of times (suc left) good steps most zero = Fail Interrupted
 step_of times (suc left) good steps most (suc i) = step_of times left good steps most i
-step_of times zero (suc good) steps most zero = Move most_bytes
+step_of times zero (suc good) steps most zero = Move most_of_call
 step_of times zero (suc good) steps most (suc i) = step_of times times good steps most i
 step_of times zero zero [] most zero = Move most
 step_of times zero zero [] most (suc i) = step_of times times zero [] most i

@@ -3,7 +3,7 @@ use Rattle.std.specs.Prelude.{◌≡◌, ◌≢◌, ℕ, ◌+◌, ◌-◌, ◌*�
 use Rattle.std.specs.Option.{option_and_then}
 use Rattle.age.specs.Types.{Format}
 use Rattle.age.specs.FormatVariants.{Binary, AsciiArmor}
-use Rattle.age.specs.KeyTexts.{recipient_prefix, identity_prefix, IsKeyText}
+use Rattle.age.specs.X25519.{recipient_prefix, identity_prefix, IsKeyText}
 use Rattle.age_bench.specs.declared.names.To.{To}
 use Rattle.age_bench.specs.declared.names.To.TheVariants as to
 use Rattle.age_bench.specs.declared.names.With.{With}
@@ -42,14 +42,14 @@ abbrev pub byte_of : ℕ → ℕ → Option ℕ
 byte_of high low = option_and_then (λ h. option_map (λ l. 16 * h + l) (digit_of low)) (digit_of high)
 
 -- the bytes that a text of hexadecimal digits writes, two digits a byte
-abbrev pub bytes_of : List ℕ → Option (List ℕ)
-bytes_of [] = Some []
-bytes_of (_ ∷ []) = None
-bytes_of (high ∷ low ∷ text) = option_and_then (λ byte. option_map (λ bytes. byte ∷ bytes) (bytes_of text)) (byte_of high low)
+abbrev pub hex_bytes : List ℕ → Option (List ℕ)
+hex_bytes [] = Some []
+hex_bytes (_ ∷ []) = None
+hex_bytes (high ∷ low ∷ text) = option_and_then (λ byte. option_map (λ bytes. byte ∷ bytes) (hex_bytes text)) (byte_of high low)
 
 -- a key is written by 64 digits
-abbrev pub key_of : List ℕ → Option (List ℕ)
-key_of text = if nat_eq (length text) 64 then bytes_of text else None
+abbrev pub key_word : List ℕ → Option (List ℕ)
+key_word text = if nat_eq (length text) 64 then hex_bytes text else None
 
 -- the word that names a passphrase: what follows `pass=`, byte by byte, which may be nothing
 abbrev pub passphrase_word : List ℕ → List ℕ
@@ -84,7 +84,7 @@ encryption to draw format = option_and_then (λ t. option_map (λ bytes. Encrypt
 
 -- so it is asked for in this form
 abbrev pub AsksToEncrypt : List ℕ → List ℕ → Format → Option CommandValue → Type 0
-AsksToEncrypt word draw format asked = (to : Option To) × NamesTo word to × (asked ≡ encryption to (bytes_of draw) format)
+AsksToEncrypt word draw format asked = (to : Option To) × NamesTo word to × (asked ≡ encryption to (hex_bytes draw) format)
 
 -- in the form that more words ask for, if they ask for one
 abbrev pub InFormat : List ℕ → List ℕ → Option Format → Option CommandValue → Type 0
@@ -100,9 +100,9 @@ part with_ place count = option_and_then (λ w. option_and_then (λ p. option_ma
 abbrev pub AsksFor : List (List ℕ) → Option CommandValue → Type 0
 AsksFor (name ∷ word ∷ []) asked =
     When (bytes_eq name (codes "decrypt")) ((with_ : Option With) × NamesWith word with_ × (asked ≡ option_map Decrypt with_))
-    (asked ≡ (if bytes_eq name (codes "keygen") then option_map Keygen (bytes_of word)
-    else if bytes_eq name (codes "seal") then option_map Seal (key_of word)
-    else if bytes_eq name (codes "open") then option_map Open (key_of word)
+    (asked ≡ (if bytes_eq name (codes "keygen") then option_map Keygen (hex_bytes word)
+    else if bytes_eq name (codes "seal") then option_map Seal (key_word word)
+    else if bytes_eq name (codes "open") then option_map Open (key_word word)
     else None))
 AsksFor (name ∷ second ∷ third ∷ []) asked = When (bytes_eq name (codes "encrypt")) (AsksToEncrypt second third Binary asked) (asked ≡ None)
 AsksFor (name ∷ second ∷ third ∷ fourth ∷ []) asked =

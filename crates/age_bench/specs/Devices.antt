@@ -6,8 +6,8 @@ use Rattle.age_bench.specs.declared.script.Step.{Step}
 use Rattle.age_bench.specs.declared.script.Step.TheVariants.{Move, Fail}
 
 -- as many bytes as a call may ask for
-abbrev pub most_bytes : ℕ
-most_bytes = 2 ^ 64 - 1
+abbrev pub most_of_call : ℕ
+most_of_call = 2 ^ 64 - 1
 
 -- the step of this number, from 0, or one that moves so many bytes where there is none
 abbrev pub step_among : List Step → ℕ → ℕ → Step

@@ -1,12 +1,11 @@
 -- What is true of the files of the bench recipient.
 use Rattle.std.specs.Prelude.{◌≡◌, ℕ, List, [], ◌∷◌, take, Ok}
 use Rattle.age.specs.Bytes.{AreBytes}
-use Rattle.age.specs.Armor.{Carries}
+use Rattle.age.specs.Armor.{Carries, text_of}
 use Rattle.age.specs.Types.{Format}
-use Rattle.age.specs.ArmorWriting.{text_of}
 use Rattle.age.specs.Stanza.{StanzaValue}
 use Rattle.age.specs.File.{IsFileOf}
-use Rattle.age.specs.Parts.{IsFileFor}
+use Rattle.age.specs.Identities.{IsFileFor}
 use Rattle.age_bench.specs.Bench.{bench_seal}
 use Rattle.age_bench.specs.Files.{IsFileForBench}
 use Rattle.age_bench.specs.Names.{answers_of, file_by, gives_of}
@@ -25,8 +24,8 @@ IsCarried = (format : Format) (draws plain text : List ℕ) → AreBytes draws �
     → Carries (text_of format text) text
 
 -- what the text in either form carries is a file of no other plaintext under a file key that the bench identity gives to its stanzas
-abbrev pub GivesBack : Type 0
-GivesBack = (format : Format) (draws plain text bytes file_key : List ℕ) (stanzas : List StanzaValue) (given : List ℕ)
+abbrev pub CarriesOnlyIt : Type 0
+CarriesOnlyIt = (format : Format) (draws plain text bytes file_key : List ℕ) (stanzas : List StanzaValue) (given : List ℕ)
     → AreBytes draws → AreBytes plain → file_by to.Bench draws plain ≡ Ok text → Carries (text_of format text) bytes
     → gives_of with_.Bench file_key stanzas → IsFileOf bench_seal file_key stanzas given bytes → given ≡ plain
 

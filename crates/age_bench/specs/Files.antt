@@ -2,8 +2,8 @@
 use Rattle.std.specs.Prelude.{ℕ, ◌^◌, ◌≤◌, List, length}
 use Rattle.age.specs.Bytes.{AreBytes}
 use Rattle.age.specs.Stanza.{StanzaValue}
-use Rattle.age.specs.Payload.{LastIsNoMiddle}
-use Rattle.age.specs.File.{IsFileOf, payload_key}
+use Rattle.age.specs.Payload.{LastIsNoMiddle, payload_key}
+use Rattle.age.specs.File.{IsFileOf}
 use Rattle.age_bench.specs.Bench.{bench_seal}
 use Rattle.age_bench.specs.Recipient.{HoldsBenchKey}
 

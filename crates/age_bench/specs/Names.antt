@@ -3,17 +3,15 @@ use Rattle.std.specs.Prelude.{◌≡◌, ⊤, ℕ, Bool, List, ◌++◌, Some, R
 use Rattle.std.specs.Result.{result_map_both}
 use Rattle.age.specs.EncryptErrors.{EncryptRefusal}
 use Rattle.age.specs.Draw.{taken, left_after}
-use Rattle.age.specs.Drawing.{drawn, and_then}
+use Rattle.age.specs.Encrypting.{drawn, and_then, Prepared}
 use Rattle.age.specs.Stanza.{StanzaValue}
-use Rattle.age.specs.Wrapping.{Wrapped, WrapAnswer}
-use Rattle.age.specs.Unwrapping.{UnwrapAnswer, Steady, FirstOf}
+use Rattle.age.specs.Recipients.{Wrapped, WrapAnswer, has_scrypt}
+use Rattle.age.specs.Identities.{UnwrapAnswer, Steady, FirstOf}
 use Rattle.age.specs.X25519.{WrapsFor, UnwrapsBy, wrapped_with}
 use Rattle.age.specs.X25519Laws as x25519
 use Rattle.age.specs.Scrypt.{WrapsUnder, UnwrapsUnder, wrapped_under}
 use Rattle.age.specs.ScryptLaws.{IsMeantFor}
 use Rattle.age.specs.ScryptLaws as scrypt
-use Rattle.age.specs.RecipientLabels.{has_scrypt}
-use Rattle.age.specs.Encrypting.{Prepared}
 use Rattle.age.specs.Several.{grease_beside}
 use Rattle.age.specs.File.{file_text}
 use Rattle.age_bench.specs.Bench.{bench_seal, bench_opened, bench_shared, bench_public, bench_stretch, bench_accepts}

@@ -2,10 +2,10 @@
 use Rattle.std.specs.Prelude.{◌≡◌, ◌≢◌, ℕ, List, [], ◌∷◌, ◌++◌, Option, Some, None, Ok, Err, if◌then◌else◌, length, take, drop, nat_eq, bytes_eq, codes, All, Bool, not}
 use Rattle.std.specs.Option.{option_or}
 use Rattle.age.specs.DecryptErrors.{InvalidHeader}
-use Rattle.age.specs.Drawing.{Ends, UnlessNoMemory}
+use Rattle.age.specs.Encrypting.{Ends, UnlessNoMemory}
 use Rattle.age.specs.Stanza.{StanzaValue}
-use Rattle.age.specs.Wrapping.{Wrapped, WrapAnswer}
-use Rattle.age.specs.Unwrapping.{UnwrapAnswer}
+use Rattle.age.specs.Recipients.{Wrapped, WrapAnswer}
+use Rattle.age.specs.Identities.{UnwrapAnswer}
 use Rattle.age.specs.File.{file_text}
 use Rattle.age_bench.specs.Bench.{bench_seal}
 

@@ -2,7 +2,7 @@
 
 ghost use Rattle.std.specs.Prelude.{◌≡◌, ◌≢◌, ◌<◌, ℕ, List, [], ◌∷◌, length, MatchOption, map, string_bytes, vec_items, bytes_eq, codes, if◌then◌else◌, Option, Some, None, IfOk, IfSome, option_map};
 ghost use Rattle.age_bench.specs.declared.names.To.{To};
-ghost use Rattle.age_bench.specs.Command.{Seal, Open, CommandValue, bytes_of, byte_of, command_value, digit_of, key_of, AsksFor, AsksToEncrypt, InFormat, NamesTo, NamesWith, passphrase_word};
+ghost use Rattle.age_bench.specs.Command.{Seal, Open, CommandValue, hex_bytes, byte_of, command_value, digit_of, key_word, AsksFor, AsksToEncrypt, InFormat, NamesTo, NamesWith, passphrase_word};
 
 use crate::names::{To, With};
 use crate::number::parse_number;
@@ -68,7 +68,7 @@ fn byte_value(high: u8, low: u8) -> Option<u8>
 
 // The bytes that a text of hexadecimal digits writes, two digits a byte.
 fn parse_bytes(alloc: Global, text: &[u8]) -> Result<Option<Vec<u8>>, AllocError>
-    ensures { IfOk result (λ found. option_map vec_items found ≡ bytes_of text.now) }
+    ensures { IfOk result (λ found. option_map vec_items found ≡ hex_bytes text.now) }
 {
     if text.len() % 2 != 0 {
         return Ok(None);
@@ -86,7 +86,7 @@ fn parse_bytes(alloc: Global, text: &[u8]) -> Result<Option<Vec<u8>>, AllocError
 // The key that 64 hexadecimal digits write.
 #[tactic(auto, using(crate::proofs::Hex::key_found, crate::proofs::Hex::no_key))]
 fn parse_key(alloc: Global, text: &str) -> Result<Option<[u8; 32]>, AllocError>
-    ensures { IfOk result (λ found. found ≡ key_of text.now) }
+    ensures { IfOk result (λ found. found ≡ key_word text.now) }
 {
     if text.len() != 64 {
         return Ok(None);

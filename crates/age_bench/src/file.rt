@@ -1,10 +1,10 @@
 //! The commands on whole files.
 ghost use Rattle.std.specs.Prelude.{◌≡◌, ◌⊎◌, ℕ, List, IsTrue, Ok, Err, IfOk, OnOk, IfErr};
-ghost use Rattle.age.specs.ArmorWriting.{text_of};
+ghost use Rattle.age.specs.Armor.{text_of};
 ghost use Rattle.age.specs.DecryptingStreams.{DecryptsAll};
 ghost use Rattle.age.specs.EncryptErrors.{encrypt_refusal, OutOfMemory};
 ghost use Rattle.age.specs.FileErrors.{IsEncryptError, EncryptsUnless};
-ghost use Rattle.age.specs.Parts.{IsFileFor};
+ghost use Rattle.age.specs.Identities.{IsFileFor};
 ghost use Rattle.age_bench.specs.Bench.{bench_seal};
 ghost use Rattle.age_bench.specs.Names.{answers_of, file_by, gives_of};
 ghost use Rattle.age_bench.specs.Recipient.{bench_grease};

@@ -4,7 +4,7 @@ ghost use Rattle.age.specs.Bech32Written.{bech32_text};
 ghost use Rattle.age.specs.Copying.{AppendsFront};
 ghost use Rattle.age.specs.EncryptErrors.{encrypt_refusal, OutOfMemory, ShortRandom};
 ghost use Rattle.age.specs.FileErrors.{IsEncryptError, EncryptsUnless, IfIo};
-ghost use Rattle.age.specs.KeyTexts.{identity_prefix};
+ghost use Rattle.age.specs.X25519.{identity_prefix};
 ghost use Rattle.age.specs.Writing.{HandsOn};
 
 use crate::suite::BenchSuite;

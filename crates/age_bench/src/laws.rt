@@ -1,7 +1,7 @@
 //! What is true of the bench recipient and its files, for proofs alone: the functions here do nothing, and their contracts are
 //! the laws.
 ghost use Rattle.age.specs.Belonging.{BelongsTo};
-ghost use Rattle.age_bench.specs.FileLaws.{IsBenchFile, IsCarried, GivesBack, IsForBench};
+ghost use Rattle.age_bench.specs.FileLaws.{IsBenchFile, IsCarried, CarriesOnlyIt, IsForBench};
 ghost use Rattle.age_bench.specs.Names.{GoesWith, is_other_to};
 ghost use Rattle.age_bench.specs.Recipient.{has_other_tag};
 ghost use Rattle.age_bench.specs.declared.names.With.TheVariants.{Passphrase};
@@ -28,7 +28,7 @@ use age::{Identity, Recipient};
 pub fn bench_file_laws()
     ensures is_file { IsBenchFile }
     ensures is_carried { IsCarried }
-    ensures gives_back { GivesBack }
+    ensures gives_back { CarriesOnlyIt }
     ensures is_for_bench { IsForBench }
 {
     header_text_reads_back();

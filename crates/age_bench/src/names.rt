@@ -52,7 +52,7 @@ pub enum With {
 
 // Each word's identity answers by itself, to one stanza after the other.
 impl Identity for With {
-    ghost use Rattle.age.specs.Unwrapping.{FirstOf, Steady};
+    ghost use Rattle.age.specs.Identities.{FirstOf, Steady};
 
     ghost unwraps = { FirstOf (Steady AsksWith) };
 

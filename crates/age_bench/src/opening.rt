@@ -6,7 +6,7 @@ ghost use Rattle.age.specs.Armor.{Carries};
 ghost use Rattle.age.specs.Opened.{IsNotOpened};
 ghost use Rattle.age.specs.OpeningFile.{StandsBefore};
 ghost use Rattle.age.specs.FileErrors.{IsWant};
-ghost use Rattle.age.specs.Parts.{IsFileFor};
+ghost use Rattle.age.specs.Identities.{IsFileFor};
 ghost use Rattle.age_bench.specs.Bench.{bench_seal};
 ghost use Rattle.age_bench.specs.Names.{answers_of};
 

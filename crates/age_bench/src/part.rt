@@ -1,6 +1,6 @@
 //! The command on a part of a file's plaintext.
 ghost use Rattle.age.specs.DecryptingStreams.{DecryptsPart};
-ghost use Rattle.age.specs.Parts.{IsFileFor};
+ghost use Rattle.age.specs.Identities.{IsFileFor};
 ghost use Rattle.age_bench.specs.Bench.{bench_seal};
 ghost use Rattle.age_bench.specs.Names.{answers_of, gives_of};
 

@@ -8,7 +8,7 @@ ghost use Rattle.age.specs.Reading.{IsQuiet};
 ghost use Rattle.age.specs.WholeFiles.{RefusesFile};
 ghost use Rattle.age.specs.Writing.{HandsOn};
 ghost use Rattle.age.specs.Payload.{payload};
-ghost use Rattle.age.specs.Chunks.{delivered};
+ghost use Rattle.age.specs.DeliveredPayload.{payload_delivers};
 ghost use Rattle.age_bench.specs.Bench.{bench_seal, bench_opened};
 ghost use Rattle.age.specs.Copying.{AppendsFront};
 
@@ -72,7 +72,7 @@ pub fn open_all<R: Read, W: Write>(
     ensures opened { IsTrue (R.tells reader.old && R.steady reader.old) → IsTrue (W.tells writer.old) → OnOk result
         ((plain : List ℕ) × (R.rest reader.old ≡ whole (payload bench_seal key plain)) × W.appended writer.old plain writer.new) }
     ensures front { IsTrue (R.tells reader.old && R.steady reader.old) → IsTrue (W.tells writer.old) →
-        AppendsFront W.appended (delivered bench_opened key 0 (R.rest reader.old)).bytes writer.old writer.new }
+        AppendsFront W.appended (payload_delivers bench_opened key 0 (R.rest reader.old)).bytes writer.old writer.new }
     // Why it refuses: for want of memory, as the writer does, for what is wrong with the payload, or as the reader does.
     ensures io { IfErr result IsIoError }
     ensures why { IfErr result (IfIo (λ e. (e ≡ OutOfMemory) ⊎ HandsOn W.refuses writer.old e ⊎ OwnOrInner ⟦<R as Read>⟧

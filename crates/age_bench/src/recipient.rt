@@ -3,8 +3,8 @@
 ghost use Rattle.std.specs.Prelude.{Ok};
 ghost use Rattle.std.specs.Result.{result_map_both};
 ghost use Rattle.age.specs.EncryptErrors.{encrypt_refusal};
-ghost use Rattle.age.specs.Unwrapping.{FirstOf, Steady};
-ghost use Rattle.age.specs.Drawing.{IsOrNoMemory};
+ghost use Rattle.age.specs.Identities.{FirstOf, Steady};
+ghost use Rattle.age.specs.Encrypting.{IsOrNoMemory};
 ghost use Rattle.age_bench.specs.Recipient.{BenchAsks, BenchWraps, bench_stanza};
 
 use age::draw::Draw;

@@ -1,7 +1,7 @@
 //! What a device does at its calls.
 ghost use Rattle.std.specs.Prelude.{◌≡◌, ◌≢◌, ℕ, ◌+◌, ◌-◌, ◌<◌};
 ghost use Rattle.age.specs.ErrorKindVariants.{Interrupted, Other};
-ghost use Rattle.age_bench.specs.Devices.{step_among, most_bytes};
+ghost use Rattle.age_bench.specs.Devices.{step_among, most_of_call};
 ghost use Rattle.age_bench.specs.declared.script.Step.TheVariants.{Move, Fail};
 
 use age::io::ErrorKind;
@@ -57,7 +57,7 @@ impl<'a> Script<'a> {
     /// The call of this number, counted from 1, fails with `Device(Other)`; at 0 none does. The others move all that they are asked for.
     pub fn failing_at(call: u64) -> Script<'a>
         ensures fails { (i : ℕ) → i + 1 ≡ call → at_call result i ≡ Fail Other }
-        ensures others { (i : ℕ) → i + 1 ≢ call → at_call result i ≡ Move most_bytes }
+        ensures others { (i : ℕ) → i + 1 ≢ call → at_call result i ≡ Move most_of_call }
     {
         if call == 0 {
             return Script::new(&[], usize::MAX);

@@ -5,3 +5,4 @@
 pub mod chunks;
 pub mod files;
 pub mod keys;
+pub mod opening;

@@ -10,18 +10,17 @@ use Rattle.age_suite.specs.declared.suite.Suite.{Ghosts as SuiteMembers}
 use Rattle.age_io.specs.declared.traits.Read.{Ghosts as ReadMembers}
 use Rattle.age_io.specs.Stretch.{Stretch, whole}
 use Rattle.age_format.specs.HeaderV1.{HeaderValue}
-use Rattle.age_format.specs.Unwrapping.{UnwrapAnswer}
-use Rattle.age_keys.specs.Scrypt.{PassphraseIdentity}
+use Rattle.age_v1.specs.Identities.{UnwrapAnswer, decided}
+use Rattle.age_v1.specs.Scrypt.{PassphraseIdentity}
 use Rattle.age_stream.specs.declared.reader.StreamReader.{StreamReader}
 use Rattle.age_stream.specs.Reader.{tells_of, plain_rest_of}
-use Rattle.age_protocol.specs.Answering.{decided}
 use Rattle.age_protocol.specs.Decrypting.{ReadsFront}
-use Rattle.age_protocol.specs.OpeningFile.{Decrypts}
+use Rattle.age_protocol.specs.OpeningFile.{AnswersReader}
 use Rattle.age_protocol.specs.Passphrases.{UnwrapsPassphrase}
 use Rattle.age_identity.specs.Entries.{Entry, AreEntries}
-use Rattle.age_identity.specs.Reading.{ReadsFile, most_bytes}
+use Rattle.age_identity.specs.Reading.{ReadsFile, most_file_bytes}
 use Rattle.age_identity.proofs.SameEntries.{reads_so, refuses_so}
-use Rattle.age_encrypted.specs.Protected.{Protected, IsFileOfEntries, EntriesAreThose, Opens, HoldsEntries, OpensUnder, identity_under, of_passphrase, opened_with, description}
+use Rattle.age_encrypted.specs.Protected.{Protected, IsFileOfEntries, EntriesAreThose, Opens, HoldsEntries, OpensUnder, identity_under, of_passphrase, opened_by_asking, description}
 
 -- what was read as a value that has entries was read as these entries
 reads_entries : {R A : Type 0} (read : ReadMembers R) (limit : ℕ) (entries : A → List Entry) (input : R) (result : Result A Error)
@@ -40,23 +39,23 @@ is_whole well bytes ends = subst (λ b. ◌≡◌ {A = Stretch} (record { bytes 
 module _ {S R : Type 0} (suite : SuiteMembers S) (read : ReadMembers R) (stream_read : ReadMembers (StreamReader S R suite read)) where
   -- a plaintext was read, or refused, as an identity file
   pub holds : {A : Type 0} (entries : A → List Entry) (stream : StreamReader S R suite read) (file : A)
-      → ReadsFile stream_read most_bytes entries stream (Ok file) → HoldsEntries suite stream_read (Ok stream) (Ok (entries file))
-  holds entries stream file reads = (Ok (entries file), reads_entries stream_read most_bytes entries stream (Ok file) reads, refl)
+      → ReadsFile stream_read most_file_bytes entries stream (Ok file) → HoldsEntries suite stream_read (Ok stream) (Ok (entries file))
+  holds entries stream file reads = (Ok (entries file), reads_entries stream_read most_file_bytes entries stream (Ok file) reads, refl)
 
   pub holds_none : {A : Type 0} (entries : A → List Entry) (stream : StreamReader S R suite read) (e : Error)
-      → ReadsFile stream_read most_bytes entries stream (Err e) → HoldsEntries suite stream_read (Ok stream) (Err (decrypt_refusal (decrypt_of_io e)))
-  holds_none entries stream e reads = (Err e, reads_entries stream_read most_bytes entries stream (Err e) reads, refl)
+      → ReadsFile stream_read most_file_bytes entries stream (Err e) → HoldsEntries suite stream_read (Ok stream) (Err (decrypt_refusal (decrypt_of_io e)))
+  holds_none entries stream e reads = (Err e, reads_entries stream_read most_file_bytes entries stream (Err e) reads, refl)
 
   -- of a stream that tells what its payload does, and delivers the plaintext
   module _ (tells_same : (r : StreamReader S R suite read) → stream_read.tells r ≡ tells_of r)
       (rest_same : (r : StreamReader S R suite read) → stream_read.rest r ≡ plain_rest_of r) where
     -- what was read of the plaintext is all of it, and the file is one of that plaintext
     plain_entries : {A : Type 0} (entries : A → List Entry) (h : HeaderValue) (nonce : List ℕ) (input : R) (identity : PassphraseIdentity)
-        (stream : StreamReader S R suite read) (x : A) → ReadsFile stream_read most_bytes entries stream (Ok x)
+        (stream : StreamReader S R suite read) (x : A) → ReadsFile stream_read most_file_bytes entries stream (Ok x)
         → IsTrue (read.tells input && read.steady input) → (start : Stretch) (place : ℕ)
         → ReadsFront start (read.rest input) place (read.place input) h nonce
         → (answer : UnwrapAnswer) → UnwrapsPassphrase suite identity h.stanzas answer identity
-        → Decrypts (of_passphrase (decided answer)) h nonce input (Ok stream)
+        → AnswersReader (of_passphrase (decided answer)) h nonce input (Ok stream)
         → IsFileOfEntries suite stream_read h.stanzas start identity (entries x)
     plain_entries entries h nonce input identity stream x reads told start place front None asked none = absurd none
     plain_entries entries h nonce input identity stream x reads told start place front (Some (Err refusal)) asked none = absurd none
@@ -72,7 +71,7 @@ module _ {S R : Type 0} (suite : SuiteMembers S) (read : ReadMembers R) (stream_
           gives = asked;
           well = made.0;
           is_file = made.1;
-          fits = subst (λ s. length s.bytes ≤ most_bytes) (rest_same stream) (r.fits stream_told);
+          fits = subst (λ s. length s.bytes ≤ most_file_bytes) (rest_same stream) (r.fits stream_told);
           good = subst (λ s. AreEntries (lines s.bytes) (entries x)) (rest_same stream) own.good;
         }
 
@@ -80,10 +79,10 @@ module _ {S R : Type 0} (suite : SuiteMembers S) (read : ReadMembers R) (stream_
       -- so the entries that an opened stream held are those of the file
       stream_entries : (passphrase : List ℕ) (after : C) → gives file.callbacks (description filename) (Some passphrase) after
           → (answer : UnwrapAnswer) → UnwrapsPassphrase suite (identity_under file passphrase) file.header.stanzas answer (identity_under file passphrase)
-          → (stream : StreamReader S R suite read) → Decrypts (of_passphrase (decided answer)) file.header file.nonce file.input (Ok stream)
-          → (entries : List Entry) (own : Result (List Entry) Error) → ReadsFile stream_read most_bytes (λ all. all) stream own
+          → (stream : StreamReader S R suite read) → AnswersReader (of_passphrase (decided answer)) file.header file.nonce file.input (Ok stream)
+          → (entries : List Entry) (own : Result (List Entry) Error) → ReadsFile stream_read most_file_bytes (λ all. all) stream own
           → Ok entries ≡ result_map_both (λ all. all) (λ e. decrypt_refusal (decrypt_of_io e)) own
-          → EntriesAreThose suite stream_read gives filename file (opened_with after entries)
+          → EntriesAreThose suite stream_read gives filename file (opened_by_asking after entries)
       stream_entries passphrase after given answer asked stream decrypts entries (Err e) reads is = absurd (subst (λ r. IfErr r (λ _. ⊥)) is tt)
       stream_entries passphrase after given answer asked stream decrypts entries (Ok own) reads is =
           λ told start place front. (
@@ -96,22 +95,22 @@ module _ {S R : Type 0} (suite : SuiteMembers S) (read : ReadMembers R) (stream_
       under_entries : (passphrase : List ℕ) (after : C) → gives file.callbacks (description filename) (Some passphrase) after
           → (entries : List Entry) (answer : UnwrapAnswer)
           → UnwrapsPassphrase suite (identity_under file passphrase) file.header.stanzas answer (identity_under file passphrase)
-          → (stream : Result (StreamReader S R suite read) DecryptError) → Decrypts (of_passphrase (decided answer)) file.header file.nonce file.input stream
+          → (stream : Result (StreamReader S R suite read) DecryptError) → AnswersReader (of_passphrase (decided answer)) file.header file.nonce file.input stream
           → HoldsEntries suite stream_read stream (Ok entries)
-          → EntriesAreThose suite stream_read gives filename file (opened_with after entries)
+          → EntriesAreThose suite stream_read gives filename file (opened_by_asking after entries)
       under_entries passphrase after given entries answer asked (Err e) decrypts is = absurd (subst (λ r. IfErr r (λ _. ⊥)) is tt)
       under_entries passphrase after given entries answer asked (Ok stream) decrypts (own, reads, is) =
           stream_entries passphrase after given answer asked stream decrypts entries own reads is
 
       given_entries : (passphrase : List ℕ) (after : C) → gives file.callbacks (description filename) (Some passphrase) after
           → (entries : Result (List Entry) DecryptRefusal) → OpensUnder suite stream_read file passphrase entries
-          → IfOk entries (λ all. EntriesAreThose suite stream_read gives filename file (opened_with after all))
+          → IfOk entries (λ all. EntriesAreThose suite stream_read gives filename file (opened_by_asking after all))
       given_entries passphrase after given (Err refusal) under = tt
       given_entries passphrase after given (Ok entries) under = under_entries passphrase after given entries under.answer under.asked under.stream under.decrypts under.entries
 
       -- so whatever opened the file, its entries are those of the file
       pub opened_entries : (outcome : Result (List Entry) DecryptRefusal) (after : C) → Opens suite stream_read gives filename file outcome after
-          → IfOk outcome (λ entries. EntriesAreThose suite stream_read gives filename file (opened_with after entries))
+          → IfOk outcome (λ entries. EntriesAreThose suite stream_read gives filename file (opened_by_asking after entries))
       opened_entries outcome after (inl (memory, same)) = rw memory tt
       opened_entries outcome after (inr (None, given, none)) = rw none tt
       opened_entries outcome after (inr (Some passphrase, given, under)) = given_entries passphrase after given outcome under
@@ -121,7 +120,7 @@ module _ {S R : Type 0} (suite : SuiteMembers S) (read : ReadMembers R) (stream_
         → (identity : PassphraseIdentity) → identity ≡ identity_under file passphrase
         → (stream : Result (StreamReader S R suite read) DecryptError)
         → ((answer : UnwrapAnswer) × UnwrapsPassphrase suite identity file.header.stanzas answer identity
-        × Decrypts (of_passphrase (decided answer)) file.header file.nonce file.input stream)
+        × AnswersReader (of_passphrase (decided answer)) file.header file.nonce file.input stream)
         → (entries : Result (List Entry) DecryptRefusal) → HoldsEntries suite stream_read stream entries
         → Opens suite stream_read gives filename file entries after
     given_opens words passphrase after words_are given identity is stream (answer, asked, decrypts) entries holds =
@@ -136,7 +135,7 @@ module _ {S R : Type 0} (suite : SuiteMembers S) (read : ReadMembers R) (stream_
         → (identity : PassphraseIdentity) → identity ≡ identity_under file passphrase
         → (stream : Result (StreamReader S R suite read) DecryptError)
         → ((answer : UnwrapAnswer) × UnwrapsPassphrase suite identity file.header.stanzas answer identity
-        × Decrypts (of_passphrase (decided answer)) file.header file.nonce file.input stream)
+        × AnswersReader (of_passphrase (decided answer)) file.header file.nonce file.input stream)
         → (f : A → List Entry) (result : Result A DecryptError) (e : DecryptError) → IsErrAnd result (λ x. x ≡ e)
         → HoldsEntries suite stream_read stream (Err (decrypt_refusal e))
         → Opens suite stream_read gives filename file (result_map_both f (λ own. decrypt_refusal own) result) after

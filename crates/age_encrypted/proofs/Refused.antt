@@ -8,13 +8,12 @@ use Rattle.age_error.specs.declared.io.Error.TheVariants as io
 use Rattle.age_suite.specs.declared.suite.Suite.{Ghosts as SuiteMembers}
 use Rattle.age_io.specs.declared.traits.Read.{Ghosts as ReadMembers}
 use Rattle.age_format.specs.HeaderV1.{HeaderValue}
-use Rattle.age_format.specs.Stanza.{StanzaValue}
-use Rattle.age_format.specs.Unwrapping.{UnwrapAnswer}
-use Rattle.age_keys.specs.OwnType.{no_nonce}
-use Rattle.age_keys.specs.Scrypt.{PassphraseIdentity, UnwrapsUnder, found_under, stretch_salt}
+use Rattle.age_v1.specs.Stanza.{StanzaValue}
+use Rattle.age_v1.specs.Identities.{UnwrapAnswer, decided}
+use Rattle.age_v1.specs.RecipientType.{no_nonce}
+use Rattle.age_v1.specs.Scrypt.{PassphraseIdentity, UnwrapsUnder, found_under, stretch_salt}
 use Rattle.age_stream.specs.declared.reader.StreamReader.{StreamReader}
-use Rattle.age_protocol.specs.Answering.{decided}
-use Rattle.age_protocol.specs.OpeningFile.{Decrypts}
+use Rattle.age_protocol.specs.OpeningFile.{AnswersReader}
 use Rattle.age_protocol.specs.Passphrases.{UnwrapsPassphrase}
 use Rattle.age_identity.specs.Entries.{Entry}
 use Rattle.age_encrypted.specs.Protected.{Protected, Opens, HoldsEntries, of_passphrase, identity_under, own_refusal}
@@ -72,13 +71,13 @@ module _ {S R : Type 0} (suite : SuiteMembers S) {read : ReadMembers R} (stream_
   stanzas_no_text identity (s ∷ more) answer after (Some a, between, (asked, same), (is, last)) = rw is (stanza_no_text identity s (Some a) asked)
 
   decrypts_no_text : (key : Result (List ℕ) DecryptRefusal) → NoText key → (h : HeaderValue) (nonce : List ℕ) (input : R) (e : DecryptError)
-      → Decrypts {suite = suite} {read = read} key h nonce input (Err e) → HasText (decrypt_refusal e) → ⊥
+      → AnswersReader {suite = suite} {read = read} key h nonce input (Err e) → HasText (decrypt_refusal e) → ⊥
   decrypts_no_text (Err refusal) bare h nonce input e is = rw is bare
   decrypts_no_text (Ok key) bare h nonce input e (inl (wrong, is)) = rw is (λ t. t)
   decrypts_no_text (Ok key) bare h nonce input e (inr (right, is)) = rw is (λ t. t)
 
   entries_no_text : (key : Result (List ℕ) DecryptRefusal) → NoText key → (h : HeaderValue) (nonce : List ℕ) (input : R)
-      → (stream : Result (StreamReader S R suite read) DecryptError) → Decrypts {suite = suite} {read = read} key h nonce input stream
+      → (stream : Result (StreamReader S R suite read) DecryptError) → AnswersReader {suite = suite} {read = read} key h nonce input stream
       → (entries : Result (List Entry) DecryptRefusal) → HoldsEntries suite stream_read stream entries → NoText entries
   entries_no_text key bare h nonce input (Err e) decrypts entries is = rw is (decrypts_no_text key bare h nonce input e decrypts)
   entries_no_text key bare h nonce input (Ok stream) decrypts entries (Ok own, reads, is) = rw is tt

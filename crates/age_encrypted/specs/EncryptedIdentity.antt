@@ -21,12 +21,12 @@ file_of d callbacks target most = record {
 }
 
 -- the file of a front, with who is asked for its passphrase
-abbrev pub file_by : {S R C : Type 0} → Front S R → C → Protected R C
-file_by front callbacks = file_of front.decryptor callbacks front.target front.max_work_factor
+abbrev pub file_asked_by : {S R C : Type 0} → Front S R → C → Protected R C
+file_asked_by front callbacks = file_of front.decryptor callbacks front.target front.max_work_factor
 
 -- the file that it stands for
 abbrev pub protected_of : {S R C : Type 0} → EncryptedIdentity S R C → Protected R C
-protected_of e = file_by e.front e.callbacks
+protected_of e = file_asked_by e.front e.callbacks
 
 -- those who were asked, whether the file opened or not
 abbrev pub callbacks_left : {S C : Type 0} → Result (IdentityFile S C) (NotOpened C) → C

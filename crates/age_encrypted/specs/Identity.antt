@@ -7,8 +7,8 @@ use Rattle.age_format.specs.HeaderV1.{IsScrypt}
 use Rattle.age_identity.specs.IdentityFile.{entries_of}
 use Rattle.age_protocol.specs.Decryptor.{header_of}
 use Rattle.age_protocol.specs.declared.decryptor.Decryptor.{Decryptor}
-use Rattle.age_encrypted.specs.EncryptedIdentity.{file_by, file_of}
-use Rattle.age_encrypted.specs.Protected.{opened_with}
+use Rattle.age_encrypted.specs.EncryptedIdentity.{file_asked_by, file_of}
+use Rattle.age_encrypted.specs.Protected.{opened_by_asking}
 use Rattle.age_encrypted.specs.ProtectedIdentity.{State, Encrypted, Decrypted, Failed}
 use Rattle.age_encrypted.specs.declared.identity.IdentityState.{IdentityState}
 use Rattle.age_encrypted.specs.declared.identity.IdentityState.TheVariants as own
@@ -17,8 +17,8 @@ use Rattle.age_encrypted.specs.declared.identity.Identity.{Identity}
 module _ {S R C : Type 0} where
   -- what became of a file, apart from where it lies in memory, with who is asked or was
   abbrev pub of_state : IdentityState S R → C → State R C
-  of_state (own.Encrypted front) callbacks = Encrypted (file_by front callbacks)
-  of_state (own.Decrypted file) callbacks = Decrypted (opened_with callbacks (entries_of file))
+  of_state (own.Encrypted front) callbacks = Encrypted (file_asked_by front callbacks)
+  of_state (own.Decrypted file) callbacks = Decrypted (opened_by_asking callbacks (entries_of file))
   of_state (own.Failed e) callbacks = Failed (decrypt_refusal e) callbacks
 
   -- what became of the file of an identity

@@ -9,17 +9,16 @@ use Rattle.age_suite.specs.declared.suite.Suite.{Ghosts as SuiteMembers}
 use Rattle.age_io.specs.declared.traits.Read.{Ghosts as ReadMembers}
 use Rattle.age_io.specs.Stretch.{Stretch}
 use Rattle.age_format.specs.HeaderV1.{HeaderValue}
-use Rattle.age_format.specs.Stanza.{StanzaValue}
-use Rattle.age_format.specs.Unwrapping.{UnwrapAnswer}
-use Rattle.age_keys.specs.Scrypt.{PassphraseIdentity}
+use Rattle.age_v1.specs.Stanza.{StanzaValue}
+use Rattle.age_v1.specs.Identities.{UnwrapAnswer, decided}
+use Rattle.age_v1.specs.Scrypt.{PassphraseIdentity}
 use Rattle.age_stream.specs.declared.reader.StreamReader.{StreamReader}
-use Rattle.age_protocol.specs.Answering.{decided}
 use Rattle.age_protocol.specs.Decrypting.{ReadsFront}
-use Rattle.age_protocol.specs.File.{IsFileOf}
-use Rattle.age_protocol.specs.OpeningFile.{Decrypts}
+use Rattle.age_v1.specs.File.{IsFileOf}
+use Rattle.age_protocol.specs.OpeningFile.{AnswersReader}
 use Rattle.age_protocol.specs.Passphrases.{UnwrapsPassphrase}
 use Rattle.age_identity.specs.Entries.{Entry, AreEntries}
-use Rattle.age_identity.specs.Reading.{ReadsFile, most_bytes}
+use Rattle.age_identity.specs.Reading.{ReadsFile, most_file_bytes}
 
 -- A file that isn't opened yet: its header and nonce, the reader of its payload, who is asked for the passphrase, and the work factor that
 -- the passphrase is meant for and the largest one that is taken.
@@ -42,8 +41,8 @@ most_of target None = target + 4
 most_of target (Some most) = most
 
 -- the file with those who were asked
-abbrev pub opened_with : {C : Type 0} → C → List Entry → Opened C
-opened_with callbacks entries = record { entries = entries; callbacks = callbacks }
+abbrev pub opened_by_asking : {C : Type 0} → C → List Entry → Opened C
+opened_by_asking callbacks entries = record { entries = entries; callbacks = callbacks }
 
 -- what a user is told when the passphrase is asked for, of the file's name if it has one
 abbrev pub description : Option (List ℕ) → List ℕ
@@ -68,7 +67,7 @@ module _ {S R : Type 0} (suite : SuiteMembers S) {read : ReadMembers R} (stream_
   abbrev pub HoldsEntries : Result (StreamReader S R suite read) DecryptError → Result (List Entry) DecryptRefusal → Type 0
   HoldsEntries (Err e) outcome = outcome ≡ Err (decrypt_refusal e)
   HoldsEntries (Ok stream) outcome = (own : Result (List Entry) Error)
-      × ReadsFile stream_read most_bytes (λ entries. entries) stream own
+      × ReadsFile stream_read most_file_bytes (λ entries. entries) stream own
       × (outcome ≡ result_map_both (λ entries. entries) (λ e. decrypt_refusal (decrypt_of_io e)) own)
 
   module _ {C : Type 0} where
@@ -77,7 +76,7 @@ module _ {S R : Type 0} (suite : SuiteMembers S) {read : ReadMembers R} (stream_
       pub answer : UnwrapAnswer
       pub asked : UnwrapsPassphrase suite (identity_under file passphrase) file.header.stanzas answer (identity_under file passphrase)
       pub stream : Result (StreamReader S R suite read) DecryptError
-      pub decrypts : Decrypts (of_passphrase (decided answer)) file.header file.nonce file.input stream
+      pub decrypts : AnswersReader (of_passphrase (decided answer)) file.header file.nonce file.input stream
       pub entries : HoldsEntries stream outcome
 
     -- what the answer of those who are asked makes of it
@@ -100,7 +99,7 @@ module _ {S R : Type 0} (suite : SuiteMembers S) {read : ReadMembers R} (stream_
     pub gives : UnwrapsPassphrase suite identity stanzas (Some (Ok file_key)) identity
     pub well : IsTrue start.ends_well
     pub is_file : IsFileOf suite.seal_of file_key stanzas plain start.bytes
-    pub fits : length plain ≤ most_bytes
+    pub fits : length plain ≤ most_file_bytes
     pub good : AreEntries (lines plain) entries
 
   -- So it is where the reader tells its bytes and is steady, and the passphrase was given.
@@ -113,7 +112,7 @@ module _ {S R : Type 0} (suite : SuiteMembers S) {read : ReadMembers R} (stream_
   -- so it is of each file that opens
   abbrev pub HoldsItsEntries : {C : Type 0} → (C → List ℕ → Option (List ℕ) → C → Type 0) → Type 0
   HoldsItsEntries {C} gives = (filename : Option (List ℕ)) (file : Protected R C) (entries : List Entry) (after : C)
-      → Opens gives filename file (Ok entries) after → EntriesAreThose gives filename file (opened_with after entries)
+      → Opens gives filename file (Ok entries) after → EntriesAreThose gives filename file (opened_by_asking after entries)
 
   -- whatever is refused, a copy of it takes no memory
   abbrev pub RefusesWithoutText : {C : Type 0} → (C → List ℕ → Option (List ℕ) → C → Type 0) → Type 0

@@ -1,18 +1,17 @@
 -- The identities of a protected file, before and after it is opened. It is opened once, by the first use.
 use Rattle.std.specs.Prelude.{◌≡◌, ◌⊎◌, ℕ, Bool, true, false, List, [], map, codes, Option, Some, None, Result, Ok, Err}
 use Rattle.age_error.specs.DecryptErrors.{DecryptRefusal, HasText, OutOfMemory}
-use Rattle.age_error.specs.EncryptErrors.{EncryptRefusal, EncryptedIdentities}
-use Rattle.age_error.specs.EncryptErrors.{OutOfMemory as no_memory}
+use Rattle.age_error.specs.EncryptErrors.{EncryptRefusal, EncryptedIdentities, OutOfMemory as no_memory}
 use Rattle.age_suite.specs.declared.suite.Suite.{Ghosts as SuiteMembers}
 use Rattle.age_io.specs.declared.traits.Read.{Ghosts as ReadMembers}
-use Rattle.age_format.specs.Stanza.{StanzaValue}
-use Rattle.age_format.specs.Unwrapping.{UnwrapAnswer}
-use Rattle.age_keys.specs.X25519.{UnwrapsBy}
+use Rattle.age_v1.specs.Stanza.{StanzaValue}
+use Rattle.age_v1.specs.Identities.{UnwrapAnswer}
+use Rattle.age_v1.specs.X25519.{UnwrapsBy}
 use Rattle.age_stream.specs.declared.reader.StreamReader.{StreamReader}
 use Rattle.age_identity.specs.Asking.{EntriesAnswer}
 use Rattle.age_identity.specs.Entries.{Entry}
 use Rattle.age_identity.specs.Converting.{native_secrets, plugin_names, RefusesRecipients}
-use Rattle.age_encrypted.specs.Protected.{Protected, Opened, Opens, opened_with}
+use Rattle.age_encrypted.specs.Protected.{Protected, Opened, Opens, opened_by_asking}
 
 -- A file that isn't opened yet, one that is, or why it isn't to be opened, and who was asked.
 pub data State (R C : Type 0) : Type 0 where
@@ -28,7 +27,7 @@ is_encrypted (Failed _ _) = false
 
 -- what opening comes to is what stays, with those who were asked
 abbrev pub state_after : {R C : Type 0} → Result (List Entry) DecryptRefusal → C → State R C
-state_after (Ok entries) callbacks = Decrypted (opened_with callbacks entries)
+state_after (Ok entries) callbacks = Decrypted (opened_by_asking callbacks entries)
 state_after (Err refusal) callbacks = Failed refusal callbacks
 
 -- what a user is told in the use that opened the file, if no identity in it answered
@@ -56,11 +55,11 @@ module _ {S R : Type 0} (suite : SuiteMembers S) {read : ReadMembers R} (stream_
     {C : Type 0} (gives : C → List ℕ → Option (List ℕ) → C → Type 0) (filename : Option (List ℕ)) where
   -- The first use opens the file, and those who were asked stay, whether it opened or not. One that was opened, or that failed, stays as it
   -- is, and so do they: nobody is asked again.
-  abbrev pub IsOpened : State R C → State R C → Type 0
-  IsOpened (Encrypted file) after = (outcome : Result (List Entry) DecryptRefusal) × (asked : C)
+  abbrev pub OpensOnce : State R C → State R C → Type 0
+  OpensOnce (Encrypted file) after = (outcome : Result (List Entry) DecryptRefusal) × (asked : C)
       × Opens suite stream_read gives filename file outcome asked × (after ≡ state_after outcome asked)
-  IsOpened (Decrypted opened) after = after ≡ Decrypted opened
-  IsOpened (Failed refusal callbacks) after = after ≡ Failed refusal callbacks
+  OpensOnce (Decrypted opened) after = after ≡ Decrypted opened
+  OpensOnce (Failed refusal callbacks) after = after ≡ Failed refusal callbacks
 
   module _ (displays : C → List ℕ → C → Type 0) where
     -- what the file answers once it was tried to open it
@@ -68,10 +67,10 @@ module _ {S R : Type 0} (suite : SuiteMembers S) {read : ReadMembers R} (stream_
     AnswersOpened first (Encrypted _) stanzas answer after = ⊥
     AnswersOpened first (Decrypted opened) stanzas answer after =
         EntriesAnswer (UnwrapsBy suite.opened suite.shared_of suite.public_of) opened.entries stanzas answer
-        × ((shown : C) × Shows displays first answer opened.callbacks shown × (after ≡ Decrypted (opened_with shown opened.entries)))
+        × ((shown : C) × Shows displays first answer opened.callbacks shown × (after ≡ Decrypted (opened_by_asking shown opened.entries)))
     AnswersOpened first (Failed refusal callbacks) stanzas answer after =
         Repeats (λ e. Some (Err e)) (Some (Err OutOfMemory)) refusal answer × (after ≡ Failed refusal callbacks)
 
     -- What a use answers to stanzas: the file is opened unless it was, and then its identities are asked.
     abbrev pub Uses : State R C → List StanzaValue → UnwrapAnswer → State R C → Type 0
-    Uses before stanzas answer after = (opened : State R C) × IsOpened before opened × AnswersOpened (is_encrypted before) opened stanzas answer after
+    Uses before stanzas answer after = (opened : State R C) × OpensOnce before opened × AnswersOpened (is_encrypted before) opened stanzas answer after

@@ -4,13 +4,12 @@ ghost use Rattle.std.specs.Option.{option_map};
 ghost use Rattle.std.specs.Result.{result_map_both};
 ghost use Rattle.age_error.specs.DecryptErrors.{decrypt_refusal};
 ghost use Rattle.age_format.specs.HeaderV1.{IsScrypt};
-ghost use Rattle.age_format.specs.Unwrapping.{UnwrapAnswer};
-ghost use Rattle.age_protocol.specs.Answering.{decided};
+ghost use Rattle.age_v1.specs.Identities.{UnwrapAnswer, decided};
 ghost use Rattle.age_protocol.specs.Decryptor.{header_of, nonce_of, input_of};
-ghost use Rattle.age_protocol.specs.OpeningFile.{Decrypts};
+ghost use Rattle.age_protocol.specs.OpeningFile.{AnswersReader};
 ghost use Rattle.age_protocol.specs.Passphrases.{UnwrapsPassphrase};
 ghost use Rattle.age_identity.specs.IdentityFile.{entries_of, callbacks_of};
-ghost use Rattle.age_encrypted.specs.Protected.{Opens, EntriesAreThose, description, of_passphrase, own_refusal, opened_with, most_of};
+ghost use Rattle.age_encrypted.specs.Protected.{Opens, EntriesAreThose, description, of_passphrase, own_refusal, opened_by_asking, most_of};
 
 use age_error::DecryptError;
 use age_identity::identity::read_file;
@@ -34,7 +33,7 @@ pub(crate) struct Front<S, R: Drop> {
 }
 
 impl<S: Suite, R: Read + Drop> Front<S, R> {
-    ghost use Rattle.age_encrypted.specs.EncryptedIdentity.{file_by};
+    ghost use Rattle.age_encrypted.specs.EncryptedIdentity.{file_asked_by};
 
     // Asks those who are lent for the passphrase, once, and reads the identities of the file to its end.
     pub(crate) fn open_with<C: Callbacks>(
@@ -44,7 +43,7 @@ impl<S: Suite, R: Read + Drop> Front<S, R> {
         callbacks: &mut C,
     ) -> Result<IdentityFile<S, NoCallbacks>, DecryptError>
         ensures { Opens ⟦<S as Suite>⟧ ⟦<StreamReader<S, R> as Read>⟧ C.gives_passphrase (option_map (λ name. name.now) filename.entry)
-            (file_by self callbacks.old) (result_map_both (λ file. entries_of file) (λ e. decrypt_refusal e) result) callbacks.new }
+            (file_asked_by self callbacks.old) (result_map_both (λ file. entries_of file) (λ e. decrypt_refusal e) result) callbacks.new }
     {
         let Front {
             decryptor,
@@ -146,7 +145,7 @@ impl<S: Suite, R: Read + Drop, C: Callbacks> EncryptedIdentity<S, R, C> {
         ensures opens { Opens ⟦<S as Suite>⟧ ⟦<StreamReader<S, R> as Read>⟧ C.gives_passphrase (option_map (λ name. name.now) filename.entry) (protected_of self)
             (result_map_both (λ file. entries_of file) (λ e. decrypt_refusal e.error) result) (callbacks_left result) }
         ensures entries { IfOk result (λ file. EntriesAreThose ⟦<S as Suite>⟧ ⟦<StreamReader<S, R> as Read>⟧ C.gives_passphrase
-            (option_map (λ name. name.now) filename.entry) (protected_of self) (opened_with (callbacks_of file) (entries_of file))) }
+            (option_map (λ name. name.now) filename.entry) (protected_of self) (opened_by_asking (callbacks_of file) (entries_of file))) }
     {
         let EncryptedIdentity { front, callbacks } = self;
         let mut callbacks = callbacks;
@@ -192,7 +191,7 @@ fn decrypted<S: Suite, R: Read + Drop>(
 ) -> Result<StreamReader<S, R>, DecryptError>
     ensures { (answer : UnwrapAnswer)
         × UnwrapsPassphrase ⟦<S as Suite>⟧ identity (header_of decryptor).stanzas answer identity
-        × Decrypts (of_passphrase (decided answer)) (header_of decryptor) (nonce_of decryptor) (input_of decryptor) result }
+        × AnswersReader (of_passphrase (decided answer)) (header_of decryptor) (nonce_of decryptor) (input_of decryptor) result }
 {
     let mut identity = identity;
     match decryptor.decrypt_one(alloc, &mut identity) {

@@ -5,17 +5,18 @@ ghost use Rattle.std.specs.Result.{result_map_both};
 ghost use Rattle.age_error.specs.DecryptErrors.{DecryptRefusal, OutOfMemory, decrypt_refusal};
 ghost use Rattle.age_error.specs.declared.decrypt.DecryptError.{DecryptError as Refused};
 ghost use Rattle.age_error.specs.EncryptErrors.{encrypt_refusal};
-ghost use Rattle.age_format.specs.Unwrapping.{Unwraps, unwrap_answer};
+ghost use Rattle.age_format.specs.Unwrapping.{unwrap_answer};
+ghost use Rattle.age_v1.specs.Identities.{Unwraps};
 ghost use Rattle.age_identity.specs.Asking.{EntriesAnswer};
 ghost use Rattle.age_identity.specs.Entries.{Entry};
 ghost use Rattle.age_identity.specs.IdentityFile.{entries_of};
-ghost use Rattle.age_keys.specs.X25519.{UnwrapsBy};
+ghost use Rattle.age_v1.specs.X25519.{UnwrapsBy};
 ghost use Rattle.age_protocol.specs.Decryptor.{OpensFront};
 ghost use Rattle.age_protocol.specs.declared.decryptor.Decryptor.{Decryptor as DecryptorValue};
 ghost use Rattle.age_encrypted.specs.Protected.{Opens};
-ghost use Rattle.age_encrypted.specs.EncryptedIdentity.{file_by};
+ghost use Rattle.age_encrypted.specs.EncryptedIdentity.{file_asked_by};
 ghost use Rattle.age_encrypted.specs.Identity.{IsMadeOf, filename_of, of_state, state_of};
-ghost use Rattle.age_encrypted.specs.ProtectedIdentity.{is_encrypted, state_after, GivesRecipients, IsOpened, Repeats, Shows, Uses};
+ghost use Rattle.age_encrypted.specs.ProtectedIdentity.{is_encrypted, state_after, GivesRecipients, OpensOnce, Repeats, Shows, Uses};
 
 use crate::encrypted_identity::{EncryptedIdentity, Front};
 use age_error::{DecryptError, EncryptError};
@@ -99,7 +100,7 @@ impl<S: Suite, R: Read + Drop, C: Callbacks> Identity<S, R, C> {
     ///   first.
     /// - those of `IdentityFile::to_recipients`: a plugin's identity, or want of memory. The file stays open.
     pub fn recipients(&mut self, alloc: Global) -> Result<Vec<x25519::Recipient<S>>, EncryptError>
-        ensures opens { IsOpened ⟦<S as Suite>⟧ ⟦<StreamReader<S, R> as Read>⟧ C.gives_passphrase (filename_of self.old) (state_of self.old) (state_of self.new) }
+        ensures opens { OpensOnce ⟦<S as Suite>⟧ ⟦<StreamReader<S, R> as Read>⟧ C.gives_passphrase (filename_of self.old) (state_of self.old) (state_of self.new) }
         ensures recipients { GivesRecipients S.public_of (state_of self.new)
             (result_map_both (λ recipients. recipients.items) (λ e. encrypt_refusal e) result) }
         ensures name { filename_of self.new ≡ filename_of self.old }
@@ -114,7 +115,7 @@ impl<S: Suite, R: Read + Drop, C: Callbacks> Identity<S, R, C> {
 
     // Opens the file, if nothing was tried yet. Whether it did.
     fn open(&mut self, alloc: Global) -> bool
-        ensures opens { IsOpened ⟦<S as Suite>⟧ ⟦<StreamReader<S, R> as Read>⟧ C.gives_passphrase (filename_of self.old) (state_of self.old) (state_of self.new) }
+        ensures opens { OpensOnce ⟦<S as Suite>⟧ ⟦<StreamReader<S, R> as Read>⟧ C.gives_passphrase (filename_of self.old) (state_of self.old) (state_of self.new) }
         ensures first { result ≡ is_encrypted (state_of self.old) }
         ensures name { filename_of self.new ≡ filename_of self.old }
     {
@@ -168,7 +169,7 @@ fn opened<S: Suite, R: Read + Drop, C: Callbacks>(
 ) -> IdentityState<S, R>
     ensures { (outcome : Result (List Entry) DecryptRefusal)
         × Opens ⟦<S as Suite>⟧ ⟦<StreamReader<S, R> as Read>⟧ C.gives_passphrase (option_map (λ name. name.now) filename.entry)
-        (file_by front callbacks.old) outcome callbacks.new
+        (file_asked_by front callbacks.old) outcome callbacks.new
         × (of_state result callbacks.new ≡ state_after outcome callbacks.new) }
 {
     match front.open_with(alloc, filename, callbacks) {

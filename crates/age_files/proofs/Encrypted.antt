@@ -1,8 +1,7 @@
 -- What is known of encrypting from a reader of a slice to an empty list, in words of slices.
 use Rattle.std.specs.Prelude.{Option, Result, Err, IsTrue}
 use Rattle.std.proofs.Common.{◌≡◌, ◌∙◌, ◌⊎◌, ◌^◌, ◌<◌, ◌++◌, ℕ, List, [], ap, inl, inr, length, refl, subst, sym}
-use Rattle.age.specs.Armor.{Carries}
-use Rattle.age.specs.ArmorWriting.{text_of}
+use Rattle.age.specs.Armor.{Carries, text_of}
 use Rattle.age.specs.Bytes.{AreBytes}
 use Rattle.age.specs.Draw.{left_after, taken}
 use Rattle.age.specs.EncryptErrors.{EncryptRefusal}
@@ -16,10 +15,11 @@ use Rattle.age.specs.Payload.{Seal}
 use Rattle.age.specs.Reading.{IsQuiet}
 use Rattle.age.specs.Stretch.{Stretch, whole}
 use Rattle.age.specs.Types.{Error, Format}
-use Rattle.age.specs.WholeFiles.{AppendsFile, IsWritten, RefusesFile}
-use Rattle.age.specs.Wrapping.{WrapAnswer}
+use Rattle.age.specs.Claims.{AppendsFile}
+use Rattle.age.specs.WholeFiles.{IsWritten, RefusesFile}
+use Rattle.age.specs.Recipients.{WrapAnswer}
 use Rattle.age_files.specs.Encrypting.{PreparesOf, WhyNoFile}
-use Rattle.age_tool.specs.Encrypting.{Encrypts, PreparesFrom}
+use Rattle.age_tool.specs.Encrypting.{AppendsEncrypted, PreparesFrom}
 use Rattle.age_tool.specs.declared.error.CommandError.{CommandError}
 use Rattle.age_tool.specs.declared.error.CommandError.TheVariants.{Random, File}
 use Rattle.age_tool.specs.declared.error.RandomError.TheVariants as random
@@ -31,7 +31,7 @@ gives before count given after = (given ≡ taken count before) × (after ≡ le
 -- what was appended to an empty list is written
 pub file_written : {W : Type 0} (items : W → List ℕ) (seal_of : Seal) (format : Format) (made : Prepared) (input : Stretch) (plain : List ℕ)
     (old new : W) →
-    input ≡ whole plain → items old ≡ [] → AreBytes plain → AppendsFile seal_of (λ a x b. items b ≡ items a ++ x) format made input old new →
+    input ≡ whole plain → items old ≡ [] → AreBytes plain → AppendsFile seal_of (λ a x b. items b ≡ items a ++ x) (text_of format) made input old new →
     IsWritten seal_of (text_of format) plain made (items new)
 file_written items seal_of format made input plain old new is empty bytes done =
     let same = ap (λ s. s.bytes) is in
@@ -72,7 +72,7 @@ module _ {T : Type 0} (wraps : T → List ℕ → List ℕ → WrapAnswer → Li
       (told : IsTrue (read.tells input)) (rest : read.rest input ≡ whole plain) (quiet : IsQuiet (read.faults input) (read.faults last))
       (memory : (n : ℕ) (d : Error) → write.refuses old n d → d ≡ io.OutOfMemory) where
     abbrev Refused : CommandError → Type 0
-    Refused e = Encrypts gives wraps keys count source after suite read write format input last old new (refusal e)
+    Refused e = AppendsEncrypted gives wraps keys count source after suite read write format input last old new (refusal e)
 
     -- why a file isn't written, in words of slices
     pub why_no_file : (e : CommandError) → Refused e → WhyNoFile wraps keys count given plain e

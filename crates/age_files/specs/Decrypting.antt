@@ -4,10 +4,10 @@ use Rattle.age.specs.Members.{SuiteMembers, ReadMembers, WriteMembers}
 use Rattle.age.specs.Scrypt.{PassphraseIdentity}
 use Rattle.age.specs.Stanza.{StanzaValue}
 use Rattle.age.specs.Types.{FileError}
-use Rattle.age.specs.Unwrapping.{UnwrapAnswer}
+use Rattle.age.specs.Identities.{UnwrapAnswer}
 use Rattle.age_slices.specs.Decrypting.{DecryptsBytes}
 use Rattle.age_tool.specs.Given.{Answers, WithGiven}
-use Rattle.age_tool.specs.Passphrase.{RefusesText, first_line}
+use Rattle.age_tool.specs.Passphrase.{RefusesPassphrase, first_line}
 use Rattle.age_tool.specs.declared.error.GivenError.{GivenError}
 use Rattle.age_tool.specs.declared.error.PassphraseError.{PassphraseError}
 
@@ -19,6 +19,6 @@ module _ {S R W : Type 0} (unwraps : PassphraseIdentity → List StanzaValue →
     (read : ReadMembers R) (write : WriteMembers W) (items : W → List ℕ) where
   -- With the passphrase that a text gives.
   abbrev pub DecryptsUnder : List ℕ → List ℕ → Result (List ℕ) (GivenError PassphraseError FileError) → Type 0
-  DecryptsUnder text file answer = WithGiven (λ e. RefusesText e text) (Unit {0}) (λ (secret : List ℕ). secret ≡ first_line text)
+  DecryptsUnder text file answer = WithGiven (λ e. RefusesPassphrase e text) (Unit {0}) (λ (secret : List ℕ). secret ≡ first_line text)
       (λ secret done. (asked : List PassphraseIdentity) × DecryptsBytes unwraps suite read write items (knows secret ∷ []) asked file done)
       (λ _ done told. Answers done told) answer

@@ -2,7 +2,7 @@
 use Rattle.std.specs.Prelude.{◌≡◌, ◌⊎◌, ℕ, ◌^◌, ◌<◌, List, [], ◌∷◌, length, Some, None, Result, Ok, Err, MatchResult}
 use Rattle.std.specs.Str.{IsUtf8}
 use Rattle.std.specs.Str.Lines.{lines}
-use Rattle.age.specs.ArmorWriting.{text_of}
+use Rattle.age.specs.Armor.{text_of}
 use Rattle.age.specs.Draw.{taken}
 use Rattle.age.specs.EncryptErrors.{EncryptRefusal, OutOfMemory, encrypt_refusal}
 use Rattle.age.specs.Encrypting.{Prepared, Prepares}
@@ -12,7 +12,7 @@ use Rattle.age.specs.Payload.{Seal}
 use Rattle.age.specs.Scrypt.{PassphraseRecipient}
 use Rattle.age.specs.Types.{Format}
 use Rattle.age.specs.WholeFiles.{IsWritten}
-use Rattle.age.specs.Wrapping.{WrapAnswer}
+use Rattle.age.specs.Recipients.{WrapAnswer}
 use Rattle.age_tool.specs.Encrypting.{draws_for_keys, draws_for_passphrase, grease_stanza}
 use Rattle.age_tool.specs.Given.{Answers, WithGiven}
 use Rattle.age_tool.specs.Passphrase as passphrase
@@ -48,14 +48,14 @@ module _ {T : Type 0} (wraps : T → List ℕ → List ℕ → WrapAnswer → Li
 -- To the recipients that a text names, in their order and to no other.
 abbrev pub EncryptsTo : (List ℕ → List ℕ → List ℕ → WrapAnswer → List ℕ → Type 0) → Seal → List ℕ → List ℕ → Format → List ℕ
     → Result (List ℕ) (GivenError RecipientsError CommandError) → Type 0
-EncryptsTo wraps seal_of text given format plain answer = WithGiven (λ e. recipients.RefusesBytes e text) (Unit {0})
+EncryptsTo wraps seal_of text given format plain answer = WithGiven (λ e. recipients.RefusesRecipientBytes e text) (Unit {0})
     (λ (keys : List (List ℕ)). IsUtf8 text × recipients.AreRecipients (lines text) keys)
     (λ keys done. EncryptsBytes wraps keys (draws_for_keys (length keys)) given seal_of format plain done) (λ _ done told. Answers done told) answer
 
 -- With the passphrase that a text gives, by the work factor 18.
 abbrev pub EncryptsUnder : (PassphraseRecipient → List ℕ → List ℕ → WrapAnswer → List ℕ → Type 0) → Seal → List ℕ → List ℕ → Format → List ℕ
     → Result (List ℕ) (GivenError PassphraseError CommandError) → Type 0
-EncryptsUnder wraps seal_of text given format plain answer = WithGiven (λ e. passphrase.RefusesText e text) (Unit {0})
+EncryptsUnder wraps seal_of text given format plain answer = WithGiven (λ e. passphrase.RefusesPassphrase e text) (Unit {0})
     (λ (secret : List ℕ). secret ≡ passphrase.first_line text)
     (λ secret done. EncryptsBytes wraps (record { passphrase = secret; factor = 18 } ∷ []) draws_for_passphrase given seal_of format plain done)
     (λ _ done told. Answers done told) answer

@@ -4,4 +4,5 @@
 pub mod decrypting;
 pub mod encrypting;
 pub mod keys;
+pub mod opening;
 pub mod status;

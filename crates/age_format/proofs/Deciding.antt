@@ -3,12 +3,13 @@ use Rattle.std.proofs.Common.{◌≡◌, ◌≢◌, ℕ, suc, zero, ◌<◌, ◌
 use Rattle.std.proofs.lemmas.List.{append-nil, append_cancel_left, same_from_push, nil_from_length}
 use Rattle.std.specs.Prelude.{codes, slice_index}
 use Rattle.age_base64.specs.Lines.{line, Lacks}
-use Rattle.age_format.specs.Stanza.{StanzaValue}
-use Rattle.age_format.specs.Header.{magic, version_line, IsHeaderText}
-use Rattle.age_format.specs.Verdict.{Verdict, Header, UnknownVersion, Bad, Decides, IsUndecided, IsVerdict}
+use Rattle.age_v1.specs.Stanza.{StanzaValue}
+use Rattle.age_v1.specs.HeaderTexts.{magic, IsHeaderText}
+use Rattle.age_v1.specs.Header.{version_line}
+use Rattle.age_v1.specs.HeaderVerdict.{Verdict, Header, UnknownVersion, Bad, FrontDecides, IsUndecided, IsVerdict}
 use Rattle.age_base64.proofs.Lines.{lacks_tested, Lacks-append, split_line}
-use Rattle.age_format.proofs.Words.{Lacks_string}
-use Rattle.age_format.proofs.Verdicts.{fronts, version_line_lacks, header_ends}
+use Rattle.age_v1.proofs.Words.{Lacks_string}
+use Rattle.age_v1.proofs.HeaderVerdicts.{fronts, version_line_lacks, header_ends}
 
 -- a front of the text with one more byte, other than itself, is a front of the text
 shorter_front : (t front more : List ℕ) (b : ℕ) → t ++ b ∷ [] ≡ front ++ more → (front ≡ t ++ b ∷ []) ⊎ ((z : List ℕ) × (t ≡ front ++ z))
@@ -40,14 +41,14 @@ pub magic_lacks : (i : ℕ) → i < length magic → slice_index magic i ≢ 10
 magic_lacks i lt = lacks_at 10 magic i (lacks_tested 10 magic refl) lt
 
 module _ (legacy : Bool) where
-  pub undecided_more : (t : List ℕ) (b : ℕ) → IsUndecided legacy t → ((v : Verdict) → Decides legacy (t ++ b ∷ []) v → ⊥) → IsUndecided legacy (t ++ b ∷ [])
+  pub undecided_more : (t : List ℕ) (b : ℕ) → IsUndecided legacy t → ((v : Verdict) → FrontDecides legacy (t ++ b ∷ []) v → ⊥) → IsUndecided legacy (t ++ b ∷ [])
   undecided_more t b before here front more v e h = elim (shorter_front t front more b e) [
-    | inl same ↦ here v (subst (λ x. Decides legacy x v) same h)
+    | inl same ↦ here v (subst (λ x. FrontDecides legacy x v) same h)
     | inr (z, part) ↦ before front z v part h
   ]
 
   -- no front that is shorter than the text with one more byte decides
-  pub none_shorter : (t shorter more : List ℕ) (b c : ℕ) (w : Verdict) → IsUndecided legacy t → t ++ b ∷ [] ≡ shorter ++ c ∷ more → Decides legacy shorter w → ⊥
+  pub none_shorter : (t shorter more : List ℕ) (b c : ℕ) (w : Verdict) → IsUndecided legacy t → t ++ b ∷ [] ≡ shorter ++ c ∷ more → FrontDecides legacy shorter w → ⊥
   none_shorter t shorter more b c w before e k = elim (shorter_front t shorter (c ∷ more) b e) [
     | inl same ↦
         let g : shorter ++ [] ≡ shorter ++ c ∷ more = append-nil shorter ∙ same ∙ e in
@@ -55,7 +56,7 @@ module _ (legacy : Bool) where
     | inr (y, part) ↦ before shorter y w part k
   ]
 
-  pub verdict_here : (input t rest : List ℕ) (b : ℕ) (v : Verdict) → input ≡ (t ++ b ∷ []) ++ rest → IsUndecided legacy t → Decides legacy (t ++ b ∷ []) v → IsVerdict legacy input (t ++ b ∷ []) v
+  pub verdict_here : (input t rest : List ℕ) (b : ℕ) (v : Verdict) → input ≡ (t ++ b ∷ []) ++ rest → IsUndecided legacy t → FrontDecides legacy (t ++ b ∷ []) v → IsVerdict legacy input (t ++ b ∷ []) v
   verdict_here input t rest b v whole before h = record {
     more = rest;
     whole = whole;
@@ -63,7 +64,7 @@ module _ (legacy : Bool) where
     shortest = λ shorter c z w e k. none_shorter t shorter z b c w before e k;
   }
 
-  pub quiet_byte : (t : List ℕ) (b : ℕ) → length magic ≤ length t → b ≢ 10 → 32 ≤ b → b ≤ 126 → (v : Verdict) → Decides legacy (t ++ b ∷ []) v → ⊥
+  pub quiet_byte : (t : List ℕ) (b : ℕ) → length magic ≤ length t → b ≢ 10 → 32 ≤ b → b ≤ 126 → (v : Verdict) → FrontDecides legacy (t ++ b ∷ []) v → ⊥
   quiet_byte t b long ne low high (Header ss m) h = let w = header_ends legacy (t ++ b ∷ []) ss m h in not_line t w.0 b ne w.1
   quiet_byte t b long ne low high UnknownVersion h = not_line t (magic ++ h.version) b ne h.spelled
   quiet_byte t b long ne low high Bad (inl (before, c, e, lt, other)) = let s = same_before t before b c e in absurd (omega (arith, ap length s.0))
@@ -71,7 +72,7 @@ module _ (legacy : Bool) where
   quiet_byte t b long ne low high Bad (inr (inl (before, c, e, ge, feed, inr out))) = let s = same_before t before b c e in absurd (omega (arith, s.1))
   quiet_byte t b long ne low high Bad (inr (inr bad)) = not_line t bad.finished.0 b ne bad.finished.1
 
-  pub magic_byte : (t : List ℕ) (b : ℕ) → length t < length magic → b ≡ slice_index magic (length t) → (v : Verdict) → Decides legacy (t ++ b ∷ []) v → ⊥
+  pub magic_byte : (t : List ℕ) (b : ℕ) → length t < length magic → b ≡ slice_index magic (length t) → (v : Verdict) → FrontDecides legacy (t ++ b ∷ []) v → ⊥
   magic_byte t b short is (Header ss m) h = let w = header_ends legacy (t ++ b ∷ []) ss m h in not_line t w.0 b (λ e. magic_lacks (length t) short (sym is ∙ e)) w.1
   magic_byte t b short is UnknownVersion h = not_line t (magic ++ h.version) b (λ e. magic_lacks (length t) short (sym is ∙ e)) h.spelled
   magic_byte t b short is Bad (inl (before, c, e, lt, other)) =
@@ -79,15 +80,15 @@ module _ (legacy : Bool) where
   magic_byte t b short is Bad (inr (inl (before, c, e, ge, feed, out))) = let s = same_before t before b c e in absurd (omega (arith, ap length s.0))
   magic_byte t b short is Bad (inr (inr bad)) = not_line t bad.finished.0 b (λ e. magic_lacks (length t) short (sym is ∙ e)) bad.finished.1
 
-  pub departs : (t : List ℕ) (b : ℕ) → length t < length magic → b ≢ slice_index magic (length t) → Decides legacy (t ++ b ∷ []) Bad
+  pub departs : (t : List ℕ) (b : ℕ) → length t < length magic → b ≢ slice_index magic (length t) → FrontDecides legacy (t ++ b ∷ []) Bad
   departs t b short other = inl (t, b, refl, short, other)
 
-  pub unprintable : (t : List ℕ) (b : ℕ) → length magic ≤ length t → b ≢ 10 → (b < 32) ⊎ (126 < b) → Decides legacy (t ++ b ∷ []) Bad
+  pub unprintable : (t : List ℕ) (b : ℕ) → length magic ≤ length t → b ≢ 10 → (b < 32) ⊎ (126 < b) → FrontDecides legacy (t ++ b ∷ []) Bad
   unprintable t b long ne out = inr (inl (t, b, refl, long, ne, out))
 
   -- a text from which a header goes on, and which begins with the version's line, decides nothing
   pub hopeful : (t rest more : List ℕ) (ss : List StanzaValue) (m : List ℕ) → t ≡ line version_line ++ rest → (w : List ℕ) → t ≡ line w
-      → IsHeaderText legacy (t ++ more) ss m → ((zs : List StanzaValue) (n : List ℕ) → IsHeaderText legacy t zs n → ⊥) → (v : Verdict) → Decides legacy t v → ⊥
+      → IsHeaderText legacy (t ++ more) ss m → ((zs : List StanzaValue) (n : List ℕ) → IsHeaderText legacy t zs n → ⊥) → (v : Verdict) → FrontDecides legacy t v → ⊥
   hopeful t rest more ss m spelled w ends h none (Header zs n) k = none zs n k
   hopeful t rest more ss m spelled w ends h none UnknownVersion u =
       let f : line version_line ++ rest ≡ line (magic ++ u.version) ++ [] = sym spelled ∙ u.spelled ∙ sym (append-nil (line (magic ++ u.version))) in

@@ -9,8 +9,9 @@ use Rattle.std.proofs.lemmas.Bool.Decides.{Decides-eqb}
 use Rattle.std.proofs.lemmas.Slice.Eq.{slice_eq-Decides}
 use Rattle.std.proofs.lemmas.Cmp.{on_equiv, lists_equiv, nat_list_eq_equiv}
 use Rattle.std.specs.Cmp.{IsEquivalence, and_equiv}
-use Rattle.age_format.specs.Stanza.{StanzaValue, stanza_eq}
-use Rattle.age_format.proofs.Headers.{same_value}
+use Rattle.age_v1.specs.HeaderTexts.{stanza_eq}
+use Rattle.age_v1.specs.Stanza.{StanzaValue}
+use Rattle.age_v1.proofs.Headers.{same_value}
 
 pub both_then : (v r x y : Bool) → v ≡ true → v ≡ x → r ≡ y → r ≡ (x && y)
 both_then v r true y t e h = h

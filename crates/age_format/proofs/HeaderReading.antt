@@ -11,9 +11,10 @@ use Rattle.age_io.specs.Reading.{Delivers, StaysOrFails, IsQuiet, IsShort}
 use Rattle.age_io.proofs.Delivering.{Delivers-joined}
 use Rattle.age_base64.specs.Base64.{columns}
 use Rattle.age_base64.specs.Lines.{line}
-use Rattle.age_format.specs.Stanza.{StanzaValue, IsStanza}
-use Rattle.age_format.specs.Header.{AreStanzaTexts, IsHeaderText, IsHeader, mac_line, version_line}
-use Rattle.age_format.specs.Verdict.{Verdict, Decides, IsUndecided, IsVerdict}
+use Rattle.age_v1.specs.Stanza.{StanzaValue, IsStanza}
+use Rattle.age_v1.specs.HeaderTexts.{AreStanzaTexts, IsHeaderText}
+use Rattle.age_v1.specs.Header.{IsHeader, mac_line, version_line}
+use Rattle.age_v1.specs.HeaderVerdict.{Verdict, FrontDecides, IsUndecided, IsVerdict}
 use Rattle.age_format.specs.ReadingHeader.{TookVerdict, TookFront, RunsOut, RefusesHeader}
 use Rattle.age_base64.proofs.Columns.{length-columns}
 use Rattle.age_format.proofs.Deciding.{none_shorter, verdict_here}
@@ -21,7 +22,7 @@ use Rattle.age_format.proofs.Deciding.{none_shorter, verdict_here}
 -- the byte after a front that decides nothing decides
 pub took_verdict : {legacy : Bool} (own : Bool) (old middle new : Stretch) (start place end : ℕ) (t : List ℕ) (b : ℕ) (v : Verdict) → own ≡ legacy
     → Delivers t old middle → Delivers (b ∷ []) middle new → place ≡ start + length t → end ≡ place + 1 → IsUndecided own t
-    → Decides own (t ++ b ∷ []) v → TookVerdict legacy old new start end (t ++ b ∷ []) v
+    → FrontDecides own (t ++ b ∷ []) v → TookVerdict legacy old new start end (t ++ b ∷ []) v
 took_verdict own old middle new start place end t b v same so_far here moved step quiet decides =
     let joined = Delivers-joined t (b ∷ []) old middle new so_far here in
     record {

@@ -3,8 +3,9 @@ use Rattle.std.proofs.Common.{◌≡◌, ◌↔◌, ℕ, ◌<◌, ◌≤◌, Boo
 use Rattle.std.proofs.lemmas.List.{nil_from_length}
 use Rattle.std.specs.Prelude.{codes}
 use Rattle.age_suite.specs.Mac.{hmac_of, hkdf_of}
-use Rattle.age_format.specs.Stanza.{StanzaValue}
-use Rattle.age_format.specs.HeaderV1.{header_mac, IsScrypt}
+use Rattle.age_v1.specs.Stanza.{StanzaValue}
+use Rattle.age_format.specs.HeaderV1.{IsScrypt}
+use Rattle.age_v1.specs.HeaderMac.{header_mac}
 
 -- the HMAC under the key that HKDF gives is the header's MAC
 pub mac_told : (b : Bool) (mac key front file_key : List ℕ) → key ≡ hkdf_of [] (codes "header") file_key

@@ -5,8 +5,8 @@ use Rattle.std.specs.Prelude.{codes}
 use Rattle.std.specs.List.{AllByRecursion, flat_map}
 use Rattle.age_base64.specs.Lines.{line}
 use Rattle.age_base64.specs.Base64.{columns}
-use Rattle.age_format.specs.Stanza.{StanzaValue, IsStanza, stanza_text}
-use Rattle.age_format.specs.Header.{version_line, mac_line, covered_text, header_text}
+use Rattle.age_v1.specs.Stanza.{StanzaValue, IsStanza, stanza_text}
+use Rattle.age_v1.specs.Header.{version_line, mac_line, covered_text, header_text}
 
 pushed_all : (P : StanzaValue → Type 0) (xs : List StanzaValue) (x : StanzaValue) → AllByRecursion P xs → P x → AllByRecursion P (xs ++ x ∷ [])
 pushed_all P [] x each here = (here, tt)

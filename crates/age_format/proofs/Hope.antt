@@ -6,13 +6,14 @@ use Rattle.std.specs.List.{flat_map}
 use Rattle.age_error.specs.Bytes.{AreBytesOf}
 use Rattle.age_base64.specs.Lines.{line}
 use Rattle.age_base64.specs.Base64.{columns}
-use Rattle.age_format.specs.Stanza.{StanzaValue, first_line, stanza_text}
-use Rattle.age_format.specs.Header.{version_line, mac_line, IsHeaderText, IsHeader, header_text}
-use Rattle.age_format.specs.Verdict.{Verdict, Decides}
-use Rattle.age_format.specs.Reading.{IsBody, IsTail, IsAt, GoesOn}
+use Rattle.age_v1.specs.Stanza.{StanzaValue, first_line, stanza_text}
+use Rattle.age_v1.specs.HeaderTexts.{IsHeaderText, IsBody}
+use Rattle.age_v1.specs.Header.{version_line, mac_line, IsHeader, header_text}
+use Rattle.age_v1.specs.HeaderVerdict.{Verdict, FrontDecides}
+use Rattle.age_format.specs.Reading.{IsTail, IsAt, MakesHeader}
 use Rattle.age_format.specs.declared.state.State.{State}
 use Rattle.age_format.specs.declared.state.State.TheVariants.{Version, FirstStanza, Body, AfterBody}
-use Rattle.age_format.proofs.Headers.{canonical_header}
+use Rattle.age_v1.proofs.Headers.{canonical_header}
 use Rattle.age_format.proofs.States.{ends_header, stanza_text_back, texts_push, pushed_some}
 use Rattle.age_format.proofs.Deciding.{hopeful}
 
@@ -42,13 +43,13 @@ module _ (legacy : Bool) where
   not_yet : (st : State) (t : List ℕ) → IsAt legacy st t → (st ≢ Version) → (zs : List StanzaValue) (n : List ℕ) → IsHeaderText legacy t zs n → ⊥
   not_yet st t h other zs n k = ends st (h.goes [] zs n (subst (λ x. IsHeaderText legacy x zs n) (sym (append-nil t)) k)) other
     where
-      ends : (st : State) → GoesOn legacy st [] zs n → (st ≢ Version) → ⊥
+      ends : (st : State) → MakesHeader legacy st [] zs n → (st ≢ Version) → ⊥
       ends Version g other = other refl
       ends FirstStanza g other = tail_some zs n [] [] g.1 refl
       ends (Body done s) g other = tail_some g.others n g.after g.text g.tail g.whole
       ends (AfterBody done) g other = tail_some g.0 n [] [] g.2 refl
 
-  pub allowed_quiet : (st : State) (text next : List ℕ) → IsAt legacy st (text ++ line next) → (v : Verdict) → Decides legacy (text ++ line next) v → ⊥
+  pub allowed_quiet : (st : State) (text next : List ℕ) → IsAt legacy st (text ++ line next) → (v : Verdict) → FrontDecides legacy (text ++ line next) v → ⊥
   allowed_quiet Version text next h v k = absurd (omega (arith, ap length h.read, length-append text (line next), length-append next (10 ∷ [])))
   allowed_quiet FirstStanza text next h v k =
       hopeful legacy (text ++ line next) [] _ _ _ (h.read ∙ sym (append-nil (line version_line))) (text ++ next) (sym (append_assoc text next (10 ∷ [])))

@@ -1,8 +1,3 @@
-pub mod Words
-pub mod Body
-pub mod Headers
-pub mod Verdicts
-pub mod Strings
 pub mod Tags
 pub mod Outcomes
 pub mod Equality
@@ -13,8 +8,6 @@ pub mod States
 pub mod Deciding
 pub mod Hope
 pub mod Pushing
-pub mod Covered
-pub mod ReadsBack
 pub mod HeaderTests
 pub mod HeaderWriting
 pub mod HeaderReading

@@ -2,7 +2,7 @@
 use Rattle.std.specs.Prelude.{◌≡◌, List, ℕ, Result, Ok, Err}
 use Rattle.std.proofs.Common.{sym, inl, inr}
 use Rattle.age_error.specs.EncryptErrors.{EncryptRefusal, OutOfMemory}
-use Rattle.age_format.specs.Drawing.{Ends, After}
+use Rattle.age_v1.specs.Encrypting.{Ends, After}
 
 -- two equal values
 pub same_value : {A : Type 0} (x y : A) → Path (Result A EncryptRefusal) (Ok x) (Ok y) → x ≡ y

@@ -8,10 +8,9 @@ use Rattle.std.specs.Str.{IsAscii}
 use Rattle.std.proofs.lemmas.Bool.{ne_eqb}
 use Rattle.std.specs.List.{AllByRecursion, join_with_byte, slice_split}
 use Rattle.age_error.specs.Bytes.{AreBytes, AreBytesOf}
-use Rattle.age_format.specs.Bytes.{IsString, IsGraphic}
+use Rattle.age_v1.specs.Stanza.{IsString, IsGraphic, StanzaValue, IsStanza, first_line}
 use Rattle.age_base64.specs.Base64.{columns}
-use Rattle.age_format.specs.Stanza.{StanzaValue, IsStanza, first_line}
-use Rattle.age_format.specs.Header.{mac_line}
+use Rattle.age_v1.specs.Header.{mac_line}
 use Rattle.age_base64.proofs.Columns.{columns_same}
 
 hyphens : List ℕ

@@ -2,7 +2,7 @@
 use Rattle.std.proofs.Common.{◌≡◌, ◌≢◌, ℕ, List, [], ◌∷◌, ◌++◌, length, take, drop, ap, sym, arith, append_assoc, subst, ◌∙◌, length-append, Bool}
 use Rattle.std.proofs.lemmas.List.{take-append-drop, take_all, drop_all, take-append-le, drop-append-le}
 use Rattle.age_base64.specs.Lines.{line, Lacks}
-use Rattle.age_format.specs.Verdict.{Verdict, Decides, IsUndecided}
+use Rattle.age_v1.specs.HeaderVerdict.{Verdict, FrontDecides, IsUndecided}
 use Rattle.age_format.specs.Reading.{IsAt}
 use Rattle.age_format.specs.Progress.{IsInProgress}
 use Rattle.age_format.specs.declared.state.State.{State}
@@ -23,14 +23,14 @@ module _ (legacy : Bool) where
       let quiet = allowed_quiet legacy st (take start t) (drop start t) h in
       record {
         behind = omega (arith, ee);
-        undecided = subst (IsUndecided legacy) (sym en) (undecided_more legacy t 10 before (λ v k. quiet v (subst (λ x. Decides legacy x v) (last_line t start) k)));
+        undecided = subst (IsUndecided legacy) (sym en) (undecided_more legacy t 10 before (λ v k. quiet v (subst (λ x. FrontDecides legacy x v) (last_line t start) k)));
         at = subst (IsAt legacy st) (sym (take_all end new (omega (arith, ee)) ∙ whole)) h;
         lacks = subst (Lacks 10) (sym (drop_all end new (omega (arith, ee)))) tt;
       }
 
   -- after a byte that ends no line and decides nothing
   pub progress_byte : (st : State) (t new : List ℕ) (start b : ℕ) → IsInProgress legacy st start t → new ≡ t ++ b ∷ [] → b ≢ 10
-      → ((v : Verdict) → Decides legacy (t ++ b ∷ []) v → ⊥) → IsInProgress legacy st start new
+      → ((v : Verdict) → FrontDecides legacy (t ++ b ∷ []) v → ⊥) → IsInProgress legacy st start new
   progress_byte st t new start b h en ne quiet = record {
     behind = omega (arith, h.behind, ap length en, length-append t (b ∷ []));
     undecided = subst (IsUndecided legacy) (sym en) (undecided_more legacy t b h.undecided quiet);

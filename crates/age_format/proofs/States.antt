@@ -5,19 +5,20 @@ use Rattle.std.proofs.lemmas.List.Elements.{All-append}
 use Rattle.std.specs.Prelude.{codes}
 use Rattle.age_error.specs.Bytes.{AreBytes, AreBytesOf}
 use Rattle.age_base64.specs.Lines.{line, Lacks}
-use Rattle.age_format.specs.Bytes.{IsString}
+use Rattle.age_v1.specs.Stanza.{IsString, StanzaValue, IsStanza, first_line, stanza_text, body_text}
 use Rattle.age_base64.specs.Base64.{columns}
-use Rattle.age_format.specs.Stanza.{StanzaValue, IsStanza, IsStanzaText, first_line, stanza_text, body_text, grown}
-use Rattle.age_format.specs.Header.{mac_line, magic, version_line, AreStanzaTexts, IsHeaderText}
-use Rattle.age_format.specs.Verdict.{EndsInBadLine}
-use Rattle.age_format.specs.Reading.{IsBody, IsTail, IsBodyAndTail, IsInBody, IsAt, IsBefore}
+use Rattle.age_v1.specs.HeaderTexts.{IsStanzaText, grown, magic, AreStanzaTexts, IsHeaderText, IsBody}
+use Rattle.age_v1.specs.Header.{mac_line, version_line}
+use Rattle.age_v1.specs.HeaderVerdict.{EndsInBadLine}
+use Rattle.age_format.specs.Reading.{IsTail, IsBodyAndTail, IsInBody, IsAt}
+use Rattle.age_format.specs.PrivateReading.{StandsBeforeLine}
 use Rattle.age_format.specs.declared.state.State.{State}
 use Rattle.age_base64.proofs.Columns.{columns_same, length-columns}
-use Rattle.age_format.proofs.Body.{IsBodyText, body_text_short, body_text_long}
-use Rattle.age_format.proofs.Headers.{not_both}
+use Rattle.age_v1.proofs.StanzaBodies.{IsBodyText, body_text_short, body_text_long}
+use Rattle.age_v1.proofs.Headers.{not_both}
 use Rattle.age_base64.proofs.Lines.{Lacks-append, lacks_tested, split_line}
-use Rattle.age_format.proofs.Words.{Lacks_string}
-use Rattle.age_format.proofs.Verdicts.{version_line_lacks}
+use Rattle.age_v1.proofs.Words.{Lacks_string}
+use Rattle.age_v1.proofs.HeaderVerdicts.{version_line_lacks}
 use Rattle.age_format.proofs.Steps.{tail_line, opened, bad_line, regroup, hyphen_over, other_body}
 
 -- what a header that goes on from text says of the stanzas after d
@@ -216,7 +217,7 @@ module _ (legacy : Bool) where
         | inr whole ↦ bad whole.piece whole.each (omega (arith, whole.size)) whole.told
       ])
 
-  pub is_before : (state : State) (next text : List ℕ) → IsAt legacy state text → IsBefore legacy state next text
+  pub is_before : (state : State) (next text : List ℕ) → IsAt legacy state text → StandsBeforeLine legacy state next text
   is_before state next text h = record { read = h.read; goes = λ more ss m k. h.goes (line next ++ more) ss m k }
 
   -- the first line, where it is neither the known version's nor another's

@@ -6,16 +6,17 @@ use Rattle.std.specs.Prelude.{codes}
 use Rattle.age_error.specs.Bytes.{AreBytes, AreBytesOf}
 use Rattle.age_base64.specs.Lines.{line, Lacks}
 use Rattle.age_base64.specs.Base64.{columns}
-use Rattle.age_format.specs.Stanza.{StanzaValue, IsStanza, first_line, grown}
-use Rattle.age_format.specs.Header.{mac_line, magic, version_line, IsHeaderText}
-use Rattle.age_format.specs.Verdict.{EndsInBadLine}
-use Rattle.age_format.specs.Reading.{IsBody, IsTail, IsBodyAndTail}
+use Rattle.age_v1.specs.HeaderTexts.{grown, magic, IsHeaderText, IsBody}
+use Rattle.age_v1.specs.Stanza.{StanzaValue, IsStanza, first_line}
+use Rattle.age_v1.specs.Header.{mac_line, version_line}
+use Rattle.age_v1.specs.HeaderVerdict.{EndsInBadLine}
+use Rattle.age_format.specs.Reading.{IsTail, IsBodyAndTail}
 use Rattle.age_base64.proofs.Lines.{Lacks-append, lacks_tested, split_line}
-use Rattle.age_format.proofs.Words.{Lacks_string}
+use Rattle.age_v1.proofs.Words.{Lacks_string}
 use Rattle.age_base64.proofs.Columns.{columns_symbols, IsSymbol}
-use Rattle.age_format.proofs.Body.{lacks_feed, front_bytes, back_bytes}
-use Rattle.age_format.proofs.Headers.{stanza_parts, first_line_lacks, mac_line_lacks, same_first, same_value}
-use Rattle.age_format.proofs.Verdicts.{version_line_lacks}
+use Rattle.age_v1.proofs.StanzaBodies.{lacks_feed, front_bytes, back_bytes}
+use Rattle.age_v1.proofs.Headers.{stanza_parts, first_line_lacks, mac_line_lacks, same_first, same_value}
+use Rattle.age_v1.proofs.HeaderVerdicts.{version_line_lacks}
 
 -- the line of the MAC, and the end
 pub record IsLast (l more : List ℕ) (stanzas : List StanzaValue) (mac : List ℕ) : Type 0 where

@@ -2,9 +2,10 @@
 use Rattle.std.specs.Prelude.{◌≡◌, ℕ, List}
 use Rattle.age_error.specs.Bytes.{AreBytes}
 use Rattle.age_io.specs.Stretch.{Stretch}
-use Rattle.age_format.specs.Stanza.{StanzaValue, or_legacy}
-use Rattle.age_format.specs.Header.{IsHeader, covered}
-use Rattle.age_format.specs.Verdict.{Header}
+use Rattle.age_v1.specs.HeaderTexts.{or_legacy, covered}
+use Rattle.age_v1.specs.Stanza.{StanzaValue}
+use Rattle.age_v1.specs.Header.{IsHeader}
+use Rattle.age_v1.specs.HeaderVerdict.{Header}
 use Rattle.age_format.specs.ReadingHeader.{TookVerdict}
 
 -- what such a header says, and the front of its text that the MAC covers

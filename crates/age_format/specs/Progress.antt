@@ -1,8 +1,8 @@
 -- A reader of a header that takes one byte after another.
 use Rattle.std.specs.Prelude.{ℕ, ◌≤◌, Bool, List, length, take, drop}
 use Rattle.age_base64.specs.Lines.{Lacks}
-use Rattle.age_format.specs.Header.{magic}
-use Rattle.age_format.specs.Verdict.{IsUndecided}
+use Rattle.age_v1.specs.HeaderTexts.{magic}
+use Rattle.age_v1.specs.HeaderVerdict.{IsUndecided}
 use Rattle.age_format.specs.Reading.{IsAt}
 use Rattle.age_format.specs.declared.state.State.{State}
 
@@ -19,7 +19,7 @@ pub record IsInProgress (legacy : Bool) (state : State) (start : ℕ) (text : Li
   pub lacks : Lacks 10 (drop start text)
 
 -- a byte goes on a line behind the beginning of each header
-pub record GoesOn (text : List ℕ) (byte : ℕ) : Type 0 where
+pub record CanGoOn (text : List ℕ) (byte : ℕ) : Type 0 where
   pub behind : length magic ≤ length text
   pub low : 32 ≤ byte
   pub high : byte ≤ 126

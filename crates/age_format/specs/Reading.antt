@@ -1,20 +1,12 @@
 -- Where a reader of a header stands between two lines.
-use Rattle.std.specs.Prelude.{◌≡◌, ◌≢◌, ℕ, zero, suc, ◌<◌, Bool, true, List, [], ◌∷◌, ◌++◌, length, ◌⊎◌}
+use Rattle.std.specs.Prelude.{Bool, List, [], ℕ, ◌++◌, ◌∷◌, ◌≡◌, ◌≢◌}
 use Rattle.age_error.specs.Bytes.{AreBytesOf}
 use Rattle.age_base64.specs.Lines.{line}
-use Rattle.age_base64.specs.Base64.{columns}
-use Rattle.age_format.specs.Stanza.{StanzaValue, IsStanza, first_line, grown}
-use Rattle.age_format.specs.Header.{mac_line, version_line, AreStanzaTexts, IsHeaderText}
-use Rattle.age_format.specs.Verdict.{EndsInBadLine, IsUnknownVersion}
+use Rattle.age_v1.specs.HeaderTexts.{AreStanzaTexts, IsBody, IsHeaderText, grown}
+use Rattle.age_v1.specs.Stanza.{IsStanza, StanzaValue, first_line}
+use Rattle.age_v1.specs.Header.{mac_line, version_line}
 use Rattle.age_format.specs.declared.state.State.{State}
-use Rattle.age_format.specs.declared.state.State.TheVariants.{Version, FirstStanza, Body, AfterBody}
-use Rattle.age_format.specs.declared.state.Judged.{Judged}
-use Rattle.age_format.specs.declared.state.Judged.TheVariants.{Allowed, Bad, UnknownVersion, Header}
-
--- the text of a body by lines: so many of 48 bytes, and a last one, which the legacy form leaves out where it is empty
-abbrev pub IsBody : Bool → ℕ → List ℕ → List ℕ → Type 0
-IsBody legacy zero x b = (length b < 48) × ((x ≡ line (columns b)) ⊎ ((legacy ≡ true) × (b ≡ []) × (x ≡ [])))
-IsBody legacy (suc k) x b = (p : List ℕ) × (c : List ℕ) × (y : List ℕ) × (length p ≡ 48) × (b ≡ p ++ c) × (x ≡ line (columns p) ++ y) × IsBody legacy k y c
+use Rattle.age_format.specs.declared.state.State.TheVariants.{AfterBody, Body, FirstStanza, Version}
 
 -- texts of stanzas, and the line of a MAC
 pub record IsTail (legacy : Bool) (text : List ℕ) (stanzas : List StanzaValue) (mac : List ℕ) : Type 0 where
@@ -37,11 +29,11 @@ pub record IsBodyAndTail (legacy : Bool) (s : StanzaValue) (more : List ℕ) (do
   pub told : stanzas ≡ done ++ grown s rest ∷ others
 
 -- what follows makes a header of these stanzas and this MAC
-abbrev pub GoesOn : Bool → State → List ℕ → List StanzaValue → List ℕ → Type 0
-GoesOn legacy Version more stanzas mac = IsHeaderText legacy more stanzas mac
-GoesOn legacy FirstStanza more stanzas mac = (stanzas ≢ []) × IsTail legacy more stanzas mac
-GoesOn legacy (Body done s) more stanzas mac = IsBodyAndTail legacy s more done.items stanzas mac
-GoesOn legacy (AfterBody done) more stanzas mac = (others : List StanzaValue) × (stanzas ≡ done.items ++ others) × IsTail legacy more others mac
+abbrev pub MakesHeader : Bool → State → List ℕ → List StanzaValue → List ℕ → Type 0
+MakesHeader legacy Version more stanzas mac = IsHeaderText legacy more stanzas mac
+MakesHeader legacy FirstStanza more stanzas mac = (stanzas ≢ []) × IsTail legacy more stanzas mac
+MakesHeader legacy (Body done s) more stanzas mac = IsBodyAndTail legacy s more done.items stanzas mac
+MakesHeader legacy (AfterBody done) more stanzas mac = (others : List StanzaValue) × (stanzas ≡ done.items ++ others) × IsTail legacy more others mac
 
 -- what was read so far: texts of stanzas, the first line of s, and whole lines for its body
 pub record IsInBody (legacy : Bool) (s : StanzaValue) (text : List ℕ) (done : List StanzaValue) : Type 0 where
@@ -61,16 +53,4 @@ WasRead legacy (AfterBody done) text = (middle : List ℕ) × (done.items ≢ []
 -- after the text the reader is in this state
 pub record IsAt (legacy : Bool) (state : State) (text : List ℕ) : Type 0 where
   pub read : WasRead legacy state text
-  pub goes : (more : List ℕ) (stanzas : List StanzaValue) (mac : List ℕ) → IsHeaderText legacy (text ++ more) stanzas mac → GoesOn legacy state more stanzas mac
-
--- the same, before the line next
-pub record IsBefore (legacy : Bool) (state : State) (next text : List ℕ) : Type 0 where
-  pub read : WasRead legacy state text
-  pub goes : (more : List ℕ) (stanzas : List StanzaValue) (mac : List ℕ) → IsHeaderText legacy (text ++ (line next ++ more)) stanzas mac → GoesOn legacy state (line next ++ more) stanzas mac
-
--- what the text says that ends with the judged line
-abbrev pub IsJudged : Bool → Judged → List ℕ → Type 0
-IsJudged legacy (Allowed state) text = IsAt legacy state text
-IsJudged legacy Bad text = EndsInBadLine legacy text
-IsJudged legacy UnknownVersion text = IsUnknownVersion text
-IsJudged legacy (Header stanzas mac) text = IsHeaderText legacy text stanzas.items mac
+  pub goes : (more : List ℕ) (stanzas : List StanzaValue) (mac : List ℕ) → IsHeaderText legacy (text ++ more) stanzas mac → MakesHeader legacy state more stanzas mac

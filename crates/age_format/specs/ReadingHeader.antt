@@ -8,9 +8,9 @@ use Rattle.age_io.specs.declared.traits.Read.{Ghosts}
 use Rattle.age_io.specs.Keeping.{SameReader, OrEarly}
 use Rattle.age_io.specs.Stretch.{Stretch}
 use Rattle.age_io.specs.Reading.{Delivers, StaysOrFails, IsQuiet, AddsNoReason, TriedAgain, most_faults}
-use Rattle.age_format.specs.Stanza.{canonical}
-use Rattle.age_format.specs.Header.{header_text}
-use Rattle.age_format.specs.Verdict.{Verdict, Header, UnknownVersion, Bad, Decides, IsUndecided, IsVerdict}
+use Rattle.age_v1.specs.HeaderTexts.{canonical}
+use Rattle.age_v1.specs.Header.{header_text}
+use Rattle.age_v1.specs.HeaderVerdict.{Verdict, Header, UnknownVersion, Bad, FrontDecides, IsUndecided, IsVerdict}
 use Rattle.age_format.specs.HeaderV1.{HeaderValue}
 
 -- The shortest front of the rest that decides was taken, and no byte more.
@@ -32,7 +32,7 @@ pub record TookFront (old new : Stretch) (old_place new_place : ℕ) (front : Li
   pub moved : new_place ≡ old_place + length front
 
 -- The reader refused, or ended, after a front that decides nothing. Without a fault that front is all that it had.
-pub record BreaksOff (legacy : Bool) (old_faults new_faults : ℕ) (old new : Stretch) (old_place new_place : ℕ) (e : Error) : Type 0 where
+pub record HeaderBreaksOff (legacy : Bool) (old_faults new_faults : ℕ) (old new : Stretch) (old_place new_place : ℕ) (e : Error) : Type 0 where
   pub front : List ℕ
   pub took : TookFront old new old_place new_place front
   pub undecided : IsUndecided legacy front
@@ -44,7 +44,7 @@ pub record BreaksOff (legacy : Bool) (old_faults new_faults : ℕ) (old new : St
 pub record RunsOut (legacy : Bool) (old new : Stretch) (old_place new_place : ℕ) : Type 0 where
   pub front : List ℕ
   pub took : TookFront old new old_place new_place front
-  pub shortest : (shorter : List ℕ) (b : ℕ) (more : List ℕ) (v : Verdict) → front ≡ shorter ++ b ∷ more → Decides legacy shorter v → ⊥
+  pub shortest : (shorter : List ℕ) (b : ℕ) (more : List ℕ) (v : Verdict) → front ≡ shorter ++ b ∷ more → FrontDecides legacy shorter v → ⊥
 
 -- Why no header was read, and what was taken.
 abbrev pub RefusesHeader : Bool → ℕ → ℕ → Stretch → Stretch → ℕ → ℕ → DecryptRefusal → Type 0
@@ -52,7 +52,7 @@ RefusesHeader legacy old_faults new_faults old new old_place new_place InvalidHe
     (front : List ℕ) × TookVerdict legacy old new old_place new_place front Bad
 RefusesHeader legacy old_faults new_faults old new old_place new_place UnknownFormat =
     (front : List ℕ) × TookVerdict legacy old new old_place new_place front UnknownVersion
-RefusesHeader legacy old_faults new_faults old new old_place new_place (Io e) = BreaksOff legacy old_faults new_faults old new old_place new_place e
+RefusesHeader legacy old_faults new_faults old new old_place new_place (Io e) = HeaderBreaksOff legacy old_faults new_faults old new old_place new_place e
 RefusesHeader legacy old_faults new_faults old new old_place new_place OutOfMemory = RunsOut legacy old new old_place new_place
 RefusesHeader legacy old_faults new_faults old new old_place new_place _ = ⊥
 

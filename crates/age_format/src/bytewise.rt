@@ -1,9 +1,9 @@
 //! A reader of headers that is given one byte after another, and so never takes one too many.
 
 ghost use Rattle.std.specs.Prelude.{◌≡◌, ◌++◌, ◌∷◌, [], IsTrue, IfOk, OnOk};
-ghost use Rattle.age_format.specs.Verdict.{IsUndecided};
-ghost use Rattle.age_format.specs.Progress.{GoesOn};
-ghost use Rattle.age_format.specs.Steps.{IsStep};
+ghost use Rattle.age_v1.specs.HeaderVerdict.{IsUndecided};
+ghost use Rattle.age_format.specs.Progress.{CanGoOn};
+ghost use Rattle.age_format.specs.PrivateSteps.{IsStep};
 
 use crate::stanza::Stanza;
 use crate::state::{Judged, State, judge};
@@ -68,7 +68,7 @@ impl HeaderReader {
 
     /// Whether a byte goes on a line behind the beginning of each header, so that the text decides nothing with it.
     pub(crate) fn goes_on(&self, byte: u8) -> bool
-        ensures { IsTrue result → GoesOn self.now.text byte }
+        ensures { IsTrue result → CanGoOn self.now.text byte }
     {
         if self.text.len() < MAGIC.len() {
             return false;
@@ -79,7 +79,7 @@ impl HeaderReader {
     /// Takes a byte that goes on a line, where the reader stands: `push` moves it, which takes longer than to read the byte. `AllocError`
     /// comes only for want of memory.
     pub(crate) fn extend(&mut self, byte: u8) -> Result<(), AllocError>
-        requires { GoesOn self.old.text byte }
+        requires { CanGoOn self.old.text byte }
         ensures { OnOk result (self.new ≡ record { legacy = self.old.legacy; text = self.old.text ++ byte ∷ [] }) }
     {
         self.text.push(byte)?;

@@ -1,7 +1,7 @@
 //! Stanzas that mean nothing, by which readers learn to pass over what they don't know.
 
 ghost use Rattle.std.specs.Prelude.{◌≡◌, ◌↔◌, IsSome, IfSome};
-ghost use Rattle.age_format.specs.Stanza.{IsGreaseTag};
+ghost use Rattle.age_v1.specs.HeaderTexts.{IsGreaseTag};
 
 use crate::stanza::Stanza;
 use std::marker::Model;
@@ -13,7 +13,8 @@ pub struct Grease {
 }
 
 impl Model for Grease {
-    ghost use Rattle.age_format.specs.Stanza.{IsGreaseTag, StanzaValue};
+    ghost use Rattle.age_v1.specs.HeaderTexts.{IsGreaseTag};
+    ghost use Rattle.age_v1.specs.Stanza.{StanzaValue};
 
     ghost Value = { StanzaValue };
 

@@ -4,9 +4,11 @@ ghost use Rattle.std.specs.Prelude.{◌≡◌, ◌≢◌, ◌↔◌, [], IsTrue,
 ghost use Rattle.std.specs.List.{AllByRecursion};
 ghost use Rattle.age_error.specs.Refusals.{IsInterruption};
 ghost use Rattle.age_io.specs.Writing.{WritesAll, Retried, OrMemory};
-ghost use Rattle.age_format.specs.Stanza.{IsStanza, canonical};
-ghost use Rattle.age_format.specs.Header.{covered_text, header_text, IsHeader, KeepsScryptRule};
-ghost use Rattle.age_format.specs.HeaderV1.{header_mac, IsScrypt};
+ghost use Rattle.age_v1.specs.HeaderTexts.{canonical};
+ghost use Rattle.age_v1.specs.Stanza.{IsStanza};
+ghost use Rattle.age_v1.specs.Header.{covered_text, header_text, IsHeader, KeepsScryptRule};
+ghost use Rattle.age_format.specs.HeaderV1.{IsScrypt};
+ghost use Rattle.age_v1.specs.HeaderMac.{header_mac};
 ghost use Rattle.age_format.specs.ReadingHeader.{ReadsHeader, ReadsOrRefuses};
 
 use crate::mac::mac_key;

@@ -1,7 +1,8 @@
 //! Those who get file keys back from stanzas.
 ghost use Rattle.std.specs.Prelude.{ℕ, List, [], ◌∷◌};
-ghost use Rattle.age_format.specs.Stanza.{StanzaValue};
-ghost use Rattle.age_format.specs.Unwrapping.{UnwrapAnswer, unwrap_answer, Unwraps};
+ghost use Rattle.age_v1.specs.Stanza.{StanzaValue};
+ghost use Rattle.age_format.specs.Unwrapping.{unwrap_answer};
+ghost use Rattle.age_v1.specs.Identities.{UnwrapAnswer, Unwraps};
 ghost use Rattle.age_format.specs.Boxed.{Changes};
 
 use crate::stanza::Stanza;

@@ -3,9 +3,10 @@
 
 ghost use Rattle.std.specs.Prelude.{◌≡◌, ◌++◌, ◌↔◌, Bool, IsTrue, length, List, [], ℕ, codes};
 ghost use Rattle.age_base64.specs.Lines.{line};
-ghost use Rattle.age_format.specs.Stanza.{StanzaValue, stanza_eq, canonical};
-ghost use Rattle.age_format.specs.Header.{IsHeader, IsHeaderText, covered, covered_text, header_text, version_line};
-ghost use Rattle.age_format.specs.Verdict.{IsVerdict, Verdict, Header};
+ghost use Rattle.age_v1.specs.HeaderTexts.{stanza_eq, canonical, IsHeaderText, covered};
+ghost use Rattle.age_v1.specs.Stanza.{StanzaValue};
+ghost use Rattle.age_v1.specs.Header.{IsHeader, covered_text, header_text, version_line};
+ghost use Rattle.age_v1.specs.HeaderVerdict.{IsVerdict, Verdict, Header};
 
 /// The canonical text of a header is a text of it.
 pub fn canonical_text_is_text()

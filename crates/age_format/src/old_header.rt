@@ -2,9 +2,9 @@
 //! over, and never written.
 
 ghost use Rattle.std.specs.Prelude.{◌≡◌, ◌↔◌, IsTrue};
-ghost use Rattle.age_format.specs.Stanza.{or_legacy};
-ghost use Rattle.age_format.specs.Header.{covered, IsHeader, IsHeaderText};
-ghost use Rattle.age_format.specs.HeaderV1.{header_mac};
+ghost use Rattle.age_v1.specs.HeaderTexts.{or_legacy, covered, IsHeaderText};
+ghost use Rattle.age_v1.specs.Header.{IsHeader};
+ghost use Rattle.age_v1.specs.HeaderMac.{header_mac};
 ghost use Rattle.age_format.specs.OldHeader.{ReadsOldHeader};
 ghost use Rattle.age_format.specs.ReadingHeader.{ReadsOrRefuses};
 

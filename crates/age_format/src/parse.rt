@@ -4,10 +4,9 @@ ghost use Rattle.std.specs.Prelude.{◌≡◌, ◌≢◌, ◌++◌, ◌∷◌, [
 ghost use Rattle.std.specs.List.{AllByRecursion, join_with_byte, slice_split};
 ghost use Rattle.age_error.specs.Bytes.{AreBytes, AreBytesOf};
 ghost use Rattle.age_base64.specs.Lines.{line};
-ghost use Rattle.age_format.specs.Bytes.{IsString};
+ghost use Rattle.age_v1.specs.Stanza.{IsString, StanzaValue, IsStanza, first_line};
 ghost use Rattle.age_base64.specs.Base64.{columns};
-ghost use Rattle.age_format.specs.Stanza.{StanzaValue, IsStanza, first_line};
-ghost use Rattle.age_format.specs.Header.{mac_line};
+ghost use Rattle.age_v1.specs.Header.{mac_line};
 
 use crate::stanza::{Stanza, is_string};
 use age_base64::decode_columns;

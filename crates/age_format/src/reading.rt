@@ -5,8 +5,8 @@ ghost use Rattle.age_error.specs.declared.io.Error.TheVariants.{OutOfMemory};
 ghost use Rattle.age_error.specs.DecryptErrors.{decrypt_refusal, IfIoRefusal, IsDeviceRefusal, IsInterruptedRefusal};
 ghost use Rattle.age_io.specs.Keeping.{SameReader, KeepsReader, OrEarly};
 ghost use Rattle.age_io.specs.Reading.{Delivers, IsQuiet, IsShort, StaysOrFails, AddsNoReason, TriedAgain, most_faults};
-ghost use Rattle.age_format.specs.Header.{IsHeaderText};
-ghost use Rattle.age_format.specs.Verdict.{Header};
+ghost use Rattle.age_v1.specs.HeaderTexts.{IsHeaderText};
+ghost use Rattle.age_v1.specs.HeaderVerdict.{Header};
 ghost use Rattle.age_format.specs.ReadingHeader.{TookVerdict, RefusesHeader};
 
 use crate::bytewise::{HeaderReader, Step};

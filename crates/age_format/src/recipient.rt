@@ -1,6 +1,7 @@
 //! Those to whom a file key is wrapped.
 ghost use Rattle.std.specs.Prelude.{ℕ, List};
-ghost use Rattle.age_format.specs.Wrapping.{WrapAnswer, wrap_answer};
+ghost use Rattle.age_format.specs.Wrapping.{wrap_answer};
+ghost use Rattle.age_v1.specs.Recipients.{WrapAnswer};
 
 use crate::stanza::Stanza;
 use age_error::EncryptError;

@@ -3,7 +3,7 @@
 ghost use Rattle.std.specs.Prelude.{◌≡◌, ◌↔◌, map, IsSome, IfSome, IfOk, OnOk, OnErr, IsTrue, nat_eq, string_bytes};
 ghost use Rattle.std.specs.Cmp.Lexicographic.{pointwise};
 ghost use Rattle.std.specs.List.{AllByRecursion, list_all};
-ghost use Rattle.age_format.specs.Bytes.{IsString, is_graphic, is_string_of};
+ghost use Rattle.age_v1.specs.Stanza.{IsString, is_graphic, is_string_of};
 
 use crate::sink::Sink;
 use crate::write::{write_body, write_first_line};
@@ -19,7 +19,7 @@ pub struct Stanza {
 }
 
 impl Model for Stanza {
-    ghost use Rattle.age_format.specs.Stanza.{StanzaValue, IsStanza};
+    ghost use Rattle.age_v1.specs.Stanza.{StanzaValue, IsStanza};
     ghost use Rattle.std.specs.Prelude.{map, string_bytes};
 
     ghost Value = { StanzaValue };
@@ -67,7 +67,8 @@ fn are_same(texts: &[String], others: &[String]) -> bool
 }
 
 impl Stanza {
-    ghost use Rattle.age_format.specs.Stanza.{stanza_text, grown, IsStanza};
+    ghost use Rattle.age_v1.specs.HeaderTexts.{grown};
+    ghost use Rattle.age_v1.specs.Stanza.{stanza_text, IsStanza};
 
     /// The stanza, if its tag and each argument are strings of bytes 33 to 126. It takes no memory of its own.
     pub fn new(tag: String, args: Vec<String>, body: Vec<u8>) -> Option<Stanza>
@@ -141,7 +142,7 @@ impl PartialEq for Stanza {
     ghost use Rattle.std.specs.Cmp.{on_per, and_per, partial_equiv_from_equiv};
     ghost use Rattle.std.specs.Cmp.Lexicographic.{lists_per};
     ghost use Rattle.std.proofs.lemmas.Cmp.{nat_list_eq_equiv};
-    ghost use Rattle.age_format.specs.Stanza.{stanza_eq};
+    ghost use Rattle.age_v1.specs.HeaderTexts.{stanza_eq};
 
     ghost eq = { stanza_eq };
 

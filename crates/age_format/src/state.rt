@@ -2,7 +2,8 @@
 
 ghost use Rattle.std.specs.Prelude.{◌≡◌, ◌≢◌, ◌++◌, ◌∷◌, ℕ, List, true, IfOk};
 ghost use Rattle.age_base64.specs.Lines.{line, Lacks};
-ghost use Rattle.age_format.specs.Reading.{IsAt, IsBefore, IsJudged};
+ghost use Rattle.age_format.specs.Reading.{IsAt};
+ghost use Rattle.age_format.specs.PrivateReading.{StandsBeforeLine, IsJudged};
 
 use crate::parse::{after_prefix, parse_first_line, parse_mac_line};
 use crate::stanza::{Stanza, is_string_of_bytes};
@@ -38,7 +39,7 @@ fn judge_after(
     done: Vec<Stanza>,
     next: &[u8],
 ) -> Result<Judged, AllocError>
-    ensures { IfOk result (λ judged. (text : List ℕ) → IsBefore legacy (State.AfterBody done) next.now text
+    ensures { IfOk result (λ judged. (text : List ℕ) → StandsBeforeLine legacy (State.AfterBody done) next.now text
         → Lacks 10 next.now → IsJudged legacy judged (text ++ line next.now)) }
 {
     if let Some(stanza) = parse_first_line(alloc, next)? {
@@ -52,7 +53,7 @@ fn judge_after(
 
 /// Judges a line where the first stanza must come.
 fn judge_first(alloc: Global, legacy: bool, next: &[u8]) -> Result<Judged, AllocError>
-    ensures { IfOk result (λ judged. (text : List ℕ) → IsBefore legacy State.FirstStanza next.now text
+    ensures { IfOk result (λ judged. (text : List ℕ) → StandsBeforeLine legacy State.FirstStanza next.now text
         → Lacks 10 next.now → IsJudged legacy judged (text ++ line next.now)) }
 {
     match parse_first_line(alloc, next)? {
@@ -108,7 +109,7 @@ fn judge_in_body(
 
 /// Judges the version's line.
 fn judge_version(legacy: bool, next: &[u8]) -> Judged
-    ensures { (text : List ℕ) → IsBefore legacy State.Version next.now text
+    ensures { (text : List ℕ) → StandsBeforeLine legacy State.Version next.now text
         → Lacks 10 next.now → IsJudged legacy result (text ++ line next.now) }
 {
     let Some(version) = after_prefix(next, b"age-encryption.org/") else {

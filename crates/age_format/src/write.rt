@@ -5,8 +5,8 @@ ghost use Rattle.std.specs.List.{AllByRecursion, join_with_byte};
 ghost use Rattle.age_base64.specs.Lines.{line};
 ghost use Rattle.age_base64.specs.Base64.{columns};
 ghost use Rattle.age_base64.specs.Engine.{IsHeaderEngine};
-ghost use Rattle.age_format.specs.Stanza.{IsStanza, body_text};
-ghost use Rattle.age_format.specs.Header.{covered_text};
+ghost use Rattle.age_v1.specs.Stanza.{IsStanza, body_text};
+ghost use Rattle.age_v1.specs.Header.{covered_text};
 
 use crate::sink::Sink;
 use crate::stanza::Stanza;

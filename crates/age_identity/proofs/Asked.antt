@@ -1,8 +1,8 @@
 -- The first entry that answers decides.
 use Rattle.std.proofs.Common.{◌≡◌, arith, refl, map, length, Result, List, [], ◌∷◌, ℕ, Some, None}
 use Rattle.age_error.specs.DecryptErrors.{DecryptRefusal}
-use Rattle.age_format.specs.Stanza.{StanzaValue}
-use Rattle.age_format.specs.Unwrapping.{UnwrapAnswer}
+use Rattle.age_v1.specs.Stanza.{StanzaValue}
+use Rattle.age_v1.specs.Identities.{UnwrapAnswer}
 use Rattle.age_identity.specs.Asking.{EntryAnswers, EntriesAnswer}
 use Rattle.age_identity.specs.Entries.{entry_of}
 use Rattle.age_identity.specs.declared.entry.IdentityFileEntry.{IdentityFileEntry}

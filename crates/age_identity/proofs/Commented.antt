@@ -5,7 +5,7 @@ use Rattle.std.specs.Str.{IsUtf8}
 use Rattle.std.specs.Str.Lines.{strip_carriage_return}
 use Rattle.std.proofs.Math.Seq.{take-append_seam}
 use Rattle.std.proofs.lemmas.Str.{IsUtf8-append, IsUtf8-take, IsUtf8-encode, encode_ascii, IsCharBoundary-at_seam}
-use Rattle.age_identity.specs.Entries.{IsPassedOver, IsBad}
+use Rattle.age_identity.specs.Entries.{IsPassedOver, IsBadLine}
 use Rattle.age_identity.specs.Progress.{without_end}
 use Rattle.age_identity.proofs.Cutting.{strip_cases}
 use Rattle.age_identity.proofs.Judged.{not_utf8}
@@ -46,6 +46,6 @@ comment_passed true last hash text = (stripped_utf8 last text, inr (hash_kept la
 comment_passed false last hash text = (text, inr hash)
 
 -- one that isn't is bad
-pub comment_bad : (ended : Bool) (last : List ℕ) → (IsUtf8 last → ⊥) → IsBad (without_end ended last)
+pub comment_bad : (ended : Bool) (last : List ℕ) → (IsUtf8 last → ⊥) → IsBadLine (without_end ended last)
 comment_bad true last other = not_utf8 (strip_carriage_return last) (λ text. other (utf8_stripped last text))
 comment_bad false last other = not_utf8 last other

@@ -15,11 +15,11 @@ use Rattle.age_io.proofs.Delivering.{Delivers-joined}
 use Rattle.age_identity.specs.declared.util.LimitedReader.{LimitedReader}
 use Rattle.age_identity.specs.declared.parser.Parser.{Parser}
 use Rattle.age_identity.specs.Entries.{Entry, AreEntries}
-use Rattle.age_identity.specs.Files.{IsEnded, EndsInBad, HasGoodLines, IsFirstBad, IsFileOf}
+use Rattle.age_identity.specs.Files.{IsEnded, EndsInBad, HasGoodLines, IsFirstBad, IsIdentityFileOf}
 use Rattle.age_identity.specs.Limiting.{limited}
 use Rattle.age_identity.specs.Limited.{inner_of, is_past, left_of, ReadsWithin, Meets}
-use Rattle.age_identity.specs.Progress.{IsAt, RefusesText, RefusesLine}
-use Rattle.age_identity.specs.Reading.{IsTooLong, BreaksOff, IsRead, most_bytes}
+use Rattle.age_identity.specs.Progress.{IsAt, RefusesLastLine, RefusesLine}
+use Rattle.age_identity.specs.Reading.{IsTooLong, FileBreaksOff, ReadsEntries, most_file_bytes}
 use Rattle.age_identity.proofs.Waiting.{HasRead}
 use Rattle.age_identity.proofs.Within.{take-behind}
 
@@ -77,7 +77,7 @@ module _ {R S : Type 0} (read : Ghosts R) (start reader new : LimitedReader R) (
   -- the reader broke off
   breaks : (e : Error) → (e ≢ OutOfMemory → IsQuiet (read.faults (inner_of reader)) (read.faults (inner_of new)) → IsFault (read.rest (inner_of reader)))
       → read.faults (inner_of reader) ≤ read.faults (inner_of new) → IsTrue (read.tells (inner_of start))
-      → BreaksOff (left_of start) (read.faults (inner_of start)) (read.faults (inner_of new)) (read.rest (inner_of start)) e
+      → FileBreaksOff (left_of start) (read.faults (inner_of start)) (read.faults (inner_of new)) (read.rest (inner_of start)) e
   breaks e cause rose told =
       let d = h.so_far told in
       record {
@@ -93,7 +93,7 @@ module _ {R S : Type 0} (read : Ghosts R) (start reader new : LimitedReader R) (
       }
 
   refused_past : {A : Type 0} (entries : A → List Entry) (e : Error) → (IsInterruption e → ⊥) → Meets read reader new (Err e) →
-      IsRead read (left_of start) entries (inner_of start) (inner_of new) (Err e)
+      ReadsEntries read (left_of start) entries (inner_of start) (inner_of new) (Err e)
   refused_past entries e patient met =
       let limit : e ≡ LimitExceeded = same_error e LimitExceeded met.answer in
       record {
@@ -107,7 +107,7 @@ module _ {R S : Type 0} (read : Ghosts R) (start reader new : LimitedReader R) (
 
   refused_within : {A : Type 0} (entries : A → List Entry) (buf : List ℕ) (e : Error) → (IsInterruption e → ⊥) →
       ReadsWithin read (TriedAgain read.refuses) (inner_of reader) (inner_of new) buf (Err e) →
-      IsRead read (left_of start) entries (inner_of start) (inner_of new) (Err e)
+      ReadsEntries read (left_of start) entries (inner_of start) (inner_of new) (Err e)
   refused_within entries buf e patient given =
       let r = given.reads in
       record {
@@ -123,7 +123,7 @@ module _ {R S : Type 0} (read : Ghosts R) (start reader new : LimitedReader R) (
   pub read_refused : {A : Type 0} (entries : A → List Entry) (buf : List ℕ) (e : Error) (past : Bool) → is_past new ≡ past → (IsInterruption e → ⊥) →
       (is_past new ≡ false → ReadsWithin read (TriedAgain read.refuses) (inner_of reader) (inner_of new) buf (Err e)) →
       (is_past new ≡ true → Meets read reader new (Err e)) →
-      IsRead read (left_of start) entries (inner_of start) (inner_of new) (Err e)
+      ReadsEntries read (left_of start) entries (inner_of start) (inner_of new) (Err e)
   read_refused entries buf e true is patient inner meets = refused_past entries e patient (meets is)
   read_refused entries buf e false is patient inner meets = refused_within entries buf e patient (inner is)
 
@@ -152,7 +152,7 @@ module _ {R S : Type 0} (read : Ghosts R) (start reader new : LimitedReader R) (
 
   pub read_bad : {A : Type 0} (entries : A → List Entry) (buf front more : List ℕ) (n : ℕ) (e : Error) → left_of new + n ≡ left_of reader →
       ReadsWithin read (TriedAgain read.refuses) (inner_of reader) (inner_of new) buf (Ok n) → take n buf ≡ front ++ more → RefusesLine e (h.text ++ front) →
-      IsRead read (left_of start) entries (inner_of start) (inner_of new) (Err e)
+      ReadsEntries read (left_of start) entries (inner_of start) (inner_of new) (Err e)
   read_bad entries buf front more n e counts given cut (inl memory) =
       record {
         faults = let f : read.faults (inner_of start) ≤ read.faults (inner_of new) = omega (arith, h.faults, given.reads.no_fewer_faults) in f;
@@ -182,7 +182,7 @@ module _ {R S : Type 0} (read : Ghosts R) (start reader new : LimitedReader R) (
 
   pub read_file : {A : Type 0} (entries : A → List Entry) (buf : List ℕ) (n : ℕ) (x : A) → n ≡ 0 →
       ReadsWithin read (TriedAgain read.refuses) (inner_of reader) (inner_of new) buf (Ok n) → AreEntries (lines h.text) (entries x) →
-      IsRead read (left_of start) entries (inner_of start) (inner_of new) (Ok x)
+      ReadsEntries read (left_of start) entries (inner_of start) (inner_of new) (Ok x)
   read_file entries buf n x none given good = record {
     faults = let f : read.faults (inner_of start) ≤ read.faults (inner_of new) = omega (arith, h.faults, given.reads.no_fewer_faults) in f;
     device = tt;
@@ -209,8 +209,8 @@ module _ {R S : Type 0} (read : Ghosts R) (start reader new : LimitedReader R) (
       }
 
   pub read_last : {A : Type 0} (entries : A → List Entry) (buf : List ℕ) (n : ℕ) (e : Error) → n ≡ 0 →
-      ReadsWithin read (TriedAgain read.refuses) (inner_of reader) (inner_of new) buf (Ok n) → RefusesText e h.text →
-      IsRead read (left_of start) entries (inner_of start) (inner_of new) (Err e)
+      ReadsWithin read (TriedAgain read.refuses) (inner_of reader) (inner_of new) buf (Ok n) → RefusesLastLine e h.text →
+      ReadsEntries read (left_of start) entries (inner_of start) (inner_of new) (Err e)
   read_last entries buf n e none given (inl memory) =
       record {
         faults = let f : read.faults (inner_of start) ≤ read.faults (inner_of new) = omega (arith, h.faults, given.reads.no_fewer_faults) in f;
@@ -232,38 +232,38 @@ module _ {R S : Type 0} (read : Ghosts R) (start reader new : LimitedReader R) (
 
   pub read_ended : {A : Type 0} (entries : A → List Entry) (buf : List ℕ) (n : ℕ) (result : Result A Error) → n ≡ 0 →
       ReadsWithin read (TriedAgain read.refuses) (inner_of reader) (inner_of new) buf (Ok n) →
-      MatchResult result (λ x. AreEntries (lines h.text) (entries x)) (λ e. RefusesText e h.text) →
-      IsRead read (left_of start) entries (inner_of start) (inner_of new) result
+      MatchResult result (λ x. AreEntries (lines h.text) (entries x)) (λ e. RefusesLastLine e h.text) →
+      ReadsEntries read (left_of start) entries (inner_of start) (inner_of new) result
   read_ended entries buf n (Ok x) none given good = read_file entries buf n x none given good
   read_ended entries buf n (Err e) none given bad = read_last entries buf n e none given bad
 
 -- the same read, told of another reader and limit that are the same
 told_of : {R A : Type 0} (read : Ghosts R) (limit other : ℕ) (entries : A → List Entry) (input same last : R) (result : Result A Error) → limit ≡ other → input ≡ same →
-    IsRead read limit entries input last result → IsRead read other entries same last result
+    ReadsEntries read limit entries input last result → ReadsEntries read other entries same last result
 told_of read limit other entries input same last result is input_is r =
-    subst (λ n. IsRead read n entries same last result) is (subst (λ i. IsRead read limit entries i last result) input_is r)
+    subst (λ n. ReadsEntries read n entries same last result) is (subst (λ i. ReadsEntries read limit entries i last result) input_is r)
 
-pub limit_is : 16777216 ≡ most_bytes
-unfolding most_bytes
+pub limit_is : 16777216 ≡ most_file_bytes
+unfolding most_file_bytes
 limit_is = refl
 
 -- a refusal of the entries is one of the file
 pub refused_file : {R A B : Type 0} (read : Ghosts R) (limit : ℕ) (entries : A → List Entry) (others : B → List Entry) (input same last : R) (e : Error) →
-    limit ≡ 16777216 → input ≡ same → IsRead read limit entries input last (Err e) → IsRead read most_bytes others same last (Err e)
+    limit ≡ 16777216 → input ≡ same → ReadsEntries read limit entries input last (Err e) → ReadsEntries read most_file_bytes others same last (Err e)
 refused_file read limit entries others input same last e is input_is r =
-    let t = told_of read limit most_bytes entries input same last (Err e) (is ∙ limit_is) input_is r in
+    let t = told_of read limit most_file_bytes entries input same last (Err e) (is ∙ limit_is) input_is r in
     record { faults = t.faults; device = t.device; patient = t.patient; fits = λ told. tt; file = λ told. tt; refused = t.refused }
 
 -- and so are the entries those of the file
 pub read_of_file : {R A B : Type 0} (read : Ghosts R) (limit : ℕ) (entries : A → List Entry) (others : B → List Entry) (input same last : R) (x : A) (y : B) →
-    limit ≡ 16777216 → input ≡ same → entries x ≡ others y → IsRead read limit entries input last (Ok x) → IsRead read most_bytes others same last (Ok y)
+    limit ≡ 16777216 → input ≡ same → entries x ≡ others y → ReadsEntries read limit entries input last (Ok x) → ReadsEntries read most_file_bytes others same last (Ok y)
 read_of_file read limit entries others input same last x y is input_is entries_are r =
-    let t = told_of read limit most_bytes entries input same last (Ok x) (is ∙ limit_is) input_is r in
+    let t = told_of read limit most_file_bytes entries input same last (Ok x) (is ∙ limit_is) input_is r in
     record {
       faults = t.faults;
       device = tt;
       patient = tt;
       fits = t.fits;
-      file = λ told. subst (IsFileOf (read.rest same)) entries_are (t.file told);
+      file = λ told. subst (IsIdentityFileOf (read.rest same)) entries_are (t.file told);
       refused = tt;
     }

@@ -1,13 +1,13 @@
 -- What is found of a line.
 use Rattle.std.proofs.Common.{◌≡◌, inl, inr, refl, ap, ℕ, List, [], ◌∷◌, ◌++◌}
 use Rattle.std.specs.Str.{IsUtf8}
-use Rattle.age_keys.specs.KeyTexts.{identity_prefix, IsKeyText}
+use Rattle.age_v1.specs.X25519.{identity_prefix, IsKeyText}
 use Rattle.age_keys.specs.PluginKeys.{PluginKey, IsPluginIdentity}
-use Rattle.age_identity.specs.Entries.{Entry, Native, Plugin, IsPassedOver, IsEntry, IsBad, AreEntries}
+use Rattle.age_identity.specs.Entries.{Entry, Native, Plugin, IsPassedOver, IsEntry, IsBadLine, AreEntries}
 
 -- a line that is no text of an identity
 pub no_text : (line : List ℕ) → (IsPassedOver line → ⊥) → ((secret : List ℕ) → IsKeyText identity_prefix line secret → ⊥)
-    → ((key : PluginKey) → key.text ≡ line → IsPluginIdentity key → ⊥) → IsBad line
+    → ((key : PluginKey) → key.text ≡ line → IsPluginIdentity key → ⊥) → IsBadLine line
 no_text line other no_native no_plugin = (other, no_entry)
   where
     no_entry : (e : Entry) → IsEntry line e → ⊥
@@ -15,7 +15,7 @@ no_text line other no_native no_plugin = (other, no_entry)
     no_entry (Plugin key) is = no_plugin key is.1.0 is.1.1
 
 -- a line that isn't UTF-8
-pub not_utf8 : (line : List ℕ) → (IsUtf8 line → ⊥) → IsBad line
+pub not_utf8 : (line : List ℕ) → (IsUtf8 line → ⊥) → IsBadLine line
 not_utf8 line other = ((λ passed. other passed.0), (λ e is. other is.0))
 
 -- one line more that is passed over

@@ -9,7 +9,7 @@ use Rattle.std.specs.declared.cmp.Ordering.TheVariants.{Less, Equal, Greater}
 use Rattle.std.proofs.lemmas.Cmp.{tied_itself, upto}
 use Rattle.age_base64.specs.Lines.{line}
 use Rattle.age_bech32.specs.Written.{bech32_text}
-use Rattle.age_keys.specs.KeyTexts.{recipient_prefix}
+use Rattle.age_v1.specs.X25519.{recipient_prefix}
 use Rattle.age_keys.specs.PluginKeys.{PluginKey}
 use Rattle.age_identity.specs.Entries.{Entry, Native, Plugin, entry_of}
 use Rattle.age_identity.specs.declared.entry.IdentityFileEntry.{IdentityFileEntry}

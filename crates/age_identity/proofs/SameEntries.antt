@@ -4,7 +4,7 @@ use Rattle.std.proofs.Common.{subst, sym}
 use Rattle.age_error.specs.declared.io.Error.{Error}
 use Rattle.age_io.specs.declared.traits.Read.{Ghosts}
 use Rattle.age_identity.specs.Entries.{Entry}
-use Rattle.age_identity.specs.Files.{IsFileOf}
+use Rattle.age_identity.specs.Files.{IsIdentityFileOf}
 use Rattle.age_identity.specs.Reading.{ReadsFile}
 
 module _ {R A B : Type 0} (read : Ghosts R) (limit : ℕ) (entries : A → List Entry) (others : B → List Entry) (input : R) where
@@ -16,7 +16,7 @@ module _ {R A B : Type 0} (read : Ghosts R) (limit : ℕ) (entries : A → List 
       device = tt;
       patient = tt;
       fits = r.fits;
-      file = λ told. subst (λ all. IsFileOf (read.rest input) all) (sym same) (r.file told);
+      file = λ told. subst (λ all. IsIdentityFileOf (read.rest input) all) (sym same) (r.file told);
       refused = tt;
     },
   )

@@ -3,7 +3,7 @@ use Rattle.std.proofs.Common.{◌≡◌, ◌≢◌, ◌∙◌, inr, refl, subst,
 use Rattle.std.specs.Str.Lines.{lines, strip_carriage_return}
 use Rattle.age_base64.specs.Lines.{line, Lacks}
 use Rattle.age_base64.proofs.Lines.{Lacks-append}
-use Rattle.age_identity.specs.Entries.{Entry, AreEntries, IsBad, entry_of}
+use Rattle.age_identity.specs.Entries.{Entry, AreEntries, IsBadLine, entry_of}
 use Rattle.age_identity.specs.Files.{IsEnded, EndsInBad}
 use Rattle.age_identity.specs.Progress.{IsAt, IsLine}
 use Rattle.age_identity.specs.declared.parser.Parser.{Parser}
@@ -69,7 +69,7 @@ module _ {S : Type 0} where
 
   -- the line that a line feed ends is bad
   pub bad_line : (p : Parser S) (number : ℕ) (text : List ℕ) → (at_text : IsAt p text) → number ≡ p.finished + 1 →
-      IsBad (strip_carriage_return at_text.last) → EndsInBad (text ++ 10 ∷ []) number
+      IsBadLine (strip_carriage_return at_text.last) → EndsInBad (text ++ 10 ∷ []) number
   bad_line p number text here counted bad = record {
     before = lines here.done;
     entries = map (λ e. entry_of e) p.entries.items;
@@ -92,7 +92,7 @@ module _ {S : Type 0} where
       subst (λ t. AreEntries (lines t) (map (λ e. entry_of e) p.entries.items)) (sym whole) here.good
 
   -- the last line is bad
-  pub bad_last : (p : Parser S) (number : ℕ) (text : List ℕ) → (at_text : IsAt p text) → at_text.last ≢ [] → number ≡ p.finished + 1 → IsBad at_text.last →
+  pub bad_last : (p : Parser S) (number : ℕ) (text : List ℕ) → (at_text : IsAt p text) → at_text.last ≢ [] → number ≡ p.finished + 1 → IsBadLine at_text.last →
       EndsInBad text number
   bad_last p number text here some counted bad = record {
     before = lines here.done;

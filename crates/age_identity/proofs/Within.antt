@@ -12,7 +12,7 @@ use Rattle.age_io.specs.Reading.{Reads, Delivers, StaysOrFails, AddsNoReason}
 use Rattle.age_io.specs.Filling.{Consumes, Fills, IsFront}
 use Rattle.age_io.specs.declared.traits.Read.{Ghosts}
 use Rattle.age_identity.specs.Limiting.{limited, rest_within, shown_within}
-use Rattle.age_identity.specs.LimitLaws.{le_same, limited_nothing}
+use Rattle.age_identity.specs.LimitLemmas.{le_same, limited_nothing}
 use Rattle.age_identity.specs.Limited.{inner_of, is_past, left_of, content_of, place_of, rest_of, refuses_of, Limits}
 
 true-false : true ≡ false → ⊥

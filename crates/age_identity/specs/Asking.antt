@@ -2,8 +2,8 @@
 use Rattle.std.specs.Prelude.{◌≡◌, ◌⊎◌, ℕ, List, Some, Err}
 use Rattle.age_error.specs.DecryptErrors.{PluginResolve, OutOfMemory}
 use Rattle.age_error.specs.ResolveErrors.{MissingPlugin}
-use Rattle.age_format.specs.Stanza.{StanzaValue}
-use Rattle.age_format.specs.Unwrapping.{UnwrapAnswer, Steady, FirstOf}
+use Rattle.age_v1.specs.Stanza.{StanzaValue}
+use Rattle.age_v1.specs.Identities.{UnwrapAnswer, Steady, FirstOf}
 use Rattle.age_identity.specs.Entries.{Entry, Native, Plugin}
 use Rattle.age_identity.specs.Converting.{program_of}
 

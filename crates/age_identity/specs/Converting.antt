@@ -12,7 +12,7 @@ use Rattle.age_bech32.specs.Written.{bech32_text}
 use Rattle.age_base64.specs.Lines.{line}
 use Rattle.age_io.specs.Writing.{Retried, OrMemory}
 use Rattle.age_io.specs.Copying.{AppendsFront}
-use Rattle.age_keys.specs.KeyTexts.{recipient_prefix}
+use Rattle.age_v1.specs.X25519.{recipient_prefix}
 use Rattle.age_identity.specs.ConvertErrors.{ConvertRefusal, FailedToWriteOutput, IdentityFileContainsPlugin, NoIdentities}
 use Rattle.age_identity.specs.Entries.{Entry, Native, Plugin}
 

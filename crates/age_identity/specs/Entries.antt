@@ -1,7 +1,7 @@
 -- What the lines of an identity file are: each is passed over, or the text of an identity, or bad.
 use Rattle.std.specs.Prelude.{◌≡◌, ◌⊎◌, ℕ, List, [], ◌∷◌}
 use Rattle.std.specs.Str.{IsUtf8}
-use Rattle.age_keys.specs.KeyTexts.{identity_prefix, IsKeyText}
+use Rattle.age_v1.specs.X25519.{identity_prefix, IsKeyText}
 use Rattle.age_keys.specs.PluginKeys.{PluginKey, IsPluginIdentity}
 use Rattle.age_identity.specs.declared.entry.IdentityFileEntry.{IdentityFileEntry}
 use Rattle.age_identity.specs.declared.entry.IdentityFileEntry.TheVariants as entry
@@ -30,8 +30,8 @@ abbrev pub IsEntry : List ℕ → Entry → Type 0
 IsEntry line e = IsUtf8 line × IsTextOf e line
 
 -- any other line: it isn't UTF-8, or it is no text of an identity and isn't passed over
-abbrev pub IsBad : List ℕ → Type 0
-IsBad line = (IsPassedOver line → ⊥) × ((e : Entry) → IsEntry line e → ⊥)
+abbrev pub IsBadLine : List ℕ → Type 0
+IsBadLine line = (IsPassedOver line → ⊥) × ((e : Entry) → IsEntry line e → ⊥)
 
 -- the entries of lines of which none is bad, in their order
 abbrev pub AreEntries : List (List ℕ) → List Entry → Type 0

@@ -3,7 +3,7 @@ use Rattle.std.specs.Prelude.{◌≡◌, ◌⊎◌, ℕ, ◌+◌, IsTrue, List, 
 use Rattle.std.specs.Str.Lines.{lines}
 use Rattle.age_base64.specs.Lines.{line, Lacks}
 use Rattle.age_io.specs.Stretch.{Stretch}
-use Rattle.age_identity.specs.Entries.{Entry, AreEntries, IsBad}
+use Rattle.age_identity.specs.Entries.{Entry, AreEntries, IsBadLine}
 
 -- the text ends with a line feed, or is empty
 abbrev pub IsEnded : List ℕ → Type 0
@@ -25,7 +25,7 @@ pub record EndsInBad (text : List ℕ) (number : ℕ) : Type 0 where
   pub entries : List Entry
   pub good : AreEntries before entries
   pub last : List ℕ
-  pub bad : IsBad last
+  pub bad : IsBadLine last
   pub all : lines text ≡ before ++ last ∷ []
   pub counted : number ≡ length before + 1
 
@@ -38,6 +38,6 @@ pub record IsFirstBad (rest : Stretch) (number : ℕ) : Type 0 where
   pub ends : EndsInBad front number
 
 -- all that a reader delivers is an identity file of these entries
-pub record IsFileOf (rest : Stretch) (entries : List Entry) : Type 0 where
+pub record IsIdentityFileOf (rest : Stretch) (entries : List Entry) : Type 0 where
   pub well : IsTrue rest.ends_well
   pub good : AreEntries (lines rest.bytes) entries

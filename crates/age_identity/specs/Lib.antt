@@ -1,5 +1,4 @@
 pub mod Limiting
-pub mod LimitLaws
 pub mod Limited
 pub mod Entries
 pub mod Files
@@ -11,3 +10,4 @@ pub mod ConvertErrors
 pub mod Converting
 pub mod Asking
 pub mod IdentityFile
+pub mod LimitLemmas

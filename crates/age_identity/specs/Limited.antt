@@ -1,5 +1,5 @@
 -- What a caller sees of a `LimitedReader`, and what it means as a reader.
-use Rattle.std.specs.Prelude.{◌≡◌, ℕ, ◌+◌, ◌≤◌, ◌<◌, ◌⊎◌, Bool, true, false, IsTrue, List, length, take, Result, Err, IfOk, IfErr}
+use Rattle.std.specs.Prelude.{◌≡◌, ℕ, ◌+◌, ◌≤◌, ◌<◌, ◌⊎◌, Bool, true, false, IsTrue, List, length, take, Result, Err, IfOk, IfErr, ⊤}
 use Rattle.age_error.specs.declared.io.Error.{Error}
 use Rattle.age_error.specs.declared.io.Error.TheVariants.{LimitExceeded}
 use Rattle.age_io.specs.Stretch.{Stretch}
@@ -52,6 +52,7 @@ module _ {R : Type 0} where
       rest = rest_of;
       faults = λ r. read.faults r.inner;
       refuses = refuses_of;
+      read_besides = λ _ _ _ _ _. ⊤;
     }
 
 -- What a call says of the limit besides what it says as a reader, where it gave so many bytes.

@@ -34,8 +34,8 @@ pub record IsAt {S : Type 0} (p : Parser S) (text : List ℕ) : Type 0 where
   pub kept : IsLine p.line last
 
 -- why reading ends with the text: its last line is bad, or memory was refused
-abbrev pub RefusesText : Error → List ℕ → Type 0
-RefusesText e text = (e ≡ OutOfMemory) ⊎ ((number : ℕ) × (e ≡ NotIdentity number) × EndsInBad text number)
+abbrev pub RefusesLastLine : Error → List ℕ → Type 0
+RefusesLastLine e text = (e ≡ OutOfMemory) ⊎ ((number : ℕ) × (e ≡ NotIdentity number) × EndsInBad text number)
 
 -- why reading ends at the end of a line: the line is bad, or memory was refused
 abbrev pub RefusesLine : Error → List ℕ → Type 0

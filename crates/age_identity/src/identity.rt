@@ -2,20 +2,20 @@
 ghost use Rattle.std.specs.Prelude.{◌≡◌, ◌⊎◌, [], ◌∷◌, ◌++◌, OnOk, IfOk, IfErr, IsErrAnd, None, Some, MatchOption, List, ℕ, map, string_bytes};
 ghost use Rattle.std.specs.Option.{option_map};
 ghost use Rattle.std.specs.Result.{result_map_both};
-ghost use Rattle.age_error.specs.DecryptErrors.{decrypt_refusal, PluginResolve};
-ghost use Rattle.age_error.specs.DecryptErrors.{OutOfMemory as no_memory};
+ghost use Rattle.age_error.specs.DecryptErrors.{decrypt_refusal, PluginResolve, OutOfMemory as no_memory};
 ghost use Rattle.age_error.specs.ResolveErrors.{MissingPlugin};
 ghost use Rattle.age_error.specs.EncryptErrors.{encrypt_refusal};
 ghost use Rattle.age_error.specs.declared.io.Error.TheVariants.{OutOfMemory as out_of_memory};
 ghost use Rattle.age_identity.specs.ConvertErrors.{convert_refusal, NoIdentities, IdentityFileContainsPlugin, FailedToWriteOutput};
 ghost use Rattle.age_identity.specs.Converting.{native_secrets, plugin_names, program_of, recipients_text, IsAtMost, IsLeast, RefusesRecipients, RefusesIdentities, Converts};
-ghost use Rattle.age_format.specs.Unwrapping.{unwrap_answer, Steady, FirstOf};
-ghost use Rattle.age_keys.specs.X25519.{UnwrapsBy};
+ghost use Rattle.age_format.specs.Unwrapping.{unwrap_answer};
+ghost use Rattle.age_v1.specs.Identities.{Steady, FirstOf};
+ghost use Rattle.age_v1.specs.X25519.{UnwrapsBy};
 ghost use Rattle.age_identity.specs.Asking.{EntryAnswers, EntriesAnswer};
 ghost use Rattle.age_identity.specs.Entries.{entry_of};
 ghost use Rattle.age_identity.specs.IdentityFile.{entries_of, filename_of, callbacks_of};
 ghost use Rattle.age_error.specs.Refusals.{IsDevice};
-ghost use Rattle.age_identity.specs.Reading.{ReadsDevice, ReadsFile, most_bytes};
+ghost use Rattle.age_identity.specs.Reading.{ReadsDevice, ReadsFile, most_file_bytes};
 
 use crate::callbacks::{Callbacks, NoCallbacks};
 use crate::entry::IdentityFileEntry;
@@ -63,7 +63,7 @@ impl<S> IdentityFile<S, NoCallbacks> {
     ///
     /// After a refusal the reader is gone.
     pub fn from_buffer<R: BufRead + Drop>(alloc: Global, data: R) -> Result<Self, Error>
-        ensures reads { ReadsFile ⟦<R as Read>⟧ most_bytes (λ file. entries_of file) «data» result }
+        ensures reads { ReadsFile ⟦<R as Read>⟧ most_file_bytes (λ file. entries_of file) «data» result }
         ensures named { IfOk result (λ file. filename_of file ≡ None) }
     {
         read_file(alloc, data)
@@ -94,7 +94,7 @@ pub fn read_file<S, R: Read + Drop>(
     alloc: Global,
     data: R,
 ) -> Result<IdentityFile<S, NoCallbacks>, Error>
-    ensures reads { ReadsFile ⟦<R as Read>⟧ most_bytes (λ file. entries_of file) «data» result }
+    ensures reads { ReadsFile ⟦<R as Read>⟧ most_file_bytes (λ file. entries_of file) «data» result }
     ensures named { IfOk result (λ file. filename_of file ≡ None) }
 {
     let mut reader = LimitedReader::new(data, IDENTITY_SIZE_LIMIT);

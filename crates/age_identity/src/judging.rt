@@ -1,6 +1,6 @@
 //! What a line is.
 ghost use Rattle.std.specs.Prelude.{◌≡◌, ℕ, List, IfOk, MatchOption};
-ghost use Rattle.age_keys.specs.KeyTexts.{identity_prefix, IsKeyText};
+ghost use Rattle.age_v1.specs.X25519.{identity_prefix, IsKeyText};
 ghost use Rattle.age_keys.specs.PluginKeys.{PluginKey, IsPluginIdentity};
 ghost use Rattle.age_identity.specs.Entries.{IsPassedOver};
 ghost use Rattle.age_identity.specs.Judging.{IsJudged};

@@ -2,7 +2,7 @@
 ghost use Rattle.std.specs.Prelude.{◌≡◌, ◌⊎◌, ◌+◌, ◌<◌, ◌^◌, ◌++◌, [], ◌∷◌, ℕ, List, length, map, MatchResult};
 ghost use Rattle.std.specs.Str.Lines.{lines};
 ghost use Rattle.age_error.specs.declared.io.Error.TheVariants.{OutOfMemory, NotIdentity};
-ghost use Rattle.age_identity.specs.Entries.{AreEntries, IsBad, entry_of};
+ghost use Rattle.age_identity.specs.Entries.{AreEntries, IsBadLine, entry_of};
 ghost use Rattle.age_identity.specs.Judging.{IsJudged};
 
 use crate::entry::IdentityFileEntry;
@@ -21,7 +21,7 @@ pub(crate) struct Parser<S> {
 }
 
 impl<S> Parser<S> {
-    ghost use Rattle.age_identity.specs.Progress.{IsAt, RefusesLine, RefusesText};
+    ghost use Rattle.age_identity.specs.Progress.{IsAt, RefusesLine, RefusesLastLine};
 
     /// A parser that read nothing.
     pub(crate) fn new(alloc: Global) -> Parser<S>
@@ -101,7 +101,7 @@ impl<S> Parser<S> {
     /// memory.
     pub(crate) fn finish(self, alloc: Global) -> Result<Vec<IdentityFileEntry<S>>, Error>
         ensures { (text : List ℕ) → length text < 2 ^ 63 → IsAt self text →
-            MatchResult result (λ entries. AreEntries (lines text) (map (λ e. entry_of e) entries.items)) (λ e. RefusesText e text) }
+            MatchResult result (λ entries. AreEntries (lines text) (map (λ e. entry_of e) entries.items)) (λ e. RefusesLastLine e text) }
     {
         let Parser {
             entries,
@@ -127,7 +127,7 @@ fn add<S>(
 ) -> Result<Vec<IdentityFileEntry<S>>, Error>
     ensures { (before : List (List ℕ)) (line : List ℕ) → AreEntries before (map (λ e. entry_of e) entries.items) → IsJudged judged line →
         MatchResult result (λ more. AreEntries (before ++ line ∷ []) (map (λ e. entry_of e) more.items))
-        (λ e. (e ≡ OutOfMemory) ⊎ ((e ≡ NotIdentity number) × IsBad line)) }
+        (λ e. (e ≡ OutOfMemory) ⊎ ((e ≡ NotIdentity number) × IsBadLine line)) }
 {
     match judged {
         Judged::Passed => Ok(entries),

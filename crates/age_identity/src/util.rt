@@ -4,7 +4,7 @@ ghost use Rattle.age_error.specs.declared.io.Error.TheVariants.{LimitExceeded, O
 ghost use Rattle.age_io.specs.Reading.{Reads, IsQuiet};
 ghost use Rattle.age_io.specs.Filling.{Fills, Consumes};
 ghost use Rattle.age_identity.specs.Limiting.{limited, shown_within};
-ghost use Rattle.age_identity.specs.LimitLaws.{spent_within, well_within, stands_within, bytes_within, short_within, place_fits_within};
+ghost use Rattle.age_identity.specs.LimitLemmas.{spent_within, well_within, stands_within, bytes_within, short_within, place_fits_within};
 
 use age_error::io::Error;
 use age_io::{BufRead, Read};

@@ -9,7 +9,7 @@ use Rattle.age_error.specs.declared.io.Error.TheVariants.{WriteZero, Device}
 use Rattle.age_error.specs.declared.io.ErrorKind.TheVariants.{Interrupted}
 use Rattle.age_io.specs.declared.traits.Write.{Ghosts}
 use Rattle.age_io.specs.Writing.{Narrows, Retried, Writes, Flushes}
-use Rattle.age_io.specs.WritingLaws.{narrows-now, narrows-both, retried-narrows}
+use Rattle.age_io.specs.WritingLemmas.{narrows-now, narrows-both, retried-narrows}
 use Rattle.age_io.proofs.Retrying.{rose-by, interrupted-by, interruption-why}
 
 pub take-both : (xs : List ℕ) (at n : ℕ) → take at xs ++ take n (drop at xs) ≡ take (at + n) xs

@@ -5,7 +5,7 @@ use Rattle.std.proofs.lemmas.Slice.{take-put_mid_below}
 use lib.Seq.{take-add, take-append-le}
 use Rattle.age_error.specs.declared.io.Error.{Error}
 use Rattle.age_io.specs.Stretch.{Stretch}
-use Rattle.age_io.specs.Reading.{Reads, Delivers, GivesInAll, Appended}
+use Rattle.age_io.specs.Reading.{Reads, Delivers, GivesInAll, GrewByRead}
 
 -- what is delivered in turn is delivered joined
 pub Delivers-joined : (xs ys : List ℕ) (a b c : Stretch) → Delivers xs a b → Delivers ys b c → Delivers (xs ++ ys) a c
@@ -42,7 +42,7 @@ Grown-more before middle after more old reached new g d e = record {
 }
 
 -- nothing was read yet
-pub Appended-none : (s : Stretch) (xs : List ℕ) → Appended s s xs xs
+pub Appended-none : (s : Stretch) (xs : List ℕ) → GrewByRead s s xs xs
 Appended-none s xs = record {
   front = [];
   grown = sym (append-nil xs);

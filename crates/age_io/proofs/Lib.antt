@@ -13,3 +13,4 @@ pub mod Moving
 pub mod Copied
 pub mod PartCopied
 pub mod Filled
+pub mod Turning

@@ -2,8 +2,7 @@
 use Rattle.std.proofs.Common.{◌≡◌, ℕ, ◌+◌, List, [], ◌++◌, length, take, drop, refl, sym, ◌∙◌, ap, arith, subst, length-append}
 use Rattle.std.proofs.lemmas.List.{drop-drop, take_at, drop_at}
 use lib.Seq.{take-add}
-use Rattle.age_io.specs.Stretch.{Stretch, from_place}
-use Rattle.age_io.specs.Stretch.{stretch-ext}
+use Rattle.age_io.specs.Stretch.{Stretch, from_place, stretch-ext}
 use Rattle.age_io.specs.Reading.{Delivers}
 
 -- Reads from a start place have given these bytes, and the reader stands after them.

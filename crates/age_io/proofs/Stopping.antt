@@ -8,7 +8,7 @@ use Rattle.age_error.specs.declared.io.SeekFrom.{SeekFrom}
 use Rattle.age_io.specs.Cursor.{Seeks, IsOutside, OrFailed}
 use Rattle.age_io.specs.declared.traits.Read.{Ghosts}
 use Rattle.age_io.specs.Keeping.{SameReader, KeepsReader, OrSeek}
-use Rattle.age_io.specs.Reading.{Reads, AddsNoReason, TriedAgain, Delivers, StaysOrFails, Gave, Appended, TookSome, EndsEarly, IsShort}
+use Rattle.age_io.specs.Reading.{Reads, AddsNoReason, TriedAgain, Delivers, StaysOrFails, Gave, GrewByRead, TookSome, EndsEarly, IsShort}
 use Rattle.age_io.specs.Stretch.{Stretch, from_place, IsCleanEnd, IsFault}
 use Rattle.age_io.proofs.Delivering.{Grown}
 use Rattle.age_io.proofs.Keeping.{same-later, same-read, same-sought}
@@ -83,7 +83,7 @@ keeps-memory read may (Err x) a b e is memory same why = record {
 
 -- a list has grown by what was delivered, and its memory may have changed
 module _ (before middle after : List ℕ) (old between : Stretch) (so_far : Grown before middle old between) (same : after ≡ middle) where
-  pub appended-front : (new : Stretch) → StaysOrFails between new → Appended old new before after
+  pub appended-front : (new : Stretch) → StaysOrFails between new → GrewByRead old new before after
   appended-front new left =
       record { front = so_far.front; grown = same ∙ so_far.grown; middle = between; delivered = so_far.delivered; left = left }
 

@@ -1,8 +1,6 @@
 pub mod Stretch
 pub mod Reading
-pub mod ReadingLaws
 pub mod Writing
-pub mod WritingLaws
 pub mod Copying
 pub mod Slices
 pub mod Standard
@@ -10,9 +8,11 @@ pub mod StandardFaults
 pub mod Filling
 pub mod Buffering
 pub mod Buffered
-pub mod BehindLaws
 pub mod Failing
 pub mod Cursor
-pub mod CursorLaws
 pub mod Keeping
 pub mod Replies
+pub mod WritingLemmas
+pub mod ReadingLemmas
+pub mod BehindLemmas
+pub mod CursorLemmas

@@ -1,5 +1,5 @@
 -- What a call on a reader does to its meaning.
-use Rattle.std.specs.Prelude.{◌≡◌, ◌≢◌, ℕ, ◌+◌, ◌-◌, ◌^◌, ◌≤◌, ◌<◌, Bool, false, IsTrue, List, ◌++◌, length, take, ◌⊎◌, Result, IfOk, IfErr, OnOk, OnErr}
+use Rattle.std.specs.Prelude.{◌≡◌, ◌≢◌, ℕ, zero, suc, ◌+◌, ◌-◌, ◌^◌, ◌≤◌, ◌<◌, Bool, false, IsTrue, List, [], ◌++◌, length, take, ◌⊎◌, Result, Ok, IfOk, IfErr, OnOk, OnErr}
 use Rattle.age_io.specs.Stretch.{Stretch, nothing, from_place, IsCleanEnd, IsFault}
 use Rattle.age_error.specs.Refusals.{IsDevice, IsInterruption}
 use Rattle.age_error.specs.declared.io.Error.{Error}
@@ -60,6 +60,24 @@ pub record Reads {S : Type 0} (tells steady : S → Bool) (content : S → Stret
   pub interrupted : IsTrue (tells old) → IfErr result (λ e. IsInterruption e → rest new ≡ rest old)
   pub cause : IsTrue (tells old) → IfErr result (λ e. e ≢ OutOfMemory → IsQuiet (faults old) (faults new) → IsFault (rest old))
 
+-- A read answered some bytes, which were put after those before, and said of itself what it promises besides.
+pub record ReadsOn {S : Type 0} (tells steady : S → Bool) (content : S → Stretch) (place : S → ℕ) (rest : S → Stretch) (faults : S → ℕ) (refuses : S → Error → Type 0)
+    (besides : S → S → List ℕ → List ℕ → Result ℕ Error → Type 0) (old new : S) (before after : List ℕ) : Type 0 where
+  pub room : List ℕ
+  pub buf : List ℕ
+  pub count : ℕ
+  pub reads : Reads tells steady content place rest faults refuses old new buf (Ok count)
+  pub own : besides old new room buf (Ok count)
+  pub grown : after ≡ before ++ take count buf
+
+-- So many reads in turn, of which none was refused, gave these bytes in all.
+abbrev pub ReadsInTurn : {S : Type 0} → (S → Bool) → (S → Bool) → (S → Stretch) → (S → ℕ) → (S → Stretch) → (S → ℕ) → (S → Error → Type 0)
+    → (S → S → List ℕ → List ℕ → Result ℕ Error → Type 0) → ℕ → S → S → List ℕ → Type 0
+ReadsInTurn tells steady content place rest faults refuses besides zero old new got = (new ≡ old) × (got ≡ [])
+ReadsInTurn {S} tells steady content place rest faults refuses besides (suc n) old new got = (between : S) × (before : List ℕ)
+    × ReadsInTurn tells steady content place rest faults refuses besides n old between before
+    × ReadsOn tells steady content place rest faults refuses besides between new before got
+
 -- What several reads do that give these bytes in all.
 pub record GivesInAll {S : Type 0} (tells steady : S → Bool) (content : S → Stretch) (place : S → ℕ) (rest : S → Stretch) (faults : S → ℕ) (refuses : S → Error → Type 0)
     (old new : S) (got : List ℕ) : Type 0 where
@@ -99,7 +117,7 @@ pub record EndsEarly (wanted : ℕ) (rest : Stretch) : Type 0 where
   pub badly : rest.ends_well ≡ false
 
 -- A list has grown by what a reader delivered. What follows that is left, unless the reader has failed there.
-pub record Appended (old new : Stretch) (before after : List ℕ) : Type 0 where
+pub record GrewByRead (old new : Stretch) (before after : List ℕ) : Type 0 where
   pub front : List ℕ
   pub grown : after ≡ before ++ front
   pub middle : Stretch

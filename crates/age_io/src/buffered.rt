@@ -13,9 +13,9 @@ ghost use Rattle.age_io.specs.Keeping.{KeepsReader, OrSeek};
 ghost use Rattle.age_io.specs.Failing.{FailsForGood};
 ghost use Rattle.age_io.specs.Filling.{IsFront, Fills, Consumes};
 ghost use Rattle.age_io.specs.Cursor.{Seeks, IsOutside, OrFailed, place_at};
-ghost use Rattle.age_io.specs.CursorLaws.{or_failed_no_device};
+ghost use Rattle.age_io.specs.CursorLemmas.{or_failed_no_device};
 ghost use Rattle.age_io.specs.Buffering.{held, rest_behind};
-ghost use Rattle.age_io.specs.BehindLaws.{stands_behind, spent_behind};
+ghost use Rattle.age_io.specs.BehindLemmas.{stands_behind, spent_behind};
 
 use crate::bufread::BufRead;
 use crate::retry::{read_retrying, seek_retrying};

@@ -8,7 +8,7 @@ ghost use Rattle.age_error.specs.declared.io.Error.TheVariants.{Failed, Device, 
 ghost use Rattle.age_io.specs.Stretch.{Stretch, nothing};
 ghost use Rattle.age_io.specs.Reading.{Reads, most_faults};
 ghost use Rattle.age_io.specs.Cursor.{Seeks};
-ghost use Rattle.age_io.specs.CursorLaws.{too_long_no_device};
+ghost use Rattle.age_io.specs.CursorLemmas.{too_long_no_device};
 ghost use Rattle.age_io.specs.Writing.{Writes, Flushes};
 ghost use Rattle.age_io.specs.Standard.{CountsFaults, CountsOwnFaults, IsNoDevice, IsReadRefusal, IsWriteRefusal, StandsAfter, sought_below, kind_from};
 

@@ -1,5 +1,5 @@
 //! What reads and writes.
-ghost use Rattle.std.specs.Prelude.{◌≡◌, ℕ, ◌^◌, ◌≤◌, ◌<◌, Bool, IsTrue, List, [], ◌++◌, length, refl};
+ghost use Rattle.std.specs.Prelude.{◌≡◌, ℕ, ◌^◌, ◌≤◌, ◌<◌, Bool, IsTrue, List, [], ◌++◌, length, Result, ⊤, refl};
 ghost use Rattle.std.proofs.Common.{◌∙◌};
 ghost use Rattle.age_error.specs.Bytes.{AreBytes};
 ghost use Rattle.age_error.specs.declared.io.Error.{Error};
@@ -37,6 +37,10 @@ pub trait Read {
     /// refuse with `Failed` too. What a seek says of its target is none of them.
     ghost refuses: { Self → Error → Type 0 };
 
+    /// What an implementation says of `read` besides: of the states before and after it, of the buffer before and after it,
+    /// and of its answer.
+    ghost read_besides: { Self → Self → List ℕ → List ℕ → Result ℕ Error → Type 0 } = { λ _ _ _ _ _. ⊤ };
+
     /// Puts the next n bytes in front of `buf` and answers n. It is 0 only for an empty buffer or at a clean end.
     ///
     /// A refusal leaves the place where it was. It comes only where the device failed in this call or has failed
@@ -44,7 +48,8 @@ pub trait Read {
     /// `Device(kind)` says that the device failed in this call. What a state after a success or an interruption may refuse
     /// with, the one before it may. After `Device(Interrupted)` the call may be made again.
     fn read(&mut self, buf: &mut [u8]) -> Result<usize, Error>
-        ensures { Reads tells steady content place rest faults refuses self.old self.new buf.new result };
+        ensures reads { Reads tells steady content place rest faults refuses self.old self.new buf.new result }
+        ensures besides { read_besides self.old self.new buf.old buf.new result };
 
     /// The count of faults is a u64.
     ghost faults_fit: { (r : Self) → faults r < 2 ^ 64 };
@@ -84,17 +89,26 @@ pub trait Write {
     /// The second state is the first with these bytes appended.
     ghost appended: { Self → List ℕ → Self → Type 0 };
 
+    /// What an implementation says of `write` besides: of the states before and after it, of the bytes that it was given, and
+    /// of its answer.
+    ghost write_besides: { Self → Self → List ℕ → Result ℕ Error → Type 0 } = { λ _ _ _ _. ⊤ };
+
+    /// What it says of `flush` besides: of the states before and after it, and of its answer.
+    ghost flush_besides: { Self → Self → Result ⊤ Error → Type 0 } = { λ _ _ _. ⊤ };
+
     /// Appends the first n bytes and answers n. A refusal is one that `refuses` names, and appended nothing.
     ///
     /// `Device(kind)` says that the device failed in this call. A state that was given n bytes may refuse only what the
     /// first one may that is given those and what follows; so may one that was interrupted. Where n is 0, though there
     /// are bytes, the writer may refuse with `WriteZero`.
     fn write(&mut self, bytes: &[u8]) -> Result<usize, Error>
-        ensures { Writes tells faults refuses appended self.old self.new bytes.now result };
+        ensures writes { Writes tells faults refuses appended self.old self.new bytes.now result }
+        ensures besides { write_besides self.old self.new bytes.now result };
 
     /// Sends on what a buffer holds back. It appends nothing.
     fn flush(&mut self) -> Result<(), Error>
-        ensures { Flushes tells faults refuses appended self.old self.new result };
+        ensures flushes { Flushes tells faults refuses appended self.old self.new result }
+        ensures besides { flush_besides self.old self.new result };
 
     /// The count of faults is a u64.
     ghost faults_fit: { (w : Self) → faults w < 2 ^ 64 };
@@ -124,6 +138,8 @@ impl<R: Read> Read for &mut R {
 
     ghost refuses = { λ r. R.refuses r.now };
 
+    ghost read_besides = { λ old new before after result. R.read_besides old.now new.now before after result };
+
     ghost faults_fit = { λ r. R.faults_fit r.now };
 
     ghost spent = { λ r. R.spent r.now };
@@ -152,6 +168,10 @@ impl<W: Write> Write for &mut W {
     ghost refuses = { λ w. W.refuses w.now };
 
     ghost appended = { λ a x b. (a.ghost_name ≡ b.ghost_name) × W.appended a.now x b.now };
+
+    ghost write_besides = { λ old new bytes result. W.write_besides old.now new.now bytes result };
+
+    ghost flush_besides = { λ old new result. W.flush_besides old.now new.now result };
 
     ghost faults_fit = { λ w. W.faults_fit w.now };
 

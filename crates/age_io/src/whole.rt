@@ -3,7 +3,7 @@ ghost use Rattle.std.specs.Prelude.{◌≡◌, ◌≢◌, ℕ, ◌+◌, ◌^◌,
 ghost use Rattle.age_error.specs.Refusals.{IsDevice, IsInterruption};
 ghost use Rattle.age_error.specs.declared.io.Error.TheVariants.{OutOfMemory, UnexpectedEof};
 ghost use Rattle.age_io.specs.Stretch.{Stretch, IsCleanEnd, IsFault, from_place};
-ghost use Rattle.age_io.specs.Reading.{IsQuiet, Delivers, StaysOrFails, TookSome, IsShort, Appended, EndsEarly, Gave, TriedAgain, most_faults};
+ghost use Rattle.age_io.specs.Reading.{IsQuiet, Delivers, StaysOrFails, TookSome, IsShort, GrewByRead, EndsEarly, Gave, TriedAgain, most_faults};
 ghost use Rattle.age_io.specs.Keeping.{KeepsReader, OrEarly};
 ghost use Rattle.age_io.specs.Writing.{Retried, WritesAll};
 
@@ -107,7 +107,7 @@ pub fn read_to_end<R: Read>(
     ensures end { IsTrue (R.tells reader.old) → OnOk result (IsTrue (R.rest reader.old).ends_well) }
     ensures left { IsTrue (R.tells reader.old) → OnOk result (IsCleanEnd (R.rest reader.new)) }
     ensures err { IsTrue (R.tells reader.old) → OnErr result
-        (Appended (R.rest reader.old) (R.rest reader.new) buf.old.items buf.new.items) }
+        (GrewByRead (R.rest reader.old) (R.rest reader.new) buf.old.items buf.new.items) }
     ensures cause { IsTrue (R.tells reader.old) → IfErr result (λ e. e ≢ OutOfMemory →
         IsQuiet (R.faults reader.old) (R.faults reader.new) → (R.rest reader.old).ends_well ≡ false) }
 {

@@ -4,12 +4,12 @@ use Rattle.std.proofs.Common.{◌∙◌, inl, inr}
 use Rattle.age_error.specs.Bytes.{AreBytesOf}
 use Rattle.age_error.specs.DecryptErrors.{OutOfMemory}
 use Rattle.age_suite.specs.Suite.{IsCipher, IsAgreement}
-use Rattle.age_format.specs.Stanza.{StanzaValue}
-use Rattle.age_format.specs.Wrapping.{WrapAnswer}
-use Rattle.age_format.specs.Unwrapping.{UnwrapAnswer, Steady, FirstOf}
-use Rattle.age_format.specs.Belonging.{AnswersBeside, BelongsTo}
-use Rattle.age_format.specs.BelongingLaws.{OpensFirst, beside, by_stanza}
-use Rattle.age_keys.specs.X25519.{HasShare, WrapsFor, opened_with, UnwrapsBy}
+use Rattle.age_v1.specs.Stanza.{StanzaValue}
+use Rattle.age_v1.specs.Recipients.{WrapAnswer}
+use Rattle.age_v1.specs.Identities.{UnwrapAnswer, Steady, FirstOf}
+use Rattle.age_v1.specs.Belonging.{AnswersBeside, BelongsTo}
+use Rattle.age_v1.proofs.BelongingInTurn.{OpensFirst, beside, by_stanza}
+use Rattle.age_v1.specs.X25519.{HasShare, WrapsFor, opened_with, UnwrapsBy}
 use Rattle.age_keys.specs.X25519Laws.{has_other_tag, IsPassedOver, PassesUnopened}
 use Rattle.age_keys.proofs.OwnTypes.{unchanged, passes_other as other_passed, answers_own}
 use Rattle.age_keys.proofs.Unwrapped.{one_share, unwraps_what_it_wraps}

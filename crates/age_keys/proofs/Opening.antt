@@ -5,7 +5,7 @@ use Rattle.age_error.specs.Bytes.{AreBytes, AreBytesOf}
 use Rattle.age_suite.specs.Suite.{IsCipher}
 use Rattle.age_base64.specs.Base64.{columns}
 use Rattle.age_base64.proofs.Columns.{columns_same}
-use Rattle.age_keys.specs.OwnType.{no_nonce}
+use Rattle.age_v1.specs.RecipientType.{no_nonce}
 
 pub no_nonce-bytes : AreBytesOf 12 no_nonce
 no_nonce-bytes = record { len = refl; bytes = All-replicate (λ x. x < 2 ^ 8) 12 0 (omega arith) }

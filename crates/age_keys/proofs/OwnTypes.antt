@@ -2,10 +2,10 @@
 use Rattle.std.specs.Prelude.{◌≡◌, ◌⊎◌, ℕ, not, List, None, Some, Err, IsTrue, bytes_eq}
 use Rattle.std.proofs.Common.{◌∙◌, ap, inl, inr}
 use Rattle.age_error.specs.DecryptErrors.{OutOfMemory}
-use Rattle.age_format.specs.Stanza.{StanzaValue}
-use Rattle.age_format.specs.Unwrapping.{UnwrapAnswer}
+use Rattle.age_v1.specs.Stanza.{StanzaValue}
+use Rattle.age_v1.specs.Identities.{UnwrapAnswer}
 use Rattle.age_format.proofs.Tags.{other_tag}
-use Rattle.age_keys.specs.OwnType.{UnwrapsType}
+use Rattle.age_v1.specs.RecipientType.{UnwrapsType}
 
 -- nothing was answered, and nothing changed
 pub unchanged : {I : Type 0} (identity after : I) (answer : UnwrapAnswer) → after ≡ identity → (answer ≡ None) ⊎ (answer ≡ Some (Err OutOfMemory))

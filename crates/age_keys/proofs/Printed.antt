@@ -7,7 +7,7 @@ use Rattle.age_bech32.specs.Groups.{group_count}
 use Rattle.age_bech32.specs.Written.{bech32_text, values_of_bytes}
 use Rattle.age_bech32.proofs.Spelling.{symbol-is}
 use Rattle.age_bech32.proofs.Written.{length_text, values-fit}
-use Rattle.age_keys.specs.KeyTexts.{recipient_prefix}
+use Rattle.age_v1.specs.X25519.{recipient_prefix}
 
 prefix-low : All (λ b. 33 ≤ b) recipient_prefix
 prefix-low =

@@ -15,7 +15,8 @@ use Rattle.age_bech32.specs.Refusals.{MayBeWritten}
 use Rattle.age_bech32.specs.Written.{bech32_text}
 use Rattle.age_bech32.proofs.Readings.{reading}
 use Rattle.age_bech32.proofs.Written.{written}
-use Rattle.age_keys.specs.KeyTexts.{identity_prefix, recipient_prefix, IsKeyText, ReadsBack}
+use Rattle.age_keys.specs.KeyTexts.{KeyReadsBack}
+use Rattle.age_v1.specs.X25519.{identity_prefix, recipient_prefix, IsKeyText}
 use Rattle.age_keys.proofs.Printed.{may_be_written}
 use Rattle.age_keys.proofs.RefusedTexts.{refused}
 
@@ -59,7 +60,7 @@ lowered_same prefix text other key is b =
     ∙ ap (λ rest. lowered prefix ++ 49 ∷ rest) rests ∙ sym (map-append to_ascii_lowercase prefix (49 ∷ b.rest)) in
     ap lowered a.parts ∙ parts ∙ ap lowered (sym b.parts)
 
-reads_back : (prefix : List ℕ) → MayBeWritten prefix → ReadsBack prefix
+reads_back : (prefix : List ℕ) → MayBeWritten prefix → KeyReadsBack prefix
 reads_back prefix may key bytes =
     let reads : IsBech32 (bech32_text prefix key) prefix key = (written prefix key may.0 may.1 bytes.bytes).0 in
     let text : IsKeyText prefix (bech32_text prefix key) key = record { written = prefix; same = refl; reads = reads; size = bytes.len } in
@@ -71,8 +72,8 @@ reads_back prefix may key bytes =
       accepted = λ size_message message is. refused prefix size_message (bech32_text prefix key) message is key text;
     }
 
-pub reads_identities : ReadsBack identity_prefix
+pub reads_identities : KeyReadsBack identity_prefix
 reads_identities = reads_back identity_prefix identity-may_be_written
 
-pub reads_recipients : ReadsBack recipient_prefix
+pub reads_recipients : KeyReadsBack recipient_prefix
 reads_recipients = reads_back recipient_prefix may_be_written

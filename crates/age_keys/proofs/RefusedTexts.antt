@@ -3,7 +3,8 @@ use Rattle.std.specs.Prelude.{◌≡◌, ◌≢◌, ◌⊎◌, ℕ, List, length
 use Rattle.std.proofs.Common.{◌∙◌, sym, ap, inl, inr}
 use Rattle.age_bech32.specs.Symbols.{lowered}
 use Rattle.age_bech32.proofs.Readings.{reading}
-use Rattle.age_keys.specs.KeyTexts.{IsKeyText, IsRefusedAs}
+use Rattle.age_keys.specs.KeyTexts.{IsRefusedAs}
+use Rattle.age_v1.specs.X25519.{IsKeyText}
 
 of_cause : (prefix key other written bytes message size_message incorrect : List ℕ) → lowered key ≡ lowered prefix → length other ≡ 32
     → key ≡ written → other ≡ bytes

@@ -2,8 +2,8 @@
 use Rattle.std.proofs.Common.{◌≡◌, ℕ, List, [], ◌∷◌, length, ap, sym, ◌∙◌, Option, Some, None, MatchOption}
 use Rattle.age_error.specs.Bytes.{AreBytesOf}
 use Rattle.age_base64.specs.Base64.{columns}
-use Rattle.age_format.specs.Stanza.{StanzaValue}
-use Rattle.age_keys.specs.X25519.{HasShare}
+use Rattle.age_v1.specs.Stanza.{StanzaValue}
+use Rattle.age_v1.specs.X25519.{HasShare}
 
 head_is : (a b : List ℕ) (rest : List (List ℕ)) → a ∷ [] ≡ b ∷ rest → a ≡ b
 head_is a b rest e = cc

@@ -14,15 +14,15 @@ use Rattle.age_suite.specs.Draw.{taken, left_after}
 use Rattle.age_suite.specs.Suite.{IsCipher, IsStretching}
 use Rattle.age_base64.specs.Base64.{columns}
 use Rattle.age_base64.proofs.Columns.{columns_same}
-use Rattle.age_format.specs.Stanza.{StanzaValue}
-use Rattle.age_format.specs.Wrapping.{Wrapped, WrapAnswer}
-use Rattle.age_format.specs.Unwrapping.{UnwrapAnswer, Steady, FirstOf}
-use Rattle.age_format.specs.Belonging.{BelongsTo}
-use Rattle.age_format.specs.BelongingLaws.{OpensFirst, by_stanza}
-use Rattle.age_format.specs.Drawing.{WithDrawn, IsOrNoMemory}
+use Rattle.age_v1.specs.Stanza.{StanzaValue}
+use Rattle.age_v1.specs.Recipients.{Wrapped, WrapAnswer}
+use Rattle.age_v1.specs.Identities.{UnwrapAnswer, Steady, FirstOf}
+use Rattle.age_v1.specs.Belonging.{BelongsTo}
+use Rattle.age_v1.proofs.BelongingInTurn.{OpensFirst, by_stanza}
+use Rattle.age_v1.specs.Encrypting.{WithDrawn, IsOrNoMemory}
 use Rattle.age_format.proofs.Outcomes.{same_value, no_refusal, was_due}
-use Rattle.age_keys.specs.OwnType.{no_nonce}
-use Rattle.age_keys.specs.Scrypt.{PassphraseRecipient, PassphraseIdentity, Stretching, HasStretching, stretch_salt, scrypt_stanza, wrapped_under, WrapsWith, WrapsUnder, key_under, UnwrapsUnder}
+use Rattle.age_v1.specs.RecipientType.{no_nonce}
+use Rattle.age_v1.specs.Scrypt.{PassphraseRecipient, PassphraseIdentity, Stretching, HasStretching, stretch_salt, scrypt_stanza, wrapped_under, WrapsWithSalt, WrapsUnder, key_under, UnwrapsUnder}
 use Rattle.age_keys.specs.ScryptLaws.{IsMeantFor, has_other_tag}
 use Rattle.age_keys.proofs.Opening.{no_nonce-bytes}
 use Rattle.age_keys.proofs.OwnTypes.{unchanged, passes_other, answers_own}
@@ -131,9 +131,9 @@ module _ (seal_of : List ℕ → List ℕ → List ℕ → List ℕ) (opened : L
   opens_first : OpensFirst Asks Wraps recipient identity
   opens_first file_key wrapped sixteen wraps_so =
       let (draws, left, made_so) = wraps_so in
-      let (enough, given) = was_drawn (nat_le 16 (length draws)) 16 (λ salt. WithDrawn 24 (λ label. WrapsWith seal_of stretch_of accepts recipient file_key salt label)) draws left
+      let (enough, given) = was_drawn (nat_le 16 (length draws)) 16 (λ salt. WithDrawn 24 (λ label. WrapsWithSalt seal_of stretch_of accepts recipient file_key salt label)) draws left
       wrapped made_so in
-      let (more, wrapping) = was_drawn (nat_le 24 (length (drop 16 draws))) 24 (WrapsWith seal_of stretch_of accepts recipient file_key (take 16 draws)) (drop 16 draws) left
+      let (more, wrapping) = was_drawn (nat_le 24 (length (drop 16 draws))) 24 (WrapsWithSalt seal_of stretch_of accepts recipient file_key (take 16 draws)) (drop 16 draws) left
       wrapped given in
       let (f, s, l, after) = wrapping in
       let due = was_due (wrapped_under seal_of stretch_of accepts recipient file_key (take 16 draws) (take 24 (drop 16 draws))) (drop 24 (drop 16 draws)) left wrapped after in

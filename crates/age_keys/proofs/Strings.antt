@@ -8,9 +8,8 @@ use Rattle.std.proofs.lemmas.Str.Parse.{digit_from_value}
 use Rattle.age_error.specs.Bytes.{AreBytesOf}
 use Rattle.age_base64.specs.Base64.{columns}
 use Rattle.age_base64.proofs.Columns.{IsSymbol, columns_symbols, length-columns}
-use Rattle.age_format.specs.Bytes.{IsGraphic, IsString, is_string_of}
-use Rattle.age_format.specs.Stanza.{StanzaValue}
-use Rattle.age_format.proofs.Strings.{string_tested}
+use Rattle.age_v1.specs.Stanza.{IsGraphic, IsString, is_string_of, StanzaValue}
+use Rattle.age_v1.proofs.Strings.{string_tested}
 
 graphic : (xs : List ℕ) → AllByRecursion IsSymbol xs → AllByRecursion IsGraphic xs
 graphic [] h = tt

@@ -8,13 +8,13 @@ use Rattle.age_suite.specs.Suite.{IsCipher, IsAgreement}
 use Rattle.age_suite.proofs.Digests.{hkdf_of-bytes}
 use Rattle.age_base64.specs.Base64.{columns}
 use Rattle.age_base64.proofs.Columns.{columns_same}
-use Rattle.age_format.specs.Stanza.{StanzaValue}
-use Rattle.age_format.specs.Wrapping.{Wrapped}
-use Rattle.age_format.specs.Unwrapping.{UnwrapAnswer}
-use Rattle.age_format.specs.Drawing.{Ends}
+use Rattle.age_v1.specs.Stanza.{StanzaValue}
+use Rattle.age_v1.specs.Recipients.{Wrapped}
+use Rattle.age_v1.specs.Identities.{UnwrapAnswer}
+use Rattle.age_v1.specs.Encrypting.{Ends}
 use Rattle.age_format.proofs.Outcomes.{same_value, no_refusal, was_due}
-use Rattle.age_keys.specs.OwnType.{no_nonce}
-use Rattle.age_keys.specs.X25519.{wrap_key, no_secret, x25519_stanza, HasShare, WrapsWith, wrapped_with, opened_with, UnwrapsBy}
+use Rattle.age_v1.specs.RecipientType.{no_nonce}
+use Rattle.age_v1.specs.X25519.{wrap_key, no_secret, x25519_stanza, HasShare, WrapsWithEphemeral, wrapped_with, opened_with, UnwrapsBy}
 use Rattle.age_keys.specs.X25519Laws.{UnwrapsWhatItWraps}
 use Rattle.age_keys.proofs.Opening.{no_nonce-bytes}
 use Rattle.age_keys.proofs.OwnTypes.{answers_own}
@@ -87,7 +87,7 @@ module _ (seal_of : List ℕ → List ℕ → List ℕ → List ℕ) (opened : L
 
   pub unwraps_what_it_wraps : UnwrapsWhatItWraps seal_of opened shared_of public_of
   unwraps_what_it_wraps secret file_key draws left wrapped s wraps =
-      let (enough, given) = was_drawn (nat_le 32 (length draws)) 32 (WrapsWith seal_of shared_of public_of (public_of secret) file_key) draws left wrapped wraps in
+      let (enough, given) = was_drawn (nat_le 32 (length draws)) 32 (WrapsWithEphemeral seal_of shared_of public_of (public_of secret) file_key) draws left wrapped wraps in
       let (f, e, after) = given in
       let ephemeral = take 32 draws in
       let due = was_due (wrapped_with seal_of shared_of public_of (public_of secret) file_key ephemeral) (drop 32 draws) left wrapped after in

@@ -1,26 +1,12 @@
 -- Texts of native keys: Bech32 (BIP 173) of 32 bytes, with the prefixes that age-encryption.org/v1 has in the section "The X25519
 -- recipient type". A prefix is read in either case.
-use Rattle.std.specs.Prelude.{◌≡◌, ◌≢◌, ◌⊎◌, ℕ, List, length, codes}
+use Rattle.std.specs.Prelude.{List, codes, length, ℕ, ◌≡◌, ◌≢◌, ◌⊎◌}
 use Rattle.age_error.specs.Bytes.{AreBytesOf}
 use Rattle.age_bech32.specs.Bech32.{IsBech32}
 use Rattle.age_bech32.specs.Refusals.{IsNoBech32}
-use Rattle.age_bech32.specs.Symbols.{lowered, has_upper}
+use Rattle.age_bech32.specs.Symbols.{has_upper, lowered}
 use Rattle.age_bech32.specs.Written.{bech32_text}
-
--- standard: a recipient is Bech32 with the prefix `age`, in lower case
-abbrev pub recipient_prefix : List ℕ
-recipient_prefix = codes "age"
-
--- standard: an identity is Bech32 with the prefix `AGE-SECRET-KEY-`, in upper case
-abbrev pub identity_prefix : List ℕ
-identity_prefix = codes "AGE-SECRET-KEY-"
-
--- a text of a key with this prefix in either case
-pub record IsKeyText (prefix text key : List ℕ) : Type 0 where
-  pub written : List ℕ
-  pub same : lowered written ≡ lowered prefix
-  pub reads : IsBech32 text written key
-  pub size : length key ≡ 32
+use Rattle.age_v1.specs.X25519.{IsKeyText}
 
 -- it is Bech32 of other bytes: the prefix is another, or they are more or fewer than 32
 pub record IsOtherText (prefix size_message text message : List ℕ) : Type 0 where
@@ -43,5 +29,5 @@ pub record IsReadBack (prefix key : List ℕ) : Type 0 where
   pub accepted : (size_message message : List ℕ) → IsRefusedAs prefix size_message (bech32_text prefix key) message → ⊥
 
 -- so it is of each key of 32 bytes
-abbrev pub ReadsBack : List ℕ → Type 0
-ReadsBack prefix = (key : List ℕ) → AreBytesOf 32 key → IsReadBack prefix key
+abbrev pub KeyReadsBack : List ℕ → Type 0
+KeyReadsBack prefix = (key : List ℕ) → AreBytesOf 32 key → IsReadBack prefix key

@@ -1,7 +1,7 @@
 -- What a recipient of a passphrase wraps an identity of it unwraps.
 use Rattle.std.specs.Prelude.{◌≡◌, ◌≤◌, Bool, bytes_eq, codes, not}
-use Rattle.age_format.specs.Stanza.{StanzaValue}
-use Rattle.age_keys.specs.Scrypt.{PassphraseRecipient, PassphraseIdentity}
+use Rattle.age_v1.specs.Stanza.{StanzaValue}
+use Rattle.age_v1.specs.Scrypt.{PassphraseRecipient, PassphraseIdentity}
 
 -- a stanza of another type
 abbrev pub has_other_tag : StanzaValue → Bool

@@ -2,7 +2,8 @@
 ghost use Rattle.std.specs.Prelude.{◌≡◌, IfOk, MatchResult, string_bytes};
 ghost use Rattle.age_bech32.specs.Refusals.{MayBeWritten};
 ghost use Rattle.age_bech32.specs.Written.{bech32_text};
-ghost use Rattle.age_keys.specs.KeyTexts.{identity_prefix, recipient_prefix, IsKeyText, IsRefusedAs, ReadsBack};
+ghost use Rattle.age_keys.specs.KeyTexts.{IsRefusedAs, KeyReadsBack};
+ghost use Rattle.age_v1.specs.X25519.{identity_prefix, recipient_prefix, IsKeyText};
 
 use age_bech32::{decode_array, encode};
 use std::alloc::{AllocError, Global};
@@ -43,6 +44,6 @@ pub(crate) fn text_of(alloc: Global, prefix: &str, key: &[u8; 32]) -> Result<Str
 /// `alone`), and parsing doesn't refuse it (`accepted`). And a text of them in that case is the one that is printed (`printed`). For
 /// proofs alone: it does nothing.
 pub fn text_laws()
-    ensures identity { ReadsBack identity_prefix }
-    ensures recipient { ReadsBack recipient_prefix }
+    ensures identity { KeyReadsBack identity_prefix }
+    ensures recipient { KeyReadsBack recipient_prefix }
 {}

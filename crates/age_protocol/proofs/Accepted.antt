@@ -8,15 +8,16 @@ use Rattle.age_error.specs.Bytes.{AreBytesOf}
 use Rattle.age_io.specs.declared.traits.Read.{Ghosts}
 use Rattle.age_io.specs.Stretch.{Stretch}
 use Rattle.age_io.specs.Reading.{IsQuiet}
-use Rattle.age_format.specs.Stanza.{StanzaValue, canonical}
-use Rattle.age_format.specs.Header.{IsHeaderText, KeepsScryptRule, covered_text, header_text}
-use Rattle.age_format.proofs.Headers.{canonical_header}
-use Rattle.age_format.specs.HeaderV1.{header_mac}
-use Rattle.age_format.specs.Verdict.{Verdict, Header, UnknownVersion, Bad, IsVerdict}
+use Rattle.age_v1.specs.HeaderTexts.{canonical, IsHeaderText}
+use Rattle.age_v1.specs.Stanza.{StanzaValue}
+use Rattle.age_v1.specs.Header.{KeepsScryptRule, covered_text, header_text}
+use Rattle.age_v1.proofs.Headers.{canonical_header}
+use Rattle.age_v1.specs.HeaderMac.{header_mac}
+use Rattle.age_v1.specs.HeaderVerdict.{Verdict, Header, UnknownVersion, Bad, IsVerdict}
 use Rattle.age_format.specs.ReadingHeader.{RefusesHeader}
-use Rattle.age_stream.specs.Payload.{Seal, payload}
-use Rattle.age_protocol.specs.File.{BeginsAsFile, IsFileOf, payload_key, file_front, file_text}
-use Rattle.age_protocol.specs.Decrypting.{TookHeaderAndNonce, RefusesAfter, WhyNoFront}
+use Rattle.age_v1.specs.Payload.{Seal, payload, payload_key}
+use Rattle.age_v1.specs.File.{BeginsAsFile, IsFileOf, file_front, file_text}
+use Rattle.age_protocol.specs.Decrypting.{TookHeaderAndNonce, BreaksFrontRules, WhyNoFront}
 use Rattle.age_protocol.specs.Laws.{ReadsBack, RefusesNoFile, FileOpens}
 
 -- two lists of one length with something after them
@@ -136,7 +137,7 @@ module _ (alone : ReadsAlone) (one : HasOneVerdict) (legacy : Bool) (text : List
 
   -- what follows the header is the nonce, and the stanzas keep the rule
   after_accepted : (f g : ℕ) (old new : Stretch) (p q : ℕ) (e : DecryptRefusal) → BeginsAs legacy text stanzas mac nonce more old.bytes
-      → IsQuiet f g → RefusesAfter legacy f g old new p q e → e ≡ refusals.OutOfMemory
+      → IsQuiet f g → BreaksFrontRules legacy f g old new p q e → e ≡ refusals.OutOfMemory
   after_accepted f g old new p q e begins quiet why =
       let same = one legacy old.bytes why.text text (Header why.stanzas why.mac) (Header stanzas mac) why.header.verdict (verdict_of old.bytes begins) in
       let left : why.after.bytes ≡ nonce ++ more =

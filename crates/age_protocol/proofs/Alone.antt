@@ -1,9 +1,7 @@
 -- Of one identity the first that answers is itself.
 use Rattle.std.proofs.Common.{◌≡◌, List, [], ◌∷◌, ◌++◌, Option, Some, None, refl, sym, subst}
-use Rattle.age_format.specs.Stanza.{StanzaValue}
-use Rattle.age_format.specs.Unwrapping.{UnwrapAnswer, Unwraps}
-use Rattle.age_protocol.specs.Answering.{FirstThatAnswers}
-use Rattle.age_protocol.specs.Parts.{FirstAnswer}
+use Rattle.age_v1.specs.Stanza.{StanzaValue}
+use Rattle.age_v1.specs.Identities.{UnwrapAnswer, Unwraps, FirstThatAnswers, FirstAnswer}
 
 decider_is : {I : Type 0} (one : I) (passed : List I) (decider : I) (later : List I) → Path (List I) (one ∷ []) (passed ++ decider ∷ later) → decider ≡ one
 decider_is one [] decider later is = cc

@@ -5,15 +5,13 @@ use Rattle.std.proofs.Common.{◌∙◌, sym, ap, subst, inl, inr, append_assoc,
 use Rattle.std.proofs.lemmas.List.{length-take-le}
 use Rattle.std.proofs.lemmas.List.Elements.{All-nil, All-head, All-tail, All-append}
 use Rattle.age_error.specs.EncryptErrors.{EncryptRefusal, ShortRandom, OutOfMemory}
-use Rattle.age_format.specs.Stanza.{StanzaValue}
-use Rattle.age_format.specs.Wrapping.{WrapAnswer, Wrapped}
-use Rattle.age_format.specs.Unwrapping.{UnwrapAnswer, Unwraps}
-use Rattle.age_stream.specs.Payload.{Seal}
+use Rattle.age_v1.specs.Stanza.{StanzaValue}
+use Rattle.age_v1.specs.Recipients.{WrapAnswer, Wrapped, Labels, Gathered, nothing_yet, has_scrypt, agreed_labels, judged, with_labels, greased, closed}
+use Rattle.age_v1.specs.Identities.{UnwrapAnswer, Unwraps}
+use Rattle.age_v1.specs.Payload.{Seal}
 use Rattle.age_suite.specs.Draw.{taken, left_after}
-use Rattle.age_protocol.specs.Labels.{Labels, Gathered, nothing_yet, has_scrypt, agreed_labels, judged, with_labels, greased, closed}
-use Rattle.age_format.specs.Drawing.{UnlessNoMemory, Ends, Then, After}
-use Rattle.age_protocol.specs.Encrypting.{Prepared, PreparesWith, PreparesRest, PreparesNonce, WrapsInTurn}
-use Rattle.age_format.specs.Belonging.{MayWrap}
+use Rattle.age_v1.specs.Encrypting.{UnlessNoMemory, Ends, OnSuccess, After, Prepared, PreparesWith, PreparesRest, PreparesNonce, WrapsInTurn}
+use Rattle.age_v1.specs.Belonging.{MayWrap}
 use Rattle.age_format.proofs.Outcomes.{same_value, no_refusal}
 use Rattle.age_protocol.specs.Several.{stanzas_of, grease_beside, HoldsAnswers, HoldAnswers, WrapsStrange, OneDecrypts, AnyDecrypts}
 use Rattle.age_protocol.proofs.Alone.{alone_asked}
@@ -128,7 +126,7 @@ module _ {R : Type 0} (wraps : R → List ℕ → List ℕ → WrapAnswer → Li
 
   after_all : (gathered : Result Gathered EncryptRefusal) (recipients : List R) (grease : Option StanzaValue) (file_key : List ℕ) (file : Prepared)
       (draws between left : List ℕ) → length file_key ≡ 16 → WrapsInTurn wraps file_key nothing_yet recipients draws gathered between
-      → Then gathered (λ all. PreparesRest file_key grease all) between (Ok file) left → HoldsAnswers wraps recipients grease file
+      → OnSuccess gathered (λ all. PreparesRest file_key grease all) between (Ok file) left → HoldsAnswers wraps recipients grease file
   after_all (Err e) recipients grease file_key file draws between left sixteen turn ended = no_refusal file e ended.0
   after_all (Ok all) recipients grease file_key file draws between left sixteen turn rest =
       let (answers, each, are) = in_turn file_key nothing_yet recipients draws all between turn in

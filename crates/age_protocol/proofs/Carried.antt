@@ -2,17 +2,16 @@
 use Rattle.std.proofs.Common.{◌≡◌, ◌∙◌, refl, sym, ap, subst, inl, inr, ℕ, true, List, [], ◌∷◌, Some, Ok, Err, arith}
 use Rattle.age_error.specs.DecryptErrors.{DecryptRefusal, OutOfMemory, decrypt_refusal, decrypt_of_io}
 use Rattle.age_io.specs.Stretch.{whole, stretch-ext}
-use Rattle.age_armor.specs.Armor.{Carries}
-use Rattle.age_armor.specs.Delivered.{delivered, stretch_of, Clean}
-use Rattle.age_format.specs.Stanza.{StanzaValue, canonical}
-use Rattle.age_format.specs.HeaderV1.{header_mac}
-use Rattle.age_format.specs.Unwrapping.{UnwrapAnswer, Unwraps}
-use Rattle.age_format.specs.Header.{covered_text}
-use Rattle.age_stream.specs.Payload.{Seal, payload, LastIsNoMiddle}
-use Rattle.age_protocol.specs.Answering.{decided}
-use Rattle.age_protocol.specs.File.{BeginsAsFile, IsFileOf, payload_key}
-use Rattle.age_protocol.specs.Parts.{FirstAnswer, IsFileFor}
-use Rattle.age_protocol.specs.WholeFiles.{read_of, RefusesRest, RefusesAsked, Refuses}
+use Rattle.age_v1.specs.Armor.{Carries}
+use Rattle.age_v1.specs.DeliveredArmor.{text_delivers, stretch_of, Clean}
+use Rattle.age_v1.specs.HeaderTexts.{canonical}
+use Rattle.age_v1.specs.Stanza.{StanzaValue}
+use Rattle.age_v1.specs.HeaderMac.{header_mac}
+use Rattle.age_v1.specs.Identities.{UnwrapAnswer, Unwraps, decided, FirstAnswer, IsFileFor}
+use Rattle.age_v1.specs.Header.{covered_text}
+use Rattle.age_v1.specs.Payload.{Seal, payload, LastIsNoMiddle, payload_key}
+use Rattle.age_v1.specs.File.{BeginsAsFile, IsFileOf}
+use Rattle.age_protocol.specs.WholeFiles.{read_of, RefusesRest, RefusesAsked, RefusesDecrypting}
 use Rattle.age_protocol.specs.Laws.{OneHeader, OnePlain, GivesBack, RefusesNone}
 use Rattle.age_protocol.proofs.Alone.{alone_answers}
 use Rattle.age_protocol.proofs.Accepted.{ReadsAlone, HasOneVerdict, front_accepted, reads_back, memory_or_not, begins as file_begins, begins_as}
@@ -23,7 +22,7 @@ CarriesOne = (text bytes others : List ℕ) → Carries text bytes → Carries t
 
 -- and delivers it
 abbrev pub DeliversCarried : Type 0
-DeliversCarried = (text bytes : List ℕ) → Carries text bytes → delivered text true ≡ record { bytes = bytes; ending = Clean }
+DeliversCarried = (text bytes : List ℕ) → Carries text bytes → text_delivers text true ≡ record { bytes = bytes; ending = Clean }
 
 same_key : (a b : List ℕ) → Path UnwrapAnswer (Some (Ok a)) (Some (Ok b)) → a ≡ b
 same_key a b is = cc
@@ -80,7 +79,7 @@ module _ {I : Type 0} (seal_of : Seal) (unwraps : I → List StanzaValue → Unw
           | inr is ↦ subst (λ a. RefusesRest seal_of (decided a) h asked.nonce asked.left refusal) is asked.why
         ]
 
-    none : Refuses seal_of unwraps before text after refusal → refusal ≡ OutOfMemory
+    none : RefusesDecrypting seal_of unwraps before text after refusal → refusal ≡ OutOfMemory
     none why = elim why [
       | inl (same, inl memory) ↦ memory
       | inl (same, inr lacks) ↦

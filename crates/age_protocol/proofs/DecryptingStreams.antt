@@ -8,17 +8,18 @@ use Rattle.age_io.specs.declared.traits.Read.{Ghosts as ReadGhosts}
 use Rattle.age_io.specs.declared.traits.Write.{Ghosts as WriteGhosts}
 use Rattle.age_io.specs.Stretch.{Stretch}
 use Rattle.age_format.specs.HeaderV1.{HeaderValue}
-use Rattle.age_format.specs.Stanza.{StanzaValue}
-use Rattle.age_format.specs.Unwrapping.{UnwrapAnswer}
+use Rattle.age_v1.specs.Stanza.{StanzaValue}
+use Rattle.age_v1.specs.Identities.{UnwrapAnswer}
+use Rattle.age_v1.specs.Claims.{AppendsPlaintext}
 use Rattle.age_protocol.specs.Texts.{RefusesText, BeginsText, RefusesAnswered, UnderMac}
 use Rattle.age_protocol.specs.DecryptingStreams.{DecryptsAll, DecryptsPart}
 use Rattle.age_protocol.specs.declared.error.FileError.{FileError}
 use Rattle.age_protocol.specs.declared.error.FileError.TheVariants.{Io, Encrypt, Decrypt}
-use Rattle.age_protocol.specs.WholeFiles.{LacksFront, read_of, AppendsPlaintext}
+use Rattle.age_protocol.specs.WholeFiles.{LacksFront, read_of}
 use Rattle.age_protocol.specs.FileErrors.{IfIo, RefusesHead, RefusesPlain}
-use Rattle.age_stream.specs.Chunks.{delivered}
+use Rattle.age_v1.specs.DeliveredPayload.{payload_delivers}
 use Rattle.age_stream.specs.Keeping.{Stops}
-use Rattle.age_stream.specs.Payload.{Seal}
+use Rattle.age_v1.specs.Payload.{Seal}
 use Rattle.age_io.specs.Copying.{AppendsFront}
 use Rattle.age_io.specs.Writing.{HandsOn}
 use Rattle.age_error.specs.declared.io.Error.{Error}
@@ -93,7 +94,7 @@ decrypts_all_as {S} {R} {W} {T} suite read write gives by answers own IsFor IsOw
       by_cause inl
       (λ opened.
       let begins = BeginsText read.tells read.rest input in
-      let Appends = λ (key : List ℕ) (left : Stretch). AppendsFront write.appended (delivered suite.opened key 0 left).bytes old new in
+      let Appends = λ (key : List ℕ) (left : Stretch). AppendsFront write.appended (payload_delivers suite.opened key 0 left).bytes old new in
       inr (under_mac begins begins (λ h nonce left begun. begun) gives by Appends Appends given (λ key left appended. appended) opened))
       (all.front reader_told writer_told);
   io =

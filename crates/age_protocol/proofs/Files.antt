@@ -8,14 +8,16 @@ use Rattle.age_error.specs.declared.io.Error.{Error}
 use Rattle.age_suite.specs.Mac.{hkdf_of}
 use Rattle.age_base64.specs.Lines.{line}
 use Rattle.std.specs.List.{flat_map}
-use Rattle.age_format.specs.Header.{IsHeader, covered_text, header_text, mac_line, version_line}
-use Rattle.age_format.specs.HeaderV1.{HeaderValue, header_mac}
-use Rattle.age_format.specs.Stanza.{stanza_text}
-use Rattle.age_stream.specs.Payload.{Seal, payload}
-use Rattle.age_stream.specs.Laws.{PayloadLength}
+use Rattle.age_v1.specs.Header.{IsHeader, covered_text, header_text, mac_line, version_line}
+use Rattle.age_format.specs.HeaderV1.{HeaderValue}
+use Rattle.age_v1.specs.HeaderMac.{header_mac}
+use Rattle.age_v1.specs.Stanza.{stanza_text}
+use Rattle.age_v1.specs.Payload.{Seal, payload, payload_key}
+use Rattle.age_v1.specs.PayloadLaws.{PayloadLength}
 use Rattle.age_stream.specs.declared.writer.StreamWriter.{StreamWriter}
-use Rattle.age_protocol.specs.Encrypting.{Prepared}
-use Rattle.age_protocol.specs.File.{IsReady, IsFileOf, payload_key, file_front, file_text}
+use Rattle.age_v1.specs.Encrypting.{Prepared}
+use Rattle.age_protocol.specs.Ready.{IsReady}
+use Rattle.age_v1.specs.File.{IsFileOf, file_front, file_text}
 use Rattle.age_protocol.specs.Laws.{CarriesItself}
 use Rattle.age_protocol.specs.Starting.{Starts, WritesFile}
 

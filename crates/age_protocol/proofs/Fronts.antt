@@ -10,14 +10,16 @@ use Rattle.age_io.specs.Stretch.{Stretch, whole}
 use Rattle.age_io.specs.Reading.{Delivers}
 use Rattle.age_io.proofs.Delivering.{Delivers-joined}
 use Rattle.age_io.specs.declared.traits.Read.{Ghosts}
-use Rattle.age_format.specs.HeaderV1.{HeaderValue, header_mac}
-use Rattle.age_format.specs.Stanza.{StanzaValue, canonical}
-use Rattle.age_format.specs.Header.{IsHeader, header_text, covered_text}
-use Rattle.age_format.specs.Verdict.{Header}
+use Rattle.age_format.specs.HeaderV1.{HeaderValue}
+use Rattle.age_v1.specs.HeaderMac.{header_mac}
+use Rattle.age_v1.specs.HeaderTexts.{canonical}
+use Rattle.age_v1.specs.Stanza.{StanzaValue}
+use Rattle.age_v1.specs.Header.{IsHeader, header_text, covered_text}
+use Rattle.age_v1.specs.HeaderVerdict.{Header}
 use Rattle.age_format.specs.ReadingHeader.{TookVerdict, ReadsOrRefuses}
 use Rattle.age_format.proofs.HeaderReading.{header_of}
-use Rattle.age_stream.specs.Payload.{Seal, payload}
-use Rattle.age_protocol.specs.File.{payload_key, file_front, file_text, IsFileOf}
+use Rattle.age_v1.specs.Payload.{Seal, payload, payload_key}
+use Rattle.age_v1.specs.File.{file_front, file_text, IsFileOf}
 use Rattle.age_protocol.specs.Decrypting.{TookHeaderAndNonce, ReadsFront, RefusesFront, ReadsNonce}
 use Rattle.age_io.proofs.Keeping.{same-later, early-narrows}
 use Rattle.age_io.specs.Keeping.{OrEarly}

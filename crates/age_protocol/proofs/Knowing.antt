@@ -9,18 +9,16 @@ use Rattle.age_base64.specs.Base64.{columns}
 use Rattle.age_suite.specs.Draw.{taken, left_after}
 use Rattle.age_suite.specs.Suite.{IsCipher, IsStretching}
 use Rattle.age_suite.specs.declared.suite.Suite.{Ghosts}
-use Rattle.age_format.specs.Belonging.{MayWrap}
-use Rattle.age_format.specs.Drawing.{Ends, UnlessNoMemory, Then, After, WithDrawn}
-use Rattle.age_format.specs.Stanza.{StanzaValue}
-use Rattle.age_format.specs.Wrapping.{WrapAnswer, Wrapped}
+use Rattle.age_v1.specs.Belonging.{MayWrap}
+use Rattle.age_v1.specs.Encrypting.{Ends, UnlessNoMemory, OnSuccess, After, WithDrawn, Prepared, Prepares, PreparesNonce, PreparesRest, PreparesWith, WrapsInTurn}
+use Rattle.age_v1.specs.Stanza.{StanzaValue}
+use Rattle.age_v1.specs.Recipients.{WrapAnswer, Wrapped, Gathered, nothing_yet, judged, has_scrypt}
 use Rattle.age_format.proofs.Outcomes.{same_value, same_refusal, no_refusal, was_due}
-use Rattle.age_keys.specs.Scrypt.{PassphraseRecipient, stretch_salt, scrypt_stanza, WrapsWith}
-use Rattle.age_keys.specs.OwnType.{no_nonce}
+use Rattle.age_v1.specs.Scrypt.{PassphraseRecipient, stretch_salt, scrypt_stanza, WrapsWithSalt}
+use Rattle.age_v1.specs.RecipientType.{no_nonce}
 use Rattle.age_keys.specs.ScryptLaws.{has_other_tag}
 use Rattle.age_keys.proofs.Strings.{columns-tested}
 use Rattle.age_keys.proofs.Stretched.{was_accepted, belongs}
-use Rattle.age_protocol.specs.Encrypting.{Prepared, Prepares, PreparesNonce, PreparesRest, PreparesWith, WrapsInTurn}
-use Rattle.age_protocol.specs.Labels.{Gathered, nothing_yet, judged, has_scrypt}
 use Rattle.age_protocol.specs.Several.{WrapsStrange, stanzas_of, grease_beside}
 use Rattle.age_protocol.specs.Passphrases.{WrapsPassphrase, UnwrapsPassphrase, HoldsPassphrase, PassphraseHolds, PassphraseDecrypts, PassphraseRefuses}
 use Rattle.age_protocol.proofs.Belonging.{any_decrypts, hold_answers}
@@ -77,7 +75,7 @@ module _ {S : Type 0} (suite : Ghosts S) (recipient : PassphraseRecipient) where
   IsCause e = (e ≡ ShortRandom) ⊎ ((e ≡ WorkFactorRefused) × (suite.accepts recipient.factor ≡ false)) ⊎ (e ≡ OutOfMemory)
 
   abbrev Wraps : List ℕ → List ℕ → List ℕ → List ℕ → WrapAnswer → List ℕ → Type 0
-  Wraps = WrapsWith suite.seal_of suite.stretch_of suite.accepts recipient
+  Wraps = WrapsWithSalt suite.seal_of suite.stretch_of suite.accepts recipient
 
   abbrev stanza : List ℕ → List ℕ → StanzaValue
   stanza file_key salt =
@@ -160,7 +158,7 @@ module _ {S : Type 0} (suite : Ghosts S) (recipient : PassphraseRecipient) where
 
   outcome_refused : (file_key draws middle left : List ℕ) (e : EncryptRefusal) (gathered : Result Gathered EncryptRefusal)
       → WrapsInTurn (WrapsPassphrase suite) file_key nothing_yet (recipient ∷ []) draws gathered middle
-      → Then gathered (λ all. PreparesRest file_key None all) middle (Err e) left → IsCause e
+      → OnSuccess gathered (λ all. PreparesRest file_key None all) middle (Err e) left → IsCause e
   outcome_refused file_key draws middle left e (Err f) turn ended =
       subst IsCause (sym (same_refusal {A = Prepared} e f ended.0)) (turn_refused file_key draws turn.1 middle f turn.0 turn.2 turn.3)
   outcome_refused file_key draws middle left e (Ok all) turn rest = gathered_refused file_key draws turn.1 middle left e turn.0 all turn.2 turn.3 rest

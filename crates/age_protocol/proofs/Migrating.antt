@@ -12,20 +12,20 @@ use Rattle.age_io.specs.declared.traits.Write.{Ghosts as WriteGhosts}
 use Rattle.age_io.specs.Writing.{HandsOn, Narrows, Retried}
 use Rattle.age_io.specs.Reading.{AddsNoReason, IsQuiet}
 use Rattle.age_io.specs.Copying.{AppendsFront, CopyRefuses}
-use Rattle.age_format.specs.Header.{covered_text, header_text, covered}
-use Rattle.age_format.specs.HeaderV1.{HeaderValue, header_mac}
+use Rattle.age_v1.specs.HeaderTexts.{covered, or_legacy}
+use Rattle.age_v1.specs.Header.{covered_text, header_text}
+use Rattle.age_format.specs.HeaderV1.{HeaderValue}
+use Rattle.age_v1.specs.HeaderMac.{header_mac}
 use Rattle.age_format.specs.OldHeader.{OldHeaderValue}
-use Rattle.age_format.specs.Unwrapping.{UnwrapAnswer, Unwraps}
-use Rattle.age_format.specs.Stanza.{StanzaValue, or_legacy}
-use Rattle.age_protocol.specs.Answering.{decided, FirstThatAnswers}
-use Rattle.age_protocol.specs.File.{file_front, IsFileOf, file_text, payload_key}
+use Rattle.age_v1.specs.Identities.{UnwrapAnswer, Unwraps, decided, FirstThatAnswers, FirstAnswer}
+use Rattle.age_v1.specs.Stanza.{StanzaValue}
+use Rattle.age_v1.specs.File.{file_front, IsFileOf, file_text}
+use Rattle.age_v1.specs.Payload.{payload_key, Seal, payload}
 use Rattle.age_protocol.specs.Migrating.{Rewrites, AppendsMigrated, AsksOld, IsOldFileOf, Migrates, RefusesOld, ReadsOldFrontOf}
-use Rattle.age_protocol.specs.Parts.{FirstAnswer}
 use Rattle.std.proofs.lemmas.Result.{on_ok_weaker, IfErr-weaker}
 use Rattle.age_suite.specs.Mac.{hmac_of}
 use Rattle.age_io.proofs.PartCopied.{none-copied}
 use Rattle.age_format.proofs.HeaderReading.{header_of}
-use Rattle.age_stream.specs.Payload.{Seal, payload}
 use Rattle.age_protocol.proofs.Accepted.{ReadsAlone, HasOneVerdict, BeginsAs, IsReadBack, read_back, front_accepted}
 use Rattle.age_protocol.specs.declared.migrate.OldFront.{OldFront}
 

@@ -2,14 +2,15 @@
 use Rattle.std.proofs.Common.{◌≡◌, ◌∙◌, sym, ap, ℕ, List, ◌++◌, take, drop, take_at, drop_at}
 use Rattle.std.proofs.lemmas.List.{append_cancel_left}
 use Rattle.age_error.specs.Bytes.{AreBytesOf}
-use Rattle.age_format.specs.Stanza.{StanzaValue, canonical}
-use Rattle.age_format.specs.Header.{covered_text, header_text}
-use Rattle.age_format.specs.HeaderV1.{header_mac}
-use Rattle.age_format.specs.Verdict.{Header, IsVerdict}
+use Rattle.age_v1.specs.HeaderTexts.{canonical}
+use Rattle.age_v1.specs.Stanza.{StanzaValue}
+use Rattle.age_v1.specs.Header.{covered_text, header_text}
+use Rattle.age_v1.specs.HeaderMac.{header_mac}
+use Rattle.age_v1.specs.HeaderVerdict.{Header, IsVerdict}
 use Rattle.age_suite.specs.Mac.{hkdf_of}
-use Rattle.age_stream.specs.Payload.{Seal, payload}
-use Rattle.age_stream.specs.Laws.{OnePlaintext}
-use Rattle.age_protocol.specs.File.{IsFileOf, payload_key}
+use Rattle.age_v1.specs.Payload.{Seal, payload, payload_key}
+use Rattle.age_v1.specs.PayloadLaws.{OnePlaintext}
+use Rattle.age_v1.specs.File.{IsFileOf}
 use Rattle.age_protocol.specs.Laws.{OneHeader, OnePlain}
 use Rattle.age_protocol.proofs.Accepted.{ReadsAlone, HasOneVerdict, begins, begins_as, verdict_of}
 

@@ -8,17 +8,15 @@ use Rattle.age_suite.specs.declared.suite.Suite.{Ghosts as SuiteGhosts}
 use Rattle.age_io.specs.declared.traits.Read.{Ghosts}
 use Rattle.age_io.specs.Stretch.{Stretch, whole}
 use Rattle.age_format.specs.HeaderV1.{HeaderValue}
-use Rattle.age_format.specs.Unwrapping.{UnwrapAnswer}
-use Rattle.age_format.specs.Stanza.{canonical}
+use Rattle.age_v1.specs.Identities.{UnwrapAnswer, decided}
+use Rattle.age_v1.specs.HeaderTexts.{canonical}
 use Rattle.age_armor.specs.Refusing.{IsTextRefusal}
-use Rattle.age_stream.specs.Payload.{Seal}
+use Rattle.age_v1.specs.Payload.{Seal, payload_key}
 use Rattle.age_stream.specs.Keeping.{Stops}
 use Rattle.age_stream.specs.Reader.{plain_rest_of}
 use Rattle.age_stream.specs.declared.reader.StreamReader.{StreamReader}
-use Rattle.age_protocol.specs.Answering.{decided}
 use Rattle.age_protocol.specs.Decrypting.{RefusesFront}
-use Rattle.age_protocol.specs.File.{payload_key}
-use Rattle.age_protocol.specs.OpeningFile.{Decrypts, OpensFile}
+use Rattle.age_protocol.specs.OpeningFile.{AnswersReader, OpensFile}
 use Rattle.age_protocol.specs.Texts.{RefusesKey}
 use Rattle.age_protocol.specs.WholeFiles.{LacksFront, RefusesPayload, RefusesRest}
 
@@ -37,7 +35,7 @@ lacks_front read old last e start refuses told rest_is place_is none still named
 module _ {S R : Type 0} {suite : SuiteGhosts S} {read : Ghosts R} where
   -- an identity answered a file key, which opens the file
   pub decided_key : (answer : UnwrapAnswer) (h : HeaderValue) (nonce : List ℕ) (input : R) (r : StreamReader S R suite read)
-      → Decrypts (decided answer) h nonce input (Ok r) → (file_key : List ℕ) × (answer ≡ Some (Ok file_key)) × OpensFile file_key h nonce input r
+      → AnswersReader (decided answer) h nonce input (Ok r) → (file_key : List ℕ) × (answer ≡ Some (Ok file_key)) × OpensFile file_key h nonce input r
   decided_key None h nonce input r d = absurd d
   decided_key (Some (Err e)) h nonce input r d = absurd d
   decided_key (Some (Ok key)) h nonce input r (inl wrong) = absurd wrong.1

@@ -7,19 +7,18 @@ use Rattle.age_error.specs.declared.decrypt.DecryptError.{DecryptError}
 use Rattle.age_suite.specs.declared.suite.Suite.{Ghosts as SuiteMembers}
 use Rattle.age_io.specs.declared.traits.Read.{Ghosts as ReadMembers}
 use Rattle.age_io.specs.Reading.{IsQuiet}
-use Rattle.age_format.specs.Stanza.{StanzaValue}
-use Rattle.age_format.specs.HeaderV1.{HeaderValue, header_mac}
-use Rattle.age_format.specs.Unwrapping.{UnwrapAnswer}
-use Rattle.age_format.specs.Header.{covered_text}
-use Rattle.age_stream.specs.ReadingLaws.{and-left}
+use Rattle.age_v1.specs.Stanza.{StanzaValue}
+use Rattle.age_format.specs.HeaderV1.{HeaderValue}
+use Rattle.age_v1.specs.HeaderMac.{header_mac}
+use Rattle.age_v1.specs.Identities.{UnwrapAnswer, decided, FirstAnswer, IsFileFor}
+use Rattle.age_v1.specs.Header.{covered_text}
+use Rattle.age_stream.specs.ReadingLemmas.{and-left}
 use Rattle.age_stream.specs.declared.reader.StreamReader.{StreamReader}
-use Rattle.age_protocol.specs.Answering.{decided}
-use Rattle.age_protocol.specs.OpeningFile.{Decrypts, StandsBefore}
+use Rattle.age_protocol.specs.OpeningFile.{AnswersReader, StandsBefore}
 use Rattle.age_protocol.proofs.Decrypted.{both_told, refused_key}
 use Rattle.age_protocol.proofs.Opened.{decided_key}
 use Rattle.age_protocol.specs.Laws.{RefusesNoFile, FileOpens, FileIsContent}
 use Rattle.age_protocol.specs.Opened.{Asks, IsOpened, IsNotOpened}
-use Rattle.age_protocol.specs.Parts.{FirstAnswer, IsFileFor}
 use Rattle.age_protocol.specs.Texts.{RefusesKey}
 use Rattle.age_protocol.proofs.Accepted.{begins}
 
@@ -32,7 +31,7 @@ module _ {I S T : Type 0} {suite : SuiteMembers S} {read : ReadMembers T} (unwra
   -- what comes of it once the identities were asked
   pub asked : (answer : UnwrapAnswer) (result : Result (StreamReader S T suite read) DecryptError)
       → Asks unwraps read old new text h nonce input answer
-      → Decrypts (decided answer) h nonce input result → IfOk result (λ stream. IsOpened unwraps old new text stream)
+      → AnswersReader (decided answer) h nonce input result → IfOk result (λ stream. IsOpened unwraps old new text stream)
   asked answer (Ok stream) asks d =
       let (key, is, opens) = decided_key answer h nonce input stream d in
       record { h = h; nonce = nonce; input = input; file_key = key; asks = rw is at asks; opens = opens }
@@ -40,7 +39,7 @@ module _ {I S T : Type 0} {suite : SuiteMembers S} {read : ReadMembers T} (unwra
 
   -- and where no reader is given it is refused
   pub not_asked : (answer : UnwrapAnswer) (result : Result (StreamReader S T suite read) DecryptError)
-      → Asks unwraps read old new text h nonce input answer → Decrypts (decided answer) h nonce input result
+      → Asks unwraps read old new text h nonce input answer → AnswersReader (decided answer) h nonce input result
       → IfErr result (λ e. IsNotOpened unwraps read old new text (decrypt_refusal e))
   not_asked answer result asks d = IfErr-weaker result _ _ (λ e why. inr (h, nonce, input, answer, asks, why)) (refused_key _ _ _ _ _ d)
 

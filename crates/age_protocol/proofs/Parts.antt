@@ -10,8 +10,8 @@ use Rattle.age_io.specs.Reading.{IsQuiet}
 use Rattle.age_io.specs.Cursor.{IsOutside, moved_to}
 use Rattle.age_io.specs.Writing.{OrMemory, Retried}
 use Rattle.std.proofs.lemmas.Bool.Decides.{nat_tests}
-use Rattle.age_format.specs.Stanza.{StanzaValue}
-use Rattle.age_format.specs.Unwrapping.{UnwrapAnswer}
+use Rattle.age_v1.specs.Stanza.{StanzaValue}
+use Rattle.age_v1.specs.Identities.{UnwrapAnswer, IsFileFor}
 use Rattle.age_protocol.proofs.Accepted.{memory_or_not}
 use Rattle.age_protocol.proofs.Texts.{under_mac}
 use Rattle.age_io.specs.Copying.{AppendsFront, AppendsSome}
@@ -19,9 +19,9 @@ use Rattle.age_error.specs.declared.io.SeekFrom.TheVariants.{Start}
 use Rattle.std.proofs.lemmas.Bool.{leb-false}
 use Rattle.age_format.specs.HeaderV1.{HeaderValue}
 use Rattle.age_stream.specs.Keeping.{IsPayloadRefusal}
-use Rattle.age_stream.specs.Targets.{in_length, sought_in}
-use Rattle.age_stream.specs.Payload.{Seal, plain_len}
-use Rattle.age_protocol.specs.Parts.{AppendsPart, AppendsOf, EndsBefore, IsFileFor}
+use Rattle.age_v1.specs.PayloadTargets.{in_length, sought_in}
+use Rattle.age_v1.specs.Payload.{Seal, plain_len}
+use Rattle.age_protocol.specs.Parts.{AppendsPart, AppendsOf, EndsBefore}
 use Rattle.age_protocol.specs.FileErrors.{IsPastEnd}
 use Rattle.age_protocol.specs.declared.error.FileError.{FileError}
 use Rattle.age_protocol.specs.declared.error.FileError.TheVariants.{Io, Decrypt}

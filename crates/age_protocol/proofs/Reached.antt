@@ -5,10 +5,9 @@ use Rattle.age_suite.specs.declared.suite.Suite.{Ghosts as SuiteGhosts}
 use Rattle.age_io.specs.declared.traits.Read.{Ghosts}
 use Rattle.age_io.specs.Stretch.{Stretch, whole, nothing, from_place, stretch-ext}
 use Rattle.age_io.specs.Reading.{StandsIn}
-use Rattle.age_stream.specs.Chunks.{delivered}
-use Rattle.age_stream.specs.Payload.{payload, LastIsNoMiddle}
-use Rattle.age_stream.specs.ReadingLaws.{and-left, and-right}
-use Rattle.age_protocol.specs.File.{payload_key}
+use Rattle.age_v1.specs.DeliveredPayload.{payload_delivers}
+use Rattle.age_v1.specs.Payload.{payload, LastIsNoMiddle, payload_key}
+use Rattle.age_stream.specs.ReadingLemmas.{and-left, and-right}
 use Rattle.age_protocol.specs.Laws.{FileOpens, FileIsContent}
 
 -- a stretch that ends well is what stands from the place on
@@ -36,7 +35,7 @@ module _ {S R : Type 0} (suite : SuiteGhosts S) (read : Ghosts R) where
       record {
         good = reader.good;
         unsought = reader.unsought;
-        content = reader.content ∙ ap (λ s. delivered suite.opened key 0 s) whole_inner ∙ sym reader.rest ∙ here;
+        content = reader.content ∙ ap (λ s. payload_delivers suite.opened key 0 s) whole_inner ∙ sym reader.rest ∙ here;
         place = reader.place;
         rest = here;
       }

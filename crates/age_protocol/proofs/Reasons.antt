@@ -11,11 +11,11 @@ use Rattle.age_io.specs.Stretch.{Stretch, from_place, stretch-ext}
 use Rattle.age_io.specs.Reading.{AddsNoReason, Delivers, StandsIn, TriedAgain}
 use Rattle.age_io.proofs.Retrying.{tried-more, tried-own}
 use Rattle.age_armor.specs.Refusing.{IsTextRefusal, OrText}
-use Rattle.age_stream.specs.Payload.{Seal}
-use Rattle.age_stream.specs.FrontToEnd.{StopsAt}
+use Rattle.age_v1.specs.Payload.{Seal}
+use Rattle.age_v1.specs.PayloadRefusals.{StopsAt}
 use Rattle.age_stream.specs.Keeping.{Stops}
 use Rattle.age_format.specs.HeaderV1.{HeaderValue}
-use Rattle.age_format.specs.Header.{header_text}
+use Rattle.age_v1.specs.Header.{header_text}
 use Rattle.age_protocol.specs.Decrypting.{ReadsFront}
 
 -- from the reader of a payload to the reader of the text that it was in

@@ -6,13 +6,13 @@ use Rattle.age_error.specs.declared.io.Error.TheVariants.{Device, TooLong, OutOf
 use Rattle.age_error.specs.declared.io.ErrorKind.TheVariants.{Interrupted}
 use Rattle.age_io.specs.Stretch.{Stretch, whole}
 use Rattle.age_io.specs.Writing.{Narrows, Retried, OrMemory, HandsOn}
-use Rattle.age_io.specs.WritingLaws.{retried-plain}
-use Rattle.age_armor.specs.Writing.{MayRefuse, Refused as ArmorRefused}
-use Rattle.age_armor.specs.WritingLaws.{handed-back, handed-through}
+use Rattle.age_io.specs.WritingLemmas.{retried-plain}
+use Rattle.age_armor.specs.Writing.{WriterRefuses, Refused as ArmorRefused}
+use Rattle.age_armor.specs.WritingLemmas.{handed-back, handed-through}
 use Rattle.age_armor.specs.declared.writer.ArmoredWriter.{ArmoredWriter}
 use Rattle.age_stream.specs.Sending.{RefusesChunk}
 use Rattle.age_stream.specs.Writing.{Refused as StreamRefused, WasMade}
-use Rattle.age_stream.specs.WritingLaws.{Refused-patient, Refused-made}
+use Rattle.age_stream.specs.WritingLemmas.{Refused-patient, Refused-made}
 use Rattle.age_stream.specs.declared.writer.StreamWriter.{StreamWriter}
 use Rattle.age_protocol.specs.WholeFiles.{RefusesFile}
 
@@ -27,7 +27,7 @@ front-narrows refuses old new m narrows e (inr handed) = elim (narrows handed.0 
 
 -- the writer of armor is refused memory, or its own writer refuses while the front is written
 pub front-refused : {W : Type 0} (refuses : W → ℕ → Error → Type 0) (form : Bool) (writer : W) (armored : ArmoredWriter W) (n size : ℕ) (e : Error) →
-    ((n : ℕ) (e : Error) → ArmorRefused refuses armored n e → MayRefuse refuses form writer n e) →
+    ((n : ℕ) (e : Error) → ArmorRefused refuses armored n e → WriterRefuses refuses form writer n e) →
     OrMemory (Retried (ArmorRefused refuses)) armored n e → RefusesFile refuses writer size e
 front-refused refuses form writer armored n size e through (inl memory) = inr (inl memory)
 front-refused refuses form writer armored n size e through (inr h) = inr (inr (handed-through refuses form writer armored through e (n, h)))
@@ -43,7 +43,7 @@ module _ {S W : Type 0} (refuses : W → ℕ → Error → Type 0) where
     pub refused : (n : ℕ) (e : Error) → StreamRefused (ArmorRefused refuses) stream n e → RefusesFile refuses writer n e
 
   pub stands-over : (key : List ℕ) (form : Bool) (writer : W) (armored inner : ArmoredWriter W) (stream : StreamWriter S (ArmoredWriter W)) →
-      ((n : ℕ) (e : Error) → ArmorRefused refuses armored n e → MayRefuse refuses form writer n e) →
+      ((n : ℕ) (e : Error) → ArmorRefused refuses armored n e → WriterRefuses refuses form writer n e) →
       ((e : Error) → RefusesChunk (ArmorRefused refuses) inner e → RefusesChunk (ArmorRefused refuses) armored e) →
       WasMade key inner stream → StandsOver writer stream
   stands-over key form writer armored inner stream through narrows made = record {

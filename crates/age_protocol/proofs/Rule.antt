@@ -5,9 +5,10 @@ use Rattle.std.specs.List.{AllByRecursion, list_any}
 use Rattle.std.proofs.lemmas.Slice.Eq.{bytes_eq-Decides}
 use Rattle.std.proofs.lemmas.Bool.{true≢false}
 use Rattle.age_base64.proofs.Lines.{each-append}
-use Rattle.age_format.specs.Stanza.{StanzaValue, IsGreaseTag}
-use Rattle.age_format.specs.Header.{KeepsScryptRule}
-use Rattle.age_protocol.specs.Labels.{has_scrypt}
+use Rattle.age_v1.specs.HeaderTexts.{IsGreaseTag}
+use Rattle.age_v1.specs.Stanza.{StanzaValue}
+use Rattle.age_v1.specs.Header.{KeepsScryptRule}
+use Rattle.age_v1.specs.Recipients.{has_scrypt}
 
 left_false : (a b : Bool) → (a || b) ≡ false → a ≡ false
 left_false true b h = h

@@ -15,7 +15,7 @@ use Rattle.std.proofs.lemmas.Map.Lookups.{btree_set_from_contains, exact_bytes}
 use Rattle.std.proofs.lemmas.Map.Views.{btree_set_contains_iff}
 use Rattle.std.proofs.lemmas.Slice.Eq.{bytes_eq-Decides, slice_eq-Decides}
 use Rattle.age_error.specs.Labels.{labels_of}
-use Rattle.age_protocol.specs.Labels.{Labels, same_labels}
+use Rattle.age_v1.specs.Recipients.{Labels, same_labels}
 
 below_map : {Z : Type 0} (x : String Z) (ys : List (String Z)) → AllByRecursion (λ y. string_cmp x y ≡ Less) ys
     → AllByRecursion (λ y. slice_cmp nat_cmp (string_bytes x) y ≡ Less) (map (λ l. string_bytes l) ys)

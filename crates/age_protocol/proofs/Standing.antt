@@ -6,21 +6,20 @@ use Rattle.age_suite.specs.declared.suite.Suite.{Ghosts as SuiteMembers}
 use Rattle.age_io.specs.declared.traits.Read.{Ghosts as ReadMembers}
 use Rattle.age_io.specs.Stretch.{Stretch, from_place, stretch-ext}
 use Rattle.age_io.specs.Reading.{Delivers}
-use Rattle.age_armor.specs.Delivered.{delivered, stretch_of}
-use Rattle.age_armor.specs.DeliveredLaws.{content_of}
+use Rattle.age_v1.specs.DeliveredArmor.{text_delivers, stretch_of}
+use Rattle.age_v1.proofs.DeliveredArmors.{content_of}
 use Rattle.age_format.specs.HeaderV1.{HeaderValue}
-use Rattle.age_format.specs.Stanza.{StanzaValue}
-use Rattle.age_format.specs.Unwrapping.{UnwrapAnswer, Unwraps}
+use Rattle.age_v1.specs.Stanza.{StanzaValue}
+use Rattle.age_v1.specs.Identities.{UnwrapAnswer, Unwraps, FirstThatAnswers}
 use Rattle.age_protocol.specs.Decrypting.{ReadsFront}
-use Rattle.age_protocol.specs.Answering.{FirstThatAnswers}
-use Rattle.age_stream.specs.Answering.{StandAt, IsGoodEnd}
+use Rattle.age_v1.specs.PayloadAnswers.{StandAt, IsGoodEnd}
 use Rattle.age_stream.specs.Reader.{key_of, payload_of}
-use Rattle.age_stream.specs.ReadingLaws.{and-left}
+use Rattle.age_stream.specs.ReadingLemmas.{and-left}
 use Rattle.age_stream.specs.declared.reader.StreamReader.{StreamReader}
-use Rattle.age_stream.proofs.Standing.{stand-none}
+use Rattle.age_v1.proofs.StandingBytes.{stand-none}
 use Rattle.age_stream.proofs.Remaining.{stand-front}
-use Rattle.age_stream.specs.Payload.{Seal}
-use Rattle.age_protocol.specs.Texts.{BeginsText, Begins}
+use Rattle.age_v1.specs.Payload.{Seal}
+use Rattle.age_protocol.specs.Texts.{BeginsText, HasFront}
 use Rattle.age_io.specs.Copying.{AppendsFront, AppendsSome}
 use Rattle.age_protocol.specs.Opened.{IsOpened}
 use Rattle.age_protocol.specs.Parts.{AppendsOf, StandsAt, IsPartAt}
@@ -102,7 +101,7 @@ module _ {I S T W : Type 0} {suite : SuiteMembers S} {read : ReadMembers T} (unw
     (Holds : List ℕ → Stretch → List ℕ → Type 0) (before after : W) where
   pub opened-part : read.rest text ≡ from_place (read.place text) (read.content text) → IsTrue (read.tells text && read.steady text)
       → IsOpened unwraps old new text stream → AppendsSome appended count (Holds (key_of stream) (payload_of stream)) before after
-      → AppendsOf (Begins (read.rest text) (read.place text))
+      → AppendsOf (HasFront (read.rest text) (read.place text))
       (λ file_key stanzas. FirstThatAnswers (λ identity answer next. Unwraps unwraps identity stanzas answer next) old (Some (Ok file_key)) new)
       appended count Holds before after
   opened-part fresh told made some =
@@ -142,16 +141,16 @@ module _ {W : Type 0} (begins other : HeaderValue → List ℕ → Stretch → T
 pub fresh-text : (rest content start : Stretch) (place : ℕ) → rest ≡ start → content ≡ start → place ≡ 0 → rest ≡ from_place place content
 fresh-text rest content start place p q r = p ∙ sym (ap (λ n. from_place n content) r ∙ ap (λ s. from_place 0 s) q)
 
-pub begins-same : (a b : Stretch) (n : ℕ) → a ≡ b → n ≡ 0 → (h : HeaderValue) (nonce : List ℕ) (left : Stretch) → Begins a n h nonce left → Begins b 0 h nonce left
+pub begins-same : (a b : Stretch) (n : ℕ) → a ≡ b → n ≡ 0 → (h : HeaderValue) (nonce : List ℕ) (left : Stretch) → HasFront a n h nonce left → HasFront b 0 h nonce left
 begins-same a b n p q h nonce left begins =
-    subst (λ (s : Stretch). Begins s 0 h nonce left) p (subst (λ (m : ℕ). Begins a m h nonce left) q begins)
+    subst (λ (s : Stretch). HasFront s 0 h nonce left) p (subst (λ (m : ℕ). HasFront a m h nonce left) q begins)
 
 -- what was read to its end begins as the reader's text does
 pub begins-read : {R : Type 0} (tells : R → Bool) (rest : R → Stretch) (reader : R) (input : List ℕ) → input ≡ (rest reader).bytes → (rest reader).ends_well ≡ true
-    → (h : HeaderValue) (nonce : List ℕ) (left : Stretch) → Begins (stretch_of (delivered input true)) 0 h nonce left → BeginsText tells rest reader h nonce left
+    → (h : HeaderValue) (nonce : List ℕ) (left : Stretch) → HasFront (stretch_of (text_delivers input true)) 0 h nonce left → BeginsText tells rest reader h nonce left
 begins-read tells rest reader input bytes well h nonce left begins = record {
   place = begins.0;
   front = λ told.
-      subst (λ (w : Bool). ReadsFront (stretch_of (delivered (rest reader).bytes w)) left 0 begins.0 h nonce) (sym well)
-      (subst (λ (l : List ℕ). ReadsFront (stretch_of (delivered l true)) left 0 begins.0 h nonce) bytes begins.1);
+      subst (λ (w : Bool). ReadsFront (stretch_of (text_delivers (rest reader).bytes w)) left 0 begins.0 h nonce) (sym well)
+      (subst (λ (l : List ℕ). ReadsFront (stretch_of (text_delivers l true)) left 0 begins.0 h nonce) bytes begins.1);
 }

@@ -3,9 +3,9 @@ use Rattle.std.specs.Prelude.{ℕ, List}
 use Rattle.age_error.specs.DecryptErrors.{DecryptRefusal}
 use Rattle.age_io.specs.Stretch.{Stretch}
 use Rattle.age_format.specs.HeaderV1.{HeaderValue}
-use Rattle.age_format.specs.Stanza.{StanzaValue}
-use Rattle.age_format.specs.Unwrapping.{UnwrapAnswer}
-use Rattle.age_protocol.specs.File.{payload_key}
+use Rattle.age_v1.specs.Stanza.{StanzaValue}
+use Rattle.age_v1.specs.Identities.{UnwrapAnswer}
+use Rattle.age_v1.specs.Payload.{payload_key}
 use Rattle.age_protocol.specs.Texts.{RefusesAnswered, UnderMac}
 
 module _ (begins other : HeaderValue → List ℕ → Stretch → Type 0) (so : (h : HeaderValue) (nonce : List ℕ) (left : Stretch) → begins h nonce left → other h nonce left) where

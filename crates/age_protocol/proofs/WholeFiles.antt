@@ -3,18 +3,18 @@ use Rattle.std.proofs.Common.{◌≡◌, Result, Ok, Err, ap, sym, subst, List, 
 use Rattle.std.specs.Result.{IsErrAnd, MatchResult, result_map_both}
 use Rattle.age_error.specs.Bytes.{AreBytes}
 use Rattle.age_error.specs.EncryptErrors.{EncryptRefusal}
-use Rattle.age_armor.specs.Armor.{Carries}
-use Rattle.age_armor.specs.Writing.{text_of}
-use Rattle.age_armor.specs.declared.format.Format.{Format}
+use Rattle.age_v1.specs.Armor.{Carries, text_of}
+use Rattle.age_v1.specs.declared.format.Format.{Format}
 use Rattle.age_io.specs.Stretch.{Stretch, whole}
-use Rattle.age_stream.specs.Payload.{Seal}
-use Rattle.age_protocol.specs.Encrypting.{Prepared}
-use Rattle.age_protocol.specs.File.{file_text}
-use Rattle.age_protocol.specs.WholeFiles.{AppendsFile, IsWritten, Encrypts}
+use Rattle.age_v1.specs.Payload.{Seal}
+use Rattle.age_v1.specs.Encrypting.{Prepared}
+use Rattle.age_v1.specs.File.{file_text}
+use Rattle.age_v1.specs.Claims.{AppendsFile}
+use Rattle.age_protocol.specs.WholeFiles.{IsWritten, Encrypts}
 
 -- what was appended to an empty list is written
 pub is-written : {W : Type 0} (items : W → List ℕ) (seal_of : Seal) (format : Format) (file : Prepared) (input : Stretch) (plain : List ℕ) (old new : W) →
-    input ≡ whole plain → items old ≡ [] → AreBytes plain → AppendsFile seal_of (λ a x b. items b ≡ items a ++ x) format file input old new →
+    input ≡ whole plain → items old ≡ [] → AreBytes plain → AppendsFile seal_of (λ a x b. items b ≡ items a ++ x) (text_of format) file input old new →
     IsWritten seal_of (text_of format) plain file (items new)
 is-written items seal_of format file input plain old new is empty bytes done =
     let same = ap (λ s. s.bytes) is in

@@ -9,9 +9,10 @@ use Rattle.age_io.specs.declared.traits.Read.{Ghosts}
 use Rattle.age_io.specs.Stretch.{Stretch}
 use Rattle.age_io.specs.Keeping.{SameReader, OrEarly}
 use Rattle.age_io.specs.Reading.{Delivers, TookSome, IsQuiet, IsShort, AddsNoReason, TriedAgain, most_faults}
-use Rattle.age_format.specs.Stanza.{StanzaValue, canonical}
-use Rattle.age_format.specs.Header.{KeepsScryptRule, header_text}
-use Rattle.age_format.specs.Verdict.{Header, IsVerdict}
+use Rattle.age_v1.specs.HeaderTexts.{canonical}
+use Rattle.age_v1.specs.Stanza.{StanzaValue}
+use Rattle.age_v1.specs.Header.{KeepsScryptRule, header_text}
+use Rattle.age_v1.specs.HeaderVerdict.{Header, IsVerdict}
 use Rattle.age_format.specs.HeaderV1.{HeaderValue}
 use Rattle.age_format.specs.ReadingHeader.{TookVerdict, RefusesHeader}
 
@@ -44,7 +45,7 @@ pub record BreaksRuleAfter (stanzas : List StanzaValue) (old new : Stretch) (old
   pub is : e ≡ InvalidHeader
 
 -- A header was read, and this is why it isn't the front of a file.
-pub record RefusesAfter (legacy : Bool) (old_faults new_faults : ℕ) (old new : Stretch) (old_place new_place : ℕ) (e : DecryptRefusal) : Type 0 where
+pub record BreaksFrontRules (legacy : Bool) (old_faults new_faults : ℕ) (old new : Stretch) (old_place new_place : ℕ) (e : DecryptRefusal) : Type 0 where
   pub text : List ℕ
   pub stanzas : List StanzaValue
   pub mac : List ℕ
@@ -56,7 +57,7 @@ pub record RefusesAfter (legacy : Bool) (old_faults new_faults : ℕ) (old new :
 -- Why no header and no nonce were read, in the order in which the causes are looked for.
 abbrev pub WhyNoFront : Bool → ℕ → ℕ → Stretch → Stretch → ℕ → ℕ → DecryptRefusal → Type 0
 WhyNoFront legacy old_faults new_faults old new old_place new_place e = RefusesHeader legacy old_faults new_faults old new old_place new_place e
-    ⊎ RefusesAfter legacy old_faults new_faults old new old_place new_place e
+    ⊎ BreaksFrontRules legacy old_faults new_faults old new old_place new_place e
 
 -- Why there is no decryptor, and the reader when it was given up.
 pub record RefusesFront {R : Type 0} (legacy : Bool) (read : Ghosts R) (old new : R) (e : DecryptRefusal) : Type 0 where

@@ -1,6 +1,6 @@
 -- What decrypting from a reader to a writer comes to: of a whole file, and of a part of its plaintext.
-use Rattle.std.specs.Prelude.{◌≡◌, ◌⊎◌, ℕ, ◌&&◌, true, List, Some, Result, Ok, IsTrue, OnOk, IfErr}
-use Rattle.age_error.specs.DecryptErrors.{DecryptRefusal, OutOfMemory, IfIoRefusal}
+use Rattle.std.specs.Prelude.{IfErr, IsTrue, List, OnOk, Result, true, ℕ, ◌&&◌, ◌≡◌, ◌⊎◌}
+use Rattle.age_error.specs.DecryptErrors.{DecryptRefusal, IfIoRefusal, OutOfMemory}
 use Rattle.age_suite.specs.declared.suite.Suite.{Ghosts as SuiteGhosts}
 use Rattle.age_io.specs.declared.traits.Read.{Ghosts as ReadGhosts}
 use Rattle.age_io.specs.declared.traits.Write.{Ghosts as WriteGhosts}
@@ -8,29 +8,21 @@ use Rattle.age_io.specs.Stretch.{Stretch}
 use Rattle.age_io.specs.Reading.{IsQuiet, TriedAgain}
 use Rattle.age_io.specs.Cursor.{IsOutside}
 use Rattle.age_armor.specs.Refusing.{IsTextRefusal}
-use Rattle.age_error.specs.declared.io.Error.TheVariants.{OutOfMemory as out_of_memory, Failed as failed}
+use Rattle.age_error.specs.declared.io.Error.TheVariants.{Failed as failed, OutOfMemory as out_of_memory}
 use Rattle.age_io.specs.Writing.{HandsOn}
 use Rattle.age_io.specs.Copying.{AppendsFront}
-use Rattle.age_armor.specs.Armor.{Carries}
+use Rattle.age_v1.specs.Armor.{Carries}
 use Rattle.age_format.specs.HeaderV1.{HeaderValue}
-use Rattle.age_format.specs.Stanza.{StanzaValue}
-use Rattle.age_format.specs.Unwrapping.{UnwrapAnswer, Unwraps}
-use Rattle.age_stream.specs.Chunks.{delivered}
+use Rattle.age_v1.specs.Stanza.{StanzaValue}
+use Rattle.age_v1.specs.Identities.{UnwrapAnswer}
+use Rattle.age_v1.specs.Claims.{AppendsPlaintext}
+use Rattle.age_v1.specs.DeliveredPayload.{payload_delivers}
 use Rattle.age_stream.specs.Keeping.{IsPayloadRefusal, Stops}
-use Rattle.age_protocol.specs.Answering.{FirstThatAnswers}
-use Rattle.age_protocol.specs.FileErrors.{IfIo, IsDecryptError, DecryptsUnless, RefusesHead, RefusesPlain}
-use Rattle.age_protocol.specs.Texts.{RefusesText, BeginsText, RefusesAnswered, UnderMac}
-use Rattle.age_protocol.specs.WholeFiles.{LacksFront, read_of, AppendsPlaintext}
-use Rattle.age_protocol.specs.Parts.{AppendsPart, AppendsOf, StandsAt, IsPartAt, RefusesPart}
+use Rattle.age_protocol.specs.FileErrors.{DecryptsUnless, IfIo, IsDecryptError, RefusesHead, RefusesPlain}
+use Rattle.age_protocol.specs.Texts.{BeginsText, RefusesAnswered, RefusesText, UnderMac}
+use Rattle.age_protocol.specs.WholeFiles.{LacksFront, read_of}
+use Rattle.age_protocol.specs.Parts.{AppendsOf, AppendsPart, IsPartAt, RefusesPart, StandsAt}
 use Rattle.age_protocol.specs.declared.error.FileError.{FileError}
-
--- asked in turn for these stanzas, the identities come to this answer, that of the first one that answers, and are so afterwards
-abbrev pub AnswersFirst : {I : Type 0} → (I → List StanzaValue → UnwrapAnswer → I → Type 0) → List I → List I → List StanzaValue → UnwrapAnswer → Type 0
-AnswersFirst unwraps old new stanzas answer = FirstThatAnswers (λ identity own after. Unwraps unwraps identity stanzas own after) old answer new
-
--- and that answer is this file key
-abbrev pub GivesFirst : {I : Type 0} → (I → List StanzaValue → UnwrapAnswer → I → Type 0) → List I → List I → List ℕ → List StanzaValue → Type 0
-GivesFirst unwraps old new file_key stanzas = AnswersFirst unwraps old new stanzas (Some (Ok file_key))
 
 -- Why no file is opened in a text that was read to its end: no header with a nonce begins it, or one does, and what the identities answer to its stanzas,
 -- its MAC or memory is why.
@@ -59,7 +51,7 @@ pub record DecryptsAll {S R W T : Type 0} (suite : SuiteGhosts S) (read : ReadGh
   -- chunks open to.
   pub front : IsTrue (read.tells input && read.steady input) → IsTrue (write.tells old) → (new ≡ old)
       ⊎ UnderMac (BeginsText read.tells read.rest input) gives
-      (λ key left. AppendsFront write.appended (delivered suite.opened key 0 left).bytes old new)
+      (λ key left. AppendsFront write.appended (payload_delivers suite.opened key 0 left).bytes old new)
   -- A file for the identities is opened unless memory is refused, and written out unless memory is or the writer refuses, where the
   -- device never fails; and whatever happens, what is appended is a beginning of its plaintext.
   pub honest : IsTrue (read.tells input && read.steady input) → IsTrue (read.rest input).ends_well → ((r : R) → read.faults r ≡ 0)

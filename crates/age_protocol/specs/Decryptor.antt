@@ -6,9 +6,9 @@ use Rattle.age_error.specs.declared.decrypt.DecryptError.{DecryptError}
 use Rattle.age_io.specs.declared.traits.Read.{Ghosts}
 use Rattle.age_io.specs.Keeping.{SameReader}
 use Rattle.age_io.specs.Reading.{AddsNoReason, TriedAgain, most_faults}
-use Rattle.age_format.specs.Header.{KeepsScryptRule}
+use Rattle.age_v1.specs.Header.{KeepsScryptRule}
 use Rattle.age_format.specs.HeaderV1.{HeaderValue}
-use Rattle.age_format.specs.Stanza.{canonical}
+use Rattle.age_v1.specs.HeaderTexts.{canonical}
 use Rattle.age_protocol.specs.Decrypting.{ReadsFront, RefusesFront}
 use Rattle.age_protocol.specs.declared.decryptor.Decryptor.{Decryptor}
 

@@ -5,7 +5,7 @@ use Rattle.age_error.specs.EncryptErrors.{EncryptRefusal, encrypt_refusal}
 use Rattle.age_error.specs.declared.io.Error.{Error}
 use Rattle.age_error.specs.declared.io.Error.TheVariants as io
 use Rattle.age_io.specs.declared.traits.Read.{Ghosts}
-use Rattle.age_armor.specs.Delivered.{delivered, stretch_of}
+use Rattle.age_v1.specs.DeliveredArmor.{text_delivers, stretch_of}
 use Rattle.age_armor.specs.Refusing.{OrText}
 use Rattle.age_protocol.specs.declared.error.FileError.{FileError}
 use Rattle.age_protocol.specs.declared.error.FileError.TheVariants.{Io, Encrypt, Decrypt}
@@ -62,5 +62,5 @@ RefusesPlain read input e = (e ≡ io.OutOfMemory) ⊎ OrText read input e
 -- Why reading a file's header and nonce refuses that a text carries: what the text delivers ends well before they do, or as above.
 abbrev pub RefusesHead : {R : Type 0} → Ghosts R → R → Error → Type 0
 RefusesHead read input e = ((e ≡ io.UnexpectedEof)
-    × (IsTrue (read.tells input) → IsTrue (stretch_of (delivered (read.rest input).bytes (read.rest input).ends_well)).ends_well))
+    × (IsTrue (read.tells input) → IsTrue (stretch_of (text_delivers (read.rest input).bytes (read.rest input).ends_well)).ends_well))
     ⊎ OrText read input e

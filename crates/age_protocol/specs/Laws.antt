@@ -6,18 +6,19 @@ use Rattle.age_suite.specs.declared.suite.Suite.{Ghosts as SuiteGhosts}
 use Rattle.age_io.specs.declared.traits.Read.{Ghosts}
 use Rattle.age_io.specs.Stretch.{Stretch}
 use Rattle.age_io.specs.Reading.{IsQuiet}
-use Rattle.age_armor.specs.Armor.{Carries}
-use Rattle.age_format.specs.Stanza.{StanzaValue, canonical}
-use Rattle.age_format.specs.Header.{covered_text}
-use Rattle.age_format.specs.HeaderV1.{HeaderValue, header_mac}
-use Rattle.age_format.specs.Unwrapping.{UnwrapAnswer}
-use Rattle.age_stream.specs.Payload.{Seal, payload, LastIsNoMiddle}
+use Rattle.age_v1.specs.Armor.{Carries}
+use Rattle.age_v1.specs.HeaderTexts.{canonical}
+use Rattle.age_v1.specs.Stanza.{StanzaValue}
+use Rattle.age_v1.specs.Header.{covered_text}
+use Rattle.age_format.specs.HeaderV1.{HeaderValue}
+use Rattle.age_v1.specs.HeaderMac.{header_mac}
+use Rattle.age_v1.specs.Identities.{UnwrapAnswer, FirstAnswer, IsFileFor, Decrypts}
+use Rattle.age_v1.specs.Payload.{Seal, payload, LastIsNoMiddle, payload_key}
 use Rattle.age_stream.specs.declared.reader.StreamReader.{StreamReader}
-use Rattle.age_protocol.specs.File.{BeginsAsFile, IsFileOf, payload_key}
+use Rattle.age_v1.specs.File.{BeginsAsFile, IsFileOf}
 use Rattle.age_protocol.specs.Decrypting.{ReadsFront, RefusesFront}
 use Rattle.age_protocol.specs.OpeningFile.{OpensFile, StandsBefore}
-use Rattle.age_protocol.specs.Parts.{FirstAnswer, IsFileFor}
-use Rattle.age_protocol.specs.WholeFiles.{Decrypts, Refuses}
+use Rattle.age_protocol.specs.WholeFiles.{RefusesDecrypting}
 
 -- what a decryptor reads from bytes that begin as a file: the header, the nonce, and no byte of what follows
 abbrev pub ReadsBack : Type 0
@@ -72,4 +73,4 @@ module _ {I : Type 0} (seal_of : Seal) (unwraps : I → List StanzaValue → Unw
   abbrev pub RefusesNone : Type 0
   RefusesNone = (before after : I) (text file plain : List ℕ) (refusal : DecryptRefusal) → Carries text file
       → IsFileFor seal_of (FirstAnswer unwraps (before ∷ [])) plain file
-      → Refuses seal_of unwraps before text after refusal → refusal ≡ OutOfMemory
+      → RefusesDecrypting seal_of unwraps before text after refusal → refusal ≡ OutOfMemory

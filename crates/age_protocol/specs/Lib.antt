@@ -1,9 +1,4 @@
-pub mod Answering
-pub mod AskedSoFar
-pub mod Labels
-pub mod Encrypting
 pub mod Answers
-pub mod File
 pub mod Starting
 pub mod Decrypting
 pub mod Migrating
@@ -18,3 +13,5 @@ pub mod Parts
 pub mod Several
 pub mod Passphrases
 pub mod Laws
+pub mod Ready
+pub mod PrivateAsking

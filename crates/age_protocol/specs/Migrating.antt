@@ -13,16 +13,16 @@ use Rattle.age_io.specs.Keeping.{SameReader}
 use Rattle.age_io.specs.Reading.{AddsNoReason, TriedAgain, IsQuiet, Delivers}
 use Rattle.age_io.specs.Writing.{HandsOn}
 use Rattle.age_io.specs.Copying.{AppendsFront}
-use Rattle.age_format.specs.Stanza.{StanzaValue, or_legacy}
-use Rattle.age_format.specs.Header.{IsHeaderText, KeepsScryptRule, covered, covered_text}
-use Rattle.age_format.specs.HeaderV1.{HeaderValue, header_mac}
+use Rattle.age_v1.specs.HeaderTexts.{or_legacy, IsHeaderText, covered}
+use Rattle.age_v1.specs.Stanza.{StanzaValue}
+use Rattle.age_v1.specs.Header.{KeepsScryptRule, covered_text}
+use Rattle.age_format.specs.HeaderV1.{HeaderValue}
+use Rattle.age_v1.specs.HeaderMac.{header_mac}
 use Rattle.age_format.specs.OldHeader.{OldHeaderValue}
-use Rattle.age_format.specs.Unwrapping.{UnwrapAnswer, Unwraps}
-use Rattle.age_stream.specs.Payload.{Seal, payload}
-use Rattle.age_protocol.specs.Answering.{FirstThatAnswers, decided}
+use Rattle.age_v1.specs.Identities.{UnwrapAnswer, Unwraps, FirstThatAnswers, decided, FirstAnswer}
+use Rattle.age_v1.specs.Payload.{Seal, payload, payload_key}
 use Rattle.age_protocol.specs.Decrypting.{TookHeaderAndNonce, RefusesFront}
-use Rattle.age_protocol.specs.File.{IsFileOf, file_front, file_text, payload_key}
-use Rattle.age_protocol.specs.Parts.{FirstAnswer}
+use Rattle.age_v1.specs.File.{IsFileOf, file_front, file_text}
 use Rattle.age_protocol.specs.declared.migrate.OldFront.{OldFront}
 
 -- The bytes are an old file of this plaintext under this file key: a header of these stanzas, in which they may have the legacy

@@ -6,15 +6,16 @@ use Rattle.age_error.specs.declared.decrypt.DecryptError.{DecryptError}
 use Rattle.age_suite.specs.declared.suite.Suite.{Ghosts as SuiteGhosts}
 use Rattle.age_io.specs.declared.traits.Read.{Ghosts}
 use Rattle.age_io.specs.Stretch.{Stretch, whole, from_place}
-use Rattle.age_format.specs.HeaderV1.{HeaderValue, header_mac}
-use Rattle.age_format.specs.Header.{covered_text}
-use Rattle.age_stream.specs.Payload.{payload, LastIsNoMiddle}
-use Rattle.age_stream.specs.Chunks.{delivered}
+use Rattle.age_format.specs.HeaderV1.{HeaderValue}
+use Rattle.age_v1.specs.HeaderMac.{header_mac}
+use Rattle.age_v1.specs.Header.{covered_text}
+use Rattle.age_v1.specs.Payload.{payload, LastIsNoMiddle, payload_key}
+use Rattle.age_v1.specs.DeliveredPayload.{payload_delivers}
 use Rattle.age_stream.specs.Reader.{payload_of, key_of, inner_rest_of, HasFailed, HasSought, opens_of, tells_of, content_of, place_of, plain_rest_of, faults_of, refuses_of}
 use Rattle.age_error.specs.declared.io.Error.{Error}
 use Rattle.age_stream.specs.Keeping.{OwnOrInner, Stops}
 use Rattle.age_stream.specs.declared.reader.StreamReader.{StreamReader}
-use Rattle.age_protocol.specs.File.{payload_key, IsFileOf}
+use Rattle.age_v1.specs.File.{IsFileOf}
 use Rattle.age_protocol.specs.Decrypting.{ReadsFront}
 
 module _ {S R : Type 0} {suite : SuiteGhosts S} {read : Ghosts R} where
@@ -32,8 +33,8 @@ module _ {S R : Type 0} {suite : SuiteGhosts S} {read : Ghosts R} where
     pub tells : tells_of r ≡ (read.tells input && read.steady input)
     pub faults : faults_of r ≡ read.faults input
     pub place : place_of r ≡ 0
-    pub content : content_of r ≡ delivered suite.opened key 0 (from_place (read.place input) (read.content input))
-    pub rest : plain_rest_of r ≡ delivered suite.opened key 0 (read.rest input)
+    pub content : content_of r ≡ payload_delivers suite.opened key 0 (from_place (read.place input) (read.content input))
+    pub rest : plain_rest_of r ≡ payload_delivers suite.opened key 0 (read.rest input)
     -- It reads a plaintext to a clean end exactly where the input stood before the plaintext's payload and a clean end.
     pub success : IsTrue (read.tells input && read.steady input) → (plain : List ℕ) → plain_rest_of r ≡ whole plain
         → read.rest input ≡ whole (payload suite.seal_of key plain)
@@ -60,9 +61,9 @@ module _ {S R : Type 0} {suite : SuiteGhosts S} {read : Ghosts R} where
 
   -- Of the file key, or the refusal, by the identity that decides: a refusal is the answer. With a file key the answer is
   -- `InvalidMac` exactly where the header's MAC is wrong under it, else the reader, unless memory was refused.
-  abbrev pub Decrypts : Result (List ℕ) DecryptRefusal → HeaderValue → List ℕ → R → Result (StreamReader S R suite read) DecryptError → Type 0
-  Decrypts (Err refusal) h nonce input result = IsErrAnd result (λ e. decrypt_refusal e ≡ refusal)
-  Decrypts (Ok file_key) h nonce input result =
+  abbrev pub AnswersReader : Result (List ℕ) DecryptRefusal → HeaderValue → List ℕ → R → Result (StreamReader S R suite read) DecryptError → Type 0
+  AnswersReader (Err refusal) h nonce input result = IsErrAnd result (λ e. decrypt_refusal e ≡ refusal)
+  AnswersReader (Ok file_key) h nonce input result =
       ((h.mac ≢ header_mac file_key (covered_text h.stanzas)) × IsErrAnd result (λ e. decrypt_refusal e ≡ InvalidMac))
       ⊎ ((h.mac ≡ header_mac file_key (covered_text h.stanzas))
       × MatchResult result (λ r. OpensFile file_key h nonce input r) (λ e. decrypt_refusal e ≡ OutOfMemory))

@@ -1,39 +1,19 @@
 -- Files for the identities that open them, and parts of their plaintexts.
-use Rattle.std.specs.Prelude.{◌≡◌, ◌⊎◌, ℕ, ◌+◌, ◌^◌, ◌≤◌, ◌<◌, List, [], length, take, drop, Result, Some, Ok, Err, OnOk, IfErr, MatchResult}
-use Rattle.age_error.specs.Bytes.{AreBytes}
+use Rattle.std.specs.Prelude.{IfErr, List, MatchResult, OnOk, Result, Some, [], drop, length, take, ℕ, ◌+◌, ◌<◌, ◌≡◌, ◌≤◌, ◌⊎◌}
 use Rattle.age_error.specs.DecryptErrors.{OutOfMemory}
 use Rattle.age_error.specs.declared.io.Error.{Error}
-use Rattle.age_error.specs.declared.io.Error.TheVariants as io
 use Rattle.age_io.specs.Writing.{HandsOn}
 use Rattle.age_io.specs.Stretch.{Stretch}
 use Rattle.age_io.specs.Copying.{AppendsFront, AppendsSome}
-use Rattle.age_format.specs.Stanza.{StanzaValue}
-use Rattle.age_format.specs.Unwrapping.{UnwrapAnswer, Unwraps}
+use Rattle.age_v1.specs.Stanza.{StanzaValue}
 use Rattle.age_format.specs.HeaderV1.{HeaderValue}
 use Rattle.age_stream.specs.Keeping.{Stops}
-use Rattle.age_stream.specs.Payload.{Seal, LastIsNoMiddle, plain_len}
-use Rattle.age_stream.specs.Answering.{StandAt, IsGoodEnd}
-use Rattle.age_protocol.specs.Answering.{FirstThatAnswers}
-use Rattle.age_protocol.specs.File.{IsFileOf, payload_key}
-use Rattle.age_protocol.specs.FileErrors.{IfIo, DecryptsUnless, IsPastEnd}
+use Rattle.age_v1.specs.Payload.{Seal, plain_len}
+use Rattle.age_v1.specs.PayloadAnswers.{IsGoodEnd, StandAt}
+use Rattle.age_protocol.specs.FileErrors.{DecryptsUnless, IfIo, IsPastEnd}
 use Rattle.age_protocol.specs.Texts.{UnderMac}
 use Rattle.age_protocol.specs.declared.error.FileError.{FileError}
-
--- asked in turn for these stanzas, the identities may come to this answer, that of the first one that answers
-abbrev pub FirstAnswer : {I : Type 0} → (I → List StanzaValue → UnwrapAnswer → I → Type 0) → List I → List StanzaValue → UnwrapAnswer → Type 0
-FirstAnswer {I} unwraps identities stanzas answer =
-    (after : List I) × FirstThatAnswers (λ identity own then. Unwraps unwraps identity stanzas own then) identities answer after
-
--- The bytes are a file of the plaintext, under the file key that is answered to its stanzas unless memory is refused. A full last
--- chunk doesn't open as one in the middle too, which no law of a suite says.
-pub record IsFileFor (seal_of : Seal) (answers : List StanzaValue → UnwrapAnswer → Type 0) (plain text : List ℕ) : Type 0 where
-  pub file_key : List ℕ
-  pub stanzas : List StanzaValue
-  pub is_file : IsFileOf seal_of file_key stanzas plain text
-  pub bytes : AreBytes plain
-  pub within : length plain ≤ 2 ^ 60
-  pub last : LastIsNoMiddle seal_of (payload_key file_key is_file.nonce) plain
-  pub right : (answer : UnwrapAnswer) → answers stanzas answer → (answer ≡ Some (Ok file_key)) ⊎ (answer ≡ Some (Err OutOfMemory))
+use Rattle.age_error.specs.declared.io.Error.TheVariants as io
 
 -- under this key these bytes stand in the plaintext of a payload from a place on, whatever its other chunks are
 abbrev pub StandsAt : Seal → ℕ → List ℕ → Stretch → List ℕ → Type 0

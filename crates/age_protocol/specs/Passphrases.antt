@@ -3,16 +3,15 @@ use Rattle.std.specs.Prelude.{◌≡◌, ◌⊎◌, ℕ, ◌^◌, ◌≤◌, tru
 use Rattle.age_error.specs.Bytes.{AreBytes, AreBytesOf}
 use Rattle.age_error.specs.EncryptErrors.{EncryptRefusal, ShortRandom, WorkFactorRefused, OutOfMemory}
 use Rattle.age_suite.specs.declared.suite.Suite.{Ghosts}
-use Rattle.age_format.specs.Stanza.{StanzaValue}
-use Rattle.age_format.specs.Wrapping.{WrapAnswer}
-use Rattle.age_format.specs.Unwrapping.{UnwrapAnswer, Steady, FirstOf}
-use Rattle.age_keys.specs.OwnType.{no_nonce}
-use Rattle.age_keys.specs.Scrypt.{PassphraseRecipient, PassphraseIdentity, stretch_salt, scrypt_stanza, WrapsUnder, UnwrapsUnder}
+use Rattle.age_v1.specs.Stanza.{StanzaValue}
+use Rattle.age_v1.specs.Recipients.{WrapAnswer}
+use Rattle.age_v1.specs.Identities.{UnwrapAnswer, Steady, FirstOf, FirstAnswer, IsFileFor}
+use Rattle.age_v1.specs.RecipientType.{no_nonce}
+use Rattle.age_v1.specs.Scrypt.{PassphraseRecipient, PassphraseIdentity, stretch_salt, scrypt_stanza, WrapsUnder, UnwrapsUnder}
 use Rattle.age_keys.specs.ScryptLaws.{IsMeantFor}
-use Rattle.age_stream.specs.Payload.{LastIsNoMiddle}
-use Rattle.age_protocol.specs.Encrypting.{Prepared, Prepares}
-use Rattle.age_protocol.specs.File.{IsFileOf, payload_key}
-use Rattle.age_protocol.specs.Parts.{FirstAnswer, IsFileFor}
+use Rattle.age_v1.specs.Payload.{LastIsNoMiddle, payload_key}
+use Rattle.age_v1.specs.Encrypting.{Prepared, Prepares}
+use Rattle.age_v1.specs.File.{IsFileOf}
 
 module _ {S : Type 0} (suite : Ghosts S) where
   -- what a recipient of a passphrase answers

@@ -3,15 +3,13 @@ use Rattle.std.specs.Prelude.{◌≡◌, ◌⊎◌, ℕ, ◌^◌, ◌≤◌, Boo
 use Rattle.std.specs.List.{AllZip}
 use Rattle.age_error.specs.Bytes.{AreBytes}
 use Rattle.age_error.specs.DecryptErrors.{OutOfMemory}
-use Rattle.age_format.specs.Stanza.{StanzaValue}
-use Rattle.age_format.specs.Wrapping.{WrapAnswer, Wrapped}
-use Rattle.age_format.specs.Unwrapping.{UnwrapAnswer, Unwraps}
-use Rattle.age_format.specs.Belonging.{MayWrap, BelongsTo}
-use Rattle.age_stream.specs.Payload.{Seal, LastIsNoMiddle}
-use Rattle.age_protocol.specs.Labels.{has_scrypt}
-use Rattle.age_protocol.specs.Encrypting.{Prepared, Prepares}
-use Rattle.age_protocol.specs.File.{IsFileOf, payload_key}
-use Rattle.age_protocol.specs.Parts.{FirstAnswer, IsFileFor}
+use Rattle.age_v1.specs.Stanza.{StanzaValue}
+use Rattle.age_v1.specs.Recipients.{WrapAnswer, Wrapped, has_scrypt}
+use Rattle.age_v1.specs.Identities.{UnwrapAnswer, Unwraps, FirstAnswer, IsFileFor}
+use Rattle.age_v1.specs.Belonging.{MayWrap, BelongsTo}
+use Rattle.age_v1.specs.Payload.{Seal, LastIsNoMiddle, payload_key}
+use Rattle.age_v1.specs.Encrypting.{Prepared, Prepares}
+use Rattle.age_v1.specs.File.{IsFileOf}
 
 -- the stanzas of several answers, in their order
 abbrev pub stanzas_of : List Wrapped → List StanzaValue

@@ -3,11 +3,11 @@ use Rattle.std.specs.Prelude.{◌≡◌, ℕ, ◌≤◌, Bool, List, Result, Err
 use Rattle.age_error.specs.declared.io.Error.{Error}
 use Rattle.age_io.specs.Writing.{Retried, OrMemory, WritesAll}
 use Rattle.age_stream.specs.Sending.{RefusesChunk}
-use Rattle.age_stream.specs.Payload.{Seal}
+use Rattle.age_v1.specs.Payload.{Seal, payload_key}
 use Rattle.age_stream.specs.Writing.{WasMade, Finishes}
 use Rattle.age_stream.specs.declared.writer.StreamWriter.{StreamWriter}
-use Rattle.age_protocol.specs.Encrypting.{Prepared}
-use Rattle.age_protocol.specs.File.{payload_key, file_front, file_text}
+use Rattle.age_v1.specs.Encrypting.{Prepared}
+use Rattle.age_v1.specs.File.{file_front, file_text}
 
 -- The header and the nonce were appended to the output, and the writer was made over what the output then was.
 pub record Starts {S W : Type 0} (tells : W → Bool) (faults : W → ℕ) (refuses : W → ℕ → Error → Type 0)

@@ -2,14 +2,15 @@
 use Rattle.std.specs.Prelude.{◌≡◌, ◌≢◌, ◌⊎◌, ◌≤◌, ◌<◌, ℕ, Bool, IsTrue, List, Result, Ok, Err}
 use Rattle.age_error.specs.DecryptErrors.{DecryptRefusal, IsDeviceRefusal, InvalidMac, OutOfMemory}
 use Rattle.age_io.specs.Stretch.{Stretch}
-use Rattle.age_armor.specs.Delivered.{delivered, stretch_of}
-use Rattle.age_format.specs.HeaderV1.{HeaderValue, header_mac}
-use Rattle.age_format.specs.Stanza.{StanzaValue, canonical}
-use Rattle.age_format.specs.Unwrapping.{UnwrapAnswer}
-use Rattle.age_format.specs.Header.{covered_text}
-use Rattle.age_protocol.specs.Answering.{decided}
+use Rattle.age_v1.specs.DeliveredArmor.{text_delivers, stretch_of}
+use Rattle.age_format.specs.HeaderV1.{HeaderValue}
+use Rattle.age_v1.specs.HeaderMac.{header_mac}
+use Rattle.age_v1.specs.HeaderTexts.{canonical}
+use Rattle.age_v1.specs.Stanza.{StanzaValue}
+use Rattle.age_v1.specs.Identities.{UnwrapAnswer, decided}
+use Rattle.age_v1.specs.Header.{covered_text}
 use Rattle.age_protocol.specs.Decrypting.{ReadsFront, WhyNoFront}
-use Rattle.age_protocol.specs.File.{payload_key}
+use Rattle.age_v1.specs.Payload.{payload_key}
 
 -- Why what a text delivers doesn't begin as a file, and the reader of the text when it was given up. A part of what it
 -- delivers was read, up to this place, and this was left.
@@ -19,18 +20,18 @@ pub record RefusesText {R : Type 0} (tells : R → Bool) (rest : R → Stretch) 
   pub left : Stretch
   pub place : ℕ
   -- of a reader that tells its bytes
-  pub why : let text = stretch_of (delivered (rest old).bytes (rest old).ends_well) in IsTrue (tells old)
+  pub why : let text = stretch_of (text_delivers (rest old).bytes (rest old).ends_well) in IsTrue (tells old)
       → WhyNoFront canonical (faults old) (faults last) text left 0 place e
 
 -- What a text delivers begins with this header and this nonce, and this is left after them.
 pub record BeginsText {R : Type 0} (tells : R → Bool) (rest : R → Stretch) (old : R) (h : HeaderValue) (nonce : List ℕ) (left : Stretch) : Type 0 where
   pub place : ℕ
   -- of a reader that tells its bytes
-  pub front : IsTrue (tells old) → ReadsFront (stretch_of (delivered (rest old).bytes (rest old).ends_well)) left 0 place h nonce
+  pub front : IsTrue (tells old) → ReadsFront (stretch_of (text_delivers (rest old).bytes (rest old).ends_well)) left 0 place h nonce
 
 -- A header and a nonce stand at the front of a stretch, and this is left after them.
-abbrev pub Begins : Stretch → ℕ → HeaderValue → List ℕ → Stretch → Type 0
-Begins start start_place h nonce left = (place : ℕ) × ReadsFront start left start_place place h nonce
+abbrev pub HasFront : Stretch → ℕ → HeaderValue → List ℕ → Stretch → Type 0
+HasFront start start_place h nonce left = (place : ℕ) × ReadsFront start left start_place place h nonce
 
 -- after the identity that decides has answered: its own refusal, or the header's MAC is wrong under its file key, or it is right and memory was refused
 abbrev pub RefusesKey : Result (List ℕ) DecryptRefusal → HeaderValue → DecryptRefusal → Type 0

@@ -1,7 +1,7 @@
 //! Which of several identities decides.
 ghost use Rattle.std.specs.Prelude.{◌≡◌};
-ghost use Rattle.age_format.specs.Unwrapping.{UnwrapAnswer, key_answer, unwrap_answer, Unwraps};
-ghost use Rattle.age_protocol.specs.Answering.{FirstThatAnswers, decided};
+ghost use Rattle.age_format.specs.Unwrapping.{key_answer, unwrap_answer};
+ghost use Rattle.age_v1.specs.Identities.{UnwrapAnswer, Unwraps, FirstThatAnswers, decided};
 
 use age_error::DecryptError;
 use age_format::{Identity, Stanza};

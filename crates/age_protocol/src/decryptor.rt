@@ -1,8 +1,7 @@
 //! Decrypting a file.
 ghost use Rattle.std.specs.Prelude.{Ok};
-ghost use Rattle.age_format.specs.Unwrapping.{UnwrapAnswer, Unwraps};
-ghost use Rattle.age_protocol.specs.Answering.{FirstThatAnswers, decided};
-ghost use Rattle.age_protocol.specs.OpeningFile.{Decrypts};
+ghost use Rattle.age_v1.specs.Identities.{UnwrapAnswer, Unwraps, FirstThatAnswers, decided};
+ghost use Rattle.age_protocol.specs.OpeningFile.{AnswersReader};
 
 use crate::answering::{file_key_by_one, file_key_of};
 use crate::front::read_nonce;
@@ -59,7 +58,7 @@ impl<S: Suite, R: Read + Drop> Decryptor<S, R> {
     ) -> Result<StreamReader<S, R>, DecryptError>
         ensures { (answer : UnwrapAnswer)
             × FirstThatAnswers (λ identity answer after. Unwraps I.unwraps identity (header_of self).stanzas answer after) identities.old answer identities.new
-            × Decrypts (decided answer) (header_of self) (nonce_of self) (input_of self) result }
+            × AnswersReader (decided answer) (header_of self) (nonce_of self) (input_of self) result }
     {
         match file_key_of(alloc, identities, self.header.stanzas()) {
             Ok(file_key) => self.decrypt_with(alloc, &file_key),
@@ -77,7 +76,7 @@ impl<S: Suite, R: Read + Drop> Decryptor<S, R> {
     ) -> Result<StreamReader<S, R>, DecryptError>
         ensures { (answer : UnwrapAnswer)
             × Unwraps I.unwraps identity.old (header_of self).stanzas answer identity.new
-            × Decrypts (decided answer) (header_of self) (nonce_of self) (input_of self) result }
+            × AnswersReader (decided answer) (header_of self) (nonce_of self) (input_of self) result }
     {
         match file_key_by_one(alloc, identity, self.header.stanzas()) {
             Ok(file_key) => self.decrypt_with(alloc, &file_key),
@@ -91,7 +90,7 @@ impl<S: Suite, R: Read + Drop> Decryptor<S, R> {
         alloc: Global,
         file_key: &FileKey,
     ) -> Result<StreamReader<S, R>, DecryptError>
-        ensures { Decrypts (Ok file_key.now) (header_of self) (nonce_of self) (input_of self) result }
+        ensures { AnswersReader (Ok file_key.now) (header_of self) (nonce_of self) (input_of self) result }
     {
         let Decryptor {
             input,

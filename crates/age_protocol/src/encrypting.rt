@@ -1,10 +1,8 @@
 //! Wrapping a file key for several recipients.
 ghost use Rattle.std.specs.Prelude.{◌≡◌, ◌≢◌, [], ◌∷◌};
-ghost use Rattle.age_format.specs.Header.{KeepsScryptRule};
-ghost use Rattle.age_format.specs.Wrapping.{WrapAnswer};
-ghost use Rattle.age_protocol.specs.Labels.{nothing_yet, judged};
-ghost use Rattle.age_format.specs.Drawing.{IsOrNoMemory};
-ghost use Rattle.age_protocol.specs.Encrypting.{WrapsInTurn, PreparesNonce, PreparesRest, PreparesWith, Prepares};
+ghost use Rattle.age_v1.specs.Header.{KeepsScryptRule};
+ghost use Rattle.age_v1.specs.Recipients.{WrapAnswer, nothing_yet, judged};
+ghost use Rattle.age_v1.specs.Encrypting.{IsOrNoMemory, WrapsInTurn, PreparesNonce, PreparesRest, PreparesWith, Prepares};
 ghost use Rattle.age_protocol.specs.Answers.{encrypt_answer};
 
 use crate::encryptor::Encryptor;

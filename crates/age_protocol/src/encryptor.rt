@@ -4,12 +4,11 @@ ghost use Rattle.age_error.specs.Bytes.{AreBytes};
 ghost use Rattle.age_error.specs.Refusals.{IsInterruption};
 ghost use Rattle.age_error.specs.declared.io.Error.TheVariants.{OutOfMemory};
 ghost use Rattle.age_protocol.specs.Answers.{encrypt_answer};
-ghost use Rattle.age_format.specs.Header.{header_text, IsHeader, KeepsScryptRule};
-ghost use Rattle.age_format.specs.Drawing.{IsOrNoMemory};
-ghost use Rattle.age_keys.specs.Scrypt.{WrapsUnder};
-ghost use Rattle.age_protocol.specs.Encrypting.{Prepares};
+ghost use Rattle.age_v1.specs.Header.{header_text, IsHeader, KeepsScryptRule};
+ghost use Rattle.age_v1.specs.Encrypting.{IsOrNoMemory, Prepares};
+ghost use Rattle.age_v1.specs.Scrypt.{WrapsUnder};
 ghost use Rattle.age_io.specs.Writing.{WritesAll, Retried, OrMemory};
-ghost use Rattle.age_protocol.specs.File.{file_text, IsFileOf};
+ghost use Rattle.age_v1.specs.File.{file_text, IsFileOf};
 ghost use Rattle.age_protocol.specs.Starting.{Starts, WritesFile, GivesUp};
 
 use crate::encrypting::prepare;
@@ -38,8 +37,8 @@ pub struct Encryptor<S> {
 }
 
 impl<S> Model for Encryptor<S> {
-    ghost use Rattle.age_protocol.specs.Encrypting.{Prepared};
-    ghost use Rattle.age_protocol.specs.File.{IsReady};
+    ghost use Rattle.age_v1.specs.Encrypting.{Prepared};
+    ghost use Rattle.age_protocol.specs.Ready.{IsReady};
 
     ghost Value = { Prepared };
 

@@ -3,14 +3,14 @@
 ghost use Rattle.std.specs.Prelude.{◌≡◌, ◌≢◌, [], false, string_bytes, Ok, IfOk};
 ghost use Rattle.std.specs.Result.{result_map_both};
 ghost use Rattle.std.specs.List.{list_all};
-ghost use Rattle.age_format.specs.Bytes.{is_string_of};
+ghost use Rattle.age_v1.specs.Stanza.{is_string_of};
 ghost use Rattle.std.specs.Option.{option_map};
 ghost use Rattle.age_error.specs.Labels.{labels_of};
-ghost use Rattle.age_format.specs.Header.{KeepsScryptRule};
+ghost use Rattle.age_v1.specs.Header.{KeepsScryptRule};
 ghost use Rattle.age_error.specs.EncryptErrors.{encrypt_refusal};
 ghost use Rattle.std.specs.Vec.{vec_items};
-ghost use Rattle.age_format.specs.Drawing.{IsOrNoMemory};
-ghost use Rattle.age_protocol.specs.Labels.{nothing_yet, has_scrypt, same_labels, agreed_labels, judged, greased, closed};
+ghost use Rattle.age_v1.specs.Encrypting.{IsOrNoMemory};
+ghost use Rattle.age_v1.specs.Recipients.{nothing_yet, has_scrypt, same_labels, agreed_labels, judged, greased, closed};
 
 use age_error::EncryptError;
 use age_format::{Grease, Stanza, is_string};
@@ -28,7 +28,7 @@ pub(crate) struct Gathered {
 impl Model for Gathered {
     ghost use Rattle.std.specs.Option.{option_map};
     ghost use Rattle.age_error.specs.Labels.{labels_of};
-    ghost use Rattle.age_protocol.specs.Labels.{Gathered as Seen};
+    ghost use Rattle.age_v1.specs.Recipients.{Gathered as Seen};
 
     ghost Value = { Seen };
 

@@ -2,7 +2,7 @@
 ghost use Rattle.std.specs.Prelude.{◌↔◌, IsTrue, List, ℕ};
 ghost use Rattle.std.specs.List.{Contains};
 ghost use Rattle.age_error.specs.Labels.{labels_of};
-ghost use Rattle.age_protocol.specs.Labels.{same_labels};
+ghost use Rattle.age_v1.specs.Recipients.{same_labels};
 ghost use Rattle.age_protocol.specs.Several.{HoldAnswers, OneDecrypts, AnyDecrypts};
 ghost use Rattle.age_protocol.specs.Passphrases.{PassphraseHolds, PassphraseDecrypts, PassphraseRefuses};
 ghost use Rattle.age_protocol.specs.Laws.{ReadsBack, RefusesNoFile, FileOpens, FileIsContent, OneHeader, OnePlain, CarriesItself, GivesBack, RefusesNone};

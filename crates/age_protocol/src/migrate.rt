@@ -1,6 +1,5 @@
 //! Files from before the standard, whose headers have the legacy form of a stanza, carried over.
-ghost use Rattle.age_format.specs.Unwrapping.{UnwrapAnswer, Unwraps};
-ghost use Rattle.age_protocol.specs.Answering.{FirstThatAnswers, decided};
+ghost use Rattle.age_v1.specs.Identities.{UnwrapAnswer, Unwraps, FirstThatAnswers, decided};
 ghost use Rattle.age_protocol.specs.Migrating.{ReadsOldFrontOf, Rewrites, Migrates, MigratesFiles};
 
 use crate::answering::file_key_of;

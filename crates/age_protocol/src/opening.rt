@@ -2,11 +2,11 @@
 ghost use Rattle.std.specs.Prelude.{◌≡◌, ◌&&◌, ℕ, ◌≤◌, IsTrue, List, [], ◌∷◌, All, map, IfOk, IfErr, MatchResult};
 ghost use Rattle.age_error.specs.DecryptErrors.{OutOfMemory, decrypt_refusal};
 ghost use Rattle.age_io.specs.Replies.{seen, replies, IsNoWant};
-ghost use Rattle.age_armor.specs.Armor.{Carries};
+ghost use Rattle.age_v1.specs.Armor.{Carries};
 ghost use Rattle.age_protocol.specs.OpeningFile.{StandsBefore};
 ghost use Rattle.age_protocol.specs.Opened.{IsOpened, IsNotOpened};
 ghost use Rattle.age_protocol.specs.FileErrors.{IsWant};
-ghost use Rattle.age_protocol.specs.Parts.{FirstAnswer, IsFileFor};
+ghost use Rattle.age_v1.specs.Identities.{FirstAnswer, IsFileFor};
 
 use crate::decryptor::Decryptor;
 use crate::error::FileError;

@@ -8,18 +8,19 @@ ghost use Rattle.age_io.specs.Reading.{IsQuiet, TriedAgain};
 ghost use Rattle.age_io.specs.Copying.{AppendsFront, AppendsSome, CopyRefuses};
 ghost use Rattle.age_io.specs.Cursor.{IsOutside, IsSeekRefusal, OrTooLong};
 ghost use Rattle.age_io.specs.Writing.{HandsOn, OrMemory, Retried};
-ghost use Rattle.age_armor.specs.Armor.{Carries};
-ghost use Rattle.age_armor.specs.Delivered.{delivered, stretch_of};
+ghost use Rattle.age_v1.specs.Armor.{Carries};
+ghost use Rattle.age_v1.specs.DeliveredArmor.{text_delivers, stretch_of};
 ghost use Rattle.age_armor.specs.Refusing.{IsTextRefusal};
 ghost use Rattle.age_stream.specs.Keeping.{IsPayloadRefusal};
-ghost use Rattle.age_stream.specs.Targets.{sought_in};
+ghost use Rattle.age_v1.specs.PayloadTargets.{sought_in};
 ghost use Rattle.age_stream.specs.Reader.{payload_of, key_of};
 ghost use Rattle.age_protocol.specs.Opened.{IsNotOpened};
 ghost use Rattle.age_protocol.specs.WholeFiles.{read_of};
 ghost use Rattle.age_protocol.specs.FileErrors.{DecryptsUnless, IfIo, IsDecryptError};
-ghost use Rattle.age_protocol.specs.DecryptingStreams.{AnswersFirst, DecryptsPart, GivesFirst, RefusesOpening};
-ghost use Rattle.age_protocol.specs.Texts.{Begins};
-ghost use Rattle.age_protocol.specs.Parts.{AppendsPart, AppendsOf, EndsBefore, RefusesPart, StandsAt, IsPartAt, FirstAnswer, IsFileFor};
+ghost use Rattle.age_protocol.specs.DecryptingStreams.{DecryptsPart, RefusesOpening};
+ghost use Rattle.age_v1.specs.Identities.{AnswersFirst, GivesFirst, FirstAnswer, IsFileFor};
+ghost use Rattle.age_protocol.specs.Texts.{HasFront};
+ghost use Rattle.age_protocol.specs.Parts.{AppendsPart, AppendsOf, EndsBefore, RefusesPart, StandsAt, IsPartAt};
 
 use crate::error::FileError;
 use crate::opening::open_file;
@@ -105,10 +106,10 @@ fn at_bytes<S: Suite, I: Identity, T: Seek + Drop, W: Write>(
         IsFileFor S.seal_of (FirstAnswer I.unwraps identities.old) plain (T.rest bytes).bytes →
         AppendsPart W.appended W.refuses ((t : T) → T.faults t ≡ 0) place count plain writer.old writer.new result }
     ensures standing { T.rest bytes ≡ from_place (T.place bytes) (T.content bytes) → IsTrue (T.tells bytes && T.steady bytes) → IsTrue (W.tells writer.old) →
-        (writer.new ≡ writer.old) ⊎ AppendsOf (Begins (T.rest bytes) (T.place bytes))
+        (writer.new ≡ writer.old) ⊎ AppendsOf (HasFront (T.rest bytes) (T.place bytes))
         (GivesFirst I.unwraps identities.old identities.new)
         W.appended count (StandsAt S.seal_of place) writer.old writer.new }
-    ensures given { T.rest bytes ≡ from_place (T.place bytes) (T.content bytes) → IsTrue (T.tells bytes && T.steady bytes) → IsTrue (W.tells writer.old) → OnOk result (AppendsOf (Begins (T.rest bytes) (T.place bytes))
+    ensures given { T.rest bytes ≡ from_place (T.place bytes) (T.content bytes) → IsTrue (T.tells bytes && T.steady bytes) → IsTrue (W.tells writer.old) → OnOk result (AppendsOf (HasFront (T.rest bytes) (T.place bytes))
         (GivesFirst I.unwraps identities.old identities.new)
         W.appended count (IsPartAt S.seal_of place count) writer.old writer.new) }
     ensures refused { IfErr result (λ e. IsDecryptError e → writer.new ≡ writer.old) }
@@ -117,7 +118,7 @@ fn at_bytes<S: Suite, I: Identity, T: Seek + Drop, W: Write>(
         ⊎ IsSeekRefusal T.seek_refuses e ⊎ IsPayloadRefusal e)) }
     ensures cause { T.rest bytes ≡ from_place (T.place bytes) (T.content bytes) → IsTrue (T.tells bytes && T.steady bytes) → IsTrue (W.tells writer.old) →
         IfErr result (IfIo (λ e. (e ≡ OutOfMemory) ⊎ TriedAgain T.refuses bytes e ⊎ HandsOn W.refuses writer.old e
-        ⊎ AppendsOf (Begins (T.rest bytes) (T.place bytes)) (GivesFirst I.unwraps identities.old identities.new) W.appended count
+        ⊎ AppendsOf (HasFront (T.rest bytes) (T.place bytes)) (GivesFirst I.unwraps identities.old identities.new) W.appended count
         (RefusesPart S.seal_of T.seek_refuses place e) writer.old writer.new)) }
 {
     let mut stream = match open_file::<S, I, T>(alloc, identities, bytes) {
@@ -166,18 +167,18 @@ fn at_text<S: Suite, I: Identity, W: Write>(
     ensures cursor { IsTrue (W.tells writer.old) → (file plain : List ℕ) → Carries text.now file →
         IsFileFor S.seal_of (FirstAnswer I.unwraps identities.old) plain file →
         AppendsPart W.appended W.refuses ⊤ place count plain writer.old writer.new result }
-    ensures standing { IsTrue (W.tells writer.old) → (writer.new ≡ writer.old) ⊎ AppendsOf (Begins (stretch_of (delivered text.now true)) 0)
+    ensures standing { IsTrue (W.tells writer.old) → (writer.new ≡ writer.old) ⊎ AppendsOf (HasFront (stretch_of (text_delivers text.now true)) 0)
         (GivesFirst I.unwraps identities.old identities.new)
         W.appended count (StandsAt S.seal_of place) writer.old writer.new }
-    ensures given { IsTrue (W.tells writer.old) → OnOk result (AppendsOf (Begins (stretch_of (delivered text.now true)) 0)
+    ensures given { IsTrue (W.tells writer.old) → OnOk result (AppendsOf (HasFront (stretch_of (text_delivers text.now true)) 0)
         (GivesFirst I.unwraps identities.old identities.new)
         W.appended count (IsPartAt S.seal_of place count) writer.old writer.new) }
     ensures refused { IfErr result (λ e. IsDecryptError e → writer.new ≡ writer.old) }
-    ensures why { IfErr result (DecryptsUnless (RefusesOpening text.now (Begins (read_of text.now) 0) (AnswersFirst I.unwraps identities.old identities.new))) }
+    ensures why { IfErr result (DecryptsUnless (RefusesOpening text.now (HasFront (read_of text.now) 0) (AnswersFirst I.unwraps identities.old identities.new))) }
     ensures io { IfErr result (IfIo (λ e. (e ≡ OutOfMemory) ⊎ HandsOn W.refuses writer.old e
         ⊎ IsOutside e ⊎ (e ≡ Failed) ⊎ IsTextRefusal true true true e ⊎ IsPayloadRefusal e)) }
     ensures cause { IsTrue (W.tells writer.old) → IfErr result (IfIo (λ e. (e ≡ OutOfMemory) ⊎ HandsOn W.refuses writer.old e ⊎ IsTextRefusal true true true e
-        ⊎ AppendsOf (Begins (stretch_of (delivered text.now true)) 0) (GivesFirst I.unwraps identities.old identities.new) W.appended count
+        ⊎ AppendsOf (HasFront (stretch_of (text_delivers text.now true)) 0) (GivesFirst I.unwraps identities.old identities.new) W.appended count
         (RefusesPart S.seal_of (λ f. f ≡ Failed) place e) writer.old writer.new)) }
 {
     match ArmoredReader::new_buffered(alloc, Bytes::new(text)) {

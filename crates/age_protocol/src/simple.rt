@@ -3,11 +3,10 @@ ghost use Rattle.std.specs.Prelude.{◌≡◌, ◌≢◌, ℕ, ◌^◌, ◌<◌,
 ghost use Rattle.std.specs.Result.{result_map_both};
 ghost use Rattle.age_error.specs.DecryptErrors.{decrypt_refusal, OutOfMemory};
 ghost use Rattle.age_error.specs.EncryptErrors.{EncryptRefusal, encrypt_refusal};
-ghost use Rattle.age_armor.specs.Armor.{armor, Carries};
-ghost use Rattle.age_armor.specs.Writing.{text_of};
-ghost use Rattle.age_protocol.specs.Encrypting.{Prepared, Prepares};
-ghost use Rattle.age_protocol.specs.Parts.{FirstAnswer, IsFileFor};
-ghost use Rattle.age_protocol.specs.WholeFiles.{Encrypts, Decrypts, Refuses};
+ghost use Rattle.age_v1.specs.Armor.{armor, Carries, text_of};
+ghost use Rattle.age_v1.specs.Encrypting.{Prepared, Prepares};
+ghost use Rattle.age_v1.specs.Identities.{FirstAnswer, IsFileFor, Decrypts};
+ghost use Rattle.age_protocol.specs.WholeFiles.{Encrypts, RefusesDecrypting};
 
 use crate::error::FileError;
 use crate::laws::carried_files;
@@ -109,7 +108,7 @@ fn plaintext_of<S: Suite, I: Identity>(
     file: &[u8],
 ) -> Result<Vec<u8>, DecryptError>
     ensures success { IfOk result (λ plain. Decrypts S.seal_of I.unwraps identity.old file.now plain.items identity.new) }
-    ensures refused { IfErr result (λ e. Refuses S.seal_of I.unwraps identity.old file.now identity.new (decrypt_refusal e)) }
+    ensures refused { IfErr result (λ e. RefusesDecrypting S.seal_of I.unwraps identity.old file.now identity.new (decrypt_refusal e)) }
 {
     known_bytes(file);
     let input = ArmoredReader::new_buffered(alloc, Bytes::new(file))?;
@@ -139,7 +138,7 @@ pub fn decrypt<S: Suite, I: Identity>(
     file: &[u8],
 ) -> Result<Vec<u8>, DecryptError>
     ensures success { IfOk result (λ plain. Decrypts S.seal_of I.unwraps identity.old file.now plain.items identity.new) }
-    ensures refused { IfErr result (λ e. Refuses S.seal_of I.unwraps identity.old file.now identity.new (decrypt_refusal e)) }
+    ensures refused { IfErr result (λ e. RefusesDecrypting S.seal_of I.unwraps identity.old file.now identity.new (decrypt_refusal e)) }
     // A file whose file key the identity gets is refused for want of memory alone, and gives nothing but its plaintext.
     ensures honest { (carried plain : List ℕ) → Carries file.now carried → IsFileFor S.seal_of (FirstAnswer I.unwraps (identity.old ∷ [])) plain carried →
         MatchResult result (λ given. given.items ≡ plain) (λ e. decrypt_refusal e ≡ OutOfMemory) }

@@ -1,11 +1,13 @@
 //! Whole files from a reader to a writer, in flat memory.
 ghost use Rattle.std.specs.Prelude.{◌≡◌, length, IsTrue, Some, Ok, Err, IfOk, OnOk, IfErr};
 ghost use Rattle.age_io.specs.Reading.{IsQuiet};
-ghost use Rattle.age_protocol.specs.Encrypting.{Prepared, Prepares};
-ghost use Rattle.age_protocol.specs.WholeFiles.{AppendsFile, RefusesFile};
+ghost use Rattle.age_v1.specs.Encrypting.{Prepared, Prepares};
+ghost use Rattle.age_protocol.specs.WholeFiles.{RefusesFile};
+ghost use Rattle.age_v1.specs.Armor.{text_of};
+ghost use Rattle.age_v1.specs.Claims.{AppendsFile};
 ghost use Rattle.age_protocol.specs.FileErrors.{IfIo, IsEncryptError, EncryptsUnless};
-ghost use Rattle.age_protocol.specs.DecryptingStreams.{DecryptsAll, AnswersFirst, GivesFirst};
-ghost use Rattle.age_protocol.specs.Parts.{FirstAnswer, IsFileFor};
+ghost use Rattle.age_protocol.specs.DecryptingStreams.{DecryptsAll};
+ghost use Rattle.age_v1.specs.Identities.{AnswersFirst, GivesFirst, FirstAnswer, IsFileFor};
 
 use crate::encryptor::Encryptor;
 use crate::error::FileError;
@@ -40,7 +42,7 @@ pub fn encrypt_all<S: Suite, T: Recipient, R: Read, W: Write>(
     ensures file { IsTrue (R.tells reader.old) → IsTrue (W.tells writer.old) → OnOk result
         ((file : Prepared)
         × Prepares T.wraps recipients.now (Some grease) draw.old (Ok file) draw.new
-        × AppendsFile S.seal_of W.appended format file (R.rest reader.old) writer.old writer.new) }
+        × AppendsFile S.seal_of W.appended (text_of format) file (R.rest reader.old) writer.old writer.new) }
     ensures refused { IfErr result (λ e. IsEncryptError e → (reader.new ≡ reader.old) × (writer.new ≡ writer.old)) }
     ensures why { IfErr result (EncryptsUnless (λ refusal. Prepares T.wraps recipients.now (Some grease) draw.old (Err refusal) draw.new)) }
     // The file was prepared; where the reader has no fault, the writer refuses, or memory or the length does.
@@ -63,7 +65,7 @@ fn write_file<S: Suite, R: Read, W: Write + Drop>(
     writer: W,
 ) -> Result<W, io::Error>
     ensures file { IsTrue (R.tells reader.old) → IsTrue (W.tells writer) →
-        IfOk result (AppendsFile S.seal_of W.appended format encryptor (R.rest reader.old) writer) }
+        IfOk result (AppendsFile S.seal_of W.appended (text_of format) encryptor (R.rest reader.old) writer) }
     ensures why { IsTrue (R.tells reader.old) → IsTrue (R.rest reader.old).ends_well → IsQuiet (R.faults reader.old) (R.faults reader.new) →
         IfErr result (RefusesFile W.refuses writer (length (R.rest reader.old).bytes)) }
 {

@@ -4,16 +4,16 @@ use Rattle.std.proofs.Common.{◌≡◌, ℕ, ◌+◌, ◌*◌, ◌≤◌, IsTru
 use Rattle.age_error.specs.declared.io.Error.TheVariants.{Device}
 use Rattle.age_error.specs.declared.io.ErrorKind.TheVariants.{Interrupted}
 use Rattle.age_io.specs.Reading.{AddsNoReason}
-use Rattle.age_io.specs.ReadingLaws.{quiet_from}
+use Rattle.age_io.specs.ReadingLemmas.{quiet_from}
 use Rattle.age_io.specs.declared.traits.Read.{Ghosts}
-use Rattle.age_stream.specs.Answering.{StandAt}
-use Rattle.age_stream.specs.Payload.{plain_len}
+use Rattle.age_v1.specs.PayloadAnswers.{StandAt}
+use Rattle.age_v1.specs.Payload.{plain_len}
 use Rattle.age_stream.specs.Reader.{payload_of, key_of, tells_of, content_of, faults_of, refuses_of}
 use Rattle.age_stream.specs.declared.reader.StreamReader.{StreamReader}
 use Rattle.age_suite.specs.declared.suite.Suite.{Ghosts as SuiteGhosts}
-use Rattle.age_records.specs.Text.{HoldsRecords, number}
-use Rattle.age_records.specs.Standing.{Holds, HoldsNone}
-use Rattle.age_records.specs.Payloads.{AddsNone, HasBytes, IsCounted, RefusesCount, RefusesPart, RefusesRecord, SamePayload, SaysCount, Stands}
+use Rattle.age_records.specs.Text.{HoldsRecords, number_text}
+use Rattle.age_records.specs.Standing.{HasRecords, HoldsNone}
+use Rattle.age_records.specs.Payloads.{AddsNone, HasBytes, IsCounted, RefusesCount, RefusesRange, RefusesRecord, SamePayload, SaysCount, Stands}
 use Rattle.age_records.specs.declared.error.RecordError.{RecordError}
 
 module _ {S R : Type 0} {suite : SuiteGhosts S} {read : Ghosts R} where
@@ -41,14 +41,14 @@ module _ {S R : Type 0} {suite : SuiteGhosts S} {read : Ghosts R} where
   pub none-before : (old mid : StreamReader S R suite read) (len : ℕ) → SamePayload old mid → IsTrue (tells_of old) → HoldsNone (Stands mid) len → HoldsNone (Stands old) len
   none-before old mid len same told none = elim none [
     | inl short ↦ inl short
-    | inr (n, counted, inl few) ↦ inr (n, stands-before old mid 0 (number n) same told counted, inl few)
+    | inr (n, counted, inl few) ↦ inr (n, stands-before old mid 0 (number_text n) same told counted, inl few)
     | inr (n, counted, inr other) ↦ inr (
       n,
-      stands-before old mid 0 (number n) same told counted,
+      stands-before old mid 0 (number_text n) same told counted,
       inr (record {
         last = other.last;
         none = other.none;
-        stands = λ some. stands-before old mid (8 * n) (number other.last) same told (other.stands some);
+        stands = λ some. stands-before old mid (8 * n) (number_text other.last) same told (other.stands some);
         other = other.other;
       }),
     )
@@ -63,14 +63,14 @@ module _ {S R : Type 0} {suite : SuiteGhosts S} {read : Ghosts R} where
     holds = λ told well.
         let before = sym same.tells ∙ told in
         let content = same.content before in
-        subst (λ s. Holds s.bytes count total) (sym content) (counted.holds before (ap (λ s. s.ends_well) (sym content) ∙ well));
+        subst (λ s. HasRecords s.bytes count total) (sym content) (counted.holds before (ap (λ s. s.ends_well) (sym content) ∙ well));
   }
 
   -- a number that has room in the plaintext can't be missing
   pub count-refused : (old mid new : StreamReader S R suite read) (past behind : ℕ) (e : RecordError) → SamePayload old mid → faults_of mid ≤ faults_of new → past ≤ 8 + behind →
       (IsTrue (tells_of old) → plain_len (length (payload_of old).bytes) ≡ Some (8 + behind)) →
       (IsTrue (tells_of old) → IsTrue (content_of old).ends_well → length (content_of old).bytes ≡ 8 + behind) →
-      RefusesPart past mid new e → RefusesCount old new e
+      RefusesRange past mid new e → RefusesCount old new e
   count-refused old mid new past behind e same rises within sized long refused = record {
     known = refused.known;
     device = λ is. omega (arith, same.faults, refused.device is);
@@ -101,7 +101,7 @@ module _ {S R : Type 0} {suite : SuiteGhosts S} {read : Ghosts R} where
 
   -- the bytes of a record whose ends are good can't be missing
   pub record-refused : (old mid new : StreamReader S R suite read) (count total i end : ℕ) (e : RecordError) → SamePayload old mid → faults_of mid ≤ faults_of new →
-      IsCounted count total old → end ≤ total → RefusesPart (8 + 8 * count + end) mid new e → RefusesRecord count total i old new e
+      IsCounted count total old → end ≤ total → RefusesRange (8 + 8 * count + end) mid new e → RefusesRecord count total i old new e
   record-refused old mid new count total i end e same rises counted inside refused = record {
     missing = λ is. absurd (refused.known is);
     device = λ is. omega (arith, same.faults, refused.device is);

@@ -7,13 +7,13 @@ use Rattle.age_io.specs.Cursor.{IsSeekRefusal, OrTooLong}
 use Rattle.age_io.specs.Reading.{AddsNoReason, IsQuiet, TriedAgain}
 use Rattle.age_io.specs.Stretch.{Stretch}
 use Rattle.age_io.specs.declared.traits.Read.{Ghosts}
-use Rattle.age_stream.specs.Answering.{StandAt}
-use Rattle.age_stream.specs.Payload.{plain_len}
+use Rattle.age_v1.specs.PayloadAnswers.{StandAt}
+use Rattle.age_v1.specs.Payload.{plain_len}
 use Rattle.age_stream.specs.Reader.{payload_of, key_of, tells_of, content_of, faults_of, opens_of, refuses_of}
 use Rattle.age_stream.specs.declared.reader.StreamReader.{StreamReader}
 use Rattle.age_suite.specs.declared.suite.Suite.{Ghosts as SuiteGhosts}
-use Rattle.age_records.specs.Text.{number, record_at, HoldsRecords}
-use Rattle.age_records.specs.Standing.{Holds, HoldsNone, HasBadEnds}
+use Rattle.age_records.specs.Text.{number_text, record_at, HoldsRecords}
+use Rattle.age_records.specs.Standing.{HasRecords, HoldsNone, HasBadEnds}
 use Rattle.age_records.specs.declared.error.RecordError.{RecordError}
 use Rattle.age_records.specs.declared.error.RecordError.TheVariants.{NoSuchRecord, Damaged, Io}
 
@@ -59,7 +59,7 @@ module _ {S R : Type 0} {suite : SuiteGhosts S} {read : Ghosts R} where
 
   -- Reading bytes of the plaintext up to this place is refused: `Damaged` only where they aren't there, and, where the plaintext ends well
   -- and has them, for want of memory or since the device failed.
-  pub record RefusesPart (past : ℕ) (old new : StreamReader S R suite read) (e : RecordError) : Type 0 where
+  pub record RefusesRange (past : ℕ) (old new : StreamReader S R suite read) (e : RecordError) : Type 0 where
     pub known : e ≡ NoSuchRecord → ⊥
     pub device : IsDeviceRefusal e → faults_of old < faults_of new
     pub damaged : IsTrue (tells_of old) → HasBytes (payload_of old) past → e ≡ Damaged → ⊥
@@ -71,12 +71,12 @@ module _ {S R : Type 0} {suite : SuiteGhosts S} {read : Ghosts R} where
     pub fits : 8 + 8 * count + total < 2 ^ 64
     pub none : count ≡ 0 → total ≡ 0
     pub sized : IsTrue (tells_of r) → plain_len (length (payload_of r).bytes) ≡ Some (8 + 8 * count + total)
-    pub holds : IsTrue (tells_of r) → IsTrue (content_of r).ends_well → Holds (content_of r).bytes count total
+    pub holds : IsTrue (tells_of r) → IsTrue (content_of r).ends_well → HasRecords (content_of r).bytes count total
 
   -- these numbers stand in it as its count and its last end
   pub record SaysCount (count total : ℕ) (r : StreamReader S R suite read) : Type 0 where
-    pub counted : Stands r 0 (number count)
-    pub ended : 0 < count → Stands r (8 * count) (number total)
+    pub counted : Stands r 0 (number_text count)
+    pub ended : 0 < count → Stands r (8 * count) (number_text total)
 
   -- Counting the records is refused: `Damaged` where what stands there is no text of records, and, where the plaintext ends well, else only for
   -- want of memory or since the device failed.

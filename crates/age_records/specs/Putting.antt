@@ -5,7 +5,7 @@ use Rattle.age_error.specs.declared.io.Error.{Error}
 use Rattle.age_error.specs.declared.io.Error.TheVariants.{TooLong}
 use Rattle.age_io.specs.Writing.{Retried, WritesAll}
 use Rattle.age_io.specs.declared.traits.Write.{Ghosts}
-use Rattle.age_stream.specs.Payload.{Seal}
+use Rattle.age_v1.specs.Payload.{Seal}
 use Rattle.age_stream.specs.Sending.{RefusesChunk}
 use Rattle.age_stream.specs.Writing.{Appended, IsFailed, IsGood, Refused, inner_of, taken_len}
 use Rattle.age_stream.specs.declared.writer.StreamWriter.{StreamWriter}

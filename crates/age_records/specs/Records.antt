@@ -7,12 +7,12 @@ use Rattle.age_error.specs.declared.io.Error.TheVariants.{OutOfMemory}
 use Rattle.age_io.specs.declared.traits.Read.{Ghosts}
 use Rattle.age_io.specs.Reading.{IsQuiet}
 use Rattle.age_io.specs.Stretch.{whole}
-use Rattle.age_stream.specs.Payload.{plain_len}
+use Rattle.age_v1.specs.Payload.{plain_len}
 use Rattle.age_stream.specs.Reader.{tells_of, content_of, payload_of, faults_of, opens_of}
 use Rattle.age_stream.specs.declared.reader.StreamReader.{StreamReader}
 use Rattle.age_suite.specs.declared.suite.Suite.{Ghosts as SuiteGhosts}
 use Rattle.age_records.specs.Text.{HoldsRecords, count_of, record_at, records_text}
-use Rattle.age_records.specs.Standing.{HoldsNone, IsNamed}
+use Rattle.age_records.specs.Standing.{HoldsNone, IsRecordAt}
 use Rattle.age_records.specs.Payloads.{AddsNone, IfIo, MayRefuse, RefusesRecord, SamePayload, SaysCount, Stands}
 use Rattle.age_records.specs.declared.error.RecordError.{RecordError}
 use Rattle.age_records.specs.declared.error.RecordError.TheVariants.{NoSuchRecord, Damaged, Io}
@@ -74,7 +74,7 @@ module _ {S R : Type 0} {suite : SuiteGhosts S} {read : Ghosts R} where
     pub why : IfErr result (IfIo (MayRefuse seek_refuses (reader_of old)))
     pub narrows : OnOk result (AddsNone (reader_of old) (reader_of new))
     -- of any payload: it is what its two ends name
-    pub named : IsTrue (tells_of (reader_of old)) → IfOk result (λ bytes. IsNamed (Stands (reader_of old)) (len_of old) i bytes.items)
+    pub named : IsTrue (tells_of (reader_of old)) → IfOk result (λ bytes. IsRecordAt (Stands (reader_of old)) (len_of old) i bytes.items)
     -- of a plaintext that ends well: it is what the text has
     pub exact : IsTrue (tells_of (reader_of old)) → IsTrue (content_of (reader_of old)).ends_well →
         IfOk result (λ bytes. record_at (content_of (reader_of old)).bytes i ≡ Ok bytes.items)

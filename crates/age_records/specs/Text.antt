@@ -11,31 +11,31 @@ use Rattle.age_records.specs.declared.error.RecordError.TheVariants.{NoSuchRecor
 -- ---- writing
 
 -- a number: 8 bytes, the highest first
-unfoldable pub number : ℕ → List ℕ
-number n = to_be_bytes w64 n
+unfoldable pub number_text : ℕ → List ℕ
+number_text n = to_be_bytes w64 n
 
 -- the end of each record in turn, where the records before the first have so many bytes
 abbrev pub ends : ℕ → List (List ℕ) → List ℕ
 ends before [] = []
-ends before (one ∷ more) = number (before + length one) ++ ends (before + length one) more
+ends before (one ∷ more) = number_text (before + length one) ++ ends (before + length one) more
 
 -- the bytes of all records, joined
-abbrev pub joined : List (List ℕ) → List ℕ
-joined records = flat_map (λ one. one) records
+abbrev pub joined_records : List (List ℕ) → List ℕ
+joined_records records = flat_map (λ one. one) records
 
 -- the text of records: their number, their ends and their bytes
 abbrev pub records_text : List (List ℕ) → List ℕ
-records_text records = number (length records) ++ ends 0 records ++ joined records
+records_text records = number_text (length records) ++ ends 0 records ++ joined_records records
 
 -- ---- reading
 
 -- the number that 8 bytes say
-unfoldable pub value : List ℕ → ℕ
-value bytes = from_be_bytes w64 bytes
+unfoldable pub number_value : List ℕ → ℕ
+number_value bytes = from_be_bytes w64 bytes
 
 -- the number at a place of a text
 abbrev pub number_at : List ℕ → ℕ → ℕ
-number_at text place = value (take 8 (drop place text))
+number_at text place = number_value (take 8 (drop place text))
 
 -- how many records the text has, as it says
 abbrev pub count_of : List ℕ → ℕ

@@ -2,8 +2,8 @@
 ghost use Rattle.std.specs.Prelude.{◌≡◌, ℕ, ◌+◌, ◌*◌, ◌/◌, ◌^◌, ◌<◌, ◌≤◌, suc, ◌-◌, IsTrue, length, take, drop, IfOk, IfErr, OnOk, vec_len, Ok};
 ghost use Rattle.age_stream.specs.Reader.{tells_of, content_of, opens_of};
 ghost use Rattle.age_records.specs.Text.{end_before, record_at};
-ghost use Rattle.age_records.specs.Standing.{HasEnds, IsNamed};
-ghost use Rattle.age_records.specs.Payloads.{AddsNone, IfIo, IsCounted, MayRefuse, RefusesPart, RefusesRecord, SamePayload, Stands};
+ghost use Rattle.age_records.specs.Standing.{HasEnds, IsRecordAt};
+ghost use Rattle.age_records.specs.Payloads.{AddsNone, IfIo, IsCounted, MayRefuse, RefusesRange, RefusesRecord, SamePayload, Stands};
 
 use crate::counting::count_in;
 use crate::error::RecordError;
@@ -45,7 +45,7 @@ fn ends_of<S: Suite, R: Seek>(
         (found.0 ≡ end_before (content_of reader.old).bytes index) × (found.1 ≡ end_before (content_of reader.old).bytes (suc index))) }
     ensures why { IfErr result (IfIo (MayRefuse R.seek_refuses reader.old)) }
     ensures narrows { OnOk result (AddsNone reader.old reader.new) }
-    ensures refused { IfErr result (RefusesPart (8 * index + 16) reader.old reader.new) }
+    ensures refused { IfErr result (RefusesRange (8 * index + 16) reader.old reader.new) }
     ensures opens { opens_of reader.new ≤ opens_of reader.old + 4 }
 {
     if index == 0 {
@@ -74,7 +74,7 @@ fn bytes_between<S: Suite, R: Seek>(
         IfOk result (λ bytes. bytes.items ≡ take (end - start) (drop (front + start) (content_of reader.old).bytes)) }
     ensures why { IfErr result (IfIo (MayRefuse R.seek_refuses reader.old)) }
     ensures narrows { OnOk result (AddsNone reader.old reader.new) }
-    ensures refused { IfErr result (RefusesPart (front + end) reader.old reader.new) }
+    ensures refused { IfErr result (RefusesRange (front + end) reader.old reader.new) }
     ensures opens { opens_of reader.new ≤ opens_of reader.old + (end - start) / 65536 + 4 }
 {
     let mut bytes = match room_for(alloc, (end - start) as usize) {
@@ -98,7 +98,7 @@ fn record_in<S: Suite, R: Seek>(
     requires counted { IsCounted count total reader.old }
     requires inside { index < count }
     ensures same { SamePayload reader.old reader.new }
-    ensures named { IsTrue (tells_of reader.old) → IfOk result (λ bytes. IsNamed (Stands reader.old) count index bytes.items) }
+    ensures named { IsTrue (tells_of reader.old) → IfOk result (λ bytes. IsRecordAt (Stands reader.old) count index bytes.items) }
     ensures value { IsTrue (tells_of reader.old) → IsTrue (content_of reader.old).ends_well →
         IfOk result (λ bytes. record_at (content_of reader.old).bytes index ≡ Ok bytes.items) }
     ensures why { IfErr result (IfIo (MayRefuse R.seek_refuses reader.old)) }

@@ -3,7 +3,7 @@ ghost use Rattle.std.specs.Prelude.{◌≡◌, ◌+◌, ◌^◌, ◌<◌, ◌≤
 ghost use Rattle.age_error.specs.Bytes.{AreBytes};
 ghost use Rattle.age_stream.specs.Writing.{IsGood, taken_len};
 ghost use Rattle.age_records.specs.Putting.{Puts, WritesRecords};
-ghost use Rattle.age_records.specs.Text.{ends, joined, number, records_text};
+ghost use Rattle.age_records.specs.Text.{ends, joined_records, number_text, records_text};
 
 use age_error::bytes::known_bytes;
 use age_error::io::Error;
@@ -47,9 +47,9 @@ fn put<S: Suite, W: Write>(writer: &mut StreamWriter<S, W>, bytes: &[u8]) -> Res
 }
 
 // Writes a number in 8 bytes, the highest first.
-#[tactic(auto, unfolding(crate::specs::Text::number))]
+#[tactic(auto, unfolding(crate::specs::Text::number_text))]
 fn put_number<S: Suite, W: Write>(writer: &mut StreamWriter<S, W>, n: u64) -> Result<(), Error>
-    ensures { Puts S.seal_of ⟦<W as Write>⟧ writer.old writer.new (number n) result }
+    ensures { Puts S.seal_of ⟦<W as Write>⟧ writer.old writer.new (number_text n) result }
 {
     put(writer, &n.to_be_bytes())
 }
@@ -60,7 +60,7 @@ fn put_ends<S: Suite, W: Write>(
     records: &[Vec<u8>],
 ) -> Result<(), Error>
     requires good { IsGood writer.old }
-    requires short { length (joined (map vec_items records.now)) < 2 ^ 64 }
+    requires short { length (joined_records (map vec_items records.now)) < 2 ^ 64 }
     ensures { Puts S.seal_of ⟦<W as Write>⟧ writer.old writer.new (ends 0 (map vec_items records.now)) result }
 {
     let mut end = 0;
@@ -80,7 +80,7 @@ fn put_bytes<S: Suite, W: Write>(
     records: &[Vec<u8>],
 ) -> Result<(), Error>
     requires { IsGood writer.old }
-    ensures { Puts S.seal_of ⟦<W as Write>⟧ writer.old writer.new (joined (map vec_items records.now)) result }
+    ensures { Puts S.seal_of ⟦<W as Write>⟧ writer.old writer.new (joined_records (map vec_items records.now)) result }
 {
     for one in records {
         match put(writer, one) {
@@ -96,7 +96,7 @@ fn put_text<S: Suite, W: Write>(
     writer: &mut StreamWriter<S, W>,
     records: &[Vec<u8>],
 ) -> Result<(), Error>
-    requires { length (joined (map vec_items records.now)) < 2 ^ 64 }
+    requires { length (joined_records (map vec_items records.now)) < 2 ^ 64 }
     ensures { Puts S.seal_of ⟦<W as Write>⟧ writer.old writer.new (records_text (map vec_items records.now)) result }
 {
     match put_number(writer, records.len() as u64) {

@@ -3,7 +3,8 @@ use Rattle.std.specs.Prelude.{Some, Result, Ok, Err, IsTrue, ◌&&◌}
 use Rattle.std.proofs.Common.{◌≡◌, ◌⊎◌, ◌++◌, ℕ, List, [], ap, inl, inr, refl, subst, sym}
 use Rattle.age.specs.Armor.{Carries}
 use Rattle.age.specs.DecryptErrors.{DecryptRefusal, OutOfMemory}
-use Rattle.age.specs.DecryptingStreams.{AnswersFirst, DecryptsAll, GivesFirst}
+use Rattle.age.specs.DecryptingStreams.{DecryptsAll}
+use Rattle.age.specs.Identities.{AnswersFirst, GivesFirst, UnwrapAnswer, FirstAnswer, IsFileFor, CarriesFile}
 use Rattle.age.specs.ErrorKindVariants as kind
 use Rattle.age.specs.ErrorVariants as io
 use Rattle.age.specs.File.{IsFileOf}
@@ -11,13 +12,10 @@ use Rattle.age.specs.FileErrorVariants as file
 use Rattle.age.specs.FileErrors.{DecryptsUnless, IfIo, IsWant}
 use Rattle.age.specs.FileLaws.{OneHeader, OnePlain}
 use Rattle.age.specs.Members.{SuiteMembers, ReadMembers, WriteMembers}
-use Rattle.age.specs.Parts.{FirstAnswer, IsFileFor}
 use Rattle.age.specs.Payload.{Seal}
 use Rattle.age.specs.Stanza.{StanzaValue}
 use Rattle.age.specs.Stretch.{Stretch, whole}
 use Rattle.age.specs.Types.{Error, FileError}
-use Rattle.age.specs.Unwrapping.{UnwrapAnswer}
-use Rattle.age.specs.WholeFiles.{CarriesFile}
 use Rattle.age.specs.Writing.{HandsOn}
 use Rattle.age_slices.specs.Decrypting.{DecryptsBytes}
 

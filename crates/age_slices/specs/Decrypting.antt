@@ -5,21 +5,19 @@ use Rattle.age.specs.Armor.{Carries}
 use Rattle.age.specs.Converting.{native_secrets, plugin_names, RefusesIdentities as RefusesEntries}
 use Rattle.age.specs.DecryptErrors.{OutOfMemory, decrypt_refusal}
 use Rattle.age.specs.DecryptErrorVariants as decrypt
-use Rattle.age.specs.DecryptingStreams.{AnswersFirst, DecryptsAll, GivesFirst}
+use Rattle.age.specs.DecryptingStreams.{DecryptsAll}
+use Rattle.age.specs.Identities.{AnswersFirst, GivesFirst, UnwrapAnswer, FirstAnswer, IsFileFor, CarriesFile}
 use Rattle.age.specs.Entries.{Entry, AreEntries}
 use Rattle.age.specs.ErrorVariants as io
 use Rattle.age.specs.FileErrorVariants as files
 use Rattle.age.specs.FileErrors.{IsWant}
 use Rattle.age.specs.IdentityFiles.{IsFirstBad}
-use Rattle.age.specs.IdentityReading.{IsTooLong, most_bytes}
+use Rattle.age.specs.IdentityReading.{IsTooLong, most_file_bytes}
 use Rattle.age.specs.Limiting.{limited}
 use Rattle.age.specs.Members.{SuiteMembers, ReadMembers, WriteMembers}
-use Rattle.age.specs.Parts.{FirstAnswer, IsFileFor}
 use Rattle.age.specs.Stanza.{StanzaValue}
 use Rattle.age.specs.Stretch.{whole}
 use Rattle.age.specs.Types.{DecryptError, Error, FileError}
-use Rattle.age.specs.Unwrapping.{UnwrapAnswer}
-use Rattle.age.specs.WholeFiles.{CarriesFile}
 
 -- the secrets of the identities that a text names, in the order of its lines, of which none is a plugin's
 abbrev pub AreIdentities : List ℕ → List (List ℕ) → Type 0
@@ -29,15 +27,15 @@ AreIdentities text secrets = (entries : List Entry) × AreEntries (lines text) e
 -- why a text names no identities, or can't be told to
 abbrev pub RefusesIdentities : List ℕ → DecryptError → Type 0
 RefusesIdentities text e = (decrypt_refusal e ≡ OutOfMemory)
-    ⊎ ((line : ℕ) × (e ≡ decrypt.Io (io.NotIdentity line)) × IsFirstBad (limited most_bytes (whole text)) line)
-    ⊎ ((e ≡ decrypt.Io io.LimitExceeded) × IsTooLong most_bytes (whole text))
+    ⊎ ((line : ℕ) × (e ≡ decrypt.Io (io.NotIdentity line)) × IsFirstBad (limited most_file_bytes (whole text)) line)
+    ⊎ ((e ≡ decrypt.Io io.LimitExceeded) × IsTooLong most_file_bytes (whole text))
     ⊎ ((entries : List Entry) × AreEntries (lines text) entries × RefusesEntries entries (decrypt_refusal e))
 
 -- the same of what reading it refuses with
 abbrev pub RefusesText : List ℕ → Error → Type 0
 RefusesText text io.OutOfMemory = Unit {0}
-RefusesText text (io.NotIdentity line) = IsFirstBad (limited most_bytes (whole text)) line
-RefusesText text io.LimitExceeded = IsTooLong most_bytes (whole text)
+RefusesText text (io.NotIdentity line) = IsFirstBad (limited most_file_bytes (whole text)) line
+RefusesText text io.LimitExceeded = IsTooLong most_file_bytes (whole text)
 RefusesText text other = ⊥
 
 -- A whole file was read from a reader of the slice to an empty list, by the identities.

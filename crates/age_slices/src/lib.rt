@@ -4,4 +4,6 @@
 pub mod chunks;
 pub mod decrypting;
 pub mod handing;
+pub mod opening;
+pub mod reading;
 pub mod status;

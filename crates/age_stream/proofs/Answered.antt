@@ -10,19 +10,19 @@ use Rattle.age_error.specs.declared.io.Error.TheVariants.{AfterLast}
 use Rattle.age_suite.specs.Suite.{IsCipher}
 use Rattle.age_io.specs.Stretch.{Stretch, nothing, whole, from_place, stretch-ext, IsCleanEnd}
 use Rattle.age_io.specs.Reading.{StandsIn, Delivers}
-use Rattle.age_stream.specs.Payload.{Seal, nonce}
-use Rattle.age_stream.specs.OpeningLaws.{shorter}
-use Rattle.age_stream.specs.ReadingLaws.{at_full_end}
-use Rattle.age_stream.proofs.TextLengths.{length-text, no-more, plain-whole, last-by_length, last-place}
-use Rattle.age_stream.proofs.Lengths.{plain_len-last}
-use Rattle.age_stream.specs.Chunks.{chunk_of, delivered}
-use Rattle.age_stream.specs.FrontToEnd.{StopsAt}
-use Rattle.age_stream.specs.WellLaws.{accepted}
-use Rattle.age_stream.specs.Answering.{IsHeldAs, Gives, Refuses, RefusesItself, StopsNear, IsEnd, IsGoodEnd}
-use Rattle.age_stream.specs.Reading.{payload_at, text_at, IsFront, IsHeld, IsPast, TookText}
-use Rattle.age_stream.proofs.Payloads.{plain_len-payload, chunk-last}
-use Rattle.age_stream.proofs.Judged.{text_chunk, allowed-accepted, judged-middle, judged-last, judged-refused, judged-after_last, ends_last}
-use Rattle.age_stream.proofs.Reopened.{payload-delivered}
+use Rattle.age_v1.specs.Payload.{Seal, nonce}
+use Rattle.age_v1.proofs.OpenedTexts.{shorter}
+use Rattle.age_stream.specs.ReadingLemmas.{at_full_end}
+use Rattle.age_v1.proofs.TextLengths.{length-text, no-more, plain-whole, last-by_length, last-place}
+use Rattle.age_v1.proofs.PayloadLengths.{plain_len-last}
+use Rattle.age_v1.specs.DeliveredPayload.{chunk_of, payload_delivers, text_at}
+use Rattle.age_v1.specs.PayloadRefusals.{StopsAt}
+use Rattle.age_v1.proofs.WellEndedPayloads.{accepted}
+use Rattle.age_v1.specs.PayloadAnswers.{OpensAs, Gives, RefusesRead, RefusesItself, StopsNear, IsPayloadEnd, IsGoodEnd}
+use Rattle.age_stream.specs.Reading.{payload_at, IsRestOfText, IsHeld, IsPast, TookText}
+use Rattle.age_v1.proofs.Payloads.{plain_len-payload, chunk-last}
+use Rattle.age_v1.proofs.JudgedChunks.{text_chunk, allowed-accepted, judged-middle, judged-last, judged-refused, judged-after_last, ends_last}
+use Rattle.age_v1.proofs.ReopenedPayloads.{payload-delivered}
 use Rattle.age_stream.proofs.Holding.{text-read, held-now}
 
 -- the rest of a steady reader is bytes
@@ -41,7 +41,7 @@ read-through bytes front back filled room is long fits ended = elim (cases_lt fi
 
 -- what is refused for the chunk at the place alone is refused
 pub refuses-widened : (seal_of : Seal) (key : List ℕ) (sealed rest : Stretch) (wanted place : ℕ) (e : Error) → RefusesItself seal_of key sealed rest wanted place e →
-    Refuses seal_of key sealed rest wanted place e
+    RefusesRead seal_of key sealed rest wanted place e
 refuses-widened seal_of key sealed rest wanted place e r = record {
   number = r.number;
   from = r.from;
@@ -50,7 +50,7 @@ refuses-widened seal_of key sealed rest wanted place e r = record {
 }
 
 -- what is refused over an inner reader that ends well is refused for its bytes
-pub refuses-near : (seal_of : Seal) (key : List ℕ) (sealed rest : Stretch) (wanted place : ℕ) (e : Error) → Refuses seal_of key sealed rest wanted place e → rest.ends_well ≡ true →
+pub refuses-near : (seal_of : Seal) (key : List ℕ) (sealed rest : Stretch) (wanted place : ℕ) (e : Error) → RefusesRead seal_of key sealed rest wanted place e → rest.ends_well ≡ true →
     StopsNear seal_of key sealed.bytes place e
 refuses-near seal_of key sealed rest wanted place e r well = record {
   number = r.number;
@@ -60,8 +60,8 @@ refuses-near seal_of key sealed rest wanted place e r well = record {
 }
 
 -- a reader that sought nothing, or whose content ends well, stands in the content
-pub front-either : (sought : Bool) (content rest : Stretch) (place : ℕ) → (sought ≡ false → IsFront content place rest) →
-    (sought ≡ true → (rest ≡ from_place place content) ⊎ (rest ≡ nothing)) → IsFront content place rest
+pub front-either : (sought : Bool) (content rest : Stretch) (place : ℕ) → (sought ≡ false → IsRestOfText content place rest) →
+    (sought ≡ true → (rest ≡ from_place place content) ⊎ (rest ≡ nothing)) → IsRestOfText content place rest
 front-either false content rest place unsought stands = unsought refl
 front-either true content rest place unsought stands = λ well. elim (stands refl) [
   | inl is ↦ is
@@ -70,7 +70,7 @@ front-either true content rest place unsought stands = λ well. elim (stands ref
 
 module _ (seal_of : Seal) (opened : List ℕ → List ℕ → List ℕ → Option (List ℕ)) (law : IsCipher seal_of opened) (key : List ℕ) (k : AreBytesOf 32 key) where
   held_as : (last : Bool) (sealed plain : List ℕ) (number : ℕ) → AreBytes sealed → chunk_of opened key number (take 65552 (drop (65552 * number) sealed)) ≡ Ok (plain, last) →
-      IsHeldAs last seal_of key sealed number plain
+      OpensAs last seal_of key sealed number plain
   held_as true sealed plain number b is = judged-last seal_of opened law key k sealed b number plain is
   held_as false sealed plain number b is = judged-middle seal_of opened law key k sealed b number plain is
 
@@ -117,8 +117,8 @@ module _ (seal_of : Seal) (opened : List ℕ → List ℕ → List ℕ → Optio
       judged-after_last seal_of opened law key k payload.bytes b number plain judged (omega (arith, more, some))
 
   -- the end was found: the payload was that of the content
-  pub end-found : (payload content rest : Stretch) (place : ℕ) → AreBytes payload.bytes → AreBytes content.bytes → delivered opened key 0 payload ≡ content →
-      (content.ends_well ≡ true → place ≤ length content.bytes) → IsFront content place rest → IsCleanEnd rest → IsEnd seal_of key payload place content.bytes
+  pub end-found : (payload content rest : Stretch) (place : ℕ) → AreBytes payload.bytes → AreBytes content.bytes → payload_delivers opened key 0 payload ≡ content →
+      (content.ends_well ≡ true → place ≤ length content.bytes) → IsRestOfText content place rest → IsCleanEnd rest → IsPayloadEnd seal_of key payload place content.bytes
   end-found payload content rest place b cb is within front clean =
       let was = front clean.ends_well in
       let well : content.ends_well ≡ true = sym (ap (λ s. s.ends_well) was) ∙ clean.ends_well in

@@ -8,10 +8,10 @@ use Rattle.age_io.specs.declared.traits.Read.{Ghosts}
 use Rattle.age_io.specs.Reading.{most_faults}
 use Rattle.age_stream.specs.declared.cache.Cache.{Cache}
 use Rattle.age_stream.specs.declared.reader.StreamReader.{StreamReader}
-use Rattle.age_stream.specs.Cache.{IsAtChunk, IsKept}
+use Rattle.age_stream.specs.PrivateCache.{IsAtChunk, IsKept}
 use Rattle.age_stream.specs.Reader.{payload_of, tells_of}
 use Rattle.age_stream.specs.Reading.{payload_at, IsSound}
-use Rattle.age_stream.specs.ReadingLaws.{and-left}
+use Rattle.age_stream.specs.ReadingLemmas.{and-left}
 use Rattle.age_stream.proofs.Cached.{kept-same}
 use Rattle.age_stream.proofs.Inner.{same-payload}
 use Rattle.age_stream.proofs.Moving.{sound-moved}

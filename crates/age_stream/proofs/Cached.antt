@@ -8,15 +8,16 @@ use Rattle.age_io.specs.Stretch.{Stretch}
 use Rattle.age_io.specs.Reading.{StandsIn}
 use Rattle.age_stream.specs.declared.cache.Cache.{Cache}
 use Rattle.age_stream.specs.declared.cache.Opened.{Opened}
-use Rattle.age_stream.specs.Cache.{has_number, last_used, HasOne, IsAtChunk, IsKept, IsText}
-use Rattle.age_stream.specs.Chunks.{chunk_of}
-use Rattle.age_stream.specs.OpeningLaws.{Shorter}
-use Rattle.age_stream.specs.Payload.{nonce}
+use Rattle.age_stream.specs.Cache.{has_number, last_used, HasOne}
+use Rattle.age_stream.specs.PrivateCache.{IsAtChunk, IsKept, IsText}
+use Rattle.age_v1.specs.DeliveredPayload.{chunk_of}
+use Rattle.age_v1.proofs.OpenedTexts.{Shorter}
+use Rattle.age_v1.specs.Payload.{nonce}
 use Rattle.age_stream.specs.Reading.{payload_at, IsHeld, TookText}
-use Rattle.age_stream.specs.WellLaws.{accepted}
+use Rattle.age_v1.proofs.WellEndedPayloads.{accepted}
 use Rattle.age_stream.proofs.Holding.{stood-taken, text-read}
 use Rattle.age_stream.proofs.Last.{text-held}
-use Rattle.age_stream.proofs.TextLengths.{some-within}
+use Rattle.age_v1.proofs.TextLengths.{some-within}
 
 -- the place went on in the chunk, which is used now
 pub moved-in : (number at new_at : ℕ) (old new : Cache) → new.number ≡ old.number → new.chunk ≡ old.chunk → new.last ≡ old.last → new.judged ≡ old.judged → at ≤ new_at →

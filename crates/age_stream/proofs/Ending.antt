@@ -11,15 +11,14 @@ use Rattle.age_io.specs.Stretch.{Stretch, from_place}
 use Rattle.age_io.specs.Cursor.{sought, moved_to, target, place_at, MayLead, IsOutside}
 use Rattle.age_error.specs.declared.io.SeekFrom.{SeekFrom}
 use Rattle.age_error.specs.declared.io.SeekFrom.TheVariants.{Start, End, Current}
-use Rattle.age_stream.specs.Payload.{final_chunk, plain_len, nonce}
-use Rattle.age_stream.specs.OpeningLaws.{Shorter}
-use Rattle.age_stream.specs.Chunks.{delivered}
-use Rattle.age_stream.specs.WellLaws.{well-single, well-length, onward, accepted}
-use Rattle.age_stream.specs.Reading.{text_at}
-use Rattle.age_stream.specs.Targets.{in_length, below_start, IsToEnd}
+use Rattle.age_v1.specs.Payload.{final_chunk, plain_len, nonce}
+use Rattle.age_v1.proofs.OpenedTexts.{Shorter}
+use Rattle.age_v1.specs.DeliveredPayload.{payload_delivers, text_at}
+use Rattle.age_v1.proofs.WellEndedPayloads.{well-single, well-length, onward, accepted}
+use Rattle.age_v1.specs.PayloadTargets.{in_length, below_start, IsToEnd}
 use Rattle.age_stream.proofs.Inner.{moved-by}
-use Rattle.age_stream.proofs.TextLengths.{length-text, few-final, some-final, plain-whole, plain-most, last-limit}
-use Rattle.age_stream.proofs.Lengths.{plain_len-last}
+use Rattle.age_v1.proofs.TextLengths.{length-text, few-final, some-final, plain-whole, plain-most, last-limit}
+use Rattle.age_v1.proofs.PayloadLengths.{plain_len-last}
 
 ok-by : (b : Bool) (r : Result ℕ Error) (n : ℕ) → (if b then r else Err TooLong) ≡ Ok n → r ≡ Ok n
 ok-by true r n is = is
@@ -92,12 +91,12 @@ not-end to place size goal len plain above ok apart end =
 -- ---- a payload that ends well
 
 module _ (opened : List ℕ → List ℕ → List ℕ → Option (List ℕ)) (key : List ℕ) (law : Shorter opened key) (payload : Stretch) (bytes : AreBytes payload.bytes)
-    (well : (delivered opened key 0 payload).ends_well ≡ true) where
-  plain-well : plain_len (length payload.bytes) ≡ Some (length (delivered opened key 0 payload).bytes)
+    (well : (payload_delivers opened key 0 payload).ends_well ≡ true) where
+  plain-well : plain_len (length payload.bytes) ≡ Some (length (payload_delivers opened key 0 payload).bytes)
   plain-well =
       let h = well-length opened key law payload bytes well in
       let n = final_chunk (length payload.bytes) in
-      let less : length payload.bytes - 16 * (n + 1) ≡ length (delivered opened key 0 payload).bytes = omega (arith, h.less) in
+      let less : length payload.bytes - 16 * (n + 1) ≡ length (payload_delivers opened key 0 payload).bytes = omega (arith, h.less) in
       (plain_len-last (length payload.bytes) n (record { fits = omega arith; enough = h.enough; more = λ some. h.more (omega (arith, some)) })).1 ∙ ap (λ k. Some k) less
 
   last-single : let number = final_chunk (length payload.bytes) in
@@ -107,7 +106,7 @@ module _ (opened : List ℕ → List ℕ → List ℕ → Option (List ℕ)) (ke
       let h = well-length opened key law payload bytes well in
       let here = from_place (65552 * number) payload in
       let on = rw zero-add at (onward opened key law number 0 payload bytes well (λ some. omega (arith, h.enough))) in
-      let here_well : (delivered opened key number here).ends_well ≡ true = ap (λ d. d.ends_well) on ∙ well in
+      let here_well : (payload_delivers opened key number here).ends_well ≡ true = ap (λ d. d.ends_well) on ∙ well in
       let one = well-single opened key number here here_well (omega (arith, length-drop (65552 * number) payload.bytes)) in
       let a = accepted opened key number (text_at number payload) one.0 true one.1 in
       (one.0, a.opens, a.first, a.limit)
@@ -119,7 +118,7 @@ module _ (opened : List ℕ → List ℕ → List ℕ → Option (List ℕ)) (ke
       apart : {p : List ℕ} → ◌≡◌ {A = Option (List ℕ)} None (Some p) → ⊥
       apart is = cc
 
-  limit-well : length (delivered opened key 0 payload).bytes ≤ 2 ^ 60
+  limit-well : length (payload_delivers opened key 0 payload).bytes ≤ 2 ^ 60
   limit-well =
       let number = final_chunk (length payload.bytes) in
       let h = well-length opened key law payload bytes well in
@@ -130,13 +129,13 @@ module _ (opened : List ℕ → List ℕ → List ℕ → Option (List ℕ)) (ke
       let long = length-text 65552 (65552 * number) payload.bytes in
       let len = length payload.bytes in
       let whole = plain-whole number (length text) (length one.0) len short long (few-final len) (some-final len number h.enough) in
-      last-limit number (length one.0) len whole (length (delivered opened key 0 payload).bytes) h.less
+      last-limit number (length one.0) len whole (length (payload_delivers opened key 0 payload).bytes) h.less
       (plain-most number (length text) (length one.0) len short long) one.2 one.3
 
   -- what is sought in the payload is sought in the plaintext
-  pub ok-well : (to : SeekFrom) (place n : ℕ) → in_length (plain_len (length payload.bytes)) to place ≡ Ok n → sought to place (length (delivered opened key 0 payload).bytes) ≡ Ok n
-  ok-well to place n is = ok-by (nat_le (length (delivered opened key 0 payload).bytes) (2 ^ 60)) _ n (rw plain-well at is)
+  pub ok-well : (to : SeekFrom) (place n : ℕ) → in_length (plain_len (length payload.bytes)) to place ≡ Ok n → sought to place (length (payload_delivers opened key 0 payload).bytes) ≡ Ok n
+  ok-well to place n is = ok-by (nat_le (length (payload_delivers opened key 0 payload).bytes) (2 ^ 60)) _ n (rw plain-well at is)
 
-  pub err-well : (to : SeekFrom) (place : ℕ) (e : Error) → in_length (plain_len (length payload.bytes)) to place ≡ Err e → sought to place (length (delivered opened key 0 payload).bytes) ≡ Err e
+  pub err-well : (to : SeekFrom) (place : ℕ) (e : Error) → in_length (plain_len (length payload.bytes)) to place ≡ Err e → sought to place (length (payload_delivers opened key 0 payload).bytes) ≡ Err e
   err-well to place e is =
-      err-by (nat_le (length (delivered opened key 0 payload).bytes) (2 ^ 60)) _ e (le-leb (length (delivered opened key 0 payload).bytes) (2 ^ 60) limit-well) (rw plain-well at is)
+      err-by (nat_le (length (payload_delivers opened key 0 payload).bytes) (2 ^ 60)) _ e (le-leb (length (payload_delivers opened key 0 payload).bytes) (2 ^ 60) limit-well) (rw plain-well at is)

@@ -3,11 +3,11 @@ use Rattle.std.specs.Prelude.{◌≡◌, ℕ, ◌+◌, Bool, false, List, Ok}
 use Rattle.std.proofs.Common.{arith, ap}
 use Rattle.age_error.specs.declared.io.Error.{Error}
 use Rattle.age_io.specs.Writing.{Flushes, Retried}
-use Rattle.age_io.specs.WritingLaws.{hands-on-narrows}
-use Rattle.age_stream.specs.Payload.{Seal}
-use Rattle.age_stream.specs.SendingLaws.{refuses-chunk-narrows}
+use Rattle.age_io.specs.WritingLemmas.{hands-on-narrows}
+use Rattle.age_v1.specs.Payload.{Seal}
+use Rattle.age_stream.specs.SendingLemmas.{refuses-chunk-narrows}
 use Rattle.age_stream.specs.Writing.{Appended, Refused, taken_len}
-use Rattle.age_stream.specs.WritingLaws.{Appended-flushed, Refused-narrows}
+use Rattle.age_stream.specs.WritingLemmas.{Appended-flushed, Refused-narrows}
 use Rattle.age_stream.specs.declared.writer.StreamWriter.{StreamWriter}
 
 module _ {S W : Type 0} (seal_of : Seal) (tells : W → Bool) (faults : W → ℕ) (refuses : W → ℕ → Error → Type 0)

@@ -8,20 +8,20 @@ use Rattle.age_error.specs.Bytes.{AreBytes}
 use Rattle.age_error.specs.declared.io.Error.{Error}
 use Rattle.age_io.specs.Stretch.{Stretch, nothing, from_place, stretch-ext, IsCleanEnd, IsFault}
 use Rattle.age_io.specs.Reading.{StandsIn, Delivers, EndsEarly}
-use Rattle.age_stream.specs.Payload.{nonce}
-use Rattle.age_stream.specs.OpeningLaws.{Shorter}
-use Rattle.age_stream.specs.Chunks.{chunk_of, prepend, after_last, delivered}
-use Rattle.age_stream.specs.ChunkLaws.{delivered-chunk, delivered-refused, delivered-cut}
-use Rattle.age_stream.specs.WellLaws.{accepted, delivered-nothing}
-use Rattle.age_stream.specs.Reading.{payload_at, text_at, behind, rest_of, spare, IsFront, IsHeld, IsPast, IsBefore, IsInside, IsSound, TookBytes, TookText}
-use Rattle.age_stream.specs.ReadingLaws.{taken-rest}
-use Rattle.age_stream.proofs.TextLengths.{length-text, plain-inside}
+use Rattle.age_v1.specs.Payload.{nonce}
+use Rattle.age_v1.proofs.OpenedTexts.{Shorter}
+use Rattle.age_v1.specs.DeliveredPayload.{chunk_of, prepend, after_last, payload_delivers, text_at}
+use Rattle.age_v1.proofs.DeliveredChunks.{delivered-chunk, delivered-refused, delivered-cut}
+use Rattle.age_v1.proofs.WellEndedPayloads.{accepted, delivered-nothing}
+use Rattle.age_stream.specs.Reading.{payload_at, behind, rest_of, spare, IsRestOfText, IsHeld, IsPast, StandsBeforeChunk, IsInside, IsSound, TookFromInner, TookText}
+use Rattle.age_stream.specs.ReadingLemmas.{taken-rest}
+use Rattle.age_v1.proofs.TextLengths.{length-text, plain-inside}
 
 -- ---- lists
 
 -- what was read into room for it
 pub took_text : (asked : ℕ) (buf : List ℕ) (count : ℕ) (before after : Stretch) → length buf ≡ asked → count ≤ length buf → Delivers (take count buf) before after →
-    (count < length buf → IsCleanEnd after) → TookBytes asked before after (take count buf)
+    (count < length buf → IsCleanEnd after) → TookFromInner asked before after (take count buf)
 took_text asked buf count before after size fits came ended =
     let long : length (take count buf) ≡ count = length-take-le count buf fits in
     record { came = came; most = omega arith; ended = λ less. ended (omega (arith, long, size, less)) }
@@ -96,7 +96,7 @@ payload-read content new_content place new_place taken new_taken count same move
 
 -- a chunk that is opened for a place behind its front has a byte there
 pub opened-before : (content rest after : Stretch) (place taken number at : ℕ) (text : List ℕ) (size : ℕ) → StandsIn content place rest → taken ≤ place →
-    IsBefore (length (payload_at place taken content).bytes) number at taken → TookText rest after text → size + 16 ≡ length text → 0 < at → at < size
+    StandsBeforeChunk (length (payload_at place taken content).bytes) number at taken → TookText rest after text → size + 16 ≡ length text → 0 < at → at < size
 opened-before content rest after place taken number at text size stands fits before took longer some =
     let payload = payload_at place taken content in
     let inner = stood-taken content rest after place taken text stands fits took in
@@ -109,7 +109,7 @@ opened-before content rest after place taken number at text size stands fits bef
     ]
 
 -- a reader that delivered a beginning of what it had stands further in front
-front-gives : (content : Stretch) (place : ℕ) (front : List ℕ) (old new : Stretch) → IsFront content place old → Delivers front old new → IsFront content (place + length front) new
+front-gives : (content : Stretch) (place : ℕ) (front : List ℕ) (old new : Stretch) → IsRestOfText content place old → Delivers front old new → IsRestOfText content (place + length front) new
 front-gives content place front old new is came = λ well.
     let was = is (sym came.end ∙ well) in
     stretch-ext new (from_place (place + length front) content)
@@ -132,7 +132,7 @@ module _ (opened : List ℕ → List ℕ → List ℕ → Option (List ℕ)) (ke
   rest-held failed held at chunk last number rest good is = rw (good, is) refl
 
   pub rest-open : (failed held : Bool) (at : ℕ) (chunk : List ℕ) (last : Bool) (number : ℕ) (rest : Stretch) → failed ≡ false → held ≡ false →
-      rest_of opened key failed held at chunk last number rest ≡ from_place at (delivered opened key number rest)
+      rest_of opened key failed held at chunk last number rest ≡ from_place at (payload_delivers opened key number rest)
   unfolding rest_of
   rest-open failed held at chunk last number rest good is = rw (good, is) refl
 
@@ -199,7 +199,7 @@ module _ (opened : List ℕ → List ℕ → List ℕ → Option (List ℕ)) (ke
   pub open-early : (failed held last : Bool) (at : ℕ) (chunk : List ℕ) (number : ℕ) (rest : Stretch) → failed ≡ false → held ≡ false →
       EndsEarly 65552 rest → IsFault (rest_of opened key failed held at chunk last number rest)
   open-early failed held last at chunk number rest good is early =
-      let gone : delivered opened key number rest ≡ nothing = rw early.badly (delivered-cut opened key number rest.bytes early.short) in
+      let gone : payload_delivers opened key number rest ≡ nothing = rw early.badly (delivered-cut opened key number rest.bytes early.short) in
       fault-of _ (rest-open failed held at chunk last number rest good is ∙ gone-from at _ gone)
 
   over-by : (text : List ℕ) (rest after : Stretch) → TookText rest after text → length text < 65552 → (after.bytes ≡ []) × (rest.ends_well ≡ true)
@@ -208,13 +208,13 @@ module _ (opened : List ℕ → List ℕ → List ℕ → Option (List ℕ)) (ke
   pub open-refused : (failed held last : Bool) (at : ℕ) (chunk : List ℕ) (number : ℕ) (rest after : Stretch) (text : List ℕ) (e : Error) → failed ≡ false → held ≡ false →
       TookText rest after text → chunk_of opened key number text ≡ Err e → IsFault (rest_of opened key failed held at chunk last number rest)
   open-refused failed held last at chunk number rest after text e good is took bad =
-      let gone : delivered opened key number rest ≡ nothing =
+      let gone : payload_delivers opened key number rest ≡ nothing =
       rw took.came.bytes (delivered-refused opened key number text after.bytes rest.ends_well e took.most (over-by text rest after took) bad) in
       fault-of _ (rest-open failed held at chunk last number rest good is ∙ gone-from at _ gone)
 
   opened-rest : (number : ℕ) (rest after : Stretch) (text plain : List ℕ) (last : Bool) → TookText rest after text →
       (length text < 65552 → last ≡ true) → chunk_of opened key number text ≡ Ok (plain, last) →
-      delivered opened key number rest ≡ prepend plain (behind opened key last number after)
+      payload_delivers opened key number rest ≡ prepend plain (behind opened key last number after)
   opened-rest number rest after text plain last took short is =
       let chunked = delivered-chunk opened key number text after.bytes rest.ends_well plain last took.most (over-by text rest after took) short is in
       rw (took.came.bytes, add-one, took.came.end) chunked
@@ -295,8 +295,8 @@ module _ (opened : List ℕ → List ℕ → List ℕ → Option (List ℕ)) (ke
     front = λ _ _ well.
         let unheld = rest-open false false 0 chunk last 0 rest refl refl in
         unheld ∙ elim stands.reaches [
-          | inl is ↦ ap (delivered opened key 0) (is ∙ ap (λ n. from_place n content) whole)
-          | inr is ↦ absurd (true≢false (sym well ∙ ap (λ s. s.ends_well) (unheld ∙ ap (delivered opened key 0) is ∙ delivered-nothing opened key 0)))
+          | inl is ↦ ap (payload_delivers opened key 0) (is ∙ ap (λ n. from_place n content) whole)
+          | inr is ↦ absurd (true≢false (sym well ∙ ap (λ s. s.ends_well) (unheld ∙ ap (payload_delivers opened key 0) is ∙ delivered-nothing opened key 0)))
         ];
   }
 
@@ -328,8 +328,8 @@ module _ (opened : List ℕ → List ℕ → List ℕ → Option (List ℕ)) (ke
             some = was.some;
           };
           is_past = sound.is_past;
-          front = λ unsought _. subst (λ n. IsFront (delivered opened key 0 payload) n (rest_of opened key failed held (at + count) chunk last number rest)) here
-              (front-gives (delivered opened key 0 payload) (65536 * number + at) (take count (drop at chunk)) _ _ (sound.front unsought good)
+          front = λ unsought _. subst (λ n. IsRestOfText (payload_delivers opened key 0 payload) n (rest_of opened key failed held (at + count) chunk last number rest)) here
+              (front-gives (payload_delivers opened key 0 payload) (65536 * number + at) (take count (drop at chunk)) _ _ (sound.front unsought good)
               (gives failed held last at count chunk number rest (take count (drop at chunk)) good is_held refl));
         }
 
@@ -347,7 +347,7 @@ module _ (opened : List ℕ → List ℕ → List ℕ → Option (List ℕ)) (ke
           before = λ _ _. record { stood = omega (arith, (sound.is_past good is_held).stood middle); under = omega arith; inside = λ some. absurd (omega arith) };
           is_held = λ held_now. absurd (true≢false (sym held_now));
           is_past = λ _ held_now. absurd (true≢false (sym held_now));
-          front = λ unsought _. subst (λ n. IsFront (delivered opened key 0 payload) n (rest_of opened key failed false 0 chunk last (number + 1) rest)) here
+          front = λ unsought _. subst (λ n. IsRestOfText (payload_delivers opened key 0 payload) n (rest_of opened key failed false 0 chunk last (number + 1) rest)) here
               (rw same (sound.front unsought good));
         }
 
@@ -372,6 +372,6 @@ module _ (opened : List ℕ → List ℕ → List ℕ → Option (List ℕ)) (ke
           before = λ _ shut. absurd (true≢false shut);
           is_held = λ _. subst (λ p. IsHeld opened key p number new_last at plain) (sym read.1) is_held;
           is_past = λ _ _. subst (λ p. IsPast p number new_last new_taken new_rest) (sym read.1) is_past;
-          front = λ unsought _. subst (λ p. IsFront (delivered opened key 0 p) (65536 * number + at) (rest_of opened key false true at plain new_last number new_rest)) (sym read.1)
+          front = λ unsought _. subst (λ p. IsRestOfText (payload_delivers opened key 0 p) (65536 * number + at) (rest_of opened key false true at plain new_last number new_rest)) (sym read.1)
               (rw kept (sound.front unsought good));
         }

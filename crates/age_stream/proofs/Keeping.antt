@@ -10,11 +10,12 @@ use Rattle.age_io.specs.Reading.{AddsNoReason, TriedAgain}
 use Rattle.age_io.specs.Keeping.{SameReader, KeepsReader}
 use Rattle.age_io.proofs.Keeping.{keeps-done, keeps-refused, keeps-later, keeps-more}
 use Rattle.age_stream.specs.declared.reader.StreamReader.{StreamReader}
-use Rattle.age_stream.specs.Chunks.{delivered}
-use Rattle.age_stream.specs.FrontToEnd.{StopsAt}
+use Rattle.age_v1.specs.DeliveredPayload.{payload_delivers}
+use Rattle.age_v1.specs.PayloadRefusals.{StopsAt}
 use Rattle.age_stream.specs.Reader.{payload_of, tells_of, steady_of, content_of, stops_of, refuses_of}
 use Rattle.age_stream.specs.Reading.{payload_at}
-use Rattle.age_stream.specs.Keeping.{IsPayloadSeekRefusal, OwnOrInner, KeepsPayload}
+use Rattle.age_stream.specs.Keeping.{OwnOrInner}
+use Rattle.age_stream.specs.PrivateKeeping.{IsPayloadSeekRefusal, KeepsPayload}
 use Rattle.std.proofs.lemmas.Bool.{true≢false}
 use Rattle.age_stream.proofs.Sound.{same-steady}
 
@@ -96,7 +97,7 @@ module _ {S R : Type 0} {suite : SuiteGhosts S} {read : Ghosts R} where
   pub content-kept : {T : Type 0} {Own : Error → Type 0} {result : Result T Error} (old new : StreamReader S R suite read) →
       KeepsPayload read Own old.inner old.taken new.inner new.taken result → new.key ≡ old.key → IsTrue (tells_of old) → content_of new ≡ content_of old
   content-kept old new keeps key told =
-      ap (λ p. delivered suite.opened new.key 0 p) (keeps.payload told) ∙ ap (λ k. delivered suite.opened k 0 (payload_of old)) key
+      ap (λ p. payload_delivers suite.opened new.key 0 p) (keeps.payload told) ∙ ap (λ k. payload_delivers suite.opened k 0 (payload_of old)) key
 
   -- so it is the same reader
   pub stream-kept : {T : Type 0} {Own : Error → Type 0} {result : Result T Error} (old new : StreamReader S R suite read) →

@@ -6,13 +6,13 @@ use Rattle.std.proofs.lemmas.List.Elements.{All-drop, All-take}
 use Rattle.std.proofs.lemmas.Bool.{cases_lt, true≢false}
 use Rattle.age_error.specs.Bytes.{AreBytes}
 use Rattle.age_io.specs.Stretch.{Stretch, from_place, stretch-ext}
-use Rattle.age_stream.specs.Payload.{final_chunk, nonce}
-use Rattle.age_stream.specs.OpeningLaws.{Shorter}
-use Rattle.age_stream.specs.Reading.{text_at, IsHeld, IsPast, IsInside, IsLastChunk, TookText}
-use Rattle.age_stream.specs.Chunks.{chunk_of}
-use Rattle.age_stream.proofs.TextLengths.{length-text, plain-whole, plain-inside}
+use Rattle.age_v1.specs.Payload.{final_chunk, nonce}
+use Rattle.age_v1.proofs.OpenedTexts.{Shorter}
+use Rattle.age_stream.specs.Reading.{IsHeld, IsPast, IsInside, TookText}
+use Rattle.age_v1.specs.DeliveredPayload.{text_at, IsLastChunk, chunk_of}
+use Rattle.age_v1.proofs.TextLengths.{length-text, plain-whole, plain-inside}
 use Rattle.age_stream.proofs.Holding.{front_of}
-use Rattle.age_stream.proofs.Judged.{judged-short}
+use Rattle.age_v1.proofs.JudgedChunks.{judged-short}
 
 -- what was read is the whole last chunk
 pub record IsLastText (payload after : Stretch) (number : ℕ) (text : List ℕ) : Type 0 where

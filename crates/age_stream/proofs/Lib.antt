@@ -1,15 +1,5 @@
-pub mod TextLengths
-pub mod Cuts
-pub mod Payloads
-pub mod FrontToEnd
-pub mod Judged
-pub mod Reopened
-pub mod Honest
-pub mod Opened
 pub mod Holding
 pub mod Answered
-pub mod Shortened
-pub mod Lengths
 pub mod Inner
 pub mod Last
 pub mod Cached
@@ -22,6 +12,8 @@ pub mod ReadSteps
 pub mod Opening
 pub mod Seeks
 pub mod Ending
-pub mod Standing
 pub mod Remaining
 pub mod Flushing
+pub mod Sent
+pub mod Outside
+pub mod Named

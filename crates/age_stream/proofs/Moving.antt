@@ -5,9 +5,10 @@ use Rattle.std.proofs.lemmas.Bool.{true≢false}
 use Rattle.std.proofs.lemmas.List.Elements.{All-drop}
 use Rattle.age_error.specs.Bytes.{AreBytes}
 use Rattle.age_io.specs.Stretch.{Stretch}
-use Rattle.age_stream.specs.Payload.{nonce}
-use Rattle.age_stream.specs.OpeningLaws.{Shorter}
-use Rattle.age_stream.specs.Reading.{payload_at, IsAtFullEnd, IsHeld, IsInside, IsLastChunk, IsPast, IsSound}
+use Rattle.age_v1.specs.Payload.{nonce}
+use Rattle.age_v1.proofs.OpenedTexts.{Shorter}
+use Rattle.age_stream.specs.Reading.{payload_at, IsAtFullEnd, IsHeld, IsInside, IsPast, IsSound}
+use Rattle.age_v1.specs.DeliveredPayload.{IsLastChunk}
 use Rattle.age_stream.proofs.Holding.{payload-read}
 use Rattle.age_stream.proofs.Last.{IsLastText, inside-held, last-held, last-past}
 

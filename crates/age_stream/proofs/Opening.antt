@@ -10,13 +10,13 @@ use Rattle.age_io.specs.Reading.{StandsIn}
 use Rattle.age_io.specs.Stretch.{Stretch}
 use Rattle.age_stream.specs.declared.cache.Cache.{Cache}
 use Rattle.age_stream.specs.declared.reader.StreamReader.{StreamReader}
-use Rattle.age_stream.specs.Cache.{IsKept, IsText}
-use Rattle.age_stream.specs.Keeping.{KeepsPayload}
-use Rattle.age_stream.specs.OpeningLaws.{shorter}
+use Rattle.age_stream.specs.PrivateCache.{IsKept, IsText}
+use Rattle.age_stream.specs.PrivateKeeping.{KeepsPayload}
+use Rattle.age_v1.proofs.OpenedTexts.{shorter}
 use Rattle.age_stream.specs.Reader.{payload_of, tells_of}
 use Rattle.age_stream.specs.Reading.{IsSound}
-use Rattle.age_stream.specs.ReadingLaws.{and-left, and-right}
-use Rattle.age_stream.specs.Steps.{Stays, TakesBytes}
+use Rattle.age_stream.specs.ReadingLemmas.{and-left, and-right}
+use Rattle.age_stream.specs.PrivateSteps.{Stays, TakesBytes}
 use Rattle.std.proofs.lemmas.Bool.{true≢false}
 use Rattle.age_stream.proofs.Asking.{IsReader}
 use Rattle.age_stream.proofs.Cached.{brought, is-text, IsOpenedText}

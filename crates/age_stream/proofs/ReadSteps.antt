@@ -9,10 +9,10 @@ use Rattle.age_io.specs.Reading.{Delivers, Reads}
 use Rattle.age_io.specs.Stretch.{IsFault}
 use Rattle.age_stream.specs.declared.reader.StreamReader.{StreamReader}
 use Rattle.age_stream.specs.Cache.{last_used, HasOne}
-use Rattle.age_stream.specs.Keeping.{KeepsPayload}
+use Rattle.age_stream.specs.PrivateKeeping.{KeepsPayload}
 use Rattle.age_stream.specs.Reader.{tells_of, steady_of, content_of, place_of, plain_rest_of, faults_of, stops_of, refuses_of, IsAfterLast}
 use Rattle.age_stream.specs.Reading.{spare}
-use Rattle.age_stream.specs.Steps.{AnswersRead, EndsClean, GivesHeld, Holds, Moves, OpensFew, ReadsChunks, RefusesAfter, RefusesAtPlace, Stays, StaysAt, Told}
+use Rattle.age_stream.specs.PrivateSteps.{AnswersRead, EndsClean, GivesHeld, HasOpenedAt, Moves, OpensFew, ReadsChunks, RefusesPastLast, RefusesAtPlace, Stays, StaysAt, Told}
 use Rattle.age_stream.proofs.Answered.{refuses-widened}
 use Rattle.age_stream.proofs.Cached.{used-there}
 use Rattle.age_stream.proofs.Holding.{rest_failed}
@@ -77,7 +77,7 @@ module _ {S R : Type 0} {suite : SuiteGhosts S} {read : Ghosts R} (old new : Str
     same-place = omega (arith, stays.number, stays.at)
 
     pub reads-end : (result : Result ℕ Error) → KeepsPayload read (stops_of old) old.inner old.taken new.inner new.taken result → IfOk result (λ n. n ≡ 0) → OnOk result (EndsClean old new) →
-        IfErr result (RefusesAfter old new) → Reads tells_of steady_of content_of place_of plain_rest_of faults_of refuses_of old new buf result
+        IfErr result (RefusesPastLast old new) → Reads tells_of steady_of content_of place_of plain_rest_of faults_of refuses_of old new buf result
     reads-end (Err e) keeps none ends r =
         reads-refused e (payload-refused read old.inner new.inner old.taken new.taken e keeps) stays.key same-place r.fails r.cause
     reads-end (Ok n) keeps none ends r = record {
@@ -100,12 +100,12 @@ module _ {S R : Type 0} {suite : SuiteGhosts S} {read : Ghosts R} (old new : Str
       cause = λ _. tt;
     }
 
-    pub moves-end : new.sought ≡ old.sought → (result : Result ℕ Error) → IfOk result (λ n. n ≡ 0) → OnOk result (EndsClean old new) → IfErr result (RefusesAfter old new) → Moves old new result
+    pub moves-end : new.sought ≡ old.sought → (result : Result ℕ Error) → IfOk result (λ n. n ≡ 0) → OnOk result (EndsClean old new) → IfErr result (RefusesPastLast old new) → Moves old new result
     moves-end sought (Ok n) none ends r =
         record { key = stays.key; sought = sought; good = ends.good; fails = tt; placed = omega (arith, none, same-place); stayed = tt }
     moves-end sought (Err e) none ends r = record { key = stays.key; sought = sought; good = tt; fails = r.fails; placed = tt; stayed = same-place }
 
-    pub answers-end : (result : Result ℕ Error) → IfOk result (λ n. n ≡ 0) → OnOk result (EndsClean old new) → IfErr result (RefusesAfter old new) → AnswersRead old new buf buf result
+    pub answers-end : (result : Result ℕ Error) → IfOk result (λ n. n ≡ 0) → OnOk result (EndsClean old new) → IfErr result (RefusesPastLast old new) → AnswersRead old new buf buf result
     answers-end (Ok n) none ends r = record {
       gives = λ _ some. absurd (omega (arith, none, some));
       ended = λ told _. ends.ended told;
@@ -165,7 +165,7 @@ module _ {S R : Type 0} {suite : SuiteGhosts S} {read : Ghosts R} (old new : Str
 
 module _ {S R : Type 0} {suite : SuiteGhosts S} {read : Ghosts R} (old mid new : StreamReader S R suite read) where
   -- bytes of a chunk that is held were given
-  pub reads-given : (buf new_buf : List ℕ) (n : ℕ) → KeepsPayload read (stops_of old) old.inner old.taken new.inner new.taken (Ok n) → StaysAt old mid → Holds old mid → GivesHeld mid new →
+  pub reads-given : (buf new_buf : List ℕ) (n : ℕ) → KeepsPayload read (stops_of old) old.inner old.taken new.inner new.taken (Ok n) → StaysAt old mid → HasOpenedAt old mid → GivesHeld mid new →
       place_of new ≡ place_of mid + n → Delivers (take n new_buf) (plain_rest_of mid) (plain_rest_of new) → n ≡ min (length buf) (length mid.cache.chunk.items - mid.at) →
       length new_buf ≡ length buf → Reads tells_of steady_of content_of place_of plain_rest_of faults_of refuses_of old new new_buf (Ok n)
   reads-given buf new_buf n keeps stays holds given moves bytes count long =

@@ -10,19 +10,19 @@ use Rattle.age_error.specs.declared.io.Error.{Error}
 use Rattle.age_suite.specs.Suite.{IsCipher}
 use Rattle.age_io.specs.Stretch.{Stretch, nothing, from_place}
 use Rattle.age_io.specs.Reading.{StandsIn}
-use Rattle.age_stream.specs.Payload.{Seal, chunk}
-use Rattle.age_stream.specs.OpeningLaws.{shorter}
-use Rattle.age_stream.specs.Chunks.{Chunk, is_empty, chunk_of, after_chunk, after_last, delivers, delivered}
-use Rattle.age_stream.specs.WellLaws.{accepted, delivered-nothing, well-length-by}
-use Rattle.age_stream.specs.Reading.{payload_at, text_at, behind, rest_of, IsHeld, IsPast, IsBefore, IsSound}
-use Rattle.age_stream.specs.ReadingLaws.{taken-rest}
-use Rattle.age_stream.specs.Answering.{IsHeldAs, IsByteAt, StandAt, IsGoodEnd}
-use Rattle.age_stream.proofs.Judged.{judged-middle, judged-last, ends_last}
-use Rattle.age_stream.proofs.TextLengths.{length-text, some-within, below-most, plain-most, plain-full, plain-whole, last-by_length, last-place}
-use Rattle.age_stream.proofs.Lengths.{plain_len-last}
+use Rattle.age_v1.specs.Payload.{Seal, chunk}
+use Rattle.age_v1.proofs.OpenedTexts.{shorter}
+use Rattle.age_v1.specs.DeliveredPayload.{Chunk, is_empty, chunk_of, after_chunk, after_last, delivers, payload_delivers, text_at}
+use Rattle.age_v1.proofs.WellEndedPayloads.{accepted, delivered-nothing, well-length-by}
+use Rattle.age_stream.specs.Reading.{payload_at, behind, rest_of, IsHeld, IsPast, StandsBeforeChunk, IsSound}
+use Rattle.age_stream.specs.ReadingLemmas.{taken-rest}
+use Rattle.age_v1.specs.PayloadAnswers.{OpensAs, IsByteAt, StandAt, IsGoodEnd}
+use Rattle.age_v1.proofs.JudgedChunks.{judged-middle, judged-last, ends_last}
+use Rattle.age_v1.proofs.TextLengths.{length-text, some-within, below-most, plain-most, plain-full, plain-whole, last-by_length, last-place}
+use Rattle.age_v1.proofs.PayloadLengths.{plain_len-last}
 use Rattle.age_stream.proofs.Answered.{good-end}
 use Rattle.age_stream.proofs.Holding.{rest_failed, rest-held, rest-open}
-use Rattle.age_stream.proofs.Standing.{held-seal, stand-none, stand-joined}
+use Rattle.age_v1.proofs.StandingBytes.{held-seal, stand-none, stand-joined}
 
 module _ (seal_of : Seal) (opened : List ℕ → List ℕ → List ℕ → Option (List ℕ)) (law : IsCipher seal_of opened) (key : List ℕ) (k : AreBytesOf 32 key)
     (sealed : List ℕ) (b : AreBytes sealed) where
@@ -30,7 +30,7 @@ module _ (seal_of : Seal) (opened : List ℕ → List ℕ → List ℕ → Optio
   abbrev text_of : ℕ → List ℕ
   text_of number = take 65552 (drop (65552 * number) sealed)
 
-  held_as : (last : Bool) (number : ℕ) (plain : List ℕ) → chunk_of opened key number (text_of number) ≡ Ok (plain, last) → IsHeldAs last seal_of key sealed number plain
+  held_as : (last : Bool) (number : ℕ) (plain : List ℕ) → chunk_of opened key number (text_of number) ≡ Ok (plain, last) → OpensAs last seal_of key sealed number plain
   held_as true number plain is = judged-last seal_of opened law key k sealed b number plain is
   held_as false number plain is = judged-middle seal_of opened law key k sealed b number plain is
 
@@ -95,7 +95,7 @@ module _ (seal_of : Seal) (opened : List ℕ → List ℕ → List ℕ → Optio
       (stand-delivers full (suc number) (drop 65552 bytes) ends_well next (omega (arith, few, size)) (omega (arith, most, size)))
 
   -- what a reader delivers that stands before a chunk
-  pub stand-delivered : (number : ℕ) (rest : Stretch) → rest.bytes ≡ drop (65552 * number) sealed → StandAt seal_of key sealed (65536 * number) (delivered opened key number rest).bytes
+  pub stand-delivered : (number : ℕ) (rest : Stretch) → rest.bytes ≡ drop (65552 * number) sealed → StandAt seal_of key sealed (65536 * number) (payload_delivers opened key number rest).bytes
   stand-delivered number rest same =
       stand-delivers (length rest.bytes / 65552) number rest.bytes rest.ends_well same (omega arith) (omega arith)
 
@@ -139,19 +139,19 @@ module _ (seal_of : Seal) (opened : List ℕ → List ℕ → List ℕ → Optio
       let next : 65552 * number + 65552 ≡ 65552 * (number + 1) = omega arith in
       let there : 65536 * (number + 1) ≡ 65536 * number + at + length (drop at plain) = omega (arith, within, full refl, length-drop at plain) in
       let after = stand-delivered seal_of opened law key k payload.bytes b (number + 1) rest (ap (λ s. s.bytes) ahead ∙ ap (λ n. drop n payload.bytes) next) in
-      stand-joined seal_of key payload.bytes (65536 * number + at) (drop at plain) (delivered opened key (number + 1) rest).bytes
+      stand-joined seal_of key payload.bytes (65536 * number + at) (drop at plain) (payload_delivers opened key (number + 1) rest).bytes
       (held-left number at false plain held within small)
-      (subst (λ (p : ℕ). StandAt seal_of key payload.bytes p (delivered opened key (number + 1) rest).bytes) there after)
+      (subst (λ (p : ℕ). StandAt seal_of key payload.bytes p (payload_delivers opened key (number + 1) rest).bytes) there after)
 
   -- what stands from the chunk at the place on
   before-on : (number at taken : ℕ) (rest : Stretch) → taken ≡ 65552 * number → (rest ≡ from_place taken payload) ⊎ (rest ≡ nothing) →
-      StandAt seal_of key payload.bytes (65536 * number + at) (drop at (delivered opened key number rest).bytes)
+      StandAt seal_of key payload.bytes (65536 * number + at) (drop at (payload_delivers opened key number rest).bytes)
   before-on number at taken rest stood (inl is) =
-      stand-dropped seal_of key payload.bytes (65536 * number) at (delivered opened key number rest).bytes
+      stand-dropped seal_of key payload.bytes (65536 * number) at (payload_delivers opened key number rest).bytes
       (stand-delivered seal_of opened law key k payload.bytes b number rest (ap (λ s. s.bytes) is ∙ ap (λ n. drop n payload.bytes) stood))
   before-on number at taken rest stood (inr is) =
-      let none : drop at (delivered opened key number rest).bytes ≡ [] =
-      ap (λ s. drop at (delivered opened key number s).bytes) is ∙ ap (λ s. drop at s.bytes) (delivered-nothing opened key number) ∙ drop-nil at in
+      let none : drop at (payload_delivers opened key number rest).bytes ≡ [] =
+      ap (λ s. drop at (payload_delivers opened key number s).bytes) is ∙ ap (λ s. drop at s.bytes) (delivered-nothing opened key number) ∙ drop-nil at in
       subst (λ (l : List ℕ). StandAt seal_of key payload.bytes (65536 * number + at) l) (sym none) (stand-none seal_of key payload.bytes (65536 * number + at))
 
 -- what a reader can still deliver, whatever was sought
@@ -246,8 +246,8 @@ module _ (seal_of : Seal) (opened : List ℕ → List ℕ → List ℕ → Optio
       (λ ends. let (none, is) = ended-by (drop 65552 bytes) ends_well ends in (omega (arith, none, size, whole, ap length same), sym end ∙ is))
       (λ on. good-delivers full (suc number) (drop 65552 bytes) ends_well next end (omega (arith, few, size)) (omega (arith, most, size)) on) well
 
-  good-delivered : (number : ℕ) (rest : Stretch) → rest ≡ from_place (65552 * number) payload → (delivered opened key number rest).ends_well ≡ true →
-      IsGoodEnd seal_of key payload (65536 * number + length (delivered opened key number rest).bytes)
+  good-delivered : (number : ℕ) (rest : Stretch) → rest ≡ from_place (65552 * number) payload → (payload_delivers opened key number rest).ends_well ≡ true →
+      IsGoodEnd seal_of key payload (65536 * number + length (payload_delivers opened key number rest).bytes)
   good-delivered number rest same well =
       good-delivers (length rest.bytes / 65552) number rest.bytes rest.ends_well (ap (λ s. s.bytes) same) (ap (λ s. s.ends_well) same) (omega arith) (omega arith) well
 
@@ -273,18 +273,18 @@ module _ (seal_of : Seal) (opened : List ℕ → List ℕ → List ℕ → Optio
       ])
   good-held number at taken false plain rest held within small full past well =
       let next : 65552 * number + 65552 ≡ 65552 * (number + 1) = omega arith in
-      let after = delivered opened key (number + 1) rest in
+      let after = payload_delivers opened key (number + 1) rest in
       let there : 65536 * (number + 1) + length after.bytes ≡ 65536 * number + at + length (drop at plain ++ after.bytes) =
       omega (arith, within, full refl, length-drop at plain, length-append (drop at plain) after.bytes) in
       subst (λ (n : ℕ). IsGoodEnd seal_of key payload n) there
       (good-delivered (number + 1) rest (past.ahead ∙ ap (λ n. from_place n payload) next) well)
 
   -- of what stands from the chunk at the place on
-  good-before : (number at taken : ℕ) (rest : Stretch) → IsBefore (length payload.bytes) number at taken → (rest ≡ from_place taken payload) ⊎ (rest ≡ nothing) →
-      (delivered opened key number rest).ends_well ≡ true → IsGoodEnd seal_of key payload (65536 * number + at + length (drop at (delivered opened key number rest).bytes))
+  good-before : (number at taken : ℕ) (rest : Stretch) → StandsBeforeChunk (length payload.bytes) number at taken → (rest ≡ from_place taken payload) ⊎ (rest ≡ nothing) →
+      (payload_delivers opened key number rest).ends_well ≡ true → IsGoodEnd seal_of key payload (65536 * number + at + length (drop at (payload_delivers opened key number rest).bytes))
   good-before number at taken rest before (inl is) well =
       let same : rest ≡ from_place (65552 * number) payload = is ∙ ap (λ n. from_place n payload) before.stood in
-      let content = delivered opened key number rest in
+      let content = payload_delivers opened key number rest in
       let bytes : AreBytes rest.bytes = subst (λ (s : Stretch). AreBytes s.bytes) (sym same) (All-drop (λ x. x < 256) (65552 * number) payload.bytes b) in
       let long = well-length-by opened key (shorter seal_of opened law key k) (length rest.bytes) number rest bytes (omega arith) well in
       let size : length rest.bytes ≡ length payload.bytes - 65552 * number = ap (λ s. length s.bytes) same ∙ length-drop (65552 * number) payload.bytes in
@@ -295,7 +295,7 @@ module _ (seal_of : Seal) (opened : List ℕ → List ℕ → List ℕ → Optio
       let there : 65536 * number + length content.bytes ≡ 65536 * number + at + length (drop at content.bytes) = omega (arith, inside, length-drop at content.bytes) in
       subst (λ (n : ℕ). IsGoodEnd seal_of key payload n) there (good-delivered number rest same well)
   good-before number at taken rest before (inr is) well =
-      let bad : false ≡ true = sym (ap (λ s. s.ends_well) (delivered-nothing opened key number)) ∙ sym (ap (λ s. (delivered opened key number s).ends_well) is) ∙ well in
+      let bad : false ≡ true = sym (ap (λ s. s.ends_well) (delivered-nothing opened key number)) ∙ sym (ap (λ s. (payload_delivers opened key number s).ends_well) is) ∙ well in
       absurd (true≢false (sym bad))
 
 -- where what a reader can still deliver ends well, the payload does, at a length that fits, and with a last chunk

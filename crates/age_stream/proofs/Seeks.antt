@@ -13,22 +13,23 @@ use Rattle.age_io.specs.Cursor.{IsOutside, IsSeekRefusal, MayLead, OrTooLong, Se
 use Rattle.age_io.specs.Reading.{most_faults, StandsIn}
 use Rattle.age_io.specs.Stretch.{from_place}
 use Rattle.age_stream.specs.declared.reader.StreamReader.{StreamReader}
-use Rattle.age_stream.specs.Keeping.{IsPayloadSeekRefusal, KeepsPayload, OwnOrInner}
-use Rattle.age_stream.specs.OpeningLaws.{shorter}
+use Rattle.age_stream.specs.Keeping.{OwnOrInner}
+use Rattle.age_stream.specs.PrivateKeeping.{IsPayloadSeekRefusal, KeepsPayload}
+use Rattle.age_v1.proofs.OpenedTexts.{shorter}
 use Rattle.age_stream.specs.Cache.{last_used, HasOne}
-use Rattle.age_stream.specs.Payload.{final_chunk, nonce, plain_len}
-use Rattle.age_stream.specs.Reading.{text_at}
-use Rattle.age_stream.specs.ReadingLaws.{and-left, and-right, taken-rest}
+use Rattle.age_v1.specs.Payload.{final_chunk, nonce, plain_len}
+use Rattle.age_v1.specs.DeliveredPayload.{text_at}
+use Rattle.age_stream.specs.ReadingLemmas.{and-left, and-right, taken-rest}
 use Rattle.age_stream.specs.Reader.{payload_of, tells_of, steady_of, content_of, place_of, plain_rest_of, faults_of, stops_of, refuses_of, HasEnd, HoldsEnd}
 use Rattle.age_stream.specs.Seeking.{FindsTarget, RefusesTarget, SeeksPayload, ToEnd}
-use Rattle.age_stream.specs.Steps.{Enters, EntersEnd, KeepsAtEnd, Quietly, Stays}
-use Rattle.age_stream.specs.Targets.{below_start, in_length, IsRefusedTarget}
+use Rattle.age_stream.specs.PrivateSteps.{Enters, EntersEnd, KeepsAtEnd, Quietly, Stays}
+use Rattle.age_v1.specs.PayloadTargets.{below_start, in_length, IsRefusedTarget}
 use Rattle.age_stream.proofs.Cached.{used-good, used-there}
 use Rattle.age_stream.proofs.Ending.{err-well, ok-well, not-both, in_length-leads, is-end, not-end}
 use Rattle.age_stream.proofs.Inner.{payload-place}
-use Rattle.age_stream.proofs.Judged.{ends_last}
+use Rattle.age_v1.proofs.JudgedChunks.{ends_last}
 use Rattle.age_stream.proofs.Keeping.{content-kept, own-refusal, payload-done, payload-later, stream-kept, stream_narrows, told-later}
-use Rattle.age_stream.proofs.Lengths.{plain_len_says}
+use Rattle.age_v1.proofs.PayloadLengths.{plain_len_says}
 use Rattle.age_stream.proofs.Sound.{inner-well, now-sound, rest-kept}
 use Rattle.age_stream.proofs.Stepping.{end-looked}
 

@@ -5,11 +5,11 @@ use Rattle.std.proofs.lemmas.List.{drop-drop, drop-append-le}
 use Rattle.std.proofs.lemmas.Bool.{cases_lt, true≢false}
 use Rattle.age_error.specs.Bytes.{AreBytes}
 use Rattle.age_io.specs.Stretch.{Stretch, nothing, from_place, stretch-ext}
-use Rattle.age_stream.specs.OpeningLaws.{Shorter}
-use Rattle.age_stream.specs.Chunks.{delivered}
-use Rattle.age_stream.specs.WellLaws.{well-middle, well-single, delivered-nothing}
+use Rattle.age_v1.proofs.OpenedTexts.{Shorter}
+use Rattle.age_v1.specs.DeliveredPayload.{payload_delivers}
+use Rattle.age_v1.proofs.WellEndedPayloads.{well-middle, well-single, delivered-nothing}
 use Rattle.age_stream.specs.Reading.{payload_at, behind, rest_of, IsSound}
-use Rattle.age_stream.specs.ReadingLaws.{held-reaches, reaches-before}
+use Rattle.age_stream.specs.ReadingLemmas.{held-reaches, reaches-before}
 use Rattle.age_stream.proofs.Holding.{rest-held, rest-open, rest_failed}
 
 -- a reader is as steady as before where its content ends as before
@@ -21,7 +21,7 @@ same-steady t s w t1 s1 w1 et es ew = rw (et, es) (by (t && s) refl)
     by false is = rw is refl
 
 module _ (opened : List ℕ → List ℕ → List ℕ → Option (List ℕ)) (key : List ℕ) where
-  inner-well-by : (count number : ℕ) (s : Stretch) → length s.bytes ≤ 65552 * count + 65552 → (delivered opened key number s).ends_well ≡ true → s.ends_well ≡ true
+  inner-well-by : (count number : ℕ) (s : Stretch) → length s.bytes ≤ 65552 * count + 65552 → (payload_delivers opened key number s).ends_well ≡ true → s.ends_well ≡ true
   inner-well-by zero number s few well = (well-single opened key number s well (omega arith)).3
   inner-well-by (suc count) number s few well = elim (cases_lt 65552 (length s.bytes)) [
     | inl long ↦
@@ -31,7 +31,7 @@ module _ (opened : List ℕ → List ℕ → List ℕ → Option (List ℕ)) (ke
   ]
 
   -- a plaintext that ends well stands in a payload that does
-  pub inner-well : (s : Stretch) → (delivered opened key 0 s).ends_well ≡ true → s.ends_well ≡ true
+  pub inner-well : (s : Stretch) → (payload_delivers opened key 0 s).ends_well ≡ true → s.ends_well ≡ true
   inner-well s well = inner-well-by (length s.bytes) 0 s (omega arith) well
 
   behind-badly : (last : Bool) (number : ℕ) → (behind opened key last number nothing).ends_well ≡ false
@@ -57,28 +57,28 @@ module _ (opened : List ℕ → List ℕ → List ℕ → Option (List ℕ)) (ke
 
   module _ (law : Shorter opened key) where
     sound-by : (failed held : Bool) (at : ℕ) (chunk : List ℕ) (last sought : Bool) (number taken place : ℕ) (content rest : Stretch) → AreBytes (payload_at place taken content).bytes →
-        (delivered opened key 0 (payload_at place taken content)).ends_well ≡ true → failed ≡ false → (held ≡ true → at ≤ length chunk) →
+        (payload_delivers opened key 0 (payload_at place taken content)).ends_well ≡ true → failed ≡ false → (held ≡ true → at ≤ length chunk) →
         IsSound opened key failed held at chunk last sought number taken place content rest →
         (held ≡ false → (rest ≡ from_place taken (payload_at place taken content)) × (65552 * number < length (payload_at place taken content).bytes)) →
-        (h : Bool) → held ≡ h → rest_of opened key failed held at chunk last number rest ≡ from_place (65536 * number + at) (delivered opened key 0 (payload_at place taken content))
+        (h : Bool) → held ≡ h → rest_of opened key failed held at chunk last number rest ≡ from_place (65536 * number + at) (payload_delivers opened key 0 (payload_at place taken content))
     sound-by failed held at chunk last sought number taken place content rest bytes well good within sound before true is =
         let payload = payload_at place taken content in
         rest-held opened key failed held at chunk last number rest good is
         ∙ stretch-ext _ _ (sym (drop-append-le at chunk (behind opened key last number rest).bytes (within is))) refl
         ∙ ap (from_place at) (held-reaches opened key law number last at chunk payload rest bytes well (sound.is_held is) (sound.is_past good is).ahead)
-        ∙ stretch-ext _ _ (drop-drop at (65536 * number) (delivered opened key 0 payload).bytes) refl
+        ∙ stretch-ext _ _ (drop-drop at (65536 * number) (payload_delivers opened key 0 payload).bytes) refl
     sound-by failed held at chunk last sought number taken place content rest bytes well good within sound before false is =
         let payload = payload_at place taken content in
         let there = before is in
         rest-open opened key failed held at chunk last number rest good is
-        ∙ ap (λ s. from_place at (delivered opened key number s)) (there.0 ∙ ap (λ n. from_place n payload) (sound.before good is).stood)
+        ∙ ap (λ s. from_place at (payload_delivers opened key number s)) (there.0 ∙ ap (λ n. from_place n payload) (sound.before good is).stood)
         ∙ reaches-before opened key law number at payload bytes well (λ _. there.1)
 
     -- what stands from the place on
     pub now-sound : (failed held : Bool) (at : ℕ) (chunk : List ℕ) (last sought : Bool) (number taken place : ℕ) (content rest : Stretch) → AreBytes (payload_at place taken content).bytes →
-        (delivered opened key 0 (payload_at place taken content)).ends_well ≡ true → failed ≡ false → (held ≡ true → at ≤ length chunk) →
+        (payload_delivers opened key 0 (payload_at place taken content)).ends_well ≡ true → failed ≡ false → (held ≡ true → at ≤ length chunk) →
         IsSound opened key failed held at chunk last sought number taken place content rest →
         (held ≡ false → (rest ≡ from_place taken (payload_at place taken content)) × (65552 * number < length (payload_at place taken content).bytes)) →
-        rest_of opened key failed held at chunk last number rest ≡ from_place (65536 * number + at) (delivered opened key 0 (payload_at place taken content))
+        rest_of opened key failed held at chunk last number rest ≡ from_place (65536 * number + at) (payload_delivers opened key 0 (payload_at place taken content))
     now-sound failed held at chunk last sought number taken place content rest bytes well good within sound before =
         sound-by failed held at chunk last sought number taken place content rest bytes well good within sound before held refl

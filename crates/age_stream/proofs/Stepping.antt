@@ -10,12 +10,12 @@ use Rattle.age_io.specs.declared.traits.Read.{Ghosts}
 use Rattle.age_io.specs.Stretch.{IsCleanEnd, IsFault}
 use Rattle.age_stream.specs.declared.reader.StreamReader.{StreamReader}
 use Rattle.age_stream.specs.Cache.{has_number, last_used, HasLast, HasOne}
-use Rattle.age_stream.specs.Payload.{final_chunk}
+use Rattle.age_v1.specs.Payload.{final_chunk}
 use Rattle.age_stream.specs.Reader.{payload_of, place_of, tells_of, HasEnd, IsHolding}
 use Rattle.age_stream.specs.Reading.{spare}
-use Rattle.age_stream.specs.Steps.{EntersEnd, Holds, KeepsAtEnd, KeepsBesideLast, OpensFew, PassesOn, RefusesAtPlace, RefusesStep}
-use Rattle.age_io.specs.ReadingLaws.{quiet_from}
-use Rattle.age_stream.specs.Keeping.{KeepsPayload}
+use Rattle.age_stream.specs.PrivateSteps.{EntersEnd, HasOpenedAt, KeepsAtEnd, KeepsBesideLast, OpensFew, PassesOn, RefusesAtPlace, RefusesStep}
+use Rattle.age_io.specs.ReadingLemmas.{quiet_from}
+use Rattle.age_stream.specs.PrivateKeeping.{KeepsPayload}
 use Rattle.age_stream.proofs.Holding.{spare-none}
 use Rattle.age_stream.proofs.Keeping.{told-later}
 
@@ -49,7 +49,7 @@ module _ {S R : Type 0} {suite : SuiteGhosts S} {read : Ghosts R} where
     told-passed told = rw passes.inner told
 
     -- a chunk is held, after a middle one was given whole
-    pub holds-passed : Holds mid new → Holds old new
+    pub holds-passed : HasOpenedAt mid new → HasOpenedAt old new
     holds-passed h = record {
       good = h.good;
       rest = λ told. h.rest (told-passed told) ∙ passes.rest;

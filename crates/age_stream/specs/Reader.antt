@@ -8,8 +8,8 @@ use Rattle.age_error.specs.declared.io.Error.{Error}
 use Rattle.age_error.specs.declared.io.Error.TheVariants.{Failed}
 use Rattle.age_stream.specs.Keeping.{Stops, OwnOrInner}
 use Rattle.age_stream.specs.declared.reader.StreamReader.{StreamReader}
-use Rattle.age_stream.specs.Payload.{final_chunk}
-use Rattle.age_stream.specs.Chunks.{delivered}
+use Rattle.age_v1.specs.Payload.{final_chunk}
+use Rattle.age_v1.specs.DeliveredPayload.{payload_delivers}
 use Rattle.age_stream.specs.Reading.{payload_at, rest_of}
 use Rattle.age_stream.specs.Cache.{has_number, last_used, HasLast, HasOne}
 
@@ -83,7 +83,7 @@ module _ {S R : Type 0} {suite : SuiteGhosts S} {read : Ghosts R} where
 
   -- its content: the plaintext that its payload delivers
   abbrev pub content_of : StreamReader S R suite read → Stretch
-  content_of r = delivered suite.opened r.key 0 (payload_of r)
+  content_of r = payload_delivers suite.opened r.key 0 (payload_of r)
 
   -- it stays with its content where that ends well
   abbrev pub steady_of : StreamReader S R suite read → Bool

@@ -10,11 +10,10 @@ use Rattle.age_io.specs.Cursor.{IsOutside, OrTooLong, Seeks}
 use Rattle.age_io.specs.Reading.{IsQuiet}
 use Rattle.age_io.specs.Stretch.{from_place}
 use Rattle.age_stream.specs.declared.reader.StreamReader.{StreamReader}
-use Rattle.age_stream.specs.Keeping.{IsPayloadSeekRefusal}
-use Rattle.age_stream.specs.Payload.{final_chunk, plain_len, EndsAsLast}
-use Rattle.age_stream.specs.Reader.{payload_of, key_of, inner_of, inner_rest_of, wanted_of, opens_of, last_used_of, HasChunk, HasFailed, HoldsEnd, IsHolding, IsAfterLast}
-use Rattle.age_stream.specs.Reader.{tells_of, steady_of, content_of, place_of, plain_rest_of, faults_of, refuses_of}
-use Rattle.age_stream.specs.Targets.{below_start, in_length, sought_in, IsRefusedTarget, IsToEnd}
+use Rattle.age_stream.specs.PrivateKeeping.{IsPayloadSeekRefusal}
+use Rattle.age_v1.specs.Payload.{final_chunk, plain_len, EndsAsLast}
+use Rattle.age_stream.specs.Reader.{payload_of, key_of, inner_of, inner_rest_of, wanted_of, opens_of, last_used_of, HasChunk, HasFailed, HoldsEnd, IsHolding, IsAfterLast, tells_of, steady_of, content_of, place_of, plain_rest_of, faults_of, refuses_of}
+use Rattle.age_v1.specs.PayloadTargets.{below_start, in_length, sought_in, IsRefusedTarget, IsToEnd}
 
 -- the target in a payload of so many bytes, and the length of its plaintext
 pub record FindsTarget (to : SeekFrom) (place size target len : ℕ) : Type 0 where

@@ -3,8 +3,9 @@ use Rattle.std.specs.Prelude.{◌≡◌, ℕ, zero, suc, ◌+◌, ◌*◌, ◌^�
 use Rattle.std.specs.Fmt.{decimal}
 use Rattle.age_error.specs.declared.io.Error.{Error}
 use Rattle.age_error.specs.declared.io.Error.TheVariants.{Failed, TooLong}
+use Rattle.age_io.specs.Copying.{AppendsFront}
 use Rattle.age_stream.specs.Sending.{RefusesChunk}
-use Rattle.age_stream.specs.Payload.{Seal, nonce, last_piece, middle_seals, payload}
+use Rattle.age_v1.specs.Payload.{Seal, nonce, last_piece, middle_seals, payload}
 use Rattle.age_stream.specs.declared.writer.StreamWriter.{StreamWriter}
 
 -- the seals of the first n pieces of a text as middle chunks, of which the first has this number
@@ -79,6 +80,13 @@ module _ {S W : Type 0} (seal_of : Seal) (inner_appended : W → List ℕ → W 
     pub sending : Sent before bytes after
     pub followed : 0 < sending.count → 0 < length after.held.items
 
+  -- Whatever became of it: a beginning of the seals, as middle chunks, of the first pieces of what it held and of these bytes was appended
+  -- to the inner writer. A byte follows each of these pieces.
+  pub record SendsFront (before : StreamWriter S W) (bytes : List ℕ) (after : W) : Type 0 where
+    pub count : ℕ
+    pub followed : 0 < count → 65536 * count < length (before.held.items ++ bytes)
+    pub out : AppendsFront inner_appended (middles seal_of before.key before.sealed count (before.held.items ++ bytes)) before.inner after
+
   -- A state is related to a failed one by every list, since that stays failed.
   abbrev pub Appended : StreamWriter S W → List ℕ → StreamWriter S W → Type 0
   Appended before bytes after = (after.failed ≡ true) ⊎ ((before.failed ≡ false) × (after.failed ≡ false) × Took before bytes after)
@@ -90,6 +98,14 @@ abbrev pub HasSent : {S W : Type 0} → Seal → (W → List ℕ → W → Type 
 HasSent {S} {W} seal_of inner_appended appended writer =
     (start : StreamWriter S W) (key plain : List ℕ) (first : W) → WasMade key first start → appended start plain writer
     → inner_appended first (middle_seals seal_of key plain (last_piece (length plain))) writer.inner
+
+-- Where a writer was made under a key and took a plaintext since, and was then given bytes: whatever it answered, its inner writer was given a
+-- beginning of the payload of the plaintext and these bytes.
+abbrev pub SendsPayload : {S W : Type 0} → Seal → (W → List ℕ → W → Type 0) → (StreamWriter S W → List ℕ → StreamWriter S W → Type 0) → Type 0
+SendsPayload {S} {W} seal_of inner_appended appended =
+    (start before : StreamWriter S W) (key plain bytes : List ℕ) (first after : W) → WasMade key first start → appended start plain before
+    → IsGood before → SendsFront seal_of inner_appended before bytes after
+    → AppendsFront inner_appended (payload seal_of key (plain ++ bytes)) first after
 
 -- where a writer was made under a key and took a plaintext since, its inner writer was given the plaintext's payload
 abbrev pub Finishes : {S W : Type 0} → Seal → (W → List ℕ → W → Type 0) → (StreamWriter S W → List ℕ → StreamWriter S W → Type 0)

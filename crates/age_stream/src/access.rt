@@ -2,13 +2,13 @@
 ghost use Rattle.std.specs.Prelude.{◌≡◌, ◌≢◌, ℕ, ◌+◌, ◌*◌, ◌/◌, ◌<◌, ◌≤◌, ◌⊎◌, ◌&&◌, Bool, false, true, IsTrue, List, length, take, drop, IfOk, IfErr, OnOk, OnErr, Ok, Err};
 ghost use Rattle.age_error.specs.declared.io.Error.TheVariants.{OutOfMemory};
 ghost use Rattle.age_io.specs.Stretch.{IsCleanEnd, from_place};
-ghost use Rattle.age_io.specs.Reading.{IsQuiet, Delivers, EndsEarly};
+ghost use Rattle.age_io.specs.Reading.{IsQuiet, Delivers, EndsEarly, TriedAgain};
 ghost use Rattle.age_io.specs.Cursor;
 ghost use Rattle.age_io.specs.Cursor.{IsOutside, OrTooLong};
 ghost use Rattle.age_io.specs.Keeping.{KeepsReader, OrSeek};
-ghost use Rattle.age_stream.specs.Answering.{StandAt, StopsNear, IsGoodEnd};
-ghost use Rattle.age_stream.specs.Keeping.{KeepsPayload};
-ghost use Rattle.age_stream.specs.Targets.{below_start, sought_in, IsRefusedTarget, StopsWithin};
+ghost use Rattle.age_v1.specs.PayloadAnswers.{StandAt, StopsNear, IsGoodEnd};
+ghost use Rattle.age_stream.specs.PrivateKeeping.{KeepsPayload};
+ghost use Rattle.age_v1.specs.PayloadTargets.{below_start, sought_in, IsRefusedTarget, StopsWithin, StaysOrLeads};
 
 use crate::reader::StreamReader;
 use age_error::io::{Error, SeekFrom};
@@ -17,7 +17,7 @@ use age_suite::suite::Suite;
 
 impl<S: Suite, R: Read> StreamReader<S, R> {
     ghost use Rattle.age_stream.specs.Reader.{key_of, place_of, stops_of};
-    ghost use Rattle.age_stream.specs.Steps.{ReadsFull, RefusesFull};
+    ghost use Rattle.age_stream.specs.PrivateSteps.{ReadsFull, RefusesFull};
 
     // Reads until the buffer is full or the end. `filled` says how many bytes were read, also after a refusal.
     fn read_full(&mut self, buf: &mut [u8], filled: &mut usize) -> Result<(), Error>
@@ -52,8 +52,9 @@ impl<S: Suite, R: Seek> StreamReader<S, R> {
     /// `buf`, and the reader stands after them. They are fewer than the buffer takes only at the end.
     ///
     /// A refusal is that of the seek or of the read that met it, and so is the state after it: the reader has failed, but
-    /// where the seek refused with `BeforeStart` or `PastEnd`. What `buf` holds after a refusal isn't said. For n bytes it
-    /// opens at most n / 65,536 + 4 times.
+    /// where the seek refused with `BeforeStart` or `PastEnd`. It stands where it stood, or where the seek led and after the bytes
+    /// that were read since (`stands`). `BeforeStart` and `PastEnd` say that the target is outside, unless the inner reader's own
+    /// reads refuse so (`outside`). What `buf` holds after a refusal isn't said. For n bytes it opens at most n / 65,536 + 4 times.
     pub fn read_at(&mut self, to: SeekFrom, buf: &mut [u8]) -> Result<usize, Error>
         ensures keeps { KeepsReader ⟦<StreamReader<S, R> as Read>⟧ (OrSeek (OrTooLong R.seek_refuses) ⟦<StreamReader<S, R> as Read>⟧.refuses) self.old self.new result }
         ensures count { IfOk result (λ n. n ≤ length buf.new) }
@@ -84,6 +85,13 @@ impl<S: Suite, R: Seek> StreamReader<S, R> {
             IfErr result (λ e. e ≢ OutOfMemory → IsQuiet (reader.faults self.old) (reader.faults self.new) →
             IsRefusedTarget S.seal_of (key_of self.old) (payload_of self.old).bytes to (place_of self.old) e
             ⊎ StopsWithin S.seal_of (key_of self.old) (payload_of self.old).bytes to (place_of self.old) (length buf.new) (place_of self.new) e) }
+
+        // Where a refusal leaves it, and that its target is outside where it says so. The inner reader's own reads may say so too, if it is
+        // one that names this for them.
+        ensures stands { IsTrue (⟦<StreamReader<S, R> as Read>⟧.tells self.old) → OnErr result
+            (StaysOrLeads to (length (payload_of self.old).bytes) (place_of self.old) (length buf.new) (place_of self.new)) }
+        ensures outside { IsTrue (⟦<StreamReader<S, R> as Read>⟧.tells self.old) → IfErr result (λ e. IsOutside e → (TriedAgain R.refuses (inner_of self.old) e → ⊥) →
+            sought_in to (place_of self.old) (length (payload_of self.old).bytes) ≡ Err e) }
 
         // Only a seek that refuses its target leaves the reader as it was.
         ensures unmoved { IsTrue (⟦<StreamReader<S, R> as Read>⟧.tells self.old) → IfErr result (λ e. IsOutside e →

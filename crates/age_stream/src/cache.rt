@@ -3,10 +3,11 @@ ghost use Rattle.std.specs.Prelude.{◌≡◌, ◌≢◌, ℕ, ◌+◌, ◌≤�
 ghost use Rattle.age_error.specs.declared.io.Error.TheVariants.{OutOfMemory};
 ghost use Rattle.age_io.specs.Stretch.{Stretch};
 ghost use Rattle.age_suite.specs.Suite.{one_more};
-ghost use Rattle.age_stream.specs.Chunks.{chunk_of};
-ghost use Rattle.age_stream.specs.Keeping.{IsChunkRefusal};
+ghost use Rattle.age_v1.specs.DeliveredPayload.{chunk_of};
+ghost use Rattle.age_stream.specs.PrivateKeeping.{IsChunkRefusal};
 ghost use Rattle.age_stream.specs.Reading.{IsHeld};
-ghost use Rattle.age_stream.specs.Wholeness.{IsWhole, OpensTwice};
+ghost use Rattle.age_stream.specs.Wholeness.{IsChunkSize};
+ghost use Rattle.age_stream.specs.PrivateWholeness.{OpensTwice};
 
 use crate::reader::open_chunk;
 use age_error::io::Error;
@@ -20,7 +21,7 @@ pub(crate) struct Opened {
     pub(crate) number: u64,
     pub(crate) chunk: Vec<u8>,
     pub(crate) last: bool,
-    ghost whole: { IsWhole number last chunk.items },
+    ghost whole: { IsChunkSize number last chunk.items },
 }
 
 /// At most two chunks that were opened.
@@ -35,12 +36,13 @@ pub(crate) struct Cache {
     // Another one, and whether the first was used after it.
     pub(crate) other: Option<Opened>,
     pub(crate) used: bool,
-    ghost whole: { judged ≡ true → IsWhole number last chunk.items },
+    ghost whole: { judged ≡ true → IsChunkSize number last chunk.items },
 }
 
 impl Cache {
     ghost use Rattle.age_stream.specs.declared.cache.Opened.{Opened};
-    ghost use Rattle.age_stream.specs.Cache.{has_number, has_last, last_used, HasLast, HasOne, Brings, IsKept, IsText, SameChunks};
+    ghost use Rattle.age_stream.specs.Cache.{has_number, has_last, last_used, HasLast, HasOne};
+    ghost use Rattle.age_stream.specs.PrivateCache.{Brings, IsKept, IsText, SameChunks};
 
     // Whether it is the chunk of this number.
     fn is_chunk(opened: &Option<Opened>, number: u64) -> bool
@@ -147,7 +149,7 @@ impl Cache {
         last: bool,
         judged: bool,
     )
-        requires whole { judged ≡ true → IsWhole number last chunk.items }
+        requires whole { judged ≡ true → IsChunkSize number last chunk.items }
         requires room { self.old.other ≡ None }
         ensures first { (self.new.number ≡ number) × (self.new.chunk ≡ chunk) × (self.new.last ≡ last) × (self.new.judged ≡ judged) × (self.new.used ≡ true) }
         ensures kept { (opened : List ℕ → List ℕ → List ℕ → Option (List ℕ)) (key : List ℕ) (payload : Stretch) → IsKept opened key payload self.old →

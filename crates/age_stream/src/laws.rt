@@ -1,9 +1,9 @@
 //! What is true of payloads, for proofs alone: the functions here do nothing, and their contracts are the laws.
 ghost use Rattle.std.specs.Prelude.{◌≡◌, ◌+◌, List, ℕ, IsTrue, true, length};
-ghost use Rattle.age_stream.specs.Answering.{StandAt, IsGoodEnd};
+ghost use Rattle.age_v1.specs.PayloadAnswers.{StandAt, IsGoodEnd};
 ghost use Rattle.age_stream.specs.Reader.{key_of, payload_of};
-ghost use Rattle.age_stream.specs.Writing.{IsGood, HasSent};
-ghost use Rattle.age_stream.specs.Laws.{ArePieces, PayloadLength, PlainLength, OnePlaintext, MiddleChunks, LastChunk, NotRefused, OpensToPayload, PayloadOpens, CutPayload, NothingAfterLast};
+ghost use Rattle.age_stream.specs.Writing.{IsGood, HasSent, SendsPayload};
+ghost use Rattle.age_v1.specs.PayloadLaws.{ArePieces, PayloadLength, PlainLength, OnePlaintext, MiddleChunks, LastChunk, NotRefused, OpensToPayload, PayloadOpens, CutPayload, NothingAfterLast};
 
 use crate::reader::StreamReader;
 use crate::writer::StreamWriter;
@@ -60,6 +60,14 @@ pub fn writer_law<S: Suite, W: Write>(writer: &StreamWriter<S, W>)
 {
     let _writer = writer;
 }
+
+/// What a writer has sent up to a refusal and with it (age-encryption.org/v1, Payload): where it was made under a key over an inner
+/// writer, took a plaintext since by writes and flushes of any number, and was then given bytes by one write more, whatever that
+/// answered, the inner writer was given a beginning of the payload of the plaintext and these bytes. `SendsFront` is the clause
+/// `sent` of `write`.
+pub fn sent_law<S: Suite, W: Write>()
+    ensures { SendsPayload S.seal_of W.appended ⟦<StreamWriter<S, W> as Write>⟧.appended }
+{}
 
 /// What is true of any reader, whatever was sought and however bad the payload is.
 ///

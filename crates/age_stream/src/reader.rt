@@ -7,17 +7,19 @@ ghost use Rattle.age_error.specs.declared.io.Error.{Error as Failure};
 ghost use Rattle.age_error.specs.declared.io.Error.TheVariants.{OutOfMemory, Failed, AfterLast};
 ghost use Rattle.age_io.specs.Stretch.{Stretch, nothing, whole, from_place, IsCleanEnd, IsFault};
 ghost use Rattle.age_io.specs.Reading.{Reads, IsQuiet, Delivers, EndsEarly, most_faults};
-ghost use Rattle.age_stream.specs.Payload.{nonce, payload, LastIsNoMiddle};
-ghost use Rattle.age_stream.specs.Answering.{Gives, Refuses, RefusesItself, IsEnd, IsGoodEnd};
-ghost use Rattle.age_stream.specs.Chunks.{allowed, chunk_of, delivered};
-ghost use Rattle.age_stream.specs.Keeping.{IsChunkRefusal, KeepsPayload, OwnOrInner, Stops};
+ghost use Rattle.age_v1.specs.Payload.{nonce, payload, LastIsNoMiddle};
+ghost use Rattle.age_v1.specs.PayloadAnswers.{Gives, RefusesRead, RefusesItself, IsPayloadEnd, IsGoodEnd};
+ghost use Rattle.age_v1.specs.DeliveredPayload.{allowed, chunk_of, payload_delivers};
+ghost use Rattle.age_stream.specs.Keeping.{OwnOrInner, Stops, IsReadRefusal};
+ghost use Rattle.age_stream.specs.PrivateKeeping.{IsChunkRefusal, KeepsPayload};
 ghost use Rattle.age_stream.specs.Reading.{payload_at, spare, IsSound, TookText};
-ghost use Rattle.age_stream.specs.Cache.{has_number, last_used, HasOne, IsAtChunk, IsKept};
-ghost use Rattle.age_stream.specs.Wholeness.{IsAllowedAt, IsOpening, IsUnjudged, OpensTwice};
+ghost use Rattle.age_stream.specs.Cache.{has_number, last_used, HasOne};
+ghost use Rattle.age_stream.specs.PrivateCache.{IsAtChunk, IsKept};
+ghost use Rattle.age_stream.specs.PrivateWholeness.{IsAllowedAt, IsOpening, IsUnjudged, OpensTwice};
 ghost use Rattle.age_suite.specs.Suite.{one_more};
-ghost use Rattle.age_stream.specs.ReadingLaws.{and-left, and-right, both-true, stream_stands, stream_spent};
-ghost use Rattle.age_stream.specs.OpeningLaws.{shorter, opens_bytes};
-ghost use Rattle.age_stream.specs.SizeLaws.{delivered-bytes, delivered-short};
+ghost use Rattle.age_stream.specs.ReadingLemmas.{and-left, and-right, both-true, stream_stands, stream_spent};
+ghost use Rattle.age_v1.proofs.OpenedTexts.{shorter, opens_bytes};
+ghost use Rattle.age_v1.proofs.DeliveredSizes.{delivered-bytes, delivered-short};
 
 use crate::cache::Cache;
 use crate::nonce::nonce_of;
@@ -68,8 +70,8 @@ pub struct StreamReader<S: Suite, R: Read> {
 }
 
 impl<S: Suite, R: Read> Read for StreamReader<S, R> {
-    ghost use Rattle.age_stream.specs.Reader.{payload_of, key_of, inner_rest_of, wanted_of, HasChunk, HasFailed, HasSought, IsHolding, IsAfterLast, last_used_of, opens_of};
-    ghost use Rattle.age_stream.specs.Reader.{tells_of, steady_of, content_of, place_of, plain_rest_of, faults_of, refuses_of};
+    ghost use Rattle.age_stream.specs.Reader.{payload_of, key_of, inner_rest_of, wanted_of, HasChunk, HasFailed, HasSought, IsHolding, IsAfterLast, last_used_of, opens_of, tells_of, steady_of, content_of, place_of, plain_rest_of, faults_of, refuses_of, inner_of};
+    ghost use Rattle.age_stream.specs.Sealed.{ReadsPayload};
 
     ghost tells = { tells_of };
 
@@ -84,6 +86,8 @@ impl<S: Suite, R: Read> Read for StreamReader<S, R> {
     ghost faults = { faults_of };
 
     ghost refuses = { refuses_of };
+
+    ghost read_besides = { ReadsPayload };
 
     ghost faults_fit = { λ r. R.faults_fit r.inner };
 
@@ -145,7 +149,7 @@ impl<S: Suite, R: Read> Read for StreamReader<S, R> {
             Gives S.seal_of (key_of self.old) (payload_of self.old) (reader.place self.old) (length buf.old) (take n buf.new)) }
         ensures refused { let reader = ⟦<StreamReader<S, R> as Read>⟧ in IsTrue (reader.tells self.old) → (HasFailed self.old → ⊥) →
             IfErr result (λ e. e ≢ OutOfMemory → IsQuiet (reader.faults self.old) (reader.faults self.new) →
-            Refuses S.seal_of (key_of self.old) (payload_of self.old) (inner_rest_of self.old) (wanted_of self.old) (reader.place self.old) e) }
+            RefusesRead S.seal_of (key_of self.old) (payload_of self.old) (inner_rest_of self.old) (wanted_of self.old) (reader.place self.old) e) }
         ensures by_itself { let reader = ⟦<StreamReader<S, R> as Read>⟧ in IsTrue (reader.tells self.old) → (HasFailed self.old → ⊥) → (IsAfterLast self.old → ⊥) →
             IfErr result (λ e. e ≢ OutOfMemory → IsQuiet (reader.faults self.old) (reader.faults self.new) →
             RefusesItself S.seal_of (key_of self.old) (payload_of self.old) (inner_rest_of self.old) (wanted_of self.old) (reader.place self.old) e) }
@@ -155,9 +159,12 @@ impl<S: Suite, R: Read> Read for StreamReader<S, R> {
             EndsEarly 1 (inner_rest_of self.old) ⊎ (e ≡ AfterLast)) }
         ensures finished { let reader = ⟦<StreamReader<S, R> as Read>⟧ in IsTrue (reader.tells self.old) → (HasSought self.old → IsTrue (reader.content self.old).ends_well) →
             IfOk result (λ n. n ≡ 0 → 0 < length buf.new →
-            IsEnd S.seal_of (key_of self.old) (payload_of self.old) (reader.place self.old) (reader.content self.old).bytes) }
+            IsPayloadEnd S.seal_of (key_of self.old) (payload_of self.old) (reader.place self.old) (reader.content self.old).bytes) }
         ensures ended { let reader = ⟦<StreamReader<S, R> as Read>⟧ in IsTrue (reader.tells self.old) → IfOk result (λ n. n ≡ 0 → 0 < length buf.new →
             IsGoodEnd S.seal_of (key_of self.old) (payload_of self.old) (reader.place self.old)) }
+
+        // That the end is bad it says only where the inner reader does: so only a seek does.
+        ensures names { (HasFailed self.old → ⊥) → IfErr result (OwnOrInner ⟦<R as Read>⟧ IsReadRefusal (inner_of self.old)) }
 
         // Of the buffer nothing else changes.
         ensures beyond { IfOk result (λ n. drop n buf.new ≡ drop n buf.old) }
@@ -197,7 +204,7 @@ impl<S: Suite, R: Read> Read for StreamReader<S, R> {
 
 impl<S: Suite, R: Read> StreamReader<S, R> {
     ghost use Rattle.age_stream.specs.Reader.{payload_of, key_of, inner_of, inner_rest_of, place_of, wanted_of, HasFailed, HasSought, IsHolding, IsAfterLast, opens_of, stops_of};
-    ghost use Rattle.age_stream.specs.Steps.{AnswersRead, EndsClean, GivesHeld, Holds, Moves, OpensFew, PassesOn, ReadsChunks, RefusesAfter, RefusesAtPlace, Stays, StaysAt};
+    ghost use Rattle.age_stream.specs.PrivateSteps.{AnswersRead, EndsClean, GivesHeld, HasOpenedAt, Moves, OpensFew, PassesOn, ReadsChunks, RefusesPastLast, RefusesAtPlace, Stays, StaysAt};
 
     /// A reader of the payload that begins where `inner` stands, under the payload key of 32 bytes. It stands before the
     /// first byte of the plaintext.
@@ -219,8 +226,8 @@ impl<S: Suite, R: Read> StreamReader<S, R> {
         ensures faults { IfOk result (λ r. ⟦<StreamReader<S, R> as Read>⟧.faults r ≡ R.faults inner) }
         ensures place { IfOk result (λ r. ⟦<StreamReader<S, R> as Read>⟧.place r ≡ 0) }
         ensures content { IfOk result (λ r. ⟦<StreamReader<S, R> as Read>⟧.content r
-            ≡ delivered S.opened key 0 (from_place (R.place inner) (R.content inner))) }
-        ensures rest { IfOk result (λ r. ⟦<StreamReader<S, R> as Read>⟧.rest r ≡ delivered S.opened key 0 (R.rest inner)) }
+            ≡ payload_delivers S.opened key 0 (from_place (R.place inner) (R.content inner))) }
+        ensures rest { IfOk result (λ r. ⟦<StreamReader<S, R> as Read>⟧.rest r ≡ payload_delivers S.opened key 0 (R.rest inner)) }
         // It reads a plaintext to a clean end exactly where it stands before the plaintext's payload and a clean end.
         ensures success { IsTrue (R.tells inner && R.steady inner) → IfOk result (λ r. (plain : List ℕ) →
             ⟦<StreamReader<S, R> as Read>⟧.rest r ≡ whole plain → R.rest inner ≡ whole (payload S.seal_of key plain)) }
@@ -288,6 +295,7 @@ impl<S: Suite, R: Read> StreamReader<S, R> {
         ensures reads { let reader = ⟦<StreamReader<S, R> as Read>⟧ in
             Reads reader.tells reader.steady reader.content reader.place reader.rest reader.faults reader.refuses self.old self.new buf.new result }
         ensures keeps { KeepsPayload ⟦<R as Read>⟧ (stops_of self.old) self.old.inner self.old.taken self.new.inner self.new.taken result }
+        ensures names { IfErr result (OwnOrInner ⟦<R as Read>⟧ IsReadRefusal self.old.inner) }
         ensures moves { Moves self.old self.new result }
         ensures answers { AnswersRead self.old self.new buf.old buf.new result }
         ensures opens { OpensFew self.old self.new result }
@@ -315,8 +323,9 @@ impl<S: Suite, R: Read> StreamReader<S, R> {
         requires good { self.old.failed ≡ false }
         requires more { self.old.held ≡ true → self.old.cache.last ≡ true → self.old.at < length self.old.cache.chunk.items }
         ensures keeps { KeepsPayload ⟦<R as Read>⟧ (stops_of self.old) self.old.inner self.old.taken self.new.inner self.new.taken result }
+        ensures names { IfErr result (OwnOrInner ⟦<R as Read>⟧ IsReadRefusal self.old.inner) }
         ensures stays { StaysAt self.old self.new }
-        ensures holds { OnOk result (Holds self.old self.new) }
+        ensures holds { OnOk result (HasOpenedAt self.old self.new) }
         ensures refused { IfErr result (RefusesAtPlace self.old self.new) }
         ensures opens { OpensFew self.old self.new result }
     {
@@ -351,11 +360,12 @@ impl<S: Suite, R: Read> StreamReader<S, R> {
         requires last { self.old.cache.last ≡ true }
         requires given { self.old.at ≡ length self.old.cache.chunk.items }
         ensures keeps { KeepsPayload ⟦<R as Read>⟧ (stops_of self.old) self.old.inner self.old.taken self.new.inner self.new.taken result }
+        ensures names { IfErr result (OwnOrInner ⟦<R as Read>⟧ IsReadRefusal self.old.inner) }
         ensures stays { Stays self.old self.new }
         ensures sought { self.new.sought ≡ self.old.sought }
         ensures none { IfOk result (λ n. n ≡ 0) }
         ensures ends { OnOk result (EndsClean self.old self.new) }
-        ensures refused { IfErr result (RefusesAfter self.old self.new) }
+        ensures refused { IfErr result (RefusesPastLast self.old self.new) }
     {
         match self.take(1) {
             Err(e) => Err(e),
@@ -374,8 +384,9 @@ impl<S: Suite, R: Read> StreamReader<S, R> {
         requires good { self.old.failed ≡ false }
         requires closed { self.old.held ≡ false }
         ensures keeps { KeepsPayload ⟦<R as Read>⟧ (stops_of self.old) self.old.inner self.old.taken self.new.inner self.new.taken result }
+        ensures names { IfErr result (OwnOrInner ⟦<R as Read>⟧ IsReadRefusal self.old.inner) }
         ensures stays { StaysAt self.old self.new }
-        ensures holds { OnOk result (Holds self.old self.new) }
+        ensures holds { OnOk result (HasOpenedAt self.old self.new) }
         ensures refused { IfErr result (RefusesAtPlace self.old self.new) }
         ensures opens { OpensFew self.old self.new result }
     {
@@ -464,7 +475,7 @@ pub(crate) fn open_as<S: Suite>(
 }
 
 // Opens a chunk, as middle or as last.
-#[tactic(auto, unfolding(crate::specs::Chunks::chunk_of))]
+#[tactic(auto, unfolding(age_v1::specs::DeliveredPayload::chunk_of))]
 pub(crate) fn open_chunk<S: Suite>(
     alloc: Global,
     opens: &mut Opens,

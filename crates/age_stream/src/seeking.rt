@@ -5,14 +5,14 @@ ghost use Rattle.age_error.specs.declared.io.Error.TheVariants.{OutOfMemory, Bad
 ghost use Rattle.age_io.specs.Stretch.{Stretch, from_place};
 ghost use Rattle.age_io.specs.Reading.{IsQuiet, most_faults};
 ghost use Rattle.age_io.specs.Cursor.{Seeks, IsOutside, OrTooLong};
-ghost use Rattle.age_io.specs.CursorLaws.{or_too_long_no_device};
-ghost use Rattle.age_stream.specs.Payload;
-ghost use Rattle.age_stream.specs.Payload.{nonce, final_chunk, EndsAsLast};
-ghost use Rattle.age_stream.specs.Keeping.{IsPayloadSeekRefusal, KeepsPayload};
-ghost use Rattle.age_stream.specs.Reading.{text_at, IsLastChunk};
+ghost use Rattle.age_io.specs.CursorLemmas.{or_too_long_no_device};
+ghost use Rattle.age_v1.specs.Payload as Payload;
+ghost use Rattle.age_v1.specs.Payload.{nonce, final_chunk, EndsAsLast};
+ghost use Rattle.age_stream.specs.PrivateKeeping.{IsPayloadSeekRefusal, KeepsPayload};
+ghost use Rattle.age_v1.specs.DeliveredPayload.{text_at, IsLastChunk};
 ghost use Rattle.age_stream.specs.Cache.{last_used, HasLast, HasOne};
 ghost use Rattle.age_stream.specs.Seeking.{FindsTarget, RefusesTarget};
-ghost use Rattle.age_stream.specs.Targets.{below_start, in_length, sought_in, IsToEnd, IsRefusedTarget};
+ghost use Rattle.age_v1.specs.PayloadTargets.{below_start, in_length, sought_in, IsToEnd, IsRefusedTarget};
 
 use crate::reader::{StreamReader, open_as};
 use crate::sizes::{CHUNK, LONGEST_PLAINTEXT, PIECE};
@@ -22,7 +22,7 @@ use age_io::{Read, Seek, is_outside, place_at, sought};
 use age_suite::suite::Suite;
 
 // The length of the plaintext of a payload of so many bytes, if there is one.
-#[tactic(auto, unfolding(crate::specs::Payload::plain_len))]
+#[tactic(auto, unfolding(age_v1::specs::Payload::plain_len))]
 fn plain_len(size: u64) -> Option<u64>
     ensures { result ≡ Payload.plain_len size }
 {
@@ -47,7 +47,7 @@ fn is_below_start(to: SeekFrom, place: u64) -> bool
 }
 
 // The target in a payload of so many bytes, and the length of its plaintext.
-#[tactic(auto, using(crate::proofs::Lengths::plain_len_says))]
+#[tactic(auto, using(age_v1::proofs::PayloadLengths::plain_len_says))]
 fn find(to: SeekFrom, place: u64, size: u64) -> Result<(u64, u64), Error>
     requires { place < 2 ^ 63 }
     ensures found { IfOk result (λ found. FindsTarget to place size found.0 found.1) }
@@ -70,7 +70,7 @@ fn find(to: SeekFrom, place: u64, size: u64) -> Result<(u64, u64), Error>
 impl<S: Suite, R: Seek> StreamReader<S, R> {
     ghost use Rattle.age_stream.specs.Reader.{payload_of, place_of, HasEnd};
     ghost use Rattle.age_stream.specs.Seeking.{SeeksPayload};
-    ghost use Rattle.age_stream.specs.Steps.{Enters, EntersEnd, IsNoLast, KeepsAtEnd, KeepsBesideLast, RefusesStep};
+    ghost use Rattle.age_stream.specs.PrivateSteps.{Enters, EntersEnd, IsNoLast, KeepsAtEnd, KeepsBesideLast, RefusesStep};
 
     // Goes to a place before the end. The chunk there is held then if it is opened by the verdict on it.
     fn enter(&mut self, start: u64, size: u64, place: u64, was_failed: bool) -> Result<(), Error>
@@ -263,10 +263,13 @@ impl<S: Suite, R: Seek> StreamReader<S, R> {
 
 impl<S: Suite, R: Seek> Seek for StreamReader<S, R> {
     ghost use Rattle.age_stream.specs.Reader.{payload_of, key_of, inner_of, inner_rest_of, wanted_of, place_of, HasChunk, HasFailed, IsHolding, IsAfterLast, HoldsEnd, last_used_of, opens_of};
+    ghost use Rattle.age_stream.specs.Seeking.{SeeksPayload};
 
     ghost seek_refuses = { OrTooLong R.seek_refuses };
 
     ghost no_device = { or_too_long_no_device R.no_device };
+
+    ghost seek_besides = { SeeksPayload R.seek_refuses };
 
     /// Moves to a target from 0 to the plaintext's length, counted in bytes of the plaintext, and answers the new place. A
     /// success makes a failed reader good again.

@@ -4,8 +4,8 @@ ghost use Rattle.age_error.specs.declared.io.Error.TheVariants.{OutOfMemory};
 ghost use Rattle.age_io.specs.Stretch.{from_place};
 ghost use Rattle.age_io.specs.Reading.{IsQuiet, EndsEarly, TriedAgain, most_faults};
 ghost use Rattle.age_io.specs.Keeping.{KeepsReader};
-ghost use Rattle.age_stream.specs.Reading.{TookBytes};
-ghost use Rattle.age_stream.specs.Keeping.{IsLost, IsPayloadSeekRefusal, KeepsPayload};
+ghost use Rattle.age_stream.specs.Reading.{TookFromInner};
+ghost use Rattle.age_stream.specs.PrivateKeeping.{IsLost, IsPayloadSeekRefusal, KeepsPayload};
 
 use crate::reader::StreamReader;
 use age_error::io::{Error, SeekFrom};
@@ -36,7 +36,7 @@ fn fill_front<R: Read>(
     ensures keeps { KeepsReader ⟦<R as Read>⟧ (TriedAgain R.refuses) reader.old reader.new result }
     ensures most { OnOk result (R.faults reader.new < most_faults) × (filled.new ≤ asked) }
     ensures moves { IsTrue (R.tells reader.old) → R.place reader.new ≡ R.place reader.old + filled.new }
-    ensures took { IsTrue (R.tells reader.old) → OnOk result (TookBytes asked (R.rest reader.old) (R.rest reader.new) (take filled.new room.new)) }
+    ensures took { IsTrue (R.tells reader.old) → OnOk result (TookFromInner asked (R.rest reader.old) (R.rest reader.new) (take filled.new room.new)) }
     ensures cause { IsTrue (R.tells reader.old) → IfErr result (λ e. e ≢ OutOfMemory →
         IsQuiet (R.faults reader.old) (R.faults reader.new) → EndsEarly asked (R.rest reader.old)) }
 {
@@ -44,7 +44,7 @@ fn fill_front<R: Read>(
 }
 
 impl<S: Suite, R: Read> StreamReader<S, R> {
-    ghost use Rattle.age_stream.specs.Steps.{Stays, TakesBytes};
+    ghost use Rattle.age_stream.specs.PrivateSteps.{Stays, TakesBytes};
 
     // Takes so many bytes of the inner reader into the front of the room for a sealed text, or all that are left, and answers how many they are.
     // Until they are found good the reader has failed.
@@ -71,7 +71,7 @@ impl<S: Suite, R: Read> StreamReader<S, R> {
 
 impl<S: Suite, R: Seek> StreamReader<S, R> {
     ghost use Rattle.age_stream.specs.Reader.{payload_of};
-    ghost use Rattle.age_stream.specs.Steps.{RefusesStep, IsPlaced, Stays};
+    ghost use Rattle.age_stream.specs.PrivateSteps.{RefusesStep, IsPlaced, Stays};
 
     // Where the payload starts in the inner content, and how long it is. The inner reader goes to the end.
     pub(crate) fn look(&mut self) -> Result<(u64, u64), Error>

@@ -3,8 +3,9 @@ ghost use Rattle.std.specs.Prelude.{◌≡◌, ℕ, ◌+◌, ◌*◌, ◌^◌, �
 ghost use Rattle.age_error.specs.declared.io.Error.{Error as IoError};
 ghost use Rattle.age_error.specs.declared.io.Error.TheVariants.{Failed, OutOfMemory};
 ghost use Rattle.age_io.specs.Writing.{KeepsWriter};
+ghost use Rattle.age_io.specs.Copying.{AppendsFront};
 ghost use Rattle.age_stream.specs.Sending.{RefusesChunk};
-ghost use Rattle.age_stream.specs.Payload.{nonce};
+ghost use Rattle.age_v1.specs.Payload.{nonce};
 
 use crate::nonce::nonce_of;
 use crate::sizes::PIECE;
@@ -55,7 +56,7 @@ pub struct StreamWriter<S, W> {
 }
 
 impl<S: Suite, W: Write> StreamWriter<S, W> {
-    ghost use Rattle.age_stream.specs.Writing.{HoldsMore, TakesSome, WasMade, Sent, Took, taken_len, held_len};
+    ghost use Rattle.age_stream.specs.Writing.{HoldsMore, TakesSome, WasMade, Sent, Took, SendsFront, taken_len, held_len};
 
     /// A writer that has taken nothing. The payload begins where `inner` stands.
     ///
@@ -100,6 +101,8 @@ impl<S: Suite, W: Write> StreamWriter<S, W> {
         ensures room { OnOk result ((held_len self.new < 65536) × (taken_len self.new ≡ taken_len self.old)) }
         ensures roomy { held_len self.old < 65536 → IsOk result × (held_len self.new ≡ held_len self.old) × (self.new.inner ≡ self.old.inner) }
         ensures sent { IsTrue (W.tells self.old.inner) → OnOk result (Sent S.seal_of W.appended self.old [] self.new) }
+        ensures front { IsTrue (W.tells self.old.inner) → OnErr result ((held_len self.old ≡ 65536)
+            × AppendsFront W.appended (S.seal_of self.old.key (nonce self.old.sealed false) self.old.held.items) self.old.inner self.new.inner) }
         ensures failed { self.new.failed ≡ self.old.failed }
         ensures inner { KeepsWriter W.tells W.faults (RefusesChunk W.refuses) self.old.inner self.new.inner result }
     {
@@ -126,6 +129,8 @@ impl<S: Suite, W: Write> StreamWriter<S, W> {
         requires room { taken_len self.old + 65536 ≤ 2 ^ 60 }
         ensures total { OnOk result (taken_len self.new ≡ taken_len self.old + 65536) }
         ensures sent { IsTrue (W.tells self.old.inner) → OnOk result (Sent S.seal_of W.appended self.old piece.now self.new) }
+        ensures front { IsTrue (W.tells self.old.inner) → OnErr result
+            (AppendsFront W.appended (S.seal_of self.old.key (nonce self.old.sealed false) piece.now) self.old.inner self.new.inner) }
         ensures failed { self.new.failed ≡ self.old.failed }
         ensures inner { KeepsWriter W.tells W.faults (RefusesChunk W.refuses) self.old.inner self.new.inner result }
     {
@@ -163,6 +168,7 @@ impl<S: Suite, W: Write> StreamWriter<S, W> {
         ensures roomy { held_len self.old + length bytes.now ≤ 65536 → IsOkAnd result (λ n.
             (held_len self.new ≡ held_len self.old + n) × (self.new.inner ≡ self.old.inner)) }
         ensures sent { IsTrue (W.tells self.old.inner) → IfOk result (λ n. Sent S.seal_of W.appended self.old (take n bytes.now) self.new) }
+        ensures front { IsTrue (W.tells self.old.inner) → OnErr result (SendsFront S.seal_of W.appended self.old bytes.now self.new.inner) }
         ensures failed { self.new.failed ≡ self.old.failed }
         ensures inner { KeepsWriter W.tells W.faults (RefusesChunk W.refuses) self.old.inner self.new.inner result }
     {
@@ -183,6 +189,7 @@ impl<S: Suite, W: Write> StreamWriter<S, W> {
         ensures roomy { held_len self.old + length bytes.now ≤ 65536 →
             IsOk result × (held_len self.new ≡ held_len self.old + length bytes.now) × (self.new.inner ≡ self.old.inner) }
         ensures took { IsTrue (W.tells self.old.inner) → OnOk result (Took S.seal_of W.appended self.old bytes.now self.new) }
+        ensures front { IsTrue (W.tells self.old.inner) → OnErr result (SendsFront S.seal_of W.appended self.old bytes.now self.new.inner) }
         ensures failed { self.new.failed ≡ self.old.failed }
         ensures inner { KeepsWriter W.tells W.faults (RefusesChunk W.refuses) self.old.inner self.new.inner result }
     {
@@ -241,6 +248,7 @@ pub(crate) fn write_chunk<S: Suite, W: Write>(
 ) -> Result<(), Error>
     ensures keeps { KeepsWriter W.tells W.faults (RefusesChunk W.refuses) inner.old inner.new result }
     ensures sent { IsTrue (W.tells inner.old) → OnOk result (W.appended inner.old (S.seal_of key.now (nonce number last) piece.now) inner.new) }
+    ensures front { IsTrue (W.tells inner.old) → AppendsFront W.appended (S.seal_of key.now (nonce number last) piece.now) inner.old inner.new }
 {
     let sealed = S::seal(alloc, key, &nonce_of(number, last), piece)?;
     write_all(inner, &sealed)

@@ -1,7 +1,7 @@
 //! `Write` for the writer of a payload.
-ghost use Rattle.std.specs.Prelude.{◌≡◌, ℕ, ◌+◌, ◌^◌, ◌<◌, ◌≤◌, true, false, List, [], length, IfOk, IfErr, OnOk, OnErr, IsOk, Err};
+ghost use Rattle.std.specs.Prelude.{◌≡◌, ℕ, ◌+◌, ◌^◌, ◌<◌, ◌≤◌, true, false, IsTrue, List, [], length, IfOk, IfErr, OnOk, OnErr, IsOk, Err};
 ghost use Rattle.age_error.specs.declared.io.Error.TheVariants.{Failed, TooLong};
-ghost use Rattle.age_io.specs.Writing.{Writes, Flushes};
+ghost use Rattle.age_io.specs.Writing.{Retried, Writes, Flushes};
 
 use crate::sizes::{LONGEST_PLAINTEXT, PIECE};
 use crate::writer::StreamWriter;
@@ -11,8 +11,8 @@ use age_suite::suite::Suite;
 
 /// What was appended is plaintext that was taken. Only `finish` makes its payload whole.
 impl<S: Suite, W: Write> Write for StreamWriter<S, W> {
-    ghost use Rattle.age_stream.specs.Writing.{Appended, Refused, IsFailed, IsGood, inner_of, taken_len, held_len};
-    ghost use Rattle.age_stream.specs.WritingLaws.{Appended-nothing, Appended-both, Refused-more};
+    ghost use Rattle.age_stream.specs.Writing.{Appended, Refused, IsFailed, IsGood, inner_of, taken_len, held_len, SendsFront};
+    ghost use Rattle.age_stream.specs.WritingLemmas.{Appended-nothing, Appended-both, Refused-more};
 
     ghost tells = { λ w. W.tells (inner_of w) };
 
@@ -36,10 +36,15 @@ impl<S: Suite, W: Write> Write for StreamWriter<S, W> {
     /// writer failed: that of the inner writer, whatever it is, `WriteZero` where the inner writer took no byte,
     /// and `OutOfMemory` where the suite was refused memory for a seal. A failed writer answers `Failed` and stays
     /// as it is. Interruptions of the inner writer are retried as by `write_all`.
+    ///
+    /// Whatever it answers, the inner writer was given a beginning of the seals of the pieces that a byte follows, of what
+    /// was held and these bytes (`sent`): so after a refusal too it has a beginning of a payload, and nothing else.
     fn write(&mut self, bytes: &[u8]) -> Result<usize, Error>
         ensures writes { let writer = ⟦<StreamWriter<S, W> as Write>⟧ in
             Writes writer.tells writer.faults writer.refuses writer.appended self.old self.new bytes.now result }
         ensures all { IfOk result (λ n. n ≡ length bytes.now) }
+        // Whatever it answers, what went out is a beginning of a payload.
+        ensures sent { IsTrue (W.tells (inner_of self.old)) → SendsFront S.seal_of W.appended self.old bytes.now (inner_of self.new) }
         ensures counts { OnOk result (taken_len self.new ≡ taken_len self.old + length bytes.now) }
         ensures good { OnOk result (IsGood self.old × IsGood self.new) }
         // A write that finds room in the chunk that is held is never refused, and sends nothing.
@@ -58,20 +63,22 @@ impl<S: Suite, W: Write> Write for StreamWriter<S, W> {
         }
         match self.take_all(bytes) {
             Ok(()) => Ok(bytes.len()),
-            Err(e) => {
+            Err(error) => {
                 self.failed = true;
-                Err(e)
+                Err(error)
             }
         }
     }
 
-    /// Flushes the inner writer alone: what is held stays so, since it may be the last piece.
+    /// Flushes the inner writer alone: what is held stays so, since it may be the last piece. Whatever it answers, the inner
+    /// writer was given nothing, and a refusal is one of its flush (`inner`).
     ///
     /// A refusal of the inner writer leaves the writer failed. A failed writer answers `Failed` and stays as it is.
     /// Interruptions of the inner writer are retried as by `flush_retrying`.
     fn flush(&mut self) -> Result<(), Error>
         ensures flushes { let writer = ⟦<StreamWriter<S, W> as Write>⟧ in
             Flushes writer.tells writer.faults writer.refuses writer.appended self.old self.new result }
+        ensures inner { IsGood self.old → Flushes W.tells W.faults (Retried W.refuses) W.appended (inner_of self.old) (inner_of self.new) result }
         ensures counts { taken_len self.new ≡ taken_len self.old }
         ensures good { OnOk result (IsGood self.old × IsGood self.new) }
         ensures fails { OnErr result (IsFailed self.new) }

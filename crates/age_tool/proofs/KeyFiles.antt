@@ -7,12 +7,12 @@ use Rattle.age.specs.Types.{DecryptError, Decryptor, Error, ProtectedIdentity as
 use Rattle.age.specs.Members.{ReadMembers}
 use Rattle.age.specs.Armor.{Carries}
 use Rattle.age.specs.Decryptor.{OpensFront}
-use Rattle.age.specs.Delivered.{delivered, stretch_of}
+use Rattle.age.specs.DeliveredArmor.{text_delivers, stretch_of}
 use Rattle.age.specs.EncryptedIdentities.{IsMadeOf}
 use Rattle.age.specs.Entries.{Entry, AreEntries}
-use Rattle.age.specs.IdentityReading.{ReadsFile, most_bytes}
+use Rattle.age.specs.IdentityReading.{ReadsFile, most_file_bytes}
 use Rattle.age.specs.Stretch.{Stretch, whole}
-use Rattle.age_tool.specs.Keyring.{AreOfFile, AreOfFiles, FoundOrNone, IsFirstRefused, IsFound, IsProtected, IsUnderPassphrase, ReadsBytes, RefusesBytes, RefusesFile}
+use Rattle.age_tool.specs.Keyring.{AreOfFile, AreOfFiles, FoundOrNone, IsFirstRefused, IsFound, IsProtected, IsUnderPassphrase, ReadsBytes, RefusesKeyBytes, RefusesKeyFile}
 use Rattle.age_tool.specs.declared.callbacks.GivesOnce.{GivesOnce}
 use Rattle.age_tool.specs.declared.error.KeyringError.{KeyringError}
 use Rattle.age_tool.specs.declared.holder.Holder.{Holder}
@@ -20,7 +20,7 @@ use Rattle.age_tool.specs.declared.keyring.KeyFile.{KeyFile}
 
 pub reads_bytes : {T : Type 0} (text_read : ReadMembers T) (text : T) (bytes : List ℕ) (rest : Stretch) → rest ≡ whole bytes
     → text_read.tells text ≡ true → text_read.steady text ≡ true → text_read.faults text ≡ 0 → text_read.place text ≡ 0
-    → text_read.rest text ≡ stretch_of (delivered rest.bytes rest.ends_well)
+    → text_read.rest text ≡ stretch_of (text_delivers rest.bytes rest.ends_well)
     → ((file : List ℕ) → IsTrue rest.ends_well → Carries rest.bytes file → text_read.rest text ≡ whole file)
     → ReadsBytes text_read bytes text
 reads_bytes text_read text bytes rest is tells steady faults place reads honest = record {
@@ -28,15 +28,15 @@ reads_bytes text_read text bytes rest is tells steady faults place reads honest 
   steady = steady;
   faults = faults;
   place = place;
-  rest = reads ∙ ap (λ (s : Stretch). stretch_of (delivered s.bytes s.ends_well)) is;
+  rest = reads ∙ ap (λ (s : Stretch). stretch_of (text_delivers s.bytes s.ends_well)) is;
   honest = λ file carries. honest file (rw is refl) (rw is carries);
 }
 
 -- Of a reader of bytes, which refuses nothing by itself.
 pub bytes_read : {R A : Type 0} (read : ReadMembers R) (entries : A → List Entry) (input : R) (bytes : List ℕ) (result : Result A Error)
-    → ReadsFile read most_bytes entries input result
+    → ReadsFile read most_file_bytes entries input result
     → IsTrue (read.tells input) → read.rest input ≡ whole bytes → ((e : Error) → read.refuses input e → ⊥)
-    → MatchResult result (λ x. AreEntries (lines bytes) (entries x)) (λ e. RefusesBytes bytes e)
+    → MatchResult result (λ x. AreEntries (lines bytes) (entries x)) (λ e. RefusesKeyBytes bytes e)
 bytes_read read entries input bytes (Ok x) (last, reads) told is never = rw is at (reads.file told).good
 bytes_read read entries input bytes (Err e) (last, reads) told is never =
     elim reads.refused [
@@ -87,7 +87,7 @@ module _ {S T : Type 0} (text_read : ReadMembers T) (given : Option (List ℕ)) 
 
   -- the first file that is refused, of which those before it are the first ones
   pub file_refused : (all : List KeyFile) (i : ℕ) (other : KeyFile) (holders : List (Holder S T GivesOnce)) (e : KeyringError) → i < length all
-      → AreOfFiles text_read (take i all) given holders → RefusesFile text_read S i (get_or all i other) given e → IsFirstRefused text_read S all given e
+      → AreOfFiles text_read (take i all) given holders → RefusesKeyFile text_read S i (get_or all i other) given e → IsFirstRefused text_read S all given e
   file_refused all i other holders e within good refused = record {
     before = take i all;
     file = get_or all i other;
@@ -95,7 +95,7 @@ module _ {S T : Type 0} (text_read : ReadMembers T) (given : Option (List ℕ)) 
     parts = sym (take-append-drop i all) ∙ ap (λ rest. take i all ++ rest) (drop_more all i other within);
     holders = holders;
     good = good;
-    refused = subst (λ n. RefusesFile text_read S n (get_or all i other) given e) (sym (length-take-le i all (omega (arith, within)))) refused;
+    refused = subst (λ n. RefusesKeyFile text_read S n (get_or all i other) given e) (sym (length-take-le i all (omega (arith, within)))) refused;
   }
 
 -- who asks for the passphrase of a file says that the file is under one

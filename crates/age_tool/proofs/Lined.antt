@@ -2,7 +2,7 @@
 use Rattle.std.proofs.Common.{◌≡◌, ◌∙◌, ℕ, List, [], ◌∷◌, ◌++◌, ap, sym}
 use Rattle.std.proofs.lemmas.List.{append-nil, append_assoc}
 use Rattle.age.specs.Bech32Written.{bech32_text}
-use Rattle.age.specs.KeyTexts.{recipient_prefix}
+use Rattle.age.specs.X25519.{recipient_prefix}
 use Rattle.age.specs.Lines.{line}
 use Rattle.age_tool.specs.OwnRecipients.{recipients_text}
 

@@ -4,7 +4,7 @@ use Rattle.std.specs.List.{AllZip}
 use Rattle.std.proofs.Common.{ℕ, List, ap, arith, length, length-drop, subst, take}
 use Rattle.std.proofs.lemmas.List.{take_all}
 use Rattle.std.proofs.lemmas.List.Elements.{AllZip-get_or}
-use Rattle.age.specs.Answering.{Decides}
+use Rattle.age.specs.Identities.{Decides}
 use Rattle.age_tool.specs.Locked.{HasLocked, IsLocked}
 use Rattle.age_tool.specs.Opening.{WereAsked}
 use Rattle.age_tool.specs.declared.holder.Holder.{Holder}

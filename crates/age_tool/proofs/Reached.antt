@@ -5,14 +5,14 @@ use Rattle.std.proofs.Math.ListN.{set}
 use Rattle.std.proofs.Math.Seq.{drop-cons, split_at}
 use Rattle.std.proofs.lemmas.List.{take_more, take_more_set, drop-set, drop-set-lt, take-append-drop, take-set}
 use Rattle.std.proofs.lemmas.List.Elements.{AllZip-push}
-use Rattle.age.specs.Answering.{Decides}
+use Rattle.age.specs.Identities.{Decides, UnwrapAnswer}
 use Rattle.age.specs.DecryptErrors.{DecryptRefusal, decrypt_refusal}
 use Rattle.age.specs.Header.{covered_text}
-use Rattle.age.specs.HeaderV1.{HeaderValue, header_mac}
+use Rattle.age.specs.HeaderV1.{HeaderValue}
+use Rattle.age.specs.HeaderMac.{header_mac}
 use Rattle.age.specs.Stanza.{StanzaValue}
 use Rattle.age.specs.Texts.{RefusesKey}
 use Rattle.age.specs.Types.{DecryptError}
-use Rattle.age.specs.Unwrapping.{UnwrapAnswer}
 use Rattle.age_tool.specs.Opening.{AnswersAt, OpensHeader, WereAsked}
 
 module _ {I A : Type 0} (asks : I → Option A → I → Type 0) (before now : List I) (i : ℕ) (x y : I) (so_far : WereAsked asks before now i) (here : i < length now) where

@@ -4,7 +4,7 @@ use Rattle.std.proofs.Common.{◌≡◌, List, ℕ, [], inl, inr, refl, subst}
 use Rattle.std.proofs.lemmas.Bool.{false≢true}
 use Rattle.age.specs.Members.{SuiteMembers, ReadMembers, WriteMembers}
 use Rattle.age.specs.Stanza.{StanzaValue}
-use Rattle.age.specs.Unwrapping.{UnwrapAnswer}
+use Rattle.age.specs.Identities.{UnwrapAnswer}
 use Rattle.age_tool.specs.Given.{DecryptsBy, VerifiesFile}
 use Rattle.age_tool.specs.Measuring.{IsMeasured, TookBytes, WasGiven}
 use Rattle.age_tool.specs.declared.callbacks.GivesOnce.{GivesOnce}

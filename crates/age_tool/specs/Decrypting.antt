@@ -6,22 +6,22 @@ use Rattle.age.specs.ErrorVariants.{OutOfMemory, PastEnd}
 use Rattle.age.specs.FileErrorVariants.{Decrypt, Io}
 use Rattle.age.specs.Members.{SuiteMembers, ReadMembers, WriteMembers}
 use Rattle.age.specs.Stanza.{StanzaValue}
-use Rattle.age.specs.Unwrapping.{UnwrapAnswer}
+use Rattle.age.specs.Identities.{UnwrapAnswer, AnswersFirst, GivesFirst, FirstAnswer, IsFileFor}
+use Rattle.age.specs.Claims.{AppendsPlaintext}
 use Rattle.age.specs.Reading.{TriedAgain}
 use Rattle.age.specs.Writing.{Flushes, Retried}
-use Rattle.age.specs.DecryptingStreams.{AnswersFirst, DecryptsAll, DecryptsPart, GivesFirst}
-use Rattle.age.specs.Parts.{AppendsPart, EndsBefore, FirstAnswer, IsFileFor, IsPartAt, StandsAt}
+use Rattle.age.specs.DecryptingStreams.{DecryptsAll, DecryptsPart}
+use Rattle.age.specs.Parts.{AppendsPart, EndsBefore, IsPartAt, StandsAt}
 use Rattle.age.specs.Armor.{Carries}
 use Rattle.age.specs.Copying.{AppendsSome, CopyRefuses}
 use Rattle.age.specs.Cursor.{IsOutside, IsSeekRefusal, OrTooLong}
-use Rattle.age.specs.Delivered.{delivered, stretch_of}
+use Rattle.age.specs.DeliveredArmor.{text_delivers, stretch_of}
 use Rattle.age.specs.FileErrors.{DecryptsUnless, IfIo, IsDecryptError}
 use Rattle.age.specs.Migrating.{Migrates, MigratesFiles}
 use Rattle.age.specs.Opened.{IsNotOpened, IsOpened}
 use Rattle.age.specs.Payload.{Seal}
 use Rattle.age.specs.StreamReader.{key_of, payload_of}
 use Rattle.age.specs.Stretch.{Stretch, whole}
-use Rattle.age.specs.WholeFiles.{AppendsPlaintext}
 
 module _ {W T : Type 0} (write : WriteMembers W) where
   -- The writer was flushed, whose interruptions are tried again, and its refusal is the answer.
@@ -38,8 +38,8 @@ module _ {W T : Type 0} (write : WriteMembers W) where
 module _ {I S R W T : Type 0} (unwraps : I → List StanzaValue → UnwrapAnswer → I → Type 0) (suite : SuiteMembers S) (read : ReadMembers R) (write : WriteMembers W)
     (identities asked : List I) where
   -- A whole file was decrypted by the first of the identities that answers, and then the writer was flushed.
-  abbrev pub Decrypts : R → W → W → Result T FileError → Type 0
-  Decrypts input old new result = (between : W) × (done : Result T FileError)
+  abbrev pub DecryptsThenFlushes : R → W → W → Result T FileError → Type 0
+  DecryptsThenFlushes input old new result = (between : W) × (done : Result T FileError)
       × DecryptsAll suite read write (GivesFirst unwraps identities asked) (AnswersFirst unwraps identities asked)
       (IsFileFor suite.seal_of (FirstAnswer unwraps identities)) input old between done
       × ThenFlushed write done between new result
@@ -63,7 +63,7 @@ pub record ReadsText {R T : Type 0} (read : ReadMembers R) (text_read : ReadMemb
   pub steady : text_read.steady text ≡ read.steady input
   pub faults : text_read.faults text ≡ read.faults input
   pub place : text_read.place text ≡ 0
-  pub rest : text_read.rest text ≡ stretch_of (delivered (read.rest input).bytes (read.rest input).ends_well)
+  pub rest : text_read.rest text ≡ stretch_of (text_delivers (read.rest input).bytes (read.rest input).ends_well)
   pub honest : (bytes : List ℕ) → IsTrue (read.rest input).ends_well → Carries (read.rest input).bytes bytes → text_read.rest text ≡ whole bytes
 
 module _ {I R T W : Type 0} (unwraps : I → List StanzaValue → UnwrapAnswer → I → Type 0) where

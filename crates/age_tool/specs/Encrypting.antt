@@ -4,12 +4,14 @@ use Rattle.age.specs.Types.{FileError, Format}
 use Rattle.age.specs.Members.{SuiteMembers, ReadMembers, WriteMembers}
 use Rattle.age.specs.Reading.{IsQuiet}
 use Rattle.age.specs.Stanza.{StanzaValue}
-use Rattle.age.specs.Wrapping.{WrapAnswer}
+use Rattle.age.specs.Recipients.{WrapAnswer}
 use Rattle.age.specs.EncryptErrors.{EncryptRefusal, OutOfMemory}
 use Rattle.age.specs.Encrypting.{Prepared, Prepares}
-use Rattle.age.specs.WholeFiles.{AppendsFile, RefusesFile}
+use Rattle.age.specs.Claims.{AppendsFile}
+use Rattle.age.specs.WholeFiles.{RefusesFile}
+use Rattle.age.specs.Armor.{text_of}
 use Rattle.age.specs.FileErrors.{IfIo, IsEncryptError, EncryptsUnless}
-use Rattle.age_tool.specs.Random.{Gave, GaveNone}
+use Rattle.age_tool.specs.Random.{GaveRandom, GaveNone}
 use Rattle.age_tool.specs.declared.error.CommandError.{CommandError}
 use Rattle.age_tool.specs.declared.error.CommandError.TheVariants.{Random, File}
 use Rattle.age_tool.specs.declared.error.RandomError.{RandomError}
@@ -40,14 +42,14 @@ module _ {B T : Type 0} (gives : B → ℕ → Option (List ℕ) → B → Type 
     (recipients : List T) (count : ℕ) (before after : B) where
   -- The source gave so many bytes, and with these, taken in their order, a file to the recipients and with the program's grease comes to this.
   abbrev pub PreparesFrom : Result Prepared EncryptRefusal → Type 0
-  PreparesFrom outcome = (draws : List ℕ) × (left : List ℕ) × Gave gives before count after draws
+  PreparesFrom outcome = (draws : List ℕ) × (left : List ℕ) × GaveRandom gives before count after draws
       × Prepares wraps recipients (Some grease_stanza) draws outcome left
 
-  pub record Encrypts {S R W V : Type 0} (suite : SuiteMembers S) (read : ReadMembers R) (write : WriteMembers W)
+  pub record AppendsEncrypted {S R W V : Type 0} (suite : SuiteMembers S) (read : ReadMembers R) (write : WriteMembers W)
       (format : Format) (input last : R) (old new : W) (result : Result V CommandError) : Type 0 where
     -- A success says that the input ended well, and that its file in this form was appended.
     pub file : IsTrue (read.tells input) → IsTrue (write.tells old) → OnOk result
-        ((file : Prepared) × PreparesFrom (Ok file) × AppendsFile suite.seal_of write.appended format file (read.rest input) old new)
+        ((file : Prepared) × PreparesFrom (Ok file) × AppendsFile suite.seal_of write.appended (text_of format) file (read.rest input) old new)
     -- Without random bytes nothing is read or written.
     pub random : IfErr result (IfRandom (λ e. GaveNone gives before count after e × (last ≡ input) × (new ≡ old)))
     -- After an error of encryption nothing was read or written.

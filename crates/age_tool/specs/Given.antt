@@ -3,7 +3,7 @@ use Rattle.std.specs.Prelude.{◌≡◌, ◌⊎◌, ◌&&◌, ℕ, List, [], tru
 use Rattle.std.specs.Result.{result_map_both}
 use Rattle.age.specs.Armor.{Carries}
 use Rattle.age.specs.DecryptErrorVariants.{KeyDecryptionFailed, NoMatchingKeys}
-use Rattle.age.specs.DecryptingStreams.{GivesFirst}
+use Rattle.age.specs.Identities.{GivesFirst, UnwrapAnswer}
 use Rattle.age.specs.File.{IsFileOf}
 use Rattle.age.specs.FileErrorVariants.{Decrypt}
 use Rattle.age.specs.FileErrors.{IsDecryptError}
@@ -11,9 +11,8 @@ use Rattle.age.specs.HeaderV1.{HeaderValue}
 use Rattle.age.specs.Members.{SuiteMembers, ReadMembers, WriteMembers}
 use Rattle.age.specs.Stanza.{StanzaValue}
 use Rattle.age.specs.Types.{DecryptError, Error, FileError, Format, StreamReader}
-use Rattle.age.specs.Unwrapping.{UnwrapAnswer}
-use Rattle.age.specs.Wrapping.{WrapAnswer}
-use Rattle.age_tool.specs.Decrypting.{Decrypts, DecryptsSome, GivesFile, GivesPart, Migrated}
+use Rattle.age.specs.Recipients.{WrapAnswer}
+use Rattle.age_tool.specs.Decrypting.{DecryptsThenFlushes, DecryptsSome, GivesFile, GivesPart, Migrated}
 use Rattle.age_tool.specs.Keyring.{AreHolders, RefusesKeyring}
 use Rattle.age_tool.specs.Locked.{HasLocked}
 use Rattle.age_tool.specs.Measuring.{IsMeasured, WasGiven}
@@ -61,7 +60,7 @@ module _ {S T W V : Type 0} (unwraps : Holder S T GivesOnce → List StanzaValue
   -- A whole file was decrypted so.
   abbrev pub DecryptsBy : {R : Type 0} → ReadMembers R → R → R → W → W → Result V (GivenError KeyringError FileError) → Type 0
   DecryptsBy {R} read input last old new result = WithKeyring ((last ≡ input) × (new ≡ old))
-      (λ holders asked done. Decrypts unwraps suite read write holders asked input old new done
+      (λ holders asked done. DecryptsThenFlushes unwraps suite read write holders asked input old new done
       × GivesFile unwraps suite read write holders asked input old new done
       × IfErr done (λ e. IsDecryptError e → new ≡ old)) result
 

@@ -2,7 +2,7 @@
 use Rattle.std.specs.Prelude.{◌≡◌, ℕ, List, Some, None, Err}
 use Rattle.age.specs.DecryptErrors.{KeyDecryptionFailed}
 use Rattle.age.specs.Stanza.{StanzaValue}
-use Rattle.age.specs.Unwrapping.{UnwrapAnswer, Unwraps}
+use Rattle.age.specs.Identities.{UnwrapAnswer, Unwraps}
 use Rattle.age.specs.Scrypt.{PassphraseIdentity}
 use Rattle.age.specs.Types.{ProtectedIdentity as Protected}
 use Rattle.age_tool.specs.declared.holder.Holder.{Holder}

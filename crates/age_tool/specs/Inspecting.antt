@@ -7,7 +7,7 @@ use Rattle.age.specs.HeaderV1.{HeaderValue, IsHeaderValue}
 use Rattle.age.specs.Members.{ReadMembers}
 use Rattle.age.specs.Reading.{TriedAgain}
 use Rattle.age.specs.ReadingHeader.{RefusesHeader}
-use Rattle.age.specs.Stanza.{canonical}
+use Rattle.age.specs.HeaderTexts.{canonical}
 use Rattle.age.specs.Stretch.{Stretch}
 use Rattle.age_tool.specs.Decrypting.{ReadsText}
 use Rattle.age_tool.specs.declared.error.InspectionError.{InspectionError}

@@ -4,10 +4,10 @@ use Rattle.age.specs.Bech32Written.{bech32_text}
 use Rattle.age.specs.Copying.{AppendsFront}
 use Rattle.age.specs.EncryptErrors.{OutOfMemory}
 use Rattle.age.specs.FileErrors.{IfIo, IsEncryptError, EncryptsUnless}
-use Rattle.age.specs.KeyTexts.{identity_prefix, recipient_prefix}
+use Rattle.age.specs.X25519.{identity_prefix, recipient_prefix}
 use Rattle.age.specs.Members.{WriteMembers}
 use Rattle.age.specs.Writing.{HandsOn}
-use Rattle.age_tool.specs.Random.{Gave, GaveNone}
+use Rattle.age_tool.specs.Random.{GaveRandom, GaveNone}
 use Rattle.age_tool.specs.Encrypting.{IfRandom, IfFile}
 use Rattle.age_tool.specs.declared.error.CommandError.{CommandError}
 
@@ -21,10 +21,10 @@ pub record WritesKey {B W T : Type 0} (public_of : List ℕ → List ℕ) (gives
     (before after : B) (old new : W) (result : Result T CommandError) : Type 0 where
   -- A success says that the file of the next 32 random bytes was appended.
   pub key : IsTrue (write.tells old) → OnOk result
-      ((secret : List ℕ) × Gave gives before 32 after secret × write.appended old (key_file public_of secret) new)
+      ((secret : List ℕ) × GaveRandom gives before 32 after secret × write.appended old (key_file public_of secret) new)
   -- Whatever it answers, what was appended is a beginning of it.
   pub front : IsTrue (write.tells old) → (new ≡ old)
-      ⊎ ((secret : List ℕ) × Gave gives before 32 after secret × AppendsFront write.appended (key_file public_of secret) old new)
+      ⊎ ((secret : List ℕ) × GaveRandom gives before 32 after secret × AppendsFront write.appended (key_file public_of secret) old new)
   -- Without random bytes, and where memory for the text is refused, nothing was written.
   pub random : IfErr result (IfRandom (λ e. GaveNone gives before 32 after e × (new ≡ old)))
   pub refused : IfErr result (IfFile (λ e. IsEncryptError e → new ≡ old))

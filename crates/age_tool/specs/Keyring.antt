@@ -9,13 +9,13 @@ use Rattle.age.specs.Armor.{Carries}
 use Rattle.age.specs.Converting.{native_secrets, plugin_names}
 use Rattle.age.specs.Decryptor.{OpensFront, header_of}
 use Rattle.age.specs.DecryptErrorVariants as decrypt
-use Rattle.age.specs.Delivered.{delivered, stretch_of}
+use Rattle.age.specs.DeliveredArmor.{text_delivers, stretch_of}
 use Rattle.age.specs.EncryptedIdentities.{filename_of, state_of}
 use Rattle.age.specs.EncryptedIdentity.{file_of}
 use Rattle.age.specs.Entries.{Entry, AreEntries}
 use Rattle.age.specs.HeaderV1.{IsScrypt}
 use Rattle.age.specs.IdentityFiles.{IsFirstBad}
-use Rattle.age.specs.IdentityReading.{IsTooLong, most_bytes}
+use Rattle.age.specs.IdentityReading.{IsTooLong, most_file_bytes}
 use Rattle.age.specs.Limiting.{limited}
 use Rattle.age.specs.ProtectedIdentity.{Encrypted}
 use Rattle.age.specs.Stretch.{whole}
@@ -31,11 +31,11 @@ use Rattle.age_tool.specs.declared.keyring.Keyring.{Keyring}
 use Rattle.age_tool.specs.declared.keyring.Keyring.TheVariants.{Files, Passphrase}
 
 -- why bytes aren't those of a file of identities, or can't be told to be
-abbrev pub RefusesBytes : List ℕ → Error → Type 0
-RefusesBytes bytes read.OutOfMemory = Unit {0}
-RefusesBytes bytes (read.NotIdentity number) = IsFirstBad (limited most_bytes (whole bytes)) number
-RefusesBytes bytes read.LimitExceeded = IsTooLong most_bytes (whole bytes)
-RefusesBytes bytes other = ⊥
+abbrev pub RefusesKeyBytes : List ℕ → Error → Type 0
+RefusesKeyBytes bytes read.OutOfMemory = Unit {0}
+RefusesKeyBytes bytes (read.NotIdentity number) = IsFirstBad (limited most_file_bytes (whole bytes)) number
+RefusesKeyBytes bytes read.LimitExceeded = IsTooLong most_file_bytes (whole bytes)
+RefusesKeyBytes bytes other = ⊥
 
 -- why the entries of the file of this number aren't those of keys, or can't be told to be
 abbrev pub RefusesEntries : ℕ → List Entry → KeyringError → Type 0
@@ -44,9 +44,9 @@ RefusesEntries number entries e = (e ≡ error.OutOfMemory)
     ⊎ ((e ≡ error.NoIdentity number) × (native_secrets entries ≡ []))
 
 -- why the text of a passphrase gives none, or can't be told to
-abbrev pub RefusesText : Option (List ℕ) → KeyringError → Type 0
-RefusesText given e = (e ≡ error.OutOfMemory)
-    ⊎ ((why : PassphraseError) × (text : List ℕ) × (e ≡ error.Passphrase why) × (given ≡ Some text) × passphrase.RefusesText why text)
+abbrev pub RefusesPassphraseFile : Option (List ℕ) → KeyringError → Type 0
+RefusesPassphraseFile given e = (e ≡ error.OutOfMemory)
+    ⊎ ((why : PassphraseError) × (text : List ℕ) × (e ≡ error.Passphrase why) × (given ≡ Some text) × passphrase.RefusesPassphrase why text)
 
 -- what was found in a front, or nothing where that was refused for another reason than memory
 abbrev pub FoundOrNone : {X : Type 0} → Result (Option X) DecryptError → Result (Option X) KeyringError → Type 0
@@ -69,7 +69,7 @@ module _ {T : Type 0} (text_read : ReadMembers T) where
     pub steady : text_read.steady text ≡ true
     pub faults : text_read.faults text ≡ 0
     pub place : text_read.place text ≡ 0
-    pub rest : text_read.rest text ≡ stretch_of (delivered bytes true)
+    pub rest : text_read.rest text ≡ stretch_of (text_delivers bytes true)
     pub honest : (file : List ℕ) → Carries bytes file → text_read.rest text ≡ whole file
 
   module _ {S : Type 0} where
@@ -119,7 +119,7 @@ module _ {T : Type 0} (text_read : ReadMembers T) where
     abbrev pub AreOfFile : KeyFile → Option (List ℕ) → List (Holder S T GivesOnce) → Type 0
     AreOfFile file given holders =
         ((entries : List Entry) × AreEntries (lines file.bytes.items) entries × AreKeys entries holders)
-        ⊎ (((number : ℕ) × IsFirstBad (limited most_bytes (whole file.bytes.items)) number) × IsHeldUnderGiven file given holders)
+        ⊎ (((number : ℕ) × IsFirstBad (limited most_file_bytes (whole file.bytes.items)) number) × IsHeldUnderGiven file given holders)
 
     -- those of files, each file's after those of the files before it
     abbrev pub AreOfFiles : List KeyFile → Option (List ℕ) → List (Holder S T GivesOnce) → Type 0
@@ -135,16 +135,16 @@ module _ {T : Type 0} (text_read : ReadMembers T) where
   module _ (S : Type 0) where
     -- why the file of this number, of which this line is no identity, names nobody, or can't be told to
     abbrev pub RefusesProtected : ℕ → ℕ → List ℕ → Option (List ℕ) → KeyringError → Type 0
-    RefusesProtected number line bytes given e = RefusesText given e
+    RefusesProtected number line bytes given e = RefusesPassphraseFile given e
         ⊎ ((e ≡ error.NotIdentity number line) × IsNotProtected S bytes)
         ⊎ ((e ≡ error.NoPassphrase number) × (given ≡ None) × IsUnderPassphrase S bytes)
 
     -- why the file of this number names nobody, or can't be told to
-    abbrev pub RefusesFile : ℕ → KeyFile → Option (List ℕ) → KeyringError → Type 0
-    RefusesFile number file given e = (e ≡ error.OutOfMemory)
-        ⊎ ((e ≡ error.TooLong number) × IsTooLong most_bytes (whole file.bytes.items))
+    abbrev pub RefusesKeyFile : ℕ → KeyFile → Option (List ℕ) → KeyringError → Type 0
+    RefusesKeyFile number file given e = (e ≡ error.OutOfMemory)
+        ⊎ ((e ≡ error.TooLong number) × IsTooLong most_file_bytes (whole file.bytes.items))
         ⊎ ((entries : List Entry) × AreEntries (lines file.bytes.items) entries × RefusesEntries number entries e)
-        ⊎ ((line : ℕ) × IsFirstBad (limited most_bytes (whole file.bytes.items)) line × RefusesProtected number line file.bytes.items given e)
+        ⊎ ((line : ℕ) × IsFirstBad (limited most_file_bytes (whole file.bytes.items)) line × RefusesProtected number line file.bytes.items given e)
 
     -- Of these files the first that is refused, and those who have the identities of those before it.
     pub record IsFirstRefused (all : List KeyFile) (given : Option (List ℕ)) (e : KeyringError) : Type 0 where
@@ -154,7 +154,7 @@ module _ {T : Type 0} (text_read : ReadMembers T) where
       pub parts : all ≡ before ++ file ∷ after
       pub holders : List (Holder S T GivesOnce)
       pub good : AreOfFiles before given holders
-      pub refused : RefusesFile (length before) file given e
+      pub refused : RefusesKeyFile (length before) file given e
 
     -- why files name nobody, or can't be told to
     abbrev pub RefusesFiles : List KeyFile → Option (List ℕ) → KeyringError → Type 0
@@ -163,4 +163,4 @@ module _ {T : Type 0} (text_read : ReadMembers T) where
     -- why what a command line gives names nobody, or can't be told to
     abbrev pub RefusesKeyring : Keyring → KeyringError → Type 0
     RefusesKeyring (Files files text) e = RefusesFiles files.items (option_map (λ bytes. bytes.items) text) e
-    RefusesKeyring (Passphrase text) e = RefusesText (Some text.items) e
+    RefusesKeyring (Passphrase text) e = RefusesPassphraseFile (Some text.items) e

@@ -12,8 +12,8 @@ pub mod Placing
 pub mod Inspecting
 pub mod Opening
 pub mod Measuring
-pub mod MeasuringLaws
 pub mod Rekeying
 pub mod Encrypting
 pub mod Decrypting
 pub mod Words
+pub mod MeasuringLemmas

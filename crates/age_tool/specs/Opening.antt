@@ -1,14 +1,14 @@
 -- Which of several who decrypt opens a header.
 use Rattle.std.specs.Prelude.{◌≡◌, ℕ, List, Option, None, Ok, Result, IfOk, IfErr, length, take, drop}
 use Rattle.std.specs.List.{AllZip}
-use Rattle.age.specs.Answering.{Decides, FirstThatAnswers, decided}
+use Rattle.age.specs.Identities.{Decides, FirstThatAnswers, decided, UnwrapAnswer, Unwraps}
 use Rattle.age.specs.DecryptErrors.{DecryptRefusal, decrypt_refusal}
 use Rattle.age.specs.Header.{covered_text}
-use Rattle.age.specs.HeaderV1.{HeaderValue, header_mac}
+use Rattle.age.specs.HeaderV1.{HeaderValue}
+use Rattle.age.specs.HeaderMac.{header_mac}
 use Rattle.age.specs.Stanza.{StanzaValue}
 use Rattle.age.specs.Texts.{RefusesKey}
 use Rattle.age.specs.Types.{DecryptError}
-use Rattle.age.specs.Unwrapping.{UnwrapAnswer, Unwraps}
 
 -- the first i were asked and answered None; the others are unchanged
 pub record WereAsked {I A : Type 0} (asks : I → Option A → I → Type 0) (before now : List I) (i : ℕ) : Type 0 where

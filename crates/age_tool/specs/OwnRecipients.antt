@@ -8,8 +8,8 @@ use Rattle.age.specs.Copying.{AppendsFront}
 use Rattle.age.specs.Entries.{Entry, AreEntries}
 use Rattle.age.specs.ErrorVariants as io
 use Rattle.age.specs.IdentityFiles.{IsFirstBad}
-use Rattle.age.specs.IdentityReading.{IsTooLong, most_bytes}
-use Rattle.age.specs.KeyTexts.{recipient_prefix}
+use Rattle.age.specs.IdentityReading.{IsTooLong, most_file_bytes}
+use Rattle.age.specs.X25519.{recipient_prefix}
 use Rattle.age.specs.Limiting.{limited}
 use Rattle.age.specs.Lines.{line}
 use Rattle.age.specs.Members.{ReadMembers, WriteMembers}
@@ -45,9 +45,9 @@ module _ {T : Type 0} (text_read : ReadMembers T) (S : Type 0) where
   -- why bytes aren't those of a file of identities, or its recipients can't be told
   abbrev pub RefusesIdentities : List ℕ → IdentitiesError → Type 0
   RefusesIdentities bytes e = (e ≡ error.OutOfMemory)
-      ⊎ ((e ≡ error.TooLong) × IsTooLong most_bytes (whole bytes))
+      ⊎ ((e ≡ error.TooLong) × IsTooLong most_file_bytes (whole bytes))
       ⊎ ((entries : List Entry) × AreEntries (lines bytes) entries × RefusesEntries entries e)
-      ⊎ ((line : ℕ) × IsFirstBad (limited most_bytes (whole bytes)) line × RefusesLine line bytes e)
+      ⊎ ((line : ℕ) × IsFirstBad (limited most_file_bytes (whole bytes)) line × RefusesLine line bytes e)
 
 -- the text of recipients: a line of each, in their order, which ends with LF
 abbrev pub recipients_text : List (List ℕ) → List ℕ

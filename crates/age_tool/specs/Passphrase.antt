@@ -11,5 +11,5 @@ abbrev pub first_line : List ℕ → List ℕ
 first_line text = strip_carriage_return (before_first (λ byte. byte == 10) text)
 
 -- why a text gives no passphrase
-abbrev pub RefusesText : PassphraseError → List ℕ → Type 0
-RefusesText e text = ((e ≡ Empty) × (first_line text ≡ [])) ⊎ ((e ≡ NotText) × (IsUtf8 (first_line text) → ⊥)) ⊎ (e ≡ OutOfMemory)
+abbrev pub RefusesPassphrase : PassphraseError → List ℕ → Type 0
+RefusesPassphrase e text = ((e ≡ Empty) × (first_line text ≡ [])) ⊎ ((e ≡ NotText) × (IsUtf8 (first_line text) → ⊥)) ⊎ (e ≡ OutOfMemory)

@@ -2,7 +2,8 @@
 use Rattle.std.specs.Prelude.{◌≡◌, ◌⊎◌, ℕ, ◌+◌, List, [], ◌∷◌, ◌++◌, length, codes}
 use Rattle.std.specs.Str.{IsUtf8}
 use Rattle.std.specs.Str.Lines.{lines}
-use Rattle.age.specs.KeyTexts.{recipient_prefix, IsKeyText, IsRefusedAs}
+use Rattle.age.specs.KeyTexts.{IsRefusedAs}
+use Rattle.age.specs.X25519.{recipient_prefix, IsKeyText}
 use Rattle.age_tool.specs.declared.error.RecipientsError.{RecipientsError}
 use Rattle.age_tool.specs.declared.error.RecipientsError.TheVariants.{NotText, NotRecipient, NoRecipient, OutOfMemory}
 
@@ -15,8 +16,8 @@ abbrev pub IsRecipient : List ℕ → List ℕ → Type 0
 IsRecipient line public = IsKeyText recipient_prefix line public
 
 -- any other line: it is no Bech32, or that of another prefix or of other than 32 bytes
-abbrev pub IsBad : List ℕ → Type 0
-IsBad line = (IsPassedOver line → ⊥) × (message : List ℕ) × IsRefusedAs recipient_prefix (codes "incorrect pubkey length") line message
+abbrev pub IsBadRecipientLine : List ℕ → Type 0
+IsBadRecipientLine line = (IsPassedOver line → ⊥) × (message : List ℕ) × IsRefusedAs recipient_prefix (codes "incorrect pubkey length") line message
 
 -- the recipients of lines of which none is bad, in their order
 abbrev pub AreRecipients : List (List ℕ) → List (List ℕ) → Type 0
@@ -31,7 +32,7 @@ pub record IsFirstBad (number : ℕ) (all : List (List ℕ)) : Type 0 where
   pub after : List (List ℕ)
   pub parts : all ≡ before ++ line ∷ after
   pub counted : number ≡ length before + 1
-  pub bad : IsBad line
+  pub bad : IsBadRecipientLine line
   pub recipients : List (List ℕ)
   pub good : AreRecipients before recipients
 
@@ -40,9 +41,9 @@ abbrev pub RefusesLines : RecipientsError → List (List ℕ) → Type 0
 RefusesLines e all = (e ≡ OutOfMemory) ⊎ ((number : ℕ) × (e ≡ NotRecipient number) × IsFirstBad number all)
 
 -- why a text names no recipients, or can't be told to
-abbrev pub RefusesText : RecipientsError → List ℕ → Type 0
-RefusesText e text = RefusesLines e (lines text) ⊎ ((e ≡ NoRecipient) × AreRecipients (lines text) [])
+abbrev pub RefusesRecipients : RecipientsError → List ℕ → Type 0
+RefusesRecipients e text = RefusesLines e (lines text) ⊎ ((e ≡ NoRecipient) × AreRecipients (lines text) [])
 
 -- the same of bytes, which may be no text
-abbrev pub RefusesBytes : RecipientsError → List ℕ → Type 0
-RefusesBytes e bytes = ((e ≡ NotText) × (IsUtf8 bytes → ⊥)) ⊎ (IsUtf8 bytes × RefusesText e bytes)
+abbrev pub RefusesRecipientBytes : RecipientsError → List ℕ → Type 0
+RefusesRecipientBytes e bytes = ((e ≡ NotText) × (IsUtf8 bytes → ⊥)) ⊎ (IsUtf8 bytes × RefusesRecipients e bytes)

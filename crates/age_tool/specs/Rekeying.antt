@@ -1,21 +1,20 @@
 -- A file that is decrypted, and encrypted to others.
 use Rattle.std.specs.Prelude.{◌≡◌, ◌⊎◌, ◌&&◌, ℕ, List, Option, Result, Ok, Err, IsTrue, OnOk, length}
-use Rattle.age.specs.Armor.{Carries}
+use Rattle.age.specs.Armor.{Carries, text_of}
 use Rattle.age.specs.DecryptErrors.{decrypt_refusal}
 use Rattle.age.specs.Encrypting.{Prepared}
 use Rattle.age.specs.ErrorVariants.{OutOfMemory}
 use Rattle.age.specs.FileErrorVariants.{Decrypt, Io}
 use Rattle.age.specs.Members.{SuiteMembers, ReadMembers, WriteMembers}
 use Rattle.age.specs.Opened.{IsNotOpened, IsOpened}
-use Rattle.age.specs.Parts.{FirstAnswer, IsFileFor}
+use Rattle.age.specs.Identities.{FirstAnswer, IsFileFor, UnwrapAnswer}
 use Rattle.age.specs.Stanza.{StanzaValue}
 use Rattle.age.specs.Stretch.{whole}
 use Rattle.age.specs.Types.{DecryptError, FileError, Format, StreamReader}
-use Rattle.age.specs.Unwrapping.{UnwrapAnswer}
-use Rattle.age.specs.WholeFiles.{AppendsFile}
-use Rattle.age.specs.Wrapping.{WrapAnswer}
+use Rattle.age.specs.Claims.{AppendsFile}
+use Rattle.age.specs.Recipients.{WrapAnswer}
 use Rattle.age_tool.specs.Decrypting.{ReadsText}
-use Rattle.age_tool.specs.Encrypting.{Encrypts, PreparesFrom, draws_for_keys}
+use Rattle.age_tool.specs.Encrypting.{AppendsEncrypted, PreparesFrom, draws_for_keys}
 use Rattle.age_tool.specs.declared.error.CommandError.{CommandError}
 use Rattle.age_tool.specs.declared.error.CommandError.TheVariants.{File}
 
@@ -36,11 +35,11 @@ module _ {I B T S W V : Type 0} (unwraps : I → List StanzaValue → UnwrapAnsw
       ((e : FileError) × (result ≡ Err (File e)) × NotOpened unwraps read text_read identities asked input e × (after ≡ before) × (new ≡ old))
       ⊎ ((text : A) × ReadsText read text_read input text × ((stream : StreamReader S A suite text_read) × (last : StreamReader S A suite text_read)
       × IsOpened unwraps identities asked text stream
-      × Encrypts gives wraps recipients (draws_for_keys (length recipients)) before after suite stream_read write format stream last old new result))
+      × AppendsEncrypted gives wraps recipients (draws_for_keys (length recipients)) before after suite stream_read write format stream last old new result))
 
   -- Of a file for the identities a success appended a file of the same plaintext to the recipients.
   abbrev pub KeepsPlaintext : {R : Type 0} → ReadMembers R → R → W → W → Result V CommandError → Type 0
   KeepsPlaintext {R} read input old new result = IsTrue (read.tells input && read.steady input) → IsTrue (read.rest input).ends_well → IsTrue (write.tells old)
       → (file plain : List ℕ) → Carries (read.rest input).bytes file → IsFileFor suite.seal_of (FirstAnswer unwraps identities) plain file
       → OnOk result ((prepared : Prepared) × PreparesFrom gives wraps recipients (draws_for_keys (length recipients)) before after (Ok prepared)
-      × AppendsFile suite.seal_of write.appended format prepared (whole plain) old new)
+      × AppendsFile suite.seal_of write.appended (text_of format) prepared (whole plain) old new)

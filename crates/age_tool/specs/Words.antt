@@ -2,7 +2,8 @@
 use Rattle.std.specs.Prelude.{◌≡◌, ◌⊎◌, ℕ, List, [], ◌∷◌, ◌++◌, length, codes, string_bytes}
 use Rattle.std.specs.Str.{IsUtf8}
 use Rattle.std.specs.Str.Lines.{lines}
-use Rattle.age.specs.KeyTexts.{recipient_prefix, IsRefusedAs}
+use Rattle.age.specs.KeyTexts.{IsRefusedAs}
+use Rattle.age.specs.X25519.{recipient_prefix}
 use Rattle.age.specs.Members.{ReadMembers}
 use Rattle.age_tool.specs.OwnRecipients as own
 use Rattle.age_tool.specs.Recipients as file
@@ -29,16 +30,16 @@ module _ (public_of : List ℕ → List ℕ) where
       × AreOfWord word first × AreOfWords more others
 
 -- why the word of this number isn't the text of a recipient, or can't be told to be
-abbrev pub RefusesText : ℕ → List ℕ → WordsError → Type 0
-RefusesText number text (error.NotRecipient word why) =
+abbrev pub RefusesRecipientWord : ℕ → List ℕ → WordsError → Type 0
+RefusesRecipientWord number text (error.NotRecipient word why) =
     (word ≡ number) × IsRefusedAs recipient_prefix (codes "incorrect pubkey length") text why.now
-RefusesText number text (error.File word why) = ⊥
-RefusesText number text (error.Identities word why) = ⊥
-RefusesText number text error.OutOfMemory = Unit {0}
+RefusesRecipientWord number text (error.File word why) = ⊥
+RefusesRecipientWord number text (error.Identities word why) = ⊥
+RefusesRecipientWord number text error.OutOfMemory = Unit {0}
 
 -- why the word of this number isn't a file of recipients
 abbrev pub RefusesRecipients : ℕ → List ℕ → WordsError → Type 0
-RefusesRecipients number bytes (error.File word why) = (word ≡ number) × file.RefusesBytes why bytes
+RefusesRecipients number bytes (error.File word why) = (word ≡ number) × file.RefusesRecipientBytes why bytes
 RefusesRecipients number bytes (error.NotRecipient word why) = ⊥
 RefusesRecipients number bytes (error.Identities word why) = ⊥
 RefusesRecipients number bytes error.OutOfMemory = ⊥
@@ -53,7 +54,7 @@ module _ {T : Type 0} (text_read : ReadMembers T) (S : Type 0) where
 
   -- why the word of this number names no recipients, or can't be told to
   abbrev pub RefusesWord : ℕ → Word → WordsError → Type 0
-  RefusesWord number (Text text) e = RefusesText number (string_bytes text) e
+  RefusesWord number (Text text) e = RefusesRecipientWord number (string_bytes text) e
   RefusesWord number (File bytes) e = RefusesRecipients number bytes.items e
   RefusesWord number (Identities bytes) e = RefusesIdentities number bytes.items e
 

@@ -1,7 +1,7 @@
 //! The commands that decrypt.
 ghost use Rattle.std.specs.Prelude.{◌≡◌, IfErr};
 ghost use Rattle.age.specs.FileErrors.{IsDecryptError};
-ghost use Rattle.age_tool.specs.Decrypting.{Decrypts, DecryptsSome, GivesFile, GivesPart, IsFlushed, Migrated, SeeksPart};
+ghost use Rattle.age_tool.specs.Decrypting.{DecryptsThenFlushes, DecryptsSome, GivesFile, GivesPart, IsFlushed, Migrated, SeeksPart};
 
 use age::Identity;
 use age::armor::ArmoredReader;
@@ -33,7 +33,7 @@ pub fn decrypt<S: Suite, I: Identity, R: Read, W: Write>(
     reader: &mut R,
     writer: &mut W,
 ) -> Result<(), FileError>
-    ensures steps { Decrypts I.unwraps ⟦<S as Suite>⟧ ⟦<R as Read>⟧ ⟦<W as Write>⟧ identities.old identities.new reader.old writer.old writer.new result }
+    ensures steps { DecryptsThenFlushes I.unwraps ⟦<S as Suite>⟧ ⟦<R as Read>⟧ ⟦<W as Write>⟧ identities.old identities.new reader.old writer.old writer.new result }
     ensures file { GivesFile I.unwraps ⟦<S as Suite>⟧ ⟦<R as Read>⟧ ⟦<W as Write>⟧ identities.old identities.new reader.old writer.old writer.new result }
     ensures refused { IfErr result (λ e. IsDecryptError e → writer.new ≡ writer.old) }
 {

@@ -1,6 +1,6 @@
 //! The commands that encrypt.
 ghost use Rattle.std.specs.Prelude.{◌≡◌, [], ◌∷◌, length, IfSome};
-ghost use Rattle.age_tool.specs.Encrypting.{Encrypts, draws_for_keys, draws_for_passphrase};
+ghost use Rattle.age_tool.specs.Encrypting.{AppendsEncrypted, draws_for_keys, draws_for_passphrase};
 
 use crate::error::{CommandError, RandomError};
 use crate::grease::grease;
@@ -42,7 +42,7 @@ fn encrypt_with<S: Suite, T: Recipient, B: RandomBytes, R: Read, W: Write>(
     reader: &mut R,
     writer: &mut W,
 ) -> Result<(), CommandError>
-    ensures { Encrypts B.gives T.wraps recipients.now count source.old source.new
+    ensures { AppendsEncrypted B.gives T.wraps recipients.now count source.old source.new
         ⟦<S as Suite>⟧ ⟦<R as Read>⟧ ⟦<W as Write>⟧ format reader.old reader.new writer.old writer.new result }
 {
     let grease = grease(alloc)?;
@@ -72,7 +72,7 @@ pub fn encrypt_to_keys<S: Suite, B: RandomBytes, R: Read, W: Write>(
     reader: &mut R,
     writer: &mut W,
 ) -> Result<(), CommandError>
-    ensures { Encrypts B.gives ⟦<x25519::Recipient<S> as Recipient>⟧.wraps recipients.now (draws_for_keys (length recipients.now)) source.old source.new
+    ensures { AppendsEncrypted B.gives ⟦<x25519::Recipient<S> as Recipient>⟧.wraps recipients.now (draws_for_keys (length recipients.now)) source.old source.new
         ⟦<S as Suite>⟧ ⟦<R as Read>⟧ ⟦<W as Write>⟧ format reader.old reader.new writer.old writer.new result }
 {
     let Some(count) = count_for(recipients.len()) else {
@@ -101,7 +101,7 @@ pub fn encrypt_under<S: Suite, B: RandomBytes, R: Read, W: Write>(
     reader: &mut R,
     writer: &mut W,
 ) -> Result<(), CommandError>
-    ensures { Encrypts B.gives ⟦<scrypt::Recipient<S> as Recipient>⟧.wraps (record { passphrase = passphrase; factor = 18 } ∷ []) draws_for_passphrase source.old source.new
+    ensures { AppendsEncrypted B.gives ⟦<scrypt::Recipient<S> as Recipient>⟧.wraps (record { passphrase = passphrase; factor = 18 } ∷ []) draws_for_passphrase source.old source.new
         ⟦<S as Suite>⟧ ⟦<R as Read>⟧ ⟦<W as Write>⟧ format reader.old reader.new writer.old writer.new result }
 {
     let recipient: scrypt::Recipient<S> = recipient_of(passphrase);

@@ -1,10 +1,10 @@
 //! The commands, from what they are given on: the words of a command line, and the texts of the files that it names.
 ghost use Rattle.std.specs.Prelude.{◌≡◌, List, ℕ, [], ◌∷◌, length};
 ghost use Rattle.age.specs.EncryptErrors.{encrypt_refusal};
-ghost use Rattle.age_tool.specs.Encrypting.{Encrypts, draws_for_keys, draws_for_passphrase};
+ghost use Rattle.age_tool.specs.Encrypting.{AppendsEncrypted, draws_for_keys, draws_for_passphrase};
 ghost use Rattle.age_tool.specs.Given.{Answers, DecryptsBy, DecryptsSomeBy, GivesPartBy, MigratedBy, OpensBy, RekeysBy, Verifies, VerifiesFile, WithGiven};
 ghost use Rattle.age_tool.specs.Locked.{HasLocked, IsLocked, NamesCommand, NamesKeys, is_for_nobody, tells_wrong};
-ghost use Rattle.age_tool.specs.Passphrase.{RefusesText, first_line};
+ghost use Rattle.age_tool.specs.Passphrase.{RefusesPassphrase, first_line};
 ghost use Rattle.age_tool.specs.Words.{AreOfWords, RefusesWords};
 
 use crate::callbacks::GivesOnce;
@@ -48,7 +48,7 @@ pub fn encrypt_to_words<'a, S: Suite, B: RandomBytes, R: Read, W: Write>(
     ensures { WithGiven (λ e. RefusesWords ⟦<ArmoredReader<BufReader<Bytes<'a>>> as Read>⟧ S S.public_of words.now e)
         ((source.new ≡ source.old) × (reader.new ≡ reader.old) × (writer.new ≡ writer.old))
         (λ (keys : List (List ℕ)). AreOfWords S.public_of words.now keys)
-        (λ keys done. Encrypts B.gives ⟦<x25519::Recipient<S> as Recipient>⟧.wraps keys (draws_for_keys (length keys)) source.old source.new
+        (λ keys done. AppendsEncrypted B.gives ⟦<x25519::Recipient<S> as Recipient>⟧.wraps keys (draws_for_keys (length keys)) source.old source.new
         ⟦<S as Suite>⟧ ⟦<R as Read>⟧ ⟦<W as Write>⟧ format reader.old reader.new writer.old writer.new done)
         (λ _ done told. Answers done told) result }
 {
@@ -77,9 +77,9 @@ pub fn encrypt_under_text<S: Suite, B: RandomBytes, R: Read, W: Write>(
     reader: &mut R,
     writer: &mut W,
 ) -> Result<(), GivenError<PassphraseError, CommandError>>
-    ensures { WithGiven (λ e. RefusesText e text.now) ((source.new ≡ source.old) × (reader.new ≡ reader.old) × (writer.new ≡ writer.old))
+    ensures { WithGiven (λ e. RefusesPassphrase e text.now) ((source.new ≡ source.old) × (reader.new ≡ reader.old) × (writer.new ≡ writer.old))
         (λ (passphrase : List ℕ). passphrase ≡ first_line text.now)
-        (λ passphrase done. Encrypts B.gives ⟦<scrypt::Recipient<S> as Recipient>⟧.wraps (record { passphrase = passphrase; factor = 18 } ∷ []) draws_for_passphrase
+        (λ passphrase done. AppendsEncrypted B.gives ⟦<scrypt::Recipient<S> as Recipient>⟧.wraps (record { passphrase = passphrase; factor = 18 } ∷ []) draws_for_passphrase
         source.old source.new ⟦<S as Suite>⟧ ⟦<R as Read>⟧ ⟦<W as Write>⟧ format reader.old reader.new writer.old writer.new done)
         (λ _ done told. Answers done told) result }
 {

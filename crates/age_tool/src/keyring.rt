@@ -4,7 +4,7 @@ ghost use Rattle.std.specs.Str.Lines.{lines};
 ghost use Rattle.std.specs.Option.{option_map};
 ghost use Rattle.age.specs.Entries.{AreEntries};
 ghost use Rattle.age.specs.IdentityFile.{entries_of};
-ghost use Rattle.age_tool.specs.Keyring.{AreHolders, AreKeys, AreOfFile, AreOfFiles, FoundOrNone, IsFound, IsHeldUnder, IsHeldUnderGiven, KnowsPassphrase, ReadsBytes, RefusesBytes, RefusesEntries, RefusesFile, RefusesFiles, RefusesKeyring, RefusesProtected, RefusesText};
+ghost use Rattle.age_tool.specs.Keyring.{AreHolders, AreKeys, AreOfFile, AreOfFiles, FoundOrNone, IsFound, IsHeldUnder, IsHeldUnderGiven, KnowsPassphrase, ReadsBytes, RefusesKeyBytes, RefusesEntries, RefusesKeyFile, RefusesFiles, RefusesKeyring, RefusesProtected, RefusesPassphraseFile};
 ghost use Rattle.age_tool.specs.declared.error.KeyringError.TheVariants as refused;
 ghost use Rattle.age_tool.specs.declared.holder.Holder.TheVariants as holder;
 
@@ -58,7 +58,7 @@ pub(crate) fn identities_in<S>(
     alloc: Global,
     bytes: &[u8],
 ) -> Result<IdentityFile<S, NoCallbacks>, Error>
-    ensures { MatchResult result (λ file. AreEntries (lines bytes.now) (entries_of file)) (λ e. RefusesBytes bytes.now e) }
+    ensures { MatchResult result (λ file. AreEntries (lines bytes.now) (entries_of file)) (λ e. RefusesKeyBytes bytes.now e) }
 {
     IdentityFile::from_buffer(alloc, Bytes::new(bytes))
 }
@@ -235,7 +235,7 @@ fn holders_in<'a, S: Suite>(
 ) -> Result<Vec<Held<'a, S>>, KeyringError>
     ensures { MatchResult result
         (λ holders. AreOfFile ⟦<ArmoredReader<BufReader<Bytes<'a>>> as Read>⟧ file.now (option_map (λ t. t.now) passphrase.entry) holders.items)
-        (λ e. RefusesFile ⟦<ArmoredReader<BufReader<Bytes<'a>>> as Read>⟧ S number file.now (option_map (λ t. t.now) passphrase.entry) e) }
+        (λ e. RefusesKeyFile ⟦<ArmoredReader<BufReader<Bytes<'a>>> as Read>⟧ S number file.now (option_map (λ t. t.now) passphrase.entry) e) }
 {
     match identities_in::<S>(alloc, &file.bytes) {
         Ok(found) => holders_in_entries(alloc, found, number),
@@ -275,7 +275,7 @@ fn holder_of_passphrase<'a, S: Suite>(
     alloc: Global,
     text: &[u8],
 ) -> Result<Vec<Held<'a, S>>, KeyringError>
-    ensures { MatchResult result (λ holders. KnowsPassphrase text.now holders.items) (λ e. RefusesText (Some text.now) e) }
+    ensures { MatchResult result (λ holders. KnowsPassphrase text.now holders.items) (λ e. RefusesPassphraseFile (Some text.now) e) }
 {
     let secret = match passphrase_of(alloc, text) {
         Ok(secret) => secret,

@@ -44,22 +44,20 @@ impl Measuring {
 impl Write for Measuring {
     ghost use Rattle.std.specs.Prelude.{true};
     ghost use Rattle.std.proofs.Common.{arith};
-    ghost use Rattle.age.specs.ErrorVariants.{TooLong};
-    ghost use Rattle.age_tool.specs.Measuring.{TookBytes};
-    ghost use Rattle.age_tool.specs.MeasuringLaws.{took_joined, took_nothing};
+    ghost use Rattle.age_tool.specs.Measuring.{RefusesMeasured, TookBytes};
+    ghost use Rattle.age_tool.specs.MeasuringLemmas.{refuses_more_measured, took_joined, took_nothing};
 
     ghost tells = { λ _. true };
 
     ghost faults = { λ _. 0 };
 
-    // Whatever it is given.
-    ghost refuses = { λ _ _ e. e ≡ TooLong };
+    ghost refuses = { RefusesMeasured };
 
     ghost appended = { TookBytes };
 
     ghost faults_fit = { λ _. Prim.omega arith };
 
-    ghost refuses_more = { λ _ _ _ _ _ long. long };
+    ghost refuses_more = { refuses_more_measured };
 
     ghost appends_nothing = { took_nothing };
 

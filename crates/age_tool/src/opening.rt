@@ -3,7 +3,7 @@ ghost use Rattle.std.specs.Prelude.{◌≡◌, List, ℕ, None, IfOk, IfErr, Mat
 ghost use Rattle.std.specs.List.{AllZip};
 ghost use Rattle.age.specs.DecryptErrors.{decrypt_refusal};
 ghost use Rattle.age.specs.Header.{covered_text};
-ghost use Rattle.age.specs.HeaderV1.{header_mac};
+ghost use Rattle.age.specs.HeaderMac.{header_mac};
 ghost use Rattle.age.specs.Texts.{RefusesKey};
 ghost use Rattle.age.specs.Unwrapping.{key_answer};
 ghost use Rattle.age_tool.specs.Opening.{AnswersAt, Asks, OpensHeader};

@@ -2,7 +2,7 @@
 ghost use Rattle.std.specs.Prelude.{◌≡◌, ◌≢◌, ◌⊎◌, ◌++◌, ℕ, List, [], MatchResult, IfOk};
 ghost use Rattle.age.specs.Bech32Written.{bech32_text};
 ghost use Rattle.age.specs.IdentityFile.{entries_of};
-ghost use Rattle.age.specs.KeyTexts.{recipient_prefix};
+ghost use Rattle.age.specs.X25519.{recipient_prefix};
 ghost use Rattle.age.specs.Lines.{line};
 ghost use Rattle.age_tool.specs.Given.{Answers, WithGiven};
 ghost use Rattle.age_tool.specs.Keyring.{ReadsBytes};

@@ -2,7 +2,7 @@
 ghost use Rattle.std.specs.Prelude.{◌≡◌, ◌==◌, IfOk, IfErr};
 ghost use Rattle.std.specs.List.{before_first, position};
 ghost use Rattle.std.specs.Str.Lines.{strip_carriage_return};
-ghost use Rattle.age_tool.specs.Passphrase.{first_line, RefusesText};
+ghost use Rattle.age_tool.specs.Passphrase.{first_line, RefusesPassphrase};
 
 use crate::error::PassphraseError;
 use age::scrypt;
@@ -45,7 +45,7 @@ fn without_carriage_return(line: &[u8]) -> &[u8]
 /// - `OutOfMemory`: memory was refused.
 pub fn passphrase_of(alloc: Global, text: &[u8]) -> Result<SecretString, PassphraseError>
     ensures value { IfOk result (λ passphrase. passphrase ≡ first_line text.now) }
-    ensures refused { IfErr result (λ e. RefusesText e text.now) }
+    ensures refused { IfErr result (λ e. RefusesPassphrase e text.now) }
 {
     let line = without_carriage_return(before_line_feed(text));
     if line.is_empty() {

@@ -2,7 +2,7 @@
 ghost use Rattle.std.specs.Prelude.{◌≡◌, ◌++◌, ℕ, List, [], ◌∷◌, MatchOption, MatchResult, IfOk, IfErr, map, true, false};
 ghost use Rattle.std.specs.Str.{IsUtf8};
 ghost use Rattle.std.specs.Str.Lines.{lines};
-ghost use Rattle.age_tool.specs.Recipients.{AreRecipients, IsBad, IsPassedOver, RefusesBytes, RefusesLines, RefusesText};
+ghost use Rattle.age_tool.specs.Recipients.{AreRecipients, IsBadRecipientLine, IsPassedOver, RefusesRecipientBytes, RefusesLines, RefusesRecipients};
 
 use crate::error::RecipientsError;
 use age::x25519::Recipient;
@@ -26,7 +26,7 @@ fn add_line<S>(
     line: &str,
 ) -> Result<Option<Vec<Recipient<S>>>, AllocError>
     ensures { (before : List (List ℕ)) → AreRecipients before recipients.items →
-        IfOk result (λ found. MatchOption found (IsBad line.now) (λ more. AreRecipients (before ++ line.now ∷ []) more.items)) }
+        IfOk result (λ found. MatchOption found (IsBadRecipientLine line.now) (λ more. AreRecipients (before ++ line.now ∷ []) more.items)) }
 {
     if is_passed_over(line) {
         return Ok(Some(recipients));
@@ -66,7 +66,7 @@ fn all_lines(alloc: Global, text: &str) -> Result<Vec<&str>, AllocError>
 
 // The recipients of a text, of which there is one or more.
 fn recipients_of_text<S>(alloc: Global, text: &str) -> Result<Vec<Recipient<S>>, RecipientsError>
-    ensures { MatchResult result (λ recipients. AreRecipients (lines text.now) recipients.items) (λ e. RefusesText e text.now) }
+    ensures { MatchResult result (λ recipients. AreRecipients (lines text.now) recipients.items) (λ e. RefusesRecipients e text.now) }
 {
     let Ok(all) = all_lines(alloc, text) else {
         return Err(RecipientsError::OutOfMemory);
@@ -93,7 +93,7 @@ fn recipients_of_text<S>(alloc: Global, text: &str) -> Result<Vec<Recipient<S>>,
 /// - `OutOfMemory`: memory was refused.
 pub fn recipients_of<S>(alloc: Global, text: &[u8]) -> Result<Vec<Recipient<S>>, RecipientsError>
     ensures ok { IfOk result (λ recipients. IsUtf8 text.now × AreRecipients (lines text.now) recipients.items) }
-    ensures refused { IfErr result (λ e. RefusesBytes e text.now) }
+    ensures refused { IfErr result (λ e. RefusesRecipientBytes e text.now) }
 {
     match str::from_utf8(text) {
         Err(_) => Err(RecipientsError::NotText),

@@ -1,6 +1,6 @@
 //! Recipients that the words of a command line name.
 ghost use Rattle.std.specs.Prelude.{MatchResult};
-ghost use Rattle.age_tool.specs.Words.{AreOfText, AreOfWord, AreOfWords, RefusesText, RefusesWord, RefusesWords};
+ghost use Rattle.age_tool.specs.Words.{AreOfText, AreOfWord, AreOfWords, RefusesRecipientWord, RefusesWord, RefusesWords};
 
 use crate::error::{IdentitiesError, RecipientsError, WordsError};
 use crate::lists::joined;
@@ -30,7 +30,7 @@ fn keys_of_text<S>(
     text: &str,
     number: usize,
 ) -> Result<Vec<Recipient<S>>, WordsError>
-    ensures { MatchResult result (λ keys. AreOfText text.now keys.items) (λ e. RefusesText number text.now e) }
+    ensures { MatchResult result (λ keys. AreOfText text.now keys.items) (λ e. RefusesRecipientWord number text.now e) }
 {
     match Recipient::from_str(text) {
         Err(why) => Err(WordsError::NotRecipient { word: number, why }),

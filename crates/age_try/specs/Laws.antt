@@ -158,8 +158,8 @@ other_stretching passphrase salt factor p s f accepted = hkdf_of-bytes salt (fac
 -- ---- the suite that stretches no passphrase
 
 -- what it would stretch each to
-abbrev pub zeros : List ℕ → List ℕ → ℕ → List ℕ
-zeros passphrase salt factor = replicate 32 0
+abbrev pub stretched_zeros : List ℕ → List ℕ → ℕ → List ℕ
+stretched_zeros passphrase salt factor = replicate 32 0
 
-pub zeros_stretching : IsStretching zeros (λ factor. true)
+pub zeros_stretching : IsStretching stretched_zeros (λ factor. true)
 zeros_stretching passphrase salt factor p s small accepts = record { len = refl; bytes = All-replicate (λ x. x < 2 ^ 8) 32 0 (omega arith) }

@@ -1,7 +1,7 @@
 //! A suite for tests that shows where passphrases are stretched.
 
 ghost use Rattle.age_try.specs.Other.{other_seal, other_opened, other_shared, other_public};
-ghost use Rattle.age_try.specs.Laws.{other_cipher, other_agreement, zeros, zeros_stretching};
+ghost use Rattle.age_try.specs.Laws.{other_cipher, other_agreement, stretched_zeros, zeros_stretching};
 
 use crate::other_suite::OtherSuite;
 use age::suite::{Opens, ScryptError, Suite};
@@ -23,7 +23,7 @@ impl Suite for NeverStretches {
 
     ghost public_of = { other_public };
 
-    ghost stretch_of = { zeros };
+    ghost stretch_of = { stretched_zeros };
 
     ghost accepts = { λ _. true };
 

@@ -2,8 +2,7 @@
 //! over both doesn't hold by chance of one.
 
 ghost use Rattle.std.specs.Prelude.{◌≡◌, ◌≤◌, ◌*◌, length};
-ghost use Rattle.age_try.specs.Other.{pad_block as block_of_pad, pad_at, hidden_from, hidden, mark_of};
-ghost use Rattle.age_try.specs.Other.{other_seal, other_opened, other_shared, other_public, other_stretch, other_accepts};
+ghost use Rattle.age_try.specs.Other.{pad_block as block_of_pad, pad_at, hidden_from, hidden, mark_of, other_seal, other_opened, other_shared, other_public, other_stretch, other_accepts};
 ghost use Rattle.age_try.specs.Laws.{other_cipher, other_agreement, other_stretching};
 
 use age::mac::{HmacWriter, hkdf};

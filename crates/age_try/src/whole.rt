@@ -1,8 +1,8 @@
 //! A payload sealed and opened whole, in memory: the plain program that holds the definition against worked values.
 ghost use Rattle.std.specs.Prelude.{◌≡◌, ℕ, List, ◌+◌, ◌*◌, ◌/◌, ◌^◌, ◌<◌, ◌≤◌, length, IfOk, IfErr};
-ghost use Rattle.age_stream.specs.Payload.{payload, chunk, HeldAsMiddle};
+ghost use Rattle.age_v1.specs.Payload.{payload, chunk, OpensAsMiddle};
 ghost use Rattle.age_suite.specs.Suite.{one_more};
-ghost use Rattle.age_stream.specs.FrontToEnd.{IsOutside, IsOpenedTo};
+ghost use Rattle.age_v1.specs.PayloadRefusals.{RefusesFrontToEnd, IsOpenedTo};
 
 use age_error::io;
 use age_stream::nonce::nonce_of;
@@ -66,10 +66,10 @@ fn open_last<S: Suite>(
     requires there { 65552 * i < length sealed.now }
     requires reach { i ≤ 2 ^ 44 }
     requires opened { IsOpenedTo S.seal_of key.now sealed.now i out.items }
-    requires not_middle { (other : List ℕ) → HeldAsMiddle S.seal_of key.now sealed.now i other → ⊥ }
+    requires not_middle { (other : List ℕ) → OpensAsMiddle S.seal_of key.now sealed.now i other → ⊥ }
     ensures ok { IfOk result (λ plain. sealed.now ≡ payload S.seal_of key.now plain.items) }
     ensures limit { IfOk result (λ plain. length plain.items ≤ 2 ^ 60) }
-    ensures err { IfErr result (λ error. IsOutside S.seal_of key.now sealed.now error) }
+    ensures err { IfErr result (λ error. RefusesFrontToEnd S.seal_of key.now sealed.now error) }
     ensures opens { opens.new ≡ one_more opens.old }
 {
     let left = sealed.len() - i * CHUNK;
@@ -117,7 +117,7 @@ pub fn open_whole<S: Suite>(
 ) -> Result<Vec<u8>, io::Error>
     ensures ok { IfOk result (λ plain. sealed.now ≡ payload S.seal_of key.now plain.items) }
     ensures limit { IfOk result (λ plain. length plain.items ≤ 2 ^ 60) }
-    ensures err { IfErr result (λ error. IsOutside S.seal_of key.now sealed.now error) }
+    ensures err { IfErr result (λ error. RefusesFrontToEnd S.seal_of key.now sealed.now error) }
     ensures counts { opens.old < 2 ^ 64 → opens.old ≤ opens.new }
     ensures opens { opens.new ≤ opens.old + length sealed.now / 65552 + 1 }
 {

@@ -6,7 +6,7 @@ use Rattle.age.specs.ErrorVariants.{TooLong}
 use Rattle.age.specs.SeekFromVariants.{Start}
 use Rattle.age.specs.Cursor.{sought}
 use Rattle.age.specs.Stretch.{Stretch}
-use Rattle.age.specs.StreamTargets.{in_length, IsToEnd}
+use Rattle.age.specs.PayloadTargets.{in_length, IsToEnd}
 use Rattle.age_uses.specs.Turns.{HasPlace}
 use Rattle.age_uses.proofs.Places.{start_is}
 

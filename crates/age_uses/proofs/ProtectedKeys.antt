@@ -9,7 +9,7 @@ use Rattle.age.specs.HeaderV1.{IsScrypt}
 use Rattle.age.specs.Protected.{Opens, HoldsItsEntries}
 use Rattle.age.specs.Entries.{Entry}
 use Rattle.age.specs.EncryptedIdentity.{file_of}
-use Rattle.age.specs.ProtectedIdentity.{State, Encrypted, GivesRecipients, IsOpened, state_after}
+use Rattle.age.specs.ProtectedIdentity.{State, Encrypted, GivesRecipients, OpensOnce, state_after}
 use Rattle.age_uses.specs.ProtectedKeys.{AreOfProtected}
 
 module _ {S R C : Type 0} (suite : SuiteMembers S) (read : ReadMembers R) (stream_read : ReadMembers (StreamReader S R suite read))
@@ -41,11 +41,11 @@ module _ {S R C : Type 0} (suite : SuiteMembers S) (read : ReadMembers R) (strea
         }
 
     of_state : (name : Option (List ℕ)) → name ≡ None → (before : State R C) → before ≡ Encrypted (file_of d callbacks 18 None)
-        → (after : State R C) → IsOpened suite stream_read gives name before after
+        → (after : State R C) → OpensOnce suite stream_read gives name before after
         → (recipients : List (List ℕ)) → GivesRecipients (λ secret. suite.public_of secret) after (Ok recipients)
         → AreOfProtected suite stream_read gives (read.rest input) callbacks recipients
     of_state name named before was after opened recipients given =
-        let (outcome, asked, opens, is) = subst (λ s. IsOpened suite stream_read gives None s after) was (subst (λ n. IsOpened suite stream_read gives n before after) named opened) in
+        let (outcome, asked, opens, is) = subst (λ s. OpensOnce suite stream_read gives None s after) was (subst (λ n. OpensOnce suite stream_read gives n before after) named opened) in
         of_opened outcome asked opens recipients (subst (λ s. GivesRecipients (λ secret. suite.public_of secret) s (Ok recipients)) is given)
 
   -- however the front was read
@@ -53,7 +53,7 @@ module _ {S R C : Type 0} (suite : SuiteMembers S) (read : ReadMembers R) (strea
       → ((e : DecryptError) → Made (Err e) → ⊥)
       → ((d : Decryptor S R) → Made (Ok d) → IsScrypt (header_of d).stanzas × (before ≡ Encrypted (file_of d callbacks 18 None)) × (name ≡ None))
       → (made : Result (Decryptor S R) DecryptError) → OpensFront read input made → Made made
-      → (after : State R C) → IsOpened suite stream_read gives name before after
+      → (after : State R C) → OpensOnce suite stream_read gives name before after
       → (recipients : List (List ℕ)) → GivesRecipients (λ secret. suite.public_of secret) after (Ok recipients)
       → AreOfProtected suite stream_read gives (read.rest input) callbacks recipients
   of_protected Made name before none some (Err e) front is after opened recipients given = absurd (none e is)

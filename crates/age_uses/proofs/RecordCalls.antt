@@ -4,14 +4,13 @@ use Rattle.std.specs.declared.vec.Vec.{Vec}
 use Rattle.std.proofs.Common.{◌≡◌, ℕ, ◌≤◌, List, [], ◌∷◌, ◌++◌, sym, ap, ◌∙◌, arith, inl, inr}
 use Rattle.age.specs.ErrorVariants.{OutOfMemory}
 use Rattle.age.specs.Reading.{IsQuiet}
-use Rattle.age.specs.Members.{ReadMembers}
-use Rattle.age.specs.Members.{SuiteMembers}
+use Rattle.age.specs.Members.{ReadMembers, SuiteMembers}
 use Rattle.age_records.specs.Records.{SameRecords}
 use Rattle.age_records.specs.Text.{found}
 use Rattle.age_records.specs.declared.error.RecordError.{RecordError}
 use Rattle.age_records.specs.declared.error.RecordError.TheVariants.{Io, NoSuchRecord}
 use Rattle.age_records.specs.declared.reading.Records.{Records}
-use Rattle.age_uses.specs.RecordAnswers.{Answered, seen}
+use Rattle.age_uses.specs.RecordAnswers.{Answered, record_seen}
 
 -- what was quiet all along was quiet at first
 pub quiet-before : {a b c : ℕ} → a ≤ b → b ≤ c → IsQuiet a c → IsQuiet a b
@@ -35,7 +34,7 @@ same-later a b c first second =
     }
 
 pub answered-more : {Z : Type 0} (written : List (List ℕ)) (calls : List ℕ) (answers : List (Result (Vec ℕ Z) RecordError)) (index : ℕ) (answer : Result (Vec ℕ Z) RecordError) →
-    Answered written calls answers → (seen answer ≡ Err (Io OutOfMemory)) ⊎ (seen answer ≡ found (slice_get written index)) →
+    Answered written calls answers → (record_seen answer ≡ Err (Io OutOfMemory)) ⊎ (record_seen answer ≡ found (slice_get written index)) →
     Answered written (calls ++ index ∷ []) (answers ++ answer ∷ [])
 answered-more written [] [] index answer before one = (one, tt)
 answered-more written [] (a ∷ answers) index answer before one = absurd before
@@ -44,7 +43,7 @@ answered-more written (i ∷ calls) (a ∷ answers) index answer before one = (b
 
 pub answer-is : {Z : Type 0} (answer : Result (Vec ℕ Z) RecordError) (o : Option (List ℕ)) (Quiet : Type 0) → Quiet →
     MatchResult answer (λ bytes. o ≡ Some bytes.items) (λ e. Quiet → (e ≡ Io OutOfMemory) ⊎ ((e ≡ NoSuchRecord) × (o ≡ None))) →
-    (seen answer ≡ Err (Io OutOfMemory)) ⊎ (seen answer ≡ found o)
+    (record_seen answer ≡ Err (Io OutOfMemory)) ⊎ (record_seen answer ≡ found o)
 answer-is (Ok bytes) o Quiet quiet is = inr (sym (ap found is))
 answer-is (Err e) o Quiet quiet is = elim (is quiet) [
   | inl memory ↦ inl (ap Err memory)

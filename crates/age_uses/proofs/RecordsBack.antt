@@ -6,15 +6,14 @@ use Rattle.age.specs.EncryptErrors.{EncryptRefusal}
 use Rattle.age.specs.Encrypting.{Prepared, Prepares}
 use Rattle.age.specs.ErrorVariants.{OutOfMemory}
 use Rattle.age.specs.FileErrorVariants as file
-use Rattle.age.specs.Parts.{FirstAnswer, IsFileFor}
+use Rattle.age.specs.Identities.{FirstAnswer, IsFileFor, UnwrapAnswer}
 use Rattle.age.specs.Payload.{LastIsNoMiddle, Seal}
 use Rattle.age.specs.Several.{AnyDecrypts, BelongsToOne}
 use Rattle.age.specs.Stanza.{StanzaValue}
 use Rattle.age.specs.StreamWriting.{Refused, WasMade, taken_len}
 use Rattle.age.specs.Stretch.{Stretch, whole}
 use Rattle.age.specs.Types.{Error, StreamWriter}
-use Rattle.age.specs.Unwrapping.{UnwrapAnswer}
-use Rattle.age.specs.Wrapping.{WrapAnswer}
+use Rattle.age.specs.Recipients.{WrapAnswer}
 use Rattle.age.specs.Writing.{Retried}
 use Rattle.age_uses.specs.Keys.{IsWhole}
 use Rattle.age_records.specs.declared.error.RecordError.{RecordError}

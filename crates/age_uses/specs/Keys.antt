@@ -5,10 +5,9 @@ use Rattle.age.specs.Armor.{Carries}
 use Rattle.age.specs.Payload.{Seal}
 use Rattle.age.specs.File.{IsFileOf}
 use Rattle.age.specs.Stanza.{StanzaValue}
-use Rattle.age.specs.Wrapping.{WrapAnswer}
-use Rattle.age.specs.Unwrapping.{UnwrapAnswer, Unwraps}
+use Rattle.age.specs.Recipients.{WrapAnswer}
+use Rattle.age.specs.Identities.{UnwrapAnswer, Unwraps, FirstThatAnswers}
 use Rattle.age.specs.Encrypting.{Prepared, Prepares}
-use Rattle.age.specs.Answering.{FirstThatAnswers}
 
 -- To the stanzas that the recipients answer, whatever is drawn, the identities give no other file key than the one that was wrapped.
 abbrev pub GiveKeysBack : {R I : Type 0} → (R → List ℕ → List ℕ → WrapAnswer → List ℕ → Type 0)

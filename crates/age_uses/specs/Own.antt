@@ -1,10 +1,10 @@
 -- What a recipient and an identity of one's own answer.
 use Rattle.std.specs.Prelude.{◌≡◌, ℕ, List, [], ◌∷◌, Some, None, Ok, Err, if◌then◌else◌, length, nat_eq, bytes_eq, codes, Bool, not}
 use Rattle.age.specs.DecryptErrors.{InvalidHeader}
-use Rattle.age.specs.Drawing.{Ends, UnlessNoMemory}
+use Rattle.age.specs.Encrypting.{Ends, UnlessNoMemory}
 use Rattle.age.specs.Stanza.{StanzaValue}
-use Rattle.age.specs.Wrapping.{Wrapped, WrapAnswer}
-use Rattle.age.specs.Unwrapping.{UnwrapAnswer}
+use Rattle.age.specs.Recipients.{Wrapped, WrapAnswer}
+use Rattle.age.specs.Identities.{UnwrapAnswer}
 
 -- the stanza whose body is the file key
 abbrev pub own_stanza : List ℕ → StanzaValue

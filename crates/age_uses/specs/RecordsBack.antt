@@ -30,10 +30,10 @@ RefusesBack records i Damaged = ⊥
 RefusesBack records i (Io e) = RefusesWriting records e
 
 -- Writing a file of the text of records is refused: none was prepared for, for this refusal, or as above.
-abbrev pub RefusesFile : (EncryptRefusal → Type 0) → List (List ℕ) → FileError → Type 0
-RefusesFile Unprepared records (file.Io e) = RefusesWriting records e
-RefusesFile Unprepared records (file.Encrypt e) = Unprepared (encrypt_refusal e)
-RefusesFile Unprepared records (file.Decrypt e) = ⊥
+abbrev pub RefusesRecordFile : (EncryptRefusal → Type 0) → List (List ℕ) → FileError → Type 0
+RefusesRecordFile Unprepared records (file.Io e) = RefusesWriting records e
+RefusesRecordFile Unprepared records (file.Encrypt e) = Unprepared (encrypt_refusal e)
+RefusesRecordFile Unprepared records (file.Decrypt e) = ⊥
 
 -- Reading record i back from the file is refused: the file couldn't be written, there is no such record, or memory was refused.
 abbrev pub RefusesThrough : (EncryptRefusal → Type 0) → List (List ℕ) → ℕ → RecordFileError → Type 0

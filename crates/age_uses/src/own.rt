@@ -2,8 +2,8 @@
 ghost use Rattle.std.specs.Prelude.{◌≡◌, Ok};
 ghost use Rattle.std.specs.Result.{result_map_both};
 ghost use Rattle.age.specs.EncryptErrors.{encrypt_refusal};
-ghost use Rattle.age.specs.Unwrapping.{FirstOf, Steady};
-ghost use Rattle.age.specs.Drawing.{IsOrNoMemory};
+ghost use Rattle.age.specs.Identities.{FirstOf, Steady};
+ghost use Rattle.age.specs.Encrypting.{IsOrNoMemory};
 ghost use Rattle.age.specs.Belonging.{BelongsTo};
 ghost use Rattle.age_uses.specs.Own.{OwnWraps, OwnAsks, own_stanza, has_other_tag};
 

@@ -4,7 +4,7 @@ ghost use Rattle.age.specs.Armor.{Carries};
 ghost use Rattle.age.specs.ErrorVariants.{PastEnd};
 ghost use Rattle.age.specs.FileErrorVariants.{Io};
 ghost use Rattle.age.specs.FileErrors.{IsWant};
-ghost use Rattle.age.specs.Parts.{FirstAnswer, IsFileFor};
+ghost use Rattle.age.specs.Identities.{FirstAnswer, IsFileFor};
 
 use age::Identity;
 use age::io::{Seek, SeekFrom, room_for};

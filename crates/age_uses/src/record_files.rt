@@ -1,7 +1,7 @@
 //! Records in a file, bare or in armor.
 ghost use Rattle.std.specs.Prelude.{◌≡◌, ◌&&◌, ℕ, List, IsTrue, MatchResult};
 ghost use Rattle.age.specs.Armor.{Carries};
-ghost use Rattle.age.specs.Parts.{FirstAnswer, IsFileFor};
+ghost use Rattle.age.specs.Identities.{FirstAnswer, IsFileFor};
 ghost use Rattle.age_records.specs.Text.{records_text};
 ghost use Rattle.age_uses.specs.RecordFiles.{AreThese, IsOpenWant};
 

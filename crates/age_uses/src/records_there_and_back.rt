@@ -5,7 +5,7 @@ ghost use Rattle.age.specs.Payload.{LastIsNoMiddle};
 ghost use Rattle.age.specs.Several.{BelongsToOne};
 ghost use Rattle.age_records.specs.Text.{records_text};
 ghost use Rattle.age_uses.specs.Keys.{IsWhole};
-ghost use Rattle.age_uses.specs.RecordsBack.{IsPayloadOf, RefusesBack, RefusesFile, RefusesThrough, RefusesWriting};
+ghost use Rattle.age_uses.specs.RecordsBack.{IsPayloadOf, RefusesBack, RefusesRecordFile, RefusesThrough, RefusesWriting};
 
 use crate::record_files::{RecordFileError, records_of};
 use age::draw::Draw;
@@ -93,7 +93,7 @@ pub fn file_of_records<S: Suite, T: Recipient>(
     ensures made { IfOk result (λ file.
         (prepared : Prepared) × Prepares T.wraps recipients.now (Some grease) draw.old (Ok prepared) draw.new
         × IsWhole S.seal_of prepared (records_text (map vec_items records.now)) file.items) }
-    ensures refused { IfErr result (RefusesFile
+    ensures refused { IfErr result (RefusesRecordFile
         (λ e. Prepares T.wraps recipients.now (Some grease) draw.old (Err e) draw.new) (map vec_items records.now)) }
 {
     // A fact for the proof alone.

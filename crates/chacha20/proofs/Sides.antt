@@ -1,12 +1,13 @@
 -- Eight states side by side: what an operation on vectors does to the state in one lane.
-use Rattle.std.proofs.Common.{◌≡◌, ℕ, zero, suc, ◌+◌, ◌-◌, ◌*◌, ◌/◌, ◌%◌, ◌^◌, ◌<◌, List, [], ◌∷◌, length, replicate, map, get_or, set, bit_or, bit_xor, refl, ap, sym, arith, ◌∙◌}
+use Rattle.std.proofs.Common.{◌≡◌, ℕ, zero, suc, ◌+◌, ◌-◌, ◌*◌, ◌/◌, ◌%◌, ◌^◌, ◌<◌, List, [], ◌∷◌, ◌++◌, length, replicate, map, get_or, set, bit_or, bit_xor, refl, ap, sym, arith, lit<, ◌∙◌}
 use Rattle.std.proofs.Math.ListN.{get_or-map}
 use Rattle.std.proofs.lemmas.List.{map-set, get_or-replicate}
-use Rattle.std.proofs.lemmas.Simd.{get_or-zip2, length-zip2, get_or_narrower, below_from_Fits}
+use Rattle.std.proofs.lemmas.Nat.{mod_below, or_shifted, xor_lt}
+use Rattle.std.proofs.lemmas.Simd.{get_or-zip2, length-zip2, get_or_narrower, get_or_wider, below_from_Fits, Each1-get_or, Each1-from_get_or, pick_l_left}
 use Rattle.std.specs.Prelude.{slice_index}
 use Rattle.std.specs.Simd.Lanes.{zip2}
-use Rattle.std.specs.Int.{w32, to_le_bytes}
-use lib.Lanes.{Each1, digits_l, number_l}
+use Rattle.std.specs.Int.{w32, rotate_left, to_le_bytes}
+use lib.Lanes.{Each1, chunk, digits_l, number_l, pick_l}
 use mir.Val.{Fits}
 use native.Mathlib.Nat.{pow-zero, div-one}
 use Rattle.chacha20.specs.Rounds.{xor_rotate, quarter_round, quarter_round_on}
@@ -89,6 +90,75 @@ narrower words fits i h =
     ap (λ p. get_or (digits_l 256 32 (number_l (2 ^ 32) words)) p 0) (sym place)
     ∙ get_or_narrower (2 ^ 32) 4 256 32 words (i / 4) (i % 4) refl (below_from_Fits w32 words fits) below within
     ∙ byte_of (slice_index words (i / 4)) (i % 4) below
+
+-- what holds of each item holds of those that are picked
+each-picked : (P : ℕ → Type 0) (xs : List ℕ) → ((k : ℕ) → P (get_or xs k 0)) → (ks : List ℕ) → Each1 P (pick_l 0 xs ks)
+each-picked P xs each [] = tt
+each-picked P xs each (k ∷ ks) = (each k, each-picked P xs each ks)
+
+-- a digit is below its base
+digit-below : (p n x k : ℕ) → 0 < p → get_or (digits_l p n x) k 0 < p
+digit-below p zero x k h = h
+digit-below p (suc n) x zero h = mod_below x p h
+digit-below p (suc n) x (suc k) h = digit-below p n (x / p) k h
+
+-- where the bytes of each word stand, the last before the others
+abbrev turned_places : List ℕ
+turned_places =
+    3 ∷ 0 ∷ 1 ∷ 2 ∷ 7 ∷ 4 ∷ 5 ∷ 6 ∷ 11 ∷ 8 ∷ 9 ∷ 10 ∷ 15 ∷ 12 ∷ 13 ∷ 14
+    ∷ 19 ∷ 16 ∷ 17 ∷ 18 ∷ 23 ∷ 20 ∷ 21 ∷ 22 ∷ 27 ∷ 24 ∷ 25 ∷ 26 ∷ 31 ∷ 28 ∷ 29 ∷ 30 ∷ []
+
+-- the last byte of a word put before the others is a rotation by 8 bits
+turned_word : (n : ℕ) → n < 2 ^ 32
+    → n / 256 ^ 3 % 256 + 256 * (n / 256 ^ 0 % 256 + 256 * (n / 256 ^ 1 % 256 + 256 * (n / 256 ^ 2 % 256 + 256 * 0))) ≡ rotate_left w32 n 8
+turned_word n h =
+    let up : n * 2 ^ 8 % 2 ^ 32 ≡ n % 2 ^ 24 * 2 ^ 8 = omega arith in
+    let whole : n / 256 ^ 3 % 256 + 256 * (n / 1 % 256 + 256 * (n / 256 ^ 1 % 256 + 256 * (n / 256 ^ 2 % 256 + 256 * 0)))
+    ≡ n % 2 ^ 24 * 2 ^ 8 + n / 2 ^ 24 = omega arith in
+    ap (λ m. n / 256 ^ 3 % 256 + 256 * (n / m % 256 + 256 * (n / 256 ^ 1 % 256 + 256 * (n / 256 ^ 2 % 256 + 256 * 0)))) (pow-zero 256)
+    ∙ whole ∙ sym (or_shifted (n % 2 ^ 24) 8 (n / 2 ^ 24) (omega arith)) ∙ ap (λ m. bit_or m (n / 2 ^ 24)) (sym up)
+
+-- the words of bytes of which the last of each four stands before the others
+lane_of_turned : (bytes : List ℕ) → ((k : ℕ) → get_or bytes k 0 < 256) → (j : ℕ) → j < 8
+    → slice_index (digits_l (2 ^ 32) 8 (number_l 256 (pick_l 0 bytes turned_places))) j
+    ≡ get_or bytes (4 * j + 3) 0 + 256 * (get_or bytes (4 * j + 0) 0 + 256 * (get_or bytes (4 * j + 1) 0 + 256 * (get_or bytes (4 * j + 2) 0 + 256 * 0)))
+lane_of_turned bytes below j h =
+    get_or_wider 256 4 (2 ^ 32) 8 (pick_l 0 bytes turned_places) j refl (each-picked (λ x. x < 256) bytes below turned_places) h
+    ∙ each_lane (λ j. number_l 256 (chunk (4 * j) 4 (pick_l 0 bytes turned_places))
+    ≡ get_or bytes (4 * j + 3) 0 + 256 * (get_or bytes (4 * j + 0) 0 + 256 * (get_or bytes (4 * j + 1) 0 + 256 * (get_or bytes (4 * j + 2) 0 + 256 * 0))))
+    refl refl refl refl refl refl refl refl j h
+
+-- a shuffle of bytes is a rotation by 8 bits
+turned_words : (words : List ℕ) → length words ≡ 8 → Each1 (λ x. x < 2 ^ 32) words → (j : ℕ) → j < 8
+    → slice_index (digits_l (2 ^ 32) 8 (number_l 256 (pick_l 0 (digits_l 256 32 (number_l (2 ^ 32) words)) turned_places))) j
+    ≡ rotate_left w32 (get_or words j 0) 8
+turned_words words size fit j h =
+    let bytes = digits_l 256 32 (number_l (2 ^ 32) words) in
+    let byte : (i : ℕ) → i < 4 → get_or bytes (4 * j + i) 0 ≡ get_or words j 0 / 256 ^ i % 256
+    = λ i small. get_or_narrower (2 ^ 32) 4 256 32 words j i refl fit small (omega arith) in
+    let n = get_or words j 0 in
+    let four : get_or bytes (4 * j + 3) 0 + 256 * (get_or bytes (4 * j + 0) 0 + 256 * (get_or bytes (4 * j + 1) 0 + 256 * (get_or bytes (4 * j + 2) 0 + 256 * 0)))
+    ≡ n / 256 ^ 3 % 256 + 256 * (n / 256 ^ 0 % 256 + 256 * (n / 256 ^ 1 % 256 + 256 * (n / 256 ^ 2 % 256 + 256 * 0)))
+    = rw (byte 3 (lit< tt), byte 0 (lit< tt), byte 1 (lit< tt), byte 2 (lit< tt)) refl in
+    lane_of_turned bytes (λ k. digit-below 256 32 (number_l (2 ^ 32) words) k (lit< tt)) j h
+    ∙ four ∙ turned_word n (Each1-get_or (λ x. x < 2 ^ 32) words j 0 (omega arith) fit)
+
+pub bytes_rotate : (d a : List ℕ) → length d ≡ 8 → length a ≡ 8 → Each1 (Fits w32) d → Each1 (Fits w32) a → (j : ℕ) → j < 8
+    → slice_index (digits_l (2 ^ 32) 8 (number_l 256 (pick_l 0 (digits_l 256 32 (number_l (2 ^ 32) (zip2 bit_xor d a))
+    ++ digits_l 256 32 (number_l (2 ^ 32) (zip2 bit_xor d a))) turned_places))) j
+    ≡ xor_rotate (slice_index d j) (slice_index a j) 8
+bytes_rotate d a ld la fits_d fits_a j h =
+    let words = zip2 bit_xor d a in
+    let bytes = digits_l 256 32 (number_l (2 ^ 32) words) in
+    let size : length words ≡ 8 = length-zip2 bit_xor d a (omega arith) ∙ ld in
+    let at : (i : ℕ) → i < 8 → get_or words i 0 ≡ bit_xor (get_or d i 0) (get_or a i 0)
+    = λ i small. get_or-zip2 bit_xor d a i 0 0 0 (omega arith) (omega arith) in
+    let fit : Each1 (λ x. x < 2 ^ 32) words = Each1-from_get_or (λ x. x < 2 ^ 32) words 0 (λ i small.
+    rw (at i (omega arith)) (xor_lt 32 (get_or d i 0) (get_or a i 0)
+    (Each1-get_or (λ x. x < 2 ^ 32) d i 0 (omega arith) (below_from_Fits w32 d fits_d)) (Each1-get_or (λ x. x < 2 ^ 32) a i 0 (omega arith) (below_from_Fits w32 a fits_a)))) in
+    ap (λ xs. slice_index (digits_l (2 ^ 32) 8 (number_l 256 xs)) j) (pick_l_left 0 bytes bytes 32 turned_places refl tt)
+    ∙ turned_words words size fit j h
+    ∙ ap (λ n. rotate_left w32 n 8) (at j h)
 
 -- a lane of eight vectors
 abbrev pub column : List (List ℕ) → ℕ → List ℕ

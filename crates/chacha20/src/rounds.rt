@@ -23,6 +23,20 @@ fn xor_rotate(d: u32x8, a: u32x8, n: u32) -> u32x8
     word << u32x8::splat(n) | word >> u32x8::splat(32 - n)
 }
 
+/// Exclusive or, and then a rotation to the left by 8 bits: the bytes of each word change places.
+// (two shifts are compiled to such a shuffle too, but where the word before was rotated by one the compiler shuffles both operands of the
+// exclusive or in place of its result)
+#[inline(always)]
+fn xor_rotate_by_a_byte(d: u32x8, a: u32x8) -> u32x8
+    ensures { (j : ℕ) → j < 8 → slice_index result j ≡ xor_rotate (slice_index d j) (slice_index a j) 8 }
+{
+    let bytes = (d ^ a).to_le_bytes();
+    u32x8::from_le_bytes(bytes.swizzle([
+        3, 0, 1, 2, 7, 4, 5, 6, 11, 8, 9, 10, 15, 12, 13, 14, 19, 16, 17, 18, 23, 20, 21, 22, 27,
+        24, 25, 26, 31, 28, 29, 30,
+    ]))
+}
+
 /// The quarter round on four words of each state.
 #[inline(always)]
 #[tactic(auto, unfolding(crate::specs::Rounds::quarter_round))]
@@ -36,7 +50,7 @@ fn quarter_round(a0: u32x8, b0: u32x8, c0: u32x8, d0: u32x8) -> (u32x8, u32x8, u
     let c1 = sum(c0, d1);
     let b1 = xor_rotate(b0, c1, 12);
     let a2 = sum(a1, b1);
-    let d2 = xor_rotate(d1, a2, 8);
+    let d2 = xor_rotate_by_a_byte(d1, a2);
     let c2 = sum(c1, d2);
     let b2 = xor_rotate(b1, c2, 7);
     (a2, b2, c2, d2)

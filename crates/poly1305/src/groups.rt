@@ -66,19 +66,33 @@ fn multiplier_of(number: Limbs) -> Multiplier
     }
 }
 
-/// A column and what a product adds to it. The third limb counts 2^64 times as much as the second.
+/// Columns and what the products of a limb and short limbs add to them.
+// (one limb by all three, and then the next: so it is put into the multiplier's register once)
 #[inline(always)]
-fn column(sum: u128, number: Limbs, low: u64, middle: u64) -> u128
-    requires sum { sum < 2 ^ 120 }
-    requires number { number.high < 8 }
-    requires low { low < 2 ^ 44 }
-    requires middle { middle < 2 ^ 44 }
-    ensures value { result ≡ sum + (number.low * low + number.middle * middle + 2 ^ 64 * (number.high * middle)) }
-    ensures bound { result < sum + 2 ^ 112 }
+fn with_limb(columns: ShortColumns, limb: u64, by: ShortLimbs) -> ShortColumns
+    requires columns { AreBelow (2 ^ 121) columns }
+    requires by { AreShort by }
+    ensures low { (result.low ≡ columns.low + limb * by.low) × (result.low ≤ columns.low + 2 ^ 108) }
+    ensures middle { (result.middle ≡ columns.middle + limb * by.middle) × (result.middle ≤ columns.middle + 2 ^ 108) }
+    ensures high { (result.high ≡ columns.high + limb * by.high) × (result.high ≤ columns.high + 2 ^ 108) }
 {
-    sum + product(number.low, low)
-        + product(number.middle, middle)
-        + u128::from(small_product(number.high, middle)) * 0x1_0000_0000_0000_0000
+    ShortColumns {
+        low: columns.low + product(limb, by.low),
+        middle: columns.middle + product(limb, by.middle),
+        high: columns.high + product(limb, by.high),
+    }
+}
+
+/// A column and what the product of a third limb and a short limb adds to it, which counts 2^64 times as much.
+#[inline(always)]
+fn with_third(column: u128, third: u64, short: u64) -> u128
+    requires column { column < 2 ^ 122 }
+    requires third { third < 8 }
+    requires short { short < 2 ^ 44 }
+    ensures value { result ≡ column + 2 ^ 64 * (third * short) }
+    ensures bound { result ≤ column + 2 ^ 111 }
+{
+    column + u128::from(small_product(third, short)) * 0x1_0000_0000_0000_0000
 }
 
 /// Columns and what the product of two numbers modulo the prime adds to them.
@@ -92,10 +106,12 @@ fn with_product(columns: ShortColumns, number: Limbs, by: Multiplier) -> ShortCo
     ensures middle { result.middle < columns.middle + 2 ^ 112 }
     ensures high { result.high < columns.high + 2 ^ 112 }
 {
+    let first = with_limb(columns, number.low, by.low);
+    let second = with_limb(first, number.middle, by.middle);
     ShortColumns {
-        low: column(columns.low, number, by.low.low, by.middle.low),
-        middle: column(columns.middle, number, by.low.middle, by.middle.middle),
-        high: column(columns.high, number, by.low.high, by.middle.high),
+        low: with_third(second.low, number.high, by.middle.low),
+        middle: with_third(second.middle, number.high, by.middle.middle),
+        high: with_third(second.high, number.high, by.middle.high),
     }
 }
 

@@ -1,7 +1,6 @@
 -- What the getters of the matches give, by their rows.
-use Rattle.std.specs.Prelude.{◌≡◌, ℕ, List, [], map, Option, Some, None, option_map, unwrap_or, is_some, refl}
+use Rattle.std.specs.Prelude.{◌≡◌, ℕ, List, [], map, Option, Some, None, option_map, unwrap_or, is_some, refl, Box}
 use Rattle.std.specs.Borrow.{Bor}
-use Rattle.std.specs.Prelude.{Box}
 use Rattle.std.specs.Box.{box_value}
 use Rattle.std.proofs.Common.{◌∙◌, sym, ap, ap₂, true≢false}
 use Rattle.clap.specs.Matches.{first_value, matched_of, raw_values, subcommand_name_of}

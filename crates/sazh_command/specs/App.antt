@@ -1,9 +1,8 @@
 -- The program's command line, as `clap` reads one: the rules of each option and operand, and the commands. What building adds, as `--help`
 -- and `--version`, and what a word of the command line then is, are `clap`'s definitions.
 use Rattle.std.specs.Prelude.{◌≡◌, ℕ, true, false, codes, Some}
-use Rattle.clap.specs.Walk.{Rule, Text}
+use Rattle.clap.specs.Walk.{Rule, Text, rule_of}
 use Rattle.clap.specs.Simple.{App, app_of, new_app, new_rule, with_rule, with_subcommand}
-use Rattle.clap.specs.Walk.{rule_of}
 use Rattle.clap.specs.declared.builder.action.ArgAction.TheVariants.{Append, SetTrue}
 use Rattle.clap.specs.declared.builder.arg.Arg.{Arg}
 use Rattle.clap.specs.declared.builder.command.Command.{Command}

@@ -1,10 +1,9 @@
 //! Identities of those who know a passphrase.
 ghost use Rattle.std.specs.Prelude.{◌≡◌, ◌⊎◌, ◌+◌, ◌≤◌, Some, Err, length};
-ghost use Rattle.age_error.specs.DecryptErrors.{decrypt_refusal, ExcessiveWork};
-ghost use Rattle.age_error.specs.DecryptErrors.{OutOfMemory as out_of_memory};
+ghost use Rattle.age_error.specs.DecryptErrors.{decrypt_refusal, ExcessiveWork, OutOfMemory as out_of_memory};
 ghost use Rattle.age_format.specs.Unwrapping.{key_answer};
-ghost use Rattle.age_keys.specs.OwnType.{UnwrapsOwn};
-ghost use Rattle.age_keys.specs.Scrypt.{HasStretching, key_under};
+ghost use Rattle.age_v1.specs.RecipientType.{UnwrapsOwn};
+ghost use Rattle.age_v1.specs.Scrypt.{HasStretching, key_under};
 
 use crate::scrypt::stretching::{TAG, stretch, stretching_of};
 use crate::stanzas::open_file_key;
@@ -36,7 +35,7 @@ pub struct Identity<S> {
 }
 
 impl<S> Model for Identity<S> {
-    ghost use Rattle.age_keys.specs.Scrypt.{PassphraseIdentity};
+    ghost use Rattle.age_v1.specs.Scrypt.{PassphraseIdentity};
 
     ghost Value = { PassphraseIdentity };
 
@@ -115,8 +114,8 @@ impl<S: Suite> Identity<S> {
 }
 
 impl<S: Suite> age_format::Identity for Identity<S> {
-    ghost use Rattle.age_format.specs.Unwrapping.{FirstOf, Steady};
-    ghost use Rattle.age_keys.specs.Scrypt.{UnwrapsUnder};
+    ghost use Rattle.age_v1.specs.Identities.{FirstOf, Steady};
+    ghost use Rattle.age_v1.specs.Scrypt.{UnwrapsUnder};
 
     ghost unwraps = { FirstOf (Steady (UnwrapsUnder S.opened S.stretch_of S.accepts)) };
 

@@ -1,5 +1,5 @@
 //! What is true of recipients and identities of passphrases, for proofs alone: the function here does nothing, and its contract is the law.
-ghost use Rattle.age_format.specs.Belonging.{BelongsTo};
+ghost use Rattle.age_v1.specs.Belonging.{BelongsTo};
 ghost use Rattle.age_keys.specs.ScryptLaws.{IsMeantFor, has_other_tag};
 
 use crate::scrypt::identity::Identity;

@@ -5,9 +5,9 @@ ghost use Rattle.age_error.specs.Bytes.{AreBytes};
 ghost use Rattle.age_error.specs.EncryptErrors.{encrypt_refusal};
 ghost use Rattle.age_error.specs.Labels.{labels_of};
 ghost use Rattle.age_base64.specs.Base64.{columns};
-ghost use Rattle.age_format.specs.Drawing.{IsOrNoMemory};
-ghost use Rattle.age_keys.specs.OwnType.{no_nonce};
-ghost use Rattle.age_keys.specs.Scrypt.{scrypt_stanza};
+ghost use Rattle.age_v1.specs.Encrypting.{IsOrNoMemory};
+ghost use Rattle.age_v1.specs.RecipientType.{no_nonce};
+ghost use Rattle.age_v1.specs.Scrypt.{scrypt_stanza};
 
 use crate::scrypt::stretching::{TAG, stretch};
 use crate::stanzas::seal_stanza;
@@ -40,7 +40,7 @@ pub struct Recipient<S> {
 impl<S> Model for Recipient<S> {
     ghost use Rattle.std.specs.Prelude.{◌≤◌};
     ghost use Rattle.age_error.specs.Bytes.{AreBytes};
-    ghost use Rattle.age_keys.specs.Scrypt.{PassphraseRecipient};
+    ghost use Rattle.age_v1.specs.Scrypt.{PassphraseRecipient};
 
     ghost Value = { PassphraseRecipient };
 
@@ -109,7 +109,7 @@ fn labels_with(alloc: Global, label: &[u8; 24]) -> Result<BTreeSet<String>, Allo
 }
 
 impl<S: Suite> age_format::Recipient for Recipient<S> {
-    ghost use Rattle.age_keys.specs.Scrypt.{WrapsUnder};
+    ghost use Rattle.age_v1.specs.Scrypt.{WrapsUnder};
 
     ghost wraps = { λ recipient. WrapsUnder S.seal_of S.stretch_of S.accepts recipient };
 

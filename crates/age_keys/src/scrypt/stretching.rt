@@ -2,7 +2,7 @@
 ghost use Rattle.std.specs.Prelude.{◌≡◌, ℕ, ◌^◌, ◌<◌, ◌≤◌, ◌↔◌, List, [], ◌∷◌, Err, false, IfOk, MatchOption};
 ghost use Rattle.std.specs.Fmt.{decimal};
 ghost use Rattle.age_error.specs.declared.suite.ScryptError.TheVariants.{InvalidParams};
-ghost use Rattle.age_keys.specs.Scrypt.{stretch_salt, HasStretching, Stretching as SaltAndFactor};
+ghost use Rattle.age_v1.specs.Scrypt.{stretch_salt, HasStretching, Stretching as SaltAndFactor};
 
 use crate::stanzas::decode_argument;
 use age_error::suite::ScryptError;
@@ -33,7 +33,7 @@ pub(crate) struct Stretching {
 }
 
 impl Model for Stretching {
-    ghost use Rattle.age_keys.specs.Scrypt.{Stretching as SaltAndFactor};
+    ghost use Rattle.age_v1.specs.Scrypt.{Stretching as SaltAndFactor};
 
     ghost Value = { SaltAndFactor };
 

@@ -3,7 +3,7 @@ ghost use Rattle.std.specs.Prelude.{◌≡◌, IfOk, option_map};
 ghost use Rattle.age_error.specs.Bytes.{AreBytesOf};
 ghost use Rattle.age_bech32.specs.Written.{bech32_text};
 ghost use Rattle.age_suite.specs.Draw.{taken, left_after};
-ghost use Rattle.age_keys.specs.KeyTexts.{identity_prefix};
+ghost use Rattle.age_v1.specs.X25519.{identity_prefix};
 
 use crate::texts::{parse_key, text_of};
 use crate::x25519::recipient::Recipient;
@@ -89,7 +89,8 @@ impl<S> FromStr for Identity<S> {
     type Err = &'static str;
 
     ghost use Rattle.std.specs.Prelude.{MatchResult, codes};
-    ghost use Rattle.age_keys.specs.KeyTexts.{identity_prefix, IsKeyText, IsRefusedAs};
+    ghost use Rattle.age_keys.specs.KeyTexts.{IsRefusedAs};
+    ghost use Rattle.age_v1.specs.X25519.{identity_prefix, IsKeyText};
 
     ghost from_str_gives = { λ text result. MatchResult result (λ identity. IsKeyText identity_prefix text identity)
         (λ message. IsRefusedAs identity_prefix (codes "incorrect identity length") text message.now) };
@@ -121,8 +122,8 @@ impl<S> Clone for Identity<S> {
 }
 
 impl<S: Suite> age_format::Identity for Identity<S> {
-    ghost use Rattle.age_format.specs.Unwrapping.{FirstOf, Steady};
-    ghost use Rattle.age_keys.specs.X25519.{UnwrapsBy};
+    ghost use Rattle.age_v1.specs.Identities.{FirstOf, Steady};
+    ghost use Rattle.age_v1.specs.X25519.{UnwrapsBy};
 
     ghost unwraps = { FirstOf (Steady (UnwrapsBy S.opened S.shared_of S.public_of)) };
 

@@ -1,5 +1,5 @@
 //! What is true of X25519 recipients and identities, for proofs alone: the functions here do nothing, and their contracts are the laws.
-ghost use Rattle.age_format.specs.Belonging.{AnswersBeside, BelongsTo};
+ghost use Rattle.age_v1.specs.Belonging.{AnswersBeside, BelongsTo};
 ghost use Rattle.age_keys.specs.X25519Laws.{UnwrapsWhatItWraps, has_other_tag, IsPassedOver, PassesUnopened};
 
 use crate::x25519::identity::Identity;

@@ -49,7 +49,7 @@ impl<S> Recipient<S> {
 }
 
 impl<S: Suite> age_format::Recipient for Recipient<S> {
-    ghost use Rattle.age_keys.specs.X25519.{WrapsFor};
+    ghost use Rattle.age_v1.specs.X25519.{WrapsFor};
 
     ghost wraps = { λ recipient. WrapsFor S.seal_of S.shared_of S.public_of recipient };
 
@@ -80,7 +80,8 @@ impl<S> FromStr for Recipient<S> {
     type Err = &'static str;
 
     ghost use Rattle.std.specs.Prelude.{MatchResult, codes};
-    ghost use Rattle.age_keys.specs.KeyTexts.{recipient_prefix, IsKeyText, IsRefusedAs};
+    ghost use Rattle.age_keys.specs.KeyTexts.{IsRefusedAs};
+    ghost use Rattle.age_v1.specs.X25519.{recipient_prefix, IsKeyText};
 
     ghost from_str_gives = { λ text result. MatchResult result (λ recipient. IsKeyText recipient_prefix text recipient)
         (λ message. IsRefusedAs recipient_prefix (codes "incorrect pubkey length") text message.now) };
@@ -101,7 +102,7 @@ impl<S> FromStr for Recipient<S> {
 impl<S> fmt::Display for Recipient<S> {
     ghost use Rattle.std.specs.Prelude.{Some};
     ghost use Rattle.age_bech32.specs.Written.{bech32_text};
-    ghost use Rattle.age_keys.specs.KeyTexts.{recipient_prefix};
+    ghost use Rattle.age_v1.specs.X25519.{recipient_prefix};
 
     ghost output = { λ recipient. Some (bech32_text recipient_prefix recipient) };
 
@@ -120,7 +121,7 @@ impl<S> fmt::Display for Recipient<S> {
 impl<S> fmt::Debug for Recipient<S> {
     ghost use Rattle.std.specs.Prelude.{Some};
     ghost use Rattle.age_bech32.specs.Written.{bech32_text};
-    ghost use Rattle.age_keys.specs.KeyTexts.{recipient_prefix};
+    ghost use Rattle.age_v1.specs.X25519.{recipient_prefix};
 
     ghost debug_output = { λ recipient. Some (bech32_text recipient_prefix recipient) };
 
@@ -166,7 +167,7 @@ impl<S> Eq for Recipient<S> {
 
 impl<S> Hash for Recipient<S> {
     ghost use Rattle.std.specs.Prelude.{[], ◌∷◌};
-    ghost use Rattle.age_keys.specs.RecipientLaws.{same_input};
+    ghost use Rattle.age_keys.specs.RecipientLemmas.{same_input};
 
     ghost hash_input = { λ recipient. recipient ∷ [] };
 

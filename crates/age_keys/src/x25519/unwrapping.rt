@@ -1,8 +1,9 @@
 //! What an identity's secret makes of a stanza.
 ghost use Rattle.std.specs.Prelude.{◌≡◌};
-ghost use Rattle.age_format.specs.Unwrapping.{FirstOf, Steady, unwrap_answer};
-ghost use Rattle.age_keys.specs.OwnType.{UnwrapsOwn};
-ghost use Rattle.age_keys.specs.X25519.{HasShare, opened_with, UnwrapsBy};
+ghost use Rattle.age_format.specs.Unwrapping.{unwrap_answer};
+ghost use Rattle.age_v1.specs.Identities.{FirstOf, Steady};
+ghost use Rattle.age_v1.specs.RecipientType.{UnwrapsOwn};
+ghost use Rattle.age_v1.specs.X25519.{HasShare, opened_with, UnwrapsBy};
 
 use crate::stanzas::open_file_key;
 use crate::x25519::wrapping::{NO_SECRET, TAG, share_of, wrap_key};

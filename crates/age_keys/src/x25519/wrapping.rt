@@ -4,9 +4,9 @@ ghost use Rattle.std.specs.Result.{result_map_both};
 ghost use Rattle.age_error.specs.EncryptErrors.{encrypt_refusal};
 ghost use Rattle.age_error.specs.Bytes.{AreBytesOf};
 ghost use Rattle.age_base64.specs.Base64.{columns};
-ghost use Rattle.age_format.specs.Drawing.{IsOrNoMemory};
-ghost use Rattle.age_keys.specs.OwnType.{no_nonce};
-ghost use Rattle.age_keys.specs.X25519.{wrap_key, x25519_stanza, HasShare};
+ghost use Rattle.age_v1.specs.Encrypting.{IsOrNoMemory};
+ghost use Rattle.age_v1.specs.RecipientType.{no_nonce};
+ghost use Rattle.age_v1.specs.X25519.{wrap_key, x25519_stanza, HasShare};
 
 use crate::stanzas::{decode_argument, seal_stanza};
 use age_base64::encode_columns;

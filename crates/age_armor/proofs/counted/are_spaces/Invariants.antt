@@ -1,6 +1,6 @@
 use Rattle.std.proofs.Common.{◌≡◌, length}
 use Rattle.std.specs.List.{list_all}
-use Rattle.age_armor.specs.Delivered.{is_space}
+use Rattle.age_v1.specs.DeliveredArmor.{is_space}
 use Rattle.age_armor.proofs.counted.are_spaces.Given as goal
 
 abbrev pub invariant-loop-byte : goal.invariant-loop-byte

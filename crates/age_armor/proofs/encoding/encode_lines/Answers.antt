@@ -2,7 +2,7 @@ use Rattle.std.proofs.Common.{◌≡◌, ◌≤◌, ◌+◌, ◌-◌, ◌*◌, �
 use Rattle.std.proofs.lemmas.List.{take_all}
 use Rattle.age_base64.specs.Lines.{line}
 use Rattle.age_base64.specs.Base64.{padded_columns}
-use Rattle.age_armor.specs.FullLines.{full_lines}
+use Rattle.age_v1.specs.ArmorFullLines.{full_lines}
 use Rattle.age_armor.proofs.Encoded.{another_line, columns_at, filled}
 use Rattle.age_armor.proofs.encoding.encode_lines.Goals as goal
 

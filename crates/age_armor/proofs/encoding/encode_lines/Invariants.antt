@@ -1,5 +1,5 @@
 use Rattle.std.proofs.Common.{◌≡◌, ◌*◌, take}
-use Rattle.age_armor.specs.FullLines.{full_lines}
+use Rattle.age_v1.specs.ArmorFullLines.{full_lines}
 use Rattle.age_armor.proofs.encoding.encode_lines.Given as goal
 
 abbrev pub invariant-lines : goal.invariant-lines

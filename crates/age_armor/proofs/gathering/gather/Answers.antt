@@ -1,6 +1,6 @@
 use Rattle.std.proofs.Common.{◌≡◌, ◌+◌, ◌*◌, ◌≤◌, ◌-◌, ◌/◌, arith, length, refl, ap}
 use borrow.Rule.Slice.PartMut.{put_mid}
-use Rattle.age_armor.specs.FullLines.{full_lines}
+use Rattle.age_v1.specs.ArmorFullLines.{full_lines}
 use Rattle.age_armor.proofs.AheadLines.{gathered}
 use Rattle.age_armor.proofs.gathering.gather.Goals as goal
 

@@ -1,6 +1,6 @@
 use Rattle.std.proofs.Common.{◌-◌, ◌≡◌, ◌*◌, ◌≤◌, List, ℕ, length, take}
 use Rattle.age_base64.specs.Base64.{padded_columns}
-use Rattle.age_armor.specs.FullLines.{full_lines}
+use Rattle.age_v1.specs.ArmorFullLines.{full_lines}
 use Rattle.age_armor.proofs.gathering.gather.Given as goal
 
 abbrev pub invariant-lines : goal.invariant-lines

@@ -1,6 +1,6 @@
 use Rattle.age_error.specs.declared.io.ArmoredReadError.TheVariants.{InvalidUtf8}
-use Rattle.age_armor.specs.LineVerdict.{Refuses, columns_verdict, line_columns, verdict}
-use Rattle.age_armor.proofs.Verdicts.{passes_to, verdict_is}
+use Rattle.age_v1.specs.ArmorLineVerdict.{Refuses, columns_verdict, line_columns, verdict}
+use Rattle.age_v1.proofs.ArmorLineVerdicts.{passes_to, verdict_is}
 use Rattle.age_armor.proofs.Testing.{judged_by}
 use Rattle.age_armor.proofs.judging.judge.Goals as goal
 

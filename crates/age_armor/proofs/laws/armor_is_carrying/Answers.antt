@@ -1,4 +1,4 @@
-use Rattle.age_armor.proofs.Carrying.{armor_carries, ended_carries}
+use Rattle.age_v1.proofs.Carrying.{armor_carries, ended_carries}
 use Rattle.age_armor.proofs.laws.armor_is_carrying.Goals as goal
 
 pub returns-clause-itself : goal.returns-clause-itself

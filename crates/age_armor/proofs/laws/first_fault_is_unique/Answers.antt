@@ -1,4 +1,4 @@
-use Rattle.age_armor.proofs.FirstFaults.{carrying_or_faulty, fault_delivered, not_both, one_fault}
+use Rattle.age_v1.proofs.FirstFaults.{carrying_or_faulty, fault_delivered, not_both, one_fault}
 use Rattle.age_armor.proofs.laws.first_fault_is_unique.Goals as goal
 
 pub returns-clause-either : goal.returns-clause-either

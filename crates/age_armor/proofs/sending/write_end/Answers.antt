@@ -1,11 +1,11 @@
 use Rattle.std.proofs.Common.{◌≡◌, ◌<◌, ◌∙◌, arith, rules, length}
 use Rattle.std.proofs.lemmas.Result.{on_ok_weaker}
 use Rattle.age_io.specs.Writing.{HandsOn}
-use Rattle.age_io.specs.WritingLaws.{keeps-later}
+use Rattle.age_io.specs.WritingLemmas.{keeps-later}
 use Rattle.age_base64.specs.Lines.{line}
 use Rattle.age_base64.specs.Base64.{padded_columns}
-use Rattle.age_armor.specs.Armor.{end_marker}
-use Rattle.age_armor.proofs.WrittenLines.{last_line, no_line}
+use Rattle.age_v1.specs.Armor.{end_marker}
+use Rattle.age_v1.proofs.WrittenLines.{last_line, no_line}
 use Rattle.age_armor.proofs.sending.write_end.Goals as goal
 
 pub returns-then-is_empty-clause-sent : goal.returns-then-is_empty-clause-sent

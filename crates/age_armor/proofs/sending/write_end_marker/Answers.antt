@@ -1,4 +1,4 @@
-use Rattle.age_io.specs.WritingLaws.{keeps-writer}
+use Rattle.age_io.specs.WritingLemmas.{keeps-writer}
 use Rattle.age_armor.proofs.sending.write_end_marker.Goals as goal
 
 pub returns-clause-keeps : goal.returns-clause-keeps

@@ -3,7 +3,7 @@ use Rattle.std.specs.Prelude.{slice_index}
 use Rattle.std.specs.List.{starts_with}
 use Rattle.std.proofs.lemmas.Grind.{common_steps}
 use Rattle.std.proofs.lemmas.List.{take_at}
-use Rattle.age_armor.specs.Armor.{begin_marker}
+use Rattle.age_v1.specs.Armor.{begin_marker}
 use Rattle.age_armor.proofs.Refusing.{kept-as, kept-error, kept-refused, kept-still}
 use Rattle.age_armor.proofs.Staging.{finds_form, detects_binary, detects_lf, detects_crlf, detects_bad, detects_bad_next, advances_none, one_of}
 use Rattle.age_armor.proofs.stages.after_front.Goals as goal

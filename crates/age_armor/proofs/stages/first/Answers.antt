@@ -2,7 +2,8 @@ use Rattle.std.proofs.Common.{◌≡◌, ◌∙◌, IsTrue, arith, sym, subst}
 use Rattle.std.proofs.lemmas.Bool.{true≢false}
 use Rattle.std.proofs.lemmas.Result.{IfOk-weaker}
 use Rattle.age_armor.specs.declared.stages.Stage.TheVariants.{Start, Lines}
-use Rattle.age_armor.specs.Stages.{ahead, FindsForm}
+use Rattle.age_armor.specs.Stages.{ahead}
+use Rattle.age_armor.specs.PrivateStages.{FindsForm}
 use Rattle.age_armor.proofs.Staging.{piece-later, gives-later, found_none}
 use Rattle.age_armor.proofs.Refusing.{kept-later}
 use Rattle.age_armor.proofs.stages.first.Goals as goal

@@ -1,5 +1,5 @@
 use Rattle.std.proofs.Common.{◌∙◌}
-use Rattle.age_armor.proofs.ArmorLines.{armor_written}
+use Rattle.age_v1.proofs.ArmorLines.{armor_written}
 use Rattle.age_armor_tests.proofs.definition_tests.armor_whole.Goals as goal
 
 pub returns : goal.returns

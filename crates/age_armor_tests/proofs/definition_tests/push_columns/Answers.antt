@@ -1,6 +1,6 @@
 use Rattle.std.proofs.Common.{rules, arith, length, ◌<◌}
 use Rattle.std.proofs.lemmas.Result.{on_ok_weaker}
-use Rattle.age_armor.proofs.ArmorLines.{armor_step, armor_end, armor_over}
+use Rattle.age_v1.proofs.ArmorLines.{armor_step, armor_end, armor_over}
 use Rattle.age_armor_tests.proofs.definition_tests.push_columns.Goals as goal
 
 pub loop-rest-preserved : goal.loop-rest-preserved

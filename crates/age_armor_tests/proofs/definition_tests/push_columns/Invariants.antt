@@ -1,7 +1,7 @@
 use Rattle.std.proofs.Common.{◌≡◌, ◌++◌, length}
 use Rattle.std.specs.List.{flat_map}
 use Rattle.age_base64.specs.Lines.{line}
-use Rattle.age_armor.specs.Armor.{armor_lines}
+use Rattle.age_v1.specs.Armor.{armor_lines}
 use Rattle.age_armor_tests.proofs.definition_tests.push_columns.Given as goal
 
 abbrev pub invariant-loop-rest : goal.invariant-loop-rest

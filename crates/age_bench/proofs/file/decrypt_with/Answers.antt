@@ -1,5 +1,5 @@
 use Rattle.age.proofs.DecryptingStreams.{decrypts_all_as}
-use Rattle.age.specs.Parts.{IsFileFor}
+use Rattle.age.specs.Identities.{IsFileFor}
 use Rattle.age_bench.specs.Bench.{bench_seal}
 use Rattle.age_bench.specs.Names.{answers_of, gives_of}
 use Rattle.age_bench.proofs.Answered.{answers, file_for}

@@ -3,7 +3,7 @@ use Rattle.std.proofs.Common.{◌≡◌, ◌∙◌, sym, ap, subst, inr, [], ◌
 use Rattle.std.proofs.lemmas.List.{append-nil, take-append-drop}
 use Rattle.age.specs.Bech32Written.{bech32_text}
 use Rattle.age.specs.Copying.{AppendsFront}
-use Rattle.age.specs.KeyTexts.{identity_prefix}
+use Rattle.age.specs.X25519.{identity_prefix}
 use Rattle.age_bench.proofs.BenchFiles.{were_enough}
 use Rattle.age_bench.proofs.keygen.keygen.Goals as goal
 

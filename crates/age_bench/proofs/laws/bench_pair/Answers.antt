@@ -1,10 +1,10 @@
 use Rattle.std.specs.Prelude.{◌≡◌, ℕ, List, [], Ok, codes}
 use Rattle.std.proofs.Common.{◌∙◌, ap, inl, inr}
 use Rattle.age.specs.EncryptErrors.{OutOfMemory}
-use Rattle.age.specs.Wrapping.{Wrapped}
-use Rattle.age.specs.Unwrapping.{Steady, FirstOf}
+use Rattle.age.specs.Recipients.{Wrapped}
+use Rattle.age.specs.Identities.{Steady, FirstOf}
 use Rattle.age.specs.Belonging.{BelongsTo}
-use Rattle.age.specs.BelongingLaws.{by_stanza}
+use Rattle.age.specs.BelongingInTurn.{by_stanza}
 use Rattle.age.proofs.Tags.{other_tag}
 use Rattle.age.proofs.Outcomes.{same_value, no_refusal}
 use Rattle.age_bench.specs.Recipient.{BenchAsks, BenchWraps, bench_stanza, bench_wrapped, has_other_tag}

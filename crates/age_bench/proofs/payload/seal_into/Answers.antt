@@ -1,16 +1,15 @@
 use Rattle.std.specs.Prelude.{◌≡◌, ℕ, Bool, true, false}
 use Rattle.std.proofs.Common.{rules, ◌∙◌, [], List, refl, subst, inl, inr, add-zero}
 use Rattle.std.proofs.lemmas.List.{append-nil}
-use Rattle.age.specs.Types.{Error}
-use Rattle.age.specs.ErrorLaws.{of_error}
+use Rattle.age.specs.Types.{Error, StreamWriter}
+use Rattle.age.specs.ErrorLemmas.{of_error}
 use Rattle.age.specs.ErrorVariants.{Device}
 use Rattle.age.specs.ErrorKindVariants.{Interrupted}
 use Rattle.age.specs.WholeFiles.{RefusesFile}
 use Rattle.age.specs.Writing.{Narrows, OrMemory, Retried}
-use Rattle.age.specs.WritingLaws.{retried-plain}
+use Rattle.age.specs.WritingLemmas.{retried-plain}
 use Rattle.age.specs.StreamWriting.{Refused, WasMade}
-use Rattle.age.specs.StreamWritingLaws.{Refused-made, Refused-patient}
-use Rattle.age.specs.Types.{StreamWriter}
+use Rattle.age.specs.StreamWritingLemmas.{Refused-made, Refused-patient}
 use Rattle.age_bench.proofs.payload.seal_into.Goals as goal
 
 module _ {S W : Type 0} (refuses : W → ℕ → Error → Type 0) (key : List ℕ) (writer : W) (stream : StreamWriter S W) (made : WasMade key writer stream) where

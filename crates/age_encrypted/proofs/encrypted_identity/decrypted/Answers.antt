@@ -1,4 +1,4 @@
-use Rattle.age_keys.specs.Scrypt.{UnwrapsUnder}
+use Rattle.age_v1.specs.Scrypt.{UnwrapsUnder}
 use Rattle.age_encrypted.proofs.Decrypted.{stream_named, refusal_named}
 use Rattle.age_encrypted.proofs.encrypted_identity.decrypted.Goals as goal
 

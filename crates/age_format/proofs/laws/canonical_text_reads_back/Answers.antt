@@ -1,7 +1,7 @@
-use Rattle.age_format.specs.Header.{header_text}
-use Rattle.age_format.proofs.Covered.{covered_canonical}
-use Rattle.age_format.proofs.Headers.{canonical_header}
-use Rattle.age_format.proofs.ReadsBack.{reads_back}
+use Rattle.age_v1.specs.Header.{header_text}
+use Rattle.age_v1.proofs.CoveredText.{covered_canonical}
+use Rattle.age_v1.proofs.Headers.{canonical_header}
+use Rattle.age_v1.proofs.HeadersReadBack.{reads_back}
 use Rattle.age_format.proofs.laws.canonical_text_reads_back.Goals as goal
 
 pub returns-clause-reads : goal.returns-clause-reads

@@ -1,4 +1,4 @@
-use Rattle.age_format.proofs.Covered.{covered_is}
+use Rattle.age_v1.proofs.CoveredText.{covered_is}
 use Rattle.age_format.proofs.laws.covered_front.Goals as goal
 
 pub returns : goal.returns

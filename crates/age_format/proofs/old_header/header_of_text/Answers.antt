@@ -1,6 +1,6 @@
 use Rattle.std.proofs.Common.{arith, subst}
 use Rattle.age_error.specs.Bytes.{AreBytes}
-use Rattle.age_format.specs.Stanza.{or_legacy}
+use Rattle.age_v1.specs.HeaderTexts.{or_legacy}
 use Rattle.age_format.proofs.HeaderReading.{has_uncovered, header_of}
 use Rattle.age_format.proofs.old_header.header_of_text.Goals as goal
 

@@ -1,6 +1,6 @@
 use Rattle.std.proofs.Common.{rules, ◌≡◌, sym, ◌∙◌, subst}
 use Rattle.age_error.specs.Bytes.{AreBytesOf}
-use Rattle.age_format.specs.Header.{mac_line}
+use Rattle.age_v1.specs.Header.{mac_line}
 use Rattle.age_format.proofs.Parsing.{mac_line_other, mac_line_none, mac_line_some, mac_line_long}
 use Rattle.age_format.proofs.parse.parse_mac_line.Goals as goal
 

@@ -1,8 +1,7 @@
-use Rattle.std.proofs.Common.{◌≡◌, sym, ◌∙◌, ap, arith, string_bytes, map}
-use Rattle.age_format.specs.Bytes.{IsString}
+use Rattle.std.proofs.Common.{◌≡◌, sym, ◌∙◌, ap, arith, string_bytes, map, subst, Bool, true, false}
+use Rattle.age_v1.specs.Stanza.{IsString}
 use Rattle.age_format.proofs.Parsing.{words_none, words_done, ascii_string}
 use Rattle.std.proofs.lemmas.Str.{IsUtf8-from_ascii}
-use Rattle.std.proofs.Common.{subst, Bool, true, false}
 use Rattle.age_format.proofs.parse.words_of.Goals as goal
 
 absurd_bool : (b : Bool) → b ≡ true → b ≡ false → ⊥

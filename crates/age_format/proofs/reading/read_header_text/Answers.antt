@@ -1,15 +1,15 @@
 use Rattle.std.proofs.Common.{rules, ◌≡◌, ◌∙◌, ◌∷◌, ◌++◌, [], length, ap, arith, length-append, subst, sym}
 use Rattle.age_error.specs.declared.decrypt.DecryptError.TheVariants as decrypt
 use Rattle.age_error.specs.DecryptErrors.{DecryptRefusal, IfIoRefusal, decrypt_refusal, decrypt_of_io}
-use Rattle.age_error.specs.ErrorLaws.{of_error}
+use Rattle.age_error.specs.ErrorLemmas.{of_error}
 use Rattle.age_io.specs.Keeping.{OrEarly}
 use Rattle.age_io.specs.Reading.{Delivers}
 use Rattle.age_io.proofs.Delivering.{Delivers-joined}
 use Rattle.age_io.proofs.Keeping.{early-narrows}
-use Rattle.age_format.specs.Header.{IsHeaderText}
+use Rattle.age_v1.specs.HeaderTexts.{IsHeaderText}
 use Rattle.age_format.specs.Progress.{ReaderValue}
 use Rattle.age_format.specs.ReadingHeader.{RefusesHeader, TookVerdict}
-use Rattle.age_format.specs.Verdict.{Header, UnknownVersion, Bad}
+use Rattle.age_v1.specs.HeaderVerdict.{Header, UnknownVersion, Bad}
 use Rattle.age_format.proofs.HeaderReading.{took_verdict, io_of_error, ran_out_after, reader_refused}
 use Rattle.age_format.proofs.reading.read_header_text.Goals as goal
 

@@ -1,6 +1,6 @@
 use Rattle.std.proofs.Common.{rules, ◌≡◌, ◌↔◌, IsTrue, sym, subst}
-use Rattle.age_format.specs.Bytes.{IsString, is_string_of}
-use Rattle.age_format.proofs.Strings.{string_tested}
+use Rattle.age_v1.specs.Stanza.{IsString, is_string_of}
+use Rattle.age_v1.proofs.Strings.{string_tested}
 use Rattle.age_format.proofs.stanza.is_string_of_bytes.Goals as goal
 
 pub returns-then-not-is_empty-clause-exactly : goal.returns-then-not-is_empty-clause-exactly

@@ -1,6 +1,7 @@
 use Rattle.std.proofs.Common.{rules, ◌≡◌, ◌++◌, ◌∷◌, ℕ, List, [], sym, ◌∙◌, ap, subst}
 use Rattle.age_base64.specs.Lines.{line}
-use Rattle.age_format.specs.Stanza.{StanzaValue, grown}
+use Rattle.age_v1.specs.HeaderTexts.{grown}
+use Rattle.age_v1.specs.Stanza.{StanzaValue}
 use Rattle.age_format.specs.Reading.{IsInBody, IsBodyAndTail, IsTail}
 use Rattle.age_format.proofs.States.{goes_on_in_body, closes_body, bad_body, too_long, IsAfterBody}
 use Rattle.age_format.proofs.state.judge_body.Goals as goal

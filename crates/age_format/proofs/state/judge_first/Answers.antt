@@ -1,7 +1,7 @@
 use Rattle.std.proofs.Common.{◌≡◌, ◌++◌, [], sym, ◌∙◌, refl, subst}
 use Rattle.std.proofs.lemmas.List.{append-nil}
 use Rattle.age_base64.specs.Lines.{line}
-use Rattle.age_format.specs.Header.{version_line}
+use Rattle.age_v1.specs.Header.{version_line}
 use Rattle.age_format.specs.Reading.{IsInBody, IsBodyAndTail}
 use Rattle.age_format.proofs.States.{opens_body, bad_first}
 use Rattle.age_format.proofs.state.judge_first.Goals as goal

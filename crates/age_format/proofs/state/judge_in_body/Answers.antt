@@ -1,7 +1,7 @@
 use Rattle.std.proofs.Common.{◌≡◌, ◌++◌, ◌∷◌, ◌≢◌, ℕ, List, [], true, false, sym, ◌∙◌, subst}
 use Rattle.std.proofs.lemmas.Result.{IfOk-weaker}
 use Rattle.age_base64.specs.Lines.{line}
-use Rattle.age_format.specs.Stanza.{StanzaValue}
+use Rattle.age_v1.specs.Stanza.{StanzaValue}
 use Rattle.age_format.specs.Reading.{IsTail}
 use Rattle.age_format.proofs.States.{closes_legacy, IsAfterBody}
 use Rattle.age_format.proofs.state.judge_in_body.Goals as goal

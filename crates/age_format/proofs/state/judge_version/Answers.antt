@@ -1,8 +1,8 @@
 use Rattle.std.specs.Prelude.{codes}
 use Rattle.std.proofs.Common.{◌≡◌, sym, ◌∙◌, subst, true, false}
-use Rattle.age_format.specs.Bytes.{IsString}
+use Rattle.age_v1.specs.Stanza.{IsString}
 use Rattle.std.proofs.lemmas.List.{append_cancel_left}
-use Rattle.age_format.specs.Header.{magic}
+use Rattle.age_v1.specs.HeaderTexts.{magic}
 use Rattle.age_format.proofs.States.{bad_version}
 use Rattle.age_format.proofs.state.judge_version.Goals as goal
 

@@ -1,5 +1,5 @@
 use Rattle.std.proofs.Common.{◌≡◌, ◌++◌, ℕ, List, length}
-use Rattle.age_format.specs.Stanza.{body_text}
+use Rattle.age_v1.specs.Stanza.{body_text}
 use Rattle.age_format.proofs.write.write_body.Given as goal
 
 abbrev pub invariant-loop-rest : goal.invariant-loop-rest

@@ -4,8 +4,8 @@ use Rattle.std.specs.List.{AllByRecursion, flat_map}
 use Rattle.std.proofs.lemmas.List.{take_all}
 use Rattle.std.proofs.lemmas.Result.{on_ok_weaker}
 use Rattle.age_base64.specs.Lines.{line}
-use Rattle.age_format.specs.Stanza.{IsStanza, stanza_text}
-use Rattle.age_format.specs.Header.{version_line}
+use Rattle.age_v1.specs.Stanza.{IsStanza, stanza_text}
+use Rattle.age_v1.specs.Header.{version_line}
 use Rattle.age_format.proofs.HeaderWriting.{each_more, front_more, front_ends}
 use Rattle.age_format.proofs.write.write_covered.Goals as goal
 

@@ -1,8 +1,8 @@
 use Rattle.std.proofs.Common.{◌++◌, take}
 use Rattle.std.specs.List.{AllByRecursion, flat_map}
 use Rattle.age_base64.specs.Lines.{line}
-use Rattle.age_format.specs.Stanza.{IsStanza, stanza_text}
-use Rattle.age_format.specs.Header.{version_line}
+use Rattle.age_v1.specs.Stanza.{IsStanza, stanza_text}
+use Rattle.age_v1.specs.Header.{version_line}
 use Rattle.age_format.proofs.write.write_covered.Given as goal
 
 abbrev pub invariant-loop-stanza : goal.invariant-loop-stanza

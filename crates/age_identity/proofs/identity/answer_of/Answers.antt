@@ -1,6 +1,6 @@
 use Rattle.std.proofs.Common.{arith, rules}
 use Rattle.age_format.specs.Unwrapping.{key_answer}
-use Rattle.age_keys.specs.X25519.{UnwrapsBy}
+use Rattle.age_v1.specs.X25519.{UnwrapsBy}
 use Rattle.age_identity.proofs.Asked.{none_answers, first_answers, others_answer}
 use Rattle.age_identity.proofs.identity.answer_of.Goals as goal
 

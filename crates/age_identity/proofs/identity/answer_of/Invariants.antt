@@ -1,6 +1,6 @@
 use Rattle.std.proofs.Common.{length, map}
-use Rattle.age_format.specs.Unwrapping.{UnwrapAnswer}
-use Rattle.age_keys.specs.X25519.{UnwrapsBy}
+use Rattle.age_v1.specs.Identities.{UnwrapAnswer}
+use Rattle.age_v1.specs.X25519.{UnwrapsBy}
 use Rattle.age_identity.specs.Asking.{EntriesAnswer}
 use Rattle.age_identity.specs.Entries.{entry_of}
 use Rattle.age_identity.specs.IdentityFile.{entries_of}

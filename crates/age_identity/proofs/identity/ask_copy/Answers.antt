@@ -1,6 +1,6 @@
 use Rattle.age_format.specs.Unwrapping.{unwrap_answer}
-use Rattle.age_format.specs.UnwrappingLaws.{either_way}
-use Rattle.age_keys.specs.X25519.{UnwrapsBy}
+use Rattle.age_v1.proofs.AskedInTurn.{either_way}
+use Rattle.age_v1.specs.X25519.{UnwrapsBy}
 use Rattle.age_identity.proofs.identity.ask_copy.Goals as goal
 
 pub returns : goal.returns

@@ -2,14 +2,13 @@ use Rattle.std.proofs.Common.{◌≡◌, ◌<◌, ◌≤◌, IsTrue, ◌∙◌, 
 use Rattle.std.specs.Prelude.{⊤}
 use Rattle.age_error.specs.Refusals.{IsDevice}
 use Rattle.age_io.specs.Writing.{Narrows, Retried}
-use Rattle.age_io.specs.WritingLaws.{narrows-same, retried-more, hands-on-narrows}
-use Rattle.age_error.specs.ErrorLaws.{of_error}
+use Rattle.age_io.specs.WritingLemmas.{narrows-same, retried-more, hands-on-narrows}
+use Rattle.age_error.specs.ErrorLemmas.{of_error}
 use Rattle.age_io.proofs.Exiting.{OnOk-refused}
 use Rattle.age_io.proofs.Appending.{OnErr-of, left-fewer, left-refused}
 use Rattle.age_io.proofs.Delivering.{refilled}
-use Rattle.age_io.specs.ReadingLaws.{quiet_from}
-use Rattle.age_io.proofs.Copied.{front-more, front-copied, all-copied, copied-stands, copied-more, copied-none}
-use Rattle.age_io.proofs.Copied.{left-unasked, left-between, left-by-read, left-by-write, well-is-no-fault}
+use Rattle.age_io.specs.ReadingLemmas.{quiet_from}
+use Rattle.age_io.proofs.Copied.{front-more, front-copied, all-copied, copied-stands, copied-more, copied-none, left-unasked, left-between, left-by-read, left-by-write, well-is-no-fault}
 use Rattle.age_io.proofs.PartCopied.{none-copied}
 use Rattle.age_io.proofs.copying.copy_all.Goals as goal
 

@@ -1,15 +1,14 @@
 use Rattle.std.proofs.Common.{◌≡◌, ◌+◌, ◌-◌, ◌<◌, ◌≤◌, IsTrue, inl, inr, subst, ◌∙◌, refl, arith, length, take, length-take-le}
 use Rattle.std.proofs.lemmas.Grind.{common_steps}
 use Rattle.age_error.specs.Refusals.{IsDevice}
-use Rattle.age_io.specs.ReadingLaws.{quiet_from}
+use Rattle.age_io.specs.ReadingLemmas.{quiet_from}
 use Rattle.age_io.specs.Writing.{Retried}
-use Rattle.age_io.specs.WritingLaws.{narrows-same, retried-more}
-use Rattle.age_error.specs.ErrorLaws.{of_error}
+use Rattle.age_io.specs.WritingLemmas.{narrows-same, retried-more}
+use Rattle.age_error.specs.ErrorLemmas.{of_error}
 use Rattle.age_io.proofs.Exiting.{OnOk-refused}
 use Rattle.age_io.proofs.Appending.{OnErr-of, left-fewer, left-refused}
 use Rattle.age_io.proofs.Copied.{left-unasked, well-is-no-fault}
-use Rattle.age_io.proofs.PartCopied.{none-copied, part-none, part-ended, part-full, part-stands, part-stands-full, part-front}
-use Rattle.age_io.proofs.PartCopied.{part-unread, part-refused, part-unwritten, part-more}
+use Rattle.age_io.proofs.PartCopied.{none-copied, part-none, part-ended, part-full, part-stands, part-stands-full, part-front, part-unread, part-refused, part-unwritten, part-more}
 use Rattle.age_io.proofs.copying.copy_some.Goals as goal
 
 pub returns-in_err-piece : goal.returns-in_err-piece

@@ -4,9 +4,9 @@ use Rattle.std.proofs.lemmas.Grind.{common_steps}
 use Rattle.age_io.proofs.Delivering.{take-filled}
 use Rattle.age_io.proofs.Filled.{filled-more}
 use Rattle.age_io.specs.Reading.{TriedAgain}
-use Rattle.age_io.specs.ReadingLaws.{quiet_from}
+use Rattle.age_io.specs.ReadingLemmas.{quiet_from}
 use Rattle.age_io.proofs.Appending.{OnErr-of}
-use Rattle.age_error.specs.ErrorLaws.{of_error}
+use Rattle.age_error.specs.ErrorLemmas.{of_error}
 use Rattle.age_io.proofs.Exiting.{OnOk-refused}
 use Rattle.age_io.proofs.Keeping.{same-later, same-read, keeps-done}
 use Rattle.age_io.proofs.Stopping.{keeps-by-read, gave-front, fault-early, delivers-none, still-clean}

@@ -4,9 +4,9 @@ use Rattle.age_io.proofs.Delivering.{take-filled}
 use Rattle.age_io.proofs.Filled.{filled-more}
 use Rattle.age_error.specs.declared.io.Error.TheVariants.{UnexpectedEof}
 use Rattle.age_io.specs.Keeping.{OrEarly}
-use Rattle.age_io.specs.ReadingLaws.{quiet_from}
+use Rattle.age_io.specs.ReadingLemmas.{quiet_from}
 use Rattle.age_io.proofs.Appending.{OnErr-of}
-use Rattle.age_error.specs.ErrorLaws.{of_error}
+use Rattle.age_error.specs.ErrorLemmas.{of_error}
 use Rattle.age_io.proofs.Exiting.{OnOk-refused}
 use Rattle.age_io.proofs.Keeping.{same-later, same-read, keeps-done, keeps-refused}
 use Rattle.age_io.proofs.Stopping.{keeps-by-read, took-front, fault-short, clean-short, delivers-none}

@@ -3,8 +3,8 @@ use Rattle.std.proofs.Common.{◌≡◌, ◌<◌, ◌⊎◌, IsTrue, arith, refl
 use Rattle.std.proofs.lemmas.Result.{IfOk-from_err}
 use Rattle.age_error.specs.declared.io.Error.TheVariants.{OutOfMemory}
 use Rattle.age_io.specs.Reading.{TriedAgain}
-use Rattle.age_io.specs.ReadingLaws.{quiet_from}
-use Rattle.age_error.specs.ErrorLaws.{of_error}
+use Rattle.age_io.specs.ReadingLemmas.{quiet_from}
+use Rattle.age_error.specs.ErrorLemmas.{of_error}
 use Rattle.age_io.proofs.Exiting.{OnOk-refused}
 use Rattle.age_io.proofs.Stopping.{keeps-by-read, keeps-memory, appended-front, grown-all, still-clean}
 use Rattle.std.proofs.lemmas.Grind.{common_steps}

@@ -4,7 +4,7 @@ use Rattle.std.proofs.lemmas.List.{take_rest}
 use Rattle.age_io.proofs.Appending.{further, before_nothing}
 use Rattle.age_error.specs.declared.io.Error.TheVariants.{WriteZero}
 use Rattle.age_io.specs.Writing.{Retried}
-use Rattle.age_io.specs.WritingLaws.{narrows-both}
+use Rattle.age_io.specs.WritingLemmas.{narrows-both}
 use Rattle.age_io.proofs.whole.write_all.Goals as goal
 
 pub returns-in-Err-clause-writes : goal.returns-in-Err-clause-writes

@@ -1,5 +1,5 @@
 use Rattle.std.proofs.Common.{◌∙◌, ap, inl, Ok}
-use Rattle.age_keys.specs.OwnType.{no_nonce}
+use Rattle.age_v1.specs.RecipientType.{no_nonce}
 use Rattle.age_keys.proofs.Strings.{sealed_is}
 use Rattle.age_keys.proofs.stanzas.seal_stanza.Goals as goal
 

@@ -1,6 +1,6 @@
 use Rattle.std.proofs.Common.{◌≡◌, rules, length, refl, inl, inr, arith}
 use Rattle.age_error.specs.DecryptErrors.{decrypt_of_io}
-use Rattle.age_error.specs.ErrorLaws.{of_error}
+use Rattle.age_error.specs.ErrorLemmas.{of_error}
 use Rattle.age_io.specs.Keeping.{OrEarly}
 use Rattle.age_format.proofs.HeaderReading.{io_of_error}
 use Rattle.age_protocol.proofs.Fronts.{is_device}

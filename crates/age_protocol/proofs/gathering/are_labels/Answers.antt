@@ -1,5 +1,5 @@
 use Rattle.std.proofs.Common.{string_bytes, sym, ◌∙◌}
-use Rattle.age_format.specs.Bytes.{is_string_of}
+use Rattle.age_v1.specs.Stanza.{is_string_of}
 use Rattle.std.proofs.lemmas.List.Folds.{list_all-map}
 use Rattle.age_protocol.proofs.gathering.are_labels.Goals as goal
 

@@ -1,5 +1,5 @@
 use Rattle.std.proofs.Common.{sym, subst}
-use Rattle.age_format.specs.Header.{KeepsScryptRule}
+use Rattle.age_v1.specs.Header.{KeepsScryptRule}
 use Rattle.age_protocol.proofs.Rule.{rule_with, rule_without}
 use Rattle.age_protocol.proofs.gathering.with_grease.Goals as goal
 

@@ -1,6 +1,6 @@
 use Rattle.std.proofs.Common.{rules, ◌∙◌, ap, refl, subst, inl, inr, Ok, Err}
-use Rattle.age_format.specs.Header.{covered_text}
-use Rattle.age_format.specs.HeaderV1.{header_mac}
+use Rattle.age_v1.specs.Header.{covered_text}
+use Rattle.age_v1.specs.HeaderMac.{header_mac}
 use Rattle.age_protocol.specs.Migrating.{Rewrites}
 use Rattle.age_error.specs.declared.decrypt.DecryptError.TheVariants as decrypt
 use Rattle.age_error.specs.DecryptErrors.{decrypt_refusal}

@@ -1,5 +1,5 @@
 use Rattle.std.proofs.Common.{Err, refl, inl, [], ◌∷◌}
-use Rattle.age_format.specs.Unwrapping.{Unwraps}
+use Rattle.age_v1.specs.Identities.{Unwraps}
 use Rattle.age_protocol.specs.Decryptor.{header_of}
 use Rattle.age_protocol.proofs.Alone.{alone}
 use Rattle.age_protocol.proofs.OpenedFor.{asked, not_asked, stands_or_want}

@@ -1,7 +1,7 @@
 use Rattle.std.proofs.Common.{◌≡◌, sym, ap}
 use Rattle.age_io.specs.Stretch.{whole}
 use Rattle.age_armor.specs.Reader.{armored_rest}
-use Rattle.age_protocol.specs.Parts.{FirstAnswer}
+use Rattle.age_v1.specs.Identities.{FirstAnswer}
 use Rattle.age_protocol.proofs.Decrypted.{both_told}
 use Rattle.age_protocol.proofs.Parts.{file_for}
 use Rattle.age_protocol.proofs.opening.open_text.Goals as goal

@@ -1,11 +1,11 @@
 use Rattle.std.proofs.Common.{◌≡◌, ◌∙◌, sym, ap, subst, refl, inl, inr, true, List, ◌++◌, ℕ, IsTrue}
 use Rattle.std.proofs.lemmas.Result.{on_ok_weaker, IfErr-weaker}
-use Rattle.age_armor.specs.Armor.{Carries}
-use Rattle.age_armor.specs.Delivered.{delivered, stretch_of}
-use Rattle.age_protocol.specs.Texts.{BeginsText}
-use Rattle.age_protocol.specs.Texts.{Begins}
+use Rattle.age_v1.specs.Armor.{Carries}
+use Rattle.age_v1.specs.DeliveredArmor.{text_delivers, stretch_of}
+use Rattle.age_protocol.specs.Texts.{BeginsText, HasFront}
 use Rattle.age_error.specs.DecryptErrors.{DecryptRefusal}
-use Rattle.age_protocol.specs.DecryptingStreams.{AnswersFirst, RefusesOpening}
+use Rattle.age_protocol.specs.DecryptingStreams.{RefusesOpening}
+use Rattle.age_v1.specs.Identities.{AnswersFirst}
 use Rattle.age_error.specs.declared.io.Error.TheVariants.{Failed}
 use Rattle.age_protocol.specs.Parts.{StandsAt, IsPartAt, RefusesPart}
 use Rattle.age_protocol.specs.WholeFiles.{LacksFront, read_of}
@@ -42,12 +42,12 @@ returns g c =
           quiet_by g.W.Write.appended g.W.Write.refuses c.args.place c.args.count plain _ _ c.args.writer.now c.at_text.new.writer c.at_text.result (λ quiet. tt)
           (c.at_text.ensures.cursor writer_told file plain (subst (λ (l : List ℕ). Carries l file) (sym (same reader_told)) carries) for);
       standing = λ reader_told writer_told.
-          begun-or (Begins (stretch_of (delivered text true)) 0) front _ _ g.W.Write.appended c.args.count (StandsAt g.S.Suite.seal_of c.args.place) c.args.writer.now
+          begun-or (HasFront (stretch_of (text_delivers text true)) 0) front _ _ g.W.Write.appended c.args.count (StandsAt g.S.Suite.seal_of c.args.place) c.args.writer.now
           c.at_text.new.writer (begins-read g.R.Read.tells g.R.Read.rest reader text (same reader_told) (c.in-Ok.ensures.end reader_told)) (λ key stanzas by. by)
           (c.at_text.ensures.standing writer_told);
       given = λ reader_told writer_told.
           on_ok_weaker c.at_text.result
-          (begun (Begins (stretch_of (delivered text true)) 0) front _ _ g.W.Write.appended c.args.count (IsPartAt g.S.Suite.seal_of c.args.place c.args.count) c.args.writer.now
+          (begun (HasFront (stretch_of (text_delivers text true)) 0) front _ _ g.W.Write.appended c.args.count (IsPartAt g.S.Suite.seal_of c.args.place c.args.count) c.args.writer.now
           c.at_text.new.writer (begins-read g.R.Read.tells g.R.Read.rest reader text (same reader_told) (c.in-Ok.ensures.end reader_told)) (λ key stanzas by. by))
           (c.at_text.ensures.given writer_told);
       io =
@@ -56,7 +56,7 @@ returns g c =
           c.at_text.ensures.io;
       why = λ reader_told.
           let asked = AnswersFirst g.I.Identity.unwraps c.args.identities.now c.at_text.new.identities in
-          let opening : (refusal : DecryptRefusal) → RefusesOpening text (Begins (read_of text) 0) asked refusal → RefusesOpening rest.bytes front asked refusal =
+          let opening : (refusal : DecryptRefusal) → RefusesOpening text (HasFront (read_of text) 0) asked refusal → RefusesOpening rest.bytes front asked refusal =
           λ refusal why. elim why [
             | inl lacks ↦ inl (subst (λ (l : List ℕ). LacksFront (read_of l) refusal) (same reader_told) lacks)
             | inr answered ↦ inr (refuses_answered _ front (begins-read g.R.Read.tells g.R.Read.rest reader text (same reader_told) (c.in-Ok.ensures.end reader_told)) asked asked
@@ -71,7 +71,7 @@ returns g c =
               | inl writes ↦ inr (inr (inl writes))
               | inr more ↦ elim more [
                 | inl reading ↦ inr (inr (inr (inl reading)))
-                | inr part ↦ inr (inr (inr (inr (begun (Begins (stretch_of (delivered text true)) 0) front _ _ g.W.Write.appended c.args.count
+                | inr part ↦ inr (inr (inr (inr (begun (HasFront (stretch_of (text_delivers text true)) 0) front _ _ g.W.Write.appended c.args.count
                     (RefusesPart g.S.Suite.seal_of (λ f. f ≡ Failed) c.args.place e) c.args.writer.now c.at_text.new.writer
                     (begins-read g.R.Read.tells g.R.Read.rest reader text (same reader_told) (c.in-Ok.ensures.end reader_told)) (λ key stanzas by. by) part))))
               ]

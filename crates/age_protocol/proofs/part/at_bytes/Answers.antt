@@ -1,6 +1,6 @@
 use Rattle.std.proofs.Common.{◌∙◌, ◌&&◌, ap, subst, sym, inl, inr, List, ℕ, IsTrue}
 use Rattle.age_io.specs.Stretch.{from_place}
-use Rattle.age_protocol.specs.File.{payload_key}
+use Rattle.age_v1.specs.Payload.{payload_key}
 use Rattle.age_io.specs.Reading.{TriedAgain}
 use Rattle.age_io.specs.Copying.{AppendsSome}
 use Rattle.age_protocol.specs.Parts.{StandsAt, IsPartAt, RefusesPart}

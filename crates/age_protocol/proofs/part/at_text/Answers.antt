@@ -4,9 +4,9 @@ use Rattle.age_error.specs.declared.io.Error.{Error}
 use Rattle.age_error.specs.declared.io.Error.TheVariants.{Failed}
 use Rattle.age_io.specs.Stretch.{Stretch, whole}
 use Rattle.age_armor.specs.Seeking.{OrAstray}
-use Rattle.age_stream.specs.Payload.{Seal}
-use Rattle.age_armor.specs.Armor.{Carries}
-use Rattle.age_armor.specs.Delivered.{delivered, stretch_of}
+use Rattle.age_v1.specs.Payload.{Seal}
+use Rattle.age_v1.specs.Armor.{Carries}
+use Rattle.age_v1.specs.DeliveredArmor.{text_delivers, stretch_of}
 use Rattle.age_protocol.specs.Opened.{IsNotOpened}
 use Rattle.age_armor.specs.Reader.{armored_reader, armored_rest, armored_content, place_of, refuses_of}
 use Rattle.age_stream.specs.Keeping.{IsPayloadRefusal}
@@ -14,10 +14,11 @@ use Rattle.age_protocol.proofs.Decrypted.{by_cause, decrypts_weaker}
 use Rattle.age_protocol.proofs.Opened.{lacks_front}
 use Rattle.age_protocol.specs.WholeFiles.{read_of}
 use Rattle.age_error.specs.DecryptErrors.{DecryptRefusal}
-use Rattle.age_protocol.specs.DecryptingStreams.{AnswersFirst, RefusesOpening}
+use Rattle.age_protocol.specs.DecryptingStreams.{RefusesOpening}
+use Rattle.age_v1.specs.Identities.{AnswersFirst}
 use Rattle.age_protocol.proofs.Reasons.{from_slice, io_refusal_weaker}
 use Rattle.age_protocol.proofs.DecryptingStreams.{io_weaker}
-use Rattle.age_protocol.specs.Texts.{Begins}
+use Rattle.age_protocol.specs.Texts.{HasFront}
 use Rattle.age_protocol.specs.Parts.{StandsAt, IsPartAt, RefusesPart}
 use Rattle.age_protocol.proofs.Parts.{memory_before, quiet_by, file_for, of_holds}
 use Rattle.age_protocol.proofs.Standing.{begun, begun-or, same-content, fresh-text, begins-same}
@@ -56,12 +57,12 @@ returns-in-Ok-clause-standing g c = λ writer_told.
     let bytes = c.in-Ok.bytes in
     let made = c.in-Ok.ensures in
     let text = c.args.text.now in
-    let rest : armored_rest bytes ≡ stretch_of (delivered text true) = made.rest ∙ ap (λ s. stretch_of (delivered s.bytes s.ends_well)) c.new.ensures.rest in
-    let content : armored_content bytes ≡ stretch_of (delivered text true) =
+    let rest : armored_rest bytes ≡ stretch_of (text_delivers text true) = made.rest ∙ ap (λ s. stretch_of (text_delivers s.bytes s.ends_well)) c.new.ensures.rest in
+    let content : armored_content bytes ≡ stretch_of (text_delivers text true) =
     made.content ∙ same-content _ (whole text) _ 0 c.new.ensures.content c.new.ensures.place in
-    let fresh = fresh-text (armored_rest bytes) (armored_content bytes) (stretch_of (delivered text true)) (place_of bytes) rest content made.place in
-    begun-or (Begins (armored_rest bytes) (place_of bytes)) (Begins (stretch_of (delivered text true)) 0) _ _ g.W.Write.appended c.args.count (StandsAt g.S.Suite.seal_of c.args.place) c.args.writer.now c.at_bytes.new.writer
-    (begins-same (armored_rest bytes) (stretch_of (delivered text true)) (place_of bytes) rest made.place) (λ key stanzas by. by)
+    let fresh = fresh-text (armored_rest bytes) (armored_content bytes) (stretch_of (text_delivers text true)) (place_of bytes) rest content made.place in
+    begun-or (HasFront (armored_rest bytes) (place_of bytes)) (HasFront (stretch_of (text_delivers text true)) 0) _ _ g.W.Write.appended c.args.count (StandsAt g.S.Suite.seal_of c.args.place) c.args.writer.now c.at_bytes.new.writer
+    (begins-same (armored_rest bytes) (stretch_of (text_delivers text true)) (place_of bytes) rest made.place) (λ key stanzas by. by)
     (c.at_bytes.ensures.standing fresh refl writer_told)
 
 pub returns-in-Ok-clause-given : goal.returns-in-Ok-clause-given
@@ -69,13 +70,13 @@ returns-in-Ok-clause-given g c = λ writer_told.
     let bytes = c.in-Ok.bytes in
     let made = c.in-Ok.ensures in
     let text = c.args.text.now in
-    let rest : armored_rest bytes ≡ stretch_of (delivered text true) = made.rest ∙ ap (λ s. stretch_of (delivered s.bytes s.ends_well)) c.new.ensures.rest in
-    let content : armored_content bytes ≡ stretch_of (delivered text true) =
+    let rest : armored_rest bytes ≡ stretch_of (text_delivers text true) = made.rest ∙ ap (λ s. stretch_of (text_delivers s.bytes s.ends_well)) c.new.ensures.rest in
+    let content : armored_content bytes ≡ stretch_of (text_delivers text true) =
     made.content ∙ same-content _ (whole text) _ 0 c.new.ensures.content c.new.ensures.place in
-    let fresh = fresh-text (armored_rest bytes) (armored_content bytes) (stretch_of (delivered text true)) (place_of bytes) rest content made.place in
+    let fresh = fresh-text (armored_rest bytes) (armored_content bytes) (stretch_of (text_delivers text true)) (place_of bytes) rest content made.place in
     on_ok_weaker c.at_bytes.result
-    (begun (Begins (armored_rest bytes) (place_of bytes)) (Begins (stretch_of (delivered text true)) 0) _ _ g.W.Write.appended c.args.count (IsPartAt g.S.Suite.seal_of c.args.place c.args.count) c.args.writer.now c.at_bytes.new.writer
-    (begins-same (armored_rest bytes) (stretch_of (delivered text true)) (place_of bytes) rest made.place) (λ key stanzas by. by))
+    (begun (HasFront (armored_rest bytes) (place_of bytes)) (HasFront (stretch_of (text_delivers text true)) 0) _ _ g.W.Write.appended c.args.count (IsPartAt g.S.Suite.seal_of c.args.place c.args.count) c.args.writer.now c.at_bytes.new.writer
+    (begins-same (armored_rest bytes) (stretch_of (text_delivers text true)) (place_of bytes) rest made.place) (λ key stanzas by. by))
     (c.at_bytes.ensures.given fresh refl writer_told)
 
 pub returns-in-Ok-clause-io : goal.returns-in-Ok-clause-io
@@ -112,10 +113,10 @@ returns-in-Ok-clause-cause g c = λ writer_told.
     let made = c.in-Ok.ensures in
     let text = c.args.text.now in
     let seal_of = g.S.Suite.seal_of in
-    let rest : armored_rest bytes ≡ stretch_of (delivered text true) = made.rest ∙ ap (λ s. stretch_of (delivered s.bytes s.ends_well)) c.new.ensures.rest in
-    let content : armored_content bytes ≡ stretch_of (delivered text true) =
+    let rest : armored_rest bytes ≡ stretch_of (text_delivers text true) = made.rest ∙ ap (λ s. stretch_of (text_delivers s.bytes s.ends_well)) c.new.ensures.rest in
+    let content : armored_content bytes ≡ stretch_of (text_delivers text true) =
     made.content ∙ same-content _ (whole text) _ 0 c.new.ensures.content c.new.ensures.place in
-    let fresh = fresh-text (armored_rest bytes) (armored_content bytes) (stretch_of (delivered text true)) (place_of bytes) rest content made.place in
+    let fresh = fresh-text (armored_rest bytes) (armored_content bytes) (stretch_of (text_delivers text true)) (place_of bytes) rest content made.place in
     IfErr-weaker c.at_bytes.result _ _
     (io_weaker _ _ (λ e why. elim why [
       | inl memory ↦ inl memory
@@ -123,9 +124,9 @@ returns-in-Ok-clause-cause g c = λ writer_told.
         | inl tried ↦ inr (inr (inl (from_slice refuses_of bytes c.new.result e c.in-Ok.ensures.named tried)))
         | inr more ↦ elim more [
           | inl writes ↦ inr (inl writes)
-          | inr part ↦ inr (inr (inr (begun (Begins (armored_rest bytes) (place_of bytes)) (Begins (stretch_of (delivered text true)) 0) _ _ g.W.Write.appended c.args.count
+          | inr part ↦ inr (inr (inr (begun (HasFront (armored_rest bytes) (place_of bytes)) (HasFront (stretch_of (text_delivers text true)) 0) _ _ g.W.Write.appended c.args.count
               (RefusesPart seal_of (λ f. f ≡ Failed) c.args.place e) c.args.writer.now c.at_bytes.new.writer
-              (begins-same (armored_rest bytes) (stretch_of (delivered text true)) (place_of bytes) rest made.place) (λ key stanzas by. by)
+              (begins-same (armored_rest bytes) (stretch_of (text_delivers text true)) (place_of bytes) rest made.place) (λ key stanzas by. by)
               (of_holds _ _ g.W.Write.appended c.args.count _ (RefusesPart seal_of (λ f. f ≡ Failed) c.args.place e) c.args.writer.now c.at_bytes.new.writer
               (λ key sealed out. failed_below seal_of c.args.place e key sealed out) part))))
         ]
@@ -140,9 +141,9 @@ returns-in-Ok-clause-why g c =
     let text = c.args.text.now in
     let old = c.args.identities.now in
     let new = c.at_bytes.new.identities in
-    let start : armored_rest bytes ≡ read_of text = made.rest ∙ ap (λ s. stretch_of (delivered s.bytes s.ends_well)) c.new.ensures.rest in
+    let start : armored_rest bytes ≡ read_of text = made.rest ∙ ap (λ s. stretch_of (text_delivers s.bytes s.ends_well)) c.new.ensures.rest in
     let opening : (refusal : DecryptRefusal) → IsNotOpened g.I.Identity.unwraps armored_reader old new bytes refusal →
-    RefusesOpening text (Begins (read_of text) 0) (AnswersFirst g.I.Identity.unwraps old new) refusal = λ refusal why. elim why [
+    RefusesOpening text (HasFront (read_of text) 0) (AnswersFirst g.I.Identity.unwraps old new) refusal = λ refusal why. elim why [
       | inl (same, (last, refuses)) ↦ inl (lacks_front _ bytes last _ _ refuses refl start made.place refl refl
           (io_refusal_weaker _ _ (λ e. by_cause (λ early. inl early.0) (λ tried. inr (from_slice refuses_of bytes c.new.result e made.named tried))) _ refuses.io))
       | inr (h, nonce, input, answer, asks, key) ↦ inr (h, nonce, armored_rest input, answer, (_, rw (start, made.place) at (asks.front refl)), asks.first, key)

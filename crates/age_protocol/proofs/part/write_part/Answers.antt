@@ -4,7 +4,7 @@ use Rattle.age_io.specs.Reading.{Delivers}
 use Rattle.age_io.proofs.Reaching.{delivered-at}
 use Rattle.std.proofs.lemmas.Result.{on_ok_weaker, on_err_weaker, IfErr-weaker}
 use Rattle.age_stream.specs.Reader.{tells_of, content_of, steady_of, place_of, plain_rest_of, faults_of, refuses_of, key_of, payload_of}
-use Rattle.age_stream.specs.ReadingLaws.{both-true}
+use Rattle.age_stream.specs.ReadingLemmas.{both-true}
 use Rattle.age_io.proofs.PartCopied.{none-copied}
 use Rattle.age_protocol.proofs.Standing.{standing, standing-none, stand-moved, good-moved, given}
 use Rattle.age_io.specs.Cursor.{IsOutside}

@@ -2,7 +2,7 @@ use Rattle.std.proofs.Common.{sym, subst}
 use Rattle.std.proofs.lemmas.Bool.{false≢true}
 use Rattle.std.specs.Str.{IsUtf8}
 use Rattle.age_error.specs.EncryptErrors.{encrypt_refusal}
-use Rattle.age_armor.specs.Armor.{armor}
+use Rattle.age_v1.specs.Armor.{armor}
 use Rattle.age_protocol.specs.WholeFiles.{Encrypts}
 use Rattle.age_protocol.proofs.WholeFiles.{seen_refusal, text-encrypted}
 use Rattle.age_protocol.proofs.simple.encrypt_and_armor.Goals as goal

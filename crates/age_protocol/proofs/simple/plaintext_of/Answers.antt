@@ -2,19 +2,19 @@ use Rattle.std.proofs.Common.{rules, ◌≡◌, ◌∙◌, refl, sym, ap, subst,
 use Rattle.age_error.specs.Bytes.{AreBytes}
 use Rattle.age_error.specs.DecryptErrors.{decrypt_of_io}
 use Rattle.age_io.specs.Stretch.{whole, from_place, stretch-ext}
-use Rattle.age_armor.specs.Armor.{Carries}
-use Rattle.age_armor.specs.Delivered.{stretch_of, delivered}
-use Rattle.age_armor.specs.DeliveredLaws.{stands_by}
+use Rattle.age_v1.specs.Armor.{Carries}
+use Rattle.age_v1.specs.DeliveredArmor.{stretch_of, text_delivers}
+use Rattle.age_v1.proofs.DeliveredArmors.{stands_by}
 use Rattle.age_armor.specs.Reader.{armored_rest, armored_content, place_of, refuses_of}
 use Rattle.age_armor.specs.Refusing.{IsTextRefusal}
 use Rattle.age_stream.specs.Reader.{refuses_of as stream_refuses}
-use Rattle.age_format.specs.Unwrapping.{Unwraps}
-use Rattle.age_protocol.specs.File.{payload_key}
+use Rattle.age_v1.specs.Identities.{Unwraps}
+use Rattle.age_v1.specs.Payload.{payload_key}
 use Rattle.age_protocol.proofs.Alone.{alone_is, alone_same}
 use Rattle.age_protocol.proofs.Decrypted.{by_cause}
 use Rattle.age_protocol.proofs.Reasons.{from_slice, from_stream, front-stands, io_refusal_weaker, stops-as}
 use Rattle.age_protocol.specs.WholeFiles.{read_of}
-use Rattle.age_error.specs.ErrorLaws.{of_error}
+use Rattle.age_error.specs.ErrorLemmas.{of_error}
 use Rattle.age_protocol.proofs.Opened.{lacks_front, rest_of_key, refuses_payload}
 use Rattle.age_protocol.proofs.simple.plaintext_of.Goals as goal
 
@@ -22,7 +22,7 @@ pub returns-in_err-reader-clause-refused : goal.returns-in_err-reader-clause-ref
 returns-in_err-reader-clause-refused g c =
     let input = c.in_ok-input.input in
     let start : armored_rest input ≡ read_of c.args.file.now =
-    c.in_ok-input.ensures.rest ∙ ap (λ s. stretch_of (delivered s.bytes s.ends_well)) c.new.ensures.rest in
+    c.in_ok-input.ensures.rest ∙ ap (λ s. stretch_of (text_delivers s.bytes s.ends_well)) c.new.ensures.rest in
     of_error _ _ _ c.from_residual-in_err-reader.ensures.1
     (elim c.in_err-reader.ensures.refused [
       | inl (same, (last, refuses)) ↦ inl (
@@ -47,7 +47,7 @@ pub returns-in_err-read_to_end-clause-refused : goal.returns-in_err-read_to_end-
 returns-in_err-read_to_end-clause-refused g c =
     let input = c.in_ok-input.input in
     let start : armored_rest input ≡ read_of c.args.file.now =
-    c.in_ok-input.ensures.rest ∙ ap (λ s. stretch_of (delivered s.bytes s.ends_well)) c.new.ensures.rest in
+    c.in_ok-input.ensures.rest ∙ ap (λ s. stretch_of (text_delivers s.bytes s.ends_well)) c.new.ensures.rest in
     let opened = c.in_ok-reader.ensures.opened in
     let asks = opened.asks in
     let opens = opened.opens in

@@ -2,15 +2,15 @@ use Rattle.std.proofs.Common.{◌≡◌, ◌∙◌, ap, sym, refl, subst, arith,
 use Rattle.age_io.specs.Stretch.{Stretch, whole, from_place, stretch-ext}
 use Rattle.age_io.specs.Buffered as buffered
 use Rattle.age_armor.specs.Reader.{inner_of, armored_rest, armored_content, place_of, refuses_of as armor_refuses}
-use Rattle.age_armor.specs.DeliveredLaws.{stands_by}
+use Rattle.age_v1.proofs.DeliveredArmors.{stands_by}
 use Rattle.age_stream.specs.Reader.{refuses_of}
 use Rattle.age_stream.specs.Keeping.{IsPayloadRefusal}
-use Rattle.age_protocol.specs.File.{payload_key}
+use Rattle.age_v1.specs.Payload.{payload_key}
 use Rattle.age_protocol.proofs.Reasons.{from_stream, from_text, front-stands, io_refusal_weaker, stops-as}
-use Rattle.age_stream.specs.ReadingLaws.{and-left, and-right}
+use Rattle.age_stream.specs.ReadingLemmas.{and-left, and-right}
 use Rattle.age_stream.proofs.Answered.{rest-bytes}
-use Rattle.age_stream.proofs.Standing.{stand-bytes}
-use Rattle.age_error.specs.ErrorLaws.{of_error}
+use Rattle.age_v1.proofs.StandingBytes.{stand-bytes}
+use Rattle.age_error.specs.ErrorLemmas.{of_error}
 use Rattle.age_protocol.proofs.Decrypted.{both_told, refuses_text, begins_text, by_cause}
 use Rattle.age_io.proofs.Exiting.{OnOk-refused}
 use Rattle.age_io.proofs.PartCopied.{none-copied}

@@ -1,5 +1,5 @@
 use Rattle.std.proofs.Common.{rules}
-use Rattle.age_error.specs.ErrorLaws.{of_error}
+use Rattle.age_error.specs.ErrorLemmas.{of_error}
 use Rattle.age_protocol.proofs.whole.encrypt_all.Goals as goal
 
 pub returns-clause-file : goal.returns-clause-file

@@ -1,12 +1,12 @@
 use Rattle.std.proofs.Common.{rules, ◌≡◌, ◌∙◌, ℕ, List, [], true, Ok, ap, inl}
 use Rattle.age_error.specs.Bytes.{AreBytes}
-use Rattle.age_armor.specs.Armor.{armor, Carries}
-use Rattle.age_armor.specs.declared.format.Format.{Format}
-use Rattle.age_armor.specs.declared.format.Format.TheVariants.{Binary, AsciiArmor}
+use Rattle.age_v1.specs.Armor.{armor, Carries, text_of}
+use Rattle.age_v1.specs.declared.format.Format.{Format}
+use Rattle.age_v1.specs.declared.format.Format.TheVariants.{Binary, AsciiArmor}
 use Rattle.std.proofs.lemmas.List.{append-nil}
-use Rattle.age_armor.specs.Writing.{inner_of, text_of}
-use Rattle.age_protocol.specs.File.{file_text}
-use Rattle.age_error.specs.ErrorLaws.{of_error}
+use Rattle.age_armor.specs.Writing.{inner_of}
+use Rattle.age_v1.specs.File.{file_text}
+use Rattle.age_error.specs.ErrorLemmas.{of_error}
 use Rattle.age_protocol.proofs.Refusing.{is-good, front-refused, stands-over, copy-refused, later-refused, armor-refused, out-refused}
 use Rattle.age_protocol.proofs.whole.write_file.Goals as goal
 

@@ -1,6 +1,6 @@
-use Rattle.age_stream.proofs.Reopened.{payload-delivered}
-use Rattle.age_stream.proofs.Honest.{delivered-payload}
-use Rattle.age_stream.proofs.Shortened.{shortened, lengthened}
+use Rattle.age_v1.proofs.ReopenedPayloads.{payload-delivered}
+use Rattle.age_v1.proofs.HonestPayloads.{delivered-payload}
+use Rattle.age_v1.proofs.ShortenedPayloads.{shortened, lengthened}
 use Rattle.age_stream.proofs.laws.delivery_laws.Goals as goal
 
 pub returns : goal.returns

@@ -1,4 +1,4 @@
-use Rattle.age_stream.proofs.Payloads.{payload-bytes, plain_len-payload, payload-one, held-middle, held-last, not_refused}
+use Rattle.age_v1.proofs.Payloads.{payload-bytes, plain_len-payload, payload-one, held-middle, held-last, not_refused}
 use Rattle.age_stream.proofs.laws.payload_laws.Goals as goal
 
 pub returns : goal.returns

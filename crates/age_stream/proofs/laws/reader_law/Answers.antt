@@ -1,4 +1,4 @@
-use Rattle.age_stream.specs.ReadingLaws.{and-left, and-right}
+use Rattle.age_stream.specs.ReadingLemmas.{and-left, and-right}
 use Rattle.age_stream.proofs.Remaining.{stand-rest, good-rest}
 use Rattle.age_stream.proofs.laws.reader_law.Goals as goal
 

@@ -1,5 +1,5 @@
 use Rattle.std.proofs.Common.{arith}
-use Rattle.age_stream.specs.WritingLaws.{sent-so_far}
+use Rattle.age_stream.specs.WritingLemmas.{sent-so_far}
 use Rattle.age_stream.proofs.laws.writer_law.Goals as goal
 
 pub returns : goal.returns

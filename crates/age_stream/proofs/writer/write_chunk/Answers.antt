@@ -1,8 +1,19 @@
-use Rattle.age_io.specs.WritingLaws.{keeps-writer}
-use Rattle.age_stream.specs.SendingLaws.{keeps-chunk}
+use Rattle.age_io.specs.WritingLemmas.{keeps-writer}
+use Rattle.age_stream.specs.SendingLemmas.{keeps-chunk}
+use Rattle.std.proofs.Common.{rules}
+use Rattle.age_stream.proofs.Sent.{front-none, front-written}
 use Rattle.age_stream.proofs.writer.write_chunk.Goals as goal
 
 pub returns-clause-keeps : goal.returns-clause-keeps
 returns-clause-keeps g c = let w = g.W.Write in
     keeps-chunk w.refuses w.tells w.faults _ _ c.write_all.result
     (keeps-writer w.tells w.faults w.refuses w.appended _ _ _ c.write_all.result c.write_all.ensures.writes)
+
+-- the seal found no memory
+pub returns-in_err-sealed-clause-front : goal.returns-in_err-sealed-clause-front
+returns-in_err-sealed-clause-front g c = λ told. front-none g.W.Write.appended g.met.W.Write.appends_nothing _ _
+
+pub returns-clause-front : goal.returns-clause-front
+returns-clause-front g c = λ told. let w = g.W.Write in
+    let out = front-written w.appended w.tells w.faults w.refuses _ _ _ c.write_all.result told c.write_all.ensures.writes in
+    search rules

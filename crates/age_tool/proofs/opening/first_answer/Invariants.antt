@@ -1,5 +1,5 @@
 use Rattle.std.proofs.Common.{◌≡◌}
-use Rattle.age.specs.Unwrapping.{Unwraps}
+use Rattle.age.specs.Identities.{Unwraps}
 use Rattle.age_tool.specs.Opening.{WereAsked}
 use Rattle.age_tool.proofs.opening.first_answer.Given as goal
 

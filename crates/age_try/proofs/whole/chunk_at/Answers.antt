@@ -1,4 +1,4 @@
-use Rattle.age_stream.proofs.Cuts.{cut_slice_min}
+use Rattle.age_v1.proofs.Cuts.{cut_slice_min}
 use Rattle.age_try.proofs.whole.chunk_at.Goals as goal
 
 pub returns : goal.returns

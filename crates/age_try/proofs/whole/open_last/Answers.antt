@@ -1,10 +1,10 @@
 use Rattle.std.proofs.Common.{◌≡◌, ◌<◌, length, Some, None, true, sym, ◌∙◌, arith, inr}
 use Rattle.std.proofs.lemmas.Bool.{eqb-true, eqb-false}
 use Rattle.age_error.specs.declared.io.Error.TheVariants.{BadChunk, LastChunkEmpty, TooLong, AfterLast}
-use Rattle.age_stream.specs.Payload.{nonce, chunk}
-use Rattle.age_stream.specs.FrontToEnd.{IsAllowed}
-use Rattle.age_stream.proofs.Cuts.{slice-bytes, array-bytes}
-use Rattle.age_stream.proofs.FrontToEnd.{refused_memory, refused_at, is_bad, held_empty, held_last, opened_whole, opened_limit}
+use Rattle.age_v1.specs.Payload.{nonce, chunk}
+use Rattle.age_v1.specs.PayloadRefusals.{IsAllowed}
+use Rattle.age_v1.proofs.Cuts.{slice-bytes, array-bytes}
+use Rattle.age_v1.proofs.FrontToEnd.{refused_memory, refused_at, is_bad, held_empty, held_last, opened_whole, opened_limit}
 use Rattle.age_try.proofs.whole.open_last.Goals as goal
 use Rattle.age_try.proofs.whole.open_last.Goals.{else-i-gt0-via-then-i-gt0+else-is_empty, else-i-gt0-via-else-i-gt0}
 

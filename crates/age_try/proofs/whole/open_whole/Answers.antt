@@ -1,8 +1,8 @@
 use Rattle.std.proofs.Common.{◌≡◌, Some, None, false, sym, arith, inl}
 use Rattle.age_error.specs.declared.io.Error.TheVariants.{Truncated, TooLong}
-use Rattle.age_stream.specs.Payload.{nonce, chunk}
-use Rattle.age_stream.proofs.Cuts.{slice-bytes, array-bytes}
-use Rattle.age_stream.proofs.FrontToEnd.{refused_memory, refused_at, not_middle, short_not_middle, held_middle, middle_plain-size, opened_more}
+use Rattle.age_v1.specs.Payload.{nonce, chunk}
+use Rattle.age_v1.proofs.Cuts.{slice-bytes, array-bytes}
+use Rattle.age_v1.proofs.FrontToEnd.{refused_memory, refused_at, not_middle, short_not_middle, held_middle, middle_plain-size, opened_more}
 use Rattle.age_try.proofs.whole.open_whole.Goals as goal
 
 pub returns-in_err-open-clause-err : goal.returns-in_err-open-clause-err

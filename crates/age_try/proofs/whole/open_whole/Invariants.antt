@@ -1,5 +1,5 @@
 use Rattle.std.proofs.Common.{◌+◌, ◌<◌, ◌≤◌, ◌^◌}
-use Rattle.age_stream.specs.FrontToEnd.{IsOpenedTo}
+use Rattle.age_v1.specs.PayloadRefusals.{IsOpenedTo}
 use Rattle.age_try.proofs.whole.open_whole.Given as goal
 
 -- the chunks before i are opened, each once, and none of them is too far

@@ -1,6 +1,6 @@
 use Rattle.std.proofs.Common.{◌≡◌, ◌/◌, length, add-one, refl, arith}
-use Rattle.age_stream.specs.Payload.{payload, last_piece}
-use Rattle.age_stream.proofs.Cuts.{cut_slice, cut_slice_rest}
+use Rattle.age_v1.specs.Payload.{payload, last_piece}
+use Rattle.age_v1.proofs.Cuts.{cut_slice, cut_slice_rest}
 use Rattle.age_try.proofs.whole.seal_whole.Goals as goal
 
 pub loop-i-preserved : goal.loop-i-preserved

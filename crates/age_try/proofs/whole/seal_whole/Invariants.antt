@@ -1,5 +1,5 @@
 use Rattle.std.proofs.Common.{◌≡◌}
-use Rattle.age_stream.specs.Payload.{middle_seals}
+use Rattle.age_v1.specs.Payload.{middle_seals}
 use Rattle.age_try.proofs.whole.seal_whole.Given as goal
 
 -- the seals of the pieces before i

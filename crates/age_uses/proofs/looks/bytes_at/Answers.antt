@@ -1,7 +1,7 @@
 use Rattle.std.proofs.Common.{◌≡◌, ◌∙◌, ◌∷◌, ◌++◌, arith, ap, inl, inr, length, map, None, refl, slice_get, Some, subst, sym}
 use Rattle.age.specs.ArmorReader.{armored_content, furthest_of}
 use Rattle.age_uses.specs.Looks.{AreWithin, IsLook, IsOneOutside}
-use Rattle.age.specs.ReadingLaws.{quiet_from}
+use Rattle.age.specs.ReadingLemmas.{quiet_from}
 use Rattle.age_uses.proofs.Looked.{behind, ended, grown}
 use Rattle.age_uses.proofs.looks.bytes_at.Goals as goal
 

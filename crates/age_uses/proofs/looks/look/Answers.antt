@@ -2,7 +2,7 @@ use Rattle.std.proofs.Common.{◌∙◌, arith, ap, inr}
 use Rattle.std.proofs.lemmas.Result.{on_ok_weaker, IfErr-weaker}
 use Rattle.age.specs.ArmorReader.{armored_content, armored_rest}
 use Rattle.age.specs.Stretch.{from_place}
-use Rattle.age.specs.ReadingLaws.{quiet_from}
+use Rattle.age.specs.ReadingLemmas.{quiet_from}
 use Rattle.age_uses.proofs.Looked.{look, refused, sound}
 use Rattle.age_uses.proofs.looks.look.Goals as goal
 

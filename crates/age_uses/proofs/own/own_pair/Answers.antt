@@ -4,10 +4,10 @@ use Rattle.std.proofs.lemmas.Slice.Eq.{bytes_eq-Decides}
 use Rattle.age.specs.DecryptErrors.{InvalidHeader}
 use Rattle.age.specs.EncryptErrors.{OutOfMemory}
 use Rattle.age.specs.Stanza.{StanzaValue}
-use Rattle.age.specs.Wrapping.{Wrapped}
-use Rattle.age.specs.Unwrapping.{UnwrapAnswer, Steady, FirstOf}
+use Rattle.age.specs.Recipients.{Wrapped}
+use Rattle.age.specs.Identities.{UnwrapAnswer, Steady, FirstOf}
 use Rattle.age.specs.Belonging.{BelongsTo}
-use Rattle.age.specs.BelongingLaws.{by_stanza}
+use Rattle.age.specs.BelongingInTurn.{by_stanza}
 use Rattle.age.proofs.Tags.{other_tag}
 use Rattle.age.proofs.Outcomes.{same_value, no_refusal}
 use Rattle.age_uses.specs.Own.{OwnWraps, OwnAsks, own_stanza, own_wrapped, own_unwrapped, has_other_tag}

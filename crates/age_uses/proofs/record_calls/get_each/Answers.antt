@@ -2,7 +2,7 @@ use Rattle.std.specs.Prelude.{slice_get}
 use Rattle.std.proofs.Common.{◌+◌, ◌++◌, ◌∷◌, [], ◌∙◌, get_or, subst, sym, take}
 use Rattle.std.proofs.lemmas.List.{take_more}
 use Rattle.age.specs.Reading.{IsQuiet}
-use Rattle.age.specs.ReadingLaws.{quiet_from}
+use Rattle.age.specs.ReadingLemmas.{quiet_from}
 use Rattle.age.specs.StreamReader.{faults_of}
 use Rattle.age_records.specs.Records.{reader_of}
 use Rattle.age_uses.specs.RecordAnswers.{Answered}

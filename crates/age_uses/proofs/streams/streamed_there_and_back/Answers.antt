@@ -2,10 +2,9 @@ use Rattle.std.proofs.Common.{◌≡◌, ◌∙◌, ap, subst, refl, List, ℕ}
 use Rattle.std.proofs.lemmas.Result.{on_ok_weaker}
 use Rattle.age.specs.Bytes.{AreBytes}
 use Rattle.age.specs.Stretch.{whole}
-use Rattle.age.specs.Armor.{Carries}
+use Rattle.age.specs.Armor.{Carries, text_of}
 use Rattle.age.specs.File.{file_text, IsFileOf}
-use Rattle.age.specs.ArmorWriting.{text_of}
-use Rattle.age.specs.StreamReadingLaws.{and-left, and-right}
+use Rattle.age.specs.StreamReadingLemmas.{and-left, and-right}
 use Rattle.age.proofs.StreamAnswered.{rest-bytes}
 use Rattle.age_uses.proofs.streams.streamed_there_and_back.Goals as goal
 

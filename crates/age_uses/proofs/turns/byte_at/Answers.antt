@@ -2,7 +2,7 @@ use Rattle.std.proofs.Common.{◌≡◌, ◌/◌, ◌∙◌, ap, arith, inl, inr
 use Rattle.age.specs.StreamReader.{payload_of, place_of, content_of, plain_rest_of, HasChunk}
 use Rattle.age.specs.Stretch.{from_place}
 use Rattle.age_uses.proofs.BeforeEnd.{before_end}
-use Rattle.age.specs.ReadingLaws.{quiet_from}
+use Rattle.age.specs.ReadingLemmas.{quiet_from}
 use Rattle.age_uses.proofs.Looked.{found, looked, missing, refused, sound}
 use Rattle.age_uses.proofs.turns.byte_at.Goals as goal
 

@@ -1,8 +1,8 @@
 use Rattle.std.proofs.Common.{◌≡◌, ◌/◌, ◌∙◌, ap, arith, inl, inr, slice_get, sym, subst, IsTrue, None, Some}
 use Rattle.age.specs.StreamReader.{tells_of}
 use Rattle.age_uses.specs.Turns.{HasPlace}
-use Rattle.age.specs.ErrorLaws.{of_error}
-use Rattle.age.specs.ReadingLaws.{quiet_from}
+use Rattle.age.specs.ErrorLemmas.{of_error}
+use Rattle.age.specs.ReadingLemmas.{quiet_from}
 use Rattle.age_uses.proofs.turns.in_turns.Goals as goal
 
 pub turns-init : goal.turns-init

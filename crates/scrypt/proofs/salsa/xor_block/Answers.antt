@@ -1,5 +1,4 @@
-use Rattle.std.proofs.Common.{arith}
-use Rattle.std.proofs.Common.{bit_xor}
+use Rattle.std.proofs.Common.{arith, bit_xor}
 use Rattle.scrypt.proofs.Pairs.{zip2_more, zip2_whole}
 use Rattle.scrypt.proofs.salsa.xor_block.Goals as goal
 

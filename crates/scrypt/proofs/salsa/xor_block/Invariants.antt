@@ -1,5 +1,4 @@
-use Rattle.std.proofs.Common.{◌≡◌, ◌++◌, take, drop}
-use Rattle.std.proofs.Common.{bit_xor}
+use Rattle.std.proofs.Common.{◌≡◌, ◌++◌, take, drop, bit_xor}
 use Rattle.std.specs.Simd.Lanes.{zip2}
 use Rattle.scrypt.proofs.salsa.xor_block.Given as goal
 

@@ -1,5 +1,5 @@
 use Rattle.std.proofs.Common.{◌≡◌, ◌≤◌, ◌-◌, ◌+◌, IsTrue}
-use Rattle.age_armor.specs.Delivered.{trailing}
+use Rattle.age_v1.specs.DeliveredArmor.{trailing}
 use Rattle.age_io.specs.Reading.{AddsNoReason, TriedAgain}
 use Rattle.age_io.specs.Keeping.{SameReader}
 use Rattle.age_armor.proofs.counted.Counted.take_trailing.Given as goal

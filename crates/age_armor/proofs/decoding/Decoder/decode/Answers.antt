@@ -1,6 +1,6 @@
 use Rattle.std.proofs.Common.{◌<◌, ◌^◌, arith, rules}
 use Rattle.std.proofs.lemmas.List.Elements.{All-take}
-use Rattle.age_armor.proofs.Verdicts.{is_decoded, none_decoded}
+use Rattle.age_v1.proofs.ArmorLineVerdicts.{is_decoded, none_decoded}
 use Rattle.age_armor.proofs.decoding.Decoder.decode.Goals as goal
 
 pub returns-in-Ok : goal.returns-in-Ok

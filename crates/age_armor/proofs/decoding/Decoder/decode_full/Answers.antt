@@ -2,7 +2,7 @@ use Rattle.std.proofs.Common.{◌≡◌, ◌<◌, ◌^◌, ◌∙◌, Some, ap, 
 use Rattle.std.proofs.lemmas.Bool.{eqb-true}
 use Rattle.std.proofs.lemmas.List.{take_all}
 use Rattle.std.proofs.lemmas.List.Elements.{All-take}
-use Rattle.age_armor.proofs.Verdicts.{is_decoded}
+use Rattle.age_v1.proofs.ArmorLineVerdicts.{is_decoded}
 use Rattle.age_armor.proofs.decoding.Decoder.decode_full.Goals as goal
 
 pub returns-in-Ok : goal.returns-in-Ok

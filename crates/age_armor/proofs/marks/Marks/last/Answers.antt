@@ -1,7 +1,7 @@
 use Rattle.std.proofs.Common.{◌≡◌, ◌+◌, ◌*◌, ◌-◌, false, arith, length, slice_get, Some, refl, subst}
 use Rattle.std.proofs.lemmas.Option.{slice_get_read}
 use Rattle.age_armor.specs.declared.stages.Stage.TheVariants.{Lines}
-use Rattle.age_armor.specs.Marks.{CanResume}
+use Rattle.age_armor.specs.PrivateMarks.{CanResume}
 use Rattle.age_armor.proofs.marks.Marks.last.Goals as goal
 
 pub returns-in-Some-clause-each : goal.returns-in-Some-clause-each

@@ -1,7 +1,7 @@
 use Rattle.std.proofs.Common.{◌≡◌, ◌∙◌, ◌+◌, ◌*◌, [], ◌∷◌, false, arith, ap, length, length-append, slice_get, Some, subst, sym}
 use Rattle.std.proofs.lemmas.Bool.{true≢false}
 use Rattle.age_armor.specs.declared.stages.Stage.TheVariants.{Lines}
-use Rattle.age_armor.specs.Marks.{CanResume}
+use Rattle.age_armor.specs.PrivateMarks.{CanResume}
 use Rattle.age_armor.proofs.Marking.{each_of_longer}
 use Rattle.age_armor.proofs.marks.Marks.note.Goals as goal
 

@@ -1,10 +1,11 @@
 use Rattle.std.proofs.Common.{inl, inr, ◌≡◌, ◌∙◌, ◌+◌, ◌-◌, ◌≤◌, false, arith, length-drop, ap, refl}
 use Rattle.std.proofs.lemmas.Bool.{cases_Bool}
 use Rattle.age_io.specs.Stretch.{from_place}
-use Rattle.age_armor.specs.Marks.{CanResume, Resumes}
+use Rattle.age_armor.specs.PrivateMarks.{CanResume, Resumes}
 use Rattle.age_armor.specs.Stages.{is_start}
-use Rattle.age_armor.specs.Reader.{origin_of, text_of}
-use Rattle.age_armor.specs.Steps.{WhereTold, WhereSteady}
+use Rattle.age_armor.specs.Reader.{origin_of, source_of}
+use Rattle.age_armor.specs.Steps.{WhereSteady}
+use Rattle.age_armor.specs.PrivateSteps.{WhereTold}
 use Rattle.age_armor.proofs.Ahead.{shown_none}
 use Rattle.age_armor.proofs.Keeping.{armored-done, armored-refused, text-moved}
 use Rattle.age_armor.proofs.Pacing.{learns_none}
@@ -26,8 +27,8 @@ invariant_of-self-in-Ok g c =
     let reader = g.R.Read in
     let now = c.in-Ok.ensures in
     let mark = c.last-mark.result in
-    let found : WhereTold before (CanResume (reader.steady before.source.inner) (text_of before) mark.stage mark.place mark.taken × (mark.place ≤ before.marks.furthest)) = λ told.
-    c.last-mark.ensures.each (reader.steady before.source.inner) (text_of before) (before.known told) in
+    let found : WhereTold before (CanResume (reader.steady before.source.inner) (source_of before) mark.stage mark.place mark.taken × (mark.place ≤ before.marks.furthest)) = λ told.
+    c.last-mark.ensures.each (reader.steady before.source.inner) (source_of before) (before.known told) in
     sound-resumed before c.go.new.self before.preceding mark.stage mark.place mark.taken before.marks now.goes.keeps.same
     (λ told. ap (λ n. n + before.preceding) (now.origin told)) (omega (arith, now.taken, c.saturating_add.ensures)) now.goes.unspent
     (g.met.R.Read.place_fits c.go.new.self.inner) c.last-mark.ensures.front c.last-mark.ensures.going (λ full. c.last-mark.ensures.whole)
@@ -36,7 +37,7 @@ invariant_of-self-in-Ok g c =
     (λ told. (before.known told, (found told).1))
     (λ told steady start some. elim (cases_Bool (is_start before.stage)) [
       | inl unread ↦ before.unread told steady unread some
-      | inr begun ↦ armored_stage before.stage (text_of before) begun (before.form told steady begun) c.requires
+      | inr begun ↦ armored_stage before.stage (source_of before) begun (before.form told steady begun) c.requires
     ])
 
 pub returns-in-Ok : goal.returns-in-Ok
@@ -49,8 +50,8 @@ returns-in-Ok g c =
     let origin = origin_of before in
     let content = reader.content before.source.inner in
     let same : WhereTold before (reader.place after.inner - after.taken + before.preceding ≡ origin) = λ told. ap (λ n. n + before.preceding) (now.origin told) in
-    let resumes : WhereSteady before (Resumes (text_of before) mark.stage mark.place mark.taken) = λ told steady.
-    (c.last-mark.ensures.each (reader.steady before.source.inner) (text_of before) (before.known told)).0.1 steady in
+    let resumes : WhereSteady before (Resumes (source_of before) mark.stage mark.place mark.taken) = λ told steady.
+    (c.last-mark.ensures.each (reader.steady before.source.inner) (source_of before) (before.known told)).0.1 steady in
     let there : WhereSteady before (reader.rest after.inner ≡ from_place (origin + mark.taken) content) = λ told steady.
     now.rest told steady ∙ ap (λ n. from_place n content) (omega (arith, now.taken, c.saturating_add.ensures)) in
     record {
@@ -92,7 +93,7 @@ returns-in-Err g c =
       fails = record { fails = refl; stays = refl; other = now.other };
       cause = λ told well.
           let steady = g.met.R.Read.well before.source.inner told well in
-          let can = (c.last-mark.ensures.each (reader.steady before.source.inner) (text_of before) (before.known told)).0 in
+          let can = (c.last-mark.ensures.each (reader.steady before.source.inner) (source_of before) (before.known told)).0 in
           now.cause told well
           (omega (arith, (can.1 steady).reaches, length-drop origin content.bytes, (g.met.R.Read.stands before.source.inner told steady).within, before.behind told steady, before.source.behind told, c.saturating_add.ensures));
     }

@@ -2,7 +2,7 @@ use Rattle.std.proofs.Common.{IsTrue, ◌≡◌, ◌∙◌, ◌<◌, ◌≤◌, 
 use Rattle.std.proofs.lemmas.Bool.{true≢false}
 use Rattle.age_io.specs.Stretch.{from_place}
 use Rattle.age_armor.specs.Reader.{origin_of, armored_content}
-use Rattle.age_armor.specs.ReaderLaws.{well_inner}
+use Rattle.age_armor.specs.ReaderLemmas.{well_inner}
 use Rattle.age_armor.proofs.Keeping.{same-source, source-narrows, armor-plain, text-still, text-later}
 use Rattle.age_armor.proofs.Aiming.{refusal_or_not, past-moved, stays-failed, came, lost}
 use Rattle.age_armor.proofs.reader.ArmoredReader.come_back.Goals as goal

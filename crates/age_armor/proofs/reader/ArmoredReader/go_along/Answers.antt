@@ -4,9 +4,10 @@ use Rattle.age_io.specs.Stretch.{from_place, IsCleanEnd}
 use Rattle.age_io.proofs.Keeping.{same-self}
 use Rattle.age_error.specs.declared.io.Error.TheVariants.{PastEnd}
 use Rattle.age_error.specs.declared.io.SeekFrom.TheVariants.{Start}
-use Rattle.age_armor.specs.Delivered.{begins_armor}
-use Rattle.age_armor.specs.Steps.{WhereTold, WhereSteady, LandsBelow}
-use Rattle.age_armor.specs.Reader.{armored_reader, text_of, armored_content, armored_rest, refuses_of}
+use Rattle.age_v1.specs.DeliveredArmor.{begins_armor}
+use Rattle.age_armor.specs.Steps.{WhereSteady, LandsBelow}
+use Rattle.age_armor.specs.PrivateSteps.{WhereTold}
+use Rattle.age_armor.specs.Reader.{armored_reader, source_of, armored_content, armored_rest, refuses_of}
 use Rattle.age_armor.proofs.Aiming.{moved-within, moved-past}
 use Rattle.age_armor.proofs.Keeping.{goes-unrefused, goes-refused, armor-plain, text-later}
 use Rattle.age_armor.proofs.Going.{reaches-none, misses-none, misses-own, came-on, came-goes, came-stands, came-end, walk-goes, walk-misses}
@@ -83,7 +84,7 @@ returns-then-there g c =
         reaches = record { stands = came-stands before new came; there = refl; place = place; exact = λ told steady. moved-within c.args.target len (within told steady) };
         misses = misses-none _ _ _ _;
       };
-      lines = λ told steady noting near. elim (cases_Bool (begins_armor (text_of before).bytes)) [
+      lines = λ told steady noting near. elim (cases_Bool (begins_armor (source_of before).bytes)) [
         | inl armored ↦ omega (arith, first.unread.0, first.near told steady noting armored near, walked told steady)
         | inr plain ↦ omega (arith, came.text.bare told steady plain)
       ];

@@ -5,7 +5,8 @@ use Rattle.age_error.specs.declared.io.SeekFrom.TheVariants.{End}
 use Rattle.age_io.specs.Cursor.{sought}
 use Rattle.age_io.proofs.Keeping.{same-self}
 use Rattle.age_armor.specs.Marks.{is_known}
-use Rattle.age_armor.specs.Steps.{Reaches, Misses, WhereSteady}
+use Rattle.age_armor.specs.Steps.{WhereSteady}
+use Rattle.age_armor.specs.PrivateSteps.{Reaches, Misses}
 use Rattle.age_armor.specs.Reader.{armored_reader, armored_content}
 use Rattle.age_armor.proofs.Keeping.{goes-refused, text-still}
 use Rattle.age_armor.proofs.Going.{reaches-none, reaches-end, misses-end, finds-none}

@@ -4,7 +4,7 @@ use Rattle.std.proofs.lemmas.Result.{IfOk-weaker, IfErr-weaker, on_ok_weaker}
 use Rattle.age_io.proofs.Keeping.{keeps-done, same-self}
 use Rattle.age_error.specs.declared.io.Error.TheVariants.{PastEnd}
 use Rattle.age_error.specs.declared.io.SeekFrom.TheVariants.{Start}
-use Rattle.age_armor.specs.Delivered.{begins_armor}
+use Rattle.age_v1.specs.DeliveredArmor.{begins_armor}
 use Rattle.age_armor.specs.Stages.{is_start}
 use Rattle.age_armor.specs.Reader.{armored_reader, armored_content}
 use Rattle.age_armor.proofs.Aiming.{moved-within, moved-past, past-moved}

@@ -5,14 +5,15 @@ use Rattle.age_io.specs.Reading.{StandsIn}
 use Rattle.age_armor.specs.Ahead.{rest_ahead}
 use Rattle.age_armor.specs.Marks.{is_known}
 use Rattle.age_io.specs.Stretch.{from_place}
-use Rattle.age_armor.specs.DeliveredLaws.{content_of, stands_by}
+use Rattle.age_v1.proofs.DeliveredArmors.{content_of, stands_by}
 use Rattle.age_armor.proofs.Keeping.{same-text, all_held, armored-done, armored-refused, good-done, good-failed, text-still, text-moved}
 use Rattle.age_armor.proofs.Ahead.{kept_stands, hold_rest, hold_ending, hold_end, hold_fault, hold_named, ended_clean, shown_none, front_held}
-use Rattle.age_armor.specs.Delivered.{delivered}
-use Rattle.age_armor.specs.Stages.{is_start, is_ended}
+use Rattle.age_v1.specs.DeliveredArmor.{text_delivers}
+use Rattle.age_armor.specs.Stages.{is_start}
+use Rattle.age_armor.specs.PrivateStages.{is_ended}
 use Rattle.age_armor.proofs.Resuming.{knows_later, resumes_line, length_at_end, not_nothing, reaches_content, none_after, still_full, after_full}
 use Rattle.age_armor.proofs.Forms.{form_held, plain_stage, plain_rest}
-use Rattle.age_armor.specs.Reader.{origin_of, text_of}
+use Rattle.age_armor.specs.Reader.{origin_of, source_of}
 use Rattle.age_io.proofs.Keeping.{keeps-done, same-self}
 use Rattle.age_armor.proofs.Invariants.{IsHere, sound-failed}
 use Rattle.age_armor.proofs.Pacing.{learns_none}
@@ -51,7 +52,7 @@ invariant_of-self g c =
     (λ none. hold_end before.failed before.bytes before.given before.filled before.stage (reader.rest before.source.inner) c.requires (all_held before) empty (now.piece.end told_before none)) in (
       kept told ∙ before.follows told_before (same.steady steady) some ∙ ap (from_place before.place) (sym (same.content told)),
       hold_ending before.bytes bytes before.given before.filled piece.count before.stage piece.next (reader.rest before.source.inner) (reader.rest source.inner) (now.gives.bytes told_before)
-          ∙ before.ends told_before (same.steady steady) some ∙ sym (ap (λ t. (delivered t.bytes t.ends_well).ending) (same.text told)),
+          ∙ before.ends told_before (same.steady steady) some ∙ sym (ap (λ t. (text_delivers t.bytes t.ends_well).ending) (same.text told)),
     ) in
     record {
       room = c.advance.array_long;
@@ -170,7 +171,7 @@ returns-in-Ok g c =
         named = λ told good. tt;
       };
       text = text-moved _ _ now.kept.keeps.same (λ told. ap (λ n. n + before.preceding) (now.kept.origin told)) c.learn.ensures.more now.counts.0
-          (λ told steady plain. now.binary told (plain_stage before.stage (text_of before) (before.form told steady) plain)
+          (λ told steady plain. now.binary told (plain_stage before.stage (source_of before) (before.form told steady) plain)
           (λ start. plain_rest (reader.content before.source.inner) _ _ (origin_of before) (g.met.R.Read.stands before.source.inner told steady)
           (omega (arith, before.untaken c.requires start, before.source.behind told)) plain));
       holds = record {
@@ -210,7 +211,7 @@ returns-in-Err g c =
             hold_named before.bytes before.given before.filled before.stage (reader.rest before.source.inner) c.in-Err.e (now.gives.cause told other quiet);
       };
       text = text-moved _ _ now.kept.keeps.same (λ told. ap (λ n. n + before.preceding) (now.kept.origin told)) (learns_none _ _ refl) now.counts.0
-          (λ told steady plain. now.binary told (plain_stage before.stage (text_of before) (before.form told steady) plain)
+          (λ told steady plain. now.binary told (plain_stage before.stage (source_of before) (before.form told steady) plain)
           (λ start. plain_rest (reader.content before.source.inner) _ _ (origin_of before) (g.met.R.Read.stands before.source.inner told steady)
           (omega (arith, before.untaken c.requires start, before.source.behind told)) plain));
       holds = record {

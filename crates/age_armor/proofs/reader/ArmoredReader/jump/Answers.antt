@@ -5,13 +5,15 @@ use Rattle.age_io.specs.Stretch.{from_place}
 use Rattle.age_io.specs.Keeping.{KeepsReader, OrSeek}
 use Rattle.age_io.proofs.Keeping.{same-later, keeps-later, keeps-refused, seek-narrows}
 use Rattle.age_armor.specs.declared.stages.Stage.TheVariants.{Binary}
-use Rattle.age_armor.specs.Marks.{Resumes}
-use Rattle.age_armor.specs.Reader.{armored_reader, armored_content, armored_rest, origin_of, text_of}
-use Rattle.age_armor.specs.ReaderLaws.{well_inner}
+use Rattle.age_armor.specs.PrivateMarks.{Resumes}
+use Rattle.age_armor.specs.Reader.{armored_reader, armored_content, armored_rest, origin_of, source_of}
+use Rattle.age_armor.specs.ReaderLemmas.{well_inner}
 use Rattle.age_armor.specs.Refusing.{OrText}
 use Rattle.age_armor.specs.Seeking.{OrAstray}
-use Rattle.age_armor.specs.Stages.{FindsForm, is_start, is_armored}
-use Rattle.age_armor.specs.Steps.{WhereTold, WhereSteady}
+use Rattle.age_armor.specs.Stages.{is_start, has_lines}
+use Rattle.age_armor.specs.PrivateStages.{FindsForm}
+use Rattle.age_armor.specs.Steps.{WhereSteady}
+use Rattle.age_armor.specs.PrivateSteps.{WhereTold}
 use Rattle.age_armor.proofs.Ahead.{shown_none}
 use Rattle.age_armor.proofs.Aiming.{moved-within, moved-past}
 use Rattle.age_armor.proofs.Going.{reaches-none, misses-none, misses-own}
@@ -75,8 +77,8 @@ returns-in-Ok-jump_to_end-clause-goes g c =
     let same = same-later reader before.source.inner middle new.source.inner back last.below.same in
     let origin : WhereTold before (origin_of new ≡ origin_of before) = λ told. last.origin (back.tells ∙ told) ∙ ap (λ n. n + before.preceding) (first.origin told) in
     let armored = same-armored before new same origin in
-    let form : WhereSteady before (FindsForm false (text_of before).bytes) = λ told steady.
-    subst (λ s. FindsForm (is_armored s) (text_of before).bytes) c.requires (before.form told steady (ap is_start c.requires)) in
+    let form : WhereSteady before (FindsForm false (source_of before).bytes) = λ told steady.
+    subst (λ s. FindsForm (has_lines s) (source_of before).bytes) c.requires (before.form told steady (ap is_start c.requires)) in
     record {
       goes = record { keeps = keeps-refused armored_reader _ before new PastEnd armored (λ device. device) (inl (inl tt)); unspent = tt };
       text = text-moved before new same origin last.text.learns (omega (arith, last.lines, first.lines)) (λ told steady plain. last.lines ∙ first.lines);
@@ -94,7 +96,7 @@ returns-in-Ok-jump_to_end-clause-goes g c =
             (subst (λ s. new.place ≤ length s.bytes) content (new.inside (armored.tells ∙ told) (armored.steady ∙ steady))) in
             let well = well_inner (reader.content before.source.inner) (origin_of before) end.0 in
             let past = first.past told well c.if-not-there.true in
-            let size : length (armored_content before).bytes ≡ length (text_of before).bytes = ap (λ o. length o.bytes) (carried_binary (text_of before) (form told steady)) in (
+            let size : length (armored_content before).bytes ≡ length (source_of before).bytes = ap (λ o. length o.bytes) (carried_binary (source_of before) (form told steady)) in (
               end.0,
               moved-past c.args.target (length (armored_content before).bytes)
                   (omega (arith, past, size, c.saturating_add.ensures, (form told steady).long, length-drop (origin_of before) (reader.content before.source.inner).bytes)),
@@ -115,18 +117,18 @@ invariant_of-self-2 g c =
     let content = reader.content before.source.inner in
     let there = now.there c.if-not-there.false in
     let sum : c.saturating_add.result ≡ before.preceding + target = omega (arith, there, c.saturating_add.ensures) in
-    let form : WhereSteady before (FindsForm false (text_of before).bytes) = λ told steady.
-    subst (λ s. FindsForm (is_armored s) (text_of before).bytes) c.requires (before.form told steady (ap is_start c.requires)) in
-    let resumes : WhereSteady before (Resumes (text_of before) Binary target target) = λ told steady.
-    resumes_binary (text_of before) target (form told steady)
+    let form : WhereSteady before (FindsForm false (source_of before).bytes) = λ told steady.
+    subst (λ s. FindsForm (has_lines s) (source_of before).bytes) c.requires (before.form told steady (ap is_start c.requires)) in
+    let resumes : WhereSteady before (Resumes (source_of before) Binary target target) = λ told steady.
+    resumes_binary (source_of before) target (form told steady)
     (omega (arith, now.within told steady c.if-not-there.false, sum, length-drop (origin_of before) content.bytes)) in
     subst (λ s. IsSound source before.preceding s before.bytes 0 0 target false c.reach.new.self) (sym c.requires)
     (sound-resumed before source before.preceding Binary target target c.reach.new.self now.keeps.same (λ told. ap (λ n. n + before.preceding) (now.origin told))
     (there.0 ∙ sum) (now.unspent c.if-not-there.false) (g.met.R.Read.place_fits source.inner) (λ start. absurd (true≢false (sym start))) refl
-    (λ full. absurd (true≢false (sym (ap is_armored full)))) (λ told. (omega arith, resumes told))
+    (λ full. absurd (true≢false (sym (ap has_lines full)))) (λ told. (omega arith, resumes told))
     (λ told steady. now.rest told steady c.if-not-there.false ∙ ap (λ n. from_place n content) (omega (arith, sum)))
     (λ told. (
-      c.reach.ensures.knows (reader.steady before.source.inner) (text_of before) (before.known told) (λ steady. (resumes told steady).within) (λ steady. sym (form told steady).same),
+      c.reach.ensures.knows (reader.steady before.source.inner) (source_of before) (before.known told) (λ steady. (resumes told steady).within) (λ steady. sym (form told steady).same),
       c.reach.ensures.reaches,
     ))
     (λ told steady start. absurd (true≢false (sym start))))
@@ -141,10 +143,10 @@ returns-clause-goes g c =
     let content = reader.content before.source.inner in
     let there = now.there c.if-not-there.false in
     let sum : c.saturating_add.result ≡ before.preceding + target = omega (arith, there, c.saturating_add.ensures) in
-    let form : WhereSteady before (FindsForm false (text_of before).bytes) = λ told steady.
-    subst (λ s. FindsForm (is_armored s) (text_of before).bytes) c.requires (before.form told steady (ap is_start c.requires)) in
-    let resumes : WhereSteady before (Resumes (text_of before) before.stage target target) = λ told steady.
-    rw c.requires (resumes_binary (text_of before) target (form told steady)
+    let form : WhereSteady before (FindsForm false (source_of before).bytes) = λ told steady.
+    subst (λ s. FindsForm (has_lines s) (source_of before).bytes) c.requires (before.form told steady (ap is_start c.requires)) in
+    let resumes : WhereSteady before (Resumes (source_of before) before.stage target target) = λ told steady.
+    rw c.requires (resumes_binary (source_of before) target (form told steady)
     (omega (arith, now.within told steady c.if-not-there.false, sum, length-drop (origin_of before) content.bytes))) in
     let origin : WhereTold before (reader.place source.inner - source.taken + before.preceding ≡ origin_of before) = λ told. ap (λ n. n + before.preceding) (now.origin told) in
     let rest : WhereSteady before (reader.rest source.inner ≡ from_place (origin_of before + target) content) = λ told steady.

@@ -2,10 +2,12 @@ use Rattle.std.proofs.Common.{◌≡◌, ◌∙◌, ◌+◌, ◌-◌, ◌≤◌,
 use Rattle.std.proofs.lemmas.Bool.{true≢false}
 use Rattle.age_io.specs.Stretch.{from_place}
 use Rattle.age_armor.specs.declared.stages.Stage.TheVariants.{Binary}
-use Rattle.age_armor.specs.Reader.{origin_of, text_of}
-use Rattle.age_armor.specs.Marks.{Resumes}
-use Rattle.age_armor.specs.Stages.{FindsForm, is_start, is_armored}
-use Rattle.age_armor.specs.Steps.{WhereTold, WhereSteady}
+use Rattle.age_armor.specs.Reader.{origin_of, source_of}
+use Rattle.age_armor.specs.PrivateMarks.{Resumes}
+use Rattle.age_armor.specs.Stages.{is_start, has_lines}
+use Rattle.age_armor.specs.PrivateStages.{FindsForm}
+use Rattle.age_armor.specs.Steps.{WhereSteady}
+use Rattle.age_armor.specs.PrivateSteps.{WhereTold}
 use Rattle.age_armor.proofs.Ahead.{shown_none}
 use Rattle.age_armor.proofs.Invariants.{IsSound, sound-failed, sound-resumed}
 use Rattle.age_armor.proofs.Resuming.{resumes_binary, length_binary, clean_binary}
@@ -33,26 +35,26 @@ invariant_of-self-2 g c =
     let preceding = c.go_to_end.new.preceding in
     let content = reader.content before.source.inner in
     let len = source.taken - preceding in
-    let form : WhereSteady before (FindsForm false (text_of before).bytes) = λ told steady.
-    subst (λ s. FindsForm (is_armored s) (text_of before).bytes) c.requires (before.form told steady (ap is_start c.requires)) in
+    let form : WhereSteady before (FindsForm false (source_of before).bytes) = λ told steady.
+    subst (λ s. FindsForm (has_lines s) (source_of before).bytes) c.requires (before.form told steady (ap is_start c.requires)) in
     let all : WhereTold before (len + origin_of before ≡ reader.place source.inner) = λ told. omega (arith, (now.all told).0, (now.all told).1, c.if-self.false) in
-    let size : WhereSteady before (len ≡ length (text_of before).bytes) = λ told steady.
+    let size : WhereSteady before (len ≡ length (source_of before).bytes) = λ told steady.
     omega (arith, all told, (now.rest told steady).1, length-drop (origin_of before) content.bytes) in
-    let within : WhereSteady before (len ≤ length (text_of before).bytes) = λ told steady. omega (arith, size told steady) in
+    let within : WhereSteady before (len ≤ length (source_of before).bytes) = λ told steady. omega (arith, size told steady) in
     let ends : WhereSteady before (IsTrue content.ends_well) = λ told steady.
     subst (λ s. IsTrue s.ends_well) (now.rest told steady).0 (now.end told).ends_well in
-    let resumes : WhereSteady before (Resumes (text_of before) Binary len len) = λ told steady.
-    resumes_binary (text_of before) len (form told steady) (within told steady) in
+    let resumes : WhereSteady before (Resumes (source_of before) Binary len len) = λ told steady.
+    resumes_binary (source_of before) len (form told steady) (within told steady) in
     subst (λ s. IsSound source preceding s before.bytes 0 0 len false c.learn.new.self) (sym c.requires)
     (sound-resumed before source preceding Binary len len c.learn.new.self now.goes.keeps.same now.origin (omega (arith, c.if-self.false)) now.goes.unspent
-    (g.met.R.Read.place_fits source.inner) (λ start. absurd (true≢false (sym start))) refl (λ full. absurd (true≢false (sym (ap is_armored full))))
+    (g.met.R.Read.place_fits source.inner) (λ start. absurd (true≢false (sym start))) refl (λ full. absurd (true≢false (sym (ap has_lines full))))
     (λ told. (omega arith, resumes told))
     (λ told steady. (now.rest told steady).0 ∙ ap (λ n. from_place n content) (omega (arith, all told)))
     (λ told. (
-      c.learn.ensures.knows (reader.steady before.source.inner) (text_of before)
-          (c.reach.ensures.knows (reader.steady before.source.inner) (text_of before) (before.known told) (λ steady. (resumes told steady).within) (λ steady. sym (form told steady).same))
+      c.learn.ensures.knows (reader.steady before.source.inner) (source_of before)
+          (c.reach.ensures.knows (reader.steady before.source.inner) (source_of before) (before.known told) (λ steady. (resumes told steady).within) (λ steady. sym (form told steady).same))
           c.reach.ensures.reaches
-          (λ none steady. length_binary (text_of before) len (form told steady) (size told steady) (ends told steady))
+          (λ none steady. length_binary (source_of before) len (form told steady) (size told steady) (ends told steady))
           (λ some. absurd (omega (arith, some))) (λ steady. omega (arith, (resumes told steady).within)) (λ steady armored some. absurd (omega (arith, some))),
       omega (arith, c.reach.ensures.reaches, c.learn.ensures.more.further),
     ))

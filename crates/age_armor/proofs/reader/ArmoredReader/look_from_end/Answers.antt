@@ -3,7 +3,7 @@ use Rattle.std.proofs.lemmas.Result.{on_ok_weaker}
 use Rattle.age_error.specs.declared.io.SeekFrom.TheVariants.{End}
 use Rattle.age_io.specs.Cursor.{target}
 use Rattle.age_io.proofs.Keeping.{same-self}
-use Rattle.age_armor.specs.Delivered.{begins_armor}
+use Rattle.age_v1.specs.DeliveredArmor.{begins_armor}
 use Rattle.age_armor.specs.Seeking.{OrAstray}
 use Rattle.age_armor.specs.Steps.{LandsBelow}
 use Rattle.age_armor.specs.Reader.{armored_reader, armored_content}

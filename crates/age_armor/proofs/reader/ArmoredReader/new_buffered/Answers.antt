@@ -3,12 +3,12 @@ use Rattle.std.proofs.lemmas.Bool.{true≢false}
 use Rattle.age_io.specs.Reading.{StandsIn}
 use Rattle.age_armor.specs.declared.stages.Stage.TheVariants.{Start}
 use Rattle.age_armor.specs.Ahead.{rest_ahead}
-use Rattle.age_armor.specs.DeliveredLaws.{content_of, stands_follows}
+use Rattle.age_v1.proofs.DeliveredArmors.{content_of, stands_follows}
 use Rattle.age_armor.proofs.Ahead.{starts, starts_rest, starts_outcome, starts_shown}
 use Rattle.age_armor.proofs.AheadLines.{ahead_none}
 use Rattle.age_armor.proofs.Whole.{rest_carries, carried_rest}
 use Rattle.age_io.specs.Stretch.{from_place}
-use Rattle.age_armor.specs.Delivered.{delivered}
+use Rattle.age_v1.specs.DeliveredArmor.{text_delivers}
 use Rattle.age_armor.specs.Stages.{is_start}
 use Rattle.age_armor.proofs.Resuming.{starts_at}
 use Rattle.age_armor.proofs.reader.ArmoredReader.new_buffered.Goals as goal
@@ -37,7 +37,7 @@ invariant_of-result-2 g c =
       follows = λ told steady some. stands_follows content rest 0 (stands told steady) some;
       ends = λ told steady some.
           let at : reader.rest inner ≡ from_place place (reader.content inner) = starts_at (reader.content inner) (reader.rest inner) place _ (rw zero (g.met.R.Read.stands inner told steady)) some in
-          ap (λ o. o.ending) (starts_outcome _ (reader.rest inner)) ∙ ap (λ s. (delivered s.bytes s.ends_well).ending) at;
+          ap (λ o. o.ending) (starts_outcome _ (reader.rest inner)) ∙ ap (λ s. (text_delivers s.bytes s.ends_well).ending) at;
       known = λ told. c.new-3.ensures.knows (reader.steady inner) _;
       done = λ ended. absurd (true≢false (sym ended));
       here = λ told steady good begun. absurd (true≢false begun);

@@ -5,11 +5,12 @@ use Rattle.age_io.specs.Stretch.{from_place}
 use Rattle.age_armor.specs.Ahead.{rest_ahead}
 use Rattle.age_armor.specs.Marks.{is_known}
 use Rattle.age_armor.proofs.Walking.{further}
-use Rattle.age_armor.specs.DeliveredLaws.{content_of, stands_by}
+use Rattle.age_v1.proofs.DeliveredArmors.{content_of, stands_by}
 use Rattle.age_armor.proofs.Keeping.{same-text, all_held, armored-done, armored-refused, good-done, good-failed, text-moved, reads-done, reads-failed}
 use Rattle.age_armor.proofs.Ahead.{given_stands, pass_delivers, pass_end, pass_fault, pass_named, pass_ending, shown_none}
-use Rattle.age_armor.specs.Stages.{is_start, is_armored, is_ended}
-use Rattle.age_armor.specs.Delivered.{delivered}
+use Rattle.age_armor.specs.Stages.{is_start, has_lines}
+use Rattle.age_armor.specs.PrivateStages.{is_ended}
+use Rattle.age_v1.specs.DeliveredArmor.{text_delivers}
 use Rattle.age_armor.proofs.Resuming.{knows_later, length_at_end, not_binary, reaches_content}
 use Rattle.age_armor.proofs.Forms.{form_kept}
 use Rattle.age_armor.specs.Reader.{origin_of}
@@ -46,7 +47,7 @@ invariant_of-self g c =
           (pass_delivers before.failed before.bytes front before.given before.filled before.stage _ _ c.requires.good c.requires.binary (all_held before) c.requires.given (now.bytes told_before))
           size (place told) ∙ ap (from_place c.saturating_add-self.result) (sym (same.content told)),
       pass_ending before.bytes _ before.given before.filled before.stage _ _ c.requires.binary (now.bytes told_before)
-          ∙ at.1 ∙ sym (ap (λ t. (delivered t.bytes t.ends_well).ending) (same.text told)),
+          ∙ at.1 ∙ sym (ap (λ t. (text_delivers t.bytes t.ends_well).ending) (same.text told)),
     ) in
     record {
       room = before.room;
@@ -54,7 +55,7 @@ invariant_of-self g c =
       within = before.within;
       fresh = before.fresh;
       untaken = λ good start. absurd (true≢false (sym start ∙ ap is_start c.requires.binary));
-      form = λ told steady begun. form_kept (is_armored before.stage) _ _ (before.form (same.told told) (same.steady steady) begun) (same.text told);
+      form = λ told steady begun. form_kept (has_lines before.stage) _ _ (before.form (same.told told) (same.steady steady) begun) (same.text told);
       unspent = λ good begun. now.kept.unspent;
       counted = λ told good. omega (arith, before.counted (same.told told) c.requires.good, place told, now.taken (same.told told));
       fits = λ told. omega (arith, before.counted (same.told told) c.requires.good, place told, now.taken (same.told told), source.behind told, g.met.R.Read.place_fits source.inner told);
@@ -73,7 +74,7 @@ invariant_of-self g c =
           (λ steady. reaches_content content rest before.place n front new.bytes (before.inside told_before steady) (before.follows told_before steady)
           (pass_delivers before.failed before.bytes front before.given before.filled before.stage _ _ c.requires.good c.requires.binary (all_held before) c.requires.given (now.bytes told_before)).bytes
           (sym size))
-          (λ steady armored. absurd (true≢false (sym armored ∙ sym (before.form told_before steady (ap is_start c.requires.binary)).same ∙ ap is_armored c.requires.binary))));
+          (λ steady armored. absurd (true≢false (sym armored ∙ sym (before.form told_before steady (ap is_start c.requires.binary)).same ∙ ap has_lines c.requires.binary))));
       done = λ ended. absurd (true≢false (sym ended ∙ ap is_ended c.requires.binary));
       here = λ told steady good begun. here told steady;
       paced = λ told good.

@@ -1,6 +1,6 @@
 use Rattle.std.proofs.Common.{◌∙◌, arith, ap}
 use Rattle.age_error.specs.declared.io.SeekFrom.TheVariants.{End}
-use Rattle.age_armor.specs.Delivered.{begins_armor}
+use Rattle.age_v1.specs.DeliveredArmor.{begins_armor}
 use Rattle.age_armor.specs.Reader.{armored_reader}
 use Rattle.age_armor.proofs.Keeping.{goes-error}
 use Rattle.age_armor.proofs.Going.{reaches-end-later}

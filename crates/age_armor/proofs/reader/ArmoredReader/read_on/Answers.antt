@@ -5,9 +5,9 @@ use Rattle.age_io.specs.Reading.{Delivers}
 use Rattle.age_io.proofs.Keeping.{same-read}
 use Rattle.age_armor.specs.Ahead.{rest_ahead, shown_ahead}
 use Rattle.age_armor.specs.Marks.{is_known}
-use Rattle.age_armor.specs.Reader.{text_of, armored_reader, refuses_of}
-use Rattle.age_armor.specs.Seeking.{Goes}
-use Rattle.age_armor.specs.Stages.{is_start, is_armored}
+use Rattle.age_armor.specs.Reader.{source_of, armored_reader, refuses_of}
+use Rattle.age_armor.specs.PrivateSeeking.{Goes}
+use Rattle.age_armor.specs.Stages.{is_start, has_lines}
 use Rattle.age_armor.proofs.Ahead.{shown_small}
 use Rattle.age_armor.proofs.Forms.{binary_form}
 use Rattle.age_armor.proofs.Keeping.{on_if, form-found, fails-passed, ends-passed, good-done, text-still, text-later, goes-given, reads-done, reads-failed, learned, held_shown, reached}
@@ -20,7 +20,7 @@ returns-then-is_passing g c =
     let after = c.pass.new.self in
     let now = c.pass.ensures in
     let passing = c.is_passing.ensures c.if-is_passing.true in
-    let bare : is_armored after.stage ≡ false = ap is_armored now.binary.stage in
+    let bare : has_lines after.stage ≡ false = ap has_lines now.binary.stage in
     record {
       reads = now.reads;
       good = now.good;
@@ -34,7 +34,7 @@ returns-then-is_passing g c =
             on_ok_weaker c.pass.result (λ good. form-found before after same now.text (ap is_start now.binary.stage) told steady) now.good.good;
         beyond = λ armored. absurd (true≢false (sym armored ∙ bare));
         untouched = λ armored. absurd (true≢false (sym armored ∙ bare));
-        spared = λ told steady armor. binary_form before.stage (text_of before) passing.0 (before.form told steady (ap is_start passing.0)) armor;
+        spared = λ told steady armor. binary_form before.stage (source_of before) passing.0 (before.form told steady (ap is_start passing.0)) armor;
       };
       counts = λ told. on_if c.pass.result _ _ (λ n moves. record {
         held = λ some. absurd (omega (arith, some, passing.1));
@@ -103,7 +103,7 @@ returns-in-Ok g c =
         line = λ armored.
             let shown = shown_ahead held.failed held.bytes held.given held.filled in
             omega (arith, given.count, size, shown_small held.failed held.bytes held.given held.filled held.within, length-drop n shown, ap length given.shown);
-        form = λ told steady. ap is_armored given.reads.stage ∙ form told steady;
+        form = λ told steady. ap has_lines given.reads.stage ∙ form told steady;
         beyond = λ armored. given.beyond;
         untouched = λ armored. tt;
         spared = λ told steady armor. tt;
@@ -115,7 +115,7 @@ returns-in-Ok g c =
             held = λ some. let same = taken.held some in (given.reads.stage ∙ same.0, lines ∙ same.1, sum ∙ same.2);
             more = (omega (arith, lines, taken.more.0), omega (arith, lines, taken.more.1));
             full = λ none full. omega (arith, sum, taken.full none (sym given.reads.stage ∙ full));
-            bare = λ is. lines ∙ taken.bare (sym (ap is_armored given.reads.stage) ∙ is);
+            bare = λ is. lines ∙ taken.bare (sym (ap has_lines given.reads.stage) ∙ is);
             begun = ap is_start given.reads.stage ∙ taken.begun;
             on = omega (arith, taken.on, given.moves (back.tells ∙ told));
           };

@@ -1,6 +1,6 @@
 use Rattle.std.proofs.Common.{Ok, Err, subst, w64, to_z-of_z}
 use Rattle.age_error.specs.declared.io.SeekFrom.TheVariants.{End}
-use Rattle.age_armor.specs.Steps.{Reaches, Misses}
+use Rattle.age_armor.specs.PrivateSteps.{Reaches, Misses}
 use Rattle.age_armor.proofs.Keeping.{text-later}
 use Rattle.age_armor.proofs.Going.{ends-later, finds-none, seek-done, seek-missed, takes-back}
 use Rattle.age_armor.proofs.reader.ArmoredReader.seek_from_end.Goals as goal

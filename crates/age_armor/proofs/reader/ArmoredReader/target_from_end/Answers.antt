@@ -2,7 +2,7 @@ use Rattle.std.proofs.Common.{◌≡◌, arith, length, to_z-of_z, w64}
 use Rattle.std.proofs.lemmas.Result.{IfOk-weaker}
 use Rattle.age_error.specs.declared.io.SeekFrom.TheVariants.{End}
 use Rattle.age_io.specs.Cursor.{sought, target}
-use Rattle.age_armor.specs.DeliveredLaws.{content_short}
+use Rattle.age_v1.proofs.DeliveredArmors.{content_short}
 use Rattle.age_armor.specs.Reader.{origin_of, armored_content}
 use Rattle.age_armor.proofs.Aiming.{from-known-end, aims_within, aims_outside}
 use Rattle.age_armor.proofs.reader.ArmoredReader.target_from_end.Goals as goal

@@ -1,11 +1,11 @@
 use Rattle.std.proofs.Common.{◌≡◌, ◌+◌, ◌-◌, ◌<◌, ◌≤◌, IsTrue, false, length}
-use Rattle.age_armor.specs.Counting.{IsCounted}
+use Rattle.age_armor.specs.PrivateCounting.{IsCounted}
 use Rattle.age_armor.specs.Stages.{is_start}
 use Rattle.age_io.specs.Stretch.{from_place}
 use Rattle.age_io.specs.Reading.{AddsNoReason, TriedAgain, most_faults}
 use Rattle.age_io.specs.Keeping.{SameReader}
 use Rattle.age_armor.specs.Reader.{outcome_of, refuses_of, armored_reader, armored_content, armored_rest}
-use Rattle.age_armor.specs.Steps.{KeepsText}
+use Rattle.age_armor.specs.PrivateSteps.{KeepsText}
 use Rattle.age_armor.proofs.reader.ArmoredReader.walk.Given as goal
 
 abbrev pub invariant-reads : goal.invariant-reads

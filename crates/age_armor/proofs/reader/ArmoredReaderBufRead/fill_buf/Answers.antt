@@ -7,7 +7,7 @@ use Rattle.age_io.specs.Filling.{IsFront}
 use Rattle.age_armor.proofs.Ahead.{fault_gone}
 use Rattle.age_armor.proofs.Keeping.{fills-failed, goes-refused, form-found, fails-passed, ends-passed, good-done, learned, armor-plain, held_shown}
 use Rattle.age_armor.proofs.Pacing.{learns_none}
-use Rattle.age_armor.specs.Delivered.{delivered}
+use Rattle.age_v1.specs.DeliveredArmor.{text_delivers}
 use Rattle.age_armor.proofs.reader.ArmoredReaderBufRead.fill_buf.Goals as goal
 
 pub returns-then-self : goal.returns-then-self
@@ -41,7 +41,7 @@ returns-in-Err g c =
         fills-failed c.args.self.now c.hold.new.self c.in-Err.e now.goes now.holds.place now.good.fails now.cause (
           fails-passed _ _ c.in-Err.e now.good,
           ends-passed _ _ _ _ _ _ c.in-Err.e now.ending,
-          λ told. ap (λ t. delivered t.bytes t.ends_well) (now.text.same_text told),
+          λ told. ap (λ t. text_delivers t.bytes t.ends_well) (now.text.same_text told),
           now.text.same_text,
           λ told steady. tt,
           record { more = now.text.learns; reaches = λ told. tt; lines = (now.text.counts, now.lines); bare = now.text.bare },
@@ -74,7 +74,7 @@ returns-in-Ok g c =
           own = (
             good-done _ _ c.if-self.false now.good.good,
             record { same = now.ending.same; named = λ told good. tt },
-            λ told. ap (λ t. delivered t.bytes t.ends_well) (now.text.same_text told),
+            λ told. ap (λ t. text_delivers t.bytes t.ends_well) (now.text.same_text told),
             now.text.same_text,
             form,
             learned before after now.goes.keeps.same now.text now.lines now.good.good,

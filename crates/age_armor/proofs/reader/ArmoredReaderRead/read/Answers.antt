@@ -2,7 +2,7 @@ use Rattle.std.proofs.Common.{ℕ, ◌≡◌, ◌∙◌, arith, refl, ap, sym, i
 use Rattle.std.proofs.lemmas.Bool.{true≢false, eqb-true, eqb-false}
 use Rattle.age_error.specs.declared.io.Error.TheVariants.{Failed}
 use Rattle.age_io.proofs.Keeping.{keeps-done, same-self}
-use Rattle.age_armor.specs.Delivered.{delivered}
+use Rattle.age_v1.specs.DeliveredArmor.{text_delivers}
 use Rattle.age_armor.specs.Reader.{armored_reader}
 use Rattle.age_armor.proofs.Ahead.{fault_gone, shown_small}
 use Rattle.age_armor.proofs.Keeping.{text-still, reads-done, reads-failed, learned, goes-refused}
@@ -63,7 +63,7 @@ returns g c =
       reads = now.reads;
       good = now.good;
       ending = now.ending;
-      whole = λ told. ap (λ t. delivered t.bytes t.ends_well) (now.same_text told);
+      whole = λ told. ap (λ t. text_delivers t.bytes t.ends_well) (now.same_text told);
       same_text = now.same_text;
       held = now.fills.held;
       line = now.fills.line;

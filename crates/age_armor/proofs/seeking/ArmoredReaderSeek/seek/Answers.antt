@@ -1,7 +1,7 @@
 use Rattle.std.proofs.Common.{rules, ◌≡◌, ◌∙◌, Ok, sym, Some, None, SFits, to_z, of_z, to_z-of_z, w64, ap, subst}
 use Rattle.std.proofs.lemmas.Result.{on_ok_weaker}
 use Rattle.age_io.specs.Cursor.{place_at}
-use Rattle.age_armor.specs.Delivered.{delivered}
+use Rattle.age_v1.specs.DeliveredArmor.{text_delivers}
 use Rattle.age_armor.proofs.Pacing.{shown_begun}
 use Rattle.age_armor.proofs.Keeping.{all_held, reached}
 use Rattle.age_armor.proofs.seeking.ArmoredReaderSeek.seek.Goals as goal
@@ -19,7 +19,7 @@ returns-in-Start g c =
       fails = now.seeks.fails;
       named = rw c.in-Start.is now.seeks.named;
       well = λ told steady asked. absurd (rw c.in-Start.is at asked);
-      whole = λ told. ap (λ t. delivered t.bytes t.ends_well) (now.text.same_text told);
+      whole = λ told. ap (λ t. text_delivers t.bytes t.ends_well) (now.text.same_text told);
       same_text = now.text.same_text;
       marks = λ told steady noting near. now.takes.lines told steady noting (rw c.in-Start.is at near);
       outside = now.takes.outside;
@@ -53,7 +53,7 @@ returns-in-End g c =
       fails = now.seeks.fails;
       named = rw c.in-End.is now.seeks.named;
       well = λ told steady asked. now.finds.well told steady;
-      whole = λ told. ap (λ t. delivered t.bytes t.ends_well) (now.text.same_text told);
+      whole = λ told. ap (λ t. text_delivers t.bytes t.ends_well) (now.text.same_text told);
       same_text = now.text.same_text;
       marks = λ told steady noting near. now.takes.lines told steady noting (rw c.in-End.is at near);
       outside = now.takes.outside;
@@ -84,7 +84,7 @@ returns-in-Current g c =
       fails = now.seeks.fails;
       named = rw (c.in-Current.is, ← same) now.seeks.named;
       well = λ told steady asked. absurd (rw c.in-Current.is at asked);
-      whole = λ told. ap (λ t. delivered t.bytes t.ends_well) (now.text.same_text told);
+      whole = λ told. ap (λ t. text_delivers t.bytes t.ends_well) (now.text.same_text told);
       same_text = now.text.same_text;
       marks = λ told steady noting near.
           let near_by = rw c.in-Current.is at near in

@@ -1,5 +1,5 @@
 use Rattle.std.proofs.Common.{arith, refl}
-use Rattle.age_armor.specs.WritingLaws.{Took-holding}
+use Rattle.age_armor.specs.WritingLemmas.{Took-holding}
 use Rattle.age_armor.proofs.writer.ArmoredWriter.hold.Goals as goal
 
 pub returns-clause-took : goal.returns-clause-took

@@ -3,8 +3,8 @@ use Rattle.std.proofs.lemmas.List.{take_rest, take_all}
 use Rattle.std.proofs.Math.Seq.{take-add}
 use Rattle.std.specs.Prelude.{Ok, Err}
 use Rattle.age_io.specs.Writing.{HandsOn}
-use Rattle.age_io.specs.WritingLaws.{keeps-same, keeps-later, keeps-well}
-use Rattle.age_armor.specs.WritingLaws.{Took-both, Took-nothing}
+use Rattle.age_io.specs.WritingLemmas.{keeps-same, keeps-later, keeps-well}
+use Rattle.age_armor.specs.WritingLemmas.{Took-both, Took-nothing}
 use Rattle.age_armor.proofs.writer.ArmoredWriter.take_all.Goals as goal
 
 pub loop-done-init : goal.loop-done-init

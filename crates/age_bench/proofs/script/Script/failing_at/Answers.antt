@@ -2,7 +2,7 @@ use Rattle.std.proofs.Common.{◌≡◌, ◌∙◌, ◌-◌, ap, arith, []}
 use Rattle.std.specs.Prelude.{◌∷◌}
 use Rattle.age.specs.ErrorKindVariants.{Other}
 use Rattle.age_bench.specs.declared.script.Step.TheVariants.{Fail}
-use Rattle.age_bench.specs.Devices.{most_bytes}
+use Rattle.age_bench.specs.Devices.{most_of_call}
 use Rattle.age_bench.specs.AtCalls.{step_of}
 use Rattle.age_bench.proofs.Scripted.{step_there, moves_else}
 use Rattle.age_bench.proofs.script.Script.failing_at.Goals as goal
@@ -13,7 +13,7 @@ returns-then-call-eq0-clause-others c i other = c.new.ensures i
 pub returns-clause-fails : goal.returns-clause-fails
 returns-clause-fails c i is =
     let here : i ≡ c.args.call - 1 = omega (arith, is, c.if-call-eq0.false) in
-    ap (λ n. step_of 0 0 (c.args.call - 1) (Fail Other ∷ []) most_bytes n) here ∙ step_there (c.args.call - 1) most_bytes (Fail Other)
+    ap (λ n. step_of 0 0 (c.args.call - 1) (Fail Other ∷ []) most_of_call n) here ∙ step_there (c.args.call - 1) most_of_call (Fail Other)
 
 pub returns-clause-others : goal.returns-clause-others
 returns-clause-others c i other =

@@ -1,7 +1,7 @@
 use Rattle.std.proofs.Common.{rules, ◌++◌, ◌∷◌, inr, [], sym, ◌∙◌, ap, subst, take}
 use Rattle.std.proofs.lemmas.List.{take_rest}
-use Rattle.age_format.specs.Header.{IsHeaderText}
-use Rattle.age_format.specs.Verdict.{IsUnknownVersion, IsBadFront}
+use Rattle.age_v1.specs.HeaderTexts.{IsHeaderText}
+use Rattle.age_v1.specs.HeaderVerdict.{IsUnknownVersion, IsBadFront}
 use Rattle.age_format.specs.Progress.{ReaderValue}
 use Rattle.age_format.proofs.Pushing.{last_line, progress_line}
 use Rattle.age_format.proofs.bytewise.HeaderReader.end_line.Goals as goal

@@ -1,5 +1,5 @@
 use Rattle.std.proofs.Common.{rules, ◌≡◌, ◌∙◌, sym, ap, arith, length, get_or}
-use Rattle.age_format.specs.Header.{magic}
+use Rattle.age_v1.specs.HeaderTexts.{magic}
 use Rattle.age_format.proofs.Deciding.{quiet_byte, magic_byte, magic_lacks}
 use Rattle.age_format.proofs.Pushing.{progress_byte}
 use Rattle.age_format.proofs.bytewise.HeaderReader.push.Goals as goal

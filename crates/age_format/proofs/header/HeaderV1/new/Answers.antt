@@ -1,7 +1,7 @@
 use Rattle.std.proofs.Common.{◌∙◌, ap}
 use Rattle.age_suite.specs.Mac.{hmac_of}
-use Rattle.age_format.specs.Header.{covered_text}
-use Rattle.age_format.specs.HeaderV1.{header_mac}
+use Rattle.age_v1.specs.Header.{covered_text}
+use Rattle.age_v1.specs.HeaderMac.{header_mac}
 use Rattle.age_format.proofs.header.HeaderV1.new.Goals as goal
 
 pub returns-clause-mac : goal.returns-clause-mac

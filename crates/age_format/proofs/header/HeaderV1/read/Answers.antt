@@ -1,9 +1,8 @@
 use Rattle.std.proofs.Common.{rules, subst}
-use Rattle.age_format.specs.Stanza.{canonical}
-use Rattle.age_format.specs.Header.{IsHeaderText}
-use Rattle.age_format.specs.Verdict.{Header}
+use Rattle.age_v1.specs.HeaderTexts.{canonical, IsHeaderText}
+use Rattle.age_v1.specs.HeaderVerdict.{Header}
 use Rattle.age_format.specs.ReadingHeader.{TookVerdict}
-use Rattle.age_format.proofs.Headers.{only_text}
+use Rattle.age_v1.proofs.Headers.{only_text}
 use Rattle.age_format.proofs.HeaderReading.{header_of}
 use Rattle.age_format.proofs.header.HeaderV1.read.Goals as goal
 

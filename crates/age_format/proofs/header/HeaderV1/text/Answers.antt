@@ -1,7 +1,7 @@
 use Rattle.std.proofs.Common.{◌++◌, ◌∷◌, ◌∙◌, ap}
 use Rattle.age_base64.specs.Lines.{line}
 use Rattle.age_base64.specs.Base64.{columns}
-use Rattle.age_format.specs.Header.{covered_text, header_text}
+use Rattle.age_v1.specs.Header.{covered_text, header_text}
 use Rattle.age_format.proofs.HeaderWriting.{whole_text}
 use Rattle.age_format.proofs.header.HeaderV1.text.Goals as goal
 

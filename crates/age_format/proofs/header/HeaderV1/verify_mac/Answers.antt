@@ -1,6 +1,6 @@
 use Rattle.std.proofs.Common.{◌≡◌, [], ◌↔◌, IsTrue, subst}
-use Rattle.age_format.specs.Header.{covered_text}
-use Rattle.age_format.specs.HeaderV1.{header_mac}
+use Rattle.age_v1.specs.Header.{covered_text}
+use Rattle.age_v1.specs.HeaderMac.{header_mac}
 use Rattle.age_format.proofs.HeaderTests.{mac_told}
 use Rattle.age_format.proofs.header.HeaderV1.verify_mac.Goals as goal
 

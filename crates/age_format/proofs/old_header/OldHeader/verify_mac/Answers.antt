@@ -1,5 +1,5 @@
 use Rattle.std.proofs.Common.{◌≡◌, [], ◌↔◌, IsTrue, subst}
-use Rattle.age_format.specs.HeaderV1.{header_mac}
+use Rattle.age_v1.specs.HeaderMac.{header_mac}
 use Rattle.age_format.proofs.HeaderTests.{mac_told}
 use Rattle.age_format.proofs.old_header.OldHeader.verify_mac.Goals as goal
 

@@ -1,6 +1,6 @@
 use Rattle.std.proofs.Common.{sym, ◌∙◌, subst, string_bytes}
 use Rattle.std.specs.List.{each_same}
-use Rattle.age_format.specs.Stanza.{IsStanza}
+use Rattle.age_v1.specs.Stanza.{IsStanza}
 use Rattle.age_format.proofs.Equality.{copied, same_parts}
 use Rattle.age_format.proofs.stanza.Stanza.clone.Goals as goal
 

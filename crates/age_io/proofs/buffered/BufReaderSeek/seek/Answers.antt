@@ -4,7 +4,7 @@ use Rattle.age_io.specs.Buffered.{place_of}
 use Rattle.age_io.specs.Buffering.{held}
 use Rattle.age_io.specs.Cursor.{IsOutside, MayLead, sought}
 use Rattle.age_io.specs.Stretch.{from_place}
-use Rattle.age_io.specs.ReadingLaws.{quiet_from}
+use Rattle.age_io.specs.ReadingLemmas.{quiet_from}
 use Rattle.age_io.proofs.Holding.{rest-empty, kept-behind}
 use Rattle.age_io.proofs.buffered.BufReaderSeek.seek.Goals as goal
 

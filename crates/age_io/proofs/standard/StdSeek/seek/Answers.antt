@@ -1,7 +1,6 @@
 use Rattle.std.proofs.Common.{arith, refl}
 use Rattle.age_io.specs.StandardFaults.{faults_of}
-use Rattle.age_io.proofs.Asking.{counts-passed, stands-failed, seeks-counted, seeks-refused, below-refused, stands-again, stands-there}
-use Rattle.age_io.proofs.Asking.{keeps-both, own-counted}
+use Rattle.age_io.proofs.Asking.{counts-passed, stands-failed, seeks-counted, seeks-refused, below-refused, stands-again, stands-there, keeps-both, own-counted}
 use Rattle.age_io.proofs.standard.StdSeek.seek.Goals as goal
 
 pub returns-in_err-place-clause-seeks : goal.returns-in_err-place-clause-seeks

@@ -1,6 +1,6 @@
 use Rattle.std.proofs.Common.{length}
-use Rattle.age_format.specs.Unwrapping.{UnwrapAnswer, FirstOf, Steady}
-use Rattle.age_keys.specs.X25519.{UnwrapsBy}
+use Rattle.age_v1.specs.Identities.{UnwrapAnswer, FirstOf, Steady}
+use Rattle.age_v1.specs.X25519.{UnwrapsBy}
 use Rattle.age_keys.proofs.x25519.unwrapping.unwrap_first.Given as goal
 
 -- what decides for the rest decides for all

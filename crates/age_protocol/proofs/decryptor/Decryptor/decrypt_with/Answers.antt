@@ -1,7 +1,7 @@
 use Rattle.std.proofs.Common.{rules, ◌≡◌, IsTrue, inr, subst}
-use Rattle.age_format.specs.HeaderV1.{header_mac}
-use Rattle.age_format.specs.Header.{covered_text}
-use Rattle.age_protocol.specs.File.{payload_key}
+use Rattle.age_v1.specs.HeaderMac.{header_mac}
+use Rattle.age_v1.specs.Header.{covered_text}
+use Rattle.age_v1.specs.Payload.{payload_key}
 use Rattle.age_protocol.specs.OpeningFile.{IsReaderOf}
 use Rattle.age_protocol.proofs.Fronts.{file_of}
 use Rattle.age_protocol.proofs.decryptor.Decryptor.decrypt_with.Goals as goal

@@ -1,7 +1,7 @@
 use Rattle.std.proofs.Common.{◌∙◌, rules}
 use Rattle.age_io.proofs.Keeping.{same-later}
-use Rattle.age_format.specs.Header.{header_text}
-use Rattle.age_format.specs.Stanza.{canonical}
+use Rattle.age_v1.specs.Header.{header_text}
+use Rattle.age_v1.specs.HeaderTexts.{canonical}
 use Rattle.age_format.specs.ReadingHeader.{ReadsHeader}
 use Rattle.age_protocol.proofs.Fronts.{took_both, nonce_refused}
 use Rattle.age_protocol.proofs.Reasons.{refused_as}

@@ -2,11 +2,11 @@ use Rattle.std.proofs.Common.{Err, refl, subst}
 use Rattle.age_error.specs.Bytes.{AreBytes}
 use Rattle.age_io.specs.Writing.{WritesAll, Retried, OrMemory}
 use Rattle.age_stream.specs.Writing.{WasMade}
-use Rattle.age_protocol.specs.File.{file_front, file_text, IsFileOf}
+use Rattle.age_v1.specs.File.{file_front, file_text, IsFileOf}
 use Rattle.age_protocol.specs.Starting.{Starts}
 use Rattle.age_protocol.proofs.Files.{front_is, writes_file, is_file, file_bytes}
 use Rattle.age_protocol.proofs.Refusing.{front-narrows}
-use Rattle.age_error.specs.ErrorLaws.{of_error}
+use Rattle.age_error.specs.ErrorLemmas.{of_error}
 use Rattle.age_protocol.proofs.encryptor.Encryptor.wrap_output.Goals as goal
 
 pub returns-in_err-room-clause-refused : goal.returns-in_err-room-clause-refused

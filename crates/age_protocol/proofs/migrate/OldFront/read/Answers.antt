@@ -1,6 +1,6 @@
 use Rattle.std.proofs.Common.{◌∙◌, rules}
 use Rattle.age_io.proofs.Keeping.{same-later}
-use Rattle.age_format.specs.Stanza.{or_legacy}
+use Rattle.age_v1.specs.HeaderTexts.{or_legacy}
 use Rattle.age_format.specs.OldHeader.{ReadsOldHeader}
 use Rattle.age_protocol.specs.Migrating.{ReadsOldFrontOf}
 use Rattle.age_protocol.proofs.Fronts.{took_both, nonce_refused}

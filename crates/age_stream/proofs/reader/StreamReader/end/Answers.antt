@@ -4,10 +4,11 @@ use Rattle.age_error.specs.declared.io.Error.TheVariants.{AfterLast}
 use Rattle.age_io.specs.Reading.{EndsEarly}
 use Rattle.age_stream.specs.Reading.{payload_at}
 use Rattle.age_stream.specs.Reader.{wanted_of}
-use Rattle.age_stream.specs.ReadingLaws.{and-left}
+use Rattle.age_stream.specs.ReadingLemmas.{and-left}
 use Rattle.age_stream.proofs.Answered.{refuses-after, good-end}
 use Rattle.age_stream.proofs.Holding.{end-early, end-more, end-clean, same-rest}
 use Rattle.age_stream.proofs.Keeping.{payload-more, payload-refused, payload-ended}
+use Rattle.age_stream.proofs.Named.{after_last-named, inner-named}
 use Rattle.age_stream.proofs.reader.StreamReader.end.Goals as goal
 
 -- the inner reader refused in place of its end
@@ -58,6 +59,7 @@ returns-then-count-gt0 g c =
     (All-drop (λ x. x < 2 ^ 8) (read.place self.inner - self.taken) content.bytes (g.met.R.Read.are_bytes self.inner (and-left _ _ told)))
     (sound.is_held c.requires.held) c.requires.last (sound.is_past c.requires.good c.requires.held) (takes.took (and-left _ _ told)).came some in
     record {
+      names = inl after_last-named;
       keeps = payload-ended read self.inner mid.inner self.taken mid.taken AfterLast
           (payload-more read _ self.inner mid.inner self.taken mid.taken (λ e none. absurd none) c.in-Ok.ensures.keeps) (λ device. device)
           (record { is = tt; named = λ told. inr (self.number, follow told) });
@@ -106,3 +108,6 @@ returns-else-count-gt0-clause-ends g c =
           (record { bytes = ap (λ s. s.bytes) (sym same) ∙ clean.bytes; ends_well = ap (λ s. s.ends_well) (sym same) ∙ clean.ends_well });
       inner_end = λ told. (takes.took (and-left _ _ told)).came.end;
     }
+
+pub returns-in-Err-clause-names : goal.returns-in-Err-clause-names
+returns-in-Err-clause-names g c = inner-named g.R.Read c.args.self.now.inner c.in-Err.e c.in-Err.ensures.keeps.inner.why

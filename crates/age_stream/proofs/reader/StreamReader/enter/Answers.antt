@@ -4,15 +4,15 @@ use Rattle.std.proofs.lemmas.Bool.{true≢false}
 use Rattle.std.proofs.lemmas.List.Elements.{All-drop}
 use Rattle.age_io.specs.Stretch.{from_place}
 use Rattle.age_stream.specs.Cache.{HasOne, last_used}
-use Rattle.age_stream.specs.OpeningLaws.{shorter}
+use Rattle.age_v1.proofs.OpenedTexts.{shorter}
 use Rattle.age_stream.specs.Reading.{payload_at, IsHeld}
-use Rattle.age_stream.specs.ReadingLaws.{and-left}
+use Rattle.age_stream.specs.ReadingLemmas.{and-left}
 use Rattle.age_stream.proofs.Inner.{past-kept}
 use Rattle.age_stream.proofs.Keeping.{told-before, payload-done}
 use Rattle.age_stream.proofs.Last.{inside-held, text-held}
 use Rattle.age_stream.proofs.Moving.{sound-resumed}
 use Rattle.age_stream.proofs.Stepping.{step-refused}
-use Rattle.age_stream.proofs.TextLengths.{length-text}
+use Rattle.age_v1.proofs.TextLengths.{length-text}
 use Rattle.age_stream.proofs.reader.StreamReader.enter.Goals as goal
 
 pub invariant_of-self-in-Ok : goal.invariant_of-self-in-Ok

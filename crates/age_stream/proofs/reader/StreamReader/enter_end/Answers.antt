@@ -1,16 +1,17 @@
 use Rattle.age_stream.proofs.Cached.{moved-in, used-there}
 use Rattle.std.specs.Prelude.{cond, Some}
 use Rattle.age_stream.specs.Reader.{payload_of, HasEnd}
-use Rattle.age_stream.specs.Payload.{nonce, final_chunk}
+use Rattle.age_v1.specs.Payload.{nonce, final_chunk}
 use Rattle.std.proofs.Common.{◌≡◌, ◌<◌, ◌-◌, ◌/◌, ◌^◌, ◌∙◌, arith, length, sym, ap, subst, refl, inl, inr, ◌*◌, None, true, false}
 use Rattle.std.proofs.lemmas.Bool.{true≢false}
 use Rattle.std.proofs.lemmas.Result.{on_ok_weaker, IfErr-weaker}
 use Rattle.std.proofs.lemmas.List.Elements.{All-drop}
 use Rattle.age_io.specs.Stretch.{from_place}
-use Rattle.age_stream.specs.OpeningLaws.{shorter}
+use Rattle.age_v1.proofs.OpenedTexts.{shorter}
 use Rattle.age_stream.specs.Cache.{last_used, HasOne, HasLast}
-use Rattle.age_stream.specs.Reading.{payload_at, IsHeld, IsLastChunk, text_at}
-use Rattle.age_stream.specs.ReadingLaws.{and-left}
+use Rattle.age_stream.specs.Reading.{payload_at, IsHeld}
+use Rattle.age_v1.specs.DeliveredPayload.{IsLastChunk, text_at}
+use Rattle.age_stream.specs.ReadingLemmas.{and-left}
 use Rattle.age_stream.proofs.Inner.{past-end}
 use Rattle.age_stream.proofs.Stepping.{enters-later, keeps-at-end, step-later, step-refused}
 use Rattle.age_stream.proofs.Keeping.{payload-later, told-before, told-later, payload-done}

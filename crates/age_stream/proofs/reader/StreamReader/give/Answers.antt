@@ -2,8 +2,8 @@ use Rattle.std.proofs.Common.{◌≡◌, ◌∙◌, ap, refl, arith, ◌≤◌, 
 use Rattle.std.proofs.lemmas.List.Elements.{All-drop}
 use Rattle.std.specs.Prelude.{min}
 use Rattle.age_stream.specs.Reading.{payload_at}
-use Rattle.age_stream.specs.OpeningLaws.{shorter}
-use Rattle.age_stream.specs.ReadingLaws.{and-left}
+use Rattle.age_v1.proofs.OpenedTexts.{shorter}
+use Rattle.age_stream.specs.ReadingLemmas.{and-left}
 use Rattle.age_stream.proofs.Cached.{moved-in}
 use Rattle.age_stream.proofs.Answered.{gives-held}
 use Rattle.age_stream.proofs.Holding.{sound-given, gives, copied}

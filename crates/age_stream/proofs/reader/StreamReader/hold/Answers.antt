@@ -13,3 +13,6 @@ returns-clause-refused g c =
 pub returns-clause-opens : goal.returns-clause-opens
 returns-clause-opens g c =
     opens-passed c.args.self.now c.pass.new.self c.open.new.self c.pass.ensures.passes c.pass.ensures.holding c.open.result c.pass.ensures.spared c.open.ensures.opens
+
+pub returns-clause-names : goal.returns-clause-names
+returns-clause-names g c = rw c.pass.ensures.passes.inner at c.open.ensures.names

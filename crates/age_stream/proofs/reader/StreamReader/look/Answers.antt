@@ -1,5 +1,5 @@
 use Rattle.std.proofs.Common.{◌≡◌, ◌-◌, ◌+◌, ◌∙◌, arith, length, ap, length-drop, IsTrue, ◌&&◌}
-use Rattle.age_stream.specs.ReadingLaws.{and-left, and-right}
+use Rattle.age_stream.specs.ReadingLemmas.{and-left, and-right}
 use Rattle.age_stream.proofs.Asking.{reader-asked}
 use Rattle.age_stream.proofs.Inner.{current-zero, end-zero}
 use Rattle.age_stream.proofs.reader.StreamReader.look.Goals as goal

@@ -1,17 +1,18 @@
 use Rattle.std.proofs.Common.{◌≡◌, ◌∙◌, ◌&&◌, sym, IsTrue, refl, subst, arith, ◌<◌, ◌≤◌, ◌⊎◌, length, take, Err, inl, inr, true}
 use Rattle.age_io.specs.Reading.{EndsEarly}
-use Rattle.age_stream.specs.ReadingLaws.{and-left, and-right}
-use Rattle.age_stream.specs.Chunks.{chunk_of}
+use Rattle.age_stream.specs.ReadingLemmas.{and-left, and-right}
+use Rattle.age_v1.specs.DeliveredPayload.{chunk_of}
 use Rattle.age_stream.specs.Reader.{wanted_of}
 use Rattle.age_stream.proofs.Answered.{refuses-chunk, good-opened}
 use Rattle.age_stream.proofs.Holding.{open-early, open-refused, rest-opened, clean-opened, spare-opened}
 use Rattle.age_error.specs.declared.io.Error.TheVariants.{OutOfMemory, Truncated}
-use Rattle.age_stream.specs.FrontToEnd.{StopsAt}
+use Rattle.age_v1.specs.PayloadRefusals.{StopsAt}
 use Rattle.age_stream.specs.Reading.{payload_at}
 use Rattle.age_stream.proofs.Opening.{inside-text, kept-brought, opened-text, reader-unopened, sound-held}
 use Rattle.age_stream.proofs.Stepping.{has-next, next-held, opens-next}
 use Rattle.age_stream.proofs.Keeping.{payload-done, payload-refused, payload-more, payload-ended}
 use Rattle.std.proofs.lemmas.Bool.{true≢false}
+use Rattle.age_stream.proofs.Named.{chunk-named, inner-named, truncated-named}
 use Rattle.age_stream.proofs.reader.StreamReader.open.Goals as goal
 
 -- no text came
@@ -23,6 +24,7 @@ returns-in-Err g c =
     let taken = c.in-Err.ensures in
     let same = taken.stays in
     record {
+      names = inner-named read self.inner c.in-Err.e taken.keeps.inner.why;
       keeps = payload-refused read self.inner mid.inner self.taken mid.taken c.in-Err.e
           (payload-more read _ self.inner mid.inner self.taken mid.taken (λ e none. absurd none) taken.keeps);
       stays = record { key = same.key; sought = taken.failed.1; place = omega (arith, same.number, same.at) };
@@ -64,6 +66,7 @@ returns-in-Err-bring g c =
     (read.place self.inner) self.taken self.number text e (g.met.R.Read.are_bytes self.inner t) (g.met.R.Read.stands self.inner t (and-right _ _ told)) sound.fits
     (sound.before c.requires.good c.requires.closed).stood sound.inside.front (taken.takes.took t) bad in
     record {
+      names = inl (chunk-named e bring.named);
       keeps = payload-ended read self.inner mid.inner self.taken mid.taken e
           (payload-more read _ self.inner mid.inner self.taken mid.taken (λ e none. absurd none) taken.keeps) bring.named.device
           (record {
@@ -107,6 +110,7 @@ returns-then-self-len g c =
     c.in-Ok-bring.ensures.brings.first in
     let never : IsTrue (read.tells self.inner && read.steady self.inner) → ⊥ = λ told. omega (arith, past, inside told (omega (arith, past))) in
     record {
+      names = inl truncated-named;
       keeps = payload-ended read self.inner mid.inner self.taken mid.taken Truncated
           (payload-more read _ self.inner mid.inner self.taken mid.taken (λ e none. absurd none) taken.keeps) (λ device. device)
           (record { is = tt; named = λ told. absurd (never told) });
@@ -138,6 +142,7 @@ returns-else-self-len g c =
     brings.first in
     let within : self.at ≤ length plain = omega (arith, c.if-self-len.false, c.len.ensures, cache.chunk.ok.0, same.at) in
     record {
+      names = tt;
       keeps = payload-done read self.inner mid.inner self.taken mid.taken
           (payload-more read _ self.inner mid.inner self.taken mid.taken (λ e none. absurd none) taken.keeps);
       stays = record { key = same.key; sought = taken.failed.1; place = omega (arith, same.number, same.at) };

@@ -1,8 +1,9 @@
 use Rattle.std.proofs.Common.{◌≡◌, ◌≤◌, ◌+◌, ◌∙◌, ◌&&◌, subst, inl, inr, arith, length, take, sym, ap, IsTrue, refl, length-take-le, Some, None, true, false}
 use Rattle.std.proofs.lemmas.Bool.{cases_lt, lt-ltb, ltb-true, true≢false}
-use Rattle.age_stream.specs.Payload.{nonce}
-use Rattle.age_stream.specs.Reading.{payload_at, IsLastChunk, IsSound}
-use Rattle.age_stream.specs.ReadingLaws.{and-left}
+use Rattle.age_v1.specs.Payload.{nonce}
+use Rattle.age_stream.specs.Reading.{payload_at, IsSound}
+use Rattle.age_v1.specs.DeliveredPayload.{IsLastChunk}
+use Rattle.age_stream.specs.ReadingLemmas.{and-left}
 use Rattle.age_stream.proofs.Keeping.{told-before}
 use Rattle.age_stream.proofs.Last.{IsLastText, last-held, last-text, last-none}
 use Rattle.age_stream.proofs.Moving.{sound-last}

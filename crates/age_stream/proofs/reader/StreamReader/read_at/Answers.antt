@@ -1,15 +1,16 @@
 use Rattle.std.specs.Prelude.{IfErr}
-use Rattle.age_io.specs.ReadingLaws.{quiet_from}
+use Rattle.age_io.specs.ReadingLemmas.{quiet_from}
 use Rattle.age_stream.proofs.Keeping.{stream-kept, content-kept, ok_narrows}
 use Rattle.std.proofs.lemmas.Bool.{true≢false}
 use Rattle.age_io.specs.Reading.{IsQuiet, Delivers}
 use Rattle.age_io.specs.Stretch.{from_place}
 use Rattle.age_io.proofs.Reaching.{delivered-at}
-use Rattle.age_stream.specs.Answering.{StopsNear, IsGoodEnd, StandAt}
+use Rattle.age_v1.specs.PayloadAnswers.{StopsNear, IsGoodEnd, StandAt}
 use Rattle.std.proofs.Common.{◌≡◌, ◌∙◌, ◌+◌, sym, ap, IsTrue, take, length, length-take-le, subst, inl, inr, arith}
 use Rattle.age_stream.specs.Reader.{tells_of, content_of, steady_of, payload_of, place_of, plain_rest_of}
-use Rattle.age_stream.specs.ReadingLaws.{both-true}
+use Rattle.age_stream.specs.ReadingLemmas.{both-true}
 use Rattle.age_stream.proofs.Answered.{read-through}
+use Rattle.age_stream.proofs.Outside.{outside-inner}
 use Rattle.age_stream.proofs.reader.StreamReader.read_at.Goals as goal
 
 pub returns-in-Ok-read_full-clause-cursor : goal.returns-in-Ok-read_full-clause-cursor
@@ -219,3 +220,23 @@ returns-in-Ok-read_full-clause-order g c = λ told.
           (subst (λ p. StandAt g.S.Suite.seal_of self.key p.bytes (place_of mid) came) (seek.payload told)
           (subst (λ k. StandAt g.S.Suite.seal_of k (payload_of mid).bytes (place_of mid) came) seek.key (read.reads.stored (seek.seeks.same_tells ∙ told)))),
     )
+
+pub returns-in-Err-clause-stands : goal.returns-in-Err-clause-stands
+returns-in-Err-clause-stands g c = λ told. inl (c.in-Err.ensures.seeks.stays told)
+
+pub returns-in-Err-read_full-clause-stands : goal.returns-in-Err-read_full-clause-stands
+returns-in-Err-read_full-clause-stands g c = λ told.
+    let seek = c.in-Ok.ensures in
+    let read = c.in-Err-read_full.ensures in
+    let there : place_of c.seek.new.self ≡ c.in-Ok._start = seek.seeks.arrives told in
+    inr (c.in-Ok._start, seek.order told, omega (arith, there, read.moves.1), omega (arith, there, read.moves.1, read.refused.short))
+
+pub returns-in-Err-clause-outside : goal.returns-in-Err-clause-outside
+returns-in-Err-clause-outside g c = λ told outside _. c.in-Err.ensures.refused told outside
+
+-- reads say so only where the inner reader does
+pub returns-in-Err-read_full-clause-outside : goal.returns-in-Err-read_full-clause-outside
+returns-in-Err-read_full-clause-outside g c = λ told outside never.
+    let seeks = c.in-Ok.ensures.seeks in
+    let read = c.in-Err-read_full.ensures in
+    absurd (never (outside-inner c.args.self.now c.in-Err-read_full.e outside (seeks.narrows c.in-Err-read_full.e (inr read.keeps.inner.why))))

@@ -1,10 +1,10 @@
 use Rattle.std.proofs.Common.{rules, ◌≡◌, arith, ◌∙◌, ◌-◌, ◌+◌, length, take, subst, length-take-le, sym}
-use Rattle.age_stream.specs.Answering.{StandAt, StopsNear, IsGoodEnd}
+use Rattle.age_v1.specs.PayloadAnswers.{StandAt, StopsNear, IsGoodEnd}
 use Rattle.age_stream.specs.Reader.{payload_of, place_of, plain_rest_of, wanted_of}
 use Rattle.age_stream.proofs.Answered.{refuses-near}
-use Rattle.age_io.specs.ReadingLaws.{quiet_from}
+use Rattle.age_io.specs.ReadingLemmas.{quiet_from}
 use Rattle.age_stream.proofs.Keeping.{payload-more, stops-kept, told-later, payload-done, payload-later, payload-refused}
-use Rattle.age_stream.proofs.Standing.{stand-given, stand-joined}
+use Rattle.age_v1.proofs.StandingBytes.{stand-given, stand-joined}
 use Rattle.std.proofs.lemmas.Grind.{common_steps}
 use borrow.Rule.Slice.PartMut.{put_mid}
 use Rattle.std.proofs.lemmas.Slice.{take-put_mid_below}

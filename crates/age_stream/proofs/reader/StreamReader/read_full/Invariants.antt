@@ -1,9 +1,9 @@
 use Rattle.std.proofs.Common.{◌≡◌, ◌≤◌, ◌-◌, ◌+◌, ◌*◌, false, IsTrue, Ok, length, take}
 use Rattle.age_io.specs.Reading.{Delivers}
 use Rattle.age_stream.specs.Reader.{tells_of, plain_rest_of, payload_of, place_of, stops_of}
-use Rattle.age_stream.specs.Answering.{StandAt}
+use Rattle.age_v1.specs.PayloadAnswers.{StandAt}
 use Rattle.age_stream.specs.Reading.{spare}
-use Rattle.age_stream.specs.Keeping.{KeepsPayload}
+use Rattle.age_stream.specs.PrivateKeeping.{KeepsPayload}
 use Rattle.age_stream.proofs.reader.StreamReader.read_full.Given as goal
 
 abbrev pub invariant-reads : goal.invariant-reads

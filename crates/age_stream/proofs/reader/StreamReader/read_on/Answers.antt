@@ -1,7 +1,7 @@
 use Rattle.std.proofs.Common.{◌≡◌, ◌∙◌, ◌+◌, ◌/◌, ◌≤◌, Some, inl, inr, arith, length, ap, sym, subst, take, true}
 use Rattle.age_stream.specs.Reading.{spare}
 use Rattle.age_stream.specs.Reader.{payload_of, place_of, IsAfterLast}
-use Rattle.age_stream.specs.Answering.{Gives}
+use Rattle.age_v1.specs.PayloadAnswers.{Gives}
 use Rattle.age_suite.specs.Suite.{one_more}
 use Rattle.age_stream.proofs.Cached.{comes}
 use Rattle.age_stream.proofs.Keeping.{payload-done, payload-refused, told-later}
@@ -17,6 +17,7 @@ returns-then-is_after_last g c =
     let done = c.end.ensures in
     let at_end : IsAfterLast self = c.is_after_last.ensures.yes c.if-is_after_last.true in
     record {
+      names = done.names;
       reads = reads-end self new buf at_end done.stays c.end.result done.keeps done.none done.ends done.refused;
       keeps = done.keeps;
       moves = moves-end self new buf at_end done.stays done.sought c.end.result done.none done.ends done.refused;
@@ -34,6 +35,7 @@ returns-in-Err g c =
     let done = c.in-Err.ensures in
     let apart : IsAfterLast self → ⊥ = c.is_after_last.ensures.no c.if-is_after_last.false in
     record {
+      names = done.names;
       reads = reads-refused self new buf c.in-Err.e done.keeps done.stays.key done.stays.place done.refused.fails done.refused.cause;
       keeps = payload-refused g.R.Read _ _ _ _ _ done.keeps;
       moves = record { key = done.stays.key; sought = done.stays.sought; good = tt; fails = done.refused.fails; placed = tt; stayed = done.stays.place };

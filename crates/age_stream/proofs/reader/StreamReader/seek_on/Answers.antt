@@ -1,17 +1,17 @@
 use Rattle.std.proofs.Common.{◌≡◌, ◌<◌, ◌-◌, ◌^◌, ◌∙◌, arith, length, sym, subst, ap, IsTrue, refl, length-drop, true, None, inl, inr, Err}
 use Rattle.std.proofs.lemmas.List.Elements.{All-drop}
-use Rattle.age_stream.specs.Targets.{in_length}
-use Rattle.age_stream.specs.Payload.{nonce, final_chunk, plain_len}
-use Rattle.age_stream.specs.OpeningLaws.{shorter}
+use Rattle.age_v1.specs.PayloadTargets.{in_length}
+use Rattle.age_v1.specs.Payload.{nonce, final_chunk, plain_len}
+use Rattle.age_v1.proofs.OpenedTexts.{shorter}
 use Rattle.age_stream.specs.Reader.{payload_of, place_of, tells_of}
-use Rattle.age_stream.specs.Reading.{text_at}
-use Rattle.age_stream.specs.ReadingLaws.{and-left, and-right}
+use Rattle.age_v1.specs.DeliveredPayload.{text_at}
+use Rattle.age_stream.specs.ReadingLemmas.{and-left, and-right}
 use Rattle.age_stream.specs.Seeking.{ToEnd}
-use Rattle.age_stream.specs.Steps.{IsNoLast}
+use Rattle.age_stream.specs.PrivateSteps.{IsNoLast}
 use Rattle.age_stream.proofs.Ending.{err-well, last-opens, sought-refuses, is-end}
-use Rattle.age_stream.proofs.Judged.{ends_badly}
+use Rattle.age_v1.proofs.JudgedChunks.{ends_badly}
 use Rattle.age_stream.proofs.Keeping.{told-later, told-before, payload-refused, payload-ended, payload-later, own-refusal}
-use Rattle.age_stream.proofs.Lengths.{plain_len_says}
+use Rattle.age_v1.proofs.PayloadLengths.{plain_len_says}
 use Rattle.age_stream.proofs.Seeks.{seek-ended, seek-entered, seek-missed, seek-refused}
 use Rattle.age_stream.proofs.Stepping.{end-looked, step-later}
 use Rattle.age_stream.proofs.reader.StreamReader.seek_on.Goals as goal

@@ -2,7 +2,7 @@ use Rattle.age_error.specs.declared.io.Error.TheVariants.{OutOfMemory}
 use Rattle.age_io.specs.Cursor.{IsOutside}
 use Rattle.std.proofs.Common.{ap, ◌≢◌, ◌≡◌, ◌-◌, ◌+◌, ◌∙◌, arith, length, refl, subst, length-drop, IsTrue, ◌&&◌}
 use Rattle.age_io.specs.Stretch.{from_place}
-use Rattle.age_stream.specs.ReadingLaws.{and-left, and-right}
+use Rattle.age_stream.specs.ReadingLemmas.{and-left, and-right}
 use Rattle.age_stream.proofs.Asking.{reader-asked}
 use Rattle.age_stream.proofs.Inner.{start-at, payload-place, refused-start}
 use Rattle.age_stream.proofs.reader.StreamReader.stand.Goals as goal

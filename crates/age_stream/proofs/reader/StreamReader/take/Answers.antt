@@ -1,6 +1,6 @@
 use Rattle.std.proofs.Common.{◌≡◌, ◌∙◌, ◌&&◌, arith, ap, length, refl, IsTrue, true}
 use Rattle.age_io.proofs.Delivering.{refilled}
-use Rattle.age_stream.specs.ReadingLaws.{and-left}
+use Rattle.age_stream.specs.ReadingLemmas.{and-left}
 use Rattle.age_stream.proofs.Asking.{reader-asked}
 use Rattle.age_stream.proofs.Holding.{payload-read}
 use Rattle.age_stream.proofs.Keeping.{payload-asked, payload-filled}

@@ -1,10 +1,10 @@
-use Rattle.age_stream.specs.ReadingLaws.{and-left, and-right}
+use Rattle.age_stream.specs.ReadingLemmas.{and-left, and-right}
 use Rattle.age_stream.proofs.Holding.{sound-new, rest-open}
 use Rattle.age_stream.proofs.Answered.{rest-bytes}
-use Rattle.age_stream.proofs.Honest.{delivered-payload}
-use Rattle.age_stream.proofs.Reopened.{payload-delivered}
+use Rattle.age_v1.proofs.HonestPayloads.{delivered-payload}
+use Rattle.age_v1.proofs.ReopenedPayloads.{payload-delivered}
 use Rattle.std.proofs.Common.{refl, false, ◌∙◌, sym, ap}
-use Rattle.age_stream.specs.Chunks.{delivered}
+use Rattle.age_v1.specs.DeliveredPayload.{payload_delivers}
 use Rattle.age_stream.proofs.reader.StreamReader.with_payload_key.Goals as goal
 
 pub invariant_of-result-clause-sound : goal.invariant_of-result-clause-sound
@@ -27,5 +27,5 @@ returns-clause-success g c = λ told plain is.
 
 pub returns-clause-honest : goal.returns-clause-honest
 returns-clause-honest g c = λ plain bytes most apart is.
-    returns-clause-rest g c ∙ ap (delivered g.S.Suite.opened c.args.key 0) is
+    returns-clause-rest g c ∙ ap (payload_delivers g.S.Suite.opened c.args.key 0) is
     ∙ delivered-payload g.S.Suite.seal_of g.S.Suite.opened g.met.S.Suite.cipher c.args.key c.known_array.ensures plain bytes most apart

@@ -2,10 +2,10 @@ use Rattle.std.proofs.Common.{◌≡◌, refl, true, ◌+◌, ◌*◌, ◌<◌, 
 use Rattle.std.proofs.lemmas.List.Elements.{All-drop}
 use Rattle.std.proofs.lemmas.Result.{IfOk-weaker}
 use Rattle.age_stream.specs.Reading.{payload_at, rest_of}
-use Rattle.age_stream.specs.Chunks.{delivered}
-use Rattle.age_stream.specs.OpeningLaws.{shorter, opens_bytes}
-use Rattle.age_stream.specs.SizeLaws.{delivered-bytes}
-use Rattle.age_stream.specs.ReadingLaws.{and-left, and-right, stream_stands}
+use Rattle.age_v1.specs.DeliveredPayload.{payload_delivers}
+use Rattle.age_v1.proofs.OpenedTexts.{shorter, opens_bytes}
+use Rattle.age_v1.proofs.DeliveredSizes.{delivered-bytes}
+use Rattle.age_stream.specs.ReadingLemmas.{and-left, and-right, stream_stands}
 use Rattle.age_stream.proofs.Answered.{end-found, front-either}
 use Rattle.age_stream.proofs.reader.StreamReaderRead.read.Goals as goal
 
@@ -21,16 +21,16 @@ returns-clause-finished g c = λ told unsought.
     let short = shorter suite.seal_of suite.opened law self.key self.key_bytes in
     let payload = payload_at place self.taken content in
     let rest = rest_of suite.opened self.key self.failed self.held self.at self.cache.chunk.items self.cache.last self.number (read.rest self.inner) in
-    let stands = λ (well : (delivered suite.opened self.key 0 payload).ends_well ≡ true).
+    let stands = λ (well : (payload_delivers suite.opened self.key 0 payload).ends_well ≡ true).
     stream_stands suite.opened self.key short self.failed self.held self.at self.cache.chunk.items self.cache.last self.sought self.number self.taken place content (read.rest self.inner)
     bytes self.offset (λ held. (self.chunk held).in_chunk) (self.sound told) (g.met.R.Read.stands self.inner (and-left _ _ told) (and-right _ _ told)) well in
     IfOk-weaker c.read_on.result _ _
-    (λ n clean none some. end-found suite.seal_of suite.opened law self.key self.key_bytes payload (delivered suite.opened self.key 0 payload)
+    (λ n clean none some. end-found suite.seal_of suite.opened law self.key self.key_bytes payload (payload_delivers suite.opened self.key 0 payload)
     rest _
     (All-drop (λ x. x < 2 ^ 8) (place - self.taken) content.bytes bytes)
     (delivered-bytes suite.opened self.key short (opens_bytes suite.seal_of suite.opened law self.key self.key_bytes) 0 (place - self.taken) content bytes) refl
     (λ well. (stands well).within)
-    (front-either self.sought (delivered suite.opened self.key 0 payload) rest (65536 * self.number + self.at)
+    (front-either self.sought (payload_delivers suite.opened self.key 0 payload) rest (65536 * self.number + self.at)
     (λ is. (self.sound told).front is c.if-self.false) (λ is. (stands (unsought is)).reaches)) (clean none some))
     (c.read_on.ensures.reads.end told)
 

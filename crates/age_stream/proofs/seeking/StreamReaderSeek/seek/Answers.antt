@@ -1,9 +1,9 @@
 use Rattle.age_error.specs.declared.io.Error.TheVariants.{BeforeStart}
 use Rattle.std.specs.Prelude.{if◌then◌else◌}
 use Rattle.std.proofs.Common.{◌∙◌, sym, ap, length, Err, inl}
-use Rattle.age_stream.specs.Payload.{plain_len}
+use Rattle.age_v1.specs.Payload.{plain_len}
 use Rattle.age_stream.specs.Reader.{payload_of, place_of}
-use Rattle.age_stream.specs.Targets.{in_length}
+use Rattle.age_v1.specs.PayloadTargets.{in_length}
 use Rattle.age_stream.proofs.seeking.StreamReaderSeek.seek.Goals as goal
 
 pub returns-then-is_below_start-clause-refused : goal.returns-then-is_below_start-clause-refused

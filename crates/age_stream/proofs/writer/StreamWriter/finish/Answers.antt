@@ -1,8 +1,8 @@
 use Rattle.std.proofs.Common.{◌≡◌, ◌∙◌, ℕ, ◌+◌, ◌-◌, ◌*◌, ◌≤◌, ◌++◌, List, length, drop, sym, ap, inl, inr, arith, length-drop}
 use Rattle.std.proofs.lemmas.Bool.{true≢false}
 use Rattle.age_stream.specs.Writing.{WasMade, Took}
-use Rattle.age_stream.specs.WritingLaws.{sealed-last}
-use Rattle.age_stream.specs.Payload.{Seal}
+use Rattle.age_stream.specs.WritingLemmas.{sealed-last}
+use Rattle.age_v1.specs.Payload.{Seal}
 use Rattle.age_stream.specs.declared.writer.StreamWriter.{StreamWriter}
 use Rattle.age_stream.proofs.writer.StreamWriter.finish.Goals as goal
 

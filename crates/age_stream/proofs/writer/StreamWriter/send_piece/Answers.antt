@@ -1,6 +1,6 @@
 use Rattle.std.proofs.Common.{◌≡◌, [], arith, refl}
 use Rattle.std.proofs.lemmas.List.{nil_from_length}
-use Rattle.age_stream.specs.WritingLaws.{Sent-piece}
+use Rattle.age_stream.specs.WritingLemmas.{Sent-piece}
 use Rattle.age_stream.proofs.writer.StreamWriter.send_piece.Goals as goal
 
 pub returns-clause-sent : goal.returns-clause-sent

@@ -1,6 +1,7 @@
 use Rattle.std.proofs.Common.{refl, arith, inl, inr, ◌∙◌, length}
 use Rattle.std.proofs.lemmas.List.{take_all}
-use Rattle.age_stream.specs.WritingLaws.{Appended-nothing, Refused-narrows}
+use Rattle.age_stream.specs.WritingLemmas.{Appended-nothing, Refused-narrows}
+use Rattle.age_stream.proofs.Sent.{sends-none, sends-taken}
 use Rattle.age_stream.proofs.writing.StreamWriterWrite.write.Goals as goal
 
 pub returns-then-bytes-taken-clause-writes : goal.returns-then-bytes-taken-clause-writes
@@ -34,3 +35,14 @@ returns-in-Ok-clause-writes g c =
       takes_front = λ told. inr (c.if-self.false, took.failed ∙ c.if-self.false, rw (take_all (length bytes) bytes (omega arith)) (took.took told));
       takes_nothing = λ told. tt;
     }
+
+pub returns-in-Ok-clause-sent : goal.returns-in-Ok-clause-sent
+returns-in-Ok-clause-sent g c = λ told. sends-taken g.S.Suite.seal_of g.W.Write.appended c.args.self.now c.take_all.new.self c.args.bytes.now (c.in-Ok.ensures.took told)
+
+-- too long
+pub returns-then-bytes-taken-clause-sent : goal.returns-then-bytes-taken-clause-sent
+returns-then-bytes-taken-clause-sent g c = λ told. sends-none g.S.Suite.seal_of g.W.Write.appended g.met.W.Write.appends_nothing c.args.self.now c.args.bytes.now
+
+-- it had failed
+pub returns-then-self-clause-sent : goal.returns-then-self-clause-sent
+returns-then-self-clause-sent g c = λ told. sends-none g.S.Suite.seal_of g.W.Write.appended g.met.W.Write.appends_nothing c.args.self.now c.args.bytes.now

@@ -1,6 +1,7 @@
 use Rattle.std.proofs.Common.{rules, refl, Some}
-use Rattle.age_format.specs.Unwrapping.{Steady, key_answer}
-use Rattle.age_keys.specs.Scrypt.{UnwrapsUnder}
+use Rattle.age_format.specs.Unwrapping.{key_answer}
+use Rattle.age_v1.specs.Identities.{Steady}
+use Rattle.age_v1.specs.Scrypt.{UnwrapsUnder}
 use Rattle.age_keys.proofs.Asking.{asked_one}
 use Rattle.age_keys.proofs.scrypt.identity.IdentityIdentity.unwrap_stanza.Goals as goal
 

@@ -1,5 +1,5 @@
 use Rattle.std.proofs.Common.{◌∙◌, ap, ◌++◌, ◌∷◌, []}
-use Rattle.age_keys.specs.Scrypt.{stretch_salt}
+use Rattle.age_v1.specs.Scrypt.{stretch_salt}
 use Rattle.age_keys.proofs.Stretched.{accepted, wraps}
 use Rattle.age_keys.proofs.scrypt.recipient.RecipientRecipient.wrap_file_key.Goals as goal
 

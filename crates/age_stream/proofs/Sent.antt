@@ -1,0 +1,162 @@
+-- What a writer had sent when it refused.
+use Rattle.std.specs.Prelude.{◌≡◌, ℕ, ◌+◌, ◌-◌, ◌*◌, ◌≤◌, ◌<◌, ◌⊎◌, Bool, true, false, IsTrue, List, [], ◌++◌, length, take, drop, Result, Ok, Err}
+use Rattle.std.proofs.Common.{refl, sym, ap, ◌∙◌, inl, inr, arith, zero-add, append_assoc, length-append, length-drop, take_at, subst}
+use Rattle.std.proofs.lemmas.Bool.{true≢false, cases_lt}
+use Rattle.std.proofs.lemmas.List.{append-nil, take-append-drop, drop-append-le}
+use Rattle.age_error.specs.declared.io.Error.{Error}
+use Rattle.age_io.specs.Copying.{AppendsFront}
+use Rattle.age_io.specs.Writing.{Retried, WritesAll}
+use Rattle.age_v1.specs.Payload.{Seal, nonce, last_piece, payload}
+use Rattle.age_stream.specs.Writing.{middles, WasMade, Sent, Took, Appended, SendsFront}
+use Rattle.age_stream.specs.WritingLemmas.{middles-front, middles-both, payload-parts}
+use Rattle.age_stream.specs.declared.writer.StreamWriter.{StreamWriter}
+
+module _ {W : Type 0} (appended : W → List ℕ → W → Type 0) where
+  -- nothing was sent
+  pub front-none : ((w : W) → appended w [] w) → (whole : List ℕ) (w : W) → AppendsFront appended whole w w
+  front-none nothing whole w = record { front = []; after = whole; joined = refl; out = nothing w }
+
+  -- all was
+  pub front-all : (whole : List ℕ) (a b : W) → appended a whole b → AppendsFront appended whole a b
+  front-all whole a b out = record { front = whole; after = []; joined = sym (append-nil whole); out = out }
+
+  -- the first n bytes were
+  pub front-take : (n : ℕ) (whole : List ℕ) (a b : W) → appended a (take n whole) b → AppendsFront appended whole a b
+  front-take n whole a b out = record { front = take n whole; after = drop n whole; joined = sym (take-append-drop n whole); out = out }
+
+  -- what a write of all bytes came to
+  pub front-written : {T : Type 0} (tells : W → Bool) (faults : W → ℕ) (refuses : W → ℕ → Error → Type 0) (a b : W) (whole : List ℕ) (r : Result T Error) →
+      IsTrue (tells a) → WritesAll tells faults (Retried refuses) appended a b whole r → AppendsFront appended whole a b
+  front-written tells faults refuses a b whole (Ok x) told w = front-all whole a b (w.takes_all told)
+  front-written tells faults refuses a b whole (Err e) told w = let out = w.takes_front told in front-take out.0 whole a b out.2
+
+  -- a beginning is one of more
+  pub front-more : (whole more : List ℕ) (a b : W) → AppendsFront appended whole a b → AppendsFront appended (whole ++ more) a b
+  front-more whole more a b f = record {
+    front = f.front;
+    after = f.after ++ more;
+    joined = ap (λ (l : List ℕ). l ++ more) f.joined ∙ append_assoc f.front f.after more;
+    out = f.out;
+  }
+
+  -- a beginning after what went out whole
+  pub front-later : ((a b c : W) (x y : List ℕ) → appended a x b → appended b y c → appended a (x ++ y) c) →
+      (first whole : List ℕ) (a b c : W) → appended a first b → AppendsFront appended whole b c → AppendsFront appended (first ++ whole) a c
+  front-later joins first whole a b c out f = record {
+    front = first ++ f.front;
+    after = f.after;
+    joined = ap (λ (l : List ℕ). first ++ l) f.joined ∙ sym (append_assoc first f.front f.after);
+    out = joins a b c first f.front out f.out;
+  }
+
+module _ {S W : Type 0} (seal_of : Seal) (appended : W → List ℕ → W → Type 0) where
+  -- nothing was sent
+  pub sends-none : ((w : W) → appended w [] w) → (s : StreamWriter S W) (bytes : List ℕ) → SendsFront seal_of appended s bytes s.inner
+  sends-none nothing s bytes = record {
+    count = 0;
+    followed = λ some. absurd (omega (arith, some));
+    out = front-none appended nothing [] s.inner;
+  }
+
+  -- a beginning of the piece that was held, which a byte follows
+  pub sends-held : (s : StreamWriter S W) (bytes : List ℕ) (c : W) → length s.held.items ≡ 65536 → 0 < length bytes →
+      AppendsFront appended (seal_of s.key (nonce s.sealed false) s.held.items) s.inner c → SendsFront seal_of appended s bytes c
+  sends-held s bytes c full some f =
+      let one : take 65536 (s.held.items ++ bytes) ≡ s.held.items = take_at s.held.items bytes 65536 full in
+      record {
+        count = 1;
+        followed = λ _. omega (arith, full, some, length-append s.held.items bytes);
+        out = rw (one, append-nil) f;
+      }
+
+  -- a beginning of a piece that was given, which a byte follows
+  pub sends-piece : (s : StreamWriter S W) (bytes : List ℕ) (c : W) → s.held.items ≡ [] → 65536 < length bytes →
+      AppendsFront appended (seal_of s.key (nonce s.sealed false) (take 65536 bytes)) s.inner c → SendsFront seal_of appended s bytes c
+  sends-piece s bytes c empty more f =
+      let t : s.held.items ++ bytes ≡ bytes = ap (λ (h : List ℕ). h ++ bytes) empty in
+      record {
+        count = 1;
+        followed = λ _. rw t (omega (arith, more));
+        out = rw (t, append-nil) f;
+      }
+
+  -- all that was sent of what it took
+  pub sends-taken : (a b : StreamWriter S W) (bytes : List ℕ) → Took seal_of appended a bytes b → SendsFront seal_of appended a bytes b.inner
+  sends-taken a b bytes took =
+      let s = took.sending in
+      let left : length b.held.items ≡ length (a.held.items ++ bytes) - 65536 * s.count = ap length s.held ∙ length-drop (65536 * s.count) (a.held.items ++ bytes) in
+      record {
+        count = s.count;
+        followed = λ some. omega (arith, took.followed some, left);
+        out = front-all appended _ a.inner b.inner s.sent;
+      }
+
+  -- a beginning of what follows, after what was taken
+  pub sends-later : ((a b c : W) (x y : List ℕ) → appended a x b → appended b y c → appended a (x ++ y) c) →
+      (a b : StreamWriter S W) (c : W) (x y : List ℕ) (first : Sent seal_of appended a x b) → SendsFront seal_of appended b y c →
+      (0 < first.count → 65536 * first.count < length (a.held.items ++ (x ++ y))) → SendsFront seal_of appended a (x ++ y) c
+  sends-later joins a b c x y first second followed =
+      let t = a.held.items ++ x in
+      let m = first.count in
+      let n = second.count in
+      let all : a.held.items ++ (x ++ y) ≡ t ++ y = sym (append_assoc a.held.items x y) in
+      let rest : drop (65536 * m) (t ++ y) ≡ b.held.items ++ y =
+      drop-append-le (65536 * m) t y first.fits ∙ ap (λ (h : List ℕ). h ++ y) (sym first.held) in
+      let out : middles seal_of a.key a.sealed (m + n) (t ++ y)
+      ≡ middles seal_of a.key a.sealed m t ++ middles seal_of b.key b.sealed n (b.held.items ++ y)
+      = rw (middles-both seal_of a.key m n a.sealed (t ++ y), middles-front seal_of a.key m a.sealed t y first.fits, rest, first.same_key, first.sealed) refl in
+      let front : AppendsFront appended (middles seal_of a.key a.sealed (m + n) (t ++ y)) a.inner c
+      = rw out (front-later appended joins _ _ a.inner b.inner c first.sent second.out) in
+      record {
+        count = m + n;
+        followed = λ some. elim (cases_lt 0 n) [
+          | inl more ↦ omega (arith, second.followed more, ap length all, ap length rest, length-drop (65536 * m) (t ++ y))
+          | inr none ↦ omega (arith, followed (omega (arith, some, none)), none)
+        ];
+        out = subst (λ (z : List ℕ). AppendsFront appended (middles seal_of a.key a.sealed (m + n) z) a.inner c) (sym all) front;
+      }
+
+  -- where bytes followed what was taken
+  pub sends-on : ((a b c : W) (x y : List ℕ) → appended a x b → appended b y c → appended a (x ++ y) c) →
+      (a b : StreamWriter S W) (c : W) (x y : List ℕ) → Sent seal_of appended a x b → 0 < length y → SendsFront seal_of appended b y c →
+      SendsFront seal_of appended a (x ++ y) c
+  sends-on joins a b c x y first some second =
+      let all : a.held.items ++ (x ++ y) ≡ (a.held.items ++ x) ++ y = sym (append_assoc a.held.items x y) in
+      sends-later joins a b c x y first second
+      (λ _. omega (arith, first.fits, some, ap length all, length-append (a.held.items ++ x) y))
+
+-- so much of the payload of a plaintext
+payload-front : {W : Type 0} (seal_of : Seal) (appended : W → List ℕ → W → Type 0) (key p : List ℕ) (k : ℕ) (a c : W) → (0 < k → 65536 * k < length p) →
+    AppendsFront appended (middles seal_of key 0 k p) a c → AppendsFront appended (payload seal_of key p) a c
+payload-front seal_of appended key p k a c followed f =
+    let last = last_piece (length p) in
+    let within : k ≤ last = elim (cases_lt 0 k) [ inl some ↦ omega (arith, followed some) | inr none ↦ omega (arith, none) ] in
+    let count : last ≡ k + (last - k) = omega (arith, within) in
+    let parts : middles seal_of key 0 last p ≡ middles seal_of key 0 k p ++ middles seal_of key (0 + k) (last - k) (drop (65536 * k) p)
+    = ap (λ (j : ℕ). middles seal_of key 0 j p) count ∙ middles-both seal_of key k (last - k) 0 p in
+    rw (payload-parts seal_of key p, parts) (front-more appended _ _ a c (front-more appended _ _ a c f))
+
+module _ {S W : Type 0} (seal_of : Seal) (appended : W → List ℕ → W → Type 0) where
+  -- of a writer that was made empty
+  sends-whole : (start : StreamWriter S W) (key p : List ℕ) (first after : W) → WasMade key first start → SendsFront seal_of appended start p after →
+      AppendsFront appended (payload seal_of key p) first after
+  sends-whole start key p first after made sends =
+      let t : start.held.items ++ p ≡ p = ap (λ (h : List ℕ). h ++ p) made.none_held in
+      let out : AppendsFront appended (middles seal_of key 0 sends.count p) first after =
+      rw (t, made.none_sealed, made.same_key, made.same_inner) at sends.out in
+      payload-front seal_of appended key p sends.count first after (rw t at sends.followed) out
+
+  -- up to a refusal, and with it
+  pub sends-payload : ((a b c : W) (x y : List ℕ) → appended a x b → appended b y c → appended a (x ++ y) c) →
+      (start before : StreamWriter S W) (key plain bytes : List ℕ) (first after : W) → WasMade key first start →
+      Appended seal_of appended start plain before → before.failed ≡ false → SendsFront seal_of appended before bytes after →
+      AppendsFront appended (payload seal_of key (plain ++ bytes)) first after
+  sends-payload joins start before key plain bytes first after made (inl failed) good sends = absurd (true≢false (sym failed ∙ good))
+  sends-payload joins start before key plain bytes first after made (inr taken) good sends =
+      let took = taken.2 in
+      let s = took.sending in
+      let left : length before.held.items ≡ length (start.held.items ++ plain) - 65536 * s.count = ap length s.held ∙ length-drop (65536 * s.count) (start.held.items ++ plain) in
+      let all : start.held.items ++ (plain ++ bytes) ≡ (start.held.items ++ plain) ++ bytes = sym (append_assoc start.held.items plain bytes) in
+      sends-whole start key (plain ++ bytes) first after made
+      (sends-later seal_of appended joins start before after plain bytes s sends
+      (λ some. omega (arith, took.followed some, left, ap length all, length-append (start.held.items ++ plain) bytes)))

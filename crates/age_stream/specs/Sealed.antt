@@ -1,0 +1,26 @@
+-- What a read of a payload says besides what every reader says of a read.
+use Rattle.std.specs.Prelude.{◌≡◌, ◌≢◌, ℕ, ◌+◌, ◌/◌, ◌<◌, ◌≤◌, IsTrue, Some, List, length, take, Result, IfErr, IfOk, OnOk}
+use Rattle.age_error.specs.declared.io.Error.{Error}
+use Rattle.age_error.specs.declared.io.Error.TheVariants.{OutOfMemory}
+use Rattle.age_suite.specs.declared.suite.Suite.{Ghosts as SuiteGhosts}
+use Rattle.age_io.specs.declared.traits.Read.{Ghosts}
+use Rattle.age_io.specs.Reading.{IsQuiet}
+use Rattle.age_stream.specs.declared.reader.StreamReader.{StreamReader}
+use Rattle.age_v1.specs.PayloadAnswers.{Gives, RefusesRead, IsGoodEnd}
+use Rattle.age_stream.specs.Reader.{payload_of, key_of, inner_rest_of, wanted_of, opens_of, last_used_of, HasChunk, HasFailed, IsHolding, IsAfterLast, tells_of, place_of, faults_of}
+
+module _ {S R : Type 0} {suite : SuiteGhosts S} {read : Ghosts R} where
+  -- Which bytes it gives, why it refuses, what the payload is where it finds the end, how often it opens a chunk, and which chunks it has then.
+  pub record ReadsPayload (old new : StreamReader S R suite read) (buf new_buf : List ℕ) (result : Result ℕ Error) : Type 0 where
+    pub payload : IsTrue (tells_of old) → payload_of new ≡ payload_of old
+    pub key : key_of new ≡ key_of old
+    pub gives : IsTrue (tells_of old) → IfOk result (λ n. 0 < n → Gives suite.seal_of (key_of old) (payload_of old) (place_of old) (length buf) (take n new_buf))
+    pub refused : IsTrue (tells_of old) → (HasFailed old → ⊥) → IfErr result (λ e. e ≢ OutOfMemory → IsQuiet (faults_of old) (faults_of new) →
+        RefusesRead suite.seal_of (key_of old) (payload_of old) (inner_rest_of old) (wanted_of old) (place_of old) e)
+    pub ended : IsTrue (tells_of old) → IfOk result (λ n. n ≡ 0 → 0 < length new_buf → IsGoodEnd suite.seal_of (key_of old) (payload_of old) (place_of old))
+    pub counts : opens_of old ≤ opens_of new
+    pub opens : opens_of new ≤ opens_of old + 2
+    pub held : IsHolding old → opens_of new ≡ opens_of old
+    pub uses : IfOk result (λ n. 0 < n → last_used_of new ≡ Some (place_of old / 65536))
+    pub keeps_last : OnOk result ((b : ℕ) → last_used_of old ≡ Some b → HasChunk new b)
+    pub finds : IfOk result (λ n. 0 < n → (IsAfterLast new → ⊥) → HasChunk new (place_of new / 65536) → IsHolding new)

@@ -1,0 +1,71 @@
+-- Armor: the ASCII form of a file, and the texts that carry one. Under "standard" stands what age-encryption.org/v1, section
+-- "ASCII armor", asks, in our words.
+use Rattle.std.specs.Prelude.{List, [], codes, length, ℕ, ◌++◌, ◌/◌, ◌∷◌, ◌≡◌, ◌≢◌, ◌≤◌, ◌⊎◌}
+use Rattle.age_base64.specs.Lines.{line, pieces_and_rest}
+use Rattle.age_v1.specs.declared.format.Format.{Format}
+use Rattle.age_v1.specs.declared.format.Format.TheVariants.{AsciiArmor, Binary}
+use Rattle.age_base64.specs.Base64.{padded_columns}
+use Rattle.age_error.specs.Bytes.{AreBytes}
+use Rattle.std.specs.List.{AllByRecursion, flat_map}
+
+-- the first line of an armor, without its line ending
+abbrev pub begin_marker : List ℕ
+begin_marker = codes "-----BEGIN AGE ENCRYPTED FILE-----"
+
+-- the last one
+abbrev pub end_marker : List ℕ
+end_marker = codes "-----END AGE ENCRYPTED FILE-----"
+
+-- base64 characters in lines of 64 and a last one of 1 to 64; of no characters there is no line (a stanza's body ends with a line of 0 to 63)
+unfoldable pub armor_lines : List ℕ → List (List ℕ)
+armor_lines [] = []
+armor_lines (c ∷ cols) = pieces_and_rest (length cols / 64) 64 (c ∷ cols)
+
+-- the begin marker, the base64 of the whole in lines of 64 columns, the end marker, each with LF
+-- standard: the strict encoding of RFC 7468, section 3, with the label `AGE ENCRYPTED FILE`, and base64 with padding in lines of 64 columns
+unfoldable pub armor : List ℕ → List ℕ
+armor bytes = line begin_marker ++ (flat_map line (armor_lines (padded_columns bytes)) ++ line end_marker)
+
+-- the line with LF or CRLF
+abbrev pub IsEndedLine : List ℕ → List ℕ → Type 0
+IsEndedLine l text = (text ≡ l ++ 10 ∷ []) ⊎ (text ≡ l ++ 13 ∷ 10 ∷ [])
+
+-- the lines one after another, each with LF or CRLF
+abbrev pub AreEndedLines : List (List ℕ) → List ℕ → Type 0
+AreEndedLines [] text = text ≡ []
+AreEndedLines (l ∷ ls) text = (first : List ℕ) × (rest : List ℕ) × (text ≡ first ++ rest) × IsEndedLine l first × AreEndedLines ls rest
+
+-- space, tab, LF, FF or CR
+abbrev pub IsSpace : ℕ → Type 0
+IsSpace b = (b ≡ 32) ⊎ (b ≡ 9) ⊎ (b ≡ 10) ⊎ (b ≡ 12) ⊎ (b ≡ 13)
+
+-- The end marker alone, or with LF or CRLF and then any white space. No writer makes these but the second without white space: readers are patient here,
+-- as with CRLF, and nowhere else, so nothing stands before the begin marker.
+abbrev pub IsArmorEnd : List ℕ → Type 0
+IsArmorEnd text = (text ≡ end_marker)
+    ⊎ ((ended : List ℕ) × (space : List ℕ) × (text ≡ ended ++ space) × IsEndedLine end_marker ended × AllByRecursion IsSpace space)
+
+-- the armor of the bytes, with LF or CRLF after each line
+pub record CarriesArmored (text bytes : List ℕ) : Type 0 where
+  pub front : List ℕ
+  pub end : List ℕ
+  pub whole : text ≡ front ++ end
+  pub lines : AreEndedLines (begin_marker ∷ armor_lines (padded_columns bytes)) front
+  pub ends : IsArmorEnd end
+
+-- the bytes themselves, which don't begin with the begin marker: at least 36, as many as that marker and CRLF have, by which a reader tells the two forms
+-- apart (every file has more)
+pub record CarriesBinary (text bytes : List ℕ) : Type 0 where
+  pub size : 36 ≤ length text
+  pub plain : (rest : List ℕ) → text ≢ begin_marker ++ rest
+  pub same : text ≡ bytes
+
+-- the text carries the bytes: it is an armor of them, or the bytes themselves
+pub record Carries (text bytes : List ℕ) : Type 0 where
+  pub each : AreBytes bytes
+  pub way : CarriesArmored text bytes ⊎ CarriesBinary text bytes
+
+-- the text in this form that carries the bytes
+abbrev pub text_of : Format → List ℕ → List ℕ
+text_of Binary bytes = bytes
+text_of AsciiArmor bytes = armor bytes

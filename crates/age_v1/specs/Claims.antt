@@ -1,0 +1,28 @@
+-- What a success of the calls on whole files says.
+use Rattle.std.specs.Prelude.{IsTrue, List, length, ℕ, ◌^◌, ◌≤◌}
+use Rattle.age_error.specs.Bytes.{AreBytes}
+use Rattle.age_io.specs.Stretch.{Stretch}
+use Rattle.age_v1.specs.Armor.{Carries}
+use Rattle.age_v1.specs.Stanza.{StanzaValue}
+use Rattle.age_v1.specs.Payload.{Seal}
+use Rattle.age_v1.specs.File.{IsFileOf, file_text}
+use Rattle.age_v1.specs.Encrypting.{Prepared}
+use Rattle.age_v1.specs.Identities.{CarriesFile}
+
+-- Between two states of a writer the file of all that was left of an input was appended, in this form, and the input ended well,
+-- within the limit.
+-- By the definition that decryptors are proved by it is a file, and the text in either form carries it.
+pub record AppendsFile {W : Type 0} (seal_of : Seal) (appended : W → List ℕ → W → Type 0) (form : List ℕ → List ℕ) (file : Prepared) (input : Stretch) (old new : W) : Type 0 where
+  pub ended : IsTrue input.ends_well
+  pub within : length input.bytes ≤ 2 ^ 60
+  pub is_file : IsFileOf seal_of file.file_key file.stanzas input.bytes (file_text seal_of file.file_key file.stanzas file.nonce input.bytes)
+  pub carries : let text = file_text seal_of file.file_key file.stanzas file.nonce input.bytes in AreBytes input.bytes → Carries (form text) text
+  pub out : appended old (form (file_text seal_of file.file_key file.stanzas file.nonce input.bytes)) new
+
+-- Between two states of a writer the plaintext was appended of a file that all that was left of an input carried, and the input ended well.
+pub record AppendsPlaintext {W : Type 0} (seal_of : Seal) (gives : List ℕ → List StanzaValue → Type 0) (appended : W → List ℕ → W → Type 0)
+    (input : Stretch) (old new : W) : Type 0 where
+  pub plain : List ℕ
+  pub ended : IsTrue input.ends_well
+  pub file : CarriesFile seal_of gives input.bytes plain
+  pub out : appended old plain new
