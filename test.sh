@@ -18,10 +18,13 @@ stamped() {
 # Before the long part: `rt ci` passes over a line of an edit that it doesn't know, and would try less than the edit says.
 edits/run.sh --apply || exit 1
 # Whether the table of public names is complete, and the page of the definitions that a reader trusts is what the sources say.
-docs/names.py || exit 1
-docs/trusted.py --check || exit 1
+scripts/names.py || exit 1
+scripts/trusted.py --check || exit 1
+# Whether each definition that a `use` names is there, and each page that a link names.
+scripts/uses.py || exit 1
+scripts/links.py || exit 1
 # Whether the pictures are those of crates.txt and of README's table of speed.
-docs/pictures.py --check || exit 1
+scripts/pictures.py --check || exit 1
 # Whether the certificates of the curve are what their script makes.
 if ! crates/curve25519/generate/certificates.py --check; then
     echo "0 passed, 1 failed"
@@ -49,7 +52,7 @@ runs() {
 }
 
 echo "sazh on real files:"
-runs files crates/sazh/out/sazh python3 tool/run.py
+runs files crates/sazh/out/sazh python3 tests/sazh/run.py
 files=$counted
 # `rt ci` compiles programs for x86-64-v2, and `./sazh` for the level of the processors here.
 level=$(python3 build.py --level) || { level=x86-64-v2; status=1; }
@@ -60,7 +63,7 @@ if [ "$level" != x86-64-v2 ]; then
     # was built says nothing of the program that stands there now)
     rm -f crates/sazh/out/built_from
     if python3 build.py sazh --version < /dev/null 2>&1 | stamped; then
-        runs better crates/sazh/out/sazh python3 tool/run.py
+        runs better crates/sazh/out/sazh python3 tests/sazh/run.py
     else
         counted='0 passed, 1 failed'
     fi
@@ -68,7 +71,7 @@ if [ "$level" != x86-64-v2 ]; then
     read -r better_passed _ better_failed _ <<<"$better"
 fi
 echo "agebench with failing memory, reads and writes, and on damaged payloads:"
-runs faults crates/agebench/out/agebench python3 faults/run.py
+runs faults crates/agebench/out/agebench python3 tests/faults/run.py
 faults=$counted
 
 # The library for C, where there is what its examples are built with. It is built for the level of the processors here.

@@ -1,4 +1,4 @@
-# Completions of sazh for bash, made by tool/completions.py from its --help.
+# Completions of sazh for bash, made by tests/sazh/completions.py from its --help.
 _sazh() {
     local word=${COMP_WORDS[COMP_CWORD]} before=${COMP_WORDS[COMP_CWORD - 1]} options='' commands=''
     case $before in

@@ -1,4 +1,4 @@
-# Completions of sazh for fish, made by tool/completions.py from its --help.
+# Completions of sazh for fish, made by tests/sazh/completions.py from its --help.
 function __sazh_command
     set -l words (commandline -opc)
     test (count $words) -ge 2; and echo $words[2]

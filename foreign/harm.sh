@@ -12,7 +12,7 @@ python3 - "$top" "$work" <<'PYTHON'
 import os, sys
 from pathlib import Path
 top, work = sys.argv[1:]
-sys.path[:0] = [f"{top}/interop"]
+sys.path[:0] = [f"{top}/tests/interop"]
 sys.dont_write_bytecode = True
 import peer
 keys = [peer.Key() for _ in range(3)]

@@ -14,7 +14,7 @@ import time
 from pathlib import Path
 
 TOP = Path(__file__).resolve().parent.parent
-sys.path[:0] = [str(TOP / "interop"), str(TOP / "examples" / "foreign")]
+sys.path[:0] = [str(TOP / "tests" / "interop"), str(TOP / "examples" / "foreign")]
 sys.dont_write_bytecode = True
 
 import age_c  # noqa: E402
@@ -245,8 +245,8 @@ def headers(count, library, keys):
 
 
 def vectors(count, program):
-    """Each vector opens to what vectors/README.md says."""
-    folder = TOP / "vectors"
+    """Each vector opens to what tests/vectors/README.md says."""
+    folder = TOP / "tests" / "vectors"
     own = (folder / "key.txt").read_bytes()
     passphrase = (folder / "protected_identity.passphrase").read_bytes()
     status, held = program.run("decrypt-passphrase", passphrase, (folder / "protected_identity.age").read_bytes())

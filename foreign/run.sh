@@ -1,5 +1,5 @@
 #!/usr/bin/env bash
-# The library for C: builds the examples of examples/foreign in C, Rust and Python over it, and compares what they do with `peer.py` of interop and
+# The library for C: builds the examples of examples/foreign in C, Rust and Python over it, and compares what they do with `peer.py` of tests/interop and
 # with `sazh`, both ways, on the vectors and on damaged files. run.sh [SAZH] [LIBRARY]: the program and the static library that were built; without
 # them they are built here. The C example runs under valgrind, the Rust one is built by rustc alone, each where that is.
 # The last line is 'N passed, M failed'.

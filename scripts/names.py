@@ -1,12 +1,12 @@
 #!/usr/bin/env python3
 """Whether the table of public names in FROM_AGE.md is complete, and says what is here.
 
-`docs/names.py` compares three lists, and takes a second: the names of the Rust crate (names.txt), those in the first column of the table,
+`scripts/names.py` compares three lists, and takes a second: the names of the Rust crate (names.txt), those in the first column of the table,
 and what the crate `age` passes on (crates/age/src/lib.rt). Each name of the Rust crate has a row, and stands in the sources here unless
 it is left out. Each path of `age` in the table or in the list after it is there, and what is there has its path in one of them. The last
 line is 'N passed, M failed'.
 
-`docs/names.py FOLDER` makes names.txt anew from the sources of the Rust crate: a folder with its `src`, or with the same files as text,
+`scripts/names.py FOLDER` makes names.txt anew from the sources of the Rust crate: a folder with its `src`, or with the same files as text,
 `src--src--lib.rs.txt` for `src/lib.rs`. A name that only a feature brings has the feature's name beside it.
 """
 
@@ -121,7 +121,7 @@ def exports():
 
 def section():
     """The rows of the table, each the texts of its two columns, and the list after it."""
-    with open(f"{HERE}/FROM_AGE.md", encoding="utf-8") as it:
+    with open(f"{TOP}/docs/FROM_AGE.md", encoding="utf-8") as it:
         text = it.read().split("\n## Public names\n")[1]
     rows = [re.fullmatch(r"\| (.*?) \| (.*) \|", line) for line in text.splitlines() if line.startswith("| `")]
     return [(row[1], row[2]) for row in rows], text.split("\n\n")[-1]

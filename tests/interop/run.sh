@@ -4,6 +4,6 @@
 # `age` or `rage` on the path, or where there is none `peer.py` (Python, with the package `cryptography`). No part of the gate.
 # The last line is 'N passed, M failed'.
 set -euo pipefail
-cd "$(dirname "$0")/.."
+cd "$(dirname "$0")/../.."
 [ -x crates/sazh/out/sazh ] || ./sazh --version > /dev/null
-exec python3 interop/run.py crates/sazh/out/sazh
+exec python3 tests/interop/run.py crates/sazh/out/sazh

@@ -16,7 +16,7 @@ import re
 import sys
 
 sys.dont_write_bytecode = True
-sys.path.insert(0, os.path.abspath("docs"))
+sys.path.insert(0, os.path.dirname(os.path.abspath(__file__)))
 import specs as S
 
 USE = re.compile(r"^(\s*(?:(?:new|old): )?)((?:unfoldable |pub |ghost )*use )Rattle\.([\w.]+?)\.\{(.*)\}(;?)\s*$")

@@ -6,7 +6,7 @@ from pathlib import Path
 
 from completions import FOLDER, made, read
 
-TOP = Path(__file__).resolve().parent.parent
+TOP = Path(__file__).resolve().parents[2]
 PLACES = {
     "bin/sazh": 0o755,
     "share/man/man1/sazh.1": 0o644,
@@ -30,7 +30,7 @@ def in_bash(file, *words):
 def installs(runs):
     """It installs six files, and the program among them is this one."""
     for name, text in made(runs.program).items():
-        runs.ends(f"completions/{name} is what tool/completions.py makes", FOLDER.joinpath(name).read_text("ascii") == text)
+        runs.ends(f"completions/{name} is what tests/sazh/completions.py makes", FOLDER.joinpath(name).read_text("ascii") == text)
     prefix = runs.path("prefix")
     done = subprocess.run([TOP / "install.sh", "--built", prefix], stdin=subprocess.DEVNULL, capture_output=True, check=False, text=True)
     told = [str(prefix / place) for place in PLACES]

@@ -1,7 +1,7 @@
 #!/usr/bin/env python3
 """Makes the completions of `sazh` for bash, zsh and fish from what its `--help` says: completions.py PROGRAM writes them to `completions/`.
 
-So each option of each command is there, with its help, and none that the program lacks. tool/run.py compares them with what the program says.
+So each option of each command is there, with its help, and none that the program lacks. tests/sazh/run.py compares them with what the program says.
 """
 
 import os
@@ -10,8 +10,8 @@ import subprocess
 import sys
 from pathlib import Path
 
-FOLDER = Path(__file__).resolve().parent.parent / "completions"
-MADE = "made by tool/completions.py from its --help"
+FOLDER = Path(__file__).resolve().parents[2] / "completions"
+MADE = "made by tests/sazh/completions.py from its --help"
 # Values that name files. Other values, as a recipient or a number, have no completion.
 FILES = {"FILE", "OUT"}
 OPTION = re.compile(r"^ {2,6}(?:-(?P<short>\w), )?--(?P<long>[\w-]+)(?: <(?P<value>\w+)>)?(?:  +(?P<help>.*))?$")

@@ -6,7 +6,7 @@ import shutil
 import subprocess
 from pathlib import Path
 
-GUIDE = Path(__file__).resolve().parent.parent / "docs/SAZH.md"
+GUIDE = Path(__file__).resolve().parents[2] / "docs/SAZH.md"
 # The passphrase, on standard input for the recipe that reads it, and as a password manager shows it.
 PASSPHRASE = b"correct horse battery staple\n"
 PASS = "#!/bin/sh\n[ \"$*\" = 'show notes' ] && printf 'correct horse battery staple\\n'\n"

@@ -521,7 +521,7 @@ def seek_memory(runs, number):
     the chunks before its place, whatever it counts, would make more.
     """
     here = os.path.dirname(os.path.abspath(__file__))
-    crate = os.path.join(os.path.dirname(here), "crates", "seek_memory")
+    crate = os.path.join(os.path.dirname(os.path.dirname(here)), "crates", "seek_memory")
     plain = bytes(i % 251 for i in range(10 * PIECE + 1))
     want = {1: "seek_memory: out of memory", 10: f"0 opened, at {10 * PIECE}, 1 read: {plain[-1]}, 1 opened"}[number]
     done = subprocess.run(["rt", "try", "--fail-alloc", str(number)], cwd=crate, input=payload(plain),

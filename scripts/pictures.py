@@ -2,7 +2,7 @@
 """Draws the pictures of docs/pictures/ from what the repository says, as SVG: the crates with who stands on whom, a file's way through them,
 and the speed beside others.
 
-`docs/pictures.py` writes them. `docs/pictures.py --check` says whether those that stand there are what it makes, and exits with 1 where one
+`scripts/pictures.py` writes them. `scripts/pictures.py --check` says whether those that stand there are what it makes, and exits with 1 where one
 isn't. The last line is 'N passed, M failed'. The crates are those of crates.txt, without those of tests and what these alone use, and
 lines that follow from others are left out. Each box of the way names a type that its crate has, or the script stops. The speed is README's table.
 """
@@ -347,14 +347,14 @@ def number(digits):
 
 def main():
     if sys.argv[1:] not in ([], ["--check"]):
-        sys.exit("usage: docs/pictures.py [--check]")
+        sys.exit("usage: scripts/pictures.py [--check]")
     passed = failed = 0
     for name, make in (("crates", crates_picture), ("way", ways_picture), ("speed", speed_picture)):
         path, made = f"{FOLDER}/{name}.svg", make()
         if sys.argv[1:]:
             there = open(path, encoding="utf-8").read() if os.path.exists(path) else None
             if there != made:
-                print(f"docs/pictures/{name}.svg isn't what docs/pictures.py makes: run it, and look at the picture")
+                print(f"docs/pictures/{name}.svg isn't what scripts/pictures.py makes: run it, and look at the picture")
             passed, failed = passed + (there == made), failed + (there != made)
         else:
             os.makedirs(FOLDER, exist_ok=True)

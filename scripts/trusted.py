@@ -1,8 +1,8 @@
 #!/usr/bin/env python3
 """The definitions that the claims rest on, as a page to read: TRUSTED.md.
 
-`docs/trusted.py` writes docs/TRUSTED.md. It takes the clauses that are listed below from the sources, finds each definition in `*/specs` that
-they cite, each that those cite, and so on, and quotes them, lowest first. `docs/trusted.py --check` compares that page, and the sentence of
+`scripts/trusted.py` writes docs/TRUSTED.md. It takes the clauses that are listed below from the sources, finds each definition in `*/specs` that
+they cite, each that those cite, and so on, and quotes them, lowest first. `scripts/trusted.py --check` compares that page, and the sentence of
 README.md that counts the definitions, with what the sources say now. It exits with 1, and says what to do, where they differ, where a part
 below lacks a definition, or where one stands before one that it cites. The last line is 'N passed, M failed'.
 """
@@ -111,7 +111,7 @@ that they cite, of each that those cite, and so on. Below stand all that the thr
 `Claims` are the sections of the standard and what the calls claim; the others say what a reader makes of any bytes. The clauses stand at the end of each part. For these claims the other definitions
 of `*/specs`, and all of `*/proofs`, are steps of proofs, which the prover checks and nobody has to read.
 
-`docs/trusted.py` makes this page from the sources, and the gate compares. Lines are counted without blank ones.
+`scripts/trusted.py` makes this page from the sources, and the gate compares. Lines are counted without blank ones.
 
 | Part | definitions | files | crates | lines of code | with comments |
 |---|---|---|---|---|---|
@@ -185,7 +185,7 @@ def clauses_of(path, item, wanted):
             imports(line.strip(), uses, aliases)
     starts = [at for at, line in enumerate(lines) if re.match(rf"{re.escape(item)}(?!\w)", line)]
     if len(starts) != 1:
-        sys.exit(f"`{item.strip()}` begins {len(starts)} lines of crates/{path}: name the clauses anew in docs/trusted.py\n0 passed, 1 failed")
+        sys.exit(f"`{item.strip()}` begins {len(starts)} lines of crates/{path}: name the clauses anew in scripts/trusted.py\n0 passed, 1 failed")
     start, depth = starts[0], indent(item)
     end = next(at for at in range(start, len(lines)) if lines[at] in (" " * depth + "}", " " * depth + "{"))
     if wanted is None:
@@ -203,7 +203,7 @@ def clauses_of(path, item, wanted):
         word, _, field = clause.partition(": ")
         found = [at for at in range(start, end) if re.match(rf"{word} ?[={{]", lines[at].strip())]
         if len(found) != 1:
-            sys.exit(f"`{item.strip()}` of crates/{path} has {len(found)} clauses `{word}`: name it anew in docs/trusted.py\n0 passed, 1 failed")
+            sys.exit(f"`{item.strip()}` of crates/{path} has {len(found)} clauses `{word}`: name it anew in scripts/trusted.py\n0 passed, 1 failed")
         more = balanced(lines, found[0])
         text += more
         names |= set(cited("\n".join(more), uses, aliases))
@@ -254,13 +254,13 @@ def part(number, title, what, clauses, sections, seen, outside, faults):
             module = MODULES.get(place.replace("/", ".specs.", 1))
             here = sorted((it for it in left if it.module is module), key=lambda it: it.first)
             if not here:
-                faults.append(f"part {number} needs nothing of {place}: take it out of PARTS in docs/trusted.py")
+                faults.append(f"part {number} needs nothing of {place}: take it out of PARTS in scripts/trusted.py")
                 continue
             left -= set(here)
             made += here
             each = ", ".join(f"`{it.name}` {lines_in(it.text)}" for it in here)
             text += [*wrapped(f"[{module.path[len('crates/'):]}](../{module.path}), lines of each: {each}."), "", "```text", *block(here), "```", ""]
-    faults += [f"{it.module.path}: `{it.name}` is needed by part {number}: name its file in PARTS in docs/trusted.py" for it in left]
+    faults += [f"{it.module.path}: `{it.name}` is needed by part {number}: name its file in PARTS in scripts/trusted.py" for it in left]
     text += ["### The claims" if number == 1 else "### The clauses", ""]
     for caption, path, clause, _ in quoted:
         text += [f"**{caption}** ([{path}](../crates/{path})):", "", "```text", *clause, "```", ""]
@@ -300,7 +300,7 @@ def page():
     for it in made:
         for other in {find(*name) for name in it.cites()} - {it}:
             if place.get(other, -1) > place[it]:
-                faults.append(f"{it.module.path}: `{it.name}` stands before `{other.name}`, which it cites: change PARTS in docs/trusted.py")
+                faults.append(f"{it.module.path}: `{it.name}` stands before `{other.name}`, which it cites: change PARTS in scripts/trusted.py")
     whole = told(made)
     sentence = (f"They rest on {first[0]} definitions, {first[3]} lines of code; with all that readers, writers and suites promise, native keys and "
                 f"the primitives of the standard on {whole[0]}, {whole[3]} lines. [docs/TRUSTED.md](docs/TRUSTED.md) quotes them, and no other.")
@@ -319,12 +319,12 @@ def main():
     if sys.argv[1:] == ["--check"]:
         with open(PAGE, encoding="utf-8") as it:
             if it.read() != text:
-                faults.append("docs/TRUSTED.md isn't what the sources say now: run docs/trusted.py, and read what changed (git diff docs/TRUSTED.md)")
+                faults.append("docs/TRUSTED.md isn't what the sources say now: run scripts/trusted.py, and read what changed (git diff docs/TRUSTED.md)")
     elif not sys.argv[1:]:
         with open(PAGE, "w", encoding="utf-8") as it:
             it.write(text)
     else:
-        print("docs/trusted.py [--check]", file=sys.stderr)
+        print("scripts/trusted.py [--check]", file=sys.stderr)
         return 2
     with open(f"{TOP}/README.md", encoding="utf-8") as it:
         if words(sentence) not in words(it.read()):

@@ -1,0 +1,82 @@
+#!/usr/bin/env python3
+"""Whether each `use` of a definition, in specs, proofs, code and edits, names one that is there: `use Rattle.CRATE.specs.File.{name, ..}` where that file
+defines or passes on each name. The prover says the same, twenty minutes later. Names of std and of the kit's crates aren't looked at.
+A second; the last line is 'N passed, M failed'."""
+
+import glob
+import os
+import re
+import sys
+
+TOP = os.path.dirname(os.path.dirname(os.path.abspath(__file__)))
+USE = re.compile(r"^\s*(?:(?:new|old): )?(?:unfoldable |pub |ghost )*use Rattle\.([\w.]+?)(?:\.\{(.*)\})?(?: as \w+)?;?\s*$")
+
+
+def text_of(path):
+    with open(path, encoding="utf-8") as file:
+        return file.read()
+
+
+def name_of(path):
+    return os.path.relpath(path, f"{TOP}/crates")[: -len(".antt")].replace("/", ".")
+
+
+def files(*ends):
+    for end in ends:
+        for top in ("crates", "edits"):
+            for path in sorted(glob.glob(f"{TOP}/{top}/**/*.{end}", recursive=True)):
+                if "/out/" not in path:
+                    yield path
+
+
+def said(text):
+    """The words of a file but for those of its own imports: what it defines and passes on is among them."""
+    lines = [line for line in text.split("\n") if not re.match(r"\s*use ", line)]
+    return set(re.findall(r"[^\s(){}\[\],;]+", "\n".join(lines)))
+
+
+def passed_on(texts):
+    """The modules that a Lib passes on under its own name, by that name."""
+    found = {}
+    for name, text in texts.items():
+        if name.endswith(".Lib"):
+            for where, other in re.findall(r"^pub use Rattle\.([\w.]+)(?: as (\w+))?$", text, re.M):
+                found[f"{name[:-4]}.{other or where.split('.')[-1]}"] = where
+    return found
+
+
+def main():
+    texts = {name_of(it): text_of(it) for it in files("antt") if it.startswith(f"{TOP}/crates/")}
+    crates, words, aliases = {it.split(".")[0] for it in texts}, {name: said(text) for name, text in texts.items()}, passed_on(texts)
+    passed, faults = 0, []
+    for path in files("antt", "rt", "edit"):
+        for number, line in enumerate(text_of(path).split("\n"), 1):
+            found = USE.match(line)
+            if not found or found[1].split(".")[0] not in crates or not re.search(r"\.(specs|proofs)\b", found[1]):
+                continue
+            here, module = f"{os.path.relpath(path, TOP)}:{number}", found[1]
+            while module in aliases:
+                module = aliases[module]
+            if re.search(r"\.specs\.(declared|contracts)\.", module) or module.endswith((".Goals", ".Given")) or ".below." in module:
+                # (what `rt` makes of the code and of its goals, and what a crate's library passes on)
+                continue
+            inside, _, last = module.rpartition(".")
+            if module not in words and last in words.get(inside, ()):
+                # (a module inside a file)
+                module = inside
+            if module not in words:
+                faults.append(f"{here}: there is no {module}")
+                continue
+            for entry in (found[2] or "").split(","):
+                name = entry.split(" as ")[0].strip()
+                signs = [it for it in name.split("◌") if it]
+                if all(it in words[module] for it in ([name] if name in words[module] else signs)):
+                    passed += 1
+                else:
+                    faults.append(f"{here}: {module} has no {name}")
+    print("\n".join([*faults, f"{passed} passed, {len(faults)} failed"]))
+    return 1 if faults else 0
+
+
+if __name__ == "__main__":
+    sys.exit(main())
