@@ -55,19 +55,24 @@ class Count:
 class Program:
     """One of the examples, as a program: the words of age.c."""
 
+    # What a status says, by its number.
+    text_of = None
+
     def __init__(self, name, words, folder, environment=None):
         self.name, self.words, self.folder, self.environment = name, words, folder, environment
 
     def run(self, command, keys, given, *more):
-        """The status, and what was written."""
+        """The status, and what was written. A refusal has to be told in one line."""
         paths = [f"{self.folder}/{name}" for name in ("keys", "given", "out")]
         Path(paths[0]).write_bytes(keys)
         Path(paths[1]).write_bytes(given)
         Path(paths[2]).unlink(missing_ok=True)
         words = [*self.words, command, *paths, *map(str, more)]
         done = subprocess.run(words, env=self.environment, stdin=subprocess.DEVNULL, capture_output=True, check=False)
-        if done.returncode not in range(100) or done.stderr:
+        told = f"age: {self.text_of(done.returncode)}\n".encode() if done.returncode else b""
+        if done.returncode not in range(99) or done.stderr != told:
             print(f"{self.name} {command}: status {done.returncode}: {done.stderr.decode(errors='replace')}")
+            return 100, None
         return done.returncode, Path(paths[2]).read_bytes() if os.path.exists(paths[2]) else None
 
 
@@ -290,6 +295,27 @@ def refusals(count, library, keys):
         count.check(f"{what}: {status} in place of {wanted}", status == wanted)
 
 
+def texts(count, library):
+    """What statuses say: in the words of the Rust crate where it has the refusal, and of no status."""
+    for name, wanted in [
+        ("OK", "success"),
+        ("OUT_OF_MEMORY", "out of memory"),
+        ("TRUNCATED", "age file is truncated"),
+        ("BAD_CHUNK", "decryption error"),
+        ("LAST_CHUNK_EMPTY", "last chunk is empty"),
+        ("ARMOR_SHORT_LINE", "invalid armor (short line in middle of encoding)"),
+        ("NO_MATCHING_KEYS", "no matching keys"),
+        ("PASSPHRASE_NEEDED", "the text is encrypted with a passphrase"),
+    ]:
+        count.check(f"the text of AGE_{name}", library.error_text(int(STATUSES[name])) == wanted)
+    told = {int(number): library.error_text(int(number)) for number in STATUSES.values()}
+    count.check("each status has a text", "unknown status" not in told.values())
+    count.check("other numbers have none", {library.error_text(it) for it in (5, 66, 2**32 - 1)} == {"unknown status"})
+    room, written = age_c.ctypes.create_string_buffer(b"\xaa" * 8, 8), age_c.ctypes.c_size_t(77)
+    status = library.calls.age_error_text(0, room, 6, age_c.ctypes.byref(written))
+    count.check("a room that is too short for a text", (status, written.value, room.raw) == (TOO_SHORT, 7, b"\xaa" * 8))
+
+
 def rooms(count, library, keys):
     """What a call leaves in a room that is too short, long enough, and of a file that is refused; and too few random bytes."""
     ctypes = age_c.ctypes
@@ -426,6 +452,7 @@ def main():
     began = time.monotonic()
     count, keys = Count(), [peer.Key() for _ in range(3)]
     library = age_c.Library(f"{out}/libage_c.so")
+    Program.text_of = library.error_text
     with tempfile.TemporaryDirectory() as folder:
         other = Sazh("sazh", [sazh], folder)
         for program in programs(folder, out, f"{out}/libage_c.so"):
@@ -434,6 +461,7 @@ def main():
             if "valgrind" not in program.name:
                 vectors(count, program)
     refusals(count, library, keys)
+    texts(count, library)
     rooms(count, library, keys)
     made_keys(count, library, keys)
     lengths(count, library)

@@ -117,6 +117,13 @@ enum age_status {
     AGE_PASSPHRASE_NEEDED = 65
 };
 
+/*
+ * Hands out what a status says, in English: a line without its end, in ASCII, of at most AGE_ERROR_TEXT bytes. No NUL stands behind it.
+ * A number that no call answers is "unknown status".
+ */
+#define AGE_ERROR_TEXT 64
+uint32_t age_error_text(uint32_t status, uint8_t *out, size_t out_length, size_t *written);
+
 /* How many random bytes a file takes that is encrypted to so many recipients, and one under a passphrase. */
 #define AGE_RANDOM_FOR_RECIPIENTS(recipients) (32 + 32 * (size_t)(recipients))
 #define AGE_RANDOM_FOR_PASSPHRASE 72

@@ -12,7 +12,7 @@
  * `stream` and `part` read chunk by chunk: `part` the header and those chunks alone that hold the bytes, and the last one where the
  * bytes end there. What was written before a chunk is refused is right as far as it goes; `stream` takes the output away then.
  *
- * It ends with status 0, with the library's number where that refuses, and with 100 where it is called wrongly or a file isn't read
+ * It ends with status 0, with the library's number where that refuses, once its text is on standard error, and with 100 where it is called wrongly or a file isn't read
  * or written.
  */
 #include "age_c.h"
@@ -204,6 +204,16 @@ static void append(FILE *out, const char *name, const uint8_t *at, size_t length
     }
 }
 
+/* Says why the library refused. */
+static uint32_t said(uint32_t status)
+{
+    uint8_t text[AGE_ERROR_TEXT];
+    size_t length;
+    if (status != AGE_OK && age_error_text(status, text, sizeof text, &length) == AGE_OK)
+        fprintf(stderr, "age: %.*s\n", (int)length, (const char *)text);
+    return status;
+}
+
 /* Closes both files. What was written of a payload that is refused is removed. */
 static uint32_t ended(struct payload *of, FILE *out, const char *out_name, uint32_t status)
 {
@@ -294,7 +304,7 @@ int main(int count, char **words)
         uint32_t status = of_part ? part(by, words[3], words[4], number_of(words[5]), number_of(words[6]))
                                   : stream(by, words[3], words[4]);
         free(by.at);
-        return (int)status;
+        return (int)said(status);
     }
     bool with_passphrase = strstr(command, "-passphrase") != NULL;
     struct bytes keys = contents(words[2]), in = contents(words[3]), out;
@@ -306,5 +316,5 @@ int main(int count, char **words)
     free(keys.at);
     free(in.at);
     free(out.at);
-    return (int)status;
+    return (int)said(status);
 }

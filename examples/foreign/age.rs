@@ -1,4 +1,4 @@
-//! Files encrypted and decrypted from Rust, over age_c and std alone: the commands and the statuses are those of age.c beside it.
+//! Files encrypted and decrypted from Rust, over age_c and std alone: the commands, the statuses and their texts are those of age.c beside it.
 
 use std::fs;
 use std::io::{Read, Seek, SeekFrom, Write};
@@ -14,6 +14,7 @@ const PIECE: u64 = 65_536;
 const CHUNK: u64 = 65_552;
 const WRONG: i32 = 100;
 const RANDOM_FOR_PASSPHRASE: usize = 72;
+const ERROR_TEXT: usize = 64;
 
 unsafe extern "C" {
     fn age_encrypt(
@@ -40,6 +41,7 @@ unsafe extern "C" {
         key: *const u8, key_length: usize, number: u64, last: bool, text: *const u8, text_length: usize,
         out: *mut u8, out_length: usize, written: *mut usize,
     ) -> u32;
+    fn age_error_text(status: u32, out: *mut u8, out_length: usize, written: *mut usize) -> u32;
     fn age_chunk_count(plain_length: u64) -> u64;
     fn age_plain_length(payload_length: u64, length: *mut u64) -> u32;
 }
@@ -58,6 +60,13 @@ fn given(length: usize, mut call: impl FnMut(*mut u8, usize, *mut usize) -> u32)
             status => return Err(status),
         }
     }
+}
+
+/// What a status says, in English.
+pub fn error_text(status: u32) -> String {
+    // SAFETY: the pointers are those of a slice, with its length, and of a value.
+    let text = given(ERROR_TEXT, |out, length, written| unsafe { age_error_text(status, out, length, written) });
+    String::from_utf8(text.expect("a text is handed out")).expect("it is in ASCII")
 }
 
 /// The file of a plaintext: to the recipients in a text, or under the passphrase in its first line.
@@ -214,6 +223,7 @@ fn main() {
         _ => exit(WRONG),
     };
     if let Err(status) = answer {
+        eprintln!("age: {}", error_text(status));
         exit(status as i32);
     }
 }

@@ -5,7 +5,7 @@
     file = library.encrypt(b"age1..\\n", b"a plaintext")
     plain = library.decrypt(b"AGE-SECRET-KEY-1..\\n", file)
 
-As a program it does what age.c beside it does, with the same words and statuses; AGE_C_LIBRARY names the shared object.
+As a program it does what age.c beside it does, with the same words, statuses and texts; AGE_C_LIBRARY names the shared object.
 """
 
 import ctypes
@@ -17,6 +17,7 @@ OK, OUT_TOO_SHORT, NEED_MORE, UNEXPECTED_EOF, PAST_END, TRUNCATED, WRONG = 0, 1,
 PIECE, CHUNK = 65_536, 65_552
 RANDOM_FOR_PASSPHRASE = 72
 RANDOM_FOR_KEY = 32
+ERROR_TEXT = 64
 BYTES = [ctypes.c_char_p, ctypes.c_size_t]
 ROOM = [*BYTES, ctypes.POINTER(ctypes.c_size_t)]
 
@@ -54,6 +55,7 @@ class Library:
             "age_open_header_passphrase": [*BYTES, *BYTES, *ROOM, ctypes.POINTER(ctypes.c_size_t)],
             "age_open_chunk": [*BYTES, ctypes.c_uint64, *armored, *BYTES, *ROOM],
             "age_seal_chunk": [*BYTES, ctypes.c_uint64, *armored, *BYTES, *ROOM],
+            "age_error_text": [ctypes.c_uint32, *ROOM],
         }.items():
             call = getattr(self.calls, name)
             call.argtypes, call.restype = words, ctypes.c_uint32
@@ -69,6 +71,10 @@ class Library:
         if status != OK:
             raise Refused(status)
         return out.raw[: written.value]
+
+    def error_text(self, status):
+        """What a status says, in English."""
+        return self.given(self.calls.age_error_text, [status], ERROR_TEXT).decode("ascii")
 
     def encrypt(self, recipients, plain, armored=False):
         """The file of a plaintext, to the recipients in a text."""
@@ -178,14 +184,13 @@ def read_payload(library, words):
         with open(given, "rb") as file, open(out, "wb") as to:
             payload = Payload(library, Path(keys).read_bytes(), file)
             to.writelines(payload.part(int(words[4]), int(words[5])) if command == "part" else payload.stream())
-    except Refused as refused:
+    except Refused:
         Path(out).unlink()
-        return refused.status
+        raise
     return OK
 
 
-def main():
-    library = Library(os.environ["AGE_C_LIBRARY"])
+def main(library):
     if (sys.argv[1:2], len(sys.argv)) in ((["part"], 7), (["stream"], 5)):
         return read_payload(library, sys.argv[1:])
     if len(sys.argv) != 5:
@@ -198,12 +203,14 @@ def main():
         "decrypt-passphrase": library.decrypt_passphrase,
     }
     command, keys, given, out = sys.argv[1:]
-    try:
-        Path(out).write_bytes(commands[command](Path(keys).read_bytes(), Path(given).read_bytes()))
-    except Refused as refused:
-        return refused.status
+    Path(out).write_bytes(commands[command](Path(keys).read_bytes(), Path(given).read_bytes()))
     return OK
 
 
 if __name__ == "__main__":
-    sys.exit(main())
+    LIBRARY = Library(os.environ["AGE_C_LIBRARY"])
+    try:
+        sys.exit(main(LIBRARY))
+    except Refused as refused:
+        print(f"age: {LIBRARY.error_text(refused.status)}", file=sys.stderr)
+        sys.exit(refused.status)

@@ -6,3 +6,4 @@ pub mod chunks;
 pub mod files;
 pub mod keys;
 pub mod opening;
+pub mod texts;

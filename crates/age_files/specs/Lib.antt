@@ -1,4 +1,5 @@
 pub mod Status
+pub mod Texts
 pub mod Encrypting
 pub mod Decrypting
 pub mod Keys

@@ -6,3 +6,4 @@ pub mod encrypting;
 pub mod keys;
 pub mod opening;
 pub mod status;
+pub mod texts;

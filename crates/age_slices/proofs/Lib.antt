@@ -4,3 +4,4 @@ pub mod Asking
 pub mod Fronts
 pub mod Pieces
 pub mod Files
+pub mod OnePiece

@@ -1,11 +1,11 @@
-//! How a caller reads a file by its header and its chunks: a worked example, with what comes of it.
+//! How a caller reads a file by its header and its chunks in order, and one piece by its number: worked examples, with what comes of each.
 ghost use Rattle.std.specs.Prelude.{◌≡◌, ◌⊎◌, ◌+◌, ◌*◌, ◌≤◌, ◌<◌, true, false, ◌^◌, vec_items, length, take, drop, Some, MatchOption, MatchResult};
 ghost use Rattle.std.specs.Result.{result_map_both};
 ghost use Rattle.age.specs.DeliveredPayload.{payload_delivers, prepend};
 ghost use Rattle.age.specs.ErrorVariants.{OutOfMemory};
 ghost use Rattle.age.specs.Stretch.{whole};
-ghost use Rattle.age.specs.Payload.{nonce};
-ghost use Rattle.age_slices.specs.Reading.{IsNoMiddle, ReadsByChunks};
+ghost use Rattle.age.specs.Payload.{chunk, nonce};
+ghost use Rattle.age_slices.specs.Reading.{IsNoMiddle, ReadsByChunks, ReadsPiece};
 
 use crate::chunks::open_chunk;
 use crate::opening::open_header_by;
@@ -143,4 +143,47 @@ pub fn read_by_chunks<S: Suite, I: Identity>(
         Ok(plain) => Ok(plain),
         Err(error) => Err(FileError::Io(error)),
     }
+}
+
+// The chunk of this number, of 65,552 bytes or what is left.
+fn chunk_at(sealed: &[u8], number: usize) -> &[u8]
+    requires { 65552 * number ≤ length sealed.now }
+    ensures { result.now ≡ chunk number sealed.now }
+{
+    let rest = behind(sealed, CHUNK * number);
+    if rest.len() < CHUNK {
+        rest
+    } else {
+        &rest[..CHUNK]
+    }
+}
+
+/// A piece of the plaintext of a payload, by its number and under the key of the payload, read as a caller in another language reads it: that chunk alone,
+/// by its place, as the last one where the payload ends with it and as one before it elsewhere.
+///
+/// # Errors
+///
+/// - `PastEnd`: the payload ends before a chunk of this number.
+/// - `BadChunk`, `LastChunkEmpty`, `OutOfMemory`: as `open_chunk`.
+pub fn read_piece<S: Suite>(
+    alloc: Global,
+    key: &[u8; 32],
+    number: u64,
+    sealed: &[u8],
+) -> Result<Vec<u8>, Error>
+    ensures { ReadsPiece S.seal_of key.now number sealed.now (result_map_both vec_items (λ e. e) result) }
+{
+    known_array(key);
+    known_bytes(sealed);
+    let last = (sealed.len().saturating_sub(1) / CHUNK) as u64;
+    if number > last {
+        return Err(Error::PastEnd);
+    }
+    open_chunk::<S>(
+        alloc,
+        key,
+        number,
+        number == last,
+        chunk_at(sealed, number as usize),
+    )
 }
