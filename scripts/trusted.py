@@ -107,7 +107,7 @@ INTRODUCTION = """# What a reader trusts
 
 A proof shows that the code does what its clauses say. Whether these say what is meant, a reader has to judge: of the clauses, of each definition
 that they cite, of each that those cite, and so on. Below stand all that the three claims of README rest on, and no other, quoted from the files of
-`*/specs` with their comments, each before the first that cites it: those of the format from `age_v1`, a crate without code, whose files `Stanza` to
+`*/specs` with their comments, each before the first that cites it: those of the format from `age_v1`, a crate without functions, whose files `Stanza` to
 `Claims` are the sections of the standard and what the calls claim; the others say what a reader makes of any bytes. The clauses stand at the end of each part. For these claims the other definitions
 of `*/specs`, and all of `*/proofs`, are steps of proofs, which the prover checks and nobody has to read.
 
