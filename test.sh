@@ -20,9 +20,10 @@ edits/run.sh --apply || exit 1
 # Whether the table of public names is complete, and the page of the definitions that a reader trusts is what the sources say.
 scripts/names.py || exit 1
 scripts/trusted.py --check || exit 1
-# Whether each definition that a `use` names is there, and each page that a link names.
+# Whether each definition that a `use` names is there, each page that a link names, and what DEFINITIONS says of where each stands.
 scripts/uses.py || exit 1
 scripts/links.py || exit 1
+scripts/definitions.py || exit 1
 # Whether the pictures are those of crates.txt and of README's table of speed.
 scripts/pictures.py --check || exit 1
 # Whether the certificates of the curve are what their script makes.
