@@ -302,8 +302,8 @@ def page():
             if place.get(other, -1) > place[it]:
                 faults.append(f"{it.module.path}: `{it.name}` stands before `{other.name}`, which it cites: change PARTS in scripts/trusted.py")
     whole = told(made)
-    sentence = (f"They say so if {first[0]} definitions, {first[3]} lines, say what they should, and with the primitives and keys of the standard "
-                f"{whole[0]}, {whole[3]} lines: [TRUSTED](docs/TRUSTED.md) quotes them, and no other.")
+    sentence = (f"They mean this if {first[0]} definitions ({first[3]} lines) are right, or {whole[0]} ({whole[3]} lines) with the keys and primitives "
+                "of the standard: [TRUSTED](docs/TRUSTED.md) quotes them, and no other.")
     own, others = rest(outside, faults)
     head = INTRODUCTION.format(rows="\n".join(rows), whole="| **all** | {} | {} | {} | {} | {} |".format(*whole))
     text = [head, *parts, REST.format(own="\n".join(own), others="\n".join(others))]
