@@ -31,8 +31,8 @@ if ! crates/curve25519/generate/certificates.py --check; then
     echo "0 passed, 1 failed"
     exit 1
 fi
-if ! diff <(sed -n '/^```rust$/,/^```$/p' README.md | sed '1d;$d') <(grep -v '^//[!/]' crates/age_uses/src/there_and_back.rt); then
-    echo "README's example isn't that of age_uses"
+if ! diff <(sed -n '/^```rust$/,/^```$/p' README.md | sed '1d;$d') <(grep -v '^//[!/]' crates/age_examples/src/there_and_back.rt); then
+    echo "README's example isn't that of age_examples"
     echo "0 passed, 1 failed"
     exit 1
 fi

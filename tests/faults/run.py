@@ -1,6 +1,6 @@
 #!/usr/bin/env python3
 """Runs agebench where memory, reads and writes fail or fall short, and on damaged payloads, files and armor, and so a
-program that opens protected identity files (crates/probe), and one that makes calls of the library in rows where memory
+program that opens protected identity files (crates/bench_probe), and one that makes calls of the library in rows where memory
 is refused (crates/rows).
 
 Each run must answer the right bytes, or a beginning of them and the refusal that belongs to the fault. The right
@@ -514,16 +514,16 @@ def devices(runs, words, given):
     runs.judge("a closed pipe", got[:3] == (1, b"", f"agebench: {DEVICE}\n"), got)
 
 
-def seek_memory(runs, number):
+def memory_probe(runs, number):
     """A seek to the last of eleven chunks and a read there make fewer than ten requests for memory.
 
     So the answers are the same where the tenth is refused, and `out of memory` where the first is. A reader that opened
     the chunks before its place, whatever it counts, would make more.
     """
     here = os.path.dirname(os.path.abspath(__file__))
-    crate = os.path.join(os.path.dirname(os.path.dirname(here)), "crates", "seek_memory")
+    crate = os.path.join(os.path.dirname(os.path.dirname(here)), "crates", "memory_probe")
     plain = bytes(i % 251 for i in range(10 * PIECE + 1))
-    want = {1: "seek_memory: out of memory", 10: f"0 opened, at {10 * PIECE}, 1 read: {plain[-1]}, 1 opened"}[number]
+    want = {1: "memory_probe: out of memory", 10: f"0 opened, at {10 * PIECE}, 1 read: {plain[-1]}, 1 opened"}[number]
     done = subprocess.run(["rt", "try", "--fail-alloc", str(number)], cwd=crate, input=payload(plain),
                           capture_output=True, timeout=900)
     lines = done.stdout.decode().splitlines() + done.stderr.decode().splitlines()
@@ -601,11 +601,11 @@ def damaged_payloads(runs):
 
 FAULTY = ["seal", "open", "encrypt", "decrypt", "encrypt in armor", "decrypt armor"]
 # The long ones first: they are run side by side.
-PARTS = [(seek_memory, 1), (seek_memory, 10), (marked,), *[(faulty, name) for name in reversed(FAULTY)], (protected,), (injected_keys,), (injected_passphrases,),
+PARTS = [(memory_probe, 1), (memory_probe, 10), (marked,), *[(faulty, name) for name in reversed(FAULTY)], (protected,), (injected_keys,), (injected_passphrases,),
          (messages,), (damaged_armor,), (armored_files,), (files,), (parts,), (keys,), (passphrases,), (damaged_payloads,), (sealing,),
          (command_lines,), *[(row, name) for name in rows.ROWS], (calls,)]
 # The programs of the parts that don't run agebench.
-PROGRAMS = {protected: "probe", row: "rows", calls: "rows"}
+PROGRAMS = {protected: "bench_probe", row: "rows", calls: "rows"}
 
 
 def judged(agebench, shim, folder, part, *about):

@@ -3,11 +3,11 @@
 
 use age::armor::{ArmoredReadError, ArmoredReader, ArmoredWriter, Format};
 use age::io::{BufReader, Bytes, Error, Read, Write, write_all};
-use age_try::answers::{delivers, delivers_until};
-use age_try::fixtures::{armored, digest, part, plaintext};
 use std::alloc::Global;
 use std::process::Abort;
 use std::test::Fail;
+use test_support::answers::{delivers, delivers_until};
+use test_support::fixtures::{armored, digest, part, plaintext};
 
 // The 48 bytes whose base64 is the alphabet.
 const ALPHABET: [u8; 48] = [

@@ -6,9 +6,9 @@ use age_armor::{ArmoredReader, ArmoredWriter, Format};
 use age_base64::armor_engine;
 use age_error::io::{ArmoredReadError, Error};
 use age_io::{BufRead, Bytes, Read, read_to_end, room_for, write_all};
-use age_try::answers::delivers;
 use std::alloc::Global;
 use std::test::Fail;
+use test_support::answers::delivers;
 
 pub(crate) const BEGIN: &[u8] = b"-----BEGIN AGE ENCRYPTED FILE-----\n";
 

@@ -4,9 +4,9 @@ use crate::reader_tests::{BEGIN, END, armored, counting, joined};
 use age_armor::ArmoredReader;
 use age_error::io::{ArmoredReadError, Error, SeekFrom};
 use age_io::{Answer, BufRead, Bytes, Op, Read, Seek, run};
-use age_try::fixtures::armored_texts;
 use std::alloc::Global;
 use std::test::Fail;
+use test_support::fixtures::armored_texts;
 
 const GARBAGE: Error = Error::Armor(ArmoredReadError::TrailingGarbage);
 

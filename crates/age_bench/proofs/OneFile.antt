@@ -1,5 +1,5 @@
 -- A file tells its stanzas, and under a file key its plaintext.
-use Rattle.std.specs.Prelude.{◌≡◌, ◌≢◌, ◌<◌, ◌≤◌, ◌^◌, ◌+◌, ◌*◌, ℕ, zero, suc, Bool, true, false, List, [], ◌∷◌, ◌++◌, length, take, drop, codes, All, refl}
+use Rattle.std.specs.Prelude.{◌≡◌, ◌≢◌, ◌<◌, ◌≤◌, ◌^◌, ◌+◌, ◌*◌, ℕ, zero, suc, true, false, List, [], ◌∷◌, ◌++◌, length, take, drop, codes, All, refl}
 use Rattle.std.proofs.Common.{◌∙◌, sym, ap, subst, arith, inl, length-drop}
 use Rattle.std.proofs.lemmas.List.{drop_at, take_at, length-take-le}
 use Rattle.std.proofs.lemmas.List.Elements.{All-nil, All-append, All-head, All-take, All-drop}

@@ -8,10 +8,10 @@ ghost use Rattle.age_files.specs.Status;
 ghost use Rattle.age_slices.specs.Decrypting.{AreIdentities, DecryptsBy, RefusesIdentities};
 ghost use Rattle.age_slices.specs.Handing.{HandsOutAnswer};
 ghost use Rattle.age_slices.specs.Status.{of_file as file_status};
-ghost use Rattle.age_tool.specs.declared.error.CommandError.{CommandError as command_error};
-ghost use Rattle.age_tool.specs.declared.error.GivenError.{GivenError as given_error};
-ghost use Rattle.age_tool.specs.declared.error.PassphraseError.{PassphraseError as passphrase_error};
-ghost use Rattle.age_tool.specs.declared.error.RecipientsError.{RecipientsError as recipients_error};
+ghost use Rattle.sazh_core.specs.declared.error.CommandError.{CommandError as command_error};
+ghost use Rattle.sazh_core.specs.declared.error.GivenError.{GivenError as given_error};
+ghost use Rattle.sazh_core.specs.declared.error.PassphraseError.{PassphraseError as passphrase_error};
+ghost use Rattle.sazh_core.specs.declared.error.RecipientsError.{RecipientsError as recipients_error};
 
 use age::armor::Format;
 use age::io::{Bytes, Read, Write};

@@ -5,7 +5,7 @@ ghost use Rattle.age_files.specs.Keys.{MakesKey, TellsRecipients};
 ghost use Rattle.age_files.specs.Status;
 ghost use Rattle.age_slices.specs.Handing.{HandsOutAnswer};
 ghost use Rattle.age_slices.specs.Status.{of_encrypt as encrypt_status};
-ghost use Rattle.age_tool.specs.declared.error.IdentitiesError.{IdentitiesError as identities_error};
+ghost use Rattle.sazh_core.specs.declared.error.IdentitiesError.{IdentitiesError as identities_error};
 
 use age::armor::ArmoredReader;
 use age::io::{BufReader, Bytes, Read};

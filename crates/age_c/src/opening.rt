@@ -7,8 +7,8 @@ ghost use Rattle.age_slices.specs.Decrypting.{AreIdentities, RefusesIdentities};
 ghost use Rattle.age_slices.specs.Opening.{HandsOutPayload, OpensHeaderBy};
 ghost use Rattle.age_slices.specs.Status.{of_decrypt as decrypt_status};
 ghost use Rattle.age_slices.specs.declared.opening.PayloadAt.{PayloadAt as payload_at};
-ghost use Rattle.age_tool.specs.declared.error.GivenError.{GivenError as given_error};
-ghost use Rattle.age_tool.specs.declared.error.PassphraseError.{PassphraseError as passphrase_error};
+ghost use Rattle.sazh_core.specs.declared.error.GivenError.{GivenError as given_error};
+ghost use Rattle.sazh_core.specs.declared.error.PassphraseError.{PassphraseError as passphrase_error};
 
 use age::{Identity, scrypt, x25519};
 use age_files::opening::open_header_with_out;

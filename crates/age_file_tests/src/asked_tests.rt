@@ -9,12 +9,12 @@ use age::streaming::{open_text, write_part};
 use age::suite::Suite;
 use age_bench::recipient::BenchIdentity;
 use age_bench::suite::BenchSuite;
-use age_try::fixtures::{message_file, part};
-use age_try::metered::{Asked, Metered};
 use std::alloc::Global;
 use std::process::Abort;
 use std::slice;
 use std::test::Fail;
+use test_support::fixtures::{message_file, part};
+use test_support::metered::{Asked, Metered};
 
 type Stream<R> = StreamReader<BenchSuite, ArmoredReader<BufReader<R>>>;
 

@@ -7,12 +7,12 @@ use age::stream::{StreamReader, StreamWriter};
 use age::suite::Suite;
 use age_bench::recipient::{BenchIdentity, BenchRecipient};
 use age_bench::suite::BenchSuite;
-use age_try::answers::is_refusal;
-use age_try::fixtures::{digest, message_file, part, plaintext, zeros};
-use age_try::other_suite::OtherSuite;
 use std::alloc::{AllocError, Global};
 use std::process::Abort;
 use std::test::Fail;
+use test_support::answers::is_refusal;
+use test_support::fixtures::{digest, message_file, part, plaintext, zeros};
+use test_support::other_suite::OtherSuite;
 
 // The bytes of the header and the nonce of each file here.
 const FRONT: usize = 131;

@@ -6,11 +6,11 @@ use age::stream::StreamReader;
 use age::{DecryptError, Decryptor};
 use age_bench::recipient::BenchIdentity;
 use age_bench::suite::BenchSuite;
-use age_try::answers::is_refusal;
-use age_try::fixtures::{MESSAGE, message_file};
 use std::alloc::{AllocError, Global};
 use std::fmt::Display;
 use std::test::Fail;
+use test_support::answers::is_refusal;
+use test_support::fixtures::{MESSAGE, message_file};
 
 // Whether the front of a file is read.
 fn reads_front<R: BufRead + Drop>(alloc: Global, input: R) -> bool {

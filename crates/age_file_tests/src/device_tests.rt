@@ -9,11 +9,11 @@ use age::{DecryptError, Decryptor};
 use age_bench::devices::{Script, Sink, Source};
 use age_bench::recipient::BenchRecipient;
 use age_bench::suite::BenchSuite;
-use age_try::fixtures::{armored, message_file, part, plaintext, zeros};
-use age_try::whole::seal_whole;
 use std::alloc::Global;
 use std::process::Abort;
 use std::test::Fail;
+use test_support::fixtures::{armored, message_file, part, plaintext, zeros};
+use test_support::whole::seal_whole;
 
 const FAULT: Error = Error::Device(ErrorKind::Other);
 

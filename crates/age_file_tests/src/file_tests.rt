@@ -12,10 +12,10 @@ use age::stream::StreamReader;
 use age::streaming::{FileError, decrypt_all, encrypt_all};
 use age::{DecryptError, Decryptor, Identity, Recipient};
 use age_bench::suite::BenchSuite;
-use age_try::answers::{gives, is_refusal};
-use age_try::fixtures::{MESSAGE, message_file, part, zeros};
 use std::alloc::{AllocError, Global};
 use std::test::Fail;
+use test_support::answers::{gives, is_refusal};
+use test_support::fixtures::{MESSAGE, message_file, part, zeros};
 
 // The file of the message by these random bytes, written in one piece.
 fn message_written(alloc: Global, draw: &mut Draw) -> Result<Vec<u8>, Fail> {

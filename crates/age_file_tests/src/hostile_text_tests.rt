@@ -8,10 +8,10 @@ use age::format::{HeaderV1, Stanza};
 use age::io::{Bytes, Error, Read, Seek, SeekFrom};
 use age::stream::StreamReader;
 use age_bench::suite::BenchSuite;
-use age_try::answers::{delivers, delivers_until, read_refuses};
-use age_try::fixtures::{KEY, armored};
 use std::alloc::{AllocError, Global};
 use std::test::Fail;
+use test_support::answers::{delivers, delivers_until, read_refuses};
+use test_support::fixtures::{KEY, armored};
 
 const BEGIN: &[u8] = b"-----BEGIN AGE ENCRYPTED FILE-----\n";
 

@@ -9,10 +9,10 @@ use age::streaming::migrate;
 use age_bench::devices::{Script, Sink, Source, Step};
 use age_bench::recipient::BenchIdentity;
 use age_bench::suite::BenchSuite;
-use age_try::fixtures::{SEALED, part};
 use std::alloc::{AllocError, Global};
 use std::process::Abort;
 use std::test::Fail;
+use test_support::fixtures::{SEALED, part};
 
 // The bytes of the old file before its payload.
 const FRONT: usize = 127;

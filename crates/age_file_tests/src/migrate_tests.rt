@@ -10,11 +10,11 @@ use age::streaming::migrate;
 use age::{DecryptError, Decryptor, Identity, decrypt};
 use age_bench::recipient::BenchIdentity;
 use age_bench::suite::BenchSuite;
-use age_try::answers::delivers;
-use age_try::fixtures::{MESSAGE, SEALED, armored, part, plaintext};
-use age_try::scripted::{Script, ScriptedIdentity};
 use std::alloc::{AllocError, Global};
 use std::test::Fail;
+use test_support::answers::delivers;
+use test_support::fixtures::{MESSAGE, SEALED, armored, part, plaintext};
+use test_support::scripted::{Script, ScriptedIdentity};
 
 /// A header whose second stanza has no empty line at its end. The MAC is that of file key zero over the first 66 bytes.
 pub const OLD: &[u8] =

@@ -6,9 +6,9 @@ use age::io::{Answer, Bytes, Op, SeekFrom, run};
 use age::streaming::FileError;
 use age_bench::names::With;
 use age_bench::opening::answers_with;
-use age_try::fixtures::{armored_texts, message_file, part, plaintext};
 use std::alloc::{AllocError, Global};
 use std::test::Fail;
+use test_support::fixtures::{armored_texts, message_file, part, plaintext};
 
 const OPS: [Op; 12] = [
     Op::Read(100),

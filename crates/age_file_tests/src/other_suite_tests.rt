@@ -2,11 +2,11 @@
 
 use crate::shared::changed;
 use age::suite::{Opens, ScryptError, Suite};
-use age_try::answers::gives;
-use age_try::fixtures::{KEY, digest, part};
-use age_try::other_suite::OtherSuite;
 use std::alloc::{AllocError, Global};
 use std::test::Fail;
+use test_support::answers::gives;
+use test_support::fixtures::{KEY, digest, part};
+use test_support::other_suite::OtherSuite;
 
 const NONCE: [u8; 12] = [100, 101, 102, 103, 104, 105, 106, 107, 108, 109, 110, 111];
 

@@ -5,9 +5,9 @@ use age::armor::Format;
 use age::io::Bytes;
 use age_bench::names::With;
 use age_bench::part::at_with;
-use age_try::fixtures::{MESSAGE, part, plaintext};
 use std::alloc::Global;
 use std::test::Fail;
+use test_support::fixtures::{MESSAGE, part, plaintext};
 
 // Appends a part of a file's plaintext. Whether it succeeds, or, where a text is given, is refused with this text.
 fn appends(

@@ -7,10 +7,10 @@ use age::io::Bytes;
 use age::scrypt::Identity;
 use age::{EncryptError, Encryptor, decrypt};
 use age_bench::suite::BenchSuite;
-use age_try::answers::{gives, is_refusal};
-use age_try::fixtures::{MESSAGE, digest, plaintext};
 use std::alloc::{AllocError, Global};
 use std::test::Fail;
+use test_support::answers::{gives, is_refusal};
+use test_support::fixtures::{MESSAGE, digest, plaintext};
 
 const PASSPHRASE: &str = "correct horse";
 

@@ -5,12 +5,12 @@ use crate::shared::{Kind, grease, is_answered, prepared, recipients, sevens, wri
 use age::format::Stanza;
 use age::{Encryptor, Identity, Recipient};
 use age_bench::suite::BenchSuite;
-use age_try::answers::is_refusal;
-use age_try::fixtures::empty_stanza;
-use age_try::scripted::{Script, ScriptedIdentity, ScriptedRecipient};
 use std::alloc::{AllocError, Global};
 use std::collections::BTreeSet;
 use std::test::Fail;
+use test_support::answers::is_refusal;
+use test_support::fixtures::empty_stanza;
+use test_support::scripted::{Script, ScriptedIdentity, ScriptedRecipient};
 
 // These labels.
 fn labels_of(alloc: Global, texts: &[&str]) -> Result<BTreeSet<String>, AllocError> {

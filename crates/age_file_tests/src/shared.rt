@@ -13,12 +13,12 @@ use age_bench::file::{decrypt_with, encrypt_to};
 use age_bench::names::{To, With};
 use age_bench::recipient::{BenchIdentity, BenchRecipient};
 use age_bench::suite::BenchSuite;
-use age_try::answers::{delivers, delivers_until, ends, gives, is_refusal, read_refuses};
-use age_try::fixtures::{MESSAGE, SEALED, empty_stanza, zeros};
-use age_uses::own::{OwnIdentity, OwnRecipient};
+use age_examples::own::{OwnIdentity, OwnRecipient};
 use std::alloc::{AllocError, Global};
 use std::fmt::{Debug, Display};
 use std::test::Fail;
+use test_support::answers::{delivers, delivers_until, ends, gives, is_refusal, read_refuses};
+use test_support::fixtures::{MESSAGE, SEALED, empty_stanza, zeros};
 
 /// An answer, where it isn't refused.
 pub fn done<T, E: Drop>(answer: Result<T, E>) -> Result<T, Fail> {

@@ -13,10 +13,10 @@ use age_bench::file::decrypt_with;
 use age_bench::names::With;
 use age_bench::recipient::{BenchIdentity, BenchRecipient};
 use age_bench::suite::BenchSuite;
-use age_try::answers::{gives, is_refusal};
-use age_try::fixtures::{MESSAGE, message_file, part, zeros};
 use std::alloc::{AllocError, Global};
 use std::test::Fail;
+use test_support::answers::{gives, is_refusal};
+use test_support::fixtures::{MESSAGE, message_file, part, zeros};
 
 // The armor of the message's file, whose grease stanza is `x-grease`.
 const ARMORED: &str =

@@ -19,10 +19,10 @@ use Rattle.age.specs.Claims.{AppendsFile}
 use Rattle.age.specs.WholeFiles.{IsWritten, RefusesFile}
 use Rattle.age.specs.Recipients.{WrapAnswer}
 use Rattle.age_files.specs.Encrypting.{PreparesOf, WhyNoFile}
-use Rattle.age_tool.specs.Encrypting.{AppendsEncrypted, PreparesFrom}
-use Rattle.age_tool.specs.declared.error.CommandError.{CommandError}
-use Rattle.age_tool.specs.declared.error.CommandError.TheVariants.{Random, File}
-use Rattle.age_tool.specs.declared.error.RandomError.TheVariants as random
+use Rattle.sazh_core.specs.Encrypting.{AppendsEncrypted, PreparesFrom}
+use Rattle.sazh_core.specs.declared.error.CommandError.{CommandError}
+use Rattle.sazh_core.specs.declared.error.CommandError.TheVariants.{Random, File}
+use Rattle.sazh_core.specs.declared.error.RandomError.TheVariants as random
 
 -- which bytes a source gives that has them handed in
 abbrev pub gives : List ℕ → ℕ → Option (List ℕ) → List ℕ → Type 0

@@ -6,10 +6,10 @@ use Rattle.age.specs.Stanza.{StanzaValue}
 use Rattle.age.specs.Types.{FileError}
 use Rattle.age.specs.Identities.{UnwrapAnswer}
 use Rattle.age_slices.specs.Decrypting.{DecryptsBytes}
-use Rattle.age_tool.specs.Given.{Answers, WithGiven}
-use Rattle.age_tool.specs.Passphrase.{RefusesPassphrase, first_line}
-use Rattle.age_tool.specs.declared.error.GivenError.{GivenError}
-use Rattle.age_tool.specs.declared.error.PassphraseError.{PassphraseError}
+use Rattle.sazh_core.specs.Given.{Answers, WithGiven}
+use Rattle.sazh_core.specs.Passphrase.{RefusesPassphrase, first_line}
+use Rattle.sazh_core.specs.declared.error.GivenError.{GivenError}
+use Rattle.sazh_core.specs.declared.error.PassphraseError.{PassphraseError}
 
 -- who knows a passphrase, meant for the work factor 18, who takes up to 22
 abbrev pub knows : List ℕ → PassphraseIdentity

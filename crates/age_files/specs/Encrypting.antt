@@ -13,16 +13,16 @@ use Rattle.age.specs.Scrypt.{PassphraseRecipient}
 use Rattle.age.specs.Types.{Format}
 use Rattle.age.specs.WholeFiles.{IsWritten}
 use Rattle.age.specs.Recipients.{WrapAnswer}
-use Rattle.age_tool.specs.Encrypting.{draws_for_keys, draws_for_passphrase, grease_stanza}
-use Rattle.age_tool.specs.Given.{Answers, WithGiven}
-use Rattle.age_tool.specs.Passphrase as passphrase
-use Rattle.age_tool.specs.Recipients as recipients
-use Rattle.age_tool.specs.declared.error.CommandError.{CommandError}
-use Rattle.age_tool.specs.declared.error.CommandError.TheVariants.{Random, File}
-use Rattle.age_tool.specs.declared.error.GivenError.{GivenError}
-use Rattle.age_tool.specs.declared.error.PassphraseError.{PassphraseError}
-use Rattle.age_tool.specs.declared.error.RandomError.TheVariants as random
-use Rattle.age_tool.specs.declared.error.RecipientsError.{RecipientsError}
+use Rattle.sazh_core.specs.Encrypting.{draws_for_keys, draws_for_passphrase, grease_stanza}
+use Rattle.sazh_core.specs.Given.{Answers, WithGiven}
+use Rattle.sazh_core.specs.Passphrase as passphrase
+use Rattle.sazh_core.specs.Recipients as recipients
+use Rattle.sazh_core.specs.declared.error.CommandError.{CommandError}
+use Rattle.sazh_core.specs.declared.error.CommandError.TheVariants.{Random, File}
+use Rattle.sazh_core.specs.declared.error.GivenError.{GivenError}
+use Rattle.sazh_core.specs.declared.error.PassphraseError.{PassphraseError}
+use Rattle.sazh_core.specs.declared.error.RandomError.TheVariants as random
+use Rattle.sazh_core.specs.declared.error.RecipientsError.{RecipientsError}
 
 module _ {T : Type 0} (wraps : T → List ℕ → List ℕ → WrapAnswer → List ℕ → Type 0) (keys : List T) (count : ℕ) (given : List ℕ) where
   -- With the first so many of the random bytes, taken in their order, a file to these comes to this.

@@ -4,9 +4,9 @@ use Rattle.age.specs.Draw.{taken}
 use Rattle.age.specs.EncryptErrors.{OutOfMemory, ShortRandom, encrypt_refusal}
 use Rattle.age.specs.Members.{SuiteMembers, ReadMembers}
 use Rattle.age.specs.Types.{EncryptError}
-use Rattle.age_tool.specs.Keygen.{key_file}
-use Rattle.age_tool.specs.OwnRecipients.{AreOfIdentities, RefusesIdentities, recipients_text}
-use Rattle.age_tool.specs.declared.error.IdentitiesError.{IdentitiesError}
+use Rattle.sazh_core.specs.Keygen.{key_file}
+use Rattle.sazh_core.specs.OwnRecipients.{AreOfIdentities, RefusesIdentities, recipients_text}
+use Rattle.sazh_core.specs.declared.error.IdentitiesError.{IdentitiesError}
 
 -- The text of the key whose secret are the first 32 of the random bytes; or there are fewer, or memory was refused.
 abbrev pub MakesKey : (List ℕ → List ℕ) → List ℕ → Result (List ℕ) EncryptError → Type 0

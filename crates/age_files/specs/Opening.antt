@@ -7,10 +7,10 @@ use Rattle.age.specs.Identities.{UnwrapAnswer}
 use Rattle.age_files.specs.Decrypting.{knows}
 use Rattle.age_slices.specs.Opening.{OpensHeader}
 use Rattle.age_slices.specs.declared.opening.PayloadAt.{PayloadAt}
-use Rattle.age_tool.specs.Given.{Answers, WithGiven}
-use Rattle.age_tool.specs.Passphrase.{RefusesPassphrase, first_line}
-use Rattle.age_tool.specs.declared.error.GivenError.{GivenError}
-use Rattle.age_tool.specs.declared.error.PassphraseError.{PassphraseError}
+use Rattle.sazh_core.specs.Given.{Answers, WithGiven}
+use Rattle.sazh_core.specs.Passphrase.{RefusesPassphrase, first_line}
+use Rattle.sazh_core.specs.declared.error.GivenError.{GivenError}
+use Rattle.sazh_core.specs.declared.error.PassphraseError.{PassphraseError}
 
 -- With the passphrase that a text gives.
 abbrev pub OpensHeaderUnder : (PassphraseIdentity → List StanzaValue → UnwrapAnswer → PassphraseIdentity → Type 0) → List ℕ → List ℕ

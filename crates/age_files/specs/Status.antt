@@ -1,18 +1,18 @@
 -- The numbers of refusals besides those of the library: of texts that name recipients or give a passphrase, and of random bytes.
 use Rattle.std.specs.Prelude.{ℕ}
 use Rattle.age_slices.specs.Status.{of_file}
-use Rattle.age_tool.specs.declared.error.CommandError.{CommandError}
-use Rattle.age_tool.specs.declared.error.CommandError.TheVariants as command
-use Rattle.age_tool.specs.declared.error.GivenError.{GivenError}
-use Rattle.age_tool.specs.declared.error.GivenError.TheVariants as given
-use Rattle.age_tool.specs.declared.error.IdentitiesError.{IdentitiesError}
-use Rattle.age_tool.specs.declared.error.IdentitiesError.TheVariants as identities
-use Rattle.age_tool.specs.declared.error.PassphraseError.{PassphraseError}
-use Rattle.age_tool.specs.declared.error.PassphraseError.TheVariants as passphrase
-use Rattle.age_tool.specs.declared.error.RandomError.{RandomError}
-use Rattle.age_tool.specs.declared.error.RandomError.TheVariants as random
-use Rattle.age_tool.specs.declared.error.RecipientsError.{RecipientsError}
-use Rattle.age_tool.specs.declared.error.RecipientsError.TheVariants as recipients
+use Rattle.sazh_core.specs.declared.error.CommandError.{CommandError}
+use Rattle.sazh_core.specs.declared.error.CommandError.TheVariants as command
+use Rattle.sazh_core.specs.declared.error.GivenError.{GivenError}
+use Rattle.sazh_core.specs.declared.error.GivenError.TheVariants as given
+use Rattle.sazh_core.specs.declared.error.IdentitiesError.{IdentitiesError}
+use Rattle.sazh_core.specs.declared.error.IdentitiesError.TheVariants as identities
+use Rattle.sazh_core.specs.declared.error.PassphraseError.{PassphraseError}
+use Rattle.sazh_core.specs.declared.error.PassphraseError.TheVariants as passphrase
+use Rattle.sazh_core.specs.declared.error.RandomError.{RandomError}
+use Rattle.sazh_core.specs.declared.error.RandomError.TheVariants as random
+use Rattle.sazh_core.specs.declared.error.RecipientsError.{RecipientsError}
+use Rattle.sazh_core.specs.declared.error.RecipientsError.TheVariants as recipients
 
 -- why there are no random bytes
 abbrev pub of_random : RandomError → ℕ

@@ -6,8 +6,8 @@ ghost use Rattle.age_files.specs.Decrypting.{DecryptsUnder};
 ghost use Rattle.age_files.specs.Status;
 ghost use Rattle.age_slices.specs.Handing.{HandsOutAnswer};
 ghost use Rattle.age_slices.specs.Status.{of_file as file_status};
-ghost use Rattle.age_tool.specs.declared.error.GivenError.{GivenError as given_error};
-ghost use Rattle.age_tool.specs.declared.error.PassphraseError.{PassphraseError as passphrase_error};
+ghost use Rattle.sazh_core.specs.declared.error.GivenError.{GivenError as given_error};
+ghost use Rattle.sazh_core.specs.declared.error.PassphraseError.{PassphraseError as passphrase_error};
 
 use crate::status::of_passphrase;
 use age::io::{Bytes, Read, Write};
@@ -17,8 +17,8 @@ use age::{Identity, scrypt};
 use age_slices::decrypting::plaintext_by;
 use age_slices::handing::{hand_out, refuse};
 use age_slices::status::of_file;
-use age_tool::error::{GivenError, PassphraseError};
-use age_tool::passphrase::{identity_of, passphrase_of};
+use sazh_core::error::{GivenError, PassphraseError};
+use sazh_core::passphrase::{identity_of, passphrase_of};
 use std::alloc::Global;
 use std::slice;
 

@@ -4,13 +4,13 @@ ghost use Rattle.std.specs.Result.{result_map_both};
 ghost use Rattle.age_files.specs.Encrypting.{EncryptsBytes, EncryptsTo, EncryptsUnder};
 ghost use Rattle.age_slices.specs.Handing.{HandsOutAnswer};
 ghost use Rattle.age_files.specs.Status;
-ghost use Rattle.age_tool.specs.Encrypting.{draws_for_keys, draws_for_passphrase};
-ghost use Rattle.age_tool.specs.declared.error.CommandError.{CommandError as command_error};
-ghost use Rattle.age_tool.specs.declared.error.CommandError.TheVariants.{Random};
-ghost use Rattle.age_tool.specs.declared.error.GivenError.{GivenError as given_error};
-ghost use Rattle.age_tool.specs.declared.error.PassphraseError.{PassphraseError as passphrase_error};
-ghost use Rattle.age_tool.specs.declared.error.RandomError.TheVariants.{OutOfMemory};
-ghost use Rattle.age_tool.specs.declared.error.RecipientsError.{RecipientsError as recipients_error};
+ghost use Rattle.sazh_core.specs.Encrypting.{draws_for_keys, draws_for_passphrase};
+ghost use Rattle.sazh_core.specs.declared.error.CommandError.{CommandError as command_error};
+ghost use Rattle.sazh_core.specs.declared.error.CommandError.TheVariants.{Random};
+ghost use Rattle.sazh_core.specs.declared.error.GivenError.{GivenError as given_error};
+ghost use Rattle.sazh_core.specs.declared.error.PassphraseError.{PassphraseError as passphrase_error};
+ghost use Rattle.sazh_core.specs.declared.error.RandomError.TheVariants.{OutOfMemory};
+ghost use Rattle.sazh_core.specs.declared.error.RecipientsError.{RecipientsError as recipients_error};
 
 use crate::status::{of_command, of_passphrase, of_recipients};
 use age::armor::Format;
@@ -20,11 +20,11 @@ use age::suite::Suite;
 use age::suite::laws::known_bytes;
 use age::{Recipient, scrypt, x25519};
 use age_slices::handing::{hand_out, refuse};
-use age_tool::encrypting::{encrypt_to_keys, encrypt_under};
-use age_tool::error::{CommandError, GivenError, PassphraseError, RandomError, RecipientsError};
-use age_tool::passphrase::passphrase_of;
-use age_tool::random::GivenBytes;
-use age_tool::recipients::recipients_of;
+use sazh_core::encrypting::{encrypt_to_keys, encrypt_under};
+use sazh_core::error::{CommandError, GivenError, PassphraseError, RandomError, RecipientsError};
+use sazh_core::passphrase::passphrase_of;
+use sazh_core::random::GivenBytes;
+use sazh_core::recipients::recipients_of;
 use std::alloc::Global;
 
 // A source of these random bytes.

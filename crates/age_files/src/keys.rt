@@ -6,7 +6,7 @@ ghost use Rattle.age_files.specs.Keys.{MakesKey, TellsRecipients};
 ghost use Rattle.age_files.specs.Status;
 ghost use Rattle.age_slices.specs.Handing.{HandsOutAnswer};
 ghost use Rattle.age_slices.specs.Status.{of_encrypt as encrypt_status};
-ghost use Rattle.age_tool.specs.declared.error.IdentitiesError.{IdentitiesError as identities_error};
+ghost use Rattle.sazh_core.specs.declared.error.IdentitiesError.{IdentitiesError as identities_error};
 
 use crate::status::of_identities;
 use age::EncryptError;
@@ -16,9 +16,9 @@ use age::io::{BufReader, Bytes, Read};
 use age::suite::Suite;
 use age_slices::handing::{hand_out, refuse};
 use age_slices::status::of_encrypt;
-use age_tool::error::IdentitiesError;
-use age_tool::keygen::new_key_file;
-use age_tool::own_recipients::{recipients_of_identities, text_of_recipients};
+use sazh_core::error::IdentitiesError;
+use sazh_core::keygen::new_key_file;
+use sazh_core::own_recipients::{recipients_of_identities, text_of_recipients};
 use std::alloc::Global;
 
 /// The text of a new X25519 identity, whose secret is the first 32 bytes of `given`, in the form of `new_key_file`: a line with its recipient behind

@@ -6,16 +6,16 @@ ghost use Rattle.age_files.specs.Status;
 ghost use Rattle.age_slices.specs.Opening.{HandsOutPayload};
 ghost use Rattle.age_slices.specs.Status.{of_decrypt as decrypt_status};
 ghost use Rattle.age_slices.specs.declared.opening.PayloadAt.{PayloadAt as payload_at};
-ghost use Rattle.age_tool.specs.declared.error.GivenError.{GivenError as given_error};
-ghost use Rattle.age_tool.specs.declared.error.PassphraseError.{PassphraseError as passphrase_error};
+ghost use Rattle.sazh_core.specs.declared.error.GivenError.{GivenError as given_error};
+ghost use Rattle.sazh_core.specs.declared.error.PassphraseError.{PassphraseError as passphrase_error};
 
 use crate::status::of_passphrase;
 use age::suite::Suite;
 use age::{DecryptError, Identity, scrypt};
 use age_slices::handing::refuse;
 use age_slices::opening::{PayloadAt, hand_out_payload, open_header_by};
-use age_tool::error::{GivenError, PassphraseError};
-use age_tool::passphrase::{identity_of, passphrase_of};
+use sazh_core::error::{GivenError, PassphraseError};
+use sazh_core::passphrase::{identity_of, passphrase_of};
 use std::alloc::Global;
 use std::slice;
 

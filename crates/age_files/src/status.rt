@@ -3,7 +3,7 @@ ghost use Rattle.std.specs.Prelude.{◌≡◌, ◌<◌};
 ghost use Rattle.age_files.specs.Status;
 
 use age_slices::status::{OUT_OF_MEMORY, of_file};
-use age_tool::error::{
+use sazh_core::error::{
     CommandError, IdentitiesError, PassphraseError, RandomError, RecipientsError,
 };
 

@@ -11,9 +11,9 @@ use age_error::io::{Error, ErrorKind};
 use age_error::resolve::ResolveError;
 use age_identity::{IdentityFileConvertError, NoCallbacks};
 use age_io::Bytes;
-use age_try::answers::is_refusal;
 use std::alloc::Global;
 use std::test::Fail;
+use test_support::answers::is_refusal;
 
 const RECIPIENT_LINE: &[u8] = b"age1rfgm2376djkhc042ahllca4xeu6g5tqx8eya6wf4py2ddcjypgpquw0u5y\n";
 

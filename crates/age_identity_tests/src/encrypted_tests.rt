@@ -9,10 +9,10 @@ use age::io::{Bytes, Read};
 use age::{Callbacks, DecryptError, Decryptor, IdentityFile};
 use age_bench::suite::BenchSuite;
 use age_encrypted::{EncryptedIdentity, NotOpened};
-use age_try::answers::is_refusal;
-use age_try::fixtures::armored;
 use std::alloc::Global;
 use std::test::Fail;
+use test_support::answers::is_refusal;
+use test_support::fixtures::armored;
 
 // An encrypted file, for one who gives a passphrase, if there is one, with the target 18.
 fn encrypted<'a, R: Read + Drop>(

@@ -8,10 +8,10 @@ use age::x25519::Identity;
 use age::{DecryptError, Encryptor, Recipient as _};
 use age_bench::suite::BenchSuite;
 use age_identity::{Callbacks, IdentityFile, NoCallbacks};
-use age_try::fixtures::{armored, plaintext};
 use std::alloc::{AllocError, Global};
 use std::str::FromStr;
 use std::test::Fail;
+use test_support::fixtures::{armored, plaintext};
 
 /// An identity that the crate `age` has in its own tests.
 pub const K: &str = "AGE-SECRET-KEY-1GQ9778VQXMMJVE8SK7J6VT8UJ4HDQAJUVSFCWCM02D8GEWQ72PVQ2Y5J33";

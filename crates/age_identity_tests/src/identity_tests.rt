@@ -11,12 +11,12 @@ use age::x25519::Recipient;
 use age::{DecryptError, EncryptError, Identity as _};
 use age_bench::suite::BenchSuite;
 use age_encrypted::Identity;
-use age_try::fixtures::{armored, message_file};
 use std::alloc::Global;
 use std::fs::File;
 use std::io::Cursor;
 use std::test::Fail;
 use std::{env, fs, process};
+use test_support::fixtures::{armored, message_file};
 
 // The recipient of `K` under the bench suite.
 const RECIPIENT: &str = "age1rfgm2376djkhc042ahllca4xeu6g5tqx8eya6wf4py2ddcjypgpquw0u5y";

@@ -5,9 +5,9 @@ use age_bench::devices::{Script, Source, Step};
 use age_error::io::{Error, ErrorKind};
 use age_identity::util::LimitedReader;
 use age_io::{BufRead, BufReader, Bytes, Read, read_to_end};
-use age_try::answers::delivers_until;
 use std::alloc::Global;
 use std::test::Fail;
+use test_support::answers::delivers_until;
 
 // Whether `read_to_end` of a reader answers this, and has `abc` then.
 fn reads_abc<R: Read>(

@@ -4,9 +4,9 @@ use crate::fixtures::{Device, buffered, fills, gives, long_text, refuses, source
 use age_bench::devices::Step;
 use age_error::io::{Error, ErrorKind};
 use age_io::{BufRead, BufReader, Bytes, Read};
-use age_try::answers::delivers;
 use std::alloc::Global;
 use std::test::Fail;
+use test_support::answers::delivers;
 
 // More bytes than a buffer holds.
 const LONG: usize = 20_000;

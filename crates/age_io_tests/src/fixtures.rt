@@ -3,9 +3,9 @@
 use age_bench::devices::{Script, Sink, Source, Step};
 use age_error::io::{Error, ErrorKind, SeekFrom};
 use age_io::{Answer, BufReader, IntoStd, Op, Read, Seek, Std, read_exact, run};
-use age_try::fixtures::part;
 use std::alloc::Global;
 use std::test::Fail;
+use test_support::fixtures::part;
 
 /// So many bytes of which neighbours differ.
 pub fn long_text(alloc: Global, size: usize) -> Result<Vec<u8>, Fail> {

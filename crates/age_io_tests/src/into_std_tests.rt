@@ -6,12 +6,12 @@ use age_error::io::{ArmoredReadError, Error, ErrorKind, SeekFrom};
 use age_io::{
     BufReader, Bytes, IntoStd, Read, Seek, Std, Write, device_error, standard_error, write_all,
 };
-use age_try::answers::{delivers, is_refusal};
 use std::alloc::Global;
 use std::fs::File;
 use std::path::{Path, PathBuf};
 use std::test::Fail;
 use std::{env, fs, io, process};
+use test_support::answers::{delivers, is_refusal};
 
 // What std was answered, where an error is its kind alone.
 fn kind<T: Drop>(answer: io::Result<T>) -> Result<T, io::ErrorKind> {

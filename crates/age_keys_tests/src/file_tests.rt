@@ -8,9 +8,9 @@ use age::streaming::{decrypt_all, encrypt_all};
 use age::{Identity, Recipient};
 use age_bench::recipient::{BenchIdentity, BenchRecipient};
 use age_bench::suite::BenchSuite;
-use age_try::fixtures::{MESSAGE, plaintext};
 use std::alloc::Global;
 use std::test::Fail;
+use test_support::fixtures::{MESSAGE, plaintext};
 
 // The recipient of a secret.
 fn recipient(alloc: Global, secret: &[u8]) -> Result<Box<dyn Recipient>, Fail> {

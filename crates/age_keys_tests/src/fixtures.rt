@@ -7,12 +7,12 @@ use age::secrecy::{FileKey, SecretString};
 use age::suite::Suite;
 use age::{DecryptError, Identity, Recipient, decrypt, encrypt, encrypt_and_armor, scrypt, x25519};
 use age_bench::suite::BenchSuite;
-use age_try::answers::{gives, is_refusal};
-use age_try::fixtures::{MESSAGE, empty_stanza};
 use std::alloc::{AllocError, Global};
 use std::collections::BTreeSet;
 use std::fmt::{Debug, Display};
 use std::test::Fail;
+use test_support::answers::{gives, is_refusal};
+use test_support::fixtures::{MESSAGE, empty_stanza};
 
 /// A passphrase.
 pub fn passphrase(alloc: Global, text: &str) -> Result<SecretString, AllocError> {

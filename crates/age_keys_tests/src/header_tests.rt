@@ -5,10 +5,10 @@ use crate::fixtures::{owned, shows, stanza};
 use age::format::{Grease, HeaderV1, OldHeader, Stanza};
 use age::io::{Bytes, Error, Read};
 use age::secrecy::FileKey;
-use age_try::answers::{delivers, is_refusal};
-use age_try::fixtures::part;
 use std::alloc::{AllocError, Global};
 use std::test::Fail;
+use test_support::answers::{delivers, is_refusal};
+use test_support::fixtures::part;
 
 const NO_KEY: [u8; 16] = [0; 16];
 

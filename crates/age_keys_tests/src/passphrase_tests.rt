@@ -11,13 +11,13 @@ use age::io::Bytes;
 use age::scrypt::{Identity, Recipient};
 use age::{DecryptError, Encryptor, Recipient as AnyRecipient, decrypt};
 use age_bench::suite::BenchSuite;
-use age_try::answers::is_refusal;
-use age_try::fixtures::zeros;
-use age_try::never_stretches::NeverStretches;
-use age_try::scripted::ScriptedRecipient;
 use std::alloc::{AllocError, Global};
 use std::collections::BTreeSet;
 use std::test::Fail;
+use test_support::answers::is_refusal;
+use test_support::fixtures::zeros;
+use test_support::never_stretches::NeverStretches;
+use test_support::scripted::ScriptedRecipient;
 
 // The header of the message's file for `correct horse` with the work factor 10 and random bytes that are zero.
 const HEADER: &[u8] =

@@ -7,10 +7,10 @@ use age::format::Stanza;
 use age::scrypt::{Identity, Recipient};
 use age::{DecryptError, Identity as _, Recipient as AnyRecipient};
 use age_bench::suite::BenchSuite;
-use age_try::fixtures::zeros;
-use age_try::never_stretches::NeverStretches;
 use std::alloc::{AllocError, Global};
 use std::test::Fail;
+use test_support::fixtures::zeros;
+use test_support::never_stretches::NeverStretches;
 
 // A salt of zeros, and what is sealed under `correct horse` with it and the work factor 10: a file key of zeros.
 const SALT: &str = "AAAAAAAAAAAAAAAAAAAAAA";

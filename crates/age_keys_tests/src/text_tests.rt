@@ -3,11 +3,11 @@
 use crate::fixtures::{prints, recipient_of, shows};
 use age::x25519::{Identity, Recipient};
 use age_bench::suite::BenchSuite;
-use age_try::fixtures::zeros;
 use std::alloc::Global;
 use std::collections::HashSet;
 use std::str::FromStr;
 use std::test::Fail;
+use test_support::fixtures::zeros;
 
 // A recipient and an identity, as other programs print them; the texts of other sizes were reckoned by a program in another language.
 const RECIPIENT: &str = "age1t7rxyev2z3rw82stdlrrepyc39nvn86l5078zqkf5uasdy86jp6svpy7pa";

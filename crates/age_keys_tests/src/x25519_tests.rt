@@ -8,10 +8,10 @@ use age::draw::Draw;
 use age::encrypt;
 use age::x25519::{Identity, Recipient};
 use age_bench::suite::BenchSuite;
-use age_try::answers::is_refusal;
-use age_try::fixtures::{KEY, MESSAGE, digest, zeros};
 use std::alloc::Global;
 use std::test::Fail;
+use test_support::answers::is_refusal;
+use test_support::fixtures::{KEY, MESSAGE, digest, zeros};
 
 // The share of an ephemeral secret of zeros, and what is sealed under it for the identity of the secret 0, 1, .., 31: a file key of
 // zeros.

@@ -10,10 +10,10 @@ use age::stream::StreamWriter;
 use age_bench::devices::{Script, Sink, Source, Step};
 use age_bench::suite::BenchSuite;
 use age_records::{RecordError, Records, write_records};
-use age_try::fixtures::{KEY, armored, part};
 use std::alloc::Global;
 use std::process::Abort;
 use std::test::Fail;
+use test_support::fixtures::{KEY, armored, part};
 
 const FAULT: Error = Error::Device(ErrorKind::Other);
 

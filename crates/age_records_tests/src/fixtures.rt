@@ -6,11 +6,11 @@ use age::io::{BufReader, Bytes, Error, Seek};
 use age::stream::{StreamReader, StreamWriter};
 use age_bench::suite::BenchSuite;
 use age_records::{RecordError, Records, write_records};
-use age_try::fixtures::{KEY, armored, part, plaintext};
-use age_try::whole::seal_whole;
 use std::alloc::{AllocError, Global};
 use std::process::Abort;
 use std::test::Fail;
+use test_support::fixtures::{KEY, armored, part, plaintext};
+use test_support::whole::seal_whole;
 
 /// The bytes that a text in armor carries.
 pub type Armored<'a> = ArmoredReader<BufReader<Bytes<'a>>>;

@@ -4,10 +4,10 @@ use crate::fixtures::{gives, in_armor, many, opened, three_of, written};
 use age::io::{Bytes, Seek};
 use age_bench::suite::BenchSuite;
 use age_records::Records;
-use age_try::fixtures::{armored, plaintext};
 use std::alloc::Global;
 use std::process::Abort;
 use std::test::Fail;
+use test_support::fixtures::{armored, plaintext};
 
 // Whether this record of the list is given, and at most as many chunks are opened for it as may be.
 fn gives_within<R: Seek>(

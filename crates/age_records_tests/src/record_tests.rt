@@ -3,9 +3,9 @@
 use crate::fixtures::{Call, both_answer, in_armor, listed, opened, sealed, three_of, written};
 use age::io::{Bytes, Error, Seek};
 use age_records::RecordError;
-use age_try::fixtures::armored;
 use std::alloc::Global;
 use std::test::Fail;
+use test_support::fixtures::armored;
 
 // Three records, of which one is empty.
 const THREE: [&[u8]; 3] = [b"a", b"", b"bcd"];

@@ -7,16 +7,16 @@ use age::draw::Draw;
 use age::format::Grease;
 use age::io::Bytes;
 use age::x25519::Identity;
+use age_examples::record_calls::get_each;
+use age_examples::record_files::records_of;
+use age_examples::records_there_and_back::file_of_records;
 use age_records::{RecordError, write_records};
 use age_standard::StandardSuite;
-use age_try::fixtures::{armored, empty_stanza, zeros};
-use age_uses::record_calls::get_each;
-use age_uses::record_files::records_of;
-use age_uses::records_there_and_back::file_of_records;
 use std::alloc::Global;
 use std::slice;
 use std::str::FromStr;
 use std::test::Fail;
+use test_support::fixtures::{armored, empty_stanza, zeros};
 
 const SECRET: &str = "AGE-SECRET-KEY-1GQ9778VQXMMJVE8SK7J6VT8UJ4HDQAJUVSFCWCM02D8GEWQ72PVQ2Y5J33";
 

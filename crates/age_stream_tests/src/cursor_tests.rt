@@ -5,10 +5,10 @@ use age::armor::ArmoredReader;
 use age::io::{Answer, Error, ErrorKind, Op, Seek, SeekFrom, run};
 use age_bench::devices::{Script, Source};
 use age_bench::suite::BenchSuite;
-use age_try::fixtures::{armored, part, plaintext};
 use std::alloc::Global;
 use std::process::Abort;
 use std::test::Fail;
+use test_support::fixtures::{armored, part, plaintext};
 
 const LENGTH: usize = 102_400;
 

@@ -3,10 +3,10 @@
 use crate::fixtures::{Call, in_armor, reader_answers, sealed};
 use age::io::{Bytes, Error, SeekFrom};
 use age_bench::suite::BenchSuite;
-use age_try::fixtures::{armored, part};
 use std::alloc::{AllocError, Global};
 use std::process::Abort;
 use std::test::Fail;
+use test_support::fixtures::{armored, part};
 
 // The plaintext has two full pieces and a byte, so the payload has two full chunks and one of 17 bytes: A, B and C.
 const LENGTH: usize = 131_073;

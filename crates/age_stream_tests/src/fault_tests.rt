@@ -6,12 +6,12 @@ use age::stream::StreamWriter;
 use age_bench::devices::{Script, Sink, Source, Step};
 use age_bench::payload::{open_all, seal_all};
 use age_bench::suite::BenchSuite;
-use age_try::answers::delivers;
-use age_try::fixtures::{KEY, digest, plaintext};
-use age_try::whole::seal_whole;
 use std::alloc::Global;
 use std::process::Abort;
 use std::test::Fail;
+use test_support::answers::delivers;
+use test_support::fixtures::{KEY, digest, plaintext};
+use test_support::whole::seal_whole;
 
 type Writer<'a, 'b> = StreamWriter<BenchSuite, &'b mut Sink<'a>>;
 

@@ -5,12 +5,12 @@ use age::io::{BufReader, Bytes, Error, Read, Seek, SeekFrom};
 use age::stream::StreamReader;
 use age::suite::Suite;
 use age_bench::suite::BenchSuite;
-use age_try::answers::{delivers, delivers_until, ends, read_refuses};
-use age_try::fixtures::{KEY, armored, part, plaintext, with_endings};
-use age_try::whole::seal_whole;
 use std::alloc::{AllocError, Global};
 use std::process::Abort;
 use std::test::Fail;
+use test_support::answers::{delivers, delivers_until, ends, read_refuses};
+use test_support::fixtures::{KEY, armored, part, plaintext, with_endings};
+use test_support::whole::seal_whole;
 
 /// The bytes that a text in armor carries.
 pub type Armored<'a> = ArmoredReader<BufReader<Bytes<'a>>>;

@@ -7,11 +7,11 @@ use age::io::{Bytes, Error, Seek, SeekFrom};
 use age::stream::StreamReader;
 use age::suite::Suite;
 use age_bench::suite::BenchSuite;
-use age_try::answers::read_refuses;
-use age_try::other_suite::OtherSuite;
 use std::alloc::Global;
 use std::process::Abort;
 use std::test::Fail;
+use test_support::answers::read_refuses;
+use test_support::other_suite::OtherSuite;
 
 const FIRST: [Call; 1] = [Call::Looks(0, 1)];
 

@@ -8,11 +8,11 @@ use age::io::{Bytes, Error, Read};
 use age::stream::StreamReader;
 use age::suite::Suite;
 use age_bench::suite::BenchSuite;
-use age_try::fixtures::{KEY, part, plaintext};
-use age_try::other_suite::OtherSuite;
 use std::alloc::Global;
 use std::process::Abort;
 use std::test::Fail;
+use test_support::fixtures::{KEY, part, plaintext};
+use test_support::other_suite::OtherSuite;
 
 const READ: usize = 70_000;
 

@@ -8,12 +8,12 @@ use age::io::{Answer, Bytes, Error, Op, Read, Seek, SeekFrom, run};
 use age::stream::StreamReader;
 use age::suite::Suite;
 use age_bench::suite::BenchSuite;
-use age_try::fixtures::{KEY, armored_texts, part, plaintext};
-use age_try::other_suite::OtherSuite;
-use age_try::whole::seal_whole;
 use std::alloc::{AllocError, Global};
 use std::process::Abort;
 use std::test::Fail;
+use test_support::fixtures::{KEY, armored_texts, part, plaintext};
+use test_support::other_suite::OtherSuite;
+use test_support::whole::seal_whole;
 
 // Readers of a payload, bare and through a buffer, answer the calls so.
 fn both_answer(rt: &impl Abort, alloc: Global, payload: &[u8], calls: &[Call]) -> Result<(), Fail> {

@@ -7,14 +7,14 @@ use age::io::{Bytes, Error, Read, Write, read_to_end};
 use age::stream::StreamWriter;
 use age::suite::{Opens, Suite};
 use age_bench::suite::BenchSuite;
-use age_try::answers::{delivers, ends};
-use age_try::fixtures::{KEY, digest, plaintext};
-use age_try::other_suite::OtherSuite;
-use age_try::whole::{open_whole, seal_whole};
 use std::alloc::Global;
 use std::fmt::Debug;
 use std::process::Abort;
 use std::test::Fail;
+use test_support::answers::{delivers, ends};
+use test_support::fixtures::{KEY, digest, plaintext};
+use test_support::other_suite::OtherSuite;
+use test_support::whole::{open_whole, seal_whole};
 
 // The payload of a plaintext that is written in pieces of this length, with a flush after each.
 fn written<S: Suite>(alloc: Global, plain: &[u8], piece: usize) -> Result<Vec<u8>, Error>

@@ -5,11 +5,11 @@ use age::io::{Error, Read, SeekFrom, Std};
 use age::stream::StreamReader;
 use age::suite::Suite;
 use age_bench::suite::BenchSuite;
-use age_try::fixtures::{KEY, part};
 use std::alloc::Global;
 use std::io;
 use std::process::Abort;
 use std::test::Fail;
+use test_support::fixtures::{KEY, part};
 
 type Reader<'a> = StreamReader<BenchSuite, Std<Vast<'a>>>;
 

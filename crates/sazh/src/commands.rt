@@ -14,8 +14,8 @@ use crate::new_key::{tell_recipient, warn};
 use crate::progress::is_told;
 use age::armor::Format;
 use age::io::{Read, Write, flush_retrying, write_all};
-use age_tool::keyring::Keyring;
 use sazh_command::{Command, Identities, Opening, Output, Recipient, Recipients};
+use sazh_core::keyring::Keyring;
 
 // The permissions of a new file, before the user's mask: to read and to write for all, or for its owner alone.
 const FOR_ALL: u32 = 0o666;

@@ -15,17 +15,17 @@ use age::armor::Format;
 use age::io::{Read, Std, Write, flush_retrying, write_all};
 use age::streaming::FileError;
 use age_standard::StandardSuite;
-use age_tool::error::{CommandError, GivenError, KeyringError};
-use age_tool::given::{
+use sazh_command::Output;
+use sazh_core::error::{CommandError, GivenError, KeyringError};
+use sazh_core::given::{
     decrypt_by, decrypt_part_by, encrypt_to_words, encrypt_under_text, migrate_by, rekey_by,
     seek_part_by, verify_by,
 };
-use age_tool::keygen::write_new_key;
-use age_tool::keyring::Keyring;
-use age_tool::measuring::Measured;
-use age_tool::own_recipients::write_recipients_of;
-use age_tool::words::Word;
-use sazh_command::Output;
+use sazh_core::keygen::write_new_key;
+use sazh_core::keyring::Keyring;
+use sazh_core::measuring::Measured;
+use sazh_core::own_recipients::write_recipients_of;
+use sazh_core::words::Word;
 use std::alloc::AllocError;
 use std::fmt::Write as _;
 use std::fs::File;

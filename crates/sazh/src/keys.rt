@@ -4,12 +4,12 @@ use crate::failure::{Failure, done_with, named, said, tell};
 use crate::files::{copied, read};
 use crate::lines::{Wanted, bad_line, bad_plugin, bad_word};
 use age_standard::StandardSuite;
-use age_tool::error::{IdentitiesError, KeyringError, RecipientsError, WordsError};
-use age_tool::holder::Holder;
-use age_tool::keyring::{Held, KeyFile, Keyring, holders_of};
-use age_tool::passphrase::passphrase_of;
-use age_tool::words::{Word, keys_of_words};
 use sazh_command::{Identities, Recipient};
+use sazh_core::error::{IdentitiesError, KeyringError, RecipientsError, WordsError};
+use sazh_core::holder::Holder;
+use sazh_core::keyring::{Held, KeyFile, Keyring, holders_of};
+use sazh_core::passphrase::passphrase_of;
+use sazh_core::words::{Word, keys_of_words};
 
 /// The text of the file of a passphrase of this name, which gives one.
 pub fn passphrase_text(rt: &HostRuntime, name: &str) -> Result<Vec<u8>, Failure> {

@@ -1,8 +1,8 @@
 //! The system's random bytes.
 ghost use Rattle.std.specs.Prelude.{◌≡◌, ℕ, List, Option, length, MatchOption, ⊤};
 
-use age_tool::error::RandomError;
-use age_tool::random::RandomBytes;
+use sazh_core::error::RandomError;
+use sazh_core::random::RandomBytes;
 use std::random::RandomSource;
 
 /// The system, as a source of random bytes. Of what it gives no more is known than how many bytes they are.

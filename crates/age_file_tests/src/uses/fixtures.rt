@@ -8,12 +8,12 @@ use age::streaming::{FileError, decrypt_all, encrypt_all};
 use age::suite::Suite;
 use age::{Identity, Recipient};
 use age_bench::recipient::BenchIdentity;
-use age_try::answers::gives;
-use age_try::fixtures::{MESSAGE, zeros};
-use age_uses::parts::part_of;
-use age_uses::there_and_back::there_and_back;
+use age_examples::parts::part_of;
+use age_examples::there_and_back::there_and_back;
 use std::alloc::Global;
 use std::test::Fail;
+use test_support::answers::gives;
+use test_support::fixtures::{MESSAGE, zeros};
 
 /// The armor of the message's file to `bench`, where each random byte is 0 and the grease stanza is `x-grease`.
 pub const ARMORED: &[u8] =

@@ -6,12 +6,12 @@ use age::draw::Draw;
 use age::suite::Suite;
 use age::x25519::Identity;
 use age_bench::suite::BenchSuite;
-use age_try::answers::gives;
-use age_try::fixtures::MESSAGE;
-use age_try::other_suite::OtherSuite;
-use age_uses::keys::kept_for_oneself;
+use age_examples::keys::kept_for_oneself;
 use std::alloc::Global;
 use std::test::Fail;
+use test_support::answers::gives;
+use test_support::fixtures::MESSAGE;
+use test_support::other_suite::OtherSuite;
 
 // The key of 32 random bytes.
 fn identity<S: Suite>(alloc: Global) -> Result<Identity<S>, Fail> {

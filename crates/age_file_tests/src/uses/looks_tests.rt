@@ -2,10 +2,10 @@
 
 use age::armor::ArmoredReader;
 use age::io::{BufRead, Bytes, Error, Seek, read_to_end};
-use age_try::fixtures::{armored, plaintext};
-use age_uses::looks::bytes_at;
+use age_examples::looks::bytes_at;
 use std::alloc::Global;
 use std::test::Fail;
+use test_support::fixtures::{armored, plaintext};
 
 // Whether a new reader gives 100,000 bytes, and takes 2,085 lines for them and the end.
 fn reads_all<R: BufRead>(alloc: Global, reader: &mut ArmoredReader<R>) -> Result<bool, Error> {

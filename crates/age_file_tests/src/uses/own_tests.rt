@@ -4,10 +4,10 @@ use crate::shared::{file_of, is_error};
 use crate::uses::fixtures::{decrypted, encrypted, is_decrypted};
 use age::armor::Format;
 use age_bench::suite::BenchSuite;
-use age_try::fixtures::message_file;
-use age_uses::own::{OwnIdentity, OwnRecipient};
+use age_examples::own::{OwnIdentity, OwnRecipient};
 use std::alloc::Global;
 use std::test::Fail;
+use test_support::fixtures::message_file;
 
 // The header of the message's file to `own`, where each random byte is 0 and the grease stanza is `x-grease`.
 const HEADER: &[u8] =

@@ -6,9 +6,9 @@ use age::io::{Answer, Bytes, Error, Op, SeekFrom};
 use age::streaming::answers;
 use age_bench::recipient::BenchIdentity;
 use age_bench::suite::BenchSuite;
-use age_try::fixtures::{MESSAGE, message_file};
 use std::alloc::Global;
 use std::test::Fail;
+use test_support::fixtures::{MESSAGE, message_file};
 
 // Whether a text gives these parts of the message, and none past its end.
 fn gives_parts(alloc: Global, text: &[u8]) -> bool {

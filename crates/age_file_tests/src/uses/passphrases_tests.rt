@@ -6,12 +6,12 @@ use age::scrypt::Identity;
 use age::streaming::FileError;
 use age::suite::Suite;
 use age_bench::suite::BenchSuite;
-use age_try::answers::gives;
-use age_try::fixtures::MESSAGE;
-use age_try::other_suite::OtherSuite;
-use age_uses::passphrases::kept_under_a_passphrase;
+use age_examples::passphrases::kept_under_a_passphrase;
 use std::alloc::{AllocError, Global};
 use std::test::Fail;
+use test_support::answers::gives;
+use test_support::fixtures::MESSAGE;
+use test_support::other_suite::OtherSuite;
 
 // An identity of this text that takes work factors up to this one.
 fn identity<S: Suite>(alloc: Global, text: &str, most: u8) -> Result<Identity<S>, AllocError> {

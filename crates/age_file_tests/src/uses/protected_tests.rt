@@ -7,7 +7,7 @@ use age::streaming::FileError;
 use age::x25519::Recipient;
 use age::{Callbacks, EncryptError, Encryptor};
 use age_bench::suite::BenchSuite;
-use age_uses::protected::recipients_of;
+use age_examples::protected::recipients_of;
 use std::alloc::Global;
 use std::test::Fail;
 

@@ -9,13 +9,13 @@ use age::suite::Suite;
 use age::{Identity, Recipient};
 use age_bench::recipient::BenchIdentity;
 use age_bench::suite::BenchSuite;
-use age_try::answers::gives;
-use age_try::fixtures::MESSAGE;
-use age_try::other_suite::OtherSuite;
-use age_uses::own::OwnIdentity;
-use age_uses::several::opened_by_one;
+use age_examples::own::OwnIdentity;
+use age_examples::several::opened_by_one;
 use std::alloc::Global;
 use std::test::Fail;
+use test_support::answers::gives;
+use test_support::fixtures::MESSAGE;
+use test_support::other_suite::OtherSuite;
 
 // The message's file to recipients of these kinds.
 fn file_to<S: Suite>(alloc: Global, kinds: &[Kind]) -> Result<Vec<u8>, Fail> {

@@ -7,11 +7,11 @@ use age::draw::Draw;
 use age::io::Bytes;
 use age_bench::recipient::{BenchIdentity, BenchRecipient};
 use age_bench::suite::BenchSuite;
-use age_try::fixtures::{MESSAGE, message_file};
-use age_try::other_suite::OtherSuite;
-use age_uses::streams::streamed_there_and_back;
+use age_examples::streams::streamed_there_and_back;
 use std::alloc::Global;
 use std::test::Fail;
+use test_support::fixtures::{MESSAGE, message_file};
+use test_support::other_suite::OtherSuite;
 
 // Whether the message's file in one of the forms is this one.
 fn is_encrypted(alloc: Global, format: Format, expected: &[u8]) -> Result<bool, Fail> {

@@ -4,11 +4,11 @@ use age::io::{Bytes, Error, Seek};
 use age::stream::StreamReader;
 use age::suite::Suite;
 use age_bench::suite::BenchSuite;
-use age_try::fixtures::{KEY, plaintext};
-use age_try::whole::seal_whole;
-use age_uses::turns::in_turns;
+use age_examples::turns::in_turns;
 use std::alloc::Global;
 use std::test::Fail;
+use test_support::fixtures::{KEY, plaintext};
+use test_support::whole::seal_whole;
 
 // Whether a hundred turns open two chunks, and the end of the plaintext is no place.
 fn opens_two_chunks<S: Suite, R: Seek>(reader: &mut StreamReader<S, R>) -> bool {

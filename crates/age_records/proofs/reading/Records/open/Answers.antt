@@ -1,4 +1,4 @@
-use Rattle.std.proofs.Common.{◌≡◌, ◌∙◌, ◌^◌, ◌<◌, ap, arith, inl, inr, length, sym, subst}
+use Rattle.std.proofs.Common.{◌∙◌, ◌^◌, ◌<◌, ap, arith, inl, inr, length, sym, subst}
 use Rattle.age_records.specs.Text.{HoldsRecords, count_of, records_text}
 use Rattle.age_records.proofs.Honest.{never-failing}
 use Rattle.age_records.proofs.Spelled.{count-is, holds}

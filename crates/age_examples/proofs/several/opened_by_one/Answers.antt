@@ -1,0 +1,27 @@
+use Rattle.std.proofs.Common.{◌≡◌, ◌∙◌, ℕ, List, Some, sym, ap, subst, refl}
+use Rattle.age.specs.Bytes.{AreBytes}
+use Rattle.age.specs.Armor.{Carries}
+use Rattle.age_examples.proofs.several.opened_by_one.Goals as goal
+
+carries_as : (read written carried : List ℕ) → read ≡ written → Carries written carried → Carries read carried
+carries_as read written carried is carries = subst (λ l. Carries l carried) (sym is) carries
+
+pub returns-clause-plaintext : goal.returns-clause-plaintext
+returns-clause-plaintext g c = λ one keeps.
+    let (file, prepares, appends) = c.in-Ok.ensures.file refl refl in
+    let plain_is = ap (λ s. s.bytes) c.new-reader.ensures.rest in
+    let bytes = subst AreBytes (sym plain_is) c.known_bytes.ensures in
+    let written = rw c.new-file.ensures.items at appends.out in
+    let for = c.several_recipients.ensures.any c.args.recipients.now c.args.identity.now (Some c.args.grease) c.args.draw.now _ file _ _ one prepares
+    appends.is_file bytes appends.within (keeps _ _) in
+    c.in-Ok-decrypt.ensures.honest _ _ (carries_as _ _ _ (c.deref.ensures.value ∙ written) (appends.carries bytes)) for ∙ plain_is
+
+pub returns-in-Err-decrypt-clause-honest : goal.returns-in-Err-decrypt-clause-honest
+returns-in-Err-decrypt-clause-honest g c = λ one keeps kind.
+    let (file, prepares, appends) = c.in-Ok.ensures.file refl refl in
+    let plain_is = ap (λ s. s.bytes) c.new-reader.ensures.rest in
+    let bytes = subst AreBytes (sym plain_is) c.known_bytes.ensures in
+    let written = rw c.new-file.ensures.items at appends.out in
+    let for = c.several_recipients.ensures.any c.args.recipients.now c.args.identity.now (Some c.args.grease) c.args.draw.now _ file _ _ one prepares
+    appends.is_file bytes appends.within (keeps _ _) in
+    c.in-Err-decrypt.ensures.honest _ _ (carries_as _ _ _ (c.deref.ensures.value ∙ written) (appends.carries bytes)) for

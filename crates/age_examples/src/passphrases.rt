@@ -1,0 +1,58 @@
+//! Files under a passphrase.
+ghost use Rattle.std.specs.Prelude.{◌≡◌, ◌≤◌, ℕ, List, IfOk, IfErr};
+ghost use Rattle.age.specs.Payload.{LastIsNoMiddle};
+ghost use Rattle.age.specs.FileErrors.{IsDecryptError, IsWant};
+ghost use Rattle.age.specs.ScryptLaws.{IsMeantFor};
+ghost use Rattle.age_examples.specs.Keys.{IsWhole};
+
+use age::draw::Draw;
+use age::io::{Error, write_all};
+use age::laws::{files_carry_themselves, passphrase_files};
+use age::scrypt::Identity;
+use age::secrecy::SecretString;
+use age::streaming::FileError;
+use age::suite::Suite;
+use age::suite::laws::known_bytes;
+use age::{Encryptor, decrypt};
+use std::alloc::Global;
+
+// The file of a plaintext that was prepared for.
+fn file_of<S: Suite>(alloc: Global, encryptor: Encryptor<S>, plain: &[u8]) -> Result<Vec<u8>, Error>
+    ensures { IfOk result (λ file. IsWhole S.seal_of encryptor plain.now file.items) }
+{
+    files_carry_themselves::<S>();
+    known_bytes(plain);
+    let mut writer = encryptor.wrap_output(alloc, Vec::new(alloc))?;
+    write_all(&mut writer, plain)?;
+    let file = writer.finish()?;
+    Ok(file)
+}
+
+/// Encrypts a plaintext under a passphrase with a work factor from 1 to 63, and decrypts the file with an identity: the plaintext.
+///
+/// Where the identity has the passphrase and takes the work factor, a success is the plaintext, and an error of decryption is want of
+/// memory, over a suite that keeps a full last chunk apart from one in the middle.
+pub fn kept_under_a_passphrase<S: Suite>(
+    alloc: Global,
+    passphrase: SecretString,
+    log_n: u8,
+    identity: &mut Identity<S>,
+    draw: &mut Draw,
+    plain: &[u8],
+) -> Result<Vec<u8>, FileError>
+    requires some { 1 ≤ log_n }
+    requires most { log_n ≤ 63 }
+    ensures plaintext { IsMeantFor (record { passphrase = passphrase; factor = log_n }) identity.old →
+        ((key text : List ℕ) → LastIsNoMiddle S.seal_of key text) → IfOk result (λ given. given.items ≡ plain.now) }
+    ensures honest { IsMeantFor (record { passphrase = passphrase; factor = log_n }) identity.old →
+        ((key text : List ℕ) → LastIsNoMiddle S.seal_of key text) → IfErr result (λ e. IsDecryptError e → IsWant e) }
+{
+    passphrase_files::<S>();
+    known_bytes(passphrase.expose_secret().as_bytes());
+    let encryptor = Encryptor::<S>::with_user_passphrase(alloc, passphrase, log_n, draw)?;
+    let file = file_of(alloc, encryptor, plain)?;
+    match decrypt::<S, Identity<S>>(alloc, identity, &file) {
+        Err(error) => Err(FileError::Decrypt(error)),
+        Ok(given) => Ok(given),
+    }
+}

@@ -1,7 +1,0 @@
-use Rattle.std.proofs.Common.{inr, refl}
-use Rattle.age_tool.proofs.KeyFiles.{is_under_passphrase}
-use Rattle.age_tool.proofs.keyring.refused_without_passphrase.Goals as goal
-
-pub returns-in-Ok-Some : goal.returns-in-Ok-Some
-returns-in-Ok-Some g c =
-    inr (inr (refl, refl, is_under_passphrase _ _ c.args.file.now.bytes.items _ _ (rw c.in-Ok-Some.field-0-is at c.in-Ok-Some.ensures)))

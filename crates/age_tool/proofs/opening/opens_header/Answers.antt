@@ -1,6 +1,0 @@
-use Rattle.age_tool.proofs.Reached.{opens_or_refuses}
-use Rattle.age_tool.proofs.opening.opens_header.Goals as goal
-
-pub returns-in-Some : goal.returns-in-Some
-returns-in-Some g c =
-    opens_or_refuses g.I.Identity.unwraps c.args.header.now _ _ c.in-Some.it.number _ c.verified.result c.in-Some.ensures c.verified.ensures.right c.verified.ensures.refused

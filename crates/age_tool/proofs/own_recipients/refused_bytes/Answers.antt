@@ -1,4 +1,0 @@
-use Rattle.age_tool.proofs.own_recipients.refused_bytes.Goals as goal
-
-pub returns-in-Ok : goal.returns-in-Ok
-returns-in-Ok g c = c.refused_text.ensures c.args.bytes.now c.in-Ok.ensures

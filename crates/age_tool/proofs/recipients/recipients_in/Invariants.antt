@@ -1,7 +1,0 @@
-use Rattle.std.proofs.Common.{map, take}
-use Rattle.age_tool.specs.Recipients.{AreRecipients}
-use Rattle.age_tool.proofs.recipients.recipients_in.Given as goal
-
--- the recipients of the lines so far
-abbrev pub invariant-loop-i : goal.invariant-loop-i
-invariant-loop-i g l = AreRecipients (map (λ line. line.now) (take l.i l.fn.lines)) l.recipients.items

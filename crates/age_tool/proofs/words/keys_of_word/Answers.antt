@@ -1,6 +1,0 @@
-use Rattle.std.proofs.Common.{refl}
-use Rattle.age_tool.proofs.words.keys_of_word.Goals as goal
-
-pub returns-in-Err-recipients_of_identities : goal.returns-in-Err-recipients_of_identities
-returns-in-Err-recipients_of_identities g c =
-    rw c.in-Identities.is (refl, rw c.deref-in-Identities.ensures.value at c.in-Err-recipients_of_identities.ensures)

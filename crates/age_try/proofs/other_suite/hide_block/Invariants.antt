@@ -1,7 +1,0 @@
-use Rattle.std.proofs.Common.{◌≡◌, ◌*◌, ◌++◌, take, drop}
-use Rattle.age_try.specs.Other.{hidden_from, pad_at}
-use Rattle.age_try.proofs.other_suite.hide_block.Given as goal
-
--- the bytes before i are hidden, the others are as before
-abbrev pub invariant-loop-i : goal.invariant-loop-i
-invariant-loop-i l = l.block ≡ hidden_from (pad_at l.key l.nonce) (32 * l.number) (take l.i l.initial.block) ++ drop l.i l.initial.block
