@@ -1,0 +1,12 @@
+pub mod Alone
+pub mod Belongs
+pub mod Changed
+pub mod Given
+pub mod Lengthened
+pub mod Outcomes
+pub mod Refused
+pub mod Rings
+pub mod SameFronts
+pub mod Sought
+pub mod Unopened
+pub mod Written
