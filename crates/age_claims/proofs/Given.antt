@@ -15,7 +15,8 @@ abbrev pub CarriesOne : Type 0
 CarriesOne = (text bytes others : List ℕ) → Carries text bytes → Carries text others → bytes ≡ others
 
 -- an answer that is a file key, or want of memory, is that file key
-pub same_key : (key other : List ℕ) → (Path UnwrapAnswer (Some (Ok key)) (Some (Ok other))) ⊎ (Path UnwrapAnswer (Some (Ok key)) (Some (Err OutOfMemory))) → key ≡ other
+pub same_key : (key other : List ℕ)
+    → (Path UnwrapAnswer (Some (Ok key)) (Some (Ok other))) ⊎ (Path UnwrapAnswer (Some (Ok key)) (Some (Err OutOfMemory))) → key ≡ other
 same_key key other (inl is) = cc
 same_key key other (inr is) = absurd (Prim.cc)
 
@@ -25,7 +26,8 @@ carries_as read written carried is carries = subst (λ (l : List ℕ). Carries l
 
 module _ (seal_of : Seal) (one_list : CarriesOne) (one_header : OneHeader seal_of) (one_plain : OnePlain seal_of) where
   -- two files that one text carries have one plaintext, where the same stanzas come with the same file key
-  pub same_plain : (key other : List ℕ) (stanzas others : List StanzaValue) (back plain text bytes file : List ℕ) → Carries text bytes → Carries text file
+  pub same_plain : (key other : List ℕ) (stanzas others : List StanzaValue) (back plain text bytes file : List ℕ) → Carries text bytes
+      → Carries text file
       → IsFileOf seal_of key stanzas back bytes → IsFileOf seal_of other others plain file → AreBytes back → AreBytes plain
       → (stanzas ≡ others → key ≡ other) → back ≡ plain
   same_plain key other stanzas others back plain text bytes file carries carried is_file for_file back_bytes plain_bytes keys =
@@ -40,6 +42,11 @@ module _ (seal_of : Seal) (one_list : CarriesOne) (one_header : OneHeader seal_o
       → IsFileFor seal_of (FirstAnswer unwraps identities) plain file → Carries text file
       → CarriesFile seal_of (GivesFirst unwraps identities after) text back → back ≡ plain
   given_is unwraps identities after plain file text back for carries got =
-      same_plain got.file_key for.file_key got.stanzas for.stanzas back plain text got.carried file got.carries carries got.is_file for.is_file got.bytes for.bytes
+      same_plain got.file_key for.file_key got.stanzas for.stanzas back plain text got.carried file got.carries carries got.is_file for.is_file
+      got.bytes for.bytes
       (λ same. same_key got.file_key for.file_key
-      (for.right (Some (Ok got.file_key)) (after, subst (λ (s : List StanzaValue). GivesFirst unwraps identities after got.file_key s) same got.given)))
+      (for.right (Some (Ok got.file_key)) (
+        after,
+        subst (λ (s : List StanzaValue). GivesFirst unwraps identities after got.file_key s) same
+            got.given,
+      )))

@@ -20,7 +20,8 @@ payload_key-bytes : (file_key nonce : List ℕ) → AreBytesOf 32 (payload_key f
 unfolding payload_key
 payload_key-bytes file_key nonce = hkdf_of-bytes nonce (codes "payload") file_key
 
-module _ (alone : ReadsAlone) (one : HasOneVerdict) (seal_of : Seal) (size : PayloadLength seal_of) (key other : List ℕ) (stanzas others : List StanzaValue)
+module _ (alone : ReadsAlone) (one : HasOneVerdict) (seal_of : Seal) (size : PayloadLength seal_of) (key other : List ℕ)
+    (stanzas others : List StanzaValue)
     (plain given file more : List ℕ) (plain_bytes : AreBytes plain) (given_bytes : AreBytes given) (f : IsFileOf seal_of key stanzas plain file)
     (longer : IsFileOf seal_of other others given (file ++ more)) where
   abbrev sealed : List ℕ
@@ -33,15 +34,18 @@ module _ (alone : ReadsAlone) (one : HasOneVerdict) (seal_of : Seal) (size : Pay
         header = own.header;
         rule = own.rule;
         sixteen = own.sixteen;
-        whole = ap (λ l. l ++ more) own.whole ∙ append_assoc header (f.nonce ++ sealed) more ∙ ap (λ l. header ++ l) (append_assoc f.nonce sealed more);
+        whole = ap (λ l. l ++ more) own.whole ∙ append_assoc header (f.nonce ++ sealed) more
+            ∙ ap (λ l. header ++ l) (append_assoc f.nonce sealed more);
       }
 
   -- the payload of the longer one goes on where the other's ends, and both are as long as their plaintexts say
   pub no_longer : length plain ≡ length given → more ≡ []
   no_longer same =
       let other_sealed = payload seal_of (payload_key other longer.nonce) given in
-      let goes_on : sealed ++ more ≡ other_sealed = (same_front alone one seal_of other stanzas others _ f.nonce (sealed ++ more) given (file ++ more) begun longer).rest_is in
-      let one_size : length sealed ≡ length plain + 16 * (last_piece (length plain) + 1) = (size (payload_key key f.nonce) plain (payload_key-bytes key f.nonce) plain_bytes).len in
+      let goes_on : sealed ++ more ≡ other_sealed =
+      (same_front alone one seal_of other stanzas others _ f.nonce (sealed ++ more) given (file ++ more) begun longer).rest_is in
+      let one_size : length sealed ≡ length plain + 16 * (last_piece (length plain) + 1) =
+      (size (payload_key key f.nonce) plain (payload_key-bytes key f.nonce) plain_bytes).len in
       let other_size : length other_sealed ≡ length given + 16 * (last_piece (length given) + 1) =
       (size (payload_key other longer.nonce) given (payload_key-bytes other longer.nonce) given_bytes).len in
       nothing_more sealed more (ap length goes_on ∙ other_size ∙ ap (λ n. n + 16 * (last_piece n + 1)) (sym same) ∙ sym one_size)

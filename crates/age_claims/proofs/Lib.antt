@@ -3,6 +3,7 @@ pub mod Belongs
 pub mod Changed
 pub mod Given
 pub mod Lengthened
+pub mod OneKeys
 pub mod Outcomes
 pub mod Refused
 pub mod Rings

@@ -28,7 +28,8 @@ want_of w (Encrypt e) d i = d
 want_of w (Decrypt e) d i = d
 
 -- and a plaintext for that, for its length, or as the encryptor refuses, where it is encrypted into a list
-pub refused_of : {W A B C : Type 0} (X : Type 0) (w : W) (size told : ℕ) (P : EncryptRefusal → Type 0) (e : FileError) → size ≡ told → A → B → C → EncryptsUnless P e
+pub refused_of : {W A B C : Type 0} (X : Type 0) (w : W) (size told : ℕ) (P : EncryptRefusal → Type 0) (e : FileError) → size ≡ told → A → B → C
+    → EncryptsUnless P e
     → IfIo (λ x. X × (A → B → C → RefusesFile ForMemory w size x)) e → IsWantOrLong told e ⊎ (IsEncryptError e × EncryptsUnless P e)
 refused_of X w size told P (Io e) same a b c why (x, refused) = elim (refused a b c) [
   | inl long ↦ inl (inr (ap Io long.0, subst (λ (n : ℕ). 2 ^ 60 < n) same long.1))

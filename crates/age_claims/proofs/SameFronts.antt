@@ -19,8 +19,10 @@ pub record IsSameFront (seal_of : Seal) (key : List ℕ) (stanzas others : List 
   pub nonce_is : nonce ≡ other
   pub rest_is : more ≡ payload seal_of (payload_key key other) given
 
-pub same_front : ReadsAlone → HasOneVerdict → (seal_of : Seal) (key : List ℕ) (stanzas others : List StanzaValue) (mac nonce more given bytes : List ℕ)
-    → BeginsAsFile stanzas mac nonce more bytes → (g : IsFileOf seal_of key others given bytes) → IsSameFront seal_of key stanzas others nonce g.nonce more given
+pub same_front : ReadsAlone → HasOneVerdict
+    → (seal_of : Seal) (key : List ℕ) (stanzas others : List StanzaValue) (mac nonce more given bytes : List ℕ)
+    → BeginsAsFile stanzas mac nonce more bytes → (g : IsFileOf seal_of key others given bytes)
+    → IsSameFront seal_of key stanzas others nonce g.nonce more given
 same_front alone one seal_of key stanzas others mac nonce more given bytes begun g =
     let its = begins seal_of key others given bytes g in
     let other_mac = header_mac key (covered_text others) in
@@ -30,7 +32,8 @@ same_front alone one seal_of key stanzas others mac nonce more given bytes begun
     let both = one canonical bytes header other_header (Header stanzas mac) (Header others other_mac)
     (verdict_of alone one canonical header stanzas mac nonce more bytes (begins_as stanzas mac nonce more bytes begun))
     (verdict_of alone one canonical other_header others other_mac g.nonce sealed bytes (begins_as others other_mac g.nonce sealed bytes its)) in
-    let all : header ++ (nonce ++ more) ≡ header ++ (g.nonce ++ sealed) = sym begun.whole ∙ its.whole ∙ ap (λ h. h ++ (g.nonce ++ sealed)) (sym both.0) in
+    let all : header ++ (nonce ++ more) ≡ header ++ (g.nonce ++ sealed) = sym begun.whole ∙ its.whole
+    ∙ ap (λ h. h ++ (g.nonce ++ sealed)) (sym both.0) in
     let rest : nonce ++ more ≡ g.nonce ++ sealed = append_cancel_left header (nonce ++ more) (g.nonce ++ sealed) all in
     record {
       stanzas_are = same_stanzas stanzas others mac other_mac both.1;
@@ -50,7 +53,8 @@ fronted seal_of key stanzas plain file rest f = record {
 }
 
 -- what makes a file's text makes one text
-pub same_text : (seal_of : Seal) (key other : List ℕ) (stanzas others : List StanzaValue) (nonce second plain given : List ℕ) → key ≡ other → stanzas ≡ others
+pub same_text : (seal_of : Seal) (key other : List ℕ) (stanzas others : List StanzaValue) (nonce second plain given : List ℕ) → key ≡ other
+    → stanzas ≡ others
     → nonce ≡ second → plain ≡ given → file_text seal_of key stanzas nonce plain ≡ file_text seal_of other others second given
 same_text seal_of key other stanzas others nonce second plain given k s n p =
     ap (λ x. file_text seal_of x stanzas nonce plain) k ∙ ap (λ x. file_text seal_of other x nonce plain) s

@@ -11,22 +11,27 @@ use Rattle.age.specs.SeekFromVariants.{Start}
 use Rattle.age.specs.Stretch.{Stretch}
 use Rattle.age.specs.Types.{Error}
 use Rattle.age.proofs.Parts.{ends_before}
+use Rattle.age_claims.specs.Claims.{Reaches}
 
 by_place : (within : Bool) (place start : ℕ) → ◌≡◌ {A = Result ℕ Error} (if within then Ok place else Err PastEnd) (Ok start) → within ≡ true
 by_place true place start is = refl
 by_place false place start is = absurd (Prim.cc)
 
-by_limit : (fits : Bool) (place len start : ℕ) → ◌≡◌ {A = Result ℕ Error} (if fits then moved_to (Some place) len else Err TooLong) (Ok start) → place ≤ len
+by_limit : (fits : Bool) (place len start : ℕ) → ◌≡◌ {A = Result ℕ Error} (if fits then moved_to (Some place) len else Err TooLong) (Ok start)
+    → place ≤ len
 by_limit true place len start is = leb-true place len (by_place (nat_le place len) place start is)
 by_limit false place len start is = absurd (Prim.cc)
 
-by_length : (plain : Option ℕ) (place stood start : ℕ) → in_length plain (Start place) stood ≡ Ok start → (len : ℕ) × (plain ≡ Some len) × (place ≤ len)
+by_length : (plain : Option ℕ) (place stood start : ℕ) → in_length plain (Start place) stood ≡ Ok start
+    → (len : ℕ) × (plain ≡ Some len) × (place ≤ len)
 by_length None place stood start is = absurd (Prim.cc)
 by_length (Some len) place stood start is = (len, refl, by_limit (nat_le len (2 ^ 60)) place len start is)
 
 -- it leads to a place that the plaintext has by the payload's length, or to its end
-pub leads_inside : (size place stood start : ℕ) → sought_in (Start place) stood size ≡ Ok start → (len : ℕ) × (plain_len size ≡ Some len) × (place ≤ len)
-leads_inside size place stood start is = by_length (plain_len size) place stood start is
+pub leads_inside : (sealed : Stretch) (place stood start : ℕ) → sought_in (Start place) stood (length sealed.bytes) ≡ Ok start → Reaches place sealed
+leads_inside sealed place stood start is =
+    let (len, plain, inside) = by_length (plain_len (length sealed.bytes)) place stood start is in
+    record { len = len; plain = plain; inside = inside }
 
 -- it is refused with `PastEnd` only where the plaintext ends before the place
 pub refused_outside : {R : Type 0} (refuses : R → Error → Type 0) (inner : R) (sealed : Stretch) (place stood : ℕ) (e : Error)

@@ -25,16 +25,19 @@ pub slice_replies : (place count : ℕ) (plain : List ℕ) → place ≤ length 
 slice_replies place count plain inside = replied _ place count plain (chosen (nat_le place (length plain)) place (le-leb place (length plain) inside))
 
 -- where a premise makes a success one thing, another success takes the premise away
-pub no_other : {T E C : Type 0} (P : T → Type 0) (Q : E → Type 0) (result : Result T E) → (C → MatchResult result P Q) → IfOk result (λ x. (P x → ⊥) → C → ⊥)
+pub no_other : {T E C : Type 0} (P : T → Type 0) (Q : E → Type 0) (result : Result T E) → (C → MatchResult result P Q)
+    → IfOk result (λ x. (P x → ⊥) → C → ⊥)
 no_other P Q (Ok x) h = λ other given. other (h given)
 no_other P Q (Err e) h = tt
 
-pub ok_weaker : {T E : Type 0} (P R : T → Type 0) (Q : E → Type 0) (result : Result T E) → MatchResult result P Q → ((x : T) → P x → R x) → IfOk result R
+pub ok_weaker : {T E : Type 0} (P R : T → Type 0) (Q : E → Type 0) (result : Result T E) → MatchResult result P Q → ((x : T) → P x → R x)
+    → IfOk result R
 ok_weaker P R Q (Ok x) h f = f x h
 ok_weaker P R Q (Err e) h f = tt
 
 -- what was written of what was prepared
-pub written_with : (P : Result Prepared EncryptRefusal → Type 0) (seal_of : Seal) (form : List ℕ → List ℕ) (plain text : List ℕ) (outcome : Result Prepared EncryptRefusal)
+pub written_with : (P : Result Prepared EncryptRefusal → Type 0) (seal_of : Seal) (form : List ℕ → List ℕ) (plain text : List ℕ)
+    (outcome : Result Prepared EncryptRefusal)
     → P outcome → Encrypts seal_of form plain outcome (Ok text) → (file : Prepared) × P (Ok file) × IsWritten seal_of form plain file text
 written_with P seal_of form plain text (Ok file) p encrypts = (file, p, encrypts)
 written_with P seal_of form plain text (Err e) p encrypts = absurd (Prim.cc)

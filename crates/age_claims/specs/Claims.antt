@@ -1,12 +1,13 @@
 -- What the claims speak of.
-use Rattle.std.specs.Prelude.{◌≡◌, ◌⊎◌, ℕ, ◌^◌, ◌<◌, List, ◌++◌, None, Some, Err}
+use Rattle.std.specs.Prelude.{◌≡◌, ◌⊎◌, ℕ, ◌^◌, ◌<◌, ◌≤◌, List, ◌++◌, length, Some, Err}
 use Rattle.age.specs.DecryptErrors.{OutOfMemory}
 use Rattle.age.specs.Copying.{AppendsFront}
 use Rattle.age.specs.ErrorVariants.{TooLong}
 use Rattle.age.specs.FileErrorVariants.{Io}
 use Rattle.age.specs.FileErrors.{IsWant}
 use Rattle.age.specs.Types.{FileError, StreamWriter}
-use Rattle.age.specs.Payload.{Seal, payload, LastIsNoMiddle}
+use Rattle.age.specs.Payload.{Seal, payload, plain_len, LastIsNoMiddle}
+use Rattle.age.specs.Stretch.{Stretch}
 use Rattle.age.specs.StreamWriting.{IsGood, WasMade, inner_of}
 use Rattle.age.specs.Stanza.{StanzaValue}
 use Rattle.age.specs.Identities.{UnwrapAnswer, Unwraps, GivesFirst}
@@ -20,19 +21,25 @@ abbrev pub GiveOneKey : {I : Type 0} → (I → List StanzaValue → UnwrapAnswe
 GiveOneKey {I} unwraps identities = (stanzas : List StanzaValue) (key other : List ℕ) (after later : List I)
     → GivesFirst unwraps identities after key stanzas → GivesFirst unwraps identities later other stanzas → key ≡ other
 
--- The identity answers nothing to the stanzas, unless memory is refused.
-abbrev pub PassesOver : {I : Type 0} → (I → List StanzaValue → UnwrapAnswer → I → Type 0) → List StanzaValue → I → Type 0
-PassesOver {I} unwraps stanzas identity = (answer : UnwrapAnswer) (after : I) → Unwraps unwraps identity stanzas answer after
-    → (answer ≡ None) ⊎ (answer ≡ Some (Err OutOfMemory))
+-- Whatever the identity answers to the stanzas is this, unless memory is refused. With None it passes over them.
+abbrev pub AnswersAlways : {I : Type 0} → (I → List StanzaValue → UnwrapAnswer → I → Type 0) → List StanzaValue → UnwrapAnswer → I → Type 0
+AnswersAlways {I} unwraps stanzas this identity = (answer : UnwrapAnswer) (after : I) → Unwraps unwraps identity stanzas answer after
+    → (answer ≡ this) ⊎ (answer ≡ Some (Err OutOfMemory))
 
 -- Memory was refused, or a plaintext of this many bytes is too long.
 abbrev pub IsWantOrLong : ℕ → FileError → Type 0
 IsWantOrLong size e = IsWant e ⊎ ((e ≡ Io TooLong) × (2 ^ 60 < size))
 
--- Where a writer was made under a key and took a plaintext since, and hasn't failed, then after it was given these bytes the writer below has got a beginning
--- of the payload of the plaintext and these bytes.
+-- Where a writer was made under a key and took a plaintext since, and hasn't failed, the writer below has got a beginning of the payload of the
+-- plaintext and of the bytes that it is given then, and nothing else.
 abbrev pub HasBegun : {S W : Type 0} → Seal → (W → List ℕ → W → Type 0) → (StreamWriter S W → List ℕ → StreamWriter S W → Type 0)
     → StreamWriter S W → List ℕ → StreamWriter S W → Type 0
 HasBegun {S} {W} seal_of below appended before bytes after =
     (start : StreamWriter S W) (key plain : List ℕ) (first : W) → WasMade key first start → appended start plain before → IsGood before
     → AppendsFront below (payload seal_of key (plain ++ bytes)) first (inner_of after)
+
+-- By the payload's length its plaintext has this place, or ends there.
+pub record Reaches (place : ℕ) (sealed : Stretch) : Type 0 where
+  pub len : ℕ
+  pub plain : plain_len (length sealed.bytes) ≡ Some len
+  pub inside : place ≤ len

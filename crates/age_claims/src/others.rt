@@ -1,10 +1,11 @@
 //! A file that isn't for the identity.
-ghost use Rattle.std.specs.Prelude.{◌≡◌, ◌⊎◌, ℕ, List, Some, Err, MatchResult};
+ghost use Rattle.std.specs.Prelude.{◌≡◌, ◌⊎◌, ℕ, List, Err, MatchResult};
 ghost use Rattle.age.specs.DecryptErrors.{DecryptRefusal, decrypt_refusal, OutOfMemory};
-ghost use Rattle.age.specs.Identities.{decided, Unwraps, UnwrapAnswer};
+ghost use Rattle.age.specs.Identities.{decided, UnwrapAnswer};
 ghost use Rattle.age.specs.Armor.{Carries};
 ghost use Rattle.age.specs.File.{IsFileOf};
 ghost use Rattle.age.specs.Stanza.{StanzaValue};
+ghost use Rattle.age_claims.specs.Claims.{AnswersAlways};
 
 use age::armor::laws::{carried_is_delivered, carried_is_unique};
 use age::format::laws::{header_text_reads_back, verdict_is_unique};
@@ -24,7 +25,7 @@ pub fn refused_as_answered<S: Suite, I: Identity>(
 ) -> Result<Vec<u8>, DecryptError>
     ensures { (key : List ℕ) (stanzas : List StanzaValue) (plain file : List ℕ) (this : UnwrapAnswer) (why : DecryptRefusal)
         → Carries text.now file → IsFileOf S.seal_of key stanzas plain file → decided this ≡ Err why
-        → ((answer : UnwrapAnswer) (after : I) → Unwraps I.unwraps identity.old stanzas answer after → (answer ≡ this) ⊎ (answer ≡ Some (Err OutOfMemory)))
+        → AnswersAlways I.unwraps stanzas this identity.old
         → MatchResult result (λ given. ⊥) (λ e. (decrypt_refusal e ≡ why) ⊎ (decrypt_refusal e ≡ OutOfMemory)) }
 {
     header_text_reads_back();

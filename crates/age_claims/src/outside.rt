@@ -1,10 +1,10 @@
 //! A place that a payload hasn't.
-ghost use Rattle.std.specs.Prelude.{◌≡◌, ℕ, ◌≤◌, IsTrue, Some, IfOk, IfErr, length};
+ghost use Rattle.std.specs.Prelude.{◌≡◌, IsTrue, IfOk, IfErr};
 ghost use Rattle.age.specs.ErrorVariants.{PastEnd};
 ghost use Rattle.age.specs.Parts.{EndsBefore};
-ghost use Rattle.age.specs.Payload.{plain_len};
 ghost use Rattle.age.specs.Reading.{TriedAgain};
 ghost use Rattle.age.specs.StreamReader.{inner_of, payload_of, tells_of};
+ghost use Rattle.age_claims.specs.Claims.{Reaches};
 
 use age::io::{Error, Seek, SeekFrom};
 use age::stream::StreamReader;
@@ -19,7 +19,7 @@ pub fn read_inside<S: Suite, R: Seek>(
     place: u64,
     buf: &mut [u8],
 ) -> Result<usize, Error>
-    ensures inside { IsTrue (tells_of reader.old) → IfOk result (λ count. (len : ℕ) × (plain_len (length (payload_of reader.old).bytes) ≡ Some len) × (place ≤ len)) }
+    ensures inside { IsTrue (tells_of reader.old) → IfOk result (λ count. Reaches place (payload_of reader.old)) }
     ensures outside { IsTrue (tells_of reader.old) → (TriedAgain R.refuses (inner_of reader.old) PastEnd → ⊥) →
         IfErr result (λ e. e ≡ PastEnd → EndsBefore place (payload_of reader.old)) }
 {

@@ -32,8 +32,9 @@ pub fn slice_of<S: Suite, T: Recipient, I: Identity>(
     place: u64,
     count: usize,
 ) -> Result<Vec<Answer>, FileError>
-    ensures { (one : I) → identities.old ≡ one ∷ [] → BelongsToOne T.wraps I.unwraps recipients.now one → KeepsApart S.seal_of → place ≤ length plain.now →
-        IfOk result (λ answers. All IsNoWant answers.items → map seen answers.items ≡ at place ∷ gave (take count (drop place plain.now)) ∷ []) }
+    ensures { (one : I) → identities.old ≡ one ∷ [] → BelongsToOne T.wraps I.unwraps recipients.now one → KeepsApart S.seal_of →
+        place ≤ length plain.now → IfOk result (λ answers. All IsNoWant answers.items →
+        map seen answers.items ≡ at place ∷ gave (take count (drop place plain.now)) ∷ []) }
 {
     several_recipients::<S, T, I>();
     known_bytes(plain);

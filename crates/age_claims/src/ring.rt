@@ -1,9 +1,9 @@
 //! A file that one of several identities opens.
-ghost use Rattle.std.specs.Prelude.{◌≡◌, ℕ, List, [], ◌∷◌, ◌++◌, All, MatchResult};
+ghost use Rattle.std.specs.Prelude.{◌≡◌, ℕ, List, [], ◌∷◌, ◌++◌, None, All, MatchResult};
 ghost use Rattle.age.specs.Armor.{Carries};
 ghost use Rattle.age.specs.FileErrors.{IsWant};
 ghost use Rattle.age.specs.Identities.{FirstAnswer, IsFileFor};
-ghost use Rattle.age_claims.specs.Claims.{PassesOver};
+ghost use Rattle.age_claims.specs.Claims.{AnswersAlways};
 
 use age::Identity;
 use age::armor::laws::carried_is_unique;
@@ -23,7 +23,7 @@ pub fn decrypted_by_one_of_many<S: Suite, I: Identity>(
     text: &[u8],
 ) -> Result<Vec<u8>, FileError>
     ensures { (front back : List I) (one : I) (file plain : List ℕ) → identities.old ≡ front ++ one ∷ back → Carries text.now file →
-        (for : IsFileFor S.seal_of (FirstAnswer I.unwraps (one ∷ [])) plain file) → All (PassesOver I.unwraps for.stanzas) front →
+        (for : IsFileFor S.seal_of (FirstAnswer I.unwraps (one ∷ [])) plain file) → All (AnswersAlways I.unwraps for.stanzas None) front →
         MatchResult result (λ given. given.items ≡ plain) IsWant }
 {
     one_plaintext::<S>();

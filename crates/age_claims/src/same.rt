@@ -7,7 +7,7 @@ use age::io::Bytes;
 use age::laws::one_plaintext;
 use age::streaming::{FileError, decrypt_all};
 use age::suite::Suite;
-use age::{Identity, decrypt};
+use age::{Identity, decrypt, scrypt, x25519};
 use std::alloc::Global;
 
 /// Decrypts a slice in one call, and once more from a reader to a writer: both times the same plaintext.
@@ -34,4 +34,18 @@ pub fn decrypted_twice<S: Suite, I: Identity>(
         Err(error) => Err(error),
         Ok(()) => Ok((first, second)),
     }
+}
+
+/// An X25519 identity gives one file key to the stanzas of a header, if any: so `decrypted_twice` speaks of it.
+pub fn x25519_gives_one_key<S: Suite>(identity: &x25519::Identity<S>)
+    ensures { GiveOneKey ⟦<x25519::Identity<S> as Identity>⟧.unwraps (identity.now ∷ []) }
+{
+    let _identity = identity;
+}
+
+/// So does an identity of a passphrase.
+pub fn passphrase_gives_one_key<S: Suite>(identity: &scrypt::Identity<S>)
+    ensures { GiveOneKey ⟦<scrypt::Identity<S> as Identity>⟧.unwraps (identity.now ∷ []) }
+{
+    let _identity = identity;
 }

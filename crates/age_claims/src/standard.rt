@@ -50,7 +50,8 @@ pub fn standard_key(
     grease: Grease,
     plain: &[u8],
 ) -> Result<Vec<u8>, FileError>
-    ensures { KeepsApart ⟦<StandardSuite as Suite>⟧.seal_of → MatchResult result (λ given. given.items ≡ plain.now) (λ e. IsDecryptError e → IsWant e) }
+    ensures { KeepsApart ⟦<StandardSuite as Suite>⟧.seal_of →
+        MatchResult result (λ given. given.items ≡ plain.now) (λ e. IsDecryptError e → IsWant e) }
 {
     x25519_pair::<StandardSuite>(identity);
     let recipient = identity.to_public();

@@ -8,8 +8,10 @@ use Rattle.age_claims.proofs.kept.kept.Goals as goal
 pub returns-in-Err : goal.returns-in-Err
 returns-in-Err g c = λ one only belongs keeps.
     refused_of _ c.new-file.result _ (length c.args.plain.now)
-    (λ refusal. Prepares g.T.Recipient.wraps c.args.recipients.now (Some c.args.grease) c.args.draw.now (Err refusal) c.encrypt_all.new.draw) c.in-Err.error
-    (ap (λ s. length s.bytes) c.new-input.ensures.rest) refl refl (record { same = refl; below = omega arith }) c.in-Err.ensures.why c.in-Err.ensures.io
+    (λ refusal. Prepares g.T.Recipient.wraps c.args.recipients.now (Some c.args.grease) c.args.draw.now (Err refusal) c.encrypt_all.new.draw)
+    c.in-Err.error
+    (ap (λ s. length s.bytes) c.new-input.ensures.rest) refl refl (record { same = refl; below = omega arith }) c.in-Err.ensures.why
+    c.in-Err.ensures.io
 
 pub returns-in-Err-decrypt_all : goal.returns-in-Err-decrypt_all
 returns-in-Err-decrypt_all g c = λ one only belongs keeps.

@@ -15,4 +15,5 @@ returns g c = λ one only belongs keeps inside.
     let input = c.new.ensures.rest in
     let carries = carries_as _ _ _ (ap (λ s. s.bytes) input ∙ c.deref.ensures.value ∙ written) (appends.carries bytes) in
     let came = c.answers.ensures.cursor refl (ap (λ s. s.ends_well) input) (λ r. refl) _ _ carries (rw (← only) at for) in
-    ok_weaker _ _ _ c.answers.result came (λ a h none. h none ∙ (rw (ap (λ s. s.bytes) c.new-input.ensures.rest) (slice_replies c.args.place c.args.count c.args.plain.now inside)))
+    ok_weaker _ _ _ c.answers.result came (λ a h none. h none
+    ∙ (rw (ap (λ s. s.bytes) c.new-input.ensures.rest) (slice_replies c.args.place c.args.count c.args.plain.now inside)))

@@ -9,6 +9,7 @@ returns-clause-other_plaintext g c = λ file plain for. no_other _ _ c.decrypt.r
 pub returns-clause-same_plaintext : goal.returns-clause-same_plaintext
 returns-clause-same_plaintext g c = λ file plain rest for carries.
     IfOk-weaker c.decrypt.result _ _
-    (λ given d same. same_file g.S.Suite.seal_of g.I.Identity.unwraps c.args.identity.now c.decrypt.new.identity c.args.text.now file plain rest given.items
+    (λ given d same. same_file g.S.Suite.seal_of g.I.Identity.unwraps c.args.identity.now c.decrypt.new.identity c.args.text.now file plain rest
+    given.items
     c.header_text_reads_back.ensures c.verdict_is_unique.ensures c.carried_is_unique.ensures for carries d same)
     c.decrypt.ensures.success

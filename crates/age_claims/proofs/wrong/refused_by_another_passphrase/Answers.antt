@@ -11,5 +11,6 @@ returns g c = λ recipient draws left file plain carried passphrase some most wi
     (c.several_recipients.ensures.stanzas (recipient ∷ []) None draws left file prepares) in
     c.refused_as_answered.ensures file.file_key file.stanzas plain carried (Some (Err DecryptionFailed)) DecryptionFailed carries is_file refl
     (λ answer after asked.
-    each s.seal_of s.opened s.stretch_of s.accepts g.met.S.Suite.cipher g.met.S.Suite.stretching recipient c.args.identity.now passphrase some most within file.file_key
+    each s.seal_of s.opened s.stretch_of s.accepts g.met.S.Suite.cipher g.met.S.Suite.stretching recipient c.args.identity.now passphrase some most
+    within file.file_key
     holds.salt key holds.bytes holds.accepted (unopened holds.salt _ holds.alone) answer after (rw holds.alone at asked))
