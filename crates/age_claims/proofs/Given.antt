@@ -9,6 +9,7 @@ use Rattle.age.specs.Identities.{UnwrapAnswer, CarriesFile, GivesFirst, FirstAns
 use Rattle.age.specs.Payload.{Seal}
 use Rattle.age.specs.File.{IsFileOf}
 use Rattle.age.specs.FileLaws.{OneHeader, OnePlain}
+use Rattle.age_claims.specs.Claims.{CarriesFor}
 
 -- a text carries one list of bytes
 abbrev pub CarriesOne : Type 0
@@ -23,6 +24,16 @@ same_key key other (inr is) = absurd (Prim.cc)
 -- said of a text that is written otherwise
 pub carries_as : (read written carried : List ℕ) → read ≡ written → Carries written carried → Carries read carried
 carries_as read written carried is carries = subst (λ (l : List ℕ). Carries l carried) (sym is) carries
+
+-- said of a plaintext and of a text that are written otherwise
+pub carries_for : (seal_of : Seal) (answers : List StanzaValue → UnwrapAnswer → Type 0) (read plain text written file : List ℕ) → read ≡ plain
+    → text ≡ written
+    → Carries written file → IsFileFor seal_of answers read file → CarriesFor seal_of answers plain text
+carries_for seal_of answers read plain text written file plain_is text_is carries for = record {
+  file = file;
+  carries = carries_as text written file text_is carries;
+  is_for = subst (λ (p : List ℕ). IsFileFor seal_of answers p file) plain_is for;
+}
 
 module _ (seal_of : Seal) (one_list : CarriesOne) (one_header : OneHeader seal_of) (one_plain : OnePlain seal_of) where
   -- two files that one text carries have one plaintext, where the same stanzas come with the same file key

@@ -1,5 +1,5 @@
 -- Bytes that begin as a file, and are a file: both tell the same header and nonce.
-use Rattle.std.proofs.Common.{◌≡◌, ◌∙◌, sym, ap, ℕ, List, ◌++◌, length, take, drop, take_at, drop_at, append_assoc}
+use Rattle.std.proofs.Common.{◌≡◌, ◌∙◌, sym, ap, ℕ, List, ◌++◌, take, drop, take_at, drop_at, append_assoc}
 use Rattle.std.proofs.lemmas.List.{append_cancel_left}
 use Rattle.age.specs.Header.{covered_text, header_text}
 use Rattle.age.specs.HeaderMac.{header_mac}

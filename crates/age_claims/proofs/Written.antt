@@ -30,11 +30,6 @@ pub no_other : {T E C : Type 0} (P : T → Type 0) (Q : E → Type 0) (result : 
 no_other P Q (Ok x) h = λ other given. other (h given)
 no_other P Q (Err e) h = tt
 
-pub ok_weaker : {T E : Type 0} (P R : T → Type 0) (Q : E → Type 0) (result : Result T E) → MatchResult result P Q → ((x : T) → P x → R x)
-    → IfOk result R
-ok_weaker P R Q (Ok x) h f = f x h
-ok_weaker P R Q (Err e) h f = tt
-
 -- what was written of what was prepared
 pub written_with : (P : Result Prepared EncryptRefusal → Type 0) (seal_of : Seal) (form : List ℕ → List ℕ) (plain text : List ℕ)
     (outcome : Result Prepared EncryptRefusal)

@@ -1,16 +1,19 @@
 -- What the claims speak of.
 use Rattle.std.specs.Prelude.{◌≡◌, ◌⊎◌, ℕ, ◌^◌, ◌<◌, ◌≤◌, List, ◌++◌, length, Some, Err}
-use Rattle.age.specs.DecryptErrors.{OutOfMemory}
+use Rattle.age.specs.Armor.{Carries}
 use Rattle.age.specs.Copying.{AppendsFront}
-use Rattle.age.specs.ErrorVariants.{TooLong}
-use Rattle.age.specs.FileErrorVariants.{Io}
-use Rattle.age.specs.FileErrors.{IsWant}
-use Rattle.age.specs.Types.{FileError, StreamWriter}
+use Rattle.age.specs.DecryptErrors as decrypt
+use Rattle.age.specs.DecryptErrors.{decrypt_refusal}
+use Rattle.age.specs.EncryptErrors.{EncryptRefusal, encrypt_refusal}
+use Rattle.age.specs.ErrorVariants.{OutOfMemory, TooLong}
+use Rattle.age.specs.FileErrorVariants as variant
+use Rattle.age.specs.Identities.{UnwrapAnswer, Unwraps, GivesFirst, IsFileFor}
 use Rattle.age.specs.Payload.{Seal, payload, plain_len, LastIsNoMiddle}
-use Rattle.age.specs.Stretch.{Stretch}
-use Rattle.age.specs.StreamWriting.{IsGood, WasMade, inner_of}
 use Rattle.age.specs.Stanza.{StanzaValue}
-use Rattle.age.specs.Identities.{UnwrapAnswer, Unwraps, GivesFirst}
+use Rattle.age.specs.StreamWriting.{IsGood, WasMade, inner_of}
+use Rattle.age.specs.Stretch.{Stretch}
+use Rattle.age.specs.Types.{Error, FileError, StreamWriter}
+use Rattle.age.specs.WholeFiles.{RefusesFile}
 
 -- A full last chunk doesn't open as one in the middle, whatever the key and the plaintext are.
 abbrev pub KeepsApart : Seal → Type 0
@@ -24,11 +27,27 @@ GiveOneKey {I} unwraps identities = (stanzas : List StanzaValue) (key other : Li
 -- Whatever the identity answers to the stanzas is this, unless memory is refused. With None it passes over them.
 abbrev pub AnswersAlways : {I : Type 0} → (I → List StanzaValue → UnwrapAnswer → I → Type 0) → List StanzaValue → UnwrapAnswer → I → Type 0
 AnswersAlways {I} unwraps stanzas this identity = (answer : UnwrapAnswer) (after : I) → Unwraps unwraps identity stanzas answer after
-    → (answer ≡ this) ⊎ (answer ≡ Some (Err OutOfMemory))
+    → (answer ≡ this) ⊎ (answer ≡ Some (Err decrypt.OutOfMemory))
 
--- Memory was refused, or a plaintext of this many bytes is too long.
-abbrev pub IsWantOrLong : ℕ → FileError → Type 0
-IsWantOrLong size e = IsWant e ⊎ ((e ≡ Io TooLong) × (2 ^ 60 < size))
+-- The text carries a file of the plaintext for those who answer so.
+pub record CarriesFor (seal_of : Seal) (answers : List StanzaValue → UnwrapAnswer → Type 0) (plain text : List ℕ) : Type 0 where
+  pub file : List ℕ
+  pub carries : Carries text file
+  pub is_for : IsFileFor seal_of answers plain file
+
+-- Why a plaintext of so many bytes isn't encrypted in memory and decrypted again: memory was refused, or it is too long, or the recipients or the
+-- random bytes refused for this.
+abbrev pub RefusesBack : (EncryptRefusal → Type 0) → ℕ → FileError → Type 0
+RefusesBack Unprepared size (variant.Io e) = (e ≡ OutOfMemory) ⊎ ((e ≡ TooLong) × (2 ^ 60 < size))
+RefusesBack Unprepared size (variant.Encrypt e) = Unprepared (encrypt_refusal e)
+RefusesBack Unprepared size (variant.Decrypt e) = decrypt_refusal e ≡ decrypt.OutOfMemory
+
+-- Why a plaintext of so many bytes isn't decrypted and encrypted to a writer: memory was refused, or it is too long, or the writer refuses so, or
+-- the recipients or the random bytes did for this.
+abbrev pub RefusesRekeying : {W : Type 0} → (EncryptRefusal → Type 0) → (W → ℕ → Error → Type 0) → W → ℕ → FileError → Type 0
+RefusesRekeying Unprepared refuses writer size (variant.Io e) = RefusesFile refuses writer size e
+RefusesRekeying Unprepared refuses writer size (variant.Encrypt e) = Unprepared (encrypt_refusal e)
+RefusesRekeying Unprepared refuses writer size (variant.Decrypt e) = decrypt_refusal e ≡ decrypt.OutOfMemory
 
 -- Where a writer was made under a key and took a plaintext since, and hasn't failed, the writer below has got a beginning of the payload of the
 -- plaintext and of the bytes that it is given then, and nothing else.

@@ -1,19 +1,18 @@
 //! Encrypted from list to list, and decrypted again.
-ghost use Rattle.std.specs.Prelude.{◌≡◌, ◌⊎◌, [], ◌∷◌, Some, Err, MatchResult, length};
+ghost use Rattle.std.specs.Prelude.{◌≡◌, [], ◌∷◌, Some, Err, MatchResult, length};
 ghost use Rattle.age.specs.Several.{BelongsToOne};
-ghost use Rattle.age.specs.FileErrors.{IsEncryptError, EncryptsUnless};
 ghost use Rattle.age.specs.Encrypting.{Prepares};
-ghost use Rattle.age_claims.specs.Claims.{KeepsApart, IsWantOrLong};
+ghost use Rattle.age_claims.specs.Claims.{KeepsApart, RefusesBack};
 
+use crate::texts::text_for;
 use age::armor::Format;
 use age::armor::laws::carried_is_unique;
 use age::draw::Draw;
 use age::format::Grease;
 use age::io::Bytes;
-use age::laws::{one_plaintext, several_recipients};
-use age::streaming::{FileError, decrypt_all, encrypt_all};
+use age::laws::one_plaintext;
+use age::streaming::{FileError, decrypt_all};
 use age::suite::Suite;
-use age::suite::laws::known_bytes;
 use age::{Identity, Recipient};
 use std::alloc::Global;
 
@@ -33,21 +32,14 @@ pub fn kept<S: Suite, T: Recipient, I: Identity>(
 ) -> Result<Vec<u8>, FileError>
     ensures { (one : I) → identities.old ≡ one ∷ [] → BelongsToOne T.wraps I.unwraps recipients.now one → KeepsApart S.seal_of →
         MatchResult result (λ given. given.items ≡ plain.now)
-        (λ e. IsWantOrLong (length plain.now) e ⊎ (IsEncryptError e
-        × EncryptsUnless (λ refusal. Prepares T.wraps recipients.now (Some grease) draw.old (Err refusal) draw.new) e)) }
+        (RefusesBack (λ refusal. Prepares T.wraps recipients.now (Some grease) draw.old (Err refusal) draw.new) (length plain.now)) }
 {
-    several_recipients::<S, T, I>();
     one_plaintext::<S>();
     carried_is_unique();
-    known_bytes(plain);
-    let mut file = Vec::new(alloc);
-    let mut input = Bytes::new(plain);
-    match encrypt_all::<S, T, Bytes, Vec<u8>>(
-        alloc, recipients, draw, grease, format, &mut input, &mut file,
-    ) {
+    let file = match text_for::<S, T, I>(alloc, recipients, draw, grease, format, plain) {
         Err(error) => return Err(error),
-        Ok(()) => {}
-    }
+        Ok(file) => file,
+    };
     let mut given = Vec::new(alloc);
     let mut text = Bytes::new(&file);
     match decrypt_all::<S, I, Bytes, Vec<u8>>(alloc, identities, &mut text, &mut given) {

@@ -12,4 +12,5 @@ pub mod same;
 pub mod sent;
 pub mod standard;
 pub mod tampered;
+mod texts;
 pub mod wrong;

@@ -16,7 +16,8 @@ use std::alloc::Global;
 /// and the plaintexts are.
 pub fn no_longer_file<S: Suite>()
     ensures { (key other : List ℕ) (stanzas others : List StanzaValue) (plain given file more : List ℕ) → AreBytes plain → AreBytes given
-        → IsFileOf S.seal_of key stanzas plain file → IsFileOf S.seal_of other others given (file ++ more) → length plain ≡ length given → more ≡ [] }
+        → IsFileOf S.seal_of key stanzas plain file → IsFileOf S.seal_of other others given (file ++ more)
+        → length plain ≡ length given → more ≡ [] }
 {
     header_text_reads_back();
     verdict_is_unique();
@@ -31,10 +32,12 @@ pub fn lengthened_or_cut<S: Suite, I: Identity>(
     identity: &mut I,
     text: &[u8],
 ) -> Result<Vec<u8>, DecryptError>
-    ensures added { (key : List ℕ) (stanzas : List StanzaValue) (plain file more : List ℕ) → AreBytes plain → IsFileOf S.seal_of key stanzas plain file
-        → Carries text.now (file ++ more) → IfOk result (λ given. length given.items ≡ length plain → more ≡ []) }
-    ensures cut { (key : List ℕ) (stanzas : List StanzaValue) (plain front more : List ℕ) → AreBytes plain → IsFileOf S.seal_of key stanzas plain (front ++ more)
-        → Carries text.now front → IfOk result (λ given. length given.items ≡ length plain → more ≡ []) }
+    ensures added { (key : List ℕ) (stanzas : List StanzaValue) (plain file more : List ℕ) → AreBytes plain
+        → IsFileOf S.seal_of key stanzas plain file → Carries text.now (file ++ more)
+        → IfOk result (λ given. length given.items ≡ length plain → more ≡ []) }
+    ensures cut { (key : List ℕ) (stanzas : List StanzaValue) (plain front more : List ℕ) → AreBytes plain
+        → IsFileOf S.seal_of key stanzas plain (front ++ more) → Carries text.now front
+        → IfOk result (λ given. length given.items ≡ length plain → more ≡ []) }
 {
     no_longer_file::<S>();
     carried_is_unique();
