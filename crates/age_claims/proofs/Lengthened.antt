@@ -16,7 +16,7 @@ nothing_more : (xs more : List ℕ) → length (xs ++ more) ≡ length xs → mo
 nothing_more xs [] same = Prim.cc
 nothing_more xs (b ∷ more) same = absurd (omega (arith, same, length-append xs (b ∷ more)))
 
-payload_key-bytes : (file_key nonce : List ℕ) → AreBytesOf 32 (payload_key file_key nonce)
+pub payload_key-bytes : (file_key nonce : List ℕ) → AreBytesOf 32 (payload_key file_key nonce)
 unfolding payload_key
 payload_key-bytes file_key nonce = hkdf_of-bytes nonce (codes "payload") file_key
 

@@ -1,10 +1,12 @@
 pub mod Alone
 pub mod Belongs
 pub mod Changed
+pub mod CutFiles
 pub mod Given
 pub mod Lengthened
 pub mod OneKeys
 pub mod Outcomes
+pub mod PassedOver
 pub mod Refused
 pub mod Rings
 pub mod SameFronts

@@ -7,7 +7,7 @@ use Rattle.age.specs.HeaderTexts.{canonical}
 use Rattle.age.specs.HeaderVerdict.{Header}
 use Rattle.age.specs.Stanza.{StanzaValue}
 use Rattle.age.specs.Payload.{Seal, payload, payload_key}
-use Rattle.age.specs.File.{BeginsAsFile, IsFileOf, file_front, file_text}
+use Rattle.age.specs.File.{BeginsAsFile, IsFileOf, file_front}
 use Rattle.age.proofs.Accepted.{ReadsAlone, HasOneVerdict, begins, begins_as, verdict_of}
 
 same_stanzas : (s t : List StanzaValue) (m n : List ℕ) → Header s m ≡ Header t n → s ≡ t
@@ -51,11 +51,3 @@ fronted seal_of key stanzas plain file rest f = record {
   sixteen = f.sixteen;
   whole = append_assoc (header_text stanzas (header_mac key (covered_text stanzas))) f.nonce rest;
 }
-
--- what makes a file's text makes one text
-pub same_text : (seal_of : Seal) (key other : List ℕ) (stanzas others : List StanzaValue) (nonce second plain given : List ℕ) → key ≡ other
-    → stanzas ≡ others
-    → nonce ≡ second → plain ≡ given → file_text seal_of key stanzas nonce plain ≡ file_text seal_of other others second given
-same_text seal_of key other stanzas others nonce second plain given k s n p =
-    ap (λ x. file_text seal_of x stanzas nonce plain) k ∙ ap (λ x. file_text seal_of other x nonce plain) s
-    ∙ ap (λ x. file_text seal_of other others x plain) n ∙ ap (λ x. file_text seal_of other others second x) p

@@ -1,5 +1,5 @@
 -- What the claims speak of.
-use Rattle.std.specs.Prelude.{◌≡◌, ◌⊎◌, ℕ, ◌^◌, ◌<◌, ◌≤◌, List, ◌++◌, length, Some, Err}
+use Rattle.std.specs.Prelude.{◌≡◌, ◌≢◌, ◌⊎◌, ℕ, ◌^◌, ◌<◌, ◌≤◌, List, ◌++◌, length, codes, Option, None, Some, Err}
 use Rattle.age.specs.Armor.{Carries}
 use Rattle.age.specs.Copying.{AppendsFront}
 use Rattle.age.specs.DecryptErrors as decrypt
@@ -14,6 +14,7 @@ use Rattle.age.specs.StreamWriting.{IsGood, WasMade, inner_of}
 use Rattle.age.specs.Stretch.{Stretch}
 use Rattle.age.specs.Types.{Error, FileError, StreamWriter}
 use Rattle.age.specs.WholeFiles.{RefusesFile}
+use Rattle.age.specs.X25519.{HasShare, opened_with}
 
 -- A full last chunk doesn't open as one in the middle, whatever the key and the plaintext are.
 abbrev pub KeepsApart : Seal → Type 0
@@ -28,6 +29,12 @@ GiveOneKey {I} unwraps identities = (stanzas : List StanzaValue) (key other : Li
 abbrev pub AnswersAlways : {I : Type 0} → (I → List StanzaValue → UnwrapAnswer → I → Type 0) → List StanzaValue → UnwrapAnswer → I → Type 0
 AnswersAlways {I} unwraps stanzas this identity = (answer : UnwrapAnswer) (after : I) → Unwraps unwraps identity stanzas answer after
     → (answer ≡ this) ⊎ (answer ≡ Some (Err decrypt.OutOfMemory))
+
+-- The stanza is of another type than X25519, or it has what that type asks, and the secret doesn't open its body.
+abbrev pub IsUnopened : (List ℕ → List ℕ → List ℕ → Option (List ℕ)) → (List ℕ → List ℕ → List ℕ) → (List ℕ → List ℕ) → List ℕ → StanzaValue → Type 0
+IsUnopened opened shared_of public_of secret stanza = (stanza.tag ≢ codes "X25519")
+    ⊎ ((stanza.tag ≡ codes "X25519") × ((share : List ℕ) × HasShare share stanza
+    × (opened_with opened shared_of public_of secret share stanza.body ≡ None)))
 
 -- The text carries a file of the plaintext for those who answer so.
 pub record CarriesFor (seal_of : Seal) (answers : List StanzaValue → UnwrapAnswer → Type 0) (plain text : List ℕ) : Type 0 where

@@ -8,10 +8,9 @@ use age::stream::StreamWriter;
 use age::stream::laws::sent_law;
 use age::suite::Suite;
 
-/// Gives bytes to a `StreamWriter` that was made under a key, took a plaintext since and hasn't failed.
+/// Gives bytes to a `StreamWriter` that was made under a key, took a plaintext since and hasn't failed, over a writer that tells its bytes.
 ///
-/// Whatever it answers, the writer below was given a beginning of the payload of that plaintext and these bytes, and nothing else: so where a
-/// device breaks off, what lies there is a file's beginning, which no reader takes for the whole.
+/// Whatever it answers, the writer below was given a beginning of the payload of that plaintext and these bytes, and nothing else.
 pub fn sent_so_far<S: Suite, W: Write>(
     writer: &mut StreamWriter<S, W>,
     bytes: &[u8],

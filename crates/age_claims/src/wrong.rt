@@ -1,18 +1,21 @@
-//! A passphrase that isn't that of the file.
-ghost use Rattle.std.specs.Prelude.{◌≡◌, ◌⊎◌, ◌≤◌, ℕ, List, [], ◌∷◌, None, Ok, MatchResult};
+//! A passphrase or a key that isn't that of the file.
+ghost use Rattle.std.specs.Prelude.{◌≡◌, ◌⊎◌, ◌≤◌, ℕ, List, [], ◌∷◌, All, None, Ok, MatchResult};
 ghost use Rattle.age.specs.Bytes.{AreBytes};
-ghost use Rattle.age.specs.DecryptErrors.{decrypt_refusal, DecryptionFailed, OutOfMemory};
+ghost use Rattle.age.specs.DecryptErrors.{decrypt_refusal, DecryptionFailed, NoMatchingKeys, OutOfMemory};
 ghost use Rattle.age.specs.Armor.{Carries};
 ghost use Rattle.age.specs.Encrypting.{Prepared, Prepares};
 ghost use Rattle.age.specs.File.{IsFileOf};
 ghost use Rattle.age.specs.RecipientType.{no_nonce};
 ghost use Rattle.age.specs.Scrypt.{PassphraseRecipient, stretch_salt, scrypt_stanza, WrapsUnder};
+ghost use Rattle.age.specs.Stanza.{StanzaValue};
+ghost use Rattle.age_claims.specs.Claims.{IsUnopened};
 
 use crate::others::refused_as_answered;
-use age::DecryptError;
 use age::laws::{passphrase_files, several_recipients};
 use age::scrypt::{Identity, Recipient};
 use age::suite::Suite;
+use age::x25519::laws::x25519_pair;
+use age::{DecryptError, x25519};
 use std::alloc::Global;
 
 /// Decrypts a file under a passphrase, bare or in armor, with an identity of another passphrase.
@@ -35,4 +38,21 @@ pub fn refused_by_another_passphrase<S: Suite>(
     passphrase_files::<S>();
     several_recipients::<S, Recipient<S>, Identity<S>>();
     refused_as_answered::<S, Identity<S>>(alloc, identity, text)
+}
+
+/// Decrypts a file, bare or in armor, with an X25519 identity that none of its stanzas is for.
+///
+/// Each stanza is of another type, or the identity's secret doesn't open its body. Then the call doesn't succeed, and its refusal is
+/// `NoMatchingKeys`, or want of memory.
+pub fn refused_by_another_key<S: Suite>(
+    alloc: Global,
+    identity: &mut x25519::Identity<S>,
+    text: &[u8],
+) -> Result<Vec<u8>, DecryptError>
+    ensures { (key : List ℕ) (stanzas : List StanzaValue) (plain file : List ℕ) → Carries text.now file → IsFileOf S.seal_of key stanzas plain file
+        → All (IsUnopened S.opened S.shared_of S.public_of identity.old) stanzas
+        → MatchResult result (λ given. ⊥) (λ e. (decrypt_refusal e ≡ NoMatchingKeys) ⊎ (decrypt_refusal e ≡ OutOfMemory)) }
+{
+    x25519_pair::<S>(identity);
+    refused_as_answered::<S, x25519::Identity<S>>(alloc, identity, text)
 }
