@@ -2,6 +2,7 @@ pub mod Alone
 pub mod Belongs
 pub mod Changed
 pub mod CutFiles
+pub mod CutStreams
 pub mod Given
 pub mod Lengthened
 pub mod OneKeys

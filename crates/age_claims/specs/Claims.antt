@@ -1,14 +1,15 @@
 -- What the claims speak of.
-use Rattle.std.specs.Prelude.{◌≡◌, ◌≢◌, ◌⊎◌, ℕ, ◌^◌, ◌<◌, ◌≤◌, List, ◌++◌, length, codes, Option, None, Some, Err}
+use Rattle.std.specs.Prelude.{◌≡◌, ◌≢◌, ◌⊎◌, ℕ, ◌^◌, ◌<◌, ◌≤◌, ◌*◌, List, ◌++◌, length, take, codes, Option, None, Some, Err}
 use Rattle.age.specs.Armor.{Carries}
 use Rattle.age.specs.Copying.{AppendsFront}
 use Rattle.age.specs.DecryptErrors as decrypt
 use Rattle.age.specs.DecryptErrors.{decrypt_refusal}
 use Rattle.age.specs.EncryptErrors.{EncryptRefusal, encrypt_refusal}
 use Rattle.age.specs.ErrorVariants.{OutOfMemory, TooLong}
+use Rattle.age.specs.File.{file_front}
 use Rattle.age.specs.FileErrorVariants as variant
 use Rattle.age.specs.Identities.{UnwrapAnswer, Unwraps, GivesFirst, IsFileFor}
-use Rattle.age.specs.Payload.{Seal, payload, plain_len, LastIsNoMiddle}
+use Rattle.age.specs.Payload.{Seal, payload, payload_key, plain_len, LastIsNoMiddle}
 use Rattle.age.specs.Stanza.{StanzaValue}
 use Rattle.age.specs.StreamWriting.{IsGood, WasMade, inner_of}
 use Rattle.age.specs.Stretch.{Stretch}
@@ -41,6 +42,13 @@ pub record CarriesFor (seal_of : Seal) (answers : List StanzaValue → UnwrapAns
   pub file : List ℕ
   pub carries : Carries text file
   pub is_for : IsFileFor seal_of answers plain file
+
+-- The file's header, its nonce, and its first n chunks.
+abbrev pub first_chunks : {answers : List StanzaValue → UnwrapAnswer → Type 0} {plain file : List ℕ} (seal_of : Seal)
+    → IsFileFor seal_of answers plain file
+    → ℕ → List ℕ
+first_chunks {answers} {plain} {file} seal_of for n =
+    file_front for.file_key for.stanzas for.is_file.nonce ++ take (65552 * n) (payload seal_of (payload_key for.file_key for.is_file.nonce) plain)
 
 -- Why a plaintext of so many bytes isn't encrypted in memory and decrypted again: memory was refused, or it is too long, or the recipients or the
 -- random bytes refused for this.

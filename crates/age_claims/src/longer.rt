@@ -1,16 +1,20 @@
 //! Bytes added to a file, or cut from it.
-ghost use Rattle.std.specs.Prelude.{◌≡◌, ◌≤◌, ◌*◌, ℕ, List, [], ◌∷◌, ◌++◌, length, take, IfOk};
+ghost use Rattle.std.specs.Prelude.{◌≡◌, ◌≤◌, ◌*◌, ℕ, List, [], ◌∷◌, ◌++◌, length, take, IsTrue, IfOk, OnOk};
 ghost use Rattle.age.specs.Armor.{Carries};
 ghost use Rattle.age.specs.Bytes.{AreBytes};
-ghost use Rattle.age.specs.File.{IsFileOf, file_front};
+ghost use Rattle.age.specs.Copying.{AppendsFront};
+ghost use Rattle.age.specs.File.{IsFileOf};
 ghost use Rattle.age.specs.Identities.{FirstAnswer, IsFileFor};
-ghost use Rattle.age.specs.Payload.{last_piece, payload, payload_key};
+ghost use Rattle.age.specs.Payload.{last_piece};
 ghost use Rattle.age.specs.Stanza.{StanzaValue};
-ghost use Rattle.age_claims.specs.Claims.{KeepsApart};
+ghost use Rattle.age_claims.specs.Claims.{KeepsApart, first_chunks};
 
-use age::armor::laws::carried_is_unique;
+use age::armor::laws::{carried_is_delivered, carried_is_unique};
 use age::format::laws::{header_text_reads_back, verdict_is_unique};
+use age::io::{Bytes, Write};
+use age::laws::front_reads_back;
 use age::stream::laws::{delivery_laws, payload_laws};
+use age::streaming::{FileError, decrypt_all};
 use age::suite::Suite;
 use age::{DecryptError, Identity, decrypt};
 use std::alloc::Global;
@@ -49,8 +53,8 @@ pub fn lengthened_or_cut<S: Suite, I: Identity>(
 
 /// Decrypts a text, bare or in armor, that carries a file which was cut between two of its chunks, or before the first: it doesn't succeed.
 ///
-/// The file is one for the identity, the suite keeps a full last chunk apart from one in the middle, and the text has the file's header, its
-/// nonce and `n` of its chunks, which aren't all.
+/// The file is one for the identity, the text carries its header, its nonce and its first `n` chunks, which aren't all, and the suite keeps a
+/// full last chunk apart from one in the middle.
 pub fn cut_between_chunks<S: Suite, I: Identity>(
     alloc: Global,
     identity: &mut I,
@@ -58,8 +62,7 @@ pub fn cut_between_chunks<S: Suite, I: Identity>(
 ) -> Result<Vec<u8>, DecryptError>
     ensures { KeepsApart S.seal_of → (file plain : List ℕ) (n : ℕ) →
         (for : IsFileFor S.seal_of (FirstAnswer I.unwraps (identity.old ∷ [])) plain file) → n ≤ last_piece (length plain) →
-        let sealed = payload S.seal_of (payload_key for.file_key for.is_file.nonce) plain in
-        Carries text.now (file_front for.file_key for.stanzas for.is_file.nonce ++ take (65552 * n) sealed) → IfOk result (λ given. ⊥) }
+        Carries text.now (first_chunks S.seal_of for n) → IfOk result (λ given. ⊥) }
 {
     header_text_reads_back();
     verdict_is_unique();
@@ -67,4 +70,32 @@ pub fn cut_between_chunks<S: Suite, I: Identity>(
     payload_laws::<S>();
     delivery_laws::<S>();
     decrypt::<S, I>(alloc, identity, text)
+}
+
+/// Decrypts such a text to a writer that tells its bytes: it appends a beginning of the plaintext, and doesn't succeed.
+///
+/// - `front`: whatever it answers, it appended a beginning of the plaintext of the chunks before the cut.
+/// - `refused`: it doesn't succeed, where the suite keeps a full last chunk apart from one in the middle.
+pub fn decrypted_up_to_the_cut<S: Suite, I: Identity, W: Write>(
+    alloc: Global,
+    identities: &mut [I],
+    text: &[u8],
+    writer: &mut W,
+) -> Result<(), FileError>
+    ensures front { IsTrue (W.tells writer.old) → (file plain : List ℕ) (n : ℕ) →
+        (for : IsFileFor S.seal_of (FirstAnswer I.unwraps identities.old) plain file) → n ≤ last_piece (length plain) →
+        Carries text.now (first_chunks S.seal_of for n) → AppendsFront W.appended (take (65536 * n) plain) writer.old writer.new }
+    ensures refused { IsTrue (W.tells writer.old) → KeepsApart S.seal_of → (file plain : List ℕ) (n : ℕ) →
+        (for : IsFileFor S.seal_of (FirstAnswer I.unwraps identities.old) plain file) → n ≤ last_piece (length plain) →
+        Carries text.now (first_chunks S.seal_of for n) → OnOk result ⊥ }
+{
+    header_text_reads_back();
+    verdict_is_unique();
+    carried_is_unique();
+    carried_is_delivered();
+    front_reads_back();
+    payload_laws::<S>();
+    delivery_laws::<S>();
+    let mut input = Bytes::new(text);
+    decrypt_all::<S, I, Bytes, W>(alloc, identities, &mut input, writer)
 }
