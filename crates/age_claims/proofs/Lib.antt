@@ -1,0 +1,16 @@
+pub mod Alone
+pub mod Belongs
+pub mod Changed
+pub mod CutFiles
+pub mod CutStreams
+pub mod Given
+pub mod Lengthened
+pub mod OneKeys
+pub mod Outcomes
+pub mod PassedOver
+pub mod Refused
+pub mod Rings
+pub mod SameFronts
+pub mod Sought
+pub mod Unopened
+pub mod Written

@@ -1,0 +1,79 @@
+-- What the claims speak of.
+use Rattle.std.specs.Prelude.{◌≡◌, ◌≢◌, ◌⊎◌, ℕ, ◌^◌, ◌<◌, ◌≤◌, ◌*◌, List, ◌++◌, length, take, codes, Option, None, Some, Err}
+use Rattle.age.specs.Armor.{Carries}
+use Rattle.age.specs.Copying.{AppendsFront}
+use Rattle.age.specs.DecryptErrors as decrypt
+use Rattle.age.specs.DecryptErrors.{decrypt_refusal}
+use Rattle.age.specs.EncryptErrors.{EncryptRefusal, encrypt_refusal}
+use Rattle.age.specs.ErrorVariants.{OutOfMemory, TooLong}
+use Rattle.age.specs.File.{file_front}
+use Rattle.age.specs.FileErrorVariants as variant
+use Rattle.age.specs.Identities.{UnwrapAnswer, Unwraps, GivesFirst, IsFileFor}
+use Rattle.age.specs.Payload.{Seal, payload, payload_key, plain_len, LastIsNoMiddle}
+use Rattle.age.specs.Stanza.{StanzaValue}
+use Rattle.age.specs.StreamWriting.{IsGood, WasMade, inner_of}
+use Rattle.age.specs.Stretch.{Stretch}
+use Rattle.age.specs.Types.{Error, FileError, StreamWriter}
+use Rattle.age.specs.WholeFiles.{RefusesFile}
+use Rattle.age.specs.X25519.{HasShare, opened_with}
+
+-- A full last chunk doesn't open as one in the middle, whatever the key and the plaintext are.
+abbrev pub KeepsApart : Seal → Type 0
+KeepsApart seal_of = (key plain : List ℕ) → LastIsNoMiddle seal_of key plain
+
+-- Whenever the identities give a file key to the stanzas of a header, it is the same one.
+abbrev pub GiveOneKey : {I : Type 0} → (I → List StanzaValue → UnwrapAnswer → I → Type 0) → List I → Type 0
+GiveOneKey {I} unwraps identities = (stanzas : List StanzaValue) (key other : List ℕ) (after later : List I)
+    → GivesFirst unwraps identities after key stanzas → GivesFirst unwraps identities later other stanzas → key ≡ other
+
+-- Whatever the identity answers to the stanzas is this, unless memory is refused. With None it passes over them.
+abbrev pub AnswersAlways : {I : Type 0} → (I → List StanzaValue → UnwrapAnswer → I → Type 0) → List StanzaValue → UnwrapAnswer → I → Type 0
+AnswersAlways {I} unwraps stanzas this identity = (answer : UnwrapAnswer) (after : I) → Unwraps unwraps identity stanzas answer after
+    → (answer ≡ this) ⊎ (answer ≡ Some (Err decrypt.OutOfMemory))
+
+-- The stanza is of another type than X25519, or it has what that type asks, and the secret doesn't open its body.
+abbrev pub IsUnopened : (List ℕ → List ℕ → List ℕ → Option (List ℕ)) → (List ℕ → List ℕ → List ℕ) → (List ℕ → List ℕ) → List ℕ → StanzaValue → Type 0
+IsUnopened opened shared_of public_of secret stanza = (stanza.tag ≢ codes "X25519")
+    ⊎ ((stanza.tag ≡ codes "X25519") × ((share : List ℕ) × HasShare share stanza
+    × (opened_with opened shared_of public_of secret share stanza.body ≡ None)))
+
+-- The text carries a file of the plaintext for those who answer so.
+pub record CarriesFor (seal_of : Seal) (answers : List StanzaValue → UnwrapAnswer → Type 0) (plain text : List ℕ) : Type 0 where
+  pub file : List ℕ
+  pub carries : Carries text file
+  pub is_for : IsFileFor seal_of answers plain file
+
+-- The file's header, its nonce, and its first n chunks.
+abbrev pub first_chunks : {answers : List StanzaValue → UnwrapAnswer → Type 0} {plain file : List ℕ} (seal_of : Seal)
+    → IsFileFor seal_of answers plain file
+    → ℕ → List ℕ
+first_chunks {answers} {plain} {file} seal_of for n =
+    file_front for.file_key for.stanzas for.is_file.nonce ++ take (65552 * n) (payload seal_of (payload_key for.file_key for.is_file.nonce) plain)
+
+-- Why a plaintext of so many bytes isn't encrypted in memory and decrypted again: memory was refused, or it is too long, or the recipients or the
+-- random bytes refused for this.
+abbrev pub RefusesBack : (EncryptRefusal → Type 0) → ℕ → FileError → Type 0
+RefusesBack Unprepared size (variant.Io e) = (e ≡ OutOfMemory) ⊎ ((e ≡ TooLong) × (2 ^ 60 < size))
+RefusesBack Unprepared size (variant.Encrypt e) = Unprepared (encrypt_refusal e)
+RefusesBack Unprepared size (variant.Decrypt e) = decrypt_refusal e ≡ decrypt.OutOfMemory
+
+-- Why a plaintext of so many bytes isn't decrypted and encrypted to a writer: memory was refused, or it is too long, or the writer refuses so, or
+-- the recipients or the random bytes did for this.
+abbrev pub RefusesRekeying : {W : Type 0} → (EncryptRefusal → Type 0) → (W → ℕ → Error → Type 0) → W → ℕ → FileError → Type 0
+RefusesRekeying Unprepared refuses writer size (variant.Io e) = RefusesFile refuses writer size e
+RefusesRekeying Unprepared refuses writer size (variant.Encrypt e) = Unprepared (encrypt_refusal e)
+RefusesRekeying Unprepared refuses writer size (variant.Decrypt e) = decrypt_refusal e ≡ decrypt.OutOfMemory
+
+-- Where a writer was made under a key and took a plaintext since, and hasn't failed, the writer below has got a beginning of the payload of the
+-- plaintext and of the bytes that it is given then, and nothing else.
+abbrev pub HasBegun : {S W : Type 0} → Seal → (W → List ℕ → W → Type 0) → (StreamWriter S W → List ℕ → StreamWriter S W → Type 0)
+    → StreamWriter S W → List ℕ → StreamWriter S W → Type 0
+HasBegun {S} {W} seal_of below appended before bytes after =
+    (start : StreamWriter S W) (key plain : List ℕ) (first : W) → WasMade key first start → appended start plain before → IsGood before
+    → AppendsFront below (payload seal_of key (plain ++ bytes)) first (inner_of after)
+
+-- By the payload's length its plaintext has this place, or ends there.
+pub record Reaches (place : ℕ) (sealed : Stretch) : Type 0 where
+  pub len : ℕ
+  pub plain : plain_len (length sealed.bytes) ≡ Some len
+  pub inside : place ≤ len

@@ -1,0 +1,16 @@
+//! What a user of `age` wants to rely on, each claim proved from the public clauses of `age` (and of `age_standard`) alone.
+#![tactic(auto)]
+
+pub mod kept;
+pub mod longer;
+pub mod others;
+pub mod outside;
+pub mod place;
+pub mod rekey;
+pub mod ring;
+pub mod same;
+pub mod sent;
+pub mod standard;
+pub mod tampered;
+mod texts;
+pub mod wrong;
