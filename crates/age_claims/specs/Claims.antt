@@ -1,7 +1,9 @@
 -- What the claims speak of.
-use Rattle.std.specs.Prelude.{◌≡◌, ◌≢◌, ◌⊎◌, ℕ, ◌^◌, ◌<◌, ◌≤◌, ◌*◌, List, ◌++◌, length, take, codes, Option, None, Some, Err}
+use Rattle.std.specs.Prelude.{◌≡◌, ◌≢◌, ◌⊎◌, ℕ, ◌+◌, ◌^◌, ◌<◌, ◌≤◌, ◌*◌, List, [], ◌∷◌, ◌++◌, length, take, codes, Option, None, Some, Ok, Err}
+use Rattle.age.specs.AnswerVariants.{Bytes, At, Fault}
 use Rattle.age.specs.Armor.{Carries}
 use Rattle.age.specs.Copying.{AppendsFront}
+use Rattle.age.specs.Cursor.{IsOutside}
 use Rattle.age.specs.DecryptErrors as decrypt
 use Rattle.age.specs.DecryptErrors.{decrypt_refusal}
 use Rattle.age.specs.EncryptErrors.{EncryptRefusal, encrypt_refusal}
@@ -9,11 +11,14 @@ use Rattle.age.specs.ErrorVariants.{OutOfMemory, TooLong}
 use Rattle.age.specs.File.{file_front}
 use Rattle.age.specs.FileErrorVariants as variant
 use Rattle.age.specs.Identities.{UnwrapAnswer, Unwraps, GivesFirst, IsFileFor}
-use Rattle.age.specs.Payload.{Seal, payload, payload_key, plain_len, LastIsNoMiddle}
+use Rattle.age.specs.OpVariants.{Read, Seek}
+use Rattle.age.specs.Payload.{Seal, payload, payload_key, plain_len, EndsAsLast, LastIsNoMiddle}
+use Rattle.age.specs.PayloadAnswers.{StandAt}
+use Rattle.age.specs.PayloadTargets.{sought_in, IsToEnd}
 use Rattle.age.specs.Stanza.{StanzaValue}
 use Rattle.age.specs.StreamWriting.{IsGood, WasMade, inner_of}
 use Rattle.age.specs.Stretch.{Stretch}
-use Rattle.age.specs.Types.{Error, FileError, StreamWriter}
+use Rattle.age.specs.Types.{Answer, Error, FileError, Op, StreamWriter}
 use Rattle.age.specs.WholeFiles.{RefusesFile}
 use Rattle.age.specs.X25519.{HasShare, opened_with}
 
@@ -77,3 +82,27 @@ pub record Reaches (place : ℕ) (sealed : Stretch) : Type 0 where
   pub len : ℕ
   pub plain : plain_len (length sealed.bytes) ≡ Some len
   pub inside : place ≤ len
+
+-- What a read or a seek at a place of a payload answers, however bad the payload is. A read gives no more than was asked for, and fewer before a
+-- refusal, and what it gives stands in the plaintext from the place on. A seek leads to its target by the payload's length, and to the end only
+-- where the last chunk is a seal as the last. It calls a target outside only where that is so by the length.
+abbrev pub AnswersAt : Seal → List ℕ → List ℕ → Op → Answer → ℕ → Type 0
+AnswersAt seal_of key sealed (Read n) (Bytes got) place = (length got.items ≤ n) × StandAt seal_of key sealed place got.items
+AnswersAt seal_of key sealed (Read n) (Fault got e) place = (length got.items < n) × StandAt seal_of key sealed place got.items
+AnswersAt seal_of key sealed (Seek to) (At n) place =
+    (sought_in to place (length sealed) ≡ Ok n) × (IsToEnd (length sealed) to place → EndsAsLast seal_of key sealed)
+AnswersAt seal_of key sealed (Seek to) (Fault got e) place = (got.items ≡ []) × (IsOutside e → sought_in to place (length sealed) ≡ Err e)
+AnswersAt seal_of key sealed _ _ place = ⊥
+
+-- where it stands then: behind the bytes that it gave, or where a seek led
+abbrev pub place_behind : Answer → ℕ → ℕ
+place_behind (Bytes got) place = place + length got.items
+place_behind (At n) place = n
+place_behind (Fault got e) place = place + length got.items
+
+-- So it answers each in turn, from the place where the answer before leaves it, and stands at this place in the end.
+abbrev pub AnswersFrom : Seal → List ℕ → List ℕ → List Op → List Answer → ℕ → ℕ → Type 0
+AnswersFrom seal_of key sealed [] [] place end = end ≡ place
+AnswersFrom seal_of key sealed (op ∷ ops) (a ∷ answers) place end =
+    AnswersAt seal_of key sealed op a place × AnswersFrom seal_of key sealed ops answers (place_behind a place) end
+AnswersFrom seal_of key sealed _ _ place end = ⊥
