@@ -1,5 +1,6 @@
 -- What the claims speak of.
-use Rattle.std.specs.Prelude.{◌≡◌, ◌≢◌, ◌⊎◌, ℕ, ◌+◌, ◌^◌, ◌<◌, ◌≤◌, ◌*◌, List, [], ◌∷◌, ◌++◌, length, take, codes, Option, None, Some, Ok, Err}
+use Rattle.std.proofs.Common.{◌+◌, Bool, true, IsTrue, get_or}
+use Rattle.std.specs.Prelude.{◌≡◌, ◌≢◌, ◌⊎◌, ℕ, ◌^◌, ◌<◌, ◌≤◌, ◌*◌, List, [], ◌∷◌, ◌++◌, length, take, codes, Option, None, Some, Ok, Err}
 use Rattle.age.specs.AnswerVariants.{Bytes, At, Fault}
 use Rattle.age.specs.Armor.{Carries}
 use Rattle.age.specs.Copying.{AppendsFront}
@@ -12,9 +13,10 @@ use Rattle.age.specs.File.{file_front}
 use Rattle.age.specs.FileErrorVariants as variant
 use Rattle.age.specs.Identities.{UnwrapAnswer, Unwraps, GivesFirst, IsFileFor}
 use Rattle.age.specs.OpVariants.{Read, Seek}
-use Rattle.age.specs.Payload.{Seal, payload, payload_key, plain_len, EndsAsLast, LastIsNoMiddle}
-use Rattle.age.specs.PayloadAnswers.{StandAt}
-use Rattle.age.specs.PayloadTargets.{sought_in, IsToEnd}
+use Rattle.age.specs.Payload.{Seal, chunk, payload, payload_key, plain_len, EndsAsLast, LastIsNoMiddle}
+use Rattle.age.specs.PayloadAnswers.{OpensAs}
+use Rattle.age.specs.PayloadRefusals.{IsAllowed}
+use Rattle.age.specs.PayloadTargets.{sought_in, IsRefusedTarget, IsToEnd}
 use Rattle.age.specs.Stanza.{StanzaValue}
 use Rattle.age.specs.StreamWriting.{IsGood, WasMade, inner_of}
 use Rattle.age.specs.Stretch.{Stretch}
@@ -83,16 +85,42 @@ pub record Reaches (place : ℕ) (sealed : Stretch) : Type 0 where
   pub plain : plain_len (length sealed.bytes) ≡ Some len
   pub inside : place ≤ len
 
+-- This byte stands at its place among those that the chunk there is held with: it is the seal of them as a middle chunk, or as the last where it is
+-- none in the middle, and isn't refused by itself. A chunk that isn't full is held only where the payload ends well.
+pub record IsHeldAt (seal_of : Seal) (key : List ℕ) (sealed : Stretch) (place byte : ℕ) : Type 0 where
+  pub number : ℕ
+  pub at : ℕ
+  pub last : Bool
+  pub plain : List ℕ
+  pub stands : place ≡ 65536 * number + at
+  pub within : at < length plain
+  pub small : length plain ≤ 65536
+  pub held : OpensAs last seal_of key sealed.bytes number plain
+  pub allowed : IsAllowed number plain
+  pub judged : length (chunk number sealed.bytes) < 65552 → sealed.ends_well ≡ true
+  pub is : byte ≡ get_or plain at 0
+
+-- so do these bytes, from this place on
+abbrev pub AreHeldAt : Seal → List ℕ → Stretch → ℕ → List ℕ → Type 0
+AreHeldAt seal_of key sealed place bytes = (i : ℕ) → i < length bytes → IsHeldAt seal_of key sealed (place + i) (get_or bytes i 0)
+
+-- the payload ends well, and the device below never fails
+abbrev pub IsCalm : {R : Type 0} → (R → ℕ) → Stretch → Type 0
+IsCalm {R} faults sealed = IsTrue sealed.ends_well × ((r : R) → faults r ≡ 0)
+
 -- What a read or a seek at a place of a payload answers, however bad the payload is. A read gives no more than was asked for, and fewer before a
--- refusal, and what it gives stands in the plaintext from the place on. A seek leads to its target by the payload's length, and to the end only
--- where the last chunk is a seal as the last. It calls a target outside only where that is so by the length.
-abbrev pub AnswersAt : Seal → List ℕ → List ℕ → Op → Answer → ℕ → Type 0
-AnswersAt seal_of key sealed (Read n) (Bytes got) place = (length got.items ≤ n) × StandAt seal_of key sealed place got.items
-AnswersAt seal_of key sealed (Read n) (Fault got e) place = (length got.items < n) × StandAt seal_of key sealed place got.items
-AnswersAt seal_of key sealed (Seek to) (At n) place =
-    (sought_in to place (length sealed) ≡ Ok n) × (IsToEnd (length sealed) to place → EndsAsLast seal_of key sealed)
-AnswersAt seal_of key sealed (Seek to) (Fault got e) place = (got.items ≡ []) × (IsOutside e → sought_in to place (length sealed) ≡ Err e)
-AnswersAt seal_of key sealed _ _ place = ⊥
+-- refusal, and what it gives is held in the payload from the place on. A seek leads to its target by the payload's length, and to the end only
+-- where the last chunk is a seal as the last. It calls a target outside only where that is so by the length. Where all is calm, any other refusal
+-- but want of memory is one of the length, or of the last chunk.
+abbrev pub AnswersAt : Type 0 → Seal → List ℕ → Stretch → Op → Answer → ℕ → Type 0
+AnswersAt Calm seal_of key sealed (Read n) (Bytes got) place = (length got.items ≤ n) × AreHeldAt seal_of key sealed place got.items
+AnswersAt Calm seal_of key sealed (Read n) (Fault got e) place = (length got.items < n) × AreHeldAt seal_of key sealed place got.items
+AnswersAt Calm seal_of key sealed (Seek to) (At n) place =
+    (sought_in to place (length sealed.bytes) ≡ Ok n) × (IsToEnd (length sealed.bytes) to place → EndsAsLast seal_of key sealed.bytes)
+AnswersAt Calm seal_of key sealed (Seek to) (Fault got e) place = (got.items ≡ [])
+    × (IsOutside e → sought_in to place (length sealed.bytes) ≡ Err e)
+    × (Calm → e ≢ OutOfMemory → IsRefusedTarget seal_of key sealed.bytes to place e)
+AnswersAt Calm seal_of key sealed _ _ place = ⊥
 
 -- where it stands then: behind the bytes that it gave, or where a seek led
 abbrev pub place_behind : Answer → ℕ → ℕ
@@ -101,8 +129,8 @@ place_behind (At n) place = n
 place_behind (Fault got e) place = place + length got.items
 
 -- So it answers each in turn, from the place where the answer before leaves it, and stands at this place in the end.
-abbrev pub AnswersFrom : Seal → List ℕ → List ℕ → List Op → List Answer → ℕ → ℕ → Type 0
-AnswersFrom seal_of key sealed [] [] place end = end ≡ place
-AnswersFrom seal_of key sealed (op ∷ ops) (a ∷ answers) place end =
-    AnswersAt seal_of key sealed op a place × AnswersFrom seal_of key sealed ops answers (place_behind a place) end
-AnswersFrom seal_of key sealed _ _ place end = ⊥
+abbrev pub AnswersFrom : Type 0 → Seal → List ℕ → Stretch → List Op → List Answer → ℕ → ℕ → Type 0
+AnswersFrom Calm seal_of key sealed [] [] place end = end ≡ place
+AnswersFrom Calm seal_of key sealed (op ∷ ops) (a ∷ answers) place end =
+    AnswersAt Calm seal_of key sealed op a place × AnswersFrom Calm seal_of key sealed ops answers (place_behind a place) end
+AnswersFrom Calm seal_of key sealed _ _ place end = ⊥
