@@ -4,6 +4,7 @@ pub mod Changed
 pub mod CutFiles
 pub mod CutStreams
 pub mod Given
+pub mod InTurn
 pub mod Lengthened
 pub mod OneKeys
 pub mod Outcomes

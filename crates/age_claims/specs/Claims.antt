@@ -1,7 +1,10 @@
 -- What the claims speak of.
-use Rattle.std.specs.Prelude.{◌≡◌, ◌≢◌, ◌⊎◌, ℕ, ◌^◌, ◌<◌, ◌≤◌, ◌*◌, List, ◌++◌, length, take, codes, Option, None, Some, Err}
+use Rattle.std.proofs.Common.{◌+◌, Bool, true, IsTrue, get_or}
+use Rattle.std.specs.Prelude.{◌≡◌, ◌≢◌, ◌⊎◌, ℕ, ◌^◌, ◌<◌, ◌≤◌, ◌*◌, List, [], ◌∷◌, ◌++◌, length, take, codes, Option, None, Some, Ok, Err}
+use Rattle.age.specs.AnswerVariants.{Bytes, At, Fault}
 use Rattle.age.specs.Armor.{Carries}
 use Rattle.age.specs.Copying.{AppendsFront}
+use Rattle.age.specs.Cursor.{IsOutside}
 use Rattle.age.specs.DecryptErrors as decrypt
 use Rattle.age.specs.DecryptErrors.{decrypt_refusal}
 use Rattle.age.specs.EncryptErrors.{EncryptRefusal, encrypt_refusal}
@@ -9,11 +12,15 @@ use Rattle.age.specs.ErrorVariants.{OutOfMemory, TooLong}
 use Rattle.age.specs.File.{file_front}
 use Rattle.age.specs.FileErrorVariants as variant
 use Rattle.age.specs.Identities.{UnwrapAnswer, Unwraps, GivesFirst, IsFileFor}
-use Rattle.age.specs.Payload.{Seal, payload, payload_key, plain_len, LastIsNoMiddle}
+use Rattle.age.specs.OpVariants.{Read, Seek}
+use Rattle.age.specs.Payload.{Seal, chunk, payload, payload_key, plain_len, EndsAsLast, LastIsNoMiddle}
+use Rattle.age.specs.PayloadAnswers.{OpensAs}
+use Rattle.age.specs.PayloadRefusals.{IsAllowed}
+use Rattle.age.specs.PayloadTargets.{sought_in, IsRefusedTarget, IsToEnd}
 use Rattle.age.specs.Stanza.{StanzaValue}
 use Rattle.age.specs.StreamWriting.{IsGood, WasMade, inner_of}
 use Rattle.age.specs.Stretch.{Stretch}
-use Rattle.age.specs.Types.{Error, FileError, StreamWriter}
+use Rattle.age.specs.Types.{Answer, Error, FileError, Op, StreamWriter}
 use Rattle.age.specs.WholeFiles.{RefusesFile}
 use Rattle.age.specs.X25519.{HasShare, opened_with}
 
@@ -77,3 +84,53 @@ pub record Reaches (place : ℕ) (sealed : Stretch) : Type 0 where
   pub len : ℕ
   pub plain : plain_len (length sealed.bytes) ≡ Some len
   pub inside : place ≤ len
+
+-- This byte stands at its place among those that the chunk there is held with: it is the seal of them as a middle chunk, or as the last where it is
+-- none in the middle, and isn't refused by itself. A chunk that isn't full is held only where the payload ends well.
+pub record IsHeldAt (seal_of : Seal) (key : List ℕ) (sealed : Stretch) (place byte : ℕ) : Type 0 where
+  pub number : ℕ
+  pub at : ℕ
+  pub last : Bool
+  pub plain : List ℕ
+  pub stands : place ≡ 65536 * number + at
+  pub within : at < length plain
+  pub small : length plain ≤ 65536
+  pub held : OpensAs last seal_of key sealed.bytes number plain
+  pub allowed : IsAllowed number plain
+  pub judged : length (chunk number sealed.bytes) < 65552 → sealed.ends_well ≡ true
+  pub is : byte ≡ get_or plain at 0
+
+-- so do these bytes, from this place on
+abbrev pub AreHeldAt : Seal → List ℕ → Stretch → ℕ → List ℕ → Type 0
+AreHeldAt seal_of key sealed place bytes = (i : ℕ) → i < length bytes → IsHeldAt seal_of key sealed (place + i) (get_or bytes i 0)
+
+-- the payload ends well, and the device below never fails
+abbrev pub IsCalm : {R : Type 0} → (R → ℕ) → Stretch → Type 0
+IsCalm {R} faults sealed = IsTrue sealed.ends_well × ((r : R) → faults r ≡ 0)
+
+-- What a read or a seek at a place of a payload answers, however bad the payload is. A read gives no more than was asked for, and fewer before a
+-- refusal, and what it gives is held in the payload from the place on. A seek leads to its target by the payload's length, and to the end only
+-- where the last chunk is a seal as the last. It calls a target outside only where that is so by the length. Where all is calm, any other refusal
+-- but want of memory is one of the length, or of the last chunk.
+abbrev pub AnswersAt : Type 0 → Seal → List ℕ → Stretch → Op → Answer → ℕ → Type 0
+AnswersAt Calm seal_of key sealed (Read n) (Bytes got) place = (length got.items ≤ n) × AreHeldAt seal_of key sealed place got.items
+AnswersAt Calm seal_of key sealed (Read n) (Fault got e) place = (length got.items < n) × AreHeldAt seal_of key sealed place got.items
+AnswersAt Calm seal_of key sealed (Seek to) (At n) place =
+    (sought_in to place (length sealed.bytes) ≡ Ok n) × (IsToEnd (length sealed.bytes) to place → EndsAsLast seal_of key sealed.bytes)
+AnswersAt Calm seal_of key sealed (Seek to) (Fault got e) place = (got.items ≡ [])
+    × (IsOutside e → sought_in to place (length sealed.bytes) ≡ Err e)
+    × (Calm → e ≢ OutOfMemory → IsRefusedTarget seal_of key sealed.bytes to place e)
+AnswersAt Calm seal_of key sealed _ _ place = ⊥
+
+-- where it stands then: behind the bytes that it gave, or where a seek led
+abbrev pub place_behind : Answer → ℕ → ℕ
+place_behind (Bytes got) place = place + length got.items
+place_behind (At n) place = n
+place_behind (Fault got e) place = place + length got.items
+
+-- So it answers each in turn, from the place where the answer before leaves it, and stands at this place in the end.
+abbrev pub AnswersFrom : Type 0 → Seal → List ℕ → Stretch → List Op → List Answer → ℕ → ℕ → Type 0
+AnswersFrom Calm seal_of key sealed [] [] place end = end ≡ place
+AnswersFrom Calm seal_of key sealed (op ∷ ops) (a ∷ answers) place end =
+    AnswersAt Calm seal_of key sealed op a place × AnswersFrom Calm seal_of key sealed ops answers (place_behind a place) end
+AnswersFrom Calm seal_of key sealed _ _ place end = ⊥

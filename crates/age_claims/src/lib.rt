@@ -9,6 +9,7 @@ pub mod place;
 pub mod rekey;
 pub mod ring;
 pub mod same;
+pub mod sealed;
 pub mod sent;
 pub mod standard;
 pub mod tampered;
