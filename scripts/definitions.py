@@ -16,15 +16,10 @@ import re
 import sys
 
 sys.dont_write_bytecode = True
-from specs import MODULES, TOP
+from specs import MODULES, TOP, text_of, verdict
 
 PAGE = "docs/development/DEFINITIONS.md"
 PATH = re.compile(r"(?<![\w/])(?:(?:\.\./)*crates/)?(?:(\w+)/)?specs/([A-Z]\w*)")
-
-
-def text_of(page):
-    with open(f"{TOP}/{page}", encoding="utf-8") as it:
-        return it.read()
 
 
 def rows(page):
@@ -90,8 +85,7 @@ def check_paths(faults):
 def main():
     faults = []
     passed = check_table(faults) + check_paths(faults)
-    print("\n".join([*faults, f"{passed} passed, {len(faults)} failed"]))
-    return 1 if faults else 0
+    return verdict(passed, faults)
 
 
 if __name__ == "__main__":

@@ -7,7 +7,9 @@ import os
 import re
 import sys
 
-TOP = os.path.dirname(os.path.dirname(os.path.abspath(__file__)))
+sys.dont_write_bytecode = True
+from specs import TOP, text_of, verdict
+
 LINK = re.compile(r"\]\(([^()\s]+)\)")
 FENCED = re.compile(r"^```.*?^```", re.M | re.S)
 # What a reader looks up from the top of the repository.
@@ -17,11 +19,6 @@ NAMED = re.compile(r"`((?:bench|completions|crates|docs|edits|examples|foreign|i
 def pages():
     found = glob.glob(f"{TOP}/*.md") + glob.glob(f"{TOP}/*/**/*.md", recursive=True)
     return sorted(it for it in found if "/out/" not in it)
-
-
-def text_of(path):
-    with open(path, encoding="utf-8") as file:
-        return file.read()
 
 
 def anchors(path):
@@ -51,8 +48,7 @@ def main():
                 passed += 1
             else:
                 faults.append(f"{name}: `{target}` isn't there")
-    print("\n".join([*faults, f"{passed} passed, {len(faults)} failed"]))
-    return 1 if faults else 0
+    return verdict(passed, faults)
 
 
 if __name__ == "__main__":

@@ -18,6 +18,7 @@ import sys
 sys.dont_write_bytecode = True
 sys.path.insert(0, os.path.dirname(os.path.abspath(__file__)))
 import specs as S
+from specs import text_of
 
 USE = re.compile(r"^(\s*(?:(?:new|old): )?)((?:unfoldable |pub |ghost )*use )Rattle\.([\w.]+?)\.\{(.*)\}(;?)\s*$")
 WHOLE = re.compile(r"^(\s*(?:pub |ghost )*use )Rattle\.([\w.]+?)(?: as (\w+))?(;?)\s*$")
@@ -42,11 +43,6 @@ def files():
         for path in sorted(glob.glob(f"crates/**/*.{end}", recursive=True)) + sorted(glob.glob(f"edits/**/*.{end}", recursive=True)):
             if "/out/" not in path:
                 yield path
-
-
-def text_of(path):
-    with open(path, encoding="utf-8") as it:
-        return it.read()
 
 
 def write(path, text):
@@ -117,14 +113,7 @@ def main():
     path = f"crates/{target.replace('.', '/')}.antt"
     there = S.MODULES.get(target)
     need = use_lines(moved, target)
-    body = []
-    heads = []
-    for it in moved:
-        for depth, one in enumerate(it.heads):
-            if heads[depth:depth + 1] != [one]:
-                body += one
-        heads = it.heads
-        body += it.text + [""]
+    body = S.block(moved)
     if there:
         for name, (where, first) in there.uses.items():
             need.setdefault(where, set()).add(first if first == name else f"{first} as {name}")

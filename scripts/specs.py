@@ -7,9 +7,32 @@ import re
 TOP = os.path.dirname(os.path.dirname(os.path.abspath(__file__)))
 
 
+def text_of(path):
+    """The text of a file, by its path from the top or by its whole path."""
+    with open(os.path.join(TOP, path), encoding="utf-8") as it:
+        return it.read()
+
+
 def lines_of(path):
-    with open(f"{TOP}/{path}", encoding="utf-8") as it:
-        return it.read().split("\n")
+    return text_of(path).split("\n")
+
+
+def verdict(passed, faults):
+    """Prints what is wrong, and how much passed and failed. Answers the exit status."""
+    print("\n".join([*faults, f"{passed} passed, {len(faults)} failed"]))
+    return 1 if faults else 0
+
+
+def block(definitions):
+    """Definitions of one file as it has them, each module's head once."""
+    text, heads = [], []
+    for made in definitions:
+        for depth, head in enumerate(made.heads):
+            if heads[depth:depth + 1] != [head]:
+                text += head
+        heads = made.heads
+        text += made.text + [""]
+    return text[:-1]
 
 
 def indent(line):

@@ -14,7 +14,7 @@ import sys
 import textwrap
 
 sys.dont_write_bytecode = True
-from specs import MODULES, TOP, cited, closure, find, imports, indent, is_comment, lines_of
+from specs import MODULES, TOP, block, cited, closure, find, imports, indent, is_comment, lines_of
 
 PAGE = f"{TOP}/docs/TRUSTED.md"
 
@@ -222,18 +222,6 @@ def lines_in(text):
 
 def wrapped(text, more=""):
     return textwrap.wrap(text, 148, subsequent_indent=more, break_long_words=False, break_on_hyphens=False)
-
-
-def block(definitions):
-    """Definitions of one file as it has them, each module's head once."""
-    text, heads = [], []
-    for made in definitions:
-        for depth, head in enumerate(made.heads):
-            if heads[depth:depth + 1] != [head]:
-                text += head
-        heads = made.heads
-        text += made.text + [""]
-    return text[:-1]
 
 
 def told(definitions):

@@ -8,13 +8,10 @@ import os
 import re
 import sys
 
-TOP = os.path.dirname(os.path.dirname(os.path.abspath(__file__)))
+sys.dont_write_bytecode = True
+from specs import TOP, text_of, verdict
+
 USE = re.compile(r"^\s*(?:(?:new|old): )?(?:unfoldable |pub |ghost )*use Rattle\.([\w.]+?)(?:\.\{(.*)\})?(?: as \w+)?;?\s*$")
-
-
-def text_of(path):
-    with open(path, encoding="utf-8") as file:
-        return file.read()
 
 
 def name_of(path):
@@ -74,8 +71,7 @@ def main():
                     passed += 1
                 else:
                     faults.append(f"{here}: {module} has no {name}")
-    print("\n".join([*faults, f"{passed} passed, {len(faults)} failed"]))
-    return 1 if faults else 0
+    return verdict(passed, faults)
 
 
 if __name__ == "__main__":
