@@ -22,16 +22,18 @@ PAGE = f"{TOP}/docs/TRUSTED.md"
 # Of a clause `ensures: RECORD.FIELD`, which says a record of many fields, that field alone counts.
 CLAIMS = [
     ("Claim 1, from a reader to a writer", "age_protocol/src/whole.rt", "pub fn encrypt_all", ["ensures file"]),
-    ("Claim 1, by writes of one's own", "age_protocol/src/encryptor.rt", "    pub fn wrap_output", ["ensures file"]),
-    ("The writer that it gives tells its bytes where the output does",
-     "age_stream/src/writing.rt", "impl<S: Suite, W: Write> Write for StreamWriter", ["ghost tells"]),
-    ("Its end", "age_stream/src/writer.rt", "    pub fn finish", ["ensures ok"]),
     ("Claim 2", "age_protocol/src/opening.rt", "pub fn answers", ["ensures cursor"]),
     ("Claim 3, from a reader to a writer", "age_protocol/src/whole.rt", "pub fn decrypt_all", ["ensures: DecryptsAll.file"]),
     ("Claim 3, of a slice", "age_protocol/src/simple.rt", "pub fn decrypt", ["ensures success"]),
     ("What a clause sees of random bytes", "age_suite/src/draw.rt", "impl Model for Draw", ["ghost view"]),
     ("Of grease", "age_format/src/grease.rt", "impl Model for Grease", ["ghost view"]),
-    ("Of an encryptor", "age_protocol/src/encryptor.rt", "impl<S> Model for Encryptor", ["ghost view"]),
+]
+OWN_WRITES = [
+    ("Claim 1, by writes of one's own", "age_protocol/src/encryptor.rt", "    pub fn wrap_output", ["ensures file"]),
+    ("What it sees of an encryptor", "age_protocol/src/encryptor.rt", "impl<S> Model for Encryptor", ["ghost view"]),
+    ("The writer that it gives tells its bytes where the output does",
+     "age_stream/src/writing.rt", "impl<S: Suite, W: Write> Write for StreamWriter", ["ghost tells"]),
+    ("Its end", "age_stream/src/writer.rt", "    pub fn finish", ["ensures ok"]),
 ]
 READ = [f"ghost {name}" for name in "tells steady content place rest faults refuses".split()]
 WRITE = [f"ghost {name}" for name in "tells faults refuses appended".split()]
@@ -75,12 +77,11 @@ PARTS = [
         ("Encrypted file format", ["age_v1/File"]),
         ("ASCII armor", ["age_v1/Armor"]),
         ("Refusals", ["age_error/ResolveErrors", "age_error/DecryptErrors", "age_error/EncryptErrors",
-                      "age_protocol/FileErrors"]),
+                      "age_error/FileErrors"]),
         ("What recipients come to", ["age_suite/Draw", "age_v1/Recipients", "age_v1/Encrypting"]),
         ("What identities come to", ["age_v1/Identities"]),
         ("A cursor on a plaintext", ["age_io/Cursor", "age_io/Replies"]),
         ("Whole files", ["age_io/Stretch", "age_v1/Claims"]),
-        ("A file by writes of one's own", ["age_stream/Writing", "age_protocol/Starting"]),
     ]),
     ("What a suite, a reader and a writer are", "The claims speak of a reader's `rest` and a writer's `appended`, of a suite's `seal_of`, of a "
      "recipient's `wraps` and an identity's `unwraps`. These are members of traits. An implementation says what its members are, and is proved to "
@@ -89,6 +90,10 @@ PARTS = [
          ("The laws of a suite", ["age_suite/Suite"]),
          ("Answers, apart from where they lie in memory",
           ["age_error/Labels", "age_error/EncryptErrors", "age_format/Wrapping", "age_format/Unwrapping"]),
+     ]),
+    ("A file by writes of one's own", "What `encrypt_all` claims holds of a file too that is written through `Encryptor::wrap_output`, by writes of "
+     "any number.", OWN_WRITES, [
+         ("The writer", ["age_stream/Writing", "age_protocol/Starting"]),
      ]),
     ("With native keys", "What the recipients and identities of X25519 and of passphrases answer, for any suite.", KEYS, [
         ("Both", ["age_v1/Identities", "age_v1/RecipientType"]),
@@ -107,9 +112,10 @@ INTRODUCTION = """# What a reader trusts
 
 A proof shows that the code does what its clauses say. Whether these say what is meant, a reader has to judge: of the clauses, of each definition
 that they cite, of each that those cite, and so on. Below stand all that the three claims of README rest on, and no other, quoted from the files of
-`*/specs` with their comments, each before the first that cites it: those of the format from `age_v1`, a crate without functions, whose files `Stanza` to
-`Claims` are the sections of the standard and what the calls claim; the others say what a reader makes of any bytes. The clauses stand at the end of each part. For these claims the other definitions
-of `*/specs`, and all of `*/proofs`, are steps of proofs, which the prover checks and nobody has to read.
+`*/specs` with their comments, each before the first that cites it. Those of the format stand in `age_v1`, a crate without functions: its files `Stanza` to
+`Claims` are the sections of the standard and what the calls claim. Those of HMAC, HKDF and base64 stand in `hmac_sha256` and `age_base64`, which have
+nothing of `age`, and the errors, readers and random bytes that calls are handed in `age_error`, `age_io` and `age_suite`. The clauses stand at the end of
+each part. For these claims the other definitions of `*/specs`, and all of `*/proofs`, are steps of proofs, which the prover checks and nobody has to read.
 
 `scripts/trusted.py` makes this page from the sources, and the gate compares. Lines are counted without blank ones.
 
@@ -140,7 +146,7 @@ after `standard:`, in our words.
 | `MatchResult r P Q` | P of x where r is `Ok x`, Q of e where it is `Err e` |
 | `x.old`, `x.new`, `x.now`, `result` | in a clause: what is lent before and after the call, what a reference shows, and what the call answers |
 | `S.seal_of`, `⟦<S as Suite>⟧` | the member `seal_of` of a type, and all members that it has by this trait |
-| `draw.old`, `grease`, `self` | of a struct with a `view` its value, as the clauses of part 1 say at their end; a grease is a stanza that means nothing |
+| `draw.old`, `grease`, `self` | of a struct with a `view` its value, as a clause says; a grease is a stanza that means nothing |
 """
 
 REST = """## What else is trusted
@@ -290,8 +296,8 @@ def page():
             if place.get(other, -1) > place[it]:
                 faults.append(f"{it.module.path}: `{it.name}` stands before `{other.name}`, which it cites: change PARTS in scripts/trusted.py")
     whole = told(made)
-    sentence = (f"They mean this if {first[0]} definitions ({first[3]} lines) are right, or {whole[0]} ({whole[3]} lines) with the keys and primitives "
-                "of the standard: [TRUSTED](docs/TRUSTED.md) quotes them, and no other.")
+    sentence = (f"They mean this if {first[0]} definitions ({first[3]} lines) are right, or {whole[0]} ({whole[3]} lines) with the keys and "
+                "primitives of the standard: [TRUSTED](docs/TRUSTED.md) quotes them, and no other.")
     own, others = rest(outside, faults)
     head = INTRODUCTION.format(rows="\n".join(rows), whole="| **all** | {} | {} | {} | {} | {} |".format(*whole))
     text = [head, *parts, REST.format(own="\n".join(own), others="\n".join(others))]

@@ -13,7 +13,7 @@ pub use Rattle.age_error.specs.declared.resolve.ResolveError.TheVariants as Reso
 pub use Rattle.age_io.specs.declared.operations.Op.TheVariants as OpVariants
 pub use Rattle.age_io.specs.declared.operations.Answer.TheVariants as AnswerVariants
 pub use Rattle.age_v1.specs.declared.format.Format.TheVariants as FormatVariants
-pub use Rattle.age_protocol.specs.declared.error.FileError.TheVariants as FileErrorVariants
+pub use Rattle.age_error.specs.declared.file.FileError.TheVariants as FileErrorVariants
 pub use Rattle.age_identity.specs.declared.error.IdentityFileConvertError.TheVariants as IdentityFileConvertErrorVariants
 -- bytes, and what refusals say: age_error
 pub use Rattle.age_error.specs.Bytes
@@ -128,7 +128,7 @@ pub use Rattle.age_protocol.specs.Decryptor
 pub use Rattle.age_protocol.specs.Decrypting
 pub use Rattle.age_protocol.specs.OpeningFile
 pub use Rattle.age_protocol.specs.WholeFiles
-pub use Rattle.age_protocol.specs.FileErrors
+pub use Rattle.age_error.specs.FileErrors
 pub use Rattle.age_protocol.specs.Texts
 pub use Rattle.age_protocol.specs.DecryptingStreams
 pub use Rattle.age_protocol.specs.Opened

@@ -20,7 +20,7 @@ pub use Rattle.age_armor.specs.declared.reader.ArmoredReader.{ArmoredReader}
 pub use Rattle.age_armor.specs.declared.writer.ArmoredWriter.{ArmoredWriter}
 pub use Rattle.age_stream.specs.declared.reader.StreamReader.{StreamReader}
 pub use Rattle.age_stream.specs.declared.writer.StreamWriter.{StreamWriter}
-pub use Rattle.age_protocol.specs.declared.error.FileError.{FileError}
+pub use Rattle.age_error.specs.declared.file.FileError.{FileError}
 pub use Rattle.age_protocol.specs.declared.decryptor.Decryptor.{Decryptor}
 pub use Rattle.age_identity.specs.declared.callbacks.NoCallbacks.{NoCallbacks}
 pub use Rattle.age_identity.specs.declared.error.IdentityFileConvertError.{IdentityFileConvertError}

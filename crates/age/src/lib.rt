@@ -23,7 +23,7 @@ pub mod laws {
 
 /// Whole files from readers to writers in flat memory, files opened for reads and seeks, and parts of their plaintexts.
 pub mod streaming {
-    pub use age_protocol::error::FileError;
+    pub use age_error::FileError;
     pub use age_protocol::migrate::migrate;
     pub use age_protocol::opening::{answers, open_file, open_file_by_one, open_text};
     pub use age_protocol::part::{at, write_part};

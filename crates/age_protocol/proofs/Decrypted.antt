@@ -7,10 +7,10 @@ use Rattle.age_io.specs.declared.traits.Read.{Ghosts, Ghosts as ReadMembers}
 use Rattle.age_io.specs.Stretch.{Stretch}
 use Rattle.age_v1.specs.DeliveredArmor.{text_delivers, stretch_of}
 use Rattle.age_protocol.specs.Decrypting.{ReadsFront, RefusesFront, WhyNoFront}
-use Rattle.age_protocol.specs.FileErrors.{DecryptsUnless}
+use Rattle.age_error.specs.FileErrors.{DecryptsUnless}
 use Rattle.age_protocol.specs.Texts.{RefusesKey, RefusesText, BeginsText}
-use Rattle.age_protocol.specs.declared.error.FileError.{FileError}
-use Rattle.age_protocol.specs.declared.error.FileError.TheVariants.{Io, Encrypt, Decrypt}
+use Rattle.age_error.specs.declared.file.FileError.{FileError}
+use Rattle.age_error.specs.declared.file.FileError.TheVariants.{Io, Encrypt, Decrypt}
 use Rattle.age_format.specs.HeaderV1.{HeaderValue}
 use Rattle.age_v1.specs.HeaderTexts.{canonical}
 use Rattle.age_suite.specs.declared.suite.Suite.{Ghosts as SuiteMembers}

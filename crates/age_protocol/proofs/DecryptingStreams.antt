@@ -11,12 +11,12 @@ use Rattle.age_format.specs.HeaderV1.{HeaderValue}
 use Rattle.age_v1.specs.Stanza.{StanzaValue}
 use Rattle.age_v1.specs.Identities.{UnwrapAnswer}
 use Rattle.age_v1.specs.Claims.{AppendsPlaintext}
-use Rattle.age_protocol.specs.Texts.{RefusesText, BeginsText, RefusesAnswered, UnderMac}
+use Rattle.age_protocol.specs.Texts.{RefusesText, BeginsText, RefusesAnswered, UnderMac, RefusesHead, RefusesPlain}
 use Rattle.age_protocol.specs.DecryptingStreams.{DecryptsAll, DecryptsPart}
-use Rattle.age_protocol.specs.declared.error.FileError.{FileError}
-use Rattle.age_protocol.specs.declared.error.FileError.TheVariants.{Io, Encrypt, Decrypt}
+use Rattle.age_error.specs.declared.file.FileError.{FileError}
+use Rattle.age_error.specs.declared.file.FileError.TheVariants.{Io, Encrypt, Decrypt}
 use Rattle.age_protocol.specs.WholeFiles.{LacksFront, read_of}
-use Rattle.age_protocol.specs.FileErrors.{IfIo, RefusesHead, RefusesPlain}
+use Rattle.age_error.specs.FileErrors.{IfIo}
 use Rattle.age_v1.specs.DeliveredPayload.{payload_delivers}
 use Rattle.age_stream.specs.Keeping.{Stops}
 use Rattle.age_v1.specs.Payload.{Seal}

@@ -22,9 +22,9 @@ use Rattle.age_stream.specs.Keeping.{IsPayloadRefusal}
 use Rattle.age_v1.specs.PayloadTargets.{in_length, sought_in}
 use Rattle.age_v1.specs.Payload.{Seal, plain_len}
 use Rattle.age_protocol.specs.Parts.{AppendsPart, AppendsOf, EndsBefore}
-use Rattle.age_protocol.specs.FileErrors.{IsPastEnd}
-use Rattle.age_protocol.specs.declared.error.FileError.{FileError}
-use Rattle.age_protocol.specs.declared.error.FileError.TheVariants.{Io, Decrypt}
+use Rattle.age_error.specs.FileErrors.{IsPastEnd}
+use Rattle.age_error.specs.declared.file.FileError.{FileError}
+use Rattle.age_error.specs.declared.file.FileError.TheVariants.{Io, Decrypt}
 
 -- ---- what is appended
 

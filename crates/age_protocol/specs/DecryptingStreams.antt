@@ -18,11 +18,11 @@ use Rattle.age_v1.specs.Identities.{UnwrapAnswer}
 use Rattle.age_v1.specs.Claims.{AppendsPlaintext}
 use Rattle.age_v1.specs.DeliveredPayload.{payload_delivers}
 use Rattle.age_stream.specs.Keeping.{IsPayloadRefusal, Stops}
-use Rattle.age_protocol.specs.FileErrors.{DecryptsUnless, IfIo, IsDecryptError, RefusesHead, RefusesPlain}
-use Rattle.age_protocol.specs.Texts.{BeginsText, RefusesAnswered, RefusesText, UnderMac}
+use Rattle.age_protocol.specs.Texts.{RefusesHead, RefusesPlain, BeginsText, RefusesAnswered, RefusesText, UnderMac}
+use Rattle.age_error.specs.FileErrors.{DecryptsUnless, IfIo, IsDecryptError}
 use Rattle.age_protocol.specs.WholeFiles.{LacksFront, read_of}
 use Rattle.age_protocol.specs.Parts.{AppendsOf, AppendsPart, IsPartAt, RefusesPart, StandsAt}
-use Rattle.age_protocol.specs.declared.error.FileError.{FileError}
+use Rattle.age_error.specs.declared.file.FileError.{FileError}
 
 -- Why no file is opened in a text that was read to its end: no header with a nonce begins it, or one does, and what the identities answer to its stanzas,
 -- its MAC or memory is why.

@@ -5,7 +5,6 @@ pub mod Migrating
 pub mod Decryptor
 pub mod OpeningFile
 pub mod WholeFiles
-pub mod FileErrors
 pub mod Texts
 pub mod DecryptingStreams
 pub mod Opened

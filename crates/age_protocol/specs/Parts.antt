@@ -10,9 +10,9 @@ use Rattle.age_format.specs.HeaderV1.{HeaderValue}
 use Rattle.age_stream.specs.Keeping.{Stops}
 use Rattle.age_v1.specs.Payload.{Seal, plain_len}
 use Rattle.age_v1.specs.PayloadAnswers.{IsGoodEnd, StandAt}
-use Rattle.age_protocol.specs.FileErrors.{DecryptsUnless, IfIo, IsPastEnd}
+use Rattle.age_error.specs.FileErrors.{DecryptsUnless, IfIo, IsPastEnd}
 use Rattle.age_protocol.specs.Texts.{UnderMac}
-use Rattle.age_protocol.specs.declared.error.FileError.{FileError}
+use Rattle.age_error.specs.declared.file.FileError.{FileError}
 use Rattle.age_error.specs.declared.io.Error.TheVariants as io
 
 -- under this key these bytes stand in the plaintext of a payload from a place on, whatever its other chunks are

@@ -1,16 +1,20 @@
 -- How a text begins: with a file's header and nonce, or why it doesn't.
-use Rattle.std.specs.Prelude.{◌≡◌, ◌≢◌, ◌⊎◌, ◌≤◌, ◌<◌, ℕ, Bool, IsTrue, List, Result, Ok, Err}
-use Rattle.age_error.specs.DecryptErrors.{DecryptRefusal, IsDeviceRefusal, InvalidMac, OutOfMemory}
-use Rattle.age_io.specs.Stretch.{Stretch}
-use Rattle.age_v1.specs.DeliveredArmor.{text_delivers, stretch_of}
+use Rattle.std.specs.Prelude.{Bool, Err, IsTrue, List, Ok, Result, ℕ, ◌<◌, ◌≡◌, ◌≢◌, ◌≤◌, ◌⊎◌}
+use Rattle.age_error.specs.declared.io.Error.{Error}
+use Rattle.age_io.specs.declared.traits.Read.{Ghosts}
+use Rattle.age_v1.specs.DeliveredArmor.{stretch_of, text_delivers}
+use Rattle.age_armor.specs.Refusing.{OrText}
+use Rattle.age_error.specs.DecryptErrors.{DecryptRefusal, InvalidMac, IsDeviceRefusal, OutOfMemory}
+use Rattle.age_error.specs.declared.io.Error.TheVariants as io
 use Rattle.age_format.specs.HeaderV1.{HeaderValue}
+use Rattle.age_io.specs.Stretch.{Stretch}
+use Rattle.age_protocol.specs.Decrypting.{ReadsFront, WhyNoFront}
+use Rattle.age_v1.specs.Header.{covered_text}
 use Rattle.age_v1.specs.HeaderMac.{header_mac}
 use Rattle.age_v1.specs.HeaderTexts.{canonical}
-use Rattle.age_v1.specs.Stanza.{StanzaValue}
 use Rattle.age_v1.specs.Identities.{UnwrapAnswer, decided}
-use Rattle.age_v1.specs.Header.{covered_text}
-use Rattle.age_protocol.specs.Decrypting.{ReadsFront, WhyNoFront}
 use Rattle.age_v1.specs.Payload.{payload_key}
+use Rattle.age_v1.specs.Stanza.{StanzaValue}
 
 -- Why what a text delivers doesn't begin as a file, and the reader of the text when it was given up. A part of what it
 -- delivers was read, up to this place, and this was left.
@@ -49,3 +53,14 @@ RefusesAnswered begins answers refusal = (h : HeaderValue) × (nonce : List ℕ)
 abbrev pub UnderMac : (HeaderValue → List ℕ → Stretch → Type 0) → (List ℕ → List StanzaValue → Type 0) → (List ℕ → Stretch → Type 0) → Type 0
 UnderMac begins gives Holds = (file_key : List ℕ) × (h : HeaderValue) × (nonce : List ℕ) × (left : Stretch)
     × begins h nonce left × gives file_key h.stanzas × (h.mac ≡ header_mac file_key (covered_text h.stanzas)) × Holds (payload_key file_key nonce) left
+
+-- Why reading a file's plaintext refuses that a text carries, apart from what is wrong with the payload: for want of memory, for a fault
+-- of the text, or as the reader of the text does, whose interruptions are tried again.
+abbrev pub RefusesPlain : {R : Type 0} → Ghosts R → R → Error → Type 0
+RefusesPlain read input e = (e ≡ io.OutOfMemory) ⊎ OrText read input e
+
+-- Why reading a file's header and nonce refuses that a text carries: what the text delivers ends well before they do, or as above.
+abbrev pub RefusesHead : {R : Type 0} → Ghosts R → R → Error → Type 0
+RefusesHead read input e = ((e ≡ io.UnexpectedEof)
+    × (IsTrue (read.tells input) → IsTrue (stretch_of (text_delivers (read.rest input).bytes (read.rest input).ends_well)).ends_well))
+    ⊎ OrText read input e

@@ -5,7 +5,6 @@ mod answering;
 pub mod decryptor;
 mod encrypting;
 pub mod encryptor;
-pub mod error;
 mod front;
 mod gathering;
 mod keys;

@@ -5,15 +5,14 @@ ghost use Rattle.age_io.specs.Replies.{seen, replies, IsNoWant};
 ghost use Rattle.age_v1.specs.Armor.{Carries};
 ghost use Rattle.age_protocol.specs.OpeningFile.{StandsBefore};
 ghost use Rattle.age_protocol.specs.Opened.{IsOpened, IsNotOpened};
-ghost use Rattle.age_protocol.specs.FileErrors.{IsWant};
+ghost use Rattle.age_error.specs.FileErrors.{IsWant};
 ghost use Rattle.age_v1.specs.Identities.{FirstAnswer, IsFileFor};
 
 use crate::decryptor::Decryptor;
-use crate::error::FileError;
 use crate::laws::{file_opens, front_is_accepted};
 use age_armor::ArmoredReader;
-use age_error::DecryptError;
 use age_error::io::Error;
+use age_error::{DecryptError, FileError};
 use age_format::Identity;
 use age_io::{Answer, BufReader, Op, Read, Seek, run};
 use age_stream::reader::StreamReader;

@@ -16,15 +16,15 @@ ghost use Rattle.age_v1.specs.PayloadTargets.{sought_in};
 ghost use Rattle.age_stream.specs.Reader.{payload_of, key_of};
 ghost use Rattle.age_protocol.specs.Opened.{IsNotOpened};
 ghost use Rattle.age_protocol.specs.WholeFiles.{read_of};
-ghost use Rattle.age_protocol.specs.FileErrors.{DecryptsUnless, IfIo, IsDecryptError};
+ghost use Rattle.age_error.specs.FileErrors.{DecryptsUnless, IfIo, IsDecryptError};
 ghost use Rattle.age_protocol.specs.DecryptingStreams.{DecryptsPart, RefusesOpening};
 ghost use Rattle.age_v1.specs.Identities.{AnswersFirst, GivesFirst, FirstAnswer, IsFileFor};
 ghost use Rattle.age_protocol.specs.Texts.{HasFront};
 ghost use Rattle.age_protocol.specs.Parts.{AppendsPart, AppendsOf, EndsBefore, RefusesPart, StandsAt, IsPartAt};
 
-use crate::error::FileError;
 use crate::opening::open_file;
 use age_armor::ArmoredReader;
+use age_error::FileError;
 use age_error::io::{Error, SeekFrom};
 use age_format::Identity;
 use age_io::{Bytes, Read, Seek, Write, copy_some, read_to_end};

@@ -8,13 +8,12 @@ ghost use Rattle.age_v1.specs.Encrypting.{Prepared, Prepares};
 ghost use Rattle.age_v1.specs.Identities.{FirstAnswer, IsFileFor, Decrypts};
 ghost use Rattle.age_protocol.specs.WholeFiles.{Encrypts, RefusesDecrypting};
 
-use crate::error::FileError;
 use crate::laws::carried_files;
 use crate::opening::open_file_by_one;
 use crate::whole::encrypt_all;
 use age_armor::{ArmoredReader, Format, armor_is_text};
 use age_error::bytes::known_bytes;
-use age_error::{DecryptError, EncryptError};
+use age_error::{DecryptError, EncryptError, FileError};
 use age_format::{Grease, Identity, Recipient};
 use age_io::{Bytes, read_to_end};
 use age_suite::draw::Draw;

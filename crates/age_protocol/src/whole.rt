@@ -5,16 +5,15 @@ ghost use Rattle.age_v1.specs.Encrypting.{Prepared, Prepares};
 ghost use Rattle.age_protocol.specs.WholeFiles.{RefusesFile};
 ghost use Rattle.age_v1.specs.Armor.{text_of};
 ghost use Rattle.age_v1.specs.Claims.{AppendsFile};
-ghost use Rattle.age_protocol.specs.FileErrors.{IfIo, IsEncryptError, EncryptsUnless};
+ghost use Rattle.age_error.specs.FileErrors.{IfIo, IsEncryptError, EncryptsUnless};
 ghost use Rattle.age_protocol.specs.DecryptingStreams.{DecryptsAll};
 ghost use Rattle.age_v1.specs.Identities.{AnswersFirst, GivesFirst, FirstAnswer, IsFileFor};
 
 use crate::encryptor::Encryptor;
-use crate::error::FileError;
 use crate::laws::files_carry_themselves;
 use crate::opening::open_file;
 use age_armor::{ArmoredReader, ArmoredWriter, Format, armor_is_carrying};
-use age_error::io;
+use age_error::{FileError, io};
 use age_format::{Grease, Identity, Recipient};
 use age_io::{BufReader, Read, Write, copy_all, flush_retrying};
 use age_stream::laws::reader_law;

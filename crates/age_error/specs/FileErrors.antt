@@ -1,14 +1,11 @@
 -- What a call on a whole file was about when it refused.
-use Rattle.std.specs.Prelude.{◌≡◌, ◌⊎◌, IsTrue}
-use Rattle.age_error.specs.DecryptErrors.{DecryptRefusal, decrypt_refusal, OutOfMemory}
+use Rattle.std.specs.Prelude.{◌≡◌, ◌⊎◌}
+use Rattle.age_error.specs.DecryptErrors.{DecryptRefusal, OutOfMemory, decrypt_refusal}
 use Rattle.age_error.specs.EncryptErrors.{EncryptRefusal, encrypt_refusal}
 use Rattle.age_error.specs.declared.io.Error.{Error}
+use Rattle.age_error.specs.declared.file.FileError.{FileError}
+use Rattle.age_error.specs.declared.file.FileError.TheVariants.{Decrypt, Encrypt, Io}
 use Rattle.age_error.specs.declared.io.Error.TheVariants as io
-use Rattle.age_io.specs.declared.traits.Read.{Ghosts}
-use Rattle.age_v1.specs.DeliveredArmor.{text_delivers, stretch_of}
-use Rattle.age_armor.specs.Refusing.{OrText}
-use Rattle.age_protocol.specs.declared.error.FileError.{FileError}
-use Rattle.age_protocol.specs.declared.error.FileError.TheVariants.{Io, Encrypt, Decrypt}
 
 -- the recipients, the random bytes or the header's memory
 abbrev pub IsEncryptError : FileError → Type 0
@@ -53,14 +50,3 @@ abbrev pub IsWant : FileError → Type 0
 IsWant (Io e) = e ≡ io.OutOfMemory
 IsWant (Encrypt e) = ⊥
 IsWant (Decrypt e) = decrypt_refusal e ≡ OutOfMemory
-
--- Why reading a file's plaintext refuses that a text carries, apart from what is wrong with the payload: for want of memory, for a fault
--- of the text, or as the reader of the text does, whose interruptions are tried again.
-abbrev pub RefusesPlain : {R : Type 0} → Ghosts R → R → Error → Type 0
-RefusesPlain read input e = (e ≡ io.OutOfMemory) ⊎ OrText read input e
-
--- Why reading a file's header and nonce refuses that a text carries: what the text delivers ends well before they do, or as above.
-abbrev pub RefusesHead : {R : Type 0} → Ghosts R → R → Error → Type 0
-RefusesHead read input e = ((e ≡ io.UnexpectedEof)
-    × (IsTrue (read.tells input) → IsTrue (stretch_of (text_delivers (read.rest input).bytes (read.rest input).ends_well)).ends_well))
-    ⊎ OrText read input e

@@ -1,8 +1,10 @@
 //! What a call on a whole file refuses with.
 ghost use Rattle.std.specs.Prelude.{◌≡◌};
-ghost use Rattle.age_protocol.specs.declared.error.FileError.TheVariants.{Io, Encrypt, Decrypt};
+ghost use Rattle.age_error.specs.declared.file.FileError.TheVariants.{Io, Encrypt, Decrypt};
 
-use age_error::{DecryptError, EncryptError, io};
+use crate::decrypt::DecryptError;
+use crate::encrypt::EncryptError;
+use crate::io;
 use thiserror::Error;
 
 /// Why a call on a whole file was refused. Its text is that of the error in it.
