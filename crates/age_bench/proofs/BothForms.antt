@@ -125,7 +125,7 @@ module _ (armored : (bytes : List ℕ) → AreBytes bytes → Carries (armor byt
   pub is_carried : IsCarriedAs
   is_carried Binary draws plain b long p = record {
     each = bench_file_bytes size draws plain b p;
-    way = inr (record { size = bench_file_long draws plain long; plain = bench_file_plain draws plain; same = refl });
+    way = inr (record { size = bench_file_long draws plain long; no_marker = bench_file_plain draws plain; same = refl });
   }
   is_carried AsciiArmor draws plain b long p = armored (bench_file draws plain) (bench_file_bytes size draws plain b p)
 

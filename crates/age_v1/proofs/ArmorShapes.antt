@@ -68,7 +68,7 @@ shape_of text = elim (cases_lt (length text) 36) [
     | inl begin ↦ inr (inr (marker_shape text (drop 34 text) size (begins_back begin_marker text begin)))
     | inr other ↦ inr (inl (record {
       size = size;
-      plain = λ rest e. true≢false (sym (ap (λ y. starts_with nat_eq y begin_marker) e ∙ begins begin_marker rest) ∙ other);
+      no_marker = λ rest e. true≢false (sym (ap (λ y. starts_with nat_eq y begin_marker) e ∙ begins begin_marker rest) ∙ other);
       same = refl;
     }))
   ]

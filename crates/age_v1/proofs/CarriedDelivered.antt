@@ -141,7 +141,7 @@ armored_delivers text x h p =
     marker_line_delivers text first (rest ++ p.end) true size whole marker ∙ section_delivers (length x) x rest p.end (omega arith) h lines p.ends
 
 binary_delivers : (text x : List ℕ) → CarriesBinary text x → text_delivers text true ≡ record { bytes = x; ending = Clean }
-binary_delivers text x p = plain_delivers text true p.size p.plain ∙ ap (λ y. let o : Outcome = record { bytes = y; ending = Clean } in o) p.same
+binary_delivers text x p = plain_delivers text true p.size p.no_marker ∙ ap (λ y. let o : Outcome = record { bytes = y; ending = Clean } in o) p.same
 
 -- a text that carries x delivers x and a clean end
 pub carried_delivered : (text x : List ℕ) → Carries text x → text_delivers text true ≡ record { bytes = x; ending = Clean }

@@ -152,8 +152,8 @@ armored_begins t x p =
 
 ways : (t x y : List ℕ) → AreBytes x → AreBytes y → CarriesArmored t x ⊎ CarriesBinary t x → CarriesArmored t y ⊎ CarriesBinary t y → x ≡ y
 ways t x y hx hy (inl p) (inl q) = one_armored t x y hx hy p q
-ways t x y hx hy (inl p) (inr q) = let b = armored_begins t x p in absurd (q.plain b.0 b.1)
-ways t x y hx hy (inr p) (inl q) = let b = armored_begins t y q in absurd (p.plain b.0 b.1)
+ways t x y hx hy (inl p) (inr q) = let b = armored_begins t x p in absurd (q.no_marker b.0 b.1)
+ways t x y hx hy (inr p) (inl q) = let b = armored_begins t y q in absurd (p.no_marker b.0 b.1)
 ways t x y hx hy (inr p) (inr q) = sym p.same ∙ q.same
 
 pub carries_one : (text x y : List ℕ) → Carries text x → Carries text y → x ≡ y

@@ -147,8 +147,8 @@ pub delivered_carried : (text x : List ℕ) → AreBytes text → text_delivers 
 delivered_carried text x h p = elim (shape_of text) [
   | inl short ↦ refused_clean UnexpectedEof (ap (λ o. o.ending) (sym (early_delivers text true short) ∙ p))
   | inr (inl plain) ↦
-      let same : text ≡ x = ap (λ o. o.bytes) (sym (plain_delivers text true plain.size plain.plain) ∙ p) in
-      record { each = subst AreBytes same h; way = inr (record { size = plain.size; plain = plain.plain; same = same }) }
+      let same : text ≡ x = ap (λ o. o.bytes) (sym (plain_delivers text true plain.size plain.no_marker) ∙ p) in
+      record { each = subst AreBytes same h; way = inr (record { size = plain.size; no_marker = plain.no_marker; same = same }) }
   | inr (inr (inl unended)) ↦ refused_clean (Armor InvalidBeginMarker) (ap (λ o. o.ending) (sym (open_marker_delivers text true unended) ∙ p))
   | inr (inr (inr m)) ↦ marker_back text x m p
 ]

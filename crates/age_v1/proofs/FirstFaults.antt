@@ -159,7 +159,7 @@ refused_faulty text e p = elim (shape_of text) [
   | inl short ↦
       let is = early_delivers text true short in
       inl (short, ap (λ o. o.bytes) is, refused_same e UnexpectedEof (sym p ∙ ap (λ o. o.ending) is))
-  | inr (inl plain) ↦ refused_clean e (sym p ∙ ap (λ o. o.ending) (plain_delivers text true plain.size plain.plain))
+  | inr (inl plain) ↦ refused_clean e (sym p ∙ ap (λ o. o.ending) (plain_delivers text true plain.size plain.no_marker))
   | inr (inr (inl m)) ↦
       let is = open_marker_delivers text true m in
       inr (inl (m, ap (λ o. o.bytes) is, refused_same e (Armor InvalidBeginMarker) (sym p ∙ ap (λ o. o.ending) is)))
@@ -195,7 +195,7 @@ section_own (raw ∷ more) s p =
 delivered_own : (text : List ℕ) → (text_delivers text true).ending ≡ InnerFault → ⊥
 delivered_own text p = elim (shape_of text) [
   | inl short ↦ let bad : Path Ending (Refused UnexpectedEof) InnerFault = sym (ap (λ o. o.ending) (early_delivers text true short)) ∙ p in cc
-  | inr (inl plain) ↦ let bad : Path Ending Clean InnerFault = sym (ap (λ o. o.ending) (plain_delivers text true plain.size plain.plain)) ∙ p in cc
+  | inr (inl plain) ↦ let bad : Path Ending Clean InnerFault = sym (ap (λ o. o.ending) (plain_delivers text true plain.size plain.no_marker)) ∙ p in cc
   | inr (inr (inl m)) ↦ let bad : Path Ending (Refused (Armor InvalidBeginMarker)) InnerFault = sym (ap (λ o. o.ending) (open_marker_delivers text true m)) ∙ p in cc
   | inr (inr (inr m)) ↦ section_own (raw_lines m.rest) false (sym (ap (λ o. o.ending) (marker_line_delivers text m.first m.rest true m.size m.whole m.marker)) ∙ p)
 ]

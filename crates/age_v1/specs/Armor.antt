@@ -57,7 +57,7 @@ pub record CarriesArmored (text bytes : List ℕ) : Type 0 where
 -- apart (every file has more)
 pub record CarriesBinary (text bytes : List ℕ) : Type 0 where
   pub size : 36 ≤ length text
-  pub plain : (rest : List ℕ) → text ≢ begin_marker ++ rest
+  pub no_marker : (rest : List ℕ) → text ≢ begin_marker ++ rest
   pub same : text ≡ bytes
 
 -- the text carries the bytes: it is an armor of them, or the bytes themselves
