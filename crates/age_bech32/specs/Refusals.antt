@@ -10,11 +10,6 @@ abbrev pub message : Bech32Error → List ℕ
 message Invalid = codes "invalid Bech32 encoding"
 message OutOfMemory = codes "out of memory"
 
--- where it is `Invalid` the fact holds
-abbrev pub IfInvalid : Bech32Error → Type 0 → Type 0
-IfInvalid Invalid P = P
-IfInvalid OutOfMemory P = Unit {0}
-
 -- a prefix that may be written: 1 to 83 bytes of 33 to 126, in one case
 abbrev pub MayBeWritten : List ℕ → Type 0
 MayBeWritten prefix = IsPrefix prefix × IsOneCase prefix
@@ -35,6 +30,11 @@ IsNoPayload prefix rest = (bytes : List ℕ) → IsPayload prefix rest bytes →
 -- no prefix and bytes have this text
 abbrev pub IsNoBech32 : List ℕ → Type 0
 IsNoBech32 text = (prefix bytes : List ℕ) → IsBech32 text prefix bytes → ⊥
+
+-- `Invalid` where the text is none, `OutOfMemory` elsewhere
+abbrev pub IsRefusalOfText : Bech32Error → List ℕ → Type 0
+IsRefusalOfText Invalid text = IsNoBech32 text
+IsRefusalOfText OutOfMemory text = (prefix : List ℕ) × (bytes : List ℕ) × IsBech32 text prefix bytes
 
 -- the text has this prefix and some bytes, but not so many
 abbrev pub IsOfOtherSize : ℕ → List ℕ → List ℕ → Type 0

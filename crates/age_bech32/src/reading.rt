@@ -2,7 +2,7 @@
 ghost use Rattle.std.specs.Prelude.{MatchOption, MatchResult, string_bytes};
 ghost use Rattle.age_bech32.specs.Bech32.{IsBech32, IsPayload};
 ghost use Rattle.age_bech32.specs.Groups.{bytes_of_groups};
-ghost use Rattle.age_bech32.specs.Refusals.{IfInvalid, IsNoBech32, IsNoPayload, IsOfOtherSize};
+ghost use Rattle.age_bech32.specs.Refusals.{IsNoBech32, IsNoPayload, IsOfOtherSize, IsRefusalOfText};
 ghost use Rattle.age_bech32.specs.Symbols.{AreSymbols, values_of};
 
 use crate::checksum::{remainder_of_prefix, remainder_of_symbols};
@@ -66,9 +66,9 @@ fn parts_of(text: &str) -> Option<(&str, &[u8])>
 ///
 /// - `Invalid`: the text is none. It lacks a separator, its prefix isn't 1 to 83 bytes of 33 to 126, it has letters of both
 ///   cases, a symbol is none, the check is wrong, or unused bits at the end are more than four or not zero.
-/// - `OutOfMemory`: memory was refused.
+/// - `OutOfMemory`: the text is Bech32, and memory was refused for its prefix or its bytes.
 pub fn decode(alloc: Global, text: &str) -> Result<(String, Vec<u8>), Bech32Error>
-    ensures { MatchResult result (λ read. IsBech32 text.now (string_bytes read.0) read.1.items) (λ e. IfInvalid e (IsNoBech32 text.now)) }
+    ensures { MatchResult result (λ read. IsBech32 text.now (string_bytes read.0) read.1.items) (λ e. IsRefusalOfText e text.now) }
 {
     let Some((prefix, symbols)) = parts_of(text) else {
         return Err(Bech32Error::Invalid);

@@ -83,7 +83,7 @@ pub fn encode_array<const N: usize>(prefix: &str, data: &[u8]) -> Option<[u8; N]
 /// # Errors
 ///
 /// - `Invalid`: the prefix isn't 1 to 83 bytes of 33 to 126, or has letters of both cases.
-/// - `OutOfMemory`: memory was refused.
+/// - `OutOfMemory`: the prefix may be written, and memory was refused.
 pub fn encode(alloc: Global, prefix: &str, data: &[u8]) -> Result<String, Bech32Error>
     ensures text { MatchResult result (λ text. string_bytes text ≡ bech32_text prefix.now «data».now) (λ e. IsRefusalOfPrefix e prefix.now) }
     ensures reads { IfOk result (λ text. IsBech32 (string_bytes text) prefix.now «data».now × IsInCaseOf prefix.now (string_bytes text)) }

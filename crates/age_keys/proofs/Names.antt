@@ -8,7 +8,7 @@ use Rattle.std.proofs.lemmas.List.{append_cancel_left}
 use Rattle.std.proofs.lemmas.List.Elements.{All-nil, All-cons}
 use Rattle.age_bech32.specs.Bech32.{IsBech32}
 use Rattle.age_bech32.specs.Symbols.{lowered}
-use Rattle.age_keys.specs.PluginKeys.{is_name, is_name_byte, identity_front, IsWithoutHyphens, IsPluginIdentity, RefusesIdentity}
+use Rattle.age_keys.specs.PluginKeys.{is_name, is_name_byte, recipient_front, identity_front, IsWithoutHyphens, IsPluginIdentity, RefusesRecipient, RefusesIdentity}
 
 byte-ascii : (byte : ℕ) → is_name_byte byte ≡ true → byte < 128
 byte-ascii byte h = grind (arith, nat_tests)
@@ -40,6 +40,28 @@ pub no_name : (text prefix before front bytes : List ℕ) → IsBech32 text pref
     → is_name front ≡ false → RefusesIdentity text (codes "invalid plugin name")
 no_name text prefix before front bytes reads is trimmed none =
     inr (inr (inl (before, front, bytes, subst (λ p. IsBech32 text p bytes) is reads, trimmed, none, refl)))
+
+-- a text of a recipient's key is refused for want of memory
+pub recipient_wants : (text prefix as_bytes name bytes : List ℕ) → IsBech32 text prefix bytes → as_bytes ≡ prefix → as_bytes ≡ recipient_front ++ name
+    → is_name name ≡ true → RefusesRecipient text (codes "out of memory")
+recipient_wants text prefix as_bytes name bytes reads same is named =
+    inr (inr (inr (
+      record { name = name; text = text },
+      refl,
+      record { bytes = bytes; reads = subst (λ p. IsBech32 text p bytes) (sym same ∙ is) reads; named = named },
+      refl,
+    )))
+
+-- and that of an identity's
+pub identity_wants : (text prefix before front bytes : List ℕ) → IsBech32 text prefix bytes → prefix ≡ identity_front ++ before ++ 45 ∷ []
+    → IsWithoutHyphens before front → is_name front ≡ true → RefusesIdentity text (codes "out of memory")
+identity_wants text prefix before front bytes reads is trimmed named =
+    inr (inr (inr (
+      record { name = lowered front; text = text },
+      refl,
+      record { before = before; bytes = bytes; reads = subst (λ p. IsBech32 text p bytes) is reads; front = front; trimmed = trimmed; named = named; lower = refl },
+      refl,
+    )))
 
 -- the key of an identity without bytes: `upper` is read in two ways, from one text
 pub default_key : (name text upper as_text as_bytes trimmed front : List ℕ) → as_text ≡ upper → as_bytes ≡ upper

@@ -6,7 +6,7 @@ use Rattle.std.proofs.Common.{◌∙◌, inr, arith, ap, sym, subst}
 use Rattle.std.proofs.lemmas.Bool.{and_parts, leb-true}
 use Rattle.std.proofs.lemmas.List.{map-append}
 use Rattle.std.proofs.lemmas.List.Elements.{All-cons, All-nil}
-use Rattle.age_bech32.specs.Bech32.{IsBech32, IsPayload}
+use Rattle.age_bech32.specs.Bech32.{IsBech32, IsInCaseOf, IsPayload}
 use Rattle.age_bech32.specs.Remainder.{expanded, remainder}
 use Rattle.age_bech32.specs.Symbols.{lowered}
 use Rattle.age_bech32.proofs.Cases.{told}
@@ -62,10 +62,11 @@ lowered_same prefix text other key is b =
 
 reads_back : (prefix : List ℕ) → MayBeWritten prefix → KeyReadsBack prefix
 reads_back prefix may key bytes =
-    let reads : IsBech32 (bech32_text prefix key) prefix key = (written prefix key may.0 may.1 bytes.bytes).0 in
+    let (reads, in_case) : IsBech32 (bech32_text prefix key) prefix key × IsInCaseOf prefix (bech32_text prefix key) = written prefix key may.0 may.1 bytes.bytes in
     let text : IsKeyText prefix (bech32_text prefix key) key = record { written = prefix; same = refl; reads = reads; size = bytes.len } in
     record {
       text = text;
+      in_case = in_case;
       alone = λ other of_other. (reading (bech32_text prefix key) of_other.written prefix other key of_other.reads reads).1;
       printed = λ other is same.
           told other (bech32_text prefix key) is.reads.one_case reads.one_case same (lowered_same prefix other (bech32_text prefix key) key is reads);

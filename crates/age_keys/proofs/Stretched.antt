@@ -1,5 +1,5 @@
 -- What a recipient of a passphrase wraps, an identity of it unwraps.
-use Rattle.std.proofs.Common.{◌≡◌, ◌⊎◌, inl, inr, ◌↔◌, ℕ, ◌+◌, ◌≤◌, ◌<◌, ◌^◌, ◌∙◌, Bool, true, false, List, [], ◌∷◌, ◌++◌, length, take, drop, ap, sym, refl, Option, Some, Result, Ok, Err, if◌then◌else◌, nat_le, ltb-true, le-leb, arith}
+use Rattle.std.proofs.Common.{◌≡◌, ◌⊎◌, inl, inr, ◌↔◌, ℕ, ◌+◌, ◌≤◌, ◌<◌, ◌^◌, ◌∙◌, Bool, true, false, List, [], ◌∷◌, ◌++◌, length, take, drop, ap, sym, refl, Option, Some, None, Result, Ok, Err, if◌then◌else◌, nat_le, ltb-true, le-leb, arith}
 use Rattle.std.specs.Prelude.{codes, nat_lt}
 use Rattle.std.proofs.lemmas.Fmt.{decimal_injective}
 use Rattle.std.specs.List.{list_all}
@@ -9,7 +9,7 @@ use Rattle.age_error.specs.Bytes.{AreBytes, AreBytesOf}
 use Rattle.age_error.specs.declared.suite.ScryptError.{ScryptError}
 use Rattle.age_error.specs.declared.suite.ScryptError.TheVariants.{InvalidParams}
 use Rattle.age_error.specs.EncryptErrors.{WorkFactorRefused}
-use Rattle.age_error.specs.DecryptErrors.{OutOfMemory as out_of_memory}
+use Rattle.age_error.specs.DecryptErrors.{DecryptRefusal, DecryptionFailed, OutOfMemory as out_of_memory}
 use Rattle.age_suite.specs.Draw.{taken, left_after}
 use Rattle.age_suite.specs.Suite.{IsCipher, IsStretching}
 use Rattle.age_base64.specs.Base64.{columns}
@@ -23,7 +23,7 @@ use Rattle.age_v1.specs.Encrypting.{WithDrawn, IsOrNoMemory}
 use Rattle.age_format.proofs.Outcomes.{same_value, no_refusal, was_due}
 use Rattle.age_v1.specs.RecipientType.{no_nonce}
 use Rattle.age_v1.specs.Scrypt.{PassphraseRecipient, PassphraseIdentity, Stretching, HasStretching, stretch_salt, scrypt_stanza, wrapped_under, WrapsWithSalt, WrapsUnder, key_under, UnwrapsUnder}
-use Rattle.age_keys.specs.ScryptLaws.{IsMeantFor, has_other_tag}
+use Rattle.age_keys.specs.ScryptLaws.{IsMeantFor, has_other_tag, RefusesUnopened}
 use Rattle.age_keys.proofs.Opening.{no_nonce-bytes}
 use Rattle.age_keys.proofs.OwnTypes.{unchanged, passes_other, answers_own}
 use Rattle.age_keys.proofs.Unwrapped.{was_drawn}
@@ -72,6 +72,24 @@ one_stretching with_ other s h o =
     let salt : other.salt ≡ with_.salt = columns_same other.salt with_.salt o.bytes.bytes h.bytes.bytes (first_of _ _ _ _ same) in
     let factor : other.factor ≡ with_.factor = decimal_injective other.factor with_.factor (omega (arith, o.fits)) (omega (arith, h.fits)) (second_of _ _ _ _ _ _ same) in
     λ i. record { salt = salt i; factor = factor i }
+
+module _ (opened : List ℕ → List ℕ → List ℕ → Option (List ℕ)) (stretch_of : List ℕ → List ℕ → ℕ → List ℕ) (accepts : ℕ → Bool) (identity : PassphraseIdentity) where
+  not_opened : (with_ : Stretching) (body : List ℕ) → nat_le with_.factor identity.most ≡ true → accepts with_.factor ≡ true
+      → opened (stretch_of identity.passphrase (stretch_salt with_.salt) with_.factor) no_nonce body ≡ None
+      → key_under opened stretch_of accepts identity with_ body ≡ Err DecryptionFailed
+  not_opened with_ body within takes shut = rw (within, takes, shut) refl
+
+  failed : (made : Result (List ℕ) DecryptRefusal) (answer : UnwrapAnswer) → made ≡ Err DecryptionFailed → (answer ≡ Some made) ⊎ (answer ≡ Some (Err out_of_memory))
+      → (answer ≡ Some (Err DecryptionFailed)) ⊎ (answer ≡ Some (Err out_of_memory))
+  failed made answer shut (inl is) = inl (is ∙ ap Some shut)
+  failed made answer shut (inr want) = inr want
+
+  pub refuses_unopened : RefusesUnopened opened stretch_of accepts identity
+  refuses_unopened s with_ tag has most takes shut answer asked =
+      failed (key_under opened stretch_of accepts identity with_ s.body) answer
+      (not_opened with_ s.body (le-leb with_.factor identity.most most) takes shut)
+      (answers_own HasStretching (λ other body. Some (key_under opened stretch_of accepts identity other body)) (codes "scrypt") s with_ answer tag has
+      (λ other of_other. one_stretching with_ other s has of_other) asked)
 
 -- wrapped where the suite accepts the factor
 pub was_accepted : (accepts : Bool) (made wrapped : Wrapped) → (if accepts then Ok made else Err WorkFactorRefused) ≡ Ok wrapped → (accepts ≡ true) × (made ≡ wrapped)

@@ -2,7 +2,7 @@
 -- recipient type". A prefix is read in either case.
 use Rattle.std.specs.Prelude.{List, codes, length, ℕ, ◌≡◌, ◌≢◌, ◌⊎◌}
 use Rattle.age_error.specs.Bytes.{AreBytesOf}
-use Rattle.age_bech32.specs.Bech32.{IsBech32}
+use Rattle.age_bech32.specs.Bech32.{IsBech32, IsInCaseOf}
 use Rattle.age_bech32.specs.Refusals.{IsNoBech32}
 use Rattle.age_bech32.specs.Symbols.{has_upper, lowered}
 use Rattle.age_bech32.specs.Written.{bech32_text}
@@ -21,9 +21,11 @@ abbrev pub IsRefusedAs : List ℕ → List ℕ → List ℕ → List ℕ → Typ
 IsRefusedAs prefix size_message text message =
     (IsNoBech32 text × (message ≡ codes "invalid Bech32 encoding")) ⊎ IsOtherText prefix size_message text message
 
--- the text that is written of a key is one of that key and of no other, the only one of it in its case, and none that is refused
+-- the text that is written of a key is in the prefix's case, one of that key and of no other, the only one of it in that case, and none
+-- that is refused
 pub record IsReadBack (prefix key : List ℕ) : Type 0 where
   pub text : IsKeyText prefix (bech32_text prefix key) key
+  pub in_case : IsInCaseOf prefix (bech32_text prefix key)
   pub alone : (other : List ℕ) → IsKeyText prefix (bech32_text prefix key) other → other ≡ key
   pub printed : (other : List ℕ) → IsKeyText prefix other key → has_upper other ≡ has_upper (bech32_text prefix key) → other ≡ bech32_text prefix key
   pub accepted : (size_message message : List ℕ) → IsRefusedAs prefix size_message (bech32_text prefix key) message → ⊥

@@ -44,7 +44,7 @@ pub record IsPluginRecipient (key : PluginKey) : Type 0 where
   pub reads : IsBech32 key.text (recipient_front ++ key.name) bytes
   pub named : is_name key.name ≡ true
 
--- what a text is refused with that is no recipient of a plugin, or whose key wants memory
+-- what a text is refused with that is no recipient of a plugin; one that is, for want of memory alone
 abbrev pub RefusesRecipient : List ℕ → List ℕ → Type 0
 RefusesRecipient text message =
     (IsNoBech32 text × (message ≡ codes "invalid Bech32 encoding"))
@@ -52,7 +52,7 @@ RefusesRecipient text message =
     × (message ≡ codes "invalid HRP"))
     ⊎ ((name : List ℕ) × (bytes : List ℕ) × IsBech32 text (recipient_front ++ name) bytes × (is_name name ≡ false) × (name ≢ [])
     × (message ≡ codes "invalid plugin name"))
-    ⊎ (message ≡ codes "out of memory")
+    ⊎ ((key : PluginKey) × (key.text ≡ text) × IsPluginRecipient key × (message ≡ codes "out of memory"))
 
 -- the key of an identity: its name is what follows the front of the prefix, without the hyphens at its end and in lower case
 pub record IsPluginIdentity (key : PluginKey) : Type 0 where
@@ -64,7 +64,7 @@ pub record IsPluginIdentity (key : PluginKey) : Type 0 where
   pub named : is_name front ≡ true
   pub lower : key.name ≡ lowered front
 
--- what a text is refused with that is no identity of a plugin, or whose key wants memory
+-- what a text is refused with that is no identity of a plugin; one that is, for want of memory alone
 abbrev pub RefusesIdentity : List ℕ → List ℕ → Type 0
 RefusesIdentity text message =
     (IsNoBech32 text × (message ≡ codes "invalid Bech32 encoding"))
@@ -72,7 +72,7 @@ RefusesIdentity text message =
     × (message ≡ codes "invalid HRP"))
     ⊎ ((before : List ℕ) × (front : List ℕ) × (bytes : List ℕ) × IsBech32 text (identity_front ++ before ++ 45 ∷ []) bytes
     × IsWithoutHyphens before front × (is_name front ≡ false) × (message ≡ codes "invalid plugin name"))
-    ⊎ (message ≡ codes "out of memory")
+    ⊎ ((key : PluginKey) × (key.text ≡ text) × IsPluginIdentity key × (message ≡ codes "out of memory"))
 
 -- a name in upper case
 abbrev pub uppered : List ℕ → List ℕ

@@ -41,8 +41,8 @@ pub(crate) fn text_of(alloc: Global, prefix: &str, key: &[u8; 32]) -> Result<Str
 }
 
 /// What is printed of an X25519 identity or recipient is read back as it is: its text is one of its 32 bytes and of no others (`text`,
-/// `alone`), and parsing doesn't refuse it (`accepted`). And a text of them in that case is the one that is printed (`printed`). For
-/// proofs alone: it does nothing.
+/// `alone`), and parsing doesn't refuse it (`accepted`). It is in the prefix's case (`in_case`), a recipient's in lower case and an
+/// identity's in upper case, and a text of them in that case is the one that is printed (`printed`). For proofs alone: it does nothing.
 pub fn text_laws()
     ensures identity { KeyReadsBack identity_prefix }
     ensures recipient { KeyReadsBack recipient_prefix }

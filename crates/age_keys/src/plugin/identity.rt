@@ -66,7 +66,7 @@ impl Identity {
     /// - `invalid HRP`: its prefix isn't longer than `AGE-PLUGIN-` with that beginning, in upper case, or doesn't end in a hyphen.
     /// - `invalid plugin name`: what stands between, without hyphens at its end, isn't one or more ASCII letters, digits, `+`, `-`,
     ///   `.` and `_`.
-    /// - `out of memory`: memory was refused.
+    /// - `out of memory`: it is a key of that form, and memory was refused.
     pub fn from_str(alloc: Global, text: &str) -> Result<Identity, &'static str>
         ensures { MatchResult result (λ key. (key.text ≡ text.now) × IsPluginIdentity key) (λ message. RefusesIdentity text.now message.now) }
     {

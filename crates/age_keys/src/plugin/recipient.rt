@@ -32,7 +32,7 @@ impl Recipient {
     /// - `invalid Bech32 encoding`: it is no Bech32 (BIP 173) of any length.
     /// - `invalid HRP`: its prefix isn't longer than `age1` with that beginning, in lower case.
     /// - `invalid plugin name`: what follows there isn't of ASCII letters, digits, `+`, `-`, `.` and `_`.
-    /// - `out of memory`: memory was refused.
+    /// - `out of memory`: it is a key of that form, and memory was refused.
     pub fn from_str(alloc: Global, text: &str) -> Result<Recipient, &'static str>
         ensures { MatchResult result (λ key. (key.text ≡ text.now) × IsPluginRecipient key) (λ message. RefusesRecipient text.now message.now) }
     {

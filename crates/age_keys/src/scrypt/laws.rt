@@ -1,6 +1,7 @@
-//! What is true of recipients and identities of passphrases, for proofs alone: the function here does nothing, and its contract is the law.
+//! What is true of recipients and identities of passphrases, for proofs alone: the functions here do nothing, and their contracts are the
+//! laws.
 ghost use Rattle.age_v1.specs.Belonging.{BelongsTo};
-ghost use Rattle.age_keys.specs.ScryptLaws.{IsMeantFor, has_other_tag};
+ghost use Rattle.age_keys.specs.ScryptLaws.{IsMeantFor, RefusesUnopened, has_other_tag};
 
 use crate::scrypt::identity::Identity;
 use crate::scrypt::recipient::Recipient;
@@ -14,3 +15,10 @@ pub fn scrypt_pair<S: Suite>(recipient: &Recipient<S>, identity: &Identity<S>)
 {
     recipient.known();
 }
+
+/// What an identity answers to a stanza of this type that its passphrase doesn't open: `DecryptionFailed`, or want of memory. The stanza
+/// has a salt, a work factor that identity and suite take, and a body of 32 bytes. That the stanza of another passphrase isn't opened is
+/// nothing that a suite promises.
+pub fn scrypt_unopened<S: Suite>(identity: &Identity<S>)
+    ensures { RefusesUnopened S.opened S.stretch_of S.accepts identity.now }
+{}

@@ -6,5 +6,5 @@ mod recipient;
 mod stretching;
 
 pub use identity::Identity;
-pub use laws::scrypt_pair;
+pub use laws::{scrypt_pair, scrypt_unopened};
 pub use recipient::Recipient;

@@ -1,4 +1,5 @@
 //! What is true of X25519 recipients and identities, for proofs alone: the functions here do nothing, and their contracts are the laws.
+ghost use Rattle.age_error.specs.Bytes.{AreBytesOf};
 ghost use Rattle.age_v1.specs.Belonging.{AnswersBeside, BelongsTo};
 ghost use Rattle.age_keys.specs.X25519Laws.{UnwrapsWhatItWraps, has_other_tag, IsPassedOver, PassesUnopened};
 
@@ -28,6 +29,20 @@ pub fn x25519_pair<S: Suite>(identity: &Identity<S>)
     ensures beside_passed { AnswersBeside ⟦<Recipient<S> as age_format::Recipient>⟧.wraps ⟦<Identity<S> as age_format::Identity>⟧.unwraps
         (IsPassedOver S.opened S.shared_of S.public_of identity.now) (S.public_of identity.now) identity.now }
     ensures unopened { PassesUnopened S.opened S.shared_of S.public_of identity.now }
+{
+    identity.known();
+}
+
+/// What contracts know of a recipient, its public value, is 32 bytes.
+pub fn known_recipient<S>(recipient: &Recipient<S>)
+    ensures { AreBytesOf 32 recipient.now }
+{
+    recipient.known();
+}
+
+/// What contracts know of an identity, its secret, is 32 bytes.
+pub fn known_identity<S>(identity: &Identity<S>)
+    ensures { AreBytesOf 32 identity.now }
 {
     identity.known();
 }

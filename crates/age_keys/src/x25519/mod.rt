@@ -7,5 +7,5 @@ mod unwrapping;
 mod wrapping;
 
 pub use identity::Identity;
-pub use laws::{x25519_laws, x25519_pair};
+pub use laws::{known_identity, known_recipient, x25519_laws, x25519_pair};
 pub use recipient::Recipient;

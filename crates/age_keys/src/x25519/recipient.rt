@@ -1,5 +1,6 @@
 //! X25519 recipients.
 ghost use Rattle.std.specs.Prelude.{◌≡◌};
+ghost use Rattle.age_error.specs.Bytes.{AreBytesOf};
 
 use crate::texts::parse_key;
 use crate::x25519::wrapping::{NO_SECRET, stanza_of, wrap_key};
@@ -45,6 +46,13 @@ impl<S> Recipient<S> {
             public,
             suite: PhantomData,
         }
+    }
+
+    /// The public value is 32 bytes: a fact for proofs alone, which costs nothing.
+    pub(crate) fn known(&self)
+        ensures { AreBytesOf 32 self.now }
+    {
+        known_array(&self.public);
     }
 }
 
