@@ -112,7 +112,7 @@ pub mod x25519 {
     /// What is true of them, for proofs alone.
     pub mod laws {
         pub use age_keys::text_laws;
-        pub use age_keys::x25519::{x25519_laws, x25519_pair};
+        pub use age_keys::x25519::{known_identity, known_recipient, x25519_laws, x25519_pair};
     }
 }
 
@@ -122,7 +122,7 @@ pub mod scrypt {
 
     /// What is true of them, for proofs alone.
     pub mod laws {
-        pub use age_keys::scrypt::scrypt_pair;
+        pub use age_keys::scrypt::{scrypt_pair, scrypt_unopened};
     }
 }
 

@@ -53,4 +53,6 @@ no_plugin text message (inr (inr (inl named))) other key is of =
     (subst (λ t. IsBech32 t (identity_front ++ of.before ++ 45 ∷ []) of.bytes) is of.reads)).0 in
     let one = same_trimmed of.before front of.front (subst (λ b. IsWithoutHyphens b front) same trimmed) of.trimmed in
     true-false (sym of.named ∙ ap is_name (sym one) ∙ no_name)
-no_plugin text message (inr (inr (inr memory))) other key is of = other memory
+no_plugin text message (inr (inr (inr memory))) other key is of =
+    let (wanted, same, wanted_of, message_is) = memory in
+    other message_is
