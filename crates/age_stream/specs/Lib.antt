@@ -15,3 +15,4 @@ pub mod PrivateKeeping
 pub mod PrivateWholeness
 pub mod Sealed
 pub mod Seeking
+pub mod Access

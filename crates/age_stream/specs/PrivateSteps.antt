@@ -140,6 +140,7 @@ module _ {S R : Type 0} {suite : SuiteGhosts S} {read : Ghosts R} where
 
   -- which of the opened chunks a read has then
   pub record ReadsChunks (old new : StreamReader S R suite read) (result : Result ℕ Error) : Type 0 where
+    pub held : OnOk result (new.held ≡ true)
     pub at_end : IsAfterLast old → new.opens ≡ old.opens
     pub opened : (IsHolding old → ⊥) → IfOk result (λ n. 0 < n → one_more old.opens ≤ new.opens)
     pub uses : IfOk result (λ n. 0 < n → last_used new.cache ≡ Some (place_of old / 65536))
@@ -147,6 +148,15 @@ module _ {S R : Type 0} {suite : SuiteGhosts S} {read : Ghosts R} where
     pub has : IsHolding old ⊎ IsAfterLast old → OnOk result ((b : ℕ) → HasOne old.cache b → HasOne new.cache b)
     pub same_last : IsAfterLast old → OnOk result (last_used new.cache ≡ last_used old.cache)
     pub finds : IfOk result (λ n. 0 < n → (IsAfterLast new → ⊥) → HasOne new.cache (place_of new / 65536) → IsHolding new)
+
+  -- Reads in turn into room that ends in the chunk in which it begins, of this number, which gave so many bytes in all, have that chunk and the one
+  -- that had been used last; both where none was opened.
+  pub record FullInOne {T : Type 0} (old new : StreamReader S R suite read) (chunk count : ℕ) (result : Result T Error) : Type 0 where
+    pub opens : new.opens ≤ old.opens + 2
+    pub none : IsHolding old → new.opens ≡ old.opens
+    pub uses : OnOk result (0 < count → last_used new.cache ≡ Some chunk)
+    pub keeps_last : OnOk result ((b : ℕ) → last_used old.cache ≡ Some b → HasOne new.cache b)
+    pub keeps : IsHolding old → OnOk result ((b : ℕ) → HasOne old.cache b → HasOne new.cache b)
 
   -- Bytes were read until so many had come or the end was found.
   pub record ReadsFull (old new : StreamReader S R suite read) (asked : ℕ) (given : List ℕ) (count : ℕ) : Type 0 where

@@ -290,8 +290,9 @@ impl<S: Suite, R: Seek> Seek for StreamReader<S, R> {
     /// - `BadEnd`: the target is the end, and the last chunk doesn't open as the last.
     ///
     /// Before and between them a refusal of the inner reader is answered as it is, but for one that says that a target inside
-    /// its own content is outside of it, which is `BadEnd`. Its interruptions are retried as by `seek_retrying` and `fill`.
-    /// `OutOfMemory` where the suite was refused memory for the last chunk's plaintext.
+    /// its own content is outside of it, which is `BadEnd`. There is no other `BadEnd` or `TooLong`, also where the device failed
+    /// (`says`). Its interruptions are retried as by `seek_retrying` and `fill`. `OutOfMemory` where the suite was refused memory
+    /// for the last chunk's plaintext.
     ///
     /// After `BeforeStart` and `PastEnd` the place is as it was, and so is a failure, and the inner reader stands where it
     /// stood. After any other refusal the reader has failed, at the same place. The payload's front is reckoned from where

@@ -118,6 +118,7 @@ returns-in-Ok-clause-chunks g c =
     let given = c.give.ensures in
     let apart : IsAfterLast self → ⊥ = c.is_after_last.ensures.no c.if-is_after_last.false in
     record {
+      held = given.held.held ∙ done.holds.good.1;
       at_end = λ is. absurd (apart is);
       opened = λ none some. subst (λ n. one_more self.opens ≤ n) (sym given.held.opens) (done.holds.opened none);
       uses = λ some.
