@@ -1,7 +1,7 @@
 -- What reads and seeks in turn answer: a cursor over a list, and any reader.
-use Rattle.std.specs.Prelude.{◌≡◌, ◌≢◌, ℕ, ◌+◌, ◌≤◌, ◌<◌, Bool, IsTrue, List, [], ◌∷◌, length, take, drop, Result, Ok, Err}
-use Rattle.age_io.specs.Stretch.{Stretch, from_place, IsCleanEnd}
-use Rattle.age_io.specs.Reading.{Reads, ReadsInTurn, GivesInAll}
+use Rattle.std.specs.Prelude.{◌≡◌, ◌≢◌, ℕ, ◌+◌, Bool, List, [], ◌∷◌, length, take, drop, Result, Ok, Err}
+use Rattle.age_io.specs.Stretch.{Stretch, from_place}
+use Rattle.age_io.specs.Turns.{GivesUpTo, GivesThenRefuses}
 use Rattle.age_io.specs.Cursor.{sought, Seeks}
 use Rattle.age_error.specs.Refusals.{IsDevice}
 use Rattle.age_error.specs.declared.io.Error.{Error}
@@ -72,24 +72,6 @@ IsNoWant _ = Unit {0}
 
 module _ {S : Type 0} (tells steady : S → Bool) (content : S → Stretch) (place : S → ℕ) (rest : S → Stretch) (faults : S → ℕ) (refuses : S → Error → Type 0)
     (read_besides : S → S → List ℕ → List ℕ → Result ℕ Error → Type 0) where
-  -- Reads in turn, of which none was refused, were asked for so many bytes in all, and gave fewer at a clean end alone.
-  pub record GivesUpTo (wanted : ℕ) (got : List ℕ) (old new : S) : Type 0 where
-    pub most : length got ≤ wanted
-    pub gives : GivesInAll tells steady content place rest faults refuses old new got
-    pub turns : (n : ℕ) × ReadsInTurn tells steady content place rest faults refuses read_besides n old new got
-    pub end : IsTrue (tells old) → length got < wanted → IsCleanEnd (rest new)
-
-  -- They were asked for so many bytes, and gave fewer, since the next read refused with this error. Nothing was tried again.
-  pub record GivesThenRefuses (wanted : ℕ) (got : List ℕ) (e : Error) (old new : S) : Type 0 where
-    pub fewer : length got < wanted
-    pub between : S
-    pub gives : GivesInAll tells steady content place rest faults refuses old between got
-    pub turns : (n : ℕ) × ReadsInTurn tells steady content place rest faults refuses read_besides n old between got
-    pub room : List ℕ
-    pub buf : List ℕ
-    pub refused : Reads tells steady content place rest faults refuses between new buf (Err e)
-    pub own : read_besides between new room buf (Err e)
-
   module _ (seek_refuses : Error → Type 0) (seek_besides : S → S → SeekFrom → Result ℕ Error → Type 0) where
     -- A seek answered this, and said of itself what it promises besides.
     pub record SeeksOnce (old new : S) (to : SeekFrom) (result : Result ℕ Error) : Type 0 where
@@ -98,8 +80,8 @@ module _ {S : Type 0} (tells steady : S → Bool) (content : S → Stretch) (pla
 
     -- this answer came of reads or of a seek, which left the reader so
     abbrev pub CameOf : Op → Answer → S → S → Type 0
-    CameOf (Read n) (Bytes got) old new = GivesUpTo n got.items old new
-    CameOf (Read n) (Fault got e) old new = GivesThenRefuses n got.items e old new
+    CameOf (Read n) (Bytes got) old new = GivesUpTo tells steady content place rest faults refuses read_besides n got.items old new
+    CameOf (Read n) (Fault got e) old new = GivesThenRefuses tells steady content place rest faults refuses read_besides n got.items e old new
     CameOf (Seek to) (At n) old new = SeeksOnce old new to (Ok n)
     CameOf (Seek to) (Fault got e) old new = (got.items ≡ []) × SeeksOnce old new to (Err e)
     CameOf _ _ old new = ⊥

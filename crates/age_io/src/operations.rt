@@ -38,8 +38,8 @@ pub enum Answer {
 /// Does each read and seek in turn, also after one was refused, and answers what came of each.
 ///
 /// An answer says what the reader's own calls did, in the state in which the operation before it left the reader: a read's
-/// bytes are those that it gave, also before a refusal, and they are fewer than it asked for at a clean end alone; a refusal
-/// is that of the next call.
+/// bytes are those that it gave, also before a refusal, and they are fewer than it asked for at a clean end alone, which a
+/// call that answered 0 into room that isn't empty found; a refusal is that of the next call.
 ///
 /// On a content that ends well, of which no byte is lost yet, the answers are those of a cursor on it, as long as no
 /// device fails and no answer is `OutOfMemory`; the reader then stands where the cursor does. Nothing is tried again.

@@ -5,6 +5,7 @@ ghost use Rattle.age_error.specs.declared.io.Error.TheVariants.{OutOfMemory, Une
 ghost use Rattle.age_io.specs.Stretch.{Stretch, IsCleanEnd, IsFault, from_place};
 ghost use Rattle.age_io.specs.Reading.{IsQuiet, Delivers, StaysOrFails, TookSome, IsShort, GrewByRead, EndsEarly, Gave, TriedAgain, most_faults};
 ghost use Rattle.age_io.specs.Keeping.{KeepsReader, OrEarly};
+ghost use Rattle.age_io.specs.Turns.{GivesTried, RefusesTried};
 ghost use Rattle.age_io.specs.Writing.{Retried, WritesAll};
 
 use crate::retry::{read_retrying, write_retrying};
@@ -16,6 +17,10 @@ use std::alloc::Global;
 ///
 /// A refusal is that of the read that met it. The reader then stands after the bytes in `filled`, or has failed there.
 /// An interruption is tried again as in `read_retrying`.
+///
+/// Of every reader, also one that doesn't tell its bytes: what is in front of the buffer is what its reads gave. Where it
+/// succeeds none of them was refused, and where the buffer isn't full the last of them answered 0 (`turns`); where it
+/// refuses, the last of them, and no other, was refused with this error (`refused`).
 pub fn fill<R: Read>(reader: &mut R, buf: &mut [u8], filled: &mut usize) -> Result<(), Error>
     ensures keeps { KeepsReader ⟦<R as Read>⟧ (TriedAgain R.refuses) reader.old reader.new result }
     ensures unspent { 0 < length buf.old → OnOk result (R.faults reader.new < most_faults) }
@@ -29,6 +34,9 @@ pub fn fill<R: Read>(reader: &mut R, buf: &mut [u8], filled: &mut usize) -> Resu
         (Gave (take filled.new buf.new) (R.rest reader.old) (R.rest reader.new)) }
     ensures cause { IsTrue (R.tells reader.old) → IfErr result (λ e. e ≢ OutOfMemory →
         IsQuiet (R.faults reader.old) (R.faults reader.new) → EndsEarly (length buf.new) (R.rest reader.old)) }
+    // Of every reader: which of its reads there were.
+    ensures turns { OnOk result (GivesTried ⟦<R as Read>⟧ (length buf.new) (take filled.new buf.new) reader.old reader.new) }
+    ensures refused { IfErr result (λ e. RefusesTried ⟦<R as Read>⟧ (length buf.new) (take filled.new buf.new) e reader.old reader.new) }
 {
     *filled = 0;
     'reads: while *filled < buf.len() {

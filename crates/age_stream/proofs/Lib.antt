@@ -17,3 +17,4 @@ pub mod Flushing
 pub mod Sent
 pub mod Outside
 pub mod Named
+pub mod OneChunk

@@ -58,6 +58,7 @@ module _ {S R : Type 0} {suite : SuiteGhosts S} {read : Ghosts R} (old new : Str
 
   pub chunks-refused : (e : Error) → (IsAfterLast old → ⊥) → ReadsChunks old new (Err e)
   chunks-refused e apart = record {
+    held = tt;
     at_end = λ is. absurd (apart is);
     opened = λ _. tt;
     uses = tt;
@@ -145,6 +146,7 @@ module _ {S R : Type 0} {suite : SuiteGhosts S} {read : Ghosts R} (old new : Str
 
     pub chunks-end : (result : Result ℕ Error) → IfOk result (λ n. n ≡ 0) → ReadsChunks old new result
     chunks-end (Err e) none = record {
+      held = tt;
       at_end = λ _. stays.opens;
       opened = λ _. tt;
       uses = tt;
@@ -154,6 +156,7 @@ module _ {S R : Type 0} {suite : SuiteGhosts S} {read : Ghosts R} (old new : Str
       finds = tt;
     }
     chunks-end (Ok n) none = record {
+      held = stays.held ∙ at_end.0;
       at_end = λ _. stays.opens;
       opened = λ _ some. absurd (omega (arith, none, some));
       uses = λ some. absurd (omega (arith, none, some));

@@ -21,6 +21,7 @@ use Rattle.age_v1.specs.Payload.{final_chunk, nonce, plain_len}
 use Rattle.age_v1.specs.DeliveredPayload.{text_at}
 use Rattle.age_stream.specs.ReadingLemmas.{and-left, and-right, taken-rest}
 use Rattle.age_stream.specs.Reader.{payload_of, tells_of, steady_of, content_of, place_of, plain_rest_of, faults_of, stops_of, refuses_of, HasEnd, HoldsEnd}
+use Rattle.age_stream.specs.Naming.{SaysWhySeek}
 use Rattle.age_stream.specs.Seeking.{FindsTarget, RefusesTarget, SeeksPayload, ToEnd}
 use Rattle.age_stream.specs.PrivateSteps.{Enters, EntersEnd, KeepsAtEnd, Quietly, Stays}
 use Rattle.age_v1.specs.PayloadTargets.{below_start, in_length, IsRefusedTarget}
@@ -54,8 +55,9 @@ module _ {S R : Type 0} {suite : SuiteGhosts S} {read : Ghosts R} where
         place_of new ≡ place_of old → (IsOutside e → ⊥) → old.opens ≤ new.opens → new.opens ≤ old.opens + 1 →
         (IsTrue (tells_of old) → (ToEnd old to → ⊥) → new.opens ≡ old.opens) → (IsTrue (tells_of old) → HoldsEnd old → new.opens ≡ old.opens) →
         (IsTrue (tells_of old) → IsTrue (payload_of old).ends_well → Quietly old new e (IsRefusedTarget suite.seal_of old.key (payload_of old).bytes to (place_of old) e)) →
-        (IsTrue (tells_of old) → IsTrue (payload_of old).ends_well → IsTrue (content_of old).ends_well → Quietly old new e ⊥) → SeeksPayload below old new to (Err e)
-    seek-refused e keeps key failed place other counts most end held bad cause = record {
+        (IsTrue (tells_of old) → IsTrue (payload_of old).ends_well → IsTrue (content_of old).ends_well → Quietly old new e ⊥) →
+        (IsTrue (tells_of old) → SaysWhySeek below old new to e) → SeeksPayload below old new to (Err e)
+    seek-refused e keeps key failed place other counts most end held bad cause says = record {
       seeks = record {
         same_tells = (stream-kept old new keeps key).0;
         same_steady = (stream-kept old new keeps key).1;
@@ -83,6 +85,7 @@ module _ {S R : Type 0} {suite : SuiteGhosts S} {read : Ghosts R} where
       refused = λ _ r. absurd (other r);
       ends = λ _. tt;
       bad = bad;
+      says = says;
       inner_end = λ _. tt;
       inner_place = λ _ r. absurd (other r);
       inner_rest = λ _ _ r. absurd (other r);
@@ -193,6 +196,7 @@ module _ {S R : Type 0} {suite : SuiteGhosts S} {read : Ghosts R} where
           refused = λ _. tt;
           ends = λ told end. absurd (before_end told end);
           bad = λ _ _. tt;
+          says = λ _. tt;
           inner_end = λ told. ap (λ s. s.ends_well) (enters.rest (later told)) ∙ ap (λ p. p.ends_well) (look.payload told);
           inner_place = λ _. tt;
           inner_rest = λ _ _. tt;
@@ -252,6 +256,7 @@ module _ {S R : Type 0} {suite : SuiteGhosts S} {read : Ghosts R} where
               (subst (λ k. suite.opened k (nonce new.number true) (text_at new.number payload) ≡ Some new.cache.chunk.items) key
               (subst (λ b. suite.opened new.key (nonce new.number b) (text_at new.number payload) ≡ Some new.cache.chunk.items) enters.good.2 opens));
           bad = λ _ _. tt;
+          says = λ _. tt;
           inner_end = λ told. enters.inner_end (later told) ∙ ap (λ p. p.ends_well) (look.payload told);
           inner_place = λ _. tt;
           inner_rest = λ _ _. tt;
@@ -332,6 +337,7 @@ module _ {S R : Type 0} {suite : SuiteGhosts S} {read : Ghosts R} where
           refused = λ told _. rw above (found-there told find.err);
           ends = λ _. tt;
           bad = λ told well memory quiet. inl (rw above (found-there told find.err));
+          says = λ told. inl (inl (rw above (found-there told find.err)));
           inner_end = λ _. tt;
           inner_place = λ told _. inner_place told;
           inner_rest = λ told asked _.

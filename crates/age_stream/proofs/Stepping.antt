@@ -1,5 +1,5 @@
 -- Steps that follow one another.
-use Rattle.std.specs.Prelude.{◌≡◌, ℕ, ◌+◌, ◌≤◌, Bool, false, true, IsTrue, cond, None, Some, option_map, length, Result, OnOk, Ok}
+use Rattle.std.specs.Prelude.{◌≡◌, ℕ, ◌+◌, ◌≤◌, ◌⊎◌, Bool, false, true, IsTrue, cond, None, Some, option_map, length, Result, OnOk, Ok}
 use Rattle.std.proofs.Common.{arith, ap, ◌∙◌, sym, subst, inl, inr}
 use Rattle.std.proofs.lemmas.Bool.{true≢false}
 use Rattle.std.proofs.lemmas.Result.{on_ok_weaker}
@@ -16,6 +16,8 @@ use Rattle.age_stream.specs.Reading.{spare}
 use Rattle.age_stream.specs.PrivateSteps.{EntersEnd, HasOpenedAt, KeepsAtEnd, KeepsBesideLast, OpensFew, PassesOn, RefusesAtPlace, RefusesStep}
 use Rattle.age_io.specs.ReadingLemmas.{quiet_from}
 use Rattle.age_stream.specs.PrivateKeeping.{KeepsPayload}
+use Rattle.age_stream.specs.Naming.{RefusedBelow, RefusesText}
+use Rattle.age_v1.specs.DeliveredPayload.{chunk_of}
 use Rattle.age_stream.proofs.Holding.{spare-none}
 use Rattle.age_stream.proofs.Keeping.{told-later}
 
@@ -67,6 +69,25 @@ module _ {S R : Type 0} {suite : SuiteGhosts S} {read : Ghosts R} where
       cause = λ told memory quiet. subst IsFault passes.rest (r.cause (told-passed told) memory (rw passes.inner quiet));
       refused = λ told memory quiet. rw (passes.key, passes.inner, passes.taken, passes.place, passes.wanted) at (r.refused (told-passed told) memory (rw passes.inner quiet));
     }
+
+    pub says-passed : (e : Error) → RefusedBelow read 65552 mid.inner new.inner e ⊎ RefusesText mid new e → RefusedBelow read 65552 old.inner new.inner e ⊎ RefusesText old new e
+    says-passed e h = elim h [
+      | inl below ↦ inl (rw passes.inner at below)
+      | inr r ↦ inr (record {
+        text = r.text;
+        came = rw passes.inner at r.came;
+        number = r.number;
+        from = omega (arith, r.from, passes.place);
+        to = omega (arith, r.to, passes.place);
+        why = elim r.why [
+          | inl want ↦ inl want
+          | inr more ↦ elim more [
+            | inl bad ↦ inr (inl (ap (λ k. chunk_of suite.opened k r.number r.text) (sym passes.key) ∙ bad))
+            | inr short ↦ inr (inr (short.0, omega (arith, short.1, passes.place)))
+          ]
+        ];
+      })
+    ]
 
     pub opens-passed : {T : Type 0} (result : Result T Error) → mid.opens + spare mid.held mid.cache.last + old.number ≤ old.opens + spare old.held old.cache.last + mid.number →
         OpensFew mid new result → OpensFew old new result

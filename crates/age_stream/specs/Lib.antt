@@ -3,6 +3,7 @@ pub mod Wholeness
 pub mod Cache
 pub mod Keeping
 pub mod Reader
+pub mod Naming
 pub mod Sending
 pub mod Writing
 pub mod ReadingLemmas
@@ -14,3 +15,4 @@ pub mod PrivateKeeping
 pub mod PrivateWholeness
 pub mod Sealed
 pub mod Seeking
+pub mod Access

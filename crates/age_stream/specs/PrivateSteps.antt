@@ -8,11 +8,13 @@ use Rattle.age_io.specs.declared.traits.Read.{Ghosts}
 use Rattle.age_io.specs.Cursor.{IsOutside}
 use Rattle.age_io.specs.Stretch.{from_place, IsCleanEnd, IsFault}
 use Rattle.age_io.specs.Reading.{Delivers, EndsEarly, IsQuiet, most_faults}
+use Rattle.age_io.specs.Turns.{GivesTried}
 use Rattle.age_stream.specs.declared.reader.StreamReader.{StreamReader}
 use Rattle.age_v1.specs.PayloadAnswers.{Gives, RefusesRead, RefusesItself, StandAt, StopsNear, IsGoodEnd}
 use Rattle.age_stream.specs.Cache.{last_used, HasOne}
 use Rattle.age_stream.specs.Reader.{payload_of, place_of, plain_rest_of, tells_of, wanted_of, HasEnd, IsHolding, IsAfterLast}
 use Rattle.age_v1.specs.Payload.{nonce}
+use Rattle.age_stream.specs.Naming.{RefusedOnTheWay}
 use Rattle.age_stream.specs.Reading.{spare, TookFromInner}
 use Rattle.age_v1.specs.DeliveredPayload.{text_at}
 
@@ -38,6 +40,7 @@ module _ {S R : Type 0} {suite : SuiteGhosts S} {read : Ghosts R} where
   pub record TakesBytes (asked : ℕ) (old new : StreamReader S R suite read) (count : ℕ) : Type 0 where
     pub unspent : read.faults new.inner < most_faults
     pub most : count ≤ asked
+    pub turns : GivesTried read asked (take count new.sealed.items) old.inner new.inner
     pub took : IsTrue (read.tells old.inner) → TookFromInner asked (read.rest old.inner) (read.rest new.inner) (take count new.sealed.items)
     pub moves : IsTrue (tells_of old) → (read.place new.inner ≡ read.place old.inner + count) × (new.taken ≡ old.taken + count)
 
@@ -137,6 +140,7 @@ module _ {S R : Type 0} {suite : SuiteGhosts S} {read : Ghosts R} where
 
   -- which of the opened chunks a read has then
   pub record ReadsChunks (old new : StreamReader S R suite read) (result : Result ℕ Error) : Type 0 where
+    pub held : OnOk result (new.held ≡ true)
     pub at_end : IsAfterLast old → new.opens ≡ old.opens
     pub opened : (IsHolding old → ⊥) → IfOk result (λ n. 0 < n → one_more old.opens ≤ new.opens)
     pub uses : IfOk result (λ n. 0 < n → last_used new.cache ≡ Some (place_of old / 65536))
@@ -144,6 +148,15 @@ module _ {S R : Type 0} {suite : SuiteGhosts S} {read : Ghosts R} where
     pub has : IsHolding old ⊎ IsAfterLast old → OnOk result ((b : ℕ) → HasOne old.cache b → HasOne new.cache b)
     pub same_last : IsAfterLast old → OnOk result (last_used new.cache ≡ last_used old.cache)
     pub finds : IfOk result (λ n. 0 < n → (IsAfterLast new → ⊥) → HasOne new.cache (place_of new / 65536) → IsHolding new)
+
+  -- Reads in turn into room that ends in the chunk in which it begins, of this number, which gave so many bytes in all, have that chunk and the one
+  -- that had been used last; both where none was opened.
+  pub record FullInOne {T : Type 0} (old new : StreamReader S R suite read) (chunk count : ℕ) (result : Result T Error) : Type 0 where
+    pub opens : new.opens ≤ old.opens + 2
+    pub none : IsHolding old → new.opens ≡ old.opens
+    pub uses : OnOk result (0 < count → last_used new.cache ≡ Some chunk)
+    pub keeps_last : OnOk result ((b : ℕ) → last_used old.cache ≡ Some b → HasOne new.cache b)
+    pub keeps : IsHolding old → OnOk result ((b : ℕ) → HasOne old.cache b → HasOne new.cache b)
 
   -- Bytes were read until so many had come or the end was found.
   pub record ReadsFull (old new : StreamReader S R suite read) (asked : ℕ) (given : List ℕ) (count : ℕ) : Type 0 where
@@ -179,6 +192,11 @@ module _ {S R : Type 0} {suite : SuiteGhosts S} {read : Ghosts R} where
   -- The last chunk doesn't open as the last.
   abbrev pub IsNoLast : StreamReader S R suite read → ℕ → Error → Type 0
   IsNoLast r number e = (e ≡ BadEnd) × (suite.opened r.key (nonce number true) (text_at number (payload_of r)) ≡ None)
+
+  -- Why a seek to the end refuses once the payload's length is known: the last chunk doesn't open, or no memory is there for it, or the reader below refused.
+  abbrev pub SaysWhyEnd : (Error → Type 0) → (old new : StreamReader S R suite read) → ℕ → Error → Type 0
+  SaysWhyEnd seek_refuses old new number e =
+      (IsTrue (tells_of old) → IsNoLast old number e) ⊎ (e ≡ OutOfMemory) ⊎ RefusedOnTheWay read seek_refuses new.inner e
 
   -- It stands at a place before the end, and holds the chunk there if it has that. One that had failed has none.
   pub record Enters (old new : StreamReader S R suite read) (size place : ℕ) (was_failed : Bool) : Type 0 where

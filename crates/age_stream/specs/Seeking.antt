@@ -10,6 +10,7 @@ use Rattle.age_io.specs.Cursor.{IsOutside, OrTooLong, Seeks}
 use Rattle.age_io.specs.Reading.{IsQuiet}
 use Rattle.age_io.specs.Stretch.{from_place}
 use Rattle.age_stream.specs.declared.reader.StreamReader.{StreamReader}
+use Rattle.age_stream.specs.Naming.{SaysWhySeek}
 use Rattle.age_stream.specs.PrivateKeeping.{IsPayloadSeekRefusal}
 use Rattle.age_v1.specs.Payload.{final_chunk, plain_len, EndsAsLast}
 use Rattle.age_stream.specs.Reader.{payload_of, key_of, inner_of, inner_rest_of, wanted_of, opens_of, last_used_of, HasChunk, HasFailed, HoldsEnd, IsHolding, IsAfterLast, tells_of, steady_of, content_of, place_of, plain_rest_of, faults_of, refuses_of}
@@ -44,6 +45,7 @@ module _ {S R : Type 0} {suite : SuiteGhosts S} {read : Ghosts R} where
     pub refused : IsTrue (tells_of old) → IfErr result (λ e. IsOutside e → sought_in to (place_of old) (length (payload_of old).bytes) ≡ Err e)
     pub ends : IsTrue (tells_of old) → OnOk result (ToEnd old to → EndsAsLast suite.seal_of (key_of old) (payload_of old).bytes)
     pub bad : IsTrue (tells_of old) → IsTrue (payload_of old).ends_well → IfErr result (λ e. e ≢ OutOfMemory → IsQuiet (faults_of old) (faults_of new) → IsRefusedTarget suite.seal_of (key_of old) (payload_of old).bytes to (place_of old) e)
+    pub says : IsTrue (tells_of old) → IfErr result (SaysWhySeek below old new to)
     pub inner_end : IsTrue (tells_of old) → OnOk result ((inner_rest_of new).ends_well ≡ (payload_of old).ends_well)
     pub inner_place : IsTrue (tells_of old) → IfErr result (λ e. IsOutside e → read.place (inner_of new) ≡ read.place (inner_of old))
     pub inner_rest : IsTrue (tells_of old) → (IsTrue (below_start to (place_of old)) → ⊥) → IfErr result (λ e. IsOutside e → inner_rest_of new ≡ from_place (read.place (inner_of old)) (read.content (inner_of old)))

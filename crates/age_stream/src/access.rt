@@ -17,7 +17,7 @@ use age_suite::suite::Suite;
 
 impl<S: Suite, R: Read> StreamReader<S, R> {
     ghost use Rattle.age_stream.specs.Reader.{key_of, place_of, stops_of};
-    ghost use Rattle.age_stream.specs.PrivateSteps.{ReadsFull, RefusesFull};
+    ghost use Rattle.age_stream.specs.PrivateSteps.{FullInOne, ReadsFull, RefusesFull};
 
     // Reads until the buffer is full or the end. `filled` says how many bytes were read, also after a refusal.
     fn read_full(&mut self, buf: &mut [u8], filled: &mut usize) -> Result<(), Error>
@@ -28,6 +28,8 @@ impl<S: Suite, R: Read> StreamReader<S, R> {
         ensures reads { OnOk result (ReadsFull self.old self.new (length buf.new) (take filled.new buf.new) filled.new) }
         ensures refused { IfErr result (RefusesFull self.old self.new (length buf.new) filled.new) }
         ensures opens { (self.old.opens ≤ self.new.opens) × (self.new.opens ≤ self.old.opens + length buf.new / 65536 + 3) }
+        ensures one { IsTrue (⟦<StreamReader<S, R> as Read>⟧.tells self.old) → (chunk : ℕ) → 65536 * chunk ≤ place_of self.old →
+            place_of self.old + length buf.new ≤ 65536 * chunk + 65536 → FullInOne self.old self.new chunk filled.new result }
     {
         *filled = 0;
         'reads: while *filled < buf.len() {
@@ -46,6 +48,7 @@ impl<S: Suite, R: Read> StreamReader<S, R> {
 }
 
 impl<S: Suite, R: Seek> StreamReader<S, R> {
+    ghost use Rattle.age_stream.specs.Access.{IsInChunk, ReadsOneChunk};
     ghost use Rattle.age_stream.specs.Reader.{payload_of, key_of, inner_of, inner_rest_of, place_of, HasFailed, IsHolding, opens_of};
 
     /// Seeks, and then reads until the buffer is full or the end. It answers how many bytes it read, which are in front of
@@ -55,6 +58,10 @@ impl<S: Suite, R: Seek> StreamReader<S, R> {
     /// where the seek refused with `BeforeStart` or `PastEnd`. It stands where it stood, or where the seek led and after the bytes
     /// that were read since (`stands`). `BeforeStart` and `PastEnd` say that the target is outside, unless the inner reader's own
     /// reads refuse so (`outside`). What `buf` holds after a refusal isn't said. For n bytes it opens at most n / 65,536 + 4 times.
+    ///
+    /// Where `buf` isn't empty, the target is before the end, and as many bytes as `buf` takes end in the chunk in which they begin, it
+    /// opens at most twice, and not at all where it has that chunk. It has the chunk then, as the one that was used last, and the
+    /// one that was used last before; and where it had the chunk, both that it had (`chunks`).
     pub fn read_at(&mut self, to: SeekFrom, buf: &mut [u8]) -> Result<usize, Error>
         ensures keeps { KeepsReader ⟦<StreamReader<S, R> as Read>⟧ (OrSeek (OrTooLong R.seek_refuses) ⟦<StreamReader<S, R> as Read>⟧.refuses) self.old self.new result }
         ensures count { IfOk result (λ n. n ≤ length buf.new) }
@@ -110,6 +117,9 @@ impl<S: Suite, R: Seek> StreamReader<S, R> {
         // How often it opens a chunk.
         ensures counts { opens_of self.old ≤ opens_of self.new }
         ensures opens { opens_of self.new ≤ opens_of self.old + length buf.new / 65536 + 4 }
+        // Where all that it may give is in one chunk: which of the opened chunks it has then, and that it opens none that it has.
+        ensures chunks { IsTrue (⟦<StreamReader<S, R> as Read>⟧.tells self.old) → (chunk : ℕ) →
+            IsInChunk (length (payload_of self.old).bytes) to (place_of self.old) (length buf.new) chunk → ReadsOneChunk self.old self.new chunk result }
     {
         match Seek::seek(self, to) {
             Err(e) => Err(e),

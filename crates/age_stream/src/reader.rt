@@ -71,6 +71,7 @@ pub struct StreamReader<S: Suite, R: Read> {
 
 impl<S: Suite, R: Read> Read for StreamReader<S, R> {
     ghost use Rattle.age_stream.specs.Reader.{payload_of, key_of, inner_rest_of, wanted_of, HasChunk, HasFailed, HasSought, IsHolding, IsAfterLast, last_used_of, opens_of, tells_of, steady_of, content_of, place_of, plain_rest_of, faults_of, refuses_of, inner_of};
+    ghost use Rattle.age_stream.specs.Naming.{SaysWhy};
     ghost use Rattle.age_stream.specs.Sealed.{ReadsPayload};
 
     ghost tells = { tells_of };
@@ -129,7 +130,8 @@ impl<S: Suite, R: Read> Read for StreamReader<S, R> {
     /// - `AfterLast`: bytes follow a chunk that opened as the last, and that reads came through to its end since the last
     ///   seek that succeeded. Right after a seek the chunk at the place is judged by itself.
     /// - that of the inner reader, where it refuses before a chunk is whole, or in place of its end after the last
-    ///   chunk. Its interruptions are retried as by `fill`.
+    ///   chunk, and by the name that it has there: any other comes only where no read of it was refused (`says`). Its
+    ///   interruptions are retried as by `fill`.
     /// - `OutOfMemory`: the suite was refused memory for the plaintext of a chunk. Nothing is said of the payload.
     /// - `Failed`: it refused before.
     ///
@@ -165,6 +167,8 @@ impl<S: Suite, R: Read> Read for StreamReader<S, R> {
 
         // That the end is bad it says only where the inner reader does: so only a seek does.
         ensures names { (HasFailed self.old → ⊥) → IfErr result (OwnOrInner ⟦<R as Read>⟧ IsReadRefusal (inner_of self.old)) }
+        // Over any reader: a refusal is that of one of its reads, by that name, or of what they gave, where none of them was refused.
+        ensures says { (HasFailed self.old → ⊥) → IfErr result (SaysWhy self.old self.new) }
 
         // Of the buffer nothing else changes.
         ensures beyond { IfOk result (λ n. drop n buf.new ≡ drop n buf.old) }
@@ -204,6 +208,7 @@ impl<S: Suite, R: Read> Read for StreamReader<S, R> {
 
 impl<S: Suite, R: Read> StreamReader<S, R> {
     ghost use Rattle.age_stream.specs.Reader.{payload_of, key_of, inner_of, inner_rest_of, place_of, wanted_of, HasFailed, HasSought, IsHolding, IsAfterLast, opens_of, stops_of};
+    ghost use Rattle.age_stream.specs.Naming.{RefusedBelow, RefusesMore, RefusesText, SaysWhy};
     ghost use Rattle.age_stream.specs.PrivateSteps.{AnswersRead, EndsClean, GivesHeld, HasOpenedAt, Moves, OpensFew, PassesOn, ReadsChunks, RefusesPastLast, RefusesAtPlace, Stays, StaysAt};
 
     /// A reader of the payload that begins where `inner` stands, under the payload key of 32 bytes. It stands before the
@@ -296,6 +301,7 @@ impl<S: Suite, R: Read> StreamReader<S, R> {
             Reads reader.tells reader.steady reader.content reader.place reader.rest reader.faults reader.refuses self.old self.new buf.new result }
         ensures keeps { KeepsPayload ⟦<R as Read>⟧ (stops_of self.old) self.old.inner self.old.taken self.new.inner self.new.taken result }
         ensures names { IfErr result (OwnOrInner ⟦<R as Read>⟧ IsReadRefusal self.old.inner) }
+        ensures says { IfErr result (SaysWhy self.old self.new) }
         ensures moves { Moves self.old self.new result }
         ensures answers { AnswersRead self.old self.new buf.old buf.new result }
         ensures opens { OpensFew self.old self.new result }
@@ -324,6 +330,7 @@ impl<S: Suite, R: Read> StreamReader<S, R> {
         requires more { self.old.held ≡ true → self.old.cache.last ≡ true → self.old.at < length self.old.cache.chunk.items }
         ensures keeps { KeepsPayload ⟦<R as Read>⟧ (stops_of self.old) self.old.inner self.old.taken self.new.inner self.new.taken result }
         ensures names { IfErr result (OwnOrInner ⟦<R as Read>⟧ IsReadRefusal self.old.inner) }
+        ensures says { IfErr result (λ e. RefusedBelow ⟦<R as Read>⟧ 65552 self.old.inner self.new.inner e ⊎ RefusesText self.old self.new e) }
         ensures stays { StaysAt self.old self.new }
         ensures holds { OnOk result (HasOpenedAt self.old self.new) }
         ensures refused { IfErr result (RefusesAtPlace self.old self.new) }
@@ -361,6 +368,7 @@ impl<S: Suite, R: Read> StreamReader<S, R> {
         requires given { self.old.at ≡ length self.old.cache.chunk.items }
         ensures keeps { KeepsPayload ⟦<R as Read>⟧ (stops_of self.old) self.old.inner self.old.taken self.new.inner self.new.taken result }
         ensures names { IfErr result (OwnOrInner ⟦<R as Read>⟧ IsReadRefusal self.old.inner) }
+        ensures says { IfErr result (λ e. RefusedBelow ⟦<R as Read>⟧ 1 self.old.inner self.new.inner e ⊎ RefusesMore self.old self.new e) }
         ensures stays { Stays self.old self.new }
         ensures sought { self.new.sought ≡ self.old.sought }
         ensures none { IfOk result (λ n. n ≡ 0) }
@@ -385,6 +393,7 @@ impl<S: Suite, R: Read> StreamReader<S, R> {
         requires closed { self.old.held ≡ false }
         ensures keeps { KeepsPayload ⟦<R as Read>⟧ (stops_of self.old) self.old.inner self.old.taken self.new.inner self.new.taken result }
         ensures names { IfErr result (OwnOrInner ⟦<R as Read>⟧ IsReadRefusal self.old.inner) }
+        ensures says { IfErr result (λ e. RefusedBelow ⟦<R as Read>⟧ 65552 self.old.inner self.new.inner e ⊎ RefusesText self.old self.new e) }
         ensures stays { StaysAt self.old self.new }
         ensures holds { OnOk result (HasOpenedAt self.old self.new) }
         ensures refused { IfErr result (RefusesAtPlace self.old self.new) }

@@ -70,7 +70,8 @@ fn find(to: SeekFrom, place: u64, size: u64) -> Result<(u64, u64), Error>
 impl<S: Suite, R: Seek> StreamReader<S, R> {
     ghost use Rattle.age_stream.specs.Reader.{payload_of, place_of, HasEnd};
     ghost use Rattle.age_stream.specs.Seeking.{SeeksPayload};
-    ghost use Rattle.age_stream.specs.PrivateSteps.{Enters, EntersEnd, IsNoLast, KeepsAtEnd, KeepsBesideLast, RefusesStep};
+    ghost use Rattle.age_stream.specs.Naming.{RefusedOnTheWay};
+    ghost use Rattle.age_stream.specs.PrivateSteps.{Enters, EntersEnd, IsNoLast, KeepsAtEnd, KeepsBesideLast, RefusesStep, SaysWhyEnd};
 
     // Goes to a place before the end. The chunk there is held then if it is opened by the verdict on it.
     fn enter(&mut self, start: u64, size: u64, place: u64, was_failed: bool) -> Result<(), Error>
@@ -84,6 +85,7 @@ impl<S: Suite, R: Seek> StreamReader<S, R> {
         ensures same { (self.new.key ≡ self.old.key) × (self.new.sought ≡ true) × (self.new.opens ≡ self.old.opens) }
         ensures enters { OnOk result (Enters self.old self.new size place was_failed) }
         ensures refused { IfErr result (RefusesStep self.old self.new (λ _. ⊥)) }
+        ensures says { IfErr result (RefusedOnTheWay ⟦<R as Read>⟧ R.seek_refuses self.new.inner) }
     {
         let number = place / PIECE as u64;
         let at = (place % PIECE as u64) as usize;
@@ -127,6 +129,7 @@ impl<S: Suite, R: Seek> StreamReader<S, R> {
         ensures same { (self.new.key ≡ self.old.key) × (self.new.sought ≡ true) }
         ensures enters { OnOk result (EntersEnd self.old self.new number (length (payload_of self.old).bytes - 16 * (number + 1))) }
         ensures refused { IfErr result (RefusesStep self.old self.new (IsNoLast self.old number)) }
+        ensures says { IfErr result (SaysWhyEnd R.seek_refuses self.old self.new number) }
         ensures opens { (self.old.opens ≤ self.new.opens) × (self.new.opens ≤ self.old.opens + 1) }
         ensures chunks { OnOk result (KeepsBesideLast self.old self.new number) }
     {
@@ -178,6 +181,7 @@ impl<S: Suite, R: Seek> StreamReader<S, R> {
         ensures same { (self.new.key ≡ self.old.key) × (self.new.sought ≡ true) }
         ensures enters { OnOk result (EntersEnd self.old self.new (final_chunk size) len) }
         ensures refused { IfErr result (RefusesStep self.old self.new (IsNoLast self.old (final_chunk size))) }
+        ensures says { IfErr result (SaysWhyEnd R.seek_refuses self.old self.new (final_chunk size)) }
         ensures opens { (self.old.opens ≤ self.new.opens) × (self.new.opens ≤ self.old.opens + 1) }
         ensures none { was_failed ≡ false → HasEnd self.old (final_chunk size) → self.new.opens ≡ self.old.opens }
         ensures chunks { OnOk result (KeepsAtEnd self.old self.new (final_chunk size) was_failed) }
@@ -263,6 +267,7 @@ impl<S: Suite, R: Seek> StreamReader<S, R> {
 
 impl<S: Suite, R: Seek> Seek for StreamReader<S, R> {
     ghost use Rattle.age_stream.specs.Reader.{payload_of, key_of, inner_of, inner_rest_of, wanted_of, place_of, HasChunk, HasFailed, IsHolding, IsAfterLast, HoldsEnd, last_used_of, opens_of};
+    ghost use Rattle.age_stream.specs.Naming.{SaysWhySeek};
     ghost use Rattle.age_stream.specs.Seeking.{SeeksPayload};
 
     ghost seek_refuses = { OrTooLong R.seek_refuses };
@@ -285,8 +290,9 @@ impl<S: Suite, R: Seek> Seek for StreamReader<S, R> {
     /// - `BadEnd`: the target is the end, and the last chunk doesn't open as the last.
     ///
     /// Before and between them a refusal of the inner reader is answered as it is, but for one that says that a target inside
-    /// its own content is outside of it, which is `BadEnd`. Its interruptions are retried as by `seek_retrying` and `fill`.
-    /// `OutOfMemory` where the suite was refused memory for the last chunk's plaintext.
+    /// its own content is outside of it, which is `BadEnd`. There is no other `BadEnd` or `TooLong`, also where the device failed
+    /// (`says`). Its interruptions are retried as by `seek_retrying` and `fill`. `OutOfMemory` where the suite was refused memory
+    /// for the last chunk's plaintext.
     ///
     /// After `BeforeStart` and `PastEnd` the place is as it was, and so is a failure, and the inner reader stands where it
     /// stood. After any other refusal the reader has failed, at the same place. The payload's front is reckoned from where
@@ -308,6 +314,9 @@ impl<S: Suite, R: Seek> Seek for StreamReader<S, R> {
         ensures bad { let reader = ⟦<StreamReader<S, R> as Read>⟧ in IsTrue (reader.tells self.old) → IsTrue (payload_of self.old).ends_well →
             IfErr result (λ e. e ≢ OutOfMemory → IsQuiet (reader.faults self.old) (reader.faults self.new) →
             IsRefusedTarget S.seal_of (key_of self.old) (payload_of self.old).bytes to (place_of self.old) e) }
+        // So it is whether or not the device failed, and whatever the input's end: else the inner reader's refusal is passed on by its name, or as
+        // `BadEnd` where it says that a place of the input is outside.
+        ensures says { IsTrue (⟦<StreamReader<S, R> as Read>⟧.tells self.old) → IfErr result (SaysWhySeek R.seek_refuses self.old self.new to) }
 
         ensures inner_end { IsTrue (⟦<StreamReader<S, R> as Read>⟧.tells self.old) → OnOk result
             ((inner_rest_of self.new).ends_well ≡ (payload_of self.old).ends_well) }

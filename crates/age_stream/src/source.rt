@@ -1,9 +1,10 @@
 //! What a `StreamReader` asks of the reader that its payload comes from. Nothing else asks it.
-ghost use Rattle.std.specs.Prelude.{◌≡◌, ◌≢◌, ℕ, ◌+◌, ◌-◌, ◌<◌, ◌≤◌, ◌&&◌, true, IsTrue, length, take, IfOk, IfErr, OnOk, Ok, Err};
+ghost use Rattle.std.specs.Prelude.{◌≡◌, ◌≢◌, ℕ, ◌+◌, ◌-◌, ◌<◌, ◌≤◌, ◌&&◌, true, IsTrue, List, length, take, IfOk, IfErr, OnOk, Ok, Err};
 ghost use Rattle.age_error.specs.declared.io.Error.TheVariants.{OutOfMemory};
 ghost use Rattle.age_io.specs.Stretch.{from_place};
 ghost use Rattle.age_io.specs.Reading.{IsQuiet, EndsEarly, TriedAgain, most_faults};
 ghost use Rattle.age_io.specs.Keeping.{KeepsReader};
+ghost use Rattle.age_io.specs.Turns.{GivesTried, RefusesTried};
 ghost use Rattle.age_stream.specs.Reading.{TookFromInner};
 ghost use Rattle.age_stream.specs.PrivateKeeping.{IsLost, IsPayloadSeekRefusal, KeepsPayload};
 
@@ -39,11 +40,14 @@ fn fill_front<R: Read>(
     ensures took { IsTrue (R.tells reader.old) → OnOk result (TookFromInner asked (R.rest reader.old) (R.rest reader.new) (take filled.new room.new)) }
     ensures cause { IsTrue (R.tells reader.old) → IfErr result (λ e. e ≢ OutOfMemory →
         IsQuiet (R.faults reader.old) (R.faults reader.new) → EndsEarly asked (R.rest reader.old)) }
+    ensures turns { OnOk result (GivesTried ⟦<R as Read>⟧ asked (take filled.new room.new) reader.old reader.new) }
+    ensures refused { IfErr result (λ e. RefusesTried ⟦<R as Read>⟧ asked (take filled.new room.new) e reader.old reader.new) }
 {
     fill(reader, &mut room[..asked], filled)
 }
 
 impl<S: Suite, R: Read> StreamReader<S, R> {
+    ghost use Rattle.age_stream.specs.Naming.{RefusedBelow};
     ghost use Rattle.age_stream.specs.PrivateSteps.{Stays, TakesBytes};
 
     // Takes so many bytes of the inner reader into the front of the room for a sealed text, or all that are left, and answers how many they are.
@@ -57,6 +61,7 @@ impl<S: Suite, R: Read> StreamReader<S, R> {
         ensures takes { IfOk result (TakesBytes asked self.old self.new) }
         ensures cause { IsTrue (R.tells self.old.inner) → IfErr result (λ e. e ≢ OutOfMemory →
             IsQuiet (R.faults self.old.inner) (R.faults self.new.inner) → EndsEarly asked (R.rest self.old.inner)) }
+        ensures refused { IfErr result (RefusedBelow ⟦<R as Read>⟧ asked self.old.inner self.new.inner) }
     {
         self.failed = true;
         let mut count = 0;
@@ -71,6 +76,7 @@ impl<S: Suite, R: Read> StreamReader<S, R> {
 
 impl<S: Suite, R: Seek> StreamReader<S, R> {
     ghost use Rattle.age_stream.specs.Reader.{payload_of};
+    ghost use Rattle.age_stream.specs.Naming.{RefusedOnTheWay};
     ghost use Rattle.age_stream.specs.PrivateSteps.{RefusesStep, IsPlaced, Stays};
 
     // Where the payload starts in the inner content, and how long it is. The inner reader goes to the end.
@@ -83,6 +89,7 @@ impl<S: Suite, R: Seek> StreamReader<S, R> {
             (found.0 ≡ R.place self.old.inner - self.old.taken) × (found.0 ≡ R.place self.new.inner - self.new.taken)
             × (found.1 ≡ length (payload_of self.old).bytes)) }
         ensures refused { IfErr result (RefusesStep self.old self.new (λ _. ⊥)) }
+        ensures says { IfErr result (RefusedOnTheWay ⟦<R as Read>⟧ R.seek_refuses self.new.inner) }
     {
         match seek_retrying(&mut self.inner, SeekFrom::Current(0)) {
             Err(e) => Err(lost(e)),
@@ -111,6 +118,7 @@ impl<S: Suite, R: Seek> StreamReader<S, R> {
         ensures stands { OnOk result (IsPlaced self.old self.new place) }
         ensures start { IsTrue (R.tells self.old.inner && R.steady self.old.inner) → start ≡ R.place self.new.inner - self.new.taken }
         ensures refused { IfErr result (RefusesStep self.old self.new (λ _. ⊥)) }
+        ensures says { IfErr result (RefusedOnTheWay ⟦<R as Read>⟧ R.seek_refuses self.new.inner) }
     {
         match seek_retrying(
             &mut self.inner,

@@ -90,6 +90,7 @@ returns-clause-came g c =
         gives = before.gives;
         turns = before.turns;
         end = λ told less. absurd (grind (arith, common_steps, w.reads-test.false, less));
+        finds = λ less. absurd (grind (arith, common_steps, w.reads-test.false, less));
       }
       | then-reads-test+in-Ok-eq0 w ↦
           let none : w.in-Ok-eq0.field-0 ≡ 0 = omega (arith, w.in-Ok-eq0.field-0-test) in
@@ -104,5 +105,11 @@ returns-clause-came g c =
                 c.args.reader.now c.reads.reader w.read.new.self c.reads.got.items c.reads.got.items _ w.read.new.buf 0 before.turns got own same;
             end = λ told less. clean-after r.tells r.steady r.content r.place r.rest r.faults r.refuses c.reads.reader w.read.new.self w.read.new.buf got
                 (before.same.tells ∙ told) (grind (arith, common_steps, w.reads-test.true));
+            finds = λ less. (
+              c.reads.reader,
+              before.turns.0,
+              before.turns.1,
+              record { room = _; buf = w.read.new.buf; some = grind (arith, common_steps, w.reads-test.true); reads = got; own = own },
+            );
           }
     ]

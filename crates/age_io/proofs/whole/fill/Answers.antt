@@ -2,7 +2,7 @@ use Rattle.std.proofs.Common.{◌≡◌, ◌<◌, arith, ◌∙◌, ◌-◌, len
 use Rattle.std.proofs.lemmas.Slice.{take-put_mid_below}
 use Rattle.std.proofs.lemmas.Grind.{common_steps}
 use Rattle.age_io.proofs.Delivering.{take-filled}
-use Rattle.age_io.proofs.Filled.{filled-more}
+use Rattle.age_io.proofs.Filled.{filled-more, filled-all, filled-end, filled-refused}
 use Rattle.age_io.specs.Reading.{TriedAgain}
 use Rattle.age_io.specs.ReadingLemmas.{quiet_from}
 use Rattle.age_io.proofs.Appending.{OnErr-of}
@@ -44,6 +44,11 @@ returns-in_err-n g c =
           let fault = reads.cause (before.same.tells ∙ told) other (quiet_from before.same.faults reads.no_fewer_faults quiet) in
           let size : length front ≡ c.reads.filled = length-take-le c.reads.filled c.reads.buf before.within in
           fault-early front (g.R.Read.rest c.args.reader.now) (g.R.Read.rest c.reads.reader) (before.so_far told) _ (grind (arith, common_steps, size)) fault);
+      turns = OnOk-refused _ _ refused;
+      refused = of_error _ _ _ is (filled-refused g.R.Read c.reads.buf _ c.read_retrying.new.buf c.reads.filled c.in_err-n.field-0.0 c.args.reader.now c.reads.reader
+          c.read_retrying.new.reader
+          (take-put_mid_below c.reads.filled (length c.reads.buf - c.reads.filled) c.reads.buf c.read_retrying.new.buf c.reads.filled (le_refl c.reads.filled)
+          before.within) (grind (arith, common_steps)) before reads);
     }
 
 pub returns-in-0-clause-keeps : goal.returns-in-0-clause-keeps
@@ -85,3 +90,15 @@ pub returns-clause-keeps : goal.returns-clause-keeps
 returns-clause-keeps g c =
     let before = c.reads.invariant in
     keeps-done g.R.Read (TriedAgain g.R.Read.refuses) c.args.reader.now c.reads.reader before.same before.narrows
+
+pub returns-in-0-clause-turns : goal.returns-in-0-clause-turns
+returns-in-0-clause-turns g c =
+    let before = c.reads.invariant in
+    let reads = c.in_ok-n.ensures.reads in
+    filled-end g.R.Read c.reads.buf _ c.read_retrying.new.buf c.reads.filled c.in_ok-n.n c.args.reader.now c.reads.reader c.read_retrying.new.reader c.in-0.is
+    (take-put_mid_below c.reads.filled (length c.reads.buf - c.reads.filled) c.reads.buf c.read_retrying.new.buf c.reads.filled (le_refl c.reads.filled)
+    before.within) (grind (arith, common_steps, before.within)) (grind (arith, common_steps)) before reads
+
+pub returns-clause-turns : goal.returns-clause-turns
+returns-clause-turns g c =
+    filled-all g.R.Read c.reads.buf c.reads.filled c.args.reader.now c.reads.reader (grind (arith, common_steps)) c.reads.invariant

@@ -60,6 +60,7 @@ returns-then-count-gt0 g c =
     (sound.is_held c.requires.held) c.requires.last (sound.is_past c.requires.good c.requires.held) (takes.took (and-left _ _ told)).came some in
     record {
       names = inl after_last-named;
+      says = inr (record { text = text; came = takes.turns; some = some; is = refl });
       keeps = payload-ended read self.inner mid.inner self.taken mid.taken AfterLast
           (payload-more read _ self.inner mid.inner self.taken mid.taken (λ e none. absurd none) c.in-Ok.ensures.keeps) (λ device. device)
           (record { is = tt; named = λ told. inr (self.number, follow told) });
@@ -111,3 +112,6 @@ returns-else-count-gt0-clause-ends g c =
 
 pub returns-in-Err-clause-names : goal.returns-in-Err-clause-names
 returns-in-Err-clause-names g c = inner-named g.R.Read c.args.self.now.inner c.in-Err.e c.in-Err.ensures.keeps.inner.why
+
+pub returns-in-Err-clause-says : goal.returns-in-Err-clause-says
+returns-in-Err-clause-says g c = inl c.in-Err.ensures.refused

@@ -91,6 +91,7 @@ returns-in-Ok g c =
         finds = λ _ _ _. (refl, subst (λ k. c.args.place % 65536 < length k.chunk.items) (sym done.stays.cache) (c.find.ensures.found c.if-find.true).2);
       };
       refused = tt;
+      says = tt;
     }
 
 pub returns-in-Ok-stand : goal.returns-in-Ok-stand
@@ -125,6 +126,7 @@ returns-in-Ok-stand g c =
             absurd (omega (arith, there.1, there.2, longer, length-text 65552 (65552 * cache.number) payload.bytes, c.requires.size told, c.requires.before));
       };
       refused = tt;
+      says = tt;
     }
 
 pub returns-in-Err-clause-refused : goal.returns-in-Err-clause-refused

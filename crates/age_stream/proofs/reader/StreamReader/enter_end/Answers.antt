@@ -41,6 +41,7 @@ returns-in-Ok g c =
         inner_end = λ told. ap (λ s. s.ends_well) (done.stands.rest told);
       };
       refused = tt;
+      says = tt;
       opens = (omega (arith, done.stays.opens), omega (arith, done.stays.opens));
       none = λ _ _. done.stays.opens;
       chunks = record {
@@ -159,6 +160,7 @@ returns-in-Ok-stand g c =
         inner_end = λ told. ap (λ s. s.ends_well) (done.stands.rest told);
       };
       refused = tt;
+      says = tt;
       opens = (omega (arith, done.stays.opens), omega (arith, done.stays.opens));
       none = λ _ _. done.stays.opens;
       chunks = record {
@@ -202,6 +204,15 @@ returns-in-Ok-stand-2 g c =
             subst (λ k. g.S.Suite.opened k (nonce number true) (text_at number (payload_of self)) ≡ None) done.stays.key
                 (subst (λ p. g.S.Suite.opened mid.key (nonce number true) (text_at number p) ≡ None) (done.keeps.payload told) bad.1),
           )) r) last.refused;
+      says = IfErr-weaker c.open_last.result _ _ (λ e why. elim why [
+        | inl bad ↦ inl (λ told.
+            let was = bad (later told) in (
+              was.0,
+              subst (λ k. g.S.Suite.opened k (nonce number true) (text_at number (payload_of self)) ≡ None) done.stays.key
+                  (subst (λ p. g.S.Suite.opened mid.key (nonce number true) (text_at number p) ≡ None) (done.keeps.payload told) was.1),
+            ))
+        | inr other ↦ inr other
+      ]) last.says;
       opens = (omega (arith, last.opens.0, done.stays.opens), omega (arith, last.opens.1, done.stays.opens));
       none = λ good is. absurd (apart good is);
       chunks = on_ok_weaker c.open_last.result (keeps-at-end self mid new number c.args.was_failed
@@ -243,3 +254,12 @@ stand-requires-then-find_last-clause-within g c = λ told. omega (arith, c.requi
 
 pub stand-requires-else-find_last-clause-within : goal.stand-requires-else-find_last-clause-within
 stand-requires-else-find_last-clause-within g c = λ told. omega (arith, c.requires.size told, c.requires.last.enough)
+
+pub returns-in-Err-clause-says : goal.returns-in-Err-clause-says
+returns-in-Err-clause-says g c = inr (inr c.in-Err.ensures.says)
+
+pub returns-in-Err-stand-clause-says : goal.returns-in-Err-stand-clause-says
+returns-in-Err-stand-clause-says g c = inr (inr c.in-Err-stand.ensures.says)
+
+pub returns-in-Err-stand-2-clause-says : goal.returns-in-Err-stand-2-clause-says
+returns-in-Err-stand-2-clause-says g c = inr (inr c.in-Err-stand-2.ensures.says)

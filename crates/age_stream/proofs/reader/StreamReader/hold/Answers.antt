@@ -1,5 +1,5 @@
 use Rattle.std.proofs.lemmas.Result.{on_ok_weaker, IfErr-weaker}
-use Rattle.age_stream.proofs.Stepping.{holds-passed, opens-passed, refuses-passed}
+use Rattle.age_stream.proofs.Stepping.{holds-passed, opens-passed, refuses-passed, says-passed}
 use Rattle.age_stream.proofs.reader.StreamReader.hold.Goals as goal
 
 pub returns-clause-holds : goal.returns-clause-holds
@@ -16,3 +16,7 @@ returns-clause-opens g c =
 
 pub returns-clause-names : goal.returns-clause-names
 returns-clause-names g c = rw c.pass.ensures.passes.inner at c.open.ensures.names
+
+pub returns-clause-says : goal.returns-clause-says
+returns-clause-says g c =
+    IfErr-weaker c.open.result _ _ (says-passed c.args.self.now c.pass.new.self c.open.new.self c.pass.ensures.passes c.pass.ensures.holding) c.open.ensures.says

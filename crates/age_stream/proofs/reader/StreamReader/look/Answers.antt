@@ -2,6 +2,7 @@ use Rattle.std.proofs.Common.{◌≡◌, ◌-◌, ◌+◌, ◌∙◌, arith, len
 use Rattle.age_stream.specs.ReadingLemmas.{and-left, and-right}
 use Rattle.age_stream.proofs.Asking.{reader-asked}
 use Rattle.age_stream.proofs.Inner.{current-zero, end-zero}
+use Rattle.age_stream.proofs.Named.{sought-named}
 use Rattle.age_stream.proofs.reader.StreamReader.look.Goals as goal
 
 pub invariant_of-self : goal.invariant_of-self
@@ -65,3 +66,12 @@ invariant_of-self-in-Ok-seek_retrying g c =
     omega (arith, c.saturating_sub-start.ensures, stayed, second.arrives t2, c.saturating_sub-size.ensures, end, len, (g.met.R.Read.stands self.inner t s).within, (self.sound told).fits) in
     let content = λ (t : IsTrue (read.tells self.inner)). second.same_content (first.same_tells ∙ t) ∙ first.same_content t in
     reader-asked self after size self.sealed.items self.failed c.requires.failed self.room (second.same_tells ∙ first.same_tells) (second.same_steady ∙ first.same_steady) content taken
+
+pub returns-in-Err-clause-says : goal.returns-in-Err-clause-says
+returns-in-Err-clause-says g c =
+    sought-named g.R.Read g.R.Seek.seek_refuses c.args.self.now.inner c.seek_retrying.new.reader c.in-Err.e c.lost.result c.lost.ensures c.in-Err.ensures.seeks
+
+pub returns-in-Err-seek_retrying-clause-says : goal.returns-in-Err-seek_retrying-clause-says
+returns-in-Err-seek_retrying-clause-says g c =
+    sought-named g.R.Read g.R.Seek.seek_refuses c.seek_retrying.new.reader c.seek_retrying-in-Ok.new.reader c.in-Err-seek_retrying.e c.lost-in-Err-seek_retrying.result
+    c.lost-in-Err-seek_retrying.ensures c.in-Err-seek_retrying.ensures.seeks

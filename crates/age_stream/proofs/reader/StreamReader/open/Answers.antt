@@ -25,6 +25,7 @@ returns-in-Err g c =
     let same = taken.stays in
     record {
       names = inner-named read self.inner c.in-Err.e taken.keeps.inner.why;
+      says = inl taken.refused;
       keeps = payload-refused read self.inner mid.inner self.taken mid.taken c.in-Err.e
           (payload-more read _ self.inner mid.inner self.taken mid.taken (λ e none. absurd none) taken.keeps);
       stays = record { key = same.key; sought = taken.failed.1; place = omega (arith, same.number, same.at) };
@@ -67,6 +68,14 @@ returns-in-Err-bring g c =
     (sound.before c.requires.good c.requires.closed).stood sound.inside.front (taken.takes.took t) bad in
     record {
       names = inl (chunk-named e bring.named);
+      says = inr (record {
+        text = text;
+        came = taken.takes.turns;
+        number = self.number;
+        from = omega arith;
+        to = omega (arith, self.offset);
+        why = elim judged [ inl want ↦ inl want | inr bad ↦ inr (inl bad) ];
+      });
       keeps = payload-ended read self.inner mid.inner self.taken mid.taken e
           (payload-more read _ self.inner mid.inner self.taken mid.taken (λ e none. absurd none) taken.keeps) bring.named.device
           (record {
@@ -111,6 +120,14 @@ returns-then-self-len g c =
     let never : IsTrue (read.tells self.inner && read.steady self.inner) → ⊥ = λ told. omega (arith, past, inside told (omega (arith, past))) in
     record {
       names = inl truncated-named;
+      says = inr (record {
+        text = take c.in-Ok.count mid.sealed.items;
+        came = taken.takes.turns;
+        number = self.number;
+        from = omega arith;
+        to = omega (arith, self.offset);
+        why = inr (inr (refl, omega (arith, past)));
+      });
       keeps = payload-ended read self.inner mid.inner self.taken mid.taken Truncated
           (payload-more read _ self.inner mid.inner self.taken mid.taken (λ e none. absurd none) taken.keeps) (λ device. device)
           (record { is = tt; named = λ told. absurd (never told) });
@@ -143,6 +160,7 @@ returns-else-self-len g c =
     let within : self.at ≤ length plain = omega (arith, c.if-self-len.false, c.len.ensures, cache.chunk.ok.0, same.at) in
     record {
       names = tt;
+      says = tt;
       keeps = payload-done read self.inner mid.inner self.taken mid.taken
           (payload-more read _ self.inner mid.inner self.taken mid.taken (λ e none. absurd none) taken.keeps);
       stays = record { key = same.key; sought = taken.failed.1; place = omega (arith, same.number, same.at) };

@@ -7,6 +7,7 @@ use Rattle.age_stream.specs.ReadingLemmas.{and-left}
 use Rattle.age_stream.proofs.Keeping.{told-before}
 use Rattle.age_stream.proofs.Last.{IsLastText, last-held, last-text, last-none}
 use Rattle.age_stream.proofs.Moving.{sound-last}
+use Rattle.age_stream.proofs.Named.{read-named}
 use Rattle.age_stream.proofs.reader.StreamReader.open_last.Goals as goal
 
 pub returns-in-Ok-None-clause-refused : goal.returns-in-Ok-None-clause-refused
@@ -117,3 +118,20 @@ invariant_of-self-in-Ok-Some g c =
           c.requires.sought (c.requires.stands b).0 long (is_last told) (c.requires.last b) c.requires.limit longer there (rw same.key at (sym some)) in
           rw (same.key, first.1, first.2, taken.failed.1) opened;
     }
+
+pub returns-in-Err-clause-says : goal.returns-in-Err-clause-says
+returns-in-Err-clause-says g c =
+    inr (inr (read-named g.R.Read g.R.Seek.seek_refuses 65552 c.args.self.now.inner c.take.new.self.inner c.in-Err.e c.lost.result c.lost.ensures c.in-Err.ensures.refused))
+
+pub returns-in-Ok-None-clause-says : goal.returns-in-Ok-None-clause-says
+returns-in-Ok-None-clause-says g c = inl (λ told.
+    let self = c.args.self.now in
+    let mid = c.take.new.self in
+    let read = g.R.Read in
+    let taken = c.in-Ok.ensures in
+    let text = take c.in-Ok.count mid.sealed.items in
+    let payload = payload_at (read.place self.inner) self.taken (read.content self.inner) in
+    let whole = last-text payload (read.rest self.inner) (read.rest mid.inner) c.args.number text (c.requires.stands told).1 (c.requires.last told) (taken.takes.took (and-left _ _ told)) in
+    let none : g.S.Suite.opened self.key (nonce c.args.number true) text ≡ None =
+    sym (rw (c.deref.ensures.value, taken.stays.key, c.in-Ok-None.field-0-is) at c.in-Ok-None.ensures.opened) in
+    (refl, last-none g.S.Suite.opened self.key payload (read.rest mid.inner) c.args.number text whole none))

@@ -6,11 +6,16 @@ use Rattle.age_io.specs.Reading.{IsQuiet, Delivers}
 use Rattle.age_io.specs.Stretch.{from_place}
 use Rattle.age_io.proofs.Reaching.{delivered-at}
 use Rattle.age_v1.specs.PayloadAnswers.{StopsNear, IsGoodEnd, StandAt}
-use Rattle.std.proofs.Common.{◌≡◌, ◌∙◌, ◌+◌, sym, ap, IsTrue, take, length, length-take-le, subst, inl, inr, arith}
+use Rattle.std.proofs.Common.{◌≡◌, ◌∙◌, ◌+◌, ◌/◌, sym, ap, IsTrue, take, length, length-take-le, subst, inl, inr, arith}
 use Rattle.age_stream.specs.Reader.{tells_of, content_of, steady_of, payload_of, place_of, plain_rest_of}
 use Rattle.age_stream.specs.ReadingLemmas.{both-true}
 use Rattle.age_stream.proofs.Answered.{read-through}
 use Rattle.age_stream.proofs.Outside.{outside-inner}
+use Rattle.age_stream.specs.Cache.{last_used}
+use Rattle.age_v1.specs.Payload.{plain_len}
+use Rattle.age_stream.specs.Reader.{HasChunk}
+use Rattle.age_stream.proofs.Cached.{used-good, used-there}
+use Rattle.age_stream.proofs.OneChunk.{in-chunk-some, same-start}
 use Rattle.age_stream.proofs.reader.StreamReader.read_at.Goals as goal
 
 pub returns-in-Ok-read_full-clause-cursor : goal.returns-in-Ok-read_full-clause-cursor
@@ -240,3 +245,63 @@ returns-in-Err-read_full-clause-outside g c = λ told outside never.
     let seeks = c.in-Ok.ensures.seeks in
     let read = c.in-Err-read_full.ensures in
     absurd (never (outside-inner c.args.self.now c.in-Err-read_full.e outside (seeks.narrows c.in-Err-read_full.e (inr read.keeps.inner.why))))
+
+pub returns-in-Err-clause-chunks : goal.returns-in-Err-clause-chunks
+returns-in-Err-clause-chunks g c = λ told chunk inside.
+    let seek = c.in-Err.ensures in
+    record {
+      opens = omega (arith, seek.opens);
+      none = λ _. seek.end told inside.before;
+      has = tt;
+      uses = tt;
+      keeps_last = tt;
+      keeps = λ _. tt;
+    }
+
+pub returns-in-Err-read_full-clause-chunks : goal.returns-in-Err-read_full-clause-chunks
+returns-in-Err-read_full-clause-chunks g c = λ told chunk inside.
+    let self = c.args.self.now in
+    let mid = c.seek.new.self in
+    let seek = c.in-Ok.ensures in
+    let there : place_of mid ≡ c.in-Ok._start = seek.seeks.arrives told in
+    let start : c.in-Ok._start ≡ inside.start = same-start _ _ _ (seek.order told) inside.leads in
+    let full = c.in-Err-read_full.ensures.one (seek.seeks.same_tells ∙ told) chunk (omega (arith, inside.from, there, start)) (omega (arith, inside.within, there, start)) in
+    let none = seek.end told inside.before in
+    let number : chunk ≡ c.in-Ok._start / 65536 = omega (arith, inside.from, inside.within, inside.some, start) in
+    record {
+      opens = omega (arith, full.opens, none);
+      none = λ has. full.none (seek.finds told inside.before (subst (λ n. HasChunk self n) number has)) ∙ none;
+      has = tt;
+      uses = tt;
+      keeps_last = tt;
+      keeps = λ _. tt;
+    }
+
+pub returns-in-Ok-read_full-clause-chunks : goal.returns-in-Ok-read_full-clause-chunks
+returns-in-Ok-read_full-clause-chunks g c = λ told chunk inside.
+    let self = c.args.self.now in
+    let mid = c.seek.new.self in
+    let new = c.read_full.new.self in
+    let seek = c.in-Ok.ensures in
+    let read = c.in-Ok-read_full.ensures in
+    let told_mid = seek.seeks.same_tells ∙ told in
+    let there : place_of mid ≡ c.in-Ok._start = seek.seeks.arrives told in
+    let start : c.in-Ok._start ≡ inside.start = same-start _ _ _ (seek.order told) inside.leads in
+    let full = read.one told_mid chunk (omega (arith, inside.from, there, start)) (omega (arith, inside.within, there, start)) in
+    let none = seek.end told inside.before in
+    let number : chunk ≡ c.in-Ok._start / 65536 = omega (arith, inside.from, inside.within, inside.some, start) in
+    let holding = λ (has : HasChunk self chunk). seek.finds told inside.before (subst (λ n. HasChunk self n) number has) in
+    let some = in-chunk-some (length (payload_of self).bytes) c.args.to (place_of self) (length c.read_full.new.buf) chunk c.read_full.new.filled (place_of new) inside
+    (omega (arith, read.moves.1, there, start))
+    (λ less. ap (λ p. plain_len (length p.bytes)) (sym (seek.payload told)) ∙ (read.reads.ended told_mid less).length_is) in
+    let uses = full.uses some in
+    record {
+      opens = omega (arith, full.opens, none);
+      none = λ has. full.none (holding has) ∙ none;
+      has = (read.reads.good, used-there new.cache chunk uses);
+      uses = rw read.reads.good uses;
+      keeps_last = λ b is.
+          let used = used-good mid.failed (last_used mid.cache) b (seek.same_last told inside.before b is) in
+          (read.reads.good, full.keeps_last b used.1);
+      keeps = λ has b was. (read.reads.good, full.keeps (holding has) b (seek.keeps told (λ end. absurd (inside.before end)) b was).1);
+    }

@@ -1,4 +1,5 @@
-use Rattle.std.proofs.Common.{rules, ◌≡◌, arith, ◌∙◌, ◌-◌, ◌+◌, length, take, subst, length-take-le, sym}
+use Rattle.age_stream.proofs.OneChunk.{in-one-end, in-one-full, in-one-more, in-one-opens}
+use Rattle.std.proofs.Common.{rules, ◌≡◌, ◌*◌, ◌<◌, ◌≤◌, Err, arith, ◌∙◌, ◌-◌, ◌+◌, length, take, subst, length-take-le, sym}
 use Rattle.age_v1.specs.PayloadAnswers.{StandAt, StopsNear, IsGoodEnd}
 use Rattle.age_stream.specs.Reader.{payload_of, place_of, plain_rest_of, wanted_of}
 use Rattle.age_stream.proofs.Answered.{refuses-near}
@@ -43,6 +44,11 @@ reads-preserved g c =
           (subst (λ k. StandAt g.S.Suite.seal_of k (payload_of c.reads.self).bytes (place_of c.reads.self) (take c.in-Ok.n c.read_on.new.buf)) before.same_key given))));
       inner_end = λ told. read.answers.inner_end (later told) ∙ before.inner_end told;
       counted = omega (arith, before.counted, read.opens.counts);
+      one = λ chunk from within.
+          let long : length (put_mid c.reads.filled (length c.reads.buf - c.reads.filled) c.reads.buf c.read_on.new.buf) ≡ length c.reads.buf = grind (arith, common_steps) in
+          let fits : place_of c.args.self.now + length c.reads.buf ≤ 65536 * chunk + 65536 = omega (arith, within, long) in
+          in-one-more c.args.self.now c.reads.self c.read_on.new.self chunk c.reads.filled (length c.reads.buf) from fits c.reads-test.true before.moved before.good
+          (before.one chunk from fits) c.in-Ok.n read.opens read.chunks (omega (arith, c.if-n-eq0.false));
     }
 
 -- the end was found
@@ -79,6 +85,12 @@ returns-then-n-eq0 g c =
       };
       refused = tt;
       opens = (omega (arith, before.counted, read.opens.counts), search rules);
+      one = λ told chunk from within.
+          let long : length (put_mid c.reads.filled k c.reads.buf c.read_on.new.buf) ≡ length c.reads.buf = grind (arith, common_steps) in
+          let fits : place_of self + length c.reads.buf ≤ 65536 * chunk + 65536 = omega (arith, within, long) in
+          let some : 0 < length c.read_on.new.buf = grind (arith, common_steps) in
+          in-one-end self mid c.read_on.new.self chunk c.reads.filled (length c.reads.buf) from fits c.reads-test.true before.moved before.good
+          (before.one chunk from fits) c.in-Ok.n read.opens read.chunks (read.reads.end (later told) (omega (arith, c.if-n-eq0.true)) some);
     }
 
 -- a read was refused
@@ -111,6 +123,12 @@ returns-in-Err g c =
             (subst (λ k. StopsNear g.S.Suite.seal_of k (payload_of mid).bytes (place_of mid) c.in-Err.e) before.same_key near));
       };
       opens = (omega (arith, before.counted, read.opens.counts), search rules);
+      one = λ told chunk from within.
+          let long : length (put_mid c.reads.filled (length c.reads.buf - c.reads.filled) c.reads.buf c.read_on.new.buf) ≡ length c.reads.buf = grind (arith, common_steps) in
+          let fits : place_of self + length c.reads.buf ≤ 65536 * chunk + 65536 = omega (arith, within, long) in
+          let opens = in-one-opens self mid c.read_on.new.self chunk c.reads.filled (length c.reads.buf) from fits c.reads-test.true before.moved before.good
+          (before.one chunk from fits) (Err c.in-Err.e) read.opens read.chunks in
+          record { opens = opens.0; none = opens.1; uses = tt; keeps_last = tt; keeps = λ _. tt };
     }
 
 -- the buffer is full
@@ -130,3 +148,6 @@ pub returns-clause-opens : goal.returns-clause-opens
 returns-clause-opens g c =
     let before = c.reads.invariant in
     (before.counted, omega (arith, before.spared, before.moved, before.within, c.args.self.now.offset))
+
+pub returns-clause-one : goal.returns-clause-one
+returns-clause-one g c = λ told chunk from within. in-one-full c.args.self.now c.reads.self chunk c.reads.filled (c.reads.invariant.one chunk from within)

@@ -1,4 +1,5 @@
-use Rattle.std.proofs.Common.{◌≡◌, ◌≤◌, ◌-◌, ◌+◌, ◌*◌, false, IsTrue, Ok, length, take}
+use Rattle.age_stream.proofs.OneChunk.{InOne}
+use Rattle.std.proofs.Common.{◌≡◌, ℕ, ◌≤◌, ◌-◌, ◌+◌, ◌*◌, false, IsTrue, Ok, length, take}
 use Rattle.age_io.specs.Reading.{Delivers}
 use Rattle.age_stream.specs.Reader.{tells_of, plain_rest_of, payload_of, place_of, stops_of}
 use Rattle.age_v1.specs.PayloadAnswers.{StandAt}
@@ -20,6 +21,7 @@ invariant-reads g l =
       stored : IsTrue (tells_of l.fn.self) → StandAt g.S.Suite.seal_of l.fn.self.key (payload_of l.fn.self).bytes (place_of l.fn.self) (take l.filled l.buf);
       inner_end : IsTrue (tells_of l.fn.self) → (read.rest l.self.inner).ends_well ≡ (read.rest l.fn.self.inner).ends_well;
       counted : l.fn.self.opens ≤ l.self.opens;
+      one : (chunk : ℕ) → 65536 * chunk ≤ place_of l.fn.self → place_of l.fn.self + length l.buf ≤ 65536 * chunk + 65536 → InOne l.fn.self l.self chunk l.filled;
     }
 
 abbrev pub decreases-reads : goal.decreases-reads

@@ -1,4 +1,5 @@
 use Rattle.std.proofs.Common.{◌≡◌, ◌∙◌, ◌+◌, ◌/◌, ◌≤◌, Some, inl, inr, arith, length, ap, sym, subst, take, true}
+use Rattle.std.proofs.lemmas.Result.{IfErr-weaker}
 use Rattle.age_stream.specs.Reading.{spare}
 use Rattle.age_stream.specs.Reader.{payload_of, place_of, IsAfterLast}
 use Rattle.age_v1.specs.PayloadAnswers.{Gives}
@@ -18,6 +19,7 @@ returns-then-is_after_last g c =
     let at_end : IsAfterLast self = c.is_after_last.ensures.yes c.if-is_after_last.true in
     record {
       names = done.names;
+      says = IfErr-weaker c.end.result _ _ (λ e why. record { itself = λ apart. absurd (apart at_end); after = λ _. why }) done.says;
       reads = reads-end self new buf at_end done.stays c.end.result done.keeps done.none done.ends done.refused;
       keeps = done.keeps;
       moves = moves-end self new buf at_end done.stays done.sought c.end.result done.none done.ends done.refused;
@@ -36,6 +38,7 @@ returns-in-Err g c =
     let apart : IsAfterLast self → ⊥ = c.is_after_last.ensures.no c.if-is_after_last.false in
     record {
       names = done.names;
+      says = record { itself = λ _. done.says; after = λ is. absurd (apart is) };
       reads = reads-refused self new buf c.in-Err.e done.keeps done.stays.key done.stays.place done.refused.fails done.refused.cause;
       keeps = payload-refused g.R.Read _ _ _ _ _ done.keeps;
       moves = record { key = done.stays.key; sought = done.stays.sought; good = tt; fails = done.refused.fails; placed = tt; stayed = done.stays.place };
@@ -115,6 +118,7 @@ returns-in-Ok-clause-chunks g c =
     let given = c.give.ensures in
     let apart : IsAfterLast self → ⊥ = c.is_after_last.ensures.no c.if-is_after_last.false in
     record {
+      held = given.held.held ∙ done.holds.good.1;
       at_end = λ is. absurd (apart is);
       opened = λ none some. subst (λ n. one_more self.opens ≤ n) (sym given.held.opens) (done.holds.opened none);
       uses = λ some.

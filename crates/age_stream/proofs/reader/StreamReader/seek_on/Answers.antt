@@ -85,6 +85,7 @@ returns-in-Err g c =
     seek-refused g.R.Seek.seek_refuses self new c.args.to c.in-Err.e (payload-refused g.R.Read self.inner new.inner self.taken new.taken c.in-Err.e look.keeps)
     look.stays.key look.failed.0 look.refused.place look.refused.refusal (omega (arith, look.stays.opens)) (omega (arith, look.stays.opens)) (λ _ _. look.stays.opens) (λ _ _. look.stays.opens)
     (λ told well memory quiet. absurd (look.refused.cause told well memory quiet)) (λ told well _. look.refused.cause told well)
+    (λ told. inr (inr look.says))
 
 -- the payload's length is that of no plaintext, or of too long a one
 pub returns-then-not-is_outside : goal.returns-then-not-is_outside
@@ -107,6 +108,7 @@ returns-then-not-is_outside g c =
     let are = All-drop (λ x. x < 2 ^ 8) (read.place self.inner - self.taken) (read.content self.inner).bytes (g.met.R.Read.are_bytes self.inner (and-left _ _ told)) in
     other (sought-refuses c.args.to (place_of self) _ e
     (err-well suite.opened self.key (shorter suite.seal_of suite.opened g.met.S.Suite.cipher self.key self.key_bytes) (payload_of self) are well c.args.to (place_of self) e (err told))))
+    (λ told. inl (inl (rw c.requires (err told))))
 
 pub returns-in-Err-stand : goal.returns-in-Err-stand
 returns-in-Err-stand g c =
@@ -122,6 +124,7 @@ returns-in-Err-stand g c =
     (payload-later g.R.Read (Err e) self.inner mid.inner new.inner self.taken mid.taken new.taken look.keeps (payload-refused g.R.Read mid.inner new.inner mid.taken new.taken e done.keeps))
     (done.stays.key ∙ look.stays.key) refused.fails refused.place refused.refusal (omega (arith, opens)) (omega (arith, opens)) (λ _ _. opens) (λ _ _. opens)
     (λ told well memory quiet. absurd (refused.cause told well memory quiet)) (λ told well _. refused.cause told well)
+    (λ told. inr (inr done.says))
 
 pub returns-in-Err-enter : goal.returns-in-Err-enter
 returns-in-Err-enter g c =
@@ -137,6 +140,7 @@ returns-in-Err-enter g c =
     (payload-later g.R.Read (Err e) self.inner mid.inner new.inner self.taken mid.taken new.taken look.keeps (payload-refused g.R.Read mid.inner new.inner mid.taken new.taken e done.keeps))
     (done.same.0 ∙ look.stays.key) refused.fails refused.place refused.refusal (omega (arith, opens)) (omega (arith, opens)) (λ _ _. opens) (λ _ _. opens)
     (λ told well memory quiet. absurd (refused.cause told well memory quiet)) (λ told well _. refused.cause told well)
+    (λ told. inr (inr done.says))
 
 -- the target is the end, and isn't come to
 pub returns-in-Err-enter_end : goal.returns-in-Err-enter_end
@@ -157,13 +161,14 @@ returns-in-Err-enter_end g c =
     is-end c.args.to (place_of self) (length payload.bytes) c.in-Ok-find.target c.in-Ok-find.len (rw same at find.plain) c.requires (rw same at find.ok) c.if-target-len.true in
     let are = λ (told : IsTrue (tells_of self)).
     All-drop (λ x. x < 2 ^ 8) (read.place self.inner - self.taken) (read.content self.inner).bytes (g.met.R.Read.are_bytes self.inner (and-left _ _ told)) in
-    let refused = step-later self mid new {More = IsNoLast self (final_chunk (length payload.bytes))} e look.keeps done.keeps (omega (arith, look.stays.number, look.stays.at))
-    (λ told bad. (
+    let no_last : IsTrue (tells_of self) → IsNoLast mid (final_chunk c.in-Ok.size) e → IsNoLast self (final_chunk (length payload.bytes)) e = λ told bad. (
       bad.0,
       subst (λ n. suite.opened self.key (nonce (final_chunk n) true) (text_at (final_chunk n) payload) ≡ None) (size told)
           (subst (λ k. suite.opened k (nonce (final_chunk c.in-Ok.size) true) (text_at (final_chunk c.in-Ok.size) payload) ≡ None) look.stays.key
           (subst (λ p. suite.opened mid.key (nonce (final_chunk c.in-Ok.size) true) (text_at (final_chunk c.in-Ok.size) p) ≡ None) (look.keeps.payload told) bad.1)),
-    )) done.refused in
+    ) in
+    let refused = step-later self mid new {More = IsNoLast self (final_chunk (length payload.bytes))} e look.keeps done.keeps (omega (arith, look.stays.number, look.stays.at))
+    no_last done.refused in
     seek-refused g.R.Seek.seek_refuses self new c.args.to e
     (payload-later read (Err e) self.inner mid.inner new.inner self.taken mid.taken new.taken look.keeps (payload-refused read mid.inner new.inner mid.taken new.taken e done.keeps))
     (done.same.0 ∙ look.stays.key) refused.fails refused.place refused.refusal (omega (arith, done.opens.0, look.stays.opens)) (omega (arith, done.opens.1, look.stays.opens))
@@ -174,6 +179,12 @@ returns-in-Err-enter_end g c =
     inr (found.0, record { end = at_end told; bad = ends_badly suite.seal_of suite.opened g.met.S.Suite.cipher self.key self.key_bytes payload.bytes (are told) found.1 }))
     (λ told whole well memory quiet.
     last-opens suite.opened self.key (shorter suite.seal_of suite.opened g.met.S.Suite.cipher self.key self.key_bytes) payload (are told) well (refused.cause told whole memory quiet).1)
+    (λ told. elim done.says [
+      | inl bad ↦
+          let was = no_last told (bad (told-later read self.inner mid.inner look.keeps.inner.same told)) in
+          inl (inr (was.0, record { end = at_end told; bad = ends_badly suite.seal_of suite.opened g.met.S.Suite.cipher self.key self.key_bytes payload.bytes (are told) was.1 }))
+      | inr other ↦ inr other
+    ])
 
 -- the target is before the end
 pub returns-in-Ok-enter : goal.returns-in-Ok-enter

@@ -4,6 +4,7 @@ use Rattle.std.proofs.Common.{ap, ◌≢◌, ◌≡◌, ◌-◌, ◌+◌, ◌∙
 use Rattle.age_io.specs.Stretch.{from_place}
 use Rattle.age_stream.specs.ReadingLemmas.{and-left, and-right}
 use Rattle.age_stream.proofs.Asking.{reader-asked}
+use Rattle.age_stream.proofs.Named.{sought-named}
 use Rattle.age_stream.proofs.Inner.{start-at, payload-place, refused-start}
 use Rattle.age_stream.proofs.reader.StreamReader.stand.Goals as goal
 
@@ -87,3 +88,7 @@ returns-in-Ok-clause-stands g c =
           ) in
           (seek.moves t s).1 ∙ ap (λ n. from_place n content) at ∙ payload-place content c.args.start (read.place self.inner) self.taken (c.requires.start told) c.args.place;
     }
+
+pub returns-in-Err-clause-says : goal.returns-in-Err-clause-says
+returns-in-Err-clause-says g c =
+    sought-named g.R.Read g.R.Seek.seek_refuses c.args.self.now.inner c.seek_retrying.new.reader c.in-Err.e c.lost.result c.lost.ensures c.in-Err.ensures.seeks

@@ -51,8 +51,13 @@ returns-in-Ok g c =
       takes = record {
         unspent = filled.most.0;
         most = filled.most.1;
+        turns = rw room filled.turns;
         took = λ told. rw room (filled.took told);
         moves = λ told. (filled.moves (and-left (read.tells self.inner) (read.steady self.inner) told), (path told).0);
       };
       cause = search;
+      refused = tt;
     }
+
+pub returns-in-Err-clause-refused : goal.returns-in-Err-clause-refused
+returns-in-Err-clause-refused g c = (_, c.in-Err.ensures.refused)

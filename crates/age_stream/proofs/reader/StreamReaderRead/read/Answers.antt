@@ -43,3 +43,6 @@ returns-clause-ended g c = λ told.
 
 pub returns-clause-refused : goal.returns-clause-refused
 returns-clause-refused g c = λ told good. c.read_on.ensures.answers.refused told
+
+pub returns-clause-says : goal.returns-clause-says
+returns-clause-says g c = λ good. c.read_on.ensures.says

@@ -20,3 +20,9 @@ returns-then-is_below_start-clause-bad g c = λ told well memory quiet.
 
 pub returns-then-is_below_start-clause-inner_rest : goal.returns-then-is_below_start-clause-inner_rest
 returns-then-is_below_start-clause-inner_rest g c = λ told apart outside. absurd (apart (sym c.is_below_start.ensures ∙ c.if-is_below_start.true))
+
+pub returns-then-is_below_start-clause-says : goal.returns-then-is_below_start-clause-says
+returns-then-is_below_start-clause-says g c = λ told.
+    let self = c.args.self.now in
+    inl (inl (ap (λ b. if b then Err BeforeStart else in_length (plain_len (length (payload_of self).bytes)) c.args.to (place_of self))
+    (sym c.is_below_start.ensures ∙ c.if-is_below_start.true)))
