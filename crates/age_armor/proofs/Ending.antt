@@ -17,7 +17,7 @@ abbrev pub end_of : List ℕ → List ℕ
 end_of held = flat_map line (armor_lines (padded_columns held)) ++ line end_marker
 
 -- the begin marker, full lines and the end
-armor_parts : (bytes held : List ℕ) (n : ℕ) → n ≡ length bytes / 48 → held ≡ drop (48 * n) bytes →
+pub armor_parts : (bytes held : List ℕ) (n : ℕ) → n ≡ length bytes / 48 → held ≡ drop (48 * n) bytes →
     (line begin_marker ++ full_lines n bytes) ++ end_of held ≡ armor bytes
 unfolding armor
 armor_parts bytes held n count is =

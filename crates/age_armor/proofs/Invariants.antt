@@ -1,5 +1,5 @@
 -- What a reader of armor always is, over a step that fails, and over one that gives what is held.
-use Rattle.std.proofs.Common.{arith, inl, inr, ◌≡◌, ◌∙◌, ◌+◌, ◌-◌, ◌<◌, ◌≤◌, ◌^◌, ℕ, Bool, true, false, IsTrue, List, ◌%◌, length, ap, sym, subst, refl}
+use Rattle.std.proofs.Common.{arith, inl, inr, ◌≡◌, ◌∙◌, ◌+◌, ◌-◌, ◌*◌, ◌<◌, ◌≤◌, ◌^◌, ℕ, Bool, true, false, IsTrue, List, ◌%◌, length, ap, sym, subst, refl}
 use Rattle.std.proofs.lemmas.Bool.{cases_Bool, true≢false}
 use Rattle.age_io.specs.declared.traits.Read.{Ghosts}
 use Rattle.age_io.specs.declared.bufread.BufRead as buffered
@@ -17,7 +17,7 @@ use Rattle.age_armor.specs.Steps.{WhereSteady}
 use Rattle.age_armor.specs.PrivateSteps.{WhereTold}
 use Rattle.age_armor.specs.Marks.{is_known}
 use Rattle.age_armor.specs.PrivateMarks.{CanResume, Knows, IsPaced}
-use Rattle.age_armor.specs.declared.stages.Stage.TheVariants.{Lines}
+use Rattle.age_armor.specs.declared.stages.Stage.TheVariants.{Binary, Lines}
 use Rattle.age_armor.specs.Reader.{origin_of, source_of, armored_content}
 use Rattle.age_armor.specs.Seeking.{text_outcome}
 use Rattle.age_armor.specs.Stages.{is_start, has_lines}
@@ -70,14 +70,15 @@ module _ {R : Type 0} {buf : buffered.Ghosts R} {read : Ghosts R} where
     unread : IsTrue (read.tells source.inner) → IsTrue (read.steady source.inner) → is_start stage ≡ true → 0 < marks.furthest →
         IsTrue (begins_armor (from_place (read.place source.inner - source.taken + preceding) (read.content source.inner)).bytes);
     begins : IsTrue (read.tells source.inner) → read.place source.inner - source.taken + preceding < 2 ^ 63;
+    lined : IsTrue (read.tells source.inner) → (stage ≡ Binary → ⊥) → marks.furthest ≤ 48 * source.lines;
   }
 
   -- the reader that gives the text was moved, and this one has failed at this place
   pub sound-failed : (a : ArmoredReader R buf read) (source : Counted R buf read) (preceding place : ℕ) → SameReader read a.source.inner source.inner →
       WhereTold a (read.place source.inner - source.taken + preceding ≡ origin_of a) → WhereSteady a (preceding ≤ source.taken) →
-      WhereTold a (place < 2 ^ 63) → WhereSteady a (place ≤ length (armored_content a).bytes) →
+      WhereTold a (place < 2 ^ 63) → WhereSteady a (place ≤ length (armored_content a).bytes) → a.source.lines ≤ source.lines →
       IsSound source preceding a.stage a.bytes a.given a.filled place true a.marks
-  sound-failed a source preceding place same origin behind fits inside =
+  sound-failed a source preceding place same origin behind fits inside more =
       let text = same-text read a.source.inner (origin_of a) source.inner (read.place source.inner - source.taken + preceding) same origin in
       record {
         room = a.room;
@@ -100,6 +101,7 @@ module _ {R : Type 0} {buf : buffered.Ghosts R} {read : Ghosts R} where
         unread = λ told steady start some.
             subst (λ t. IsTrue (begins_armor t.bytes)) (sym (text.text told)) (a.unread (text.told told) (text.steady steady) start some);
         begins = λ told. omega (arith, origin (text.told told), a.begins (text.told told));
+        lined = λ told other. omega (arith, a.lined (text.told told) other, more);
       }
 
   -- so many bytes of what is held were given
@@ -150,6 +152,7 @@ module _ {R : Type 0} {buf : buffered.Ghosts R} {read : Ghosts R} where
         behind = a.behind;
         unread = a.unread;
         begins = a.begins;
+        lined = a.lined;
       }
 
   -- the reader that gives the text was taken to where this one can be read on
@@ -161,8 +164,9 @@ module _ {R : Type 0} {buf : buffered.Ghosts R} {read : Ghosts R} where
       WhereSteady a (read.rest source.inner ≡ from_place (origin_of a + taken) (read.content a.source.inner)) →
       WhereTold a (Knows (read.steady a.source.inner) (source_of a) marks × (place ≤ marks.furthest)) →
       WhereSteady a (is_start stage ≡ true → 0 < marks.furthest → IsTrue (begins_armor (source_of a).bytes)) →
+      WhereTold a ((stage ≡ Binary → ⊥) → marks.furthest ≤ 48 * source.lines) →
       IsSound source preceding stage a.bytes 0 0 place false marks
-  sound-resumed a source preceding stage place taken marks same origin is_taken few place_fits start going whole can rest knows unread =
+  sound-resumed a source preceding stage place taken marks same origin is_taken few place_fits start going whole can rest knows unread lined =
       let content = read.content a.source.inner in
       let text = same-text read a.source.inner (origin_of a) source.inner (read.place source.inner - source.taken + preceding) same origin in
       let here : (IsTrue (read.tells source.inner) → IsTrue (read.steady source.inner) → IsHere source preceding stage a.bytes 0 0 place false) = λ told steady.
@@ -197,4 +201,5 @@ module _ {R : Type 0} {buf : buffered.Ghosts R} {read : Ghosts R} where
         unread = λ told steady is some.
             subst (λ t. IsTrue (begins_armor t.bytes)) (sym (text.text told)) (unread (text.told told) (text.steady steady) is some);
         begins = λ told. omega (arith, origin (text.told told), a.begins (text.told told));
+        lined = λ told. lined (text.told told);
       }

@@ -12,7 +12,7 @@ use Rattle.age_io.proofs.Keeping.{same-later, keeps-done, keeps-later, keeps-mor
 use Rattle.age_io.proofs.Retrying.{tried-patient, tried-narrows}
 use Rattle.age_io.specs.declared.bufread.BufRead as buffered
 use Rattle.age_armor.specs.declared.reader.ArmoredReader.{ArmoredReader}
-use Rattle.age_armor.specs.Reader.{origin_of, armored_reader, armored_rest, refuses_of, shown_of, Learns, source_of}
+use Rattle.age_armor.specs.Reader.{CountsLine, origin_of, armored_reader, armored_rest, refuses_of, shown_of, Learns, source_of}
 use Rattle.age_armor.specs.Refusing.{OrText}
 use Rattle.age_v1.proofs.DeliveredArmors.{content_of}
 use Rattle.age_armor.specs.Seeking.{OrAstray}
@@ -247,12 +247,13 @@ module _ {R : Type 0} {buf : buffered.Ghosts R} {read : Ghosts R} where
 
   -- all that it holds is before the furthest place
   pub learned : {A : Type 0} {x : A} (a b : ArmoredReader R buf read) → SameReader armored_reader a b → KeepsText a b →
-      b.source.lines ≤ a.source.lines + 1 → b.failed ≡ false → Learns a b (Ok x)
-  learned a b same text once good = record {
+      b.source.lines ≤ a.source.lines + 1 → b.failed ≡ false → WhereTold a (IsTrue (has_lines b.stage) → CountsLine a b) → Learns a b (Ok x)
+  learned a b same text once good exact = record {
     more = text.learns;
     reaches = λ told. reached b (same.tells ∙ told) good;
     lines = (text.counts, once);
     bare = text.bare;
+    exact = exact;
   }
 
   -- whether it has armor is what the text says

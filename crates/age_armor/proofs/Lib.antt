@@ -1,5 +1,6 @@
 pub mod Encoded
 pub mod Ending
+pub mod Sent
 pub mod Ahead
 pub mod AheadLines
 pub mod Whole

@@ -1,12 +1,12 @@
 -- How many lines a walk takes.
-use Rattle.std.proofs.Common.{◌≡◌, ◌∙◌, inl, inr, ℕ, ◌+◌, ◌*◌, ◌<◌, ◌≤◌, Bool, true, false, List, [], ◌++◌, length, refl, arith, ap, sym, subst, length-append, Option, Some, None}
+use Rattle.std.proofs.Common.{◌≡◌, ◌∙◌, inl, inr, ℕ, ◌+◌, ◌*◌, ◌^◌, ◌<◌, ◌≤◌, Bool, true, false, List, [], ◌++◌, length, refl, arith, ap, sym, subst, length-append, Option, Some, None}
 use Rattle.std.proofs.lemmas.Bool.{true≢false, cases_Bool, cases_lt}
 use Rattle.age_io.specs.Stretch.{Stretch}
 use Rattle.age_io.specs.Reading.{Delivers}
 use Rattle.age_io.specs.BehindLemmas.{held-empty}
 use Rattle.age_armor.specs.declared.stages.Stage.{Stage}
 use Rattle.age_armor.specs.declared.stages.Stage.TheVariants.{Start, Binary, Lines, Ended}
-use Rattle.age_armor.specs.Stages.{ahead, is_start}
+use Rattle.age_armor.specs.Stages.{ahead, has_lines, is_start}
 use Rattle.age_armor.specs.PrivateStages.{is_open}
 use Rattle.age_armor.specs.Ahead.{rest_ahead, shown_ahead}
 use Rattle.age_armor.specs.declared.marks.Marks.{Marks}
@@ -14,7 +14,7 @@ use Rattle.age_armor.specs.Marks.{LearnsMore, is_known}
 use Rattle.age_armor.specs.PrivateMarks.{KnowsEndBefore}
 use Rattle.age_armor.proofs.Ahead.{length_held}
 use Rattle.age_v1.specs.DeliveredArmor.{raw_lines}
-use Rattle.age_armor.specs.PrivateCounting.{TakesLines, IsCounted}
+use Rattle.age_armor.specs.PrivateCounting.{TakesLines, IsCounted, one_line_more}
 use Rattle.age_armor.proofs.Staging.{none_after_short}
 
 opens_next : (stage : Stage) (rest : Stretch) (front more : List ℕ) → (ahead stage rest).bytes ≡ front ++ more → 0 < length front → is_open stage ≡ true
@@ -59,6 +59,24 @@ counted_on old new start counted target place held lines next still more takes b
     reached (Lines false) so_far empty is takes = omega (arith, so_far, empty, takes.more.1, takes.full empty refl)
     reached (Lines true) so_far empty is takes = absurd (true≢false (sym is))
     reached Ended so_far empty is takes = absurd (true≢false (sym is))
+
+-- ---- what the lines that were counted stand for
+
+pub other_than_binary : (stage : Stage) → is_start stage ≡ false → (stage ≡ Binary → ⊥) → has_lines stage ≡ true
+other_than_binary Start begun other = absurd (true≢false begun)
+other_than_binary Binary begun other = absurd (other refl)
+other_than_binary (Lines short) begun other = refl
+other_than_binary Ended begun other = refl
+
+-- lines of armor don't come after a binary text
+pub not_before : (stage next : Stage) → (is_start stage ≡ false → has_lines next ≡ has_lines stage) → has_lines next ≡ true → stage ≡ Binary → ⊥
+not_before stage next kept armored binary = true≢false (sym armored ∙ kept (ap is_start binary) ∙ ap has_lines binary)
+
+-- a line that was counted stands for what it holds
+pub lined_on : (place count furthest lines more : ℕ) → place ≤ furthest → furthest ≤ 48 * lines → count ≤ 48 → place < 2 ^ 63 → lines ≤ more →
+    more ≡ one_line_more lines → (furthest ≤ 48 * more) × (place + count ≤ 48 * more)
+lined_on place count furthest lines more behind before small fits on is =
+    (omega (arith, before, on), omega (arith, behind, before, small, fits, on, is))
 
 -- ---- what is known of the text
 

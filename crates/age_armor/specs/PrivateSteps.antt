@@ -9,7 +9,7 @@ use Rattle.age_v1.specs.DeliveredArmor.{begins_armor}
 use Rattle.age_armor.specs.Ending.{KeepsEnding}
 use Rattle.age_armor.specs.Marks.{LearnsMore}
 use Rattle.age_armor.specs.Stages.{NamesEnding, is_start}
-use Rattle.age_armor.specs.Reader.{armored_content, armored_reader, armored_rest, furthest_of, has_armor, has_failed, inner_of, knows_end, lines_of, marks_of, notes_all, outcome_of, place_of, refuses_of, shown_of, source_of, text_outcome_of}
+use Rattle.age_armor.specs.Reader.{CountsLine, armored_content, armored_reader, armored_rest, furthest_of, has_armor, has_failed, inner_of, knows_end, lines_of, marks_of, notes_all, outcome_of, place_of, refuses_of, shown_of, source_of, text_outcome_of}
 use Rattle.age_error.specs.declared.io.Error.TheVariants.{OutOfMemory}
 use Rattle.age_error.specs.declared.io.SeekFrom.{SeekFrom}
 use Rattle.age_error.specs.declared.io.SeekFrom.TheVariants.{End}
@@ -53,6 +53,7 @@ module _ {R : Type 0} {buf : buffered.Ghosts R} {read : readers.Ghosts R} where
     pub end : WhereTold old (OnOk result (new.given ≡ new.filled → IsCleanEnd (armored_rest old)))
     pub knows : OnOk result (new.given ≡ new.filled → IsTrue (knows_end new))
     pub same : 0 < length (shown_of old) → (result ≡ Ok tt) × (shown_of new ≡ shown_of old)
+    pub line : IsTrue (has_armor new) → OnOk result (CountsLine old new)
 
   -- what is held is given, and nothing is read
   pub record ReadsNothing (old new : ArmoredReader R buf read) : Type 0 where

@@ -1,5 +1,5 @@
 -- What a caller sees of an `ArmoredReader`, and what it means as a reader.
-use Rattle.std.specs.Prelude.{◌≡◌, ℕ, ◌+◌, ◌-◌, ◌≤◌, ◌⊎◌, Bool, true, false, IsTrue, List, length, Result, OnOk, ⊤}
+use Rattle.std.specs.Prelude.{◌≡◌, ℕ, ◌+◌, ◌-◌, ◌^◌, ◌≤◌, ◌<◌, ◌⊎◌, Bool, true, false, IsTrue, List, [], length, min, Result, OnOk, ⊤}
 use Rattle.age_error.specs.declared.io.Error.{Error}
 use Rattle.age_error.specs.declared.io.Error.TheVariants.{Failed}
 use Rattle.age_io.specs.declared.traits.Read as readers
@@ -107,6 +107,11 @@ module _ {R : Type 0} {buf : buffered.Ghosts R} {read : readers.Ghosts R} where
   abbrev pub shown_of : ArmoredReader R buf read → List ℕ
   shown_of r = shown_ahead r.failed r.bytes r.given r.filled
 
+  -- What a read or a look of armor counts where it succeeds: where bytes were held no line, and else one, where it finds bytes.
+  pub record CountsLine (old new : ArmoredReader R buf read) : Type 0 where
+    pub held : 0 < length (shown_of old) → lines_of new ≡ lines_of old
+    pub next : shown_of old ≡ [] → place_of old < place_of new + length (shown_of new) → lines_of new ≡ min (lines_of old + 1) (2 ^ 64 - 1)
+
   -- What a read or a look comes to know: all that it holds is before the furthest place, it takes one line at most, and of a binary text none.
   pub record Learns {A : Type 0} (old new : ArmoredReader R buf read) (result : Result A Error) : Type 0 where
     pub more : LearnsMore (marks_of old) (marks_of new)
@@ -114,3 +119,4 @@ module _ {R : Type 0} {buf : buffered.Ghosts R} {read : readers.Ghosts R} where
     pub lines : (lines_of old ≤ lines_of new) × (lines_of new ≤ lines_of old + 1)
     pub bare : IsTrue (read.tells (inner_of old)) → IsTrue (read.steady (inner_of old)) → begins_armor (source_of old).bytes ≡ false →
         lines_of new ≡ lines_of old
+    pub exact : IsTrue (read.tells (inner_of old)) → IsTrue (has_armor new) → OnOk result (CountsLine old new)

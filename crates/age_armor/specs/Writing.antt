@@ -3,6 +3,7 @@ use Rattle.std.specs.Prelude.{Bool, IfOk, List, Result, [], drop, false, length,
 use Rattle.age_base64.specs.Lines.{line}
 use Rattle.age_error.specs.declared.io.Error.{Error}
 use Rattle.age_error.specs.declared.io.Error.TheVariants.{Failed}
+use Rattle.age_io.specs.Copying.{AppendsFront}
 use Rattle.age_io.specs.Writing.{HandsOn}
 use Rattle.age_v1.specs.Armor.{begin_marker, text_of}
 use Rattle.age_v1.specs.declared.format.Format.{Format}
@@ -63,6 +64,16 @@ module _ {W : Type 0} (inner_appended : W → List ℕ → W → Type 0) where
     pub held : after.held.items ≡ drop (48 * (length (before.held.items ++ bytes) / 48)) (before.held.items ++ bytes)
     pub sent : inner_appended before.inner (full_lines (length (before.held.items ++ bytes) / 48) (before.held.items ++ bytes)) after.inner
 
+  -- Whatever became of it: in armor a beginning of all full lines of what it held and of these bytes was appended to the inner writer.
+  abbrev pub SendsLines : ArmoredWriter W → List ℕ → W → Type 0
+  SendsLines before bytes after =
+      AppendsFront inner_appended (full_lines (length (before.held.items ++ bytes) / 48) (before.held.items ++ bytes)) before.inner after
+
+  -- in armor, or in binary a beginning of the bytes
+  abbrev pub SendsFront : Bool → ArmoredWriter W → List ℕ → W → Type 0
+  SendsFront true before bytes after = SendsLines before bytes after
+  SendsFront false before bytes after = AppendsFront inner_appended bytes before.inner after
+
   -- in armor or in binary
   abbrev pub Takes : Bool → ArmoredWriter W → List ℕ → ArmoredWriter W → Type 0
   Takes true before bytes after = Took before bytes after
@@ -80,3 +91,11 @@ abbrev pub Finishes : {W : Type 0} → (W → List ℕ → W → Type 0) → (Ar
 Finishes {W} inner_appended appended writer result =
     (start : ArmoredWriter W) (format : Format) (bytes : List ℕ) (first : W) → WasMade inner_appended format first start
     → appended start bytes writer → IfOk result (inner_appended first (text_of format bytes))
+
+-- Where a writer was made in a form and took bytes since, and was then given more: whatever it answered, its inner writer was given a
+-- beginning of the text that carries both, from before the writer was made.
+abbrev pub SendsText : {W : Type 0} → (W → List ℕ → W → Type 0) → (ArmoredWriter W → List ℕ → ArmoredWriter W → Type 0) → Type 0
+SendsText {W} inner_appended appended =
+    (start before : ArmoredWriter W) (format : Format) (taken bytes : List ℕ) (first after : W) → WasMade inner_appended format first start
+    → appended start taken before → IsGood before → SendsFront inner_appended (is_armored before) before bytes after
+    → AppendsFront inner_appended (text_of format (taken ++ bytes)) first after

@@ -1,4 +1,5 @@
-//! The theorems on armor that hold of the format itself. Each is a function that does nothing, with the theorem as its contract.
+//! The theorems on armor: those that hold of the format itself, and what a writer has sent. Each is a function that does nothing, with the
+//! theorem as its contract.
 
 ghost use Rattle.std.specs.Prelude.{◌≡◌, ◌++◌, ◌+◌, ◌*◌, ◌/◌, ◌⊎◌, List, ◌∷◌, length, ℕ, Bool, true};
 ghost use Rattle.std.specs.Str.{IsUtf8};
@@ -9,6 +10,10 @@ ghost use Rattle.age_v1.specs.Armor.{armor, armor_lines, begin_marker, AreEndedL
 ghost use Rattle.age_v1.specs.ArmorLineVerdict.{IsLineVerdict, LineVerdict, verdict};
 ghost use Rattle.age_v1.specs.DeliveredArmor.{text_delivers, Clean, Refused};
 ghost use Rattle.age_v1.specs.ArmorFirstFault.{IsFirstFault};
+ghost use Rattle.age_armor.specs.Writing.{SendsText};
+
+use crate::writer::ArmoredWriter;
+use age_io::Write;
 
 /// Each line has exactly one verdict: the case that the tests of a line, in their order, come to.
 ///
@@ -64,4 +69,11 @@ pub fn first_fault_is_unique()
     ensures exclusive { (text bytes others : List ℕ) (e : Refusal) → Carries text bytes → IsFirstFault text others e → ⊥ }
     ensures unique { (text bytes others : List ℕ) (e f : Refusal) → IsFirstFault text bytes e → IsFirstFault text others f → (bytes ≡ others) × (e ≡ f) }
     ensures delivered { (text bytes : List ℕ) (e : Refusal) → IsFirstFault text bytes e → text_delivers text true ≡ record { bytes = bytes; ending = Refused e } }
+{}
+
+/// What a writer has sent up to a refusal and with it: where it was made in a form over an inner writer, took bytes since by writes and
+/// flushes of any number, and was then given more by one write, whatever that answered, the inner writer was given a beginning of the
+/// text that carries both. `SendsFront` is the clause `sent` of `write`.
+pub fn sent_law<W: Write>()
+    ensures { SendsText W.appended ⟦<ArmoredWriter<W> as Write>⟧.appended }
 {}

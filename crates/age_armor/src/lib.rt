@@ -20,7 +20,7 @@ mod writing;
 pub use age_v1::Format;
 pub use laws::{
     armor_is_carrying, armor_is_text, armor_length, carried_is_delivered, carried_is_unique,
-    delivered_is_carried, first_fault_is_unique, verdict_is_unique,
+    delivered_is_carried, first_fault_is_unique, sent_law, verdict_is_unique,
 };
 pub use reader::ArmoredReader;
 pub use writer::ArmoredWriter;

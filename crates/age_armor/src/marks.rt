@@ -65,6 +65,7 @@ impl Marks {
             (IsTrue steady → IsTrue (begins_armor text.bytes) → 0 < count → (place % 48 ≡ 0) × (count ≤ 48) × ((stage ≡ Lines false) ⊎ (place ≡ 0))) →
             Knows steady text self.new }
         ensures reaches { place + count < 2 ^ 64 → place ≤ self.old.furthest → place + count ≤ self.new.furthest }
+        ensures within { (most : ℕ) → self.old.furthest ≤ most → place + count ≤ most → self.new.furthest ≤ most }
         ensures more { LearnsMore self.old self.new }
         ensures ends { count ≡ 0 → self.new.length ≡ Some place }
     {

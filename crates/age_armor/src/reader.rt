@@ -1,5 +1,5 @@
 //! Reading armor.
-ghost use Rattle.std.specs.Prelude.{◌≡◌, ◌≢◌, ℕ, ◌+◌, ◌-◌, ◌^◌, ◌≤◌, ◌<◌, Bool, true, false, IsTrue, List, [], ◌++◌, length, take, drop, min, IfOk, IfErr, OnOk, OnErr, IsOk, Ok, Err, Some, codes};
+ghost use Rattle.std.specs.Prelude.{◌≡◌, ◌≢◌, ℕ, ◌+◌, ◌-◌, ◌*◌, ◌^◌, ◌≤◌, ◌<◌, Bool, true, false, IsTrue, List, [], ◌++◌, length, take, drop, min, IfOk, IfErr, OnOk, OnErr, IsOk, Ok, Err, Some, codes};
 ghost use Rattle.std.proofs.Common.{arith};
 ghost use Rattle.age_error.specs.Bytes.{AreBytes};
 ghost use Rattle.age_error.specs.declared.io.Error.{Error as Failure};
@@ -89,6 +89,7 @@ pub struct ArmoredReader<R: BufRead> {
     ghost unread: { IsTrue (R.Read.tells source.inner) → IsTrue (R.Read.steady source.inner) → is_start stage ≡ true → 0 < marks.furthest →
         IsTrue (begins_armor (from_place (R.Read.place source.inner - source.taken + preceding) (R.Read.content source.inner)).bytes) },
     ghost begins: { IsTrue (R.Read.tells source.inner) → R.Read.place source.inner - source.taken + preceding < 2 ^ 63 },
+    ghost lined: { IsTrue (R.Read.tells source.inner) → (stage ≡ Binary → ⊥) → marks.furthest ≤ 48 * source.lines },
 }
 
 impl<R: BufRead> Read for ArmoredReader<R> {
@@ -255,8 +256,14 @@ impl<R: BufRead> ArmoredReader<R> {
 
     /// How many lines were taken so far: one for each line after the begin marker's, up to and with the end marker's, that a read,
     /// a look or a seek took, each time that it did. It is 0 of a binary text, and stays at 2^64 - 1.
+    ///
+    /// In armor 48 times as many are no fewer than the bytes up to the furthest place that was come to, and so than what a
+    /// good reader has given and holds.
     pub fn lines(&self) -> u64
-        ensures { result ≡ lines_of self.now }
+        ensures count { result ≡ lines_of self.now }
+        ensures least { IsTrue (R.Read.tells (inner_of self.now)) → IsTrue (has_armor self.now) → furthest_of self.now ≤ 48 * result }
+        ensures reached { IsTrue (R.Read.tells (inner_of self.now)) → has_failed self.now ≡ false →
+            place_of self.now + length (shown_of self.now) ≤ furthest_of self.now }
     {
         self.source.lines
     }

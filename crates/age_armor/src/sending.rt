@@ -3,6 +3,7 @@ ghost use Rattle.std.specs.Prelude.{◌≡◌, ℕ, ◌+◌, ◌*◌, ◌/◌, �
 ghost use Rattle.std.specs.List.{flat_map};
 ghost use Rattle.age_base64.specs.Lines.{line};
 ghost use Rattle.age_base64.specs.Base64.{padded_columns};
+ghost use Rattle.age_io.specs.Copying.{AppendsFront};
 ghost use Rattle.age_io.specs.Writing.{HandsOn, KeepsWriter};
 ghost use Rattle.age_v1.specs.Armor.{armor_lines, begin_marker, end_marker};
 ghost use Rattle.age_v1.specs.ArmorFullLines.{full_lines};
@@ -34,6 +35,7 @@ pub(crate) fn write_lines<W: Write>(
     ensures keeps { KeepsWriter W.tells W.faults (HandsOn W.refuses) inner.old inner.new result }
     ensures sent { IsTrue (W.tells inner.old) →
         OnOk result (W.appended inner.old (full_lines (length bytes.now / 48) bytes.now) inner.new) }
+    ensures front { IsTrue (W.tells inner.old) → AppendsFront W.appended (full_lines (length bytes.now / 48) bytes.now) inner.old inner.new }
 {
     let lines = bytes.len() / LINE;
     let size = LINE_TEXT * lines;

@@ -4,7 +4,7 @@ ghost use Rattle.age_io.specs.Stretch.{Stretch};
 ghost use Rattle.age_io.specs.Reading.{IsQuiet, Delivers, most_faults};
 ghost use Rattle.age_error.specs.declared.io.Error.TheVariants.{OutOfMemory};
 ghost use Rattle.age_v1.specs.DeliveredArmor.{text_delivers, begins_armor};
-ghost use Rattle.age_armor.specs.PrivateCounting.{Kept};
+ghost use Rattle.age_armor.specs.PrivateCounting.{Kept, one_line_more};
 
 use crate::counted::Counted;
 use crate::decoding::Decoder;
@@ -125,6 +125,7 @@ fn next_line<R: BufRead>(
     ensures piece { IsPiece (Lines after_short) source.old result }
     ensures gives { GivesPiece (Lines after_short) source.old source.new bytes.new result }
     ensures lines { IfOk result (λ piece. has_lines piece.next ≡ true) }
+    ensures line { IfOk result (λ piece. source.new.lines ≡ one_line_more source.old.lines) }
 {
     if !after_short {
         match source.take_full(decoder, bytes) {
@@ -155,6 +156,7 @@ fn any_line<R: BufRead>(
     ensures piece { IsPiece (Lines after_short) source.old result }
     ensures gives { GivesPiece (Lines after_short) source.old source.new bytes.new result }
     ensures lines { IfOk result (λ piece. has_lines piece.next ≡ true) }
+    ensures line { IfOk result (λ piece. source.new.lines ≡ one_line_more source.old.lines) }
 {
     match source.take_line(line) {
         Ok(()) => {}
@@ -191,6 +193,7 @@ fn first<R: BufRead>(
     ensures piece { IsPiece Start source.old result }
     ensures gives { GivesPiece Start source.old source.new bytes.new result }
     ensures bare { IfOk result (λ piece. has_lines piece.next ≡ false → source.new.lines ≡ source.old.lines) }
+    ensures line { IfOk result (λ piece. has_lines piece.next ≡ true → source.new.lines ≡ one_line_more source.old.lines) }
     ensures binary { IsTrue (R.Read.tells source.old.inner) → begins_armor (R.Read.rest source.old.inner).bytes ≡ false → source.new.lines ≡ source.old.lines }
     ensures form { IsTrue (R.Read.tells source.old.inner) → IfOk result (λ piece. FindsForm (has_lines piece.next) (R.Read.rest source.old.inner).bytes) }
 {
@@ -235,6 +238,7 @@ pub(crate) fn advance<R: BufRead>(
     ensures piece { IsPiece stage source.old result }
     ensures gives { GivesPiece stage source.old source.new bytes.new result }
     ensures bare { IfOk result (λ piece. has_lines piece.next ≡ false → source.new.lines ≡ source.old.lines) }
+    ensures line { IfOk result (λ piece. has_lines piece.next ≡ true → source.new.lines ≡ one_line_more source.old.lines) }
     ensures binary { IsTrue (R.Read.tells source.old.inner) → has_lines stage ≡ false →
         (is_start stage ≡ true → begins_armor (R.Read.rest source.old.inner).bytes ≡ false) → source.new.lines ≡ source.old.lines }
     ensures form { IsTrue (R.Read.tells source.old.inner) → is_start stage ≡ true →

@@ -40,7 +40,7 @@ pub struct ArmoredWriter<W> {
 }
 
 impl<W: Write> ArmoredWriter<W> {
-    ghost use Rattle.age_armor.specs.Writing.{WasMade, Took, WriterRefuses, IsGood, is_armored, inner_of, held_len, in_armor};
+    ghost use Rattle.age_armor.specs.Writing.{WasMade, Took, SendsLines, WriterRefuses, IsGood, is_armored, inner_of, held_len, in_armor};
 
     /// A writer that has taken nothing. The text begins where `inner` stands.
     ///
@@ -95,6 +95,7 @@ impl<W: Write> ArmoredWriter<W> {
         requires full { 48 ≤ length bytes.now }
         ensures count { IfOk result (λ n. (0 < n) × (n ≤ length bytes.now)) }
         ensures took { IsTrue (W.tells (inner_of self.old)) → IfOk result (λ n. Took W.appended self.old (take n bytes.now) self.new) }
+        ensures front { IsTrue (W.tells (inner_of self.old)) → OnErr result (SendsLines W.appended self.old bytes.now (inner_of self.new)) }
         ensures inner { KeepsWriter W.tells W.faults (HandsOn W.refuses) (inner_of self.old) (inner_of self.new) result }
         ensures failed { self.new.failed ≡ self.old.failed }
         ensures same_form { is_armored self.new ≡ is_armored self.old }
@@ -115,6 +116,7 @@ impl<W: Write> ArmoredWriter<W> {
         requires form { is_armored self.old ≡ true }
         requires fills { held_len self.old + length bytes.now ≡ 48 }
         ensures took { IsTrue (W.tells (inner_of self.old)) → OnOk result (Took W.appended self.old bytes.now self.new) }
+        ensures front { IsTrue (W.tells (inner_of self.old)) → SendsLines W.appended self.old bytes.now (inner_of self.new) }
         ensures inner { KeepsWriter W.tells W.faults (HandsOn W.refuses) (inner_of self.old) (inner_of self.new) result }
         ensures failed { self.new.failed ≡ self.old.failed }
         ensures same_form { is_armored self.new ≡ is_armored self.old }
@@ -153,6 +155,7 @@ impl<W: Write> ArmoredWriter<W> {
         requires some { 0 < length bytes.now }
         ensures count { IfOk result (λ n. (0 < n) × (n ≤ length bytes.now)) }
         ensures took { IsTrue (W.tells (inner_of self.old)) → IfOk result (λ n. Took W.appended self.old (take n bytes.now) self.new) }
+        ensures front { IsTrue (W.tells (inner_of self.old)) → OnErr result (SendsLines W.appended self.old bytes.now (inner_of self.new)) }
         ensures roomy { held_len self.old + length bytes.now < 48 → IsOkAnd result (λ n.
             (held_len self.new ≡ held_len self.old + n) × (inner_of self.new ≡ inner_of self.old)) }
         ensures inner { KeepsWriter W.tells W.faults (HandsOn W.refuses) (inner_of self.old) (inner_of self.new) result }
@@ -175,6 +178,7 @@ impl<W: Write> ArmoredWriter<W> {
     pub(crate) fn take_all(&mut self, bytes: &[u8]) -> Result<(), Error>
         requires form { is_armored self.old ≡ true }
         ensures took { IsTrue (W.tells (inner_of self.old)) → OnOk result (Took W.appended self.old bytes.now self.new) }
+        ensures front { IsTrue (W.tells (inner_of self.old)) → OnErr result (SendsLines W.appended self.old bytes.now (inner_of self.new)) }
         ensures roomy { held_len self.old + length bytes.now < 48 →
             IsOk result × (held_len self.new ≡ held_len self.old + length bytes.now) × (inner_of self.new ≡ inner_of self.old) }
         ensures inner { KeepsWriter W.tells W.faults (HandsOn W.refuses) (inner_of self.old) (inner_of self.new) result }

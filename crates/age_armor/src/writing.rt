@@ -10,7 +10,7 @@ use age_io::{Write, flush_retrying};
 
 /// What was appended are the bytes that were taken. Only `finish` makes the text that carries them whole.
 impl<W: Write> Write for ArmoredWriter<W> {
-    ghost use Rattle.age_armor.specs.Writing.{Appended, Refused, IsFailed, IsGood, inner_of, held_len, is_armored};
+    ghost use Rattle.age_armor.specs.Writing.{Appended, Refused, IsFailed, IsGood, SendsFront, inner_of, held_len, is_armored};
     ghost use Rattle.age_armor.specs.WritingLemmas.{Appended-nothing, Appended-both, Refused-more};
 
     ghost tells = { λ w. W.tells (inner_of w) };
@@ -34,10 +34,15 @@ impl<W: Write> Write for ArmoredWriter<W> {
     /// A refusal in armor leaves the writer failed: it is that of the inner writer, whatever it is, or `WriteZero` where
     /// that took no byte. A failed writer answers `Failed` and stays as it is. Interruptions of the inner writer are
     /// retried as by `write_all`. It takes no memory of its own. In binary it is the inner writer's `write`.
+    ///
+    /// Whatever it answers, the inner writer was given a beginning of all full lines of what was held and these bytes, and in binary
+    /// of the bytes (`sent`): so after a refusal too it has a beginning of a text, and nothing else.
     fn write(&mut self, bytes: &[u8]) -> Result<usize, Error>
         ensures writes { let writer = ⟦<ArmoredWriter<W> as Write>⟧ in
             Writes writer.tells writer.faults writer.refuses writer.appended self.old self.new bytes.now result }
         ensures all { IsTrue (is_armored self.old) → IfOk result (λ n. n ≡ length bytes.now) }
+        // Whatever it answers, what went out is a beginning of the text.
+        ensures sent { IsTrue (W.tells (inner_of self.old)) → SendsFront W.appended (is_armored self.old) self.old bytes.now (inner_of self.new) }
         ensures good { OnOk result (IsGood self.old × IsGood self.new) }
         // A write that fills no line is never refused, and sends nothing.
         ensures finds_room { IsTrue (is_armored self.old) → IsGood self.old → held_len self.old + length bytes.now < 48 →
@@ -57,14 +62,15 @@ impl<W: Write> Write for ArmoredWriter<W> {
         }
         match self.take_all(bytes) {
             Ok(()) => Ok(bytes.len()),
-            Err(e) => {
+            Err(error) => {
                 self.failed = true;
-                Err(e)
+                Err(error)
             }
         }
     }
 
-    /// In armor it flushes the inner writer alone: what is held stays so, since it may be the last line.
+    /// In armor it flushes the inner writer alone: what is held stays so, since it may be the last line. Whatever it answers, the
+    /// inner writer was given nothing, and a refusal is one of its flush (`inner`).
     ///
     /// A refusal in armor leaves the writer failed. A failed writer answers `Failed` and stays as it is. Interruptions
     /// of the inner writer are retried as by `flush_retrying`. In binary it is the inner writer's `flush`.

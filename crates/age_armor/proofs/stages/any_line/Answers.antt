@@ -14,6 +14,7 @@ returns-in-Err g c =
       piece = piece-none _ _ _;
       gives = gives-none _ _ _ _ _ (λ told other quiet. cut_line c.args.after_short (g.R.Read.rest c.args.source.now.inner) c.in-Err.e (now.cause told other quiet));
       lines = tt;
+      line = tt;
     }
 
 pub returns-then-is_empty : goal.returns-then-is_empty
@@ -27,6 +28,7 @@ returns-then-is_empty g c =
       gives = gives-none _ _ _ _ _ (λ told other quiet.
           empty_line c.args.after_short c.take_line.new.line.items (g.R.Read.rest c.args.source.now.inner) (g.R.Read.rest c.take_line.new.self.inner) (line.line told) none);
       lines = tt;
+      line = tt;
     }
 
 pub returns-in-Refuses : goal.returns-in-Refuses
@@ -41,6 +43,7 @@ returns-in-Refuses g c =
           line_refuses c.args.after_short c.take_line.new.line.items (g.R.Read.rest c.args.source.now.inner) (g.R.Read.rest c.take_line.new.self.inner) _ _
           (line.line told) some (rw c.deref.ensures.value at (rw c.in-Refuses.is at c.judge.ensures)) refl);
       lines = tt;
+      line = tt;
     }
 
 pub returns-in-Ok-take_trailing : goal.returns-in-Ok-take_trailing
@@ -61,6 +64,7 @@ returns-in-Ok-take_trailing g c =
         cause = λ told. tt;
       };
       lines = refl;
+      line = last.lines ∙ line.counts.lines some;
     }
 
 pub returns-in-Err-take_trailing : goal.returns-in-Err-take_trailing
@@ -77,6 +81,7 @@ returns-in-Err-take_trailing g c =
           (line.line told) some (rw c.deref.ensures.value at (rw c.in-Ends.is at c.judge.ensures))
           (last.cause (line.kept.keeps.same.tells ∙ told) other (quiet_after _ _ _ line.kept.keeps.same.faults last.kept.keeps.same.faults quiet)));
       lines = tt;
+      line = tt;
     }
 
 pub returns-in-Holds : goal.returns-in-Holds
@@ -105,4 +110,5 @@ returns-in-Holds g c =
         cause = λ told. tt;
       };
       lines = refl;
+      line = line.counts.lines some;
     }

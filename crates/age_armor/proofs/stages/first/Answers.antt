@@ -1,8 +1,9 @@
-use Rattle.std.proofs.Common.{◌≡◌, ◌∙◌, IsTrue, arith, sym, subst}
+use Rattle.std.proofs.Common.{◌≡◌, ◌∙◌, IsTrue, ap, arith, sym, subst}
 use Rattle.std.proofs.lemmas.Bool.{true≢false}
 use Rattle.std.proofs.lemmas.Result.{IfOk-weaker}
 use Rattle.age_armor.specs.declared.stages.Stage.TheVariants.{Start, Lines}
 use Rattle.age_armor.specs.Stages.{ahead}
+use Rattle.age_armor.specs.PrivateCounting.{one_line_more}
 use Rattle.age_armor.specs.PrivateStages.{FindsForm}
 use Rattle.age_armor.proofs.Staging.{piece-later, gives-later, found_none}
 use Rattle.age_armor.proofs.Refusing.{kept-later}
@@ -25,6 +26,7 @@ returns-in-Lines g c =
       gives = gives-later Start (Lines c.in-Lines.after_short) old middle c.next_line.new.source c.next_line.new.bytes c.next_line.result tells
           before.kept.keeps.same.faults now.kept.keeps.same.faults before.kept.more same now.gives;
       bare = IfOk-weaker c.next_line.result _ _ (λ piece is no. absurd (true≢false (sym is ∙ no))) now.lines;
+      line = IfOk-weaker c.next_line.result _ _ (λ piece is armored. is ∙ ap (λ n. one_line_more n) before.counts) now.line;
       binary = λ told plain. absurd (true≢false ((rw c.in-Lines.is at (before.form told)).same ∙ plain));
       form = λ told.
           let found = rw c.in-Lines.is at (before.form told) in

@@ -1,6 +1,8 @@
 use Rattle.std.proofs.Common.{◌≡◌, ◌≤◌, ◌∙◌, IsTrue, arith, refl, ap, sym}
 use Rattle.std.proofs.lemmas.Bool.{true≢false}
 use Rattle.std.proofs.lemmas.List.{take_all}
+use Rattle.std.proofs.lemmas.Result.{IfOk-weaker}
+use Rattle.age_armor.specs.PrivateCounting.{one_line_more}
 use Rattle.age_armor.specs.declared.stages.Stage.TheVariants.{Lines}
 use Rattle.age_armor.specs.Stages.{ahead}
 use Rattle.age_armor.proofs.Staging.{piece-none, gives-none, piece-later, gives-later, no_line, full_step}
@@ -25,6 +27,7 @@ returns-then-full g c =
         cause = λ told. tt;
       };
       lines = refl;
+      line = rw full at now.lines;
     }
 
 pub returns-in-Err : goal.returns-in-Err
@@ -36,6 +39,7 @@ returns-in-Err g c =
       piece = piece-none _ _ _;
       gives = gives-none _ _ _ _ _ (λ told other quiet. no_line c.args.after_short (g.R.Read.rest c.args.source.now.inner) c.in-Err.e (now.cause told other quiet));
       lines = tt;
+      line = tt;
     }
 
 -- where no full line was taken, the reader is as it was
@@ -74,4 +78,5 @@ returns g c =
       gives = gives-later stage stage old middle c.any_line.new.source c.any_line.new.bytes c.any_line.result (λ told. on.1 ∙ told) on.2 now.kept.keeps.same.faults
           (λ told. (on.3 told).1) same now.gives;
       lines = now.lines;
+      line = IfOk-weaker c.any_line.result _ _ (λ piece is. is ∙ ap (λ n. one_line_more n) on.0) now.line;
     }

@@ -19,7 +19,7 @@ invariant_of-self g c =
     let before = c.args.self.now in
     let now = c.in-Err.ensures in
     sound-failed before c.go.new.self before.preceding before.place now.goes.keeps.same (λ told. ap (λ n. n + before.preceding) (now.origin told))
-    (λ told steady. omega (arith, before.behind told steady, now.stays)) before.fits before.inside
+    (λ told steady. omega (arith, before.behind told steady, now.stays)) before.fits before.inside (omega (arith, now.lines))
 
 pub invariant_of-self-in-Ok : goal.invariant_of-self-in-Ok
 invariant_of-self-in-Ok g c =
@@ -39,6 +39,7 @@ invariant_of-self-in-Ok g c =
       | inl unread ↦ before.unread told steady unread some
       | inr begun ↦ armored_stage before.stage (source_of before) begun (before.form told steady begun) c.requires
     ])
+    (λ told other. omega (arith, before.lined told c.requires, now.lines))
 
 pub returns-in-Ok : goal.returns-in-Ok
 returns-in-Ok g c =

@@ -1,4 +1,4 @@
-use Rattle.std.proofs.Common.{refl}
+use Rattle.std.proofs.Common.{arith, refl}
 use Rattle.age_io.proofs.Keeping.{same-self}
 use Rattle.age_armor.proofs.Invariants.{sound-failed}
 use Rattle.age_armor.proofs.Ahead.{rest_failed}
@@ -7,7 +7,7 @@ use Rattle.age_armor.proofs.reader.ArmoredReader.fail_at.Goals as goal
 pub invariant_of-self : goal.invariant_of-self
 invariant_of-self g c =
     let before = c.args.self.now in
-    sound-failed before before.source before.preceding c.args.place (same-self g.R.Read before.source.inner) (λ told. refl) before.behind c.requires.fits c.requires.inside
+    sound-failed before before.source before.preceding c.args.place (same-self g.R.Read before.source.inner) (λ told. refl) before.behind c.requires.fits c.requires.inside (omega arith)
 
 pub returns-clause-rest : goal.returns-clause-rest
 returns-clause-rest g c =

@@ -1,4 +1,4 @@
-use Rattle.std.proofs.Common.{inr, ◌+◌, ◌≡◌, ◌∙◌, ◌-◌, ◌≤◌, true, arith, drop, length, length-take-le, take, sym, ap, refl, IsTrue}
+use Rattle.std.proofs.Common.{inr, ◌*◌, ◌+◌, ◌≡◌, ◌∙◌, ◌-◌, ◌≤◌, true, arith, drop, length, length-take-le, take, sym, ap, refl, IsTrue}
 use Rattle.age_armor.specs.declared.stages.Stage.TheVariants.{Lines}
 use Rattle.std.proofs.lemmas.Bool.{true≢false}
 use Rattle.age_io.specs.Reading.{StandsIn}
@@ -16,7 +16,7 @@ use Rattle.age_armor.proofs.Forms.{form_held, plain_stage, plain_rest}
 use Rattle.age_armor.specs.Reader.{origin_of, source_of}
 use Rattle.age_io.proofs.Keeping.{keeps-done, same-self}
 use Rattle.age_armor.proofs.Invariants.{IsHere, sound-failed}
-use Rattle.age_armor.proofs.Pacing.{learns_none}
+use Rattle.age_armor.proofs.Pacing.{learns_none, lined_on, not_before, other_than_binary}
 use Rattle.age_armor.proofs.reader.ArmoredReader.hold.Goals as goal
 
 pub invariant_of-self : goal.invariant_of-self
@@ -111,6 +111,14 @@ invariant_of-self g c =
       behind = λ told steady. omega (arith, before.behind (same.told told) (same.steady steady), now.kept.more (same.told told));
       unread = λ told steady start. absurd (true≢false (sym start ∙ now.piece.begun));
       begins = λ told. omega (arith, before.begins (same.told told), now.kept.origin (same.told told));
+      lined = λ told other.
+          let told_before = same.told told in
+          let armored = other_than_binary piece.next now.piece.begun other in
+          let before_lined = before.lined told_before (λ binary. not_before before.stage piece.next now.kept_form armored binary) in
+          let place : before.place ≤ before.marks.furthest = omega (arith, (before.paced told_before c.requires).within) in
+          let more = lined_on before.place piece.count before.marks.furthest before.source.lines source.lines place before_lined now.piece.fits
+          (before.fits told_before) now.counts.0 (now.line armored) in
+          c.learn.ensures.within (48 * source.lines) more.0 more.1;
     }
 
 pub invariant_of-self-in-Err : goal.invariant_of-self-in-Err
@@ -119,7 +127,7 @@ invariant_of-self-in-Err g c =
     let source = c.advance.new.source in
     let kept = c.in-Err.ensures.kept in
     sound-failed before source before.preceding before.place kept.keeps.same (λ told. ap (λ n. n + before.preceding) (kept.origin told))
-    (λ told steady. omega (arith, before.behind told steady, kept.more told)) before.fits before.inside
+    (λ told steady. omega (arith, before.behind told steady, kept.more told)) before.fits before.inside c.in-Err.ensures.counts.0
 
 pub returns-then-is_ready : goal.returns-then-is_ready
 returns-then-is_ready g c =
@@ -140,6 +148,10 @@ returns-then-is_ready g c =
             (all_held before) (omega (arith, none)) (ended_clean before.stage (g.R.Read.rest before.source.inner) (end none));
         knows = λ none. before.done (end none);
         same = λ some. (refl, refl);
+        line = λ armored. record {
+          held = λ some. refl;
+          next = λ none more. absurd (omega (arith, ap length none, more));
+        };
       };
       counts = λ told. record {
         held = λ some. (refl, refl, refl);
@@ -183,6 +195,10 @@ returns-in-Ok g c =
             (now.piece.end told (sym found));
         knows = λ found. ap is_known (c.learn.ensures.ends (sym found));
         same = λ some. absurd (omega (arith, ap length (shown_none before.failed before.bytes before.given before.filled (all_held before) none), some));
+        line = λ armored. record {
+          held = λ some. absurd (omega (arith, ap length (shown_none before.failed before.bytes before.given before.filled (all_held before) none), some));
+          next = λ empty more. now.line armored;
+        };
       };
       counts = λ told. record {
         held = λ some. absurd (omega (arith, some, none));
@@ -221,6 +237,7 @@ returns-in-Err g c =
         end = λ told. tt;
         knows = tt;
         same = λ some. absurd (omega (arith, ap length (shown_none before.failed before.bytes before.given before.filled (all_held before) none), some));
+        line = λ armored. tt;
       };
       counts = λ told. tt;
       lines = now.counts.1;

@@ -30,7 +30,7 @@ invariant_of-self g c =
     let before = c.args.self.now in
     let now = c.in-Err.ensures in
     sound-failed before c.leap.new.self before.preceding before.place now.keeps.same (λ told. ap (λ n. n + before.preceding) (now.origin told))
-    (λ told steady. omega (arith, before.behind told steady, now.refused)) before.fits before.inside
+    (λ told steady. omega (arith, before.behind told steady, now.refused)) before.fits before.inside (omega (arith, now.lines))
 
 -- ---- past the end
 
@@ -39,7 +39,7 @@ invariant_of-self-then-not-there g c =
     let before = c.args.self.now in
     let now = c.in-Ok.ensures in
     sound-failed before c.leap.new.self before.preceding before.place now.keeps.same (λ told. ap (λ n. n + before.preceding) (now.origin told))
-    (λ told steady. omega (arith, before.behind told steady, now.stays c.if-not-there.true)) before.fits before.inside
+    (λ told steady. omega (arith, before.behind told steady, now.stays c.if-not-there.true)) before.fits before.inside (omega (arith, now.lines))
 
 pub returns-in-Err-jump_to_end-clause-goes : goal.returns-in-Err-jump_to_end-clause-goes
 returns-in-Err-jump_to_end-clause-goes g c =
@@ -131,7 +131,7 @@ invariant_of-self-2 g c =
       c.reach.ensures.knows (reader.steady before.source.inner) (source_of before) (before.known told) (λ steady. (resumes told steady).within) (λ steady. sym (form told steady).same),
       c.reach.ensures.reaches,
     ))
-    (λ told steady start. absurd (true≢false (sym start))))
+    (λ told steady start. absurd (true≢false (sym start))) (λ told other. absurd (other refl)))
 
 pub returns-clause-goes : goal.returns-clause-goes
 returns-clause-goes g c =

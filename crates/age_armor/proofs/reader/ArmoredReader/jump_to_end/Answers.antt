@@ -18,7 +18,7 @@ invariant_of-self g c =
     let before = c.args.self.now in
     let now = c.go_to_end.ensures in
     sound-failed before c.go_to_end.new.self c.go_to_end.new.preceding before.place now.goes.keeps.same
-    now.origin (λ told steady. now.behind told steady (before.behind told steady)) before.fits before.inside
+    now.origin (λ told steady. now.behind told steady (before.behind told steady)) before.fits before.inside (omega (arith, now.lines))
 
 pub returns-then-self-clause-cause : goal.returns-then-self-clause-cause
 returns-then-self-clause-cause g c = λ told well other quiet.
@@ -58,7 +58,7 @@ invariant_of-self-2 g c =
           (λ some. absurd (omega (arith, some))) (λ steady. omega (arith, (resumes told steady).within)) (λ steady armored some. absurd (omega (arith, some))),
       omega (arith, c.reach.ensures.reaches, c.learn.ensures.more.further),
     ))
-    (λ told steady start. absurd (true≢false (sym start))))
+    (λ told steady start. absurd (true≢false (sym start))) (λ told other. absurd (other refl)))
 
 pub returns-clause-end : goal.returns-clause-end
 returns-clause-end g c = λ told.

@@ -49,6 +49,7 @@ invariant_of-result-2 g c =
       behind = λ told steady. let h : 0 ≤ 0 = omega arith in h;
       unread = λ told steady start some. absurd (omega (arith, some, c.new-3.ensures.none.0));
       begins = λ told. omega (arith, zero, g.met.R.Read.place_fits inner told);
+      lined = λ told other. omega (arith, c.new-3.ensures.none.0);
     }
 
 pub returns-clause-shown : goal.returns-clause-shown

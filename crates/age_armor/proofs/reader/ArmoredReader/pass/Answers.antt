@@ -94,6 +94,7 @@ invariant_of-self g c =
       behind = λ told steady. omega (arith, before.behind (same.told told) (same.steady steady), now.kept.more (same.told told));
       unread = λ told steady start. absurd (true≢false (sym start ∙ ap is_start c.requires.binary));
       begins = λ told. omega (arith, before.begins (same.told told), now.kept.origin (same.told told));
+      lined = λ told other. absurd (other c.requires.binary);
     }
 
 pub invariant_of-self-in-Err : goal.invariant_of-self-in-Err
@@ -101,7 +102,7 @@ invariant_of-self-in-Err g c =
     let before = c.args.self.now in
     let kept = c.in-Err.ensures.kept in
     sound-failed before c.read.new.self before.preceding before.place kept.keeps.same (λ told. ap (λ n. n + before.preceding) (kept.origin told))
-    (λ told steady. omega (arith, before.behind told steady, kept.more told)) before.fits before.inside
+    (λ told steady. omega (arith, before.behind told steady, kept.more told)) before.fits before.inside (omega (arith, c.in-Err.ensures.lines))
 
 pub returns-in-Ok : goal.returns-in-Ok
 returns-in-Ok g c =

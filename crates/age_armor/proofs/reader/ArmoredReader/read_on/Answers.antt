@@ -49,6 +49,7 @@ returns-then-is_passing g c =
         reaches = λ told. on_ok_weaker c.pass.result (λ good. reached after (now.reads.same_tells ∙ told) good) now.good.good;
         lines = (now.text.counts, omega (arith, now.binary.lines));
         bare = now.text.bare;
+        exact = λ told armored. absurd (true≢false (sym armored ∙ bare));
       };
       knows = now.knows;
     }
@@ -70,7 +71,7 @@ returns-in-Err g c =
         spared = λ told steady armor. refl;
       };
       counts = λ told. tt;
-      learns = record { more = now.text.learns; reaches = λ told. tt; lines = (now.text.counts, now.lines); bare = now.text.bare };
+      learns = record { more = now.text.learns; reaches = λ told. tt; lines = (now.text.counts, now.lines); bare = now.text.bare; exact = λ told armored. tt };
       knows = tt;
     }
 
@@ -119,7 +120,15 @@ returns-in-Ok g c =
             begun = ap is_start given.reads.stage ∙ taken.begun;
             on = omega (arith, taken.on, given.moves (back.tells ∙ told));
           };
-      learns = learned before after goes.keeps.same text (omega (arith, lines, now.lines)) given.reads.fresh;
+      learns = learned before after goes.keeps.same text (omega (arith, lines, now.lines)) given.reads.fresh
+          (λ told armored.
+          let line = now.holds.line (sym (ap has_lines given.reads.stage) ∙ armored) in
+          let moves = given.moves (back.tells ∙ told) in
+          let shown = shown_ahead held.failed held.bytes held.given held.filled in
+          record {
+            held = λ some. lines ∙ line.held some;
+            next = λ none more. lines ∙ line.next none (omega (arith, more, moves, now.holds.place, given.count, size, length-drop n shown, ap length given.shown));
+          });
       knows = λ none.
           ap (λ m. is_known m.length) given.reads.marks ∙ now.holds.knows (omega (arith, none, given.count, c.requires.some, held.order));
     }

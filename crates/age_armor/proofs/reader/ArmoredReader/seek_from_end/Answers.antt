@@ -1,4 +1,4 @@
-use Rattle.std.proofs.Common.{Ok, Err, subst, w64, to_z-of_z}
+use Rattle.std.proofs.Common.{Ok, Err, length, subst, sym, w64, to_z-of_z, ◌≤◌, ◌∙◌}
 use Rattle.age_error.specs.declared.io.SeekFrom.TheVariants.{End}
 use Rattle.age_armor.specs.PrivateSteps.{Reaches, Misses}
 use Rattle.age_armor.proofs.Keeping.{text-later}
@@ -35,3 +35,10 @@ returns-in-Err g c =
           (record { lines = λ told steady noting known. tt; outside = now.spares.outside }) back.back back.lines;
       ending = ends-later before middle after now.goes.keeps.same now.text back.ending;
     }
+
+pub come_back-requires-clause-inside : goal.come_back-requires-clause-inside
+come_back-requires-clause-inside g c = λ told steady.
+    let before = c.args.self.now in
+    let same = c.in-Err.ensures.goes.keeps.same in
+    let told_before = sym same.tells ∙ told in
+    subst (λ s. before.place ≤ length s.bytes) (sym (same.content told_before)) (before.inside told_before (sym same.steady ∙ steady))

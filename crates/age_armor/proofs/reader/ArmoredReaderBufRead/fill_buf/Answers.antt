@@ -25,7 +25,7 @@ returns-then-self g c =
               λ told. refl,
               λ told. refl,
               λ told steady. tt,
-              record { more = learns_none _ _ refl; reaches = λ told. tt; lines = (omega arith, omega arith); bare = λ told steady plain. refl },
+              record { more = learns_none _ _ refl; reaches = λ told. tt; lines = (omega arith, omega arith); bare = λ told steady plain. refl; exact = λ told armored. tt },
               tt,
             ),
       ),
@@ -44,7 +44,7 @@ returns-in-Err g c =
           λ told. ap (λ t. text_delivers t.bytes t.ends_well) (now.text.same_text told),
           now.text.same_text,
           λ told steady. tt,
-          record { more = now.text.learns; reaches = λ told. tt; lines = (now.text.counts, now.lines); bare = now.text.bare },
+          record { more = now.text.learns; reaches = λ told. tt; lines = (now.text.counts, now.lines); bare = now.text.bare; exact = λ told armored. tt },
           tt,
         ),
       ),
@@ -77,7 +77,7 @@ returns-in-Ok g c =
             λ told. ap (λ t. text_delivers t.bytes t.ends_well) (now.text.same_text told),
             now.text.same_text,
             form,
-            learned before after now.goes.keeps.same now.text now.lines now.good.good,
+            learned before after now.goes.keeps.same now.text now.lines now.good.good (λ told. now.holds.line),
             λ none. now.holds.knows (omega (arith, ap length none, held_shown after now.good.good, after.order)),
           );
           same_content = now.goes.keeps.same.content;

@@ -26,7 +26,7 @@ returns-then-self g c =
       untouched = λ armored. refl;
       form = λ some told steady. tt;
       spared = λ told steady armor. refl;
-      learns = record { more = learns_none _ _ refl; reaches = λ told. tt; lines = (omega arith, omega arith); bare = λ told steady plain. refl };
+      learns = record { more = learns_none _ _ refl; reaches = λ told. tt; lines = (omega arith, omega arith); bare = λ told steady plain. refl; exact = λ told armored. tt };
       knows = λ some. tt;
       failed = λ had. (refl, refl);
       empty = λ good none. absurd (true≢false (sym gone ∙ good));
@@ -50,7 +50,8 @@ returns-then-is_empty g c =
       untouched = λ armored. tt;
       form = λ some. absurd (omega (arith, none, some));
       spared = λ told steady armor. tt;
-      learns = learned before before (same-self armored_reader before) (text-still _ _ refl refl refl) (omega arith) good;
+      learns = learned before before (same-self armored_reader before) (text-still _ _ refl refl refl) (omega arith) good
+          (λ told armored. record { held = λ some. refl; next = λ none more. absurd (omega (arith, ap length none, more)) });
       knows = λ some. absurd (omega (arith, none, some));
       failed = λ had. absurd (true≢false (sym had ∙ good));
       empty = λ fine empty. (refl, refl);

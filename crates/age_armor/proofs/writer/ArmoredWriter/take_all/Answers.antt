@@ -5,6 +5,8 @@ use Rattle.std.specs.Prelude.{Ok, Err}
 use Rattle.age_io.specs.Writing.{HandsOn}
 use Rattle.age_io.specs.WritingLemmas.{keeps-same, keeps-later, keeps-well}
 use Rattle.age_armor.specs.WritingLemmas.{Took-both, Took-nothing}
+use Rattle.age_armor.specs.Writing.{SendsLines}
+use Rattle.age_armor.proofs.Sent.{sends-rest}
 use Rattle.age_armor.proofs.writer.ArmoredWriter.take_all.Goals as goal
 
 pub loop-done-init : goal.loop-done-init
@@ -44,4 +46,15 @@ pub returns-in_err-done-clause-inner : goal.returns-in_err-done-clause-inner
 returns-in_err-done-clause-inner g c = let w = g.W.Write in
     let refused = keeps-later w.tells w.faults (HandsOn w.refuses) c.args.self.now.inner c.loop-done.self.inner c.take_some.new.self.inner
     tt (Err c.in_err-done.field-0.0) c.loop-done.invariant.keeps c.in_err-done.ensures.inner in
+    search rules
+
+-- what it took before, and what the bytes left came to
+pub returns-in_err-done-clause-front : goal.returns-in_err-done-clause-front
+returns-in_err-done-clause-front g c = λ told. let w = g.W.Write in
+    let before = c.loop-done.invariant in
+    let bytes = c.args.bytes.now in
+    let done = c.loop-done.done in
+    let sends : SendsLines w.appended c.args.self.now bytes c.take_some.new.self.inner =
+    sends-rest w.appended g.met.W.Write.joins c.args.self.now c.loop-done.self c.take_some.new.self.inner done bytes (before.took told)
+    (rw (take_rest bytes done) at (c.in_err-done.ensures.front (before.keeps.same_tells ∙ told))) in
     search rules

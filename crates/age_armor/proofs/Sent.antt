@@ -1,0 +1,157 @@
+-- What a writer of armor had sent when it refused.
+use Rattle.std.specs.Prelude.{◌≡◌, ℕ, ◌+◌, ◌-◌, ◌*◌, ◌/◌, ◌≤◌, ◌<◌, Bool, true, false, IsTrue, List, [], ◌++◌, length, take, drop, Result, Ok, Err}
+use Rattle.std.proofs.Common.{refl, sym, ap, ◌∙◌, inl, inr, arith, append_assoc, length-append, length-drop, length-take, subst}
+use Rattle.std.proofs.lemmas.Bool.{true≢false}
+use Rattle.std.proofs.lemmas.List.{append-nil, take-append-drop, drop-append-le}
+use Rattle.age_error.specs.declared.io.Error.{Error}
+use Rattle.age_base64.specs.Lines.{line}
+use Rattle.age_io.specs.Copying.{AppendsFront}
+use Rattle.age_io.specs.Writing.{Retried, Writes, WritesAll}
+use Rattle.age_v1.specs.Armor.{armor, begin_marker, text_of}
+use Rattle.age_v1.specs.ArmorFullLines.{full_lines}
+use Rattle.age_v1.specs.declared.format.Format.{Format}
+use Rattle.age_v1.specs.declared.format.Format.TheVariants.{AsciiArmor, Binary}
+use Rattle.age_v1.proofs.FullArmorLines.{full_lines-front, full_lines-both}
+use Rattle.age_armor.specs.Writing.{Appended, SendsFront, SendsLines, Takes, Took, WasMade, in_armor}
+use Rattle.age_armor.proofs.Ending.{armor_parts, end_of}
+use Rattle.age_armor.specs.declared.writer.ArmoredWriter.{ArmoredWriter}
+
+module _ {W : Type 0} (appended : W → List ℕ → W → Type 0) where
+  -- nothing was sent
+  pub front-none : ((w : W) → appended w [] w) → (whole : List ℕ) (w : W) → AppendsFront appended whole w w
+  front-none nothing whole w = record { front = []; after = whole; joined = refl; out = nothing w }
+
+  -- nothing, by a call that appended nothing
+  front-nothing : (whole : List ℕ) (a b : W) → appended a [] b → AppendsFront appended whole a b
+  front-nothing whole a b out = record { front = []; after = whole; joined = refl; out = out }
+
+  -- all was
+  pub front-all : (whole : List ℕ) (a b : W) → appended a whole b → AppendsFront appended whole a b
+  front-all whole a b out = record { front = whole; after = []; joined = sym (append-nil whole); out = out }
+
+  -- the first n bytes were
+  front-take : (n : ℕ) (whole : List ℕ) (a b : W) → appended a (take n whole) b → AppendsFront appended whole a b
+  front-take n whole a b out = record { front = take n whole; after = drop n whole; joined = sym (take-append-drop n whole); out = out }
+
+  -- what a write of all bytes came to
+  pub front-all_written : {T : Type 0} (tells : W → Bool) (faults : W → ℕ) (refuses : W → ℕ → Error → Type 0) (a b : W) (whole : List ℕ)
+      (r : Result T Error) → IsTrue (tells a) → WritesAll tells faults (Retried refuses) appended a b whole r → AppendsFront appended whole a b
+  front-all_written tells faults refuses a b whole (Ok x) told w = front-all whole a b (w.takes_all told)
+  front-all_written tells faults refuses a b whole (Err e) told w = let out = w.takes_front told in front-take out.0 whole a b out.2
+
+  -- what a write came to
+  pub front-written : (tells : W → Bool) (faults : W → ℕ) (refuses : W → ℕ → Error → Type 0) (a b : W) (whole : List ℕ) (r : Result ℕ Error) →
+      IsTrue (tells a) → Writes tells faults refuses appended a b whole r → AppendsFront appended whole a b
+  front-written tells faults refuses a b whole (Ok n) told w = front-take n whole a b (w.takes_front told)
+  front-written tells faults refuses a b whole (Err e) told w = front-nothing whole a b (w.takes_nothing told)
+
+  -- a beginning is one of more
+  pub front-more : (whole more : List ℕ) (a b : W) → AppendsFront appended whole a b → AppendsFront appended (whole ++ more) a b
+  front-more whole more a b f = record {
+    front = f.front;
+    after = f.after ++ more;
+    joined = ap (λ (l : List ℕ). l ++ more) f.joined ∙ append_assoc f.front f.after more;
+    out = f.out;
+  }
+
+  -- a beginning after what went out whole
+  front-later : ((a b c : W) (x y : List ℕ) → appended a x b → appended b y c → appended a (x ++ y) c) →
+      (first whole : List ℕ) (a b c : W) → appended a first b → AppendsFront appended whole b c → AppendsFront appended (first ++ whole) a c
+  front-later joins first whole a b c out f = record {
+    front = first ++ f.front;
+    after = f.after;
+    joined = ap (λ (l : List ℕ). first ++ l) f.joined ∙ sym (append_assoc first f.front f.after);
+    out = joins a b c first f.front out f.out;
+  }
+
+  -- full lines of the first bytes are a beginning of those of more
+  lines-more : (t y : List ℕ) (a b : W) → AppendsFront appended (full_lines (length t / 48) t) a b →
+      AppendsFront appended (full_lines (length (t ++ y) / 48) (t ++ y)) a b
+  lines-more t y a b f =
+      let m = length t / 48 in
+      let n = length (t ++ y) / 48 - m in
+      let count : length (t ++ y) / 48 ≡ m + n = omega (arith, length-append t y) in
+      let out : full_lines (length (t ++ y) / 48) (t ++ y) ≡ full_lines m t ++ full_lines n (drop (48 * m) (t ++ y))
+      = ap (λ (k : ℕ). full_lines k (t ++ y)) count ∙ full_lines-both m n (t ++ y)
+      ∙ ap (λ (l : List ℕ). l ++ full_lines n (drop (48 * m) (t ++ y))) (full_lines-front m t y (omega arith)) in
+      rw out (front-more (full_lines m t) (full_lines n (drop (48 * m) (t ++ y))) a b f)
+
+  -- nothing was sent of these bytes
+  pub sends-none : ((w : W) → appended w [] w) → (s : ArmoredWriter W) (bytes : List ℕ) (f : Bool) → SendsFront appended f s bytes s.inner
+  sends-none nothing s bytes true = front-none nothing _ s.inner
+  sends-none nothing s bytes false = front-none nothing bytes s.inner
+
+  -- all lines of what it took
+  pub sends-taken : (a b : ArmoredWriter W) (bytes : List ℕ) → Took appended a bytes b → SendsLines appended a bytes b.inner
+  sends-taken a b bytes took = front-all _ a.inner b.inner took.sent
+
+  -- a beginning of the lines of some of the bytes is one of all
+  pub sends-more : (s : ArmoredWriter W) (x y : List ℕ) (c : W) → SendsLines appended s x c → SendsLines appended s (x ++ y) c
+  sends-more s x y c f =
+      subst (λ (z : List ℕ). AppendsFront appended (full_lines (length z / 48) z) s.inner c) (append_assoc s.held.items x y)
+      (lines-more (s.held.items ++ x) y s.inner c f)
+
+  -- the same of the first n bytes
+  pub sends-part : (s : ArmoredWriter W) (n : ℕ) (bytes : List ℕ) (c : W) → SendsLines appended s (take n bytes) c → SendsLines appended s bytes c
+  sends-part s n bytes c f = subst (λ (z : List ℕ). SendsLines appended s z c) (take-append-drop n bytes) (sends-more s (take n bytes) (drop n bytes) c f)
+
+  -- of a writer that holds nothing
+  pub sends-fresh : (s : ArmoredWriter W) (n : ℕ) (bytes : List ℕ) (c : W) → s.held.items ≡ [] →
+      AppendsFront appended (full_lines (length (take n bytes) / 48) (take n bytes)) s.inner c → SendsLines appended s bytes c
+  sends-fresh s n bytes c none f =
+      let t : s.held.items ++ take n bytes ≡ take n bytes = ap (λ (h : List ℕ). h ++ take n bytes) none in
+      sends-part s n bytes c (subst (λ (z : List ℕ). AppendsFront appended (full_lines (length z / 48) z) s.inner c) (sym t) f)
+
+  module _ (joins : (a b c : W) (x y : List ℕ) → appended a x b → appended b y c → appended a (x ++ y) c) where
+    -- a beginning of what follows, after what was taken
+    pub sends-on : (a b : ArmoredWriter W) (c : W) (x y : List ℕ) → Took appended a x b → SendsLines appended b y c → SendsLines appended a (x ++ y) c
+    sends-on a b c x y first second =
+        let t = a.held.items ++ x in
+        let m = length t / 48 in
+        let n = length (b.held.items ++ y) / 48 in
+        let held : b.held.items ++ y ≡ drop (48 * m) t ++ y = ap (λ (h : List ℕ). h ++ y) first.held in
+        let fits : 48 * m ≤ length t = omega arith in
+        let rest : drop (48 * m) (t ++ y) ≡ b.held.items ++ y = drop-append-le (48 * m) t y fits ∙ sym held in
+        let count : length (t ++ y) / 48 ≡ m + n
+        = omega (arith, ap length rest, length-drop (48 * m) (t ++ y), length-append t y) in
+        let out : full_lines (length (t ++ y) / 48) (t ++ y) ≡ full_lines m t ++ full_lines n (b.held.items ++ y)
+        = rw (count, full_lines-both m n (t ++ y), full_lines-front m t y fits, rest) refl in
+        let front : AppendsFront appended (full_lines (length (t ++ y) / 48) (t ++ y)) a.inner c
+        = rw out (front-later joins _ _ a.inner b.inner c first.sent second) in
+        subst (λ (z : List ℕ). AppendsFront appended (full_lines (length z / 48) z) a.inner c) (append_assoc a.held.items x y) front
+
+    -- and so what was sent of all bytes, of which the first n were taken
+    pub sends-rest : (a b : ArmoredWriter W) (c : W) (n : ℕ) (bytes : List ℕ) → Took appended a (take n bytes) b →
+        SendsLines appended b (drop n bytes) c → SendsLines appended a bytes c
+    sends-rest a b c n bytes first second =
+        subst (λ (z : List ℕ). SendsLines appended a z c) (take-append-drop n bytes) (sends-on a b c (take n bytes) (drop n bytes) first second)
+
+    -- from before the begin marker on
+    armor-begun : (start : ArmoredWriter W) (bytes : List ℕ) (first after : W) → start.held.items ≡ [] →
+        appended first (line begin_marker) start.inner → SendsLines appended start bytes after → AppendsFront appended (armor bytes) first after
+    armor-begun start bytes first after none begun sends =
+        let t : start.held.items ++ bytes ≡ bytes = ap (λ (h : List ℕ). h ++ bytes) none in
+        let n = length bytes / 48 in
+        let lines : AppendsFront appended (full_lines n bytes) start.inner after =
+        subst (λ (z : List ℕ). AppendsFront appended (full_lines (length z / 48) z) start.inner after) t sends in
+        let front = front-later joins (line begin_marker) (full_lines n bytes) first start.inner after begun lines in
+        subst (λ (z : List ℕ). AppendsFront appended z first after) (armor_parts bytes (drop (48 * n) bytes) n refl refl)
+        (front-more (line begin_marker ++ full_lines n bytes) (end_of (drop (48 * n) bytes)) first after front)
+
+    by_form : (start before : ArmoredWriter W) (format : Format) (taken bytes : List ℕ) (first after : W) → WasMade appended format first start →
+        Takes appended (in_armor format) start taken before → SendsFront appended (in_armor format) before bytes after →
+        AppendsFront appended (text_of format (taken ++ bytes)) first after
+    by_form start before AsciiArmor taken bytes first after made took sends =
+        armor-begun start (taken ++ bytes) first after made.none_held made.begins (sends-on start before after taken bytes took sends)
+    by_form start before Binary taken bytes first after made took sends =
+        front-later joins taken bytes first before.inner after (subst (λ w. appended w taken before.inner) made.begins took) sends
+
+    -- up to a refusal, and with it
+    pub sends-text : (start before : ArmoredWriter W) (format : Format) (taken bytes : List ℕ) (first after : W) → WasMade appended format first start →
+        Appended appended start taken before → before.failed ≡ false → SendsFront appended before.armored before bytes after →
+        AppendsFront appended (text_of format (taken ++ bytes)) first after
+    sends-text start before format taken bytes first after made (inl failed) good sends = absurd (true≢false (sym failed ∙ good))
+    sends-text start before format taken bytes first after made (inr took) good sends =
+        by_form start before format taken bytes first after made
+        (subst (λ b. Takes appended b start taken before) made.same_form took.3)
+        (subst (λ b. SendsFront appended b before bytes after) (took.2 ∙ made.same_form) sends)
