@@ -8,7 +8,9 @@ use age::stream::{StreamReader, StreamWriter};
 use age::{scrypt, x25519};
 use age_bench::recipient::{BenchIdentity, BenchRecipient};
 use age_bench::suite::BenchSuite;
+use age_claims::devices::kept_between_devices;
 use age_claims::kept::kept;
+use age_claims::left::written_at_once;
 use age_claims::longer::{cut_between_chunks, decrypted_up_to_the_cut, lengthened_or_cut};
 use age_claims::others::refused_as_answered;
 use age_claims::outside::read_inside;
@@ -77,6 +79,47 @@ fn is_kept(alloc: Global, is_armored: bool, plain: &[u8]) -> Result<bool, Fail> 
     Ok(gives(given, plain))
 }
 
+// Whether it does from a reader to a writer.
+fn is_passed_on(alloc: Global, is_armored: bool, plain: &[u8]) -> Result<bool, Fail> {
+    let mut draw = zeros(alloc, 32)?;
+    let mut identity = BenchIdentity;
+    let mut out = Vec::new(alloc);
+    let answer = kept_between_devices::<
+        BenchSuite,
+        BenchRecipient,
+        BenchIdentity,
+        Bytes,
+        Vec<u8>,
+    >(
+        alloc,
+        &[BenchRecipient],
+        slice::from_mut(&mut identity),
+        &mut draw,
+        grease(alloc)?,
+        form(is_armored),
+        &mut Bytes::new(plain),
+        &mut out,
+    );
+    Ok(answer.is_ok() && out.as_slice() == plain)
+}
+
+// Whether its file is written in one piece, as it is chunk by chunk.
+fn is_written(alloc: Global, is_armored: bool, plain: &[u8]) -> Result<bool, Fail> {
+    let mut draw = zeros(alloc, 32)?;
+    let mut out = Vec::new(alloc);
+    let answer = written_at_once::<BenchSuite, BenchRecipient, Vec<u8>>(
+        alloc,
+        &[BenchRecipient],
+        &mut draw,
+        grease(alloc)?,
+        form(is_armored),
+        plain,
+        &mut out,
+    );
+    let text = bench_text(alloc, form(is_armored), plain)?;
+    Ok(answer.is_ok() && out.as_slice() == text.as_slice())
+}
+
 // Whether these are a seek to this place, and a read of these bytes.
 fn are_at(answers: &[Answer], place: u64, bytes: &[u8]) -> bool {
     match answers {
@@ -119,6 +162,8 @@ fn a_plaintext_is_kept(rt: HostRuntime) -> Result<(), Fail> {
     let plain = plaintext(alloc, LENGTH)?;
     for is_armored in [false, true] {
         assert!(rt; is_kept(alloc, is_armored, &[])? && is_kept(alloc, is_armored, &plain)?);
+        assert!(rt; is_passed_on(alloc, is_armored, &plain)?);
+        assert!(rt; is_written(alloc, is_armored, &plain)?);
     }
     for place in PLACES {
         assert!(rt; is_sliced(alloc, false, &plain, place)?, "at {place}");
