@@ -40,8 +40,8 @@ fn file_of<S: Suite, T: Recipient>(
 
 /// Encrypts a plaintext to recipients in memory, bare or in armor, and gives the text to a writer once it is whole.
 ///
-/// - `left`: whatever it answers, the writer is as it was, or it was given a beginning of the text of one file of the plaintext, as the recipients and
-///   the random bytes make it, and nothing else.
+/// - `left`: whatever it answers, the writer is as it was, or it was given a beginning of the text of one file of the plaintext, as the recipients
+///   and the random bytes make it, and nothing else.
 /// - `whole`: a success says that it was given all of that text.
 pub fn written_at_once<S: Suite, T: Recipient, W: Write>(
     alloc: Global,

@@ -14,7 +14,8 @@ returns-in-Err-clause-front g c = λ told writer_told one only belongs keeps.
 
 pub returns-in-Err-clause-why : goal.returns-in-Err-clause-why
 returns-in-Err-clause-why g c = λ told well quiet one only belongs keeps.
-    refused_before (λ refusal. Prepares g.T.Recipient.wraps c.args.recipients.now (Some c.args.grease) c.args.draw.now (Err refusal) c.text_from.new.draw)
+    refused_before
+    (λ refusal. Prepares g.T.Recipient.wraps c.args.recipients.now (Some c.args.grease) c.args.draw.now (Err refusal) c.text_from.new.draw)
     g.W.Write.refuses c.args.writer.now (length (g.R.Read.rest c.args.reader.now).bytes) c.in-Err.error
     (c.in-Err.ensures.refused (and-left _ _ told) well quiet)
 
@@ -45,5 +46,6 @@ returns-clause-why g c = λ told well quiet one only belongs keeps.
     by_both _ _ _ c.decrypt_all.result
     (c.decrypt_all.ensures.honest refl (ap (λ s. s.ends_well) input) (λ r. refl) _ _ carries for)
     (c.decrypt_all.ensures.written refl (ap (λ s. s.ends_well) input) (λ r. refl) _ _ carries for)
-    (λ e. refused_after (λ refusal. Prepares g.T.Recipient.wraps c.args.recipients.now (Some c.args.grease) c.args.draw.now (Err refusal) c.text_from.new.draw)
+    (λ e. refused_after
+    (λ refusal. Prepares g.T.Recipient.wraps c.args.recipients.now (Some c.args.grease) c.args.draw.now (Err refusal) c.text_from.new.draw)
     g.W.Write.refuses c.args.writer.now (length (g.R.Read.rest c.args.reader.now).bytes) e)
