@@ -84,13 +84,7 @@ fn is_passed_on(alloc: Global, is_armored: bool, plain: &[u8]) -> Result<bool, F
     let mut draw = zeros(alloc, 32)?;
     let mut identity = BenchIdentity;
     let mut out = Vec::new(alloc);
-    let answer = kept_between_devices::<
-        BenchSuite,
-        BenchRecipient,
-        BenchIdentity,
-        Bytes,
-        Vec<u8>,
-    >(
+    let answer = kept_between_devices::<BenchSuite, BenchRecipient, BenchIdentity, Bytes, Vec<u8>>(
         alloc,
         &[BenchRecipient],
         slice::from_mut(&mut identity),
