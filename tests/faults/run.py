@@ -67,16 +67,26 @@ class Runs:
         self.program, self.shim = program, shim
         self.name = os.path.basename(program)
         self.mark = os.path.join(folder, "mark")
+        self.input = os.path.join(folder, "input")
         self.passed = self.failed = 0
 
     def run(self, words, given, inject=None, at=0):
-        """Status, standard output, standard error, and whether the fault came."""
+        """Status, standard output, standard error, and whether the fault came.
+
+        Without a fault the input comes by a pipe, so that a read gives what was written into that by then. With one it is a
+        file, of which each read gives all that it asks for: so a program makes as many calls each time, whatever runs beside it.
+        """
         surroundings = {"PATH": os.environ.get("PATH", "")}
-        if inject:
-            surroundings.update(LD_PRELOAD=self.shim, INJECT=inject, INJECT_AT=str(at), INJECT_MARK=self.mark)
+        if not inject:
+            done = subprocess.run([self.program, *words], input=given, capture_output=True, env=surroundings, timeout=60)
+            return done.returncode, done.stdout, done.stderr.decode(), False
+        surroundings.update(LD_PRELOAD=self.shim, INJECT=inject, INJECT_AT=str(at), INJECT_MARK=self.mark)
         if os.path.exists(self.mark):
             os.remove(self.mark)
-        done = subprocess.run([self.program, *words], input=given, capture_output=True, env=surroundings, timeout=60)
+        with open(self.input, "wb") as file:
+            file.write(given)
+        with open(self.input, "rb") as file:
+            done = subprocess.run([self.program, *words], stdin=file, capture_output=True, env=surroundings, timeout=60)
         return done.returncode, done.stdout, done.stderr.decode(), os.path.exists(self.mark)
 
     def judge(self, name, right, got):

@@ -1,5 +1,7 @@
 pub mod Alone
+pub mod AtOnce
 pub mod Belongs
+pub mod BothDevices
 pub mod Changed
 pub mod CutFiles
 pub mod CutStreams
@@ -10,6 +12,7 @@ pub mod OneKeys
 pub mod Outcomes
 pub mod PassedOver
 pub mod Refused
+pub mod Rekeyed
 pub mod Rings
 pub mod SameFronts
 pub mod Sought

@@ -3,15 +3,17 @@ use Rattle.std.proofs.Common.{◌+◌, Bool, true, IsTrue, get_or}
 use Rattle.std.specs.Prelude.{◌≡◌, ◌≢◌, ◌⊎◌, ℕ, ◌^◌, ◌<◌, ◌≤◌, ◌*◌, List, [], ◌∷◌, ◌++◌, length, take, codes, Option, None, Some, Ok, Err}
 use Rattle.age.specs.AnswerVariants.{Bytes, At, Fault}
 use Rattle.age.specs.Armor.{Carries}
+use Rattle.age.specs.Claims.{AppendsFile}
 use Rattle.age.specs.Copying.{AppendsFront}
 use Rattle.age.specs.Cursor.{IsOutside}
 use Rattle.age.specs.DecryptErrors as decrypt
 use Rattle.age.specs.DecryptErrors.{decrypt_refusal}
 use Rattle.age.specs.EncryptErrors.{EncryptRefusal, encrypt_refusal}
+use Rattle.age.specs.Encrypting.{Prepared}
 use Rattle.age.specs.ErrorVariants.{OutOfMemory, TooLong}
 use Rattle.age.specs.File.{file_front}
 use Rattle.age.specs.FileErrorVariants as variant
-use Rattle.age.specs.Identities.{UnwrapAnswer, Unwraps, GivesFirst, IsFileFor}
+use Rattle.age.specs.Identities.{UnwrapAnswer, Unwraps, CarriesFile, GivesFirst, IsFileFor}
 use Rattle.age.specs.OpVariants.{Read, Seek}
 use Rattle.age.specs.Payload.{Seal, chunk, payload, payload_key, plain_len, EndsAsLast, LastIsNoMiddle}
 use Rattle.age.specs.PayloadAnswers.{OpensAs}
@@ -19,7 +21,7 @@ use Rattle.age.specs.PayloadRefusals.{IsAllowed}
 use Rattle.age.specs.PayloadTargets.{sought_in, IsRefusedTarget, IsToEnd}
 use Rattle.age.specs.Stanza.{StanzaValue}
 use Rattle.age.specs.StreamWriting.{IsGood, WasMade, inner_of}
-use Rattle.age.specs.Stretch.{Stretch}
+use Rattle.age.specs.Stretch.{Stretch, whole}
 use Rattle.age.specs.Types.{Answer, Error, FileError, Op, StreamWriter}
 use Rattle.age.specs.WholeFiles.{RefusesFile}
 use Rattle.age.specs.X25519.{HasShare, opened_with}
@@ -70,6 +72,16 @@ abbrev pub RefusesRekeying : {W : Type 0} → (EncryptRefusal → Type 0) → (W
 RefusesRekeying Unprepared refuses writer size (variant.Io e) = RefusesFile refuses writer size e
 RefusesRekeying Unprepared refuses writer size (variant.Encrypt e) = Unprepared (encrypt_refusal e)
 RefusesRekeying Unprepared refuses writer size (variant.Decrypt e) = decrypt_refusal e ≡ decrypt.OutOfMemory
+
+-- An input ended well and carried a file, and between two states of a writer the file of exactly its plaintext was appended, as it was prepared.
+pub record AppendsRekeyed {W : Type 0} (seal_of : Seal) (gives : List ℕ → List StanzaValue → Type 0) (IsPrepared : Prepared → Type 0)
+    (appended : W → List ℕ → W → Type 0) (form : List ℕ → List ℕ) (input : Stretch) (old new : W) : Type 0 where
+  pub plain : List ℕ
+  pub ended : IsTrue input.ends_well
+  pub carries : CarriesFile seal_of gives input.bytes plain
+  pub prepared : Prepared
+  pub prepares : IsPrepared prepared
+  pub appends : AppendsFile seal_of appended form prepared (whole plain) old new
 
 -- Where a writer was made under a key and took a plaintext since, and hasn't failed, the writer below has got a beginning of the payload of the
 -- plaintext and of the bytes that it is given then, and nothing else.

@@ -1,7 +1,9 @@
 //! What a user of `age` wants to rely on, each claim proved from the public clauses of `age` (and of `age_standard`) alone.
 #![tactic(auto)]
 
+pub mod devices;
 pub mod kept;
+pub mod left;
 pub mod longer;
 pub mod others;
 pub mod outside;

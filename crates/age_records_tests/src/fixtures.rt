@@ -1,15 +1,20 @@
-//! What the tests share: payloads that hold records, readers of them, and lists of calls on those with the answers that they must
-//! get.
+//! What the tests share: payloads that hold records, readers of them, lists of calls on those with the answers that they must
+//! get, and files.
 
-use age::armor::ArmoredReader;
+use age::Recipient;
+use age::armor::{ArmoredReader, Format};
+use age::format::Grease;
 use age::io::{BufReader, Bytes, Error, Seek};
 use age::stream::{StreamReader, StreamWriter};
+use age::streaming::encrypt_all;
+use age::suite::Suite;
+use age_bench::recipient::BenchRecipient;
 use age_bench::suite::BenchSuite;
 use age_records::{RecordError, Records, write_records};
 use std::alloc::{AllocError, Global};
 use std::process::Abort;
 use std::test::Fail;
-use test_support::fixtures::{KEY, armored, part, plaintext};
+use test_support::fixtures::{KEY, armored, empty_stanza, part, plaintext, zeros};
 use test_support::whole::seal_whole;
 
 /// The bytes that a text in armor carries.
@@ -134,4 +139,41 @@ pub fn both_answer(
     answers(rt, alloc, Bytes::new(payload), calls)?;
     let text = armored(alloc, payload)?;
     answers(rt, alloc, in_armor(alloc, &text)?, calls)
+}
+
+/// The text of an X25519 key.
+pub const SECRET: &str =
+    "AGE-SECRET-KEY-1GQ9778VQXMMJVE8SK7J6VT8UJ4HDQAJUVSFCWCM02D8GEWQ72PVQ2Y5J33";
+
+/// A grease stanza with nothing but a tag in it.
+pub fn grease(alloc: Global) -> Result<Grease, Fail> {
+    match empty_stanza(alloc, "x-grease")?.and_then(Grease::new) {
+        Some(grease) => Ok(grease),
+        None => Err(Fail::from("no grease")),
+    }
+}
+
+/// The file of a plaintext to these recipients in this form, where each of so many random bytes is 0.
+pub fn text_to<S: Suite, T: Recipient>(
+    alloc: Global,
+    recipients: &[T],
+    random: usize,
+    format: Format,
+    plain: &[u8],
+) -> Result<Vec<u8>, Fail> {
+    let mut draw = zeros(alloc, random)?;
+    let grease = grease(alloc)?;
+    let mut input = Bytes::new(plain);
+    let mut text = Vec::new(alloc);
+    match encrypt_all::<S, T, Bytes, Vec<u8>>(
+        alloc, recipients, &mut draw, grease, format, &mut input, &mut text,
+    ) {
+        Ok(()) => Ok(text),
+        Err(_) => Err(Fail::from("not encrypted")),
+    }
+}
+
+/// The same to `bench`.
+pub fn bench_text(alloc: Global, format: Format, plain: &[u8]) -> Result<Vec<u8>, Fail> {
+    text_to::<BenchSuite, BenchRecipient>(alloc, &[BenchRecipient], 32, format, plain)
 }

@@ -1,10 +1,9 @@
 //! Records over the primitives of the standard: a file of them to the recipient of a key, bare and in armor, and what calls on it give.
 
-use crate::fixtures::{listed, three_of};
+use crate::fixtures::{SECRET, grease, listed, three_of};
 use age::Encryptor;
 use age::armor::{ArmoredWriter, Format};
 use age::draw::Draw;
-use age::format::Grease;
 use age::io::Bytes;
 use age::x25519::Identity;
 use age_examples::record_calls::get_each;
@@ -16,9 +15,7 @@ use std::alloc::Global;
 use std::slice;
 use std::str::FromStr;
 use std::test::Fail;
-use test_support::fixtures::{armored, empty_stanza, zeros};
-
-const SECRET: &str = "AGE-SECRET-KEY-1GQ9778VQXMMJVE8SK7J6VT8UJ4HDQAJUVSFCWCM02D8GEWQ72PVQ2Y5J33";
+use test_support::fixtures::{armored, zeros};
 
 // How many random bytes a file to one recipient takes.
 const RANDOM_BYTES: usize = 64;
@@ -29,13 +26,6 @@ type Answer = Result<Vec<u8>, RecordError>;
 
 fn key() -> Result<Key, Fail> {
     Ok(Key::from_str(SECRET)?)
-}
-
-fn grease(alloc: Global) -> Result<Grease, Fail> {
-    match empty_stanza(alloc, "x-grease")?.and_then(Grease::new) {
-        Some(grease) => Ok(grease),
-        None => Err(Fail::from("no grease")),
-    }
 }
 
 // The file of records to the recipient of the key.
