@@ -12,11 +12,12 @@ use Rattle.std.specs.List.{AllByRecursion, flat_map}
 abbrev pub begin_marker : List ℕ
 begin_marker = codes "-----BEGIN AGE ENCRYPTED FILE-----"
 
--- the last one
+-- the last line of an armor, without its line ending
 abbrev pub end_marker : List ℕ
 end_marker = codes "-----END AGE ENCRYPTED FILE-----"
 
--- base64 characters in lines of 64 and a last one of 1 to 64; of no characters there is no line (a stanza's body ends with a line of 0 to 63)
+-- base64 characters in lines of 64 and a last one of 1 to 64, so of n characters the first (n - 1) / 64 lines are whole; of no characters there is
+-- no line (a stanza's body ends with a line of 0 to 63)
 unfoldable pub armor_lines : List ℕ → List (List ℕ)
 armor_lines [] = []
 armor_lines (c ∷ cols) = pieces_and_rest (length cols / 64) 64 (c ∷ cols)
@@ -39,8 +40,8 @@ AreEndedLines (l ∷ ls) text = (first : List ℕ) × (rest : List ℕ) × (text
 abbrev pub IsSpace : ℕ → Type 0
 IsSpace b = (b ≡ 32) ⊎ (b ≡ 9) ⊎ (b ≡ 10) ⊎ (b ≡ 12) ⊎ (b ≡ 13)
 
--- The end marker alone, or with LF or CRLF and then any white space. No writer makes these but the second without white space: readers are patient here,
--- as with CRLF, and nowhere else, so nothing stands before the begin marker.
+-- The end marker alone, or with LF or CRLF and then any white space. The armor that is written ends with the marker and LF. Readers take more here,
+-- as they take CRLF after any line, and nowhere else: so nothing stands before the begin marker.
 abbrev pub IsArmorEnd : List ℕ → Type 0
 IsArmorEnd text = (text ≡ end_marker)
     ⊎ ((ended : List ℕ) × (space : List ℕ) × (text ≡ ended ++ space) × IsEndedLine end_marker ended × AllByRecursion IsSpace space)

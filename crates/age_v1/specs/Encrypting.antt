@@ -53,14 +53,14 @@ pub record Prepared : Type 0 where
   pub stanzas : List StanzaValue
   pub nonce : List ℕ
 
--- the last step: 16 bytes are drawn for the nonce, and then the header is made, for which memory can be refused
+-- the last step: 16 bytes are drawn for the payload nonce, and then the header is made, for which memory can be refused
 -- standard: "Payload": the nonce is 16 bytes of a CSPRNG, fresh for each file
 abbrev pub PreparesNonce : List ℕ → List StanzaValue → List ℕ → Result Prepared EncryptRefusal → List ℕ → Type 0
 PreparesNonce file_key stanzas =
     WithDrawn 16 (λ nonce draws outcome left.
     UnlessNoMemory (Ends (Ok (record { file_key = file_key; stanzas = stanzas; nonce = nonce })) draws outcome left) draws outcome left)
 
--- once all recipients have answered: the rules on all their stanzas, then the nonce
+-- once all recipients have answered: the rules on all their stanzas, then the payload nonce
 abbrev pub PreparesRest : List ℕ → Option StanzaValue → Gathered → List ℕ → Result Prepared EncryptRefusal → List ℕ → Type 0
 PreparesRest file_key grease all = After (closed all.labels all.stanzas grease) (λ stanzas. PreparesNonce file_key stanzas)
 

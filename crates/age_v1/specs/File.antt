@@ -6,19 +6,19 @@ use Rattle.age_v1.specs.HeaderMac.{header_mac}
 use Rattle.age_v1.specs.Header.{IsHeader, KeepsScryptRule, covered_text, header_text}
 use Rattle.age_v1.specs.Payload.{Seal, payload, payload_key}
 
--- what stands before the chunks: the header with its MAC, then a nonce of 16 bytes, of which the key of the payload is made
+-- what stands before the chunks: the header with its MAC, then the payload nonce, 16 bytes that the key of the payload is made with
 -- standard: "Payload": the payload begins after the header with a nonce of 16 bytes
 unfoldable pub file_front : List ℕ → List StanzaValue → List ℕ → List ℕ
 file_front file_key stanzas nonce = header_text stanzas (header_mac file_key (covered_text stanzas)) ++ nonce
 
--- The one text of a file, of a file key, any stanzas, a nonce of 16 bytes and a plaintext. That the stanzas wrap this file key is said where recipients
+-- The one text of a file, of a file key, any stanzas, a payload nonce and a plaintext. That the stanzas wrap this file key is said where recipients
 -- and identities are.
 unfoldable pub file_text : Seal → List ℕ → List StanzaValue → List ℕ → List ℕ → List ℕ
 file_text seal_of file_key stanzas nonce plain =
     file_front file_key stanzas nonce ++ payload seal_of (payload_key file_key nonce) plain
 
--- The bytes are a file of this plaintext under this file key: there is a nonce of 16 bytes for which they are the one text of a file. The stanzas are such as
--- can stand in a header, and one with the tag scrypt is the only one. Nothing is asked of the file key: whoever gives it has 16 bytes.
+-- The bytes are a file of this plaintext under this file key: there is a payload nonce for which they are the one text of a file. The stanzas are
+-- such as can stand in a header, and one with the tag scrypt is the only one. Nothing is asked of the file key: whoever gives it has 16 bytes.
 pub record IsFileOf (seal_of : Seal) (file_key : List ℕ) (stanzas : List StanzaValue) (plain bytes : List ℕ) : Type 0 where
   pub nonce : List ℕ
   pub header : IsHeader stanzas (header_mac file_key (covered_text stanzas))
@@ -26,7 +26,7 @@ pub record IsFileOf (seal_of : Seal) (file_key : List ℕ) (stanzas : List Stanz
   pub sixteen : AreBytesOf 16 nonce
   pub whole : bytes ≡ file_text seal_of file_key stanzas nonce plain
 
--- The bytes begin as a file does: a header that keeps the rule on passphrases, and a nonce. What follows may be anything.
+-- The bytes begin as a file does: a header that keeps the rule on passphrases, and a payload nonce. What follows may be anything.
 pub record BeginsAsFile (stanzas : List StanzaValue) (mac nonce more bytes : List ℕ) : Type 0 where
   pub header : IsHeader stanzas mac
   pub rule : KeepsScryptRule stanzas

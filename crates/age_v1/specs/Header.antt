@@ -12,7 +12,7 @@ abbrev pub version_line : List ℕ
 version_line = codes "age-encryption.org/v1"
 
 -- the last line of a header
--- standard: it is `---`, a space, and the base64 of the MAC: 43 characters for 32 bytes
+-- standard: it is `---`, a space, and the base64 of the MAC, without padding: 43 characters for 32 bytes
 unfoldable pub mac_line : List ℕ → List ℕ
 mac_line mac = codes "--- " ++ columns mac
 

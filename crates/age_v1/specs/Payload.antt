@@ -24,7 +24,7 @@ piece i plain = cut 65536 i plain
 abbrev pub last_piece : ℕ → ℕ
 last_piece n = (n - 1) / 65536
 
--- the nonce of a chunk: its number in 11 bytes, big-endian, then 1 for the last chunk and 0 for the others
+-- the nonce of a chunk, of 12 bytes: its number in 11, big-endian, then 1 for the last chunk and 0 for the others
 -- standard: the first 11 bytes are a big endian chunk counter that starts at zero and rises by one for each chunk; the
 -- last byte is 0x01 for the final chunk and 0x00 for all preceding ones
 unfoldable pub nonce : ℕ → Bool → List ℕ
@@ -37,8 +37,8 @@ middle_seals seal_of key plain zero = []
 middle_seals seal_of key plain (suc i) =
     middle_seals seal_of key plain i ++ seal_of key (nonce i false) (piece i plain)
 
--- The payload of a plaintext: the seals of its pieces in order, the last one under the nonce of a last chunk. The standard counts the 16 bytes that stand
--- before the first chunk to the payload; here they are the end of the file's front.
+-- The payload of a plaintext: the seals of its pieces in order, the last one under the nonce of a last chunk. The standard counts the payload nonce,
+-- the 16 bytes before the first chunk, to the payload; here it is the end of the file's front.
 -- standard: each chunk is encrypted under its nonce, the final one under that of the final chunk
 unfoldable pub payload : Seal → List ℕ → List ℕ → List ℕ
 payload seal_of key plain =
@@ -58,14 +58,14 @@ pub record OpensAsMiddle (seal_of : Seal) (key sealed : List ℕ) (i : ℕ) (pla
   pub bytes : AreBytes plain
   pub is_seal : chunk i sealed ≡ seal_of key (nonce i false) plain
 
--- chunk i isn't held as middle, and is the seal of these bytes under its nonce as the last chunk
+-- chunk i doesn't open as a middle one, and is the seal of these bytes under its nonce as the last chunk
 -- standard: the final chunk has 0x01 in its nonce
 pub record OpensAsLast (seal_of : Seal) (key sealed : List ℕ) (i : ℕ) (plain : List ℕ) : Type 0 where
   pub not_middle : (other : List ℕ) → OpensAsMiddle seal_of key sealed i other → ⊥
   pub bytes : AreBytes plain
   pub is_seal : chunk i sealed ≡ seal_of key (nonce i true) plain
 
--- chunk i is held neither as middle nor as last
+-- chunk i opens neither as a middle one nor as the last
 -- standard: its decryption fails
 pub record IsBadChunk (seal_of : Seal) (key sealed : List ℕ) (i : ℕ) : Type 0 where
   pub not_middle : (other : List ℕ) → OpensAsMiddle seal_of key sealed i other → ⊥
@@ -98,7 +98,8 @@ plain_len n =
     let rest = n - 65552 * last in
     if nat_le 16 rest && (nat_eq last 0 || nat_lt 16 rest) then Some (n - 16 * (last + 1)) else None
 
--- the key of the payload, one for the whole file: of the file key and of the 16 bytes that stand before the first chunk, which are no chunk's nonce
--- standard: "Payload": HKDF-SHA-256 of the file key, with that nonce as the salt and the info "payload"
+-- the key of the payload, one for the whole file: of the file key and of the payload nonce, the 16 bytes before the first chunk, which are no
+-- chunk's nonce
+-- standard: "Payload": HKDF-SHA-256 of the file key, with the payload nonce as the salt and the info "payload"
 unfoldable pub payload_key : List ℕ → List ℕ → List ℕ
-payload_key file_key nonce = hkdf_of nonce (codes "payload") file_key
+payload_key file_key payload_nonce = hkdf_of payload_nonce (codes "payload") file_key

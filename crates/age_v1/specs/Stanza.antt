@@ -43,7 +43,7 @@ pub record IsStanza (s : StanzaValue) : Type 0 where
 unfoldable pub first_line : StanzaValue → List ℕ
 first_line s = codes "-> " ++ join_with_byte 32 (s.tag ∷ s.args)
 
--- whole lines of 64 columns, and a final one of 0 to 63
+-- the base64 of the body, without padding: whole lines of 64 characters, and a final one of 0 to 63, each with LF
 -- standard: the base64 of the body is wrapped at exactly 64 columns; the last line is shorter than 64, possibly empty
 unfoldable pub body_text : List ℕ → List ℕ
 body_text body = flat_map line (pieces_and_rest (length (columns body) / 64) 64 (columns body))

@@ -2,7 +2,7 @@
 //! the crate `x25519`.
 //!
 //! - `specs/Field`, `specs/Encoding` and `specs/X25519` are the definition, line by line that of the RFC.
-//! - `proofs/` shows the law. `docs/X25519.md` is the way through them.
+//! - `proofs/` shows the law. `docs/development/X25519.md` is the way through them.
 #![tactic(auto)]
 
 ghost use Rattle.std.specs.Prelude.{◌≡◌, ◌<◌, ◌^◌, All, List, ℕ, length};
