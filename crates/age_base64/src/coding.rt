@@ -15,7 +15,7 @@ pub fn encode_columns(alloc: Global, bytes: &[u8]) -> Result<String, AllocError>
 }
 
 /// The bytes that the columns stand for, or `None` where they aren't canonical base64 without padding. `AllocError` where
-/// memory is refused.
+/// memory is refused, also of columns that are none: it is taken before they are judged.
 pub fn decode_columns(alloc: Global, text: &[u8]) -> Result<Option<Vec<u8>>, AllocError>
     ensures { IfOk result (λ found. MatchOption found
         ((bytes : List ℕ) → AreBytes bytes → columns bytes ≡ text.now → ⊥)
