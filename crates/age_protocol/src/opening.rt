@@ -1,11 +1,11 @@
 //! Files opened, and reads and seeks on their plaintext.
-ghost use Rattle.std.specs.Prelude.{◌≡◌, ◌&&◌, ℕ, ◌≤◌, IsTrue, List, [], ◌∷◌, All, map, IfOk, IfErr, MatchResult};
+ghost use Rattle.std.specs.Prelude.{◌≡◌, ◌⊎◌, ◌&&◌, ℕ, ◌≤◌, IsTrue, List, [], ◌∷◌, All, map, IfOk, IfErr, MatchResult};
 ghost use Rattle.age_error.specs.DecryptErrors.{OutOfMemory, decrypt_refusal};
 ghost use Rattle.age_io.specs.Replies.{seen, replies, IsNoWant};
 ghost use Rattle.age_v1.specs.Armor.{Carries};
 ghost use Rattle.age_protocol.specs.OpeningFile.{StandsBefore};
-ghost use Rattle.age_protocol.specs.Opened.{IsOpened, IsNotOpened};
-ghost use Rattle.age_error.specs.FileErrors.{IsWant};
+ghost use Rattle.age_protocol.specs.Opened.{IsOpened, IsNotOpened, OfText, WasOpened, AnswersInTurn};
+ghost use Rattle.age_error.specs.FileErrors.{DecryptsUnless, IsIoError, IsWant};
 ghost use Rattle.age_v1.specs.Identities.{FirstAnswer, IsFileFor};
 
 use crate::decryptor::Decryptor;
@@ -83,9 +83,12 @@ pub fn open_file_by_one<S: Suite, I: Identity, T: Read + Drop>(
 /// of its plaintext.
 ///
 /// Where what the reader still has ends well and carries a file for the identities, the answer stands before the file's
-/// plaintext, and it is refused for want of memory alone, or after a fault of the device. It refuses with `Io` as
-/// `ArmoredReader::new`, by which fewer than 36 bytes are `UnexpectedEof`, whatever they are, and with `Decrypt` as `open_file`;
-/// the reader is gone then.
+/// plaintext, and it is refused for want of memory alone, or after a fault of the device. Whatever the reader gives, a success
+/// says that its text begins with a header and a nonce, that the first identity that answers gave the file key, under which
+/// the header's MAC is right, and that nothing of the payload was read or opened; the identities after it weren't asked. It
+/// refuses with `Decrypt` as `open_file` refuses what the text carries, by which fewer than 36 bytes are `UnexpectedEof`, whatever
+/// they are; where no header and nonce begin it no identity was asked. With `Io` it refuses for want of memory alone, before
+/// anything was read or asked. The reader is gone then.
 pub fn open_text<S: Suite, I: Identity, R: Read + Drop>(
     alloc: Global,
     identities: &mut [I],
@@ -93,6 +96,14 @@ pub fn open_text<S: Suite, I: Identity, R: Read + Drop>(
 ) -> Result<StreamReader<S, ArmoredReader<BufReader<R>>>, FileError>
     ensures tells { let opened = ⟦<StreamReader<S, ArmoredReader<BufReader<R>>> as Read>⟧ in
         IfOk result (λ stream. opened.tells stream ≡ (R.tells reader && R.steady reader)) }
+    ensures faults { let opened = ⟦<StreamReader<S, ArmoredReader<BufReader<R>>> as Read>⟧ in IfOk result (λ stream. R.faults reader ≤ opened.faults stream) }
+    // Of any text.
+    ensures opened { let armored = ⟦<ArmoredReader<BufReader<R>> as Read>⟧ in IfOk result (λ stream.
+        OfText ⟦<R as Read>⟧ armored reader (λ text. IsOpened I.unwraps identities.old identities.new text stream)) }
+    ensures refused { let armored = ⟦<ArmoredReader<BufReader<R>> as Read>⟧ in IfErr result (DecryptsUnless (λ refusal.
+        OfText ⟦<R as Read>⟧ armored reader (λ text. IsNotOpened I.unwraps armored identities.old identities.new text refusal))) }
+    ensures io { IfErr result (λ e. IsIoError e → IsWant e × (identities.new ≡ identities.old)) }
+    // Of a text that carries a file for the identities.
     ensures plaintext { IsTrue (R.tells reader && R.steady reader) → IsTrue (R.rest reader).ends_well → (file plain : List ℕ) →
         Carries (R.rest reader).bytes file → IsFileFor S.seal_of (FirstAnswer I.unwraps identities.old) plain file →
         MatchResult result (λ stream. StandsBefore plain stream) (λ e. ((r : R) → R.faults r ≡ 0) → IsWant e) }
@@ -112,14 +123,23 @@ pub fn open_text<S: Suite, I: Identity, R: Read + Drop>(
 ///
 /// The reads and seeks go through three layers: `StreamReader` over `ArmoredReader` over `BufReader`. Where what the reader
 /// still has ends well and carries a file for the identities, and its device never fails, the answers are those of a cursor on
-/// the plaintext, as long as none of them is `OutOfMemory`, and nothing but want of memory is refused. It refuses as
-/// `open_text` does, and with `Io(OutOfMemory)` where the list of answers or the bytes in it couldn't grow.
+/// the plaintext, as long as none of them is `OutOfMemory`, and nothing but want of memory is refused. Whatever the reader
+/// gives, a success says that the text's file was opened as by `open_text`, with a right MAC, and that the answers came of these
+/// reads and seeks in turn on its payload, with all that each of them promises. It refuses as `open_text` does, and with
+/// `Io(OutOfMemory)` where the list of answers or the bytes in it couldn't grow: then no identity was asked, or the file was opened.
 pub fn answers<S: Suite, I: Identity, R: Seek + Drop>(
     alloc: Global,
     identities: &mut [I],
     ops: &[Op],
     reader: R,
 ) -> Result<Vec<Answer>, FileError>
+    ensures opened { let armored = ⟦<ArmoredReader<BufReader<R>> as Read>⟧ in IfOk result (λ answers.
+        OfText ⟦<R as Read>⟧ armored reader (λ text. AnswersInTurn ⟦<S as Suite>⟧ armored I.unwraps identities.old identities.new text
+        ⟦<ArmoredReader<BufReader<R>> as Seek>⟧.seek_refuses ops.now answers.items)) }
+    ensures refused { let armored = ⟦<ArmoredReader<BufReader<R>> as Read>⟧ in IfErr result (DecryptsUnless (λ refusal.
+        OfText ⟦<R as Read>⟧ armored reader (λ text. IsNotOpened I.unwraps armored identities.old identities.new text refusal))) }
+    ensures io { let armored = ⟦<ArmoredReader<BufReader<R>> as Read>⟧ in IfErr result (λ e. IsIoError e → IsWant e × ((identities.new ≡ identities.old)
+        ⊎ OfText ⟦<R as Read>⟧ armored reader (λ text. WasOpened ⟦<S as Suite>⟧ armored I.unwraps identities.old identities.new text))) }
     ensures cursor { IsTrue (R.tells reader && R.steady reader) → IsTrue (R.rest reader).ends_well → ((r : R) → R.faults r ≡ 0) →
         (file plain : List ℕ) → Carries (R.rest reader).bytes file → IsFileFor S.seal_of (FirstAnswer I.unwraps identities.old) plain file →
         MatchResult result (λ answers. All IsNoWant answers.items → map seen answers.items ≡ replies ops.now plain 0) IsWant }

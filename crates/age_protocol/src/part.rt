@@ -37,7 +37,8 @@ use std::alloc::Global;
 /// or fewer at the end.
 ///
 /// Where the content ends well, a success says that the place is in it, and that exactly these bytes were appended; after
-/// a refusal a beginning of them was. The reader then stands after them. A place after the end is `PastEnd`, and nothing is appended then. The other refusals
+/// a refusal a beginning of them was. The reader then stands after them. A place after the end is `PastEnd`: nothing is appended
+/// then, and the reader stays where it stands. The other refusals
 /// of the seek are those of `StreamReader::seek`, and those after it those of `copy_some`.
 pub fn write_part<S: Suite, R: Seek, W: Write>(
     alloc: Global,
@@ -60,6 +61,10 @@ pub fn write_part<S: Suite, R: Seek, W: Write>(
         IsTrue (reader.content stream.old).ends_well → length (reader.content stream.old).bytes < place →
         (writer.new ≡ writer.old) × MatchResult result (λ done. ⊥)
         (λ e. e ≢ OutOfMemory → IsQuiet (reader.faults stream.old) (reader.faults stream.new) → e ≡ PastEnd) }
+    // A place after the end leaves the reader where it stands.
+    ensures stays { let reader = ⟦<StreamReader<S, R> as Read>⟧ in IsTrue (reader.tells stream.old) →
+        IsTrue (reader.content stream.old).ends_well → length (reader.content stream.old).bytes < place →
+        reader.place stream.new ≡ reader.place stream.old }
     // So many bytes were taken from the reader as were appended.
     ensures stands { let reader = ⟦<StreamReader<S, R> as Read>⟧ in IsTrue (reader.tells stream.old) → IsTrue (reader.content stream.old).ends_well →
         OnOk result ((reader.place stream.new ≡ place + length (take count (drop place (reader.content stream.old).bytes)))

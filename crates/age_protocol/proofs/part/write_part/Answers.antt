@@ -54,6 +54,16 @@ returns-in-Ok-clause-past_end g c = λ told well past.
     let steady : IsTrue (steady_of stream) = both-true (tells_of stream) (content_of stream).ends_well told well in
     absurd (never_past c.args.place (length (content_of stream).bytes) c.in-Ok._start past (seeks.moves told steady).0)
 
+pub returns-in-Err-clause-stays : goal.returns-in-Err-clause-stays
+returns-in-Err-clause-stays g c = λ told well past. c.in-Err.ensures.seeks.stays told
+
+pub returns-in-Ok-clause-stays : goal.returns-in-Ok-clause-stays
+returns-in-Ok-clause-stays g c = λ told well past.
+    let stream = c.args.stream.now in
+    let seeks = c.in-Ok.ensures.seeks in
+    let steady : IsTrue (steady_of stream) = both-true (tells_of stream) (content_of stream).ends_well told well in
+    absurd (never_past c.args.place (length (content_of stream).bytes) c.in-Ok._start past (seeks.moves told steady).0)
+
 pub returns-in-Err-clause-why : goal.returns-in-Err-clause-why
 returns-in-Err-clause-why g c = λ told well within quiet.
     let stream = c.args.stream.now in
