@@ -15,14 +15,14 @@ abbrev pub StopsAt : Seal → List ℕ → List ℕ → ℕ → Error → Type 0
 -- No byte is left, and no chunk was held as last. (age-encryption.org/v1, Payload: decryption signals an error if the end
 -- of the file is reached without decrypting a final chunk.)
 StopsAt seal_of key sealed i Truncated = length sealed ≡ 65552 * i
--- a chunk is there, and is held neither as middle nor as last
+-- a chunk is there, and opens neither as a middle one nor as the last
 StopsAt seal_of key sealed i BadChunk = (65552 * i < length sealed) × IsBadChunk seal_of key sealed i
--- the chunk is held as last with nothing, and isn't the only one
+-- the chunk opens as the last to nothing, and isn't the only one
 StopsAt seal_of key sealed i LastChunkEmpty = (0 < i) × OpensAsLast seal_of key sealed i []
 -- the chunk is held with a byte, whose place in the plaintext is 2 ^ 60 or later
 StopsAt seal_of key sealed i TooLong =
     (2 ^ 44 ≤ i) × ((plain : List ℕ) × (0 < length plain) × (OpensAsMiddle seal_of key sealed i plain ⊎ OpensAsLast seal_of key sealed i plain))
--- the chunk is held as last and not refused by itself, and bytes follow it
+-- the chunk opens as the last and isn't refused by itself, and bytes follow it
 StopsAt seal_of key sealed i AfterLast =
     (65552 * (i + 1) < length sealed) × ((plain : List ℕ) × IsAllowed i plain × OpensAsLast seal_of key sealed i plain)
 -- memory was refused: nothing is said of the bytes
