@@ -107,6 +107,7 @@ impl<S: Suite, R: Read + Drop, C: Callbacks> Identity<S, R, C> {
     {
         self.open(alloc);
         match &self.state {
+            // `open` leaves a file that is open or has failed.
             IdentityState::Encrypted(_) => unreachable!(),
             IdentityState::Decrypted(file) => file.to_recipients(alloc),
             IdentityState::Failed(e) => Err(EncryptError::EncryptedIdentities(e.clone()?)),
@@ -119,6 +120,7 @@ impl<S: Suite, R: Read + Drop, C: Callbacks> Identity<S, R, C> {
         ensures first { result ≡ is_encrypted (state_of self.old) }
         ensures name { filename_of self.new ≡ filename_of self.old }
     {
+        // To open the file takes the state; another stands there meanwhile, which nobody sees.
         let failed = IdentityState::Failed(DecryptError::KeyDecryptionFailed);
         match mem::replace(&mut self.state, failed) {
             IdentityState::Encrypted(front) => {
@@ -141,6 +143,7 @@ impl<S: Suite, R: Read + Drop, C: Callbacks> Identity<S, R, C> {
     {
         let first = self.open(alloc);
         match &self.state {
+            // `open` leaves a file that is open or has failed.
             IdentityState::Encrypted(_) => unreachable!(),
             IdentityState::Decrypted(file) => {
                 ask(alloc, file, stanzas, first, &mut self.callbacks)

@@ -26,6 +26,7 @@ fn stanza_of(alloc: Global, file_key: &FileKey) -> Result<Stanza, EncryptError>
     let body = Vec::from_slice(alloc, file_key.expose_secret())?;
     match Stanza::new(tag, Vec::new(alloc), body) {
         Some(stanza) => Ok(stanza),
+        // The tag is a string of the format.
         None => unreachable!(),
     }
 }

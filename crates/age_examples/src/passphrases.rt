@@ -20,6 +20,7 @@ use std::alloc::Global;
 fn file_of<S: Suite>(alloc: Global, encryptor: Encryptor<S>, plain: &[u8]) -> Result<Vec<u8>, Error>
     ensures { IfOk result (λ file. IsWhole S.seal_of encryptor plain.now file.items) }
 {
+    // Facts for the proof alone.
     files_carry_themselves::<S>();
     known_bytes(plain);
     let mut writer = encryptor.wrap_output(alloc, Vec::new(alloc))?;
@@ -47,6 +48,7 @@ pub fn kept_under_a_passphrase<S: Suite>(
     ensures honest { IsMeantFor (record { passphrase = passphrase; factor = log_n }) identity.old →
         ((key text : List ℕ) → LastIsNoMiddle S.seal_of key text) → IfErr result (λ e. IsDecryptError e → IsWant e) }
 {
+    // Facts for the proof alone.
     passphrase_files::<S>();
     known_bytes(passphrase.expose_secret().as_bytes());
     let encryptor = Encryptor::<S>::with_user_passphrase(alloc, passphrase, log_n, draw)?;

@@ -33,6 +33,7 @@ pub fn opened_by_one<S: Suite, T: Recipient, I: Identity>(
     ensures honest { BelongsToOne T.wraps I.unwraps recipients.now identity.old → ((key text : List ℕ) → LastIsNoMiddle S.seal_of key text) →
         IfErr result (λ e. IsDecryptError e → IsWant e) }
 {
+    // Facts for the proof alone.
     several_recipients::<S, T, I>();
     known_bytes(plain);
     let mut file = Vec::new(alloc);

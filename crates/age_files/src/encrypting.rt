@@ -53,6 +53,7 @@ fn file_to_keys<S: Suite>(
         Ok(source) => source,
         Err(error) => return Err(error),
     };
+    // For the proof alone: what is encrypted are bytes.
     known_bytes(plain);
     let mut reader = Bytes::new(plain);
     let mut file = Vec::new(alloc);
@@ -85,6 +86,7 @@ fn file_under<S: Suite>(
         Ok(source) => source,
         Err(error) => return Err(error),
     };
+    // For the proof alone: what is encrypted are bytes.
     known_bytes(plain);
     let mut reader = Bytes::new(plain);
     let mut file = Vec::new(alloc);

@@ -106,6 +106,7 @@ impl HeaderV1 {
     {
         let covered = covered_bytes(alloc, stanzas.as_slice())?;
         let mac = hmac(&mac_key(file_key), covered.as_slice());
+        // For the proof alone: the invariant asks for a MAC of 32 bytes.
         known_array(&mac);
         Ok(HeaderV1 { stanzas, mac })
     }
@@ -137,6 +138,7 @@ impl HeaderV1 {
         let mut writer = HmacWriter::new(&mac_key(file_key));
         match write_covered(self.stanzas.as_slice(), &mut writer) {
             Ok(()) => writer.verify(&self.mac),
+            // An HMAC takes all that it is given.
             Err(_) => unreachable!(),
         }
     }

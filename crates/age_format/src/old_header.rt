@@ -54,6 +54,7 @@ fn header_of_text(read: HeaderText) -> OldHeader
         mut text,
     } = read;
     text.truncate(text.len() - UNCOVERED);
+    // For the proof alone: what the MAC covers are bytes.
     known_bytes(text.as_slice());
     OldHeader {
         stanzas,

@@ -83,10 +83,12 @@ pub(crate) fn parse_first_line(alloc: Global, text: &[u8]) -> Result<Option<Stan
     let Some(mut words) = words_of(alloc, rest)? else {
         return Ok(None);
     };
+    // `words_of` gives one at least.
     let tag = words.remove(0);
     // A list that grew has room to spare, which a header of many stanzas would keep many times.
     words.shrink_to_fit();
     let Some(stanza) = Stanza::new(tag, words, Vec::new(alloc)) else {
+        // The words are strings of the format.
         unreachable!();
     };
     Ok(Some(stanza))

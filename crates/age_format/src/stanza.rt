@@ -113,6 +113,7 @@ impl Stanza {
     pub(crate) fn known(&self)
         ensures { IsStanza self.now }
     {
+        // A look at a field opens `self`, whose invariant the proof has then.
         let _ = &self.body;
     }
 

@@ -30,6 +30,7 @@ pub(crate) fn write_columns<T: Sink>(
 {
     let mut buffer = [0u8; 64];
     let Ok(size) = engine.encode_slice(piece, &mut buffer) else {
+        // 48 bytes are 64 characters at most, for which there is room.
         unreachable!();
     };
     let written = &buffer[..size];

@@ -67,6 +67,7 @@ impl<S> Parser<S> {
             finished,
             line,
         } = self;
+        // It is exact: the contract speaks of texts of fewer than 2^63 bytes.
         let number = finished.saturating_add(1);
         let Ok(judged) = line.judge(alloc, true) else {
             return Err(Error::OutOfMemory);
@@ -111,6 +112,7 @@ impl<S> Parser<S> {
         if line.is_empty() {
             return Ok(entries);
         }
+        // It is exact: the contract speaks of texts of fewer than 2^63 bytes.
         let number = finished.saturating_add(1);
         match line.judge(alloc, false) {
             Err(_) => Err(Error::OutOfMemory),

@@ -23,6 +23,7 @@ fn is_plaintext(records: &[Vec<u8>]) -> bool
 {
     let mut left = LONGEST_PLAINTEXT - NUMBER;
     for one in records {
+        // For the proof of `bytes` alone.
         known_bytes(one);
         if left < NUMBER {
             return false;

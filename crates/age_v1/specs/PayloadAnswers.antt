@@ -9,13 +9,13 @@ use Rattle.age_io.specs.Reading.{EndsEarly}
 use Rattle.age_v1.specs.Payload.{Seal, nonce, piece, last_piece, payload, plain_len, chunk, OpensAsMiddle, OpensAsLast, EndsAsLast}
 use Rattle.age_v1.specs.PayloadRefusals.{IsAllowed, StopsAt}
 
--- chunk i is held with these bytes, as the last chunk or as a middle one
+-- chunk i opens to these bytes, as the last chunk or as a middle one
 abbrev pub OpensAs : Bool → Seal → List ℕ → List ℕ → ℕ → List ℕ → Type 0
 OpensAs true seal_of key sealed i plain = OpensAsLast seal_of key sealed i plain
 OpensAs false seal_of key sealed i plain = OpensAsMiddle seal_of key sealed i plain
 
 -- A read at this place into room for so many bytes gives these: the smaller of the room and what is left of the chunk
--- at the place, which is held and not refused by itself. A chunk that isn't full was judged only since the payload ends
+-- at the place, which opens and isn't refused by itself. A chunk that isn't full was judged only since the payload ends
 -- well.
 pub record Gives (seal_of : Seal) (key : List ℕ) (sealed : Stretch) (place room : ℕ) (bytes : List ℕ) : Type 0 where
   pub number : ℕ

@@ -36,12 +36,12 @@ abbrev pub OnePlaintext : Seal → Type 0
 OnePlaintext seal_of = (key first second : List ℕ) → AreBytesOf 32 key → AreBytes first → AreBytes second
     → payload seal_of key first ≡ payload seal_of key second → first ≡ second
 
--- each chunk of a payload but the last is held as middle, with its piece of the plaintext
+-- each chunk of a payload but the last opens as a middle one, to its piece of the plaintext
 abbrev pub MiddleChunks : Seal → Type 0
 MiddleChunks seal_of = (key plain : List ℕ) → AreBytesOf 32 key → AreBytes plain
     → (i : ℕ) → i < last_piece (length plain) → OpensAsMiddle seal_of key (payload seal_of key plain) i (piece i plain)
 
--- the last chunk of a payload is held as last, with the last piece
+-- the last chunk of a payload opens as the last, to the last piece
 abbrev pub LastChunk : Seal → Type 0
 LastChunk seal_of = (key plain : List ℕ) → AreBytesOf 32 key → AreBytes plain → LastIsNoMiddle seal_of key plain
     → let last = last_piece (length plain) in OpensAsLast seal_of key (payload seal_of key plain) last (piece last plain)
@@ -69,7 +69,7 @@ CutPayload seal_of opened = (key plain : List ℕ) (n : ℕ) → AreBytesOf 32 k
     → payload_delivers opened key 0 (whole (take (65552 * n) (payload seal_of key plain)))
     ≡ record { bytes = take (65536 * n) plain; ends_well = false }
 
--- sealed bytes in which others follow a chunk that is held as last never deliver a clean end
+-- sealed bytes in which others follow a chunk that opens as the last never deliver a clean end
 abbrev pub NothingAfterLast : Seal → (List ℕ → List ℕ → List ℕ → Option (List ℕ)) → Type 0
 NothingAfterLast seal_of opened = (key : List ℕ) (s : Stretch) (i : ℕ) (last plain : List ℕ) → AreBytesOf 32 key → AreBytes s.bytes
     → OpensAsLast seal_of key s.bytes i last → 65552 * (i + 1) < length s.bytes

@@ -4,7 +4,7 @@ use Rattle.std.proofs.Common.{◌≡◌, ℕ, zero, suc, ◌+◌, ◌*◌, ◌/�
 use Rattle.std.proofs.Math.Nat.{mod-mod}
 use Rattle.curve25519.specs.Field.{prime}
 use Rattle.curve25519.proofs.CurveConstants.{minus_one}
-use Rattle.curve25519.proofs.PrimeField.{inverse, IsZero, IsNonzero, zero_or_nonzero, cancel, nonzero_product, zero_product_left, zero_product_right, inverse_law, inverse_zero}
+use Rattle.curve25519.proofs.PrimeField.{inverse, IsZero, IsNonzero, zero_or_nonzero, cancel, nonzero_product, zero_product_left, zero_product_right, inverse_law, inverse_zero, times_one}
 use Rattle.curve25519.proofs.MontgomeryLadder.{PointPair, doubled_x, doubled_z, added_x, added_z, pair_step, pair_after, scalar_multiple}
 use Rattle.curve25519.proofs.Congruence.{Congruent, congruent_sum, congruent_product_right, congruent_product_left}
 use Rattle.curve25519.proofs.LadderIdentities.{square_of_exchanged_difference, square_of_exchanged_sum, start_ratio, start_zero, cross_multiplied, sum_is_two}
@@ -96,9 +96,6 @@ regroup_back a j z w = omega arith
 
 pub regroup_three : (a i w : ℕ) → a * i * w ≡ a * (w * i)
 regroup_three a i w = omega arith
-
-pub times_one : (a : ℕ) → a * 1 ≡ a
-times_one a = omega arith
 
 -- what represents y has the u-coordinate of y, also where that is infinite
 pub ratio_value : (x z y : ℕ) → Represents x z y → Congruent prime (x * inverse z) ((1 + y) * inverse (1 + minus_one * y))

@@ -4,12 +4,12 @@ use Rattle.std.proofs.Math.Nat.{mod-mod}
 use Rattle.std.proofs.lemmas.Bool.{eqb-true}
 use Rattle.curve25519.specs.Field.{prime}
 use Rattle.curve25519.proofs.CurveConstants.{minus_one, d, minus_d, base_x, base_y}
-use Rattle.curve25519.proofs.PrimeField.{inverse, IsZero, IsNonzero, zero_or_nonzero, zero_product_left, zero_product_right, zero_factor, inverse_law, inverse_zero}
+use Rattle.curve25519.proofs.PrimeField.{inverse, IsZero, IsNonzero, zero_or_nonzero, zero_product_left, zero_product_right, zero_factor, inverse_law, inverse_zero, times_one}
 use Rattle.curve25519.proofs.MontgomeryLadder.{pair_after, scalar_multiple}
 use Rattle.curve25519.proofs.Congruence.{Congruent, congruent_product_right, congruent_product_left}
 use Rattle.curve25519.proofs.EdwardsCurve.{y_of, multiple}
 use Rattle.curve25519.proofs.LadderStep.{one_nonzero}
-use Rattle.curve25519.proofs.LadderInvariant.{u_coordinate, scalar_multiple_plain, regroup_three, times_one}
+use Rattle.curve25519.proofs.LadderInvariant.{u_coordinate, scalar_multiple_plain, regroup_three}
 use Rattle.curve25519.proofs.DegenerateCases.{scalar_multiple_zero, on_y_axis_where_u_degenerate, multiple_on_y_axis, u_coordinate_on_y_axis}
 
 -- two numbers below p that are 0 modulo p

@@ -14,7 +14,7 @@ pub is_prime : IsPrime prime
 unfolding prime
 is_prime = prime_certified
 
-times_one : (n : ℕ) → n * 1 ≡ n
+pub times_one : (n : ℕ) → n * 1 ≡ n
 times_one n = omega arith
 
 abbrev pub IsZero : ℕ → Type 0

@@ -124,6 +124,7 @@ impl<R: Read> Read for Placed<R> {
         match self.inner.read(buf) {
             Err(error) => Err(error),
             Ok(count) => {
+                // Where the reader tells its content, this is exact: that has fewer than 2^63 bytes.
                 self.count = self.count.saturating_add(count as u64);
                 Ok(count)
             }

@@ -15,10 +15,12 @@ pub fn grease(alloc: Global) -> Result<Grease, EncryptError>
 {
     let tag = String::from_str(alloc, "sazh-grease")?;
     let Some(stanza) = Stanza::new(tag, Vec::new(alloc), Vec::new(alloc)) else {
+        // The tag is a string of the format.
         unreachable!();
     };
     match Grease::new(stanza) {
         Some(grease) => Ok(grease),
+        // It ends in `-grease`.
         None => unreachable!(),
     }
 }

@@ -60,6 +60,7 @@ fn least_last(before: u64) -> u64
 fn lengths_of_payload(payload: u64) -> Option<Lengths>
     ensures { AreLengths (16 + payload) result }
 {
+    // No empty chunk follows a full one, and a payload of no bytes has none before its last either.
     let before = payload.saturating_sub(1) / CHUNK;
     let last = payload - CHUNK * before;
     if last < least_last(before) {

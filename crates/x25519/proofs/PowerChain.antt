@@ -4,10 +4,8 @@ use Rattle.std.proofs.lemmas.Nat.{pow-add}
 use Rattle.curve25519.specs.Field.{prime, product, square, field_power}
 use Rattle.curve25519.proofs.Congruence.{Congruent, congruent_product}
 use Rattle.curve25519.proofs.FieldOperations.{power-is}
+use Rattle.curve25519.proofs.PrimeField.{times_one}
 use Rattle.curve25519.proofs.Powers.{power, power-zero, power-suc, power-add, power-mul, congruent_power}
-
-times_one : (n : ℕ) → n * 1 ≡ n
-times_one n = omega arith
 
 -- `power` is the power of the definition, kept closed
 pub first_power : (z : ℕ) → Congruent prime z (power z 1)

@@ -91,6 +91,7 @@ fn reduced(d0: u128, d1: u128, d2: u128, d3: u128, d4: u128) -> Element
 pub fn product(a: Element, b: Element) -> Element
     ensures { value result % prime ≡ product (value a) (value b) }
 {
+    // (2^255 is 19 modulo p: what lies beyond the fifth limb counts 19 times at the front)
     let b1_19 = b.limb1 * 19;
     let b2_19 = b.limb2 * 19;
     let b3_19 = b.limb3 * 19;
@@ -128,6 +129,7 @@ pub fn product(a: Element, b: Element) -> Element
 pub fn square(a: Element) -> Element
     ensures { value result % prime ≡ square (value a) }
 {
+    // (a product of two different limbs comes twice)
     let a0_2 = a.limb0 * 2;
     let a1_2 = a.limb1 * 2;
     let a3_19 = a.limb3 * 19;
@@ -177,6 +179,7 @@ fn quotient(e: Element) -> u64
         × (e.limb4 < 2 ^ 51 + 256) }
     ensures { result ≡ (value e + 19) / 2 ^ 255 }
 {
+    // (p is 2^255 - 19: what is carried beyond 255 bits where 19 is added)
     let q0 = (e.limb0 + 19) / 0x8_0000_0000_0000;
     let q1 = (e.limb1 + q0) / 0x8_0000_0000_0000;
     let q2 = (e.limb2 + q1) / 0x8_0000_0000_0000;
@@ -222,6 +225,7 @@ fn select(swap: u64, a: u64, b: u64) -> u64
     requires { swap < 2 }
     ensures { result ≡ (conditional_swap swap a b).0 }
 {
+    // (no bit, or all 64)
     let mask = swap.wrapping_neg();
     a ^ (mask & (a ^ b))
 }
