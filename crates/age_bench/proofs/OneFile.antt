@@ -11,7 +11,7 @@ use Rattle.age.specs.Header.{covered_text}
 use Rattle.age.specs.HeaderV1.{HeaderValue}
 use Rattle.age.specs.HeaderMac.{header_mac}
 use Rattle.age.proofs.Strings.{string_tested}
-use Rattle.age.specs.Payload.{piece, nonce, middle_seals, last_piece, payload, payload_key}
+use Rattle.age.specs.Payload.{piece, chunk_nonce, middle_seals, last_piece, payload, payload_key}
 use Rattle.age.specs.PayloadLaws.{ArePieces, PayloadLength, OnePlaintext, joined_pieces}
 use Rattle.age.specs.File.{IsFileOf}
 use Rattle.age.specs.Ready.{IsReady}
@@ -46,9 +46,9 @@ joined_bytes key plain zero b = All-nil (λ x. x < 2 ^ 8)
 joined_bytes key plain (suc i) b =
     let P : ℕ → Type 0 = λ x. x < 2 ^ 8 in
     let before = middle_seals bench_seal key plain i in
-    let seal = bench_seal key (nonce i false) (piece i plain) in
+    let seal = bench_seal key (chunk_nonce i false) (piece i plain) in
     All-append P (joined_pieces plain i) (piece i plain) (joined_bytes key plain i (front_bytes before seal b))
-    (opened_bytes key (nonce i false) (piece i plain) (back_bytes before seal b))
+    (opened_bytes key (chunk_nonce i false) (piece i plain) (back_bytes before seal b))
 
 payload_opened : (key plain : List ℕ) → ArePieces plain → AreBytes (payload bench_seal key plain) → AreBytes plain
 unfolding payload
@@ -56,9 +56,9 @@ payload_opened key plain pieces b =
     let P : ℕ → Type 0 = λ x. x < 2 ^ 8 in
     let last = last_piece (length plain) in
     let before = middle_seals bench_seal key plain last in
-    let seal = bench_seal key (nonce last true) (piece last plain) in
+    let seal = bench_seal key (chunk_nonce last true) (piece last plain) in
     let all : AreBytes (joined_pieces plain (suc last)) = All-append P (joined_pieces plain last) (piece last plain) (joined_bytes key plain last (front_bytes before seal b))
-    (opened_bytes key (nonce last true) (piece last plain) (back_bytes before seal b)) in
+    (opened_bytes key (chunk_nonce last true) (piece last plain) (back_bytes before seal b)) in
     let next : suc last ≡ last + 1 = omega arith in
     subst AreBytes pieces.whole (subst (λ n. AreBytes (joined_pieces plain n)) next all)
 

@@ -4,7 +4,7 @@ use Rattle.std.specs.Prelude.{nat_eq, Result, Ok, Err, IfOk, MatchResult}
 use Rattle.std.proofs.lemmas.Bool.{eqb-true, eqb-false}
 use Rattle.age.specs.Bytes.{AreBytes, AreBytesOf}
 use Rattle.age.specs.ErrorVariants as io
-use Rattle.age.specs.Payload.{Seal, chunk, cut, final_chunk, last_piece, nonce, payload, piece}
+use Rattle.age.specs.Payload.{Seal, chunk, cut, final_chunk, last_piece, chunk_nonce, payload, piece}
 use Rattle.age.specs.Suite.{IsCipher}
 use Rattle.age.specs.Types.{Error}
 use Rattle.age_slices.specs.Chunks.{IsChunkLength, OpensChunk}
@@ -28,8 +28,8 @@ module _ (seal_of : Seal) (opened : List ℕ → List ℕ → List ℕ → Optio
 
   -- A chunk of a payload is the seal of its piece, and has the length of a chunk.
   is_chunk : (plain : List ℕ) (number : ℕ) (last : Bool) → AreBytes plain → number ≤ last_piece (length plain) → nat_eq number (last_piece (length plain)) ≡ last
-      → (chunk number (payload seal_of key plain) ≡ seal_of key (nonce number last) (piece number plain))
-      × IsChunkLength last (length (seal_of key (nonce number last) (piece number plain)))
+      → (chunk number (payload seal_of key plain) ≡ seal_of key (chunk_nonce number last) (piece number plain))
+      × IsChunkLength last (length (seal_of key (chunk_nonce number last) (piece number plain)))
   is_chunk plain number true b fits is =
       let same : number ≡ last_piece (length plain) = eqb-true number (last_piece (length plain)) is in
       let size = length-seal seal_of opened law key k number true (piece number plain) (piece-bytes number plain b) in (
@@ -43,15 +43,15 @@ module _ (seal_of : Seal) (opened : List ℕ → List ℕ → List ℕ → Optio
       (chunk-payload seal_of opened law key k plain number b less, omega (arith, size, (are_pieces plain).full number less))
 
   -- the seal of a piece opens to it
-  opens : (plain : List ℕ) (number : ℕ) (last : Bool) → AreBytes plain → opened key (nonce number last) (seal_of key (nonce number last) (piece number plain)) ≡ Some (piece number plain)
+  opens : (plain : List ℕ) (number : ℕ) (last : Bool) → AreBytes plain → opened key (chunk_nonce number last) (seal_of key (chunk_nonce number last) (piece number plain)) ≡ Some (piece number plain)
   opens plain number last b =
       let p = piece-bytes number plain b in
-      (law.opens_exactly key (nonce number last) _ (piece number plain) k (nonce-bytes number last)
-      (law.seal_is_longer key (nonce number last) (piece number plain) k (nonce-bytes number last) p).bytes).1 (p, refl)
+      (law.opens_exactly key (chunk_nonce number last) _ (piece number plain) k (nonce-bytes number last)
+      (law.seal_is_longer key (chunk_nonce number last) (piece number plain) k (nonce-bytes number last) p).bytes).1 (p, refl)
 
   -- what a chunk of a payload is opened to is its piece
   gives_piece : (plain : List ℕ) (number : ℕ) (last : Bool) (answer : Result (List ℕ) Error) → AreBytes plain → number ≤ last_piece (length plain)
-      → nat_eq number (last_piece (length plain)) ≡ last → OpensChunk opened key number last (seal_of key (nonce number last) (piece number plain)) answer
+      → nat_eq number (last_piece (length plain)) ≡ last → OpensChunk opened key number last (seal_of key (chunk_nonce number last) (piece number plain)) answer
       → MatchResult answer (λ given. given ≡ piece number plain) (λ e. e ≡ io.OutOfMemory)
   gives_piece plain number last (Ok given) b fits is (long, found, first) = let one = opens plain number last b in cc (one, found)
   gives_piece plain number last (Err e) b fits is (inl memory) = memory
@@ -78,9 +78,9 @@ module _ (seal_of : Seal) (opened : List ℕ → List ℕ → List ℕ → Optio
   }
     where
       right : (answer : Result (List ℕ) Error) → OpensChunk opened key number last (chunk number sealed) answer
-          → IfOk answer (λ plain. AreBytes plain × (chunk number sealed ≡ seal_of key (nonce number (nat_eq number (final_chunk (length sealed)))) plain))
+          → IfOk answer (λ plain. AreBytes plain × (chunk number sealed ≡ seal_of key (chunk_nonce number (nat_eq number (final_chunk (length sealed)))) plain))
       right (Ok plain) (long, found, first) =
-          rw is ((law.opens_exactly key (nonce number last) (chunk number sealed) plain k (nonce-bytes number last) (cut-bytes 65552 number sealed bytes)).0 found)
+          rw is ((law.opens_exactly key (chunk_nonce number last) (chunk number sealed) plain k (nonce-bytes number last) (cut-bytes 65552 number sealed bytes)).0 found)
       right (Err e) told = tt
 
       never : (answer : Result (List ℕ) Error) → answer ≡ Err io.PastEnd → OpensChunk opened key number last (chunk number sealed) answer

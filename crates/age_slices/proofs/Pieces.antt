@@ -7,7 +7,7 @@ use Rattle.std.proofs.lemmas.List.{append-nil, drop_all, length-take-le, nil_fro
 use Rattle.age.specs.Bytes.{AreBytes, AreBytesOf}
 use Rattle.age.specs.DeliveredPayload.{Chunk, after_chunk, after_last, allowed, allowed_if, chunk_of, payload_delivers, delivers, is_empty, opened_as, opened_chunk, or_else, prepend}
 use Rattle.age.specs.ErrorVariants.{OutOfMemory, Truncated}
-use Rattle.age.specs.Payload.{Seal, nonce}
+use Rattle.age.specs.Payload.{Seal, chunk_nonce}
 use Rattle.age.specs.Stretch.{Stretch, nothing, whole}
 use Rattle.age.specs.Suite.{IsCipher}
 use Rattle.age.specs.Types.{Error}
@@ -60,19 +60,19 @@ none_first false first second none = refl
 module _ (opened : List ℕ → List ℕ → List ℕ → Option (List ℕ)) (key : List ℕ) (number : ℕ) where
   -- the text as a middle chunk is none
   abbrev NoMiddle : List ℕ → Type 0
-  NoMiddle text = ((length text == 65552) ≡ false) ⊎ (opened key (nonce number false) text ≡ None)
+  NoMiddle text = ((length text == 65552) ≡ false) ⊎ (opened key (chunk_nonce number false) text ≡ None)
 
   as_last : (text : List ℕ) → NoMiddle text → opened_chunk opened key number text ≡ opened_as opened key number true text
   as_last text (inl short) = rw short refl
   as_last text (inr none) = none_first (length text == 65552) (opened_as opened key number false text) (opened_as opened key number true text)
       (ap (λ o. option_map (λ plain. (plain, false)) o) none)
 
-  chunk_middle : (text piece : List ℕ) → is_empty text ≡ false → (length text == 65552) ≡ true → opened key (nonce number false) text ≡ Some piece
+  chunk_middle : (text piece : List ℕ) → is_empty text ≡ false → (length text == 65552) ≡ true → opened key (chunk_nonce number false) text ≡ Some piece
       → ((piece ≡ []) → number ≡ 0) → nat_lt number (2 ^ 44) ≡ true → chunk_of opened key number text ≡ Ok (piece, false)
   unfolding chunk_of
   chunk_middle text piece some full opens first below = rw (some, full, opens) (allowed_piece number piece false first below)
 
-  chunk_last : (text piece : List ℕ) → is_empty text ≡ false → NoMiddle text → opened key (nonce number true) text ≡ Some piece
+  chunk_last : (text piece : List ℕ) → is_empty text ≡ false → NoMiddle text → opened key (chunk_nonce number true) text ≡ Some piece
       → ((piece ≡ []) → number ≡ 0) → nat_lt number (2 ^ 44) ≡ true → chunk_of opened key number text ≡ Ok (piece, true)
   unfolding chunk_of
   chunk_last text piece some none opens first below = rw (some, as_last text none, opens) (allowed_piece number piece true first below)
@@ -87,11 +87,11 @@ module _ (opened : List ℕ → List ℕ → List ℕ → Option (List ℕ)) (ke
       → (after_chunk middle last (chunk_of opened key number text)).ends_well ≡ false
   unfolding chunk_of
   chunk_more text middle last none bad =
-      empty_or (is_empty text) _ middle last (rw (as_last text none) (last_more number (opened key (nonce number true) text) middle last bad))
+      empty_or (is_empty text) _ middle last (rw (as_last text none) (last_more number (opened key (chunk_nonce number true) text) middle last bad))
 
   -- the text as the last chunk is none, or an empty one after others
   abbrev NoLast : List ℕ → Type 0
-  NoLast text = (opened key (nonce number true) text ≡ None) ⊎ ((opened key (nonce number true) text ≡ Some []) × (nat_lt 0 number ≡ true))
+  NoLast text = (opened key (chunk_nonce number true) text ≡ None) ⊎ ((opened key (chunk_nonce number true) text ≡ Some []) × (nat_lt 0 number ≡ true))
 
   chunk_bad : (text : List ℕ) (middle last : Stretch) → NoMiddle text → NoLast text
       → (after_chunk middle last (chunk_of opened key number text)).ends_well ≡ false
@@ -143,7 +143,7 @@ module _ (opened : List ℕ → List ℕ → List ℕ → Option (List ℕ)) (ke
   full_front many = length-take-le 65552 rest many
 
   -- a middle chunk
-  pub middle_delivers : (piece : List ℕ) → 65552 ≤ length rest → opened key (nonce number false) (take 65552 rest) ≡ Some piece → 0 < length piece
+  pub middle_delivers : (piece : List ℕ) → 65552 ≤ length rest → opened key (chunk_nonce number false) (take 65552 rest) ≡ Some piece → 0 < length piece
       → number < 2 ^ 44
       → payload_delivers opened key number (whole rest) ≡ prepend piece (payload_delivers opened key (number + 1) (whole (drop 65552 rest)))
   middle_delivers piece many opens some below =
@@ -154,7 +154,7 @@ module _ (opened : List ℕ → List ℕ → List ℕ → Option (List ℕ)) (ke
       many_left many ∙ ap (λ r. after_chunk (payload_delivers opened key (number + 1) (whole (drop 65552 rest))) (after_last (drop 65552 rest) true) r) holds
 
   -- the last chunk
-  pub last_delivers : (piece : List ℕ) → IsNoMiddle opened key number rest → 0 < length rest → length rest ≤ 65552 → opened key (nonce number true) rest ≡ Some piece
+  pub last_delivers : (piece : List ℕ) → IsNoMiddle opened key number rest → 0 < length rest → length rest ≤ 65552 → opened key (chunk_nonce number true) rest ≡ Some piece
       → ((piece ≡ []) → number ≡ 0) → number < 2 ^ 44 → payload_delivers opened key number (whole rest) ≡ whole piece
   last_delivers piece (inl few) some fits opens first below =
       let holds : chunk_of opened key number rest ≡ Ok (piece, true) = chunk_last opened key number rest piece (some_of rest some)
@@ -188,7 +188,7 @@ module _ (opened : List ℕ → List ℕ → List ℕ → Option (List ℕ)) (ke
       ]
 
   -- the rest is longer than a chunk, and begins with no middle one
-  more_delivers : (65552 < length rest) → opened key (nonce number false) (take 65552 rest) ≡ None
+  more_delivers : (65552 < length rest) → opened key (chunk_nonce number false) (take 65552 rest) ≡ None
       → (payload_delivers opened key number (whole rest)).ends_well ≡ false
   more_delivers more none =
       let over : is_empty (drop 65552 rest) ≡ false = some_of (drop 65552 rest) (omega (arith, more, length-drop 65552 rest)) in
@@ -220,7 +220,7 @@ opened_length seal_of opened cipher key nonce text piece of_key of_nonce bytes o
 
 -- a full text that isn't opened as a middle chunk is none
 pub no_middle : (opened : List ℕ → List ℕ → List ℕ → Option (List ℕ)) (key : List ℕ) (number : ℕ) (text : List ℕ) (e : Error)
-    → OpensChunk opened key number false text (Err e) → (e ≡ OutOfMemory → ⊥) → length text ≡ 65552 → opened key (nonce number false) text ≡ None
+    → OpensChunk opened key number false text (Err e) → (e ≡ OutOfMemory → ⊥) → length text ≡ 65552 → opened key (chunk_nonce number false) text ≡ None
 no_middle opened key number text e (inl memory) other full = absurd (other memory)
 no_middle opened key number text e (inr (inl (is, inl short))) other full = absurd (short full)
 no_middle opened key number text e (inr (inl (is, inr none))) other full = none

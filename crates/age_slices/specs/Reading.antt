@@ -5,14 +5,14 @@ use Rattle.age.specs.Identities.{GivesFirst, FirstAnswer, IsFileFor, UnwrapAnswe
 use Rattle.age.specs.File.{IsFileOf}
 use Rattle.age.specs.FileErrors.{IsWant}
 use Rattle.age.specs.ErrorVariants as io
-use Rattle.age.specs.Payload.{Seal, chunk, final_chunk, last_piece, nonce, payload, piece}
+use Rattle.age.specs.Payload.{Seal, chunk, final_chunk, last_piece, chunk_nonce, payload, piece}
 use Rattle.age.specs.Stanza.{StanzaValue}
 use Rattle.age.specs.Types.{Error, FileError}
 
 -- the rest begins with no full chunk, or with one that isn't opened as one before the last
 abbrev pub IsNoMiddle : (List ℕ → List ℕ → List ℕ → Option (List ℕ)) → List ℕ → ℕ → List ℕ → Type 0
 IsNoMiddle opened key number rest = (length rest < 65552)
-    ⊎ ((65552 ≤ length rest) × (opened key (nonce number false) (take 65552 rest) ≡ None))
+    ⊎ ((65552 ≤ length rest) × (opened key (chunk_nonce number false) (take 65552 rest) ≡ None))
 
 module _ {I : Type 0} (unwraps : I → List StanzaValue → UnwrapAnswer → I → Type 0) (seal_of : Seal) where
   pub record ReadsByChunks (identities asked : List I) (file : List ℕ) (answer : Result (List ℕ) FileError) : Type 0 where
@@ -26,7 +26,7 @@ module _ (seal_of : Seal) (key : List ℕ) (number : ℕ) (sealed : List ℕ) wh
   pub record ReadsPiece (answer : Result (List ℕ) Error) : Type 0 where
     -- A success says that the chunk of this number is the seal of what was answered: as the last one where the payload ends with it, and elsewhere as
     -- one before it.
-    pub success : IfOk answer (λ plain. AreBytes plain × (chunk number sealed ≡ seal_of key (nonce number (nat_eq number (final_chunk (length sealed)))) plain))
+    pub success : IfOk answer (λ plain. AreBytes plain × (chunk number sealed ≡ seal_of key (chunk_nonce number (nat_eq number (final_chunk (length sealed)))) plain))
     -- A payload gives the piece of its plaintext, or is refused for want of memory.
     pub honest : (plain : List ℕ) → AreBytes plain → sealed ≡ payload seal_of key plain → number ≤ last_piece (length plain)
         → MatchResult answer (λ given. given ≡ piece number plain) (λ e. e ≡ io.OutOfMemory)

@@ -4,7 +4,7 @@ ghost use Rattle.std.specs.Result.{result_map_both};
 ghost use Rattle.age.specs.DeliveredPayload.{payload_delivers, prepend};
 ghost use Rattle.age.specs.ErrorVariants.{OutOfMemory};
 ghost use Rattle.age.specs.Stretch.{whole};
-ghost use Rattle.age.specs.Payload.{chunk, nonce};
+ghost use Rattle.age.specs.Payload.{chunk, chunk_nonce};
 ghost use Rattle.age_slices.specs.Reading.{IsNoMiddle, ReadsByChunks, ReadsPiece};
 
 use crate::chunks::open_chunk;
@@ -41,7 +41,7 @@ fn middle_piece<S: Suite>(
     rest: &[u8],
 ) -> Result<Option<Vec<u8>>, Error>
     ensures { MatchResult result (λ found. MatchOption found (IsNoMiddle S.opened key.now number rest.now)
-        (λ piece. (65552 ≤ length rest.now) × (S.opened key.now (nonce number false) (take 65552 rest.now) ≡ Some (vec_items piece))))
+        (λ piece. (65552 ≤ length rest.now) × (S.opened key.now (chunk_nonce number false) (take 65552 rest.now) ≡ Some (vec_items piece))))
         (λ e. e ≡ OutOfMemory) }
 {
     if rest.len() < CHUNK {

@@ -10,7 +10,7 @@ use Rattle.age_error.specs.declared.io.Error.TheVariants.{AfterLast}
 use Rattle.age_suite.specs.Suite.{IsCipher}
 use Rattle.age_io.specs.Stretch.{Stretch, nothing, whole, from_place, stretch-ext, IsCleanEnd}
 use Rattle.age_io.specs.Reading.{StandsIn, Delivers}
-use Rattle.age_v1.specs.Payload.{Seal, nonce}
+use Rattle.age_v1.specs.Payload.{Seal, chunk_nonce}
 use Rattle.age_v1.proofs.OpenedTexts.{shorter}
 use Rattle.age_stream.specs.ReadingLemmas.{at_full_end}
 use Rattle.age_v1.proofs.TextLengths.{length-text, no-more, plain-whole, last-by_length, last-place}
@@ -139,7 +139,7 @@ module _ (seal_of : Seal) (opened : List ℕ → List ℕ → List ℕ → Optio
   good-end payload rest number taken at last plain b held end past given clean =
       let text = text_at number payload in
       let are : AreBytes text = All-take (λ x. x < 2 ^ 8) 65552 (drop (65552 * number) payload.bytes) (All-drop (λ x. x < 2 ^ 8) (65552 * number) payload.bytes b) in
-      let opens : opened key (nonce number true) text ≡ Some plain = rw end at held.opens in
+      let opens : opened key (chunk_nonce number true) text ≡ Some plain = rw end at held.opens in
       let none : length payload.bytes - (65552 * number + 65552) ≡ 0 =
       sym (length-drop (65552 * number + 65552) payload.bytes) ∙ sym (ap (λ s. length s.bytes) past.ahead) ∙ ap length clean.bytes in
       let some : 0 < number → 0 < length plain = λ later. elim (at_full_end last number at (length payload.bytes)) [

@@ -12,7 +12,7 @@ use Rattle.age_stream.specs.Cache.{has_number, last_used, HasOne}
 use Rattle.age_stream.specs.PrivateCache.{IsAtChunk, IsKept, IsText}
 use Rattle.age_v1.specs.DeliveredPayload.{chunk_of}
 use Rattle.age_v1.proofs.OpenedTexts.{Shorter}
-use Rattle.age_v1.specs.Payload.{nonce}
+use Rattle.age_v1.specs.Payload.{chunk_nonce}
 use Rattle.age_stream.specs.Reading.{payload_at, IsHeld, TookText}
 use Rattle.age_v1.proofs.WellEndedPayloads.{accepted}
 use Rattle.age_stream.proofs.Holding.{stood-taken, text-read}
@@ -80,7 +80,7 @@ pub held-read : (opened : List ℕ → List ℕ → List ℕ → Option (List �
 held-read opened key payload number text plain last read short ok =
     let a = accepted opened key number text plain last ok in
     record {
-      opens = ap (opened key (nonce number last)) read.is ∙ a.opens;
+      opens = ap (opened key (chunk_nonce number last)) read.is ∙ a.opens;
       judged = λ _. ap (chunk_of opened key number) read.is ∙ ok;
       whole = λ less. let few = subst (λ (xs : List ℕ). length xs < 65552) read.is less in (read.ended few, short few);
       some = some-within 65552 (65552 * number) payload.bytes (omega (arith, a.some, ap length read.is));

@@ -11,7 +11,7 @@ use Rattle.age_io.specs.Stretch.{Stretch, from_place}
 use Rattle.age_io.specs.Cursor.{sought, moved_to, target, place_at, MayLead, IsOutside}
 use Rattle.age_error.specs.declared.io.SeekFrom.{SeekFrom}
 use Rattle.age_error.specs.declared.io.SeekFrom.TheVariants.{Start, End, Current}
-use Rattle.age_v1.specs.Payload.{final_chunk, plain_len, nonce}
+use Rattle.age_v1.specs.Payload.{final_chunk, plain_len, chunk_nonce}
 use Rattle.age_v1.proofs.OpenedTexts.{Shorter}
 use Rattle.age_v1.specs.DeliveredPayload.{payload_delivers, text_at}
 use Rattle.age_v1.proofs.WellEndedPayloads.{well-single, well-length, onward, accepted}
@@ -100,7 +100,7 @@ module _ (opened : List ℕ → List ℕ → List ℕ → Option (List ℕ)) (ke
       (plain_len-last (length payload.bytes) n (record { fits = omega arith; enough = h.enough; more = λ some. h.more (omega (arith, some)) })).1 ∙ ap (λ k. Some k) less
 
   last-single : let number = final_chunk (length payload.bytes) in
-      (plain : List ℕ) × (opened key (nonce number true) (text_at number payload) ≡ Some plain) × (length plain ≡ 0 → number ≡ 0) × (0 < length plain → number < 2 ^ 44)
+      (plain : List ℕ) × (opened key (chunk_nonce number true) (text_at number payload) ≡ Some plain) × (length plain ≡ 0 → number ≡ 0) × (0 < length plain → number < 2 ^ 44)
   last-single =
       let number = final_chunk (length payload.bytes) in
       let h = well-length opened key law payload bytes well in
@@ -112,7 +112,7 @@ module _ (opened : List ℕ → List ℕ → List ℕ → Option (List ℕ)) (ke
       (one.0, a.opens, a.first, a.limit)
 
   -- the last chunk of it opens as the last
-  pub last-opens : opened key (nonce (final_chunk (length payload.bytes)) true) (text_at (final_chunk (length payload.bytes)) payload) ≡ None → ⊥
+  pub last-opens : opened key (chunk_nonce (final_chunk (length payload.bytes)) true) (text_at (final_chunk (length payload.bytes)) payload) ≡ None → ⊥
   last-opens none = apart (sym none ∙ last-single.1)
     where
       apart : {p : List ℕ} → ◌≡◌ {A = Option (List ℕ)} None (Some p) → ⊥

@@ -8,7 +8,7 @@ use Rattle.age_error.specs.Bytes.{AreBytes}
 use Rattle.age_error.specs.declared.io.Error.{Error}
 use Rattle.age_io.specs.Stretch.{Stretch, nothing, from_place, stretch-ext, IsCleanEnd, IsFault}
 use Rattle.age_io.specs.Reading.{StandsIn, Delivers, EndsEarly}
-use Rattle.age_v1.specs.Payload.{nonce}
+use Rattle.age_v1.specs.Payload.{chunk_nonce}
 use Rattle.age_v1.proofs.OpenedTexts.{Shorter}
 use Rattle.age_v1.specs.DeliveredPayload.{chunk_of, prepend, after_last, payload_delivers, text_at}
 use Rattle.age_v1.proofs.DeliveredChunks.{delivered-chunk, delivered-refused, delivered-cut}
@@ -257,7 +257,7 @@ module _ (opened : List ℕ → List ℕ → List ℕ → Option (List ℕ)) (ke
       sym (length-append text after.bytes) ∙ sym (ap length came.bytes) ∙ ap length here ∙ length-drop (65552 * number) payload.bytes in
       let well : rest.ends_well ≡ payload.ends_well = ap (λ s. s.ends_well) inner in (
         record {
-          opens = ap (opened key (nonce number last)) is_text ∙ a.opens;
+          opens = ap (opened key (chunk_nonce number last)) is_text ∙ a.opens;
           judged = λ _. ap (chunk_of opened key number) is_text ∙ ok;
           whole = λ less. let few = subst (λ (xs : List ℕ). length xs < 65552) is_text less in (sym well ∙ sym came.end ∙ (ended few).ends_well, short few);
           some = omega (arith, a.some, long);

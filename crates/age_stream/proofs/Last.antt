@@ -6,7 +6,7 @@ use Rattle.std.proofs.lemmas.List.Elements.{All-drop, All-take}
 use Rattle.std.proofs.lemmas.Bool.{cases_lt, true≢false}
 use Rattle.age_error.specs.Bytes.{AreBytes}
 use Rattle.age_io.specs.Stretch.{Stretch, from_place, stretch-ext}
-use Rattle.age_v1.specs.Payload.{final_chunk, nonce}
+use Rattle.age_v1.specs.Payload.{final_chunk, chunk_nonce}
 use Rattle.age_v1.proofs.OpenedTexts.{Shorter}
 use Rattle.age_stream.specs.Reading.{IsHeld, IsPast, IsInside, TookText}
 use Rattle.age_v1.specs.DeliveredPayload.{text_at, IsLastChunk, chunk_of}
@@ -57,9 +57,9 @@ last-past payload after number taken text t last took =
 module _ (opened : List ℕ → List ℕ → List ℕ → Option (List ℕ)) (key : List ℕ) where
   -- a full chunk isn't judged as a middle one, a short one is only ever the last
   pub last-held : (payload after : Stretch) (number at : ℕ) (text plain : List ℕ) → IsLastText payload after number text → IsLastChunk (length payload.bytes) number →
-      number < 2 ^ 44 → length plain + 16 ≡ length text → at ≡ length plain → opened key (nonce number true) text ≡ Some plain → IsHeld opened key payload number true at plain
+      number < 2 ^ 44 → length plain + 16 ≡ length text → at ≡ length plain → opened key (chunk_nonce number true) text ≡ Some plain → IsHeld opened key payload number true at plain
   last-held payload after number at text plain t last few longer given is = record {
-    opens = ap (opened key (nonce number true)) t.is ∙ is;
+    opens = ap (opened key (chunk_nonce number true)) t.is ∙ is;
     judged = λ apart. elim (cases_lt (length text) 65552) [
       | inl less ↦ ap (chunk_of opened key number) t.is ∙ judged-short opened key number text plain less (omega (arith, longer)) (λ some. omega (arith, last.more some, t.long, longer)) few is
       | inr full ↦ absurd (apart (record { is_last = refl; none = last.fits; full = omega (arith, full, t.most, longer, given) }))
@@ -69,8 +69,8 @@ module _ (opened : List ℕ → List ℕ → List ℕ → Option (List ℕ)) (ke
   }
 
   pub last-none : (payload after : Stretch) (number : ℕ) (text : List ℕ) → IsLastText payload after number text →
-      opened key (nonce number true) text ≡ None → opened key (nonce number true) (text_at number payload) ≡ None
-  last-none payload after number text t is = ap (opened key (nonce number true)) t.is ∙ is
+      opened key (chunk_nonce number true) text ≡ None → opened key (chunk_nonce number true) (text_at number payload) ≡ None
+  last-none payload after number text t is = ap (opened key (chunk_nonce number true)) t.is ∙ is
 
   module _ (law : Shorter opened key) where
     -- how long the text of the chunk that is held is

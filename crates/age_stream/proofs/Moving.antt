@@ -5,7 +5,7 @@ use Rattle.std.proofs.lemmas.Bool.{true≢false}
 use Rattle.std.proofs.lemmas.List.Elements.{All-drop}
 use Rattle.age_error.specs.Bytes.{AreBytes}
 use Rattle.age_io.specs.Stretch.{Stretch}
-use Rattle.age_v1.specs.Payload.{nonce}
+use Rattle.age_v1.specs.Payload.{chunk_nonce}
 use Rattle.age_v1.proofs.OpenedTexts.{Shorter}
 use Rattle.age_stream.specs.Reading.{payload_at, IsAtFullEnd, IsHeld, IsInside, IsPast, IsSound}
 use Rattle.age_v1.specs.DeliveredPayload.{IsLastChunk}
@@ -70,7 +70,7 @@ module _ (opened : List ℕ → List ℕ → List ℕ → Option (List ℕ)) (ke
   pub sound-last : (new_taken new_place count : ℕ) (new_content new_rest : Stretch) (new_number new_at : ℕ) (text plain : List ℕ) → new_content ≡ content → new_place ≡ place + count → new_place < 2 ^ 63 →
       new_taken ≡ min (taken + count) (2 ^ 64 - 1) → sought ≡ true → taken ≡ 65552 * new_number → length text ≡ count → IsLastText (payload_at place taken content) new_rest new_number text →
       IsLastChunk (length (payload_at place taken content).bytes) new_number → new_number < 2 ^ 44 → length plain + 16 ≡ length text → new_at ≡ length plain →
-      opened key (nonce new_number true) text ≡ Some plain → IsSound opened key false true new_at plain true sought new_number new_taken new_place new_content new_rest
+      opened key (chunk_nonce new_number true) text ≡ Some plain → IsSound opened key false true new_at plain true sought new_number new_taken new_place new_content new_rest
   sound-last new_taken new_place count new_content new_rest new_number new_at text plain same moved short took is_sought stood counted t last_one few longer given is =
       let read = payload-read content new_content place new_place taken new_taken count same moved short took sound.fits in
       record {

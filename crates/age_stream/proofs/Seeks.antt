@@ -17,7 +17,7 @@ use Rattle.age_stream.specs.Keeping.{OwnOrInner}
 use Rattle.age_stream.specs.PrivateKeeping.{IsPayloadSeekRefusal, KeepsPayload}
 use Rattle.age_v1.proofs.OpenedTexts.{shorter}
 use Rattle.age_stream.specs.Cache.{last_used, HasOne}
-use Rattle.age_v1.specs.Payload.{final_chunk, nonce, plain_len}
+use Rattle.age_v1.specs.Payload.{final_chunk, chunk_nonce, plain_len}
 use Rattle.age_v1.specs.DeliveredPayload.{text_at}
 use Rattle.age_stream.specs.ReadingLemmas.{and-left, and-right, taken-rest}
 use Rattle.age_stream.specs.Reader.{payload_of, tells_of, steady_of, content_of, place_of, plain_rest_of, faults_of, stops_of, refuses_of, HasEnd, HoldsEnd}
@@ -251,10 +251,10 @@ module _ {S R : Type 0} {suite : SuiteGhosts S} {read : Ghosts R} where
           refused = λ _. tt;
           ends = λ told end.
               let held = (new.sound (told-later read old.inner new.inner (keeps-both {z = target}).inner.same told)).is_held enters.good.1 in
-              let opens = subst (λ p. suite.opened new.key (nonce new.number new.cache.last) (text_at new.number p) ≡ Some new.cache.chunk.items) ((keeps-both {z = target}).payload told) held.opens in
+              let opens = subst (λ p. suite.opened new.key (chunk_nonce new.number new.cache.last) (text_at new.number p) ≡ Some new.cache.chunk.items) ((keeps-both {z = target}).payload told) held.opens in
               ends_last suite.seal_of suite.opened cipher old.key old.key_bytes payload.bytes (payload-bytes told) new.number new.cache.chunk.items (enters.good.3 ∙ ap final_chunk (found told))
-              (subst (λ k. suite.opened k (nonce new.number true) (text_at new.number payload) ≡ Some new.cache.chunk.items) key
-              (subst (λ b. suite.opened new.key (nonce new.number b) (text_at new.number payload) ≡ Some new.cache.chunk.items) enters.good.2 opens));
+              (subst (λ k. suite.opened k (chunk_nonce new.number true) (text_at new.number payload) ≡ Some new.cache.chunk.items) key
+              (subst (λ b. suite.opened new.key (chunk_nonce new.number b) (text_at new.number payload) ≡ Some new.cache.chunk.items) enters.good.2 opens));
           bad = λ _ _. tt;
           says = λ _. tt;
           inner_end = λ told. enters.inner_end (later told) ∙ ap (λ p. p.ends_well) (look.payload told);

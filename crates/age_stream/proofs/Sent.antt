@@ -6,7 +6,7 @@ use Rattle.std.proofs.lemmas.List.{append-nil, take-append-drop, drop-append-le}
 use Rattle.age_error.specs.declared.io.Error.{Error}
 use Rattle.age_io.specs.Copying.{AppendsFront}
 use Rattle.age_io.specs.Writing.{Retried, WritesAll}
-use Rattle.age_v1.specs.Payload.{Seal, nonce, last_piece, payload}
+use Rattle.age_v1.specs.Payload.{Seal, chunk_nonce, last_piece, payload}
 use Rattle.age_stream.specs.Writing.{middles, WasMade, Sent, Took, Appended, SendsFront}
 use Rattle.age_stream.specs.WritingLemmas.{middles-front, middles-both, payload-parts}
 use Rattle.age_stream.specs.declared.writer.StreamWriter.{StreamWriter}
@@ -60,7 +60,7 @@ module _ {S W : Type 0} (seal_of : Seal) (appended : W → List ℕ → W → Ty
 
   -- a beginning of the piece that was held, which a byte follows
   pub sends-held : (s : StreamWriter S W) (bytes : List ℕ) (c : W) → length s.held.items ≡ 65536 → 0 < length bytes →
-      AppendsFront appended (seal_of s.key (nonce s.sealed false) s.held.items) s.inner c → SendsFront seal_of appended s bytes c
+      AppendsFront appended (seal_of s.key (chunk_nonce s.sealed false) s.held.items) s.inner c → SendsFront seal_of appended s bytes c
   sends-held s bytes c full some f =
       let one : take 65536 (s.held.items ++ bytes) ≡ s.held.items = take_at s.held.items bytes 65536 full in
       record {
@@ -71,7 +71,7 @@ module _ {S W : Type 0} (seal_of : Seal) (appended : W → List ℕ → W → Ty
 
   -- a beginning of a piece that was given, which a byte follows
   pub sends-piece : (s : StreamWriter S W) (bytes : List ℕ) (c : W) → s.held.items ≡ [] → 65536 < length bytes →
-      AppendsFront appended (seal_of s.key (nonce s.sealed false) (take 65536 bytes)) s.inner c → SendsFront seal_of appended s bytes c
+      AppendsFront appended (seal_of s.key (chunk_nonce s.sealed false) (take 65536 bytes)) s.inner c → SendsFront seal_of appended s bytes c
   sends-piece s bytes c empty more f =
       let t : s.held.items ++ bytes ≡ bytes = ap (λ (h : List ℕ). h ++ bytes) empty in
       record {

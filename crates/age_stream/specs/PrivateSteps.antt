@@ -13,7 +13,7 @@ use Rattle.age_stream.specs.declared.reader.StreamReader.{StreamReader}
 use Rattle.age_v1.specs.PayloadAnswers.{Gives, RefusesRead, RefusesItself, StandAt, StopsNear, IsGoodEnd}
 use Rattle.age_stream.specs.Cache.{last_used, HasOne}
 use Rattle.age_stream.specs.Reader.{payload_of, place_of, plain_rest_of, tells_of, wanted_of, HasEnd, IsHolding, IsAfterLast}
-use Rattle.age_v1.specs.Payload.{nonce}
+use Rattle.age_v1.specs.Payload.{chunk_nonce}
 use Rattle.age_stream.specs.Naming.{RefusedOnTheWay}
 use Rattle.age_stream.specs.Reading.{spare, TookFromInner}
 use Rattle.age_v1.specs.DeliveredPayload.{text_at}
@@ -191,7 +191,7 @@ module _ {S R : Type 0} {suite : SuiteGhosts S} {read : Ghosts R} where
 
   -- The last chunk doesn't open as the last.
   abbrev pub IsNoLast : StreamReader S R suite read → ℕ → Error → Type 0
-  IsNoLast r number e = (e ≡ BadEnd) × (suite.opened r.key (nonce number true) (text_at number (payload_of r)) ≡ None)
+  IsNoLast r number e = (e ≡ BadEnd) × (suite.opened r.key (chunk_nonce number true) (text_at number (payload_of r)) ≡ None)
 
   -- Why a seek to the end refuses once the payload's length is known: the last chunk doesn't open, or no memory is there for it, or the reader below refused.
   abbrev pub SaysWhyEnd : (Error → Type 0) → (old new : StreamReader S R suite read) → ℕ → Error → Type 0

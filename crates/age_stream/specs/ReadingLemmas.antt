@@ -8,7 +8,7 @@ use Rattle.std.proofs.lemmas.Bool.Decides.{eqb_tells}
 use Rattle.age_error.specs.Bytes.{AreBytes}
 use Rattle.age_io.specs.Stretch.{Stretch, nothing, from_place, stretch-ext}
 use Rattle.age_io.specs.Reading.{StandsIn}
-use Rattle.age_v1.specs.Payload.{nonce}
+use Rattle.age_v1.specs.Payload.{chunk_nonce}
 use Rattle.age_v1.proofs.OpenedTexts.{Shorter}
 use Rattle.age_v1.specs.DeliveredPayload.{chunk_of, prepend, payload_delivers, text_at}
 use Rattle.age_v1.proofs.DeliveredChunks.{delivered-chunk}
@@ -75,7 +75,7 @@ module _ (opened : List ℕ → List ℕ → List ℕ → Option (List ℕ)) (ke
         | inr end ↦
             let one = well-single opened key number here here_well (text-left 65552 (65552 * number) payload.bytes end.none) in
             let a = accepted opened key number text one.0 true one.1 in
-            let opens : opened key (nonce number true) text ≡ Some chunk = rw end.is_last at held.opens in
+            let opens : opened key (chunk_nonce number true) text ≡ Some chunk = rw end.is_last at held.opens in
             let same : one.0 ≡ chunk = cc (sym a.opens ∙ opens) in
             rw (end.is_last, ← same) one.1
       ]

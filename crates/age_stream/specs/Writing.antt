@@ -5,14 +5,14 @@ use Rattle.age_error.specs.declared.io.Error.{Error}
 use Rattle.age_error.specs.declared.io.Error.TheVariants.{Failed, TooLong}
 use Rattle.age_io.specs.Copying.{AppendsFront}
 use Rattle.age_stream.specs.Sending.{RefusesChunk}
-use Rattle.age_v1.specs.Payload.{Seal, nonce, last_piece, middle_seals, payload}
+use Rattle.age_v1.specs.Payload.{Seal, chunk_nonce, last_piece, middle_seals, payload}
 use Rattle.age_stream.specs.declared.writer.StreamWriter.{StreamWriter}
 
 -- the seals of the first n pieces of a text as middle chunks, of which the first has this number
 abbrev pub middles : Seal → List ℕ → ℕ → ℕ → List ℕ → List ℕ
 middles seal_of key number zero text = []
 middles seal_of key number (suc n) text =
-    seal_of key (nonce number false) (take 65536 text) ++ middles seal_of key (suc number) n (drop 65536 text)
+    seal_of key (chunk_nonce number false) (take 65536 text) ++ middles seal_of key (suc number) n (drop 65536 text)
 
 -- it refused earlier, for another reason than its limit
 abbrev pub IsFailed : {S W : Type 0} → StreamWriter S W → Type 0

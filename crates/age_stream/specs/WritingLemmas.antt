@@ -9,7 +9,7 @@ use Rattle.age_error.specs.declared.io.Error.TheVariants.{TooLong}
 use Rattle.age_io.specs.Writing.{Narrows}
 use Rattle.age_stream.specs.Sending.{RefusesChunk}
 use Rattle.age_stream.specs.SendingLemmas.{refuses-chunk-patient}
-use Rattle.age_v1.specs.Payload.{Seal, cut, nonce, piece, last_piece, middle_seals, payload}
+use Rattle.age_v1.specs.Payload.{Seal, cut, chunk_nonce, piece, last_piece, middle_seals, payload}
 use Rattle.age_stream.specs.Writing.{middles, WasMade, Sent, Took, Appended, Refused, taken_len}
 use Rattle.age_stream.specs.declared.writer.StreamWriter.{StreamWriter}
 
@@ -52,7 +52,7 @@ module _ (seal_of : Seal) (key : List ℕ) where
 
   -- a payload is its middle chunks and then the last one
   pub payload-parts : (p : List ℕ) → payload seal_of key p
-      ≡ middles seal_of key 0 (last_piece (length p)) p ++ seal_of key (nonce (last_piece (length p)) true) (drop (65536 * last_piece (length p)) p)
+      ≡ middles seal_of key 0 (last_piece (length p)) p ++ seal_of key (chunk_nonce (last_piece (length p)) true) (drop (65536 * last_piece (length p)) p)
   unfolding payload
   payload-parts p =
       let n = last_piece (length p) in
@@ -119,7 +119,7 @@ module _ {S W : Type 0} (seal_of : Seal) (inner_appended : W → List ℕ → W 
 
   -- a full piece that is held goes out as a middle chunk
   pub Sent-held : (a c : StreamWriter S W) → length a.held.items ≡ 65536 → c.key ≡ a.key → c.held.items ≡ [] → c.sealed ≡ a.sealed + 1 →
-      inner_appended a.inner (seal_of a.key (nonce a.sealed false) a.held.items) c.inner → Sent seal_of inner_appended a [] c
+      inner_appended a.inner (seal_of a.key (chunk_nonce a.sealed false) a.held.items) c.inner → Sent seal_of inner_appended a [] c
   Sent-held a c full key held sealed sent =
       let t : a.held.items ++ [] ≡ a.held.items = append-nil a.held.items in
       let one : take 65536 a.held.items ≡ a.held.items = take_all 65536 a.held.items (omega (arith, full)) in
@@ -135,7 +135,7 @@ module _ {S W : Type 0} (seal_of : Seal) (inner_appended : W → List ℕ → W 
 
   -- a full piece goes out as a middle chunk, where nothing is held
   pub Sent-piece : (a c : StreamWriter S W) (x : List ℕ) → a.held.items ≡ [] → length x ≡ 65536 → c.key ≡ a.key → c.held.items ≡ [] → c.sealed ≡ a.sealed + 1 →
-      inner_appended a.inner (seal_of a.key (nonce a.sealed false) x) c.inner → Sent seal_of inner_appended a x c
+      inner_appended a.inner (seal_of a.key (chunk_nonce a.sealed false) x) c.inner → Sent seal_of inner_appended a x c
   Sent-piece a c x empty full key held sealed sent =
       let t : a.held.items ++ x ≡ x = ap (λ (h : List ℕ). h ++ x) empty in
       let one : take 65536 x ≡ x = take_all 65536 x (omega (arith, full)) in
@@ -209,7 +209,7 @@ module _ {S W : Type 0} (seal_of : Seal) (inner_appended : W → List ℕ → W 
   -- the last piece goes out as the last
   pub sealed-last : ((a b c : W) (x y : List ℕ) → inner_appended a x b → inner_appended b y c → inner_appended a (x ++ y) c) →
       (writer : StreamWriter S W) (inner : W) → length writer.held.items ≤ 65536 → writer.failed ≡ false →
-      inner_appended writer.inner (seal_of writer.key (nonce writer.sealed true) writer.held.items) inner →
+      inner_appended writer.inner (seal_of writer.key (chunk_nonce writer.sealed true) writer.held.items) inner →
       (start : StreamWriter S W) (key plain : List ℕ) (first : W) → WasMade key first start →
       Appended seal_of inner_appended start plain writer → inner_appended first (payload seal_of key plain) inner
   sealed-last joins writer inner small good sent start key plain first made (inl failed) = absurd (true≢false (sym failed ∙ good))
@@ -222,7 +222,7 @@ module _ {S W : Type 0} (seal_of : Seal) (inner_appended : W → List ℕ → W 
       let sealed : writer.sealed ≡ n = s.sealed ∙ rw (made.none_sealed, count, zero-add) refl in
       let front : inner_appended first (middles seal_of key 0 n plain) writer.inner =
       rw (middles-all seal_of key n plain) at (sent-so_far writer small good start key plain first made (inr taken)) in
-      let last : inner_appended writer.inner (seal_of key (nonce n true) (drop (65536 * n) plain)) inner =
+      let last : inner_appended writer.inner (seal_of key (chunk_nonce n true) (drop (65536 * n) plain)) inner =
       rw (s.same_key, made.same_key, sealed, held) at sent in
       rw (payload-parts seal_of key plain) (joins first writer.inner inner _ _ front last)
 

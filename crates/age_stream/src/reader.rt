@@ -7,7 +7,7 @@ ghost use Rattle.age_error.specs.declared.io.Error.{Error as Failure};
 ghost use Rattle.age_error.specs.declared.io.Error.TheVariants.{OutOfMemory, Failed, AfterLast};
 ghost use Rattle.age_io.specs.Stretch.{Stretch, nothing, whole, from_place, IsCleanEnd, IsFault};
 ghost use Rattle.age_io.specs.Reading.{Reads, IsQuiet, Delivers, EndsEarly, most_faults};
-ghost use Rattle.age_v1.specs.Payload.{nonce, payload, LastIsNoMiddle};
+ghost use Rattle.age_v1.specs.Payload.{chunk_nonce, payload, LastIsNoMiddle};
 ghost use Rattle.age_v1.specs.PayloadAnswers.{Gives, RefusesRead, RefusesItself, IsPayloadEnd, IsGoodEnd};
 ghost use Rattle.age_v1.specs.DeliveredPayload.{allowed, chunk_of, payload_delivers};
 ghost use Rattle.age_stream.specs.Keeping.{OwnOrInner, Stops, IsReadRefusal};
@@ -474,7 +474,7 @@ pub(crate) fn open_as<S: Suite>(
     last: bool,
     sealed: &[u8],
 ) -> Result<Option<Vec<u8>>, AllocError>
-    ensures opened { IfOk result (λ o. option_map vec_items o ≡ S.opened key.now (nonce number last) sealed.now) }
+    ensures opened { IfOk result (λ o. option_map vec_items o ≡ S.opened key.now (chunk_nonce number last) sealed.now) }
     ensures length { IfOk result (λ o. IfSome o (λ v. length v.items + 16 ≡ length sealed.now)) }
     ensures opens { opens.new ≡ one_more opens.old }
 {

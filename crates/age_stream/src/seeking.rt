@@ -7,7 +7,7 @@ ghost use Rattle.age_io.specs.Reading.{IsQuiet, most_faults};
 ghost use Rattle.age_io.specs.Cursor.{Seeks, IsOutside, OrTooLong};
 ghost use Rattle.age_io.specs.CursorLemmas.{or_too_long_no_device};
 ghost use Rattle.age_v1.specs.Payload as Payload;
-ghost use Rattle.age_v1.specs.Payload.{nonce, final_chunk, EndsAsLast};
+ghost use Rattle.age_v1.specs.Payload.{chunk_nonce, final_chunk, EndsAsLast};
 ghost use Rattle.age_stream.specs.PrivateKeeping.{IsPayloadSeekRefusal, KeepsPayload};
 ghost use Rattle.age_v1.specs.DeliveredPayload.{text_at, IsLastChunk};
 ghost use Rattle.age_stream.specs.Cache.{last_used, HasLast, HasOne};

@@ -5,7 +5,7 @@ ghost use Rattle.age_error.specs.declared.io.Error.TheVariants.{Failed, OutOfMem
 ghost use Rattle.age_io.specs.Writing.{KeepsWriter};
 ghost use Rattle.age_io.specs.Copying.{AppendsFront};
 ghost use Rattle.age_stream.specs.Sending.{RefusesChunk};
-ghost use Rattle.age_v1.specs.Payload.{nonce};
+ghost use Rattle.age_v1.specs.Payload.{chunk_nonce};
 
 use crate::nonce::nonce_of;
 use crate::sizes::PIECE;
@@ -102,7 +102,7 @@ impl<S: Suite, W: Write> StreamWriter<S, W> {
         ensures roomy { held_len self.old < 65536 → IsOk result × (held_len self.new ≡ held_len self.old) × (self.new.inner ≡ self.old.inner) }
         ensures sent { IsTrue (W.tells self.old.inner) → OnOk result (Sent S.seal_of W.appended self.old [] self.new) }
         ensures front { IsTrue (W.tells self.old.inner) → OnErr result ((held_len self.old ≡ 65536)
-            × AppendsFront W.appended (S.seal_of self.old.key (nonce self.old.sealed false) self.old.held.items) self.old.inner self.new.inner) }
+            × AppendsFront W.appended (S.seal_of self.old.key (chunk_nonce self.old.sealed false) self.old.held.items) self.old.inner self.new.inner) }
         ensures failed { self.new.failed ≡ self.old.failed }
         ensures inner { KeepsWriter W.tells W.faults (RefusesChunk W.refuses) self.old.inner self.new.inner result }
     {
@@ -130,7 +130,7 @@ impl<S: Suite, W: Write> StreamWriter<S, W> {
         ensures total { OnOk result (taken_len self.new ≡ taken_len self.old + 65536) }
         ensures sent { IsTrue (W.tells self.old.inner) → OnOk result (Sent S.seal_of W.appended self.old piece.now self.new) }
         ensures front { IsTrue (W.tells self.old.inner) → OnErr result
-            (AppendsFront W.appended (S.seal_of self.old.key (nonce self.old.sealed false) piece.now) self.old.inner self.new.inner) }
+            (AppendsFront W.appended (S.seal_of self.old.key (chunk_nonce self.old.sealed false) piece.now) self.old.inner self.new.inner) }
         ensures failed { self.new.failed ≡ self.old.failed }
         ensures inner { KeepsWriter W.tells W.faults (RefusesChunk W.refuses) self.old.inner self.new.inner result }
     {
@@ -247,8 +247,8 @@ pub(crate) fn write_chunk<S: Suite, W: Write>(
     piece: &[u8],
 ) -> Result<(), Error>
     ensures keeps { KeepsWriter W.tells W.faults (RefusesChunk W.refuses) inner.old inner.new result }
-    ensures sent { IsTrue (W.tells inner.old) → OnOk result (W.appended inner.old (S.seal_of key.now (nonce number last) piece.now) inner.new) }
-    ensures front { IsTrue (W.tells inner.old) → AppendsFront W.appended (S.seal_of key.now (nonce number last) piece.now) inner.old inner.new }
+    ensures sent { IsTrue (W.tells inner.old) → OnOk result (W.appended inner.old (S.seal_of key.now (chunk_nonce number last) piece.now) inner.new) }
+    ensures front { IsTrue (W.tells inner.old) → AppendsFront W.appended (S.seal_of key.now (chunk_nonce number last) piece.now) inner.old inner.new }
 {
     let sealed = S::seal(alloc, key, &nonce_of(number, last), piece)?;
     write_all(inner, &sealed)

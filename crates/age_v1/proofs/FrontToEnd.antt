@@ -9,7 +9,7 @@ use Rattle.age_error.specs.declared.io.Error.TheVariants.{OutOfMemory}
 use Rattle.age_error.specs.Bytes.{AreBytes, AreBytesOf}
 use Rattle.age_suite.specs.Suite.{IsCipher}
 use Rattle.age_v1.proofs.OpenedTexts.{nonce-bytes}
-use Rattle.age_v1.specs.Payload.{Seal, piece, last_piece, nonce, middle_seals, payload, chunk, OpensAsMiddle, OpensAsLast, IsBadChunk}
+use Rattle.age_v1.specs.Payload.{Seal, piece, last_piece, chunk_nonce, middle_seals, payload, chunk, OpensAsMiddle, OpensAsLast, IsBadChunk}
 use Rattle.age_v1.specs.PayloadRefusals.{IsAllowed, StopsAt, IsOpenedTo, RefusesFrontToEnd}
 use Rattle.age_v1.proofs.Payloads.{piece-bytes, length-seal, middle_seals-front, chunk-middle}
 use Rattle.age_v1.proofs.Cuts.{cut-bytes, length-cut, cut_more, cut_end, cut_rest}
@@ -25,20 +25,20 @@ last_piece_is (suc i) n h more = let some = more (omega arith) in omega (arith, 
 
 module _ (seal_of : Seal) (opened : List ℕ → List ℕ → List ℕ → Option (List ℕ)) (law : IsCipher seal_of opened) (key : List ℕ) (k : AreBytesOf 32 key) (sealed : List ℕ) (b : AreBytes sealed) where
   -- what a chunk opened to
-  pub opens_to : (i : ℕ) (is_last : Bool) (plain : List ℕ) → opened key (nonce i is_last) (chunk i sealed) ≡ Some plain
-      → AreBytes plain × (chunk i sealed ≡ seal_of key (nonce i is_last) plain)
+  pub opens_to : (i : ℕ) (is_last : Bool) (plain : List ℕ) → opened key (chunk_nonce i is_last) (chunk i sealed) ≡ Some plain
+      → AreBytes plain × (chunk i sealed ≡ seal_of key (chunk_nonce i is_last) plain)
   opens_to i is_last plain e =
-      (law.opens_exactly key (nonce i is_last) (chunk i sealed) plain k (nonce-bytes i is_last) (chunk-bytes i sealed b)).0 e
+      (law.opens_exactly key (chunk_nonce i is_last) (chunk i sealed) plain k (nonce-bytes i is_last) (chunk-bytes i sealed b)).0 e
 
   -- a chunk that doesn't open is no seal
-  pub no_seal : (i : ℕ) (is_last : Bool) → opened key (nonce i is_last) (chunk i sealed) ≡ None
-      → (plain : List ℕ) → AreBytes plain → chunk i sealed ≡ seal_of key (nonce i is_last) plain → ⊥
+  pub no_seal : (i : ℕ) (is_last : Bool) → opened key (chunk_nonce i is_last) (chunk i sealed) ≡ None
+      → (plain : List ℕ) → AreBytes plain → chunk i sealed ≡ seal_of key (chunk_nonce i is_last) plain → ⊥
   no_seal i is_last none plain p e =
-      let some = (law.opens_exactly key (nonce i is_last) (chunk i sealed) plain k (nonce-bytes i is_last) (chunk-bytes i sealed b)).1 (p, e) in
+      let some = (law.opens_exactly key (chunk_nonce i is_last) (chunk i sealed) plain k (nonce-bytes i is_last) (chunk-bytes i sealed b)).1 (p, e) in
       cc (none, some)
 
   -- a chunk that doesn't open as middle isn't held as one
-  pub not_middle : (i : ℕ) → opened key (nonce i false) (chunk i sealed) ≡ None
+  pub not_middle : (i : ℕ) → opened key (chunk_nonce i false) (chunk i sealed) ≡ None
       → (plain : List ℕ) → OpensAsMiddle seal_of key sealed i plain → ⊥
   not_middle i none plain held = no_seal i false none plain held.bytes held.is_seal
 
@@ -49,7 +49,7 @@ module _ (seal_of : Seal) (opened : List ℕ → List ℕ → List ℕ → Optio
 
   -- a chunk that opens is held so
   pub held_last : (i : ℕ) (plain : List ℕ) → ((other : List ℕ) → OpensAsMiddle seal_of key sealed i other → ⊥)
-      → opened key (nonce i true) (chunk i sealed) ≡ Some plain → OpensAsLast seal_of key sealed i plain
+      → opened key (chunk_nonce i true) (chunk i sealed) ≡ Some plain → OpensAsLast seal_of key sealed i plain
   held_last i plain no_middle some = record {
     not_middle = no_middle;
     bytes = (opens_to i true plain some).0;
@@ -57,7 +57,7 @@ module _ (seal_of : Seal) (opened : List ℕ → List ℕ → List ℕ → Optio
   }
 
   pub held_middle : (i : ℕ) (plain : List ℕ) → 65552 * i + 65552 ≤ length sealed
-      → opened key (nonce i false) (chunk i sealed) ≡ Some plain → OpensAsMiddle seal_of key sealed i plain
+      → opened key (chunk_nonce i false) (chunk i sealed) ≡ Some plain → OpensAsMiddle seal_of key sealed i plain
   held_middle i plain full some = record {
     full = omega (arith, length-cut 65552 i sealed);
     bytes = (opens_to i false plain some).0;
@@ -65,7 +65,7 @@ module _ (seal_of : Seal) (opened : List ℕ → List ℕ → List ℕ → Optio
   }
 
   pub is_bad : (i : ℕ) → ((other : List ℕ) → OpensAsMiddle seal_of key sealed i other → ⊥)
-      → opened key (nonce i true) (chunk i sealed) ≡ None → IsBadChunk seal_of key sealed i
+      → opened key (chunk_nonce i true) (chunk i sealed) ≡ None → IsBadChunk seal_of key sealed i
   is_bad i no_middle none = record { not_middle = no_middle; not_last = λ plain held. no_seal i true none plain held.bytes held.is_seal }
 
   -- a middle chunk has 65,536 bytes of plaintext, the last one no more
@@ -82,7 +82,7 @@ module _ (seal_of : Seal) (opened : List ℕ → List ℕ → List ℕ → Optio
 
   -- one more chunk is opened as middle
   pub opened_more : (i : ℕ) (out plain : List ℕ) → IsOpenedTo seal_of key sealed i out → 65552 * i + 65552 ≤ length sealed
-      → opened key (nonce i false) (chunk i sealed) ≡ Some plain → IsOpenedTo seal_of key sealed (i + 1) (out ++ plain)
+      → opened key (chunk_nonce i false) (chunk i sealed) ≡ Some plain → IsOpenedTo seal_of key sealed (i + 1) (out ++ plain)
   opened_more i out plain was full some =
       let p = (opens_to i false plain some).0 in
       let is_seal = (opens_to i false plain some).1 in
@@ -104,7 +104,7 @@ module _ (seal_of : Seal) (opened : List ℕ → List ℕ → List ℕ → Optio
   held_before n out was i l =
       let rest = drop (65552 * n) sealed in
       let whole : sealed ≡ middle_seals seal_of key out n ++ rest = rw (← was.front) (sym (take-append-drop (65552 * n) sealed)) in
-      let is : chunk i sealed ≡ seal_of key (nonce i false) (piece i out) =
+      let is : chunk i sealed ≡ seal_of key (chunk_nonce i false) (piece i out) =
       ap (chunk i) whole ∙ chunk-middle seal_of opened law key k n i out rest was.bytes (omega (arith, was.len)) l in (
         piece i out,
         record {

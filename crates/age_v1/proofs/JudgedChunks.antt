@@ -9,7 +9,7 @@ use Rattle.age_error.specs.declared.io.Error.{Error}
 use Rattle.age_error.specs.declared.io.Error.TheVariants.{Truncated, BadChunk, AfterLast, LastChunkEmpty, TooLong}
 use Rattle.age_io.specs.Stretch.{Stretch, whole, from_place, stretch-ext}
 use Rattle.age_suite.specs.Suite.{IsCipher}
-use Rattle.age_v1.specs.Payload.{Seal, nonce, cut, chunk, final_chunk, EndsAsLast, OpensAsMiddle, OpensAsLast}
+use Rattle.age_v1.specs.Payload.{Seal, chunk_nonce, cut, chunk, final_chunk, EndsAsLast, OpensAsMiddle, OpensAsLast}
 use Rattle.age_v1.proofs.OpenedTexts.{nonce-bytes}
 use Rattle.age_v1.specs.DeliveredPayload.{Chunk, is_empty, allowed, allowed_if, opened_as, chunk_of, text_at}
 use Rattle.age_v1.proofs.WellEndedPayloads.{Accepted, accepted}
@@ -92,15 +92,15 @@ module _ (opened : List ℕ → List ℕ → List ℕ → Option (List ℕ)) (ke
 
   -- A text with a byte is judged by the middle chunk that it opens to, if it is full and does,
   abbrev ByMiddle : ℕ → List ℕ → Type 0
-  ByMiddle number text = (plain : List ℕ) × (length text ≡ 65552) × (opened key (nonce number false) text ≡ Some plain)
+  ByMiddle number text = (plain : List ℕ) × (length text ≡ 65552) × (opened key (chunk_nonce number false) text ≡ Some plain)
       × (chunk_of opened key number text ≡ allowed number (plain, false))
 
   -- else by what it opens to as the last.
   abbrev ByLast : ℕ → List ℕ → Type 0
-  ByLast number text = (length text ≡ 65552 → opened key (nonce number false) text ≡ None)
+  ByLast number text = (length text ≡ 65552 → opened key (chunk_nonce number false) text ≡ None)
       × (chunk_of opened key number text ≡ allowed_if number (opened_as opened key number true text))
 
-  judged-with : (number : ℕ) (text : List ℕ) → 0 < length text → (middle : Option (List ℕ)) → opened key (nonce number false) text ≡ middle →
+  judged-with : (number : ℕ) (text : List ℕ) → 0 < length text → (middle : Option (List ℕ)) → opened key (chunk_nonce number false) text ≡ middle →
       ByMiddle number text ⊎ ByLast number text
   unfolding chunk_of
   judged-with number text some None is = inr (
@@ -116,11 +116,11 @@ module _ (opened : List ℕ → List ℕ → List ℕ → Option (List ℕ)) (ke
   ]
 
   pub judged_by : (number : ℕ) (text : List ℕ) → 0 < length text → ByMiddle number text ⊎ ByLast number text
-  judged_by number text some = judged-with number text some (opened key (nonce number false) text) refl
+  judged_by number text some = judged-with number text some (opened key (chunk_nonce number false) text) refl
 
   -- a short chunk that opens as the last, and isn't refused by itself, is accepted
   pub judged-short : (number : ℕ) (text plain : List ℕ) → length text < 65552 → 0 < length text → (0 < number → 0 < length plain) → number < 2 ^ 44 →
-      opened key (nonce number true) text ≡ Some plain → chunk_of opened key number text ≡ Ok (plain, true)
+      opened key (chunk_nonce number true) text ≡ Some plain → chunk_of opened key number text ≡ Ok (plain, true)
   judged-short number text plain less some byte few is = elim (judged_by number text some) [
     | inl middle ↦ absurd (omega (arith, less, middle.1))
     | inr by ↦ by.1 ∙ rw is (allowed-ok number plain true (record { some = byte; limit = λ _. few }))
@@ -136,17 +136,17 @@ module _ (seal_of : Seal) (opened : List ℕ → List ℕ → List ℕ → Optio
   text_of number = text_at number (whole sealed)
 
   -- what a reader's text opens to, the chunk does
-  pub opens_chunk : (number : ℕ) (last : Bool) (o : Option (List ℕ)) → opened key (nonce number last) (text_of number) ≡ o →
-      opened key (nonce number last) (chunk number sealed) ≡ o
-  opens_chunk number last o is = sym (ap (opened key (nonce number last)) (text_chunk number (whole sealed))) ∙ is
+  pub opens_chunk : (number : ℕ) (last : Bool) (o : Option (List ℕ)) → opened key (chunk_nonce number last) (text_of number) ≡ o →
+      opened key (chunk_nonce number last) (chunk number sealed) ≡ o
+  opens_chunk number last o is = sym (ap (opened key (chunk_nonce number last)) (text_chunk number (whole sealed))) ∙ is
 
   -- what opens as a middle chunk is held as one
-  middle-held : (number : ℕ) (plain : List ℕ) → length (text_of number) ≡ 65552 → opened key (nonce number false) (text_of number) ≡ Some plain →
+  middle-held : (number : ℕ) (plain : List ℕ) → length (text_of number) ≡ 65552 → opened key (chunk_nonce number false) (text_of number) ≡ Some plain →
       OpensAsMiddle seal_of key sealed number plain
   middle-held number plain full is = held_middle seal_of opened law key k sealed b number plain (full-within 65552 (65552 * number) sealed (omega arith) full) (opens_chunk number false (Some plain) is)
 
   -- what is short, or doesn't open as a middle chunk, isn't held as one
-  middle-none : (number : ℕ) → 0 < length (text_of number) → (length (text_of number) ≡ 65552 → opened key (nonce number false) (text_of number) ≡ None) →
+  middle-none : (number : ℕ) → 0 < length (text_of number) → (length (text_of number) ≡ 65552 → opened key (chunk_nonce number false) (text_of number) ≡ None) →
       (other : List ℕ) → OpensAsMiddle seal_of key sealed number other → ⊥
   middle-none number some none other held =
       let full : length (text_of number) ≡ 65552 = ap length (text_chunk number (whole sealed)) ∙ held.full in
@@ -179,7 +179,7 @@ module _ (seal_of : Seal) (opened : List ℕ → List ℕ → List ℕ → Optio
         | inr far ↦ rw far.0 (far.2, (plain, far.1, inl held))
       ]
 
-  refused-last : (number : ℕ) (o : Option (List ℕ)) (e : Error) → 65552 * number < length sealed → opened key (nonce number true) (chunk number sealed) ≡ o →
+  refused-last : (number : ℕ) (o : Option (List ℕ)) (e : Error) → 65552 * number < length sealed → opened key (chunk_nonce number true) (chunk number sealed) ≡ o →
       ((other : List ℕ) → OpensAsMiddle seal_of key sealed number other → ⊥) →
       allowed_if number (option_map {U = Chunk} (λ p. (p, true)) o) ≡ Err e → StopsAt seal_of key sealed number e
   refused-last number None e there opens apart is =
@@ -199,7 +199,7 @@ module _ (seal_of : Seal) (opened : List ℕ → List ℕ → List ℕ → Optio
     | inl some ↦ elim (judged_by opened key number (text_of number) some) [
       | inl middle ↦ refused-middle number middle.0 e (middle-held number middle.0 middle.1 middle.2) (sym middle.3 ∙ is)
       | inr by ↦
-          refused-last number (opened key (nonce number true) (text_of number)) e (some-within 65552 (65552 * number) sealed some)
+          refused-last number (opened key (chunk_nonce number true) (text_of number)) e (some-within 65552 (65552 * number) sealed some)
           (opens_chunk number true _ refl) (middle-none number some by.0) (sym by.1 ∙ is)
     ]
     | inr none ↦
@@ -217,10 +217,10 @@ module _ (seal_of : Seal) (opened : List ℕ → List ℕ → List ℕ → Optio
   -- ---- the other way
 
   -- what is held opens
-  opens_held : (number : ℕ) (last : Bool) (plain : List ℕ) → AreBytes plain → chunk number sealed ≡ seal_of key (nonce number last) plain →
-      opened key (nonce number last) (text_of number) ≡ Some plain
-  opens_held number last plain p is = ap (opened key (nonce number last)) (text_chunk number (whole sealed))
-      ∙ (law.opens_exactly key (nonce number last) (chunk number sealed) plain k (nonce-bytes number last) (chunk-bytes number sealed b)).1 (p, is)
+  opens_held : (number : ℕ) (last : Bool) (plain : List ℕ) → AreBytes plain → chunk number sealed ≡ seal_of key (chunk_nonce number last) plain →
+      opened key (chunk_nonce number last) (text_of number) ≡ Some plain
+  opens_held number last plain p is = ap (opened key (chunk_nonce number last)) (text_chunk number (whole sealed))
+      ∙ (law.opens_exactly key (chunk_nonce number last) (chunk number sealed) plain k (nonce-bytes number last) (chunk-bytes number sealed b)).1 (p, is)
 
   -- a chunk that is held as middle, and not refused by itself, is accepted so
   pub held-judged_middle : (number : ℕ) (plain : List ℕ) → OpensAsMiddle seal_of key sealed number plain → IsAllowed number plain →
@@ -241,9 +241,9 @@ module _ (seal_of : Seal) (opened : List ℕ → List ℕ → List ℕ → Optio
       chunk_of opened key number (text_of number) ≡ Ok (plain, true)
   held-judged_last number plain held allowed_so =
       let opens = opens_held number true plain held.bytes held.is_seal in
-      let size = (law.seal_is_longer key (nonce number true) plain k (nonce-bytes number true) held.bytes).len in
+      let size = (law.seal_is_longer key (chunk_nonce number true) plain k (nonce-bytes number true) held.bytes).len in
       let some : 0 < length (text_of number) =
-      is-sealed (length (text_of number)) (length (chunk number sealed)) (length (seal_of key (nonce number true) plain)) (length plain)
+      is-sealed (length (text_of number)) (length (chunk number sealed)) (length (seal_of key (chunk_nonce number true) plain)) (length plain)
       (ap length (text_chunk number (whole sealed))) (ap length held.is_seal) size in
       elim (judged_by opened key number (text_of number) some) [
         | inl middle ↦ absurd (held.not_middle middle.0 (middle-held number middle.0 middle.1 middle.2))
@@ -251,11 +251,11 @@ module _ (seal_of : Seal) (opened : List ℕ → List ℕ → List ℕ → Optio
       ]
 
   -- what opens as the last at the end is the last chunk
-  pub ends_last : (number : ℕ) (plain : List ℕ) → number ≡ final_chunk (length sealed) → opened key (nonce number true) (text_of number) ≡ Some plain → EndsAsLast seal_of key sealed
+  pub ends_last : (number : ℕ) (plain : List ℕ) → number ≡ final_chunk (length sealed) → opened key (chunk_nonce number true) (text_of number) ≡ Some plain → EndsAsLast seal_of key sealed
   ends_last number plain is opens =
-      let both = (law.opens_exactly key (nonce number true) (chunk number sealed) plain k (nonce-bytes number true) (chunk-bytes number sealed b)).0 (opens_chunk number true (Some plain) opens) in
+      let both = (law.opens_exactly key (chunk_nonce number true) (chunk number sealed) plain k (nonce-bytes number true) (chunk-bytes number sealed b)).0 (opens_chunk number true (Some plain) opens) in
       record { plain = plain; bytes = both.0; is_seal = rw (← is) both.1 }
 
   -- what doesn't open as the last at the end isn't the seal of any bytes as the last
-  pub ends_badly : opened key (nonce (final_chunk (length sealed)) true) (text_of (final_chunk (length sealed))) ≡ None → EndsAsLast seal_of key sealed → ⊥
+  pub ends_badly : opened key (chunk_nonce (final_chunk (length sealed)) true) (text_of (final_chunk (length sealed))) ≡ None → EndsAsLast seal_of key sealed → ⊥
   ends_badly none ends = none-apart ends.plain (sym none ∙ opens_held (final_chunk (length sealed)) true ends.plain ends.bytes ends.is_seal)

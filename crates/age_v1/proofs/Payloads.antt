@@ -12,7 +12,7 @@ use Rattle.age_v1.proofs.OpenedTexts.{nonce-bytes}
 use Rattle.age_v1.specs.PayloadRefusals.{StopsAt, RefusesFrontToEnd}
 use Rattle.age_error.specs.declared.io.Error.{Error}
 use Rattle.age_error.specs.declared.io.Error.TheVariants.{Truncated, BadChunk, AfterLast, LastChunkEmpty, TooLong, OutOfMemory, Device, UnexpectedEof, WriteZero, BeforeStart, PastEnd, BadEnd, LimitExceeded, Armor, NotIdentity, Failed}
-use Rattle.age_v1.specs.Payload.{Seal, IsBadChunk, piece, last_piece, nonce, middle_seals, payload, chunk, OpensAsMiddle, OpensAsLast, LastIsNoMiddle, plain_len}
+use Rattle.age_v1.specs.Payload.{Seal, IsBadChunk, piece, last_piece, chunk_nonce, middle_seals, payload, chunk, OpensAsMiddle, OpensAsLast, LastIsNoMiddle, plain_len}
 
 -- ---- pieces
 
@@ -63,8 +63,8 @@ module _ (seal_of : Seal) (opened : List ℕ → List ℕ → List ℕ → Optio
       let other = (law.opens_exactly key n (seal_of key n p) q k b s.bytes).1 (qb, e) in
       cc (one, other)
 
-  pub length-seal : (i : ℕ) (is_last : Bool) (plain : List ℕ) → AreBytes plain → length (seal_of key (nonce i is_last) plain) ≡ length plain + 16
-  length-seal i is_last plain h = (law.seal_is_longer key (nonce i is_last) plain k (nonce-bytes i is_last) h).len
+  pub length-seal : (i : ℕ) (is_last : Bool) (plain : List ℕ) → AreBytes plain → length (seal_of key (chunk_nonce i is_last) plain) ≡ length plain + 16
+  length-seal i is_last plain h = (law.seal_is_longer key (chunk_nonce i is_last) plain k (nonce-bytes i is_last) h).len
 
   -- ---- the seals before the last
 
@@ -78,14 +78,14 @@ module _ (seal_of : Seal) (opened : List ℕ → List ℕ → List ℕ → Optio
       let before = length-middle_seals n plain b (omega arith) in
       let last = length-seal n false (piece n plain) (piece-bytes n plain b) in
       let full = length-full_piece n plain (omega arith) in
-      omega (arith, length-append (middle_seals seal_of key plain n) (seal_of key (nonce n false) (piece n plain)))
+      omega (arith, length-append (middle_seals seal_of key plain n) (seal_of key (chunk_nonce n false) (piece n plain)))
 
   pub chunk-middle : (n i : ℕ) (plain rest : List ℕ) → AreBytes plain → 65536 * n ≤ length plain → i < n
-      → chunk i (middle_seals seal_of key plain n ++ rest) ≡ seal_of key (nonce i false) (piece i plain)
+      → chunk i (middle_seals seal_of key plain n ++ rest) ≡ seal_of key (chunk_nonce i false) (piece i plain)
   chunk-middle zero i plain rest b h l = absurd (omega arith)
   chunk-middle (suc n) i plain rest b h l =
       let before = middle_seals seal_of key plain n in
-      let seal = seal_of key (nonce n false) (piece n plain) in
+      let seal = seal_of key (chunk_nonce n false) (piece n plain) in
       ⊎_elim
       (λ (lt : i < n). rw append_assoc (chunk-middle n i plain (seal ++ rest) b (omega arith) lt))
       (λ (ge : n ≤ i).
@@ -104,23 +104,23 @@ module _ (seal_of : Seal) (opened : List ℕ → List ℕ → List ℕ → Optio
       let front = length-middle_seals last plain b (omega arith) in
       let back = length-seal last true (piece last plain) (piece-bytes last plain b) in
       let rest = length-last_piece plain in
-      omega (arith, length-append (middle_seals seal_of key plain last) (seal_of key (nonce last true) (piece last plain)))
+      omega (arith, length-append (middle_seals seal_of key plain last) (seal_of key (chunk_nonce last true) (piece last plain)))
 
   pub chunk-payload : (plain : List ℕ) (i : ℕ) → AreBytes plain → i < last_piece (length plain)
-      → chunk i (payload seal_of key plain) ≡ seal_of key (nonce i false) (piece i plain)
+      → chunk i (payload seal_of key plain) ≡ seal_of key (chunk_nonce i false) (piece i plain)
   unfolding payload
   chunk-payload plain i b l =
       chunk-middle (last_piece (length plain)) i plain _ b (omega arith) l
 
   pub chunk-last : (plain : List ℕ) → AreBytes plain
-      → chunk (last_piece (length plain)) (payload seal_of key plain) ≡ seal_of key (nonce (last_piece (length plain)) true) (piece (last_piece (length plain)) plain)
+      → chunk (last_piece (length plain)) (payload seal_of key plain) ≡ seal_of key (chunk_nonce (last_piece (length plain)) true) (piece (last_piece (length plain)) plain)
   unfolding payload
   chunk-last plain b =
       let last = last_piece (length plain) in
       let front = length-middle_seals last plain b (omega arith) in
       let back = length-seal last true (piece last plain) (piece-bytes last plain b) in
       let rest = length-last_piece plain in
-      cut_end 65552 last (middle_seals seal_of key plain last) (seal_of key (nonce last true) (piece last plain)) front (omega arith)
+      cut_end 65552 last (middle_seals seal_of key plain last) (seal_of key (chunk_nonce last true) (piece last plain)) front (omega arith)
 
   -- the plaintext of a payload of this length
   pub plain_len-payload : (plain : List ℕ) → AreBytes plain → plain_len (length (payload seal_of key plain)) ≡ Some (length plain)
@@ -133,10 +133,10 @@ module _ (seal_of : Seal) (opened : List ℕ → List ℕ → List ℕ → Optio
       let same_length : length p ≡ length q = omega (arith, length-payload p pb, length-payload q qb, ap length e) in
       let same_last : last_piece (length q) ≡ last = rw (← same_length) refl in
       let last_one : piece last p ≡ piece last q =
-      seal-one (nonce last true) (piece last p) (piece last q) (nonce-bytes last true) (piece-bytes last p pb) (piece-bytes last q qb)
+      seal-one (chunk_nonce last true) (piece last p) (piece last q) (nonce-bytes last true) (piece-bytes last p pb) (piece-bytes last q qb)
       (sym (chunk-last p pb) ∙ ap (chunk last) e ∙ (rw same_last at (chunk-last q qb))) in
       let middle_one : (i : ℕ) → i < last → piece i p ≡ piece i q = λ i l.
-      seal-one (nonce i false) (piece i p) (piece i q) (nonce-bytes i false) (piece-bytes i p pb) (piece-bytes i q qb)
+      seal-one (chunk_nonce i false) (piece i p) (piece i q) (nonce-bytes i false) (piece-bytes i p pb) (piece-bytes i q qb)
       (sym (chunk-payload p i pb l) ∙ ap (chunk i) e ∙ chunk-payload q i qb (rw same_last l)) in
       same_list 65536 (suc last) p q (omega arith) (omega arith)
       (λ i l. ⊎_elim (middle_one i) (λ (ge : last ≤ i). let here : i ≡ last = omega arith in rw here last_one) (cases_lt i last))
@@ -171,9 +171,9 @@ module _ (seal_of : Seal) (opened : List ℕ → List ℕ → List ℕ → Optio
   pub middle_seals-bytes : (n : ℕ) (plain : List ℕ) → AreBytes plain → AreBytes (middle_seals seal_of key plain n)
   middle_seals-bytes zero plain b = All-nil (λ x. x < 2 ^ 8)
   middle_seals-bytes (suc n) plain b =
-      All-append (λ x. x < 2 ^ 8) (middle_seals seal_of key plain n) (seal_of key (nonce n false) (piece n plain))
+      All-append (λ x. x < 2 ^ 8) (middle_seals seal_of key plain n) (seal_of key (chunk_nonce n false) (piece n plain))
       (middle_seals-bytes n plain b)
-      (law.seal_is_longer key (nonce n false) (piece n plain) k (nonce-bytes n false) (piece-bytes n plain b)).bytes
+      (law.seal_is_longer key (chunk_nonce n false) (piece n plain) k (nonce-bytes n false) (piece-bytes n plain b)).bytes
 
   pub payload-bytes : (plain : List ℕ) → AreBytes plain
       → AreBytesOf (length plain + 16 * (last_piece (length plain) + 1)) (payload seal_of key plain)
@@ -182,9 +182,9 @@ module _ (seal_of : Seal) (opened : List ℕ → List ℕ → List ℕ → Optio
       let last = last_piece (length plain) in
       record {
         len = length-payload plain b;
-        bytes = All-append (λ x. x < 2 ^ 8) (middle_seals seal_of key plain last) (seal_of key (nonce last true) (piece last plain))
+        bytes = All-append (λ x. x < 2 ^ 8) (middle_seals seal_of key plain last) (seal_of key (chunk_nonce last true) (piece last plain))
             (middle_seals-bytes last plain b)
-            (law.seal_is_longer key (nonce last true) (piece last plain) k (nonce-bytes last true) (piece-bytes last plain b)).bytes;
+            (law.seal_is_longer key (chunk_nonce last true) (piece last plain) k (nonce-bytes last true) (piece-bytes last plain b)).bytes;
       }
 
   -- ---- honest payloads
@@ -223,7 +223,7 @@ module _ (seal_of : Seal) (opened : List ℕ → List ℕ → List ℕ → Optio
       let last = last_piece (length plain) in
       let e = is_last plain b n le why.1.not_middle in
       let held = subst (λ i. OpensAsLast seal_of key (payload seal_of key plain) i []) e why.1 in
-      let none = seal-one (nonce last true) (piece last plain) [] (nonce-bytes last true) (piece-bytes last plain b) held.bytes
+      let none = seal-one (chunk_nonce last true) (piece last plain) [] (nonce-bytes last true) (piece-bytes last plain b) held.bytes
       (sym (chunk-last plain b) ∙ held.is_seal) in
       absurd (omega (arith, why.0, length-last_piece plain, ap length none))
   stops plain b apart n TooLong le why = inr (refl, omega (arith, why.0))

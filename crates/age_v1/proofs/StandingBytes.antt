@@ -6,12 +6,12 @@ use Rattle.std.proofs.lemmas.List.{get_or-take, get_or-drop, get_or_append_left,
 use Rattle.std.proofs.lemmas.List.Elements.{All-from_get_or, All-get_or}
 use Rattle.age_error.specs.Bytes.{AreBytes}
 use Rattle.age_io.specs.Stretch.{Stretch}
-use Rattle.age_v1.specs.Payload.{Seal, nonce, chunk}
+use Rattle.age_v1.specs.Payload.{Seal, chunk_nonce, chunk}
 use Rattle.age_v1.specs.PayloadAnswers.{OpensAs, Gives, IsByteAt, StandAt}
 
 module _ (seal_of : Seal) (key : List ℕ) where
   pub held-seal : (last : Bool) (sealed plain : List ℕ) (i : ℕ) → OpensAs last seal_of key sealed i plain →
-      AreBytes plain × (chunk i sealed ≡ seal_of key (nonce i last) plain) × (length (chunk i sealed) < 65552 → last ≡ true)
+      AreBytes plain × (chunk i sealed ≡ seal_of key (chunk_nonce i last) plain) × (length (chunk i sealed) < 65552 → last ≡ true)
   held-seal true sealed plain i held = (held.bytes, held.is_seal, λ _. refl)
   held-seal false sealed plain i held = (held.bytes, held.is_seal, λ less. absurd (omega (arith, less, held.full)))
 

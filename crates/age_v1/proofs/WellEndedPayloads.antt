@@ -8,7 +8,7 @@ use Rattle.age_error.specs.Bytes.{AreBytes}
 use Rattle.age_io.specs.Stretch.{Stretch, nothing, from_place, stretch-ext}
 use Rattle.age_error.specs.declared.io.Error.{Error}
 use Rattle.age_error.specs.declared.io.Error.TheVariants.{LastChunkEmpty, TooLong}
-use Rattle.age_v1.specs.Payload.{nonce}
+use Rattle.age_v1.specs.Payload.{chunk_nonce}
 use Rattle.age_v1.proofs.OpenedTexts.{Shorter}
 use Rattle.age_v1.specs.DeliveredPayload.{Chunk, is_empty, allowed_if, or_else, opened_chunk, chunk_of, prepend, after_last, after_chunk, delivers, payload_delivers}
 use Rattle.age_v1.proofs.DeliveredChunks.{delivered-full, delivered-short}
@@ -25,7 +25,7 @@ none-some is = cc
 -- ---- what an accepted verdict says
 
 pub record Accepted (opened : List ℕ → List ℕ → List ℕ → Option (List ℕ)) (key : List ℕ) (number : ℕ) (text plain : List ℕ) (last : Bool) : Type 0 where
-  pub opens : opened key (nonce number last) text ≡ Some plain
+  pub opens : opened key (chunk_nonce number last) text ≡ Some plain
   pub some : 0 < length text
   pub full : last ≡ false → length text ≡ 65552
   pub first : length plain ≡ 0 → number ≡ 0
@@ -76,7 +76,7 @@ module _ (opened : List ℕ → List ℕ → List ℕ → Option (List ℕ)) (ke
   accepted number (x ∷ xs) plain last is =
       let text = x ∷ xs in
       let h = allowed_if-by number (opened_chunk opened key number text) (plain, last) is in
-      let how = chunk-by (length text == 65552) (opened key (nonce number false) text) (opened key (nonce number true) text) plain last h.0 in
+      let how = chunk-by (length text == 65552) (opened key (chunk_nonce number false) text) (opened key (chunk_nonce number true) text) plain last h.0 in
       record {
         opens = elim how [ inl m ↦ rw m.0 m.2 | inr l ↦ rw l.0 l.1 ];
         some = omega arith;

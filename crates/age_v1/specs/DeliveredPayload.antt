@@ -1,7 +1,7 @@
 -- How sealed chunks are judged, and what they deliver.
 use Rattle.std.specs.Prelude.{Bool, Err, List, None, Ok, Option, Result, Some, [], cond, drop, false, length, nat_lt, option_map, take, true, ℕ, ◌&&◌, ◌*◌, ◌++◌, ◌+◌, ◌/◌, ◌<◌, ◌==◌, ◌^◌, ◌∷◌, ◌≤◌}
 use Rattle.age_io.specs.Stretch.{Stretch, nothing}
-use Rattle.age_v1.specs.Payload.{nonce}
+use Rattle.age_v1.specs.Payload.{chunk_nonce}
 use Rattle.age_error.specs.declared.io.Error.{Error}
 use Rattle.age_error.specs.declared.io.Error.TheVariants.{BadChunk, LastChunkEmpty, TooLong, Truncated}
 use Rattle.std.proofs.Common.{suc, zero}
@@ -44,7 +44,7 @@ after_chunk middle last (Ok (plain, false)) = prepend plain middle
 module _ (opened : List ℕ → List ℕ → List ℕ → Option (List ℕ)) (key : List ℕ) where
   -- the text as a middle chunk, or as the last one
   abbrev pub opened_as : ℕ → Bool → List ℕ → Option Chunk
-  opened_as number last text = option_map (λ plain. (plain, last)) (opened key (nonce number last) text)
+  opened_as number last text = option_map (λ plain. (plain, last)) (opened key (chunk_nonce number last) text)
 
   -- a full text is tried as middle first, then as last; a short one only as last
   abbrev pub opened_chunk : ℕ → List ℕ → Option Chunk

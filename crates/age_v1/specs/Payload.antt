@@ -27,15 +27,15 @@ last_piece n = (n - 1) / 65536
 -- the nonce of a chunk, of 12 bytes: its number in 11, big-endian, then 1 for the last chunk and 0 for the others
 -- standard: the first 11 bytes are a big endian chunk counter that starts at zero and rises by one for each chunk; the
 -- last byte is 0x01 for the final chunk and 0x00 for all preceding ones
-unfoldable pub nonce : ℕ → Bool → List ℕ
-nonce i is_last = bytes_high_first 11 i ++ (if is_last then 1 else 0) ∷ []
+unfoldable pub chunk_nonce : ℕ → Bool → List ℕ
+chunk_nonce i is_last = bytes_high_first 11 i ++ (if is_last then 1 else 0) ∷ []
 
 -- the seals of the first n pieces, none of them as the last
 -- standard: the chunks that precede the final one, in order
 abbrev pub middle_seals : Seal → List ℕ → List ℕ → ℕ → List ℕ
 middle_seals seal_of key plain zero = []
 middle_seals seal_of key plain (suc i) =
-    middle_seals seal_of key plain i ++ seal_of key (nonce i false) (piece i plain)
+    middle_seals seal_of key plain i ++ seal_of key (chunk_nonce i false) (piece i plain)
 
 -- The payload of a plaintext: the seals of its pieces in order, the last one under the nonce of a last chunk. The standard counts the payload nonce,
 -- the 16 bytes before the first chunk, to the payload; here it is the end of the file's front.
@@ -43,7 +43,7 @@ middle_seals seal_of key plain (suc i) =
 unfoldable pub payload : Seal → List ℕ → List ℕ → List ℕ
 payload seal_of key plain =
     let last = last_piece (length plain) in
-    middle_seals seal_of key plain last ++ seal_of key (nonce last true) (piece last plain)
+    middle_seals seal_of key plain last ++ seal_of key (chunk_nonce last true) (piece last plain)
 
 -- chunk i of a payload, of at most 65,552 bytes
 -- standard: the payload is decrypted one chunk at a time, each with a tag of 16 bytes; a place is found by a multiple of
@@ -56,14 +56,14 @@ chunk i sealed = cut 65552 i sealed
 pub record OpensAsMiddle (seal_of : Seal) (key sealed : List ℕ) (i : ℕ) (plain : List ℕ) : Type 0 where
   pub full : length (chunk i sealed) ≡ 65552
   pub bytes : AreBytes plain
-  pub is_seal : chunk i sealed ≡ seal_of key (nonce i false) plain
+  pub is_seal : chunk i sealed ≡ seal_of key (chunk_nonce i false) plain
 
 -- chunk i doesn't open as a middle one, and is the seal of these bytes under its nonce as the last chunk
 -- standard: the final chunk has 0x01 in its nonce
 pub record OpensAsLast (seal_of : Seal) (key sealed : List ℕ) (i : ℕ) (plain : List ℕ) : Type 0 where
   pub not_middle : (other : List ℕ) → OpensAsMiddle seal_of key sealed i other → ⊥
   pub bytes : AreBytes plain
-  pub is_seal : chunk i sealed ≡ seal_of key (nonce i true) plain
+  pub is_seal : chunk i sealed ≡ seal_of key (chunk_nonce i true) plain
 
 -- chunk i opens neither as a middle one nor as the last
 -- standard: its decryption fails
@@ -79,7 +79,7 @@ final_chunk n = (n - 1) / 65552
 pub record EndsAsLast (seal_of : Seal) (key sealed : List ℕ) : Type 0 where
   pub plain : List ℕ
   pub bytes : AreBytes plain
-  pub is_seal : let last = final_chunk (length sealed) in chunk last sealed ≡ seal_of key (nonce last true) plain
+  pub is_seal : let last = final_chunk (length sealed) in chunk last sealed ≡ seal_of key (chunk_nonce last true) plain
 
 -- A premise, and no part of the standard: where the last piece of a plaintext is full, its seal under the nonce of a last chunk isn't the seal of some bytes
 -- under that of a middle chunk too. A reader tries a full chunk as a middle one first.
@@ -87,7 +87,7 @@ unfoldable pub LastIsNoMiddle : Seal → List ℕ → List ℕ → Type 0
 LastIsNoMiddle seal_of key plain =
     let last = last_piece (length plain) in
     (other : List ℕ) → length (piece last plain) ≡ 65536 → AreBytes other
-    → seal_of key (nonce last true) (piece last plain) ≡ seal_of key (nonce last false) other → ⊥
+    → seal_of key (chunk_nonce last true) (piece last plain) ≡ seal_of key (chunk_nonce last false) other → ⊥
 
 -- the length of the plaintext of a payload of n bytes: 16 less for each chunk, where the last chunk has at least 16
 -- bytes, and more than 16 if it isn't the only one; other lengths belong to no plaintext

@@ -6,7 +6,7 @@ use Rattle.age_error.specs.declared.io.Error.{Error}
 use Rattle.age_error.specs.declared.io.Error.TheVariants.{AfterLast}
 use Rattle.age_io.specs.Stretch.{Stretch, whole}
 use Rattle.age_io.specs.Reading.{EndsEarly}
-use Rattle.age_v1.specs.Payload.{Seal, nonce, piece, last_piece, payload, plain_len, chunk, OpensAsMiddle, OpensAsLast, EndsAsLast}
+use Rattle.age_v1.specs.Payload.{Seal, chunk_nonce, piece, last_piece, payload, plain_len, chunk, OpensAsMiddle, OpensAsLast, EndsAsLast}
 use Rattle.age_v1.specs.PayloadRefusals.{IsAllowed, StopsAt}
 
 -- chunk i opens to these bytes, as the last chunk or as a middle one
@@ -67,7 +67,7 @@ pub record IsByteAt (seal_of : Seal) (key sealed : List ℕ) (place byte : ℕ) 
   pub under : at < 65536
   pub within : at < length plain
   pub bytes : AreBytes plain
-  pub is_seal : chunk number sealed ≡ seal_of key (nonce number last) plain
+  pub is_seal : chunk number sealed ≡ seal_of key (chunk_nonce number last) plain
   pub short : length (chunk number sealed) < 65552 → last ≡ true
   pub is : byte ≡ get_or plain at 0
 
@@ -82,7 +82,7 @@ pub record IsPayloadEnd (seal_of : Seal) (key : List ℕ) (sealed : Stretch) (pl
   pub all : place ≡ length plain
   pub length_is : plain_len (length sealed.bytes) ≡ Some place
   pub last_chunk : let last = last_piece (length plain) in
-      chunk last sealed.bytes ≡ seal_of key (nonce last true) (piece last plain)
+      chunk last sealed.bytes ≡ seal_of key (chunk_nonce last true) (piece last plain)
 
 -- A read that finds the end, also after seeks over chunks that are bad: the payload ends well, its length is that of a
 -- payload of as many bytes as stand before the place, and its last chunk is the seal of some bytes as the last.

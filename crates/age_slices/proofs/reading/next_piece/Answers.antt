@@ -1,7 +1,7 @@
 use Rattle.std.proofs.Common.{◌<◌, ◌^◌, false, arith, inl, inr, refl, rules, take}
 use Rattle.std.proofs.lemmas.List.{length-take-le}
 use Rattle.std.proofs.lemmas.List.Elements.{All-take}
-use Rattle.age.specs.Payload.{nonce}
+use Rattle.age.specs.Payload.{chunk_nonce}
 use Rattle.age_slices.proofs.Pieces.{last_delivers, middle_delivers, no_last, none_left, opened_length, past_delivers}
 use Rattle.age_slices.proofs.reading.next_piece.Goals as goal
 
@@ -18,7 +18,7 @@ returns-in-Ok-Some g c =
     let number = c.args.number in
     let (many, opens) = (rw c.in-Ok-Some.field-0-is at c.in-Ok-Some.ensures) in
     let full = length-take-le 65552 rest many in
-    let long = opened_length g.S.Suite.seal_of g.S.Suite.opened g.met.S.Suite.cipher key (nonce number false) (take 65552 rest) c.in-Ok-Some.piece.items
+    let long = opened_length g.S.Suite.seal_of g.S.Suite.opened g.met.S.Suite.cipher key (chunk_nonce number false) (take 65552 rest) c.in-Ok-Some.piece.items
     c.known_array.ensures
     (rw c.nonce_of.ensures at c.known_array-2.ensures) (All-take (λ x. x < 2 ^ 8) 65552 rest c.known_bytes.ensures) opens in
     inr (refl, many, (omega arith), middle_delivers g.S.Suite.opened key number rest c.in-Ok-Some.piece.items many opens (omega (arith, long, full)) (omega arith))

@@ -1,7 +1,7 @@
 use Rattle.std.proofs.Common.{◌≡◌, ◌<◌, length, Some, None, true, sym, ◌∙◌, arith, inr}
 use Rattle.std.proofs.lemmas.Bool.{eqb-true, eqb-false}
 use Rattle.age_error.specs.declared.io.Error.TheVariants.{BadChunk, LastChunkEmpty, TooLong, AfterLast}
-use Rattle.age_v1.specs.Payload.{nonce, chunk}
+use Rattle.age_v1.specs.Payload.{chunk_nonce, chunk}
 use Rattle.age_v1.specs.PayloadRefusals.{IsAllowed}
 use Rattle.age_v1.proofs.Cuts.{slice-bytes, array-bytes}
 use Rattle.age_v1.proofs.FrontToEnd.{refused_memory, refused_at, is_bad, held_empty, held_last, opened_whole, opened_limit}
@@ -21,7 +21,7 @@ pub returns-in-None-clause-err : goal.returns-in-None-clause-err
 returns-in-None-clause-err g c =
     let key = array-bytes 32 c.args.key.now c.told-key c.fits-key in
     let bytes = slice-bytes c.args.sealed.now c.type_inv.sealed in
-    let none : g.S.Suite.opened c.args.key.now (nonce c.args.i true) (chunk c.args.i c.args.sealed.now) ≡ None =
+    let none : g.S.Suite.opened c.args.key.now (chunk_nonce c.args.i true) (chunk c.args.i c.args.sealed.now) ≡ None =
     sym (rw (c.nonce_of.ensures, c.chunk_at.ensures, c.in-None.is) at c.in_ok-open.ensures.value) in
     refused_at g.S.Suite.seal_of g.S.Suite.opened g.met.S.Suite.cipher c.args.key.now key c.args.sealed.now bytes
     c.args.i c.args.out.items BadChunk c.requires.opened c.requires.reach (
@@ -33,7 +33,7 @@ pub returns-then-is_empty-clause-err : goal.returns-then-is_empty-clause-err
 returns-then-is_empty-clause-err g c =
     let key = array-bytes 32 c.args.key.now c.told-key c.fits-key in
     let bytes = slice-bytes c.args.sealed.now c.type_inv.sealed in
-    let some : g.S.Suite.opened c.args.key.now (nonce c.args.i true) (chunk c.args.i c.args.sealed.now) ≡ Some c.in-Some.piece.items =
+    let some : g.S.Suite.opened c.args.key.now (chunk_nonce c.args.i true) (chunk c.args.i c.args.sealed.now) ≡ Some c.in-Some.piece.items =
     sym (rw (c.nonce_of.ensures, c.chunk_at.ensures, c.in-Some.is) at c.in_ok-open.ensures.value) in
     let held = held_last g.S.Suite.seal_of g.S.Suite.opened g.met.S.Suite.cipher c.args.key.now key c.args.sealed.now bytes
     c.args.i c.in-Some.piece.items c.requires.not_middle some in
@@ -49,7 +49,7 @@ pub returns-then-i-ge-MOST_CHUNKS-clause-err : goal.returns-then-i-ge-MOST_CHUNK
 returns-then-i-ge-MOST_CHUNKS-clause-err g c =
     let key = array-bytes 32 c.args.key.now c.told-key c.fits-key in
     let bytes = slice-bytes c.args.sealed.now c.type_inv.sealed in
-    let some : g.S.Suite.opened c.args.key.now (nonce c.args.i true) (chunk c.args.i c.args.sealed.now) ≡ Some c.in-Some.piece.items =
+    let some : g.S.Suite.opened c.args.key.now (chunk_nonce c.args.i true) (chunk c.args.i c.args.sealed.now) ≡ Some c.in-Some.piece.items =
     sym (rw (c.nonce_of.ensures, c.chunk_at.ensures, c.in-Some.is) at c.in_ok-open.ensures.value) in
     let held = held_last g.S.Suite.seal_of g.S.Suite.opened g.met.S.Suite.cipher c.args.key.now key c.args.sealed.now bytes
     c.args.i c.in-Some.piece.items c.requires.not_middle some in
@@ -67,7 +67,7 @@ pub returns-then-left-gt-CHUNK-clause-err : goal.returns-then-left-gt-CHUNK-clau
 returns-then-left-gt-CHUNK-clause-err g c =
     let key = array-bytes 32 c.args.key.now c.told-key c.fits-key in
     let bytes = slice-bytes c.args.sealed.now c.type_inv.sealed in
-    let some : g.S.Suite.opened c.args.key.now (nonce c.args.i true) (chunk c.args.i c.args.sealed.now) ≡ Some c.in-Some.piece.items =
+    let some : g.S.Suite.opened c.args.key.now (chunk_nonce c.args.i true) (chunk c.args.i c.args.sealed.now) ≡ Some c.in-Some.piece.items =
     sym (rw (c.nonce_of.ensures, c.chunk_at.ensures, c.in-Some.is) at c.in_ok-open.ensures.value) in
     let held = held_last g.S.Suite.seal_of g.S.Suite.opened g.met.S.Suite.cipher c.args.key.now key c.args.sealed.now bytes
     c.args.i c.in-Some.piece.items c.requires.not_middle some in
@@ -86,7 +86,7 @@ pub returns-in_ok-extend_from_slice-in-Some-clause-ok : goal.returns-in_ok-exten
 returns-in_ok-extend_from_slice-in-Some-clause-ok g c =
     let key = array-bytes 32 c.args.key.now c.told-key c.fits-key in
     let bytes = slice-bytes c.args.sealed.now c.type_inv.sealed in
-    let some : g.S.Suite.opened c.args.key.now (nonce c.args.i true) (chunk c.args.i c.args.sealed.now) ≡ Some c.in-Some.piece.items =
+    let some : g.S.Suite.opened c.args.key.now (chunk_nonce c.args.i true) (chunk c.args.i c.args.sealed.now) ≡ Some c.in-Some.piece.items =
     sym (rw (c.nonce_of.ensures, c.chunk_at.ensures, c.in-Some.is) at c.in_ok-open.ensures.value) in
     let held = held_last g.S.Suite.seal_of g.S.Suite.opened g.met.S.Suite.cipher c.args.key.now key c.args.sealed.now bytes
     c.args.i c.in-Some.piece.items c.requires.not_middle some in
@@ -106,7 +106,7 @@ pub returns-in_ok-extend_from_slice-in-Some-clause-limit : goal.returns-in_ok-ex
 returns-in_ok-extend_from_slice-in-Some-clause-limit g c =
     let key = array-bytes 32 c.args.key.now c.told-key c.fits-key in
     let bytes = slice-bytes c.args.sealed.now c.type_inv.sealed in
-    let some : g.S.Suite.opened c.args.key.now (nonce c.args.i true) (chunk c.args.i c.args.sealed.now) ≡ Some c.in-Some.piece.items =
+    let some : g.S.Suite.opened c.args.key.now (chunk_nonce c.args.i true) (chunk c.args.i c.args.sealed.now) ≡ Some c.in-Some.piece.items =
     sym (rw (c.nonce_of.ensures, c.chunk_at.ensures, c.in-Some.is) at c.in_ok-open.ensures.value) in
     let held = held_last g.S.Suite.seal_of g.S.Suite.opened g.met.S.Suite.cipher c.args.key.now key c.args.sealed.now bytes
     c.args.i c.in-Some.piece.items c.requires.not_middle some in

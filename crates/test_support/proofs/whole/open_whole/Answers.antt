@@ -1,6 +1,6 @@
 use Rattle.std.proofs.Common.{◌≡◌, Some, None, false, sym, arith, inl}
 use Rattle.age_error.specs.declared.io.Error.TheVariants.{Truncated, TooLong}
-use Rattle.age_v1.specs.Payload.{nonce, chunk}
+use Rattle.age_v1.specs.Payload.{chunk_nonce, chunk}
 use Rattle.age_v1.proofs.Cuts.{slice-bytes, array-bytes}
 use Rattle.age_v1.proofs.FrontToEnd.{refused_memory, refused_at, not_middle, short_not_middle, held_middle, middle_plain-size, opened_more}
 use Rattle.test_support.proofs.whole.open_whole.Goals as goal
@@ -18,7 +18,7 @@ pub open_last-requires-clause-not_middle : goal.open_last-requires-clause-not_mi
 open_last-requires-clause-not_middle g c =
     let key = array-bytes 32 c.args.key.now c.told-key c.fits-key in
     let bytes = slice-bytes c.args.sealed.now c.type_inv.sealed in
-    let none : g.S.Suite.opened c.args.key.now (nonce c.loop-i.i false) (chunk c.loop-i.i c.args.sealed.now) ≡ None =
+    let none : g.S.Suite.opened c.args.key.now (chunk_nonce c.loop-i.i false) (chunk c.loop-i.i c.args.sealed.now) ≡ None =
     sym (rw (c.nonce_of.ensures, c.chunk_at.ensures, c.in-None.is) at c.in_ok-open.ensures.value) in
     not_middle g.S.Suite.seal_of g.S.Suite.opened g.met.S.Suite.cipher c.args.key.now key c.args.sealed.now bytes c.loop-i.i none
 
@@ -26,7 +26,7 @@ pub returns-then-i-ge-MOST_CHUNKS-clause-err : goal.returns-then-i-ge-MOST_CHUNK
 returns-then-i-ge-MOST_CHUNKS-clause-err g c =
     let key = array-bytes 32 c.args.key.now c.told-key c.fits-key in
     let bytes = slice-bytes c.args.sealed.now c.type_inv.sealed in
-    let some : g.S.Suite.opened c.args.key.now (nonce c.loop-i.i false) (chunk c.loop-i.i c.args.sealed.now) ≡ Some c.in-Some.piece.items =
+    let some : g.S.Suite.opened c.args.key.now (chunk_nonce c.loop-i.i false) (chunk c.loop-i.i c.args.sealed.now) ≡ Some c.in-Some.piece.items =
     sym (rw (c.nonce_of.ensures, c.chunk_at.ensures, c.in-Some.is) at c.in_ok-open.ensures.value) in
     let held = held_middle g.S.Suite.seal_of g.S.Suite.opened g.met.S.Suite.cipher c.args.key.now key c.args.sealed.now bytes c.loop-i.i c.in-Some.piece.items (omega arith) some in
     let size = middle_plain-size g.S.Suite.seal_of g.S.Suite.opened g.met.S.Suite.cipher c.args.key.now key c.args.sealed.now bytes c.loop-i.i c.in-Some.piece.items held in
@@ -37,7 +37,7 @@ pub loop-i-preserved : goal.loop-i-preserved
 loop-i-preserved g c =
     let key = array-bytes 32 c.args.key.now c.told-key c.fits-key in
     let bytes = slice-bytes c.args.sealed.now c.type_inv.sealed in
-    let some : g.S.Suite.opened c.args.key.now (nonce c.loop-i.i false) (chunk c.loop-i.i c.args.sealed.now) ≡ Some c.in-Some.piece.items =
+    let some : g.S.Suite.opened c.args.key.now (chunk_nonce c.loop-i.i false) (chunk c.loop-i.i c.args.sealed.now) ≡ Some c.in-Some.piece.items =
     sym (rw (c.nonce_of.ensures, c.chunk_at.ensures, c.in-Some.is) at c.in_ok-open.ensures.value) in
     let out = c.in_ok-extend_from_slice-in-Some.ensures.items in
     record {

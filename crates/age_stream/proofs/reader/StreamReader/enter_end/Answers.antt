@@ -1,7 +1,7 @@
 use Rattle.age_stream.proofs.Cached.{moved-in, used-there}
 use Rattle.std.specs.Prelude.{cond, Some}
 use Rattle.age_stream.specs.Reader.{payload_of, HasEnd}
-use Rattle.age_v1.specs.Payload.{nonce, final_chunk}
+use Rattle.age_v1.specs.Payload.{chunk_nonce, final_chunk}
 use Rattle.std.proofs.Common.{◌≡◌, ◌<◌, ◌-◌, ◌/◌, ◌^◌, ◌∙◌, arith, length, sym, ap, subst, refl, inl, inr, ◌*◌, None, true, false}
 use Rattle.std.proofs.lemmas.Bool.{true≢false}
 use Rattle.std.proofs.lemmas.Result.{on_ok_weaker, IfErr-weaker}
@@ -201,15 +201,15 @@ returns-in-Ok-stand-2 g c =
       refused = IfErr-weaker c.open_last.result _ _ (λ e r. step-later self mid new e done.keeps last.keeps (omega (arith, done.stays.number, done.stays.at))
           (λ told bad. (
             bad.0,
-            subst (λ k. g.S.Suite.opened k (nonce number true) (text_at number (payload_of self)) ≡ None) done.stays.key
-                (subst (λ p. g.S.Suite.opened mid.key (nonce number true) (text_at number p) ≡ None) (done.keeps.payload told) bad.1),
+            subst (λ k. g.S.Suite.opened k (chunk_nonce number true) (text_at number (payload_of self)) ≡ None) done.stays.key
+                (subst (λ p. g.S.Suite.opened mid.key (chunk_nonce number true) (text_at number p) ≡ None) (done.keeps.payload told) bad.1),
           )) r) last.refused;
       says = IfErr-weaker c.open_last.result _ _ (λ e why. elim why [
         | inl bad ↦ inl (λ told.
             let was = bad (later told) in (
               was.0,
-              subst (λ k. g.S.Suite.opened k (nonce number true) (text_at number (payload_of self)) ≡ None) done.stays.key
-                  (subst (λ p. g.S.Suite.opened mid.key (nonce number true) (text_at number p) ≡ None) (done.keeps.payload told) was.1),
+              subst (λ k. g.S.Suite.opened k (chunk_nonce number true) (text_at number (payload_of self)) ≡ None) done.stays.key
+                  (subst (λ p. g.S.Suite.opened mid.key (chunk_nonce number true) (text_at number p) ≡ None) (done.keeps.payload told) was.1),
             ))
         | inr other ↦ inr other
       ]) last.says;

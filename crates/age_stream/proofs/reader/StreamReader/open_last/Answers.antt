@@ -1,6 +1,6 @@
 use Rattle.std.proofs.Common.{◌≡◌, ◌≤◌, ◌+◌, ◌∙◌, ◌&&◌, subst, inl, inr, arith, length, take, sym, ap, IsTrue, refl, length-take-le, Some, None, true, false}
 use Rattle.std.proofs.lemmas.Bool.{cases_lt, lt-ltb, ltb-true, true≢false}
-use Rattle.age_v1.specs.Payload.{nonce}
+use Rattle.age_v1.specs.Payload.{chunk_nonce}
 use Rattle.age_stream.specs.Reading.{payload_at, IsSound}
 use Rattle.age_v1.specs.DeliveredPayload.{IsLastChunk}
 use Rattle.age_stream.specs.ReadingLemmas.{and-left}
@@ -24,7 +24,7 @@ returns-in-Ok-None-clause-refused g c =
           let text = take c.in-Ok.count mid.sealed.items in
           let payload = payload_at (read.place self.inner) self.taken (read.content self.inner) in
           let whole = last-text payload (read.rest self.inner) (read.rest mid.inner) c.args.number text (c.requires.stands told).1 (c.requires.last told) (taken.takes.took (and-left _ _ told)) in
-          let none : g.S.Suite.opened self.key (nonce c.args.number true) text ≡ None =
+          let none : g.S.Suite.opened self.key (chunk_nonce c.args.number true) text ≡ None =
           sym (rw (c.deref.ensures.value, taken.stays.key, c.in-Ok-None.field-0-is) at c.in-Ok-None.ensures.opened) in
           (refl, last-none g.S.Suite.opened self.key payload (read.rest mid.inner) c.args.number text whole none);
     }
@@ -60,7 +60,7 @@ invariant_of-self-in-Ok-Some g c =
     let long : length text ≡ c.in-Ok.count = length-take-le c.in-Ok.count mid.sealed.items (omega (arith, taken.takes.most, mid.room)) in
     let plain = c.in-Ok-Some.chunk in
     let longer : length plain.items + 16 ≡ length text = rw (c.deref.ensures.value, c.in-Ok-Some.field-0-is) at c.in-Ok-Some.ensures.length in
-    let some : Some plain.items ≡ suite.opened mid.key (nonce c.args.number true) text = rw (c.deref.ensures.value, c.in-Ok-Some.field-0-is) at c.in-Ok-Some.ensures.opened in
+    let some : Some plain.items ≡ suite.opened mid.key (chunk_nonce c.args.number true) text = rw (c.deref.ensures.value, c.in-Ok-Some.field-0-is) at c.in-Ok-Some.ensures.opened in
     let there : c.len-len.result ≡ length plain.items = omega (arith, c.len-len.ensures, plain.ok.0) in
     let short : length plain.items ≤ 65536 = omega (arith, longer, long, taken.takes.most) in
     let payload = payload_at (read.place self.inner) self.taken (read.content self.inner) in
@@ -132,6 +132,6 @@ returns-in-Ok-None-clause-says g c = inl (λ told.
     let text = take c.in-Ok.count mid.sealed.items in
     let payload = payload_at (read.place self.inner) self.taken (read.content self.inner) in
     let whole = last-text payload (read.rest self.inner) (read.rest mid.inner) c.args.number text (c.requires.stands told).1 (c.requires.last told) (taken.takes.took (and-left _ _ told)) in
-    let none : g.S.Suite.opened self.key (nonce c.args.number true) text ≡ None =
+    let none : g.S.Suite.opened self.key (chunk_nonce c.args.number true) text ≡ None =
     sym (rw (c.deref.ensures.value, taken.stays.key, c.in-Ok-None.field-0-is) at c.in-Ok-None.ensures.opened) in
     (refl, last-none g.S.Suite.opened self.key payload (read.rest mid.inner) c.args.number text whole none))

@@ -1,7 +1,7 @@
 use Rattle.std.proofs.Common.{◌≡◌, ◌<◌, ◌-◌, ◌^◌, ◌∙◌, arith, length, sym, subst, ap, IsTrue, refl, length-drop, true, None, inl, inr, Err}
 use Rattle.std.proofs.lemmas.List.Elements.{All-drop}
 use Rattle.age_v1.specs.PayloadTargets.{in_length}
-use Rattle.age_v1.specs.Payload.{nonce, final_chunk, plain_len}
+use Rattle.age_v1.specs.Payload.{chunk_nonce, final_chunk, plain_len}
 use Rattle.age_v1.proofs.OpenedTexts.{shorter}
 use Rattle.age_stream.specs.Reader.{payload_of, place_of, tells_of}
 use Rattle.age_v1.specs.DeliveredPayload.{text_at}
@@ -163,9 +163,9 @@ returns-in-Err-enter_end g c =
     All-drop (λ x. x < 2 ^ 8) (read.place self.inner - self.taken) (read.content self.inner).bytes (g.met.R.Read.are_bytes self.inner (and-left _ _ told)) in
     let no_last : IsTrue (tells_of self) → IsNoLast mid (final_chunk c.in-Ok.size) e → IsNoLast self (final_chunk (length payload.bytes)) e = λ told bad. (
       bad.0,
-      subst (λ n. suite.opened self.key (nonce (final_chunk n) true) (text_at (final_chunk n) payload) ≡ None) (size told)
-          (subst (λ k. suite.opened k (nonce (final_chunk c.in-Ok.size) true) (text_at (final_chunk c.in-Ok.size) payload) ≡ None) look.stays.key
-          (subst (λ p. suite.opened mid.key (nonce (final_chunk c.in-Ok.size) true) (text_at (final_chunk c.in-Ok.size) p) ≡ None) (look.keeps.payload told) bad.1)),
+      subst (λ n. suite.opened self.key (chunk_nonce (final_chunk n) true) (text_at (final_chunk n) payload) ≡ None) (size told)
+          (subst (λ k. suite.opened k (chunk_nonce (final_chunk c.in-Ok.size) true) (text_at (final_chunk c.in-Ok.size) payload) ≡ None) look.stays.key
+          (subst (λ p. suite.opened mid.key (chunk_nonce (final_chunk c.in-Ok.size) true) (text_at (final_chunk c.in-Ok.size) p) ≡ None) (look.keeps.payload told) bad.1)),
     ) in
     let refused = step-later self mid new {More = IsNoLast self (final_chunk (length payload.bytes))} e look.keeps done.keeps (omega (arith, look.stays.number, look.stays.at))
     no_last done.refused in
