@@ -1,0 +1,4 @@
+pub mod Tables
+pub mod Symbols
+pub mod Indices
+pub mod Lines

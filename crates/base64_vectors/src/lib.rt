@@ -1,0 +1,7 @@
+//! Base64 (RFC 4648 section 4) of whole lines of 64 columns, in vectors of 16 bytes.
+#![tactic(auto)]
+
+mod encoding;
+mod lookup;
+
+pub use encoding::encode_full;
