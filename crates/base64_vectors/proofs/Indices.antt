@@ -1,10 +1,10 @@
 -- The indices of bytes, lane by lane.
-use Rattle.std.proofs.Common.{◌≡◌, ◌∙◌, ap, sym, refl, arith, lit<, ℕ, zero, suc, ◌+◌, ◌*◌, ◌/◌, ◌%◌, ◌^◌, ◌<◌, ◌≤◌, List, [], ◌∷◌, ◌++◌, length, take, get_or, replicate, bit_and}
+use Rattle.std.proofs.Common.{◌≡◌, ◌∙◌, ap, refl, arith, lit<, ℕ, zero, suc, ◌+◌, ◌*◌, ◌/◌, ◌%◌, ◌^◌, ◌<◌, List, [], ◌∷◌, ◌++◌, length, take, get_or, replicate, bit_and}
 use Rattle.std.proofs.Math.Nat.{div-le_self}
-use native.Mathlib.Nat.{pow-zero, div-one}
+use native.Mathlib.Nat.{pow-zero}
 use Rattle.std.proofs.lemmas.Nat.{and_mask, mod_below}
 use Rattle.std.proofs.lemmas.List.{get_or_append_left, get_or-append-add}
-use Rattle.std.proofs.lemmas.Simd.{get_or-zip2, length-zip2, get_or_narrower, get_or_wider, Each1-get_or, Each1-from_get_or, pick_l_left, pick_l-range_with_len}
+use Rattle.std.proofs.lemmas.Simd.{get_or-zip2, length-zip2, get_or_narrower, get_or_wider, Each1-from_get_or, pick_l_left, pick_l-range_with_len}
 use lib.Lanes.{Each1, zip2, chunk, digits_l, number_l, pick_l}
 use Rattle.base64_vectors.specs.Vectors.{indices}
 
@@ -39,7 +39,7 @@ digit-below p zero x k h = h
 digit-below p (suc n) x zero h = mod_below x p h
 digit-below p (suc n) x (suc k) h = digit-below p n (x / p) k h
 
-below_at : (xs : List ℕ) → Each1 (λ x. x < 256) xs → (k : ℕ) → get_or xs k 0 < 256
+pub below_at : (xs : List ℕ) → Each1 (λ x. x < 256) xs → (k : ℕ) → get_or xs k 0 < 256
 below_at [] h k = lit< tt
 below_at (x ∷ xs) h zero = h.0
 below_at (x ∷ xs) h (suc k) = below_at xs h.1 k

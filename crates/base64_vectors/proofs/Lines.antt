@@ -1,5 +1,5 @@
 -- Groups of 12 bytes and 16 columns, and lines of 48 bytes and 64 columns.
-use Rattle.std.proofs.Common.{◌≡◌, ◌∙◌, ap, sym, refl, arith, ℕ, zero, suc, ◌+◌, ◌*◌, ◌/◌, ◌%◌, ◌<◌, ◌≤◌, List, [], ◌∷◌, ◌++◌, length, take, drop, length-drop}
+use Rattle.std.proofs.Common.{◌≡◌, ◌∙◌, ap, sym, refl, arith, ℕ, ◌+◌, ◌*◌, ◌%◌, ◌<◌, ◌≤◌, List, [], ◌∷◌, ◌++◌, length, take, drop, length-drop}
 use Rattle.std.proofs.Math.Seq.{take-add}
 use Rattle.std.proofs.lemmas.List.{append-nil, length-take-le, take_all, take_at, take-take, drop-drop}
 use Rattle.std.proofs.lemmas.Slice.{take-put_mid}
@@ -8,11 +8,11 @@ use borrow.Rule.Slice.PartMut.{put_mid, post_of, same_len_mid}
 use lib.Lanes.{Each1, put_chunk, pick_l}
 use Rattle.base64.specs.Rfc4648.{encode_symbols, padding_len}
 use Rattle.age_base64.specs.Base64.{padded_columns, symbols}
-use Rattle.age_base64.proofs.PaddedColumns.{padded_columns-append, padded_columns-nil, length-padded_columns}
+use Rattle.age_base64.proofs.PaddedColumns.{padded_columns-append, length-padded_columns}
 use Rattle.base64_vectors.specs.Vectors.{indices, looked_up}
 
 -- an index is below 64
-indices_small : (bytes : List ℕ) → Each1 (λ x. x < 256) bytes → Each1 (λ index. index < 64) (indices bytes)
+pub indices_small : (bytes : List ℕ) → Each1 (λ x. x < 256) bytes → Each1 (λ index. index < 64) (indices bytes)
 unfolding indices
 indices_small [] h = tt
 indices_small (a ∷ []) h = tt
@@ -36,7 +36,7 @@ symbols_of (a ∷ b ∷ c ∷ rest) e =
     let more = symbols_of rest (omega arith) in
     rw more refl
 
-columns_of : (bytes : List ℕ) → length bytes % 3 ≡ 0 → looked_up symbols (indices bytes) ≡ padded_columns bytes
+pub columns_of : (bytes : List ℕ) → length bytes % 3 ≡ 0 → looked_up symbols (indices bytes) ≡ padded_columns bytes
 unfolding padded_columns
 columns_of bytes e =
     let none : padding_len (length bytes) ≡ 0 = omega (arith, e) in

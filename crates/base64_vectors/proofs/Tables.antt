@@ -1,5 +1,5 @@
 -- A table that is looked up in each lane.
-use Rattle.std.proofs.Common.{◌≡◌, ◌∙◌, ap, refl, arith, ℕ, suc, ◌+◌, ◌*◌, ◌/◌, ◌<◌, ◌≤◌, List, [], ◌∷◌, length, map, get_or, w8}
+use Rattle.std.proofs.Common.{◌≡◌, ◌∙◌, ap, refl, arith, ℕ, suc, ◌+◌, ◌*◌, ◌/◌, ◌<◌, ◌≤◌, List, [], ◌∷◌, length, get_or, w8}
 use Rattle.std.proofs.lemmas.Simd.{swz_l, get_or-swz_l_below}
 use lib.Lanes.{Each1}
 use Rattle.base64_vectors.specs.Vectors.{looked_up}

@@ -1,4 +1,4 @@
-use Rattle.std.proofs.Common.{◌≡◌, ◌≤◌, ◌+◌, ◌-◌, ◌*◌, ◌/◌, ◌∙◌, arith, refl, length, ap, sym, take}
+use Rattle.std.proofs.Common.{◌≡◌, ◌≤◌, ◌+◌, ◌-◌, ◌*◌, ◌∙◌, arith, refl, length, ap, sym}
 use Rattle.std.proofs.lemmas.List.{take_all}
 use Rattle.age_base64.specs.Base64.{padded_columns}
 use Rattle.age_base64.proofs.PaddedColumns.{padded_columns-nil}
