@@ -25,6 +25,7 @@ pub use Rattle.age_error.specs.Labels
 pub use Rattle.age_error.specs.EncryptErrors
 pub use Rattle.age_error.specs.DecryptErrors
 pub use Rattle.age_error.specs.ResolveErrors
+pub use Rattle.age_error.specs.FileErrors
 -- primitives: age_suite
 pub use Rattle.age_suite.specs.Suite
 pub use Rattle.age_suite.specs.Mac
@@ -35,6 +36,7 @@ pub use Rattle.age_io.specs.Stretch
 pub use Rattle.age_io.specs.Reading
 pub use Rattle.age_io.specs.ReadingLemmas
 pub use Rattle.age_io.specs.Keeping
+pub use Rattle.age_io.specs.Turns
 pub use Rattle.age_io.proofs.Retrying
 pub use Rattle.age_io.specs.Filling
 pub use Rattle.age_io.specs.Failing
@@ -100,6 +102,8 @@ pub use Rattle.age_armor.specs.Writing as ArmorWriting
 pub use Rattle.age_stream.specs.Seeking as StreamSeeking
 pub use Rattle.age_stream.specs.Sealed as StreamSealed
 pub use Rattle.age_stream.specs.Keeping as StreamKeeping
+pub use Rattle.age_stream.specs.Naming as StreamNaming
+pub use Rattle.age_stream.specs.Access as StreamAccess
 pub use Rattle.age_stream.specs.Reader as StreamReader
 pub use Rattle.age_stream.specs.ReadingLemmas as StreamReadingLemmas
 pub use Rattle.age_stream.specs.Sending as StreamSending
@@ -128,7 +132,6 @@ pub use Rattle.age_protocol.specs.Decryptor
 pub use Rattle.age_protocol.specs.Decrypting
 pub use Rattle.age_protocol.specs.OpeningFile
 pub use Rattle.age_protocol.specs.WholeFiles
-pub use Rattle.age_error.specs.FileErrors
 pub use Rattle.age_protocol.specs.Texts
 pub use Rattle.age_protocol.specs.DecryptingStreams
 pub use Rattle.age_protocol.specs.Opened

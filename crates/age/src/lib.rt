@@ -100,7 +100,8 @@ pub mod armor {
     pub mod laws {
         pub use age_armor::{
             armor_is_carrying, armor_is_text, armor_length, carried_is_delivered,
-            carried_is_unique, delivered_is_carried, first_fault_is_unique, verdict_is_unique,
+            carried_is_unique, delivered_is_carried, first_fault_is_unique, sent_law,
+            verdict_is_unique,
         };
     }
 }

@@ -6,11 +6,13 @@ pub mod Changed
 pub mod CutFiles
 pub mod CutStreams
 pub mod Given
+pub mod InOneChunk
 pub mod InTurn
 pub mod Lengthened
 pub mod OneKeys
 pub mod Outcomes
 pub mod PassedOver
+pub mod PrintedKeys
 pub mod Refused
 pub mod Rekeyed
 pub mod Rings

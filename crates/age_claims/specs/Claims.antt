@@ -146,3 +146,14 @@ AnswersFrom Calm seal_of key sealed [] [] place end = end ≡ place
 AnswersFrom Calm seal_of key sealed (op ∷ ops) (a ∷ answers) place end =
     AnswersAt Calm seal_of key sealed op a place × AnswersFrom Calm seal_of key sealed ops answers (place_behind a place) end
 AnswersFrom Calm seal_of key sealed _ _ place end = ⊥
+
+-- In the plaintext of a payload of so many bytes, which is no longer than 2^60, this place stands before the end, and room of so many bytes from there
+-- on, one or more, ends in the chunk in which it begins.
+pub record IsInOne (size place room chunk : ℕ) : Type 0 where
+  pub len : ℕ
+  pub plain : plain_len size ≡ Some len
+  pub limit : len ≤ 2 ^ 60
+  pub inside : place < len
+  pub some : 0 < room
+  pub from : 65536 * chunk ≤ place
+  pub within : place + room ≤ 65536 * chunk + 65536

@@ -3,6 +3,7 @@
 
 pub mod devices;
 pub mod kept;
+pub mod keys;
 pub mod left;
 pub mod longer;
 pub mod others;
@@ -16,4 +17,5 @@ pub mod sent;
 pub mod standard;
 pub mod tampered;
 mod texts;
+pub mod turns;
 pub mod wrong;

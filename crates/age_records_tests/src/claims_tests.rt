@@ -10,6 +10,7 @@ use age_bench::recipient::{BenchIdentity, BenchRecipient};
 use age_bench::suite::BenchSuite;
 use age_claims::devices::kept_between_devices;
 use age_claims::kept::kept;
+use age_claims::keys::{one_key_of_a_text, printed_identity, printed_recipient};
 use age_claims::left::written_at_once;
 use age_claims::longer::{cut_between_chunks, decrypted_up_to_the_cut, lengthened_or_cut};
 use age_claims::others::refused_as_answered;
@@ -22,6 +23,7 @@ use age_claims::sealed::answers_are_sealed;
 use age_claims::sent::sent_so_far;
 use age_claims::standard::{armored_and_back, standard_key};
 use age_claims::tampered::decrypted_beside_a_file;
+use age_claims::turns::read_in_turn;
 use age_claims::wrong::{refused_by_another_key, refused_by_another_passphrase};
 use age_standard::StandardSuite;
 use std::alloc::{AllocError, Global};
@@ -420,5 +422,46 @@ fn a_payload_gives_what_was_sent(rt: HostRuntime) -> Result<(), Fail> {
     for place in PLACES {
         assert!(rt; is_inside(alloc, &payload, &plain, place)?, "at {place}");
     }
+    Ok(())
+}
+
+// Whether reads at the fronts of two chunks in turn, so many times, give what stands there, with each chunk opened once.
+fn is_read_in_turn(alloc: Global, payload: &[u8], plain: &[u8], times: u64) -> Result<bool, Fail> {
+    let mut reader = Stream::with_payload_key(alloc, KEY, Bytes::new(payload))?;
+    let mut first = [0; 10];
+    let mut second = [0; 10];
+    read_in_turn::<BenchSuite, Bytes>(&mut reader, 5, &mut first, 65_536, &mut second, times)?;
+    Ok(
+        first.as_slice() == part(plain, 5, 15)
+            && second.as_slice() == part(plain, 65_536, 65_546)
+            && reader.opens() <= 4,
+    )
+}
+
+#[test]
+fn two_chunks_are_opened_once(rt: HostRuntime) -> Result<(), Fail> {
+    let alloc = rt.alloc();
+    let plain = plaintext(alloc, LENGTH)?;
+    let payload = sealed(alloc, &plain)?;
+    for times in [0, 1, 20] {
+        assert!(rt;
+            is_read_in_turn(alloc, &payload, &plain, times)?,
+            "{times} times"
+        );
+    }
+    Ok(())
+}
+
+// The recipient's text of that key.
+const RECIPIENT: &str = "age1t7rxyev2z3rw82stdlrrepyc39nvn86l5078zqkf5uasdy86jp6svpy7pa";
+
+#[test]
+fn keys_are_printed_in_their_case(rt: HostRuntime) -> Result<(), Fail> {
+    let alloc = rt.alloc();
+    let key = key()?;
+    let recipient = key.to_public();
+    one_key_of_a_text(&recipient, &recipient);
+    assert!(rt; printed_identity(alloc, &key)?.expose_secret() == SECRET);
+    assert!(rt; printed_recipient(alloc, &recipient)?.as_str() == RECIPIENT);
     Ok(())
 }
