@@ -6,6 +6,7 @@ ghost use Rattle.age_armor.specs.Decoder.{DecodesArmor, RefusesNoArmor};
 use age_base64::armor_engine;
 use age_error::bytes::known_bytes;
 use base64::engine::general_purpose::GeneralPurpose;
+use base64_vectors::decode_full;
 
 /// The engine of armor's base64. It is made once, since making it fills its tables.
 #[derive(Drop)]
@@ -39,11 +40,17 @@ impl Decoder {
         }
     }
 
-    /// Whether columns are the base64 of as many bytes as fill `bytes`, which are then there.
+    /// Whether columns are the base64 of as many bytes as fill `bytes`, which are then there. Whole lines are decoded by
+    /// vectors.
     pub(crate) fn decode_full(&self, columns: &[u8], bytes: &mut [u8]) -> bool
         requires { length columns.now * 3 ≡ length bytes.old * 4 }
         ensures { IsTrue result → decoded columns.now ≡ Some bytes.new }
     {
+        if columns.len() % 64 == 0 {
+            let is_right = decode_full(columns, bytes);
+            known_bytes(bytes);
+            return is_right;
+        }
         match self.engine.decode_slice_unchecked(columns, bytes) {
             Ok(count) => {
                 known_bytes(bytes);

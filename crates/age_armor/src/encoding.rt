@@ -6,6 +6,7 @@ ghost use Rattle.age_v1.specs.ArmorFullLines.{full_lines};
 
 use age_base64::armor_engine;
 use base64::engine::general_purpose::GeneralPurpose;
+use base64_vectors::encode_full;
 use std::marker::Model;
 
 /// How many bytes a full line carries.
@@ -66,20 +67,15 @@ fn write_line(columns: &[u8], text: &mut [u8])
     text[count] = b'\n';
 }
 
-/// Writes the lines that carry `bytes`, which fill them, to `text`, which they fill. All are encoded in one call, to
-/// `columns`, and copied from there: that is faster than a call for each line.
-pub(crate) fn encode_lines(
-    encoder: &ColumnEncoder,
-    bytes: &[u8],
-    columns: &mut [u8],
-    text: &mut [u8],
-)
+/// Writes the lines that carry `bytes`, which fill them, to `text`, which they fill. All are encoded by vectors in one call,
+/// to `columns`, and copied from there.
+pub(crate) fn encode_lines(bytes: &[u8], columns: &mut [u8], text: &mut [u8])
     requires full { length bytes.now % 48 ≡ 0 }
     requires room { length columns.old ≡ 64 * (length bytes.now / 48) }
     requires text_room { length text.old ≡ 65 * (length bytes.now / 48) }
     ensures { text.new ≡ full_lines (length bytes.now / 48) bytes.now }
 {
-    encoder.encode(bytes, columns);
+    encode_full(bytes, columns);
     'lines: for number in 0..bytes.len() / LINE {
         write_line(
             &columns[COLUMNS * number..COLUMNS * number + COLUMNS],

@@ -24,7 +24,6 @@ pub(crate) fn write_begin<W: Write>(inner: &mut W) -> Result<(), Error>
 /// longer needed.
 pub(crate) fn write_lines<W: Write>(
     inner: &mut W,
-    encoder: &ColumnEncoder,
     columns: &mut [u8],
     text: &mut [u8],
     bytes: &[u8],
@@ -39,12 +38,7 @@ pub(crate) fn write_lines<W: Write>(
 {
     let lines = bytes.len() / LINE;
     let size = LINE_TEXT * lines;
-    encode_lines(
-        encoder,
-        bytes,
-        &mut columns[..COLUMNS * lines],
-        &mut text[..size],
-    );
+    encode_lines(bytes, &mut columns[..COLUMNS * lines], &mut text[..size]);
     write_all(inner, &text[..size])
 }
 

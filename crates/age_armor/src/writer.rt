@@ -103,7 +103,6 @@ impl<W: Write> ArmoredWriter<W> {
         let count = LINE * (bytes.len() / LINE).min(LINES);
         write_lines(
             &mut self.inner,
-            &self.encoder,
             &mut self.columns,
             &mut self.text,
             &bytes[..count],
@@ -124,7 +123,6 @@ impl<W: Write> ArmoredWriter<W> {
         self.held.extend_from_slice(bytes)?;
         let sent = write_lines(
             &mut self.inner,
-            &self.encoder,
             &mut self.columns,
             &mut self.text,
             &self.held,

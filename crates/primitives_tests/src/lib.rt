@@ -3,6 +3,8 @@
 #![tactic(auto)]
 
 #[cfg(test)]
+mod base64_vectors_tests;
+#[cfg(test)]
 mod chacha20_block_tests;
 #[cfg(test)]
 mod chacha20_stream_tests;

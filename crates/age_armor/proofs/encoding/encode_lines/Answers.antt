@@ -3,7 +3,7 @@ use Rattle.std.proofs.lemmas.List.{take_all}
 use Rattle.age_base64.specs.Lines.{line}
 use Rattle.age_base64.specs.Base64.{padded_columns}
 use Rattle.age_v1.specs.ArmorFullLines.{full_lines}
-use Rattle.age_armor.proofs.Encoded.{another_line, columns_at, filled}
+use Rattle.age_armor.proofs.Encoded.{another_line, columns_at}
 use Rattle.age_armor.proofs.encoding.encode_lines.Goals as goal
 
 pub lines-init : goal.lines-init
@@ -14,8 +14,7 @@ pub lines-preserved : goal.lines-preserved
 lines-preserved c =
     let bytes = c.args.bytes.now in
     let n = c.lines.number in
-    let columns : c.encode-number-end.new.columns ≡ padded_columns bytes =
-    filled (padded_columns bytes) c.args.columns.now c.encode-number-end.new.columns c.encode-number-end.result c.encode-number-end.ensures.written (omega (arith, c.encode-number-end.ensures.count, c.requires.full, c.requires.room)) in
+    let columns : c.encode_full.new.columns ≡ padded_columns bytes = c.encode_full.ensures in
     let width : 64 * n + 64 - 64 * n ≡ 64 = omega arith in
     let whole : 48 * n + 48 ≤ length bytes = omega arith in
     let written = rw width at c.write_line.ensures in
