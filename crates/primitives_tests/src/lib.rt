@@ -1,5 +1,6 @@
 //! Tests of the primitives: the examples and test vectors of RFC 4231, 5869, 7748, 7914 and 8439, seals and keys from another program,
-//! edges and refusals.
+//! edges and refusals. Of `base64_vectors`, beside the kit's base64. Of `age_suite`: random bytes that are handed in, and what is shown for
+//! debugging.
 #![tactic(auto)]
 
 #[cfg(test)]
@@ -8,6 +9,10 @@ mod base64_vectors_tests;
 mod chacha20_block_tests;
 #[cfg(test)]
 mod chacha20_stream_tests;
+#[cfg(test)]
+mod debug_tests;
+#[cfg(test)]
+mod draw_tests;
 #[cfg(test)]
 mod fixtures;
 #[cfg(test)]

@@ -1,7 +1,6 @@
 //! Tests of what the programs stand on. Of `agebench`: what its command lines ask for, its commands and its suite (`age_bench`). Of `sazh`:
-//! random bytes that are handed in, and what is shown for debugging (`age_suite`); files that no code of the library made open under
-//! `age_standard`, through calls that are generic over suites; files of recipients and of a passphrase, the file of a new key, and grease
-//! (`sazh_core`); what its command lines ask for (`sazh_command`).
+//! files that no code of the library made open under `age_standard`, through calls that are generic over suites; files of recipients and
+//! of a passphrase, the file of a new key, and grease (`sazh_core`); what its command lines ask for (`sazh_command`).
 #![tactic(auto)]
 
 #[cfg(test)]
@@ -9,11 +8,7 @@ mod bench_suite_tests;
 #[cfg(test)]
 mod command_tests;
 #[cfg(test)]
-mod debug_tests;
-#[cfg(test)]
 mod done;
-#[cfg(test)]
-mod draw_tests;
 #[cfg(test)]
 mod file_tests;
 #[cfg(test)]
