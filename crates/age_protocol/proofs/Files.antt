@@ -74,7 +74,7 @@ carries_itself seal_of file_key stanzas plain bytes each f =
           first,
           f.sixteen.len,
         );
-        plain = λ rest is.
+        no_marker = λ rest is.
             let other : 97 ≡ 45 = ap (λ l. slice_index l 0) (sym whole ∙ is) in
             absurd (omega (arith, other));
         same = refl;
