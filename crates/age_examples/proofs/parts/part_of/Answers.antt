@@ -30,3 +30,6 @@ returns g c = λ told well never file plain carries for.
     (rw filled at c.truncate.ensures.items) ∙ read
     ∙ part_is c.args.place (length c.read_at.new.buf) c.args.count (place_of stream) start (content_of stream) plain
     (size ∙ c.in-Ok-room_for.ensures.length) stands.place stands.content leads
+
+pub returns-in-Err-room_for : goal.returns-in-Err-room_for
+returns-in-Err-room_for g c = λ told ends never file plain carries is_for. inl c.in-Err-room_for.ensures.memory
