@@ -105,6 +105,7 @@ pub use Rattle.age_stream.specs.Keeping as StreamKeeping
 pub use Rattle.age_stream.specs.Naming as StreamNaming
 pub use Rattle.age_stream.specs.Access as StreamAccess
 pub use Rattle.age_stream.specs.Reader as StreamReader
+pub use Rattle.age_stream.specs.NewReader as NewStreamReader
 pub use Rattle.age_stream.specs.ReadingLemmas as StreamReadingLemmas
 pub use Rattle.age_stream.specs.Sending as StreamSending
 pub use Rattle.age_stream.specs.Writing as StreamWriting

@@ -12,6 +12,7 @@ pub mod Failing
 pub mod Cursor
 pub mod Keeping
 pub mod Turns
+pub mod Whole
 pub mod Replies
 pub mod WritingLemmas
 pub mod ReadingLemmas

@@ -1,18 +1,16 @@
 //! A reader with a buffer.
-ghost use Rattle.std.specs.Prelude.{◌≡◌, ℕ, ◌+◌, ◌-◌, ◌^◌, ◌≤◌, ◌<◌, ◌&&◌, Bool, true, false, IsTrue, List, length, take, min, Ok, Err, Some, IfOk, IfErr, OnOk, OnErr, IsErrAnd, ◌≢◌};
-ghost use Rattle.std.specs.Io.BufRead.{Rests};
-ghost use types.Logic.{sem};
+ghost use Rattle.std.specs.Prelude.{◌≡◌, ◌+◌, ◌-◌, ◌≤◌, ◌<◌, ◌&&◌, true, false, IsTrue, length, take, min, Ok, Err, IfOk, IfErr, OnOk, OnErr, ◌≢◌};
 ghost use denote.Follow.{follows};
 ghost use Rattle.std.proofs.Common.{arith};
-ghost use Rattle.age_error.specs.Refusals.{IsDevice, IsInterruption};
+ghost use Rattle.age_error.specs.Refusals.{IsInterruption};
 ghost use Rattle.age_error.specs.declared.io.Error.{Error as Failure};
 ghost use Rattle.age_error.specs.declared.io.Error.TheVariants.{OutOfMemory};
 ghost use Rattle.age_io.specs.Stretch.{IsCleanEnd, IsFault, from_place};
 ghost use Rattle.age_io.specs.Reading.{Reads, IsQuiet, Delivers, TriedAgain, most_faults};
 ghost use Rattle.age_io.specs.Keeping.{KeepsReader, OrSeek};
 ghost use Rattle.age_io.specs.Failing.{FailsForGood};
-ghost use Rattle.age_io.specs.Filling.{IsFront, Fills, Consumes};
-ghost use Rattle.age_io.specs.Cursor.{Seeks, IsOutside, OrFailed, place_at};
+ghost use Rattle.age_io.specs.Filling.{Consumes};
+ghost use Rattle.age_io.specs.Cursor.{Seeks, IsOutside, OrFailed};
 ghost use Rattle.age_io.specs.CursorLemmas.{or_failed_no_device};
 ghost use Rattle.age_io.specs.Buffering.{held, rest_behind};
 ghost use Rattle.age_io.specs.BehindLemmas.{stands_behind, spent_behind};

@@ -1,10 +1,5 @@
 //! Copying what a reader still has to a writer.
-ghost use Rattle.std.specs.Prelude.{◌≡◌, ℕ, ◌<◌, ◌≤◌, ◌⊎◌, IsTrue, List, ◌++◌, length, take, OnOk, OnErr, IfErr, ⊤};
-ghost use Rattle.age_error.specs.Refusals.{IsDevice};
-ghost use Rattle.age_error.specs.declared.io.Error.TheVariants.{TooLong};
-ghost use Rattle.age_io.specs.Reading.{IsQuiet, GivesInAll, TriedAgain};
-ghost use Rattle.age_io.specs.Writing.{Narrows, NarrowsSome, Retried, OrMemory};
-ghost use Rattle.age_io.specs.Copying.{AppendsFront, CopiesFront, CopyRefuses, RefusesAll};
+ghost use Rattle.age_io.specs.Copying.{CopiesAll, CopiesSome};
 
 use crate::retry::read_retrying;
 use crate::traits::{Read, Write};
@@ -12,8 +7,8 @@ use crate::whole::{room_for, write_all};
 use age_error::io::Error;
 use std::alloc::Global;
 
-// How many bytes are read at once: several chunks, so that most are sealed straight from what was read.
-const ROOM: usize = 262_144;
+// How many bytes are read at once: a piece of a payload, which is then sealed straight from what was read.
+const ROOM: usize = 65_536;
 
 /// Appends to `writer` what `reader` still has, piece by piece, in memory of one piece. A success says that the
 /// input ended well and all of it was appended; the reader then stands at its end. After a refusal a beginning of it was
@@ -28,24 +23,7 @@ pub fn copy_all<R: Read, W: Write>(
     reader: &mut R,
     writer: &mut W,
 ) -> Result<(), Error>
-    ensures tells { W.tells writer.new ≡ W.tells writer.old }
-    ensures all { IsTrue (R.tells reader.old) → IsTrue (W.tells writer.old) → OnOk result
-        (IsTrue (R.rest reader.old).ends_well × W.appended writer.old (R.rest reader.old).bytes writer.new) }
-    ensures front { IsTrue (R.tells reader.old) → IsTrue (W.tells writer.old) →
-        AppendsFront W.appended (R.rest reader.old).bytes writer.old writer.new }
-    ensures stands { OnOk result (GivesInAll R.tells R.steady R.content R.place R.rest R.faults (TriedAgain R.refuses) reader.old reader.new (R.rest reader.old).bytes) }
-    ensures left { OnErr result (CopiesFront ⟦<R as Read>⟧ W.tells W.appended
-        (λ _. ⊤) reader.old reader.new writer.old writer.new) }
-    // Why it refuses, where the reader has no fault.
-    ensures device { IfErr result (λ e. IsDevice e →
-        (R.faults reader.old < R.faults reader.new) ⊎ (W.faults writer.old < W.faults writer.new)) }
-    ensures why { IsTrue (R.tells reader.old) → IsTrue (R.rest reader.old).ends_well → IsQuiet (R.faults reader.old) (R.faults reader.new) →
-        IfErr result (OrMemory (Retried W.refuses) writer.old (length (R.rest reader.old).bytes)) }
-    ensures named { IfErr result (λ e. CopyRefuses (TriedAgain R.refuses reader.old)
-        (RefusesAll W.refuses writer.old (IsTrue (R.tells reader.old)) (length (R.rest reader.old).bytes)) e
-        ⊎ ((e ≡ TooLong) × (IsTrue (R.tells reader.old) → ⊥))) }
-    ensures narrows { IsTrue (R.tells reader.old) →
-        OnOk result (Narrows (Retried W.refuses) writer.old (length (R.rest reader.old).bytes) writer.new) }
+    ensures { CopiesAll ⟦<R as Read>⟧ ⟦<W as Write>⟧ reader.old reader.new writer.old writer.new result }
 {
     let mut room = room_for(alloc, ROOM)?;
     for _piece in 0..u64::MAX {
@@ -72,23 +50,7 @@ pub fn copy_some<R: Read, W: Write>(
     writer: &mut W,
     count: u64,
 ) -> Result<(), Error>
-    ensures tells { W.tells writer.new ≡ W.tells writer.old }
-    ensures part { IsTrue (R.tells reader.old) → IsTrue (W.tells writer.old) → OnOk result
-        (W.appended writer.old (take count (R.rest reader.old).bytes) writer.new
-        × (length (R.rest reader.old).bytes < count → IsTrue (R.rest reader.old).ends_well)) }
-    ensures front { IsTrue (R.tells reader.old) → IsTrue (W.tells writer.old) →
-        AppendsFront W.appended (take count (R.rest reader.old).bytes) writer.old writer.new }
-    ensures stands { OnOk result (GivesInAll R.tells R.steady R.content R.place R.rest R.faults (TriedAgain R.refuses) reader.old reader.new
-        (take count (R.rest reader.old).bytes)) }
-    ensures left { OnErr result (CopiesFront ⟦<R as Read>⟧ W.tells W.appended
-        (λ given. length given ≤ count) reader.old reader.new writer.old writer.new) }
-    // Why it refuses, where the reader has no fault.
-    ensures device { IfErr result (λ e. IsDevice e →
-        (R.faults reader.old < R.faults reader.new) ⊎ (W.faults writer.old < W.faults writer.new)) }
-    ensures why { IsTrue (R.tells reader.old) → IsTrue (R.rest reader.old).ends_well → IsQuiet (R.faults reader.old) (R.faults reader.new) →
-        IfErr result (OrMemory (Retried W.refuses) writer.old count) }
-    ensures named { IfErr result (CopyRefuses (TriedAgain R.refuses reader.old) (Retried W.refuses writer.old count)) }
-    ensures narrows { OnOk result (NarrowsSome (Retried W.refuses) writer.old count writer.new) }
+    ensures { CopiesSome ⟦<R as Read>⟧ ⟦<W as Write>⟧ count reader.old reader.new writer.old writer.new result }
 {
     let mut piece = room_for(alloc, ROOM)?;
     let mut left = count;

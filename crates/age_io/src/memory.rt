@@ -1,10 +1,10 @@
 //! Readers and writers in memory.
-ghost use Rattle.std.specs.Prelude.{◌≡◌, ℕ, ◌+◌, ◌^◌, ◌≤◌, ◌<◌, true, false, List, ◌++◌, length, take, drop, min, Ok, IfOk, IfErr, IsOk, OnErr, vec_items, refl};
+ghost use Rattle.std.specs.Prelude.{◌≡◌, ◌+◌, ◌^◌, ◌≤◌, ◌<◌, true, ◌++◌, length, drop, min, Ok, IfOk, IfErr, IsOk, OnErr, refl};
 ghost use Rattle.std.proofs.Common.{inl, arith};
 ghost use Rattle.std.proofs.lemmas.Grind.{common_steps};
 ghost use Rattle.age_error.specs.Bytes.{AreBytes};
 ghost use Rattle.age_error.specs.declared.io.Error.TheVariants.{OutOfMemory};
-ghost use Rattle.age_io.specs.Stretch.{Stretch, whole, from_place};
+ghost use Rattle.age_io.specs.Stretch.{whole, from_place};
 ghost use Rattle.age_io.specs.Reading.{Reads};
 ghost use Rattle.age_io.specs.Cursor;
 ghost use Rattle.age_io.specs.Cursor.{Seeks};

@@ -1,6 +1,6 @@
 //! Lists of reads and seeks.
-ghost use Rattle.std.specs.Prelude.{◌≡◌, ◌≢◌, ℕ, ◌+◌, ◌-◌, ◌≤◌, ◌<◌, Bool, IsTrue, List, [], ◌∷◌, ◌++◌, length, take, drop, map, All, IfOk, vec_len};
-ghost use Rattle.age_io.specs.Stretch.{Stretch, from_place};
+ghost use Rattle.std.specs.Prelude.{◌≡◌, ◌-◌, ◌<◌, IsTrue, length, map, All, IfOk};
+ghost use Rattle.age_io.specs.Stretch.{from_place};
 ghost use Rattle.age_io.specs.Reading.{IsQuiet};
 ghost use Rattle.age_io.specs.Keeping.{SameReader};
 ghost use Rattle.age_io.specs.Replies.{seen, replies, Replied, place_after_all, IsNoWant, IsDeviceFault, CameOf, CameOfAll};

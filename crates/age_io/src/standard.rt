@@ -5,7 +5,7 @@ ghost use Rattle.std.specs.Io.Seek.{SeekMoves};
 ghost use Rattle.std.specs.Io.KnownBytes.{ReadConsumes, WriteAppends, Keeps};
 ghost use Rattle.std.proofs.Common.{arith, le_refl, refl};
 ghost use Rattle.age_error.specs.declared.io.Error.TheVariants.{Failed, Device, TooLong};
-ghost use Rattle.age_io.specs.Stretch.{Stretch, nothing};
+ghost use Rattle.age_io.specs.Stretch.{nothing};
 ghost use Rattle.age_io.specs.Reading.{Reads, most_faults};
 ghost use Rattle.age_io.specs.Cursor.{Seeks};
 ghost use Rattle.age_io.specs.CursorLemmas.{too_long_no_device};

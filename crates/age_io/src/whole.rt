@@ -1,11 +1,10 @@
 //! Reads and writes that go on until all is done.
-ghost use Rattle.std.specs.Prelude.{◌≡◌, ◌≢◌, ℕ, ◌+◌, ◌^◌, ◌≤◌, ◌<◌, ◌⊎◌, Bool, IsTrue, List, [], ◌++◌, length, take, vec_len, vec_capacity, All, false, IfOk, OnOk, IfErr, OnErr, Ok, Err};
-ghost use Rattle.age_error.specs.Refusals.{IsDevice, IsInterruption};
+ghost use Rattle.std.specs.Prelude.{◌≡◌, ◌≢◌, ◌+◌, ◌≤◌, ◌<◌, IsTrue, length, vec_len, vec_capacity, All, IfOk, OnOk, IfErr, OnErr, Ok, Err};
+ghost use Rattle.age_error.specs.Refusals.{IsInterruption};
 ghost use Rattle.age_error.specs.declared.io.Error.TheVariants.{OutOfMemory, UnexpectedEof};
-ghost use Rattle.age_io.specs.Stretch.{Stretch, IsCleanEnd, IsFault, from_place};
-ghost use Rattle.age_io.specs.Reading.{IsQuiet, Delivers, StaysOrFails, TookSome, IsShort, GrewByRead, EndsEarly, Gave, TriedAgain, most_faults};
+ghost use Rattle.age_io.specs.Reading.{IsQuiet, Delivers, TookSome, IsShort, most_faults};
 ghost use Rattle.age_io.specs.Keeping.{KeepsReader, OrEarly};
-ghost use Rattle.age_io.specs.Turns.{GivesTried, RefusesTried};
+ghost use Rattle.age_io.specs.Whole.{FillsBuffer, ReadsToEnd};
 ghost use Rattle.age_io.specs.Writing.{Retried, WritesAll};
 
 use crate::retry::{read_retrying, write_retrying};
@@ -22,21 +21,7 @@ use std::alloc::Global;
 /// succeeds none of them was refused, and where the buffer isn't full the last of them answered 0 (`turns`); where it
 /// refuses, the last of them, and no other, was refused with this error (`refused`).
 pub fn fill<R: Read>(reader: &mut R, buf: &mut [u8], filled: &mut usize) -> Result<(), Error>
-    ensures keeps { KeepsReader ⟦<R as Read>⟧ (TriedAgain R.refuses) reader.old reader.new result }
-    ensures unspent { 0 < length buf.old → OnOk result (R.faults reader.new < most_faults) }
-    ensures count { filled.new ≤ length buf.new }
-    ensures moves { IsTrue (R.tells reader.old) → R.place reader.new ≡ R.place reader.old + filled.new }
-    ensures bytes { IsTrue (R.tells reader.old) → OnOk result
-        (Delivers (take filled.new buf.new) (R.rest reader.old) (R.rest reader.new)) }
-    ensures end { IsTrue (R.tells reader.old) → OnOk result
-        (filled.new < length buf.new → IsCleanEnd (R.rest reader.new)) }
-    ensures err { IsTrue (R.tells reader.old) → OnErr result
-        (Gave (take filled.new buf.new) (R.rest reader.old) (R.rest reader.new)) }
-    ensures cause { IsTrue (R.tells reader.old) → IfErr result (λ e. e ≢ OutOfMemory →
-        IsQuiet (R.faults reader.old) (R.faults reader.new) → EndsEarly (length buf.new) (R.rest reader.old)) }
-    // Of every reader: which of its reads there were.
-    ensures turns { OnOk result (GivesTried ⟦<R as Read>⟧ (length buf.new) (take filled.new buf.new) reader.old reader.new) }
-    ensures refused { IfErr result (λ e. RefusesTried ⟦<R as Read>⟧ (length buf.new) (take filled.new buf.new) e reader.old reader.new) }
+    ensures { FillsBuffer ⟦<R as Read>⟧ reader.old reader.new buf.old buf.new filled.new result }
 {
     *filled = 0;
     'reads: while *filled < buf.len() {
@@ -105,19 +90,7 @@ pub fn read_to_end<R: Read>(
     reader: &mut R,
     buf: &mut Vec<u8>,
 ) -> Result<usize, Error>
-    ensures keeps { KeepsReader ⟦<R as Read>⟧ (λ r e. (e ≡ OutOfMemory) ⊎ TriedAgain R.refuses r e) reader.old reader.new result }
-    ensures unspent { OnOk result (R.faults reader.new < most_faults) }
-    ensures bytes { IsTrue (R.tells reader.old) → OnOk result
-        (buf.new.items ≡ buf.old.items ++ (R.rest reader.old).bytes) }
-    ensures count { IfOk result (λ n. vec_len buf.new ≡ vec_len buf.old + n) }
-    ensures moves { IsTrue (R.tells reader.old) →
-        R.place reader.new + vec_len buf.old ≡ R.place reader.old + vec_len buf.new }
-    ensures end { IsTrue (R.tells reader.old) → OnOk result (IsTrue (R.rest reader.old).ends_well) }
-    ensures left { IsTrue (R.tells reader.old) → OnOk result (IsCleanEnd (R.rest reader.new)) }
-    ensures err { IsTrue (R.tells reader.old) → OnErr result
-        (GrewByRead (R.rest reader.old) (R.rest reader.new) buf.old.items buf.new.items) }
-    ensures cause { IsTrue (R.tells reader.old) → IfErr result (λ e. e ≢ OutOfMemory →
-        IsQuiet (R.faults reader.old) (R.faults reader.new) → (R.rest reader.old).ends_well ≡ false) }
+    ensures { ReadsToEnd ⟦<R as Read>⟧ reader.old reader.new buf.old.items buf.new.items result }
 {
     let mut room = room_for(alloc, ROOM)?;
     let start = buf.len();

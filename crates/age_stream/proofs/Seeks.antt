@@ -51,13 +51,13 @@ module _ {S R : Type 0} {suite : SuiteGhosts S} {read : Ghosts R} where
 
   module _ (below : Error → Type 0) (old new : StreamReader S R suite read) (to : SeekFrom) where
     -- A seek that is refused with an error that doesn't say that the target is outside. It has failed at the same place.
-    pub seek-refused : (e : Error) → KeepsPayload {T = ℕ} read (IsPayloadSeekRefusal below) old.inner old.taken new.inner new.taken (Err e) → new.key ≡ old.key → new.failed ≡ true →
+    pub seek-refused : (e : Error) → below_start to (place_of old) ≡ false → KeepsPayload {T = ℕ} read (IsPayloadSeekRefusal below) old.inner old.taken new.inner new.taken (Err e) → new.key ≡ old.key → new.failed ≡ true →
         place_of new ≡ place_of old → (IsOutside e → ⊥) → old.opens ≤ new.opens → new.opens ≤ old.opens + 1 →
         (IsTrue (tells_of old) → (ToEnd old to → ⊥) → new.opens ≡ old.opens) → (IsTrue (tells_of old) → HoldsEnd old → new.opens ≡ old.opens) →
         (IsTrue (tells_of old) → IsTrue (payload_of old).ends_well → Quietly old new e (IsRefusedTarget suite.seal_of old.key (payload_of old).bytes to (place_of old) e)) →
         (IsTrue (tells_of old) → IsTrue (payload_of old).ends_well → IsTrue (content_of old).ends_well → Quietly old new e ⊥) →
         (IsTrue (tells_of old) → SaysWhySeek below old new to e) → SeeksPayload below old new to (Err e)
-    seek-refused e keeps key failed place other counts most end held bad cause says = record {
+    seek-refused e above keeps key failed place other counts most end held bad cause says = record {
       seeks = record {
         same_tells = (stream-kept old new keeps key).0;
         same_steady = (stream-kept old new keeps key).1;
@@ -78,34 +78,43 @@ module _ {S R : Type 0} {suite : SuiteGhosts S} {read : Ghosts R} where
         refused = λ _ _ r. absurd (other r);
         cause = λ told well memory quiet. absurd (cause told (inner-well suite.opened old.key (payload_of old) well) well memory quiet);
       };
-      patient = keeps.inner.patient;
-      payload = keeps.payload;
-      key = key;
-      order = λ _. tt;
-      refused = λ _ r. absurd (other r);
-      ends = λ _. tt;
-      bad = bad;
-      says = says;
-      inner_end = λ _. tt;
-      inner_place = λ _ r. absurd (other r);
-      inner_rest = λ _ _ r. absurd (other r);
-      clears = tt;
-      unmoved = λ r. absurd (other r);
-      fails = λ _. failed;
-      judges = λ _. tt;
-      counts = counts;
-      opens = most;
-      end = end;
-      held = held;
-      keeps = λ _. tt;
-      unmoved_chunks = λ r. absurd (other r);
-      same_last = λ _. tt;
-      keeps_last = tt;
-      holds_end = λ _. tt;
-      uses_end = λ _. tt;
-      none = λ _ _. tt;
-      unheld = λ _ _. tt;
-      finds = λ _. tt;
+      target = record {
+        patient = keeps.inner.patient;
+        first = λ is. absurd (true≢false (sym is ∙ above));
+        order = λ _. tt;
+        refused = λ _ r. absurd (other r);
+        ends = λ _. tt;
+        bad = bad;
+        says = says;
+      };
+      leaves = record {
+        payload = keeps.payload;
+        key = key;
+        inner_end = λ _. tt;
+        inner_place = λ _ r. absurd (other r);
+        inner_rest = λ _ _ r. absurd (other r);
+        clears = tt;
+        unmoved = λ r. absurd (other r);
+        fails = λ _. failed;
+        judges = λ _. tt;
+      };
+      opens = record {
+        counts = counts;
+        most = most;
+        end = end;
+        held = held;
+      };
+      chunks = record {
+        keeps = λ _. tt;
+        unmoved_chunks = λ r. absurd (other r);
+        same_last = λ _. tt;
+        keeps_last = tt;
+        holds_end = λ _. tt;
+        uses_end = λ _. tt;
+        none = λ _ _. tt;
+        unheld = λ _ _. tt;
+        finds = λ _. tt;
+      };
     }
 
     -- A seek that leads to a place is that of any seeker.
@@ -189,43 +198,52 @@ module _ {S R : Type 0} {suite : SuiteGhosts S} {read : Ghosts R} where
                 enters.rest (later told) ∙ ap (from_place new.taken) (sym (done.payload (later told))),
                 omega (arith, enters.more shut, found told, ap (λ p. length p.bytes) ((keeps-both {z = target}).payload told)),
               )));
-          patient = tt;
-          payload = (keeps-both {z = target}).payload;
-          key = key;
-          order = λ told. rw above (found-there told find.ok);
-          refused = λ _. tt;
-          ends = λ told end. absurd (before_end told end);
-          bad = λ _ _. tt;
-          says = λ _. tt;
-          inner_end = λ told. ap (λ s. s.ends_well) (enters.rest (later told)) ∙ ap (λ p. p.ends_well) (look.payload told);
-          inner_place = λ _. tt;
-          inner_rest = λ _ _. tt;
-          clears = λ failed. true≢false (sym failed ∙ enters.good);
-          unmoved = tt;
-          fails = tt;
-          judges = λ told other. enters.before;
-          counts = omega (arith, opens);
-          opens = omega (arith, opens);
-          end = λ _ _. opens;
-          held = λ _ _. opens;
-          keeps = λ told other b was. (enters.good, enters.has was.0 b (has b was.1));
-          unmoved_chunks = tt;
-          same_last = λ told other b is.
-              let used = used-good old.failed (last_used old.cache) b is in
-              rw enters.good (enters.same_last used.0 ∙ ap last_used stays.cache ∙ used.1);
-          keeps_last = λ b is.
-              let used = used-good old.failed (last_used old.cache) b is in
-              (enters.good, enters.has used.0 b (has b (used-there old.cache b used.1)));
-          holds_end = λ told end. absurd (before_end told end);
-          uses_end = λ told end. absurd (before_end told end);
-          none = λ told failed b was. absurd ((enters.none failed).1 b was.1);
-          unheld = λ told failed other holding.
-              let none = enters.none failed in
-              elim holding.1 [
-                | inl held ↦ absurd (true≢false (sym held.0 ∙ none.0))
-                | inr next ↦ absurd (none.1 _ (inr next.1))
-              ];
-          finds = λ told other was. (enters.good, inl (enters.finds (later told) was.0 (has (target / 65536) was.1)));
+          target = record {
+            patient = tt;
+            first = λ is. absurd (true≢false (sym is ∙ above));
+            order = λ told. rw above (found-there told find.ok);
+            refused = λ _. tt;
+            ends = λ told end. absurd (before_end told end);
+            bad = λ _ _. tt;
+            says = λ _. tt;
+          };
+          leaves = record {
+            payload = (keeps-both {z = target}).payload;
+            key = key;
+            inner_end = λ told. ap (λ s. s.ends_well) (enters.rest (later told)) ∙ ap (λ p. p.ends_well) (look.payload told);
+            inner_place = λ _. tt;
+            inner_rest = λ _ _. tt;
+            clears = λ failed. true≢false (sym failed ∙ enters.good);
+            unmoved = tt;
+            fails = tt;
+            judges = λ told other. enters.before;
+          };
+          opens = record {
+            counts = omega (arith, opens);
+            most = omega (arith, opens);
+            end = λ _ _. opens;
+            held = λ _ _. opens;
+          };
+          chunks = record {
+            keeps = λ told other b was. (enters.good, enters.has was.0 b (has b was.1));
+            unmoved_chunks = tt;
+            same_last = λ told other b is.
+                let used = used-good old.failed (last_used old.cache) b is in
+                rw enters.good (enters.same_last used.0 ∙ ap last_used stays.cache ∙ used.1);
+            keeps_last = λ b is.
+                let used = used-good old.failed (last_used old.cache) b is in
+                (enters.good, enters.has used.0 b (has b (used-there old.cache b used.1)));
+            holds_end = λ told end. absurd (before_end told end);
+            uses_end = λ told end. absurd (before_end told end);
+            none = λ told failed b was. absurd ((enters.none failed).1 b was.1);
+            unheld = λ told failed other holding.
+                let none = enters.none failed in
+                elim holding.1 [
+                  | inl held ↦ absurd (true≢false (sym held.0 ∙ none.0))
+                  | inr next ↦ absurd (none.1 _ (inr next.1))
+                ];
+            finds = λ told other was. (enters.good, inl (enters.finds (later told) was.0 (has (target / 65536) was.1)));
+          };
         }
 
     -- the target is the end
@@ -244,47 +262,56 @@ module _ {S R : Type 0} {suite : SuiteGhosts S} {read : Ghosts R} where
               (λ _. in_length-leads (plain_len size) to (place_of old) _ find.ok)
               (λ told. arrived below old new to target cipher are keeps-both key enters.good.0 told (arrives told) (found-there told find.ok)
               (λ shut. absurd (true≢false (sym enters.good.1 ∙ shut))));
-          patient = tt;
-          payload = (keeps-both {z = target}).payload;
-          key = key;
-          order = λ told. rw above (found-there told find.ok);
-          refused = λ _. tt;
-          ends = λ told end.
-              let held = (new.sound (told-later read old.inner new.inner (keeps-both {z = target}).inner.same told)).is_held enters.good.1 in
-              let opens = subst (λ p. suite.opened new.key (chunk_nonce new.number new.cache.last) (text_at new.number p) ≡ Some new.cache.chunk.items) ((keeps-both {z = target}).payload told) held.opens in
-              ends_last suite.seal_of suite.opened cipher old.key old.key_bytes payload.bytes (payload-bytes told) new.number new.cache.chunk.items (enters.good.3 ∙ ap final_chunk (found told))
-              (subst (λ k. suite.opened k (chunk_nonce new.number true) (text_at new.number payload) ≡ Some new.cache.chunk.items) key
-              (subst (λ b. suite.opened new.key (chunk_nonce new.number b) (text_at new.number payload) ≡ Some new.cache.chunk.items) enters.good.2 opens));
-          bad = λ _ _. tt;
-          says = λ _. tt;
-          inner_end = λ told. enters.inner_end (later told) ∙ ap (λ p. p.ends_well) (look.payload told);
-          inner_place = λ _. tt;
-          inner_rest = λ _ _. tt;
-          clears = λ failed. true≢false (sym failed ∙ enters.good.0);
-          unmoved = tt;
-          fails = tt;
-          judges = λ told other. absurd (other (at_end told));
-          counts = omega (arith, counts, stays.opens);
-          opens = omega (arith, most, stays.opens);
-          end = λ told other. absurd (other (at_end told));
-          held = λ told was. none was.0 (had told was) ∙ stays.opens;
-          keeps = λ told was b has.
-              let held = was (at_end told) in
-              (enters.good.0, chunks.has held.0 (had told held) b (subst (λ k. HasOne k b) (sym stays.cache) has.1));
-          unmoved_chunks = tt;
-          same_last = λ told other. absurd (other (at_end told));
-          keeps_last = λ b is.
-              let used = used-good old.failed (last_used old.cache) b is in
-              (enters.good.0, chunks.keeps_last used.0 b (ap last_used stays.cache ∙ used.1));
-          holds_end = λ told end.
-              (enters.good.0, inl (enters.good.1, enters.good.2, enters.good.3 ∙ ap final_chunk (found told ∙ sym (ap (λ p. length p.bytes) ((keeps-both {z = target}).payload told)))));
-          uses_end = λ told end apart.
-              let whole = (plain_len_says size len find.plain).whole in
-              let judged = true_from_ne_false new.cache.judged (λ none. apart (omega (arith, ((new.chunk enters.good.1).unjudged none).end, enters.arrives (later told), enters.good.3, whole, found told))) in
-              rw enters.good.0 (chunks.uses judged ∙ ap (λ n. Some (final_chunk n)) (found told));
-          none = λ told failed b was. (at_end told, chunks.alone failed b was.1 ∙ ap final_chunk (found told));
-          unheld = λ told failed other. absurd (other (at_end told));
-          finds = λ told other. absurd (other (at_end told));
+          target = record {
+            patient = tt;
+            first = λ is. absurd (true≢false (sym is ∙ above));
+            order = λ told. rw above (found-there told find.ok);
+            refused = λ _. tt;
+            ends = λ told end.
+                let held = (new.sound (told-later read old.inner new.inner (keeps-both {z = target}).inner.same told)).is_held enters.good.1 in
+                let opens = subst (λ p. suite.opened new.key (chunk_nonce new.number new.cache.last) (text_at new.number p) ≡ Some new.cache.chunk.items) ((keeps-both {z = target}).payload told) held.opens in
+                ends_last suite.seal_of suite.opened cipher old.key old.key_bytes payload.bytes (payload-bytes told) new.number new.cache.chunk.items (enters.good.3 ∙ ap final_chunk (found told))
+                (subst (λ k. suite.opened k (chunk_nonce new.number true) (text_at new.number payload) ≡ Some new.cache.chunk.items) key
+                (subst (λ b. suite.opened new.key (chunk_nonce new.number b) (text_at new.number payload) ≡ Some new.cache.chunk.items) enters.good.2 opens));
+            bad = λ _ _. tt;
+            says = λ _. tt;
+          };
+          leaves = record {
+            payload = (keeps-both {z = target}).payload;
+            key = key;
+            inner_end = λ told. enters.inner_end (later told) ∙ ap (λ p. p.ends_well) (look.payload told);
+            inner_place = λ _. tt;
+            inner_rest = λ _ _. tt;
+            clears = λ failed. true≢false (sym failed ∙ enters.good.0);
+            unmoved = tt;
+            fails = tt;
+            judges = λ told other. absurd (other (at_end told));
+          };
+          opens = record {
+            counts = omega (arith, counts, stays.opens);
+            most = omega (arith, most, stays.opens);
+            end = λ told other. absurd (other (at_end told));
+            held = λ told was. none was.0 (had told was) ∙ stays.opens;
+          };
+          chunks = record {
+            keeps = λ told was b has.
+                let held = was (at_end told) in
+                (enters.good.0, chunks.has held.0 (had told held) b (subst (λ k. HasOne k b) (sym stays.cache) has.1));
+            unmoved_chunks = tt;
+            same_last = λ told other. absurd (other (at_end told));
+            keeps_last = λ b is.
+                let used = used-good old.failed (last_used old.cache) b is in
+                (enters.good.0, chunks.keeps_last used.0 b (ap last_used stays.cache ∙ used.1));
+            holds_end = λ told end.
+                (enters.good.0, inl (enters.good.1, enters.good.2, enters.good.3 ∙ ap final_chunk (found told ∙ sym (ap (λ p. length p.bytes) ((keeps-both {z = target}).payload told)))));
+            uses_end = λ told end apart.
+                let whole = (plain_len_says size len find.plain).whole in
+                let judged = true_from_ne_false new.cache.judged (λ none. apart (omega (arith, ((new.chunk enters.good.1).unjudged none).end, enters.arrives (later told), enters.good.3, whole, found told))) in
+                rw enters.good.0 (chunks.uses judged ∙ ap (λ n. Some (final_chunk n)) (found told));
+            none = λ told failed b was. (at_end told, chunks.alone failed b was.1 ∙ ap final_chunk (found told));
+            unheld = λ told failed other. absurd (other (at_end told));
+            finds = λ told other. absurd (other (at_end told));
+          };
         }
 
     -- the target is outside, and the inner reader was put back
@@ -330,35 +357,44 @@ module _ {S R : Type 0} {suite : SuiteGhosts S} {read : Ghosts R} where
                 err-well suite.opened old.key (shorter suite.seal_of suite.opened cipher old.key old.key_bytes) payload (payload-bytes told) well to (place_of old) e (found-there told find.err);
             cause = λ _ _ _ _. refusal;
           };
-          patient = λ i. not-both e refusal i;
-          payload = (keeps-both {V = ℕ} {z = 0}).payload;
-          key = key;
-          order = λ _. tt;
-          refused = λ told _. rw above (found-there told find.err);
-          ends = λ _. tt;
-          bad = λ told well memory quiet. inl (rw above (found-there told find.err));
-          says = λ told. inl (inl (rw above (found-there told find.err)));
-          inner_end = λ _. tt;
-          inner_place = λ told _. inner_place told;
-          inner_rest = λ told asked _.
-              let from = read.place old.inner - old.taken in
-              let there : from + old.taken ≡ read.place old.inner = omega (arith, (old.sound told).fits) in
-              back told ∙ sym (payload-place (read.content old.inner) from (read.place old.inner) old.taken refl old.taken) ∙ ap (λ n. from_place n (read.content old.inner)) there;
-          clears = tt;
-          unmoved = λ _. (λ is. sym same_failed ∙ is, λ is. same_failed ∙ is, place, λ is. rw (number, at, held, cache, same_failed) is, λ is. rw (held, cache, at) is, rw (held, cache) refl, opens);
-          fails = λ other. absurd (other refusal);
-          judges = λ _. tt;
-          counts = omega (arith, opens);
-          opens = omega (arith, opens);
-          end = λ _ _. opens;
-          held = λ _ _. opens;
-          keeps = λ _. tt;
-          unmoved_chunks = λ _. (rw (same_failed, cache) refl, λ b has. (same_failed ∙ has.0, subst (λ k. HasOne k b) (sym cache) has.1));
-          same_last = λ _. tt;
-          keeps_last = tt;
-          holds_end = λ _. tt;
-          uses_end = λ _. tt;
-          none = λ _ _. tt;
-          unheld = λ _ _. tt;
-          finds = λ _. tt;
+          target = record {
+            patient = λ i. not-both e refusal i;
+            first = λ is. absurd (true≢false (sym is ∙ above));
+            order = λ _. tt;
+            refused = λ told _. rw above (found-there told find.err);
+            ends = λ _. tt;
+            bad = λ told well memory quiet. inl (rw above (found-there told find.err));
+            says = λ told. inl (inl (rw above (found-there told find.err)));
+          };
+          leaves = record {
+            payload = (keeps-both {V = ℕ} {z = 0}).payload;
+            key = key;
+            inner_end = λ _. tt;
+            inner_place = λ told _. inner_place told;
+            inner_rest = λ told asked _.
+                let from = read.place old.inner - old.taken in
+                let there : from + old.taken ≡ read.place old.inner = omega (arith, (old.sound told).fits) in
+                back told ∙ sym (payload-place (read.content old.inner) from (read.place old.inner) old.taken refl old.taken) ∙ ap (λ n. from_place n (read.content old.inner)) there;
+            clears = tt;
+            unmoved = λ _. (λ is. sym same_failed ∙ is, λ is. same_failed ∙ is, place, λ is. rw (number, at, held, cache, same_failed) is, λ is. rw (held, cache, at) is, rw (held, cache) refl, opens);
+            fails = λ other. absurd (other refusal);
+            judges = λ _. tt;
+          };
+          opens = record {
+            counts = omega (arith, opens);
+            most = omega (arith, opens);
+            end = λ _ _. opens;
+            held = λ _ _. opens;
+          };
+          chunks = record {
+            keeps = λ _. tt;
+            unmoved_chunks = λ _. (rw (same_failed, cache) refl, λ b has. (same_failed ∙ has.0, subst (λ k. HasOne k b) (sym cache) has.1));
+            same_last = λ _. tt;
+            keeps_last = tt;
+            holds_end = λ _. tt;
+            uses_end = λ _. tt;
+            none = λ _ _. tt;
+            unheld = λ _ _. tt;
+            finds = λ _. tt;
+          };
         }

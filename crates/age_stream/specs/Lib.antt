@@ -3,6 +3,7 @@ pub mod Wholeness
 pub mod Cache
 pub mod Keeping
 pub mod Reader
+pub mod NewReader
 pub mod Naming
 pub mod Sending
 pub mod Writing

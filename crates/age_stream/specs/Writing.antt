@@ -1,8 +1,9 @@
 -- What a `StreamWriter` has taken, and what it sent to its inner writer.
-use Rattle.std.specs.Prelude.{◌≡◌, ℕ, zero, suc, ◌+◌, ◌*◌, ◌^◌, ◌≤◌, ◌<◌, ◌⊎◌, true, false, List, [], ◌++◌, length, take, drop, vec_len, Result, IfOk, OnOk, codes}
+use Rattle.std.specs.Prelude.{◌≡◌, ℕ, zero, suc, ◌+◌, ◌*◌, ◌^◌, ◌≤◌, ◌<◌, ◌⊎◌, true, false, List, [], ◌++◌, length, take, drop, vec_len, Result, IfOk, IsOk, OnErr, OnOk, Err, codes}
 use Rattle.std.specs.Fmt.{decimal}
 use Rattle.age_error.specs.declared.io.Error.{Error}
 use Rattle.age_error.specs.declared.io.Error.TheVariants.{Failed, TooLong}
+use Rattle.age_io.specs.declared.traits.Write.{Ghosts as WriteGhosts}
 use Rattle.age_io.specs.Copying.{AppendsFront}
 use Rattle.age_stream.specs.Sending.{RefusesChunk}
 use Rattle.age_v1.specs.Payload.{Seal, chunk_nonce, last_piece, middle_seals, payload}
@@ -64,6 +65,26 @@ pub record TakesSome {S W : Type 0} (before : StreamWriter S W) (given taken : �
 abbrev pub Refused : {S W : Type 0} → (W → ℕ → Error → Type 0) → StreamWriter S W → ℕ → Error → Type 0
 Refused refuses writer n e = ((writer.failed ≡ true) × (e ≡ Failed))
     ⊎ ((writer.failed ≡ false) × (((e ≡ TooLong) × (2 ^ 60 < taken_len writer + n)) ⊎ RefusesChunk refuses writer.inner e))
+
+-- What a write took: all bytes. One that finds room in the chunk that is held is never refused, and sends nothing.
+pub record TakesAll {S W : Type 0} (old new : StreamWriter S W) (bytes : List ℕ) (result : Result ℕ Error) : Type 0 where
+  pub all : IfOk result (λ n. n ≡ length bytes)
+  pub counts : OnOk result (taken_len new ≡ taken_len old + length bytes)
+  pub good : OnOk result (IsGood old × IsGood new)
+  pub finds_room : IsGood old → held_len old + length bytes ≤ 65536 → taken_len old + length bytes ≤ 2 ^ 60 →
+      IsOk result × (held_len new ≡ held_len old + length bytes) × (inner_of new ≡ inner_of old)
+
+-- What a refused write leaves: past the limit all is as it was, and so it is where the writer had failed; any other refusal fails it.
+pub record FailsWriting {S W : Type 0} (old new : StreamWriter S W) (bytes : List ℕ) (result : Result ℕ Error) : Type 0 where
+  pub past_limit : IsGood old → 2 ^ 60 < taken_len old + length bytes → (result ≡ Err TooLong) × (new ≡ old)
+  pub fails : taken_len old + length bytes ≤ 2 ^ 60 → OnErr result (IsFailed new)
+  pub failed : IsFailed old → (result ≡ Err Failed) × (new ≡ old)
+
+-- the inner writer of one that was finished, as it is handed back
+pub record HandsBack {S W : Type 0} (write : WriteGhosts W) (old : StreamWriter S W) (inner : W) : Type 0 where
+  pub same_tells : write.tells inner ≡ write.tells (inner_of old)
+  pub no_fewer_faults : write.faults (inner_of old) ≤ write.faults inner
+  pub narrows : (e : Error) → RefusesChunk write.refuses inner e → RefusesChunk write.refuses (inner_of old) e
 
 module _ {S W : Type 0} (seal_of : Seal) (inner_appended : W → List ℕ → W → Type 0) where
   -- the writer took these bytes: of what it held and these, the first pieces went out as middle chunks, and it holds the rest

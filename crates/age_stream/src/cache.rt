@@ -1,8 +1,7 @@
 //! The chunks that a reader has opened: at most two, the one that it used last and another.
-ghost use Rattle.std.specs.Prelude.{◌≡◌, ◌≢◌, ℕ, ◌+◌, ◌≤◌, ◌<◌, ◌^◌, ◌⊎◌, Option, Some, None, IsSome, true, false, IsTrue, List, length, IfErr, OnOk, Ok, Err};
+ghost use Rattle.std.specs.Prelude.{◌≡◌, ℕ, ◌≤◌, ◌<◌, ◌⊎◌, Option, Some, None, IsSome, true, false, IsTrue, List, length, IfErr, OnOk, Ok, Err};
 ghost use Rattle.age_error.specs.declared.io.Error.TheVariants.{OutOfMemory};
 ghost use Rattle.age_io.specs.Stretch.{Stretch};
-ghost use Rattle.age_suite.specs.Suite.{one_more};
 ghost use Rattle.age_v1.specs.DeliveredPayload.{chunk_of};
 ghost use Rattle.age_stream.specs.PrivateKeeping.{IsChunkRefusal};
 ghost use Rattle.age_stream.specs.Reading.{IsHeld};

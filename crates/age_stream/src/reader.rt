@@ -1,21 +1,19 @@
 //! Reading a payload.
-ghost use Rattle.std.specs.Prelude.{◌≡◌, ◌≢◌, ℕ, ◌+◌, ◌-◌, ◌*◌, ◌/◌, ◌^◌, ◌<◌, ◌≤◌, ◌⊎◌, ◌&&◌, Option, Some, None, option_map, vec_items, IfSome, Bool, true, false, IsTrue, min, List, [], ◌++◌, length, take, drop, MatchResult, IfOk, IfErr, OnOk, OnErr, Ok, Err};
-ghost use Rattle.std.proofs.Common.{arith, refl};
-ghost use Rattle.age_error.specs.Bytes.{AreBytes, AreBytesOf};
-ghost use Rattle.age_error.specs.Refusals.{IsDevice, IsInterruption};
-ghost use Rattle.age_error.specs.declared.io.Error.{Error as Failure};
+ghost use Rattle.std.specs.Prelude.{◌≡◌, ◌+◌, ◌-◌, ◌/◌, ◌^◌, ◌<◌, ◌≤◌, ◌⊎◌, ◌&&◌, Option, Some, None, option_map, vec_items, IfSome, true, false, IsTrue, min, length, take, drop, MatchResult, IfOk, IfErr, OnOk, Ok, Err};
+ghost use Rattle.std.proofs.Common.{arith};
+ghost use Rattle.age_error.specs.Bytes.{AreBytesOf};
 ghost use Rattle.age_error.specs.declared.io.Error.TheVariants.{OutOfMemory, Failed, AfterLast};
-ghost use Rattle.age_io.specs.Stretch.{Stretch, nothing, whole, from_place, IsCleanEnd, IsFault};
-ghost use Rattle.age_io.specs.Reading.{Reads, IsQuiet, Delivers, EndsEarly, most_faults};
-ghost use Rattle.age_v1.specs.Payload.{chunk_nonce, payload, LastIsNoMiddle};
-ghost use Rattle.age_v1.specs.PayloadAnswers.{Gives, RefusesRead, RefusesItself, IsPayloadEnd, IsGoodEnd};
-ghost use Rattle.age_v1.specs.DeliveredPayload.{allowed, chunk_of, payload_delivers};
-ghost use Rattle.age_stream.specs.Keeping.{OwnOrInner, Stops, IsReadRefusal};
+ghost use Rattle.age_io.specs.Stretch.{nothing, whole};
+ghost use Rattle.age_io.specs.Reading.{Reads, Delivers, most_faults};
+ghost use Rattle.age_v1.specs.Payload.{chunk_nonce, payload};
+ghost use Rattle.age_v1.specs.PayloadAnswers.{Gives};
+ghost use Rattle.age_v1.specs.DeliveredPayload.{allowed, chunk_of};
+ghost use Rattle.age_stream.specs.Keeping.{OwnOrInner, IsReadRefusal};
 ghost use Rattle.age_stream.specs.PrivateKeeping.{IsChunkRefusal, KeepsPayload};
-ghost use Rattle.age_stream.specs.Reading.{payload_at, spare, IsSound, TookText};
-ghost use Rattle.age_stream.specs.Cache.{has_number, last_used, HasOne};
+ghost use Rattle.age_stream.specs.Reading.{payload_at, spare, IsSound};
+ghost use Rattle.age_stream.specs.Cache.{last_used};
 ghost use Rattle.age_stream.specs.PrivateCache.{IsAtChunk, IsKept};
-ghost use Rattle.age_stream.specs.PrivateWholeness.{IsAllowedAt, IsOpening, IsUnjudged, OpensTwice};
+ghost use Rattle.age_stream.specs.PrivateWholeness.{IsAllowedAt, IsOpening, OpensTwice};
 ghost use Rattle.age_suite.specs.Suite.{one_more};
 ghost use Rattle.age_stream.specs.ReadingLemmas.{and-left, and-right, both-true, stream_stands, stream_spent};
 ghost use Rattle.age_v1.proofs.OpenedTexts.{shorter, opens_bytes};
@@ -70,9 +68,8 @@ pub struct StreamReader<S: Suite, R: Read> {
 }
 
 impl<S: Suite, R: Read> Read for StreamReader<S, R> {
-    ghost use Rattle.age_stream.specs.Reader.{payload_of, key_of, inner_rest_of, wanted_of, HasChunk, HasFailed, HasSought, IsHolding, IsAfterLast, last_used_of, opens_of, tells_of, steady_of, content_of, place_of, plain_rest_of, faults_of, refuses_of, inner_of};
-    ghost use Rattle.age_stream.specs.Naming.{SaysWhy};
-    ghost use Rattle.age_stream.specs.Sealed.{ReadsPayload};
+    ghost use Rattle.age_stream.specs.Reader.{tells_of, steady_of, content_of, place_of, plain_rest_of, faults_of, refuses_of};
+    ghost use Rattle.age_stream.specs.Sealed.{ReadsPayload, GivesPlaintext, RefusesPayload, LeavesPayload, OpensTwiceAtMost, KeepsRead};
 
     ghost tells = { tells_of };
 
@@ -118,9 +115,9 @@ impl<S: Suite, R: Read> Read for StreamReader<S, R> {
     ///
     /// An empty buffer changes nothing, and the answer is 0. Else 0 is the end: the place is the plaintext's length, as
     /// the payload's own length gives it, and the last chunk is one. Where no seek was made, the payload was then that of
-    /// exactly the plaintext. Where no byte is held the chunk at the place is read and, unless it is one of the two that are
+    /// exactly the plaintext (`gives`). Where no byte is held the chunk at the place is read and, unless it is one of the two that are
     /// kept, opened, a full one as a middle chunk and then as the last, a shorter one, after which the inner reader ends
-    /// well, only as the last. So a read opens a chunk at most twice. It seeks nothing. A refusal is
+    /// well, only as the last. So a read opens a chunk at most twice (`opens`). It seeks nothing. A refusal is (`refuses`)
     ///
     /// - `Truncated`: no byte is left, and no chunk was the last; or fewer than a seek found, which an inner reader that
     ///   tells its bytes never has.
@@ -130,71 +127,22 @@ impl<S: Suite, R: Read> Read for StreamReader<S, R> {
     /// - `AfterLast`: bytes follow a chunk that opened as the last, and that reads came through to its end since the last
     ///   seek that succeeded. Right after a seek the chunk at the place is judged by itself.
     /// - that of the inner reader, where it refuses before a chunk is whole, or in place of its end after the last
-    ///   chunk, and by the name that it has there: any other comes only where no read of it was refused (`says`). Its
+    ///   chunk, and by the name that it has there: any other comes only where no read of it was refused. Its
     ///   interruptions are retried as by `fill`.
     /// - `OutOfMemory`: the suite was refused memory for the plaintext of a chunk. Nothing is said of the payload.
     /// - `Failed`: it refused before.
     ///
-    /// After a refusal the reader has failed, and stays so until a seek succeeds. The place and `buf` are as they were.
+    /// After a refusal the reader has failed, and stays so until a seek succeeds. The place and `buf` are as they were (`leaves`).
+    /// Of the opened chunks it has the one that it reads, and the one that was used last before (`chunks`).
     #[tactic(auto, using(crate::proofs::Holding::rest_failed, crate::proofs::Holding::fault_failed))]
     fn read(&mut self, buf: &mut [u8]) -> Result<usize, Error>
         ensures reads { let reader = ⟦<StreamReader<S, R> as Read>⟧ in
             Reads reader.tells reader.steady reader.content reader.place reader.rest reader.faults reader.refuses self.old self.new buf.new result }
-        ensures patient { IfErr result (λ e. IsInterruption e → ⊥) }
-        ensures payload { IsTrue (⟦<StreamReader<S, R> as Read>⟧.tells self.old) → payload_of self.new ≡ payload_of self.old }
-        ensures key { key_of self.new ≡ key_of self.old }
-
-        // What it gives, which refusal it is, and what the payload was where it finds the end. Only a reader that came
-        // through a chunk that it holds as the last looks at the bytes after it: right after a seek the chunk at the place
-        // is judged by itself.
-        ensures gives { let reader = ⟦<StreamReader<S, R> as Read>⟧ in IsTrue (reader.tells self.old) → IfOk result (λ n. 0 < n →
-            Gives S.seal_of (key_of self.old) (payload_of self.old) (reader.place self.old) (length buf.old) (take n buf.new)) }
-        ensures refused { let reader = ⟦<StreamReader<S, R> as Read>⟧ in IsTrue (reader.tells self.old) → (HasFailed self.old → ⊥) →
-            IfErr result (λ e. e ≢ OutOfMemory → IsQuiet (reader.faults self.old) (reader.faults self.new) →
-            RefusesRead S.seal_of (key_of self.old) (payload_of self.old) (inner_rest_of self.old) (wanted_of self.old) (reader.place self.old) e) }
-        ensures by_itself { let reader = ⟦<StreamReader<S, R> as Read>⟧ in IsTrue (reader.tells self.old) → (HasFailed self.old → ⊥) → (IsAfterLast self.old → ⊥) →
-            IfErr result (λ e. e ≢ OutOfMemory → IsQuiet (reader.faults self.old) (reader.faults self.new) →
-            RefusesItself S.seal_of (key_of self.old) (payload_of self.old) (inner_rest_of self.old) (wanted_of self.old) (reader.place self.old) e) }
-        // Bytes after the last chunk are never judged as a chunk.
-        ensures after_last { let reader = ⟦<StreamReader<S, R> as Read>⟧ in IsTrue (reader.tells self.old) → (HasFailed self.old → ⊥) → IsAfterLast self.old →
-            IfErr result (λ e. e ≢ OutOfMemory → IsQuiet (reader.faults self.old) (reader.faults self.new) →
-            EndsEarly 1 (inner_rest_of self.old) ⊎ (e ≡ AfterLast)) }
-        ensures finished { let reader = ⟦<StreamReader<S, R> as Read>⟧ in IsTrue (reader.tells self.old) → (HasSought self.old → IsTrue (reader.content self.old).ends_well) →
-            IfOk result (λ n. n ≡ 0 → 0 < length buf.new →
-            IsPayloadEnd S.seal_of (key_of self.old) (payload_of self.old) (reader.place self.old) (reader.content self.old).bytes) }
-        ensures ended { let reader = ⟦<StreamReader<S, R> as Read>⟧ in IsTrue (reader.tells self.old) → IfOk result (λ n. n ≡ 0 → 0 < length buf.new →
-            IsGoodEnd S.seal_of (key_of self.old) (payload_of self.old) (reader.place self.old)) }
-
-        // That the end is bad it says only where the inner reader does: so only a seek does.
-        ensures names { (HasFailed self.old → ⊥) → IfErr result (OwnOrInner ⟦<R as Read>⟧ IsReadRefusal (inner_of self.old)) }
-        // Over any reader: a refusal is that of one of its reads, by that name, or of what they gave, where none of them was refused.
-        ensures says { (HasFailed self.old → ⊥) → IfErr result (SaysWhy self.old self.new) }
-
-        // Of the buffer nothing else changes.
-        ensures beyond { IfOk result (λ n. drop n buf.new ≡ drop n buf.old) }
-        ensures untouched { OnErr result (buf.new ≡ buf.old) }
-
-        // The state after it, and how often it opens a chunk.
-        ensures failed { HasFailed self.old → (result ≡ Err Failed) × (self.new ≡ self.old) }
-        ensures fails { OnErr result (HasFailed self.new) }
-        ensures good { OnOk result (HasFailed self.new → ⊥) }
-        ensures empty { (HasFailed self.old → ⊥) → length buf.old ≡ 0 → (result ≡ Ok 0) × (self.new ≡ self.old) }
-        ensures inner_end { IsTrue (⟦<StreamReader<S, R> as Read>⟧.tells self.old) → OnOk result
-            ((inner_rest_of self.new).ends_well ≡ (inner_rest_of self.old).ends_well) }
-        ensures sought { HasSought self.new → HasSought self.old }
-        ensures counts { opens_of self.old ≤ opens_of self.new }
-        ensures opens { opens_of self.new ≤ opens_of self.old + 2 }
-        ensures held { IsHolding self.old → opens_of self.new ≡ opens_of self.old }
-        ensures at_end { IsAfterLast self.old → opens_of self.new ≡ opens_of self.old }
-        ensures opened { (IsHolding self.old → ⊥) → IfOk result (λ n. 0 < n → one_more (opens_of self.old) ≤ opens_of self.new) }
-
-        // Of the opened chunks it has the one that it reads, and the one that was used last before; both where it opens none.
-        ensures uses { IfOk result (λ n. 0 < n → last_used_of self.new ≡ Some (place_of self.old / 65536)) }
-        ensures keeps_last { OnOk result ((b : ℕ) → last_used_of self.old ≡ Some b → HasChunk self.new b) }
-        ensures keeps { IsHolding self.old ⊎ IsAfterLast self.old → OnOk result ((b : ℕ) → HasChunk self.old b → HasChunk self.new b) }
-        ensures same_last { IsAfterLast self.old → OnOk result (last_used_of self.new ≡ last_used_of self.old) }
-        // One that comes to the end of a chunk has the next one where that is opened.
-        ensures finds { IfOk result (λ n. 0 < n → (IsAfterLast self.new → ⊥) → HasChunk self.new (place_of self.new / 65536) → IsHolding self.new) }
+        ensures gives { GivesPlaintext self.old self.new buf.old buf.new result }
+        ensures refuses { RefusesPayload self.old self.new result }
+        ensures leaves { LeavesPayload self.old self.new buf.old buf.new result }
+        ensures opens { OpensTwiceAtMost self.old self.new result }
+        ensures chunks { KeepsRead self.old self.new result }
     {
         if self.failed {
             return Err(Error::Failed);
@@ -207,12 +155,14 @@ impl<S: Suite, R: Read> Read for StreamReader<S, R> {
 }
 
 impl<S: Suite, R: Read> StreamReader<S, R> {
-    ghost use Rattle.age_stream.specs.Reader.{payload_of, key_of, inner_of, inner_rest_of, place_of, wanted_of, HasFailed, HasSought, IsHolding, IsAfterLast, opens_of, stops_of};
+    ghost use Rattle.age_stream.specs.Reader.{payload_of, inner_of, place_of, IsHolding, IsAfterLast, opens_of, stops_of};
     ghost use Rattle.age_stream.specs.Naming.{RefusedBelow, RefusesMore, RefusesText, SaysWhy};
+    ghost use Rattle.age_stream.specs.NewReader.{IsReaderOf};
     ghost use Rattle.age_stream.specs.PrivateSteps.{AnswersRead, EndsClean, GivesHeld, HasOpenedAt, Moves, OpensFew, PassesOn, ReadsChunks, RefusesPastLast, RefusesAtPlace, Stays, StaysAt};
 
     /// A reader of the payload that begins where `inner` stands, under the payload key of 32 bytes. It stands before the
-    /// first byte of the plaintext.
+    /// first byte of the plaintext. It reads a plaintext to a clean end exactly where `inner` stands before the plaintext's payload
+    /// and a clean end (`made`).
     ///
     /// It reads nothing and opens nothing yet. It takes memory for one sealed chunk, 65,552 bytes, which serves for the
     /// whole payload, and answers `OutOfMemory` where it is refused that. A chunk's plaintext is memory of its own, for
@@ -220,27 +170,7 @@ impl<S: Suite, R: Read> StreamReader<S, R> {
     pub fn with_payload_key(alloc: Global, key: [u8; 32], inner: R) -> Result<Self, Error>
     where
         R: Drop,
-        ensures good { IfOk result (λ r. HasFailed r → ⊥) }
-        ensures opens { IfOk result (λ r. opens_of r ≡ 0) }
-        ensures unsought { IfOk result (λ r. HasSought r → ⊥) }
-        ensures key { IfOk result (λ r. key_of r ≡ key) }
-        ensures inner { IfOk result (λ r. inner_of r ≡ inner) }
-        ensures payload { IfOk result (λ r. payload_of r ≡ from_place (R.place inner) (R.content inner)) }
-        ensures inner_rest { IfOk result (λ r. inner_rest_of r ≡ R.rest inner) }
-        ensures tells { IfOk result (λ r. ⟦<StreamReader<S, R> as Read>⟧.tells r ≡ (R.tells inner && R.steady inner)) }
-        ensures faults { IfOk result (λ r. ⟦<StreamReader<S, R> as Read>⟧.faults r ≡ R.faults inner) }
-        ensures place { IfOk result (λ r. ⟦<StreamReader<S, R> as Read>⟧.place r ≡ 0) }
-        ensures content { IfOk result (λ r. ⟦<StreamReader<S, R> as Read>⟧.content r
-            ≡ payload_delivers S.opened key 0 (from_place (R.place inner) (R.content inner))) }
-        ensures rest { IfOk result (λ r. ⟦<StreamReader<S, R> as Read>⟧.rest r ≡ payload_delivers S.opened key 0 (R.rest inner)) }
-        // It reads a plaintext to a clean end exactly where it stands before the plaintext's payload and a clean end.
-        ensures success { IsTrue (R.tells inner && R.steady inner) → IfOk result (λ r. (plain : List ℕ) →
-            ⟦<StreamReader<S, R> as Read>⟧.rest r ≡ whole plain → R.rest inner ≡ whole (payload S.seal_of key plain)) }
-        ensures honest { IfOk result (λ r. (plain : List ℕ) → AreBytes plain → length plain ≤ 2 ^ 60 →
-            LastIsNoMiddle S.seal_of key plain → R.rest inner ≡ whole (payload S.seal_of key plain) →
-            ⟦<StreamReader<S, R> as Read>⟧.rest r ≡ whole plain) }
-        ensures named { IfOk result (λ r. (e : Failure) → ⟦<StreamReader<S, R> as Read>⟧.refuses r e → OwnOrInner ⟦<R as Read>⟧
-            (Stops S.seal_of key (from_place (R.place inner) (R.content inner)) (IsTrue (R.tells inner && R.steady inner))) inner e) }
+        ensures made { IfOk result (IsReaderOf key inner) }
         ensures memory { IfErr result (λ e. e ≡ OutOfMemory) }
     {
         known_array(&key);

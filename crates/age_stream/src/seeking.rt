@@ -1,18 +1,15 @@
 //! Seeking in a payload.
-ghost use Rattle.std.specs.Prelude.{◌≡◌, ◌≢◌, ℕ, ◌+◌, ◌-◌, ◌*◌, ◌/◌, ◌%◌, ◌^◌, ◌<◌, ◌≤◌, ◌⊎◌, ◌&&◌, Option, Some, None, Bool, true, false, IsTrue, List, length, take, drop, IfOk, IfErr, OnOk, OnErr, Ok, Err};
-ghost use Rattle.age_error.specs.Refusals.{IsDevice, IsInterruption};
+ghost use Rattle.std.specs.Prelude.{◌≡◌, ◌+◌, ◌-◌, ◌*◌, ◌/◌, ◌%◌, ◌^◌, ◌<◌, ◌≤◌, ◌&&◌, Option, Some, None, true, false, IsTrue, length, take, IfOk, IfErr, OnOk, Ok, Err};
 ghost use Rattle.age_error.specs.declared.io.Error.TheVariants.{OutOfMemory, BadEnd, BeforeStart};
-ghost use Rattle.age_io.specs.Stretch.{Stretch, from_place};
-ghost use Rattle.age_io.specs.Reading.{IsQuiet, most_faults};
-ghost use Rattle.age_io.specs.Cursor.{Seeks, IsOutside, OrTooLong};
+ghost use Rattle.age_io.specs.Stretch.{from_place};
+ghost use Rattle.age_io.specs.Cursor.{Seeks, OrTooLong};
 ghost use Rattle.age_io.specs.CursorLemmas.{or_too_long_no_device};
 ghost use Rattle.age_v1.specs.Payload as Payload;
-ghost use Rattle.age_v1.specs.Payload.{chunk_nonce, final_chunk, EndsAsLast};
+ghost use Rattle.age_v1.specs.Payload.{final_chunk};
 ghost use Rattle.age_stream.specs.PrivateKeeping.{IsPayloadSeekRefusal, KeepsPayload};
-ghost use Rattle.age_v1.specs.DeliveredPayload.{text_at, IsLastChunk};
-ghost use Rattle.age_stream.specs.Cache.{last_used, HasLast, HasOne};
+ghost use Rattle.age_v1.specs.DeliveredPayload.{IsLastChunk};
 ghost use Rattle.age_stream.specs.Seeking.{FindsTarget, RefusesTarget};
-ghost use Rattle.age_v1.specs.PayloadTargets.{below_start, in_length, sought_in, IsToEnd, IsRefusedTarget};
+ghost use Rattle.age_v1.specs.PayloadTargets.{below_start};
 
 use crate::reader::{StreamReader, open_as};
 use crate::sizes::{CHUNK, LONGEST_PLAINTEXT, PIECE};
@@ -266,9 +263,7 @@ impl<S: Suite, R: Seek> StreamReader<S, R> {
 }
 
 impl<S: Suite, R: Seek> Seek for StreamReader<S, R> {
-    ghost use Rattle.age_stream.specs.Reader.{payload_of, key_of, inner_of, inner_rest_of, wanted_of, place_of, HasChunk, HasFailed, IsHolding, IsAfterLast, HoldsEnd, last_used_of, opens_of};
-    ghost use Rattle.age_stream.specs.Naming.{SaysWhySeek};
-    ghost use Rattle.age_stream.specs.Seeking.{SeeksPayload};
+    ghost use Rattle.age_stream.specs.Seeking.{SeeksPayload, LeadsInPayload, LeavesSought, OpensOnceAtMost, KeepsSought};
 
     ghost seek_refuses = { OrTooLong R.seek_refuses };
 
@@ -291,84 +286,22 @@ impl<S: Suite, R: Seek> Seek for StreamReader<S, R> {
     ///
     /// Before and between them a refusal of the inner reader is answered as it is, but for one that says that a target inside
     /// its own content is outside of it, which is `BadEnd`. There is no other `BadEnd` or `TooLong`, also where the device failed
-    /// (`says`). Its interruptions are retried as by `seek_retrying` and `fill`. `OutOfMemory` where the suite was refused memory
+    /// (`target`). Its interruptions are retried as by `seek_retrying` and `fill`. `OutOfMemory` where the suite was refused memory
     /// for the last chunk's plaintext.
     ///
     /// After `BeforeStart` and `PastEnd` the place is as it was, and so is a failure, and the inner reader stands where it
-    /// stood. After any other refusal the reader has failed, at the same place. The payload's front is reckoned from where
+    /// stood. After any other refusal the reader has failed, at the same place (`leaves`). The payload's front is reckoned from where
     /// the inner reader stands, so a later seek is exact only over an inner reader whose refusals leave it where it was.
+    ///
+    /// It opens at most one chunk, the last, and only for a target at the end (`opens`). The two that are kept stay; where the last
+    /// has to be opened, the one that was used last stays beside it (`chunks`).
     fn seek(&mut self, to: SeekFrom) -> Result<u64, Error>
         ensures seeks { let reader = ⟦<StreamReader<S, R> as Read>⟧ in
             Seeks reader.tells reader.steady reader.content reader.place reader.rest reader.faults reader.refuses (OrTooLong R.seek_refuses) self.old self.new to result }
-        ensures patient { IfErr result (λ e. IsInterruption e → ⊥) }
-        ensures payload { IsTrue (⟦<StreamReader<S, R> as Read>⟧.tells self.old) → payload_of self.new ≡ payload_of self.old }
-        ensures key { key_of self.new ≡ key_of self.old }
-
-        // By the order of the tests, and at the end by the last chunk.
-        ensures order { IsTrue (⟦<StreamReader<S, R> as Read>⟧.tells self.old) → IfOk result (λ n.
-            sought_in to (place_of self.old) (length (payload_of self.old).bytes) ≡ Ok n) }
-        ensures refused { IsTrue (⟦<StreamReader<S, R> as Read>⟧.tells self.old) → IfErr result (λ e. IsOutside e →
-            sought_in to (place_of self.old) (length (payload_of self.old).bytes) ≡ Err e) }
-        ensures ends { IsTrue (⟦<StreamReader<S, R> as Read>⟧.tells self.old) → OnOk result
-            (IsToEnd (length (payload_of self.old).bytes) to (place_of self.old) → EndsAsLast S.seal_of (key_of self.old) (payload_of self.old).bytes) }
-        ensures bad { let reader = ⟦<StreamReader<S, R> as Read>⟧ in IsTrue (reader.tells self.old) → IsTrue (payload_of self.old).ends_well →
-            IfErr result (λ e. e ≢ OutOfMemory → IsQuiet (reader.faults self.old) (reader.faults self.new) →
-            IsRefusedTarget S.seal_of (key_of self.old) (payload_of self.old).bytes to (place_of self.old) e) }
-        // So it is whether or not the device failed, and whatever the input's end: else the inner reader's refusal is passed on by its name, or as
-        // `BadEnd` where it says that a place of the input is outside.
-        ensures says { IsTrue (⟦<StreamReader<S, R> as Read>⟧.tells self.old) → IfErr result (SaysWhySeek R.seek_refuses self.old self.new to) }
-
-        ensures inner_end { IsTrue (⟦<StreamReader<S, R> as Read>⟧.tells self.old) → OnOk result
-            ((inner_rest_of self.new).ends_well ≡ (payload_of self.old).ends_well) }
-
-        // A refused target leaves the inner reader where it stood, before what its content has there, also where it had failed.
-        ensures inner_place { IsTrue (⟦<StreamReader<S, R> as Read>⟧.tells self.old) → IfErr result (λ e. IsOutside e →
-            R.place (inner_of self.new) ≡ R.place (inner_of self.old)) }
-        ensures inner_rest { IsTrue (⟦<StreamReader<S, R> as Read>⟧.tells self.old) → (IsTrue (below_start to (place_of self.old)) → ⊥) →
-            IfErr result (λ e. IsOutside e → inner_rest_of self.new ≡ from_place (R.place (inner_of self.old)) (R.content (inner_of self.old))) }
-
-        // A success clears a failure, a refusal leaves all as it was, and any other error fails.
-        ensures clears { OnOk result (HasFailed self.new → ⊥) }
-        ensures unmoved { IfErr result (λ e. IsOutside e → (HasFailed self.new → HasFailed self.old) × (HasFailed self.old → HasFailed self.new)
-            × (place_of self.new ≡ place_of self.old) × (IsHolding self.old → IsHolding self.new) × (IsAfterLast self.old → IsAfterLast self.new)
-            × (wanted_of self.new ≡ wanted_of self.old) × (opens_of self.new ≡ opens_of self.old)) }
-        // The first test asks the inner reader nothing.
-        ensures first { IsTrue (below_start to (place_of self.old)) → (result ≡ Err BeforeStart) × (self.new ≡ self.old) }
-        ensures fails { IfErr result (λ e. (IsOutside e → ⊥) → HasFailed self.new) }
-
-        // The chunk at a place before the end will be judged by itself.
-        ensures judges { IsTrue (⟦<StreamReader<S, R> as Read>⟧.tells self.old) → OnOk result
-            ((IsToEnd (length (payload_of self.old).bytes) to (place_of self.old) → ⊥) → IsAfterLast self.new → ⊥) }
-
-        // How often it opens a chunk: only for a target at the end, once, and not where the last chunk is held as the last.
-        ensures counts { opens_of self.old ≤ opens_of self.new }
-        ensures opens { opens_of self.new ≤ opens_of self.old + 1 }
-        ensures end { IsTrue (⟦<StreamReader<S, R> as Read>⟧.tells self.old) →
-            (IsToEnd (length (payload_of self.old).bytes) to (place_of self.old) → ⊥) → opens_of self.new ≡ opens_of self.old }
-        ensures held { IsTrue (⟦<StreamReader<S, R> as Read>⟧.tells self.old) → HoldsEnd self.old → opens_of self.new ≡ opens_of self.old }
-
-        // The opened chunks stay, and a read at a place in one of them opens nothing. Where the last chunk has to be opened, the one that was
-        // used last stays beside it.
-        ensures keeps { IsTrue (⟦<StreamReader<S, R> as Read>⟧.tells self.old) → OnOk result
-            ((IsToEnd (length (payload_of self.old).bytes) to (place_of self.old) → HoldsEnd self.old) → (b : ℕ) → HasChunk self.old b → HasChunk self.new b) }
-        ensures unmoved_chunks { IfErr result (λ e. IsOutside e →
-            (last_used_of self.new ≡ last_used_of self.old) × ((b : ℕ) → HasChunk self.old b → HasChunk self.new b)) }
-        ensures same_last { IsTrue (⟦<StreamReader<S, R> as Read>⟧.tells self.old) → OnOk result
-            ((IsToEnd (length (payload_of self.old).bytes) to (place_of self.old) → ⊥) → (b : ℕ) → last_used_of self.old ≡ Some b → last_used_of self.new ≡ Some b) }
-        ensures keeps_last { OnOk result ((b : ℕ) → last_used_of self.old ≡ Some b → HasChunk self.new b) }
-        // A target at the end uses the last chunk. A full one may be held without the verdict on it, and isn't one of the two then.
-        ensures holds_end { IsTrue (⟦<StreamReader<S, R> as Read>⟧.tells self.old) → OnOk result
-            (IsToEnd (length (payload_of self.old).bytes) to (place_of self.old) → HoldsEnd self.new) }
-        ensures uses_end { IsTrue (⟦<StreamReader<S, R> as Read>⟧.tells self.old) → OnOk result
-            (IsToEnd (length (payload_of self.old).bytes) to (place_of self.old) → (length (payload_of self.old).bytes % 65552 ≡ 0 → ⊥) →
-            last_used_of self.new ≡ Some (final_chunk (length (payload_of self.old).bytes))) }
-        // One that had failed has none but the last chunk, where that was the target.
-        ensures none { IsTrue (⟦<StreamReader<S, R> as Read>⟧.tells self.old) → HasFailed self.old → OnOk result ((b : ℕ) → HasChunk self.new b →
-            IsToEnd (length (payload_of self.old).bytes) to (place_of self.old) × (b ≡ final_chunk (length (payload_of self.old).bytes))) }
-        ensures unheld { IsTrue (⟦<StreamReader<S, R> as Read>⟧.tells self.old) → HasFailed self.old → OnOk result
-            ((IsToEnd (length (payload_of self.old).bytes) to (place_of self.old) → ⊥) → IsHolding self.new → ⊥) }
-        ensures finds { IsTrue (⟦<StreamReader<S, R> as Read>⟧.tells self.old) → IfOk result (λ n.
-            (IsToEnd (length (payload_of self.old).bytes) to (place_of self.old) → ⊥) → HasChunk self.old (n / 65536) → IsHolding self.new) }
+        ensures target { LeadsInPayload R.seek_refuses self.old self.new to result }
+        ensures leaves { LeavesSought self.old self.new to result }
+        ensures opens { OpensOnceAtMost self.old self.new to result }
+        ensures chunks { KeepsSought self.old self.new to result }
     {
         let place = PIECE as u64 * self.number + self.at as u64;
         if is_below_start(to, place) {

@@ -1,7 +1,6 @@
 //! What a `StreamReader` asks of the reader that its payload comes from. Nothing else asks it.
-ghost use Rattle.std.specs.Prelude.{◌≡◌, ◌≢◌, ℕ, ◌+◌, ◌-◌, ◌<◌, ◌≤◌, ◌&&◌, true, IsTrue, List, length, take, IfOk, IfErr, OnOk, Ok, Err};
+ghost use Rattle.std.specs.Prelude.{◌≡◌, ◌≢◌, ◌+◌, ◌-◌, ◌<◌, ◌≤◌, ◌&&◌, true, IsTrue, length, take, IfOk, IfErr, OnOk, Ok, Err};
 ghost use Rattle.age_error.specs.declared.io.Error.TheVariants.{OutOfMemory};
-ghost use Rattle.age_io.specs.Stretch.{from_place};
 ghost use Rattle.age_io.specs.Reading.{IsQuiet, EndsEarly, TriedAgain, most_faults};
 ghost use Rattle.age_io.specs.Keeping.{KeepsReader};
 ghost use Rattle.age_io.specs.Turns.{GivesTried, RefusesTried};

@@ -1,6 +1,5 @@
 //! Writing a payload.
-ghost use Rattle.std.specs.Prelude.{◌≡◌, ℕ, ◌+◌, ◌*◌, ◌^◌, ◌<◌, ◌≤◌, Bool, true, false, IsTrue, List, [], ◌++◌, length, take, IfOk, IfErr, OnOk, OnErr, IsOk, IsOkAnd, Err, vec_len, vec_capacity};
-ghost use Rattle.age_error.specs.declared.io.Error.{Error as IoError};
+ghost use Rattle.std.specs.Prelude.{◌≡◌, ◌+◌, ◌*◌, ◌^◌, ◌<◌, ◌≤◌, true, false, IsTrue, [], length, take, IfOk, IfErr, OnOk, OnErr, IsOk, IsOkAnd, Err, vec_len, vec_capacity};
 ghost use Rattle.age_error.specs.declared.io.Error.TheVariants.{Failed, OutOfMemory};
 ghost use Rattle.age_io.specs.Writing.{KeepsWriter};
 ghost use Rattle.age_io.specs.Copying.{AppendsFront};
@@ -202,7 +201,7 @@ impl<S: Suite, W: Write> StreamWriter<S, W> {
 }
 
 impl<S: Suite, W: Write + Drop> StreamWriter<S, W> {
-    ghost use Rattle.age_stream.specs.Writing.{Finishes, IsFailed, StaysWithin, inner_of};
+    ghost use Rattle.age_stream.specs.Writing.{Finishes, HandsBack, IsFailed, StaysWithin};
 
     /// Seals what is held as the last chunk, writes it, and hands back the inner writer, which isn't flushed.
     ///
@@ -214,11 +213,9 @@ impl<S: Suite, W: Write + Drop> StreamWriter<S, W> {
         ensures ok { let writer = ⟦<StreamWriter<S, W> as Write>⟧ in
             IsTrue (writer.tells self) → Finishes S.seal_of W.appended writer.appended self result }
         ensures within { StaysWithin ⟦<StreamWriter<S, W> as Write>⟧.appended self result }
-        ensures same_tells { IfOk result (λ inner. W.tells inner ≡ ⟦<StreamWriter<S, W> as Write>⟧.tells self) }
-        ensures no_fewer_faults { IfOk result (λ inner. ⟦<StreamWriter<S, W> as Write>⟧.faults self ≤ W.faults inner) }
         ensures failed { IsFailed self → result ≡ Err Failed }
         ensures why { IfErr result (⟦<StreamWriter<S, W> as Write>⟧.refuses self 0) }
-        ensures narrows { IfOk result (λ inner. (e : IoError) → RefusesChunk W.refuses inner e → RefusesChunk W.refuses (inner_of self) e) }
+        ensures hands_back { IfOk result (HandsBack ⟦<W as Write>⟧ self) }
     {
         let StreamWriter {
             alloc,

@@ -1,5 +1,5 @@
 //! `Write` for the writer of a payload.
-ghost use Rattle.std.specs.Prelude.{◌≡◌, ℕ, ◌+◌, ◌^◌, ◌<◌, ◌≤◌, true, false, IsTrue, List, [], length, IfOk, IfErr, OnOk, OnErr, IsOk, Err};
+ghost use Rattle.std.specs.Prelude.{◌≡◌, ◌+◌, ◌^◌, ◌<◌, true, IsTrue, OnOk, OnErr, Err};
 ghost use Rattle.age_error.specs.declared.io.Error.TheVariants.{Failed, TooLong};
 ghost use Rattle.age_io.specs.Writing.{Retried, Writes, Flushes};
 
@@ -11,7 +11,7 @@ use age_suite::suite::Suite;
 
 /// What was appended is plaintext that was taken. Only `finish` makes its payload whole.
 impl<S: Suite, W: Write> Write for StreamWriter<S, W> {
-    ghost use Rattle.age_stream.specs.Writing.{Appended, Refused, IsFailed, IsGood, inner_of, taken_len, held_len, SendsFront};
+    ghost use Rattle.age_stream.specs.Writing.{Appended, Refused, FailsWriting, IsFailed, IsGood, inner_of, taken_len, SendsFront, TakesAll};
     ghost use Rattle.age_stream.specs.WritingLemmas.{Appended-nothing, Appended-both, Refused-more};
 
     ghost tells = { λ w. W.tells (inner_of w) };
@@ -30,29 +30,22 @@ impl<S: Suite, W: Write> Write for StreamWriter<S, W> {
 
     ghost joins = { Appended-both S.seal_of W.appended W.joins };
 
-    /// Takes all bytes, and answers how many they are.
+    /// Takes all bytes, and answers how many they are (`takes`).
     ///
     /// A write past 2^60 bytes of plaintext in all is `TooLong`, and changes nothing. Any other refusal leaves the
     /// writer failed: that of the inner writer, whatever it is, `WriteZero` where the inner writer took no byte,
     /// and `OutOfMemory` where the suite was refused memory for a seal. A failed writer answers `Failed` and stays
-    /// as it is. Interruptions of the inner writer are retried as by `write_all`.
+    /// as it is (`fails`). Interruptions of the inner writer are retried as by `write_all`.
     ///
     /// Whatever it answers, the inner writer was given a beginning of the seals of the pieces that a byte follows, of what
     /// was held and these bytes (`sent`): so after a refusal too it has a beginning of a payload, and nothing else.
     fn write(&mut self, bytes: &[u8]) -> Result<usize, Error>
         ensures writes { let writer = ⟦<StreamWriter<S, W> as Write>⟧ in
             Writes writer.tells writer.faults writer.refuses writer.appended self.old self.new bytes.now result }
-        ensures all { IfOk result (λ n. n ≡ length bytes.now) }
+        ensures takes { TakesAll self.old self.new bytes.now result }
         // Whatever it answers, what went out is a beginning of a payload.
         ensures sent { IsTrue (W.tells (inner_of self.old)) → SendsFront S.seal_of W.appended self.old bytes.now (inner_of self.new) }
-        ensures counts { OnOk result (taken_len self.new ≡ taken_len self.old + length bytes.now) }
-        ensures good { OnOk result (IsGood self.old × IsGood self.new) }
-        // A write that finds room in the chunk that is held is never refused, and sends nothing.
-        ensures finds_room { IsGood self.old → held_len self.old + length bytes.now ≤ 65536 → taken_len self.old + length bytes.now ≤ 2 ^ 60 →
-            IsOk result × (held_len self.new ≡ held_len self.old + length bytes.now) × (inner_of self.new ≡ inner_of self.old) }
-        ensures past_limit { IsGood self.old → 2 ^ 60 < taken_len self.old + length bytes.now → (result ≡ Err TooLong) × (self.new ≡ self.old) }
-        ensures fails { taken_len self.old + length bytes.now ≤ 2 ^ 60 → OnErr result (IsFailed self.new) }
-        ensures failed { IsFailed self.old → (result ≡ Err Failed) × (self.new ≡ self.old) }
+        ensures fails { FailsWriting self.old self.new bytes.now result }
     {
         if self.failed {
             return Err(Error::Failed);

@@ -1,4 +1,4 @@
-use Rattle.std.proofs.Common.{◌≡◌, ◌<◌, ◌≤◌, IsTrue, ◌∙◌, refl, ap, subst, arith, length, length-append, take, inl, inr}
+use Rattle.std.proofs.Common.{rules, ◌≡◌, ◌<◌, ◌≤◌, IsTrue, ◌∙◌, refl, ap, subst, arith, length, length-append, take, inl, inr}
 use Rattle.std.specs.Prelude.{⊤}
 use Rattle.age_error.specs.Refusals.{IsDevice}
 use Rattle.age_io.specs.Writing.{Narrows, Retried}
@@ -164,15 +164,21 @@ returns-then-count-eq0 g c =
           subst (λ n. Narrows (Retried g.W.Write.refuses) c.args.writer.now n c.loop-piece.writer) whole left.narrows;
     }
 
-pub returns-clause-tells : goal.returns-clause-tells
-returns-clause-tells g c = c.loop-piece.invariant.writer_tells
-
-pub returns-clause-front : goal.returns-clause-front
-returns-clause-front g c = λ told writer_told.
-    front-copied g.R.Read g.W.Write.tells g.W.Write.appended
-    c.args.reader.now c.loop-piece.reader c.args.writer.now c.loop-piece.writer c.loop-piece.invariant.copied told writer_told
-
-pub returns-clause-left : goal.returns-clause-left
-returns-clause-left g c =
-    left-between g.R.Read g.W.Write.tells g.W.Write.appended (λ _. ⊤)
-    c.args.reader.now c.loop-piece.reader c.args.writer.now c.loop-piece.writer c.loop-piece.invariant.copied tt
+pub returns : goal.returns
+returns g c =
+    let before = c.loop-piece.invariant in
+    record {
+      tells = before.writer_tells;
+      all = λ told writer_told. tt;
+      front = λ told writer_told.
+          front-copied g.R.Read g.W.Write.tells g.W.Write.appended
+          c.args.reader.now c.loop-piece.reader c.args.writer.now c.loop-piece.writer before.copied told writer_told;
+      narrows = λ told. tt;
+      stands = tt;
+      left =
+          left-between g.R.Read g.W.Write.tells g.W.Write.appended (λ _. ⊤)
+          c.args.reader.now c.loop-piece.reader c.args.writer.now c.loop-piece.writer before.copied tt;
+      device = λ fault. absurd fault;
+      why = search rules;
+      named = search rules;
+    }

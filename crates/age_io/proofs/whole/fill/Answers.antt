@@ -1,4 +1,4 @@
-use Rattle.std.proofs.Common.{◌≡◌, ◌<◌, arith, ◌∙◌, ◌-◌, length, take, length-take-le, le_refl}
+use Rattle.std.proofs.Common.{rules, ◌≡◌, ◌<◌, arith, ◌∙◌, ◌-◌, length, take, length-take-le, le_refl}
 use Rattle.std.proofs.lemmas.Slice.{take-put_mid_below}
 use Rattle.std.proofs.lemmas.Grind.{common_steps}
 use Rattle.age_io.proofs.Delivering.{take-filled}
@@ -51,54 +51,49 @@ returns-in_err-n g c =
           before.within) (grind (arith, common_steps)) before reads);
     }
 
-pub returns-in-0-clause-keeps : goal.returns-in-0-clause-keeps
-returns-in-0-clause-keeps g c =
-    let before = c.reads.invariant in
-    let reads = c.in_ok-n.ensures.reads in
-    keeps-done g.R.Read (TriedAgain g.R.Read.refuses) c.args.reader.now c.read_retrying.new.reader
-    (same-later g.R.Read c.args.reader.now c.reads.reader c.read_retrying.new.reader before.same
-    (same-read g.R.Read c.reads.reader c.read_retrying.new.reader reads))
-    (λ e h. before.narrows e (reads.narrows e h))
-
-pub returns-in-0-clause-moves : goal.returns-in-0-clause-moves
-returns-in-0-clause-moves g c = λ told.
-    let before = c.reads.invariant in
-    let reads = c.in_ok-n.ensures.reads in
-    omega (arith, reads.moves (before.same.tells ∙ told), before.moved told, c.in-0.is)
-
-pub returns-in-0-clause-bytes : goal.returns-in-0-clause-bytes
-returns-in-0-clause-bytes g c = λ told.
-    let before = c.reads.invariant in
-    let reads = c.in_ok-n.ensures.reads in
-    delivers-none (take c.reads.filled c.reads.buf) (g.R.Read.rest c.args.reader.now) (g.R.Read.rest c.reads.reader) (before.so_far told)
-    (g.R.Read.rest c.read_retrying.new.reader) c.read_retrying.new.buf c.in_ok-n.n c.in-0.is
-    (reads.bytes (before.same.tells ∙ told)) _
-    (take-put_mid_below c.reads.filled (length c.reads.buf - c.reads.filled) c.reads.buf c.read_retrying.new.buf c.reads.filled (le_refl c.reads.filled)
-    before.within)
-
-pub returns-in-0-clause-end : goal.returns-in-0-clause-end
-returns-in-0-clause-end g c = λ told fewer.
+pub returns-in-0 : goal.returns-in-0
+returns-in-0 g c =
     let before = c.reads.invariant in
     let reads = c.in_ok-n.ensures.reads in
     let some : 0 < length c.read_retrying.new.buf = grind (arith, common_steps) in
-    let clean = reads.end (before.same.tells ∙ told) c.in-0.is some in
-    still-clean (take c.reads.filled c.reads.buf) (g.R.Read.rest c.args.reader.now) (g.R.Read.rest c.reads.reader) (before.so_far told)
-    (g.R.Read.rest c.read_retrying.new.reader) c.read_retrying.new.buf c.in_ok-n.n c.in-0.is
-    (reads.bytes (before.same.tells ∙ told)) clean
+    let kept =
+    take-put_mid_below c.reads.filled (length c.reads.buf - c.reads.filled) c.reads.buf c.read_retrying.new.buf c.reads.filled (le_refl c.reads.filled)
+    before.within in
+    record {
+      keeps = keeps-done g.R.Read (TriedAgain g.R.Read.refuses) c.args.reader.now c.read_retrying.new.reader
+          (same-later g.R.Read c.args.reader.now c.reads.reader c.read_retrying.new.reader before.same
+          (same-read g.R.Read c.reads.reader c.read_retrying.new.reader reads))
+          (λ e h. before.narrows e (reads.narrows e h));
+      unspent = λ _. reads.unspent some;
+      count = grind (arith, common_steps, before.within);
+      turns = filled-end g.R.Read c.reads.buf _ c.read_retrying.new.buf c.reads.filled c.in_ok-n.n c.args.reader.now c.reads.reader c.read_retrying.new.reader c.in-0.is
+          kept (grind (arith, common_steps, before.within)) some before reads;
+      refused = tt;
+      moves = λ told. omega (arith, reads.moves (before.same.tells ∙ told), before.moved told, c.in-0.is);
+      bytes = λ told.
+          delivers-none (take c.reads.filled c.reads.buf) (g.R.Read.rest c.args.reader.now) (g.R.Read.rest c.reads.reader) (before.so_far told)
+          (g.R.Read.rest c.read_retrying.new.reader) c.read_retrying.new.buf c.in_ok-n.n c.in-0.is
+          (reads.bytes (before.same.tells ∙ told)) _ kept;
+      end = λ told fewer.
+          still-clean (take c.reads.filled c.reads.buf) (g.R.Read.rest c.args.reader.now) (g.R.Read.rest c.reads.reader) (before.so_far told)
+          (g.R.Read.rest c.read_retrying.new.reader) c.read_retrying.new.buf c.in_ok-n.n c.in-0.is
+          (reads.bytes (before.same.tells ∙ told)) (reads.end (before.same.tells ∙ told) c.in-0.is some);
+      err = λ told. tt;
+      cause = λ told. tt;
+    }
 
-pub returns-clause-keeps : goal.returns-clause-keeps
-returns-clause-keeps g c =
+pub returns : goal.returns
+returns g c =
     let before = c.reads.invariant in
-    keeps-done g.R.Read (TriedAgain g.R.Read.refuses) c.args.reader.now c.reads.reader before.same before.narrows
-
-pub returns-in-0-clause-turns : goal.returns-in-0-clause-turns
-returns-in-0-clause-turns g c =
-    let before = c.reads.invariant in
-    let reads = c.in_ok-n.ensures.reads in
-    filled-end g.R.Read c.reads.buf _ c.read_retrying.new.buf c.reads.filled c.in_ok-n.n c.args.reader.now c.reads.reader c.read_retrying.new.reader c.in-0.is
-    (take-put_mid_below c.reads.filled (length c.reads.buf - c.reads.filled) c.reads.buf c.read_retrying.new.buf c.reads.filled (le_refl c.reads.filled)
-    before.within) (grind (arith, common_steps, before.within)) (grind (arith, common_steps)) before reads
-
-pub returns-clause-turns : goal.returns-clause-turns
-returns-clause-turns g c =
-    filled-all g.R.Read c.reads.buf c.reads.filled c.args.reader.now c.reads.reader (grind (arith, common_steps)) c.reads.invariant
+    record {
+      keeps = keeps-done g.R.Read (TriedAgain g.R.Read.refuses) c.args.reader.now c.reads.reader before.same before.narrows;
+      unspent = search rules;
+      count = grind (arith, common_steps, before.within);
+      turns = filled-all g.R.Read c.reads.buf c.reads.filled c.args.reader.now c.reads.reader (grind (arith, common_steps)) before;
+      refused = tt;
+      moves = before.moved;
+      bytes = before.so_far;
+      end = λ told fewer. absurd (grind (arith, common_steps, fewer));
+      err = λ told. tt;
+      cause = λ told. tt;
+    }

@@ -18,85 +18,6 @@ use Rattle.age_stream.proofs.Cached.{used-good, used-there}
 use Rattle.age_stream.proofs.OneChunk.{in-chunk-some, same-start}
 use Rattle.age_stream.proofs.reader.StreamReader.read_at.Goals as goal
 
-pub returns-in-Ok-read_full-clause-cursor : goal.returns-in-Ok-read_full-clause-cursor
-returns-in-Ok-read_full-clause-cursor g c = λ told well.
-    let self = c.args.self.now in
-    let seeks = c.in-Ok.ensures.seeks in
-    let read = c.in-Ok-read_full.ensures in
-    let steady : IsTrue (steady_of self) = both-true (tells_of self) (content_of self).ends_well told well in
-    let there = seeks.moves told steady in
-    let told_mid = seeks.same_tells ∙ told in
-    let came = read.reads.bytes told_mid in (
-      c.in-Ok._start,
-      there.0,
-      read-through _ (take c.read_full.new.filled c.read_full.new.buf) _ c.read_full.new.filled (length c.read_full.new.buf)
-          (sym (ap (λ s. s.bytes) there.1) ∙ came.bytes)
-          (length-take-le c.read_full.new.filled c.read_full.new.buf read.count) read.count (λ less. (read.reads.end told_mid less).bytes),
-    )
-
-pub returns-in-Err-read_full-clause-payload : goal.returns-in-Err-read_full-clause-payload
-returns-in-Err-read_full-clause-payload g c = λ told.
-    let seek = c.in-Ok.ensures in
-    c.in-Err-read_full.ensures.keeps.payload (seek.seeks.same_tells ∙ told) ∙ seek.payload told
-
-pub returns-in-Ok-read_full-clause-payload : goal.returns-in-Ok-read_full-clause-payload
-returns-in-Ok-read_full-clause-payload g c = λ told.
-    let seek = c.in-Ok.ensures in
-    c.in-Ok-read_full.ensures.keeps.payload (seek.seeks.same_tells ∙ told) ∙ seek.payload told
-
-pub returns-in-Err-clause-refused : goal.returns-in-Err-clause-refused
-returns-in-Err-clause-refused g c = λ told well memory quiet. inl (c.in-Err.ensures.bad told well memory quiet)
-
-pub returns-in-Err-read_full-clause-refused : goal.returns-in-Err-read_full-clause-refused
-returns-in-Err-read_full-clause-refused g c = λ told well memory quiet.
-    let self = c.args.self.now in
-    let mid = c.seek.new.self in
-    let seek = c.in-Ok.ensures in
-    let read = c.in-Err-read_full.ensures in
-    let calm : IsQuiet (g.R.Read.faults mid.inner) (g.R.Read.faults c.read_full.new.self.inner) =
-    record { same = omega (arith, seek.seeks.no_fewer_faults, read.keeps.inner.same.faults, quiet.same); below = quiet.below } in
-    let near = read.refused.refused (seek.seeks.same_tells ∙ told) memory calm (seek.inner_end told ∙ well) in
-    let stops = subst (λ p. StopsNear g.S.Suite.seal_of self.key p.bytes (place_of c.read_full.new.self) c.in-Err-read_full.e) (seek.payload told)
-    (subst (λ k. StopsNear g.S.Suite.seal_of k (payload_of mid).bytes (place_of c.read_full.new.self) c.in-Err-read_full.e) seek.key near) in
-    let there : place_of mid ≡ c.in-Ok._start = seek.seeks.arrives told in
-    inr (record {
-      start = c.in-Ok._start;
-      leads = seek.order told;
-      from = omega (arith, there, read.moves.1);
-      short = omega (arith, there, read.moves.1, read.refused.short);
-      stops = stops;
-    })
-
-pub returns-in-Ok-read_full-clause-ended : goal.returns-in-Ok-read_full-clause-ended
-returns-in-Ok-read_full-clause-ended g c = λ told less.
-    let self = c.args.self.now in
-    let mid = c.seek.new.self in
-    let seek = c.in-Ok.ensures in
-    let good = c.in-Ok-read_full.ensures.reads.ended (seek.seeks.same_tells ∙ told) less in
-    subst (λ p. IsGoodEnd g.S.Suite.seal_of self.key p (place_of c.read_full.new.self)) (seek.payload told)
-    (subst (λ k. IsGoodEnd g.S.Suite.seal_of k (payload_of mid) (place_of c.read_full.new.self)) seek.key good)
-
-pub returns-in-Ok-read_full-clause-rest : goal.returns-in-Ok-read_full-clause-rest
-returns-in-Ok-read_full-clause-rest g c = λ told well.
-    let self = c.args.self.now in
-    let seeks = c.in-Ok.ensures.seeks in
-    let read = c.in-Ok-read_full.ensures in
-    let steady : IsTrue (steady_of self) = both-true (tells_of self) (content_of self).ends_well told well in
-    let there = seeks.moves told steady in
-    let told_mid = seeks.same_tells ∙ told in
-    let front = take c.read_full.new.filled c.read_full.new.buf in
-    let came : Delivers front (from_place c.in-Ok._start (content_of self)) (plain_rest_of c.read_full.new.self) =
-    subst (λ s. Delivers front s (plain_rest_of c.read_full.new.self)) there.1 (read.reads.bytes told_mid) in
-    let long = length-take-le c.read_full.new.filled c.read_full.new.buf read.count in
-    let place : c.in-Ok._start + length front ≡ place_of c.read_full.new.self = omega (arith, seeks.arrives told, read.moves.1, long) in
-    (delivered-at (content_of self) (plain_rest_of c.read_full.new.self) c.in-Ok._start front came).1
-    ∙ ap (λ p. from_place p (content_of self)) place
-
-pub returns-in-Ok-read_full-clause-inner_end : goal.returns-in-Ok-read_full-clause-inner_end
-returns-in-Ok-read_full-clause-inner_end g c = λ told.
-    let seek = c.in-Ok.ensures in
-    c.in-Ok-read_full.ensures.reads.inner_end (seek.seeks.same_tells ∙ told) ∙ seek.inner_end told
-
 pub returns-in-Err-clause-keeps : goal.returns-in-Err-clause-keeps
 returns-in-Err-clause-keeps g c =
     let seek = c.in-Err.ensures in
@@ -104,9 +25,64 @@ returns-in-Err-clause-keeps g c =
     record {
       same = record { tells = seeks.same_tells; steady = seeks.same_steady; faults = seeks.no_fewer_faults; content = seeks.same_content };
       device = seeks.device;
-      patient = seek.patient;
+      patient = seek.target.patient;
       why = seeks.why;
       narrows = tt;
+    }
+
+pub returns-in-Err-clause-gives : goal.returns-in-Err-clause-gives
+returns-in-Err-clause-gives g c =
+    record {
+      count = tt;
+      order = λ _. tt;
+      cursor = λ _ _. tt;
+      ended = λ _. tt;
+    }
+
+pub returns-in-Err-clause-refuses : goal.returns-in-Err-clause-refuses
+returns-in-Err-clause-refuses g c =
+    record {
+      cause = λ told well memory quiet.
+          let seeks = c.in-Err.ensures.seeks in
+          seeks.refused told well (seeks.cause told well memory quiet);
+      refused = λ told well memory quiet. inl (c.in-Err.ensures.target.bad told well memory quiet);
+      outside = λ told outside _. c.in-Err.ensures.target.refused told outside;
+    }
+
+pub returns-in-Err-clause-leaves : goal.returns-in-Err-clause-leaves
+returns-in-Err-clause-leaves g c =
+    record {
+      payload = c.in-Err.ensures.leaves.payload;
+      key = c.in-Err.ensures.leaves.key;
+      stands = λ told. inl (c.in-Err.ensures.seeks.stays told);
+      rest = λ _ _. tt;
+      inner_end = λ _. tt;
+      unmoved = λ told outside _.
+          let same = c.in-Err.ensures.leaves.unmoved outside in
+          (same.0, same.1, same.2, same.3, same.6);
+      inner_place = λ told outside _. c.in-Err.ensures.leaves.inner_place told outside;
+      inner_rest = λ told outside _ apart. c.in-Err.ensures.leaves.inner_rest told apart outside;
+      good = tt;
+      fails = c.in-Err.ensures.leaves.fails;
+    }
+
+pub returns-in-Err-clause-opens : goal.returns-in-Err-clause-opens
+returns-in-Err-clause-opens g c =
+    record {
+      counts = c.in-Err.ensures.opens.counts;
+      most = omega (arith, c.in-Err.ensures.opens.most);
+    }
+
+pub returns-in-Err-clause-chunks : goal.returns-in-Err-clause-chunks
+returns-in-Err-clause-chunks g c = λ told chunk inside.
+    let seek = c.in-Err.ensures in
+    record {
+      opens = omega (arith, seek.opens.most);
+      none = λ _. seek.opens.end told inside.before;
+      has = tt;
+      uses = tt;
+      keeps_last = tt;
+      keeps = λ _. tt;
     }
 
 pub returns-in-Err-read_full-clause-keeps : goal.returns-in-Err-read_full-clause-keeps
@@ -127,6 +103,96 @@ returns-in-Err-read_full-clause-keeps g c =
       patient = read.keeps.inner.patient;
       why = inr (seeks.narrows c.in-Err-read_full.e (inr read.keeps.inner.why));
       narrows = tt;
+    }
+
+pub returns-in-Err-read_full-clause-gives : goal.returns-in-Err-read_full-clause-gives
+returns-in-Err-read_full-clause-gives g c =
+    record {
+      count = tt;
+      order = λ _. tt;
+      cursor = λ _ _. tt;
+      ended = λ _. tt;
+    }
+
+pub returns-in-Err-read_full-clause-refuses : goal.returns-in-Err-read_full-clause-refuses
+returns-in-Err-read_full-clause-refuses g c =
+    record {
+      cause = λ told well memory quiet.
+          let self = c.args.self.now in
+          let seeks = c.in-Ok.ensures.seeks in
+          let read = c.in-Err-read_full.ensures in
+          let there = (seeks.moves told (both-true (tells_of self) (content_of self).ends_well told well)).1 in
+          let calm = quiet_from seeks.no_fewer_faults read.keeps.inner.same.faults quiet in
+          absurd (true≢false (sym (ap (λ s. s.ends_well) there ∙ well) ∙ read.refused.cause (seeks.same_tells ∙ told) memory calm));
+      refused = λ told well memory quiet.
+          let self = c.args.self.now in
+          let mid = c.seek.new.self in
+          let seek = c.in-Ok.ensures in
+          let read = c.in-Err-read_full.ensures in
+          let calm : IsQuiet (g.R.Read.faults mid.inner) (g.R.Read.faults c.read_full.new.self.inner) =
+          record { same = omega (arith, seek.seeks.no_fewer_faults, read.keeps.inner.same.faults, quiet.same); below = quiet.below } in
+          let near = read.refused.refused (seek.seeks.same_tells ∙ told) memory calm (seek.leaves.inner_end told ∙ well) in
+          let stops = subst (λ p. StopsNear g.S.Suite.seal_of self.key p.bytes (place_of c.read_full.new.self) c.in-Err-read_full.e) (seek.leaves.payload told)
+          (subst (λ k. StopsNear g.S.Suite.seal_of k (payload_of mid).bytes (place_of c.read_full.new.self) c.in-Err-read_full.e) seek.leaves.key near) in
+          let there : place_of mid ≡ c.in-Ok._start = seek.seeks.arrives told in
+          inr (record {
+            start = c.in-Ok._start;
+            leads = seek.target.order told;
+            from = omega (arith, there, read.moves.1);
+            short = omega (arith, there, read.moves.1, read.refused.short);
+            stops = stops;
+          });
+      outside = λ told outside never.
+          let seeks = c.in-Ok.ensures.seeks in
+          let read = c.in-Err-read_full.ensures in
+          absurd (never (outside-inner c.args.self.now c.in-Err-read_full.e outside (seeks.narrows c.in-Err-read_full.e (inr read.keeps.inner.why))));
+    }
+
+pub returns-in-Err-read_full-clause-leaves : goal.returns-in-Err-read_full-clause-leaves
+returns-in-Err-read_full-clause-leaves g c =
+    record {
+      payload = λ told.
+          let seek = c.in-Ok.ensures in
+          c.in-Err-read_full.ensures.keeps.payload (seek.seeks.same_tells ∙ told) ∙ seek.leaves.payload told;
+      key = c.in-Err-read_full.ensures.moves.0 ∙ c.in-Ok.ensures.leaves.key;
+      stands = λ told.
+          let seek = c.in-Ok.ensures in
+          let read = c.in-Err-read_full.ensures in
+          let there : place_of c.seek.new.self ≡ c.in-Ok._start = seek.seeks.arrives told in
+          inr (c.in-Ok._start, seek.target.order told, omega (arith, there, read.moves.1), omega (arith, there, read.moves.1, read.refused.short));
+      rest = λ _ _. tt;
+      inner_end = λ _. tt;
+      unmoved = λ told _ is. absurd (subst (λ r. IfErr r (λ _. ⊥)) (sym (c.in-Ok.ensures.target.order told) ∙ is) tt);
+      inner_place = λ told _ is. absurd (subst (λ r. IfErr r (λ _. ⊥)) (sym (c.in-Ok.ensures.target.order told) ∙ is) tt);
+      inner_rest = λ told _ is. absurd (subst (λ r. IfErr r (λ _. ⊥)) (sym (c.in-Ok.ensures.target.order told) ∙ is) tt);
+      good = tt;
+      fails = λ _. c.in-Err-read_full.ensures.refused.fails;
+    }
+
+pub returns-in-Err-read_full-clause-opens : goal.returns-in-Err-read_full-clause-opens
+returns-in-Err-read_full-clause-opens g c =
+    record {
+      counts = omega (arith, c.in-Ok.ensures.opens.counts, c.in-Err-read_full.ensures.opens.0);
+      most = omega (arith, c.in-Ok.ensures.opens.most, c.in-Err-read_full.ensures.opens.1);
+    }
+
+pub returns-in-Err-read_full-clause-chunks : goal.returns-in-Err-read_full-clause-chunks
+returns-in-Err-read_full-clause-chunks g c = λ told chunk inside.
+    let self = c.args.self.now in
+    let mid = c.seek.new.self in
+    let seek = c.in-Ok.ensures in
+    let there : place_of mid ≡ c.in-Ok._start = seek.seeks.arrives told in
+    let start : c.in-Ok._start ≡ inside.start = same-start _ _ _ (seek.target.order told) inside.leads in
+    let full = c.in-Err-read_full.ensures.one (seek.seeks.same_tells ∙ told) chunk (omega (arith, inside.from, there, start)) (omega (arith, inside.within, there, start)) in
+    let none = seek.opens.end told inside.before in
+    let number : chunk ≡ c.in-Ok._start / 65536 = omega (arith, inside.from, inside.within, inside.some, start) in
+    record {
+      opens = omega (arith, full.opens, none);
+      none = λ has. full.none (seek.chunks.finds told inside.before (subst (λ n. HasChunk self n) number has)) ∙ none;
+      has = tt;
+      uses = tt;
+      keeps_last = tt;
+      keeps = λ _. tt;
     }
 
 pub returns-in-Ok-read_full-clause-keeps : goal.returns-in-Ok-read_full-clause-keeps
@@ -152,129 +218,92 @@ returns-in-Ok-read_full-clause-keeps g c =
       ];
     }
 
-pub returns-in-Err-clause-cause : goal.returns-in-Err-clause-cause
-returns-in-Err-clause-cause g c = λ told well memory quiet.
-    let seeks = c.in-Err.ensures.seeks in
-    seeks.refused told well (seeks.cause told well memory quiet)
-
-pub returns-in-Err-read_full-clause-cause : goal.returns-in-Err-read_full-clause-cause
-returns-in-Err-read_full-clause-cause g c = λ told well memory quiet.
-    let self = c.args.self.now in
-    let seeks = c.in-Ok.ensures.seeks in
-    let read = c.in-Err-read_full.ensures in
-    let there = (seeks.moves told (both-true (tells_of self) (content_of self).ends_well told well)).1 in
-    let calm = quiet_from seeks.no_fewer_faults read.keeps.inner.same.faults quiet in
-    absurd (true≢false (sym (ap (λ s. s.ends_well) there ∙ well) ∙ read.refused.cause (seeks.same_tells ∙ told) memory calm))
-
-pub returns-in-Err-clause-fails : goal.returns-in-Err-clause-fails
-returns-in-Err-clause-fails g c = c.in-Err.ensures.fails
-
-pub returns-in-Err-clause-inner_place : goal.returns-in-Err-clause-inner_place
-returns-in-Err-clause-inner_place g c = λ told outside _. c.in-Err.ensures.inner_place told outside
-
-pub returns-in-Err-clause-inner_rest : goal.returns-in-Err-clause-inner_rest
-returns-in-Err-clause-inner_rest g c = λ told outside _ apart. c.in-Err.ensures.inner_rest told apart outside
-
-pub returns-in-Err-clause-unmoved : goal.returns-in-Err-clause-unmoved
-returns-in-Err-clause-unmoved g c = λ told outside _.
-    let same = c.in-Err.ensures.unmoved outside in
-    (same.0, same.1, same.2, same.3, same.6)
-
-pub returns-in-Err-clause-opens : goal.returns-in-Err-clause-opens
-returns-in-Err-clause-opens g c = omega (arith, c.in-Err.ensures.opens)
-
-pub returns-in-Err-read_full-clause-fails : goal.returns-in-Err-read_full-clause-fails
-returns-in-Err-read_full-clause-fails g c = λ _. c.in-Err-read_full.ensures.refused.fails
-
-pub returns-in-Err-read_full-clause-counts : goal.returns-in-Err-read_full-clause-counts
-returns-in-Err-read_full-clause-counts g c = omega (arith, c.in-Ok.ensures.counts, c.in-Err-read_full.ensures.opens.0)
-
-pub returns-in-Err-read_full-clause-opens : goal.returns-in-Err-read_full-clause-opens
-returns-in-Err-read_full-clause-opens g c = omega (arith, c.in-Ok.ensures.opens, c.in-Err-read_full.ensures.opens.1)
-
-pub returns-in-Err-read_full-clause-inner_place : goal.returns-in-Err-read_full-clause-inner_place
-returns-in-Err-read_full-clause-inner_place g c = λ told _ is. absurd (subst (λ r. IfErr r (λ _. ⊥)) (sym (c.in-Ok.ensures.order told) ∙ is) tt)
-
-pub returns-in-Err-read_full-clause-inner_rest : goal.returns-in-Err-read_full-clause-inner_rest
-returns-in-Err-read_full-clause-inner_rest g c = λ told _ is. absurd (subst (λ r. IfErr r (λ _. ⊥)) (sym (c.in-Ok.ensures.order told) ∙ is) tt)
-
-pub returns-in-Err-read_full-clause-unmoved : goal.returns-in-Err-read_full-clause-unmoved
-returns-in-Err-read_full-clause-unmoved g c = λ told _ is. absurd (subst (λ r. IfErr r (λ _. ⊥)) (sym (c.in-Ok.ensures.order told) ∙ is) tt)
-
-pub returns-in-Ok-read_full-clause-counts : goal.returns-in-Ok-read_full-clause-counts
-returns-in-Ok-read_full-clause-counts g c = omega (arith, c.in-Ok.ensures.counts, c.in-Ok-read_full.ensures.opens.0)
-
-pub returns-in-Ok-read_full-clause-opens : goal.returns-in-Ok-read_full-clause-opens
-returns-in-Ok-read_full-clause-opens g c = omega (arith, c.in-Ok.ensures.opens, c.in-Ok-read_full.ensures.opens.1)
-
-pub returns-in-Ok-read_full-clause-good : goal.returns-in-Ok-read_full-clause-good
-returns-in-Ok-read_full-clause-good g c = λ is. true≢false (sym is ∙ c.in-Ok-read_full.ensures.reads.good)
-
-pub returns-in-Ok-read_full-clause-order : goal.returns-in-Ok-read_full-clause-order
-returns-in-Ok-read_full-clause-order g c = λ told.
-    let self = c.args.self.now in
-    let mid = c.seek.new.self in
-    let seek = c.in-Ok.ensures in
-    let read = c.in-Ok-read_full.ensures in
-    let came = take c.read_full.new.filled c.read_full.new.buf in
-    let there : place_of mid ≡ c.in-Ok._start = seek.seeks.arrives told in (
-      c.in-Ok._start,
-      seek.order told,
-      omega (arith, there, read.moves.1),
-      subst (λ n. StandAt g.S.Suite.seal_of self.key (payload_of self).bytes n came) there
-          (subst (λ p. StandAt g.S.Suite.seal_of self.key p.bytes (place_of mid) came) (seek.payload told)
-          (subst (λ k. StandAt g.S.Suite.seal_of k (payload_of mid).bytes (place_of mid) came) seek.key (read.reads.stored (seek.seeks.same_tells ∙ told)))),
-    )
-
-pub returns-in-Err-clause-stands : goal.returns-in-Err-clause-stands
-returns-in-Err-clause-stands g c = λ told. inl (c.in-Err.ensures.seeks.stays told)
-
-pub returns-in-Err-read_full-clause-stands : goal.returns-in-Err-read_full-clause-stands
-returns-in-Err-read_full-clause-stands g c = λ told.
-    let seek = c.in-Ok.ensures in
-    let read = c.in-Err-read_full.ensures in
-    let there : place_of c.seek.new.self ≡ c.in-Ok._start = seek.seeks.arrives told in
-    inr (c.in-Ok._start, seek.order told, omega (arith, there, read.moves.1), omega (arith, there, read.moves.1, read.refused.short))
-
-pub returns-in-Err-clause-outside : goal.returns-in-Err-clause-outside
-returns-in-Err-clause-outside g c = λ told outside _. c.in-Err.ensures.refused told outside
-
--- reads say so only where the inner reader does
-pub returns-in-Err-read_full-clause-outside : goal.returns-in-Err-read_full-clause-outside
-returns-in-Err-read_full-clause-outside g c = λ told outside never.
-    let seeks = c.in-Ok.ensures.seeks in
-    let read = c.in-Err-read_full.ensures in
-    absurd (never (outside-inner c.args.self.now c.in-Err-read_full.e outside (seeks.narrows c.in-Err-read_full.e (inr read.keeps.inner.why))))
-
-pub returns-in-Err-clause-chunks : goal.returns-in-Err-clause-chunks
-returns-in-Err-clause-chunks g c = λ told chunk inside.
-    let seek = c.in-Err.ensures in
+pub returns-in-Ok-read_full-clause-gives : goal.returns-in-Ok-read_full-clause-gives
+returns-in-Ok-read_full-clause-gives g c =
     record {
-      opens = omega (arith, seek.opens);
-      none = λ _. seek.end told inside.before;
-      has = tt;
-      uses = tt;
-      keeps_last = tt;
-      keeps = λ _. tt;
+      count = c.in-Ok-read_full.ensures.count;
+      order = λ told.
+          let self = c.args.self.now in
+          let mid = c.seek.new.self in
+          let seek = c.in-Ok.ensures in
+          let read = c.in-Ok-read_full.ensures in
+          let came = take c.read_full.new.filled c.read_full.new.buf in
+          let there : place_of mid ≡ c.in-Ok._start = seek.seeks.arrives told in (
+            c.in-Ok._start,
+            seek.target.order told,
+            omega (arith, there, read.moves.1),
+            subst (λ n. StandAt g.S.Suite.seal_of self.key (payload_of self).bytes n came) there
+                (subst (λ p. StandAt g.S.Suite.seal_of self.key p.bytes (place_of mid) came) (seek.leaves.payload told)
+                (subst (λ k. StandAt g.S.Suite.seal_of k (payload_of mid).bytes (place_of mid) came) seek.leaves.key (read.reads.stored (seek.seeks.same_tells ∙ told)))),
+          );
+      cursor = λ told well.
+          let self = c.args.self.now in
+          let seeks = c.in-Ok.ensures.seeks in
+          let read = c.in-Ok-read_full.ensures in
+          let steady : IsTrue (steady_of self) = both-true (tells_of self) (content_of self).ends_well told well in
+          let there = seeks.moves told steady in
+          let told_mid = seeks.same_tells ∙ told in
+          let came = read.reads.bytes told_mid in (
+            c.in-Ok._start,
+            there.0,
+            read-through _ (take c.read_full.new.filled c.read_full.new.buf) _ c.read_full.new.filled (length c.read_full.new.buf)
+                (sym (ap (λ s. s.bytes) there.1) ∙ came.bytes)
+                (length-take-le c.read_full.new.filled c.read_full.new.buf read.count) read.count (λ less. (read.reads.end told_mid less).bytes),
+          );
+      ended = λ told less.
+          let self = c.args.self.now in
+          let mid = c.seek.new.self in
+          let seek = c.in-Ok.ensures in
+          let good = c.in-Ok-read_full.ensures.reads.ended (seek.seeks.same_tells ∙ told) less in
+          subst (λ p. IsGoodEnd g.S.Suite.seal_of self.key p (place_of c.read_full.new.self)) (seek.leaves.payload told)
+          (subst (λ k. IsGoodEnd g.S.Suite.seal_of k (payload_of mid) (place_of c.read_full.new.self)) seek.leaves.key good);
     }
 
-pub returns-in-Err-read_full-clause-chunks : goal.returns-in-Err-read_full-clause-chunks
-returns-in-Err-read_full-clause-chunks g c = λ told chunk inside.
-    let self = c.args.self.now in
-    let mid = c.seek.new.self in
-    let seek = c.in-Ok.ensures in
-    let there : place_of mid ≡ c.in-Ok._start = seek.seeks.arrives told in
-    let start : c.in-Ok._start ≡ inside.start = same-start _ _ _ (seek.order told) inside.leads in
-    let full = c.in-Err-read_full.ensures.one (seek.seeks.same_tells ∙ told) chunk (omega (arith, inside.from, there, start)) (omega (arith, inside.within, there, start)) in
-    let none = seek.end told inside.before in
-    let number : chunk ≡ c.in-Ok._start / 65536 = omega (arith, inside.from, inside.within, inside.some, start) in
+pub returns-in-Ok-read_full-clause-refuses : goal.returns-in-Ok-read_full-clause-refuses
+returns-in-Ok-read_full-clause-refuses g c =
     record {
-      opens = omega (arith, full.opens, none);
-      none = λ has. full.none (seek.finds told inside.before (subst (λ n. HasChunk self n) number has)) ∙ none;
-      has = tt;
-      uses = tt;
-      keeps_last = tt;
-      keeps = λ _. tt;
+      cause = λ _ _. tt;
+      refused = λ _ _. tt;
+      outside = λ _. tt;
+    }
+
+pub returns-in-Ok-read_full-clause-leaves : goal.returns-in-Ok-read_full-clause-leaves
+returns-in-Ok-read_full-clause-leaves g c =
+    record {
+      payload = λ told.
+          let seek = c.in-Ok.ensures in
+          c.in-Ok-read_full.ensures.keeps.payload (seek.seeks.same_tells ∙ told) ∙ seek.leaves.payload told;
+      key = c.in-Ok-read_full.ensures.moves.0 ∙ c.in-Ok.ensures.leaves.key;
+      stands = λ _. tt;
+      rest = λ told well.
+          let self = c.args.self.now in
+          let seeks = c.in-Ok.ensures.seeks in
+          let read = c.in-Ok-read_full.ensures in
+          let steady : IsTrue (steady_of self) = both-true (tells_of self) (content_of self).ends_well told well in
+          let there = seeks.moves told steady in
+          let told_mid = seeks.same_tells ∙ told in
+          let front = take c.read_full.new.filled c.read_full.new.buf in
+          let came : Delivers front (from_place c.in-Ok._start (content_of self)) (plain_rest_of c.read_full.new.self) =
+          subst (λ s. Delivers front s (plain_rest_of c.read_full.new.self)) there.1 (read.reads.bytes told_mid) in
+          let long = length-take-le c.read_full.new.filled c.read_full.new.buf read.count in
+          let place : c.in-Ok._start + length front ≡ place_of c.read_full.new.self = omega (arith, seeks.arrives told, read.moves.1, long) in
+          (delivered-at (content_of self) (plain_rest_of c.read_full.new.self) c.in-Ok._start front came).1
+          ∙ ap (λ p. from_place p (content_of self)) place;
+      inner_end = λ told.
+          let seek = c.in-Ok.ensures in
+          c.in-Ok-read_full.ensures.reads.inner_end (seek.seeks.same_tells ∙ told) ∙ seek.leaves.inner_end told;
+      unmoved = λ _. tt;
+      inner_place = λ _. tt;
+      inner_rest = λ _. tt;
+      good = λ is. true≢false (sym is ∙ c.in-Ok-read_full.ensures.reads.good);
+      fails = tt;
+    }
+
+pub returns-in-Ok-read_full-clause-opens : goal.returns-in-Ok-read_full-clause-opens
+returns-in-Ok-read_full-clause-opens g c =
+    record {
+      counts = omega (arith, c.in-Ok.ensures.opens.counts, c.in-Ok-read_full.ensures.opens.0);
+      most = omega (arith, c.in-Ok.ensures.opens.most, c.in-Ok-read_full.ensures.opens.1);
     }
 
 pub returns-in-Ok-read_full-clause-chunks : goal.returns-in-Ok-read_full-clause-chunks
@@ -286,14 +315,14 @@ returns-in-Ok-read_full-clause-chunks g c = λ told chunk inside.
     let read = c.in-Ok-read_full.ensures in
     let told_mid = seek.seeks.same_tells ∙ told in
     let there : place_of mid ≡ c.in-Ok._start = seek.seeks.arrives told in
-    let start : c.in-Ok._start ≡ inside.start = same-start _ _ _ (seek.order told) inside.leads in
+    let start : c.in-Ok._start ≡ inside.start = same-start _ _ _ (seek.target.order told) inside.leads in
     let full = read.one told_mid chunk (omega (arith, inside.from, there, start)) (omega (arith, inside.within, there, start)) in
-    let none = seek.end told inside.before in
+    let none = seek.opens.end told inside.before in
     let number : chunk ≡ c.in-Ok._start / 65536 = omega (arith, inside.from, inside.within, inside.some, start) in
-    let holding = λ (has : HasChunk self chunk). seek.finds told inside.before (subst (λ n. HasChunk self n) number has) in
+    let holding = λ (has : HasChunk self chunk). seek.chunks.finds told inside.before (subst (λ n. HasChunk self n) number has) in
     let some = in-chunk-some (length (payload_of self).bytes) c.args.to (place_of self) (length c.read_full.new.buf) chunk c.read_full.new.filled (place_of new) inside
     (omega (arith, read.moves.1, there, start))
-    (λ less. ap (λ p. plain_len (length p.bytes)) (sym (seek.payload told)) ∙ (read.reads.ended told_mid less).length_is) in
+    (λ less. ap (λ p. plain_len (length p.bytes)) (sym (seek.leaves.payload told)) ∙ (read.reads.ended told_mid less).length_is) in
     let uses = full.uses some in
     record {
       opens = omega (arith, full.opens, none);
@@ -301,7 +330,7 @@ returns-in-Ok-read_full-clause-chunks g c = λ told chunk inside.
       has = (read.reads.good, used-there new.cache chunk uses);
       uses = rw read.reads.good uses;
       keeps_last = λ b is.
-          let used = used-good mid.failed (last_used mid.cache) b (seek.same_last told inside.before b is) in
+          let used = used-good mid.failed (last_used mid.cache) b (seek.chunks.same_last told inside.before b is) in
           (read.reads.good, full.keeps_last b used.1);
-      keeps = λ has b was. (read.reads.good, full.keeps (holding has) b (seek.keeps told (λ end. absurd (inside.before end)) b was).1);
+      keeps = λ has b was. (read.reads.good, full.keeps (holding has) b (seek.chunks.keeps told (λ end. absurd (inside.before end)) b was).1);
     }

@@ -82,7 +82,7 @@ returns-in-Err g c =
     let self = c.args.self.now in
     let new = c.look.new.self in
     let look = c.in-Err.ensures in
-    seek-refused g.R.Seek.seek_refuses self new c.args.to c.in-Err.e (payload-refused g.R.Read self.inner new.inner self.taken new.taken c.in-Err.e look.keeps)
+    seek-refused g.R.Seek.seek_refuses self new c.args.to c.in-Err.e c.requires (payload-refused g.R.Read self.inner new.inner self.taken new.taken c.in-Err.e look.keeps)
     look.stays.key look.failed.0 look.refused.place look.refused.refusal (omega (arith, look.stays.opens)) (omega (arith, look.stays.opens)) (λ _ _. look.stays.opens) (λ _ _. look.stays.opens)
     (λ told well memory quiet. absurd (look.refused.cause told well memory quiet)) (λ told well _. look.refused.cause told well)
     (λ told. inr (inr look.says))
@@ -99,7 +99,7 @@ returns-then-not-is_outside g c =
     let e = c.in-Err-find.e in
     let other = c.if-not-is_outside.ensures.no refl in
     let err = λ (told : IsTrue (tells_of self)). subst (λ n. in_length (plain_len n) c.args.to (place_of self) ≡ Err e) (look.found told).2 find.err in
-    seek-refused g.R.Seek.seek_refuses self new c.args.to e
+    seek-refused g.R.Seek.seek_refuses self new c.args.to e c.requires
     (payload-ended read self.inner new.inner self.taken new.taken e look.keeps find.not_device (own-refusal g.R.Seek.seek_refuses e find.named))
     look.stays.key look.failed.0 (omega (arith, look.stays.number, look.stays.at)) other (omega (arith, look.stays.opens)) (omega (arith, look.stays.opens))
     (λ _ _. look.stays.opens) (λ _ _. look.stays.opens)
@@ -120,7 +120,7 @@ returns-in-Err-stand g c =
     let e = c.in-Err-stand.fault in
     let opens = done.stays.opens ∙ look.stays.opens in
     let refused = step-later self mid new {More = λ _. ⊥} e look.keeps done.keeps (omega (arith, look.stays.number, look.stays.at)) (λ _ none. none) done.refused in
-    seek-refused g.R.Seek.seek_refuses self new c.args.to e
+    seek-refused g.R.Seek.seek_refuses self new c.args.to e c.requires
     (payload-later g.R.Read (Err e) self.inner mid.inner new.inner self.taken mid.taken new.taken look.keeps (payload-refused g.R.Read mid.inner new.inner mid.taken new.taken e done.keeps))
     (done.stays.key ∙ look.stays.key) refused.fails refused.place refused.refusal (omega (arith, opens)) (omega (arith, opens)) (λ _ _. opens) (λ _ _. opens)
     (λ told well memory quiet. absurd (refused.cause told well memory quiet)) (λ told well _. refused.cause told well)
@@ -136,7 +136,7 @@ returns-in-Err-enter g c =
     let e = c.in-Err-enter.e in
     let opens = done.same.2 ∙ look.stays.opens in
     let refused = step-later self mid new {More = λ _. ⊥} e look.keeps done.keeps (omega (arith, look.stays.number, look.stays.at)) (λ _ none. none) done.refused in
-    seek-refused g.R.Seek.seek_refuses self new c.args.to e
+    seek-refused g.R.Seek.seek_refuses self new c.args.to e c.requires
     (payload-later g.R.Read (Err e) self.inner mid.inner new.inner self.taken mid.taken new.taken look.keeps (payload-refused g.R.Read mid.inner new.inner mid.taken new.taken e done.keeps))
     (done.same.0 ∙ look.stays.key) refused.fails refused.place refused.refusal (omega (arith, opens)) (omega (arith, opens)) (λ _ _. opens) (λ _ _. opens)
     (λ told well memory quiet. absurd (refused.cause told well memory quiet)) (λ told well _. refused.cause told well)
@@ -169,7 +169,7 @@ returns-in-Err-enter_end g c =
     ) in
     let refused = step-later self mid new {More = IsNoLast self (final_chunk (length payload.bytes))} e look.keeps done.keeps (omega (arith, look.stays.number, look.stays.at))
     no_last done.refused in
-    seek-refused g.R.Seek.seek_refuses self new c.args.to e
+    seek-refused g.R.Seek.seek_refuses self new c.args.to e c.requires
     (payload-later read (Err e) self.inner mid.inner new.inner self.taken mid.taken new.taken look.keeps (payload-refused read mid.inner new.inner mid.taken new.taken e done.keeps))
     (done.same.0 ∙ look.stays.key) refused.fails refused.place refused.refusal (omega (arith, done.opens.0, look.stays.opens)) (omega (arith, done.opens.1, look.stays.opens))
     (λ told other. absurd (other (at_end told)))

@@ -1,4 +1,4 @@
-use Rattle.std.proofs.Common.{◌≡◌, refl, true, ◌+◌, ◌*◌, ◌<◌, ◌^◌, ◌-◌}
+use Rattle.std.proofs.Common.{rules, ◌≡◌, refl, true, ◌+◌, ◌*◌, ◌<◌, ◌^◌, ◌-◌}
 use Rattle.std.proofs.lemmas.List.Elements.{All-drop}
 use Rattle.std.proofs.lemmas.Result.{IfOk-weaker}
 use Rattle.age_stream.specs.Reading.{payload_at, rest_of}
@@ -9,40 +9,46 @@ use Rattle.age_stream.specs.ReadingLemmas.{and-left, and-right, stream_stands}
 use Rattle.age_stream.proofs.Answered.{end-found, front-either}
 use Rattle.age_stream.proofs.reader.StreamReaderRead.read.Goals as goal
 
-pub returns-clause-finished : goal.returns-clause-finished
-returns-clause-finished g c = λ told unsought.
-    let self = c.args.self.now in
-    let read = g.R.Read in
-    let suite = g.S.Suite in
-    let law = g.met.S.Suite.cipher in
-    let place = read.place self.inner in
-    let content = read.content self.inner in
-    let bytes = g.met.R.Read.are_bytes self.inner (and-left _ _ told) in
-    let short = shorter suite.seal_of suite.opened law self.key self.key_bytes in
-    let payload = payload_at place self.taken content in
-    let rest = rest_of suite.opened self.key self.failed self.held self.at self.cache.chunk.items self.cache.last self.number (read.rest self.inner) in
-    let stands = λ (well : (payload_delivers suite.opened self.key 0 payload).ends_well ≡ true).
-    stream_stands suite.opened self.key short self.failed self.held self.at self.cache.chunk.items self.cache.last self.sought self.number self.taken place content (read.rest self.inner)
-    bytes self.offset (λ held. (self.chunk held).in_chunk) (self.sound told) (g.met.R.Read.stands self.inner (and-left _ _ told) (and-right _ _ told)) well in
-    IfOk-weaker c.read_on.result _ _
-    (λ n clean none some. end-found suite.seal_of suite.opened law self.key self.key_bytes payload (payload_delivers suite.opened self.key 0 payload)
-    rest _
-    (All-drop (λ x. x < 2 ^ 8) (place - self.taken) content.bytes bytes)
-    (delivered-bytes suite.opened self.key short (opens_bytes suite.seal_of suite.opened law self.key self.key_bytes) 0 (place - self.taken) content bytes) refl
-    (λ well. (stands well).within)
-    (front-either self.sought (payload_delivers suite.opened self.key 0 payload) rest (65536 * self.number + self.at)
-    (λ is. (self.sound told).front is c.if-self.false) (λ is. (stands (unsought is)).reaches)) (clean none some))
-    (c.read_on.ensures.reads.end told)
+pub returns-clause-gives : goal.returns-clause-gives
+returns-clause-gives g c =
+    let answers = c.read_on.ensures.answers in
+    record {
+      gives = answers.gives;
+      ended = λ told. IfOk-weaker c.read_on.result _ _ (λ n is none some. is none) (answers.ended told);
+      finished = λ told unsought.
+          let self = c.args.self.now in
+          let read = g.R.Read in
+          let suite = g.S.Suite in
+          let law = g.met.S.Suite.cipher in
+          let place = read.place self.inner in
+          let content = read.content self.inner in
+          let bytes = g.met.R.Read.are_bytes self.inner (and-left _ _ told) in
+          let short = shorter suite.seal_of suite.opened law self.key self.key_bytes in
+          let payload = payload_at place self.taken content in
+          let rest = rest_of suite.opened self.key self.failed self.held self.at self.cache.chunk.items self.cache.last self.number (read.rest self.inner) in
+          let stands = λ (well : (payload_delivers suite.opened self.key 0 payload).ends_well ≡ true).
+          stream_stands suite.opened self.key short self.failed self.held self.at self.cache.chunk.items self.cache.last self.sought self.number self.taken place content (read.rest self.inner)
+          bytes self.offset (λ held. (self.chunk held).in_chunk) (self.sound told) (g.met.R.Read.stands self.inner (and-left _ _ told) (and-right _ _ told)) well in
+          IfOk-weaker c.read_on.result _ _
+          (λ n clean none some. end-found suite.seal_of suite.opened law self.key self.key_bytes payload (payload_delivers suite.opened self.key 0 payload)
+          rest _
+          (All-drop (λ x. x < 2 ^ 8) (place - self.taken) content.bytes bytes)
+          (delivered-bytes suite.opened self.key short (opens_bytes suite.seal_of suite.opened law self.key self.key_bytes) 0 (place - self.taken) content bytes) refl
+          (λ well. (stands well).within)
+          (front-either self.sought (payload_delivers suite.opened self.key 0 payload) rest (65536 * self.number + self.at)
+          (λ is. (self.sound told).front is c.if-self.false) (λ is. (stands (unsought is)).reaches)) (clean none some))
+          (c.read_on.ensures.reads.end told);
+      inner_end = answers.inner_end;
+    }
 
-pub returns-clause-by_itself : goal.returns-clause-by_itself
-returns-clause-by_itself g c = λ told good apart. c.read_on.ensures.answers.by_itself told apart
-
-pub returns-clause-ended : goal.returns-clause-ended
-returns-clause-ended g c = λ told.
-    IfOk-weaker c.read_on.result _ _ (λ n is none some. is none) (c.read_on.ensures.answers.ended told)
-
-pub returns-clause-refused : goal.returns-clause-refused
-returns-clause-refused g c = λ told good. c.read_on.ensures.answers.refused told
-
-pub returns-clause-says : goal.returns-clause-says
-returns-clause-says g c = λ good. c.read_on.ensures.says
+pub returns-clause-refuses : goal.returns-clause-refuses
+returns-clause-refuses g c =
+    let read_on = c.read_on.ensures in
+    record {
+      patient = search rules;
+      refused = λ told good. read_on.answers.refused told;
+      by_itself = λ told good apart. read_on.answers.by_itself told apart;
+      after_last = λ told good after. read_on.answers.after_last told after;
+      names = λ good. read_on.names;
+      says = λ good. read_on.says;
+    }
