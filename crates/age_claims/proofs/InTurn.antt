@@ -124,7 +124,7 @@ module _ {S R : Type 0} {suite : SuiteMembers S} {read : ReadMembers R} where
       → Held old (place_of old) (take n buf)
   given old new room buf zero told own = held_none suite.seal_of (key_of old) (payload_of old) (place_of old)
   given old new room buf (suc n) told own =
-      held_given suite.seal_of (key_of old) (payload_of old) (place_of old) (length room) (take (suc n) buf) (own.gives told (omega arith))
+      held_given suite.seal_of (key_of old) (payload_of old) (place_of old) (length room) (take (suc n) buf) (own.gives.gives told (omega arith))
 
   -- what reads in turn give
   turns : (n : ℕ) (old new : StreamReader S R suite read) (got : List ℕ) → IsTrue (tells_of old)
@@ -148,8 +148,8 @@ module _ {S R : Type 0} {suite : SuiteMembers S} {read : ReadMembers R} where
       record {
         keeps = later old between new first.keeps (record {
           tells = subst IsTrue (sym one.reads.same_tells) knows;
-          payload = one.own.payload knows;
-          key = one.own.key;
+          payload = one.own.leaves.payload knows;
+          key = one.own.leaves.key;
         });
         held = subst (λ (bytes : List ℕ). Held old (place_of old) bytes) (sym one.grown)
             (held_joined suite.seal_of (key_of old) (payload_of old) (place_of old) before more first.held next);
@@ -173,8 +173,8 @@ module _ {S R : Type 0} {suite : SuiteMembers S} {read : ReadMembers R} where
         record {
           keeps = later old between new gave.keeps (record {
             tells = subst IsTrue (sym came.refused.same_tells) knows;
-            payload = came.own.payload knows;
-            key = came.own.key;
+            payload = came.own.leaves.payload knows;
+            key = came.own.leaves.key;
           });
           answers = (came.fewer, gave.held);
           moved = came.refused.stays knows ∙ gave.moved;
@@ -182,16 +182,16 @@ module _ {S R : Type 0} {suite : SuiteMembers S} {read : ReadMembers R} where
     answered (Read n) (At place) old new told well came = absurd came
     answered (Seek to) (Bytes got) old new told well came = absurd came
     answered (Seek to) (At n) old new told well came = record {
-      keeps = record { tells = subst IsTrue (sym came.seeks.same_tells) told; payload = came.own.payload told; key = came.own.key };
-      answers = (came.own.order told, came.own.ends told);
+      keeps = record { tells = subst IsTrue (sym came.seeks.same_tells) told; payload = came.own.leaves.payload told; key = came.own.leaves.key };
+      answers = (came.own.target.order told, came.own.target.ends told);
       moved = came.seeks.arrives told;
     }
     answered (Seek to) (Fault got e) old new told well (none, came) = record {
-      keeps = record { tells = subst IsTrue (sym came.seeks.same_tells) told; payload = came.own.payload told; key = came.own.key };
+      keeps = record { tells = subst IsTrue (sym came.seeks.same_tells) told; payload = came.own.leaves.payload told; key = came.own.leaves.key };
       answers = (
         none,
-        came.own.refused told,
-        λ calm want. came.own.bad told (well calm) want
+        came.own.target.refused told,
+        λ calm want. came.own.target.bad told (well calm) want
             (never_fails faults_of old new (λ (r : StreamReader S R suite read). never calm (inner_of r))),
       );
       moved = omega (arith, came.seeks.stays told, ap length none);

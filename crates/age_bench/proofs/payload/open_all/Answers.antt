@@ -17,7 +17,7 @@ use Rattle.age_bench.proofs.payload.open_all.Goals as goal
 pub returns-clause-opened : goal.returns-clause-opened
 returns-clause-opened g c = λ reader_told writer_told.
     let given = payload_delivers bench_opened c.args.key 0 (g.R.Read.rest c.args.reader.now) in
-    let made = c.in_ok-stream.ensures in
+    let made = c.in_ok-stream.ensures.made in
     let copied = rw made.rest at (c.in_ok-copy_all.ensures.all (made.tells ∙ reader_told) writer_told) in
     (given.bytes, made.success reader_told given.bytes (made.rest ∙ stretch-ext given (whole given.bytes) refl copied.0), copied.1)
 
@@ -43,7 +43,7 @@ pub returns-in_err-copy_all-clause-why : goal.returns-in_err-copy_all-clause-why
 returns-in_err-copy_all-clause-why g c =
     let read = g.R.Read in
     let reader = c.args.reader.now in
-    let made = c.in_ok-stream.ensures in
+    let made = c.in_ok-stream.ensures.made in
     let e = c.in_err-copy_all.field-0.0 in
     let own = Stops bench_seal c.args.key (from_place (read.place reader) (read.content reader)) (IsTrue (read.tells reader && read.steady reader)) in
     io_error _ _ e c.from_residual-in_err-copy_all.ensures.1

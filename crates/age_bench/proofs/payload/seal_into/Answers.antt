@@ -40,7 +40,7 @@ returns-clause-payload g c = λ reader_told writer_told.
     let done = c.in_ok-out.ensures in
     let sealed = done.ok (copied.tells ∙ told) _ _ _ _ made.made all.1 in
     let flushed = c.in_ok-flush_retrying.ensures.flushes in
-    (all.0, rw append-nil at (g.met.W.Write.joins _ _ _ _ [] sealed (flushed.nothing (done.same_tells ∙ copied.tells ∙ told))))
+    (all.0, rw append-nil at (g.met.W.Write.joins _ _ _ _ [] sealed (flushed.nothing (done.hands_back.same_tells ∙ copied.tells ∙ told))))
 
 pub returns-in_err-stream-clause-why : goal.returns-in_err-stream-clause-why
 returns-in_err-stream-clause-why g c = λ told well quiet.
@@ -64,4 +64,4 @@ returns-in_err-flush_retrying-clause-why g c = λ told well quiet.
     let good = is-good later.failed (λ failed. search rules) in
     of_error _ _ c.in_err-flush_retrying.field-0.0 c.from_residual-in_err-flush_retrying.ensures.1
     (from_later g.W.Write.refuses c.args.key c.args.writer c.in_ok-stream.stream c.in_ok-stream.ensures.made later _ (c.in_ok-copy_all.ensures.narrows told) _
-    (inr (good, inr (done.narrows _ (inr (0, c.in_err-flush_retrying.ensures.flushes.why))))))
+    (inr (good, inr (done.hands_back.narrows _ (inr (0, c.in_err-flush_retrying.ensures.flushes.why))))))

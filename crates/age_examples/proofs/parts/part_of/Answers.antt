@@ -16,7 +16,7 @@ returns-in-Err-read_at g c = λ told well never file plain carries for.
     let stands = c.in-Ok.ensures.plaintext told well file plain carries for in
     by_cause inl (λ past. inr (ap Io past.0, past.1))
     (refusal_is c.in-Err-read_at.error c.args.place (place_of stream) (content_of stream) plain stands.place stands.content
-    (λ other. c.in-Err-read_at.ensures.cause (c.in-Ok.ensures.tells ∙ told) (ap (λ s. s.ends_well) stands.content) other
+    (λ other. c.in-Err-read_at.ensures.refuses.cause (c.in-Ok.ensures.tells ∙ told) (ap (λ s. s.ends_well) stands.content) other
     (never_fails (λ s. g.R.Read.faults s.inner.source.inner.inner) stream c.read_at.new.self (λ t. never t.inner.source.inner.inner))))
 
 pub returns : goal.returns
@@ -26,7 +26,7 @@ returns g c = λ told well never file plain carries for.
     let part = c.in-Ok-room_for.part in
     let size : length c.read_at.new.buf ≡ length part.items = omega (arith, c.read_at.auto.buf, c.deref_mut.ensures.len, part.ok.0) in
     let filled = refilled part.items c.read_at.new.buf part.len part.ok.0 size in
-    let (start, leads, read) = c.in-Ok-read_at.ensures.cursor (c.in-Ok.ensures.tells ∙ told) (ap (λ s. s.ends_well) stands.content) in
+    let (start, leads, read) = c.in-Ok-read_at.ensures.gives.cursor (c.in-Ok.ensures.tells ∙ told) (ap (λ s. s.ends_well) stands.content) in
     (rw filled at c.truncate.ensures.items) ∙ read
     ∙ part_is c.args.place (length c.read_at.new.buf) c.args.count (place_of stream) start (content_of stream) plain
     (size ∙ c.in-Ok-room_for.ensures.length) stands.place stands.content leads

@@ -10,7 +10,7 @@ pub returns-else-count-eq0-clause-keeps_last : goal.returns-else-count-eq0-claus
 returns-else-count-eq0-clause-keeps_last g c = λ told has b is.
     let reader = c.args.reader.now in
     let apart = before_end (payload_of reader) c.args.place (place_of reader) has in
-    c.in-Ok-read.ensures.keeps_last b (c.in-Ok.ensures.same_last told apart b is)
+    c.in-Ok-read.ensures.chunks.keeps_last b (c.in-Ok.ensures.chunks.same_last told apart b is)
 
 pub returns-else-count-eq0-clause-found : goal.returns-else-count-eq0-clause-found
 returns-else-count-eq0-clause-found g c = λ told has there.
@@ -18,7 +18,7 @@ returns-else-count-eq0-clause-found g c = λ told has there.
     let seek = c.in-Ok.ensures in
     let apart = before_end (payload_of reader) c.args.place (place_of reader) has in
     let leads : c.in-Ok.field-0 ≡ c.args.place = seek.seeks.leads told in
-    c.in-Ok-read.ensures.held (seek.finds told apart (subst (λ n. HasChunk reader (n / 65536)) (sym leads) there)) ∙ seek.end told apart
+    c.in-Ok-read.ensures.opens.held (seek.chunks.finds told apart (subst (λ n. HasChunk reader (n / 65536)) (sym leads) there)) ∙ seek.opens.end told apart
 
 pub returns-else-count-eq0-clause-byte : goal.returns-else-count-eq0-clause-byte
 returns-else-count-eq0-clause-byte g c = λ told steady.

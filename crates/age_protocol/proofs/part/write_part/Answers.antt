@@ -75,7 +75,7 @@ returns-in-Err-clause-why g c = λ told well within quiet.
 
 pub returns-in-Err-clause-named : goal.returns-in-Err-clause-named
 returns-in-Err-clause-named g c =
-    elim c.in-Err.ensures.seeks.why [ inl seek ↦ inr (inl (inl seek)) | inr own ↦ inr (inl (inr (inl (c.in-Err.ensures.patient, own)))) ]
+    elim c.in-Err.ensures.seeks.why [ inl seek ↦ inr (inl (inl seek)) | inr own ↦ inr (inl (inr (inl (c.in-Err.ensures.target.patient, own)))) ]
 
 pub returns-in-Ok-clause-why : goal.returns-in-Ok-clause-why
 returns-in-Ok-clause-why g c = λ told well within quiet.
@@ -113,7 +113,7 @@ returns-in-Ok-clause-standing g c = λ told writer_told.
     let new_told = seek.seeks.same_tells ∙ told in
     let there = seek.seeks.arrives told ∙ seek.seeks.leads told in
     standing g.S.Suite.seal_of g.W.Write.appended c.args.count c.args.place (key_of stream) (payload_of stream) _ c.args.writer.now c.copy_some.new.writer
-    (stand-moved g.S.Suite.seal_of (key_of stream) _ (payload_of stream).bytes _ c.args.place _ _ seek.key (ap (λ s. s.bytes) (seek.payload told)) there (c.reader_law.ensures.stands new_told))
+    (stand-moved g.S.Suite.seal_of (key_of stream) _ (payload_of stream).bytes _ c.args.place _ _ seek.leaves.key (ap (λ s. s.bytes) (seek.leaves.payload told)) there (c.reader_law.ensures.stands new_told))
     (c.copy_some.ensures.front new_told writer_told)
 
 pub returns-in-Ok-clause-given : goal.returns-in-Ok-clause-given
@@ -126,8 +126,8 @@ returns-in-Ok-clause-given g c = λ told writer_told.
     on_ok_weaker c.copy_some.result
     (λ done.
     given g.S.Suite.seal_of g.W.Write.appended c.args.count c.args.place (key_of stream) (payload_of stream) _ c.args.writer.now c.copy_some.new.writer
-    (stand-moved g.S.Suite.seal_of (key_of stream) _ (payload_of stream).bytes _ c.args.place _ _ seek.key (ap (λ s. s.bytes) (seek.payload told)) there (law.stands new_told))
-    (λ well. good-moved g.S.Suite.seal_of (key_of stream) _ (payload_of stream) _ c.args.place _ _ seek.key (seek.payload told) there (law.end new_told well)) done)
+    (stand-moved g.S.Suite.seal_of (key_of stream) _ (payload_of stream).bytes _ c.args.place _ _ seek.leaves.key (ap (λ s. s.bytes) (seek.leaves.payload told)) there (law.stands new_told))
+    (λ well. good-moved g.S.Suite.seal_of (key_of stream) _ (payload_of stream) _ c.args.place _ _ seek.leaves.key (seek.leaves.payload told) there (law.end new_told well)) done)
     (c.copy_some.ensures.part new_told writer_told)
 
 pub returns-in-Ok-clause-stands : goal.returns-in-Ok-clause-stands
@@ -154,7 +154,7 @@ returns-in-Ok-clause-stands g c = λ told well.
 pub returns-in-Err-clause-outside : goal.returns-in-Err-clause-outside
 returns-in-Err-clause-outside g c = λ told writer_told outside.
     let stream = c.args.stream.now in
-    let ends = ends_before (payload_of stream) c.args.place (place_of stream) c.in-Err.e outside (c.in-Err.ensures.refused told outside) in
+    let ends = ends_before (payload_of stream) c.args.place (place_of stream) c.in-Err.e outside (c.in-Err.ensures.target.refused told outside) in
     inr (inr (
       ends.0,
       record { out = []; most = omega arith; holds = (refl, ends.1); done = g.met.W.Write.appends_nothing c.args.writer.now },

@@ -77,7 +77,7 @@ returns-in_err-out-clause-why g c = λ reader_told well quiet.
     let sealed = c.in_ok-finished.ensures in
     let good = is-good later.failed (λ failed. search rules) in
     of_error _ _ _ c.from_residual-in_err-out.ensures.1
-    (armor-refused g.W.Write.refuses c.args.writer c.in_ok-stream.stream over later _ narrows c.in_ok-finished.finished good sealed.narrows _
+    (armor-refused g.W.Write.refuses c.args.writer c.in_ok-stream.stream over later _ narrows c.in_ok-finished.finished good sealed.hands_back.narrows _
     (0, inl (c.in_err-out.ensures.patient, c.in_err-out.ensures.why)))
 
 pub returns-in_err-flush_retrying-clause-why : goal.returns-in_err-flush_retrying-clause-why
@@ -93,4 +93,4 @@ returns-in_err-flush_retrying-clause-why g c = λ reader_told well quiet.
     let done_good = is-good c.in_ok-finished.finished.failed (λ failed. search rules) in
     of_error _ _ _ c.from_residual-in_err-flush_retrying.ensures.1
     (out-refused g.W.Write.refuses c.args.writer c.in_ok-stream.stream over later _ narrows c.in_ok-finished.finished c.in_ok-out.out good done_good
-    sealed.narrows done.narrows _ (0, c.in_err-flush_retrying.ensures.flushes.why))
+    sealed.hands_back.narrows done.narrows _ (0, c.in_err-flush_retrying.ensures.flushes.why))
