@@ -8,7 +8,9 @@ pub mod Ahead
 pub mod Ending
 pub mod Seeking
 pub mod Reader
+pub mod Opening
 pub mod Steps
+pub mod Seeks
 pub mod ReaderLemmas
 pub mod WritingLemmas
 pub mod PrivateCounting
