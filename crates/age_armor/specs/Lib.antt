@@ -13,6 +13,7 @@ pub mod Steps
 pub mod Seeks
 pub mod ReaderLemmas
 pub mod WritingLemmas
+pub mod WriterCalls
 pub mod PrivateCounting
 pub mod PrivateJudging
 pub mod PrivateSteps

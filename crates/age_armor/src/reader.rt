@@ -1,21 +1,15 @@
 //! Reading armor.
-ghost use Rattle.std.specs.Prelude.{◌≡◌, ◌≢◌, ℕ, ◌+◌, ◌-◌, ◌*◌, ◌^◌, ◌≤◌, ◌<◌, Bool, true, false, IsTrue, List, [], ◌++◌, length, take, drop, min, IfOk, IfErr, OnOk, OnErr, IsOk, Ok, Err, Some, codes};
-ghost use Rattle.std.proofs.Common.{arith};
-ghost use Rattle.age_error.specs.Bytes.{AreBytes};
-ghost use Rattle.age_error.specs.declared.io.Error.{Error as Failure};
+ghost use Rattle.std.specs.Prelude.{◌≡◌, ◌≢◌, ◌+◌, ◌-◌, ◌*◌, ◌^◌, ◌≤◌, ◌<◌, true, false, IsTrue, length, take, drop, min, IfOk, IfErr, OnErr, IsOk, Ok, Err, Some, codes};
 ghost use Rattle.age_error.specs.declared.io.Error.TheVariants.{OutOfMemory, Failed};
-ghost use Rattle.age_io.specs.Stretch.{Stretch, nothing, whole, from_place, IsFault};
+ghost use Rattle.age_io.specs.Stretch.{nothing, from_place, IsFault};
 ghost use Rattle.age_io.specs.Reading.{Reads, IsQuiet, Delivers, StandsIn, most_faults};
 ghost use Rattle.age_io.specs.Filling.{IsFront, Consumes};
 ghost use Rattle.age_io.specs.Failing.{FailsForGood};
-ghost use Rattle.age_v1.specs.Armor.{Carries};
-ghost use Rattle.age_v1.specs.DeliveredArmor.{stretch_of, text_delivers, begins_armor};
+ghost use Rattle.age_v1.specs.DeliveredArmor.{begins_armor};
 ghost use Rattle.age_armor.specs.Stages.{is_start, has_lines};
 ghost use Rattle.age_armor.specs.PrivateStages.{FindsForm, is_ended};
-ghost use Rattle.age_armor.specs.Ending.{KeepsEnding};
-ghost use Rattle.age_armor.specs.Refusing.{OrText};
 ghost use Rattle.age_armor.specs.declared.stages.Stage.TheVariants.{Binary};
-ghost use Rattle.age_armor.specs.Ahead.{outcome_ahead, rest_ahead, shown_ahead};
+ghost use Rattle.age_armor.specs.Ahead.{outcome_ahead, rest_ahead};
 ghost use Rattle.age_v1.proofs.DeliveredArmors.{content_of, content_bytes, content_short, stands_by};
 ghost use Rattle.age_armor.specs.ReaderLemmas.{spent_ahead, well_inner};
 ghost use Rattle.age_armor.specs.Marks.{is_known};
@@ -93,7 +87,7 @@ pub struct ArmoredReader<R: BufRead> {
 }
 
 impl<R: BufRead> Read for ArmoredReader<R> {
-    ghost use Rattle.age_armor.specs.Reader.{inner_of, has_failed, has_armor, source_of, outcome_of, text_outcome_of, knows_end, armored_content, place_of, armored_rest, refuses_of, shown_of, ReadsArmor};
+    ghost use Rattle.age_armor.specs.Reader.{inner_of, armored_content, place_of, armored_rest, refuses_of, ReadsArmor};
 
     ghost tells = { λ r. R.Read.tells (inner_of r) };
 
@@ -165,7 +159,7 @@ impl<R: BufRead> Read for ArmoredReader<R> {
 }
 
 impl<R: BufRead> ArmoredReader<R> {
-    ghost use Rattle.age_armor.specs.Reader.{inner_of, has_failed, has_armor, taken_of, source_of, outcome_of, text_outcome_of, lines_of, furthest_of, notes_all, knows_end, armored_content, place_of, armored_rest, shown_of, GivesLine, Learns};
+    ghost use Rattle.age_armor.specs.Reader.{inner_of, has_failed, has_armor, taken_of, source_of, lines_of, furthest_of, knows_end, place_of, armored_rest, shown_of, GivesLine, Learns};
     ghost use Rattle.age_armor.specs.Opening.{OpensText};
     ghost use Rattle.age_armor.specs.PrivateSeeking.{Goes};
     ghost use Rattle.age_armor.specs.PrivateSteps.{WhereTold, KeepsText, EndsAsBefore, CountsTaken, HoldsNext, ReadsNothing, StaysBinary};
@@ -387,7 +381,7 @@ impl<R: BufRead> fmt::Debug for ArmoredReader<R> {
 }
 
 impl<R: BufRead> BufRead for ArmoredReader<R> {
-    ghost use Rattle.age_armor.specs.Reader.{inner_of, has_failed, has_armor, source_of, outcome_of, text_outcome_of, lines_of, marks_of, shown_of, ShowsArmor, SameButPlace};
+    ghost use Rattle.age_armor.specs.Reader.{shown_of, ShowsArmor, SameButPlace};
 
     ghost shown = { shown_of };
 

@@ -1,19 +1,18 @@
 //! Seeks in armor.
-ghost use Rattle.std.specs.Prelude.{◌≡◌, ◌≢◌, ℕ, ◌+◌, ◌^◌, ◌≤◌, ◌<◌, ◌⊎◌, Bool, true, false, IsTrue, List, [], length, Result, IfOk, IfErr, OnOk, OnErr, Ok, Err, Some, None, IfSome};
-ghost use Rattle.age_error.specs.Refusals.{IsDevice, IsInterruption};
+ghost use Rattle.std.specs.Prelude.{◌≡◌, ◌≢◌, ℕ, ◌+◌, ◌^◌, ◌≤◌, ◌<◌, ◌⊎◌, true, false, IsTrue, [], length, Result, IfOk, IfErr, OnOk, Ok, Err, Some, None};
+ghost use Rattle.age_error.specs.Refusals.{IsDevice};
 ghost use Rattle.age_error.specs.declared.io.Error.TheVariants.{OutOfMemory, BeforeStart, PastEnd, TooLong};
 ghost use Rattle.age_error.specs.declared.io.SeekFrom.TheVariants.{Start, End, Current};
-ghost use Rattle.age_io.specs.Stretch.{Stretch, nothing, IsCleanEnd};
-ghost use Rattle.age_io.specs.Reading.{IsQuiet, TriedAgain, most_faults};
+ghost use Rattle.age_io.specs.Stretch.{nothing, IsCleanEnd};
+ghost use Rattle.age_io.specs.Reading.{IsQuiet, most_faults};
 ghost use Rattle.age_io.specs.Keeping.{KeepsReader, OrSeek};
 ghost use Rattle.age_io.specs.Failing.{FailsForGood};
-ghost use Rattle.age_io.specs.Cursor.{Seeks, IsOutside, IsSeekRefusal, place_at as place_by, sought as sought_by};
+ghost use Rattle.age_io.specs.Cursor.{IsOutside, IsSeekRefusal, place_at as place_by, sought as sought_by};
 ghost use Rattle.age_io.specs.CursorLemmas.{or_too_long_no_device, or_failed_no_device};
 ghost use Rattle.age_v1.specs.DeliveredArmor.{begins_armor};
-ghost use Rattle.age_armor.specs.Seeking.{OrAstray, AsksPast, IsEarly, IsFromEnd, IsNear, IsTo};
+ghost use Rattle.age_armor.specs.Seeking.{OrAstray, AsksPast, IsEarly};
 ghost use Rattle.age_armor.specs.PrivateSeeking.{Goes, SeeksText, ComesBack};
-ghost use Rattle.age_armor.specs.Marks.{LearnsMore};
-ghost use Rattle.age_armor.specs.Stages.{NamesEnding, is_start};
+ghost use Rattle.age_armor.specs.Stages.{is_start};
 ghost use Rattle.age_armor.specs.Refusing.{OrText};
 ghost use Rattle.age_armor.specs.declared.stages.Stage.TheVariants.{Binary};
 
