@@ -1,11 +1,10 @@
 -- What the private steps of a reader of armor say of it, before and after.
-use Rattle.std.specs.Prelude.{Bool, Err, IfErr, IfOk, IsTrue, List, Ok, OnErr, OnOk, Result, [], drop, false, length, true, ℕ, ℤ, ⊤, ◌*◌, ◌+◌, ◌-◌, ◌<◌, ◌≡◌, ◌≢◌, ◌≤◌}
+use Rattle.std.specs.Prelude.{Bool, Err, IfErr, IfOk, IsTrue, Ok, OnErr, OnOk, Result, [], false, length, true, ℕ, ℤ, ⊤, ◌*◌, ◌+◌, ◌-◌, ◌<◌, ◌≡◌, ◌≢◌, ◌≤◌}
 use Rattle.age_error.specs.declared.io.Error.{Error}
 use Rattle.age_io.specs.Stretch.{IsCleanEnd, from_place}
 use Rattle.age_armor.specs.declared.reader.ArmoredReader.{ArmoredReader}
 use Rattle.age_armor.specs.declared.stages.Stage.TheVariants.{Binary}
 use Rattle.age_armor.specs.PrivateCounting.{TakesLines}
-use Rattle.age_v1.specs.DeliveredArmor.{begins_armor}
 use Rattle.age_armor.specs.Ending.{KeepsEnding}
 use Rattle.age_armor.specs.Marks.{LearnsMore}
 use Rattle.age_armor.specs.Stages.{NamesEnding, is_start}

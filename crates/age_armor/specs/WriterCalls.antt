@@ -1,5 +1,5 @@
 -- What the calls of an `ArmoredWriter` say; of `write` and `flush` what they say besides what those of every writer do.
-use Rattle.std.specs.Prelude.{◌≡◌, ℕ, ◌+◌, ◌<◌, ◌≤◌, ◌⊎◌, ⊤, true, false, IsTrue, List, length, Result, Ok, Err, IfOk, IfErr, OnOk, OnErr, IsOk}
+use Rattle.std.specs.Prelude.{◌≡◌, ℕ, ◌+◌, ◌<◌, ◌≤◌, ◌⊎◌, ⊤, false, IsTrue, List, length, Result, Ok, Err, IfOk, IfErr, OnOk, OnErr, IsOk}
 use Rattle.age_error.specs.Refusals.{IsInterruption}
 use Rattle.age_error.specs.declared.io.Error.{Error}
 use Rattle.age_error.specs.declared.io.Error.TheVariants.{Failed, OutOfMemory}

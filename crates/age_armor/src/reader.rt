@@ -216,8 +216,8 @@ impl<R: BufRead> ArmoredReader<R> {
     /// How many lines were taken so far: one for each line after the begin marker's, up to and with the end marker's, that a read,
     /// a look or a seek took, each time that it did. It is 0 of a binary text, and stays at 2^64 - 1.
     ///
-    /// In armor 48 times as many are no fewer than the bytes up to the furthest place that was come to, and so than what a
-    /// good reader has given and holds.
+    /// Over an inner reader that tells its bytes 48 times as many are, in armor, no fewer than the bytes up to the furthest place
+    /// that was come to (`least`), and that place isn't before what a good reader has given and holds (`reached`).
     pub fn lines(&self) -> u64
         ensures count { result ≡ lines_of self.now }
         ensures least { IsTrue (R.Read.tells (inner_of self.now)) → IsTrue (has_armor self.now) → furthest_of self.now ≤ 48 * result }
