@@ -8,9 +8,12 @@ pub mod Ahead
 pub mod Ending
 pub mod Seeking
 pub mod Reader
+pub mod Opening
 pub mod Steps
+pub mod Seeks
 pub mod ReaderLemmas
 pub mod WritingLemmas
+pub mod WriterCalls
 pub mod PrivateCounting
 pub mod PrivateJudging
 pub mod PrivateSteps

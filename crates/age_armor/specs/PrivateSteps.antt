@@ -1,11 +1,10 @@
 -- What the private steps of a reader of armor say of it, before and after.
-use Rattle.std.specs.Prelude.{Bool, Err, IfErr, IfOk, IsTrue, List, Ok, OnErr, OnOk, Result, [], drop, false, length, true, ℕ, ℤ, ⊤, ◌*◌, ◌+◌, ◌-◌, ◌<◌, ◌≡◌, ◌≢◌, ◌≤◌}
+use Rattle.std.specs.Prelude.{Bool, Err, IfErr, IfOk, IsTrue, Ok, OnErr, OnOk, Result, [], false, length, true, ℕ, ℤ, ⊤, ◌*◌, ◌+◌, ◌-◌, ◌<◌, ◌≡◌, ◌≢◌, ◌≤◌}
 use Rattle.age_error.specs.declared.io.Error.{Error}
 use Rattle.age_io.specs.Stretch.{IsCleanEnd, from_place}
 use Rattle.age_armor.specs.declared.reader.ArmoredReader.{ArmoredReader}
 use Rattle.age_armor.specs.declared.stages.Stage.TheVariants.{Binary}
 use Rattle.age_armor.specs.PrivateCounting.{TakesLines}
-use Rattle.age_v1.specs.DeliveredArmor.{begins_armor}
 use Rattle.age_armor.specs.Ending.{KeepsEnding}
 use Rattle.age_armor.specs.Marks.{LearnsMore}
 use Rattle.age_armor.specs.Stages.{NamesEnding, is_start}
@@ -70,16 +69,6 @@ module _ {R : Type 0} {buf : buffered.Ghosts R} {read : readers.Ghosts R} where
     pub shown : shown_of old ≡ []
     pub holds : (new.given ≡ old.given) × (new.filled ≡ old.filled)
     pub lines : lines_of new ≡ lines_of old
-
-  -- It gives what is held of a line, or of the next one, and finds out whether the text has armor. Of armor it writes nothing else, and after a
-  -- refusal nothing at all.
-  pub record FillsByForm (old new : ArmoredReader R buf read) (before after : List ℕ) (result : Result ℕ Error) : Type 0 where
-    pub held : 0 < length (shown_of old) → IfOk result (λ n. n ≤ length (shown_of old))
-    pub line : IsTrue (has_armor new) → IfOk result (λ n. n + length (shown_of new) ≤ 48)
-    pub form : WhereSteady old (OnOk result (has_armor new ≡ begins_armor (source_of old).bytes))
-    pub beyond : IsTrue (has_armor new) → IfOk result (λ n. drop n after ≡ drop n before)
-    pub untouched : IsTrue (has_armor new) → OnErr result (after ≡ before)
-    pub spared : WhereSteady old (IsTrue (begins_armor (source_of old).bytes) → OnErr result (after ≡ before))
 
   -- a reader that hasn't failed comes to the text's own end
   abbrev pub EndsAsText : ArmoredReader R buf read → ArmoredReader R buf read → Type 0

@@ -1,16 +1,18 @@
--- What a caller sees of an `ArmoredReader`, and what it means as a reader.
-use Rattle.std.specs.Prelude.{◌≡◌, ℕ, ◌+◌, ◌-◌, ◌^◌, ◌≤◌, ◌<◌, ◌⊎◌, Bool, true, false, IsTrue, List, [], length, min, Result, OnOk, ⊤}
+-- What a caller sees of an `ArmoredReader`, what its reads and looks say besides what those of every reader do, and what it means as a reader.
+use Rattle.std.specs.Prelude.{◌≡◌, ℕ, ◌+◌, ◌-◌, ◌^◌, ◌≤◌, ◌<◌, ◌⊎◌, Bool, true, false, IsTrue, List, [], length, drop, min, Result, Ok, Err, IfOk, OnOk, OnErr}
 use Rattle.age_error.specs.declared.io.Error.{Error}
 use Rattle.age_error.specs.declared.io.Error.TheVariants.{Failed}
 use Rattle.age_io.specs.declared.traits.Read as readers
 use Rattle.age_io.specs.declared.bufread.BufRead as buffered
 use Rattle.age_io.specs.Stretch.{Stretch, from_place}
 use Rattle.age_io.specs.Reading.{TriedAgain}
+use Rattle.age_io.specs.Failing.{FailsForGood}
 use Rattle.age_armor.specs.declared.reader.ArmoredReader.{ArmoredReader}
 use Rattle.age_v1.specs.DeliveredArmor.{Outcome, begins_armor}
 use Rattle.age_armor.specs.Stages.{has_lines}
 use Rattle.age_armor.specs.declared.marks.Marks.{Marks}
 use Rattle.age_armor.specs.Marks.{is_known, LearnsMore}
+use Rattle.age_armor.specs.Ending.{KeepsEnding}
 use Rattle.age_armor.specs.Refusing.{IsTextRefusal}
 use Rattle.age_armor.specs.Seeking.{text_outcome}
 use Rattle.age_armor.specs.Ahead.{outcome_ahead, rest_ahead, shown_ahead}
@@ -90,19 +92,6 @@ module _ {R : Type 0} {buf : buffered.Ghosts R} {read : readers.Ghosts R} where
       ⊎ IsTextRefusal (read.tells r.source.inner) (read.steady r.source.inner) (source_of r).ends_well e
       ⊎ TriedAgain read.refuses r.source.inner e
 
-  -- all of them
-  abbrev pub armored_reader : readers.Ghosts (ArmoredReader R buf read)
-  armored_reader = record {
-    tells = λ r. read.tells r.source.inner;
-    steady = λ r. read.steady r.source.inner;
-    content = armored_content;
-    place = place_of;
-    rest = armored_rest;
-    faults = λ r. read.faults r.source.inner;
-    refuses = refuses_of;
-    read_besides = λ _ _ _ _ _. ⊤;
-  }
-
   -- what it shows: the rest of the line that it holds
   abbrev pub shown_of : ArmoredReader R buf read → List ℕ
   shown_of r = shown_ahead r.failed r.bytes r.given r.filled
@@ -120,3 +109,69 @@ module _ {R : Type 0} {buf : buffered.Ghosts R} {read : readers.Ghosts R} where
     pub bare : IsTrue (read.tells (inner_of old)) → IsTrue (read.steady (inner_of old)) → begins_armor (source_of old).bytes ≡ false →
         lines_of new ≡ lines_of old
     pub exact : IsTrue (read.tells (inner_of old)) → IsTrue (has_armor new) → OnOk result (CountsLine old new)
+
+  -- What stays of the text over a read or a look: which one it is, what it delivers in all, and how it ends. A refusal that neither the device
+  -- nor memory made is that of its end.
+  pub record SameText {A : Type 0} (old new : ArmoredReader R buf read) (result : Result A Error) : Type 0 where
+    pub ending : KeepsEnding (read.tells (inner_of old)) (has_failed old) (read.faults (inner_of old)) (read.faults (inner_of new))
+        (outcome_of old).ending (outcome_of new).ending result
+    pub whole : IsTrue (read.tells (inner_of old)) → text_outcome_of new ≡ text_outcome_of old
+    pub same_text : IsTrue (read.tells (inner_of old)) → source_of new ≡ source_of old
+
+  -- What a read gives: what is held of a line, or of the next one. One that isn't empty has found out whether the text has armor. In armor nothing
+  -- else of the buffer changes, and where the text begins as armor a refusal leaves it, also that of the first line.
+  pub record GivesLine (old new : ArmoredReader R buf read) (before after : List ℕ) (result : Result ℕ Error) : Type 0 where
+    pub held : 0 < length (shown_of old) → IfOk result (λ n. n ≤ length (shown_of old))
+    pub line : IsTrue (has_armor new) → IfOk result (λ n. n + length (shown_of new) ≤ 48)
+    pub beyond : IsTrue (has_armor new) → IfOk result (λ n. drop n after ≡ drop n before)
+    pub untouched : IsTrue (has_armor new) → OnErr result (after ≡ before)
+    pub form : 0 < length before → IsTrue (read.tells (inner_of old)) → IsTrue (read.steady (inner_of old)) →
+        OnOk result (has_armor new ≡ begins_armor (source_of old).bytes)
+    pub spared : IsTrue (read.tells (inner_of old)) → IsTrue (read.steady (inner_of old)) →
+        IsTrue (begins_armor (source_of old).bytes) → OnErr result (after ≡ before)
+
+  -- What a read says besides: what it gives, what stays of the text, what it learns of it, and when it fails or does nothing.
+  pub record ReadsArmor (old new : ArmoredReader R buf read) (before after : List ℕ) (result : Result ℕ Error) : Type 0 where
+    pub gives : GivesLine old new before after result
+    pub text : SameText old new result
+    pub learns : Learns old new result
+    -- the end is known once it answers 0
+    pub knows : 0 < length before → IfOk result (λ n. n ≡ 0 → IsTrue (knows_end new))
+    -- after a refusal it answers `Failed`, and interruptions were tried again
+    pub good : FailsForGood (has_failed old) (has_failed new) result
+    -- neither a failed reader nor an empty buffer changes anything
+    pub failed : IsTrue (has_failed old) → (result ≡ Err Failed) × (new ≡ old)
+    pub empty : has_failed old ≡ false → length before ≡ 0 → (result ≡ Ok 0) × (new ≡ old)
+
+  -- What a look says besides: the same of the text, of which it finds out the form, and of what it learns.
+  pub record ShowsArmor {A : Type 0} (old new : ArmoredReader R buf read) (result : Result A Error) : Type 0 where
+    pub text : SameText old new result
+    pub form : IsTrue (read.tells (inner_of old)) → IsTrue (read.steady (inner_of old)) →
+        OnOk result (has_armor new ≡ begins_armor (source_of old).bytes)
+    pub learns : Learns old new result
+    -- the end is known once nothing is shown
+    pub knows : OnOk result (shown_of new ≡ [] → IsTrue (knows_end new))
+    pub good : FailsForGood (has_failed old) (has_failed new) result
+
+  -- What stays of a reader that takes what was shown: all but its place and what is left to be given.
+  pub record SameButPlace (old new : ArmoredReader R buf read) : Type 0 where
+    pub failed : has_failed new ≡ has_failed old
+    pub ending : (outcome_of new).ending ≡ (outcome_of old).ending
+    pub whole : text_outcome_of new ≡ text_outcome_of old
+    pub same_text : source_of new ≡ source_of old
+    pub form : has_armor new ≡ has_armor old
+    pub marks : marks_of new ≡ marks_of old
+    pub lines : lines_of new ≡ lines_of old
+
+  -- all its members as a reader
+  abbrev pub armored_reader : readers.Ghosts (ArmoredReader R buf read)
+  armored_reader = record {
+    tells = λ r. read.tells r.source.inner;
+    steady = λ r. read.steady r.source.inner;
+    content = armored_content;
+    place = place_of;
+    rest = armored_rest;
+    faults = λ r. read.faults r.source.inner;
+    refuses = refuses_of;
+    read_besides = ReadsArmor;
+  }

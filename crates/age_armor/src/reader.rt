@@ -1,21 +1,15 @@
 //! Reading armor.
-ghost use Rattle.std.specs.Prelude.{◌≡◌, ◌≢◌, ℕ, ◌+◌, ◌-◌, ◌*◌, ◌^◌, ◌≤◌, ◌<◌, Bool, true, false, IsTrue, List, [], ◌++◌, length, take, drop, min, IfOk, IfErr, OnOk, OnErr, IsOk, Ok, Err, Some, codes};
-ghost use Rattle.std.proofs.Common.{arith};
-ghost use Rattle.age_error.specs.Bytes.{AreBytes};
-ghost use Rattle.age_error.specs.declared.io.Error.{Error as Failure};
+ghost use Rattle.std.specs.Prelude.{◌≡◌, ◌≢◌, ◌+◌, ◌-◌, ◌*◌, ◌^◌, ◌≤◌, ◌<◌, true, false, IsTrue, length, take, drop, min, IfOk, IfErr, OnErr, IsOk, Ok, Err, Some, codes};
 ghost use Rattle.age_error.specs.declared.io.Error.TheVariants.{OutOfMemory, Failed};
-ghost use Rattle.age_io.specs.Stretch.{Stretch, nothing, whole, from_place, IsFault};
+ghost use Rattle.age_io.specs.Stretch.{nothing, from_place, IsFault};
 ghost use Rattle.age_io.specs.Reading.{Reads, IsQuiet, Delivers, StandsIn, most_faults};
 ghost use Rattle.age_io.specs.Filling.{IsFront, Consumes};
 ghost use Rattle.age_io.specs.Failing.{FailsForGood};
-ghost use Rattle.age_v1.specs.Armor.{Carries};
-ghost use Rattle.age_v1.specs.DeliveredArmor.{stretch_of, text_delivers, begins_armor};
+ghost use Rattle.age_v1.specs.DeliveredArmor.{begins_armor};
 ghost use Rattle.age_armor.specs.Stages.{is_start, has_lines};
 ghost use Rattle.age_armor.specs.PrivateStages.{FindsForm, is_ended};
-ghost use Rattle.age_armor.specs.Ending.{KeepsEnding};
-ghost use Rattle.age_armor.specs.Refusing.{OrText};
 ghost use Rattle.age_armor.specs.declared.stages.Stage.TheVariants.{Binary};
-ghost use Rattle.age_armor.specs.Ahead.{outcome_ahead, rest_ahead, shown_ahead};
+ghost use Rattle.age_armor.specs.Ahead.{outcome_ahead, rest_ahead};
 ghost use Rattle.age_v1.proofs.DeliveredArmors.{content_of, content_bytes, content_short, stands_by};
 ghost use Rattle.age_armor.specs.ReaderLemmas.{spent_ahead, well_inner};
 ghost use Rattle.age_armor.specs.Marks.{is_known};
@@ -93,7 +87,7 @@ pub struct ArmoredReader<R: BufRead> {
 }
 
 impl<R: BufRead> Read for ArmoredReader<R> {
-    ghost use Rattle.age_armor.specs.Reader.{inner_of, has_failed, has_armor, source_of, outcome_of, text_outcome_of, knows_end, armored_content, place_of, armored_rest, refuses_of, shown_of, Learns};
+    ghost use Rattle.age_armor.specs.Reader.{inner_of, armored_content, place_of, armored_rest, refuses_of, ReadsArmor};
 
     ghost tells = { λ r. R.Read.tells (inner_of r) };
 
@@ -108,6 +102,8 @@ impl<R: BufRead> Read for ArmoredReader<R> {
     ghost faults = { λ r. R.Read.faults (inner_of r) };
 
     ghost refuses = { λ r. refuses_of r };
+
+    ghost read_besides = { ReadsArmor };
 
     ghost faults_fit = { λ r. R.Read.faults_fit r.source.inner };
 
@@ -141,38 +137,17 @@ impl<R: BufRead> Read for ArmoredReader<R> {
     ///
     /// After a refusal the reader has failed, and stays so. The place is as it was, and so is the buffer where the text begins
     /// as armor does.
+    ///
+    /// Its contract is that of each reader, with `ReadsArmor` in the clause `besides`:
+    ///
+    /// - `gives`: which bytes it gives, what becomes of the rest of the buffer, and that it has found out the form of the text.
+    /// - `text`: the text stays, what it delivers in all, and how it ends; a refusal that neither the device nor memory made is
+    ///   that of this end.
+    /// - `learns`, `knows`: how many lines it takes, how far the text was read then, and that its end is known after a 0.
+    /// - `good`, `failed`, `empty`: it fails for good, interruptions were tried again, and a failed reader and an empty buffer
+    ///   change nothing.
     #[tactic(auto, using(crate::proofs::Ahead::rest_failed, crate::proofs::Ahead::shown_small))]
-    fn read(&mut self, buf: &mut [u8]) -> Result<usize, Error>
-        ensures reads { let reader = ⟦<ArmoredReader<R> as Read>⟧ in
-            Reads reader.tells reader.steady reader.content reader.place reader.rest reader.faults reader.refuses self.old self.new buf.new result }
-        // After a refusal it answers `Failed`. A refusal that neither the device nor memory made is that of the text's end,
-        // which reads don't change.
-        ensures good { FailsForGood (has_failed self.old) (has_failed self.new) result }
-        ensures ending { let reader = ⟦<ArmoredReader<R> as Read>⟧ in KeepsEnding (reader.tells self.old) (has_failed self.old)
-            (reader.faults self.old) (reader.faults self.new) (outcome_of self.old).ending (outcome_of self.new).ending result }
-        ensures whole { IsTrue (R.Read.tells (inner_of self.old)) → text_outcome_of self.new ≡ text_outcome_of self.old }
-        ensures same_text { IsTrue (R.Read.tells (inner_of self.old)) → source_of self.new ≡ source_of self.old }
-
-        // It gives what is held of a line, or of the next one. In armor nothing else of the buffer changes.
-        ensures held { 0 < length (shown_of self.old) → IfOk result (λ n. n ≤ length (shown_of self.old)) }
-        ensures line { IsTrue (has_armor self.new) → IfOk result (λ n. n + length (shown_of self.new) ≤ 48) }
-        ensures beyond { IsTrue (has_armor self.new) → IfOk result (λ n. drop n buf.new ≡ drop n buf.old) }
-        ensures untouched { IsTrue (has_armor self.new) → OnErr result (buf.new ≡ buf.old) }
-
-        // Whether it has armor is what the text says: a read that isn't empty has found it out, and where the text begins as armor
-        // does a refusal leaves the buffer, also that of the first line.
-        ensures form { 0 < length buf.old → IsTrue (R.Read.tells (inner_of self.old)) → IsTrue (R.Read.steady (inner_of self.old)) →
-            OnOk result (has_armor self.new ≡ begins_armor (source_of self.old).bytes) }
-        ensures spared { IsTrue (R.Read.tells (inner_of self.old)) → IsTrue (R.Read.steady (inner_of self.old)) →
-            IsTrue (begins_armor (source_of self.old).bytes) → OnErr result (buf.new ≡ buf.old) }
-
-        // What it knows of the text only grows, and of its end it knows once it answers 0.
-        ensures learns { Learns self.old self.new result }
-        ensures knows { 0 < length buf.old → IfOk result (λ n. n ≡ 0 → IsTrue (knows_end self.new)) }
-
-        ensures failed { IsTrue (has_failed self.old) → (result ≡ Err Failed) × (self.new ≡ self.old) }
-        ensures empty { has_failed self.old ≡ false → length buf.old ≡ 0 → (result ≡ Ok 0) × (self.new ≡ self.old) }
-    {
+    fn read(&mut self, buf: &mut [u8]) -> Result<usize, Error> {
         if self.failed {
             return Err(Error::Failed);
         }
@@ -184,37 +159,21 @@ impl<R: BufRead> Read for ArmoredReader<R> {
 }
 
 impl<R: BufRead> ArmoredReader<R> {
-    ghost use Rattle.age_armor.specs.Reader.{inner_of, has_failed, has_armor, taken_of, source_of, outcome_of, text_outcome_of, lines_of, furthest_of, notes_all, knows_end, armored_content, place_of, armored_rest, shown_of, Learns};
-    ghost use Rattle.age_armor.specs.Seeking.{text_outcome};
+    ghost use Rattle.age_armor.specs.Reader.{inner_of, has_failed, has_armor, taken_of, source_of, lines_of, furthest_of, knows_end, place_of, armored_rest, shown_of, GivesLine, Learns};
+    ghost use Rattle.age_armor.specs.Opening.{OpensText};
     ghost use Rattle.age_armor.specs.PrivateSeeking.{Goes};
-    ghost use Rattle.age_armor.specs.PrivateSteps.{WhereTold, KeepsText, EndsAsBefore, CountsTaken, HoldsNext, ReadsNothing, StaysBinary, FillsByForm};
+    ghost use Rattle.age_armor.specs.PrivateSteps.{WhereTold, KeepsText, EndsAsBefore, CountsTaken, HoldsNext, ReadsNothing, StaysBinary};
 
     /// A reader of what the text carries that begins where `inner` stands.
     ///
-    /// It reads nothing yet, takes no memory and never refuses.
+    /// It reads nothing yet, takes no memory and never refuses (`ok`). By `opens` it is what `new` makes, but over `inner` itself
+    /// (`inner`).
     pub fn new_buffered(alloc: Global, inner: R) -> Result<ArmoredReader<R>, Error>
     where
         R: Drop,
+        ensures opens { OpensText ⟦<R as Read>⟧ inner result }
         ensures inner { IfOk result (λ r. inner_of r ≡ inner) }
-        ensures good { IfOk result (λ r. has_failed r ≡ false) }
-        ensures shown { IfOk result (λ r. shown_of r ≡ []) }
-        ensures place { IfOk result (λ r. place_of r ≡ 0) }
-        ensures content { IfOk result (λ r. armored_content r ≡ content_of (R.Read.content inner) (R.Read.place inner)) }
-        ensures outcome { IfOk result (λ r. outcome_of r ≡ text_delivers (R.Read.rest inner).bytes (R.Read.rest inner).ends_well) }
-        ensures text { IfOk result (λ r. source_of r ≡ from_place (R.Read.place inner) (R.Read.content inner)) }
-        ensures whole { IfOk result (λ r. text_outcome_of r ≡ text_outcome (R.Read.content inner) (R.Read.place inner)) }
-        ensures form { IfOk result (λ r. has_armor r ≡ false) }
-        ensures rest { IfOk result (λ r. armored_rest r ≡ stretch_of (text_delivers (R.Read.rest inner).bytes (R.Read.rest inner).ends_well)) }
-        ensures marks { IfOk result (λ r. (lines_of r ≡ 0) × (furthest_of r ≡ 0) × (notes_all r ≡ true) × (knows_end r ≡ false)) }
-
-        // What it delivers to a clean end is what the inner reader's rest carries, and the other way.
-        ensures carries { IsTrue (R.Read.tells inner) → IfOk result (λ r. IsTrue (armored_rest r).ends_well →
-            IsTrue (R.Read.rest inner).ends_well × (AreBytes (R.Read.rest inner).bytes → Carries (R.Read.rest inner).bytes (armored_rest r).bytes)) }
-        ensures honest { (bytes : List ℕ) → IsTrue (R.Read.rest inner).ends_well → Carries (R.Read.rest inner).bytes bytes →
-            IfOk result (λ r. armored_rest r ≡ whole bytes) }
-        ensures named { IfOk result (λ r. (e : Failure) → ⟦<ArmoredReader<R> as Read>⟧.refuses r e → OrText ⟦<R as Read>⟧ inner e) }
         ensures ok { IsOk result }
-        ensures memory { IfErr result (λ e. e ≡ OutOfMemory) }
     {
         Ok(ArmoredReader {
             source: Counted {
@@ -257,8 +216,8 @@ impl<R: BufRead> ArmoredReader<R> {
     /// How many lines were taken so far: one for each line after the begin marker's, up to and with the end marker's, that a read,
     /// a look or a seek took, each time that it did. It is 0 of a binary text, and stays at 2^64 - 1.
     ///
-    /// In armor 48 times as many are no fewer than the bytes up to the furthest place that was come to, and so than what a
-    /// good reader has given and holds.
+    /// Over an inner reader that tells its bytes 48 times as many are, in armor, no fewer than the bytes up to the furthest place
+    /// that was come to (`least`), and that place isn't before what a good reader has given and holds (`reached`).
     pub fn lines(&self) -> u64
         ensures count { result ≡ lines_of self.now }
         ensures least { IsTrue (R.Read.tells (inner_of self.now)) → IsTrue (has_armor self.now) → furthest_of self.now ≤ 48 * result }
@@ -278,7 +237,7 @@ impl<R: BufRead> ArmoredReader<R> {
         ensures good { FailsForGood (has_failed self.old) (has_failed self.new) result }
         ensures ending { EndsAsBefore self.old self.new result }
         ensures same_text { WhereTold self.old (source_of self.new ≡ source_of self.old) }
-        ensures fills { FillsByForm self.old self.new buf.old buf.new result }
+        ensures gives { GivesLine self.old self.new buf.old buf.new result }
         ensures counts { CountsTaken self.old self.new result }
         ensures learns { Learns self.old self.new result }
         ensures knows { IfOk result (λ n. n ≡ 0 → IsTrue (knows_end self.new)) }
@@ -422,22 +381,17 @@ impl<R: BufRead> fmt::Debug for ArmoredReader<R> {
 }
 
 impl<R: BufRead> BufRead for ArmoredReader<R> {
-    ghost use Rattle.age_armor.specs.Reader.{inner_of, has_failed, has_armor, source_of, outcome_of, text_outcome_of, lines_of, marks_of, knows_end, shown_of, Learns};
+    ghost use Rattle.age_armor.specs.Reader.{shown_of, ShowsArmor, SameButPlace};
 
     ghost shown = { shown_of };
 
-    ghost besides = { λ old new result. FailsForGood (has_failed old) (has_failed new) result
-        × KeepsEnding (R.Read.tells (inner_of old)) (has_failed old) (R.Read.faults (inner_of old)) (R.Read.faults (inner_of new))
-        (outcome_of old).ending (outcome_of new).ending result
-        × (IsTrue (R.Read.tells (inner_of old)) → text_outcome_of new ≡ text_outcome_of old)
-        × (IsTrue (R.Read.tells (inner_of old)) → source_of new ≡ source_of old)
-        × (IsTrue (R.Read.tells (inner_of old)) → IsTrue (R.Read.steady (inner_of old)) → OnOk result (has_armor new ≡ begins_armor (source_of old).bytes))
-        × Learns old new result
-        × OnOk result (shown_of new ≡ [] → IsTrue (knows_end new)) };
+    ghost besides = { λ old new result. ShowsArmor old new result };
 
     /// Shows what is held of a line, or the next line's bytes where nothing is held.
     ///
-    /// It refuses as `read` does.
+    /// It refuses as `read` does, and then has failed as after `read`. Its contract is that of each reader, with `ShowsArmor` in
+    /// its field `own`: `text`, `learns` and `good` are as for `read`, by `form` it has found out the form of the text, and by
+    /// `knows` the end is known where it shows nothing.
     #[tactic(auto, using(crate::proofs::Ahead::rest_failed))]
     fn fill_buf(&mut self) -> Result<&[u8], Error> {
         if self.failed {
@@ -449,18 +403,15 @@ impl<R: BufRead> BufRead for ArmoredReader<R> {
         }
     }
 
-    /// Takes bytes of what was shown. It neither fails nor makes good again, and what was found of the text stays the same.
+    /// Takes bytes of what was shown. It takes no line, and asks the inner reader for nothing.
+    ///
+    /// `consumes` is what each reader says: the place moves, and what is shown gets shorter. By `same` all else stays: it neither
+    /// fails nor makes good again, and what was found of the text is the same.
     fn consume(&mut self, amount: usize)
         requires { amount ≤ length (shown_of self.old) }
         ensures consumes { let reader = ⟦<ArmoredReader<R> as Read>⟧ in
             Consumes reader.tells reader.steady reader.content reader.place reader.rest reader.faults reader.refuses (λ r. shown_of r) self.old self.new amount }
-        ensures failed { has_failed self.new ≡ has_failed self.old }
-        ensures ending { (outcome_of self.new).ending ≡ (outcome_of self.old).ending }
-        ensures whole { text_outcome_of self.new ≡ text_outcome_of self.old }
-        ensures same_text { source_of self.new ≡ source_of self.old }
-        ensures form { has_armor self.new ≡ has_armor self.old }
-        ensures marks { marks_of self.new ≡ marks_of self.old }
-        ensures lines { lines_of self.new ≡ lines_of self.old }
+        ensures same { SameButPlace self.old self.new }
     {
         self.given += amount;
         self.place = self.place.saturating_add(amount as u64);
@@ -468,34 +419,21 @@ impl<R: BufRead> BufRead for ArmoredReader<R> {
 }
 
 impl<R: Read> ArmoredReader<BufReader<R>> {
-    ghost use Rattle.age_armor.specs.Reader.{has_failed, has_armor, source_of, outcome_of, text_outcome_of, lines_of, furthest_of, notes_all, knows_end, armored_content, place_of, armored_rest, shown_of};
-    ghost use Rattle.age_armor.specs.Seeking.{text_outcome};
+    ghost use Rattle.age_armor.specs.Opening.{OpensText};
 
     /// A reader of what the text carries that begins where `inner` stands, over a buffer of its own.
     ///
-    /// It reads nothing yet. It takes memory for the buffer, and answers `OutOfMemory` where it is refused that.
+    /// It reads nothing yet. It takes memory for the buffer, and answers `OutOfMemory` where it is refused that; then `inner` is
+    /// gone.
+    ///
+    /// `OpensText` says of a success that the reader tells its bytes, is steady and counts faults as `inner` does (`tells`, `steady`,
+    /// `faults`), that it stands at the front of a text of which nothing was read (`unread`, `begins`, `place`), that it delivers what
+    /// the definition makes of `inner`'s content and rest, to a clean end exactly what the rest carries (`content`, `rest`,
+    /// `carries`, `honest`), and why its calls refuse (`named`).
     pub fn new(alloc: Global, inner: R) -> Result<ArmoredReader<BufReader<R>>, Error>
     where
         R: Drop,
-        ensures tells { IfOk result (λ r. ⟦<ArmoredReader<BufReader<R>> as Read>⟧.tells r ≡ R.tells inner) }
-        ensures steady { IfOk result (λ r. ⟦<ArmoredReader<BufReader<R>> as Read>⟧.steady r ≡ R.steady inner) }
-        ensures faults { IfOk result (λ r. ⟦<ArmoredReader<BufReader<R>> as Read>⟧.faults r ≡ R.faults inner) }
-        ensures good { IfOk result (λ r. has_failed r ≡ false) }
-        ensures shown { IfOk result (λ r. shown_of r ≡ []) }
-        ensures place { IfOk result (λ r. place_of r ≡ 0) }
-        ensures content { IfOk result (λ r. armored_content r ≡ content_of (R.content inner) (R.place inner)) }
-        ensures outcome { IfOk result (λ r. outcome_of r ≡ text_delivers (R.rest inner).bytes (R.rest inner).ends_well) }
-        ensures text { IfOk result (λ r. source_of r ≡ from_place (R.place inner) (R.content inner)) }
-        ensures whole { IfOk result (λ r. text_outcome_of r ≡ text_outcome (R.content inner) (R.place inner)) }
-        ensures form { IfOk result (λ r. has_armor r ≡ false) }
-        ensures rest { IfOk result (λ r. armored_rest r ≡ stretch_of (text_delivers (R.rest inner).bytes (R.rest inner).ends_well)) }
-        ensures marks { IfOk result (λ r. (lines_of r ≡ 0) × (furthest_of r ≡ 0) × (notes_all r ≡ true) × (knows_end r ≡ false)) }
-        ensures carries { IsTrue (R.tells inner) → IfOk result (λ r. IsTrue (armored_rest r).ends_well →
-            IsTrue (R.rest inner).ends_well × (AreBytes (R.rest inner).bytes → Carries (R.rest inner).bytes (armored_rest r).bytes)) }
-        ensures honest { (bytes : List ℕ) → IsTrue (R.rest inner).ends_well → Carries (R.rest inner).bytes bytes →
-            IfOk result (λ r. armored_rest r ≡ whole bytes) }
-        ensures named { IfOk result (λ r. (e : Failure) → ⟦<ArmoredReader<BufReader<R>> as Read>⟧.refuses r e → OrText ⟦<R as Read>⟧ inner e) }
-        ensures memory { IfErr result (λ e. e ≡ OutOfMemory) }
+        ensures { OpensText ⟦<R as Read>⟧ inner result }
     {
         let buffered = BufReader::new(alloc, inner)?;
         ArmoredReader::new_buffered(alloc, buffered)

@@ -1,19 +1,18 @@
 //! Seeks in armor.
-ghost use Rattle.std.specs.Prelude.{◌≡◌, ◌≢◌, ℕ, ◌+◌, ◌^◌, ◌≤◌, ◌<◌, ◌⊎◌, Bool, true, false, IsTrue, List, [], length, Result, IfOk, IfErr, OnOk, OnErr, Ok, Err, Some, None, IfSome};
-ghost use Rattle.age_error.specs.Refusals.{IsDevice, IsInterruption};
+ghost use Rattle.std.specs.Prelude.{◌≡◌, ◌≢◌, ℕ, ◌+◌, ◌^◌, ◌≤◌, ◌<◌, ◌⊎◌, true, false, IsTrue, [], length, Result, IfOk, IfErr, OnOk, Ok, Err, Some, None};
+ghost use Rattle.age_error.specs.Refusals.{IsDevice};
 ghost use Rattle.age_error.specs.declared.io.Error.TheVariants.{OutOfMemory, BeforeStart, PastEnd, TooLong};
 ghost use Rattle.age_error.specs.declared.io.SeekFrom.TheVariants.{Start, End, Current};
-ghost use Rattle.age_io.specs.Stretch.{Stretch, nothing, IsCleanEnd};
-ghost use Rattle.age_io.specs.Reading.{IsQuiet, TriedAgain, most_faults};
+ghost use Rattle.age_io.specs.Stretch.{nothing, IsCleanEnd};
+ghost use Rattle.age_io.specs.Reading.{IsQuiet, most_faults};
 ghost use Rattle.age_io.specs.Keeping.{KeepsReader, OrSeek};
 ghost use Rattle.age_io.specs.Failing.{FailsForGood};
-ghost use Rattle.age_io.specs.Cursor.{Seeks, IsOutside, IsSeekRefusal, place_at as place_by, sought as sought_by};
+ghost use Rattle.age_io.specs.Cursor.{IsOutside, IsSeekRefusal, place_at as place_by, sought as sought_by};
 ghost use Rattle.age_io.specs.CursorLemmas.{or_too_long_no_device, or_failed_no_device};
 ghost use Rattle.age_v1.specs.DeliveredArmor.{begins_armor};
-ghost use Rattle.age_armor.specs.Seeking.{OrAstray, AsksPast, IsEarly, IsFromEnd, IsNear, IsTo};
+ghost use Rattle.age_armor.specs.Seeking.{OrAstray, AsksPast, IsEarly};
 ghost use Rattle.age_armor.specs.PrivateSeeking.{Goes, SeeksText, ComesBack};
-ghost use Rattle.age_armor.specs.Marks.{LearnsMore};
-ghost use Rattle.age_armor.specs.Stages.{NamesEnding, is_start};
+ghost use Rattle.age_armor.specs.Stages.{is_start};
 ghost use Rattle.age_armor.specs.Refusing.{OrText};
 ghost use Rattle.age_armor.specs.declared.stages.Stage.TheVariants.{Binary};
 
@@ -511,12 +510,13 @@ impl<R: BufRead + Seek> ArmoredReader<R> {
 }
 
 impl<R: BufRead + Seek> Seek for ArmoredReader<R> {
-    ghost use Rattle.age_armor.specs.Reader.{inner_of, has_failed, source_of, outcome_of, text_outcome_of, lines_of, marks_of, furthest_of, notes_all, knows_end, armored_content, place_of, shown_of};
-    ghost use Rattle.age_armor.specs.Steps.{StandsBelow};
+    ghost use Rattle.age_armor.specs.Seeks.{SeeksArmor};
 
     ghost seek_refuses = { OrAstray R.Seek.seek_refuses };
 
     ghost no_device = { or_too_long_no_device (or_failed_no_device R.Seek.no_device) };
+
+    ghost seek_besides = { SeeksArmor };
 
     /// Moves within what the text carries, and answers the new place in bytes from its front.
     ///
@@ -541,59 +541,17 @@ impl<R: BufRead + Seek> Seek for ArmoredReader<R> {
     /// failed stays so. After any other it has failed.
     ///
     /// Marks and the length are kept from the first reading on: of a file that changes meanwhile nothing is said.
-    fn seek(&mut self, to: SeekFrom) -> Result<u64, Error>
-        ensures seeks { let reader = ⟦<ArmoredReader<R> as Read>⟧ in
-            Seeks reader.tells reader.steady reader.content reader.place reader.rest reader.faults reader.refuses (OrAstray R.Seek.seek_refuses) self.old self.new to result }
-        ensures patient { IfErr result (λ e. IsInterruption e → ⊥) }
-        ensures good { OnOk result (has_failed self.new ≡ false) }
-        ensures unmoved { IfErr result (λ e. IsOutside e → has_failed self.new ≡ has_failed self.old) }
-        ensures fails { IfErr result (λ e. (IsOutside e → ⊥) → IsTrue (has_failed self.new)) }
-
-        // An error that is no refusal of a seek, and that neither the device nor memory made, is that of the text's end. It comes
-        // only where the target asks for more than the bytes before that end.
-        ensures named { IsTrue (R.Read.tells (inner_of self.old)) → IsTrue (R.Read.content (inner_of self.old)).ends_well →
-            IfErr result (λ e. (IsOutside e → ⊥) → e ≢ OutOfMemory → IsQuiet (R.Read.faults (inner_of self.old)) (R.Read.faults (inner_of self.new)) →
-            NamesEnding (text_outcome_of self.old).ending e × AsksPast to (place_of self.old) (length (armored_content self.old).bytes)) }
-
-        // A target counted from the end is come to only where the text carries bytes: of a bad one the length isn't known.
-        ensures well { IsTrue (R.Read.tells (inner_of self.old)) → IsTrue (R.Read.steady (inner_of self.old)) → IsFromEnd to →
-            OnOk result (IsTrue (armored_content self.old).ends_well) }
-
-        // How the text ends stays the same, and a reader that hasn't failed comes to that end, unless nothing was looked for.
-        ensures whole { IsTrue (R.Read.tells (inner_of self.old)) → text_outcome_of self.new ≡ text_outcome_of self.old }
-        ensures same_text { IsTrue (R.Read.tells (inner_of self.old)) → source_of self.new ≡ source_of self.old }
-
-        // Where each mark had memory, a seek to where the text was read before takes at most 1,024 lines.
-        ensures marks { IsTrue (R.Read.tells (inner_of self.old)) → IsTrue (R.Read.steady (inner_of self.old)) → IsTrue (notes_all self.old) →
-            IsNear to (place_of self.old) (furthest_of self.old) (knows_end self.old) → OnOk result (lines_of self.new ≤ lines_of self.old + 1024) }
-        // Once the end was read, one to outside of what the text carries takes none, and where bytes are held, one to the place itself
-        // changes nothing.
-        ensures outside { IsTrue (R.Read.tells (inner_of self.old)) → IsTrue (R.Read.steady (inner_of self.old)) → IsTrue (knows_end self.old) →
-            IfErr result (λ e. IsOutside e → lines_of self.new ≤ lines_of self.old) }
-        ensures still { IsTrue (R.Read.tells (inner_of self.old)) → 0 < length (shown_of self.old) → IsTo to (place_of self.old) →
-            (result ≡ Ok (place_of self.old)) × (self.new ≡ self.old) }
-        ensures learns { LearnsMore (marks_of self.old) (marks_of self.new) }
-        ensures counts { lines_of self.old ≤ lines_of self.new }
-        ensures knows { IsFromEnd to → OnOk result (IsTrue (knows_end self.new)) }
-        ensures reaches { IsTrue (R.Read.tells (inner_of self.old)) → OnOk result (place_of self.new + length (shown_of self.new) ≤ furthest_of self.new) }
-        ensures ending { IsTrue (R.Read.tells (inner_of self.old)) → IsTrue (R.Read.steady (inner_of self.old)) →
-            (IsEarly to (place_of self.old) → ⊥) → has_failed self.new ≡ false →
-            (outcome_of self.new).ending ≡ (text_outcome_of self.old).ending }
-
-        // Of a text that ends in a fault the only such refusal is that of a target that is counted from the place.
-        ensures early { IsTrue (R.Read.tells (inner_of self.old)) → IsTrue (R.Read.steady (inner_of self.old)) → (armored_content self.old).ends_well ≡ false →
-            IfErr result (λ e. IsOutside e → (e ≡ BeforeStart) × IsEarly to (place_of self.old)) }
-
-        // In a binary text no line is taken, and where it moves, the inner reader stands at the place itself, counted from where the text
-        // begins: nothing is read ahead or held.
-        ensures bare { IsTrue (R.Read.tells (inner_of self.old)) → IsTrue (R.Read.steady (inner_of self.old)) → begins_armor (source_of self.old).bytes ≡ false →
-            lines_of self.new ≡ lines_of self.old }
-        ensures below { StandsBelow self.old self.new result }
-
-        // A target that is counted from the place and lies below 0 is refused at once: nothing is read, and nothing changes.
-        ensures at_once { IsTrue (R.Read.tells (inner_of self.old)) → IsEarly to (place_of self.old) →
-            (result ≡ Err BeforeStart) × (self.new ≡ self.old) }
-    {
+    ///
+    /// Its contract is that of each reader that seeks, with `SeeksArmor` in the clause `besides`:
+    ///
+    /// - `fails`: a success makes it good, a refused target leaves a failure as it was, and any other refusal fails it.
+    /// - `refuses`: why it refuses. A refusal that neither the target, the device nor memory made is the text's end, and a bad text
+    ///   has no length.
+    /// - `text`: the text stays, what it delivers in all, and how it ends.
+    /// - `counts`: how many lines it takes, none of a binary text.
+    /// - `learns`: what is known of the text only grows, and its end is known after a target that is counted from it.
+    /// - `lands`: where it stands already nothing changes, and in a binary text the inner reader stands at the place itself.
+    fn seek(&mut self, to: SeekFrom) -> Result<u64, Error> {
         match to {
             SeekFrom::Start(target) => self.seek_to(target),
             SeekFrom::End(distance) => self.seek_from_end(distance),

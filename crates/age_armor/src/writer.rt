@@ -1,8 +1,5 @@
 //! Writing armor.
-ghost use Rattle.std.specs.Prelude.{◌≡◌, ℕ, ◌+◌, ◌*◌, ◌<◌, ◌≤◌, ◌⊎◌, Bool, true, false, IsTrue, List, [], ◌++◌, length, take, IfOk, IfErr, OnOk, OnErr, IsOk, IsOkAnd, Ok, Err, Some, codes, vec_len, vec_capacity};
-ghost use Rattle.age_error.specs.Refusals.{IsInterruption};
-ghost use Rattle.age_error.specs.declared.io.Error.{Error as IoError};
-ghost use Rattle.age_error.specs.declared.io.Error.TheVariants.{Failed, OutOfMemory};
+ghost use Rattle.std.specs.Prelude.{◌≡◌, ◌+◌, ◌*◌, ◌<◌, ◌≤◌, true, false, IsTrue, length, take, IfOk, OnOk, OnErr, IsOk, IsOkAnd, Some, codes, vec_len, vec_capacity};
 ghost use Rattle.age_io.specs.Writing.{HandsOn, KeepsWriter};
 
 use crate::encoding::{COLUMNS, ColumnEncoder, LINE, LINE_TEXT};
@@ -40,7 +37,8 @@ pub struct ArmoredWriter<W> {
 }
 
 impl<W: Write> ArmoredWriter<W> {
-    ghost use Rattle.age_armor.specs.Writing.{WasMade, Took, SendsLines, WriterRefuses, IsGood, is_armored, inner_of, held_len, in_armor};
+    ghost use Rattle.age_armor.specs.Writing.{Took, SendsLines, is_armored, inner_of, held_len};
+    ghost use Rattle.age_armor.specs.WriterCalls.{WrapsOutput};
 
     /// A writer that has taken nothing. The text begins where `inner` stands.
     ///
@@ -48,19 +46,14 @@ impl<W: Write> ArmoredWriter<W> {
     /// that; nothing was written then. Then it writes the begin marker and LF: any other refusal is that of the inner
     /// writer, or `WriteZero` where that took no byte. Interruptions of the inner writer are retried as by `write_all`.
     /// In binary it writes nothing, takes no memory and never refuses.
+    ///
+    /// `WrapsOutput` says of a success that nothing was taken yet, and that the begin marker went out where it is armor (`made`,
+    /// `empty`); what stays of `inner`, and that the writer refuses later only as `inner` might (`same_tells`, `no_fewer_faults`,
+    /// `narrows`); and why it is refused (`binary`, `why`, `patient`).
     pub fn wrap_output(alloc: Global, mut inner: W, format: Format) -> Result<Self, Error>
     where
         W: Drop,
-        ensures made { IsTrue (W.tells inner) → IfOk result (WasMade W.appended format inner) }
-        ensures empty { IfOk result (λ w. IsGood w × (held_len w ≡ 0) × (is_armored w ≡ in_armor format)) }
-        ensures same_tells { IfOk result (λ w. ⟦<ArmoredWriter<W> as Write>⟧.tells w ≡ W.tells inner) }
-        ensures no_fewer_faults { IfOk result (λ w. W.faults inner ≤ ⟦<ArmoredWriter<W> as Write>⟧.faults w) }
-        ensures binary { in_armor format ≡ false → IsOk result }
-        ensures why { IfErr result (λ e. (e ≡ OutOfMemory) ⊎ HandsOn W.refuses inner e) }
-        ensures patient { IfErr result (λ e. IsInterruption e → ⊥) }
-        // What it may refuse from here on is what `inner` might.
-        ensures narrows { IfOk result (λ w. (n : ℕ) (e : IoError) → ⟦<ArmoredWriter<W> as Write>⟧.refuses w n e →
-            WriterRefuses W.refuses (in_armor format) inner n e) }
+        ensures { WrapsOutput ⟦<W as Write>⟧ inner format result }
     {
         if let Format::Binary = format {
             return Ok(ArmoredWriter {
@@ -192,7 +185,7 @@ impl<W: Write> ArmoredWriter<W> {
 }
 
 impl<W: Write + Drop> ArmoredWriter<W> {
-    ghost use Rattle.age_armor.specs.Writing.{Finishes, IsFailed, inner_of, is_armored};
+    ghost use Rattle.age_armor.specs.WriterCalls.{FinishesText};
 
     /// In armor it writes the line of what is held, where that is some bytes, and the end marker and LF. It hands back
     /// the inner writer, which isn't flushed.
@@ -201,16 +194,12 @@ impl<W: Write + Drop> ArmoredWriter<W> {
     /// answer is `Failed`. Else a refusal is that of the inner writer, or `WriteZero` where that took no byte. After a
     /// refusal the text is cut off, and the inner writer is gone. It takes no memory of its own. In binary it writes
     /// nothing and never refuses.
+    ///
+    /// `FinishesText` says that the inner writer was given the whole text, from before the writer was made (`ok`), and in binary is
+    /// handed back as it stands (`binary`); what stays of it, and that it refuses later only as before (`same_tells`,
+    /// `no_fewer_faults`, `narrows`); and why it is refused (`failed`, `why`, `patient`).
     pub fn finish(self) -> Result<W, Error>
-        ensures ok { let writer = ⟦<ArmoredWriter<W> as Write>⟧ in
-            IsTrue (writer.tells self) → Finishes W.appended writer.appended self result }
-        ensures same_tells { IfOk result (λ inner. W.tells inner ≡ ⟦<ArmoredWriter<W> as Write>⟧.tells self) }
-        ensures no_fewer_faults { IfOk result (λ inner. ⟦<ArmoredWriter<W> as Write>⟧.faults self ≤ W.faults inner) }
-        ensures failed { IsFailed self → result ≡ Err Failed }
-        ensures binary { is_armored self ≡ false → result ≡ Ok (inner_of self) }
-        ensures why { IfErr result (⟦<ArmoredWriter<W> as Write>⟧.refuses self 0) }
-        ensures patient { IfErr result (λ e. IsInterruption e → ⊥) }
-        ensures narrows { IfOk result (λ inner. (e : IoError) → HandsOn W.refuses inner e → HandsOn W.refuses (inner_of self) e) }
+        ensures { FinishesText ⟦<W as Write>⟧ self result }
     {
         let ArmoredWriter {
             mut inner,

@@ -1,8 +1,4 @@
 //! `Write` for the writer of armor.
-ghost use Rattle.std.specs.Prelude.{◌≡◌, ◌≢◌, ℕ, ◌+◌, ◌<◌, ◌≤◌, Bool, true, false, IsTrue, List, [], length, IfOk, IfErr, OnOk, OnErr, IsOk, Err};
-ghost use Rattle.age_error.specs.Refusals.{IsInterruption};
-ghost use Rattle.age_error.specs.declared.io.Error.TheVariants.{Failed};
-ghost use Rattle.age_io.specs.Writing.{Writes, Flushes, Retried};
 
 use crate::writer::ArmoredWriter;
 use age_error::io::Error;
@@ -10,7 +6,8 @@ use age_io::{Write, flush_retrying};
 
 /// What was appended are the bytes that were taken. Only `finish` makes the text that carries them whole.
 impl<W: Write> Write for ArmoredWriter<W> {
-    ghost use Rattle.age_armor.specs.Writing.{Appended, Refused, IsFailed, IsGood, SendsFront, inner_of, held_len, is_armored};
+    ghost use Rattle.age_armor.specs.Writing.{Appended, Refused, inner_of};
+    ghost use Rattle.age_armor.specs.WriterCalls.{FlushesArmor, WritesArmor};
     ghost use Rattle.age_armor.specs.WritingLemmas.{Appended-nothing, Appended-both, Refused-more};
 
     ghost tells = { λ w. W.tells (inner_of w) };
@@ -20,6 +17,10 @@ impl<W: Write> Write for ArmoredWriter<W> {
     ghost refuses = { Refused W.refuses };
 
     ghost appended = { Appended W.appended };
+
+    ghost write_besides = { WritesArmor ⟦<W as Write>⟧ };
+
+    ghost flush_besides = { FlushesArmor ⟦<W as Write>⟧ };
 
     ghost faults_fit = { λ w. W.faults_fit w.inner };
 
@@ -37,23 +38,10 @@ impl<W: Write> Write for ArmoredWriter<W> {
     ///
     /// Whatever it answers, the inner writer was given a beginning of all full lines of what was held and these bytes, and in binary
     /// of the bytes (`sent`): so after a refusal too it has a beginning of a text, and nothing else.
-    fn write(&mut self, bytes: &[u8]) -> Result<usize, Error>
-        ensures writes { let writer = ⟦<ArmoredWriter<W> as Write>⟧ in
-            Writes writer.tells writer.faults writer.refuses writer.appended self.old self.new bytes.now result }
-        ensures all { IsTrue (is_armored self.old) → IfOk result (λ n. n ≡ length bytes.now) }
-        // Whatever it answers, what went out is a beginning of the text.
-        ensures sent { IsTrue (W.tells (inner_of self.old)) → SendsFront W.appended (is_armored self.old) self.old bytes.now (inner_of self.new) }
-        ensures good { OnOk result (IsGood self.old × IsGood self.new) }
-        // A write that fills no line is never refused, and sends nothing.
-        ensures finds_room { IsTrue (is_armored self.old) → IsGood self.old → held_len self.old + length bytes.now < 48 →
-            IsOk result × (held_len self.new ≡ held_len self.old + length bytes.now) × (inner_of self.new ≡ inner_of self.old) }
-        ensures fails { IsTrue (is_armored self.old) → OnErr result (IsFailed self.new) }
-        ensures failed { IsFailed self.old → (result ≡ Err Failed) × (self.new ≡ self.old) }
-        ensures patient { IsTrue (is_armored self.old) → IfErr result (λ e. IsInterruption e → ⊥) }
-        ensures binary { is_armored self.old ≡ false →
-            Writes W.tells W.faults W.refuses W.appended (inner_of self.old) (inner_of self.new) bytes.now result }
-        ensures same_form { is_armored self.new ≡ is_armored self.old }
-    {
+    ///
+    /// Its contract is that of each writer, with `WritesArmor` in the clause `besides`: how much it takes and sends (`all`, `sent`,
+    /// `finds_room`), that in binary it is the inner writer's (`binary`), and when it fails (`state`).
+    fn write(&mut self, bytes: &[u8]) -> Result<usize, Error> {
         if self.failed {
             return Err(Error::Failed);
         }
@@ -74,20 +62,10 @@ impl<W: Write> Write for ArmoredWriter<W> {
     ///
     /// A refusal in armor leaves the writer failed. A failed writer answers `Failed` and stays as it is. Interruptions
     /// of the inner writer are retried as by `flush_retrying`. In binary it is the inner writer's `flush`.
-    fn flush(&mut self) -> Result<(), Error>
-        ensures flushes { let writer = ⟦<ArmoredWriter<W> as Write>⟧ in
-            Flushes writer.tells writer.faults writer.refuses writer.appended self.old self.new result }
-        ensures inner { IsTrue (is_armored self.old) → IsGood self.old →
-            Flushes W.tells W.faults (Retried W.refuses) W.appended (inner_of self.old) (inner_of self.new) result }
-        ensures binary { is_armored self.old ≡ false →
-            Flushes W.tells W.faults W.refuses W.appended (inner_of self.old) (inner_of self.new) result }
-        ensures held { held_len self.new ≡ held_len self.old }
-        ensures good { OnOk result (IsGood self.old × IsGood self.new) }
-        ensures fails { IsTrue (is_armored self.old) → OnErr result (IsFailed self.new) }
-        ensures failed { IsFailed self.old → (result ≡ Err Failed) × (self.new ≡ self.old) }
-        ensures patient { IsTrue (is_armored self.old) → IfErr result (λ e. IsInterruption e → ⊥) }
-        ensures same_form { is_armored self.new ≡ is_armored self.old }
-    {
+    ///
+    /// Its contract is that of each writer, with `FlushesArmor` in the clause `besides`: that it is the inner writer's (`inner`,
+    /// `binary`), that what is held stays (`held`), and when it fails (`state`).
+    fn flush(&mut self) -> Result<(), Error> {
         if self.failed {
             return Err(Error::Failed);
         }

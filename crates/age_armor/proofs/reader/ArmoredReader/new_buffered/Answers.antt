@@ -1,4 +1,4 @@
-use Rattle.std.proofs.Common.{◌≡◌, ◌+◌, ◌-◌, ◌^◌, ◌<◌, ◌≤◌, ◌∙◌, arith, ap, sym, refl, IsTrue, false}
+use Rattle.std.proofs.Common.{rules, ◌≡◌, ◌+◌, ◌-◌, ◌^◌, ◌<◌, ◌≤◌, ◌∙◌, arith, ap, sym, refl, IsTrue, false}
 use Rattle.std.proofs.lemmas.Bool.{true≢false}
 use Rattle.age_io.specs.Reading.{StandsIn}
 use Rattle.age_armor.specs.declared.stages.Stage.TheVariants.{Start}
@@ -52,20 +52,23 @@ invariant_of-result-2 g c =
       lined = λ told other. omega (arith, c.new-3.ensures.none.0);
     }
 
-pub returns-clause-shown : goal.returns-clause-shown
-returns-clause-shown g c = starts_shown _
-
-pub returns-clause-outcome : goal.returns-clause-outcome
-returns-clause-outcome g c = starts_outcome _ (g.R.Read.rest c.args.inner)
-
-pub returns-clause-rest : goal.returns-clause-rest
-returns-clause-rest g c = starts_rest _ (g.R.Read.rest c.args.inner)
-
-pub returns-clause-carries : goal.returns-clause-carries
-returns-clause-carries g c = λ told. rw (starts_rest _ (g.R.Read.rest c.args.inner)) (rest_carries (g.R.Read.rest c.args.inner))
-
-pub returns-clause-honest : goal.returns-clause-honest
-returns-clause-honest g c = λ bytes well carried. starts_rest _ (g.R.Read.rest c.args.inner) ∙ carried_rest (g.R.Read.rest c.args.inner) bytes well carried
+pub returns-clause-opens : goal.returns-clause-opens
+returns-clause-opens g c =
+    let rest = g.R.Read.rest c.args.inner in
+    record {
+      tells = refl;
+      steady = refl;
+      faults = refl;
+      unread = record { good = refl; shown = starts_shown _; form = refl; marks = search rules };
+      begins = record { text = search rules; outcome = starts_outcome _ rest; whole = search rules };
+      place = refl;
+      content = search rules;
+      rest = starts_rest _ rest;
+      carries = λ told. rw (starts_rest _ rest) (rest_carries rest);
+      honest = λ bytes well carried. starts_rest _ rest ∙ carried_rest rest bytes well carried;
+      named = search rules;
+      memory = search rules;
+    }
 
 pub invariant_of-result-clause-shows : goal.invariant_of-result-clause-shows
 invariant_of-result-clause-shows g c = ahead_none _ _ 0

@@ -38,11 +38,13 @@ returns g c =
         bytes = λ told. gives_shown before.failed before.bytes before.given before.filled n before.stage (g.R.Read.rest before.source.inner) c.requires;
         moves = λ told. omega (arith, c.saturating_add-self.ensures, before.fits told, before.within, fits);
       };
-      failed = refl;
-      ending = ending_same before.bytes before.given before.filled (before.given + n) before.stage (g.R.Read.rest before.source.inner);
-      whole = refl;
-      same_text = refl;
-      form = refl;
-      marks = refl;
-      lines = refl;
+      same = record {
+        failed = refl;
+        ending = ending_same before.bytes before.given before.filled (before.given + n) before.stage (g.R.Read.rest before.source.inner);
+        whole = refl;
+        same_text = refl;
+        form = refl;
+        marks = refl;
+        lines = refl;
+      };
     }

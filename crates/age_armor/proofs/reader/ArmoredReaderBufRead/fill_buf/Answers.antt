@@ -20,13 +20,17 @@ returns-then-self g c =
         fills-failed before before Failed
             (goes-refused armored_reader {T = ℕ} _ before before before Failed (same-self _ before) (same-self _ before) (λ device. device) (inl (failed, refl))) refl failed
             (λ told other quiet. fault_gone before.failed before.bytes before.given before.filled before.stage (g.R.Read.rest before.source.inner) failed) (
-              record { failed = λ had. refl; fails = failed; good = tt; patient = λ again. again },
-              record { same = λ told. tt; named = λ told good. absurd (true≢false (sym failed ∙ good)) },
-              λ told. refl,
-              λ told. refl,
-              λ told steady. tt,
-              record { more = learns_none _ _ refl; reaches = λ told. tt; lines = (omega arith, omega arith); bare = λ told steady plain. refl; exact = λ told armored. tt },
-              tt,
+            record {
+              text = record {
+                ending = record { same = λ told. tt; named = λ told good. absurd (true≢false (sym failed ∙ good)) };
+                whole = λ told. refl;
+                same_text = λ told. refl;
+              };
+              form = λ told steady. tt;
+              learns = record { more = learns_none _ _ refl; reaches = λ told. tt; lines = (omega arith, omega arith); bare = λ told steady plain. refl; exact = λ told armored. tt };
+              knows = tt;
+              good = record { failed = λ had. refl; fails = failed; good = tt; patient = λ again. again };
+            }
             ),
       ),
       record { front = λ told. tt; end = λ told. tt; after = tt },
@@ -39,14 +43,18 @@ returns-in-Err g c =
         refl,
         λ r. tt,
         fills-failed c.args.self.now c.hold.new.self c.in-Err.e now.goes now.holds.place now.good.fails now.cause (
-          fails-passed _ _ c.in-Err.e now.good,
-          ends-passed _ _ _ _ _ _ c.in-Err.e now.ending,
-          λ told. ap (λ t. text_delivers t.bytes t.ends_well) (now.text.same_text told),
-          now.text.same_text,
-          λ told steady. tt,
-          record { more = now.text.learns; reaches = λ told. tt; lines = (now.text.counts, now.lines); bare = now.text.bare; exact = λ told armored. tt },
-          tt,
-        ),
+            record {
+              text = record {
+                ending = ends-passed _ _ _ _ _ _ c.in-Err.e now.ending;
+                whole = λ told. ap (λ t. text_delivers t.bytes t.ends_well) (now.text.same_text told);
+                same_text = now.text.same_text;
+              };
+              form = λ told steady. tt;
+              learns = record { more = now.text.learns; reaches = λ told. tt; lines = (now.text.counts, now.lines); bare = now.text.bare; exact = λ told armored. tt };
+              knows = tt;
+              good = fails-passed _ _ c.in-Err.e now.good;
+            }
+            ),
       ),
       record { front = λ told. tt; end = λ told. tt; after = tt },
     )
@@ -71,15 +79,17 @@ returns-in-Ok g c =
           narrows = armor-plain c.args.self.now after now.goes.keeps.narrows;
           again = tt;
           shows = held.shown;
-          own = (
-            good-done _ _ c.if-self.false now.good.good,
-            record { same = now.ending.same; named = λ told good. tt },
-            λ told. ap (λ t. text_delivers t.bytes t.ends_well) (now.text.same_text told),
-            now.text.same_text,
-            form,
-            learned before after now.goes.keeps.same now.text now.lines now.good.good (λ told. now.holds.line),
-            λ none. now.holds.knows (omega (arith, ap length none, held_shown after now.good.good, after.order)),
-          );
+          own = record {
+            text = record {
+              ending = record { same = now.ending.same; named = λ told good. tt };
+              whole = λ told. ap (λ t. text_delivers t.bytes t.ends_well) (now.text.same_text told);
+              same_text = now.text.same_text;
+            };
+            form = form;
+            learns = learned before after now.goes.keeps.same now.text now.lines now.good.good (λ told. now.holds.line);
+            knows = λ none. now.holds.knows (omega (arith, ap length none, held_shown after now.good.good, after.order));
+            good = good-done _ _ c.if-self.false now.good.good;
+          };
           same_content = now.goes.keeps.same.content;
           stays = λ told. now.holds.place;
           same_rest = now.holds.rest;

@@ -16,20 +16,19 @@ returns-then-self g c =
     record {
       reads = reads-failed before before _ Failed (goes-refused armored_reader {T = ℕ} _ before before before Failed (same-self _ before) (same-self _ before) (λ device. device) (inl (gone, refl)))
           refl gone (λ told other quiet. fault_gone before.failed before.bytes before.given before.filled before.stage (g.R.Read.rest before.source.inner) gone);
-      good = record { failed = λ had. refl; fails = gone; good = tt; patient = λ again. again };
-      ending = record { same = λ told. tt; named = λ told good. absurd (true≢false (sym gone ∙ good)) };
-      whole = λ told. refl;
-      same_text = λ told. refl;
-      held = λ some. tt;
-      line = λ armored. tt;
-      beyond = λ armored. tt;
-      untouched = λ armored. refl;
-      form = λ some told steady. tt;
-      spared = λ told steady armor. refl;
-      learns = record { more = learns_none _ _ refl; reaches = λ told. tt; lines = (omega arith, omega arith); bare = λ told steady plain. refl; exact = λ told armored. tt };
-      knows = λ some. tt;
-      failed = λ had. (refl, refl);
-      empty = λ good none. absurd (true≢false (sym gone ∙ good));
+      besides = record {
+        gives = record { held = λ some. tt; line = λ armored. tt; beyond = λ armored. tt; untouched = λ armored. refl; form = λ some told steady. tt; spared = λ told steady armor. refl };
+        text = record {
+          ending = record { same = λ told. tt; named = λ told good. absurd (true≢false (sym gone ∙ good)) };
+          whole = λ told. refl;
+          same_text = λ told. refl;
+        };
+        learns = record { more = learns_none _ _ refl; reaches = λ told. tt; lines = (omega arith, omega arith); bare = λ told steady plain. refl; exact = λ told armored. tt };
+        knows = λ some. tt;
+        good = record { failed = λ had. refl; fails = gone; good = tt; patient = λ again. again };
+        failed = λ had. (refl, refl);
+        empty = λ good none. absurd (true≢false (sym gone ∙ good));
+      };
     }
 
 pub returns-then-is_empty : goal.returns-then-is_empty
@@ -40,21 +39,23 @@ returns-then-is_empty g c =
     record {
       reads = reads-done before before _ 0 (keeps-done _ _ _ _ (same-self armored_reader before) (λ e h. h)) (λ some. absurd (omega (arith, none, some))) (omega arith)
           (λ told. record { bytes = refl; end = refl }) (λ told. omega arith) (λ told zero some. absurd (omega (arith, none, some)));
-      good = record { failed = λ had. absurd (true≢false (sym had ∙ good)); fails = tt; good = good; patient = tt };
-      ending = record { same = λ told. refl; named = λ told fine. tt };
-      whole = λ told. refl;
-      same_text = λ told. refl;
-      held = λ some. omega arith;
-      line = λ armored. omega (arith, shown_small before.failed before.bytes before.given before.filled before.within);
-      beyond = λ armored. refl;
-      untouched = λ armored. tt;
-      form = λ some. absurd (omega (arith, none, some));
-      spared = λ told steady armor. tt;
-      learns = learned before before (same-self armored_reader before) (text-still _ _ refl refl refl) (omega arith) good
-          (λ told armored. record { held = λ some. refl; next = λ none more. absurd (omega (arith, ap length none, more)) });
-      knows = λ some. absurd (omega (arith, none, some));
-      failed = λ had. absurd (true≢false (sym had ∙ good));
-      empty = λ fine empty. (refl, refl);
+      besides = record {
+        gives = record {
+          held = λ some. omega arith;
+          line = λ armored. omega (arith, shown_small before.failed before.bytes before.given before.filled before.within);
+          beyond = λ armored. refl;
+          untouched = λ armored. tt;
+          form = λ some. absurd (omega (arith, none, some));
+          spared = λ told steady armor. tt;
+        };
+        text = record { ending = record { same = λ told. refl; named = λ told fine. tt }; whole = λ told. refl; same_text = λ told. refl };
+        learns = learned before before (same-self armored_reader before) (text-still _ _ refl refl refl) (omega arith) good
+            (λ told armored. record { held = λ some. refl; next = λ none more. absurd (omega (arith, ap length none, more)) });
+        knows = λ some. absurd (omega (arith, none, some));
+        good = record { failed = λ had. absurd (true≢false (sym had ∙ good)); fails = tt; good = good; patient = tt };
+        failed = λ had. absurd (true≢false (sym had ∙ good));
+        empty = λ fine empty. (refl, refl);
+      };
     }
 
 pub returns : goal.returns
@@ -62,18 +63,13 @@ returns g c =
     let now = c.read_on.ensures in
     record {
       reads = now.reads;
-      good = now.good;
-      ending = now.ending;
-      whole = λ told. ap (λ t. text_delivers t.bytes t.ends_well) (now.same_text told);
-      same_text = now.same_text;
-      held = now.fills.held;
-      line = now.fills.line;
-      beyond = now.fills.beyond;
-      untouched = now.fills.untouched;
-      form = λ some. now.fills.form;
-      spared = now.fills.spared;
-      learns = now.learns;
-      knows = λ some. now.knows;
-      failed = λ gone. absurd (true≢false (sym gone ∙ c.if-self.false));
-      empty = λ good none. absurd (eqb-false (length c.args.buf.now) 0 (sym c.is_empty.ensures ∙ c.if-is_empty.false) none);
+      besides = record {
+        gives = now.gives;
+        text = record { ending = now.ending; whole = λ told. ap (λ t. text_delivers t.bytes t.ends_well) (now.same_text told); same_text = now.same_text };
+        learns = now.learns;
+        knows = λ some. now.knows;
+        good = now.good;
+        failed = λ gone. absurd (true≢false (sym gone ∙ c.if-self.false));
+        empty = λ good none. absurd (eqb-false (length c.args.buf.now) 0 (sym c.is_empty.ensures ∙ c.if-is_empty.false) none);
+      };
     }

@@ -13,30 +13,39 @@ returns-in-Start g c =
     let now = c.seek_to.ensures in
     record {
       seeks = rw c.in-Start.is now.seeks.seeks;
-      patient = now.seeks.patient;
-      good = now.seeks.good;
-      unmoved = now.seeks.unmoved;
-      fails = now.seeks.fails;
-      named = rw c.in-Start.is now.seeks.named;
-      well = λ told steady asked. absurd (rw c.in-Start.is at asked);
-      whole = λ told. ap (λ t. text_delivers t.bytes t.ends_well) (now.text.same_text told);
-      same_text = now.text.same_text;
-      marks = λ told steady noting near. now.takes.lines told steady noting (rw c.in-Start.is at near);
-      outside = now.takes.outside;
-      still = λ told some here.
-          let holds = shown_begun before.failed before.bytes before.given before.filled before.stage before.order (all_held before) before.fresh some in
-          let at = rw c.in-Start.is at here in
-          let still = now.still holds.0 holds.1 (sym at) in
-          (still.0 ∙ ap Ok at, still.1);
-      bare = now.text.bare;
-      below = now.below;
-      learns = now.text.learns;
-      counts = now.text.counts;
-      knows = λ asked. absurd (rw c.in-Start.is at asked);
-      reaches = λ told. on_ok_weaker c.seek_to.result (λ good. reached after (now.seeks.seeks.same_tells ∙ told) good) now.seeks.good;
-      ending = λ told steady later good. now.ending told steady good;
-      early = rw c.in-Start.is now.seeks.early;
-      at_once = λ told early. absurd (rw c.in-Start.is at early);
+      besides = record {
+        fails = record { patient = now.seeks.patient; good = now.seeks.good; unmoved = now.seeks.unmoved; fails = now.seeks.fails };
+        refuses = record {
+          named = rw c.in-Start.is now.seeks.named;
+          well = λ told steady asked. absurd (rw c.in-Start.is at asked);
+          early = rw c.in-Start.is now.seeks.early;
+          at_once = λ told early. absurd (rw c.in-Start.is at early);
+        };
+        text = record {
+          same_text = now.text.same_text;
+          whole = λ told. ap (λ t. text_delivers t.bytes t.ends_well) (now.text.same_text told);
+          ending = λ told steady later good. now.ending told steady good;
+        };
+        counts = record {
+          counts = now.text.counts;
+          marks = λ told steady noting near. now.takes.lines told steady noting (rw c.in-Start.is at near);
+          outside = now.takes.outside;
+          bare = now.text.bare;
+        };
+        learns = record {
+          learns = now.text.learns;
+          knows = λ asked. absurd (rw c.in-Start.is at asked);
+          reaches = λ told. on_ok_weaker c.seek_to.result (λ good. reached after (now.seeks.seeks.same_tells ∙ told) good) now.seeks.good;
+        };
+        lands = record {
+          still = λ told some here.
+              let holds = shown_begun before.failed before.bytes before.given before.filled before.stage before.order (all_held before) before.fresh some in
+              let at = rw c.in-Start.is at here in
+              let still = now.still holds.0 holds.1 (sym at) in
+              (still.0 ∙ ap Ok at, still.1);
+          below = now.below;
+        };
+      };
     }
 
 pub returns-in-End : goal.returns-in-End
@@ -47,26 +56,35 @@ returns-in-End g c =
     let same : to_z w64 (of_z w64 c.in-End.distance) ≡ c.in-End.distance = to_z-of_z {w = w64} fits in
     record {
       seeks = rw (c.in-End.is, ← same) now.seeks.seeks;
-      patient = now.seeks.patient;
-      good = now.seeks.good;
-      unmoved = now.seeks.unmoved;
-      fails = now.seeks.fails;
-      named = rw c.in-End.is now.seeks.named;
-      well = λ told steady asked. now.finds.well told steady;
-      whole = λ told. ap (λ t. text_delivers t.bytes t.ends_well) (now.text.same_text told);
-      same_text = now.text.same_text;
-      marks = λ told steady noting near. now.takes.lines told steady noting (rw c.in-End.is at near);
-      outside = now.takes.outside;
-      still = λ told some here. absurd (rw c.in-End.is at here);
-      bare = now.text.bare;
-      below = now.below;
-      learns = now.text.learns;
-      counts = now.text.counts;
-      knows = λ asked. now.finds.knows;
-      reaches = λ told. on_ok_weaker c.seek_from_end.result (λ good. reached after (now.seeks.seeks.same_tells ∙ told) good) now.seeks.good;
-      ending = λ told steady later good. now.ending told steady good;
-      early = rw c.in-End.is now.seeks.early;
-      at_once = λ told early. absurd (rw c.in-End.is at early);
+      besides = record {
+        fails = record { patient = now.seeks.patient; good = now.seeks.good; unmoved = now.seeks.unmoved; fails = now.seeks.fails };
+        refuses = record {
+          named = rw c.in-End.is now.seeks.named;
+          well = λ told steady asked. now.finds.well told steady;
+          early = rw c.in-End.is now.seeks.early;
+          at_once = λ told early. absurd (rw c.in-End.is at early);
+        };
+        text = record {
+          same_text = now.text.same_text;
+          whole = λ told. ap (λ t. text_delivers t.bytes t.ends_well) (now.text.same_text told);
+          ending = λ told steady later good. now.ending told steady good;
+        };
+        counts = record {
+          counts = now.text.counts;
+          marks = λ told steady noting near. now.takes.lines told steady noting (rw c.in-End.is at near);
+          outside = now.takes.outside;
+          bare = now.text.bare;
+        };
+        learns = record {
+          learns = now.text.learns;
+          knows = λ asked. now.finds.knows;
+          reaches = λ told. on_ok_weaker c.seek_from_end.result (λ good. reached after (now.seeks.seeks.same_tells ∙ told) good) now.seeks.good;
+        };
+        lands = record {
+          still = λ told some here. absurd (rw c.in-End.is at here);
+          below = now.below;
+        };
+      };
     }
 
 pub returns-in-Current : goal.returns-in-Current
@@ -78,28 +96,37 @@ returns-in-Current g c =
     let same : to_z w64 (of_z w64 c.in-Current.distance) ≡ c.in-Current.distance = to_z-of_z {w = w64} fits in
     record {
       seeks = rw (c.in-Current.is, ← same) now.seeks.seeks;
-      patient = now.seeks.patient;
-      good = now.seeks.good;
-      unmoved = now.seeks.unmoved;
-      fails = now.seeks.fails;
-      named = rw (c.in-Current.is, ← same) now.seeks.named;
-      well = λ told steady asked. absurd (rw c.in-Current.is at asked);
-      whole = λ told. ap (λ t. text_delivers t.bytes t.ends_well) (now.text.same_text told);
-      same_text = now.text.same_text;
-      marks = λ told steady noting near.
-          let near_by = rw c.in-Current.is at near in
-          now.takes.lines told steady noting (λ n is. near_by n (subst (λ d. place_at before.place d ≡ Some n) same is));
-      outside = now.takes.outside;
-      still = λ told some here.
-          let holds = shown_begun before.failed before.bytes before.given before.filled before.stage before.order (all_held before) before.fresh some in
-          now.still told holds.0 holds.1 (subst (λ d. place_at before.place d ≡ Some before.place) (sym same) (rw c.in-Current.is at here));
-      bare = now.text.bare;
-      below = now.below;
-      learns = now.text.learns;
-      counts = now.text.counts;
-      knows = λ asked. absurd (rw c.in-Current.is at asked);
-      reaches = λ told. on_ok_weaker c.seek_by.result (λ good. reached after (now.seeks.seeks.same_tells ∙ told) good) now.seeks.good;
-      ending = λ told steady later good. now.ending (subst (λ d. place_at before.place d ≡ None → ⊥) (sym same) (rw c.in-Current.is at later)) told steady good;
-      early = rw (c.in-Current.is, ← same) now.seeks.early;
-      at_once = rw (c.in-Current.is, ← same) now.at_once;
+      besides = record {
+        fails = record { patient = now.seeks.patient; good = now.seeks.good; unmoved = now.seeks.unmoved; fails = now.seeks.fails };
+        refuses = record {
+          named = rw (c.in-Current.is, ← same) now.seeks.named;
+          well = λ told steady asked. absurd (rw c.in-Current.is at asked);
+          early = rw (c.in-Current.is, ← same) now.seeks.early;
+          at_once = rw (c.in-Current.is, ← same) now.at_once;
+        };
+        text = record {
+          same_text = now.text.same_text;
+          whole = λ told. ap (λ t. text_delivers t.bytes t.ends_well) (now.text.same_text told);
+          ending = λ told steady later good. now.ending (subst (λ d. place_at before.place d ≡ None → ⊥) (sym same) (rw c.in-Current.is at later)) told steady good;
+        };
+        counts = record {
+          counts = now.text.counts;
+          marks = λ told steady noting near.
+              let near_by = rw c.in-Current.is at near in
+              now.takes.lines told steady noting (λ n is. near_by n (subst (λ d. place_at before.place d ≡ Some n) same is));
+          outside = now.takes.outside;
+          bare = now.text.bare;
+        };
+        learns = record {
+          learns = now.text.learns;
+          knows = λ asked. absurd (rw c.in-Current.is at asked);
+          reaches = λ told. on_ok_weaker c.seek_by.result (λ good. reached after (now.seeks.seeks.same_tells ∙ told) good) now.seeks.good;
+        };
+        lands = record {
+          still = λ told some here.
+              let holds = shown_begun before.failed before.bytes before.given before.filled before.stage before.order (all_held before) before.fresh some in
+              now.still told holds.0 holds.1 (subst (λ d. place_at before.place d ≡ Some before.place) (sym same) (rw c.in-Current.is at here));
+          below = now.below;
+        };
+      };
     }

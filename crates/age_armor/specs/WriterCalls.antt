@@ -1,0 +1,71 @@
+-- What the calls of an `ArmoredWriter` say; of `write` and `flush` what they say besides what those of every writer do.
+use Rattle.std.specs.Prelude.{◌≡◌, ℕ, ◌+◌, ◌<◌, ◌≤◌, ◌⊎◌, ⊤, false, IsTrue, List, length, Result, Ok, Err, IfOk, IfErr, OnOk, OnErr, IsOk}
+use Rattle.age_error.specs.Refusals.{IsInterruption}
+use Rattle.age_error.specs.declared.io.Error.{Error}
+use Rattle.age_error.specs.declared.io.Error.TheVariants.{Failed, OutOfMemory}
+use Rattle.age_io.specs.Writing.{Flushes, HandsOn, Retried, Writes}
+use Rattle.age_io.specs.declared.traits.Write.{Ghosts}
+use Rattle.age_v1.specs.declared.format.Format.{Format}
+use Rattle.age_armor.specs.declared.writer.ArmoredWriter.{ArmoredWriter}
+use Rattle.age_armor.specs.Writing.{Appended, Finishes, IsFailed, IsGood, Refused, SendsFront, WasMade, WriterRefuses, held_len, in_armor, inner_of, is_armored}
+
+module _ {W : Type 0} (write : Ghosts W) where
+  -- what comes of making a writer that begins the text where `inner` stands
+  pub record WrapsOutput (inner : W) (format : Format) (result : Result (ArmoredWriter W) Error) : Type 0 where
+    -- it has taken nothing, and the begin marker went out, where the text is armor
+    pub made : IsTrue (write.tells inner) → IfOk result (WasMade write.appended format inner)
+    pub empty : IfOk result (λ w. IsGood w × (held_len w ≡ 0) × (is_armored w ≡ in_armor format))
+    -- what stays of the inner writer, and that from here on it refuses only what `inner` might
+    pub same_tells : IfOk result (λ w. write.tells (inner_of w) ≡ write.tells inner)
+    pub no_fewer_faults : IfOk result (λ w. write.faults inner ≤ write.faults (inner_of w))
+    pub narrows : IfOk result (λ w. (n : ℕ) (e : Error) → Refused write.refuses w n e → WriterRefuses write.refuses (in_armor format) inner n e)
+    -- why it refuses
+    pub binary : in_armor format ≡ false → IsOk result
+    pub why : IfErr result (λ e. (e ≡ OutOfMemory) ⊎ HandsOn write.refuses inner e)
+    pub patient : IfErr result (λ e. IsInterruption e → ⊥)
+
+  -- what comes of finishing the text, where the inner writer is handed back
+  pub record FinishesText (writer : ArmoredWriter W) (result : Result W Error) : Type 0 where
+    -- it was given the text that carries all bytes that were taken; the bytes themselves were given before
+    pub ok : IsTrue (write.tells (inner_of writer)) → Finishes write.appended (Appended write.appended) writer result
+    pub binary : is_armored writer ≡ false → result ≡ Ok (inner_of writer)
+    -- what stays of it, and that from here on it refuses only what it might before
+    pub same_tells : IfOk result (λ inner. write.tells inner ≡ write.tells (inner_of writer))
+    pub no_fewer_faults : IfOk result (λ inner. write.faults (inner_of writer) ≤ write.faults inner)
+    pub narrows : IfOk result (λ inner. (e : Error) → HandsOn write.refuses inner e → HandsOn write.refuses (inner_of writer) e)
+    -- why it refuses
+    pub failed : IsFailed writer → result ≡ Err Failed
+    pub why : IfErr result (Refused write.refuses writer 0)
+    pub patient : IfErr result (λ e. IsInterruption e → ⊥)
+
+-- When a writer fails, which in binary it never does: a refusal leaves it failed, and a failed one answers `Failed` and stays as it is. In armor
+-- interruptions were tried again, and armor stays armor.
+pub record FailsInArmor {W A : Type 0} (old new : ArmoredWriter W) (result : Result A Error) : Type 0 where
+  pub good : OnOk result (IsGood old × IsGood new)
+  pub fails : IsTrue (is_armored old) → OnErr result (IsFailed new)
+  pub failed : IsFailed old → (result ≡ Err Failed) × (new ≡ old)
+  pub patient : IsTrue (is_armored old) → IfErr result (λ e. IsInterruption e → ⊥)
+  pub same_form : is_armored new ≡ is_armored old
+
+module _ {W : Type 0} (write : Ghosts W) where
+  -- What a write says besides: how much it takes and sends.
+  pub record WritesArmor (old new : ArmoredWriter W) (bytes : List ℕ) (result : Result ℕ Error) : Type 0 where
+    pub all : IsTrue (is_armored old) → IfOk result (λ n. n ≡ length bytes)
+    -- whatever it answers, what went out is a beginning of the text
+    pub sent : IsTrue (write.tells (inner_of old)) → SendsFront write.appended (is_armored old) old bytes (inner_of new)
+    -- one that fills no line is never refused, and sends nothing
+    pub finds_room : IsTrue (is_armored old) → IsGood old → held_len old + length bytes < 48 →
+        IsOk result × (held_len new ≡ held_len old + length bytes) × (inner_of new ≡ inner_of old)
+    -- in binary it is that of the inner writer
+    pub binary : is_armored old ≡ false →
+        Writes write.tells write.faults write.refuses write.appended (inner_of old) (inner_of new) bytes result
+    pub state : FailsInArmor old new result
+
+  -- What a flush says besides: it is one of the inner writer, in armor tried again, and what is held stays so.
+  pub record FlushesArmor (old new : ArmoredWriter W) (result : Result ⊤ Error) : Type 0 where
+    pub inner : IsTrue (is_armored old) → IsGood old →
+        Flushes write.tells write.faults (Retried write.refuses) write.appended (inner_of old) (inner_of new) result
+    pub binary : is_armored old ≡ false →
+        Flushes write.tells write.faults write.refuses write.appended (inner_of old) (inner_of new) result
+    pub held : held_len new ≡ held_len old
+    pub state : FailsInArmor old new result
