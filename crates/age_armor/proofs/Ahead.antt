@@ -191,6 +191,12 @@ dirty Clean e named = absurd named
 dirty (Refused f) e named = refl
 dirty InnerFault e named = refl
 
+-- where nothing is held, what is ahead is all
+pub outcome_none : (old : List ℕ) (given filled : ℕ) (stage : Stage) (rest : Stretch) → filled ≤ length old → filled ≤ given →
+    outcome_ahead old given filled stage rest ≡ ahead stage rest
+unfolding outcome_ahead
+outcome_none old given filled stage rest within empty = rw (held-empty old given filled within empty) refl
+
 pub hold_fault : (failed : Bool) (old : List ℕ) (given filled : ℕ) (stage : Stage) (rest : Stretch) (e : Error) → failed ≡ false →
     filled ≤ length old → filled ≤ given → StopsWith (ahead stage rest) e → IsFault (rest_ahead failed old given filled stage rest)
 unfolding rest_ahead

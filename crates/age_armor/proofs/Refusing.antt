@@ -11,7 +11,8 @@ use Rattle.age_io.specs.declared.traits.Read.{Ghosts}
 use Rattle.age_io.proofs.Keeping.{keeps-done, keeps-later, keeps-refused, same-later, same-self}
 use Rattle.age_armor.specs.PrivateCounting.{Kept}
 use Rattle.age_armor.specs.PrivateShowing.{AsksReader}
-use Rattle.age_armor.specs.Refusing.{IsTextRefusal, OrText}
+use Rattle.age_v1.specs.DeliveredArmor.{Outcome}
+use Rattle.age_armor.specs.Refusing.{IsTextRefusal, OrEnd, OrText}
 
 -- ---- an error
 
@@ -54,6 +55,18 @@ module _ {R : Type 0} (read : Ghosts R) where
   text-asked a b e narrows why = elim (memory-or-not e) [
     | inl is ↦ inl (subst (IsTextRefusal (read.tells a) (read.steady a) (read.content a).ends_well) (sym is) tt)
     | inr other ↦ inr (narrows e (why other))
+  ]
+
+  -- whatever is left of the text then
+  pub end-asked : (a : R) (left : Outcome) (e : Error) → (e ≢ OutOfMemory → TriedAgain read.refuses a e) → OrEnd read a left e
+  end-asked a left e why = elim (memory-or-not e) [ inl is ↦ inl is | inr other ↦ inr (inr (why other)) ]
+
+  -- a step that adds no reason to refuse and gives nothing
+  pub end-later : (a b : R) (left next : Outcome) (e : Error) → AddsNoReason (TriedAgain read.refuses) a b → left ≡ next → OrEnd read b next e →
+      OrEnd read a left e
+  end-later a b left next e narrows same why = elim why [
+    | inl memory ↦ inl memory
+    | inr rest ↦ elim rest [ inl end ↦ inr (inl (same ∙ end)) | inr tried ↦ inr (inr (narrows e tried)) ]
   ]
 
   -- a step, and then a call

@@ -5,9 +5,10 @@ use Rattle.std.specs.List.{concat, starts_with}
 use Rattle.std.proofs.lemmas.Bool.{cases_Bool, false_from_ne_true, le-ltb, lt-ltb, or_right, true≢false}
 use Rattle.std.proofs.lemmas.List.{append-nil, take-append-le, drop-append-le, length-take-le}
 use Rattle.age_io.specs.Stretch.{Stretch, IsCleanEnd, IsFault}
-use Rattle.age_io.specs.Reading.{Delivers, IsQuiet}
+use Rattle.age_io.specs.Reading.{AddsNoReason, Delivers, IsQuiet, TriedAgain}
 use Rattle.age_error.specs.declared.io.Error.{Error}
 use Rattle.age_error.specs.declared.io.Error.TheVariants.{Armor, UnexpectedEof, OutOfMemory}
+use Rattle.age_error.specs.declared.io.ArmoredReadError.{ArmoredReadError}
 use Rattle.age_error.specs.declared.io.ArmoredReadError.TheVariants.{InvalidBeginMarker, NotWrappedAt64Chars}
 use Rattle.age_base64.specs.Lines.{Lacks}
 use Rattle.age_v1.specs.Armor.{begin_marker}
@@ -29,11 +30,17 @@ use Rattle.age_io.specs.declared.traits.Read.{Ghosts}
 use Rattle.age_io.specs.declared.bufread.BufRead as buffered
 use Rattle.age_armor.specs.declared.counted.Counted.{Counted}
 use Rattle.age_armor.specs.declared.stages.Stage.{Stage}
+use Rattle.age_armor.specs.declared.stages.Stage.TheVariants.{Binary}
 use Rattle.age_armor.specs.declared.stages.Piece.{Piece}
+use Rattle.age_armor.specs.Refusing.{OrEnd}
+use Rattle.age_armor.proofs.Refusing.{end-asked, end-later}
 use Rattle.age_armor.proofs.Taking.{quiet_after}
 
 pub stops_of : (o : Outcome) (e : Error) (end : Ending) → o ≡ ends_in end → NamesEnding end e → StopsWith o e
 stops_of o e end same named = record { nothing = ap (λ x. x.bytes) same; named = subst (λ x. NamesEnding x e) (sym (ap (λ x. x.ending) same)) named }
+
+pub stops_end : (o : Outcome) (e : Error) → o ≡ ends_in (Refused e) → StopsWith o e
+stops_end o e same = stops_of o e (Refused e) same refl
 
 pub advances_none : (before after : Outcome) (bytes : List ℕ) → bytes ≡ [] → before ≡ after → Advances before bytes after
 advances_none before after bytes none same = record { same = rw none same }
@@ -44,9 +51,9 @@ few_text : (text : List ℕ) (w : Bool) → length text < 36 → text_delivers t
 unfolding text_delivers
 few_text text w few = rw (lt-ltb (length text) 36 few) refl
 
-pub few_clean : (count : ℕ) (old : Stretch) → count ≤ 36 → IsFew count true old → StopsWith (text_delivers old.bytes old.ends_well) UnexpectedEof
+pub few_clean : (count : ℕ) (old : Stretch) → count ≤ 36 → IsFew count true old → text_delivers old.bytes old.ends_well ≡ ends_in (Refused UnexpectedEof)
 few_clean count old fits few =
-    stops_of _ _ (Refused UnexpectedEof) (few_text old.bytes old.ends_well (omega (arith, few.few)) ∙ ap (λ w. ends_in (at_end w (Refused UnexpectedEof))) few.end) refl
+    few_text old.bytes old.ends_well (omega (arith, few.few)) ∙ ap (λ w. ends_in (at_end w (Refused UnexpectedEof))) few.end
 
 pub few_fault : (count : ℕ) (old : Stretch) (e : Error) → count ≤ 36 → IsFew count false old → StopsWith (text_delivers old.bytes old.ends_well) e
 few_fault count old e fits few =
@@ -120,16 +127,16 @@ begins_other_next : (x b y : ℕ) (xs : List ℕ) → b ≢ y → starts_with na
 begins_other_next x b y xs other = false_from_ne_true _ (λ e. let same : b ≡ y = cc (begins_back (13 ∷ y ∷ []) (x ∷ b ∷ xs) e) in other same)
 
 pub detects_bad : (front : List ℕ) (old mid : Stretch) → length front ≡ 35 → Delivers front old mid → 0 < length mid.bytes →
-    starts_with nat_eq front begin_marker ≡ true → slice_index front 34 ≢ 10 → slice_index front 34 ≢ 13 → StopsWith (text_delivers old.bytes old.ends_well) (Armor InvalidBeginMarker)
+    starts_with nat_eq front begin_marker ≡ true → slice_index front 34 ≢ 10 → slice_index front 34 ≢ 13 → text_delivers old.bytes old.ends_well ≡ ends_in (Refused (Armor InvalidBeginMarker))
 detects_bad front old mid size d some begins no_lf no_cr =
-    stops_of _ _ (Refused (Armor InvalidBeginMarker)) (detects_marker front old mid size d some begins
-    ∙ rw (begins_other (slice_index front 34) 10 mid.bytes [] no_lf, begins_other (slice_index front 34) 13 mid.bytes (10 ∷ []) no_cr) refl) refl
+    detects_marker front old mid size d some begins
+    ∙ rw (begins_other (slice_index front 34) 10 mid.bytes [] no_lf, begins_other (slice_index front 34) 13 mid.bytes (10 ∷ []) no_cr) refl
 
 pub detects_bad_next : (front : List ℕ) (old mid new : Stretch) (b : ℕ) → length front ≡ 35 → Delivers front old mid → 0 < length mid.bytes →
-    starts_with nat_eq front begin_marker ≡ true → slice_index front 34 ≢ 10 → Delivers (b ∷ []) mid new → b ≢ 10 → StopsWith (text_delivers old.bytes old.ends_well) (Armor InvalidBeginMarker)
+    starts_with nat_eq front begin_marker ≡ true → slice_index front 34 ≢ 10 → Delivers (b ∷ []) mid new → b ≢ 10 → text_delivers old.bytes old.ends_well ≡ ends_in (Refused (Armor InvalidBeginMarker))
 detects_bad_next front old mid new b size d some begins no_lf next other =
-    stops_of _ _ (Refused (Armor InvalidBeginMarker)) (detects_marker front old mid size d some begins
-    ∙ rw (begins_other (slice_index front 34) 10 mid.bytes [] no_lf, next.bytes, begins_other_next (slice_index front 34) b 10 new.bytes other) refl) refl
+    detects_marker front old mid size d some begins
+    ∙ rw (begins_other (slice_index front 34) 10 mid.bytes [] no_lf, next.bytes, begins_other_next (slice_index front 34) b 10 new.bytes other) refl
 
 -- ---- a line
 
@@ -144,13 +151,13 @@ pub line_ends : (s : Bool) (raw : List ℕ) (old mid : Stretch) → TakesLine ra
     section s (raw_lines old.bytes) old.ends_well ≡ ends_in Clean
 line_ends s raw old mid t some v clean = line_step s raw old mid t some ∙ rw (v, clean) refl
 
-pub line_trails : (s : Bool) (raw : List ℕ) (old mid : Stretch) (e : Error) → TakesLine raw old mid → 0 < length raw → verdict s raw ≡ Ends → NamesEnding (trailing mid.bytes mid.ends_well) e →
-    StopsWith (section s (raw_lines old.bytes) old.ends_well) e
-line_trails s raw old mid e t some v named = stops_of _ _ (trailing mid.bytes mid.ends_well) (line_step s raw old mid t some ∙ rw v refl) named
+pub line_trails : (s : Bool) (raw : List ℕ) (old mid : Stretch) → TakesLine raw old mid → 0 < length raw → verdict s raw ≡ Ends →
+    section s (raw_lines old.bytes) old.ends_well ≡ ends_in (trailing mid.bytes mid.ends_well)
+line_trails s raw old mid t some v = line_step s raw old mid t some ∙ rw v refl
 
-pub line_refuses : (s : Bool) (raw : List ℕ) (old mid : Stretch) (e : Error) (f : _) → TakesLine raw old mid → 0 < length raw → verdict s raw ≡ Refuses f → e ≡ Armor f →
-    StopsWith (section s (raw_lines old.bytes) old.ends_well) e
-line_refuses s raw old mid e f t some v named = stops_of _ _ (Refused (Armor f)) (line_step s raw old mid t some ∙ rw v refl) named
+pub line_refuses : (s : Bool) (raw : List ℕ) (old mid : Stretch) (f : ArmoredReadError) → TakesLine raw old mid → 0 < length raw → verdict s raw ≡ Refuses f →
+    section s (raw_lines old.bytes) old.ends_well ≡ ends_in (Refused (Armor f))
+line_refuses s raw old mid f t some v = line_step s raw old mid t some ∙ rw v refl
 
 pub line_holds : (s short : Bool) (raw b : List ℕ) (old mid : Stretch) → TakesLine raw old mid → 0 < length raw →
     verdict s raw ≡ Holds b → short ≡ is_short (line_columns raw) →
@@ -185,14 +192,18 @@ one_of (x ∷ []) e = refl
 one_of (x ∷ y ∷ xs) e = absurd (omega (arith, e))
 
 -- no line is left before the clean end
-pub empty_line : (s : Bool) (raw : List ℕ) (old new : Stretch) → TakesLine raw old new → length raw ≡ 0 → StopsWith (section s (raw_lines old.bytes) old.ends_well) (Armor NotWrappedAt64Chars)
+pub empty_line : (s : Bool) (raw : List ℕ) (old new : Stretch) → TakesLine raw old new → length raw ≡ 0 → section s (raw_lines old.bytes) old.ends_well ≡ ends_in (Refused (Armor NotWrappedAt64Chars))
 empty_line s raw old new t none =
     let clean = t.empty none in
-    stops_of _ _ (Refused (Armor NotWrappedAt64Chars)) (rw (clean.bytes, clean.ends_well) refl) refl
+    rw (clean.bytes, clean.ends_well) refl
 
 -- a fault comes before the line is whole
 pub cut_line : (s : Bool) (old : Stretch) (e : Error) → IsCutShort old → StopsWith (section s (raw_lines old.bytes) old.ends_well) e
 cut_line s old e cut = stops_of _ _ InnerFault (cut s) tt
+
+-- a fault comes before bytes of a binary text
+pub no_bytes : (old : Stretch) (e : Error) → IsFault old → StopsWith (ahead Binary old) e
+no_bytes old e fault = record { nothing = fault.bytes; named = rw fault.ends_badly tt }
 
 -- a fault comes before the line
 pub no_line : (s : Bool) (old : Stretch) (e : Error) → IsFault old → StopsWith (section s (raw_lines old.bytes) old.ends_well) e
@@ -241,8 +252,19 @@ module _ {R : Type 0} {buf : buffered.Ghosts R} {read : Ghosts R} where
 
   pub gives-none : (stage : Stage) (old new : Counted R buf read) (found : List ℕ) (e : Error) →
       (IsTrue (read.tells old.inner) → e ≢ OutOfMemory → IsQuiet (read.faults old.inner) (read.faults new.inner) → StopsWith (ahead stage (read.rest old.inner)) e) →
-      GivesPiece stage old new found (Err e)
-  gives-none stage old new found e cause = record { taken = λ told. tt; bytes = λ told. tt; cause = cause }
+      (IsTrue (read.tells old.inner) → OrEnd read old.inner (ahead stage (read.rest old.inner)) e) → GivesPiece stage old new found (Err e)
+  gives-none stage old new found e cause why = record { taken = λ told. tt; bytes = λ told. tt; cause = cause; why = why }
+
+  -- one of the reader that gives the text
+  pub gives-asked : (stage : Stage) (old new : Counted R buf read) (found : List ℕ) (e : Error) →
+      (IsTrue (read.tells old.inner) → e ≢ OutOfMemory → IsQuiet (read.faults old.inner) (read.faults new.inner) → StopsWith (ahead stage (read.rest old.inner)) e) →
+      (e ≢ OutOfMemory → TriedAgain read.refuses old.inner e) → GivesPiece stage old new found (Err e)
+  gives-asked stage old new found e cause why = gives-none stage old new found e cause (λ told. end-asked read old.inner _ e why)
+
+  -- the text's own
+  pub gives-end : (stage : Stage) (old new : Counted R buf read) (found : List ℕ) (e : Error) →
+      (IsTrue (read.tells old.inner) → ahead stage (read.rest old.inner) ≡ ends_in (Refused e)) → GivesPiece stage old new found (Err e)
+  gives-end stage old new found e same = gives-none stage old new found e (λ told other quiet. stops_end _ e (same told)) (λ told. inr (inl (same told)))
 
   -- ---- a step that gave nothing, and then a call
 
@@ -261,10 +283,11 @@ module _ {R : Type 0} {buf : buffered.Ghosts R} {read : Ghosts R} where
       (IsTrue (read.tells old.inner) → IsTrue (read.tells middle.inner)) →
       read.faults old.inner ≤ read.faults middle.inner → read.faults middle.inner ≤ read.faults new.inner → (IsTrue (read.tells old.inner) → old.taken ≤ middle.taken) →
       (IsTrue (read.tells old.inner) → ahead stage (read.rest old.inner) ≡ ahead next (read.rest middle.inner)) →
-      GivesPiece next middle new found result → GivesPiece stage old new found result
-  gives-later stage next old middle new found result tells first last more same gives = record {
+      AddsNoReason (TriedAgain read.refuses) old.inner middle.inner → GivesPiece next middle new found result → GivesPiece stage old new found result
+  gives-later stage next old middle new found result tells first last more same narrows gives = record {
     taken = λ told. IfOk-weaker result _ _ (λ piece h. omega (arith, more told, h)) (gives.taken (tells told));
     bytes = λ told. IfOk-weaker result _ _ (λ piece is. record { same = same told ∙ is.same }) (gives.bytes (tells told));
     cause = λ told. IfErr-weaker result _ _
         (λ e stops other quiet. subst (λ o. StopsWith o e) (sym (same told)) (stops other (quiet_after _ _ _ first last quiet))) (gives.cause (tells told));
+    why = λ told. IfErr-weaker result _ _ (λ e why. end-later read old.inner middle.inner _ _ e narrows (same told) why) (gives.why (tells told));
   }

@@ -13,7 +13,6 @@ use Rattle.age_base64.proofs.Lines.{Lacks-append}
 use Rattle.age_v1.specs.ArmorLineVerdict.{last_is}
 use Rattle.age_v1.specs.DeliveredArmor.{raw_lines, section, ends_in, InnerFault, Refused, is_space, trailing}
 use Rattle.age_armor.specs.PrivateCounting.{TakesLine, IsCutShort, one_line_more}
-use Rattle.age_armor.specs.Stages.{NamesEnding}
 use Rattle.age_armor.specs.PrivateShowing.{IsLineEnd, TakesRun}
 use Rattle.age_armor.specs.declared.showing.Run.TheVariants.{Open, Ended}
 use Rattle.age_v1.proofs.RawLines.{raw_lines_ended, raw_lines_last, last_lacks, last_is_end}
@@ -80,11 +79,9 @@ spaces_taken front old mid new all d same =
     sym (all_spaces front new.bytes new.ends_well all) ∙ ap (λ x. trailing x new.ends_well) (sym d.bytes) ∙ ap (λ w. trailing mid.bytes w) d.end ∙ same
 
 pub garbage_taken : (front : List ℕ) (old mid new : Stretch) → list_all is_space front ≡ false → Delivers front mid new →
-    trailing mid.bytes mid.ends_well ≡ trailing old.bytes old.ends_well → NamesEnding (trailing old.bytes old.ends_well) (Armor TrailingGarbage)
+    trailing mid.bytes mid.ends_well ≡ trailing old.bytes old.ends_well → trailing old.bytes old.ends_well ≡ Refused (Armor TrailingGarbage)
 garbage_taken front old mid new other d same =
-    let found : trailing old.bytes old.ends_well ≡ Refused (Armor TrailingGarbage) =
-    sym same ∙ ap (λ x. trailing x mid.ends_well) d.bytes ∙ some_other front new.bytes mid.ends_well other in
-    rw found refl
+    sym same ∙ ap (λ x. trailing x mid.ends_well) d.bytes ∙ some_other front new.bytes mid.ends_well other
 
 -- the end of the text comes after a part of a line
 pub taken_none : (line all : List ℕ) (old mid new : Stretch) → Lacks 10 line → Delivers line old mid → (all ≡ line) × (new ≡ mid) × IsCleanEnd mid → TakesLine all old new

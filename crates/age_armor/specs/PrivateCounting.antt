@@ -12,7 +12,7 @@ use Rattle.age_armor.specs.declared.stages.Stage.TheVariants.{Lines}
 use Rattle.age_armor.specs.Stages.{is_start, has_lines, ahead}
 use Rattle.age_armor.specs.PrivateStages.{is_open, Advances, StopsWith, is_ended}
 use Rattle.age_v1.specs.ArmorLineVerdict.{last_is}
-use Rattle.age_armor.specs.Refusing.{OrText}
+use Rattle.age_armor.specs.Refusing.{OrEnd, OrText}
 use Rattle.age_v1.specs.DeliveredArmor.{raw_lines, section, ends_in, InnerFault, Clean}
 use Rattle.age_error.specs.declared.io.Error.TheVariants.{OutOfMemory}
 use Rattle.age_armor.specs.declared.stages.Piece.{Piece}
@@ -80,13 +80,15 @@ pub record IsCounted (stage : Stage) (start counted target place held lines : �
 -- ---- the next bytes of a text
 
 module _ {R : Type 0} {buf : buffered.Ghosts R} {read : Ghosts R} where
-  -- what was found comes first of what stood before the reader at this stage, and where it refuses nothing comes before that error
+  -- what was found comes first of what stood before the reader at this stage, and where it refuses nothing comes before that error, which is the
+  -- text's own or one of its reader
   pub record GivesPiece (stage : Stage) (old new : Counted R buf read) (found : List ℕ) (result : Result Piece Error) : Type 0 where
     pub taken : IsTrue (read.tells old.inner) → IfOk result (λ piece. old.taken + piece.count ≤ new.taken)
     pub bytes : IsTrue (read.tells old.inner) → IfOk result (λ piece.
         Advances (ahead stage (read.rest old.inner)) (take piece.count found) (ahead piece.next (read.rest new.inner)))
     pub cause : IsTrue (read.tells old.inner) → IfErr result (λ e. e ≢ OutOfMemory → IsQuiet (read.faults old.inner) (read.faults new.inner) →
         StopsWith (ahead stage (read.rest old.inner)) e)
+    pub why : IsTrue (read.tells old.inner) → IfErr result (OrEnd read old.inner (ahead stage (read.rest old.inner)))
 
   -- it is no longer than a line, 48 bytes where lines go on behind it, and empty at a clean end alone
   pub record IsPiece (stage : Stage) (old : Counted R buf read) (result : Result Piece Error) : Type 0 where

@@ -15,6 +15,7 @@ use Rattle.age_error.specs.declared.io.SeekFrom.TheVariants.{End}
 use Rattle.age_io.specs.Reading.{AddsNoReason, IsQuiet, TriedAgain, most_faults}
 use Rattle.age_io.specs.Keeping.{OrSeek, SameReader}
 use Rattle.age_io.specs.Cursor.{IsOutside, MayLead, sought}
+use Rattle.age_armor.specs.Refusing.{OrEnd}
 use Rattle.age_armor.specs.Seeking.{AsksPast, IsNear, OrAstray}
 use Rattle.age_armor.specs.PrivateSeeking.{Goes}
 use Rattle.age_armor.specs.Steps.{WherePlain, WhereSteady}
@@ -37,6 +38,10 @@ module _ {R : Type 0} {buf : buffered.Ghosts R} {read : readers.Ghosts R} where
   abbrev pub EndsAsBefore : {A : Type 0} → ArmoredReader R buf read → ArmoredReader R buf read → Result A Error → Type 0
   EndsAsBefore old new result = KeepsEnding (read.tells (inner_of old)) (has_failed old) (read.faults (inner_of old)) (read.faults (inner_of new))
       (outcome_of old).ending (outcome_of new).ending result
+
+  -- a refusal is want of memory, one of the reader that gives the text, or the text's own end
+  abbrev pub RefusesAsTold : {A : Type 0} → ArmoredReader R buf read → Result A Error → Type 0
+  RefusesAsTold old result = WhereTold old (IfErr result (OrEnd read (inner_of old) (outcome_of old)))
 
   -- after a success the lines that were taken are counted
   abbrev pub CountsTaken : {A : Type 0} → ArmoredReader R buf read → ArmoredReader R buf read → Result A Error → Type 0

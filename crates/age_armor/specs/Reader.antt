@@ -1,5 +1,5 @@
 -- What a caller sees of an `ArmoredReader`, what its reads and looks say besides what those of every reader do, and what it means as a reader.
-use Rattle.std.specs.Prelude.{◌≡◌, ℕ, ◌+◌, ◌-◌, ◌^◌, ◌≤◌, ◌<◌, ◌⊎◌, Bool, true, false, IsTrue, List, [], length, drop, min, Result, Ok, Err, IfOk, OnOk, OnErr}
+use Rattle.std.specs.Prelude.{◌≡◌, ℕ, ◌+◌, ◌-◌, ◌^◌, ◌≤◌, ◌<◌, ◌⊎◌, Bool, true, false, IsTrue, List, [], length, drop, min, Result, Ok, Err, IfOk, IfErr, OnOk, OnErr}
 use Rattle.age_error.specs.declared.io.Error.{Error}
 use Rattle.age_error.specs.declared.io.Error.TheVariants.{Failed}
 use Rattle.age_io.specs.declared.traits.Read as readers
@@ -13,7 +13,7 @@ use Rattle.age_armor.specs.Stages.{has_lines}
 use Rattle.age_armor.specs.declared.marks.Marks.{Marks}
 use Rattle.age_armor.specs.Marks.{is_known, LearnsMore}
 use Rattle.age_armor.specs.Ending.{KeepsEnding}
-use Rattle.age_armor.specs.Refusing.{IsTextRefusal}
+use Rattle.age_armor.specs.Refusing.{IsTextRefusal, OrEnd}
 use Rattle.age_armor.specs.Seeking.{text_outcome}
 use Rattle.age_armor.specs.Ahead.{outcome_ahead, rest_ahead, shown_ahead}
 use Rattle.age_v1.proofs.DeliveredArmors.{content_of}
@@ -115,6 +115,7 @@ module _ {R : Type 0} {buf : buffered.Ghosts R} {read : readers.Ghosts R} where
   pub record SameText {A : Type 0} (old new : ArmoredReader R buf read) (result : Result A Error) : Type 0 where
     pub ending : KeepsEnding (read.tells (inner_of old)) (has_failed old) (read.faults (inner_of old)) (read.faults (inner_of new))
         (outcome_of old).ending (outcome_of new).ending result
+    pub why : IsTrue (read.tells (inner_of old)) → has_failed old ≡ false → IfErr result (OrEnd read (inner_of old) (outcome_of old))
     pub whole : IsTrue (read.tells (inner_of old)) → text_outcome_of new ≡ text_outcome_of old
     pub same_text : IsTrue (read.tells (inner_of old)) → source_of new ≡ source_of old
 

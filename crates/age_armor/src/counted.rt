@@ -3,7 +3,7 @@ ghost use Rattle.std.specs.Prelude.{◌≡◌, ◌≢◌, ℕ, ◌+◌, ◌≤�
 ghost use Rattle.age_error.specs.Refusals.{IsInterruption};
 ghost use Rattle.age_error.specs.declared.io.Error.TheVariants.{OutOfMemory};
 ghost use Rattle.age_io.specs.Stretch.{IsCleanEnd, IsFault};
-ghost use Rattle.age_io.specs.Reading.{Delivers, IsQuiet, most_faults};
+ghost use Rattle.age_io.specs.Reading.{Delivers, IsQuiet, TriedAgain, most_faults};
 ghost use Rattle.std.specs.List.{list_all};
 ghost use Rattle.age_v1.specs.DeliveredArmor.{is_space as is_white};
 ghost use Rattle.age_armor.specs.Showing.{IsAhead};
@@ -56,7 +56,8 @@ impl<R: BufRead> Counted<R> {
     ghost use Rattle.age_armor.specs.PrivateCounting.{Kept, TakesNone, TakesLine, IsCutShort, IsFew, CountsOne, one_line_more};
     ghost use Rattle.age_armor.specs.PrivateShowing.{TakesFull};
     ghost use Rattle.age_armor.specs.Stages.{NamesEnding};
-    ghost use Rattle.age_v1.specs.DeliveredArmor.{trailing, Clean};
+    ghost use Rattle.age_armor.specs.Refusing.{OrEnd};
+    ghost use Rattle.age_v1.specs.DeliveredArmor.{trailing, ends_in, Clean};
 
     /// Whether nothing is left but a clean end.
     #[tactic(auto, using(crate::proofs::AheadLines::ahead_none))]
@@ -65,6 +66,7 @@ impl<R: BufRead> Counted<R> {
         ensures none { TakesNone self.old self.new result }
         ensures some { IsTrue (R.Read.tells self.old.inner) → IfOk result (λ is. is ≡ false → 0 < length (R.Read.rest self.old.inner).bytes) }
         ensures end { IsTrue (R.Read.tells self.old.inner) → IfOk result (λ is. IsTrue is → IsCleanEnd (R.Read.rest self.old.inner)) }
+        ensures why { IfErr result (λ e. e ≢ OutOfMemory → TriedAgain R.Read.refuses self.old.inner e) }
         ensures cause { IsTrue (R.Read.tells self.old.inner) → IfErr result (λ e. e ≢ OutOfMemory → IsQuiet (R.Read.faults self.old.inner) (R.Read.faults self.new.inner) →
             IsFault (R.Read.rest self.old.inner)) }
     {
@@ -82,6 +84,7 @@ impl<R: BufRead> Counted<R> {
         ensures taken { IsTrue (R.Read.tells self.old.inner) → IfOk result (λ n. self.new.taken ≡ self.old.taken + n) }
         ensures bytes { IsTrue (R.Read.tells self.old.inner) → IfOk result (λ n. Delivers (take n buf.new) (R.Read.rest self.old.inner) (R.Read.rest self.new.inner)) }
         ensures end { IsTrue (R.Read.tells self.old.inner) → IfOk result (λ n. n ≡ 0 → IsCleanEnd (R.Read.rest self.old.inner)) }
+        ensures why { IfErr result (λ e. e ≢ OutOfMemory → TriedAgain R.Read.refuses self.old.inner e) }
         ensures cause { IsTrue (R.Read.tells self.old.inner) → IfErr result (λ e. e ≢ OutOfMemory → IsQuiet (R.Read.faults self.old.inner) (R.Read.faults self.new.inner) →
             IsFault (R.Read.rest self.old.inner)) }
     {
@@ -104,6 +107,7 @@ impl<R: BufRead> Counted<R> {
         ensures taken { IsTrue (R.Read.tells self.old.inner) → IfOk result (λ whole. IsTrue whole → self.new.taken ≡ self.old.taken + length front.new) }
         ensures bytes { IsTrue (R.Read.tells self.old.inner) → IfOk result (λ whole. IsTrue whole → Delivers front.new (R.Read.rest self.old.inner) (R.Read.rest self.new.inner)) }
         ensures few { IsTrue (R.Read.tells self.old.inner) → IfOk result (λ whole. whole ≡ false → IsFew (length front.new) true (R.Read.rest self.old.inner)) }
+        ensures why { IfErr result (λ e. e ≢ OutOfMemory → TriedAgain R.Read.refuses self.old.inner e) }
         ensures cause { IsTrue (R.Read.tells self.old.inner) → IfErr result (λ e. e ≢ OutOfMemory → IsQuiet (R.Read.faults self.old.inner) (R.Read.faults self.new.inner) →
             IsFew (length front.new) false (R.Read.rest self.old.inner)) }
     {
@@ -122,6 +126,7 @@ impl<R: BufRead> Counted<R> {
     fn look_ahead(&mut self, decoder: &Decoder) -> Result<(), Error>
         ensures kept { Kept ⟦<R as Read>⟧ self.old.inner self.old.taken self.new.inner self.new.taken result }
         ensures none { TakesNone self.old self.new result }
+        ensures why { IfErr result (λ e. e ≢ OutOfMemory → TriedAgain R.Read.refuses self.old.inner e) }
         ensures cause { IsTrue (R.Read.tells self.old.inner) → IfErr result (λ e. e ≢ OutOfMemory → IsQuiet (R.Read.faults self.old.inner) (R.Read.faults self.new.inner) →
             IsFault (R.Read.rest self.old.inner)) }
     {
@@ -173,6 +178,7 @@ impl<R: BufRead> Counted<R> {
         ensures lines { IfOk result (λ is. self.new.lines ≡ (if is then one_line_more self.old.lines else self.old.lines)) }
         ensures none_taken { OnErr result (self.new.lines ≡ self.old.lines) }
         ensures counts { self.old.lines ≤ self.new.lines }
+        ensures why { IfErr result (λ e. e ≢ OutOfMemory → TriedAgain R.Read.refuses self.old.inner e) }
         ensures cause { IsTrue (R.Read.tells self.old.inner) → IfErr result (λ e. e ≢ OutOfMemory → IsQuiet (R.Read.faults self.old.inner) (R.Read.faults self.new.inner) →
             IsFault (R.Read.rest self.old.inner)) }
     {
@@ -192,6 +198,7 @@ impl<R: BufRead> Counted<R> {
         ensures counts { CountsOne (length line.new.items) self.old.lines self.new.lines result }
         ensures taken { IsTrue (R.Read.tells self.old.inner) → OnOk result (self.new.taken ≡ self.old.taken + length line.new.items) }
         ensures line { IsTrue (R.Read.tells self.old.inner) → OnOk result (TakesLine line.new.items (R.Read.rest self.old.inner) (R.Read.rest self.new.inner)) }
+        ensures why { IfErr result (λ e. e ≢ OutOfMemory → TriedAgain R.Read.refuses self.old.inner e) }
         ensures cause { IsTrue (R.Read.tells self.old.inner) → IfErr result (λ e. e ≢ OutOfMemory → IsQuiet (R.Read.faults self.old.inner) (R.Read.faults self.new.inner) →
             IsCutShort (R.Read.rest self.old.inner)) }
     {
@@ -226,6 +233,8 @@ impl<R: BufRead> Counted<R> {
         ensures kept { Kept ⟦<R as Read>⟧ self.old.inner self.old.taken self.new.inner self.new.taken result }
         ensures lines { self.new.lines ≡ self.old.lines }
         ensures clean { IsTrue (R.Read.tells self.old.inner) → OnOk result (trailing (R.Read.rest self.old.inner).bytes (R.Read.rest self.old.inner).ends_well ≡ Clean) }
+        ensures why { IsTrue (R.Read.tells self.old.inner) → IfErr result (OrEnd ⟦<R as Read>⟧ self.old.inner
+            (ends_in (trailing (R.Read.rest self.old.inner).bytes (R.Read.rest self.old.inner).ends_well))) }
         ensures cause { IsTrue (R.Read.tells self.old.inner) → IfErr result (λ e. e ≢ OutOfMemory → IsQuiet (R.Read.faults self.old.inner) (R.Read.faults self.new.inner) →
             NamesEnding (trailing (R.Read.rest self.old.inner).bytes (R.Read.rest self.old.inner).ends_well) e) }
     {

@@ -162,7 +162,7 @@ impl<R: BufRead> ArmoredReader<R> {
     ghost use Rattle.age_armor.specs.Reader.{inner_of, has_failed, has_armor, taken_of, source_of, lines_of, furthest_of, knows_end, place_of, armored_rest, shown_of, GivesLine, Learns};
     ghost use Rattle.age_armor.specs.Opening.{OpensText};
     ghost use Rattle.age_armor.specs.PrivateSeeking.{Goes};
-    ghost use Rattle.age_armor.specs.PrivateSteps.{WhereTold, KeepsText, EndsAsBefore, CountsTaken, HoldsNext, ReadsNothing, StaysBinary};
+    ghost use Rattle.age_armor.specs.PrivateSteps.{WhereTold, KeepsText, EndsAsBefore, RefusesAsTold, CountsTaken, HoldsNext, ReadsNothing, StaysBinary};
 
     /// A reader of what the text carries that begins where `inner` stands.
     ///
@@ -236,6 +236,7 @@ impl<R: BufRead> ArmoredReader<R> {
             Reads reader.tells reader.steady reader.content reader.place reader.rest reader.faults reader.refuses self.old self.new buf.new result }
         ensures good { FailsForGood (has_failed self.old) (has_failed self.new) result }
         ensures ending { EndsAsBefore self.old self.new result }
+        ensures why { RefusesAsTold self.old result }
         ensures same_text { WhereTold self.old (source_of self.new ≡ source_of self.old) }
         ensures gives { GivesLine self.old self.new buf.old buf.new result }
         ensures counts { CountsTaken self.old self.new result }
@@ -272,6 +273,7 @@ impl<R: BufRead> ArmoredReader<R> {
             Reads reader.tells reader.steady reader.content reader.place reader.rest reader.faults reader.refuses self.old self.new buf.new result }
         ensures good { FailsForGood (has_failed self.old) (has_failed self.new) result }
         ensures ending { EndsAsBefore self.old self.new result }
+        ensures why { RefusesAsTold self.old result }
         ensures text { KeepsText self.old self.new }
         ensures binary { StaysBinary self.old self.new }
         ensures stays { OnErr result (self.new.place ≡ self.old.place) }
@@ -307,6 +309,7 @@ impl<R: BufRead> ArmoredReader<R> {
         ensures goes { let reader = ⟦<ArmoredReader<R> as Read>⟧ in Goes reader reader.refuses self.old self.new result }
         ensures good { FailsForGood (has_failed self.old) (has_failed self.new) result }
         ensures ending { EndsAsBefore self.old self.new result }
+        ensures why { RefusesAsTold self.old result }
         ensures text { KeepsText self.old self.new }
         ensures holds { HoldsNext self.old self.new result }
         ensures counts { CountsTaken self.old self.new result }

@@ -35,6 +35,7 @@ pub(crate) struct Piece {
 ghost use Rattle.age_armor.specs.Stages.{ahead, is_start, has_lines};
 ghost use Rattle.age_armor.specs.PrivateStages.{Advances, StopsWith, IsFound, FindsForm, is_ended};
 ghost use Rattle.age_armor.specs.PrivateCounting.{GivesPiece, IsPiece};
+ghost use Rattle.age_armor.specs.Refusing.{OrEnd};
 ghost use Rattle.age_armor.specs.declared.stages.Stage.TheVariants.{Start, Binary, Lines};
 
 /// Reads the first 35 bytes and looks at the next; takes the begin marker's line, where it stands there.
@@ -79,6 +80,8 @@ fn after_front<R: BufRead>(
     ensures cause { IsTrue (R.Read.tells source.old.inner) → (all : Stretch) → Delivers front.now all (R.Read.rest source.old.inner) →
         0 < length (R.Read.rest source.old.inner).bytes → IfErr result (λ e. e ≢ OutOfMemory →
         IsQuiet (R.Read.faults source.old.inner) (R.Read.faults source.new.inner) → StopsWith (text_delivers all.bytes all.ends_well) e) }
+    ensures why { IsTrue (R.Read.tells source.old.inner) → (all : Stretch) → Delivers front.now all (R.Read.rest source.old.inner) →
+        0 < length (R.Read.rest source.old.inner).bytes → IfErr result (OrEnd ⟦<R as Read>⟧ source.old.inner (text_delivers all.bytes all.ends_well)) }
 {
     if !front.starts_with(b"-----BEGIN AGE ENCRYPTED FILE-----") {
         bytes[..35].copy_from_slice(front);

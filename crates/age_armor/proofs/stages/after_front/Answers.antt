@@ -1,11 +1,11 @@
-use Rattle.std.proofs.Common.{◌≡◌, ◌≢◌, ◌++◌, ◌∙◌, ap, length, take, drop, arith, sym, refl, true, false, nat_eq, rules}
+use Rattle.std.proofs.Common.{◌≡◌, ◌≢◌, ◌++◌, ◌∙◌, ap, length, take, drop, arith, inl, inr, sym, refl, true, false, nat_eq, rules}
 use Rattle.std.specs.Prelude.{slice_index}
 use Rattle.std.specs.List.{starts_with}
 use Rattle.std.proofs.lemmas.Grind.{common_steps}
 use Rattle.std.proofs.lemmas.List.{take_at}
 use Rattle.age_v1.specs.Armor.{begin_marker}
-use Rattle.age_armor.proofs.Refusing.{kept-as, kept-error, kept-refused, kept-still}
-use Rattle.age_armor.proofs.Staging.{finds_form, detects_binary, detects_lf, detects_crlf, detects_bad, detects_bad_next, advances_none, one_of}
+use Rattle.age_armor.proofs.Refusing.{end-asked, kept-as, kept-error, kept-refused, kept-still}
+use Rattle.age_armor.proofs.Staging.{finds_form, detects_binary, detects_lf, detects_crlf, detects_bad, detects_bad_next, advances_none, one_of, stops_end}
 use Rattle.age_armor.proofs.stages.after_front.Goals as goal
 
 pub returns-then-not-starts_with-clause-bytes : goal.returns-then-not-starts_with-clause-bytes
@@ -31,7 +31,23 @@ returns-then-last-ne13-clause-cause g c = λ told all d some other quiet.
     let marker : starts_with nat_eq front begin_marker ≡ true = sym c.starts_with.ensures.value ∙ c.if-not-starts_with.false in
     let no_lf : slice_index front 34 ≢ 10 = grind (arith, common_steps) in
     let no_cr : slice_index front 34 ≢ 13 = grind (arith, common_steps) in
-    detects_bad front all (g.R.Read.rest c.args.source.now.inner) c.told-front d some marker no_lf no_cr
+    stops_end _ _ (detects_bad front all (g.R.Read.rest c.args.source.now.inner) c.told-front d some marker no_lf no_cr)
+
+pub returns-then-last-ne13-clause-why : goal.returns-then-last-ne13-clause-why
+returns-then-last-ne13-clause-why g c = λ told all d some.
+    let front = c.args.front.now in
+    let marker : starts_with nat_eq front begin_marker ≡ true = sym c.starts_with.ensures.value ∙ c.if-not-starts_with.false in
+    let no_lf : slice_index front 34 ≢ 10 = grind (arith, common_steps) in
+    let no_cr : slice_index front 34 ≢ 13 = grind (arith, common_steps) in
+    inr (inl (detects_bad front all (g.R.Read.rest c.args.source.now.inner) c.told-front d some marker no_lf no_cr))
+
+pub returns-in-Ok-false-clause-why : goal.returns-in-Ok-false-clause-why
+returns-in-Ok-false-clause-why g c = λ told all d some.
+    let size : length c.take_front.new.front ≡ 1 = search rules in
+    absurd (omega (arith, size, (c.in-Ok-false.ensures.few told c.in-Ok-false.field-0-test).few, some))
+
+pub returns-in-Err-clause-why : goal.returns-in-Err-clause-why
+returns-in-Err-clause-why g c = λ told all d some. end-asked g.R.Read c.args.source.now.inner _ c.in-Err.e c.in-Err.ensures.why
 
 pub returns-then-next-ne10-clause-cause : goal.returns-then-next-ne10-clause-cause
 returns-then-next-ne10-clause-cause g c = λ told all d some other quiet.
@@ -42,8 +58,20 @@ returns-then-next-ne10-clause-cause g c = λ told all d some other quiet.
     let single = one_of next (search rules) in
     let took = rw single at (c.in-Ok-true.ensures.bytes told c.in-Ok-true.field-0-test) in
     let bad : slice_index next 0 ≢ 10 = grind (arith, common_steps) in
-    detects_bad_next front all (g.R.Read.rest c.args.source.now.inner) (g.R.Read.rest c.take_front.new.self.inner) (slice_index next 0)
-    c.told-front d some marker no_lf took bad
+    stops_end _ _ (detects_bad_next front all (g.R.Read.rest c.args.source.now.inner) (g.R.Read.rest c.take_front.new.self.inner) (slice_index next 0)
+    c.told-front d some marker no_lf took bad)
+
+pub returns-then-next-ne10-clause-why : goal.returns-then-next-ne10-clause-why
+returns-then-next-ne10-clause-why g c = λ told all d some.
+    let front = c.args.front.now in
+    let marker : starts_with nat_eq front begin_marker ≡ true = sym c.starts_with.ensures.value ∙ c.if-not-starts_with.false in
+    let no_lf : slice_index front 34 ≢ 10 = grind (arith, common_steps) in
+    let next = c.take_front.new.front in
+    let single = one_of next (search rules) in
+    let took = rw single at (c.in-Ok-true.ensures.bytes told c.in-Ok-true.field-0-test) in
+    let bad : slice_index next 0 ≢ 10 = grind (arith, common_steps) in
+    inr (inl (detects_bad_next front all (g.R.Read.rest c.args.source.now.inner) (g.R.Read.rest c.take_front.new.self.inner) (slice_index next 0)
+    c.told-front d some marker no_lf took bad))
 
 pub returns-clause-bytes : goal.returns-clause-bytes
 returns-clause-bytes g c = λ told all d some.

@@ -1,8 +1,8 @@
-use Rattle.std.proofs.Common.{◌≡◌, ◌<◌, ◌∙◌, IsTrue, length, arith, sym}
+use Rattle.std.proofs.Common.{◌≡◌, ◌<◌, ◌∙◌, IsTrue, length, arith, refl, sym}
 use Rattle.std.proofs.lemmas.Result.{IfErr-weaker, IfOk-weaker}
 use Rattle.age_io.specs.Reading.{Delivers}
-use Rattle.age_armor.proofs.Staging.{gives-none, few_clean, few_fault, few_end, few_bad}
-use Rattle.age_armor.proofs.Refusing.{kept-later, kept-error, kept-refused, text-well}
+use Rattle.age_armor.proofs.Staging.{gives-asked, gives-end, few_clean, few_fault, few_end, few_bad}
+use Rattle.age_armor.proofs.Refusing.{end-later, kept-later, kept-error, kept-refused, text-well}
 use Rattle.age_armor.proofs.Taking.{quiet_after}
 use Rattle.age_armor.proofs.stages.detect.Given as given
 use Rattle.age_armor.proofs.stages.detect.Goals as goal
@@ -16,7 +16,7 @@ returns-in-Ok-false g c =
       kept = kept-refused _ _ _ _ _ _ got.kept (λ is. is) (text-well g.R.Read start (g.met.R.Read.stands start) (λ told. (few told).end));
       counts = got.lines;
       fits = tt;
-      gives = gives-none _ _ _ _ _ (λ told other quiet. few_clean (length c.take_front.new.front) (g.R.Read.rest start) (omega arith) (few told));
+      gives = gives-end _ _ _ _ _ (λ told. few_clean (length c.take_front.new.front) (g.R.Read.rest start) (omega arith) (few told));
       found = tt;
       form = λ told. tt;
     }
@@ -28,8 +28,8 @@ returns-in-Err g c =
       kept = kept-error _ _ _ _ _ c.in-Err.e got.kept;
       counts = got.lines;
       fits = tt;
-      gives = gives-none _ _ _ _ _ (λ told other quiet.
-          few_fault (length c.take_front.new.front) (g.R.Read.rest c.args.source.now.inner) c.in-Err.e (omega arith) (got.cause told other quiet));
+      gives = gives-asked _ _ _ _ _ (λ told other quiet.
+          few_fault (length c.take_front.new.front) (g.R.Read.rest c.args.source.now.inner) c.in-Err.e (omega arith) (got.cause told other quiet)) got.why;
       found = tt;
       form = λ told. tt;
     }
@@ -46,7 +46,7 @@ returns-in-Ok-true-is_at_end g c =
           (text-well g.R.Read start (g.met.R.Read.stands start) (λ told. sym (bytes told).end ∙ (end told).ends_well));
       counts = now.none.lines ∙ got.lines;
       fits = tt;
-      gives = gives-none _ _ _ _ _ (λ told other quiet.
+      gives = gives-end _ _ _ _ _ (λ told.
           few_clean 36 (g.R.Read.rest start) (omega arith) (few_end c.take_front.new.front _ (g.R.Read.rest c.take_front.new.self.inner) (omega arith) (bytes told) (end told)));
       found = tt;
       form = λ told. tt;
@@ -61,10 +61,11 @@ returns-in-Err-is_at_end g c =
       kept = kept-error _ _ _ _ _ c.in-Err-is_at_end.e (kept-later _ _ start c.take_front.new.self.inner _ _ c.take_front.new.self.taken _ got.kept now.kept);
       counts = now.none.lines ∙ got.lines;
       fits = tt;
-      gives = gives-none _ _ _ _ _ (λ told other quiet.
+      gives = gives-asked _ _ _ _ _ (λ told other quiet.
           few_fault 36 (g.R.Read.rest start) c.in-Err-is_at_end.e (omega arith) (few_bad c.take_front.new.front _ (g.R.Read.rest c.take_front.new.self.inner) (omega arith)
           (got.bytes told c.in-Ok-true.field-0-test)
-          (now.cause (got.kept.keeps.same.tells ∙ told) other (quiet_after _ _ _ got.kept.keeps.same.faults now.kept.keeps.same.faults quiet))));
+          (now.cause (got.kept.keeps.same.tells ∙ told) other (quiet_after _ _ _ got.kept.keeps.same.faults now.kept.keeps.same.faults quiet))))
+          (λ other. got.kept.keeps.narrows c.in-Err-is_at_end.e (now.why other));
       found = tt;
       form = λ told. tt;
     }
@@ -103,6 +104,11 @@ returns g c =
             IfErr-weaker c.after_front.result _ _ (λ e h other quiet. h other
             (quiet_after _ _ _ (omega (arith, got.kept.keeps.same.faults, now.kept.keeps.same.faults)) last.kept.keeps.same.faults quiet))
             (last.cause on.0 (g.R.Read.rest start) on.1 on.2);
+        why = λ told.
+            let on = follows g c told in
+            IfErr-weaker c.after_front.result _ _
+            (λ e why. end-later g.R.Read start c.is_at_end.new.self.inner _ _ e (λ e h. got.kept.keeps.narrows e (now.kept.keeps.narrows e h)) refl why)
+            (last.why on.0 (g.R.Read.rest start) on.1 on.2);
       };
       found = last.found;
       form = λ told. let on = follows g c told in last.form on.0 (g.R.Read.rest start) on.1 on.2;

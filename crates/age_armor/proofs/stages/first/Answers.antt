@@ -24,7 +24,7 @@ returns-in-Lines g c =
       counts = (omega (arith, before.counts, now.counts.0), omega (arith, before.counts, now.counts.1));
       piece = piece-later Start (Lines c.in-Lines.after_short) old middle c.next_line.result tells same now.piece;
       gives = gives-later Start (Lines c.in-Lines.after_short) old middle c.next_line.new.source c.next_line.new.bytes c.next_line.result tells
-          before.kept.keeps.same.faults now.kept.keeps.same.faults before.kept.more same now.gives;
+          before.kept.keeps.same.faults now.kept.keeps.same.faults before.kept.more same before.kept.keeps.narrows now.gives;
       bare = IfOk-weaker c.next_line.result _ _ (λ piece is no. absurd (true≢false (sym is ∙ no))) now.lines;
       line = IfOk-weaker c.next_line.result _ _ (λ piece is armored. is ∙ ap (λ n. one_line_more n) before.counts) now.line;
       binary = λ told plain. absurd (true≢false ((rw c.in-Lines.is at (before.form told)).same ∙ plain));

@@ -2,10 +2,11 @@ use Rattle.std.proofs.Common.{◌≡◌, ◌≤◌, ◌∙◌, IsTrue, arith, re
 use Rattle.std.proofs.lemmas.Bool.{true≢false}
 use Rattle.std.proofs.lemmas.List.{take_all}
 use Rattle.std.proofs.lemmas.Result.{IfOk-weaker}
+use Rattle.age_io.specs.Reading.{AddsNoReason, TriedAgain}
 use Rattle.age_armor.specs.PrivateCounting.{one_line_more}
 use Rattle.age_armor.specs.declared.stages.Stage.TheVariants.{Lines}
 use Rattle.age_armor.specs.Stages.{ahead}
-use Rattle.age_armor.proofs.Staging.{piece-none, gives-none, piece-later, gives-later, no_line, full_step}
+use Rattle.age_armor.proofs.Staging.{piece-none, gives-asked, piece-later, gives-later, no_line, full_step}
 use Rattle.age_armor.proofs.Refusing.{kept-later, kept-as, kept-error}
 use Rattle.age_armor.proofs.stages.next_line.Given as given
 use Rattle.age_armor.proofs.stages.next_line.Goals as goal
@@ -25,6 +26,7 @@ returns-then-full g c =
             rw (c.if-not-after_short.true, take_all 48 c.take_full.new.bytes (omega arith))
             (full_step c.take_full.new.bytes (g.R.Read.rest c.args.source.now.inner) (g.R.Read.rest c.take_full.new.self.inner) (now.full told full));
         cause = λ told. tt;
+        why = λ told. tt;
       };
       lines = refl;
       line = rw full at now.lines;
@@ -37,7 +39,7 @@ returns-in-Err g c =
       kept = kept-error _ _ _ _ _ c.in-Err.e now.kept;
       counts = (now.counts, omega (arith, now.none_taken));
       piece = piece-none _ _ _;
-      gives = gives-none _ _ _ _ _ (λ told other quiet. no_line c.args.after_short (g.R.Read.rest c.args.source.now.inner) c.in-Err.e (now.cause told other quiet));
+      gives = gives-asked _ _ _ _ _ (λ told other quiet. no_line c.args.after_short (g.R.Read.rest c.args.source.now.inner) c.in-Err.e (now.cause told other quiet)) now.why;
       lines = tt;
       line = tt;
     }
@@ -48,14 +50,16 @@ stays : (g : given.Over) (c : goal.After-any_line g) → (c.if-not-after_short.s
     × (g.R.Read.faults c.args.source.now.inner ≤ g.R.Read.faults c.if-not-after_short.source.inner)
     × (IsTrue (g.R.Read.tells c.args.source.now.inner) → (g.R.Read.rest c.if-not-after_short.source.inner ≡ g.R.Read.rest c.args.source.now.inner)
     × (c.args.source.now.taken ≤ c.if-not-after_short.source.taken))
+    × AddsNoReason (TriedAgain g.R.Read.refuses) c.args.source.now.inner c.if-not-after_short.source.inner
 stays g c = elim c.if-not-after_short.branch [
   | then-not-after_short+in-Ok+else-full w ↦ rw w.source-is (
     rw w.if-full.false at w.in-Ok.ensures.lines,
     w.in-Ok.ensures.kept.keeps.same.tells,
     w.in-Ok.ensures.kept.keeps.same.faults,
     λ told. (w.in-Ok.ensures.none told w.if-full.false, w.in-Ok.ensures.kept.more told),
+    w.in-Ok.ensures.kept.keeps.narrows,
   )
-  | else-not-after_short w ↦ rw w.source-is (refl, refl, omega arith, λ told. (refl, omega arith))
+  | else-not-after_short w ↦ rw w.source-is (refl, refl, omega arith, λ told. (refl, omega arith), λ e h. h)
 ]
 
 pub returns : goal.returns
@@ -76,7 +80,7 @@ returns g c =
       counts = (omega (arith, on.0, now.counts.0), omega (arith, on.0, now.counts.1));
       piece = piece-later stage stage old middle c.any_line.result (λ told. on.1 ∙ told) same now.piece;
       gives = gives-later stage stage old middle c.any_line.new.source c.any_line.new.bytes c.any_line.result (λ told. on.1 ∙ told) on.2 now.kept.keeps.same.faults
-          (λ told. (on.3 told).1) same now.gives;
+          (λ told. (on.3 told).1) same on.4 now.gives;
       lines = now.lines;
       line = IfOk-weaker c.any_line.result _ _ (λ piece is. is ∙ ap (λ n. one_line_more n) on.0) now.line;
     }

@@ -58,6 +58,7 @@ returns-in-Err g c =
       counts = record { lines = tt; no_line = tt; none_taken = loop.lines; counts = omega (arith, loop.lines) };
       taken = λ told. tt;
       line = λ told. tt;
+      why = λ other. loop.narrows c.in-Err.e (asks.why other);
       cause = λ told other quiet.
           cut_short c.runs.line.items (g.R.Read.rest c.args.self.now.inner) (g.R.Read.rest c.runs.self.inner) (loop.unended told) (loop.so_far told)
           (asks.cause (loop.same.tells ∙ told) other (quiet_after _ _ _ loop.same.faults asks.same.faults quiet));
@@ -78,6 +79,7 @@ returns-then-is_empty g c =
       taken = search rules;
       line = λ told. taken_none c.runs.line.items c.take_run-answer.new.line.items (g.R.Read.rest c.args.self.now.inner) (g.R.Read.rest c.runs.self.inner)
           (g.R.Read.rest c.take_run-answer.new.reader) (loop.unended told) (loop.so_far told) (rw c.in-Nothing.is at (now.run (loop.same.tells ∙ told)));
+      why = tt;
       cause = λ told. tt;
     }
 
@@ -96,6 +98,7 @@ returns-in-Nothing g c =
       taken = search rules;
       line = λ told. taken_none c.runs.line.items c.take_run-answer.new.line.items (g.R.Read.rest c.args.self.now.inner) (g.R.Read.rest c.runs.self.inner)
           (g.R.Read.rest c.take_run-answer.new.reader) (loop.unended told) (loop.so_far told) (rw c.in-Nothing.is at (now.run (loop.same.tells ∙ told)));
+      why = tt;
       cause = λ told. tt;
     }
 
@@ -114,5 +117,6 @@ returns-in-Ended g c =
       taken = search rules;
       line = λ told. taken_run c.runs.line.items c.take_run-answer.new.line.items (g.R.Read.rest c.args.self.now.inner) (g.R.Read.rest c.runs.self.inner)
           (g.R.Read.rest c.take_run-answer.new.reader) (loop.unended told) (loop.so_far told) (rw c.in-Ended.is at (now.run (loop.same.tells ∙ told)));
+      why = tt;
       cause = λ told. tt;
     }

@@ -1,14 +1,26 @@
-use Rattle.std.proofs.Common.{◌∙◌, take, arith, sym}
+use Rattle.std.proofs.Common.{◌∙◌, take, ap, arith, inl, inr, refl, sym}
 use Rattle.age_io.proofs.Keeping.{same-later}
 use Rattle.age_armor.proofs.Taking.{garbage_taken, spaces_taken}
-use Rattle.age_armor.proofs.Refusing.{kept-on, kept-as, kept-error}
+use Rattle.age_v1.specs.DeliveredArmor.{ends_in}
+use Rattle.age_armor.proofs.Refusing.{end-asked, kept-on, kept-as, kept-error}
 use Rattle.age_armor.proofs.counted.Counted.take_trailing.Goals as goal
 
 pub returns-then-not-are_spaces-clause-cause : goal.returns-then-not-are_spaces-clause-cause
 returns-then-not-are_spaces-clause-cause g c = λ told other quiet.
     let loop = c.loop-count.invariant in
-    garbage_taken (take c.in-Ok.count c.read.new.buf) (g.R.Read.rest c.args.self.now.inner) (g.R.Read.rest c.loop-count.self.inner) (g.R.Read.rest c.read.new.self.inner)
-    (sym c.are_spaces.ensures ∙ c.if-not-are_spaces.true) (c.in-Ok.ensures.bytes (loop.same.tells ∙ told)) (loop.so_far told)
+    let found = garbage_taken (take c.in-Ok.count c.read.new.buf) (g.R.Read.rest c.args.self.now.inner) (g.R.Read.rest c.loop-count.self.inner) (g.R.Read.rest c.read.new.self.inner)
+    (sym c.are_spaces.ensures ∙ c.if-not-are_spaces.true) (c.in-Ok.ensures.bytes (loop.same.tells ∙ told)) (loop.so_far told) in
+    rw found refl
+
+pub returns-then-not-are_spaces-clause-why : goal.returns-then-not-are_spaces-clause-why
+returns-then-not-are_spaces-clause-why g c = λ told.
+    let loop = c.loop-count.invariant in
+    inr (inl (ap ends_in (garbage_taken (take c.in-Ok.count c.read.new.buf) (g.R.Read.rest c.args.self.now.inner) (g.R.Read.rest c.loop-count.self.inner) (g.R.Read.rest c.read.new.self.inner)
+    (sym c.are_spaces.ensures ∙ c.if-not-are_spaces.true) (c.in-Ok.ensures.bytes (loop.same.tells ∙ told)) (loop.so_far told))))
+
+pub returns-in-Err-clause-why : goal.returns-in-Err-clause-why
+returns-in-Err-clause-why g c = λ told.
+    end-asked g.R.Read c.args.self.now.inner _ c.in-Err.e (λ other. c.loop-count.invariant.narrows c.in-Err.e (c.in-Err.ensures.why other))
 
 pub loop-count-preserved : goal.loop-count-preserved
 loop-count-preserved g c =

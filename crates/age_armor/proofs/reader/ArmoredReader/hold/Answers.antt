@@ -7,7 +7,7 @@ use Rattle.age_armor.specs.Marks.{is_known}
 use Rattle.age_io.specs.Stretch.{from_place}
 use Rattle.age_v1.proofs.DeliveredArmors.{content_of, stands_by}
 use Rattle.age_armor.proofs.Keeping.{same-text, all_held, armored-done, armored-refused, good-done, good-failed, text-still, text-moved}
-use Rattle.age_armor.proofs.Ahead.{kept_stands, hold_rest, hold_ending, hold_end, hold_fault, hold_named, ended_clean, shown_none, front_held}
+use Rattle.age_armor.proofs.Ahead.{kept_stands, hold_rest, hold_ending, hold_end, hold_fault, hold_named, outcome_none, ended_clean, shown_none, front_held}
 use Rattle.age_v1.specs.DeliveredArmor.{text_delivers}
 use Rattle.age_armor.specs.Stages.{is_start}
 use Rattle.age_armor.specs.PrivateStages.{is_ended}
@@ -17,6 +17,7 @@ use Rattle.age_armor.specs.Reader.{origin_of, source_of}
 use Rattle.age_io.proofs.Keeping.{keeps-done, same-self}
 use Rattle.age_armor.proofs.Invariants.{IsHere, sound-failed}
 use Rattle.age_armor.proofs.Pacing.{learns_none, lined_on, not_before, other_than_binary}
+use Rattle.age_armor.proofs.Refusing.{end-later}
 use Rattle.age_armor.proofs.reader.ArmoredReader.hold.Goals as goal
 
 pub invariant_of-self : goal.invariant_of-self
@@ -138,6 +139,7 @@ returns-then-is_ready g c =
       goes = record { keeps = keeps-done _ _ _ _ (same-self _ before) (λ e h. h); unspent = before.unspent c.requires begun };
       good = good-done _ _ c.requires c.requires;
       ending = record { same = λ told. refl; named = λ told good. tt };
+      why = λ told. tt;
       text = text-still _ _ refl refl refl;
       holds = record {
         place = refl;
@@ -182,6 +184,7 @@ returns-in-Ok g c =
             (reader.rest before.source.inner) (reader.rest source.inner) (now.gives.bytes told);
         named = λ told good. tt;
       };
+      why = λ told. tt;
       text = text-moved _ _ now.kept.keeps.same (λ told. ap (λ n. n + before.preceding) (now.kept.origin told)) c.learn.ensures.more now.counts.0
           (λ told steady plain. now.binary told (plain_stage before.stage (source_of before) (before.form told steady) plain)
           (λ start. plain_rest (reader.content before.source.inner) _ _ (origin_of before) (g.met.R.Read.stands before.source.inner told steady)
@@ -226,6 +229,9 @@ returns-in-Err g c =
         named = λ told good other quiet.
             hold_named before.bytes before.given before.filled before.stage (reader.rest before.source.inner) c.in-Err.e (now.gives.cause told other quiet);
       };
+      why = λ told.
+          end-later reader before.source.inner before.source.inner _ _ c.in-Err.e (λ e h. h)
+          (outcome_none before.bytes before.given before.filled before.stage (reader.rest before.source.inner) (all_held before) (omega (arith, none))) (now.gives.why told);
       text = text-moved _ _ now.kept.keeps.same (λ told. ap (λ n. n + before.preceding) (now.kept.origin told)) (learns_none _ _ refl) now.counts.0
           (λ told steady plain. now.binary told (plain_stage before.stage (source_of before) (before.form told steady) plain)
           (λ start. plain_rest (reader.content before.source.inner) _ _ (origin_of before) (g.met.R.Read.stands before.source.inner told steady)

@@ -16,6 +16,7 @@ use Rattle.age_armor.proofs.Forms.{form_kept}
 use Rattle.age_armor.specs.Reader.{origin_of}
 use Rattle.age_armor.proofs.Invariants.{IsHere, sound-failed}
 use Rattle.age_armor.proofs.Pacing.{learns_none}
+use Rattle.age_armor.proofs.Refusing.{end-asked}
 use Rattle.age_armor.proofs.reader.ArmoredReader.pass.Goals as goal
 
 pub invariant_of-self : goal.invariant_of-self
@@ -122,6 +123,7 @@ returns-in-Ok g c =
           (λ told none some. pass_end before.failed before.bytes before.given before.filled before.stage _ good binary (all_held before) c.requires.given (now.end told none));
       good = good-done _ _ good good;
       ending = record { same = λ told. pass_ending before.bytes _ before.given before.filled before.stage _ _ binary (now.bytes told); named = λ told fine. tt };
+      why = λ told. tt;
       text = text-moved _ _ now.kept.keeps.same (λ told. ap (λ n. n + before.preceding) (now.kept.origin told)) c.learn.ensures.more (omega (arith, now.lines))
           (λ told steady plain. now.lines);
       binary = record {
@@ -148,6 +150,7 @@ returns-in-Err g c =
         same = λ told. tt;
         named = λ told fine other quiet. pass_named before.bytes before.given before.filled before.stage _ c.in-Err.e binary (now.cause told other quiet);
       };
+      why = λ told. end-asked g.R.Read before.source.inner _ c.in-Err.e now.why;
       text = text-moved _ _ now.kept.keeps.same (λ told. ap (λ n. n + before.preceding) (now.kept.origin told)) (learns_none _ _ refl) (omega (arith, now.lines))
           (λ told steady plain. now.lines);
       binary = record {

@@ -25,6 +25,7 @@ returns-then-is_passing g c =
       reads = now.reads;
       good = now.good;
       ending = now.ending;
+      why = now.why;
       same_text = now.text.same_text;
       gives = record {
         held = λ some. absurd (omega (arith, ap length now.binary.shown, some));
@@ -61,6 +62,7 @@ returns-in-Err g c =
       reads = reads-failed _ _ _ c.in-Err.e now.goes now.holds.place now.good.fails now.cause;
       good = fails-passed _ _ c.in-Err.e now.good;
       ending = ends-passed _ _ _ _ _ _ c.in-Err.e now.ending;
+      why = now.why;
       same_text = now.text.same_text;
       gives = record {
         held = λ some. tt;
@@ -98,6 +100,7 @@ returns-in-Ok g c =
           (λ told none some. now.holds.end told (omega (arith, none, given.count, held.order, c.requires.some)));
       good = good-done _ _ c.requires.good given.reads.fresh;
       ending = record { same = λ told. given.reads.ending ∙ now.ending.same told; named = λ told good. tt };
+      why = λ told. tt;
       same_text = text.same_text;
       gives = record {
         held = λ some. omega (arith, given.count, size, ap length ((now.holds.same some).1));
