@@ -111,11 +111,12 @@ module _ {R : Type 0} {buf : buffered.Ghosts R} {read : readers.Ghosts R} where
     pub exact : IsTrue (read.tells (inner_of old)) → IsTrue (has_armor new) → OnOk result (CountsLine old new)
 
   -- What stays of the text over a read or a look: which one it is, what it delivers in all, and how it ends. A refusal that neither the device
-  -- nor memory made is that of its end.
+  -- nor memory made is that of its end. Whether or not the device failed, one that the inner reader wouldn't make is said of the text only where
+  -- nothing is left of it but the end with that name.
   pub record SameText {A : Type 0} (old new : ArmoredReader R buf read) (result : Result A Error) : Type 0 where
     pub ending : KeepsEnding (read.tells (inner_of old)) (has_failed old) (read.faults (inner_of old)) (read.faults (inner_of new))
         (outcome_of old).ending (outcome_of new).ending result
-    pub why : IsTrue (read.tells (inner_of old)) → has_failed old ≡ false → IfErr result (OrEnd read (inner_of old) (outcome_of old))
+    pub says : IsTrue (read.tells (inner_of old)) → has_failed old ≡ false → IfErr result (OrEnd read (inner_of old) (outcome_of old))
     pub whole : IsTrue (read.tells (inner_of old)) → text_outcome_of new ≡ text_outcome_of old
     pub same_text : IsTrue (read.tells (inner_of old)) → source_of new ≡ source_of old
 
