@@ -13,7 +13,7 @@ ghost use Rattle.age_v1.specs.DeliveredArmor.{begins_armor};
 ghost use Rattle.age_armor.specs.Seeking.{OrAstray, AsksPast, IsEarly};
 ghost use Rattle.age_armor.specs.PrivateSeeking.{Goes, SeeksText, ComesBack};
 ghost use Rattle.age_armor.specs.Stages.{is_start};
-ghost use Rattle.age_armor.specs.Refusing.{OrText};
+ghost use Rattle.age_armor.specs.Refusing.{OrWant};
 ghost use Rattle.age_armor.specs.declared.stages.Stage.TheVariants.{Binary};
 
 use crate::reader::ArmoredReader;
@@ -180,7 +180,7 @@ impl<R: BufRead + Seek> ArmoredReader<R> {
     // Goes to the end of a binary text, for which the inner reader is asked.
     fn jump_to_end(&mut self) -> Result<(), Error>
         requires { self.old.stage ≡ Binary }
-        ensures below { KeepsReader ⟦<R as Read>⟧ (OrSeek (OrAstray R.Seek.seek_refuses) (OrText ⟦<R as Read>⟧)) (inner_of self.old) (inner_of self.new) result }
+        ensures below { KeepsReader ⟦<R as Read>⟧ (OrSeek (OrAstray R.Seek.seek_refuses) (OrWant ⟦<R as Read>⟧)) (inner_of self.old) (inner_of self.new) result }
         ensures unspent { OnOk result (R.Read.faults (inner_of self.new) < most_faults) }
         ensures origin { WhereTold self.old (origin_of self.new ≡ origin_of self.old) }
         ensures text { KeepsText self.old self.new }
