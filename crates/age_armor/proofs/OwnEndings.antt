@@ -1,5 +1,5 @@
 -- How a text may end: never with the refusal of a seek, and only one that ends well ends too early.
-use Rattle.std.proofs.Common.{◌≡◌, ◌∙◌, ℕ, Bool, true, false, ◌||◌, List, [], ◌∷◌, length, drop, IsTrue, ap, inl, inr, nat_lt, nat_eq, refl, subst, sym, if◌then◌else◌}
+use Rattle.std.proofs.Common.{◌≡◌, ◌∙◌, ℕ, Bool, true, false, ◌||◌, List, [], ◌∷◌, length, drop, ap, inl, inr, nat_lt, nat_eq, refl, subst, sym, if◌then◌else◌}
 use Rattle.std.proofs.lemmas.Bool.{cases_Bool}
 use Rattle.std.specs.List.{concat, starts_with}
 use Rattle.age_error.specs.declared.io.Error.{Error}

@@ -546,7 +546,8 @@ impl<R: BufRead + Seek> Seek for ArmoredReader<R> {
     ///
     /// - `fails`: a success makes it good, a refused target leaves a failure as it was, and any other refusal fails it.
     /// - `refuses`: why it refuses. A refusal that neither the target, the device nor memory made is the text's end, and a bad text
-    ///   has no length.
+    ///   has no length. Over an inner reader that tells its bytes and is steady `Armor(..)` and `UnexpectedEof` are how the text ends,
+    ///   or refusals that the inner reader might make, whether or not the device failed: `why` of its `seeks`.
     /// - `text`: the text stays, what it delivers in all, and how it ends.
     /// - `counts`: how many lines it takes, none of a binary text.
     /// - `learns`: what is known of the text only grows, and its end is known after a target that is counted from it.
