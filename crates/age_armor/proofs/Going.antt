@@ -20,7 +20,8 @@ use Rattle.age_armor.specs.Stages.{NamesEnding, is_start}
 use Rattle.age_armor.specs.ReaderLemmas.{well_inner}
 use Rattle.age_armor.specs.Seeking.{OrAstray, AsksPast}
 use Rattle.age_armor.specs.PrivateSeeking.{Goes, SeeksText, ComesBack}
-use Rattle.age_armor.specs.Refusing.{OrText}
+use Rattle.age_armor.specs.Refusing.{OrWant}
+use Rattle.age_armor.proofs.Refusing.{want-own}
 use Rattle.age_armor.specs.Reader.{knows_end, origin_of, text_outcome_of, armored_reader, armored_content, armored_rest, refuses_of}
 use Rattle.age_armor.specs.Steps.{WhereSteady, LandsBelow}
 use Rattle.age_armor.specs.PrivateSteps.{WhereTold, KeepsText, Came, GoesTo, ReachesEnd, FailsThere, EndsAsBefore, EndsAsText, StandsInText, WalksAlong, Reaches, Misses, FindsEnd, StaysThere, SparesReading, TakesFew}
@@ -258,7 +259,7 @@ module _ {R : Type 0} {buf : buffered.Ghosts R} {read : Ghosts R} where
 
   -- the reader that gives the text was asked for the end
   pub jumped-to-end : (below : Error → Type 0) (a b : ArmoredReader R buf read) (result : Result (Unit {0}) Error) →
-      KeepsReader read (OrSeek (OrAstray below) (OrText read)) a.source.inner b.source.inner result → OnOk result (read.faults b.source.inner < most_faults) →
+      KeepsReader read (OrSeek (OrAstray below) (OrWant read)) a.source.inner b.source.inner result → OnOk result (read.faults b.source.inner < most_faults) →
       WhereTold a (origin_of b ≡ origin_of a) → KeepsText a b → StandsInText a b result → WhereSteady a (b.place ≤ length (armored_content b).bytes) →
       WhereTold a (OnOk result (IsCleanEnd (armored_rest b))) → OnOk result (IsTrue (knows_end b)) → FailsThere a b result →
       (IsTrue (read.tells a.source.inner) → IsTrue (read.content a.source.inner).ends_well →
@@ -270,7 +271,7 @@ module _ {R : Type 0} {buf : buffered.Ghosts R} {read : Ghosts R} where
         text = text;
         came = record {
           same = same;
-          narrows = tried-narrows refuses_of a b (armor-narrows a b keeps.same keeps.narrows stands.good);
+          narrows = tried-narrows refuses_of a b (armor-narrows a b keeps.same keeps.narrows origin stands.good);
           unspent = few;
           text = text;
           good = stands.good;
@@ -283,7 +284,7 @@ module _ {R : Type 0} {buf : buffered.Ghosts R} {read : Ghosts R} where
         misses = tt;
       }
   jumped-to-end below a b (Err e) keeps few origin text stands inside end knows fails cause = record {
-    goes = armored-refused _ a b e keeps origin (λ why. elim why [ inl is ↦ inl is | inr reading ↦ inr (inr reading) ]);
+    goes = armored-refused _ a b e keeps origin (λ why. elim why [ inl is ↦ inl is | inr want ↦ inr (inr (want-own read a.source.inner (text_outcome_of a).ending e want)) ]);
     text = text;
     came = tt;
     end = λ told. tt;

@@ -12,13 +12,14 @@ use Rattle.age_io.proofs.Keeping.{same-later, keeps-done, keeps-later, keeps-mor
 use Rattle.age_io.proofs.Retrying.{tried-patient, tried-narrows}
 use Rattle.age_io.specs.declared.bufread.BufRead as buffered
 use Rattle.age_armor.specs.declared.reader.ArmoredReader.{ArmoredReader}
-use Rattle.age_armor.specs.Reader.{CountsLine, origin_of, armored_reader, armored_rest, refuses_of, shown_of, Learns, source_of}
-use Rattle.age_armor.specs.Refusing.{OrText}
+use Rattle.age_armor.specs.Reader.{CountsLine, origin_of, armored_reader, armored_rest, refuses_of, shown_of, Learns, source_of, text_outcome_of}
+use Rattle.age_armor.specs.declared.counted.Counted.{Counted}
+use Rattle.age_armor.specs.Refusing.{IsOwnRefusal}
 use Rattle.age_v1.proofs.DeliveredArmors.{content_of}
-use Rattle.age_armor.specs.Seeking.{OrAstray}
+use Rattle.age_armor.specs.Seeking.{OrAstray, text_outcome}
 use Rattle.age_armor.specs.PrivateSeeking.{Goes}
 use Rattle.age_armor.proofs.Ahead.{length_held, rest_gone}
-use Rattle.age_armor.proofs.Refusing.{failed-or-kept, plain-narrows, text-patient, text-narrows}
+use Rattle.age_armor.proofs.Refusing.{failed-or-kept, own-patient, own-wider, plain-narrows}
 use Rattle.age_io.specs.Failing.{FailsForGood}
 use Rattle.age_io.specs.Filling.{Fills}
 use denote.Ref.{Bor}
@@ -111,7 +112,7 @@ module _ {R : Type 0} {buf : buffered.Ghosts R} {read : Ghosts R} where
   armor-patient r e h is = elim h [
     | inl own ↦ subst IsInterruption own.1 is
     | inr reading ↦ elim reading [
-      | inl text ↦ text-patient _ _ _ e text is
+      | inl text ↦ own-patient _ _ _ e text is
       | inr tried ↦ tried-patient read.refuses r.source.inner e tried is
     ]
   ]
@@ -124,24 +125,41 @@ module _ {R : Type 0} {buf : buffered.Ghosts R} {read : Ghosts R} where
 
   -- a step that adds no reason to the inner reader, after which it hasn't failed
   pub armor-narrows : (a b : ArmoredReader R buf read) → SameReader read a.source.inner b.source.inner →
-      AddsNoReason (TriedAgain read.refuses) a.source.inner b.source.inner → b.failed ≡ false → AddsNoReason refuses_of a b
-  armor-narrows a b same narrows good e h = elim h [
+      AddsNoReason (TriedAgain read.refuses) a.source.inner b.source.inner → WhereTold a (origin_of b ≡ origin_of a) → b.failed ≡ false →
+      AddsNoReason refuses_of a b
+  armor-narrows a b same narrows origin good e h = elim h [
     | inl own ↦ absurd (true≢false (sym own.0 ∙ good))
-    | inr reading ↦ inr (text-narrows read a.source.inner b.source.inner same narrows e reading)
+    | inr reading ↦ elim reading [
+      | inl text ↦
+          let ends : WhereTold a ((text_outcome_of b).ending ≡ (text_outcome_of a).ending) = λ told. rw (same.content told, origin told) refl in
+          inr (inl (own-wider _ _ (read.tells a.source.inner) (read.steady a.source.inner) _ (text_outcome_of a).ending e
+          (λ told. same.tells ∙ told) (λ steady. same.steady ∙ steady) ends text))
+      | inr tried ↦ inr (inr (narrows e tried))
+    ]
   ]
 
+  -- why reading refuses, over the source and the count of bytes before the text
+  abbrev reading_refuses : Counted R buf read → ℕ → Error → Type 0
+  reading_refuses s before e = IsOwnRefusal (read.tells s.inner) (read.steady s.inner)
+      (text_outcome (read.content s.inner) (read.place s.inner - s.taken + before)).ending e ⊎ TriedAgain read.refuses s.inner e
+
+  same-refuses : (a b : ArmoredReader R buf read) (e : Error) → b.source ≡ a.source → b.preceding ≡ a.preceding →
+      reading_refuses b.source b.preceding e → reading_refuses a.source a.preceding e
+  same-refuses a b e is before h = subst (λ s. reading_refuses s a.preceding e) is (subst (λ n. reading_refuses b.source n e) before h)
+
   -- over the same source, one that has failed refuses with no more than `Failed` besides
-  pub source-narrows : (a b : ArmoredReader R buf read) → b.source ≡ a.source → (e : Error) → refuses_of b e → (e ≡ Failed) ⊎ refuses_of a e
-  source-narrows a b is e h = elim h [
+  pub source-narrows : (a b : ArmoredReader R buf read) → b.source ≡ a.source → b.preceding ≡ a.preceding → (e : Error) → refuses_of b e →
+      (e ≡ Failed) ⊎ refuses_of a e
+  source-narrows a b is before e h = elim h [
     | inl own ↦ inl own.1
-    | inr reading ↦ inr (inr (subst (λ s. OrText read s.inner e) is reading))
+    | inr reading ↦ inr (inr (same-refuses a b e is before reading))
   ]
 
   -- and one that hasn't, with none
-  pub still-narrows : (a b : ArmoredReader R buf read) → b.source ≡ a.source → b.failed ≡ false → AddsNoReason refuses_of a b
-  still-narrows a b is good e h = elim h [
+  pub still-narrows : (a b : ArmoredReader R buf read) → b.source ≡ a.source → b.preceding ≡ a.preceding → b.failed ≡ false → AddsNoReason refuses_of a b
+  still-narrows a b is before good e h = elim h [
     | inl own ↦ absurd (true≢false (sym own.0 ∙ good))
-    | inr reading ↦ inr (subst (λ s. OrText read s.inner e) is reading)
+    | inr reading ↦ inr (same-refuses a b e is before reading)
   ]
 
   pub same-armored : (a b : ArmoredReader R buf read) → SameReader read a.source.inner b.source.inner →
@@ -161,7 +179,7 @@ module _ {R : Type 0} {buf : buffered.Ghosts R} {read : Ghosts R} where
       read.faults b.source.inner < most_faults → b.failed ≡ false → Goes {A = B} armored_reader may a b (Ok y)
   armored-done may a b keeps origin few good = record {
     keeps = keeps-done armored_reader may a b (same-armored a b keeps.same origin)
-        (tried-narrows refuses_of a b (armor-narrows a b keeps.same keeps.narrows good));
+        (tried-narrows refuses_of a b (armor-narrows a b keeps.same keeps.narrows origin good));
     unspent = few;
   }
 
@@ -269,7 +287,7 @@ module _ {R : Type 0} {buf : buffered.Ghosts R} {read : Ghosts R} where
       c.source ≡ b.source → c.preceding ≡ b.preceding → c.failed ≡ false → Goes armored_reader refuses_of a c (Ok y)
   goes-given a b c goes source before good = record {
     keeps = keeps-done armored_reader refuses_of a c (same-later armored_reader a b c goes.keeps.same (same-source b c source before))
-        (λ e h. goes.keeps.narrows e (tried-narrows refuses_of b c (still-narrows b c source good) e h));
+        (λ e h. goes.keeps.narrows e (tried-narrows refuses_of b c (still-narrows b c source before good) e h));
     unspent = omega (arith, ap (λ s. read.faults s.inner) source, goes.unspent);
   }
 

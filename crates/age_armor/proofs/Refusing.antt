@@ -1,6 +1,6 @@
 -- Why reading a text refuses, over a step.
 use Rattle.std.proofs.Common.{◌≡◌, ◌≢◌, ◌⊎◌, ◌∙◌, ◌-◌, ◌≤◌, ◌<◌, ℕ, Bool, IsTrue, Ok, Err, Result, inl, inr, refl, sym, ap, subst, arith}
-use Rattle.std.proofs.lemmas.Bool.{true≢false}
+use Rattle.std.proofs.lemmas.Bool.{cases_Bool, true≢false}
 use Rattle.age_error.specs.Refusals.{IsDevice, IsInterruption}
 use Rattle.age_error.specs.declared.io.Error.{Error}
 use Rattle.age_error.specs.declared.io.Error.TheVariants.{Device, UnexpectedEof, TooLong, Armor, OutOfMemory, Failed}
@@ -11,8 +11,8 @@ use Rattle.age_io.specs.declared.traits.Read.{Ghosts}
 use Rattle.age_io.proofs.Keeping.{keeps-done, keeps-later, keeps-refused, same-later, same-self}
 use Rattle.age_armor.specs.PrivateCounting.{Kept}
 use Rattle.age_armor.specs.PrivateShowing.{AsksReader}
-use Rattle.age_v1.specs.DeliveredArmor.{Outcome}
-use Rattle.age_armor.specs.Refusing.{IsTextRefusal, OrEnd, OrText}
+use Rattle.age_v1.specs.DeliveredArmor.{Ending, Outcome, Refused, ends_in}
+use Rattle.age_armor.specs.Refusing.{IsOwnRefusal, IsTextRefusal, OrEnd, OrText, OrWant}
 
 -- ---- an error
 
@@ -29,6 +29,44 @@ text-wider told steady well told_before steady_before well_before OutOfMemory te
 text-wider told steady well told_before steady_before well_before UnexpectedEof tells stays ends h = λ t s. ends t (h (tells t) (stays s))
 text-wider told steady well told_before steady_before well_before TooLong tells stays ends h = λ t. h (tells t)
 text-wider told steady well told_before steady_before well_before _ tells stays ends h = absurd h
+
+-- ---- an error of a text of which it is known how it ends
+
+pub own-patient : (tells steady : Bool) (ending : Ending) (e : Error) → IsOwnRefusal tells steady ending e → IsInterruption e → ⊥
+own-patient tells steady ending (Device kind) h is = h
+own-patient tells steady ending _ h is = is
+
+-- of a text of which less is known
+pub own-wider : (told steady told_before steady_before : Bool) (ending before : Ending) (e : Error) → (IsTrue told_before → IsTrue told) →
+    (IsTrue steady_before → IsTrue steady) → (IsTrue told_before → ending ≡ before) →
+    IsOwnRefusal told steady ending e → IsOwnRefusal told_before steady_before before e
+own-wider told steady told_before steady_before ending before (Armor fault) tells stays same h = λ t s. sym (same t) ∙ h (tells t) (stays s)
+own-wider told steady told_before steady_before ending before OutOfMemory tells stays same h = tt
+own-wider told steady told_before steady_before ending before UnexpectedEof tells stays same h = λ t s. sym (same t) ∙ h (tells t) (stays s)
+own-wider told steady told_before steady_before ending before TooLong tells stays same h = λ t. h (tells t)
+own-wider told steady told_before steady_before ending before _ tells stays same h = absurd h
+
+own-of : (tells steady well : Bool) (ending : Ending) (e : Error) → IsTextRefusal tells steady well e →
+    (IsTrue tells → IsTrue steady → ending ≡ Refused e) → IsOwnRefusal tells steady ending e
+own-of tells steady well ending (Armor fault) h ends = ends
+own-of tells steady well ending OutOfMemory h ends = tt
+own-of tells steady well ending UnexpectedEof h ends = ends
+own-of tells steady well ending TooLong h ends = h
+own-of tells steady well ending _ h ends = absurd h
+
+-- the text's own, or none of it
+own-or : {X : Type 0} (tells steady well : Bool) (ending : Ending) (e : Error) → IsTextRefusal tells steady well e →
+    (IsTrue tells → IsTrue steady → (e ≡ OutOfMemory) ⊎ (ending ≡ Refused e) ⊎ X) → IsOwnRefusal tells steady ending e ⊎ X
+own-or tells steady well ending e text why = elim (cases_Bool tells) [
+  | inl told ↦ elim (cases_Bool steady) [
+    | inl is ↦ elim (why told is) [
+      | inl memory ↦ inl (subst (IsOwnRefusal tells steady ending) (sym memory) tt)
+      | inr rest ↦ elim rest [ inl end ↦ inl (own-of tells steady well ending e text (λ t s. end)) | inr other ↦ inr other ]
+    ]
+    | inr not ↦ inl (own-of tells steady well ending e text (λ t s. absurd (true≢false (sym s ∙ not))))
+  ]
+  | inr not ↦ inl (own-of tells steady well ending e text (λ t s. absurd (true≢false (sym t ∙ not))))
+]
 
 memory-or-not : (e : Error) → (e ≡ OutOfMemory) ⊎ (e ≢ OutOfMemory)
 memory-or-not OutOfMemory = inl refl
@@ -60,6 +98,31 @@ module _ {R : Type 0} (read : Ghosts R) where
   -- whatever is left of the text then
   pub end-asked : (a : R) (left : Outcome) (e : Error) → (e ≢ OutOfMemory → TriedAgain read.refuses a e) → OrEnd read a left e
   end-asked a left e why = elim (memory-or-not e) [ inl is ↦ inl is | inr other ↦ inr (inr (why other)) ]
+
+  pub want-narrows : (a b : R) → AddsNoReason (TriedAgain read.refuses) a b → AddsNoReason (OrWant read) a b
+  want-narrows a b narrows e h = elim h [ inl is ↦ inl is | inr tried ↦ inr (narrows e tried) ]
+
+  pub want-asked : (a : R) (e : Error) → (e ≢ OutOfMemory → TriedAgain read.refuses a e) → OrWant read a e
+  want-asked a e why = elim (memory-or-not e) [ inl is ↦ inl is | inr other ↦ inr (why other) ]
+
+  -- however the text ends
+  pub want-own : (a : R) (ending : Ending) (e : Error) → OrWant read a e → IsOwnRefusal (read.tells a) (read.steady a) ending e ⊎ TriedAgain read.refuses a e
+  want-own a ending e why = elim why [
+    | inl is ↦ inl (subst (IsOwnRefusal (read.tells a) (read.steady a) ending) (sym is) tt)
+    | inr tried ↦ inr tried
+  ]
+
+  -- the text's own, where nothing is left but its end
+  pub text-own : (a : R) (left : Outcome) (ending : Ending) (e : Error) → OrText read a e → (IsTrue (read.tells a) → OrEnd read a left e) →
+      (IsTrue (read.tells a) → IsTrue (read.steady a) → left ≡ ends_in (Refused e) → ending ≡ Refused e) →
+      IsOwnRefusal (read.tells a) (read.steady a) ending e ⊎ TriedAgain read.refuses a e
+  text-own a left ending e text why ends = elim text [
+    | inl own ↦ own-or (read.tells a) (read.steady a) (read.content a).ends_well ending e own (λ told steady. elim (why told) [
+      | inl memory ↦ inl memory
+      | inr rest ↦ elim rest [ inl end ↦ inr (inl (ends told steady end)) | inr tried ↦ inr (inr tried) ]
+    ])
+    | inr tried ↦ inr tried
+  ]
 
   -- a step that adds no reason to refuse and gives nothing
   pub end-later : (a b : R) (left next : Outcome) (e : Error) → AddsNoReason (TriedAgain read.refuses) a b → left ≡ next → OrEnd read b next e →

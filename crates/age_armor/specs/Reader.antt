@@ -13,7 +13,7 @@ use Rattle.age_armor.specs.Stages.{has_lines}
 use Rattle.age_armor.specs.declared.marks.Marks.{Marks}
 use Rattle.age_armor.specs.Marks.{is_known, LearnsMore}
 use Rattle.age_armor.specs.Ending.{KeepsEnding}
-use Rattle.age_armor.specs.Refusing.{IsTextRefusal, OrEnd}
+use Rattle.age_armor.specs.Refusing.{IsOwnRefusal, OrEnd}
 use Rattle.age_armor.specs.Seeking.{text_outcome}
 use Rattle.age_armor.specs.Ahead.{outcome_ahead, rest_ahead, shown_ahead}
 use Rattle.age_v1.proofs.DeliveredArmors.{content_of}
@@ -85,11 +85,11 @@ module _ {R : Type 0} {buf : buffered.Ghosts R} {read : readers.Ghosts R} where
   abbrev pub armored_rest : ArmoredReader R buf read → Stretch
   armored_rest r = rest_ahead r.failed r.bytes r.given r.filled r.stage (read.rest r.source.inner)
 
-  -- why its calls refuse: with `Failed` once it has failed, with what reading the text refuses with of itself, or as the inner reader
-  -- does, whose interruptions are tried again
+  -- why its calls refuse: with `Failed` once it has failed, with what reading the text refuses with of itself, which is how the text ends, or as
+  -- the inner reader does, whose interruptions are tried again
   abbrev pub refuses_of : ArmoredReader R buf read → Error → Type 0
   refuses_of r e = ((r.failed ≡ true) × (e ≡ Failed))
-      ⊎ IsTextRefusal (read.tells r.source.inner) (read.steady r.source.inner) (source_of r).ends_well e
+      ⊎ IsOwnRefusal (read.tells r.source.inner) (read.steady r.source.inner) (text_outcome_of r).ending e
       ⊎ TriedAgain read.refuses r.source.inner e
 
   -- what it shows: the rest of the line that it holds
@@ -111,11 +111,12 @@ module _ {R : Type 0} {buf : buffered.Ghosts R} {read : readers.Ghosts R} where
     pub exact : IsTrue (read.tells (inner_of old)) → IsTrue (has_armor new) → OnOk result (CountsLine old new)
 
   -- What stays of the text over a read or a look: which one it is, what it delivers in all, and how it ends. A refusal that neither the device
-  -- nor memory made is that of its end.
+  -- nor memory made is that of its end. Whether or not the device failed, one that the inner reader wouldn't make is said of the text only where
+  -- nothing is left of it but the end with that name.
   pub record SameText {A : Type 0} (old new : ArmoredReader R buf read) (result : Result A Error) : Type 0 where
     pub ending : KeepsEnding (read.tells (inner_of old)) (has_failed old) (read.faults (inner_of old)) (read.faults (inner_of new))
         (outcome_of old).ending (outcome_of new).ending result
-    pub why : IsTrue (read.tells (inner_of old)) → has_failed old ≡ false → IfErr result (OrEnd read (inner_of old) (outcome_of old))
+    pub says : IsTrue (read.tells (inner_of old)) → has_failed old ≡ false → IfErr result (OrEnd read (inner_of old) (outcome_of old))
     pub whole : IsTrue (read.tells (inner_of old)) → text_outcome_of new ≡ text_outcome_of old
     pub same_text : IsTrue (read.tells (inner_of old)) → source_of new ≡ source_of old
 

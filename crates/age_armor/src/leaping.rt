@@ -7,7 +7,7 @@ ghost use Rattle.age_io.specs.Keeping.{KeepsReader, OrSeek};
 ghost use Rattle.age_io.specs.Cursor.{IsOutside, place_at as place_by};
 ghost use Rattle.age_armor.specs.Seeking.{OrAstray};
 ghost use Rattle.age_armor.specs.PrivateSeeking.{Goes};
-ghost use Rattle.age_armor.specs.Refusing.{OrText};
+ghost use Rattle.age_armor.specs.Refusing.{OrWant};
 
 use crate::counted::Counted;
 use crate::showing::look;
@@ -157,7 +157,7 @@ impl<R: BufRead + Seek> Counted<R> {
     // Goes to the end of the inner reader, all before which is counted, and sees that it is a clean one.
     fn see_end(&mut self) -> Result<(), Error>
         requires all { IsTrue (R.Read.tells self.old.inner) → self.old.taken ≡ R.Read.place self.old.inner }
-        ensures goes { Goes ⟦<R as Read>⟧ (OrSeek (OrAstray R.Seek.seek_refuses) (OrText ⟦<R as Read>⟧)) self.old.inner self.new.inner result }
+        ensures goes { Goes ⟦<R as Read>⟧ (OrSeek (OrAstray R.Seek.seek_refuses) (OrWant ⟦<R as Read>⟧)) self.old.inner self.new.inner result }
         ensures lines { self.new.lines ≡ self.old.lines }
         ensures all { IsTrue (R.Read.tells self.old.inner) → self.new.taken ≡ R.Read.place self.new.inner }
         ensures onward { IsTrue (R.Read.tells self.old.inner) → IsTrue (R.Read.steady self.old.inner) →
@@ -184,7 +184,7 @@ impl<R: BufRead + Seek> Counted<R> {
     /// counted, and `preceding` is raised by as much as the count: so many of the counted bytes precede the text.
     pub(crate) fn go_to_end(&mut self, preceding: &mut u64) -> Result<(), Error>
         requires begins { IsTrue (R.Read.tells self.old.inner) → R.Read.place self.old.inner - self.old.taken + preceding.old < 2 ^ 63 }
-        ensures goes { Goes ⟦<R as Read>⟧ (OrSeek (OrAstray R.Seek.seek_refuses) (OrText ⟦<R as Read>⟧)) self.old.inner self.new.inner result }
+        ensures goes { Goes ⟦<R as Read>⟧ (OrSeek (OrAstray R.Seek.seek_refuses) (OrWant ⟦<R as Read>⟧)) self.old.inner self.new.inner result }
         ensures lines { self.new.lines ≡ self.old.lines }
         ensures origin { IsTrue (R.Read.tells self.old.inner) →
             R.Read.place self.new.inner - self.new.taken + preceding.new ≡ R.Read.place self.old.inner - self.old.taken + preceding.old }

@@ -142,7 +142,8 @@ impl<R: BufRead> Read for ArmoredReader<R> {
     ///
     /// - `gives`: which bytes it gives, what becomes of the rest of the buffer, and that it has found out the form of the text.
     /// - `text`: the text stays, what it delivers in all, and how it ends; a refusal that neither the device nor memory made is
-    ///   that of this end.
+    ///   that of this end. Whether or not the device failed, a refusal is want of memory, one that the inner reader might make, or
+    ///   the end's, where nothing else is left (`says`).
     /// - `learns`, `knows`: how many lines it takes, how far the text was read then, and that its end is known after a 0.
     /// - `good`, `failed`, `empty`: it fails for good, interruptions were tried again, and a failed reader and an empty buffer
     ///   change nothing.

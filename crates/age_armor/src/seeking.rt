@@ -13,7 +13,7 @@ ghost use Rattle.age_v1.specs.DeliveredArmor.{begins_armor};
 ghost use Rattle.age_armor.specs.Seeking.{OrAstray, AsksPast, IsEarly};
 ghost use Rattle.age_armor.specs.PrivateSeeking.{Goes, SeeksText, ComesBack};
 ghost use Rattle.age_armor.specs.Stages.{is_start};
-ghost use Rattle.age_armor.specs.Refusing.{OrText};
+ghost use Rattle.age_armor.specs.Refusing.{OrWant};
 ghost use Rattle.age_armor.specs.declared.stages.Stage.TheVariants.{Binary};
 
 use crate::reader::ArmoredReader;
@@ -180,7 +180,7 @@ impl<R: BufRead + Seek> ArmoredReader<R> {
     // Goes to the end of a binary text, for which the inner reader is asked.
     fn jump_to_end(&mut self) -> Result<(), Error>
         requires { self.old.stage ≡ Binary }
-        ensures below { KeepsReader ⟦<R as Read>⟧ (OrSeek (OrAstray R.Seek.seek_refuses) (OrText ⟦<R as Read>⟧)) (inner_of self.old) (inner_of self.new) result }
+        ensures below { KeepsReader ⟦<R as Read>⟧ (OrSeek (OrAstray R.Seek.seek_refuses) (OrWant ⟦<R as Read>⟧)) (inner_of self.old) (inner_of self.new) result }
         ensures unspent { OnOk result (R.Read.faults (inner_of self.new) < most_faults) }
         ensures origin { WhereTold self.old (origin_of self.new ≡ origin_of self.old) }
         ensures text { KeepsText self.old self.new }
@@ -546,7 +546,8 @@ impl<R: BufRead + Seek> Seek for ArmoredReader<R> {
     ///
     /// - `fails`: a success makes it good, a refused target leaves a failure as it was, and any other refusal fails it.
     /// - `refuses`: why it refuses. A refusal that neither the target, the device nor memory made is the text's end, and a bad text
-    ///   has no length.
+    ///   has no length. Over an inner reader that tells its bytes and is steady `Armor(..)` and `UnexpectedEof` are how the text ends,
+    ///   or refusals that the inner reader might make, whether or not the device failed: `why` of its `seeks`.
     /// - `text`: the text stays, what it delivers in all, and how it ends.
     /// - `counts`: how many lines it takes, none of a binary text.
     /// - `learns`: what is known of the text only grows, and its end is known after a target that is counted from it.

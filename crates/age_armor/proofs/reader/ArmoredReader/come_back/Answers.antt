@@ -11,7 +11,7 @@ pub returns-then-failed : goal.returns-then-failed
 returns-then-failed g c =
     let now = c.fail_at.ensures in
     record {
-      back = stays-failed _ _ g.R.Seek.seek_refuses _ _ _ _ _ (same-source _ _ now.source now.preceding) now.place now.failed now.rest (source-narrows c.args.self.now c.fail_at.new.self now.source) (inl c.if-failed.true);
+      back = stays-failed _ _ g.R.Seek.seek_refuses _ _ _ _ _ (same-source _ _ now.source now.preceding) now.place now.failed now.rest (source-narrows c.args.self.now c.fail_at.new.self now.source now.preceding) (inl c.if-failed.true);
       text = text-still _ _ now.source now.preceding now.marks;
       ending = λ told steady good. absurd (true≢false (sym now.failed ∙ good));
       lines = λ told steady had at refusal. omega (arith, ap (λ s. s.lines) now.source);
@@ -21,7 +21,7 @@ pub returns-then-not-is_outside : goal.returns-then-not-is_outside
 returns-then-not-is_outside g c =
     let now = c.fail_at-then-not-is_outside.ensures in
     record {
-      back = stays-failed _ _ g.R.Seek.seek_refuses _ _ _ _ _ (same-source _ _ now.source now.preceding) now.place now.failed now.rest (source-narrows c.args.self.now c.fail_at-then-not-is_outside.new.self now.source) (inr (c.is_outside.ensures.no c.if-not-is_outside.true));
+      back = stays-failed _ _ g.R.Seek.seek_refuses _ _ _ _ _ (same-source _ _ now.source now.preceding) now.place now.failed now.rest (source-narrows c.args.self.now c.fail_at-then-not-is_outside.new.self now.source now.preceding) (inr (c.is_outside.ensures.no c.if-not-is_outside.true));
       text = text-still _ _ now.source now.preceding now.marks;
       ending = λ told steady good. absurd (true≢false (sym now.failed ∙ good));
       lines = λ told steady had at refusal. omega (arith, ap (λ s. s.lines) now.source);

@@ -13,11 +13,12 @@ use Rattle.age_armor.specs.Stages.{is_start}
 use Rattle.age_armor.specs.PrivateStages.{is_ended}
 use Rattle.age_armor.proofs.Resuming.{knows_later, resumes_line, length_at_end, not_nothing, reaches_content, none_after, still_full, after_full}
 use Rattle.age_armor.proofs.Forms.{form_held, plain_stage, plain_rest}
-use Rattle.age_armor.specs.Reader.{origin_of, source_of}
+use Rattle.age_armor.specs.Reader.{origin_of, source_of, text_outcome_of}
 use Rattle.age_io.proofs.Keeping.{keeps-done, same-self}
 use Rattle.age_armor.proofs.Invariants.{IsHere, sound-failed}
 use Rattle.age_armor.proofs.Pacing.{learns_none, lined_on, not_before, other_than_binary}
-use Rattle.age_armor.proofs.Refusing.{end-later}
+use Rattle.age_armor.proofs.OwnEndings.{end_left}
+use Rattle.age_armor.proofs.Refusing.{end-later, text-own}
 use Rattle.age_armor.proofs.reader.ArmoredReader.hold.Goals as goal
 
 pub invariant_of-self : goal.invariant_of-self
@@ -222,7 +223,11 @@ returns-in-Err g c =
     let now = c.in-Err.ensures in
     let none : before.given ≡ before.filled = c.is_ready.ensures.none c.if-is_ready.false in
     record {
-      goes = armored-refused _ _ _ c.in-Err.e now.kept.keeps (λ told. ap (λ n. n + before.preceding) (now.kept.origin told)) (λ why. inr why);
+      goes = armored-refused _ _ _ c.in-Err.e now.kept.keeps (λ told. ap (λ n. n + before.preceding) (now.kept.origin told))
+          (λ why. inr (text-own reader before.source.inner _ (text_outcome_of before).ending c.in-Err.e why now.gives.why
+          (λ told steady. end_left (reader.content before.source.inner) (reader.rest before.source.inner) (reader.place before.source.inner) (origin_of before)
+          before.bytes before.given before.filled before.stage c.in-Err.e (g.met.R.Read.stands before.source.inner told steady)
+          (λ start. omega (arith, before.untaken c.requires start, before.source.behind told)) (λ begun. (before.here told steady c.requires begun).1))));
       good = good-failed _ _ c.in-Err.e c.requires refl now.kept.keeps.patient;
       ending = record {
         same = λ told. tt;

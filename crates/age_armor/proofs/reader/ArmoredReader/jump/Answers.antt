@@ -6,9 +6,9 @@ use Rattle.age_io.specs.Keeping.{KeepsReader, OrSeek}
 use Rattle.age_io.proofs.Keeping.{same-later, keeps-later, keeps-refused, seek-narrows}
 use Rattle.age_armor.specs.declared.stages.Stage.TheVariants.{Binary}
 use Rattle.age_armor.specs.PrivateMarks.{Resumes}
-use Rattle.age_armor.specs.Reader.{armored_reader, armored_content, armored_rest, origin_of, source_of}
+use Rattle.age_armor.specs.Reader.{armored_reader, armored_content, armored_rest, origin_of, source_of, text_outcome_of}
 use Rattle.age_armor.specs.ReaderLemmas.{well_inner}
-use Rattle.age_armor.specs.Refusing.{OrText}
+use Rattle.age_armor.specs.Refusing.{OrWant}
 use Rattle.age_armor.specs.Seeking.{OrAstray}
 use Rattle.age_armor.specs.Stages.{is_start, has_lines}
 use Rattle.age_armor.specs.PrivateStages.{FindsForm}
@@ -19,7 +19,7 @@ use Rattle.age_armor.proofs.Aiming.{moved-within, moved-past}
 use Rattle.age_armor.proofs.Going.{reaches-none, misses-none, misses-own}
 use Rattle.age_armor.proofs.Invariants.{IsSound, sound-failed, sound-resumed}
 use Rattle.age_armor.proofs.Keeping.{same-text, same-armored, armored-done, armored-refused, armor-narrows, text-moved}
-use Rattle.age_armor.proofs.Refusing.{text-narrows}
+use Rattle.age_armor.proofs.Refusing.{want-narrows, want-own}
 use Rattle.age_armor.proofs.Resuming.{resumes_binary, resumed_rest, resumed_ending, carried_binary}
 use Rattle.age_armor.proofs.Taking.{quiet_after}
 use Rattle.age_armor.proofs.Walking.{ends_at}
@@ -53,11 +53,11 @@ returns-in-Err-jump_to_end-clause-goes g c =
     let same = first.keeps.same in
     let origin : WhereTold before (origin_of new ≡ origin_of before) = λ told. last.origin (same.tells ∙ told) ∙ ap (λ n. n + before.preceding) (first.origin told) in
     let own = OrAstray g.R.Seek.seek_refuses in
-    let keeps : KeepsReader {T = Unit {0}} reader (OrSeek own (OrText reader)) before.source.inner new.source.inner (Err e) =
-    keeps-later reader (OrSeek own (OrText reader)) (Err e) before.source.inner middle new.source.inner same first.keeps.narrows
-    (seek-narrows own (OrText reader) before.source.inner middle (text-narrows reader before.source.inner middle same first.keeps.narrows)) last.below in
+    let keeps : KeepsReader {T = Unit {0}} reader (OrSeek own (OrWant reader)) before.source.inner new.source.inner (Err e) =
+    keeps-later reader (OrSeek own (OrWant reader)) (Err e) before.source.inner middle new.source.inner same first.keeps.narrows
+    (seek-narrows own (OrWant reader) before.source.inner middle (want-narrows reader before.source.inner middle first.keeps.narrows)) last.below in
     record {
-      goes = armored-refused _ before new e keeps origin (λ why. elim why [ inl is ↦ inl is | inr text ↦ inr (inr text) ]);
+      goes = armored-refused _ before new e keeps origin (λ why. elim why [ inl is ↦ inl is | inr want ↦ inr (inr (want-own reader before.source.inner (text_outcome_of before).ending e want)) ]);
       text = text-moved before new keeps.same origin last.text.learns (omega (arith, last.lines, first.lines)) (λ told steady plain. last.lines ∙ first.lines);
       reaches = reaches-none _ _ _ _;
       misses = misses-own before new _ e last.fails.other (λ told well other quiet.
@@ -84,7 +84,7 @@ returns-in-Ok-jump_to_end-clause-goes g c =
       text = text-moved before new same origin last.text.learns (omega (arith, last.lines, first.lines)) (λ told steady plain. last.lines ∙ first.lines);
       reaches = reaches-none _ _ _ _;
       misses = record {
-        missed = λ refusal. armor-narrows before new same (λ e h. first.keeps.narrows e (last.below.narrows e h)) last.stands.good;
+        missed = λ refusal. armor-narrows before new same (λ e h. first.keeps.narrows e (last.below.narrows e h)) origin last.stands.good;
         refused = λ told steady refusal.
             let told_then = back.tells ∙ told in
             let steady_then = back.steady ∙ steady in

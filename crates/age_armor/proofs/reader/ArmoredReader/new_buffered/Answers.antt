@@ -1,4 +1,4 @@
-use Rattle.std.proofs.Common.{rules, ◌≡◌, ◌+◌, ◌-◌, ◌^◌, ◌<◌, ◌≤◌, ◌∙◌, arith, ap, sym, refl, IsTrue, false}
+use Rattle.std.proofs.Common.{rules, ◌≡◌, ◌+◌, ◌-◌, ◌^◌, ◌<◌, ◌≤◌, ◌∙◌, arith, ap, sym, refl, IsTrue, false, inl, inr}
 use Rattle.std.proofs.lemmas.Bool.{true≢false}
 use Rattle.age_io.specs.Reading.{StandsIn}
 use Rattle.age_armor.specs.declared.stages.Stage.TheVariants.{Start}
@@ -11,6 +11,7 @@ use Rattle.age_io.specs.Stretch.{from_place}
 use Rattle.age_v1.specs.DeliveredArmor.{text_delivers}
 use Rattle.age_armor.specs.Stages.{is_start}
 use Rattle.age_armor.proofs.Resuming.{starts_at}
+use Rattle.age_armor.proofs.OwnEndings.{own-text}
 use Rattle.age_armor.proofs.reader.ArmoredReader.new_buffered.Goals as goal
 
 pub invariant_of-result-2 : goal.invariant_of-result-2
@@ -66,7 +67,10 @@ returns-clause-opens g c =
       rest = starts_rest _ rest;
       carries = λ told. rw (starts_rest _ rest) (rest_carries rest);
       honest = λ bytes well carried. starts_rest _ rest ∙ carried_rest rest bytes well carried;
-      named = search rules;
+      named = λ e h. elim h [
+        | inl own ↦ absurd (true≢false (sym own.0))
+        | inr reading ↦ elim reading [ inl own ↦ inl (own-text _ _ _ (g.R.Read.content c.args.inner).ends_well e own) | inr tried ↦ inr tried ]
+      ];
       memory = search rules;
     }
 

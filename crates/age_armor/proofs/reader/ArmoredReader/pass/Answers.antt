@@ -13,10 +13,10 @@ use Rattle.age_armor.specs.PrivateStages.{is_ended}
 use Rattle.age_v1.specs.DeliveredArmor.{text_delivers}
 use Rattle.age_armor.proofs.Resuming.{knows_later, length_at_end, not_binary, reaches_content}
 use Rattle.age_armor.proofs.Forms.{form_kept}
-use Rattle.age_armor.specs.Reader.{origin_of}
+use Rattle.age_armor.specs.Reader.{origin_of, text_outcome_of}
 use Rattle.age_armor.proofs.Invariants.{IsHere, sound-failed}
 use Rattle.age_armor.proofs.Pacing.{learns_none}
-use Rattle.age_armor.proofs.Refusing.{end-asked}
+use Rattle.age_armor.proofs.Refusing.{end-asked, want-asked, want-own}
 use Rattle.age_armor.proofs.reader.ArmoredReader.pass.Goals as goal
 
 pub invariant_of-self : goal.invariant_of-self
@@ -143,7 +143,7 @@ returns-in-Err g c =
     let good = c.requires.good in
     let binary = c.requires.binary in
     record {
-      reads = reads-failed _ _ _ c.in-Err.e (armored-refused {B = ℕ} _ _ _ c.in-Err.e now.kept.keeps (λ told. ap (λ n. n + before.preceding) (now.kept.origin told)) (λ why. inr why)) refl refl
+      reads = reads-failed _ _ _ c.in-Err.e (armored-refused {B = ℕ} _ _ _ c.in-Err.e now.kept.keeps (λ told. ap (λ n. n + before.preceding) (now.kept.origin told)) (λ why. inr (want-own g.R.Read before.source.inner (text_outcome_of before).ending c.in-Err.e (want-asked g.R.Read before.source.inner c.in-Err.e now.why)))) refl refl
           (λ told other quiet. pass_fault before.failed before.bytes before.given before.filled before.stage _ good binary (all_held before) c.requires.given (now.cause told other quiet));
       good = good-failed _ _ c.in-Err.e good refl now.kept.keeps.patient;
       ending = record {

@@ -23,7 +23,7 @@ returns-then-self g c =
             record {
               text = record {
                 ending = record { same = λ told. tt; named = λ told good. absurd (true≢false (sym failed ∙ good)) };
-                why = λ told good. absurd (true≢false (sym failed ∙ good));
+                says = λ told good. absurd (true≢false (sym failed ∙ good));
                 whole = λ told. refl;
                 same_text = λ told. refl;
               };
@@ -47,7 +47,7 @@ returns-in-Err g c =
             record {
               text = record {
                 ending = ends-passed _ _ _ _ _ _ c.in-Err.e now.ending;
-                why = λ told good. now.why told;
+                says = λ told good. now.why told;
                 whole = λ told. ap (λ t. text_delivers t.bytes t.ends_well) (now.text.same_text told);
                 same_text = now.text.same_text;
               };
@@ -84,7 +84,7 @@ returns-in-Ok g c =
           own = record {
             text = record {
               ending = record { same = now.ending.same; named = λ told good. tt };
-              why = λ told good. tt;
+              says = λ told good. tt;
               whole = λ told. ap (λ t. text_delivers t.bytes t.ends_well) (now.text.same_text told);
               same_text = now.text.same_text;
             };

@@ -20,7 +20,7 @@ returns-then-self g c =
         gives = record { held = λ some. tt; line = λ armored. tt; beyond = λ armored. tt; untouched = λ armored. refl; form = λ some told steady. tt; spared = λ told steady armor. refl };
         text = record {
           ending = record { same = λ told. tt; named = λ told good. absurd (true≢false (sym gone ∙ good)) };
-          why = λ told good. absurd (true≢false (sym gone ∙ good));
+          says = λ told good. absurd (true≢false (sym gone ∙ good));
           whole = λ told. refl;
           same_text = λ told. refl;
         };
@@ -49,7 +49,7 @@ returns-then-is_empty g c =
           form = λ some. absurd (omega (arith, none, some));
           spared = λ told steady armor. tt;
         };
-        text = record { ending = record { same = λ told. refl; named = λ told fine. tt }; why = λ told fine. tt; whole = λ told. refl; same_text = λ told. refl };
+        text = record { ending = record { same = λ told. refl; named = λ told fine. tt }; says = λ told fine. tt; whole = λ told. refl; same_text = λ told. refl };
         learns = learned before before (same-self armored_reader before) (text-still _ _ refl refl refl) (omega arith) good
             (λ told armored. record { held = λ some. refl; next = λ none more. absurd (omega (arith, ap length none, more)) });
         knows = λ some. absurd (omega (arith, none, some));
@@ -66,7 +66,7 @@ returns g c =
       reads = now.reads;
       besides = record {
         gives = now.gives;
-        text = record { ending = now.ending; why = λ told good. now.why told; whole = λ told. ap (λ t. text_delivers t.bytes t.ends_well) (now.same_text told); same_text = now.same_text };
+        text = record { ending = now.ending; says = λ told good. now.why told; whole = λ told. ap (λ t. text_delivers t.bytes t.ends_well) (now.same_text told); same_text = now.same_text };
         learns = now.learns;
         knows = λ some. now.knows;
         good = now.good;
