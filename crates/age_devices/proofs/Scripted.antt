@@ -1,11 +1,11 @@
 -- What the steps of scripts come to.
 use Rattle.std.specs.Prelude.{◌≡◌, ◌≢◌, ℕ, zero, suc, ◌+◌, ◌-◌, ◌<◌, List, [], ◌∷◌}
 use Rattle.std.proofs.Common.{ap, ◌∙◌, sym, refl, arith}
-use Rattle.age.specs.ErrorKindVariants.{Interrupted}
-use Rattle.age_bench.specs.Devices.{step_among, most_of_call}
-use Rattle.age_bench.specs.AtCalls.{step_of}
-use Rattle.age_bench.specs.declared.script.Step.{Step}
-use Rattle.age_bench.specs.declared.script.Step.TheVariants.{Move, Fail}
+use Rattle.age_error.specs.declared.io.ErrorKind.TheVariants.{Interrupted}
+use Rattle.age_devices.specs.Devices.{step_among, most_of_call}
+use Rattle.age_devices.specs.AtCalls.{step_of}
+use Rattle.age_devices.specs.declared.script.Step.{Step}
+use Rattle.age_devices.specs.declared.script.Step.TheVariants.{Move, Fail}
 
 -- steps alone, one after the other
 pub steps_in_turn : (steps : List Step) (most i : ℕ) → step_of 0 0 0 steps most i ≡ step_among steps most i

@@ -2,11 +2,11 @@
 use Rattle.std.specs.Prelude.{◌≡◌, ℕ, ◌+◌, ◌-◌, ◌≤◌, List, ◌++◌, length, take, drop}
 use Rattle.std.proofs.Common.{ap, ◌∙◌, sym, refl, arith}
 use Rattle.std.proofs.lemmas.List.{take-append-drop, drop-take, drop-drop, take-take, take_at, length-take-le, length-drop, drop_all}
-use Rattle.age.specs.Stretch.{whole, from_place, IsCleanEnd}
-use Rattle.age.specs.Reading.{Delivers}
-use Rattle.age.specs.Buffering.{held}
-use Rattle.age.specs.Filling.{IsFront}
-use Rattle.age.specs.BufferLemmas.{length-held}
+use Rattle.age_io.specs.Stretch.{whole, from_place, IsCleanEnd}
+use Rattle.age_io.specs.Reading.{Delivers}
+use Rattle.age_io.specs.Buffering.{held}
+use Rattle.age_io.specs.Filling.{IsFront}
+use Rattle.age_io.proofs.Holding.{length-held}
 
 -- the next bytes are a beginning of the rest
 pub gives-next : (xs front : List ℕ) (place n : ℕ) → front ≡ take n (drop place xs) →

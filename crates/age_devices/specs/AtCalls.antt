@@ -1,11 +1,11 @@
 -- What a script says of each call.
 use Rattle.std.specs.Prelude.{◌≡◌, ℕ, suc, zero, ◌+◌, ◌<◌, List, [], ◌∷◌}
-use Rattle.age.specs.ErrorKindVariants.{Interrupted}
-use Rattle.age_bench.specs.Devices.{most_of_call}
-use Rattle.age_bench.specs.declared.script.Step.{Step}
-use Rattle.age_bench.specs.declared.script.Step.TheVariants.{Move, Fail}
-use Rattle.age_bench.specs.declared.script.Script.{Script}
-use Rattle.age_bench.specs.declared.calls.Calls.{Calls}
+use Rattle.age_error.specs.declared.io.ErrorKind.TheVariants.{Interrupted}
+use Rattle.age_devices.specs.Devices.{most_of_call}
+use Rattle.age_devices.specs.declared.script.Step.{Step}
+use Rattle.age_devices.specs.declared.script.Step.TheVariants.{Move, Fail}
+use Rattle.age_devices.specs.declared.script.Script.{Script}
+use Rattle.age_devices.specs.declared.calls.Calls.{Calls}
 
 -- What the parts of a script mean: the step of this number, from 0, of a device that is interrupted so often before each call, and so
 -- often before the next one. So many of its calls move all; then come these steps, and then calls that move at most so many bytes.

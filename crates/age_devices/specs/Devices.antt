@@ -1,9 +1,9 @@
 -- What a device does at its calls, and what comes of it.
 use Rattle.std.specs.Prelude.{◌≡◌, ℕ, ◌+◌, ◌-◌, ◌^◌, suc, zero, List, [], ◌∷◌, Result, Err}
-use Rattle.age.specs.Types.{Error}
-use Rattle.age.specs.ErrorVariants.{Device}
-use Rattle.age_bench.specs.declared.script.Step.{Step}
-use Rattle.age_bench.specs.declared.script.Step.TheVariants.{Move, Fail}
+use Rattle.age_error.specs.declared.io.Error.{Error}
+use Rattle.age_error.specs.declared.io.Error.TheVariants.{Device}
+use Rattle.age_devices.specs.declared.script.Step.{Step}
+use Rattle.age_devices.specs.declared.script.Step.TheVariants.{Move, Fail}
 
 -- as many bytes as a call may ask for
 abbrev pub most_of_call : ℕ

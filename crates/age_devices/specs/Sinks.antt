@@ -1,8 +1,8 @@
 -- What a caller sees of a device that is written.
 use Rattle.std.specs.Prelude.{ℕ, List}
-use Rattle.age_bench.specs.AtCalls.{call_of, faults_in}
-use Rattle.age_bench.specs.declared.script.Step.{Step}
-use Rattle.age_bench.specs.declared.sink.Sink.{Sink}
+use Rattle.age_devices.specs.AtCalls.{call_of, faults_in}
+use Rattle.age_devices.specs.declared.script.Step.{Step}
+use Rattle.age_devices.specs.declared.sink.Sink.{Sink}
 
 -- what it does at the call of this number from now on, from 0
 abbrev pub call : Sink → ℕ → Step

@@ -1,12 +1,12 @@
 -- What a caller sees of a device that is read, and of one that is written.
 use Rattle.std.specs.Prelude.{◌≡◌, ℕ, ◌-◌, ◌<◌, ◌≤◌, List, length, min, max, Result, Ok, Err, IsOk}
 use denote.Ref.{Bor}
-use Rattle.age.specs.Buffering.{held}
-use Rattle.age.specs.Types.{Error}
-use Rattle.age_bench.specs.AtCalls.{call_of, faults_in}
-use Rattle.age_bench.specs.Devices.{by_step, TakesStep, most_failures}
-use Rattle.age_bench.specs.declared.script.Step.{Step}
-use Rattle.age_bench.specs.declared.source.Source.{Source}
+use Rattle.age_io.specs.Buffering.{held}
+use Rattle.age_error.specs.declared.io.Error.{Error}
+use Rattle.age_devices.specs.AtCalls.{call_of, faults_in}
+use Rattle.age_devices.specs.Devices.{by_step, TakesStep, most_failures}
+use Rattle.age_devices.specs.declared.script.Step.{Step}
+use Rattle.age_devices.specs.declared.source.Source.{Source}
 
 -- what it does at the call of this number from now on, from 0
 abbrev pub call : Source → ℕ → Step

@@ -1,7 +1,8 @@
 //! What a call answered, as a `bool` or a text. Whoever asks holds no error, whose parts are many, beside other values: so a test
 //! is proved in a fraction of the time.
 
-use age::io::{Error, Read, read_to_end};
+use age_error::io::Error;
+use age_io::{Read, read_to_end};
 use std::alloc::Global;
 use std::fmt::Display;
 

@@ -1,10 +1,10 @@
 //! The calls on a device, and how often they failed.
 ghost use Rattle.std.specs.Prelude.{◌≡◌, ℕ, ◌+◌, ◌-◌, ◌<◌, ◌≤◌, ◌^◌, Ok, IsOk, IfOk, IfErr};
-ghost use Rattle.age.specs.Refusals.{IsDevice};
-ghost use Rattle.age_bench.specs.Devices.{by_step, TakesStep, most_failures};
+ghost use Rattle.age_error.specs.Refusals.{IsDevice};
+ghost use Rattle.age_devices.specs.Devices.{by_step, TakesStep, most_failures};
 
 use crate::script::{Script, Step};
-use age::io::Error;
+use age_error::io::Error;
 
 /// What a device still does, and how often it has failed.
 #[derive(Drop)]
@@ -15,7 +15,7 @@ pub(crate) struct Calls<'a> {
 }
 
 impl<'a> Calls<'a> {
-    ghost use Rattle.age_bench.specs.AtCalls.{at_call, call_of, faults_in};
+    ghost use Rattle.age_devices.specs.AtCalls.{at_call, call_of, faults_in};
 
     /// Those of a device that does as the script says, and has not failed yet.
     pub(crate) fn new(script: Script<'a>) -> Calls<'a>

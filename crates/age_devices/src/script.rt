@@ -1,10 +1,10 @@
 //! What a device does at its calls.
 ghost use Rattle.std.specs.Prelude.{◌≡◌, ◌≢◌, ℕ, ◌+◌, ◌-◌, ◌<◌};
-ghost use Rattle.age.specs.ErrorKindVariants.{Interrupted, Other};
-ghost use Rattle.age_bench.specs.Devices.{step_among, most_of_call};
-ghost use Rattle.age_bench.specs.declared.script.Step.TheVariants.{Move, Fail};
+ghost use Rattle.age_error.specs.declared.io.ErrorKind.TheVariants.{Interrupted, Other};
+ghost use Rattle.age_devices.specs.Devices.{step_among, most_of_call};
+ghost use Rattle.age_devices.specs.declared.script.Step.TheVariants.{Move, Fail};
 
-use age::io::ErrorKind;
+use age_error::io::ErrorKind;
 
 /// What a device does at a call.
 #[derive(Clone, Copy, Debug, PartialEq, Eq)]
@@ -32,7 +32,7 @@ pub struct Script<'a> {
 const FAULT: &[Step] = &[Step::Fail(ErrorKind::Other)];
 
 impl<'a> Script<'a> {
-    ghost use Rattle.age_bench.specs.AtCalls.{at_call, IsInterrupted};
+    ghost use Rattle.age_devices.specs.AtCalls.{at_call, IsInterrupted};
 
     /// These steps, and then calls that move at most `most` bytes each.
     pub fn new(steps: &'a [Step], most: usize) -> Script<'a>

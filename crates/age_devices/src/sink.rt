@@ -2,14 +2,15 @@
 ghost use Rattle.std.specs.Prelude.{◌≡◌, ℕ, ◌+◌, ◌^◌, ◌≤◌, ◌<◌, ◌⊎◌, true, List, [], ◌++◌, length, take, min, Ok, Err, IfOk, IfErr};
 ghost use Rattle.std.proofs.Common.{arith};
 ghost use Rattle.std.proofs.lemmas.Grind.{common_steps};
-ghost use Rattle.age.specs.Refusals.{IsDevice};
-ghost use Rattle.age.specs.ErrorVariants.{OutOfMemory, WriteZero};
-ghost use Rattle.age.specs.Writing.{Writes, Flushes};
-ghost use Rattle.age_bench.specs.Devices.{by_step, TakesStep, most_failures};
+ghost use Rattle.age_error.specs.Refusals.{IsDevice};
+ghost use Rattle.age_error.specs.declared.io.Error.TheVariants.{OutOfMemory, WriteZero};
+ghost use Rattle.age_io.specs.Writing.{Writes, Flushes};
+ghost use Rattle.age_devices.specs.Devices.{by_step, TakesStep, most_failures};
 
 use crate::calls::Calls;
 use crate::script::Script;
-use age::io::{Error, Write};
+use age_error::io::Error;
+use age_io::Write;
 use std::alloc::Global;
 
 /// Keeps the bytes that are written to it, which it takes as its script says.
@@ -20,8 +21,8 @@ pub struct Sink<'a> {
 }
 
 impl<'a> Sink<'a> {
-    ghost use Rattle.age_bench.specs.AtCalls.{at_call};
-    ghost use Rattle.age_bench.specs.Sinks.{call, kept_in};
+    ghost use Rattle.age_devices.specs.AtCalls.{at_call};
+    ghost use Rattle.age_devices.specs.Sinks.{call, kept_in};
 
     /// A writer to which nothing was written.
     pub fn new(alloc: Global, script: Script<'a>) -> Sink<'a>
@@ -51,7 +52,7 @@ impl<'a> Sink<'a> {
 }
 
 impl<'a> Write for Sink<'a> {
-    ghost use Rattle.age_bench.specs.Sinks.{call, kept_in, faults_of};
+    ghost use Rattle.age_devices.specs.Sinks.{call, kept_in, faults_of};
 
     ghost tells = { λ _. true };
 

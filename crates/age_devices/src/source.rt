@@ -1,18 +1,19 @@
 //! A device that is read.
 ghost use Rattle.std.specs.Prelude.{◌≡◌, ℕ, ◌+◌, ◌-◌, ◌^◌, ◌≤◌, ◌<◌, true, List, length, take, drop, min, max, Ok, IsOk, IfOk, refl};
 ghost use Rattle.std.proofs.Common.{inl, arith};
-ghost use Rattle.age.specs.Bytes.{AreBytes};
-ghost use Rattle.age.specs.Refusals.{IsDevice};
-ghost use Rattle.age.specs.Stretch.{Stretch, whole, from_place};
-ghost use Rattle.age.specs.Reading.{Reads};
-ghost use Rattle.age.specs.Filling.{Consumes};
-ghost use Rattle.age.specs.Cursor;
-ghost use Rattle.age.specs.Cursor.{Seeks};
-ghost use Rattle.age_bench.specs.Devices.{by_step, TakesStep, most_failures};
+ghost use Rattle.age_error.specs.Bytes.{AreBytes};
+ghost use Rattle.age_error.specs.Refusals.{IsDevice};
+ghost use Rattle.age_io.specs.Stretch.{Stretch, whole, from_place};
+ghost use Rattle.age_io.specs.Reading.{Reads};
+ghost use Rattle.age_io.specs.Filling.{Consumes};
+ghost use Rattle.age_io.specs.Cursor;
+ghost use Rattle.age_io.specs.Cursor.{Seeks};
+ghost use Rattle.age_devices.specs.Devices.{by_step, TakesStep, most_failures};
 
 use crate::calls::Calls;
 use crate::script::Script;
-use age::io::{BufRead, Error, Read, Seek, SeekFrom, sought};
+use age_error::io::{Error, SeekFrom};
+use age_io::{BufRead, Read, Seek, sought};
 
 /// Reads a slice of fewer than 2^63 bytes, and seeks in it, as its script says.
 #[derive(Drop)]
@@ -29,8 +30,8 @@ pub struct Source<'a> {
 }
 
 impl<'a> Source<'a> {
-    ghost use Rattle.age_bench.specs.AtCalls.{at_call};
-    ghost use Rattle.age_bench.specs.Sources.{call, bytes_of, place_of};
+    ghost use Rattle.age_devices.specs.AtCalls.{at_call};
+    ghost use Rattle.age_devices.specs.Sources.{call, bytes_of, place_of};
 
     /// A reader whose content is these bytes, at the first of them.
     pub fn new(script: Script<'a>, bytes: &'a [u8]) -> Source<'a>
@@ -67,7 +68,7 @@ impl<'a> Source<'a> {
 }
 
 impl<'a> Read for Source<'a> {
-    ghost use Rattle.age_bench.specs.Sources.{call, bytes_of, place_of, faults_of};
+    ghost use Rattle.age_devices.specs.Sources.{call, bytes_of, place_of, faults_of};
 
     ghost tells = { λ _. true };
 
@@ -121,7 +122,7 @@ impl<'a> Read for Source<'a> {
 }
 
 impl<'a> BufRead for Source<'a> {
-    ghost use Rattle.age_bench.specs.Sources.{call, shown_of, ShowsAsScripted};
+    ghost use Rattle.age_devices.specs.Sources.{call, shown_of, ShowsAsScripted};
 
     ghost shown = { λ r. shown_of r };
 
@@ -152,7 +153,7 @@ impl<'a> BufRead for Source<'a> {
 }
 
 impl<'a> Seek for Source<'a> {
-    ghost use Rattle.age_bench.specs.Sources.{call, bytes_of, place_of, faults_of};
+    ghost use Rattle.age_devices.specs.Sources.{call, bytes_of, place_of, faults_of};
 
     ghost seek_refuses = { λ _. ⊥ };
 

@@ -170,8 +170,8 @@ fn limit_of(alloc: Global, word: Option<String>) -> Result<u64, Stop>
 // How a file is opened, of what is taken out of `given`. The rest of it stays.
 #[tactic(auto, using(crate::proofs::Stops::and_then_stops))]
 fn opening_of(alloc: Global, given: &mut Given) -> Result<Opening, Stop>
-    ensures opening { IsAnswer opening_value result (opening_of
-        (map string_bytes given.old.identity_files.items) (option_map string_bytes given.old.passphrase_file) (option_map string_bytes given.old.header_limit)) }
+    ensures opening { IsAnswer opening_value result (opening_of (map string_bytes given.old.identity_files.items)
+        (option_map string_bytes given.old.passphrase_file) (option_map string_bytes given.old.header_limit)) }
     ensures rest { given.new ≡ record given.old { identity_files = given.new.identity_files; passphrase_file = None; header_limit = None } }
 {
     let files = mem::replace(&mut given.identity_files, Vec::new(alloc));

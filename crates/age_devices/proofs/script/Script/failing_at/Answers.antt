@@ -1,11 +1,11 @@
 use Rattle.std.proofs.Common.{◌≡◌, ◌∙◌, ◌-◌, ap, arith, []}
 use Rattle.std.specs.Prelude.{◌∷◌}
-use Rattle.age.specs.ErrorKindVariants.{Other}
-use Rattle.age_bench.specs.declared.script.Step.TheVariants.{Fail}
-use Rattle.age_bench.specs.Devices.{most_of_call}
-use Rattle.age_bench.specs.AtCalls.{step_of}
-use Rattle.age_bench.proofs.Scripted.{step_there, moves_else}
-use Rattle.age_bench.proofs.script.Script.failing_at.Goals as goal
+use Rattle.age_error.specs.declared.io.ErrorKind.TheVariants.{Other}
+use Rattle.age_devices.specs.declared.script.Step.TheVariants.{Fail}
+use Rattle.age_devices.specs.Devices.{most_of_call}
+use Rattle.age_devices.specs.AtCalls.{step_of}
+use Rattle.age_devices.proofs.Scripted.{step_there, moves_else}
+use Rattle.age_devices.proofs.script.Script.failing_at.Goals as goal
 
 pub returns-then-call-eq0-clause-others : goal.returns-then-call-eq0-clause-others
 returns-then-call-eq0-clause-others c i other = c.new.ensures i

@@ -1,5 +1,5 @@
-use Rattle.age_bench.proofs.Scripted.{interrupted_before, moves_then, then_again}
-use Rattle.age_bench.proofs.script.Script.interrupted.Goals as goal
+use Rattle.age_devices.proofs.Scripted.{interrupted_before, moves_then, then_again}
+use Rattle.age_devices.proofs.script.Script.interrupted.Goals as goal
 
 pub returns : goal.returns
 returns c = record {

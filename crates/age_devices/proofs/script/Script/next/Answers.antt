@@ -1,6 +1,6 @@
 use Rattle.std.proofs.Common.{arith}
-use Rattle.age_bench.proofs.Scripted.{good_done}
-use Rattle.age_bench.proofs.script.Script.next.Goals as goal
+use Rattle.age_devices.proofs.Scripted.{good_done}
+use Rattle.age_devices.proofs.script.Script.next.Goals as goal
 
 pub returns-then-self-gt0-2-clause-later : goal.returns-then-self-gt0-2-clause-later
 returns-then-self-gt0-2-clause-later c i =

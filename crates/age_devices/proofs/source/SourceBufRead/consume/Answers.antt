@@ -1,7 +1,7 @@
 use Rattle.std.proofs.Common.{refl, sym}
-use Rattle.age.specs.BufferLemmas.{held-further}
-use Rattle.age_bench.proofs.Showing.{gives-of-shown}
-use Rattle.age_bench.proofs.source.SourceBufRead.consume.Goals as goal
+use Rattle.age_io.proofs.Holding.{held-further}
+use Rattle.age_devices.proofs.Showing.{gives-of-shown}
+use Rattle.age_devices.proofs.source.SourceBufRead.consume.Goals as goal
 
 pub returns-clause-consumes : goal.returns-clause-consumes
 returns-clause-consumes c =

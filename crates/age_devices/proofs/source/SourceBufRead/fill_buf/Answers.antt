@@ -1,6 +1,6 @@
 use Rattle.std.proofs.Common.{rules, arith, refl}
-use Rattle.age_bench.proofs.Showing.{shown-next, is-front, shows-none, ends-there}
-use Rattle.age_bench.proofs.source.SourceBufRead.fill_buf.Goals as goal
+use Rattle.age_devices.proofs.Showing.{shown-next, is-front, shows-none, ends-there}
+use Rattle.age_devices.proofs.source.SourceBufRead.fill_buf.Goals as goal
 
 pub returns : goal.returns
 returns c =

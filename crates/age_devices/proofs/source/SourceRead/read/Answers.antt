@@ -1,6 +1,6 @@
 use Rattle.std.proofs.Common.{rules, refl, ◌<◌, length, drop}
-use Rattle.age_bench.proofs.Showing.{gives-next, copied-next, ends-there}
-use Rattle.age_bench.proofs.source.SourceRead.read.Goals as goal
+use Rattle.age_devices.proofs.Showing.{gives-next, copied-next, ends-there}
+use Rattle.age_devices.proofs.source.SourceRead.read.Goals as goal
 
 pub returns-clause-reads : goal.returns-clause-reads
 returns-clause-reads c =
