@@ -43,7 +43,8 @@ def crates():
                     static.add(name.split()[0])
     # (support for tests is what crates of tests alone use; the claims are for a reader, and only tests call them)
     tests = {it for it in found if it.endswith("_tests")}
-    tests |= {it for it in found if it != "age_claims" and (above := {a for a in found if it in found[a]}) and above <= tests}
+    while more := {it for it in found if it not in {*tests, "age_claims"} and (above := {a for a in found if it in found[a]}) and above <= tests}:
+        tests |= more
     return {it: [used for used in uses if used in found] for it, uses in found.items() if it not in tests}, static
 
 

@@ -1,13 +1,15 @@
 //! Armor through the library: what is written, what is read back, and each fault of a text. The expected texts are those
 //! of Python's base64 between the two markers.
 
-use age::armor::{ArmoredReadError, ArmoredReader, ArmoredWriter, Format};
-use age::io::{BufReader, Bytes, Error, Read, Write, write_all};
+use age_armor::{ArmoredReader, ArmoredWriter, Format};
+use age_devices::answers::{delivers, delivers_until};
+use age_devices::bytes::{part, plaintext};
+use age_error::io::{ArmoredReadError, Error};
+use age_io::{BufReader, Bytes, Read, Write, write_all};
 use std::alloc::Global;
 use std::process::Abort;
 use std::test::Fail;
-use test_support::answers::{delivers, delivers_until};
-use test_support::fixtures::{armored, digest, part, plaintext};
+use test_support::fixtures::{armored, digest};
 
 // The 48 bytes whose base64 is the alphabet.
 const ALPHABET: [u8; 48] = [

@@ -4,11 +4,11 @@ ghost use Rattle.std.specs.Prelude.{◌<◌};
 
 use age_armor::{ArmoredReader, ArmoredWriter, Format};
 use age_base64::armor_engine;
+use age_devices::answers::delivers;
 use age_error::io::{ArmoredReadError, Error};
 use age_io::{BufRead, Bytes, Read, read_to_end, room_for, write_all};
 use std::alloc::Global;
 use std::test::Fail;
-use test_support::answers::delivers;
 
 pub(crate) const BEGIN: &[u8] = b"-----BEGIN AGE ENCRYPTED FILE-----\n";
 

@@ -2,7 +2,7 @@
 
 use crate::reader_tests::{armored, counting};
 use age_armor::ArmoredReader;
-use age_bench::devices::{Script, Source};
+use age_devices::{Script, Source};
 use age_error::io::{Error, ErrorKind};
 use age_io::{BufRead, Read, read_to_end};
 use std::alloc::Global;

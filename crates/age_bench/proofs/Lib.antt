@@ -10,5 +10,3 @@ pub mod Hex
 pub mod Words
 pub mod Numbers
 pub mod Keys
-pub mod Scripted
-pub mod Showing

@@ -1,11 +1,12 @@
 -- The bench suite keeps the laws of a suite.
-use Rattle.std.specs.Prelude.{◌≡◌, ℕ, ◌+◌, ◌-◌, ◌%◌, ◌<◌, ◌^◌, ◌≤◌, ◌↔◌, Bool, true, false, List, [], ◌∷◌, ◌++◌, length, take, drop, bit_xor, slice_index, ◌&&◌, if◌then◌else◌, Some, None, refl}
+use Rattle.std.specs.Prelude.{◌≡◌, ℕ, ◌+◌, ◌-◌, ◌%◌, ◌<◌, ◌^◌, ◌≤◌, ◌↔◌, List, [], ◌∷◌, ◌++◌, length, take, drop, bit_xor, slice_index, Some, refl}
 use Rattle.std.proofs.Common.{sym, ◌∙◌, arith, lit<, add-zero, add_assoc}
 use Rattle.std.proofs.Math.Numerals.{one-add}
 use Rattle.std.proofs.lemmas.List.{length-take-le, length-append, length-map, take_at, drop_at, take-append-drop}
 use Rattle.std.proofs.lemmas.List.Elements.{All-nil, All-cons, All-head, All-tail, All-append, All-take, All-get_or, All-map, All-weaker}
 use Rattle.std.proofs.lemmas.Nat.{xor_comm, xor_lt}
-use Rattle.std.proofs.lemmas.Bool.{le-leb}
+use Rattle.std.proofs.lemmas.Bool.{and_parts, le-leb}
+use Rattle.std.proofs.lemmas.Option.{cond_some}
 use Rattle.std.proofs.lemmas.Slice.Eq.{bytes_eq-Decides}
 use Rattle.std.specs.Int.Bits.{xor_self, xor_zero_r, xor_assoc}
 use Rattle.age.specs.Bytes.{AreBytes, AreBytesOf}
@@ -59,32 +60,17 @@ bench_seal-bytes key nonce plain k n p =
           (All-take (λ x. x < 2 ^ 8) 16 (hmac_of key (1 ∷ nonce ++ plain)) (hmac_of-bytes key (1 ∷ nonce ++ plain)).bytes);
     }
 
--- a list whose last 16 items are the second part
-front_of : (xs ys : List ℕ) → length ys ≡ 16 → take (length (xs ++ ys) - 16) (xs ++ ys) ≡ xs
-front_of xs ys h = take_at xs ys (length (xs ++ ys) - 16) (omega (arith, length-append xs ys))
-
-back_of : (xs ys : List ℕ) → length ys ≡ 16 → drop (length (xs ++ ys) - 16) (xs ++ ys) ≡ ys
-back_of xs ys h = drop_at xs ys (length (xs ++ ys) - 16) (omega (arith, length-append xs ys))
-
-both_true : (a b : Bool) → (a && b) ≡ true → (a ≡ true) × (b ≡ true)
-both_true true true h = (refl, refl)
-both_true true false h = cc
-both_true false b h = cc
-
-when_some : (b : Bool) (x y : List ℕ) → (if b then Some x else None) ≡ Some y → (b ≡ true) × (x ≡ y)
-when_some true x y h = (refl, cc)
-when_some false x y h = cc
-
 -- a seal opens to its plaintext
 opened_seal : (key nonce plain : List ℕ) → bench_opened key nonce (bench_seal key nonce plain) ≡ Some plain
 opened_seal key nonce plain =
     let mask = hmac_of key nonce in
-    let front = front_of (masked mask plain) (tag_of key nonce plain) (length-tag key nonce plain) in
-    let back = back_of (masked mask plain) (tag_of key nonce plain) (length-tag key nonce plain) in
-    let long : 16 ≤ length (bench_seal key nonce plain) =
-    omega (arith, length-append (masked mask plain) (tag_of key nonce plain), length-tag key nonce plain) in
-    let same = (bytes_eq-Decides (tag_of key nonce plain) (tag_of key nonce plain)).1 refl in
-    rw (front, back, masked_twice mask 0 plain, same, le-leb 16 (length (bench_seal key nonce plain)) long) refl
+    let text = masked mask plain in
+    let tag = tag_of key nonce plain in
+    let size = length (text ++ tag) in
+    let long : 16 ≤ size = omega (arith, length-append text tag, length-tag key nonce plain) in
+    let before : length text ≡ size - 16 = omega (arith, length-append text tag, length-tag key nonce plain) in
+    let same = (bytes_eq-Decides tag tag).1 refl in
+    rw (take_at text tag (size - 16) before, drop_at text tag (size - 16) before, masked_twice mask 0 plain, same, le-leb 16 size long) refl
 
 -- what opens is a seal
 seal_opened : (key nonce sealed plain : List ℕ) → bench_opened key nonce sealed ≡ Some plain
@@ -92,8 +78,8 @@ seal_opened : (key nonce sealed plain : List ℕ) → bench_opened key nonce sea
 seal_opened key nonce sealed plain h =
     let mask = hmac_of key nonce in
     let n = length sealed - 16 in
-    let some = when_some (is_tagged key nonce sealed) (unsealed key nonce sealed) plain h in
-    let tagged = both_true _ _ some.0 in
+    let some = cond_some (is_tagged key nonce sealed) (unsealed key nonce sealed) plain h in
+    let tagged = and_parts _ _ some.0 in
     let back = (bytes_eq-Decides (drop n sealed) (tag_of key nonce (unsealed key nonce sealed))).0 tagged.1 in
     let front = masked_twice mask 0 (take n sealed) in
     let seal : sealed ≡ bench_seal key nonce (unsealed key nonce sealed) =
@@ -104,7 +90,7 @@ pub bench_opens_exactly : (key nonce sealed plain : List ℕ) → AreBytesOf 32 
     → (bench_opened key nonce sealed ≡ Some plain) ↔ (AreBytes plain × (sealed ≡ bench_seal key nonce plain))
 bench_opens_exactly key nonce sealed plain k n s = (
   λ h.
-      let some = when_some (is_tagged key nonce sealed) (unsealed key nonce sealed) plain h in
+      let some = cond_some (is_tagged key nonce sealed) (unsealed key nonce sealed) plain h in
       let front = All-take (λ x. x < 2 ^ 8) (length sealed - 16) sealed s in
       let bytes : AreBytes (unsealed key nonce sealed) =
       masked-bytes (hmac_of key nonce) 0 (take (length sealed - 16) sealed) (hmac_of-bytes key nonce) front in

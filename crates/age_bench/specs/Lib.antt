@@ -6,7 +6,3 @@ pub mod FileLaws
 pub mod Files
 pub mod Command
 pub mod Decimal
-pub mod Devices
-pub mod AtCalls
-pub mod Sources
-pub mod Sinks

@@ -1,7 +1,7 @@
 //! Texts within a limit and past it.
 
 use crate::fixtures::{reads, refuses, shows};
-use age_bench::devices::{Script, Source, Step};
+use age_devices::{Script, Source, Step};
 use age_error::io::{Error, ErrorKind};
 use age_identity::util::LimitedReader;
 use age_io::{BufRead, Bytes, Read};

@@ -1,7 +1,7 @@
 //! The limit of identity files.
 
 use crate::fixtures::{File, K, refuses_file};
-use age_bench::devices::{Script, Source, Step};
+use age_devices::{Script, Source, Step};
 use age_error::io::{Error, ErrorKind};
 use age_io::{BufRead, BufReader, Bytes};
 use std::alloc::Global;

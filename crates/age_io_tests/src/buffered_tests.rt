@@ -1,12 +1,12 @@
 //! Readers that show what they hold, and the reader with a buffer.
 
 use crate::fixtures::{Device, buffered, fills, gives, long_text, refuses, source};
-use age_bench::devices::Step;
+use age_devices::Step;
+use age_devices::answers::delivers;
 use age_error::io::{Error, ErrorKind};
 use age_io::{BufRead, BufReader, Bytes, Read};
 use std::alloc::Global;
 use std::test::Fail;
-use test_support::answers::delivers;
 
 // More bytes than a buffer holds.
 const LONG: usize = 20_000;

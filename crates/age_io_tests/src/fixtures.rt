@@ -1,11 +1,11 @@
 //! What these tests share: bytes, a device, and what a reader answered, as a `bool`.
 
-use age_bench::devices::{Script, Sink, Source, Step};
+use age_devices::bytes::part;
+use age_devices::{Script, Sink, Source, Step};
 use age_error::io::{Error, ErrorKind, SeekFrom};
 use age_io::{Answer, BufReader, IntoStd, Op, Read, Seek, Std, read_exact, run};
 use std::alloc::Global;
 use std::test::Fail;
-use test_support::fixtures::part;
 
 /// So many bytes of which neighbours differ.
 pub fn long_text(alloc: Global, size: usize) -> Result<Vec<u8>, Fail> {

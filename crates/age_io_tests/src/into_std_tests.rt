@@ -1,7 +1,8 @@
 //! Readers and writers of this port that std reads and writes, and a file on a disk.
 
 use crate::fixtures::{buffered, fills, gives, leads, leads_nowhere, sink, source, two_faults};
-use age_bench::devices::Step;
+use age_devices::Step;
+use age_devices::answers::{delivers, is_refusal};
 use age_error::io::{ArmoredReadError, Error, ErrorKind, SeekFrom};
 use age_io::{
     BufReader, Bytes, IntoStd, Read, Seek, Std, Write, device_error, standard_error, write_all,
@@ -11,7 +12,6 @@ use std::fs::File;
 use std::path::{Path, PathBuf};
 use std::test::Fail;
 use std::{env, fs, io, process};
-use test_support::answers::{delivers, is_refusal};
 
 // What std was answered, where an error is its kind alone.
 fn kind<T: Drop>(answer: io::Result<T>) -> Result<T, io::ErrorKind> {

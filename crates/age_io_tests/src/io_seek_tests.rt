@@ -3,7 +3,7 @@
 use crate::fixtures::{
     Wanted, answers_so, buffered, device, gives, leads, leads_nowhere, long_text, refuses,
 };
-use age_bench::devices::Step;
+use age_devices::Step;
 use age_error::io::{Error, ErrorKind, SeekFrom};
 use age_io::{Bytes, Op, Read, Seek, seek_retrying};
 use std::alloc::Global;

@@ -1,7 +1,7 @@
 //! Lists of reads and seeks on a device that fails in between.
 
 use crate::fixtures::{Wanted, answers_so, buffered, device};
-use age_bench::devices::Step;
+use age_devices::Step;
 use age_error::io::{Error, ErrorKind, SeekFrom};
 use age_io::Op;
 use std::test::Fail;

@@ -1,7 +1,7 @@
 //! Readers and writers in memory, and those of std.
 
 use crate::fixtures::{fills, gives, refuses, sink, source, two_faults};
-use age_bench::devices::Step;
+use age_devices::Step;
 use age_error::io::{Error, ErrorKind};
 use age_io::{Bytes, Read, Std, Write, read_exact, read_to_end, write_all};
 use std::alloc::Global;

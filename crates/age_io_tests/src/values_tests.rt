@@ -2,7 +2,7 @@
 
 use crate::error_texts::shows;
 use crate::fixtures::{Device, buffered, gives, leads, refuses, source};
-use age_bench::devices::Step;
+use age_devices::Step;
 use age_error::io::{Error, ErrorKind, SeekFrom};
 use age_io::{Answer, BufRead, BufReader, Bytes, Op, run};
 use std::alloc::Global;

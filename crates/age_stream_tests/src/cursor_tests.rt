@@ -3,8 +3,8 @@
 use crate::fixtures::{reader_of, sealed};
 use age::armor::ArmoredReader;
 use age::io::{Answer, Error, ErrorKind, Op, Seek, SeekFrom, run};
-use age_bench::devices::{Script, Source};
 use age_bench::suite::BenchSuite;
+use age_devices::{Script, Source};
 use std::alloc::Global;
 use std::process::Abort;
 use std::test::Fail;

@@ -3,8 +3,8 @@
 use crate::fixtures::{Call, answers, reader_of, sealed};
 use age::io::{Error, ErrorKind, IntoStd, Read, Seek, SeekFrom, Std};
 use age::stream::StreamReader;
-use age_bench::devices::{Script, Source, Step};
 use age_bench::suite::BenchSuite;
+use age_devices::{Script, Source, Step};
 use std::alloc::Global;
 use std::process::Abort;
 use std::test::Fail;

@@ -1,8 +1,9 @@
 -- A text opens to a plaintext exactly if it is the plaintext's seal, and what a seal is.
-use Rattle.std.proofs.Common.{◌≡◌, ℕ, ◌+◌, ◌-◌, ◌<◌, ◌^◌, ◌≤◌, ◌↔◌, Bool, true, false, List, ◌++◌, length, take, drop, ◌&&◌, if◌then◌else◌, Some, None, refl, sym, ◌∙◌, ap, arith, length-append}
+use Rattle.std.proofs.Common.{◌≡◌, ℕ, ◌+◌, ◌-◌, ◌<◌, ◌^◌, ◌≤◌, ◌↔◌, List, ◌++◌, length, take, drop, Some, refl, sym, ◌∙◌, ap, arith, length-append}
 use Rattle.std.proofs.lemmas.List.{take_at, drop_at, take-append-drop}
 use Rattle.std.proofs.lemmas.List.Elements.{All-append, All-take}
-use Rattle.std.proofs.lemmas.Bool.{le-leb}
+use Rattle.std.proofs.lemmas.Bool.{and_parts, le-leb}
+use Rattle.std.proofs.lemmas.Option.{cond_some}
 use Rattle.std.proofs.lemmas.Slice.Eq.{bytes_eq-Decides}
 use Rattle.std.specs.Prelude.{All}
 use Rattle.chacha20.specs.Encryption.{chacha20_encrypt}
@@ -32,34 +33,23 @@ seal-bytes key nonce plain bytes =
     let ciphertext = chacha20_encrypt key 1 nonce plain in
     All-append IsByte ciphertext (tag_of key nonce ciphertext) (chacha20_encrypt-bytes key 1 nonce plain bytes) (tag-bytes key nonce ciphertext)
 
--- a list whose last 16 items are the second part
-front_of : (xs ys : List ℕ) → length ys ≡ 16 → take (length (xs ++ ys) - 16) (xs ++ ys) ≡ xs
-front_of xs ys size = take_at xs ys (length (xs ++ ys) - 16) (omega (arith, length-append xs ys))
-
-back_of : (xs ys : List ℕ) → length ys ≡ 16 → drop (length (xs ++ ys) - 16) (xs ++ ys) ≡ ys
-back_of xs ys size = drop_at xs ys (length (xs ++ ys) - 16) (omega (arith, length-append xs ys))
-
-both_true : (a b : Bool) → (a && b) ≡ true → (a ≡ true) × (b ≡ true)
-both_true true true is = (refl, refl)
-both_true true false is = cc
-both_true false b is = cc
-
-when_some : (b : Bool) (x y : List ℕ) → (if b then Some x else None) ≡ Some y → (b ≡ true) × (x ≡ y)
-when_some true x y is = (refl, cc)
-when_some false x y is = cc
-
 -- a seal opens to its plaintext
 opened_seal : (key nonce plain : List ℕ) → opened key nonce (seal_of key nonce plain) ≡ Some plain
 unfolding opened seal_of
 opened_seal key nonce plain =
     let ciphertext = chacha20_encrypt key 1 nonce plain in
     let tag = tag_of key nonce ciphertext in
-    let size = length-tag key nonce ciphertext in
-    let front = front_of ciphertext tag size in
-    let back = back_of ciphertext tag size in
-    let long : 16 ≤ length (ciphertext ++ tag) = omega (arith, length-append ciphertext tag, size) in
+    let size = length (ciphertext ++ tag) in
+    let long : 16 ≤ size = omega (arith, length-append ciphertext tag, length-tag key nonce ciphertext) in
+    let before : length ciphertext ≡ size - 16 = omega (arith, length-append ciphertext tag, length-tag key nonce ciphertext) in
     let same = (bytes_eq-Decides tag tag).1 refl in
-    rw (front, back, chacha20_encrypt_twice key 1 nonce plain, same, le-leb 16 (length (ciphertext ++ tag)) long) refl
+    rw (
+      take_at ciphertext tag (size - 16) before,
+      drop_at ciphertext tag (size - 16) before,
+      chacha20_encrypt_twice key 1 nonce plain,
+      same,
+      le-leb 16 size long,
+    ) refl
 
 module _ (key nonce sealed plain : List ℕ) (opens : opened key nonce sealed ≡ Some plain) where
   -- what opens is a seal
@@ -67,8 +57,8 @@ module _ (key nonce sealed plain : List ℕ) (opens : opened key nonce sealed �
   unfolding opened seal_of
   seal_opened =
       let n = length sealed - 16 in
-      let some = when_some (ends_in_tag key nonce sealed) (chacha20_encrypt key 1 nonce (ciphertext_of sealed)) plain opens in
-      let tagged = both_true _ _ some.0 in
+      let some = cond_some (ends_in_tag key nonce sealed) (chacha20_encrypt key 1 nonce (ciphertext_of sealed)) plain opens in
+      let tagged = and_parts _ _ some.0 in
       let back = (bytes_eq-Decides (drop n sealed) (tag_of key nonce (ciphertext_of sealed))).0 tagged.1 in
       let front = sym (chacha20_encrypt_twice key 1 nonce (take n sealed)) ∙ ap (λ text. chacha20_encrypt key 1 nonce text) some.1 in
       sym (take-append-drop n sealed) ∙ ap (λ tail. take n sealed ++ tail) back
@@ -77,7 +67,7 @@ module _ (key nonce sealed plain : List ℕ) (opens : opened key nonce sealed �
   opened-bytes : All IsByte sealed → All IsByte plain
   unfolding opened
   opened-bytes bytes =
-      let some = when_some (ends_in_tag key nonce sealed) (chacha20_encrypt key 1 nonce (ciphertext_of sealed)) plain opens in
+      let some = cond_some (ends_in_tag key nonce sealed) (chacha20_encrypt key 1 nonce (ciphertext_of sealed)) plain opens in
       let front = All-take IsByte (length sealed - 16) sealed bytes in
       let whole : All IsByte (chacha20_encrypt key 1 nonce (ciphertext_of sealed)) =
       chacha20_encrypt-bytes key 1 nonce (ciphertext_of sealed) front in

@@ -1,5 +1,5 @@
 //! What a command asks for, once its words are read.
-ghost use Rattle.std.specs.Prelude.{◌≡◌, ◌++◌, IfOk, OnOk, map, string_bytes, option_map};
+ghost use Rattle.std.specs.Prelude.{◌≡◌, ◌++◌, IfOk, OnOk, None, map, string_bytes, option_map};
 ghost use Rattle.sazh_command.specs.Asked.{IsAnswer, RecipientValue, answer_value, recipient_value, recipients_value, identities_value, opening_value, output_value, command_value};
 ghost use Rattle.sazh_command.specs.Found.{given_value};
 ghost use Rattle.sazh_command.specs.Decimal.{number_of};
@@ -167,19 +167,17 @@ fn limit_of(alloc: Global, word: Option<String>) -> Result<u64, Stop>
     }
 }
 
-// How a file is opened.
+// How a file is opened, of what is taken out of `given`. The rest of it stays.
 #[tactic(auto, using(crate::proofs::Stops::and_then_stops))]
-fn opening_of(
-    alloc: Global,
-    files: Vec<String>,
-    passphrase_file: Option<String>,
-    header_limit: Option<String>,
-) -> Result<Opening, Stop>
-    ensures { IsAnswer opening_value result
-        (opening_of (map string_bytes files.items) (option_map string_bytes passphrase_file) (option_map string_bytes header_limit)) }
+fn opening_of(alloc: Global, given: &mut Given) -> Result<Opening, Stop>
+    ensures opening { IsAnswer opening_value result (opening_of (map string_bytes given.old.identity_files.items)
+        (option_map string_bytes given.old.passphrase_file) (option_map string_bytes given.old.header_limit)) }
+    ensures rest { given.new ≡ record given.old { identity_files = given.new.identity_files; passphrase_file = None; header_limit = None } }
 {
+    let files = mem::replace(&mut given.identity_files, Vec::new(alloc));
+    let (passphrase_file, limit) = (given.passphrase_file.take(), given.header_limit.take());
     let identities = identities_of(files, passphrase_file)?;
-    let header_limit = limit_of(alloc, header_limit)?;
+    let header_limit = limit_of(alloc, limit)?;
     Ok(Opening {
         identities,
         header_limit,
@@ -293,9 +291,7 @@ fn asked_of_encrypt(alloc: Global, given: &mut Given) -> Result<Command, Stop>
 fn asked_of_decrypt(alloc: Global, given: &mut Given) -> Result<Command, Stop>
     ensures { IsAnswer command_value result (asked CommandName.Decrypt (given_value given.old)) }
 {
-    let files = mem::replace(&mut given.identity_files, Vec::new(alloc));
-    let (passphrase_file, limit) = (given.passphrase_file.take(), given.header_limit.take());
-    let opening = opening_of(alloc, files, passphrase_file, limit)?;
+    let opening = opening_of(alloc, given)?;
     let input = name_of(alloc, given.input.take())?;
     let output = output_of(given.output.take(), given.overwrite, given.skip_sync);
     Ok(Command::Decrypt {
@@ -311,9 +307,7 @@ fn asked_of_decrypt(alloc: Global, given: &mut Given) -> Result<Command, Stop>
 fn asked_of_part(alloc: Global, given: &mut Given) -> Result<Command, Stop>
     ensures { IsAnswer command_value result (asked CommandName.Part (given_value given.old)) }
 {
-    let files = mem::replace(&mut given.identity_files, Vec::new(alloc));
-    let (passphrase_file, limit) = (given.passphrase_file.take(), given.header_limit.take());
-    let opening = opening_of(alloc, files, passphrase_file, limit)?;
+    let opening = opening_of(alloc, given)?;
     let (place, count) = (given.place.take(), given.count.take());
     let (place, count, input) = range_of(alloc, place, count, given.operands.as_slice())?;
     Ok(Command::Part {
@@ -330,9 +324,7 @@ fn asked_of_part(alloc: Global, given: &mut Given) -> Result<Command, Stop>
 fn asked_of_migrate(alloc: Global, given: &mut Given) -> Result<Command, Stop>
     ensures { IsAnswer command_value result (asked CommandName.Migrate (given_value given.old)) }
 {
-    let files = mem::replace(&mut given.identity_files, Vec::new(alloc));
-    let (passphrase_file, limit) = (given.passphrase_file.take(), given.header_limit.take());
-    let opening = opening_of(alloc, files, passphrase_file, limit)?;
+    let opening = opening_of(alloc, given)?;
     let input = name_of(alloc, given.input.take())?;
     let output = output_of(given.output.take(), given.overwrite, given.skip_sync);
     Ok(Command::Migrate {
@@ -348,9 +340,7 @@ fn asked_of_migrate(alloc: Global, given: &mut Given) -> Result<Command, Stop>
 fn asked_of_rekey(alloc: Global, given: &mut Given) -> Result<Command, Stop>
     ensures { IsAnswer command_value result (asked CommandName.Rekey (given_value given.old)) }
 {
-    let files = mem::replace(&mut given.identity_files, Vec::new(alloc));
-    let (passphrase_file, limit) = (given.passphrase_file.take(), given.header_limit.take());
-    let opening = opening_of(alloc, files, passphrase_file, limit)?;
+    let opening = opening_of(alloc, given)?;
     let listed = mem::replace(&mut given.recipients, Vec::new(alloc));
     let recipients = some_recipients(listed)?;
     let input = name_of(alloc, given.input.take())?;
@@ -370,9 +360,7 @@ fn asked_of_rekey(alloc: Global, given: &mut Given) -> Result<Command, Stop>
 fn asked_of_verify(alloc: Global, given: &mut Given) -> Result<Command, Stop>
     ensures { IsAnswer command_value result (asked CommandName.Verify (given_value given.old)) }
 {
-    let files = mem::replace(&mut given.identity_files, Vec::new(alloc));
-    let (passphrase_file, limit) = (given.passphrase_file.take(), given.header_limit.take());
-    let opening = opening_of(alloc, files, passphrase_file, limit)?;
+    let opening = opening_of(alloc, given)?;
     let input = name_of(alloc, given.input.take())?;
     Ok(Command::Verify {
         opening,

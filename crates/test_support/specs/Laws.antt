@@ -1,15 +1,16 @@
 -- The other suite keeps the laws of a suite.
-use Rattle.std.specs.Prelude.{◌≡◌, ℕ, ◌+◌, ◌-◌, ◌%◌, ◌<◌, ◌^◌, ◌≤◌, ◌↔◌, Bool, true, false, List, [], ◌∷◌, ◌++◌, length, take, drop, replicate, ◌&&◌, if◌then◌else◌, Some, None, refl}
+use Rattle.std.specs.Prelude.{◌≡◌, ℕ, ◌+◌, ◌-◌, ◌%◌, ◌<◌, ◌^◌, ◌≤◌, ◌↔◌, true, List, [], ◌∷◌, ◌++◌, length, take, drop, replicate, Some, refl}
 use Rattle.std.proofs.Common.{sym, ◌∙◌, arith, add-zero, add_assoc}
 use Rattle.std.proofs.Math.Numerals.{one-add}
 use Rattle.std.proofs.lemmas.List.{length-take-le, length-append, length-map, take_at, drop_at, take-append-drop}
 use Rattle.std.proofs.lemmas.List.Elements.{All-nil, All-cons, All-head, All-tail, All-append, All-take, All-drop, All-map, All-weaker, All-replicate}
-use Rattle.std.proofs.lemmas.Bool.{le-leb}
+use Rattle.std.proofs.lemmas.Bool.{and_parts, le-leb}
+use Rattle.std.proofs.lemmas.Option.{cond_some}
 use Rattle.std.proofs.lemmas.Slice.Eq.{bytes_eq-Decides}
-use Rattle.age.specs.Bytes.{AreBytes, AreBytesOf}
-use Rattle.age.specs.Suite.{IsCipher, IsAgreement, IsStretching}
-use Rattle.age.specs.Mac.{hmac_of}
-use Rattle.age.specs.Digests.{hmac_of-bytes, hkdf_of-bytes}
+use Rattle.age_error.specs.Bytes.{AreBytes, AreBytesOf}
+use Rattle.age_suite.specs.Suite.{IsCipher, IsAgreement, IsStretching}
+use Rattle.age_suite.specs.Mac.{hmac_of}
+use Rattle.age_suite.proofs.Digests.{hmac_of-bytes, hkdf_of-bytes}
 use Rattle.test_support.specs.Other.{pad_at, hidden_from, hidden, mark_of, other_seal, is_marked, other_opened, other_public, other_shared, other_stretch, other_accepts}
 
 -- ---- the pad
@@ -59,15 +60,6 @@ other_seal-bytes key nonce plain k n p =
           (hidden-bytes (pad_at key nonce) 0 plain);
     }
 
-both_true : (a b : Bool) → (a && b) ≡ true → (a ≡ true) × (b ≡ true)
-both_true true true h = (refl, refl)
-both_true true false h = cc
-both_true false b h = cc
-
-when_some : (b : Bool) (x y : List ℕ) → (if b then Some x else None) ≡ Some y → (b ≡ true) × (x ≡ y)
-when_some true x y h = (refl, cc)
-when_some false x y h = cc
-
 -- a seal opens to its plaintext
 opened_seal : (key nonce plain : List ℕ) → AreBytes plain → other_opened key nonce (other_seal key nonce plain) ≡ Some plain
 opened_seal key nonce plain p =
@@ -85,8 +77,8 @@ seal_opened : (key nonce sealed plain : List ℕ) → AreBytes sealed → other_
     → sealed ≡ other_seal key nonce plain
 seal_opened key nonce sealed plain s h =
     let rest = drop 16 sealed in
-    let some = when_some (is_marked key nonce sealed) (hidden key nonce rest) plain h in
-    let marked = both_true _ _ some.0 in
+    let some = cond_some (is_marked key nonce sealed) (hidden key nonce rest) plain h in
+    let marked = and_parts _ _ some.0 in
     let front = (bytes_eq-Decides (take 16 sealed) (mark_of key nonce rest)).0 marked.1 in
     let twice = hidden_twice (pad_at key nonce) 0 rest (All-drop (λ x. x < 2 ^ 8) 16 sealed s) in
     let seal : sealed ≡ other_seal key nonce (hidden key nonce rest) =
@@ -97,7 +89,7 @@ pub other_opens_exactly : (key nonce sealed plain : List ℕ) → AreBytesOf 32 
     → (other_opened key nonce sealed ≡ Some plain) ↔ (AreBytes plain × (sealed ≡ other_seal key nonce plain))
 other_opens_exactly key nonce sealed plain k n s = (
   λ h.
-      let some = when_some (is_marked key nonce sealed) (hidden key nonce (drop 16 sealed)) plain h in
+      let some = cond_some (is_marked key nonce sealed) (hidden key nonce (drop 16 sealed)) plain h in
       let bytes : AreBytes (hidden key nonce (drop 16 sealed)) = hidden-bytes (pad_at key nonce) 0 (drop 16 sealed) in
       (rw some.1 at bytes, seal_opened key nonce sealed plain s h),
   λ e. rw e.1 (opened_seal key nonce plain e.0),

@@ -1,7 +1,7 @@
 -- A second insecure suite for tests, on lists of bytes.
 use Rattle.std.specs.Prelude.{ℕ, ◌+◌, ◌-◌, ◌/◌, ◌%◌, ◌^◌, Bool, ◌&&◌, List, [], ◌∷◌, ◌++◌, length, take, drop, map, slice_index, nat_le, bytes_eq, if◌then◌else◌, Option, Some, None}
 use Rattle.std.specs.Int.{to_be_bytes, w64}
-use Rattle.age.specs.Mac.{hmac_of, hkdf_of}
+use Rattle.age_suite.specs.Mac.{hmac_of, hkdf_of}
 
 -- the 32 bytes that hide a block of 32 bytes: each block, by its number from 0, has its own
 abbrev pub pad_block : List ℕ → List ℕ → ℕ → List ℕ

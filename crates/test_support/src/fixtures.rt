@@ -1,10 +1,12 @@
 //! What tests share.
 
-use age::armor::{ArmoredWriter, Format};
-use age::draw::Draw;
-use age::format::Stanza;
-use age::io::{Error, write_all};
-use age::mac::hmac;
+use age_armor::{ArmoredWriter, Format};
+pub use age_devices::bytes::{part, plaintext};
+use age_error::io::Error;
+use age_format::Stanza;
+use age_io::write_all;
+use age_suite::draw::Draw;
+use age_suite::mac::hmac;
 use std::alloc::{AllocError, Global};
 use std::test::Fail;
 
@@ -13,22 +15,6 @@ pub const KEY: [u8; 32] = [
     0, 1, 2, 3, 4, 5, 6, 7, 8, 9, 10, 11, 12, 13, 14, 15, 16, 17, 18, 19, 20, 21, 22, 23, 24, 25,
     26, 27, 28, 29, 30, 31,
 ];
-
-/// The bytes 0, 1, .., 250 again and again, so many in all.
-pub fn plaintext(alloc: Global, length: usize) -> Result<Vec<u8>, AllocError> {
-    let mut plain = Vec::with_capacity(alloc, length)?;
-    for i in 0..length {
-        plain.push((i % 251) as u8)?;
-    }
-    Ok(plain)
-}
-
-/// The bytes from one place to another, as far as they are there.
-pub fn part(bytes: &[u8], from: usize, to: usize) -> &[u8] {
-    let end = to.min(bytes.len());
-    let start = from.min(end);
-    &bytes[start..end]
-}
 
 /// The first 8 bytes of the HMAC of some bytes under an empty key.
 pub fn digest(bytes: &[u8]) -> u64 {

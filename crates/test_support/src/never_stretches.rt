@@ -4,7 +4,8 @@ ghost use Rattle.test_support.specs.Other.{other_seal, other_opened, other_share
 ghost use Rattle.test_support.specs.Laws.{other_cipher, other_agreement, stretched_zeros, zeros_stretching};
 
 use crate::other_suite::OtherSuite;
-use age::suite::{Opens, ScryptError, Suite};
+use age_error::suite::ScryptError;
+use age_suite::suite::{Opens, Suite};
 use std::alloc::{AllocError, Global};
 
 /// The other suite, but that it stretches no passphrase: it accepts each work factor and then answers `OutOfMemory`. So whoever answers

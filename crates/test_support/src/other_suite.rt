@@ -5,8 +5,9 @@ ghost use Rattle.std.specs.Prelude.{◌≡◌, ◌≤◌, ◌*◌, length};
 ghost use Rattle.test_support.specs.Other.{pad_block as block_of_pad, pad_at, hidden_from, hidden, mark_of, other_seal, other_opened, other_shared, other_public, other_stretch, other_accepts};
 ghost use Rattle.test_support.specs.Laws.{other_cipher, other_agreement, other_stretching};
 
-use age::mac::{HmacWriter, hkdf};
-use age::suite::{Opens, ScryptError, Suite};
+use age_error::suite::ScryptError;
+use age_suite::mac::{HmacWriter, hkdf};
+use age_suite::suite::{Opens, Suite};
 use std::alloc::{AllocError, Global};
 
 const MARK: usize = 16;

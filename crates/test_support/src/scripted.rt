@@ -2,10 +2,11 @@
 
 ghost use Rattle.std.specs.Prelude.{◌≡◌, ◌+◌, ◌-◌, ◌^◌, false, min};
 
-use age::draw::Draw;
-use age::format::Stanza;
-use age::secrecy::FileKey;
-use age::{DecryptError, EncryptError, Identity, Recipient};
+use age_error::decrypt::DecryptError;
+use age_error::encrypt::EncryptError;
+use age_format::{Identity, Recipient, Stanza};
+use age_suite::draw::Draw;
+use age_suite::secrecy::FileKey;
 use std::alloc::Global;
 use std::collections::BTreeSet;
 

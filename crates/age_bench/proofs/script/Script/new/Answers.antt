@@ -1,5 +1,0 @@
-use Rattle.age_bench.proofs.Scripted.{steps_in_turn}
-use Rattle.age_bench.proofs.script.Script.new.Goals as goal
-
-pub returns : goal.returns
-returns c i = steps_in_turn c.args.steps.now c.args.most i

@@ -1,0 +1,4 @@
+pub mod Devices
+pub mod AtCalls
+pub mod Sources
+pub mod Sinks
