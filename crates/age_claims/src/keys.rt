@@ -2,7 +2,7 @@
 ghost use Rattle.std.specs.Prelude.{◌≡◌, false, IfOk, string_bytes};
 ghost use Rattle.age.specs.Bech32Symbols.{has_lower, has_upper};
 ghost use Rattle.age.specs.Bech32Written.{bech32_text};
-ghost use Rattle.age.specs.X25519.{recipient_prefix};
+ghost use Rattle.age.specs.X25519.{identity_prefix, recipient_prefix};
 
 use age::secrecy::SecretString;
 use age::x25519::laws::{known_identity, known_recipient, text_laws};
@@ -19,23 +19,26 @@ pub fn one_key_of_a_text<S>(one: &Recipient<S>, other: &Recipient<S>)
     known_recipient(other);
 }
 
-/// The text of a recipient, in which no letter is in upper case. `AllocError` where memory is refused.
+/// The text of a recipient, its key in Bech32, in which no letter is in upper case. `AllocError` where memory is refused.
 #[tactic(auto, using(crate::proofs::PrintedKeys::in_lower_case))]
 pub fn printed_recipient<S>(alloc: Global, recipient: &Recipient<S>) -> Result<String, AllocError>
-    ensures { IfOk result (λ text. has_upper (string_bytes text) ≡ false) }
+    ensures text { IfOk result (λ text. string_bytes text ≡ bech32_text recipient_prefix recipient.now) }
+    ensures case { IfOk result (λ text. has_upper (string_bytes text) ≡ false) }
 {
     text_laws();
     known_recipient(recipient);
     recipient.to_string(alloc)
 }
 
-/// The text of an identity, in which no letter is in lower case, as the standard writes it. `AllocError` where memory is refused.
+/// The text of an identity, its secret in Bech32, in which no letter is in lower case, as the standard writes it. `AllocError` where memory is
+/// refused.
 #[tactic(auto, using(crate::proofs::PrintedKeys::in_upper_case))]
 pub fn printed_identity<S>(
     alloc: Global,
     identity: &Identity<S>,
 ) -> Result<SecretString, AllocError>
-    ensures { IfOk result (λ text. has_lower text ≡ false) }
+    ensures text { IfOk result (λ text. text ≡ bech32_text identity_prefix identity.now) }
+    ensures case { IfOk result (λ text. has_lower text ≡ false) }
 {
     text_laws();
     known_identity(identity);

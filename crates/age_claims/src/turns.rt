@@ -35,7 +35,8 @@ fn both<S: Suite, R: Seek>(
 
 /// Reads at two places of a payload's plaintext in turn, `times` times and once before, each into room that ends in the chunk in which it begins
 /// (`IsInOne`). However often that is, each of the two chunks is opened once, by at most two calls of the suite, as one in the middle and as the
-/// last: so a success came of at most four such calls. It stops at the first refusal, which is that of `StreamReader::read_at`.
+/// last: so a success came of at most four such calls, and the reader has both chunks then. It stops at the first refusal, which is that of
+/// `StreamReader::read_at`.
 pub fn read_in_turn<S: Suite, R: Seek>(
     reader: &mut StreamReader<S, R>,
     one: u64,
@@ -45,7 +46,8 @@ pub fn read_in_turn<S: Suite, R: Seek>(
     times: u64,
 ) -> Result<(), Error>
     ensures { IsTrue (tells_of reader.old) → (a b : ℕ) → IsInOne (length (payload_of reader.old).bytes) one (length first.new) a →
-        IsInOne (length (payload_of reader.old).bytes) other (length second.new) b → OnOk result (opens_of reader.new ≤ opens_of reader.old + 4) }
+        IsInOne (length (payload_of reader.old).bytes) other (length second.new) b → OnOk result
+        ((opens_of reader.new ≤ opens_of reader.old + 4) × HasChunk reader.new a × HasChunk reader.new b) }
 {
     match both(reader, one, first, other, second) {
         Err(e) => return Err(e),

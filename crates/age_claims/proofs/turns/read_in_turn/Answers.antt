@@ -26,4 +26,4 @@ turns-preserved g c =
     }
 
 pub returns : goal.returns
-returns g c = λ told a b in_a in_b. (c.turns.invariant.opened told a b in_a in_b).0
+returns g c = c.turns.invariant.opened
