@@ -41,13 +41,13 @@ failed_below seal_of place e key sealed out why = elim why [
 pub returns-in-Err-clause-cursor : goal.returns-in-Err-clause-cursor
 returns-in-Err-clause-cursor g c = λ writer_told file plain carries for.
     memory_before g.W.Write.appended g.W.Write.refuses c.args.place c.args.count plain _ c.args.writer.now c.in-Err.e (g.met.W.Write.appends_nothing c.args.writer.now)
-    (λ quiet. c.in-Err.ensures.memory)
+    (λ quiet. c.in-Err.ensures.opens.memory)
 
 pub returns-in-Ok-clause-cursor : goal.returns-in-Ok-clause-cursor
 returns-in-Ok-clause-cursor g c = λ writer_told file plain carries for.
     let bytes = c.in-Ok.bytes in
     let rest : armored_rest bytes ≡ whole file =
-    c.in-Ok.ensures.honest file (ap (λ s. s.ends_well) c.new.ensures.rest) (subst (λ (l : List ℕ). Carries l file) (sym (ap (λ s. s.bytes) c.new.ensures.rest)) carries) in
+    c.in-Ok.ensures.opens.honest file (ap (λ s. s.ends_well) c.new.ensures.rest) (subst (λ (l : List ℕ). Carries l file) (sym (ap (λ s. s.bytes) c.new.ensures.rest)) carries) in
     quiet_by g.W.Write.appended g.W.Write.refuses c.args.place c.args.count plain _ _ c.args.writer.now c.at_bytes.new.writer c.at_bytes.result (λ u t. refl)
     (c.at_bytes.ensures.cursor refl writer_told (ap (λ s. s.ends_well) rest) plain
     (file_for g.S.Suite.seal_of _ plain file (armored_rest bytes).bytes (sym (ap (λ s. s.bytes) rest)) for))
@@ -55,7 +55,7 @@ returns-in-Ok-clause-cursor g c = λ writer_told file plain carries for.
 pub returns-in-Ok-clause-standing : goal.returns-in-Ok-clause-standing
 returns-in-Ok-clause-standing g c = λ writer_told.
     let bytes = c.in-Ok.bytes in
-    let made = c.in-Ok.ensures in
+    let made = c.in-Ok.ensures.opens in
     let text = c.args.text.now in
     let rest : armored_rest bytes ≡ stretch_of (text_delivers text true) = made.rest ∙ ap (λ s. stretch_of (text_delivers s.bytes s.ends_well)) c.new.ensures.rest in
     let content : armored_content bytes ≡ stretch_of (text_delivers text true) =
@@ -68,7 +68,7 @@ returns-in-Ok-clause-standing g c = λ writer_told.
 pub returns-in-Ok-clause-given : goal.returns-in-Ok-clause-given
 returns-in-Ok-clause-given g c = λ writer_told.
     let bytes = c.in-Ok.bytes in
-    let made = c.in-Ok.ensures in
+    let made = c.in-Ok.ensures.opens in
     let text = c.args.text.now in
     let rest : armored_rest bytes ≡ stretch_of (text_delivers text true) = made.rest ∙ ap (λ s. stretch_of (text_delivers s.bytes s.ends_well)) c.new.ensures.rest in
     let content : armored_content bytes ≡ stretch_of (text_delivers text true) =
@@ -86,7 +86,7 @@ returns-in-Ok-clause-io g c =
     (io_weaker _ _ (λ e why. elim why [
       | inl memory ↦ inl memory
       | inr other ↦ elim other [
-        | inl text ↦ inr (inr (inr (inr (inl (from_slice refuses_of bytes c.new.result e c.in-Ok.ensures.named text)))))
+        | inl text ↦ inr (inr (inr (inr (inl (from_slice refuses_of bytes c.new.result e c.in-Ok.ensures.opens.named text)))))
         | inr rest ↦ elim rest [
           | inl writer ↦ inr (inl writer)
           | inr asked ↦ elim asked [
@@ -105,12 +105,12 @@ returns-in-Ok-clause-io g c =
     c.at_bytes.ensures.io
 
 pub returns-in-Err-clause-cause : goal.returns-in-Err-clause-cause
-returns-in-Err-clause-cause g c = λ writer_told. inl c.in-Err.ensures.memory
+returns-in-Err-clause-cause g c = λ writer_told. inl c.in-Err.ensures.opens.memory
 
 pub returns-in-Ok-clause-cause : goal.returns-in-Ok-clause-cause
 returns-in-Ok-clause-cause g c = λ writer_told.
     let bytes = c.in-Ok.bytes in
-    let made = c.in-Ok.ensures in
+    let made = c.in-Ok.ensures.opens in
     let text = c.args.text.now in
     let seal_of = g.S.Suite.seal_of in
     let rest : armored_rest bytes ≡ stretch_of (text_delivers text true) = made.rest ∙ ap (λ s. stretch_of (text_delivers s.bytes s.ends_well)) c.new.ensures.rest in
@@ -121,7 +121,7 @@ returns-in-Ok-clause-cause g c = λ writer_told.
     (io_weaker _ _ (λ e why. elim why [
       | inl memory ↦ inl memory
       | inr other ↦ elim other [
-        | inl tried ↦ inr (inr (inl (from_slice refuses_of bytes c.new.result e c.in-Ok.ensures.named tried)))
+        | inl tried ↦ inr (inr (inl (from_slice refuses_of bytes c.new.result e c.in-Ok.ensures.opens.named tried)))
         | inr more ↦ elim more [
           | inl writes ↦ inr (inl writes)
           | inr part ↦ inr (inr (inr (begun (HasFront (armored_rest bytes) (place_of bytes)) (HasFront (stretch_of (text_delivers text true)) 0) _ _ g.W.Write.appended c.args.count
@@ -137,7 +137,7 @@ returns-in-Ok-clause-cause g c = λ writer_told.
 pub returns-in-Ok-clause-why : goal.returns-in-Ok-clause-why
 returns-in-Ok-clause-why g c =
     let bytes = c.in-Ok.bytes in
-    let made = c.in-Ok.ensures in
+    let made = c.in-Ok.ensures.opens in
     let text = c.args.text.now in
     let old = c.args.identities.now in
     let new = c.at_bytes.new.identities in

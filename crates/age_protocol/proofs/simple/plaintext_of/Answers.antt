@@ -22,13 +22,13 @@ pub returns-in_err-reader-clause-refused : goal.returns-in_err-reader-clause-ref
 returns-in_err-reader-clause-refused g c =
     let input = c.in_ok-input.input in
     let start : armored_rest input ≡ read_of c.args.file.now =
-    c.in_ok-input.ensures.rest ∙ ap (λ s. stretch_of (text_delivers s.bytes s.ends_well)) c.new.ensures.rest in
+    c.in_ok-input.ensures.opens.rest ∙ ap (λ s. stretch_of (text_delivers s.bytes s.ends_well)) c.new.ensures.rest in
     of_error _ _ _ c.from_residual-in_err-reader.ensures.1
     (elim c.in_err-reader.ensures.refused [
       | inl (same, (last, refuses)) ↦ inl (
         alone_same c.args.identity.now _ same,
-        inr (lacks_front _ input last _ _ refuses refl start c.in_ok-input.ensures.place refl refl
-            (io_refusal_weaker _ _ (λ e. by_cause (λ early. inl early.0) (λ tried. inr (from_slice refuses_of input c.new.result e c.in_ok-input.ensures.named tried)))
+        inr (lacks_front _ input last _ _ refuses refl start c.in_ok-input.ensures.opens.place refl refl
+            (io_refusal_weaker _ _ (λ e. by_cause (λ early. inl early.0) (λ tried. inr (from_slice refuses_of input c.new.result e c.in_ok-input.ensures.opens.named tried)))
             _ refuses.io)),
       )
       | inr (h, nonce, left, answer, asks, why) ↦ inr (record {
@@ -36,7 +36,7 @@ returns-in_err-reader-clause-refused g c =
         nonce = nonce;
         left = _;
         place = _;
-        front = rw (start, c.in_ok-input.ensures.place) at (asks.front refl);
+        front = rw (start, c.in_ok-input.ensures.opens.place) at (asks.front refl);
         answer = answer;
         asked = alone_is (λ identity own next. Unwraps g.I.Identity.unwraps identity h.stanzas own next) c.args.identity.now answer _ asks.first;
         why = rest_of_key g.S.Suite.seal_of _ h nonce _ _ why;
@@ -47,7 +47,7 @@ pub returns-in_err-read_to_end-clause-refused : goal.returns-in_err-read_to_end-
 returns-in_err-read_to_end-clause-refused g c =
     let input = c.in_ok-input.input in
     let start : armored_rest input ≡ read_of c.args.file.now =
-    c.in_ok-input.ensures.rest ∙ ap (λ s. stretch_of (text_delivers s.bytes s.ends_well)) c.new.ensures.rest in
+    c.in_ok-input.ensures.opens.rest ∙ ap (λ s. stretch_of (text_delivers s.bytes s.ends_well)) c.new.ensures.rest in
     let opened = c.in_ok-reader.ensures.opened in
     let asks = opened.asks in
     let opens = opened.opens in
@@ -59,7 +59,7 @@ returns-in_err-read_to_end-clause-refused g c =
       nonce = opened.nonce;
       left = _;
       place = _;
-      front = rw (start, c.in_ok-input.ensures.place) at (asks.front refl);
+      front = rw (start, c.in_ok-input.ensures.opens.place) at (asks.front refl);
       answer = Some (Ok opened.file_key);
       asked = alone_is (λ identity own next. Unwraps g.I.Identity.unwraps identity opened.h.stanzas own next) c.args.identity.now _ _ asks.first;
       why = inr (
@@ -74,7 +74,7 @@ returns-in_err-read_to_end-clause-refused g c =
             ap (from_place (place_of after)) (asks.same.content refl)
             ∙ front-stands (armored_content input) (armored_rest input) (armored_rest after) (place_of input) (place_of after) opened.h opened.nonce
             (stands_by (armored_content input) (armored_rest input) (place_of input) (input.inside refl refl) (input.follows refl refl)) (asks.front refl)) own))
-            (λ text. inl (from_slice refuses_of input c.new.result e c.in_ok-input.ensures.named text))
+            (λ text. inl (from_slice refuses_of input c.new.result e c.in_ok-input.ensures.opens.named text))
             (from_stream stream_refuses refuses_of _ c.in_ok-reader.reader after input e opens.reader.named (λ s. s.is) asks.narrows tried))
             read.keeps.why),
       );
@@ -89,7 +89,7 @@ returns-clause-success g c =
     let all = stretch-ext _ (whole plain) (sym (rw c.new-plaintext.ensures.items at (read.bytes refl))) (read.end refl) in
     let file = opened.opens.file refl (armored_rest input) _ plain (opened.asks.front refl) all in
     let each : AreBytes c.args.file.now = search rules in
-    let carried = c.in_ok-input.ensures.carries refl file.0 in
+    let carried = c.in_ok-input.ensures.opens.carries refl file.0 in
     let carries : AreBytes c.args.file.now → Carries c.args.file.now (armored_rest input).bytes =
     subst (λ xs. AreBytes xs → Carries xs (armored_rest input).bytes) (ap (λ s. s.bytes) c.new.ensures.rest) carried.1 in
     record {

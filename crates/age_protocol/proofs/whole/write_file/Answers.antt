@@ -29,7 +29,7 @@ returns-clause-file g c = λ reader_told writer_told.
     let text = file_text g.S.Suite.seal_of file.file_key file.stanzas file.nonce (g.R.Read.rest c.args.reader.now).bytes in
     let filed = started.file armor_told _ _ (Ok c.in_ok-finished.finished) all.1 (sealed.ok (copied.tells ∙ told)) in
     let done = c.in_ok-out.ensures in
-    let sealed_told = sealed.same_tells ∙ copied.tells ∙ told in
+    let sealed_told = sealed.hands_back.same_tells ∙ copied.tells ∙ told in
     let written : g.W.Write.appended c.args.writer (text_of c.args.format text) c.in_ok-out.out =
     done.ok sealed_told _ _ text _ (made.made writer_told) filed in
     let flushed = c.in_ok-flush_retrying.ensures.flushes in
