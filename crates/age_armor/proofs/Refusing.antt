@@ -16,10 +16,6 @@ use Rattle.age_armor.specs.Refusing.{IsOwnRefusal, IsTextRefusal, OrEnd, OrText,
 
 -- ---- an error
 
-pub text-patient : (tells steady ends_well : Bool) (e : Error) → IsTextRefusal tells steady ends_well e → IsInterruption e → ⊥
-text-patient tells steady ends_well (Device kind) h is = h
-text-patient tells steady ends_well _ h is = is
-
 -- of a text of which less is known
 pub text-wider : (told steady well told_before steady_before well_before : Bool) (e : Error) → (IsTrue told_before → IsTrue told) →
     (IsTrue steady_before → IsTrue steady) → (IsTrue told_before → IsTrue well → IsTrue well_before) →
