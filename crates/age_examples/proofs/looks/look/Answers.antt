@@ -8,8 +8,8 @@ use Rattle.age_examples.proofs.looks.look.Goals as goal
 
 pub returns-in-Ok-clause-learns : goal.returns-in-Ok-clause-learns
 returns-in-Ok-clause-learns g c =
-    let first = c.in-Ok.ensures.learns in
-    let last = c.read.ensures.learns.more in
+    let first = c.in-Ok.ensures.besides.learns.learns in
+    let last = c.read.ensures.besides.learns.more in
     record {
       further = omega (arith, first.further, last.further);
       end = λ known. last.end (first.end known);
@@ -18,8 +18,8 @@ returns-in-Ok-clause-learns g c =
 
 pub returns-in-Ok-clause-lines : goal.returns-in-Ok-clause-lines
 returns-in-Ok-clause-lines g c = λ told steady noting behind.
-    on_ok_weaker c.read.result (λ reached. omega (arith, c.in-Ok.ensures.marks told steady noting behind, c.read.ensures.learns.lines.1))
-    (c.read.ensures.learns.reaches (c.in-Ok.ensures.seeks.same_tells ∙ told))
+    on_ok_weaker c.read.result (λ reached. omega (arith, c.in-Ok.ensures.besides.counts.marks told steady noting behind, c.read.ensures.besides.learns.lines.1))
+    (c.read.ensures.besides.learns.reaches (c.in-Ok.ensures.seeks.same_tells ∙ told))
 
 pub returns-in-Ok-clause-content : goal.returns-in-Ok-clause-content
 returns-in-Ok-clause-content g c = λ told.
