@@ -43,6 +43,7 @@ pub use Rattle.age_io.specs.Failing
 pub use Rattle.age_io.specs.Writing
 pub use Rattle.age_io.specs.WritingLemmas
 pub use Rattle.age_io.specs.Copying
+pub use Rattle.age_io.specs.Whole
 pub use Rattle.age_io.specs.Cursor
 pub use Rattle.age_io.specs.CursorLemmas
 pub use Rattle.age_io.specs.Replies
@@ -96,8 +97,11 @@ pub use Rattle.age_armor.specs.Ending as ArmorEnding
 pub use Rattle.age_armor.specs.Refusing as ArmorRefusing
 pub use Rattle.age_armor.specs.Marks as ArmorMarks
 pub use Rattle.age_armor.specs.Reader as ArmorReader
+pub use Rattle.age_armor.specs.Opening as ArmorOpening
+pub use Rattle.age_armor.specs.Seeks as ArmorSeeks
 pub use Rattle.age_armor.specs.Seeking as ArmorSeeking
 pub use Rattle.age_armor.specs.Writing as ArmorWriting
+pub use Rattle.age_armor.specs.WriterCalls as ArmorWriterCalls
 -- payloads: age_stream
 pub use Rattle.age_stream.specs.Seeking as StreamSeeking
 pub use Rattle.age_stream.specs.Sealed as StreamSealed
