@@ -3,7 +3,7 @@ ghost use Rattle.std.specs.Prelude.{◌≡◌, ◌&&◌, ℕ, ◌≤◌, IsTrue,
 ghost use Rattle.age.specs.DecryptErrors.{OutOfMemory, decrypt_refusal};
 ghost use Rattle.age.specs.Replies.{seen, replies, IsNoWant};
 ghost use Rattle.age.specs.Armor.{Carries};
-ghost use Rattle.age.specs.Opened.{IsNotOpened};
+ghost use Rattle.age.specs.Opened.{IsOpened, IsNotOpened};
 ghost use Rattle.age.specs.OpeningFile.{StandsBefore};
 ghost use Rattle.age.specs.FileErrors.{IsWant};
 ghost use Rattle.age.specs.Identities.{IsFileFor};
@@ -19,6 +19,10 @@ use age::{DecryptError, Identity};
 use std::alloc::Global;
 
 /// `open_file` with the identity that a word of the command line names.
+///
+/// Whatever the bytes give, a success says that a header and a nonce begin them, that the identity gave the file key, under which the
+/// header's MAC is right, and that nothing of the payload was read or opened. It refuses as `open_file` does. The bytes and the
+/// identity are gone after a refusal.
 pub fn open_with<T: Read + Drop>(
     alloc: Global,
     with: With,
@@ -26,6 +30,7 @@ pub fn open_with<T: Read + Drop>(
 ) -> Result<StreamReader<BenchSuite, T>, DecryptError>
     ensures tells { let reader = ⟦<StreamReader<BenchSuite, T> as Read>⟧ in IfOk result (λ stream. reader.tells stream ≡ (T.tells bytes && T.steady bytes)) }
     ensures faults { let reader = ⟦<StreamReader<BenchSuite, T> as Read>⟧ in IfOk result (λ stream. T.faults bytes ≤ reader.faults stream) }
+    ensures opened { IfOk result (λ stream. (after : List With) × IsOpened ⟦<With as Identity>⟧.unwraps (with ∷ []) after bytes stream) }
     ensures plaintext { IsTrue (T.tells bytes && T.steady bytes) → IsTrue (T.rest bytes).ends_well → (plain : List ℕ) →
         IsFileFor bench_seal (answers_of with) plain (T.rest bytes).bytes →
         MatchResult result (λ stream. StandsBefore plain stream) (λ e. ((t : T) → T.faults t ≡ 0) → decrypt_refusal e ≡ OutOfMemory) }
