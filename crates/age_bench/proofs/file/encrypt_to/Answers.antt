@@ -1,9 +1,13 @@
-use Rattle.std.specs.Prelude.{◌≡◌, ◌∷◌, [], ℕ, List, Some, Ok, Err}
+use Rattle.std.specs.Prelude.{◌≡◌, ◌∷◌, [], ℕ, List, IsTrue, length, Some, Ok, Err}
 use Rattle.std.proofs.Common.{◌⊎◌}
 use Rattle.std.proofs.lemmas.Result.{on_ok_weaker, IfErr-weaker}
 use Rattle.age.specs.EncryptErrors.{EncryptRefusal, OutOfMemory}
-use Rattle.age.specs.FileErrors.{EncryptsUnless}
-use Rattle.age.specs.Encrypting.{Prepares}
+use Rattle.age.specs.FileErrors.{IfIo, EncryptsUnless}
+use Rattle.age.specs.Encrypting.{Prepared, Prepares}
+use Rattle.age.specs.Reading.{IsQuiet}
+use Rattle.age.specs.Types.{Error}
+use Rattle.age.specs.WholeFiles.{RefusesFile}
+use Rattle.age.proofs.DecryptingStreams.{io_weaker}
 use Rattle.age_bench.specs.Names.{WrapsTo, file_by}
 use Rattle.age_bench.specs.Recipient.{bench_grease}
 use Rattle.age_bench.proofs.Wrapped.{encrypts_weaker, filed, never_filed}
@@ -27,3 +31,15 @@ returns-clause-why g c =
     let told : EncryptRefusal → Type 0 = λ refusal. (refusal ≡ OutOfMemory) ⊎ ((plain : List ℕ) → file_by to draw plain ≡ Err refusal) in
     IfErr-weaker c.encrypt_all.result (EncryptsUnless comes) (EncryptsUnless told)
     (encrypts_weaker comes told (λ refusal prepares. never_filed to draw refusal left prepares)) (rw c.in_ok-grease.ensures.value at c.encrypt_all.ensures.why)
+
+pub returns-clause-io : goal.returns-clause-io
+returns-clause-io g c =
+    let draw = c.args.draw in
+    let reader = c.args.reader.now in
+    let caused : Error → Type 0 = λ e. IsTrue (g.R.Read.tells reader) → IsTrue (g.R.Read.rest reader).ends_well
+    → IsQuiet (g.R.Read.faults reader) (g.R.Read.faults c.encrypt_all.new.reader)
+    → RefusesFile g.W.Write.refuses c.args.writer.now (length (g.R.Read.rest reader).bytes) e in
+    let told : Error → Type 0 =
+    λ e. ((file : Prepared) × Prepares WrapsTo (c.args.to ∷ []) (Some bench_grease) draw (Ok file) c.encrypt_all.new.draw) × caused e in
+    IfErr-weaker c.encrypt_all.result (IfIo told) (IfIo caused) (io_weaker told caused (λ e why. why.1))
+    (rw c.in_ok-grease.ensures.value at c.encrypt_all.ensures.io)
