@@ -5,6 +5,7 @@ pub mod devices;
 pub mod kept;
 pub mod keys;
 pub mod left;
+pub mod lines;
 pub mod longer;
 pub mod others;
 pub mod outside;
