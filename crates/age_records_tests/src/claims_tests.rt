@@ -1,7 +1,7 @@
 //! The claims of `age_claims`, run to their success, or to the refusal that they tell of. No clause says that memory is left.
 
 use crate::fixtures::{SECRET, bench_text, grease, sealed, text_to};
-use age::armor::{ArmoredReader, Format};
+use age::armor::Format;
 use age::io::{Answer, Bytes, Op, SeekFrom};
 use age::secrecy::SecretString;
 use age::stream::{StreamReader, StreamWriter};
@@ -12,7 +12,6 @@ use age_claims::devices::kept_between_devices;
 use age_claims::kept::kept;
 use age_claims::keys::{one_key_of_a_text, printed_identity, printed_recipient};
 use age_claims::left::written_at_once;
-use age_claims::lines::read_by_lines;
 use age_claims::longer::{cut_between_chunks, decrypted_up_to_the_cut, lengthened_or_cut};
 use age_claims::others::refused_as_answered;
 use age_claims::outside::read_inside;
@@ -115,16 +114,6 @@ fn is_written(alloc: Global, is_armored: bool, plain: &[u8]) -> Result<bool, Fai
     );
     let text = bench_text(alloc, form(is_armored), plain)?;
     Ok(answer.is_ok() && out.as_slice() == text.as_slice())
-}
-
-// Whether what its text in armor carries is read to the end, by a line for each 48 bytes, one for what is left, and the end marker's.
-fn is_read_by_lines(alloc: Global, plain: &[u8]) -> Result<bool, Fail> {
-    let text = bench_text(alloc, Format::AsciiArmor, plain)?;
-    let mut reader = ArmoredReader::new(alloc, Bytes::new(&text))?;
-    let mut out = Vec::new(alloc);
-    let lines = read_by_lines(alloc, &mut reader, &mut out)?;
-    let whole = (out.len() / 48) as u64;
-    Ok(out.as_slice() == bench_text(alloc, Format::Binary, plain)?.as_slice() && lines == whole.saturating_add(2))
 }
 
 // Whether these are a seek to this place, and a read of these bytes.
@@ -460,14 +449,6 @@ fn two_chunks_are_opened_once(rt: HostRuntime) -> Result<(), Fail> {
             "{times} times"
         );
     }
-    Ok(())
-}
-
-#[test]
-fn armor_has_a_line_for_each_48_bytes(rt: HostRuntime) -> Result<(), Fail> {
-    let alloc = rt.alloc();
-    assert!(rt; is_read_by_lines(alloc, MESSAGE)?);
-    assert!(rt; is_read_by_lines(alloc, &plaintext(alloc, LENGTH)?)?);
     Ok(())
 }
 
