@@ -1,6 +1,5 @@
 //! A reader whose taken bytes are counted.
-ghost use Rattle.std.specs.Prelude.{◌≡◌, ◌≢◌, ℕ, ◌+◌, ◌≤◌, ◌<◌, Bool, true, false, IsTrue, List, [], ◌∷◌, ◌++◌, if◌then◌else◌, length, take, IfOk, IfErr, OnOk, OnErr, Ok};
-ghost use Rattle.age_error.specs.Refusals.{IsInterruption};
+ghost use Rattle.std.specs.Prelude.{◌≡◌, ◌≢◌, ◌+◌, ◌≤◌, ◌<◌, true, false, IsTrue, if◌then◌else◌, length, take, IfOk, IfErr, OnOk, OnErr, Ok};
 ghost use Rattle.age_error.specs.declared.io.Error.TheVariants.{OutOfMemory};
 ghost use Rattle.age_io.specs.Stretch.{IsCleanEnd, IsFault};
 ghost use Rattle.age_io.specs.Reading.{Delivers, IsQuiet, TriedAgain, most_faults};

@@ -1,5 +1,5 @@
 //! The next bytes that a text stands for.
-ghost use Rattle.std.specs.Prelude.{◌≡◌, ◌≢◌, ℕ, ◌+◌, ◌≤◌, ◌<◌, Bool, true, false, IsTrue, List, [], ◌∷◌, ◌++◌, length, take, IfOk, IfErr, OnOk, OnErr};
+ghost use Rattle.std.specs.Prelude.{◌≡◌, ◌≢◌, ◌+◌, ◌≤◌, ◌<◌, true, false, IsTrue, length, take, IfOk, IfErr};
 ghost use Rattle.age_io.specs.Stretch.{Stretch};
 ghost use Rattle.age_io.specs.Reading.{IsQuiet, Delivers, most_faults};
 ghost use Rattle.age_error.specs.declared.io.Error.TheVariants.{OutOfMemory};

@@ -1,9 +1,9 @@
 //! A device that is read.
-ghost use Rattle.std.specs.Prelude.{◌≡◌, ℕ, ◌+◌, ◌-◌, ◌^◌, ◌≤◌, ◌<◌, true, List, length, take, drop, min, max, Ok, IsOk, IfOk, refl};
+ghost use Rattle.std.specs.Prelude.{◌≡◌, ℕ, ◌+◌, ◌-◌, ◌^◌, ◌≤◌, ◌<◌, true, length, drop, min, max, Ok, IsOk, IfOk, refl};
 ghost use Rattle.std.proofs.Common.{inl, arith};
 ghost use Rattle.age_error.specs.Bytes.{AreBytes};
 ghost use Rattle.age_error.specs.Refusals.{IsDevice};
-ghost use Rattle.age_io.specs.Stretch.{Stretch, whole, from_place};
+ghost use Rattle.age_io.specs.Stretch.{whole, from_place};
 ghost use Rattle.age_io.specs.Reading.{Reads};
 ghost use Rattle.age_io.specs.Filling.{Consumes};
 ghost use Rattle.age_io.specs.Cursor;
