@@ -1,9 +1,9 @@
--- How a text may end: never with the refusal of a seek, and only one that ends well ends too early.
+-- How a text may end: never with the refusal of a seek, and so where nothing else is left of it.
 use Rattle.std.proofs.Common.{◌≡◌, ◌∙◌, ℕ, Bool, true, false, ◌||◌, List, [], ◌∷◌, length, drop, ap, inl, inr, nat_lt, nat_eq, refl, subst, sym, if◌then◌else◌}
 use Rattle.std.proofs.lemmas.Bool.{cases_Bool}
 use Rattle.std.specs.List.{concat, starts_with}
 use Rattle.age_error.specs.declared.io.Error.{Error}
-use Rattle.age_error.specs.declared.io.Error.TheVariants.{UnexpectedEof, TooLong, Armor, OutOfMemory}
+use Rattle.age_error.specs.declared.io.Error.TheVariants.{UnexpectedEof, Armor}
 use Rattle.age_error.specs.declared.io.ArmoredReadError.{ArmoredReadError}
 use Rattle.age_error.specs.declared.io.ArmoredReadError.TheVariants.{InvalidBeginMarker, NotWrappedAt64Chars, TrailingGarbage}
 use Rattle.age_io.specs.Stretch.{Stretch}
@@ -15,7 +15,6 @@ use Rattle.age_v1.specs.DeliveredArmor.{Outcome, Ending, Clean, Refused, InnerFa
 use Rattle.age_armor.specs.declared.stages.Stage.{Stage}
 use Rattle.age_armor.specs.declared.stages.Stage.TheVariants.{Start, Binary, Lines, Ended}
 use Rattle.age_armor.specs.Ahead.{outcome_ahead}
-use Rattle.age_armor.specs.Refusing.{IsOwnRefusal, IsTextRefusal}
 use Rattle.age_armor.specs.Seeking.{text_outcome}
 use Rattle.age_armor.specs.Stages.{NamesEnding, ahead, is_start}
 
@@ -71,27 +70,6 @@ own_end false e h = tt
 
 own_delivered : (text : List ℕ) (w : Bool) → IsOwn (text_delivers text w).ending
 own_delivered text w = each_delivered IsOwn w (own_end w Clean tt) (own_end w (Refused UnexpectedEof) (λ r. r)) tt tt (λ f r. r) text
-
--- ---- only one that ends well ends too early
-
-abbrev IsLater : Ending → Type 0
-IsLater (Refused UnexpectedEof) = ⊥
-IsLater _ = Unit {0}
-
-later_delivered : (text : List ℕ) → IsLater (text_delivers text false).ending
-later_delivered text = each_delivered IsLater false tt tt tt tt (λ f. tt) text
-
-early_well : (text : List ℕ) (w : Bool) → (text_delivers text w).ending ≡ Refused UnexpectedEof → w ≡ true
-early_well text true is = refl
-early_well text false is = absurd (subst IsLater is (later_delivered text))
-
--- what a text refuses with that ends so
-pub own-text : (tells steady : Bool) (text : List ℕ) (w : Bool) (e : Error) → IsOwnRefusal tells steady (text_delivers text w).ending e → IsTextRefusal tells steady w e
-own-text tells steady text w (Armor fault) h = tt
-own-text tells steady text w OutOfMemory h = tt
-own-text tells steady text w UnexpectedEof h = λ told is. early_well text w (h told is)
-own-text tells steady text w TooLong h = h
-own-text tells steady text w _ h = absurd h
 
 -- ---- a text ends so where nothing else is left of it
 

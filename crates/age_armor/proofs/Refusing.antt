@@ -12,7 +12,8 @@ use Rattle.age_io.proofs.Keeping.{keeps-done, keeps-later, keeps-refused, same-l
 use Rattle.age_armor.specs.PrivateCounting.{Kept}
 use Rattle.age_armor.specs.PrivateShowing.{AsksReader}
 use Rattle.age_v1.specs.DeliveredArmor.{Ending, Outcome, Refused, ends_in}
-use Rattle.age_armor.specs.Refusing.{IsOwnRefusal, IsTextRefusal, OrEnd, OrText, OrWant}
+use Rattle.age_armor.specs.PrivateRefusing.{IsTextRefusal, OrTextRefusal}
+use Rattle.age_armor.specs.Refusing.{IsOwnRefusal, OrEnd, OrWant}
 
 -- ---- an error
 
@@ -77,7 +78,7 @@ failed-or-kept e _ kept = inr (kept (λ is. cc is))
 
 module _ {R : Type 0} (read : Ghosts R) where
   -- a step that adds no reason to refuse
-  pub text-narrows : (a b : R) → SameReader read a b → AddsNoReason (TriedAgain read.refuses) a b → AddsNoReason (OrText read) a b
+  pub text-narrows : (a b : R) → SameReader read a b → AddsNoReason (TriedAgain read.refuses) a b → AddsNoReason (OrTextRefusal read) a b
   text-narrows a b same narrows e h = elim h [
     | inl own ↦ inl (text-wider _ _ _ (read.tells a) (read.steady a) (read.content a).ends_well e (λ told. same.tells ∙ told) (λ steady. same.steady ∙ steady)
         (λ told well. subst (λ s. IsTrue s.ends_well) (same.content told) well) own)
@@ -85,7 +86,7 @@ module _ {R : Type 0} (read : Ghosts R) where
   ]
 
   -- a call that asks for bytes, after such a step
-  pub text-asked : (a b : R) (e : Error) → AddsNoReason (TriedAgain read.refuses) a b → (e ≢ OutOfMemory → TriedAgain read.refuses b e) → OrText read a e
+  pub text-asked : (a b : R) (e : Error) → AddsNoReason (TriedAgain read.refuses) a b → (e ≢ OutOfMemory → TriedAgain read.refuses b e) → OrTextRefusal read a e
   text-asked a b e narrows why = elim (memory-or-not e) [
     | inl is ↦ inl (subst (IsTextRefusal (read.tells a) (read.steady a) (read.content a).ends_well) (sym is) tt)
     | inr other ↦ inr (narrows e (why other))
@@ -109,7 +110,7 @@ module _ {R : Type 0} (read : Ghosts R) where
   ]
 
   -- the text's own, where nothing is left but its end
-  pub text-own : (a : R) (left : Outcome) (ending : Ending) (e : Error) → OrText read a e → (IsTrue (read.tells a) → OrEnd read a left e) →
+  pub text-own : (a : R) (left : Outcome) (ending : Ending) (e : Error) → OrTextRefusal read a e → (IsTrue (read.tells a) → OrEnd read a left e) →
       (IsTrue (read.tells a) → IsTrue (read.steady a) → left ≡ ends_in (Refused e) → ending ≡ Refused e) →
       IsOwnRefusal (read.tells a) (read.steady a) ending e ⊎ TriedAgain read.refuses a e
   text-own a left ending e text why ends = elim text [
@@ -132,7 +133,7 @@ module _ {R : Type 0} (read : Ghosts R) where
   pub kept-on : {B : Type 0} (result : Result B Error) (a b c : R) (k l m : ℕ) → SameReader read a b → AddsNoReason (TriedAgain read.refuses) a b →
       (IsTrue (read.tells a) → read.place b - l ≡ read.place a - k) → (IsTrue (read.tells a) → k ≤ l) → Kept read b l c m result → Kept read a k c m result
   kept-on result a b c k l m same narrows origin more next = record {
-    keeps = keeps-later read (OrText read) result a b c same narrows (text-narrows a b same narrows) next.keeps;
+    keeps = keeps-later read (OrTextRefusal read) result a b c same narrows (text-narrows a b same narrows) next.keeps;
     unspent = next.unspent;
     origin = λ told. next.origin (same.tells ∙ told) ∙ origin told;
     more = λ told. omega (arith, more told, next.more (same.tells ∙ told));
@@ -146,7 +147,7 @@ module _ {R : Type 0} (read : Ghosts R) where
       AsksReader read (TriedAgain read.refuses) b c (Ok x) → (IsTrue (read.tells a) → read.place c - m ≡ read.place a - k) → (IsTrue (read.tells a) → k ≤ m) →
       Kept read a k c m (Ok y)
   kept-asked a b c k m same narrows asks origin more = record {
-    keeps = keeps-done read (OrText read) a c (same-later read a b c same asks.same) (λ e h. narrows e (asks.narrows e h));
+    keeps = keeps-done read (OrTextRefusal read) a c (same-later read a b c same asks.same) (λ e h. narrows e (asks.narrows e h));
     unspent = asks.unspent;
     origin = origin;
     more = more;
@@ -155,7 +156,7 @@ module _ {R : Type 0} (read : Ghosts R) where
   -- no step
   pub kept-still : {A : Type 0} (x : A) (a : R) (k : ℕ) → read.faults a < most_faults → Kept read a k a k (Ok x)
   kept-still x a k few = record {
-    keeps = keeps-done read (OrText read) a a (same-self read a) (λ e h. h);
+    keeps = keeps-done read (OrTextRefusal read) a a (same-self read a) (λ e h. h);
     unspent = few;
     origin = λ told. refl;
     more = λ told. omega arith;
@@ -182,7 +183,7 @@ module _ {R : Type 0} (read : Ghosts R) where
   pub kept-refused : {A B : Type 0} {x : A} (a b : R) (k l : ℕ) (e : Error) → Kept read a k b l (Ok x) → (IsDevice e → ⊥) →
       IsTextRefusal (read.tells a) (read.steady a) (read.content a).ends_well e → Kept {A = B} read a k b l (Err e)
   kept-refused a b k l e first other own = record {
-    keeps = keeps-refused read (OrText read) a b e first.keeps.same other (inl own);
+    keeps = keeps-refused read (OrTextRefusal read) a b e first.keeps.same other (inl own);
     unspent = tt;
     origin = first.origin;
     more = first.more;

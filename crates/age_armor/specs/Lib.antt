@@ -14,6 +14,7 @@ pub mod Seeks
 pub mod ReaderLemmas
 pub mod WritingLemmas
 pub mod WriterCalls
+pub mod PrivateRefusing
 pub mod PrivateCounting
 pub mod PrivateJudging
 pub mod PrivateSteps

@@ -12,7 +12,8 @@ use Rattle.age_armor.specs.declared.stages.Stage.TheVariants.{Lines}
 use Rattle.age_armor.specs.Stages.{is_start, has_lines, ahead}
 use Rattle.age_armor.specs.PrivateStages.{is_open, Advances, StopsWith, is_ended}
 use Rattle.age_v1.specs.ArmorLineVerdict.{last_is}
-use Rattle.age_armor.specs.Refusing.{OrEnd, OrText}
+use Rattle.age_armor.specs.PrivateRefusing.{OrTextRefusal}
+use Rattle.age_armor.specs.Refusing.{OrEnd}
 use Rattle.age_v1.specs.DeliveredArmor.{raw_lines, section, ends_in, InnerFault, Clean}
 use Rattle.age_error.specs.declared.io.Error.TheVariants.{OutOfMemory}
 use Rattle.age_armor.specs.declared.stages.Piece.{Piece}
@@ -20,7 +21,7 @@ use Rattle.age_armor.specs.declared.stages.Piece.{Piece}
 -- the reader is the same but for where it stands, it refuses as reading a text may, and what stands before the bytes that were taken
 -- is as much as before
 pub record Kept {R A : Type 0} (read : Ghosts R) (old : R) (old_taken : ℕ) (new : R) (new_taken : ℕ) (result : Result A Error) : Type 0 where
-  pub keeps : KeepsReader read (OrText read) old new result
+  pub keeps : KeepsReader read (OrTextRefusal read) old new result
   pub unspent : OnOk result (read.faults new < most_faults)
   pub origin : IsTrue (read.tells old) → read.place new - new_taken ≡ read.place old - old_taken
   pub more : IsTrue (read.tells old) → old_taken ≤ new_taken

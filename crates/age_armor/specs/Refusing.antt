@@ -5,28 +5,20 @@ use Rattle.age_error.specs.declared.io.Error.TheVariants.{UnexpectedEof, TooLong
 use Rattle.age_io.specs.Reading.{TriedAgain}
 use Rattle.age_io.specs.declared.traits.Read.{Ghosts}
 use Rattle.age_v1.specs.DeliveredArmor.{Ending, Outcome, Refused, ends_in}
+use Rattle.age_armor.specs.Seeking.{text_outcome}
 
--- What it refuses with of itself: a fault of the armor, or want of memory. Where the reader that gives the text tells its bytes and is
--- steady it says only of one that ends well that it ends early, and where that tells its bytes it calls none too long.
-abbrev pub IsTextRefusal : Bool → Bool → Bool → Error → Type 0
-IsTextRefusal tells steady ends_well (Armor fault) = Unit {0}
-IsTextRefusal tells steady ends_well OutOfMemory = Unit {0}
-IsTextRefusal tells steady ends_well UnexpectedEof = IsTrue tells → IsTrue steady → IsTrue ends_well
-IsTextRefusal tells steady ends_well TooLong = IsTrue tells → ⊥
-IsTextRefusal tells steady ends_well _ = ⊥
-
--- that, or as the reader that gives the text does, whose interruptions are tried again
-abbrev pub OrText : {R : Type 0} → Ghosts R → R → Error → Type 0
-OrText read r e = IsTextRefusal (read.tells r) (read.steady r) (read.content r).ends_well e ⊎ TriedAgain read.refuses r e
-
--- The same of a text of which it is known how it ends: where the reader that gives it tells its bytes and is steady, an error of the text is the
--- one in which it ends.
+-- What it refuses with of itself, where its text ends so: for want of memory, or with a fault of the text. Where the reader that gives the text
+-- tells its bytes and is steady, that is the fault in which the text ends, and where that tells its bytes it calls none too long.
 abbrev pub IsOwnRefusal : Bool → Bool → Ending → Error → Type 0
 IsOwnRefusal tells steady ending (Armor fault) = IsTrue tells → IsTrue steady → ending ≡ Refused (Armor fault)
 IsOwnRefusal tells steady ending OutOfMemory = Unit {0}
 IsOwnRefusal tells steady ending UnexpectedEof = IsTrue tells → IsTrue steady → ending ≡ Refused UnexpectedEof
 IsOwnRefusal tells steady ending TooLong = IsTrue tells → ⊥
 IsOwnRefusal tells steady ending _ = ⊥
+
+-- that of the text that begins where the reader that gives it stands in its content, or as that reader does, whose interruptions are tried again
+abbrev pub OrText : {R : Type 0} → Ghosts R → R → Error → Type 0
+OrText read r e = IsOwnRefusal (read.tells r) (read.steady r) (text_outcome (read.content r) (read.place r)).ending e ⊎ TriedAgain read.refuses r e
 
 -- for want of memory, or as the reader that gives the text does
 abbrev pub OrWant : {R : Type 0} → Ghosts R → R → Error → Type 0

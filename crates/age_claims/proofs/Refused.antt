@@ -62,9 +62,9 @@ module _ {I : Type 0} (seal_of : Seal) (unwraps : I → List StanzaValue → Unw
       let (stanzas_are, mac_is, nonce_is, left, end) = reads_back alone one (read_of text) asked.left 0 asked.place asked.h asked.nonce
       stanzas mac f.nonce sealed asked.front (begins start_is) in
       elim (each asked.answer after (subst (λ (s : List StanzaValue). Unwraps unwraps before s asked.answer after) stanzas_are asked.asked)) [
-        | inl answer ↦ inl (subst (λ (k : Result (List ℕ) DecryptRefusal). RefusesRest seal_of k asked.h asked.nonce asked.left refusal)
+        | inl answer ↦ inl (subst (λ (k : Result (List ℕ) DecryptRefusal). RefusesRest seal_of text k asked.h asked.nonce asked.left refusal)
             (ap decided answer ∙ is) asked.why)
-        | inr memory ↦ inr (subst (λ (k : Result (List ℕ) DecryptRefusal). RefusesRest seal_of k asked.h asked.nonce asked.left refusal)
+        | inr memory ↦ inr (subst (λ (k : Result (List ℕ) DecryptRefusal). RefusesRest seal_of text k asked.h asked.nonce asked.left refusal)
             (ap decided memory) asked.why)
       ]
 

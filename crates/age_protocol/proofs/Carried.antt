@@ -57,7 +57,7 @@ module _ {I : Type 0} (seal_of : Seal) (unwraps : I → List StanzaValue → Unw
     begins = subst (λ bytes. BeginsAsFile for.stanzas (header_mac for.file_key (covered_text for.stanzas)) f.nonce sealed bytes)
         (sym (ap (λ s. s.bytes) start_is)) (file_begins seal_of for.file_key for.stanzas plain file f)
 
-    asked_none : RefusesAsked seal_of unwraps before (read_of text) after refusal → refusal ≡ OutOfMemory
+    asked_none : RefusesAsked seal_of unwraps before text after refusal → refusal ≡ OutOfMemory
     asked_none asked =
         let h = asked.h in
         let (stanzas_are, mac_is, nonce_is, left, end) = reads_back alone one (read_of text) asked.left 0 asked.place h asked.nonce
@@ -69,14 +69,14 @@ module _ {I : Type 0} (seal_of : Seal) (unwraps : I → List StanzaValue → Unw
         (left ∙ ap (λ k. payload seal_of k plain) key) (end ∙ ap (λ s. s.ends_well) start_is) in
         elim (for.right asked.answer (alone_answers unwraps before for.stanzas asked.answer after
         (subst (λ s. Unwraps unwraps before s asked.answer after) stanzas_are asked.asked))) [
-          | inl is ↦ elim (subst (λ a. RefusesRest seal_of (decided a) h asked.nonce asked.left refusal) is asked.why) [
+          | inl is ↦ elim (subst (λ a. RefusesRest seal_of text (decided a) h asked.nonce asked.left refusal) is asked.why) [
             | inl wrong ↦ absurd (wrong.0 right)
             | inr refuses ↦ elim (memory_or_not refuses.1.error) [
               | inl memory ↦ refuses.1.is ∙ ap (λ e. decrypt_refusal (decrypt_of_io e)) memory
               | inr other ↦ absurd (refuses.1.bad other plain for.bytes for.within (subst (λ k. LastIsNoMiddle seal_of k plain) key for.last) all)
             ]
           ]
-          | inr is ↦ subst (λ a. RefusesRest seal_of (decided a) h asked.nonce asked.left refusal) is asked.why
+          | inr is ↦ subst (λ a. RefusesRest seal_of text (decided a) h asked.nonce asked.left refusal) is asked.why
         ]
 
     none : RefusesDecrypting seal_of unwraps before text after refusal → refusal ≡ OutOfMemory

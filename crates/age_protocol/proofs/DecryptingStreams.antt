@@ -15,7 +15,7 @@ use Rattle.age_protocol.specs.Texts.{RefusesText, BeginsText, RefusesAnswered, U
 use Rattle.age_protocol.specs.DecryptingStreams.{DecryptsAll, DecryptsPart}
 use Rattle.age_error.specs.declared.file.FileError.{FileError}
 use Rattle.age_error.specs.declared.file.FileError.TheVariants.{Io, Encrypt, Decrypt}
-use Rattle.age_protocol.specs.WholeFiles.{LacksFront, read_of}
+use Rattle.age_protocol.specs.WholeFiles.{LacksFront}
 use Rattle.age_error.specs.FileErrors.{IfIo}
 use Rattle.age_v1.specs.DeliveredPayload.{payload_delivers}
 use Rattle.age_stream.specs.Keeping.{Stops}
@@ -128,7 +128,7 @@ decrypts_part_as suite read write gives by answers own IsFor IsOwn place count i
   io = part.io;
   why = λ reader_told.
       IfErr-weaker result _ _
-      (decrypts_weaker _ _ (same_cause (LacksFront (read_of (read.rest input).bytes)) (BeginsText read.tells read.rest input) answers own answered))
+      (decrypts_weaker _ _ (same_cause (LacksFront (read.rest input).bytes) (BeginsText read.tells read.rest input) answers own answered))
       (part.why reader_told);
   cause = λ reader_told writer_told.
       IfErr-weaker result _ _

@@ -3,20 +3,23 @@ use Rattle.std.specs.Prelude.{◌≡◌, ◌⊎◌, ℕ, ◌+◌, ◌<◌, true,
 use Rattle.std.proofs.Common.{◌∙◌, sym, ap, subst, refl, inl, inr, arith, drop_at, length-append}
 use Rattle.std.proofs.lemmas.List.{drop-drop}
 use Rattle.age_error.specs.declared.io.Error.{Error}
-use Rattle.age_error.specs.declared.io.Error.TheVariants.{Device, BadEnd}
+use Rattle.age_error.specs.declared.io.Error.TheVariants.{Armor, BadEnd, Device, OutOfMemory, TooLong, UnexpectedEof}
 use Rattle.age_error.specs.declared.io.ErrorKind.TheVariants.{Interrupted}
 use Rattle.age_error.specs.DecryptErrors.{DecryptRefusal, Io, IfIoRefusal}
 use Rattle.age_io.specs.declared.traits.Read.{Ghosts}
-use Rattle.age_io.specs.Stretch.{Stretch, from_place, stretch-ext}
+use Rattle.age_io.specs.Stretch.{Stretch, from_place, stretch-ext, whole}
 use Rattle.age_io.specs.Reading.{AddsNoReason, Delivers, StandsIn, TriedAgain}
 use Rattle.age_io.proofs.Retrying.{tried-more, tried-own}
-use Rattle.age_armor.specs.Refusing.{IsTextRefusal, OrText}
+use Rattle.age_armor.specs.Refusing.{IsOwnRefusal, OrText}
+use Rattle.age_armor.specs.Seeking.{text_outcome}
 use Rattle.age_v1.specs.Payload.{Seal}
 use Rattle.age_v1.specs.PayloadRefusals.{StopsAt}
 use Rattle.age_stream.specs.Keeping.{Stops}
 use Rattle.age_format.specs.HeaderV1.{HeaderValue}
 use Rattle.age_v1.specs.Header.{header_text}
+use Rattle.age_v1.specs.DeliveredArmor.{Ending, Refused}
 use Rattle.age_protocol.specs.Decrypting.{ReadsFront}
+use Rattle.age_protocol.specs.WholeFiles.{RefusesReading}
 
 -- from the reader of a payload to the reader of the text that it was in
 pub from_stream : {S A : Type 0} (refuses : S → Error → Type 0) (below : A → Error → Type 0) (Own : Error → Type 0) (stream : S) (input text : A) (e : Error)
@@ -32,20 +35,30 @@ from_stream refuses below Own stream input text e named patient narrows h =
 pub from_text : {A R : Type 0} (refuses : A → Error → Type 0) (read : Ghosts R) (text : A) (reader : R) (e : Error)
     → ((e : Error) → refuses text e → OrText read reader e) → TriedAgain refuses text e → OrText read reader e
 from_text refuses read text reader e named h =
-    tried-own read.refuses (IsTextRefusal (read.tells reader) (read.steady reader) (read.content reader).ends_well) reader e (λ is. is)
+    tried-own read.refuses (IsOwnRefusal (read.tells reader) (read.steady reader) (text_outcome (read.content reader) (read.place reader)).ending) reader e (λ is. is)
     (tried-more refuses (OrText read) text reader named e h)
 
 -- a reader that never refuses has no reason
 no_reason : {R : Type 0} (r : R) (e : Error) → TriedAgain (λ _ _. ⊥) r e → ⊥
 no_reason r e h = elim h [ inl plain ↦ plain.1 | inr worn ↦ worn.1 ]
 
--- from the reader of a text to one that never refuses
-pub from_slice : {A R : Type 0} (refuses : A → Error → Type 0) (text : A) (bytes : R) (e : Error)
-    → ((e : Error) → refuses text e → IsTextRefusal true true true e ⊎ TriedAgain (λ _ _. ⊥) bytes e) → TriedAgain refuses text e → IsTextRefusal true true true e
-from_slice refuses text bytes e named h =
-    elim (tried-own (λ _ _. ⊥) (IsTextRefusal true true true) bytes e (λ is. is)
-    (tried-more refuses (λ r f. IsTextRefusal true true true f ⊎ TriedAgain (λ _ _. ⊥) r f) text bytes named e h)) [
-      | inl own ↦ own
+-- why a text is refused that is told
+own_fault : (ending : Ending) (e : Error) → IsOwnRefusal true true ending e → (e ≡ OutOfMemory) ⊎ (ending ≡ Refused e)
+own_fault ending (Armor fault) h = inr (h refl refl)
+own_fault ending OutOfMemory h = inl refl
+own_fault ending UnexpectedEof h = inr (h refl refl)
+own_fault ending TooLong h = absurd (h refl)
+own_fault ending _ h = absurd h
+
+-- from the reader of a text in memory, which never refuses
+pub from_slice : {A R : Type 0} (refuses : A → Error → Type 0) (text : A) (bytes : R) (content : Stretch) (place : ℕ) (file : List ℕ) (e : Error)
+    → content ≡ whole file → place ≡ 0
+    → ((e : Error) → refuses text e → IsOwnRefusal true true (text_outcome content place).ending e ⊎ TriedAgain (λ _ _. ⊥) bytes e)
+    → TriedAgain refuses text e → RefusesReading file e
+from_slice refuses text bytes content place file e all front named h =
+    let Own = IsOwnRefusal true true (text_outcome content place).ending in
+    elim (tried-own (λ _ _. ⊥) Own bytes e (λ is. is) (tried-more refuses (λ r f. Own f ⊎ TriedAgain (λ _ _. ⊥) r f) text bytes named e h)) [
+      | inl own ↦ rw (all, front) at (own_fault (text_outcome content place).ending e own)
       | inr none ↦ absurd (no_reason bytes e none)
     ]
 

@@ -1,5 +1,5 @@
 -- What decrypting from a reader to a writer comes to: of a whole file, and of a part of its plaintext.
-use Rattle.std.specs.Prelude.{IfErr, IsTrue, List, OnOk, Result, true, ℕ, ◌&&◌, ◌≡◌, ◌⊎◌}
+use Rattle.std.specs.Prelude.{IfErr, IsTrue, List, OnOk, Result, ℕ, ◌&&◌, ◌≡◌, ◌⊎◌}
 use Rattle.age_error.specs.DecryptErrors.{DecryptRefusal, IfIoRefusal, OutOfMemory}
 use Rattle.age_suite.specs.declared.suite.Suite.{Ghosts as SuiteGhosts}
 use Rattle.age_io.specs.declared.traits.Read.{Ghosts as ReadGhosts}
@@ -7,7 +7,6 @@ use Rattle.age_io.specs.declared.traits.Write.{Ghosts as WriteGhosts}
 use Rattle.age_io.specs.Stretch.{Stretch}
 use Rattle.age_io.specs.Reading.{IsQuiet, TriedAgain}
 use Rattle.age_io.specs.Cursor.{IsOutside}
-use Rattle.age_armor.specs.Refusing.{IsTextRefusal}
 use Rattle.age_error.specs.declared.io.Error.TheVariants.{Failed as failed, OutOfMemory as out_of_memory}
 use Rattle.age_io.specs.Writing.{HandsOn}
 use Rattle.age_io.specs.Copying.{AppendsFront}
@@ -20,14 +19,14 @@ use Rattle.age_v1.specs.DeliveredPayload.{payload_delivers}
 use Rattle.age_stream.specs.Keeping.{IsPayloadRefusal, Stops}
 use Rattle.age_protocol.specs.Texts.{RefusesHead, RefusesPlain, BeginsText, RefusesAnswered, RefusesText, UnderMac}
 use Rattle.age_error.specs.FileErrors.{DecryptsUnless, IfIo, IsDecryptError}
-use Rattle.age_protocol.specs.WholeFiles.{LacksFront, read_of}
+use Rattle.age_protocol.specs.WholeFiles.{LacksFront, RefusesReading}
 use Rattle.age_protocol.specs.Parts.{AppendsOf, AppendsPart, IsPartAt, RefusesPart, StandsAt}
 use Rattle.age_error.specs.declared.file.FileError.{FileError}
 
 -- Why no file is opened in a text that was read to its end: no header with a nonce begins it, or one does, and what the identities answer to its stanzas,
 -- its MAC or memory is why.
 abbrev pub RefusesOpening : List ℕ → (HeaderValue → List ℕ → Stretch → Type 0) → (List StanzaValue → UnwrapAnswer → Type 0) → DecryptRefusal → Type 0
-RefusesOpening text begins answers refusal = LacksFront (read_of text) refusal ⊎ RefusesAnswered begins answers refusal
+RefusesOpening text begins answers refusal = LacksFront text refusal ⊎ RefusesAnswered begins answers refusal
 
 -- A whole file. The identities are said by three things: the file key that they give to a header's stanzas (`gives`), what they
 -- answer to these (`answers`), and which bytes are a file of which plaintext for them (`IsFor`).
@@ -81,13 +80,13 @@ pub record DecryptsPart {S R W T : Type 0} (suite : SuiteGhosts S) (read : ReadG
   -- The cause of a refusal of the header or of the identities, where the text is told, which was read to its end by then.
   pub why : IsTrue (read.tells input) → IfErr result (DecryptsUnless (RefusesOpening (read.rest input).bytes (BeginsText read.tells read.rest input) answers))
   -- The cause of a refusal of the reader or the writer: memory, the writer, the reader, the target, or what is wrong with the text or the
-  -- payload that was read.
+  -- payload that was read, whatever that was.
   pub io : IfErr result (IfIo (λ e. (e ≡ out_of_memory) ⊎ TriedAgain read.refuses input e ⊎ HandsOn write.refuses old e
-      ⊎ IsOutside e ⊎ (e ≡ failed) ⊎ IsTextRefusal true true true e ⊎ IsPayloadRefusal e))
-  -- Where the text is told, what the payload is refused for is said only under a right MAC, and of this payload: `PastEnd` where it ends before the
+      ⊎ IsOutside e ⊎ (e ≡ failed) ⊎ ((text : List ℕ) × RefusesReading text e) ⊎ IsPayloadRefusal e))
+  -- Where the text is told, a fault of it is the one in which it ends, and what the payload is refused for is said only under a right MAC, and of this payload: `PastEnd` where it ends before the
   -- place, by its own length.
   pub cause : IsTrue (read.tells input) → IsTrue (write.tells old) → IfErr result (IfIo (λ e. (e ≡ out_of_memory) ⊎ TriedAgain read.refuses input e
-      ⊎ HandsOn write.refuses old e ⊎ IsTextRefusal true true true e
+      ⊎ HandsOn write.refuses old e ⊎ RefusesReading (read.rest input).bytes e
       ⊎ AppendsOf (BeginsText read.tells read.rest input) gives write.appended count (RefusesPart suite.seal_of (λ f. f ≡ failed) place e) old new))
   -- After a refusal of the header or of the identities nothing was appended.
   pub refused : IfErr result (λ e. IsDecryptError e → new ≡ old)

@@ -8,7 +8,7 @@ use Rattle.age_io.specs.Stretch.{Stretch, whole}
 use Rattle.age_format.specs.HeaderV1.{HeaderValue}
 use Rattle.age_v1.specs.HeaderMac.{header_mac}
 use Rattle.age_v1.specs.Header.{covered_text}
-use Rattle.age_v1.specs.Payload.{payload, payload_key}
+use Rattle.age_v1.specs.Payload.{payload_key}
 use Rattle.age_stream.specs.Reader.{HasFailed, HasSought, content_of, place_of, plain_rest_of}
 use Rattle.age_stream.specs.NewReader.{IsReaderOf}
 use Rattle.age_stream.specs.declared.reader.StreamReader.{StreamReader}

@@ -1,5 +1,5 @@
 -- What the calls on whole files answer.
-use Rattle.std.specs.Prelude.{Err, List, MatchResult, Ok, Result, length, true, ℕ, ◌<◌, ◌^◌, ◌≡◌, ◌≢◌, ◌≤◌, ◌⊎◌}
+use Rattle.std.specs.Prelude.{Err, IsTrue, List, MatchResult, Ok, Result, length, true, ℕ, ◌<◌, ◌^◌, ◌≡◌, ◌≢◌, ◌≤◌, ◌⊎◌}
 use Rattle.age_error.specs.Bytes.{AreBytes}
 use Rattle.age_error.specs.Refusals.{IsDevice}
 use Rattle.age_error.specs.DecryptErrors.{DecryptRefusal, IfIoRefusal, InvalidMac, IsDeviceRefusal, OutOfMemory, decrypt_of_io, decrypt_refusal}
@@ -7,8 +7,7 @@ use Rattle.age_error.specs.EncryptErrors.{EncryptRefusal, encrypt_of_io, encrypt
 use Rattle.age_error.specs.declared.io.Error.{Error}
 use Rattle.age_io.specs.Stretch.{Stretch, whole}
 use Rattle.age_v1.specs.Armor.{Carries}
-use Rattle.age_armor.specs.Refusing.{IsTextRefusal}
-use Rattle.age_v1.specs.DeliveredArmor.{stretch_of, text_delivers}
+use Rattle.age_v1.specs.DeliveredArmor.{Refused, stretch_of, text_delivers}
 use Rattle.age_v1.specs.HeaderTexts.{canonical}
 use Rattle.age_v1.specs.Stanza.{StanzaValue}
 use Rattle.age_format.specs.HeaderV1.{HeaderValue}
@@ -55,47 +54,51 @@ Encrypts seal_of form plain (Ok file) answer = MatchResult answer (IsWritten sea
 abbrev pub read_of : List ℕ → Stretch
 read_of file = stretch_of (text_delivers file true)
 
--- Why no header with a nonce was read from the front.
-pub record LacksFront (start : Stretch) (refusal : DecryptRefusal) : Type 0 where
+-- Why a text isn't read to a clean end: for want of memory, or for the fault in which it ends.
+abbrev pub RefusesReading : List ℕ → Error → Type 0
+RefusesReading text e = (e ≡ io.OutOfMemory) ⊎ ((text_delivers text true).ending ≡ Refused e)
+
+-- Why no header with a nonce was read from the front of a file.
+pub record LacksFront (file : List ℕ) (refusal : DecryptRefusal) : Type 0 where
   pub left : Stretch
   pub place : ℕ
-  pub why : WhyNoFront canonical 0 0 start left 0 place refusal
-  -- where a read was refused, the bytes had an end too early, or a fault as a text
-  pub named : IfIoRefusal (λ e. (e ≡ io.UnexpectedEof) ⊎ IsTextRefusal true true true e) refusal
+  pub why : WhyNoFront canonical 0 0 (read_of file) left 0 place refusal
+  -- where a read was refused, what the file carries ends well before they do, or its text has a fault
+  pub named : IfIoRefusal (λ e. ((e ≡ io.UnexpectedEof) × IsTrue (read_of file).ends_well) ⊎ RefusesReading file e) refusal
   pub no_device : IsDeviceRefusal refusal → ⊥
 
--- What is left after the nonce is no payload of a plaintext under this key, or memory was refused.
-pub record RefusesPayload (seal_of : Seal) (key : List ℕ) (left : Stretch) (refusal : DecryptRefusal) : Type 0 where
+-- What is left of a file after the nonce is no payload of a plaintext under this key, or memory was refused.
+pub record LacksPayload (seal_of : Seal) (file : List ℕ) (key : List ℕ) (left : Stretch) (refusal : DecryptRefusal) : Type 0 where
   pub error : Error
   pub is : refusal ≡ decrypt_refusal (decrypt_of_io error)
   pub no_device : IsDevice error → ⊥
-  -- the text has a fault, or the definition names this of what is left
-  pub named : IsTextRefusal true true true error ⊎ Stops seal_of key left (Unit {0}) error
+  -- the file's text has this fault, or the definition names this of what is left
+  pub named : RefusesReading file error ⊎ Stops seal_of key left (Unit {0}) error
   pub bad : error ≢ io.OutOfMemory → (plain : List ℕ) → AreBytes plain → length plain ≤ 2 ^ 60
       → LastIsNoMiddle seal_of key plain → left ≢ whole (payload seal_of key plain)
 
 -- Of the file key, or the refusal, that the identity's answer comes to: a refusal is the answer. With a file key the header's
 -- MAC is wrong under it, or else the payload is refused.
-abbrev pub RefusesRest : Seal → Result (List ℕ) DecryptRefusal → HeaderValue → List ℕ → Stretch → DecryptRefusal → Type 0
-RefusesRest seal_of (Err own) h nonce left refusal = refusal ≡ own
-RefusesRest seal_of (Ok file_key) h nonce left refusal =
+abbrev pub RefusesRest : Seal → List ℕ → Result (List ℕ) DecryptRefusal → HeaderValue → List ℕ → Stretch → DecryptRefusal → Type 0
+RefusesRest seal_of file (Err own) h nonce left refusal = refusal ≡ own
+RefusesRest seal_of file (Ok file_key) h nonce left refusal =
     ((h.mac ≢ header_mac file_key (covered_text h.stanzas)) × (refusal ≡ InvalidMac))
-    ⊎ ((h.mac ≡ header_mac file_key (covered_text h.stanzas)) × RefusesPayload seal_of (payload_key file_key nonce) left refusal)
+    ⊎ ((h.mac ≡ header_mac file_key (covered_text h.stanzas)) × LacksPayload seal_of file (payload_key file_key nonce) left refusal)
 
 module _ {I : Type 0} (seal_of : Seal) (unwraps : I → List StanzaValue → UnwrapAnswer → I → Type 0) where
-  -- The header and the nonce were read from the front, and the identity was asked.
-  pub record RefusesAsked (before : I) (start : Stretch) (after : I) (refusal : DecryptRefusal) : Type 0 where
+  -- The header and the nonce were read from the front of the file, and the identity was asked.
+  pub record RefusesAsked (before : I) (file : List ℕ) (after : I) (refusal : DecryptRefusal) : Type 0 where
     pub h : HeaderValue
     pub nonce : List ℕ
     pub left : Stretch
     pub place : ℕ
-    pub front : ReadsFront start left 0 place h nonce
+    pub front : ReadsFront (read_of file) left 0 place h nonce
     pub answer : UnwrapAnswer
     pub asked : Unwraps unwraps before h.stanzas answer after
-    pub why : RefusesRest seal_of (decided answer) h nonce left refusal
+    pub why : RefusesRest seal_of file (decided answer) h nonce left refusal
 
   -- Why a file isn't decrypted. The identity is asked only where a header with a nonce was read.
   abbrev pub RefusesDecrypting : I → List ℕ → I → DecryptRefusal → Type 0
   RefusesDecrypting before file after refusal =
-      ((after ≡ before) × ((refusal ≡ OutOfMemory) ⊎ LacksFront (read_of file) refusal))
-      ⊎ RefusesAsked before (read_of file) after refusal
+      ((after ≡ before) × ((refusal ≡ OutOfMemory) ⊎ LacksFront file refusal))
+      ⊎ RefusesAsked before file after refusal

@@ -10,12 +10,11 @@ ghost use Rattle.age_io.specs.Cursor.{IsOutside, IsSeekRefusal, OrTooLong};
 ghost use Rattle.age_io.specs.Writing.{HandsOn, OrMemory, Retried};
 ghost use Rattle.age_v1.specs.Armor.{Carries};
 ghost use Rattle.age_v1.specs.DeliveredArmor.{text_delivers, stretch_of};
-ghost use Rattle.age_armor.specs.Refusing.{IsTextRefusal};
 ghost use Rattle.age_stream.specs.Keeping.{IsPayloadRefusal};
 ghost use Rattle.age_v1.specs.PayloadTargets.{sought_in};
 ghost use Rattle.age_stream.specs.Reader.{payload_of, key_of};
 ghost use Rattle.age_protocol.specs.Opened.{IsNotOpened};
-ghost use Rattle.age_protocol.specs.WholeFiles.{read_of};
+ghost use Rattle.age_protocol.specs.WholeFiles.{RefusesReading, read_of};
 ghost use Rattle.age_error.specs.FileErrors.{DecryptsUnless, IfIo, IsDecryptError};
 ghost use Rattle.age_protocol.specs.DecryptingStreams.{DecryptsPart, RefusesOpening};
 ghost use Rattle.age_v1.specs.Identities.{AnswersFirst, GivesFirst, FirstAnswer, IsFileFor};
@@ -181,8 +180,8 @@ fn at_text<S: Suite, I: Identity, W: Write>(
     ensures refused { IfErr result (λ e. IsDecryptError e → writer.new ≡ writer.old) }
     ensures why { IfErr result (DecryptsUnless (RefusesOpening text.now (HasFront (read_of text.now) 0) (AnswersFirst I.unwraps identities.old identities.new))) }
     ensures io { IfErr result (IfIo (λ e. (e ≡ OutOfMemory) ⊎ HandsOn W.refuses writer.old e
-        ⊎ IsOutside e ⊎ (e ≡ Failed) ⊎ IsTextRefusal true true true e ⊎ IsPayloadRefusal e)) }
-    ensures cause { IsTrue (W.tells writer.old) → IfErr result (IfIo (λ e. (e ≡ OutOfMemory) ⊎ HandsOn W.refuses writer.old e ⊎ IsTextRefusal true true true e
+        ⊎ IsOutside e ⊎ (e ≡ Failed) ⊎ RefusesReading text.now e ⊎ IsPayloadRefusal e)) }
+    ensures cause { IsTrue (W.tells writer.old) → IfErr result (IfIo (λ e. (e ≡ OutOfMemory) ⊎ HandsOn W.refuses writer.old e ⊎ RefusesReading text.now e
         ⊎ AppendsOf (HasFront (stretch_of (text_delivers text.now true)) 0) (GivesFirst I.unwraps identities.old identities.new) W.appended count
         (RefusesPart S.seal_of (λ f. f ≡ Failed) place e) writer.old writer.new)) }
 {

@@ -124,11 +124,11 @@ fn plaintext_of<S: Suite, I: Identity>(
 /// header's stanzas, with the right MAC. The refusals, in the order in which they are looked for:
 ///
 /// - those of `Decryptor::new`; the identity isn't asked then. Fewer than 36 bytes are `Io(UnexpectedEof)`, whatever they
-///   are. `Io(Armor(..))` where the armor has a fault before the nonce ends.
+///   are. `Io(Armor(..))` where the armor has a fault before the nonce ends: its first.
 /// - the identity's own, `NoMatchingKeys` where it answers `None`, and `InvalidMac` where the header's MAC is wrong under
 ///   its file key.
-/// - `Io` where what follows the nonce is no payload of a plaintext, or not to its end: a fault of the payload, or of the armor.
-///   By which name is no clause's: it is that of the reader that met it.
+/// - `Io` where what follows the nonce is no payload of a plaintext, or not to its end: the first fault of the armor, or what
+///   the definition names for one of the payload's chunks or for its end.
 ///
 /// `OutOfMemory` can come at each step. No plaintext is handed out with a refusal.
 pub fn decrypt<S: Suite, I: Identity>(

@@ -1,5 +1,5 @@
-use Rattle.std.proofs.Common.{◌≡◌, ◌∙◌, arith, length, subst, sym}
-use Rattle.age.specs.StreamReader.{payload_of, place_of}
+use Rattle.std.proofs.Common.{◌∙◌, arith, length, subst, sym}
+use Rattle.age.specs.StreamReader.{place_of}
 use Rattle.age_claims.specs.Claims.{IsInOne}
 use Rattle.age_claims.proofs.InOneChunk.{in_chunk}
 use Rattle.age_claims.proofs.turns.both.Goals as goal

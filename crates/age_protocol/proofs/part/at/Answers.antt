@@ -8,7 +8,7 @@ use Rattle.age_protocol.specs.DecryptingStreams.{RefusesOpening}
 use Rattle.age_v1.specs.Identities.{AnswersFirst}
 use Rattle.age_error.specs.declared.io.Error.TheVariants.{Failed}
 use Rattle.age_protocol.specs.Parts.{StandsAt, IsPartAt, RefusesPart}
-use Rattle.age_protocol.specs.WholeFiles.{LacksFront, read_of}
+use Rattle.age_protocol.specs.WholeFiles.{LacksFront, RefusesReading, read_of}
 use Rattle.age_protocol.proofs.Decrypted.{decrypts_weaker}
 use Rattle.age_protocol.proofs.DecryptingStreams.{io_weaker}
 use Rattle.age_protocol.proofs.Parts.{memory_before, memory_only, quiet_by}
@@ -52,13 +52,28 @@ returns g c =
           (c.at_text.ensures.given writer_told);
       io =
           IfErr-weaker c.at_text.result _ _
-          (io_weaker _ _ (λ e why. elim why [ inl memory ↦ inl memory | inr other ↦ inr (inr other) ]))
+          (io_weaker _ _ (λ e why. elim why [
+            | inl memory ↦ inl memory
+            | inr other ↦ elim other [
+              | inl writes ↦ inr (inr (inl writes))
+              | inr more ↦ elim more [
+                | inl outside ↦ inr (inr (inr (inl outside)))
+                | inr failing ↦ elim failing [
+                  | inl failed ↦ inr (inr (inr (inr (inl failed))))
+                  | inr rest ↦ elim rest [
+                    | inl reading ↦ inr (inr (inr (inr (inr (inl (text, reading))))))
+                    | inr payload ↦ inr (inr (inr (inr (inr (inr payload)))))
+                  ]
+                ]
+              ]
+            ]
+          ]))
           c.at_text.ensures.io;
       why = λ reader_told.
           let asked = AnswersFirst g.I.Identity.unwraps c.args.identities.now c.at_text.new.identities in
           let opening : (refusal : DecryptRefusal) → RefusesOpening text (HasFront (read_of text) 0) asked refusal → RefusesOpening rest.bytes front asked refusal =
           λ refusal why. elim why [
-            | inl lacks ↦ inl (subst (λ (l : List ℕ). LacksFront (read_of l) refusal) (same reader_told) lacks)
+            | inl lacks ↦ inl (subst (λ (l : List ℕ). LacksFront l refusal) (same reader_told) lacks)
             | inr answered ↦ inr (refuses_answered _ front (begins-read g.R.Read.tells g.R.Read.rest reader text (same reader_told) (c.in-Ok.ensures.end reader_told)) asked asked
                 (λ stanzas answer by. by) refusal answered)
           ] in
@@ -70,7 +85,7 @@ returns g c =
             | inr other ↦ elim other [
               | inl writes ↦ inr (inr (inl writes))
               | inr more ↦ elim more [
-                | inl reading ↦ inr (inr (inr (inl reading)))
+                | inl reading ↦ inr (inr (inr (inl (subst (λ (l : List ℕ). RefusesReading l e) (same reader_told) reading))))
                 | inr part ↦ inr (inr (inr (inr (begun (HasFront (stretch_of (text_delivers text true)) 0) front _ _ g.W.Write.appended c.args.count
                     (RefusesPart g.S.Suite.seal_of (λ f. f ≡ Failed) c.args.place e) c.args.writer.now c.at_text.new.writer
                     (begins-read g.R.Read.tells g.R.Read.rest reader text (same reader_told) (c.in-Ok.ensures.end reader_told)) (λ key stanzas by. by) part))))

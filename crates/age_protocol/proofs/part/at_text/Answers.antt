@@ -10,13 +10,13 @@ use Rattle.age_v1.specs.DeliveredArmor.{text_delivers, stretch_of}
 use Rattle.age_protocol.specs.Opened.{IsNotOpened}
 use Rattle.age_armor.specs.Reader.{armored_reader, armored_rest, armored_content, place_of, refuses_of}
 use Rattle.age_stream.specs.Keeping.{IsPayloadRefusal}
-use Rattle.age_protocol.proofs.Decrypted.{by_cause, decrypts_weaker}
+use Rattle.age_protocol.proofs.Decrypted.{decrypts_weaker}
 use Rattle.age_protocol.proofs.Opened.{lacks_front}
 use Rattle.age_protocol.specs.WholeFiles.{read_of}
 use Rattle.age_error.specs.DecryptErrors.{DecryptRefusal}
 use Rattle.age_protocol.specs.DecryptingStreams.{RefusesOpening}
 use Rattle.age_v1.specs.Identities.{AnswersFirst}
-use Rattle.age_protocol.proofs.Reasons.{from_slice, io_refusal_weaker}
+use Rattle.age_protocol.proofs.Reasons.{from_slice}
 use Rattle.age_protocol.proofs.DecryptingStreams.{io_weaker}
 use Rattle.age_protocol.specs.Texts.{HasFront}
 use Rattle.age_protocol.specs.Parts.{StandsAt, IsPartAt, RefusesPart}
@@ -86,7 +86,7 @@ returns-in-Ok-clause-io g c =
     (io_weaker _ _ (λ e why. elim why [
       | inl memory ↦ inl memory
       | inr other ↦ elim other [
-        | inl text ↦ inr (inr (inr (inr (inl (from_slice refuses_of bytes c.new.result e c.in-Ok.ensures.opens.named text)))))
+        | inl text ↦ inr (inr (inr (inr (inl (from_slice refuses_of bytes c.new.result _ _ c.args.text.now e c.new.ensures.content c.new.ensures.place c.in-Ok.ensures.opens.named text)))))
         | inr rest ↦ elim rest [
           | inl writer ↦ inr (inl writer)
           | inr asked ↦ elim asked [
@@ -121,7 +121,7 @@ returns-in-Ok-clause-cause g c = λ writer_told.
     (io_weaker _ _ (λ e why. elim why [
       | inl memory ↦ inl memory
       | inr other ↦ elim other [
-        | inl tried ↦ inr (inr (inl (from_slice refuses_of bytes c.new.result e c.in-Ok.ensures.opens.named tried)))
+        | inl tried ↦ inr (inr (inl (from_slice refuses_of bytes c.new.result _ _ c.args.text.now e c.new.ensures.content c.new.ensures.place c.in-Ok.ensures.opens.named tried)))
         | inr more ↦ elim more [
           | inl writes ↦ inr (inl writes)
           | inr part ↦ inr (inr (inr (begun (HasFront (armored_rest bytes) (place_of bytes)) (HasFront (stretch_of (text_delivers text true)) 0) _ _ g.W.Write.appended c.args.count
@@ -144,8 +144,8 @@ returns-in-Ok-clause-why g c =
     let start : armored_rest bytes ≡ read_of text = made.rest ∙ ap (λ s. stretch_of (text_delivers s.bytes s.ends_well)) c.new.ensures.rest in
     let opening : (refusal : DecryptRefusal) → IsNotOpened g.I.Identity.unwraps armored_reader old new bytes refusal →
     RefusesOpening text (HasFront (read_of text) 0) (AnswersFirst g.I.Identity.unwraps old new) refusal = λ refusal why. elim why [
-      | inl (same, (last, refuses)) ↦ inl (lacks_front _ bytes last _ _ refuses refl start made.place refl refl
-          (io_refusal_weaker _ _ (λ e. by_cause (λ early. inl early.0) (λ tried. inr (from_slice refuses_of bytes c.new.result e made.named tried))) _ refuses.io))
+      | inl (same, (last, refuses)) ↦ inl (lacks_front _ bytes last _ text refuses refl start made.place refl refl
+          (λ e. from_slice refuses_of bytes c.new.result _ _ text e c.new.ensures.content c.new.ensures.place made.named))
       | inr (h, nonce, input, answer, asks, key) ↦ inr (h, nonce, armored_rest input, answer, (_, rw (start, made.place) at (asks.front refl)), asks.first, key)
     ] in
     IfErr-weaker c.at_bytes.result _ _ (decrypts_weaker _ _ opening) c.at_bytes.ensures.unopened

@@ -1,4 +1,4 @@
-use Rattle.std.proofs.Common.{rules, ◌≡◌, ◌∙◌, refl, sym, ap, subst, true, Some, Ok, inl, inr, arith}
+use Rattle.std.proofs.Common.{rules, ◌≡◌, ◌∙◌, refl, sym, ap, subst, Some, Ok, inl, inr, arith}
 use Rattle.age_error.specs.Bytes.{AreBytes}
 use Rattle.age_error.specs.DecryptErrors.{decrypt_of_io}
 use Rattle.age_io.specs.Stretch.{whole, from_place, stretch-ext}
@@ -6,13 +6,12 @@ use Rattle.age_v1.specs.Armor.{Carries}
 use Rattle.age_v1.specs.DeliveredArmor.{stretch_of, text_delivers}
 use Rattle.age_v1.proofs.DeliveredArmors.{stands_by}
 use Rattle.age_armor.specs.Reader.{armored_rest, armored_content, place_of, refuses_of}
-use Rattle.age_armor.specs.Refusing.{IsTextRefusal}
 use Rattle.age_stream.specs.Reader.{refuses_of as stream_refuses}
 use Rattle.age_v1.specs.Identities.{Unwraps}
 use Rattle.age_v1.specs.Payload.{payload_key}
 use Rattle.age_protocol.proofs.Alone.{alone_is, alone_same}
 use Rattle.age_protocol.proofs.Decrypted.{by_cause}
-use Rattle.age_protocol.proofs.Reasons.{from_slice, from_stream, front-stands, io_refusal_weaker, stops-as}
+use Rattle.age_protocol.proofs.Reasons.{from_slice, from_stream, front-stands, stops-as}
 use Rattle.age_protocol.specs.WholeFiles.{read_of}
 use Rattle.age_error.specs.ErrorLemmas.{of_error}
 use Rattle.age_protocol.proofs.Opened.{lacks_front, rest_of_key, refuses_payload}
@@ -27,9 +26,8 @@ returns-in_err-reader-clause-refused g c =
     (elim c.in_err-reader.ensures.refused [
       | inl (same, (last, refuses)) ↦ inl (
         alone_same c.args.identity.now _ same,
-        inr (lacks_front _ input last _ _ refuses refl start c.in_ok-input.ensures.opens.place refl refl
-            (io_refusal_weaker _ _ (λ e. by_cause (λ early. inl early.0) (λ tried. inr (from_slice refuses_of input c.new.result e c.in_ok-input.ensures.opens.named tried)))
-            _ refuses.io)),
+        inr (lacks_front _ input last _ c.args.file.now refuses refl start c.in_ok-input.ensures.opens.place refl refl
+            (λ e. from_slice refuses_of input c.new.result _ _ c.args.file.now e c.new.ensures.content c.new.ensures.place c.in_ok-input.ensures.opens.named)),
       )
       | inr (h, nonce, left, answer, asks, why) ↦ inr (record {
         h = h;
@@ -39,7 +37,7 @@ returns-in_err-reader-clause-refused g c =
         front = rw (start, c.in_ok-input.ensures.opens.place) at (asks.front refl);
         answer = answer;
         asked = alone_is (λ identity own next. Unwraps g.I.Identity.unwraps identity h.stanzas own next) c.args.identity.now answer _ asks.first;
-        why = rest_of_key g.S.Suite.seal_of _ h nonce _ _ why;
+        why = rest_of_key g.S.Suite.seal_of c.args.file.now _ h nonce _ _ why;
       })
     ])
 
@@ -64,9 +62,9 @@ returns-in_err-read_to_end-clause-refused g c =
       asked = alone_is (λ identity own next. Unwraps g.I.Identity.unwraps identity opened.h.stanzas own next) c.args.identity.now _ _ asks.first;
       why = inr (
         opens.right,
-        refuses_payload opened.file_key _ _ _ _ _ opens (λ device. omega (arith, read.keeps.device device))
+        refuses_payload c.args.file.now opened.file_key _ _ _ _ _ opens (λ device. omega (arith, read.keeps.device device))
             (λ other. read.cause refl other (record { same = refl; below = omega arith }))
-            (by_cause (λ memory. inl (subst (IsTextRefusal true true true) (sym memory) tt))
+            (by_cause (λ memory. inl (inl memory))
             (λ tried.
             by_cause
             (λ own. inr (stops-as g.S.Suite.seal_of (payload_key opened.file_key opened.nonce) _ (armored_rest after) _ _ e (λ known. refl)
@@ -74,7 +72,7 @@ returns-in_err-read_to_end-clause-refused g c =
             ap (from_place (place_of after)) (asks.same.content refl)
             ∙ front-stands (armored_content input) (armored_rest input) (armored_rest after) (place_of input) (place_of after) opened.h opened.nonce
             (stands_by (armored_content input) (armored_rest input) (place_of input) (input.inside refl refl) (input.follows refl refl)) (asks.front refl)) own))
-            (λ text. inl (from_slice refuses_of input c.new.result e c.in_ok-input.ensures.opens.named text))
+            (λ text. inl (from_slice refuses_of input c.new.result _ _ c.args.file.now e c.new.ensures.content c.new.ensures.place c.in_ok-input.ensures.opens.named text))
             (from_stream stream_refuses refuses_of _ c.in_ok-reader.reader after input e opens.reader.named (λ s. s.is) asks.narrows tried))
             read.keeps.why),
       );

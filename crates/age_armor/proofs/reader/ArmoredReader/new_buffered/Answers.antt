@@ -1,4 +1,4 @@
-use Rattle.std.proofs.Common.{rules, ◌≡◌, ◌+◌, ◌-◌, ◌^◌, ◌<◌, ◌≤◌, ◌∙◌, arith, ap, sym, refl, IsTrue, false, inl, inr}
+use Rattle.std.proofs.Common.{rules, ◌≡◌, ◌+◌, ◌-◌, ◌^◌, ◌<◌, ◌≤◌, ◌∙◌, arith, ap, sym, refl, subst, IsTrue, false, inl, inr}
 use Rattle.std.proofs.lemmas.Bool.{true≢false}
 use Rattle.age_io.specs.Reading.{StandsIn}
 use Rattle.age_armor.specs.declared.stages.Stage.TheVariants.{Start}
@@ -11,7 +11,8 @@ use Rattle.age_io.specs.Stretch.{from_place}
 use Rattle.age_v1.specs.DeliveredArmor.{text_delivers}
 use Rattle.age_armor.specs.Stages.{is_start}
 use Rattle.age_armor.proofs.Resuming.{starts_at}
-use Rattle.age_armor.proofs.OwnEndings.{own-text}
+use Rattle.age_armor.specs.Refusing.{IsOwnRefusal}
+use Rattle.age_armor.specs.Seeking.{text_outcome}
 use Rattle.age_armor.proofs.reader.ArmoredReader.new_buffered.Goals as goal
 
 pub invariant_of-result-2 : goal.invariant_of-result-2
@@ -55,7 +56,10 @@ invariant_of-result-2 g c =
 
 pub returns-clause-opens : goal.returns-clause-opens
 returns-clause-opens g c =
-    let rest = g.R.Read.rest c.args.inner in
+    let read = g.R.Read in
+    let inner = c.args.inner in
+    let rest = read.rest inner in
+    let origin : read.place inner - 0 + 0 ≡ read.place inner = omega arith in
     record {
       tells = refl;
       steady = refl;
@@ -69,7 +73,10 @@ returns-clause-opens g c =
       honest = λ bytes well carried. starts_rest _ rest ∙ carried_rest rest bytes well carried;
       named = λ e h. elim h [
         | inl own ↦ absurd (true≢false (sym own.0))
-        | inr reading ↦ elim reading [ inl own ↦ inl (own-text _ _ _ (g.R.Read.content c.args.inner).ends_well e own) | inr tried ↦ inr tried ]
+        | inr reading ↦ elim reading [
+          | inl own ↦ inl (subst (λ n. IsOwnRefusal (read.tells inner) (read.steady inner) (text_outcome (read.content inner) n).ending e) origin own)
+          | inr tried ↦ inr tried
+        ]
       ];
       memory = search rules;
     }
