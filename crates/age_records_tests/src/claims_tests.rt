@@ -1,7 +1,7 @@
 //! The claims of `age_claims`, run to their success, or to the refusal that they tell of. No clause says that memory is left.
 
 use crate::fixtures::{SECRET, bench_text, grease, sealed, text_to};
-use age::armor::Format;
+use age::armor::{ArmoredReader, Format};
 use age::io::{Answer, Bytes, Op, SeekFrom};
 use age::secrecy::SecretString;
 use age::stream::{StreamReader, StreamWriter};
@@ -12,6 +12,7 @@ use age_claims::devices::kept_between_devices;
 use age_claims::kept::kept;
 use age_claims::keys::{one_key_of_a_text, printed_identity, printed_recipient};
 use age_claims::left::written_at_once;
+use age_claims::lines::read_by_lines;
 use age_claims::longer::{cut_between_chunks, decrypted_up_to_the_cut, lengthened_or_cut};
 use age_claims::others::refused_as_answered;
 use age_claims::outside::read_inside;
@@ -365,6 +366,26 @@ fn a_cut_file_gives_its_front(rt: HostRuntime) -> Result<(), Fail> {
             )
         );
     }
+    Ok(())
+}
+
+// How many lines are taken for the text of a plaintext's file in this form, and how many bytes it carries.
+fn lines_of(alloc: Global, is_armored: bool, plain: &[u8]) -> Result<(u64, usize), Fail> {
+    let text = bench_text(alloc, form(is_armored), plain)?;
+    let mut reader = ArmoredReader::new(alloc, Bytes::new(&text))?;
+    let mut out = Vec::new(alloc);
+    let lines = read_by_lines(alloc, &mut reader, &mut out)?;
+    Ok((lines, out.len()))
+}
+
+#[test]
+fn each_line_of_armor_is_counted(rt: HostRuntime) -> Result<(), Fail> {
+    let alloc = rt.alloc();
+    let plain = plaintext(alloc, LENGTH)?;
+    // 131 bytes before the payload, 70,000 of the plaintext and two tags fill 1,461 lines of 48 bytes, and 35 of one more. Then comes
+    // the end marker.
+    assert!(rt; lines_of(alloc, true, &plain)? == (1463, 70_163));
+    assert!(rt; lines_of(alloc, false, &plain)? == (0, 70_163));
     Ok(())
 }
 

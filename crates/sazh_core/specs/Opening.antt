@@ -25,7 +25,7 @@ module _ {I : Type 0} (unwraps : I → List StanzaValue → UnwrapAnswer → I �
   AnswersAt number answer = (first : Decides (Asks unwraps h) before answer after) × (number ≡ length first.passed)
 
   -- The one of this number, counted from 0, is the first that answers, with a file key under which the header's MAC is right.
-  pub record OpensAt (number : ℕ) : Type 0 where
+  pub record OpensByNumber (number : ℕ) : Type 0 where
     pub file_key : List ℕ
     pub first : AnswersAt number (Ok file_key)
     pub right : h.mac ≡ header_mac file_key (covered_text h.stanzas)
@@ -36,4 +36,4 @@ module _ {I : Type 0} (unwraps : I → List StanzaValue → UnwrapAnswer → I �
 
   -- which of them opens the header, or why none does
   abbrev pub OpensHeader : Result ℕ DecryptError → Type 0
-  OpensHeader result = IfOk result OpensAt × IfErr result RefusesHeader
+  OpensHeader result = IfOk result OpensByNumber × IfErr result RefusesHeader
