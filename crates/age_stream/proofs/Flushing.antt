@@ -1,14 +1,15 @@
 -- What a flush of a payload does, by what the flush of its inner writer does.
-use Rattle.std.specs.Prelude.{◌≡◌, ℕ, ◌+◌, Bool, false, List, Ok}
-use Rattle.std.proofs.Common.{arith, ap}
+use Rattle.std.specs.Prelude.{◌≡◌, ℕ, ◌+◌, Bool, true, false, List, [], Ok, Err}
+use Rattle.std.proofs.Common.{arith, ap, inl, inr}
 use Rattle.age_error.specs.declared.io.Error.{Error}
 use Rattle.age_io.specs.Writing.{Flushes, Retried}
-use Rattle.age_io.specs.WritingLemmas.{hands-on-narrows}
+use Rattle.age_io.specs.WritingLemmas.{hands-on-narrows, hands-on-patient}
 use Rattle.age_v1.specs.Payload.{Seal}
 use Rattle.age_stream.specs.SendingLemmas.{refuses-chunk-narrows}
 use Rattle.age_stream.specs.Writing.{Appended, Refused, taken_len}
 use Rattle.age_stream.specs.WritingLemmas.{Appended-flushed, Refused-narrows}
 use Rattle.age_stream.specs.declared.writer.StreamWriter.{StreamWriter}
+use Rattle.age_stream.proofs.Sent.{sends-nothing}
 
 module _ {S W : Type 0} (seal_of : Seal) (tells : W → Bool) (faults : W → ℕ) (refuses : W → ℕ → Error → Type 0)
     (appended : W → List ℕ → W → Type 0) where
@@ -28,3 +29,23 @@ module _ {S W : Type 0} (seal_of : Seal) (tells : W → Bool) (faults : W → �
         interrupted = tt;
         nothing = λ told. Appended-flushed seal_of appended a c good good_after key (ap (λ v. v.items) held) sealed (done.nothing told);
       }
+
+  -- a refused one fails the writer
+  pub flushes-refused : {T : Type 0} (a c : StreamWriter S W) (e : Error) → a.failed ≡ false → c.failed ≡ true →
+      Flushes {T = T} tells faults (Retried refuses) appended a.inner c.inner (Err e) →
+      Flushes {T = T} (λ w. tells w.inner) (λ w. faults w.inner) (Refused refuses) (Appended seal_of appended) a c (Err e)
+  flushes-refused a c e good failed done = record {
+    same_tells = done.same_tells;
+    no_fewer_faults = done.no_fewer_faults;
+    device = done.device;
+    unspent = tt;
+    why = inr (good, inr (inr (0, done.why)));
+    narrows = tt;
+    interrupted = λ is. absurd (hands-on-patient refuses a.inner e (0, done.why) is);
+    nothing = λ told. inr (inl (record {
+      good = good;
+      failed = failed;
+      more = [];
+      sends = sends-nothing seal_of appended a [] c.inner (done.nothing told);
+    }));
+  }

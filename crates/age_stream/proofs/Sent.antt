@@ -1,14 +1,14 @@
 -- What a writer had sent when it refused.
 use Rattle.std.specs.Prelude.{◌≡◌, ℕ, ◌+◌, ◌-◌, ◌*◌, ◌≤◌, ◌<◌, Bool, false, IsTrue, List, [], ◌++◌, length, take, drop, Result, Ok, Err}
-use Rattle.std.proofs.Common.{refl, sym, ap, ◌∙◌, inl, inr, arith, append_assoc, length-append, length-drop, take_at, subst}
+use Rattle.std.proofs.Common.{refl, sym, ap, ◌∙◌, inl, inr, arith, append_assoc, length-append, length-drop, take_at}
 use Rattle.std.proofs.lemmas.Bool.{true≢false, cases_lt}
-use Rattle.std.proofs.lemmas.List.{append-nil, take-append-drop, drop-append-le}
+use Rattle.std.proofs.lemmas.List.{append-nil, take-append-drop}
 use Rattle.age_error.specs.declared.io.Error.{Error}
 use Rattle.age_io.specs.Copying.{AppendsFront}
 use Rattle.age_io.specs.Writing.{Retried, WritesAll}
 use Rattle.age_v1.specs.Payload.{Seal, chunk_nonce, last_piece, payload}
 use Rattle.age_stream.specs.Writing.{middles, WasMade, Sent, Took, Appended, SendsFront}
-use Rattle.age_stream.specs.WritingLemmas.{middles-front, middles-both, payload-parts}
+use Rattle.age_stream.specs.WritingLemmas.{Appended-took, front-more, middles-both, payload-parts, sends-after, sends-later, sends-more}
 use Rattle.age_stream.specs.declared.writer.StreamWriter.{StreamWriter}
 
 module _ {W : Type 0} (appended : W → List ℕ → W → Type 0) where
@@ -30,33 +30,17 @@ module _ {W : Type 0} (appended : W → List ℕ → W → Type 0) where
   front-written tells faults refuses a b whole (Ok x) told w = front-all whole a b (w.takes_all told)
   front-written tells faults refuses a b whole (Err e) told w = let out = w.takes_front told in front-take out.0 whole a b out.2
 
-  -- a beginning is one of more
-  pub front-more : (whole more : List ℕ) (a b : W) → AppendsFront appended whole a b → AppendsFront appended (whole ++ more) a b
-  front-more whole more a b f = record {
-    front = f.front;
-    after = f.after ++ more;
-    joined = ap (λ (l : List ℕ). l ++ more) f.joined ∙ append_assoc f.front f.after more;
-    out = f.out;
-  }
-
-  -- a beginning after what went out whole
-  pub front-later : ((a b c : W) (x y : List ℕ) → appended a x b → appended b y c → appended a (x ++ y) c) →
-      (first whole : List ℕ) (a b c : W) → appended a first b → AppendsFront appended whole b c → AppendsFront appended (first ++ whole) a c
-  front-later joins first whole a b c out f = record {
-    front = first ++ f.front;
-    after = f.after;
-    joined = ap (λ (l : List ℕ). first ++ l) f.joined ∙ sym (append_assoc first f.front f.after);
-    out = joins a b c first f.front out f.out;
-  }
-
 module _ {S W : Type 0} (seal_of : Seal) (appended : W → List ℕ → W → Type 0) where
   -- nothing was sent
-  pub sends-none : ((w : W) → appended w [] w) → (s : StreamWriter S W) (bytes : List ℕ) → SendsFront seal_of appended s bytes s.inner
-  sends-none nothing s bytes = record {
+  pub sends-nothing : (s : StreamWriter S W) (bytes : List ℕ) (c : W) → appended s.inner [] c → SendsFront seal_of appended s bytes c
+  sends-nothing s bytes c out = record {
     count = 0;
     followed = λ some. absurd (omega (arith, some));
-    out = front-none appended nothing [] s.inner;
+    out = front-all appended [] s.inner c out;
   }
+
+  pub sends-none : ((w : W) → appended w [] w) → (s : StreamWriter S W) (bytes : List ℕ) → SendsFront seal_of appended s bytes s.inner
+  sends-none nothing s bytes = sends-nothing s bytes s.inner (nothing s.inner)
 
   -- a beginning of the piece that was held, which a byte follows
   pub sends-held : (s : StreamWriter S W) (bytes : List ℕ) (c : W) → length s.held.items ≡ 65536 → 0 < length bytes →
@@ -91,38 +75,13 @@ module _ {S W : Type 0} (seal_of : Seal) (appended : W → List ℕ → W → Ty
         out = front-all appended _ a.inner b.inner s.sent;
       }
 
-  -- a beginning of what follows, after what was taken
-  pub sends-later : ((a b c : W) (x y : List ℕ) → appended a x b → appended b y c → appended a (x ++ y) c) →
-      (a b : StreamWriter S W) (c : W) (x y : List ℕ) (first : Sent seal_of appended a x b) → SendsFront seal_of appended b y c →
-      (0 < first.count → 65536 * first.count < length (a.held.items ++ (x ++ y))) → SendsFront seal_of appended a (x ++ y) c
-  sends-later joins a b c x y first second followed =
-      let t = a.held.items ++ x in
-      let m = first.count in
-      let n = second.count in
-      let all : a.held.items ++ (x ++ y) ≡ t ++ y = sym (append_assoc a.held.items x y) in
-      let rest : drop (65536 * m) (t ++ y) ≡ b.held.items ++ y =
-      drop-append-le (65536 * m) t y first.fits ∙ ap (λ (h : List ℕ). h ++ y) (sym first.held) in
-      let out : middles seal_of a.key a.sealed (m + n) (t ++ y)
-      ≡ middles seal_of a.key a.sealed m t ++ middles seal_of b.key b.sealed n (b.held.items ++ y)
-      = rw (middles-both seal_of a.key m n a.sealed (t ++ y), middles-front seal_of a.key m a.sealed t y first.fits, rest, first.same_key, first.sealed) refl in
-      let front : AppendsFront appended (middles seal_of a.key a.sealed (m + n) (t ++ y)) a.inner c
-      = rw out (front-later appended joins _ _ a.inner b.inner c first.sent second.out) in
-      record {
-        count = m + n;
-        followed = λ some. elim (cases_lt 0 n) [
-          | inl more ↦ omega (arith, second.followed more, ap length all, ap length rest, length-drop (65536 * m) (t ++ y))
-          | inr none ↦ omega (arith, followed (omega (arith, some, none)), none)
-        ];
-        out = subst (λ (z : List ℕ). AppendsFront appended (middles seal_of a.key a.sealed (m + n) z) a.inner c) (sym all) front;
-      }
-
   -- where bytes followed what was taken
   pub sends-on : ((a b c : W) (x y : List ℕ) → appended a x b → appended b y c → appended a (x ++ y) c) →
       (a b : StreamWriter S W) (c : W) (x y : List ℕ) → Sent seal_of appended a x b → 0 < length y → SendsFront seal_of appended b y c →
       SendsFront seal_of appended a (x ++ y) c
   sends-on joins a b c x y first some second =
       let all : a.held.items ++ (x ++ y) ≡ (a.held.items ++ x) ++ y = sym (append_assoc a.held.items x y) in
-      sends-later joins a b c x y first second
+      sends-later seal_of appended joins a b c x y first second
       (λ _. omega (arith, first.fits, some, ap length all, length-append (a.held.items ++ x) y))
 
 -- so much of the payload of a plaintext
@@ -151,12 +110,18 @@ module _ {S W : Type 0} (seal_of : Seal) (appended : W → List ℕ → W → Ty
       (start before : StreamWriter S W) (key plain bytes : List ℕ) (first after : W) → WasMade key first start →
       Appended seal_of appended start plain before → before.failed ≡ false → SendsFront seal_of appended before bytes after →
       AppendsFront appended (payload seal_of key (plain ++ bytes)) first after
-  sends-payload joins start before key plain bytes first after made (inl failed) good sends = absurd (true≢false (sym failed ∙ good))
-  sends-payload joins start before key plain bytes first after made (inr taken) good sends =
-      let took = taken.2 in
-      let s = took.sending in
-      let left : length before.held.items ≡ length (start.held.items ++ plain) - 65536 * s.count = ap length s.held ∙ length-drop (65536 * s.count) (start.held.items ++ plain) in
-      let all : start.held.items ++ (plain ++ bytes) ≡ (start.held.items ++ plain) ++ bytes = sym (append_assoc start.held.items plain bytes) in
+  sends-payload joins start before key plain bytes first after made took good sends =
       sends-whole start key (plain ++ bytes) first after made
-      (sends-later seal_of appended joins start before after plain bytes s sends
-      (λ some. omega (arith, took.followed some, left, ap length all, length-append (start.held.items ++ plain) bytes)))
+      (sends-after seal_of appended joins start before after plain bytes (Appended-took seal_of appended start before plain good took) sends)
+
+  -- whatever became of it
+  pub sends-front_of_payload : (start after : StreamWriter S W) (key plain : List ℕ) (first : W) → WasMade key first start →
+      Appended seal_of appended start plain after → (more : List ℕ) × AppendsFront appended (payload seal_of key (plain ++ more)) first after.inner
+  sends-front_of_payload start after key plain first made (inl stays) = absurd (true≢false (sym stays.failed ∙ made.good))
+  sends-front_of_payload start after key plain first made (inr (inl since)) =
+      (since.more, sends-whole start key (plain ++ since.more) first after.inner made since.sends)
+  sends-front_of_payload start after key plain first made (inr (inr taken)) = (
+    [],
+    sends-whole start key (plain ++ []) first after.inner made
+        (sends-more seal_of appended start plain [] after.inner (sends-taken seal_of appended start after plain taken.2)),
+  )

@@ -27,6 +27,12 @@ IsGood writer = writer.failed ≡ false
 abbrev pub inner_of : {S W : Type 0} → StreamWriter S W → W
 inner_of writer = writer.inner
 
+-- it had failed before the first state: it took nothing and is as it was
+pub record StaysFailed {S W : Type 0} (before : StreamWriter S W) (bytes : List ℕ) (after : StreamWriter S W) : Type 0 where
+  pub failed : before.failed ≡ true
+  pub none : bytes ≡ []
+  pub same : after ≡ before
+
 -- how many bytes of plaintext were taken in all
 abbrev pub taken_len : {S W : Type 0} → StreamWriter S W → ℕ
 taken_len writer = 65536 * writer.sealed + vec_len writer.held
@@ -108,9 +114,19 @@ module _ {S W : Type 0} (seal_of : Seal) (inner_appended : W → List ℕ → W 
     pub followed : 0 < count → 65536 * count < length (before.held.items ++ bytes)
     pub out : AppendsFront inner_appended (middles seal_of before.key before.sealed count (before.held.items ++ bytes)) before.inner after
 
-  -- A state is related to a failed one by every list, since that stays failed.
+  -- it failed between the two states: a beginning was sent of these bytes, which it took, and of some more, which it was given when it failed
+  pub record FailedSince (before : StreamWriter S W) (bytes : List ℕ) (after : StreamWriter S W) : Type 0 where
+    pub good : before.failed ≡ false
+    pub failed : after.failed ≡ true
+    pub more : List ℕ
+    pub sends : SendsFront before (bytes ++ more) after.inner
+
+  -- One that had failed took nothing. One that failed since sent a beginning of these bytes and of what it was given when it failed. One
+  -- that is good took these bytes.
   abbrev pub Appended : StreamWriter S W → List ℕ → StreamWriter S W → Type 0
-  Appended before bytes after = (after.failed ≡ true) ⊎ ((before.failed ≡ false) × (after.failed ≡ false) × Took before bytes after)
+  Appended before bytes after = StaysFailed before bytes after
+      ⊎ FailedSince before bytes after
+      ⊎ ((before.failed ≡ false) × (after.failed ≡ false) × Took before bytes after)
 
 -- where a writer was made under a key and took a plaintext since, its inner writer was given the seals, as middle chunks,
 -- of all pieces of the plaintext but the last
@@ -127,6 +143,13 @@ SendsPayload {S} {W} seal_of inner_appended appended =
     (start before : StreamWriter S W) (key plain bytes : List ℕ) (first after : W) → WasMade key first start → appended start plain before
     → IsGood before → SendsFront seal_of inner_appended before bytes after
     → AppendsFront inner_appended (payload seal_of key (plain ++ bytes)) first after
+
+-- Where a writer was made under a key and took a plaintext since: whatever became of it, its inner writer was given a beginning of the payload
+-- of the plaintext and some bytes more, which it was given when it failed.
+abbrev pub SendsFrontOfPayload : {S W : Type 0} → Seal → (W → List ℕ → W → Type 0) → (StreamWriter S W → List ℕ → StreamWriter S W → Type 0) → Type 0
+SendsFrontOfPayload {S} {W} seal_of inner_appended appended =
+    (start after : StreamWriter S W) (key plain : List ℕ) (first : W) → WasMade key first start → appended start plain after
+    → (more : List ℕ) × AppendsFront inner_appended (payload seal_of key (plain ++ more)) first after.inner
 
 -- where a writer was made under a key and took a plaintext since, its inner writer was given the plaintext's payload
 abbrev pub Finishes : {S W : Type 0} → Seal → (W → List ℕ → W → Type 0) → (StreamWriter S W → List ℕ → StreamWriter S W → Type 0)

@@ -6,11 +6,12 @@ use Rattle.std.proofs.lemmas.List.{append-nil, drop_at, take_all, take-append-le
 use Rattle.age_error.specs.Refusals.{IsInterruption}
 use Rattle.age_error.specs.declared.io.Error.{Error}
 use Rattle.age_error.specs.declared.io.Error.TheVariants.{TooLong}
+use Rattle.age_io.specs.Copying.{AppendsFront}
 use Rattle.age_io.specs.Writing.{Narrows}
 use Rattle.age_stream.specs.Sending.{RefusesChunk}
 use Rattle.age_stream.specs.SendingLemmas.{refuses-chunk-patient}
 use Rattle.age_v1.specs.Payload.{Seal, cut, chunk_nonce, piece, last_piece, middle_seals, payload}
-use Rattle.age_stream.specs.Writing.{middles, WasMade, Sent, Took, Appended, Refused, taken_len}
+use Rattle.age_stream.specs.Writing.{middles, WasMade, Sent, Took, SendsFront, StaysFailed, Appended, Refused, taken_len}
 use Rattle.age_stream.specs.declared.writer.StreamWriter.{StreamWriter}
 
 module _ (seal_of : Seal) (key : List ℕ) where
@@ -58,6 +59,26 @@ module _ (seal_of : Seal) (key : List ℕ) where
       let n = last_piece (length p) in
       let last : piece n p ≡ drop (65536 * n) p = piece-is n p ∙ take_all 65536 (drop (65536 * n) p) (omega (arith, length-drop (65536 * n) p)) in
       rw (middles-all n p, last) refl
+
+module _ {W : Type 0} (appended : W → List ℕ → W → Type 0) where
+  -- a beginning is one of more
+  pub front-more : (whole more : List ℕ) (a b : W) → AppendsFront appended whole a b → AppendsFront appended (whole ++ more) a b
+  front-more whole more a b f = record {
+    front = f.front;
+    after = f.after ++ more;
+    joined = ap (λ (l : List ℕ). l ++ more) f.joined ∙ append_assoc f.front f.after more;
+    out = f.out;
+  }
+
+  -- a beginning after what went out whole
+  pub front-later : ((a b c : W) (x y : List ℕ) → appended a x b → appended b y c → appended a (x ++ y) c) →
+      (first whole : List ℕ) (a b c : W) → appended a first b → AppendsFront appended whole b c → AppendsFront appended (first ++ whole) a c
+  front-later joins first whole a b c out f = record {
+    front = first ++ f.front;
+    after = f.after;
+    joined = ap (λ (l : List ℕ). first ++ l) f.joined ∙ sym (append_assoc first f.front f.after);
+    out = joins a b c first f.front out f.out;
+  }
 
 module _ {S W : Type 0} (seal_of : Seal) (inner_appended : W → List ℕ → W → Type 0) where
   pub Sent-nothing : ((w : W) → inner_appended w [] w) → (s : StreamWriter S W) → Sent seal_of inner_appended s [] s
@@ -149,9 +170,61 @@ module _ {S W : Type 0} (seal_of : Seal) (inner_appended : W → List ℕ → W 
         sent = rw (t, one, append-nil) sent;
       }
 
+  -- a beginning of what is due is one of what is due when more bytes follow
+  pub sends-more : (s : StreamWriter S W) (bytes more : List ℕ) (c : W) → SendsFront seal_of inner_appended s bytes c →
+      SendsFront seal_of inner_appended s (bytes ++ more) c
+  sends-more s bytes more c sends =
+      let t = s.held.items ++ bytes in
+      let n = sends.count in
+      let all : s.held.items ++ (bytes ++ more) ≡ t ++ more = sym (append_assoc s.held.items bytes more) in
+      let fits : 65536 * n ≤ length t = elim (cases_lt 0 n) [ inl some ↦ omega (arith, sends.followed some) | inr none ↦ omega (arith, none) ] in
+      let out : AppendsFront inner_appended (middles seal_of s.key s.sealed n (t ++ more)) s.inner c
+      = rw (middles-front seal_of s.key n s.sealed t more fits) sends.out in
+      record {
+        count = n;
+        followed = λ some. omega (arith, sends.followed some, ap length all, length-append t more);
+        out = subst (λ (z : List ℕ). AppendsFront inner_appended (middles seal_of s.key s.sealed n z) s.inner c) (sym all) out;
+      }
+
+  -- a beginning of what follows, after what was sent
+  pub sends-later : ((a b c : W) (x y : List ℕ) → inner_appended a x b → inner_appended b y c → inner_appended a (x ++ y) c) →
+      (a b : StreamWriter S W) (c : W) (x y : List ℕ) (first : Sent seal_of inner_appended a x b) → SendsFront seal_of inner_appended b y c →
+      (0 < first.count → 65536 * first.count < length (a.held.items ++ (x ++ y))) → SendsFront seal_of inner_appended a (x ++ y) c
+  sends-later joins a b c x y first second followed =
+      let t = a.held.items ++ x in
+      let m = first.count in
+      let n = second.count in
+      let all : a.held.items ++ (x ++ y) ≡ t ++ y = sym (append_assoc a.held.items x y) in
+      let rest : drop (65536 * m) (t ++ y) ≡ b.held.items ++ y =
+      drop-append-le (65536 * m) t y first.fits ∙ ap (λ (h : List ℕ). h ++ y) (sym first.held) in
+      let out : middles seal_of a.key a.sealed (m + n) (t ++ y)
+      ≡ middles seal_of a.key a.sealed m t ++ middles seal_of b.key b.sealed n (b.held.items ++ y)
+      = rw (middles-both seal_of a.key m n a.sealed (t ++ y), middles-front seal_of a.key m a.sealed t y first.fits, rest, first.same_key, first.sealed) refl in
+      let front : AppendsFront inner_appended (middles seal_of a.key a.sealed (m + n) (t ++ y)) a.inner c
+      = rw out (front-later inner_appended joins _ _ a.inner b.inner c first.sent second.out) in
+      record {
+        count = m + n;
+        followed = λ some. elim (cases_lt 0 n) [
+          | inl more ↦ omega (arith, second.followed more, ap length all, ap length rest, length-drop (65536 * m) (t ++ y))
+          | inr none ↦ omega (arith, followed (omega (arith, some, none)), none)
+        ];
+        out = subst (λ (z : List ℕ). AppendsFront inner_appended (middles seal_of a.key a.sealed (m + n) z) a.inner c) (sym all) front;
+      }
+
+  -- the same after what was taken
+  pub sends-after : ((a b c : W) (x y : List ℕ) → inner_appended a x b → inner_appended b y c → inner_appended a (x ++ y) c) →
+      (a b : StreamWriter S W) (c : W) (x y : List ℕ) → Took seal_of inner_appended a x b → SendsFront seal_of inner_appended b y c →
+      SendsFront seal_of inner_appended a (x ++ y) c
+  sends-after joins a b c x y took second =
+      let s = took.sending in
+      let left : length b.held.items ≡ length (a.held.items ++ x) - 65536 * s.count = ap length s.held ∙ length-drop (65536 * s.count) (a.held.items ++ x) in
+      let all : a.held.items ++ (x ++ y) ≡ (a.held.items ++ x) ++ y = sym (append_assoc a.held.items x y) in
+      sends-later joins a b c x y s second
+      (λ some. omega (arith, took.followed some, left, ap length all, length-append (a.held.items ++ x) y))
+
   Appended-by_state : (s : StreamWriter S W) (b : Bool) → s.failed ≡ b → Took seal_of inner_appended s [] s → Appended seal_of inner_appended s [] s
-  Appended-by_state s true is took = inl is
-  Appended-by_state s false is took = inr (is, is, took)
+  Appended-by_state s true is took = inl (record { failed = is; none = refl; same = refl })
+  Appended-by_state s false is took = inr (inr (is, is, took))
 
   -- a state and itself
   pub Appended-nothing : ((w : W) → inner_appended w [] w) → (s : StreamWriter S W) → Appended seal_of inner_appended s [] s
@@ -160,7 +233,7 @@ module _ {S W : Type 0} (seal_of : Seal) (inner_appended : W → List ℕ → W 
   -- the inner writer was given nothing
   pub Appended-flushed : (a c : StreamWriter S W) → a.failed ≡ false → c.failed ≡ false → c.key ≡ a.key →
       c.held.items ≡ a.held.items → c.sealed ≡ a.sealed → inner_appended a.inner [] c.inner → Appended seal_of inner_appended a [] c
-  Appended-flushed a c good good_after key held sealed sent = inr (
+  Appended-flushed a c good good_after key held sealed sent = inr (inr (
     good,
     good_after,
     Took-sent a c [] (record {
@@ -171,14 +244,40 @@ module _ {S W : Type 0} (seal_of : Seal) (inner_appended : W → List ℕ → W 
       held = held ∙ sym (append-nil a.held.items);
       sent = sent;
     }) (λ less. absurd (omega (arith, less, sealed))),
-  )
+  ))
+
+  -- what a writer took that is good
+  pub Appended-took : (a c : StreamWriter S W) (x : List ℕ) → c.failed ≡ false → Appended seal_of inner_appended a x c → Took seal_of inner_appended a x c
+  Appended-took a c x good (inl stays) = absurd (true≢false (sym (ap (λ (s : StreamWriter S W). s.failed) stays.same ∙ stays.failed) ∙ good))
+  Appended-took a c x good (inr (inl since)) = absurd (true≢false (sym since.failed ∙ good))
+  Appended-took a c x good (inr (inr taken)) = taken.2
+
+  -- a failed writer adds nothing to what became of it
+  Appended-then_none : (a b c : StreamWriter S W) (x y : List ℕ) → Appended seal_of inner_appended a x b → StaysFailed b y c →
+      Appended seal_of inner_appended a (x ++ y) c
+  Appended-then_none a b c x y first stays =
+      let all : x ++ y ≡ x = ap (λ (l : List ℕ). x ++ l) stays.none ∙ append-nil x in
+      let same : Appended seal_of inner_appended a (x ++ y) b = subst (λ (l : List ℕ). Appended seal_of inner_appended a l b) (sym all) first in
+      subst (λ (s : StreamWriter S W). Appended seal_of inner_appended a (x ++ y) s) (sym stays.same) same
 
   pub Appended-both : ((a b c : W) (x y : List ℕ) → inner_appended a x b → inner_appended b y c → inner_appended a (x ++ y) c) →
       (a b c : StreamWriter S W) (x y : List ℕ) → Appended seal_of inner_appended a x b → Appended seal_of inner_appended b y c →
       Appended seal_of inner_appended a (x ++ y) c
-  Appended-both joins a b c x y first (inl failed) = inl failed
-  Appended-both joins a b c x y (inl failed) (inr second) = absurd (true≢false (sym failed ∙ second.0))
-  Appended-both joins a b c x y (inr first) (inr second) = inr (first.0, second.1, Took-both joins a b c x y first.2 second.2)
+  Appended-both joins a b c x y first (inl stays) = Appended-then_none a b c x y first stays
+  Appended-both joins a b c x y (inl stays) (inr (inl since)) =
+      absurd (true≢false (sym (ap (λ (s : StreamWriter S W). s.failed) stays.same ∙ stays.failed) ∙ since.good))
+  Appended-both joins a b c x y (inl stays) (inr (inr second)) =
+      absurd (true≢false (sym (ap (λ (s : StreamWriter S W). s.failed) stays.same ∙ stays.failed) ∙ second.0))
+  Appended-both joins a b c x y (inr (inl first)) (inr (inl since)) = absurd (true≢false (sym first.failed ∙ since.good))
+  Appended-both joins a b c x y (inr (inl first)) (inr (inr second)) = absurd (true≢false (sym first.failed ∙ second.0))
+  Appended-both joins a b c x y (inr (inr first)) (inr (inl since)) = inr (inl (record {
+    good = first.0;
+    failed = since.failed;
+    more = since.more;
+    sends = subst (λ (l : List ℕ). SendsFront seal_of inner_appended a l c.inner) (sym (append_assoc x y since.more))
+        (sends-after joins a b c.inner x (y ++ since.more) first.2 since.sends);
+  }))
+  Appended-both joins a b c x y (inr (inr first)) (inr (inr second)) = inr (inr (first.0, second.1, Took-both joins a b c x y first.2 second.2))
 
   -- how many pieces a writer sealed of a plaintext that it took from the first byte on
   count-is : (start writer : StreamWriter S W) (plain : List ℕ) → start.held.items ≡ [] → length writer.held.items ≤ 65536 →
@@ -194,17 +293,41 @@ module _ {S W : Type 0} (seal_of : Seal) (inner_appended : W → List ℕ → W 
         | inr none ↦ omega (arith, left, small, whole)
       ]
 
+  sent-took : (writer : StreamWriter S W) → length writer.held.items ≤ 65536 →
+      (start : StreamWriter S W) (key plain : List ℕ) (first : W) → WasMade key first start →
+      Took seal_of inner_appended start plain writer →
+      inner_appended first (middle_seals seal_of key plain (last_piece (length plain))) writer.inner
+  sent-took writer small start key plain first made took =
+      let t : start.held.items ++ plain ≡ plain = ap (λ (h : List ℕ). h ++ plain) made.none_held in
+      let count : took.sending.count ≡ last_piece (length plain) = count-is start writer plain made.none_held small took in
+      rw (middles-all seal_of key (last_piece (length plain)) plain)
+      (rw (t, count, made.none_sealed, made.same_key, made.same_inner) at took.sending.sent)
+
+  sealed-took : ((a b c : W) (x y : List ℕ) → inner_appended a x b → inner_appended b y c → inner_appended a (x ++ y) c) →
+      (writer : StreamWriter S W) (inner : W) → length writer.held.items ≤ 65536 →
+      inner_appended writer.inner (seal_of writer.key (chunk_nonce writer.sealed true) writer.held.items) inner →
+      (start : StreamWriter S W) (key plain : List ℕ) (first : W) → WasMade key first start →
+      Took seal_of inner_appended start plain writer → inner_appended first (payload seal_of key plain) inner
+  sealed-took joins writer inner small sent start key plain first made took =
+      let s = took.sending in
+      let n = last_piece (length plain) in
+      let t : start.held.items ++ plain ≡ plain = ap (λ (h : List ℕ). h ++ plain) made.none_held in
+      let count : s.count ≡ n = count-is start writer plain made.none_held small took in
+      let held : writer.held.items ≡ drop (65536 * n) plain = s.held ∙ rw (t, count) refl in
+      let sealed : writer.sealed ≡ n = s.sealed ∙ rw (made.none_sealed, count, zero-add) refl in
+      let front : inner_appended first (middles seal_of key 0 n plain) writer.inner =
+      rw (middles-all seal_of key n plain) at (sent-took writer small start key plain first made took) in
+      let last : inner_appended writer.inner (seal_of key (chunk_nonce n true) (drop (65536 * n) plain)) inner =
+      rw (s.same_key, made.same_key, sealed, held) at sent in
+      rw (payload-parts seal_of key plain) (joins first writer.inner inner _ _ front last)
+
   -- all pieces but the last went out as middle chunks
   pub sent-so_far : (writer : StreamWriter S W) → length writer.held.items ≤ 65536 → writer.failed ≡ false →
       (start : StreamWriter S W) (key plain : List ℕ) (first : W) → WasMade key first start →
       Appended seal_of inner_appended start plain writer →
       inner_appended first (middle_seals seal_of key plain (last_piece (length plain))) writer.inner
-  sent-so_far writer small good start key plain first made (inl failed) = absurd (true≢false (sym failed ∙ good))
-  sent-so_far writer small good start key plain first made (inr taken) =
-      let t : start.held.items ++ plain ≡ plain = ap (λ (h : List ℕ). h ++ plain) made.none_held in
-      let count : taken.2.sending.count ≡ last_piece (length plain) = count-is start writer plain made.none_held small taken.2 in
-      rw (middles-all seal_of key (last_piece (length plain)) plain)
-      (rw (t, count, made.none_sealed, made.same_key, made.same_inner) at taken.2.sending.sent)
+  sent-so_far writer small good start key plain first made appended =
+      sent-took writer small start key plain first made (Appended-took start writer plain good appended)
 
   -- the last piece goes out as the last
   pub sealed-last : ((a b c : W) (x y : List ℕ) → inner_appended a x b → inner_appended b y c → inner_appended a (x ++ y) c) →
@@ -212,19 +335,8 @@ module _ {S W : Type 0} (seal_of : Seal) (inner_appended : W → List ℕ → W 
       inner_appended writer.inner (seal_of writer.key (chunk_nonce writer.sealed true) writer.held.items) inner →
       (start : StreamWriter S W) (key plain : List ℕ) (first : W) → WasMade key first start →
       Appended seal_of inner_appended start plain writer → inner_appended first (payload seal_of key plain) inner
-  sealed-last joins writer inner small good sent start key plain first made (inl failed) = absurd (true≢false (sym failed ∙ good))
-  sealed-last joins writer inner small good sent start key plain first made (inr taken) =
-      let s = taken.2.sending in
-      let n = last_piece (length plain) in
-      let t : start.held.items ++ plain ≡ plain = ap (λ (h : List ℕ). h ++ plain) made.none_held in
-      let count : s.count ≡ n = count-is start writer plain made.none_held small taken.2 in
-      let held : writer.held.items ≡ drop (65536 * n) plain = s.held ∙ rw (t, count) refl in
-      let sealed : writer.sealed ≡ n = s.sealed ∙ rw (made.none_sealed, count, zero-add) refl in
-      let front : inner_appended first (middles seal_of key 0 n plain) writer.inner =
-      rw (middles-all seal_of key n plain) at (sent-so_far writer small good start key plain first made (inr taken)) in
-      let last : inner_appended writer.inner (seal_of key (chunk_nonce n true) (drop (65536 * n) plain)) inner =
-      rw (s.same_key, made.same_key, sealed, held) at sent in
-      rw (payload-parts seal_of key plain) (joins first writer.inner inner _ _ front last)
+  sealed-last joins writer inner small good sent start key plain first made appended =
+      sealed-took joins writer inner small sent start key plain first made (Appended-took start writer plain good appended)
 
 module _ {S W : Type 0} (refuses : W → ℕ → Error → Type 0) where
   -- what may be refused of fewer bytes may be of more

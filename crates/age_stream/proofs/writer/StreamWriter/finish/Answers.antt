@@ -1,7 +1,6 @@
-use Rattle.std.proofs.Common.{◌≡◌, ◌∙◌, ℕ, ◌+◌, ◌-◌, ◌*◌, ◌≤◌, ◌++◌, List, length, drop, sym, ap, inl, inr, arith, length-drop}
-use Rattle.std.proofs.lemmas.Bool.{true≢false}
+use Rattle.std.proofs.Common.{◌≡◌, ◌∙◌, ℕ, ◌+◌, ◌-◌, ◌*◌, ◌≤◌, ◌++◌, List, length, drop, ap, arith, length-drop}
 use Rattle.age_stream.specs.Writing.{WasMade, Took}
-use Rattle.age_stream.specs.WritingLemmas.{sealed-last}
+use Rattle.age_stream.specs.WritingLemmas.{Appended-took, sealed-last}
 use Rattle.age_v1.specs.Payload.{Seal}
 use Rattle.age_stream.specs.declared.writer.StreamWriter.{StreamWriter}
 use Rattle.age_stream.proofs.writer.StreamWriter.finish.Goals as goal
@@ -29,9 +28,6 @@ all_taken seal_of appended key plain first start writer made took =
 pub returns-clause-within : goal.returns-clause-within
 returns-clause-within g c = λ start key plain first made appended.
     let writer = c.args.self in
-    elim appended [
-      | inl failed ↦ absurd (true≢false (sym failed ∙ c.if-failed.false))
-      | inr good ↦
-          let all = all_taken g.S.Suite.seal_of g.W.Write.appended key plain first start writer made good.2 in
-          omega (arith, all, writer.in_limit, writer.held.ok.0)
-    ]
+    let all = all_taken g.S.Suite.seal_of g.W.Write.appended key plain first start writer made
+    (Appended-took g.S.Suite.seal_of g.W.Write.appended start writer plain c.if-failed.false appended) in
+    omega (arith, all, writer.in_limit, writer.held.ok.0)
