@@ -86,7 +86,11 @@ pub record FailsWriting {S W : Type 0} (old new : StreamWriter S W) (bytes : Lis
   pub fails : taken_len old + length bytes ≤ 2 ^ 60 → OnErr result (IsFailed new)
   pub failed : IsFailed old → (result ≡ Err Failed) × (new ≡ old)
 
--- the inner writer of one that was finished, as it is handed back
+-- what it holds, sealed as the last chunk
+abbrev pub last_seal : {S W : Type 0} → Seal → StreamWriter S W → List ℕ
+last_seal seal_of writer = seal_of writer.key (chunk_nonce writer.sealed true) writer.held.items
+
+-- the inner writer of one that was finished or closed
 pub record HandsBack {S W : Type 0} (write : WriteGhosts W) (old : StreamWriter S W) (inner : W) : Type 0 where
   pub same_tells : write.tells inner ≡ write.tells (inner_of old)
   pub no_fewer_faults : write.faults (inner_of old) ≤ write.faults inner
@@ -158,8 +162,15 @@ Finishes {S} {W} seal_of inner_appended appended writer result =
     (start : StreamWriter S W) (key plain : List ℕ) (first : W) → WasMade key first start → appended start plain writer
     → IfOk result (inner_appended first (payload seal_of key plain))
 
+-- the same of one that was closed
+abbrev pub Closes : {S W T : Type 0} → Seal → (W → List ℕ → W → Type 0) → (StreamWriter S W → List ℕ → StreamWriter S W → Type 0)
+    → StreamWriter S W → StreamWriter S W → Result T Error → Type 0
+Closes {S} {W} seal_of inner_appended appended old new result =
+    (start : StreamWriter S W) (key plain : List ℕ) (first : W) → WasMade key first start → appended start plain old
+    → OnOk result (inner_appended first (payload seal_of key plain) (inner_of new))
+
 -- where a writer was made and took a plaintext since, a success says that the plaintext is within the limit
-abbrev pub StaysWithin : {S W : Type 0} → (StreamWriter S W → List ℕ → StreamWriter S W → Type 0) → StreamWriter S W → Result W Error → Type 0
+abbrev pub StaysWithin : {S W T : Type 0} → (StreamWriter S W → List ℕ → StreamWriter S W → Type 0) → StreamWriter S W → Result T Error → Type 0
 StaysWithin {S} {W} appended writer result =
     (start : StreamWriter S W) (key plain : List ℕ) (first : W) → WasMade key first start → appended start plain writer
     → OnOk result (length plain ≤ 2 ^ 60)

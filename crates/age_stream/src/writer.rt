@@ -38,12 +38,12 @@ impl ChunkRoom {
 ///
 /// The payload is that of age-encryption.org/v1, "Payload": the plaintext in chunks of 65,536 bytes, each sealed
 /// under the payload key and a nonce that counts the chunks and says of the last one that it is (STREAM). It is
-/// whole only after `finish`. A writer that is dropped before that leaves a beginning of it.
+/// whole only after `finish` or `close`. A writer that is dropped before that leaves a beginning of it.
 pub struct StreamWriter<S, W> {
     pub(crate) alloc: Global,
     pub(crate) key: [u8; 32],
     pub(crate) inner: W,
-    // The last piece so far, which is not sealed before a byte follows it or `finish`.
+    // The last piece so far, which is not sealed before a byte follows it or it is closed.
     pub(crate) held: Vec<u8>,
     // How many pieces were sealed.
     pub(crate) sealed: u64,
@@ -200,16 +200,54 @@ impl<S: Suite, W: Write> StreamWriter<S, W> {
     }
 }
 
+impl<S: Suite, W: Write> StreamWriter<S, W> {
+    ghost use Rattle.age_stream.specs.Writing.{Closes, HandsBack, IsFailed, IsGood, StaysWithin, inner_of, last_seal};
+
+    /// Seals what is held as the last chunk, and writes it to the inner writer, which isn't flushed.
+    ///
+    /// On success the inner writer was given the payload of the whole plaintext, which has at most 2^60 bytes. A refusal is that of the
+    /// inner writer, `WriteZero` where that took no byte, or `OutOfMemory` where the suite was refused memory for the seal. After it
+    /// the payload is cut off.
+    ///
+    /// Whatever it answers, a beginning of the last chunk was appended to the inner writer (`front`), and the writer is failed (`fails`),
+    /// so that it takes no more. Where it failed before, the answer is `Failed`, and it stays as it is.
+    pub fn close(&mut self) -> Result<(), Error>
+        ensures ok { let writer = ⟦<StreamWriter<S, W> as Write>⟧ in
+            IsTrue (writer.tells self.old) → Closes S.seal_of W.appended writer.appended self.old self.new result }
+        ensures within { StaysWithin ⟦<StreamWriter<S, W> as Write>⟧.appended self.old result }
+        ensures failed { IsFailed self.old → (result ≡ Err Failed) × (self.new ≡ self.old) }
+        ensures fails { IsFailed self.new }
+        ensures why { IfErr result (⟦<StreamWriter<S, W> as Write>⟧.refuses self.old 0) }
+        ensures hands_back { OnOk result (HandsBack ⟦<W as Write>⟧ self.old (inner_of self.new)) }
+        ensures inner { IsGood self.old → KeepsWriter W.tells W.faults (RefusesChunk W.refuses) (inner_of self.old) (inner_of self.new) result }
+        ensures front { IsTrue (W.tells (inner_of self.old)) → AppendsFront W.appended (last_seal S.seal_of self.old) (inner_of self.old) (inner_of self.new) }
+    {
+        if self.failed {
+            return Err(Error::Failed);
+        }
+        self.failed = true;
+        write_chunk::<S, W>(
+            self.alloc,
+            &mut self.inner,
+            &self.key,
+            self.sealed,
+            true,
+            &self.held,
+        )?;
+        Ok(())
+    }
+}
+
 impl<S: Suite, W: Write + Drop> StreamWriter<S, W> {
     ghost use Rattle.age_stream.specs.Writing.{Finishes, HandsBack, IsFailed, StaysWithin};
 
-    /// Seals what is held as the last chunk, writes it, and hands back the inner writer, which isn't flushed.
+    /// Seals what is held as the last chunk, writes it, and hands back the inner writer, which isn't flushed: `close`, and the inner writer.
     ///
     /// On success the inner writer was given the payload of the whole plaintext, which has at most 2^60 bytes. Where the writer failed before
     /// the answer is `Failed`. Else a refusal is that of the inner writer, `WriteZero` where that took no byte, or
     /// `OutOfMemory` where the suite was refused memory for the seal. After a refusal the payload is cut off, and
     /// the inner writer is gone.
-    pub fn finish(self) -> Result<W, Error>
+    pub fn finish(mut self) -> Result<W, Error>
         ensures ok { let writer = ⟦<StreamWriter<S, W> as Write>⟧ in
             IsTrue (writer.tells self) → Finishes S.seal_of W.appended writer.appended self result }
         ensures within { StaysWithin ⟦<StreamWriter<S, W> as Write>⟧.appended self result }
@@ -217,19 +255,16 @@ impl<S: Suite, W: Write + Drop> StreamWriter<S, W> {
         ensures why { IfErr result (⟦<StreamWriter<S, W> as Write>⟧.refuses self 0) }
         ensures hands_back { IfOk result (HandsBack ⟦<W as Write>⟧ self) }
     {
+        self.close()?;
         let StreamWriter {
-            alloc,
-            key,
-            mut inner,
-            held,
-            sealed,
-            failed,
+            alloc: _,
+            key: _,
+            inner,
+            held: _,
+            sealed: _,
+            failed: _,
             suite: _,
         } = self;
-        if failed {
-            return Err(Error::Failed);
-        }
-        write_chunk::<S, W>(alloc, &mut inner, &key, sealed, true, &held)?;
         Ok(inner)
     }
 }

@@ -9,7 +9,7 @@ use age_error::io::Error;
 use age_io::{Write, flush_retrying};
 use age_suite::suite::Suite;
 
-/// What was appended is plaintext that was taken. Only `finish` makes its payload whole. A failed writer takes nothing more, and the inner
+/// What was appended is plaintext that was taken. Only `finish` and `close` make its payload whole. A failed writer takes nothing more, and the inner
 /// writer was given a beginning of the payload of what was taken and of what was given when it failed.
 impl<S: Suite, W: Write> Write for StreamWriter<S, W> {
     ghost use Rattle.age_stream.specs.Writing.{Appended, Refused, FailsWriting, IsFailed, IsGood, inner_of, taken_len, SendsFront, TakesAll};

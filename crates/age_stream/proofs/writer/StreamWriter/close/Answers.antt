@@ -3,12 +3,13 @@ use Rattle.age_stream.specs.Writing.{WasMade, Took}
 use Rattle.age_stream.specs.WritingLemmas.{Appended-took, sealed-last}
 use Rattle.age_v1.specs.Payload.{Seal}
 use Rattle.age_stream.specs.declared.writer.StreamWriter.{StreamWriter}
-use Rattle.age_stream.proofs.writer.StreamWriter.finish.Goals as goal
+use Rattle.age_stream.proofs.Sent.{front-none}
+use Rattle.age_stream.proofs.writer.StreamWriter.close.Goals as goal
 
 pub returns-clause-ok : goal.returns-clause-ok
-returns-clause-ok g c = λ told. let writer = c.args.self in
+returns-clause-ok g c = λ told. let writer = c.args.self.now in
     sealed-last g.S.Suite.seal_of g.W.Write.appended g.met.W.Write.joins writer c.write_chunk.new.inner
-    (omega (arith, writer.one_piece, writer.held.ok.0)) c.if-failed.false (rw c.deref.ensures.value at (c.in_ok-write_chunk.ensures.sent told))
+    (omega (arith, writer.one_piece, writer.held.ok.0)) c.if-self.false (rw c.deref.ensures.value at (c.in_ok-write_chunk.ensures.sent told))
 
 counted : (sealed count size held : ℕ) → sealed ≡ 0 + count → 65536 * count ≤ size → held ≡ size - 65536 * count → 65536 * sealed + held ≡ size
 counted sealed count size held same fits is = omega (arith, same, fits, is)
@@ -27,7 +28,11 @@ all_taken seal_of appended key plain first start writer made took =
 
 pub returns-clause-within : goal.returns-clause-within
 returns-clause-within g c = λ start key plain first made appended.
-    let writer = c.args.self in
+    let writer = c.args.self.now in
     let all = all_taken g.S.Suite.seal_of g.W.Write.appended key plain first start writer made
-    (Appended-took g.S.Suite.seal_of g.W.Write.appended start writer plain c.if-failed.false appended) in
+    (Appended-took g.S.Suite.seal_of g.W.Write.appended start writer plain c.if-self.false appended) in
     omega (arith, all, writer.in_limit, writer.held.ok.0)
+
+-- it had failed
+pub returns-then-self-clause-front : goal.returns-then-self-clause-front
+returns-then-self-clause-front g c = λ told. front-none g.W.Write.appended g.met.W.Write.appends_nothing _ _
