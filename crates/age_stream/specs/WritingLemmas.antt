@@ -11,7 +11,7 @@ use Rattle.age_io.specs.Writing.{Narrows}
 use Rattle.age_stream.specs.Sending.{RefusesChunk}
 use Rattle.age_stream.specs.SendingLemmas.{refuses-chunk-patient}
 use Rattle.age_v1.specs.Payload.{Seal, cut, chunk_nonce, piece, last_piece, middle_seals, payload}
-use Rattle.age_stream.specs.Writing.{middles, WasMade, Sent, Took, SendsFront, StaysFailed, Appended, Refused, taken_len}
+use Rattle.age_stream.specs.Writing.{middles, WasMade, Sent, Took, SendsFront, StaysFailed, Appended, Refused, last_seal, taken_len}
 use Rattle.age_stream.specs.declared.writer.StreamWriter.{StreamWriter}
 
 module _ (seal_of : Seal) (key : List ℕ) where
@@ -303,23 +303,18 @@ module _ {S W : Type 0} (seal_of : Seal) (inner_appended : W → List ℕ → W 
       rw (middles-all seal_of key (last_piece (length plain)) plain)
       (rw (t, count, made.none_sealed, made.same_key, made.same_inner) at took.sending.sent)
 
-  sealed-took : ((a b c : W) (x y : List ℕ) → inner_appended a x b → inner_appended b y c → inner_appended a (x ++ y) c) →
-      (writer : StreamWriter S W) (inner : W) → length writer.held.items ≤ 65536 →
-      inner_appended writer.inner (seal_of writer.key (chunk_nonce writer.sealed true) writer.held.items) inner →
-      (start : StreamWriter S W) (key plain : List ℕ) (first : W) → WasMade key first start →
-      Took seal_of inner_appended start plain writer → inner_appended first (payload seal_of key plain) inner
-  sealed-took joins writer inner small sent start key plain first made took =
+  -- the last piece is what is held
+  last-held : (writer : StreamWriter S W) → length writer.held.items ≤ 65536 → (start : StreamWriter S W) (key plain : List ℕ) (first : W) →
+      WasMade key first start → Took seal_of inner_appended start plain writer →
+      payload seal_of key plain ≡ middle_seals seal_of key plain (last_piece (length plain)) ++ last_seal seal_of writer
+  last-held writer small start key plain first made took =
       let s = took.sending in
       let n = last_piece (length plain) in
       let t : start.held.items ++ plain ≡ plain = ap (λ (h : List ℕ). h ++ plain) made.none_held in
       let count : s.count ≡ n = count-is start writer plain made.none_held small took in
       let held : writer.held.items ≡ drop (65536 * n) plain = s.held ∙ rw (t, count) refl in
       let sealed : writer.sealed ≡ n = s.sealed ∙ rw (made.none_sealed, count, zero-add) refl in
-      let front : inner_appended first (middles seal_of key 0 n plain) writer.inner =
-      rw (middles-all seal_of key n plain) at (sent-took writer small start key plain first made took) in
-      let last : inner_appended writer.inner (seal_of key (chunk_nonce n true) (drop (65536 * n) plain)) inner =
-      rw (s.same_key, made.same_key, sealed, held) at sent in
-      rw (payload-parts seal_of key plain) (joins first writer.inner inner _ _ front last)
+      payload-parts seal_of key plain ∙ rw (middles-all seal_of key n plain, s.same_key, made.same_key, sealed, held) refl
 
   -- all pieces but the last went out as middle chunks
   pub sent-so_far : (writer : StreamWriter S W) → length writer.held.items ≤ 65536 → writer.failed ≡ false →
@@ -336,7 +331,20 @@ module _ {S W : Type 0} (seal_of : Seal) (inner_appended : W → List ℕ → W 
       (start : StreamWriter S W) (key plain : List ℕ) (first : W) → WasMade key first start →
       Appended seal_of inner_appended start plain writer → inner_appended first (payload seal_of key plain) inner
   sealed-last joins writer inner small good sent start key plain first made appended =
-      sealed-took joins writer inner small sent start key plain first made (Appended-took start writer plain good appended)
+      let took = Appended-took start writer plain good appended in
+      subst (λ (z : List ℕ). inner_appended first z inner) (sym (last-held writer small start key plain first made took))
+      (joins first writer.inner inner _ _ (sent-took writer small start key plain first made took) sent)
+
+  -- a beginning of the last chunk, after all others
+  pub sealed-front : ((a b c : W) (x y : List ℕ) → inner_appended a x b → inner_appended b y c → inner_appended a (x ++ y) c) →
+      (writer : StreamWriter S W) (inner : W) → length writer.held.items ≤ 65536 → writer.failed ≡ false →
+      AppendsFront inner_appended (last_seal seal_of writer) writer.inner inner →
+      (start : StreamWriter S W) (key plain : List ℕ) (first : W) → WasMade key first start →
+      Appended seal_of inner_appended start plain writer → AppendsFront inner_appended (payload seal_of key plain) first inner
+  sealed-front joins writer inner small good sent start key plain first made appended =
+      let took = Appended-took start writer plain good appended in
+      subst (λ (z : List ℕ). AppendsFront inner_appended z first inner) (sym (last-held writer small start key plain first made took))
+      (front-later inner_appended joins _ _ first writer.inner inner (sent-took writer small start key plain first made took) sent)
 
 module _ {S W : Type 0} (refuses : W → ℕ → Error → Type 0) where
   -- what may be refused of fewer bytes may be of more

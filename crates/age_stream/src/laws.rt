@@ -2,7 +2,7 @@
 ghost use Rattle.std.specs.Prelude.{◌≡◌, ◌+◌, List, ℕ, IsTrue, true, length};
 ghost use Rattle.age_v1.specs.PayloadAnswers.{StandAt, IsGoodEnd};
 ghost use Rattle.age_stream.specs.Reader.{key_of, payload_of};
-ghost use Rattle.age_stream.specs.Writing.{IsGood, HasSent, SendsPayload, SendsFrontOfPayload};
+ghost use Rattle.age_stream.specs.Writing.{IsGood, HasSent, SendsPayload, SendsFrontOfPayload, ClosesPayload};
 ghost use Rattle.age_v1.specs.PayloadLaws.{ArePieces, PayloadLength, PlainLength, OnePlaintext, MiddleChunks, LastChunk, NotRefused, OpensToPayload, PayloadOpens, CutPayload, NothingAfterLast};
 
 use crate::reader::StreamReader;
@@ -68,9 +68,12 @@ pub fn writer_law<S: Suite, W: Write>(writer: &StreamWriter<S, W>)
 ///   beginning of the payload of the plaintext and these bytes. `SendsFront` is the clause `sent` of `write`.
 /// - `calls`: whatever became of it, the inner writer was given a beginning of the payload of the plaintext and some bytes more. So it
 ///   holds after every call that speaks of `appended` alone, as `write_all` and `copy_all`, also after a refused one.
+/// - `close`: where it hadn't failed, and was then closed, whatever that answered, the inner writer was given a beginning of the
+///   plaintext's payload. What `close` appended is told by its clause `front`.
 pub fn sent_law<S: Suite, W: Write>()
     ensures write { SendsPayload S.seal_of W.appended ⟦<StreamWriter<S, W> as Write>⟧.appended }
     ensures calls { SendsFrontOfPayload S.seal_of W.appended ⟦<StreamWriter<S, W> as Write>⟧.appended }
+    ensures close { ClosesPayload S.seal_of W.appended ⟦<StreamWriter<S, W> as Write>⟧.appended }
 {}
 
 /// What is true of any reader, whatever was sought and however bad the payload is.
