@@ -58,8 +58,9 @@ module _ {W : Type 0} (appended : W → List ℕ → W → Type 0)
       appended writer.inner (end_of writer.held.items) inner →
       (start : ArmoredWriter W) (format : Format) (bytes : List ℕ) (first : W) → WasMade appended format first start →
       Appended appended start bytes writer → appended first (text_of format bytes) inner
-  finishes_armor writer inner good armored sent start format bytes first made (inl failed) = absurd (true≢false (sym failed ∙ good))
-  finishes_armor writer inner good armored sent start format bytes first made (inr taken) =
+  finishes_armor writer inner good armored sent start format bytes first made (inl stayed) = absurd (true≢false (sym stayed.0 ∙ made.good))
+  finishes_armor writer inner good armored sent start format bytes first made (inr (inl broke)) = absurd (true≢false (sym broke.failed ∙ good))
+  finishes_armor writer inner good armored sent start format bytes first made (inr (inr taken)) =
       armor_by_form start writer format bytes first inner made (sym made.same_form ∙ sym taken.2 ∙ armored)
       (subst (λ b. Takes appended b start bytes writer) made.same_form taken.3) sent
 
@@ -67,7 +68,8 @@ module _ {W : Type 0} (appended : W → List ℕ → W → Type 0)
   pub finishes_binary : (writer : ArmoredWriter W) → writer.failed ≡ false → writer.armored ≡ false →
       (start : ArmoredWriter W) (format : Format) (bytes : List ℕ) (first : W) → WasMade appended format first start →
       Appended appended start bytes writer → appended first (text_of format bytes) writer.inner
-  finishes_binary writer good plain start format bytes first made (inl failed) = absurd (true≢false (sym failed ∙ good))
-  finishes_binary writer good plain start format bytes first made (inr taken) =
+  finishes_binary writer good plain start format bytes first made (inl stayed) = absurd (true≢false (sym stayed.0 ∙ made.good))
+  finishes_binary writer good plain start format bytes first made (inr (inl broke)) = absurd (true≢false (sym broke.failed ∙ good))
+  finishes_binary writer good plain start format bytes first made (inr (inr taken)) =
       binary_by_form start writer format bytes first made (sym made.same_form ∙ sym taken.2 ∙ plain)
       (subst (λ b. Takes appended b start bytes writer) made.same_form taken.3)

@@ -1,8 +1,8 @@
 -- What a writer of armor had sent when it refused.
-use Rattle.std.specs.Prelude.{◌≡◌, ℕ, ◌+◌, ◌-◌, ◌*◌, ◌/◌, ◌≤◌, Bool, true, false, IsTrue, List, [], ◌++◌, length, take, drop, Result, Ok, Err}
-use Rattle.std.proofs.Common.{refl, sym, ap, ◌∙◌, inl, inr, arith, append_assoc, length-append, length-drop, subst}
+use Rattle.std.specs.Prelude.{◌≡◌, ℕ, ◌+◌, ◌-◌, ◌*◌, ◌/◌, Bool, true, false, IsTrue, List, [], ◌++◌, length, take, drop, Result, Ok, Err}
+use Rattle.std.proofs.Common.{refl, sym, ap, ◌∙◌, inl, inr, arith, append_assoc, length-append, subst}
 use Rattle.std.proofs.lemmas.Bool.{true≢false}
-use Rattle.std.proofs.lemmas.List.{append-nil, take-append-drop, drop-append-le}
+use Rattle.std.proofs.lemmas.List.{append-nil, take-append-drop}
 use Rattle.age_error.specs.declared.io.Error.{Error}
 use Rattle.age_base64.specs.Lines.{line}
 use Rattle.age_io.specs.Copying.{AppendsFront}
@@ -13,6 +13,7 @@ use Rattle.age_v1.specs.declared.format.Format.{Format}
 use Rattle.age_v1.specs.declared.format.Format.TheVariants.{AsciiArmor, Binary}
 use Rattle.age_v1.proofs.FullArmorLines.{full_lines-front, full_lines-both}
 use Rattle.age_armor.specs.Writing.{Appended, SendsFront, SendsLines, Takes, Took, WasMade, in_armor}
+use Rattle.age_armor.specs.WritingLemmas.{front-later, sends-after, sends-on}
 use Rattle.age_armor.proofs.Ending.{armor_parts, end_of}
 use Rattle.age_armor.specs.declared.writer.ArmoredWriter.{ArmoredWriter}
 
@@ -54,16 +55,6 @@ module _ {W : Type 0} (appended : W → List ℕ → W → Type 0) where
     out = f.out;
   }
 
-  -- a beginning after what went out whole
-  front-later : ((a b c : W) (x y : List ℕ) → appended a x b → appended b y c → appended a (x ++ y) c) →
-      (first whole : List ℕ) (a b c : W) → appended a first b → AppendsFront appended whole b c → AppendsFront appended (first ++ whole) a c
-  front-later joins first whole a b c out f = record {
-    front = first ++ f.front;
-    after = f.after;
-    joined = ap (λ (l : List ℕ). first ++ l) f.joined ∙ sym (append_assoc first f.front f.after);
-    out = joins a b c first f.front out f.out;
-  }
-
   -- full lines of the first bytes are a beginning of those of more
   lines-more : (t y : List ℕ) (a b : W) → AppendsFront appended (full_lines (length t / 48) t) a b →
       AppendsFront appended (full_lines (length (t ++ y) / 48) (t ++ y)) a b
@@ -76,14 +67,28 @@ module _ {W : Type 0} (appended : W → List ℕ → W → Type 0) where
       ∙ ap (λ (l : List ℕ). l ++ full_lines n (drop (48 * m) (t ++ y))) (full_lines-front m t y (omega arith)) in
       rw out (front-more (full_lines m t) (full_lines n (drop (48 * m) (t ++ y))) a b f)
 
-  -- nothing was sent of these bytes
+  -- nothing was sent of these bytes, by a call that appended nothing
+  pub sends-nothing : (s : ArmoredWriter W) (bytes : List ℕ) (c : W) (f : Bool) → appended s.inner [] c → SendsFront appended f s bytes c
+  sends-nothing s bytes c true out = front-nothing _ s.inner c out
+  sends-nothing s bytes c false out = front-nothing bytes s.inner c out
+
+  -- nothing was
   pub sends-none : ((w : W) → appended w [] w) → (s : ArmoredWriter W) (bytes : List ℕ) (f : Bool) → SendsFront appended f s bytes s.inner
-  sends-none nothing s bytes true = front-none nothing _ s.inner
-  sends-none nothing s bytes false = front-none nothing bytes s.inner
+  sends-none nothing s bytes f = sends-nothing s bytes s.inner f (nothing s.inner)
+
+  -- it failed while it was given these bytes
+  pub failed-given : (a b : ArmoredWriter W) (bytes : List ℕ) → a.failed ≡ false → b.failed ≡ true → b.armored ≡ a.armored →
+      SendsFront appended a.armored a bytes b.inner → Appended appended a [] b
+  failed-given a b bytes good failed form sent = inr (inl (record { good = good; failed = failed; same_form = form; more = bytes; sent = sent }))
 
   -- all lines of what it took
   pub sends-taken : (a b : ArmoredWriter W) (bytes : List ℕ) → Took appended a bytes b → SendsLines appended a bytes b.inner
   sends-taken a b bytes took = front-all _ a.inner b.inner took.sent
+
+  -- in either form
+  taken-front : (f : Bool) (a b : ArmoredWriter W) (bytes : List ℕ) → Takes appended f a bytes b → SendsFront appended f a bytes b.inner
+  taken-front true a b bytes took = sends-taken a b bytes took
+  taken-front false a b bytes took = front-all bytes a.inner b.inner took
 
   -- a beginning of the lines of some of the bytes is one of all
   pub sends-more : (s : ArmoredWriter W) (x y : List ℕ) (c : W) → SendsLines appended s x c → SendsLines appended s (x ++ y) c
@@ -103,28 +108,11 @@ module _ {W : Type 0} (appended : W → List ℕ → W → Type 0) where
       sends-part s n bytes c (subst (λ (z : List ℕ). AppendsFront appended (full_lines (length z / 48) z) s.inner c) (sym t) f)
 
   module _ (joins : (a b c : W) (x y : List ℕ) → appended a x b → appended b y c → appended a (x ++ y) c) where
-    -- a beginning of what follows, after what was taken
-    pub sends-on : (a b : ArmoredWriter W) (c : W) (x y : List ℕ) → Took appended a x b → SendsLines appended b y c → SendsLines appended a (x ++ y) c
-    sends-on a b c x y first second =
-        let t = a.held.items ++ x in
-        let m = length t / 48 in
-        let n = length (b.held.items ++ y) / 48 in
-        let held : b.held.items ++ y ≡ drop (48 * m) t ++ y = ap (λ (h : List ℕ). h ++ y) first.held in
-        let fits : 48 * m ≤ length t = omega arith in
-        let rest : drop (48 * m) (t ++ y) ≡ b.held.items ++ y = drop-append-le (48 * m) t y fits ∙ sym held in
-        let count : length (t ++ y) / 48 ≡ m + n
-        = omega (arith, ap length rest, length-drop (48 * m) (t ++ y), length-append t y) in
-        let out : full_lines (length (t ++ y) / 48) (t ++ y) ≡ full_lines m t ++ full_lines n (b.held.items ++ y)
-        = rw (count, full_lines-both m n (t ++ y), full_lines-front m t y fits, rest) refl in
-        let front : AppendsFront appended (full_lines (length (t ++ y) / 48) (t ++ y)) a.inner c
-        = rw out (front-later joins _ _ a.inner b.inner c first.sent second) in
-        subst (λ (z : List ℕ). AppendsFront appended (full_lines (length z / 48) z) a.inner c) (append_assoc a.held.items x y) front
-
-    -- and so what was sent of all bytes, of which the first n were taken
+    -- what was sent of all bytes, of which the first n were taken
     pub sends-rest : (a b : ArmoredWriter W) (c : W) (n : ℕ) (bytes : List ℕ) → Took appended a (take n bytes) b →
         SendsLines appended b (drop n bytes) c → SendsLines appended a bytes c
     sends-rest a b c n bytes first second =
-        subst (λ (z : List ℕ). SendsLines appended a z c) (take-append-drop n bytes) (sends-on a b c (take n bytes) (drop n bytes) first second)
+        subst (λ (z : List ℕ). SendsLines appended a z c) (take-append-drop n bytes) (sends-on appended joins a b c (take n bytes) (drop n bytes) first second)
 
     -- from before the begin marker on
     armor-begun : (start : ArmoredWriter W) (bytes : List ℕ) (first after : W) → start.held.items ≡ [] →
@@ -134,24 +122,40 @@ module _ {W : Type 0} (appended : W → List ℕ → W → Type 0) where
         let n = length bytes / 48 in
         let lines : AppendsFront appended (full_lines n bytes) start.inner after =
         subst (λ (z : List ℕ). AppendsFront appended (full_lines (length z / 48) z) start.inner after) t sends in
-        let front = front-later joins (line begin_marker) (full_lines n bytes) first start.inner after begun lines in
+        let front = front-later appended joins (line begin_marker) (full_lines n bytes) first start.inner after begun lines in
         subst (λ (z : List ℕ). AppendsFront appended z first after) (armor_parts bytes (drop (48 * n) bytes) n refl refl)
         (front-more (line begin_marker ++ full_lines n bytes) (end_of (drop (48 * n) bytes)) first after front)
 
-    by_form : (start before : ArmoredWriter W) (format : Format) (taken bytes : List ℕ) (first after : W) → WasMade appended format first start →
-        Takes appended (in_armor format) start taken before → SendsFront appended (in_armor format) before bytes after →
-        AppendsFront appended (text_of format (taken ++ bytes)) first after
-    by_form start before AsciiArmor taken bytes first after made took sends =
-        armor-begun start (taken ++ bytes) first after made.none_held made.begins (sends-on start before after taken bytes took sends)
-    by_form start before Binary taken bytes first after made took sends =
-        front-later joins taken bytes first before.inner after (subst (λ w. appended w taken before.inner) made.begins took) sends
+    text-front : (start : ArmoredWriter W) (format : Format) (bytes : List ℕ) (first after : W) → WasMade appended format first start →
+        SendsFront appended (in_armor format) start bytes after → AppendsFront appended (text_of format bytes) first after
+    text-front start AsciiArmor bytes first after made sends = armor-begun start bytes first after made.none_held made.begins sends
+    text-front start Binary bytes first after made sends = subst (λ w. AppendsFront appended bytes w after) made.begins sends
 
     -- up to a refusal, and with it
     pub sends-text : (start before : ArmoredWriter W) (format : Format) (taken bytes : List ℕ) (first after : W) → WasMade appended format first start →
         Appended appended start taken before → before.failed ≡ false → SendsFront appended before.armored before bytes after →
         AppendsFront appended (text_of format (taken ++ bytes)) first after
-    sends-text start before format taken bytes first after made (inl failed) good sends = absurd (true≢false (sym failed ∙ good))
-    sends-text start before format taken bytes first after made (inr took) good sends =
-        by_form start before format taken bytes first after made
+    sends-text start before format taken bytes first after made (inl stayed) good sends = absurd (true≢false (sym stayed.0 ∙ made.good))
+    sends-text start before format taken bytes first after made (inr (inl broke)) good sends = absurd (true≢false (sym broke.failed ∙ good))
+    sends-text start before format taken bytes first after made (inr (inr took)) good sends =
+        text-front start format (taken ++ bytes) first after made
+        (sends-after appended joins (in_armor format) start before after taken bytes
         (subst (λ b. Takes appended b start taken before) made.same_form took.3)
-        (subst (λ b. SendsFront appended b before bytes after) (took.2 ∙ made.same_form) sends)
+        (subst (λ b. SendsFront appended b before bytes after) (took.2 ∙ made.same_form) sends))
+
+    -- whatever became of it
+    pub has-sent : (start after : ArmoredWriter W) (format : Format) (bytes : List ℕ) (first : W) → WasMade appended format first start →
+        Appended appended start bytes after → (more : List ℕ) × AppendsFront appended (text_of format (bytes ++ more)) first after.inner
+    has-sent start after format bytes first made (inl stayed) = absurd (true≢false (sym stayed.0 ∙ made.good))
+    has-sent start after format bytes first made (inr (inl broke)) = (
+      broke.more,
+      text-front start format (bytes ++ broke.more) first after.inner made
+          (subst (λ b. SendsFront appended b start (bytes ++ broke.more) after.inner) made.same_form broke.sent),
+    )
+    has-sent start after format bytes first made (inr (inr took)) =
+        let sends : SendsFront appended (in_armor format) start bytes after.inner
+        = taken-front (in_armor format) start after bytes (subst (λ b. Takes appended b start bytes after) made.same_form took.3) in (
+          [],
+          subst (λ (l : List ℕ). AppendsFront appended (text_of format l) first after.inner) (sym (append-nil bytes))
+              (text-front start format bytes first after.inner made sends),
+        )

@@ -6,12 +6,13 @@ use Rattle.std.proofs.lemmas.List.{append-nil, drop-append-le, drop-drop}
 use Rattle.age_error.specs.declared.io.Error.{Error}
 use Rattle.age_error.specs.declared.io.Error.TheVariants.{Device}
 use Rattle.age_error.specs.declared.io.ErrorKind.TheVariants.{Interrupted}
+use Rattle.age_io.specs.Copying.{AppendsFront}
 use Rattle.age_io.specs.Writing.{Narrows, Retried, HandsOn}
 use Rattle.age_io.specs.WritingLemmas.{hands-on-patient}
 use Rattle.age_armor.specs.declared.writer.ArmoredWriter.{ArmoredWriter}
 use Rattle.age_v1.specs.ArmorFullLines.{full_lines}
 use Rattle.age_v1.proofs.FullArmorLines.{full_lines-front, full_lines-both}
-use Rattle.age_armor.specs.Writing.{Took, Takes, Appended, WriterRefuses, Refused}
+use Rattle.age_armor.specs.Writing.{Took, Takes, SendsLines, SendsFront, Appended, WriterRefuses, Refused}
 
 -- the lines of what is left and of what follows
 count-both : (t y : List ℕ) → length (t ++ y) / 48 ≡ length t / 48 + length (drop (48 * (length t / 48)) t ++ y) / 48
@@ -59,8 +60,8 @@ module _ {W : Type 0} (inner_appended : W → List ℕ → W → Type 0) where
   Takes-nothing nothing s false = nothing s.inner
 
   by_state : (s : ArmoredWriter W) (b : Bool) → s.failed ≡ b → Takes inner_appended s.armored s [] s → Appended inner_appended s [] s
-  by_state s true is took = inl is
-  by_state s false is took = inr (is, is, refl, took)
+  by_state s true is took = inl (is, refl, refl)
+  by_state s false is took = inr (inr (is, is, refl, took))
 
   -- a state and itself
   pub Appended-nothing : ((w : W) → inner_appended w [] w) → (s : ArmoredWriter W) → Appended inner_appended s [] s
@@ -71,22 +72,74 @@ module _ {W : Type 0} (inner_appended : W → List ℕ → W → Type 0) where
   Takes-both both true a b c x y first second = Took-both both a b c x y first second
   Takes-both both false a b c x y first second = both a.inner b.inner c.inner x y first second
 
+  -- a beginning after what went out whole
+  pub front-later : ((a b c : W) (x y : List ℕ) → inner_appended a x b → inner_appended b y c → inner_appended a (x ++ y) c) →
+      (first whole : List ℕ) (a b c : W) → inner_appended a first b → AppendsFront inner_appended whole b c →
+      AppendsFront inner_appended (first ++ whole) a c
+  front-later both first whole a b c out f = record {
+    front = first ++ f.front;
+    after = f.after;
+    joined = ap (λ (l : List ℕ). first ++ l) f.joined ∙ sym (append_assoc first f.front f.after);
+    out = both a b c first f.front out f.out;
+  }
+
+  -- a beginning of the lines of what follows, after what was taken
+  pub sends-on : ((a b c : W) (x y : List ℕ) → inner_appended a x b → inner_appended b y c → inner_appended a (x ++ y) c) →
+      (a b : ArmoredWriter W) (c : W) (x y : List ℕ) → Took inner_appended a x b → SendsLines inner_appended b y c →
+      SendsLines inner_appended a (x ++ y) c
+  sends-on both a b c x y first second =
+      let t = a.held.items ++ x in
+      let m = length t / 48 in
+      let n = length (b.held.items ++ y) / 48 in
+      let held : b.held.items ++ y ≡ drop (48 * m) t ++ y = ap (λ (h : List ℕ). h ++ y) first.held in
+      let fits : 48 * m ≤ length t = omega arith in
+      let rest : drop (48 * m) (t ++ y) ≡ b.held.items ++ y = drop-append-le (48 * m) t y fits ∙ sym held in
+      let count : length (t ++ y) / 48 ≡ m + n
+      = omega (arith, ap length rest, length-drop (48 * m) (t ++ y), length-append t y) in
+      let out : full_lines (length (t ++ y) / 48) (t ++ y) ≡ full_lines m t ++ full_lines n (b.held.items ++ y)
+      = rw (count, full_lines-both m n (t ++ y), full_lines-front m t y fits, rest) refl in
+      let front : AppendsFront inner_appended (full_lines (length (t ++ y) / 48) (t ++ y)) a.inner c
+      = rw out (front-later both _ _ a.inner b.inner c first.sent second) in
+      subst (λ (z : List ℕ). AppendsFront inner_appended (full_lines (length z / 48) z) a.inner c) (append_assoc a.held.items x y) front
+
+  -- the same in either form
+  pub sends-after : ((a b c : W) (x y : List ℕ) → inner_appended a x b → inner_appended b y c → inner_appended a (x ++ y) c) →
+      (f : Bool) (a b : ArmoredWriter W) (c : W) (x y : List ℕ) → Takes inner_appended f a x b → SendsFront inner_appended f b y c →
+      SendsFront inner_appended f a (x ++ y) c
+  sends-after both true a b c x y first second = sends-on both a b c x y first second
+  sends-after both false a b c x y first second = front-later both x y a.inner b.inner c first second
+
   pub Appended-both : ((a b c : W) (x y : List ℕ) → inner_appended a x b → inner_appended b y c → inner_appended a (x ++ y) c) →
       (a b c : ArmoredWriter W) (x y : List ℕ) → Appended inner_appended a x b → Appended inner_appended b y c → Appended inner_appended a (x ++ y) c
-  Appended-both both a b c x y first (inl failed) = inl failed
-  Appended-both both a b c x y (inl failed) (inr second) = absurd (true≢false (sym failed ∙ second.0))
-  Appended-both both a b c x y (inr first) (inr second) = inr (
-    first.0,
-    second.1,
-    second.2 ∙ first.2,
-    Takes-both both a.armored a b c x y first.3 (subst (λ f. Takes inner_appended f b y c) first.2 second.3),
-  )
+  Appended-both both a b c x y (inl stayed) second =
+      let same : Appended inner_appended a y c = subst (λ s. Appended inner_appended s y c) stayed.2 second in
+      subst (λ (l : List ℕ). Appended inner_appended a (l ++ y) c) (sym stayed.1) same
+  Appended-both both a b c x y (inr first) (inl stayed) =
+      let same : Appended inner_appended a x c = subst (λ s. Appended inner_appended a x s) (sym stayed.2) (inr first) in
+      subst (λ (l : List ℕ). Appended inner_appended a l c) (sym (ap (λ (l : List ℕ). x ++ l) stayed.1 ∙ append-nil x)) same
+  Appended-both both a b c x y (inr (inl broke)) (inr (inl later)) = absurd (true≢false (sym broke.failed ∙ later.good))
+  Appended-both both a b c x y (inr (inl broke)) (inr (inr second)) = absurd (true≢false (sym broke.failed ∙ second.0))
+  Appended-both both a b c x y (inr (inr first)) (inr (inl broke)) =
+      let sent : SendsFront inner_appended a.armored b (y ++ broke.more) c.inner
+      = subst (λ f. SendsFront inner_appended f b (y ++ broke.more) c.inner) first.2 broke.sent in
+      inr (inl (record {
+        good = first.0;
+        failed = broke.failed;
+        same_form = broke.same_form ∙ first.2;
+        more = broke.more;
+        sent = subst (λ (l : List ℕ). SendsFront inner_appended a.armored a l c.inner) (sym (append_assoc x y broke.more))
+            (sends-after both a.armored a b c.inner x (y ++ broke.more) first.3 sent);
+      }))
+  Appended-both both a b c x y (inr (inr first)) (inr (inr second)) =
+      let second_took : Takes inner_appended a.armored b y c = subst (λ f. Takes inner_appended f b y c) first.2 second.3 in
+      let took = Takes-both both a.armored a b c x y first.3 second_took in
+      inr (inr (first.0, second.1, second.2 ∙ first.2, took))
 
   -- a writer whose inner one took nothing
   pub Appended-same : ((w : W) → inner_appended w [] w) → (a b : ArmoredWriter W) → inner_appended a.inner [] b.inner → b.held.items ≡ a.held.items →
       b.armored ≡ a.armored → b.failed ≡ a.failed → a.failed ≡ false → Appended inner_appended a [] b
   unfolding full_lines
-  Appended-same nothing a b same held armored failed good = inr (good, failed ∙ good, armored, takes a.armored)
+  Appended-same nothing a b same held armored failed good = inr (inr (good, failed ∙ good, armored, takes a.armored))
     where
       takes : (f : Bool) → Takes inner_appended f a [] b
       takes true =

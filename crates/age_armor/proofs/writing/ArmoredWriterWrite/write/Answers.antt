@@ -1,6 +1,6 @@
-use Rattle.std.proofs.Common.{rules, subst, sym}
+use Rattle.std.proofs.Common.{refl, rules, subst, sym}
 use Rattle.age_armor.specs.Writing.{SendsFront}
-use Rattle.age_armor.proofs.Sent.{front-written, sends-none, sends-taken}
+use Rattle.age_armor.proofs.Sent.{failed-given, front-written, sends-none, sends-taken}
 use Rattle.age_armor.proofs.writing.ArmoredWriterWrite.write.Goals as goal
 
 -- it had failed
@@ -47,4 +47,21 @@ returns-in-Err-clause-besides g c = record {
   finds_room = search rules;
   binary = search rules;
   state = record { good = search rules; fails = search rules; failed = search rules; patient = search rules; same_form = search rules };
+}
+
+pub returns-in-Err-clause-writes : goal.returns-in-Err-clause-writes
+returns-in-Err-clause-writes g c = record {
+  count = search rules;
+  same_tells = search rules;
+  no_fewer_faults = search rules;
+  device = search rules;
+  why = search rules;
+  takes_none = search rules;
+  narrows = search rules;
+  interrupted = search rules;
+  takes_front = search rules;
+  takes_nothing = λ told. let w = g.W.Write in
+      let s = c.args.self.now in
+      failed-given w.appended s _ c.args.bytes.now c.if-self.false refl c.in-Err.ensures.same_form
+      (subst (λ f. SendsFront w.appended f s c.args.bytes.now c.take_all.new.self.inner) (sym c.if-not-self.false) (c.in-Err.ensures.front told));
 }
