@@ -3,11 +3,20 @@ use Rattle.std.specs.Prelude.{◌≡◌, ℕ, ◌+◌, ◌<◌, ◌≤◌, ◌�
 use Rattle.age_error.specs.Refusals.{IsInterruption}
 use Rattle.age_error.specs.declared.io.Error.{Error}
 use Rattle.age_error.specs.declared.io.Error.TheVariants.{Failed, OutOfMemory}
+use Rattle.age_io.specs.Copying.{AppendsFront}
 use Rattle.age_io.specs.Writing.{Flushes, HandsOn, Retried, Writes}
 use Rattle.age_io.specs.declared.traits.Write.{Ghosts}
+use Rattle.age_v1.specs.Armor.{text_of}
 use Rattle.age_v1.specs.declared.format.Format.{Format}
 use Rattle.age_armor.specs.declared.writer.ArmoredWriter.{ArmoredWriter}
-use Rattle.age_armor.specs.Writing.{Appended, Finishes, IsFailed, IsGood, Refused, SendsFront, WasMade, WriterRefuses, held_len, in_armor, inner_of, is_armored}
+use Rattle.age_armor.specs.Writing.{Appended, Finishes, IsFailed, IsGood, Refused, SendsFront, WasMade, WriterRefuses, held_len, in_armor, inner_of, is_armored, left_of}
+
+-- Where a writer was made in a form and took bytes since, this holds of the text that carries them and of the inner writer from before the
+-- writer was made.
+abbrev pub OfText : {W : Type 0} → (W → List ℕ → W → Type 0) → ArmoredWriter W → (List ℕ → W → Type 0) → Type 0
+OfText {W} inner_appended writer Holds =
+    (start : ArmoredWriter W) (format : Format) (bytes : List ℕ) (first : W) → WasMade inner_appended format first start
+    → Appended inner_appended start bytes writer → Holds (text_of format bytes) first
 
 module _ {W : Type 0} (write : Ghosts W) where
   -- what comes of making a writer that begins the text where `inner` stands
@@ -22,6 +31,27 @@ module _ {W : Type 0} (write : Ghosts W) where
     -- why it refuses
     pub binary : in_armor format ≡ false → IsOk result
     pub why : IfErr result (λ e. (e ≡ OutOfMemory) ⊎ HandsOn write.refuses inner e)
+    pub patient : IfErr result (λ e. IsInterruption e → ⊥)
+
+  -- What comes of closing it: in armor the end of the text goes out, and it is failed then; in binary nothing is done.
+  pub record ClosesText (old new : ArmoredWriter W) (result : Result ⊤ Error) : Type 0 where
+    -- the inner writer was given the text that carries all bytes that were taken; the bytes themselves were given before
+    pub ok : IsTrue (write.tells (inner_of old)) →
+        OfText write.appended old (λ text first. OnOk result (write.appended first text (inner_of new)))
+    -- Whatever it answers, a beginning of what is left of the text was appended to the inner writer. So that has a beginning of the text.
+    pub left : IsTrue (write.tells (inner_of old)) → AppendsFront write.appended (left_of old) (inner_of old) (inner_of new)
+    pub front : IsTrue (write.tells (inner_of old)) → IsGood old →
+        OfText write.appended old (λ text first. AppendsFront write.appended text first (inner_of new))
+    pub binary : is_armored old ≡ false → IsOk result × (new ≡ old)
+    -- what stays of it, and that from here on the inner writer refuses only what it might before
+    pub same_form : is_armored new ≡ is_armored old
+    pub same_tells : write.tells (inner_of new) ≡ write.tells (inner_of old)
+    pub no_fewer_faults : write.faults (inner_of old) ≤ write.faults (inner_of new)
+    pub narrows : OnOk result ((e : Error) → HandsOn write.refuses (inner_of new) e → HandsOn write.refuses (inner_of old) e)
+    -- why it refuses, and that in armor it is failed then
+    pub fails : IsTrue (is_armored old) → IsFailed new
+    pub failed : IsFailed old → (result ≡ Err Failed) × (new ≡ old)
+    pub why : IfErr result (Refused write.refuses old 0)
     pub patient : IfErr result (λ e. IsInterruption e → ⊥)
 
   -- what comes of finishing the text, where the inner writer is handed back

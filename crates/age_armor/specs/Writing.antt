@@ -1,11 +1,13 @@
 -- What an `ArmoredWriter` has taken, and what it sent to its inner writer.
 use Rattle.std.specs.Prelude.{Bool, IfOk, List, Result, [], drop, false, length, true, vec_len, ℕ, ◌*◌, ◌++◌, ◌/◌, ◌≡◌, ◌⊎◌}
+use Rattle.std.specs.List.{flat_map}
+use Rattle.age_base64.specs.Base64.{padded_columns}
 use Rattle.age_base64.specs.Lines.{line}
 use Rattle.age_error.specs.declared.io.Error.{Error}
 use Rattle.age_error.specs.declared.io.Error.TheVariants.{Failed}
 use Rattle.age_io.specs.Copying.{AppendsFront}
 use Rattle.age_io.specs.Writing.{HandsOn}
-use Rattle.age_v1.specs.Armor.{begin_marker, text_of}
+use Rattle.age_v1.specs.Armor.{armor_lines, begin_marker, end_marker, text_of}
 use Rattle.age_v1.specs.declared.format.Format.{Format}
 use Rattle.age_v1.specs.declared.format.Format.TheVariants.{AsciiArmor, Binary}
 use Rattle.age_v1.specs.ArmorFullLines.{full_lines}
@@ -34,6 +36,15 @@ inner_of writer = writer.inner
 -- how many bytes are held, since they don't fill a line yet
 abbrev pub held_len : {W : Type 0} → ArmoredWriter W → ℕ
 held_len writer = vec_len writer.held
+
+-- what ends a text in armor or in binary, where so much is held
+abbrev pub text_end : Bool → List ℕ → List ℕ
+text_end true held = flat_map line (armor_lines (padded_columns held)) ++ line end_marker
+text_end false held = []
+
+-- what is left of the text of what it took
+abbrev pub left_of : {W : Type 0} → ArmoredWriter W → List ℕ
+left_of writer = text_end writer.armored writer.held.items
 
 -- Why a writer that goes on refuses while it is given so many bytes: in armor as its inner writer does, whatever that is given and
 -- with its interruptions tried again, and in binary as its inner writer does.

@@ -1,12 +1,12 @@
 //! What goes out to the inner writer.
-ghost use Rattle.std.specs.Prelude.{◌≡◌, ℕ, ◌+◌, ◌*◌, ◌/◌, ◌%◌, ◌<◌, ◌≤◌, IsTrue, List, ◌++◌, length, OnOk};
-ghost use Rattle.std.specs.List.{flat_map};
+ghost use Rattle.std.specs.Prelude.{◌≡◌, ℕ, ◌+◌, ◌*◌, ◌/◌, ◌%◌, ◌<◌, ◌≤◌, IsTrue, true, List, length, OnOk};
 ghost use Rattle.age_base64.specs.Lines.{line};
 ghost use Rattle.age_base64.specs.Base64.{padded_columns};
 ghost use Rattle.age_io.specs.Copying.{AppendsFront};
 ghost use Rattle.age_io.specs.Writing.{HandsOn, KeepsWriter};
-ghost use Rattle.age_v1.specs.Armor.{armor_lines, begin_marker, end_marker};
+ghost use Rattle.age_v1.specs.Armor.{begin_marker, end_marker};
 ghost use Rattle.age_v1.specs.ArmorFullLines.{full_lines};
+ghost use Rattle.age_armor.specs.Writing.{text_end};
 
 use crate::encoding::{COLUMNS, ColumnEncoder, LINE, LINE_TEXT, encode_lines};
 use age_error::io::Error;
@@ -51,6 +51,7 @@ fn write_last_line<W: Write>(
     requires { length bytes.now < 48 }
     ensures keeps { KeepsWriter W.tells W.faults (HandsOn W.refuses) inner.old inner.new result }
     ensures sent { IsTrue (W.tells inner.old) → OnOk result (W.appended inner.old (line (padded_columns bytes.now)) inner.new) }
+    ensures front { IsTrue (W.tells inner.old) → AppendsFront W.appended (line (padded_columns bytes.now)) inner.old inner.new }
 {
     let mut text = [0u8; LINE_TEXT];
     let columns = encoder.encode(bytes, &mut text);
@@ -62,6 +63,7 @@ fn write_last_line<W: Write>(
 fn write_end_marker<W: Write>(inner: &mut W) -> Result<(), Error>
     ensures keeps { KeepsWriter W.tells W.faults (HandsOn W.refuses) inner.old inner.new result }
     ensures sent { IsTrue (W.tells inner.old) → OnOk result (W.appended inner.old (line end_marker) inner.new) }
+    ensures front { IsTrue (W.tells inner.old) → AppendsFront W.appended (line end_marker) inner.old inner.new }
 {
     write_all(inner, b"-----END AGE ENCRYPTED FILE-----\n")
 }
@@ -74,8 +76,8 @@ pub(crate) fn write_end<W: Write>(
 ) -> Result<(), Error>
     requires { length held.now < 48 }
     ensures keeps { KeepsWriter W.tells W.faults (HandsOn W.refuses) inner.old inner.new result }
-    ensures sent { IsTrue (W.tells inner.old) → OnOk result
-        (W.appended inner.old (flat_map line (armor_lines (padded_columns held.now)) ++ line end_marker) inner.new) }
+    ensures sent { IsTrue (W.tells inner.old) → OnOk result (W.appended inner.old (text_end true held.now) inner.new) }
+    ensures front { IsTrue (W.tells inner.old) → AppendsFront W.appended (text_end true held.now) inner.old inner.new }
 {
     if held.is_empty() {
         return write_end_marker(inner);

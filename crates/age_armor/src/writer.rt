@@ -17,8 +17,8 @@ const LINES: usize = 1024;
 /// themselves.
 ///
 /// Armor is that of age-encryption.org/v1, section "ASCII armor": the begin marker, base64 with padding in lines of
-/// 64 columns, and the end marker, each with LF. It is whole only after `finish`. A writer that is dropped before that
-/// leaves a beginning of it.
+/// 64 columns, and the end marker, each with LF. It is whole only after `finish` or `close`. A writer that is dropped
+/// before that leaves a beginning of it.
 pub struct ArmoredWriter<W> {
     pub(crate) inner: W,
     pub(crate) armored: bool,
@@ -184,39 +184,59 @@ impl<W: Write> ArmoredWriter<W> {
     }
 }
 
+impl<W: Write> ArmoredWriter<W> {
+    ghost use Rattle.age_armor.specs.WriterCalls.{ClosesText};
+
+    /// In armor it writes the line of what is held, where that is some bytes, and the end marker and LF. The inner writer
+    /// isn't flushed. Whatever it answers, the writer is failed from then on. In binary it does nothing and never refuses,
+    /// and the writer goes on.
+    ///
+    /// On success the inner writer was given the text that carries all bytes taken. Where the writer failed or was closed
+    /// before, the answer is `Failed`, and it stays as it is. Else a refusal is that of the inner writer, or `WriteZero`
+    /// where that took no byte, and the inner writer has a beginning of the text. It takes no memory of its own.
+    ///
+    /// `ClosesText` says that the inner writer was given the whole text, from before the writer was made (`ok`), and whatever it
+    /// answers a beginning of what is left of it and so of the text (`left`, `front`), and in binary nothing (`binary`); what stays
+    /// of it, and that it refuses later only as before (`same_form`, `same_tells`, `no_fewer_faults`, `narrows`); and when the writer
+    /// fails and why it refuses (`fails`, `failed`, `why`, `patient`).
+    pub fn close(&mut self) -> Result<(), Error>
+        ensures { ClosesText ⟦<W as Write>⟧ self.old self.new result }
+    {
+        if self.failed {
+            return Err(Error::Failed);
+        }
+        if !self.armored {
+            return Ok(());
+        }
+        self.failed = true;
+        write_end(&mut self.inner, &self.encoder, &self.held)
+    }
+}
+
 impl<W: Write + Drop> ArmoredWriter<W> {
     ghost use Rattle.age_armor.specs.WriterCalls.{FinishesText};
 
-    /// In armor it writes the line of what is held, where that is some bytes, and the end marker and LF. It hands back
-    /// the inner writer, which isn't flushed.
+    /// It closes the text, as `close` does, and hands back the inner writer, which isn't flushed.
     ///
-    /// On success the inner writer was given the text that carries all bytes taken. Where the writer failed before the
-    /// answer is `Failed`. Else a refusal is that of the inner writer, or `WriteZero` where that took no byte. After a
-    /// refusal the text is cut off, and the inner writer is gone. It takes no memory of its own. In binary it writes
-    /// nothing and never refuses.
+    /// On success the inner writer was given the text that carries all bytes taken. It refuses as `close` does; the text is cut off
+    /// then, and the inner writer is gone. In binary it writes nothing and never refuses.
     ///
     /// `FinishesText` says that the inner writer was given the whole text, from before the writer was made (`ok`), and in binary is
     /// handed back as it stands (`binary`); what stays of it, and that it refuses later only as before (`same_tells`,
     /// `no_fewer_faults`, `narrows`); and why it is refused (`failed`, `why`, `patient`).
-    pub fn finish(self) -> Result<W, Error>
+    pub fn finish(mut self) -> Result<W, Error>
         ensures { FinishesText ⟦<W as Write>⟧ self result }
     {
+        self.close()?;
         let ArmoredWriter {
-            mut inner,
-            armored,
-            held,
-            encoder,
+            inner,
+            armored: _,
+            held: _,
+            encoder: _,
             columns: _,
             text: _,
-            failed,
+            failed: _,
         } = self;
-        if failed {
-            return Err(Error::Failed);
-        }
-        if !armored {
-            return Ok(inner);
-        }
-        write_end(&mut inner, &encoder, &held)?;
         Ok(inner)
     }
 }

@@ -4,7 +4,7 @@ use crate::writer::ArmoredWriter;
 use age_error::io::Error;
 use age_io::{Write, flush_retrying};
 
-/// What was appended are the bytes that were taken. Only `finish` makes the text that carries them whole.
+/// What was appended are the bytes that were taken. Only `close` and `finish` make the text that carries them whole.
 ///
 /// Of a writer that failed it says what it sent: a beginning of what carries these bytes and those that it was given when it failed. A failed
 /// writer takes nothing and stays as it is. So generic calls, such as `write_all`, say by `sent_law` what the inner writer was given, also
