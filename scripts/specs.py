@@ -126,7 +126,7 @@ class Module:
         while at < len(self.lines):
             line = self.lines[at]
             if line.strip() and not is_comment(line) and indent(line) <= depth:
-                if indent(line) < depth or line.split()[0] not in (name, "unfolding", ")", "]", "}"):
+                if indent(line) < depth or line.split()[0] not in (name, "unfolding") and line.lstrip()[0] not in ")]}":
                     break
             if line.strip() and (indent(line) > depth or not is_comment(line)):
                 end = at + 1

@@ -2,12 +2,14 @@
 use Rattle.std.specs.Prelude.{◌≡◌, ℕ, ◌+◌, ◌-◌, ◌*◌, ◌/◌, Bool, true, false, IsTrue, List, [], ◌++◌, length, take, drop, Result, Ok, Err}
 use Rattle.std.proofs.Common.{refl, sym, ap, ◌∙◌, inl, inr, arith, append_assoc, length-append, subst}
 use Rattle.std.proofs.lemmas.Bool.{true≢false}
+use Rattle.std.specs.List.{flat_map}
 use Rattle.std.proofs.lemmas.List.{append-nil, take-append-drop}
 use Rattle.age_error.specs.declared.io.Error.{Error}
 use Rattle.age_base64.specs.Lines.{line}
 use Rattle.age_io.specs.Copying.{AppendsFront}
 use Rattle.age_io.specs.Writing.{Retried, Writes, WritesAll}
-use Rattle.age_v1.specs.Armor.{armor, begin_marker, text_of}
+use Rattle.age_base64.specs.Base64.{padded_columns}
+use Rattle.age_v1.specs.Armor.{armor, armor_lines, begin_marker, end_marker, text_of}
 use Rattle.age_v1.specs.ArmorFullLines.{full_lines}
 use Rattle.age_v1.specs.declared.format.Format.{Format}
 use Rattle.age_v1.specs.declared.format.Format.TheVariants.{AsciiArmor, Binary}
@@ -54,6 +56,11 @@ module _ {W : Type 0} (appended : W → List ℕ → W → Type 0) where
     joined = ap (λ (l : List ℕ). l ++ more) f.joined ∙ append_assoc f.front f.after more;
     out = f.out;
   }
+
+  -- a beginning of the begin marker's line is one of the armor of any bytes
+  pub front-begun : (bytes : List ℕ) (a b : W) → AppendsFront appended (line begin_marker) a b → AppendsFront appended (armor bytes) a b
+  unfolding armor
+  front-begun bytes a b f = front-more (line begin_marker) (flat_map line (armor_lines (padded_columns bytes)) ++ line end_marker) a b f
 
   -- full lines of the first bytes are a beginning of those of more
   lines-more : (t y : List ℕ) (a b : W) → AppendsFront appended (full_lines (length t / 48) t) a b →

@@ -16,6 +16,7 @@ use age_io::{Write, write_all};
 pub(crate) fn write_begin<W: Write>(inner: &mut W) -> Result<(), Error>
     ensures keeps { KeepsWriter W.tells W.faults (HandsOn W.refuses) inner.old inner.new result }
     ensures sent { IsTrue (W.tells inner.old) → OnOk result (W.appended inner.old (line begin_marker) inner.new) }
+    ensures front { IsTrue (W.tells inner.old) → AppendsFront W.appended (line begin_marker) inner.old inner.new }
 {
     write_all(inner, b"-----BEGIN AGE ENCRYPTED FILE-----\n")
 }

@@ -1,5 +1,10 @@
 //! Writing armor.
-ghost use Rattle.std.specs.Prelude.{◌≡◌, ◌+◌, ◌*◌, ◌<◌, ◌≤◌, true, false, IsTrue, length, take, IfOk, OnOk, OnErr, IsOk, IsOkAnd, Some, codes, vec_len, vec_capacity};
+ghost use Rattle.std.specs.Prelude.{◌≡◌, ◌+◌, ◌*◌, ◌<◌, ◌≤◌, ℕ, true, false, IsTrue, List, [], length, take, IfOk, IfErr, OnOk, OnErr, IsOk, IsOkAnd, Some, codes, vec_len, vec_capacity};
+ghost use Rattle.std.specs.Result.{result_map_both};
+ghost use Rattle.age_error.specs.declared.io.Error.TheVariants.{OutOfMemory};
+ghost use Rattle.age_io.specs.Copying.{AppendsFront};
+ghost use Rattle.age_v1.specs.Armor.{armor, text_of};
+ghost use Rattle.age_v1.specs.declared.format.Format.TheVariants.{AsciiArmor};
 ghost use Rattle.age_io.specs.Writing.{HandsOn, KeepsWriter};
 
 use crate::encoding::{COLUMNS, ColumnEncoder, LINE, LINE_TEXT};
@@ -36,6 +41,18 @@ pub struct ArmoredWriter<W> {
     ghost armor_alone: { armored ≡ false → failed ≡ false },
 }
 
+// Memory for a line that isn't full, and for the columns and the text of `LINES` lines.
+fn rooms(alloc: Global) -> Result<(Vec<u8>, Vec<u8>, Vec<u8>), Error>
+    ensures held { IfOk result (λ rooms. (rooms.0.items ≡ []) × (48 ≤ vec_capacity rooms.0)) }
+    ensures full { IfOk result (λ rooms. (length rooms.1.items ≡ 65536) × (length rooms.2.items ≡ 66560)) }
+    ensures memory { IfErr result (λ e. e ≡ OutOfMemory) }
+{
+    let held = Vec::with_capacity(alloc, LINE)?;
+    let columns = room_for(alloc, LINES * COLUMNS)?;
+    let text = room_for(alloc, LINES * LINE_TEXT)?;
+    Ok((held, columns, text))
+}
+
 impl<W: Write> ArmoredWriter<W> {
     ghost use Rattle.age_armor.specs.Writing.{Took, SendsLines, is_armored, inner_of, held_len};
     ghost use Rattle.age_armor.specs.WriterCalls.{WrapsOutput};
@@ -45,18 +62,30 @@ impl<W: Write> ArmoredWriter<W> {
     /// In armor it first takes the memory that serves for the whole text, and answers `OutOfMemory` where it is refused
     /// that; nothing was written then. Then it writes the begin marker and LF: any other refusal is that of the inner
     /// writer, or `WriteZero` where that took no byte. Interruptions of the inner writer are retried as by `write_all`.
-    /// In binary it writes nothing, takes no memory and never refuses.
+    /// In binary it writes nothing, takes no memory and never refuses. `inner` is gone after a refusal.
     ///
     /// `WrapsOutput` says of a success that nothing was taken yet, and that the begin marker went out where it is armor (`made`,
     /// `empty`); what stays of `inner`, and that the writer refuses later only as `inner` might (`same_tells`, `no_fewer_faults`,
     /// `narrows`); and why it is refused (`binary`, `why`, `patient`).
-    pub fn wrap_output(alloc: Global, mut inner: W, format: Format) -> Result<Self, Error>
+    pub fn wrap_output(alloc: Global, inner: W, format: Format) -> Result<Self, Error>
     where
         W: Drop,
         ensures { WrapsOutput ⟦<W as Write>⟧ inner format result }
     {
-        if let Format::Binary = format {
-            return Ok(ArmoredWriter {
+        match ArmoredWriter::begin(alloc, inner, format) {
+            Ok(writer) => Ok(writer),
+            Err((_inner, error)) => Err(error),
+        }
+    }
+
+    /// `wrap_output`, which hands `inner` back beside the refusal. A beginning of the text, whatever follows, was written to it then
+    /// (`front`).
+    pub fn begin(alloc: Global, inner: W, format: Format) -> Result<Self, (W, Error)>
+        ensures wraps { WrapsOutput ⟦<W as Write>⟧ inner format (result_map_both (λ writer. writer) (λ back. back.1) result) }
+        ensures front { IsTrue (W.tells inner) → IfErr result (λ back. (bytes : List ℕ) → AppendsFront W.appended (text_of format bytes) inner back.0) }
+    {
+        match format {
+            Format::Binary => Ok(ArmoredWriter {
                 inner,
                 armored: false,
                 held: Vec::new(alloc),
@@ -64,21 +93,32 @@ impl<W: Write> ArmoredWriter<W> {
                 columns: Vec::new(alloc),
                 text: Vec::new(alloc),
                 failed: false,
-            });
+            }),
+            Format::AsciiArmor => ArmoredWriter::begin_armor(alloc, inner),
         }
-        let held = Vec::with_capacity(alloc, LINE)?;
-        let columns = room_for(alloc, LINES * COLUMNS)?;
-        let text = room_for(alloc, LINES * LINE_TEXT)?;
-        write_begin(&mut inner)?;
-        Ok(ArmoredWriter {
-            inner,
-            armored: true,
-            held,
-            encoder: ColumnEncoder::new(),
-            columns,
-            text,
-            failed: false,
-        })
+    }
+
+    // The same in armor.
+    fn begin_armor(alloc: Global, mut inner: W) -> Result<Self, (W, Error)>
+        ensures wraps { WrapsOutput ⟦<W as Write>⟧ inner AsciiArmor (result_map_both (λ writer. writer) (λ back. back.1) result) }
+        ensures front { IsTrue (W.tells inner) → IfErr result (λ back. (bytes : List ℕ) → AppendsFront W.appended (armor bytes) inner back.0) }
+    {
+        let (held, columns, text) = match rooms(alloc) {
+            Ok(rooms) => rooms,
+            Err(error) => return Err((inner, error)),
+        };
+        match write_begin(&mut inner) {
+            Ok(()) => Ok(ArmoredWriter {
+                inner,
+                armored: true,
+                held,
+                encoder: ColumnEncoder::new(),
+                columns,
+                text,
+                failed: false,
+            }),
+            Err(error) => Err((inner, error)),
+        }
     }
 
     // Takes full lines from the front of the bytes, where nothing is held.
@@ -214,6 +254,7 @@ impl<W: Write> ArmoredWriter<W> {
 }
 
 impl<W: Write + Drop> ArmoredWriter<W> {
+    ghost use Rattle.age_armor.specs.Writing.{inner_of};
     ghost use Rattle.age_armor.specs.WriterCalls.{FinishesText};
 
     /// It closes the text, as `close` does, and hands back the inner writer, which isn't flushed.
@@ -228,6 +269,13 @@ impl<W: Write + Drop> ArmoredWriter<W> {
         ensures { FinishesText ⟦<W as Write>⟧ self result }
     {
         self.close()?;
+        Ok(self.into_inner())
+    }
+
+    /// Hands back the inner writer as it stands. It writes nothing: where the writer wasn't closed or finished, armor is cut off.
+    pub fn into_inner(self) -> W
+        ensures { result ≡ inner_of self }
+    {
         let ArmoredWriter {
             inner,
             armored: _,
@@ -237,7 +285,7 @@ impl<W: Write + Drop> ArmoredWriter<W> {
             text: _,
             failed: _,
         } = self;
-        Ok(inner)
+        inner
     }
 }
 

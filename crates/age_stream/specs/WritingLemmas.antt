@@ -233,18 +233,16 @@ module _ {S W : Type 0} (seal_of : Seal) (inner_appended : W → List ℕ → W 
   -- the inner writer was given nothing
   pub Appended-flushed : (a c : StreamWriter S W) → a.failed ≡ false → c.failed ≡ false → c.key ≡ a.key →
       c.held.items ≡ a.held.items → c.sealed ≡ a.sealed → inner_appended a.inner [] c.inner → Appended seal_of inner_appended a [] c
-  Appended-flushed a c good good_after key held sealed sent = inr (inr (
-    good,
-    good_after,
-    Took-sent a c [] (record {
-      count = 0;
-      fits = omega arith;
-      same_key = key;
-      sealed = sealed ∙ sym (add-zero a.sealed);
-      held = held ∙ sym (append-nil a.held.items);
-      sent = sent;
-    }) (λ less. absurd (omega (arith, less, sealed))),
-  ))
+  Appended-flushed a c good good_after key held sealed sent =
+      let took = Took-sent a c [] (record {
+        count = 0;
+        fits = omega arith;
+        same_key = key;
+        sealed = sealed ∙ sym (add-zero a.sealed);
+        held = held ∙ sym (append-nil a.held.items);
+        sent = sent;
+      }) (λ less. absurd (omega (arith, less, sealed))) in
+      inr (inr (good, good_after, took))
 
   -- what a writer took that is good
   pub Appended-took : (a c : StreamWriter S W) (x : List ℕ) → c.failed ≡ false → Appended seal_of inner_appended a x c → Took seal_of inner_appended a x c

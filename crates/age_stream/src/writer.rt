@@ -239,7 +239,7 @@ impl<S: Suite, W: Write> StreamWriter<S, W> {
 }
 
 impl<S: Suite, W: Write + Drop> StreamWriter<S, W> {
-    ghost use Rattle.age_stream.specs.Writing.{Finishes, HandsBack, IsFailed, StaysWithin};
+    ghost use Rattle.age_stream.specs.Writing.{Finishes, HandsBack, IsFailed, StaysWithin, inner_of};
 
     /// Seals what is held as the last chunk, writes it, and hands back the inner writer, which isn't flushed: `close`, and the inner writer.
     ///
@@ -256,6 +256,13 @@ impl<S: Suite, W: Write + Drop> StreamWriter<S, W> {
         ensures hands_back { IfOk result (HandsBack ⟦<W as Write>⟧ self) }
     {
         self.close()?;
+        Ok(self.into_inner())
+    }
+
+    /// Hands back the inner writer as it stands. It writes nothing: where the writer wasn't closed, the payload is cut off.
+    pub fn into_inner(self) -> W
+        ensures { result ≡ inner_of self }
+    {
         let StreamWriter {
             alloc: _,
             key: _,
@@ -265,7 +272,7 @@ impl<S: Suite, W: Write + Drop> StreamWriter<S, W> {
             failed: _,
             suite: _,
         } = self;
-        Ok(inner)
+        inner
     }
 }
 
