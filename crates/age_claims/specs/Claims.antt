@@ -91,6 +91,14 @@ HasBegun {S} {W} seal_of below appended before bytes after =
     (start : StreamWriter S W) (key plain : List ℕ) (first : W) → WasMade key first start → appended start plain before → IsGood before
     → AppendsFront below (payload seal_of key (plain ++ bytes)) first (inner_of after)
 
+-- Where a writer was made under a key and took a plaintext since, the writer below has got a beginning of the payload of that plaintext and of
+-- some bytes more, and nothing else, also where the writer failed.
+abbrev pub HasBegunMore : {S W : Type 0} → Seal → (W → List ℕ → W → Type 0) → (StreamWriter S W → List ℕ → StreamWriter S W → Type 0)
+    → StreamWriter S W → StreamWriter S W → Type 0
+HasBegunMore {S} {W} seal_of below appended before after =
+    (start : StreamWriter S W) (key plain : List ℕ) (first : W) → WasMade key first start → appended start plain before
+    → (more : List ℕ) × AppendsFront below (payload seal_of key (plain ++ more)) first (inner_of after)
+
 -- By the payload's length its plaintext has this place, or ends there.
 pub record Reaches (place : ℕ) (sealed : Stretch) : Type 0 where
   pub len : ℕ

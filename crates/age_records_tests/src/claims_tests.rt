@@ -21,7 +21,7 @@ use age_claims::rekey::rekeyed;
 use age_claims::ring::decrypted_by_one_of_many;
 use age_claims::same::decrypted_twice;
 use age_claims::sealed::answers_are_sealed;
-use age_claims::sent::sent_so_far;
+use age_claims::sent::{copied_so_far, sent_so_far};
 use age_claims::standard::{armored_and_back, standard_key};
 use age_claims::tampered::decrypted_beside_a_file;
 use age_claims::turns::read_in_turn;
@@ -407,6 +407,18 @@ fn sent(alloc: Global, plain: &[u8]) -> Result<Vec<u8>, Fail> {
     Ok(writer.finish()?)
 }
 
+// The payload that a copy of a plaintext gives, and then the end.
+fn copied(alloc: Global, plain: &[u8]) -> Result<Vec<u8>, Fail> {
+    let mut writer = StreamWriter::<BenchSuite, Vec<u8>>::with_payload_key(
+        alloc,
+        KEY,
+        Vec::new(alloc),
+    )?;
+    copied_so_far::<BenchSuite, Bytes, Vec<u8>>(alloc, &mut Bytes::new(plain), &mut writer)?;
+    writer.close()?;
+    Ok(writer.into_inner())
+}
+
 type Stream<'a> = StreamReader<BenchSuite, Bytes<'a>>;
 
 const OPS: [Op; 3] = [Op::Read(10), Op::Seek(SeekFrom::End(-5)), Op::Read(10)];
@@ -439,6 +451,7 @@ fn a_payload_gives_what_was_sent(rt: HostRuntime) -> Result<(), Fail> {
     let plain = plaintext(alloc, LENGTH)?;
     let payload = sealed(alloc, &plain)?;
     assert!(rt; sent(alloc, &plain)?.as_slice() == payload.as_slice());
+    assert!(rt; copied(alloc, &plain)?.as_slice() == payload.as_slice());
     assert!(rt; is_answered(alloc, &payload, &plain)?);
     for place in PLACES {
         assert!(rt; is_inside(alloc, &payload, &plain, place)?, "at {place}");
