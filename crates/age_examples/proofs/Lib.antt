@@ -1,6 +1,8 @@
 pub mod Opened
 pub mod Places
 pub mod Alone
+pub mod Back
+pub mod Coming
 pub mod ProtectedKeys
 pub mod BeforeEnd
 pub mod Looked

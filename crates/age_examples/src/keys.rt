@@ -1,7 +1,6 @@
 //! Files to one's own X25519 key.
-ghost use Rattle.std.specs.Prelude.{◌≡◌, ℕ, List, IfOk, IfErr};
-ghost use Rattle.age.specs.FileErrors.{IsDecryptError, IsWant};
-ghost use Rattle.age.specs.Payload.{LastIsNoMiddle};
+ghost use Rattle.std.specs.Prelude.{◌≡◌, [], ◌∷◌, IfOk, IfErr};
+ghost use Rattle.age_examples.specs.Keys.{KeepsApart, RefusesFor};
 
 use crate::several::opened_by_one;
 use age::armor::Format;
@@ -15,8 +14,8 @@ use std::alloc::Global;
 
 /// Encrypts a plaintext to the recipient of an identity, in this form, and decrypts the file with that identity: the plaintext.
 ///
-/// A success is the plaintext, and an error of decryption is want of memory, over a suite that keeps a full last chunk apart from one in
-/// the middle.
+/// Over a suite that keeps a full last chunk apart from one in the middle a success is the plaintext, and it refuses as
+/// `Encryptor::with_recipients` does, with `TooLong` for a plaintext past 2^60 bytes, or for want of memory, and for nothing else.
 pub fn kept_for_oneself<S: Suite>(
     alloc: Global,
     identity: &mut Identity<S>,
@@ -25,8 +24,9 @@ pub fn kept_for_oneself<S: Suite>(
     format: Format,
     plain: &[u8],
 ) -> Result<Vec<u8>, FileError>
-    ensures plaintext { ((key text : List ℕ) → LastIsNoMiddle S.seal_of key text) → IfOk result (λ given. given.items ≡ plain.now) }
-    ensures honest { ((key text : List ℕ) → LastIsNoMiddle S.seal_of key text) → IfErr result (λ e. IsDecryptError e → IsWant e) }
+    ensures plaintext { KeepsApart S.seal_of → IfOk result (λ given. given.items ≡ plain.now) }
+    ensures refused { KeepsApart S.seal_of →
+        IfErr result (RefusesFor ⟦<Recipient<S> as age::Recipient>⟧.wraps (S.public_of identity.old ∷ []) grease draw.old draw.new plain.now) }
 {
     x25519_pair::<S>(identity);
     let recipients = [identity.to_public()];

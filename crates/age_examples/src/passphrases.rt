@@ -1,9 +1,9 @@
 //! Files under a passphrase.
-ghost use Rattle.std.specs.Prelude.{◌≡◌, ◌≤◌, ℕ, List, IfOk, IfErr};
-ghost use Rattle.age.specs.Payload.{LastIsNoMiddle};
-ghost use Rattle.age.specs.FileErrors.{IsDecryptError, IsWant};
+ghost use Rattle.std.specs.Prelude.{◌≡◌, ◌≤◌, [], ◌∷◌, Err, IfOk, IfErr, None};
+ghost use Rattle.age.specs.Encrypting.{Prepares};
+ghost use Rattle.age.specs.Scrypt.{PassphraseRecipient, WrapsUnder};
 ghost use Rattle.age.specs.ScryptLaws.{IsMeantFor};
-ghost use Rattle.age_examples.specs.Keys.{IsWhole};
+ghost use Rattle.age_examples.specs.Keys.{IsWhole, KeepsApart, RefusesPlain, RefusesUnless};
 
 use age::draw::Draw;
 use age::io::{Error, write_all};
@@ -18,7 +18,8 @@ use std::alloc::Global;
 
 // The file of a plaintext that was prepared for.
 fn file_of<S: Suite>(alloc: Global, encryptor: Encryptor<S>, plain: &[u8]) -> Result<Vec<u8>, Error>
-    ensures { IfOk result (λ file. IsWhole S.seal_of encryptor plain.now file.items) }
+    ensures made { IfOk result (λ file. IsWhole S.seal_of encryptor plain.now file.items) }
+    ensures refused { IfErr result (RefusesPlain plain.now) }
 {
     // Facts for the proof alone.
     files_carry_themselves::<S>();
@@ -31,8 +32,9 @@ fn file_of<S: Suite>(alloc: Global, encryptor: Encryptor<S>, plain: &[u8]) -> Re
 
 /// Encrypts a plaintext under a passphrase with a work factor from 1 to 63, and decrypts the file with an identity: the plaintext.
 ///
-/// Where the identity has the passphrase and takes the work factor, a success is the plaintext, and an error of decryption is want of
-/// memory, over a suite that keeps a full last chunk apart from one in the middle.
+/// Where the identity has the passphrase and takes the work factor, over a suite that keeps a full last chunk apart from one in the middle,
+/// a success is the plaintext, and it refuses as `Encryptor::with_user_passphrase` does, with `TooLong` for a plaintext past 2^60 bytes, or
+/// for want of memory, and for nothing else.
 pub fn kept_under_a_passphrase<S: Suite>(
     alloc: Global,
     passphrase: SecretString,
@@ -43,10 +45,12 @@ pub fn kept_under_a_passphrase<S: Suite>(
 ) -> Result<Vec<u8>, FileError>
     requires some { 1 ≤ log_n }
     requires most { log_n ≤ 63 }
-    ensures plaintext { IsMeantFor (record { passphrase = passphrase; factor = log_n }) identity.old →
-        ((key text : List ℕ) → LastIsNoMiddle S.seal_of key text) → IfOk result (λ given. given.items ≡ plain.now) }
-    ensures honest { IsMeantFor (record { passphrase = passphrase; factor = log_n }) identity.old →
-        ((key text : List ℕ) → LastIsNoMiddle S.seal_of key text) → IfErr result (λ e. IsDecryptError e → IsWant e) }
+    ensures plaintext { IsMeantFor (record { passphrase = passphrase; factor = log_n }) identity.old → KeepsApart S.seal_of →
+        IfOk result (λ given. given.items ≡ plain.now) }
+    ensures refused { let recipient : PassphraseRecipient = record { passphrase = passphrase; factor = log_n } in
+        IsMeantFor recipient identity.old → KeepsApart S.seal_of →
+        IfErr result (RefusesUnless (λ e. Prepares (WrapsUnder S.seal_of S.stretch_of S.accepts) (recipient ∷ []) None draw.old (Err e) draw.new)
+        (RefusesPlain plain.now)) }
 {
     // Facts for the proof alone.
     passphrase_files::<S>();

@@ -1,6 +1,6 @@
 //! Keys that a passphrase protects.
-ghost use Rattle.std.specs.Prelude.{IfOk, IfSome, IsTrue};
-ghost use Rattle.age_examples.specs.ProtectedKeys.{AreOfProtected};
+ghost use Rattle.std.specs.Prelude.{◌≡◌, IfErr, IfOk, IfSome, IsTrue, None};
+ghost use Rattle.age_examples.specs.ProtectedKeys.{AreOfProtected, HasNoPassphrase, RefusesRecipients};
 
 use age::Callbacks;
 use age::encrypted::Identity;
@@ -16,14 +16,17 @@ use std::alloc::Global;
 /// isn't one of a passphrase.
 ///
 /// Where the reader tells its bytes, it had the file of an identity file's text under the passphrase that was given, and these are the
-/// recipients of that text's lines, all of which are native.
+/// recipients of that text's lines, all of which are native. It refuses with `Decrypt` as `Decryptor::new`, and then nobody was asked, and
+/// with `Encrypt` as `Identity::recipients`, of a file of a passphrase alone.
 pub fn recipients_of<S: Suite, R: Read + Drop, C: Callbacks>(
     alloc: Global,
     input: R,
     callbacks: C,
 ) -> Result<Option<Vec<Recipient<S>>>, FileError>
-    ensures { IsTrue (R.tells input) → IsTrue (R.steady input) → IfOk result (λ made. IfSome made (λ recipients.
+    ensures recipients { IsTrue (R.tells input) → IsTrue (R.steady input) → IfOk result (λ made. IfSome made (λ recipients.
         AreOfProtected ⟦<S as Suite>⟧ ⟦<StreamReader<S, R> as Read>⟧ C.gives_passphrase (R.rest input) callbacks recipients.items)) }
+    ensures none { IsTrue (R.tells input) → IfOk result (λ made. made ≡ None → HasNoPassphrase (R.rest input) (R.place input)) }
+    ensures refused { IfErr result (RefusesRecipients ⟦<S as Suite>⟧ ⟦<StreamReader<S, R> as Read>⟧ C.gives_passphrase input callbacks) }
 {
     // For the proof alone.
     opened_files::<S, R, C>();

@@ -1,8 +1,8 @@
 //! A file for several recipients, opened by the identity of one of them.
-ghost use Rattle.std.specs.Prelude.{◌≡◌, ℕ, List, IfOk, IfErr};
-ghost use Rattle.age.specs.Payload.{LastIsNoMiddle};
+ghost use Rattle.std.specs.Prelude.{◌≡◌, List, [], ◌∷◌, IfOk, IfErr};
 ghost use Rattle.age.specs.Several.{BelongsToOne};
-ghost use Rattle.age.specs.FileErrors.{IsDecryptError, IsWant};
+ghost use Rattle.age.specs.Stanza.{StanzaValue};
+ghost use Rattle.age_examples.specs.Keys.{AlwaysGiveKeysBack, GiveKeysBack, KeepsApart, RefusesFor};
 
 use age::armor::Format;
 use age::draw::Draw;
@@ -17,8 +17,9 @@ use std::alloc::Global;
 
 /// Encrypts a plaintext to all recipients, in this form, and decrypts the file with one identity: the plaintext.
 ///
-/// Where the identity belongs to one of the recipients, a success is the plaintext, and an error of decryption is want of memory,
-/// over a suite that keeps a full last chunk apart from one in the middle.
+/// Where the identity belongs to one of the recipients, over a suite that keeps a full last chunk apart from one in the middle, a success
+/// is the plaintext, and it refuses as `Encryptor::with_recipients` does, with `TooLong` for a plaintext past 2^60 bytes, or for want of
+/// memory, and for nothing else.
 pub fn opened_by_one<S: Suite, T: Recipient, I: Identity>(
     alloc: Global,
     recipients: &[T],
@@ -28,10 +29,10 @@ pub fn opened_by_one<S: Suite, T: Recipient, I: Identity>(
     format: Format,
     plain: &[u8],
 ) -> Result<Vec<u8>, FileError>
-    ensures plaintext { BelongsToOne T.wraps I.unwraps recipients.now identity.old → ((key text : List ℕ) → LastIsNoMiddle S.seal_of key text) →
+    ensures plaintext { BelongsToOne T.wraps I.unwraps recipients.now identity.old → KeepsApart S.seal_of →
         IfOk result (λ given. given.items ≡ plain.now) }
-    ensures honest { BelongsToOne T.wraps I.unwraps recipients.now identity.old → ((key text : List ℕ) → LastIsNoMiddle S.seal_of key text) →
-        IfErr result (λ e. IsDecryptError e → IsWant e) }
+    ensures refused { BelongsToOne T.wraps I.unwraps recipients.now identity.old → KeepsApart S.seal_of →
+        IfErr result (RefusesFor T.wraps recipients.now grease draw.old draw.new plain.now) }
 {
     // Facts for the proof alone.
     several_recipients::<S, T, I>();
@@ -54,4 +55,17 @@ pub fn opened_by_one<S: Suite, T: Recipient, I: Identity>(
         Err(error) => Err(FileError::Decrypt(error)),
         Ok(given) => Ok(given),
     }
+}
+
+/// Who always gives keys back, for proofs alone: it does nothing.
+///
+/// - `always`: one identity that belongs to one of the recipients does.
+/// - `no_other`: identities that always give the file key that was wrapped give no other one.
+pub fn keys_come_back<S: Suite, T: Recipient, I: Identity>()
+    ensures always { (recipients : List T) (identity : I) (grease : StanzaValue) → BelongsToOne T.wraps I.unwraps recipients identity →
+        AlwaysGiveKeysBack T.wraps I.unwraps recipients grease (identity ∷ []) }
+    ensures no_other { (recipients : List T) (grease : StanzaValue) (identities : List I) →
+        AlwaysGiveKeysBack T.wraps I.unwraps recipients grease identities → GiveKeysBack T.wraps I.unwraps recipients grease identities }
+{
+    several_recipients::<S, T, I>();
 }

@@ -1,11 +1,11 @@
 //! A file encrypted and decrypted in memory.
-ghost use Rattle.std.specs.Prelude.{◌≡◌, IfOk, Some};
-ghost use Rattle.age_examples.specs.Keys.{GiveKeysBack};
+ghost use Rattle.std.specs.Prelude.{◌≡◌, IfErr, IfOk};
+ghost use Rattle.age_examples.specs.Keys.{AlwaysGiveKeysBack, GiveKeysBack, KeepsApart, RefusesFor};
 
 use age::draw::Draw;
 use age::format::Grease;
 use age::io::{Bytes, read_to_end, write_all};
-use age::laws::one_plaintext;
+use age::laws::{file_opens, front_is_accepted, one_plaintext};
 use age::streaming::FileError;
 use age::suite::Suite;
 use age::suite::laws::known_bytes;
@@ -15,9 +15,9 @@ use std::alloc::Global;
 /// Encrypts a plaintext to the recipients, and decrypts the file again with the identities.
 ///
 /// Where the identities give no other file key to what the recipients answer than the one that these wrapped, a success is the
-/// plaintext. It refuses as `Encryptor::with_recipients` does, and then no identity was asked, as `StreamWriter` with
-/// `TooLong` for a plaintext past 2^60 bytes, and as `Decryptor::decrypt` and its reader. After a refusal `draw` has lost what was
-/// taken before it, and nothing is given.
+/// plaintext. Where they always give that one, over a suite that keeps a full last chunk apart from one in the middle, it refuses as
+/// `Encryptor::with_recipients` does, and then no identity was asked, with `TooLong` for a plaintext past 2^60 bytes, or for want of
+/// memory, and for nothing else. After a refusal `draw` has lost what was taken before it, and nothing is given.
 pub fn there_and_back<S: Suite>(
     alloc: Global,
     recipients: &[Box<dyn Recipient>],
@@ -26,11 +26,15 @@ pub fn there_and_back<S: Suite>(
     grease: Grease,
     plain: &[u8],
 ) -> Result<Vec<u8>, FileError>
-    ensures { GiveKeysBack ⟦<Box<dyn Recipient> as Recipient>⟧.wraps ⟦<Box<dyn Identity> as Identity>⟧.unwraps
+    ensures plaintext { GiveKeysBack ⟦<Box<dyn Recipient> as Recipient>⟧.wraps ⟦<Box<dyn Identity> as Identity>⟧.unwraps
         recipients.now grease identities.old → IfOk result (λ back. back.items ≡ plain.now) }
+    ensures refused { let wraps = ⟦<Box<dyn Recipient> as Recipient>⟧.wraps in AlwaysGiveKeysBack wraps ⟦<Box<dyn Identity> as Identity>⟧.unwraps
+        recipients.now grease identities.old → KeepsApart S.seal_of → IfErr result (RefusesFor wraps recipients.now grease draw.old draw.new plain.now) }
 {
     // Facts for the proof alone, here and at the end.
     one_plaintext::<S>();
+    file_opens::<S, Bytes>();
+    front_is_accepted::<Bytes>();
     known_bytes(plain);
     let encryptor = Encryptor::<S>::with_recipients(alloc, recipients, draw, grease)?;
     let mut writer = encryptor.wrap_output(alloc, Vec::new(alloc))?;

@@ -1,11 +1,13 @@
-use Rattle.std.proofs.Common.{◌≡◌, refl, subst, sym, Ok}
+use Rattle.std.proofs.Common.{◌≡◌, refl, subst, sym, inl, Ok}
 use Rattle.age.specs.Bytes.{AreBytes}
+use Rattle.age.specs.ErrorLemmas.{of_error}
 use Rattle.age.specs.File.{file_text}
+use Rattle.age_examples.proofs.Back.{want-handed, unwritten, unfinished}
 use Rattle.age_examples.specs.Keys.{IsWhole}
 use Rattle.age_examples.proofs.passphrases.file_of.Goals as goal
 
-pub returns : goal.returns
-returns g c =
+pub returns-clause-made : goal.returns-clause-made
+returns-clause-made g c =
     let seal_of = g.S.Suite.seal_of in
     let prepared = c.args.encryptor in
     let plain = c.args.plain.now in
@@ -21,3 +23,17 @@ returns g c =
       is_file = started.is_file plain;
       carries = c.files_carry_themselves.ensures _ _ _ text (started.bytes plain bytes) (started.is_file plain);
     })
+
+pub returns-in_err-writer-clause-refused : goal.returns-in_err-writer-clause-refused
+returns-in_err-writer-clause-refused g c =
+    of_error _ _ _ c.from_residual.ensures.1 (inl (want-handed _ c.in_err-writer.ensures.refused.1.why))
+
+pub returns-in_err-write_all-clause-refused : goal.returns-in_err-write_all-clause-refused
+returns-in_err-write_all-clause-refused g c =
+    of_error _ _ _ c.from_residual-in_err-write_all.ensures.1
+    (unwritten _ _ _ c.in_ok-writer.ensures.starts.made _ _ c.in_err-write_all.ensures.writes.why)
+
+pub returns-in_err-file-clause-refused : goal.returns-in_err-file-clause-refused
+returns-in_err-file-clause-refused g c =
+    of_error _ _ _ c.from_residual-in_err-file.ensures.1
+    (unfinished _ _ _ c.in_ok-writer.ensures.starts.made _ c.write_all.new.writer c.in_ok-write_all.ensures.writes.narrows _ c.in_err-file.ensures.why)

@@ -1,14 +1,19 @@
-use Rattle.std.proofs.Common.{rules, ◌≡◌, ◌∙◌, refl, sym, ap, subst, Ok, List, ℕ}
+use Rattle.std.proofs.Common.{rules, ◌≡◌, ◌∙◌, refl, sym, ap, subst, arith, inl, Ok, Err, List, ℕ}
+use Rattle.age.below.age_format.specs.contracts.identity.BoxDynIdentityIdentity.TheImpl as boxed
 use Rattle.age.specs.Bytes.{AreBytes}
+use Rattle.age.specs.ErrorLemmas.{of_error}
 use Rattle.age.specs.Stretch.{whole, stretch-ext}
 use Rattle.age.specs.Decryptor.{header_of}
 use Rattle.age.specs.File.{file_text, IsFileOf}
 use Rattle.age.proofs.Opened.{decided_key}
+use Rattle.age.proofs.OpenedFor.{asked, not_asked, stands_or_want}
+use Rattle.age.proofs.Parts.{memory_only}
+use Rattle.age_examples.proofs.Back.{want-handed, unwritten, unfinished, file-for-them}
 use Rattle.age_examples.proofs.Opened.{same_front}
 use Rattle.age_examples.proofs.there_and_back.there_and_back.Goals as goal
 
-pub returns : goal.returns
-returns g c = λ fits.
+pub returns-clause-plaintext : goal.returns-clause-plaintext
+returns-clause-plaintext g c = λ fits.
     let seal_of = g.S.Suite.seal_of in
     let prepared = c.in_ok-encryptor.encryptor in
     let plain = c.args.plain.now in
@@ -36,3 +41,84 @@ returns g c = λ fits.
     let back_bytes : AreBytes back = search rules in
     c.one_plaintext.ensures.plaintext prepared.file_key h.stanzas prepared.stanzas back plain text back_bytes plain_bytes
     (subst (λ (k : List ℕ). IsFileOf seal_of k h.stanzas back text) same_key opened) written
+
+pub returns-in_err-encryptor-clause-refused : goal.returns-in_err-encryptor-clause-refused
+returns-in_err-encryptor-clause-refused g c = λ always keeps.
+    of_error _ _ _ c.from_residual.ensures.1 c.in_err-encryptor.ensures
+
+pub returns-in_err-writer-clause-refused : goal.returns-in_err-writer-clause-refused
+returns-in_err-writer-clause-refused g c = λ always keeps.
+    of_error _ _ _ c.from_residual-in_err-writer.ensures.1 (inl (want-handed _ c.in_err-writer.ensures.refused.1.why))
+
+pub returns-in_err-write_all-clause-refused : goal.returns-in_err-write_all-clause-refused
+returns-in_err-write_all-clause-refused g c = λ always keeps.
+    of_error _ _ _ c.from_residual-in_err-write_all.ensures.1
+    (unwritten _ _ _ c.in_ok-writer.ensures.starts.made _ _ c.in_err-write_all.ensures.writes.why)
+
+pub returns-in_err-file-clause-refused : goal.returns-in_err-file-clause-refused
+returns-in_err-file-clause-refused g c = λ always keeps.
+    of_error _ _ _ c.from_residual-in_err-file.ensures.1
+    (unfinished _ _ _ c.in_ok-writer.ensures.starts.made _ c.write_all.new.writer c.in_ok-write_all.ensures.writes.narrows _ c.in_err-file.ensures.why)
+
+pub returns-in_err-decryptor-clause-refused : goal.returns-in_err-decryptor-clause-refused
+returns-in_err-decryptor-clause-refused g c = λ always keeps.
+    let seal_of = g.S.Suite.seal_of in
+    let prepared = c.in_ok-encryptor.encryptor in
+    let plain = c.args.plain.now in
+    let text = file_text seal_of prepared.file_key prepared.stanzas prepared.nonce plain in
+    let started = c.in_ok-writer.ensures in
+    let taken = c.in_ok-write_all.ensures.writes.takes_all refl in
+    let is : c.in_ok-file.file.items ≡ text =
+    rw c.new.ensures.items at (started.file refl plain c.write_all.new.writer (Ok c.in_ok-file.file) taken (c.in_ok-file.ensures.ok refl)) in
+    let rest = c.new-2.ensures.rest ∙ ap whole (c.deref.ensures.value ∙ is) in
+    let unwraps = (boxed.ghosts g.dyn-2).unwraps in
+    let for = file-for-them _ unwraps seal_of _ _ c.args.identities.now always keeps c.args.draw.now _ prepared plain text _ c.in_ok-encryptor.ensures
+    (started.is_file plain) c.known_bytes.ensures (c.in_ok-file.ensures.within _ _ _ _ started.starts.made taken) (sym (ap (λ s. s.bytes) rest)) in
+    of_error _ _ _ c.from_residual-in_err-decryptor.ensures.1
+    (stands_or_want g.S.Suite _ unwraps c.front_is_accepted.ensures c.file_opens.ensures.payload c.file_opens.ensures.content
+    c.args.identities.now c.args.identities.now _ refl refl plain for (Err c.in_err-decryptor.field-0.0) tt (inl (refl, c.in_err-decryptor.ensures.refused)) (λ t. refl))
+
+pub returns-in_err-reader-clause-refused : goal.returns-in_err-reader-clause-refused
+returns-in_err-reader-clause-refused g c = λ always keeps.
+    let seal_of = g.S.Suite.seal_of in
+    let prepared = c.in_ok-encryptor.encryptor in
+    let plain = c.args.plain.now in
+    let text = file_text seal_of prepared.file_key prepared.stanzas prepared.nonce plain in
+    let started = c.in_ok-writer.ensures in
+    let taken = c.in_ok-write_all.ensures.writes.takes_all refl in
+    let is : c.in_ok-file.file.items ≡ text =
+    rw c.new.ensures.items at (started.file refl plain c.write_all.new.writer (Ok c.in_ok-file.file) taken (c.in_ok-file.ensures.ok refl)) in
+    let rest = c.new-2.ensures.rest ∙ ap whole (c.deref.ensures.value ∙ is) in
+    let unwraps = (boxed.ghosts g.dyn-2).unwraps in
+    let for = file-for-them _ unwraps seal_of _ _ c.args.identities.now always keeps c.args.draw.now _ prepared plain text _ c.in_ok-encryptor.ensures
+    (started.is_file plain) c.known_bytes.ensures (c.in_ok-file.ensures.within _ _ _ _ started.starts.made taken) (sym (ap (λ s. s.bytes) rest)) in
+    let front = c.in_ok-decryptor.ensures in
+    let (answer, first, decrypts) = c.in_err-reader.ensures in
+    of_error _ _ _ c.from_residual-in_err-reader.ensures.1
+    (stands_or_want g.S.Suite _ unwraps c.front_is_accepted.ensures c.file_opens.ensures.payload c.file_opens.ensures.content
+    c.args.identities.now c.decrypt.new.identities _ refl refl plain for (Err c.in_err-reader.field-0.0) tt
+    (not_asked unwraps _ _ _ _ _ _ answer (Err c.in_err-reader.field-0.0)
+    (record { same = front.keeps; narrows = front.narrows; front = front.front; first = first }) decrypts) (λ t. refl))
+
+pub returns-in_err-read_to_end-clause-refused : goal.returns-in_err-read_to_end-clause-refused
+returns-in_err-read_to_end-clause-refused g c = λ always keeps.
+    let seal_of = g.S.Suite.seal_of in
+    let prepared = c.in_ok-encryptor.encryptor in
+    let plain = c.args.plain.now in
+    let text = file_text seal_of prepared.file_key prepared.stanzas prepared.nonce plain in
+    let started = c.in_ok-writer.ensures in
+    let taken = c.in_ok-write_all.ensures.writes.takes_all refl in
+    let is : c.in_ok-file.file.items ≡ text =
+    rw c.new.ensures.items at (started.file refl plain c.write_all.new.writer (Ok c.in_ok-file.file) taken (c.in_ok-file.ensures.ok refl)) in
+    let rest = c.new-2.ensures.rest ∙ ap whole (c.deref.ensures.value ∙ is) in
+    let unwraps = (boxed.ghosts g.dyn-2).unwraps in
+    let for = file-for-them _ unwraps seal_of _ _ c.args.identities.now always keeps c.args.draw.now _ prepared plain text _ c.in_ok-encryptor.ensures
+    (started.is_file plain) c.known_bytes.ensures (c.in_ok-file.ensures.within _ _ _ _ started.starts.made taken) (sym (ap (λ s. s.bytes) rest)) in
+    let front = c.in_ok-decryptor.ensures in
+    let (answer, first, decrypts) = c.in_ok-reader.ensures in
+    let stands = stands_or_want g.S.Suite _ unwraps c.front_is_accepted.ensures c.file_opens.ensures.payload c.file_opens.ensures.content
+    c.args.identities.now c.decrypt.new.identities _ refl refl plain for (Ok c.in_ok-reader.reader)
+    (asked unwraps _ _ _ _ _ _ answer (Ok c.in_ok-reader.reader)
+    (record { same = front.keeps; narrows = front.narrows; front = front.front; first = first }) decrypts) tt in
+    of_error _ _ _ c.from_residual-in_err-read_to_end.ensures.1
+    (inl (memory_only _ _ _ (ap (λ s. s.ends_well) stands.rest) (c.in_err-read_to_end.ensures.cause refl) (record { same = refl; below = omega arith })))
