@@ -20,7 +20,7 @@ use Rattle.age.specs.Types.{Error, FileError, StreamWriter}
 use Rattle.age.specs.WholeFiles.{RefusesFile}
 use Rattle.age.specs.Writing.{HandsOn, Narrows, OrMemory, Retried}
 use Rattle.age.specs.WritingLemmas.{retried-plain}
-use Rattle.age_examples.specs.Keys.{AlwaysGiveKeysBack, KeepsApart, RefusesPlain, RefusesUnless}
+use Rattle.age_examples.specs.Keys.{AlwaysGiveKeysBack, KeepsApart, IsNotWritten, RefusesUnless}
 
 -- a writer that refuses for want of memory alone, as a list does
 abbrev ForWant : {W : Type 0} → W → ℕ → Error → Type 0
@@ -79,7 +79,7 @@ handed-to list refuses writer size e (inr (inr handed)) = inr (inl (want-retried
 
 -- a list isn't given a plaintext of so many bytes
 pub unlisted : {L : Type 0} (list : L) (size : ℕ) (plain : List ℕ) (e : Error) → size ≡ length plain
-    → RefusesFile (λ (l : L) (n : ℕ) (it : Error). it ≡ OutOfMemory) list size e → RefusesPlain plain e
+    → RefusesFile (λ (l : L) (n : ℕ) (it : Error). it ≡ OutOfMemory) list size e → IsNotWritten plain e
 unlisted list size plain e is (inl long) = inr (long.0, subst (λ n. 2 ^ 60 < n) is long.1)
 unlisted list size plain e is (inr (inl memory)) = inl memory
 unlisted list size plain e is (inr (inr handed)) = inl (want-retried list handed.0 e handed.1)

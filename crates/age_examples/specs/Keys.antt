@@ -37,8 +37,8 @@ abbrev pub KeepsApart : Seal → Type 0
 KeepsApart seal_of = (key plain : List ℕ) → LastIsNoMiddle seal_of key plain
 
 -- Why a plaintext isn't written: memory was refused, or it has more than 2^60 bytes.
-abbrev pub RefusesPlain : List ℕ → Error → Type 0
-RefusesPlain plain e = (e ≡ OutOfMemory) ⊎ ((e ≡ TooLong) × (2 ^ 60 < length plain))
+abbrev pub IsNotWritten : List ℕ → Error → Type 0
+IsNotWritten plain e = (e ≡ OutOfMemory) ⊎ ((e ≡ TooLong) × (2 ^ 60 < length plain))
 
 -- Why it isn't encrypted and decrypted again: it wasn't prepared for, for this refusal; it isn't written, for this one; or memory was refused.
 abbrev pub RefusesUnless : (EncryptRefusal → Type 0) → (Error → Type 0) → FileError → Type 0
@@ -53,7 +53,7 @@ module _ {R : Type 0} (wraps : R → List ℕ → List ℕ → WrapAnswer → Li
 
   -- why a plaintext in memory doesn't come back
   abbrev pub RefusesFor : List ℕ → FileError → Type 0
-  RefusesFor plain = RefusesUnless Unprepared (RefusesPlain plain)
+  RefusesFor plain = RefusesUnless Unprepared (IsNotWritten plain)
 
   -- why so many bytes don't come to a writer
   abbrev pub RefusesTo : {W : Type 0} → (W → ℕ → Error → Type 0) → W → ℕ → FileError → Type 0

@@ -3,7 +3,7 @@ ghost use Rattle.std.specs.Prelude.{◌≡◌, ◌≤◌, [], ◌∷◌, Err, If
 ghost use Rattle.age.specs.Encrypting.{Prepares};
 ghost use Rattle.age.specs.Scrypt.{PassphraseRecipient, WrapsUnder};
 ghost use Rattle.age.specs.ScryptLaws.{IsMeantFor};
-ghost use Rattle.age_examples.specs.Keys.{IsWhole, KeepsApart, RefusesPlain, RefusesUnless};
+ghost use Rattle.age_examples.specs.Keys.{IsWhole, KeepsApart, IsNotWritten, RefusesUnless};
 
 use age::draw::Draw;
 use age::io::{Error, write_all};
@@ -19,7 +19,7 @@ use std::alloc::Global;
 // The file of a plaintext that was prepared for.
 fn file_of<S: Suite>(alloc: Global, encryptor: Encryptor<S>, plain: &[u8]) -> Result<Vec<u8>, Error>
     ensures made { IfOk result (λ file. IsWhole S.seal_of encryptor plain.now file.items) }
-    ensures refused { IfErr result (RefusesPlain plain.now) }
+    ensures refused { IfErr result (IsNotWritten plain.now) }
 {
     // Facts for the proof alone.
     files_carry_themselves::<S>();
@@ -50,7 +50,7 @@ pub fn kept_under_a_passphrase<S: Suite>(
     ensures refused { let recipient : PassphraseRecipient = record { passphrase = passphrase; factor = log_n } in
         IsMeantFor recipient identity.old → KeepsApart S.seal_of →
         IfErr result (RefusesUnless (λ e. Prepares (WrapsUnder S.seal_of S.stretch_of S.accepts) (recipient ∷ []) None draw.old (Err e) draw.new)
-        (RefusesPlain plain.now)) }
+        (IsNotWritten plain.now)) }
 {
     // Facts for the proof alone.
     passphrase_files::<S>();

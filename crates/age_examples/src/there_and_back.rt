@@ -28,8 +28,9 @@ pub fn there_and_back<S: Suite>(
 ) -> Result<Vec<u8>, FileError>
     ensures plaintext { GiveKeysBack ⟦<Box<dyn Recipient> as Recipient>⟧.wraps ⟦<Box<dyn Identity> as Identity>⟧.unwraps
         recipients.now grease identities.old → IfOk result (λ back. back.items ≡ plain.now) }
-    ensures refused { let wraps = ⟦<Box<dyn Recipient> as Recipient>⟧.wraps in AlwaysGiveKeysBack wraps ⟦<Box<dyn Identity> as Identity>⟧.unwraps
-        recipients.now grease identities.old → KeepsApart S.seal_of → IfErr result (RefusesFor wraps recipients.now grease draw.old draw.new plain.now) }
+    ensures refused { let wraps = ⟦<Box<dyn Recipient> as Recipient>⟧.wraps in
+        AlwaysGiveKeysBack wraps ⟦<Box<dyn Identity> as Identity>⟧.unwraps recipients.now grease identities.old →
+        KeepsApart S.seal_of → IfErr result (RefusesFor wraps recipients.now grease draw.old draw.new plain.now) }
 {
     // Facts for the proof alone, here and at the end.
     one_plaintext::<S>();
