@@ -1,5 +1,6 @@
 pub mod Alone
 pub mod AtOnce
+pub mod BegunFiles
 pub mod Belongs
 pub mod BothDevices
 pub mod Changed

@@ -11,7 +11,7 @@ use Rattle.age.specs.DecryptErrors.{decrypt_refusal}
 use Rattle.age.specs.EncryptErrors.{EncryptRefusal, encrypt_refusal}
 use Rattle.age.specs.Encrypting.{Prepared}
 use Rattle.age.specs.ErrorVariants.{OutOfMemory, TooLong}
-use Rattle.age.specs.File.{file_front}
+use Rattle.age.specs.File.{file_front, file_text}
 use Rattle.age.specs.FileErrorVariants as variant
 use Rattle.age.specs.Identities.{UnwrapAnswer, Unwraps, CarriesFile, GivesFirst, IsFileFor}
 use Rattle.age.specs.OpVariants.{Read, Seek}
@@ -98,6 +98,11 @@ abbrev pub HasBegunMore : {S W : Type 0} → Seal → (W → List ℕ → W → 
 HasBegunMore {S} {W} seal_of below appended before after =
     (start : StreamWriter S W) (key plain : List ℕ) (first : W) → WasMade key first start → appended start plain before
     → (more : List ℕ) × AppendsFront below (payload seal_of key (plain ++ more)) first (inner_of after)
+
+-- Of a file that was prepared a beginning was appended, with whatever plaintext it goes on.
+abbrev pub HasBegunFile : {W : Type 0} → Seal → (W → List ℕ → W → Type 0) → Prepared → W → W → Type 0
+HasBegunFile seal_of appended file old new =
+    (plain : List ℕ) × AppendsFront appended (file_text seal_of file.file_key file.stanzas file.nonce plain) old new
 
 -- By the payload's length its plaintext has this place, or ends there.
 pub record Reaches (place : ℕ) (sealed : Stretch) : Type 0 where

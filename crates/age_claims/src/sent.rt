@@ -1,8 +1,10 @@
-//! What lies below a writer of a payload, whatever a write or a copy to it answers.
-ghost use Rattle.std.specs.Prelude.{IsTrue};
+//! What lies below a writer of a payload or of a bare file, whatever a write or a copy to it answers.
+ghost use Rattle.std.specs.Prelude.{IsTrue, IfOk, OnOk};
+ghost use Rattle.age.specs.File.{file_text};
 ghost use Rattle.age.specs.StreamWriting.{inner_of};
-ghost use Rattle.age_claims.specs.Claims.{HasBegun, HasBegunMore};
+ghost use Rattle.age_claims.specs.Claims.{HasBegun, HasBegunFile, HasBegunMore};
 
+use age::Encryptor;
 use age::io::{Error, Read, Write, copy_all};
 use age::stream::StreamWriter;
 use age::stream::laws::sent_law;
@@ -38,4 +40,31 @@ pub fn copied_so_far<S: Suite, R: Read, W: Write>(
 {
     sent_law::<S, W>();
     copy_all(alloc, reader, writer)
+}
+
+/// Writes the bare file of what a reader still has, as it was prepared, and hands the output back, with what came of it, once the header and
+/// the nonce were written. Reader and output tell their bytes.
+///
+/// - `begun`: whatever came of it, the output was given a beginning of the file of some plaintext, and nothing else: no byte of a plaintext
+///   in clear, also where the reader or the output failed midway.
+/// - `whole`: a success says that what the reader had ended well, and that the output was given all of its file.
+pub fn encrypted_so_far<S: Suite, R: Read, W: Write + Drop>(
+    alloc: Global,
+    encryptor: Encryptor<S>,
+    reader: &mut R,
+    output: W,
+) -> Result<(W, Result<(), Error>), Error>
+    ensures begun { IsTrue (R.tells reader.old) → IsTrue (W.tells output) → IfOk result (λ given. HasBegunFile S.seal_of W.appended encryptor output given.0) }
+    ensures whole { IsTrue (R.tells reader.old) → IsTrue (W.tells output) → IfOk result (λ given. OnOk given.1 (IsTrue (R.rest reader.old).ends_well
+        × W.appended output (file_text S.seal_of encryptor.file_key encryptor.stanzas encryptor.nonce (R.rest reader.old).bytes) given.0)) }
+{
+    sent_law::<S, W>();
+    let mut writer = encryptor.wrap_output(alloc, output)?;
+    match copy_all(alloc, reader, &mut writer) {
+        Err(error) => Ok((writer.into_inner(), Err(error))),
+        Ok(()) => {
+            let closed = writer.close();
+            Ok((writer.into_inner(), closed))
+        }
+    }
 }

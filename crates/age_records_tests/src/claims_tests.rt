@@ -5,7 +5,7 @@ use age::armor::{ArmoredReader, Format};
 use age::io::{Answer, Bytes, Op, SeekFrom};
 use age::secrecy::SecretString;
 use age::stream::{StreamReader, StreamWriter};
-use age::{scrypt, x25519};
+use age::{Encryptor, scrypt, x25519};
 use age_bench::recipient::{BenchIdentity, BenchRecipient};
 use age_bench::suite::BenchSuite;
 use age_claims::devices::kept_between_devices;
@@ -21,7 +21,7 @@ use age_claims::rekey::rekeyed;
 use age_claims::ring::decrypted_by_one_of_many;
 use age_claims::same::decrypted_twice;
 use age_claims::sealed::answers_are_sealed;
-use age_claims::sent::{copied_so_far, sent_so_far};
+use age_claims::sent::{copied_so_far, encrypted_so_far, sent_so_far};
 use age_claims::standard::{armored_and_back, standard_key};
 use age_claims::tampered::decrypted_beside_a_file;
 use age_claims::turns::read_in_turn;
@@ -419,6 +419,25 @@ fn copied(alloc: Global, plain: &[u8]) -> Result<Vec<u8>, Fail> {
     Ok(writer.into_inner())
 }
 
+// The bare file that a copy of a plaintext gives, as it was prepared for `bench`.
+fn encrypted(alloc: Global, plain: &[u8]) -> Result<Vec<u8>, Fail> {
+    let mut draw = zeros(alloc, 32)?;
+    let encryptor = Encryptor::<BenchSuite>::with_recipients(
+        alloc,
+        &[BenchRecipient],
+        &mut draw,
+        grease(alloc)?,
+    )?;
+    let (file, done) = encrypted_so_far::<BenchSuite, Bytes, Vec<u8>>(
+        alloc,
+        encryptor,
+        &mut Bytes::new(plain),
+        Vec::new(alloc),
+    )?;
+    done?;
+    Ok(file)
+}
+
 type Stream<'a> = StreamReader<BenchSuite, Bytes<'a>>;
 
 const OPS: [Op; 3] = [Op::Read(10), Op::Seek(SeekFrom::End(-5)), Op::Read(10)];
@@ -452,6 +471,8 @@ fn a_payload_gives_what_was_sent(rt: HostRuntime) -> Result<(), Fail> {
     let payload = sealed(alloc, &plain)?;
     assert!(rt; sent(alloc, &plain)?.as_slice() == payload.as_slice());
     assert!(rt; copied(alloc, &plain)?.as_slice() == payload.as_slice());
+    let file = bench_text(alloc, Format::Binary, &plain)?;
+    assert!(rt; encrypted(alloc, &plain)?.as_slice() == file.as_slice());
     assert!(rt; is_answered(alloc, &payload, &plain)?);
     for place in PLACES {
         assert!(rt; is_inside(alloc, &payload, &plain, place)?, "at {place}");
