@@ -10,3 +10,4 @@ pub mod Hex
 pub mod Words
 pub mod Numbers
 pub mod Keys
+pub mod Sealing

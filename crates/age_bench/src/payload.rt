@@ -14,14 +14,15 @@ ghost use Rattle.age.specs.Copying.{AppendsFront};
 
 use crate::suite::BenchSuite;
 use age::io::{Error, Read, Write, copy_all, flush_retrying};
-use age::stream::{StreamReader, StreamWriter};
+use age::stream::laws::sent_law;
+use age::stream::{ChunkRoom, StreamReader, StreamWriter};
 use age::streaming::FileError;
 use std::alloc::Global;
 
 /// Reads what `reader` still has, and appends its payload under `key` to `writer`, which is flushed.
 ///
-/// A success says that the input ended well, and that what was appended is its payload. It takes the memory of a few
-/// chunks. A plaintext past 2^60 bytes is `TooLong`.
+/// A success says that the input ended well, and that what was appended is its payload. Whatever it answers, what was appended is a
+/// beginning of a payload under the key, of some plaintext. It takes the memory of a few chunks. A plaintext past 2^60 bytes is `TooLong`.
 pub fn seal_all<R: Read, W: Write>(
     alloc: Global,
     key: [u8; 32],
@@ -31,32 +32,50 @@ pub fn seal_all<R: Read, W: Write>(
     ensures payload { IsTrue (R.tells reader.old) → IsTrue (W.tells writer.old) → OnOk result
         (IsTrue (R.rest reader.old).ends_well
         × W.appended writer.old (payload bench_seal key (R.rest reader.old).bytes) writer.new) }
+    ensures front { IsTrue (R.tells reader.old) → IsTrue (W.tells writer.old) →
+        (plain : List ℕ) × AppendsFront W.appended (payload bench_seal key plain) writer.old writer.new }
     // Why it refuses, where the reader has no fault: for want of memory, a plaintext past 2^60 bytes, or as the writer does.
     ensures io { IfErr result IsIoError }
     ensures why { IsTrue (R.tells reader.old) → IsTrue (R.rest reader.old).ends_well → IsQuiet (R.faults reader.old) (R.faults reader.new) →
         IfErr result (IfIo (RefusesFile W.refuses writer.old (length (R.rest reader.old).bytes))) }
 {
-    let _out = seal_into::<R, &mut W>(alloc, key, reader, writer)?;
-    Ok(())
+    let sealed = seal_into::<R, &mut W>(alloc, key, reader, writer);
+    match sealed.1 {
+        Ok(()) => Ok(()),
+        Err(error) => Err(FileError::Io(error)),
+    }
 }
 
-// The same with a writer that is handed in, and handed back.
+// The same with a writer that is handed in, and handed back whatever came of it.
 fn seal_into<R: Read, W: Write + Drop>(
     alloc: Global,
     key: [u8; 32],
     reader: &mut R,
     writer: W,
-) -> Result<W, Error>
-    ensures payload { IsTrue (R.tells reader.old) → IsTrue (W.tells writer) → IfOk result (λ out. IsTrue (R.rest reader.old).ends_well
-        × W.appended writer (payload bench_seal key (R.rest reader.old).bytes) out) }
+) -> (W, Result<(), Error>)
+    ensures payload { IsTrue (R.tells reader.old) → IsTrue (W.tells writer) → OnOk result.1 (IsTrue (R.rest reader.old).ends_well
+        × W.appended writer (payload bench_seal key (R.rest reader.old).bytes) result.0) }
+    ensures front { IsTrue (R.tells reader.old) → IsTrue (W.tells writer) →
+        (plain : List ℕ) × AppendsFront W.appended (payload bench_seal key plain) writer result.0 }
     ensures why { IsTrue (R.tells reader.old) → IsTrue (R.rest reader.old).ends_well → IsQuiet (R.faults reader.old) (R.faults reader.new) →
-        IfErr result (RefusesFile W.refuses writer (length (R.rest reader.old).bytes)) }
+        IfErr result.1 (RefusesFile W.refuses writer (length (R.rest reader.old).bytes)) }
 {
-    let mut stream = StreamWriter::<BenchSuite, W>::with_payload_key(alloc, key, writer)?;
-    copy_all(alloc, reader, &mut stream)?;
-    let mut out = stream.finish()?;
-    flush_retrying(&mut out)?;
-    Ok(out)
+    // For the proof alone.
+    sent_law::<BenchSuite, W>();
+    let room = match ChunkRoom::new(alloc) {
+        Ok(room) => room,
+        Err(error) => return (writer, Err(error)),
+    };
+    let mut stream = StreamWriter::<BenchSuite, W>::with_room(room, key, writer);
+    if let Err(error) = copy_all(alloc, reader, &mut stream) {
+        return (stream.into_inner(), Err(error));
+    }
+    if let Err(error) = stream.close() {
+        return (stream.into_inner(), Err(error));
+    }
+    let mut out = stream.into_inner();
+    let flushed = flush_retrying(&mut out);
+    (out, flushed)
 }
 
 /// Reads a payload under `key` to its end, and appends its plaintext to `writer`.

@@ -1,8 +1,8 @@
 use Rattle.std.specs.Prelude.{◌≡◌, ℕ, Bool, true, false}
-use Rattle.std.proofs.Common.{rules, ◌∙◌, [], List, refl, subst, inl, inr, add-zero}
+use Rattle.std.proofs.Common.{rules, ◌∙◌, ◌++◌, [], List, refl, subst, ap, inl, inr, add-zero}
 use Rattle.std.proofs.lemmas.List.{append-nil}
 use Rattle.age.specs.Types.{Error, StreamWriter}
-use Rattle.age.specs.ErrorLemmas.{of_error}
+use Rattle.std.proofs.lemmas.Result.{IfErr-weaker}
 use Rattle.age.specs.ErrorVariants.{Device}
 use Rattle.age.specs.ErrorKindVariants.{Interrupted}
 use Rattle.age.specs.WholeFiles.{RefusesFile}
@@ -10,6 +10,8 @@ use Rattle.age.specs.Writing.{Narrows, OrMemory, Retried}
 use Rattle.age.specs.WritingLemmas.{retried-plain}
 use Rattle.age.specs.StreamWriting.{Refused, WasMade}
 use Rattle.age.specs.StreamWritingLemmas.{Refused-made, Refused-patient}
+use Rattle.age_bench.specs.Bench.{bench_seal}
+use Rattle.age_bench.proofs.Sealing.{closed-front, front-still, on-ok}
 use Rattle.age_bench.proofs.payload.seal_into.Goals as goal
 
 module _ {S W : Type 0} (refuses : W → ℕ → Error → Type 0) (key : List ℕ) (writer : W) (stream : StreamWriter S W) (made : WasMade key writer stream) where
@@ -31,37 +33,66 @@ is-good : (failed : Bool) → (failed ≡ true → ⊥) → failed ≡ false
 is-good true not = absurd (not refl)
 is-good false not = refl
 
+pub returns-in-Err-copy_all-clause-front : goal.returns-in-Err-copy_all-clause-front
+returns-in-Err-copy_all-clause-front g c = λ reader_told writer_told.
+    let made = c.with_room-stream.ensures in
+    let copied = c.in-Err-copy_all.ensures.front reader_told (made.same_tells ∙ writer_told) in
+    let law = c.sent_law.ensures.calls c.with_room-stream.result c.copy_all.new.writer c.args.key copied.front c.args.writer made.made copied.out in
+    rw c.into_inner.ensures (copied.front ++ law.0, law.1)
+
+pub returns-in-Err-copy_all-clause-why : goal.returns-in-Err-copy_all-clause-why
+returns-in-Err-copy_all-clause-why g c = λ told well quiet.
+    from_copied g.W.Write.refuses c.args.key c.args.writer c.with_room-stream.result c.with_room-stream.ensures.made _ _
+    (c.in-Err-copy_all.ensures.why told well quiet)
+
+pub returns-in-Err-close-clause-front : goal.returns-in-Err-close-clause-front
+returns-in-Err-close-clause-front g c = λ reader_told writer_told.
+    let made = c.with_room-stream.ensures in
+    let told = made.same_tells ∙ writer_told in
+    let copied = c.in_default.ensures in
+    rw c.into_inner-in-Err-close.ensures (closed-front bench_seal g.W.Write.appended _ c.with_room-stream.result c.copy_all.new.writer c.close.new.self
+    c.args.key _ c.args.writer c.sent_law.ensures.calls c.sent_law.ensures.close made.made (copied.all reader_told told).1
+    (λ failed. (c.close.ensures.failed failed).1) (c.close.ensures.front (copied.tells ∙ told)))
+
+pub returns-in-Err-close-clause-why : goal.returns-in-Err-close-clause-why
+returns-in-Err-close-clause-why g c = λ told well quiet.
+    from_later g.W.Write.refuses c.args.key c.args.writer c.with_room-stream.result c.with_room-stream.ensures.made c.copy_all.new.writer _
+    (c.in_default.ensures.narrows told) _ c.in-Err-close.ensures.why
+
 pub returns-clause-payload : goal.returns-clause-payload
 returns-clause-payload g c = λ reader_told writer_told.
-    let made = c.in_ok-stream.ensures in
-    let copied = c.in_ok-copy_all.ensures in
+    let made = c.with_room-stream.ensures in
     let told = made.same_tells ∙ writer_told in
+    let copied = c.in_default.ensures in
     let all = copied.all reader_told told in
-    let done = c.in_ok-out.ensures in
+    let done = c.in_default-close.ensures in
     let sealed = done.ok (copied.tells ∙ told) _ _ _ _ made.made all.1 in
-    let flushed = c.in_ok-flush_retrying.ensures.flushes in
-    (all.0, rw append-nil at (g.met.W.Write.joins _ _ _ _ [] sealed (flushed.nothing (done.hands_back.same_tells ∙ copied.tells ∙ told))))
+    let out_told : g.W.Write.tells c.into_inner-out.result ≡ true =
+    ap g.W.Write.tells c.into_inner-out.ensures ∙ (done.hands_back.same_tells ∙ (copied.tells ∙ told)) in
+    let nothing = rw c.into_inner-out.ensures at (c.flush_retrying-flushed.ensures.flushes.nothing out_told) in
+    on-ok c.flush_retrying-flushed.result (all.0, rw append-nil at (g.met.W.Write.joins _ _ _ _ [] sealed nothing))
 
-pub returns-in_err-stream-clause-why : goal.returns-in_err-stream-clause-why
-returns-in_err-stream-clause-why g c = λ told well quiet.
-    of_error _ _ c.in_err-stream.field-0.0 c.from_residual.ensures.1 (inr (inl c.in_err-stream.ensures.memory))
+pub returns-clause-front : goal.returns-clause-front
+returns-clause-front g c = λ reader_told writer_told.
+    let made = c.with_room-stream.ensures in
+    let told = made.same_tells ∙ writer_told in
+    let copied = c.in_default.ensures in
+    let done = c.in_default-close.ensures in
+    let out_told : g.W.Write.tells c.into_inner-out.result ≡ true =
+    ap g.W.Write.tells c.into_inner-out.ensures ∙ (done.hands_back.same_tells ∙ (copied.tells ∙ told)) in
+    let nothing = rw c.into_inner-out.ensures at (c.flush_retrying-flushed.ensures.flushes.nothing out_told) in
+    let sent = closed-front bench_seal g.W.Write.appended _ c.with_room-stream.result c.copy_all.new.writer c.close.new.self c.args.key _ c.args.writer
+    c.sent_law.ensures.calls c.sent_law.ensures.close made.made (copied.all reader_told told).1 (λ failed. (c.close.ensures.failed failed).1)
+    (c.close.ensures.front (copied.tells ∙ told)) in
+    (sent.0, front-still g.W.Write.appended g.met.W.Write.joins _ c.args.writer _ _ sent.1 nothing)
 
-pub returns-in_err-copy_all-clause-why : goal.returns-in_err-copy_all-clause-why
-returns-in_err-copy_all-clause-why g c = λ told well quiet.
-    of_error _ _ c.in_err-copy_all.field-0.0 c.from_residual-in_err-copy_all.ensures.1
-    (from_copied g.W.Write.refuses c.args.key c.args.writer c.in_ok-stream.stream c.in_ok-stream.ensures.made _ _ (c.in_err-copy_all.ensures.why told well quiet))
-
-pub returns-in_err-out-clause-why : goal.returns-in_err-out-clause-why
-returns-in_err-out-clause-why g c = λ told well quiet.
-    of_error _ _ c.in_err-out.field-0.0 c.from_residual-in_err-out.ensures.1
-    (from_later g.W.Write.refuses c.args.key c.args.writer c.in_ok-stream.stream c.in_ok-stream.ensures.made c.copy_all.new.writer _
-    (c.in_ok-copy_all.ensures.narrows told) _ c.in_err-out.ensures.why)
-
-pub returns-in_err-flush_retrying-clause-why : goal.returns-in_err-flush_retrying-clause-why
-returns-in_err-flush_retrying-clause-why g c = λ told well quiet.
+pub returns-clause-why : goal.returns-clause-why
+returns-clause-why g c = λ told well quiet.
     let later = c.copy_all.new.writer in
-    let done = c.in_ok-out.ensures in
+    let done = c.in_default-close.ensures in
     let good = is-good later.failed (λ failed. search rules) in
-    of_error _ _ c.in_err-flush_retrying.field-0.0 c.from_residual-in_err-flush_retrying.ensures.1
-    (from_later g.W.Write.refuses c.args.key c.args.writer c.in_ok-stream.stream c.in_ok-stream.ensures.made later _ (c.in_ok-copy_all.ensures.narrows told) _
-    (inr (good, inr (done.hands_back.narrows _ (inr (0, c.in_err-flush_retrying.ensures.flushes.why))))))
+    IfErr-weaker c.flush_retrying-flushed.result _ _
+    (λ e why. from_later g.W.Write.refuses c.args.key c.args.writer c.with_room-stream.result c.with_room-stream.ensures.made later _
+    (c.in_default.ensures.narrows told) e
+    (inr (good, inr (done.hands_back.narrows e (inr (0, subst (λ w. Retried g.W.Write.refuses w 0 e) c.into_inner-out.ensures why))))))
+    c.flush_retrying-flushed.ensures.flushes.why
