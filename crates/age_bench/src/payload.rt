@@ -22,7 +22,8 @@ use std::alloc::Global;
 /// Reads what `reader` still has, and appends its payload under `key` to `writer`, which is flushed.
 ///
 /// A success says that the input ended well, and that what was appended is its payload. Whatever it answers, what was appended is a
-/// beginning of a payload under the key, of some plaintext. It takes the memory of a few chunks. A plaintext past 2^60 bytes is `TooLong`.
+/// beginning of a payload under the key, of some plaintext. It takes the memory of a few chunks. A plaintext past 2^60 bytes is `TooLong`,
+/// and any other refusal is the reader's, the writer's or want of memory.
 pub fn seal_all<R: Read, W: Write>(
     alloc: Global,
     key: [u8; 32],

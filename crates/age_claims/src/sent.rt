@@ -29,7 +29,7 @@ pub fn sent_so_far<S: Suite, W: Write>(
 /// bytes; the reader does too.
 ///
 /// Whatever it answers, the writer below was given a beginning of the payload of that plaintext and some bytes more, and nothing else: no
-/// byte of the plaintext in clear, also where the reader or the writer below failed midway.
+/// byte of the plaintext in clear, also where the reader or the writer below failed midway. It refuses as `copy_all` does.
 pub fn copied_so_far<S: Suite, R: Read, W: Write>(
     alloc: Global,
     reader: &mut R,
@@ -43,7 +43,8 @@ pub fn copied_so_far<S: Suite, R: Read, W: Write>(
 }
 
 /// Writes the bare file of what a reader still has, as it was prepared, and hands the output back, with what came of it, once the header and
-/// the nonce were written. Reader and output tell their bytes.
+/// the nonce were written. Reader and output tell their bytes. It refuses as `Encryptor::wrap_output` does, and then the output is gone; what
+/// came of it later is a refusal of `copy_all` or of `StreamWriter::close`.
 ///
 /// - `begun`: whatever came of it, the output was given a beginning of the file of some plaintext, and nothing else: no byte of a plaintext
 ///   in clear, also where the reader or the output failed midway.
