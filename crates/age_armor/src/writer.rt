@@ -78,8 +78,8 @@ impl<W: Write> ArmoredWriter<W> {
         }
     }
 
-    /// `wrap_output`, which hands `inner` back beside the refusal. It refuses as that does. A beginning of the text, whatever follows,
-    /// was written to `inner` then (`front`).
+    /// `wrap_output`, which hands `inner` back beside the refusal. A beginning of the text, whatever follows, was written to it then
+    /// (`front`).
     pub fn begin(alloc: Global, inner: W, format: Format) -> Result<Self, (W, Error)>
         ensures wraps { WrapsOutput ⟦<W as Write>⟧ inner format (result_map_both (λ writer. writer) (λ back. back.1) result) }
         ensures front { IsTrue (W.tells inner) → IfErr result (λ back. (bytes : List ℕ) → AppendsFront W.appended (text_of format bytes) inner back.0) }
