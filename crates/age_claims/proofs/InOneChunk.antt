@@ -1,12 +1,11 @@
 -- A place and room in one chunk, in the words of a read at a place.
-use Rattle.std.specs.Prelude.{◌≡◌, ℕ, Bool, ◌^◌, ◌<◌, ◌≤◌, Option, Some, Result, Ok, Err, nat_le, if◌then◌else◌}
+use Rattle.std.specs.Prelude.{◌≡◌, ℕ, Bool, ◌^◌, Option, Some, Result, Ok, Err, if◌then◌else◌}
 use Rattle.std.proofs.Common.{arith, ap, sym, ◌∙◌}
 use Rattle.std.proofs.lemmas.Bool.{le-leb}
 use Rattle.age.specs.Types.{Error}
 use Rattle.age.specs.ErrorVariants.{PastEnd, TooLong}
 use Rattle.age.specs.SeekFromVariants.{Start}
 use Rattle.age.specs.Cursor.{sought}
-use Rattle.age.specs.Payload.{plain_len}
 use Rattle.age.specs.PayloadTargets.{in_length, sought_in}
 use Rattle.age.specs.StreamAccess.{IsInChunk}
 use Rattle.age_claims.specs.Claims.{IsInOne}
