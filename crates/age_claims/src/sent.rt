@@ -28,8 +28,8 @@ pub fn sent_so_far<S: Suite, W: Write>(
 /// Copies what a reader still has to a `StreamWriter` that was made under a key and took a plaintext since, over a writer that tells its
 /// bytes; the reader does too.
 ///
-/// Whatever it answers, the writer below was given a beginning of the payload of that plaintext and some bytes more, and nothing else: no
-/// byte of the plaintext in clear, also where the reader or the writer below failed midway. It refuses as `copy_all` does.
+/// Whatever it answers, the writer below was given a beginning of the payload of that plaintext and some bytes more, and nothing else,
+/// also where the reader or the writer below failed midway. It refuses as `copy_all` does.
 pub fn copied_so_far<S: Suite, R: Read, W: Write>(
     alloc: Global,
     reader: &mut R,
@@ -46,8 +46,8 @@ pub fn copied_so_far<S: Suite, R: Read, W: Write>(
 /// the nonce were written. Reader and output tell their bytes. It refuses as `Encryptor::wrap_output` does, and then the output is gone; what
 /// came of it later is a refusal of `copy_all` or of `StreamWriter::close`.
 ///
-/// - `begun`: whatever came of it, the output was given a beginning of the file of some plaintext, and nothing else: no byte of a plaintext
-///   in clear, also where the reader or the output failed midway.
+/// - `begun`: whatever came of it, the output was given a beginning of the file of some plaintext, and nothing else, also where the reader
+///   or the output failed midway.
 /// - `whole`: a success says that what the reader had ended well, and that the output was given all of its file.
 pub fn encrypted_so_far<S: Suite, R: Read, W: Write + Drop>(
     alloc: Global,
