@@ -64,6 +64,7 @@ module _ {S : Type 0} (tells : S → Bool) (faults : S → ℕ) (refuses : S →
     narrows = retried-narrows refuses old new n (λ more e h. narrows-now refuses old mid u.narrows (n + more) e (w.narrows more e h));
     interrupted = tt;
     takes_front = λ told. joins old mid new [] (take n bytes) (u.nothing told) (w.takes_front (u.same_tells ∙ told));
+    takes_part = λ told. tt;
     takes_nothing = λ told. tt;
   }
   writes-later old mid new bytes (Err e) u patient w = record {
@@ -76,7 +77,8 @@ module _ {S : Type 0} (tells : S → Bool) (faults : S → ℕ) (refuses : S →
     narrows = tt;
     interrupted = λ is. absurd (patient is);
     takes_front = λ told. tt;
-    takes_nothing = λ told. joins old mid new [] [] (u.nothing told) (w.takes_nothing (u.same_tells ∙ told));
+    takes_part = λ told. let (n, most, out) = w.takes_part (u.same_tells ∙ told) in (n, most, joins old mid new [] (take n bytes) (u.nothing told) out);
+    takes_nothing = λ told is. absurd (patient is);
   }
 
   -- a flush after them, which was not interrupted

@@ -14,6 +14,7 @@ pub mod Keeping
 pub mod Turns
 pub mod Whole
 pub mod Replies
+pub mod CopyingLemmas
 pub mod WritingLemmas
 pub mod ReadingLemmas
 pub mod BehindLemmas

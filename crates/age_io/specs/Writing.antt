@@ -25,7 +25,8 @@ OrMemory refuses writer n e = (e ≡ OutOfMemory) ⊎ refuses writer n e
 abbrev pub HandsOn : {S : Type 0} → (S → ℕ → Error → Type 0) → S → Error → Type 0
 HandsOn refuses writer e = (n : ℕ) × Retried refuses writer n e
 
--- What a write does: at `Ok(n)` the first n bytes are appended, a refusal appended nothing.
+-- What a write does: at `Ok(n)` the first n bytes are appended, and a refusal appended some of the first, or none where it is an interruption,
+-- which can be tried again.
 pub record Writes {S : Type 0} (tells : S → Bool) (faults : S → ℕ) (refuses : S → ℕ → Error → Type 0) (appended : S → List ℕ → S → Type 0)
     (old new : S) (bytes : List ℕ) (result : Result ℕ Error) : Type 0 where
   -- of every writer
@@ -40,7 +41,8 @@ pub record Writes {S : Type 0} (tells : S → Bool) (faults : S → ℕ) (refuse
   pub interrupted : IfErr result (λ e. IsInterruption e → Narrows refuses old 0 new)
   -- of a writer that tells its bytes
   pub takes_front : IsTrue (tells old) → IfOk result (λ n. appended old (take n bytes) new)
-  pub takes_nothing : IsTrue (tells old) → OnErr result (appended old [] new)
+  pub takes_part : IsTrue (tells old) → OnErr result ((n : ℕ) × (n ≤ length bytes) × appended old (take n bytes) new)
+  pub takes_nothing : IsTrue (tells old) → IfErr result (λ e. IsInterruption e → appended old [] new)
 
 -- What a flush does: it appends nothing.
 pub record Flushes {S T : Type 0} (tells : S → Bool) (faults : S → ℕ) (refuses : S → ℕ → Error → Type 0) (appended : S → List ℕ → S → Type 0)

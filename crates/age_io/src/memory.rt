@@ -150,6 +150,8 @@ impl Write for Vec<u8> {
 
     ghost appended = { λ a x b. b.items ≡ a.items ++ x };
 
+    ghost write_besides = { λ old new _ result. OnErr result (new.items ≡ old.items) };
+
     ghost faults_fit = { λ _. Prim.omega arith };
 
     ghost refuses_more = { λ _ _ _ _ _ memory. memory };
@@ -165,6 +167,7 @@ impl Write for Vec<u8> {
             Writes writer.tells writer.faults writer.refuses writer.appended self.old self.new bytes.now result }
         ensures all { IfOk result (λ n. n ≡ length bytes.now) }
         ensures memory { IfErr result (λ e. e ≡ OutOfMemory) }
+        ensures nothing { OnErr result (self.new.items ≡ self.old.items) }
     {
         self.extend_from_slice(bytes)?;
         Ok(bytes.len())

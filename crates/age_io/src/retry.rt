@@ -65,8 +65,8 @@ pub fn seek_retrying<R: Seek>(reader: &mut R, to: SeekFrom) -> Result<u64, Error
 /// often it is tried stands in no clause.
 ///
 /// All tries together do what one write may (`writes`): at `Ok(n)` the first n bytes were appended, and after a refusal
-/// nothing was. A refusal is one of the writer's, but never `Device(Interrupted)` (`patient`): `Device(Other)` stands for
-/// it, and else comes only from the writer.
+/// some of the first, or none. A refusal is one of the writer's, but never `Device(Interrupted)` (`patient`): `Device(Other)`
+/// stands for it, and else comes only from the writer.
 pub fn write_retrying<W: Write>(writer: &mut W, bytes: &[u8]) -> Result<usize, Error>
     ensures writes { Writes W.tells W.faults (Retried W.refuses) W.appended writer.old writer.new bytes.now result }
     ensures patient { IfErr result (λ e. IsInterruption e → ⊥) }

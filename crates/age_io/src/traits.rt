@@ -96,7 +96,9 @@ pub trait Write {
     /// What it says of `flush` besides: of the states before and after it, and of its answer.
     ghost flush_besides: { Self → Self → Result ⊤ Error → Type 0 } = { λ _ _ _. ⊤ };
 
-    /// Appends the first n bytes and answers n. A refusal is one that `refuses` names, and appended nothing.
+    /// Appends the first n bytes and answers n. A refusal is one that `refuses` names. Of the bytes it appended some of the first, or
+    /// none: none where the call was interrupted (`Device(Interrupted)`), so that it can be tried again, and of most writers
+    /// after any refusal, which says `write_besides` then.
     ///
     /// `Device(kind)` says that the device failed in this call. A state that was given n bytes may refuse only what the
     /// first one may that is given those and what follows; so may one that was interrupted. Where n is 0, though there

@@ -20,12 +20,13 @@ returns-in-Err-clause-writes g c =
       why = subst (λ n. Retried g.W.Write.refuses c.args.writer.now n c.in-Err.e) size (before.narrows (length left) c.in-Err.e (rw take_rest at sent.why));
       narrows = tt;
       takes_all = λ told. tt;
-      takes_front = λ told. (
-        c.loop-at.at,
-        before.within,
-        before_nothing g.W.Write.tells g.W.Write.faults g.W.Write.refuses g.W.Write.appended g.met.W.Write.joins _ _ _ _
-            (before.so_far told) (sent.takes_nothing (before.same_tells ∙ told)),
-      );
+      takes_front = λ told.
+          let (n, most, out) = rw take_rest at (sent.takes_part (before.same_tells ∙ told)) in (
+            c.loop-at.at + n,
+            omega (arith, most, size),
+            further g.W.Write.tells g.W.Write.faults g.W.Write.refuses g.W.Write.appended g.met.W.Write.joins _ _ _ c.args.bytes.now c.loop-at.at n
+                (before.so_far told) out,
+          );
     }
 
 pub returns-in-Ok-eq0-clause-writes : goal.returns-in-Ok-eq0-clause-writes
