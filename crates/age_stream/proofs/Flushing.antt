@@ -45,7 +45,6 @@ module _ {S W : Type 0} (seal_of : Seal) (tells : W → Bool) (faults : W → �
     nothing = λ told. inr (inl (record {
       good = good;
       failed = failed;
-      more = [];
       sends = sends-nothing seal_of appended a [] c.inner (done.nothing told);
     }));
   }

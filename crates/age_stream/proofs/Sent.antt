@@ -1,34 +1,14 @@
 -- What a writer had sent when it refused.
-use Rattle.std.specs.Prelude.{◌≡◌, ℕ, ◌+◌, ◌-◌, ◌*◌, ◌≤◌, ◌<◌, Bool, false, IsTrue, List, [], ◌++◌, length, take, drop, Result, Ok, Err}
+use Rattle.std.specs.Prelude.{◌≡◌, ℕ, ◌+◌, ◌-◌, ◌*◌, ◌≤◌, ◌<◌, false, List, [], ◌++◌, length, take, drop}
 use Rattle.std.proofs.Common.{refl, sym, ap, ◌∙◌, inl, inr, arith, append_assoc, length-append, length-drop, take_at}
 use Rattle.std.proofs.lemmas.Bool.{true≢false, cases_lt}
-use Rattle.std.proofs.lemmas.List.{append-nil, take-append-drop}
-use Rattle.age_error.specs.declared.io.Error.{Error}
+use Rattle.std.proofs.lemmas.List.{append-nil}
 use Rattle.age_io.specs.Copying.{AppendsFront}
-use Rattle.age_io.specs.Writing.{Retried, WritesAll}
+use Rattle.age_io.specs.CopyingLemmas.{front-all, front-more}
 use Rattle.age_v1.specs.Payload.{Seal, chunk_nonce, last_piece, payload}
 use Rattle.age_stream.specs.Writing.{middles, WasMade, Sent, Took, Appended, SendsFront}
-use Rattle.age_stream.specs.WritingLemmas.{Appended-took, front-more, middles-both, payload-parts, sends-after, sends-later, sends-more}
+use Rattle.age_stream.specs.WritingLemmas.{Appended-took, middles-both, payload-parts, sends-after, sends-later, sends-more}
 use Rattle.age_stream.specs.declared.writer.StreamWriter.{StreamWriter}
-
-module _ {W : Type 0} (appended : W → List ℕ → W → Type 0) where
-  -- nothing was sent
-  pub front-none : ((w : W) → appended w [] w) → (whole : List ℕ) (w : W) → AppendsFront appended whole w w
-  front-none nothing whole w = record { front = []; after = whole; joined = refl; out = nothing w }
-
-  -- all was
-  pub front-all : (whole : List ℕ) (a b : W) → appended a whole b → AppendsFront appended whole a b
-  front-all whole a b out = record { front = whole; after = []; joined = sym (append-nil whole); out = out }
-
-  -- the first n bytes were
-  pub front-take : (n : ℕ) (whole : List ℕ) (a b : W) → appended a (take n whole) b → AppendsFront appended whole a b
-  front-take n whole a b out = record { front = take n whole; after = drop n whole; joined = sym (take-append-drop n whole); out = out }
-
-  -- what a write of all bytes came to
-  pub front-written : {T : Type 0} (tells : W → Bool) (faults : W → ℕ) (refuses : W → ℕ → Error → Type 0) (a b : W) (whole : List ℕ) (r : Result T Error) →
-      IsTrue (tells a) → WritesAll tells faults (Retried refuses) appended a b whole r → AppendsFront appended whole a b
-  front-written tells faults refuses a b whole (Ok x) told w = front-all whole a b (w.takes_all told)
-  front-written tells faults refuses a b whole (Err e) told w = let out = w.takes_front told in front-take out.0 whole a b out.2
 
 module _ {S W : Type 0} (seal_of : Seal) (appended : W → List ℕ → W → Type 0) where
   -- nothing was sent
@@ -114,14 +94,16 @@ module _ {S W : Type 0} (seal_of : Seal) (appended : W → List ℕ → W → Ty
       sends-whole start key (plain ++ bytes) first after made
       (sends-after seal_of appended joins start before after plain bytes (Appended-took seal_of appended start before plain good took) sends)
 
+  -- the same where the plaintext goes on
+  sends-whole_of_more : (start after : StreamWriter S W) (key plain more : List ℕ) (first : W) → WasMade key first start →
+      SendsFront seal_of appended start plain after.inner → AppendsFront appended (payload seal_of key (plain ++ more)) first after.inner
+  sends-whole_of_more start after key plain more first made sends =
+      sends-whole start key (plain ++ more) first after.inner made (sends-more seal_of appended start plain more after.inner sends)
+
   -- whatever became of it
-  pub sends-front_of_payload : (start after : StreamWriter S W) (key plain : List ℕ) (first : W) → WasMade key first start →
-      Appended seal_of appended start plain after → (more : List ℕ) × AppendsFront appended (payload seal_of key (plain ++ more)) first after.inner
-  sends-front_of_payload start after key plain first made (inl stays) = absurd (true≢false (sym stays.failed ∙ made.good))
-  sends-front_of_payload start after key plain first made (inr (inl since)) =
-      (since.more, sends-whole start key (plain ++ since.more) first after.inner made since.sends)
-  sends-front_of_payload start after key plain first made (inr (inr taken)) = (
-    [],
-    sends-whole start key (plain ++ []) first after.inner made
-        (sends-more seal_of appended start plain [] after.inner (sends-taken seal_of appended start after plain taken.2)),
-  )
+  pub sends-front_of_payload : (start after : StreamWriter S W) (key plain more : List ℕ) (first : W) → WasMade key first start →
+      Appended seal_of appended start plain after → AppendsFront appended (payload seal_of key (plain ++ more)) first after.inner
+  sends-front_of_payload start after key plain more first made (inl stays) = absurd (true≢false (sym stays.failed ∙ made.good))
+  sends-front_of_payload start after key plain more first made (inr (inl since)) = sends-whole_of_more start after key plain more first made since.sends
+  sends-front_of_payload start after key plain more first made (inr (inr taken)) =
+      sends-whole_of_more start after key plain more first made (sends-taken seal_of appended start after plain taken.2)

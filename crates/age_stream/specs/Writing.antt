@@ -118,15 +118,14 @@ module _ {S W : Type 0} (seal_of : Seal) (inner_appended : W → List ℕ → W 
     pub followed : 0 < count → 65536 * count < length (before.held.items ++ bytes)
     pub out : AppendsFront inner_appended (middles seal_of before.key before.sealed count (before.held.items ++ bytes)) before.inner after
 
-  -- it failed between the two states: a beginning was sent of these bytes, which it took, and of some more, which it was given when it failed
+  -- it failed between the two states: of these bytes, all that it was given, those of the failing write among them, a beginning was sent
   pub record FailedSince (before : StreamWriter S W) (bytes : List ℕ) (after : StreamWriter S W) : Type 0 where
     pub good : before.failed ≡ false
     pub failed : after.failed ≡ true
-    pub more : List ℕ
-    pub sends : SendsFront before (bytes ++ more) after.inner
+    pub sends : SendsFront before bytes after.inner
 
-  -- One that had failed took nothing. One that failed since sent a beginning of these bytes and of what it was given when it failed. One
-  -- that is good took these bytes.
+  -- One that had failed took nothing. One that failed since was given these bytes, and sent a beginning of them. One that is good took these
+  -- bytes.
   abbrev pub Appended : StreamWriter S W → List ℕ → StreamWriter S W → Type 0
   Appended before bytes after = StaysFailed before bytes after
       ⊎ FailedSince before bytes after
@@ -148,12 +147,12 @@ SendsPayload {S} {W} seal_of inner_appended appended =
     → IsGood before → SendsFront seal_of inner_appended before bytes after
     → AppendsFront inner_appended (payload seal_of key (plain ++ bytes)) first after
 
--- Where a writer was made under a key and took a plaintext since: whatever became of it, its inner writer was given a beginning of the payload
--- of the plaintext and some bytes more, which it was given when it failed.
+-- Where a writer was made under a key and was given a plaintext since: whatever became of it, its inner writer has a beginning of the payload of
+-- that plaintext, however it goes on.
 abbrev pub SendsFrontOfPayload : {S W : Type 0} → Seal → (W → List ℕ → W → Type 0) → (StreamWriter S W → List ℕ → StreamWriter S W → Type 0) → Type 0
 SendsFrontOfPayload {S} {W} seal_of inner_appended appended =
-    (start after : StreamWriter S W) (key plain : List ℕ) (first : W) → WasMade key first start → appended start plain after
-    → (more : List ℕ) × AppendsFront inner_appended (payload seal_of key (plain ++ more)) first after.inner
+    (start after : StreamWriter S W) (key plain more : List ℕ) (first : W) → WasMade key first start → appended start plain after
+    → AppendsFront inner_appended (payload seal_of key (plain ++ more)) first after.inner
 
 -- Where a writer was made under a key and took a plaintext since, and was then closed: whatever it answered, its inner writer was given a
 -- beginning of the plaintext's payload.

@@ -7,6 +7,7 @@ use Rattle.age_error.specs.Refusals.{IsInterruption}
 use Rattle.age_error.specs.declared.io.Error.{Error}
 use Rattle.age_error.specs.declared.io.Error.TheVariants.{TooLong}
 use Rattle.age_io.specs.Copying.{AppendsFront}
+use Rattle.age_io.specs.CopyingLemmas.{front-later}
 use Rattle.age_io.specs.Writing.{Narrows}
 use Rattle.age_stream.specs.Sending.{RefusesChunk}
 use Rattle.age_stream.specs.SendingLemmas.{refuses-chunk-patient}
@@ -59,26 +60,6 @@ module _ (seal_of : Seal) (key : List ℕ) where
       let n = last_piece (length p) in
       let last : piece n p ≡ drop (65536 * n) p = piece-is n p ∙ take_all 65536 (drop (65536 * n) p) (omega (arith, length-drop (65536 * n) p)) in
       rw (middles-all n p, last) refl
-
-module _ {W : Type 0} (appended : W → List ℕ → W → Type 0) where
-  -- a beginning is one of more
-  pub front-more : (whole more : List ℕ) (a b : W) → AppendsFront appended whole a b → AppendsFront appended (whole ++ more) a b
-  front-more whole more a b f = record {
-    front = f.front;
-    after = f.after ++ more;
-    joined = ap (λ (l : List ℕ). l ++ more) f.joined ∙ append_assoc f.front f.after more;
-    out = f.out;
-  }
-
-  -- a beginning after what went out whole
-  pub front-later : ((a b c : W) (x y : List ℕ) → appended a x b → appended b y c → appended a (x ++ y) c) →
-      (first whole : List ℕ) (a b c : W) → appended a first b → AppendsFront appended whole b c → AppendsFront appended (first ++ whole) a c
-  front-later joins first whole a b c out f = record {
-    front = first ++ f.front;
-    after = f.after;
-    joined = ap (λ (l : List ℕ). first ++ l) f.joined ∙ sym (append_assoc first f.front f.after);
-    out = joins a b c first f.front out f.out;
-  }
 
 module _ {S W : Type 0} (seal_of : Seal) (inner_appended : W → List ℕ → W → Type 0) where
   pub Sent-nothing : ((w : W) → inner_appended w [] w) → (s : StreamWriter S W) → Sent seal_of inner_appended s [] s
@@ -271,9 +252,7 @@ module _ {S W : Type 0} (seal_of : Seal) (inner_appended : W → List ℕ → W 
   Appended-both joins a b c x y (inr (inr first)) (inr (inl since)) = inr (inl (record {
     good = first.0;
     failed = since.failed;
-    more = since.more;
-    sends = subst (λ (l : List ℕ). SendsFront seal_of inner_appended a l c.inner) (sym (append_assoc x y since.more))
-        (sends-after joins a b c.inner x (y ++ since.more) first.2 since.sends);
+    sends = sends-after joins a b c.inner x y first.2 since.sends;
   }))
   Appended-both joins a b c x y (inr (inr first)) (inr (inr second)) = inr (inr (first.0, second.1, Took-both joins a b c x y first.2 second.2))
 

@@ -1,7 +1,8 @@
+use Rattle.age_io.specs.CopyingLemmas.{front-none, front-all_written}
+use Rattle.age_io.specs.Writing.{Retried}
 use Rattle.age_io.specs.WritingLemmas.{keeps-writer}
 use Rattle.age_stream.specs.SendingLemmas.{keeps-chunk}
 use Rattle.std.proofs.Common.{rules}
-use Rattle.age_stream.proofs.Sent.{front-none, front-written}
 use Rattle.age_stream.proofs.writer.write_chunk.Goals as goal
 
 pub returns-clause-keeps : goal.returns-clause-keeps
@@ -15,5 +16,5 @@ returns-in_err-sealed-clause-front g c = λ told. front-none g.W.Write.appended 
 
 pub returns-clause-front : goal.returns-clause-front
 returns-clause-front g c = λ told. let w = g.W.Write in
-    let out = front-written w.appended w.tells w.faults w.refuses _ _ _ c.write_all.result told c.write_all.ensures.writes in
+    let out = front-all_written w.appended w.tells w.faults (Retried w.refuses) _ _ _ c.write_all.result told c.write_all.ensures.writes in
     search rules

@@ -1,9 +1,9 @@
 use Rattle.std.proofs.Common.{◌≡◌, ◌∙◌, ℕ, ◌+◌, ◌-◌, ◌*◌, ◌≤◌, ◌++◌, List, length, drop, ap, arith, length-drop}
+use Rattle.age_io.specs.CopyingLemmas.{front-none}
 use Rattle.age_stream.specs.Writing.{WasMade, Took}
 use Rattle.age_stream.specs.WritingLemmas.{Appended-took, sealed-last}
 use Rattle.age_v1.specs.Payload.{Seal}
 use Rattle.age_stream.specs.declared.writer.StreamWriter.{StreamWriter}
-use Rattle.age_stream.proofs.Sent.{front-none}
 use Rattle.age_stream.proofs.writer.StreamWriter.close.Goals as goal
 
 pub returns-clause-ok : goal.returns-clause-ok

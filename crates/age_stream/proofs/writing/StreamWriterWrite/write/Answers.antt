@@ -17,7 +17,8 @@ returns-then-self-clause-writes g c = record {
   narrows = tt;
   interrupted = λ is. absurd is;
   takes_front = λ told. tt;
-  takes_nothing = λ told. Appended-nothing g.S.Suite.seal_of g.W.Write.appended g.met.W.Write.appends_nothing c.args.self.now;
+  takes_part = λ told. (0, omega arith, Appended-nothing g.S.Suite.seal_of g.W.Write.appended g.met.W.Write.appends_nothing c.args.self.now);
+  takes_nothing = λ told is. absurd is;
 }
 
 -- too long
@@ -32,7 +33,8 @@ returns-then-bytes-taken-clause-writes g c = record {
   narrows = tt;
   interrupted = λ is. absurd is;
   takes_front = λ told. tt;
-  takes_nothing = λ told. Appended-nothing g.S.Suite.seal_of g.W.Write.appended g.met.W.Write.appends_nothing c.args.self.now;
+  takes_part = λ told. (0, omega arith, Appended-nothing g.S.Suite.seal_of g.W.Write.appended g.met.W.Write.appends_nothing c.args.self.now);
+  takes_nothing = λ told is. absurd is;
 }
 
 pub returns-in-Ok-clause-writes : goal.returns-in-Ok-clause-writes
@@ -50,6 +52,7 @@ returns-in-Ok-clause-writes g c =
           (took.failed ∙ c.if-self.false) took.total took.inner.narrows;
       interrupted = tt;
       takes_front = λ told. inr (inr (c.if-self.false, took.failed ∙ c.if-self.false, rw (take_all (length bytes) bytes (omega arith)) (took.took told)));
+      takes_part = λ told. tt;
       takes_nothing = λ told. tt;
     }
 
@@ -57,6 +60,8 @@ returns-in-Ok-clause-writes g c =
 pub returns-in-Err-clause-writes : goal.returns-in-Err-clause-writes
 returns-in-Err-clause-writes g c =
     let refused = c.in-Err.ensures in
+    let bytes = c.args.bytes.now in
+    let patient = refuses-chunk-patient g.W.Write.refuses c.args.self.now.inner _ refused.inner.why in
     record {
       count = tt;
       same_tells = refused.inner.same_tells;
@@ -65,9 +70,14 @@ returns-in-Err-clause-writes g c =
       why = inr (c.if-self.false, inr refused.inner.why);
       takes_none = tt;
       narrows = tt;
-      interrupted = λ is. absurd (refuses-chunk-patient g.W.Write.refuses c.args.self.now.inner _ refused.inner.why is);
+      interrupted = λ is. absurd (patient is);
       takes_front = λ told. tt;
-      takes_nothing = λ told. inr (inl (record { good = c.if-self.false; failed = refl; more = c.args.bytes.now; sends = refused.front told }));
+      takes_part = λ told. (
+        length bytes,
+        omega arith,
+        rw (take_all (length bytes) bytes (omega arith)) (inr (inl (record { good = c.if-self.false; failed = refl; sends = refused.front told }))),
+      );
+      takes_nothing = λ told is. absurd (patient is);
     }
 
 pub returns-in-Ok-clause-sent : goal.returns-in-Ok-clause-sent
