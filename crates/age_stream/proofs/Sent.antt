@@ -1,6 +1,6 @@
 -- What a writer had sent when it refused.
 use Rattle.std.specs.Prelude.{◌≡◌, ℕ, ◌+◌, ◌-◌, ◌*◌, ◌≤◌, ◌<◌, false, List, [], ◌++◌, length, take, drop}
-use Rattle.std.proofs.Common.{refl, sym, ap, ◌∙◌, inl, inr, arith, append_assoc, length-append, length-drop, take_at}
+use Rattle.std.proofs.Common.{sym, ap, ◌∙◌, inl, inr, arith, append_assoc, length-append, length-drop, take_at}
 use Rattle.std.proofs.lemmas.Bool.{true≢false, cases_lt}
 use Rattle.std.proofs.lemmas.List.{append-nil}
 use Rattle.age_io.specs.Copying.{AppendsFront}
@@ -104,6 +104,7 @@ module _ {S W : Type 0} (seal_of : Seal) (appended : W → List ℕ → W → Ty
   pub sends-front_of_payload : (start after : StreamWriter S W) (key plain more : List ℕ) (first : W) → WasMade key first start →
       Appended seal_of appended start plain after → AppendsFront appended (payload seal_of key (plain ++ more)) first after.inner
   sends-front_of_payload start after key plain more first made (inl stays) = absurd (true≢false (sym stays.failed ∙ made.good))
-  sends-front_of_payload start after key plain more first made (inr (inl since)) = sends-whole_of_more start after key plain more first made since.sends
+  sends-front_of_payload start after key plain more first made (inr (inl since)) =
+      sends-whole_of_more start after key plain more first made since.sends
   sends-front_of_payload start after key plain more first made (inr (inr taken)) =
       sends-whole_of_more start after key plain more first made (sends-taken seal_of appended start after plain taken.2)

@@ -118,7 +118,7 @@ module _ {S W : Type 0} (seal_of : Seal) (inner_appended : W → List ℕ → W 
     pub followed : 0 < count → 65536 * count < length (before.held.items ++ bytes)
     pub out : AppendsFront inner_appended (middles seal_of before.key before.sealed count (before.held.items ++ bytes)) before.inner after
 
-  -- it failed between the two states: of these bytes, all that it was given, those of the failing write among them, a beginning was sent
+  -- it failed between the two states: a beginning was sent of these bytes, which it was given, those of the failing write among them
   pub record FailedSince (before : StreamWriter S W) (bytes : List ℕ) (after : StreamWriter S W) : Type 0 where
     pub good : before.failed ≡ false
     pub failed : after.failed ≡ true

@@ -9,9 +9,9 @@ use age_error::io::Error;
 use age_io::{Write, flush_retrying};
 use age_suite::suite::Suite;
 
-/// What was appended is plaintext that was taken. Where the writer failed since, it is all that it was given until then, the bytes of the failing
-/// write among it. Only `finish` and `close` make its payload whole. A failed writer takes nothing more, and the inner writer was given a beginning
-/// of the payload of what was appended.
+/// What was appended is plaintext that was taken. Where a write failed the writer, it ends with what that write was given, or a beginning of it.
+/// Only `finish` and `close` make its payload whole. A failed writer takes nothing more, and what it sent is a beginning of the payload of what it
+/// was given.
 impl<S: Suite, W: Write> Write for StreamWriter<S, W> {
     ghost use Rattle.age_stream.specs.Writing.{Appended, Refused, FailsWriting, IsFailed, IsGood, inner_of, taken_len, SendsFront, TakesAll};
     ghost use Rattle.age_stream.specs.WritingLemmas.{Appended-nothing, Appended-both, Refused-more};
