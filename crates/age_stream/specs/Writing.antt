@@ -154,12 +154,12 @@ SendsFrontOfPayload {S} {W} seal_of inner_appended appended =
     (start after : StreamWriter S W) (key plain more : List ℕ) (first : W) → WasMade key first start → appended start plain after
     → AppendsFront inner_appended (payload seal_of key (plain ++ more)) first after.inner
 
--- Where a writer was made under a key and took a plaintext since, and was then closed: whatever it answered, its inner writer was given a
--- beginning of the plaintext's payload.
+-- Where a writer was made under a key and was given a plaintext since, and was then closed, which leaves a failed one as it is: whatever it
+-- answered, its inner writer has a beginning of the plaintext's payload.
 abbrev pub ClosesPayload : {S W : Type 0} → Seal → (W → List ℕ → W → Type 0) → (StreamWriter S W → List ℕ → StreamWriter S W → Type 0) → Type 0
 ClosesPayload {S} {W} seal_of inner_appended appended =
     (start before : StreamWriter S W) (key plain : List ℕ) (first after : W) → WasMade key first start → appended start plain before
-    → IsGood before → AppendsFront inner_appended (last_seal seal_of before) before.inner after
+    → (IsFailed before → after ≡ before.inner) → AppendsFront inner_appended (last_seal seal_of before) before.inner after
     → AppendsFront inner_appended (payload seal_of key plain) first after
 
 -- where a writer was made under a key and took a plaintext since, its inner writer was given the plaintext's payload

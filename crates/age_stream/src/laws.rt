@@ -66,11 +66,11 @@ pub fn writer_law<S: Suite, W: Write>(writer: &StreamWriter<S, W>)
 ///
 /// - `write`: where it hadn't failed, and was then given bytes by one write more, whatever that answered, the inner writer was given a
 ///   beginning of the payload of the plaintext and these bytes. `SendsFront` is the clause `sent` of `write`.
-/// - `calls`: whatever became of it, the inner writer was given a beginning of the payload of the plaintext, however that goes on.
-///   After a refused write it ends with a beginning of the bytes of that write, and may go on with those left. So this holds after
-///   every call that speaks of `appended` alone, as `write_all` and `copy_all`, also after a refused one.
-/// - `close`: where it hadn't failed, and was then closed, whatever that answered, the inner writer was given a beginning of the
-///   plaintext's payload. What `close` appended is told by its clause `front`.
+/// - `calls`: where it was given a plaintext, by calls of any number, the last of them refused or not, the inner writer was given a
+///   beginning of the payload of that plaintext, and of each that begins with it. So this holds after every call that speaks of
+///   `appended` alone, as `write_all` and `copy_all`, also after a refused one.
+/// - `close`: where it was then closed, whatever that answered, the inner writer was given a beginning of the plaintext's payload. What
+///   `close` appended is told by its clause `front`, and that it leaves a failed writer as it is by `failed`.
 pub fn sent_law<S: Suite, W: Write>()
     ensures write { SendsPayload S.seal_of W.appended ⟦<StreamWriter<S, W> as Write>⟧.appended }
     ensures calls { SendsFrontOfPayload S.seal_of W.appended ⟦<StreamWriter<S, W> as Write>⟧.appended }
