@@ -5,13 +5,13 @@ use Rattle.std.specs.List.{flat_map}
 use Rattle.age_base64.specs.Lines.{line}
 use Rattle.age_base64.specs.Base64.{padded_columns}
 use Rattle.age_io.specs.Copying.{AppendsFront}
+use Rattle.age_io.specs.CopyingLemmas.{front-later}
 use Rattle.age_v1.specs.Armor.{armor, armor_lines, begin_marker, end_marker, text_of}
 use Rattle.age_v1.specs.declared.format.Format.{Format}
 use Rattle.age_v1.specs.declared.format.Format.TheVariants.{Binary, AsciiArmor}
 use Rattle.age_armor.specs.declared.writer.ArmoredWriter.{ArmoredWriter}
 use Rattle.age_v1.specs.ArmorFullLines.{full_lines}
 use Rattle.age_armor.specs.Writing.{Took, Takes, Appended, WasMade, in_armor, text_end}
-use Rattle.age_armor.specs.WritingLemmas.{front-later}
 use Rattle.age_v1.proofs.WrittenLines.{lines_parts}
 
 -- what the end adds to full lines

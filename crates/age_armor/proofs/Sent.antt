@@ -1,13 +1,12 @@
 -- What a writer of armor had sent when it refused.
-use Rattle.std.specs.Prelude.{◌≡◌, ℕ, ◌+◌, ◌-◌, ◌*◌, ◌/◌, Bool, true, false, IsTrue, List, [], ◌++◌, length, take, drop, Result, Ok, Err}
+use Rattle.std.specs.Prelude.{◌≡◌, ℕ, ◌+◌, ◌-◌, ◌*◌, ◌/◌, Bool, true, false, List, [], ◌++◌, length, take, drop}
 use Rattle.std.proofs.Common.{refl, sym, ap, ◌∙◌, inl, inr, arith, append_assoc, length-append, subst}
 use Rattle.std.proofs.lemmas.Bool.{true≢false}
 use Rattle.std.specs.List.{flat_map}
-use Rattle.std.proofs.lemmas.List.{append-nil, take-append-drop}
-use Rattle.age_error.specs.declared.io.Error.{Error}
+use Rattle.std.proofs.lemmas.List.{take-append-drop}
 use Rattle.age_base64.specs.Lines.{line}
 use Rattle.age_io.specs.Copying.{AppendsFront}
-use Rattle.age_io.specs.Writing.{Retried, Writes, WritesAll}
+use Rattle.age_io.specs.CopyingLemmas.{front-all, front-later, front-more, front-nothing}
 use Rattle.age_base64.specs.Base64.{padded_columns}
 use Rattle.age_v1.specs.Armor.{armor, armor_lines, begin_marker, end_marker, text_of}
 use Rattle.age_v1.specs.ArmorFullLines.{full_lines}
@@ -15,52 +14,15 @@ use Rattle.age_v1.specs.declared.format.Format.{Format}
 use Rattle.age_v1.specs.declared.format.Format.TheVariants.{AsciiArmor, Binary}
 use Rattle.age_v1.proofs.FullArmorLines.{full_lines-front, full_lines-both}
 use Rattle.age_armor.specs.Writing.{Appended, SendsFront, SendsLines, Takes, Took, WasMade, in_armor}
-use Rattle.age_armor.specs.WritingLemmas.{front-later, sends-after, sends-on}
+use Rattle.age_armor.specs.WritingLemmas.{sends-after, sends-on}
 use Rattle.age_armor.proofs.Ending.{armor_parts, end_of}
 use Rattle.age_armor.specs.declared.writer.ArmoredWriter.{ArmoredWriter}
 
 module _ {W : Type 0} (appended : W → List ℕ → W → Type 0) where
-  -- nothing was sent
-  pub front-none : ((w : W) → appended w [] w) → (whole : List ℕ) (w : W) → AppendsFront appended whole w w
-  front-none nothing whole w = record { front = []; after = whole; joined = refl; out = nothing w }
-
-  -- nothing, by a call that appended nothing
-  front-nothing : (whole : List ℕ) (a b : W) → appended a [] b → AppendsFront appended whole a b
-  front-nothing whole a b out = record { front = []; after = whole; joined = refl; out = out }
-
-  -- all was
-  pub front-all : (whole : List ℕ) (a b : W) → appended a whole b → AppendsFront appended whole a b
-  front-all whole a b out = record { front = whole; after = []; joined = sym (append-nil whole); out = out }
-
-  -- the first n bytes were
-  front-take : (n : ℕ) (whole : List ℕ) (a b : W) → appended a (take n whole) b → AppendsFront appended whole a b
-  front-take n whole a b out = record { front = take n whole; after = drop n whole; joined = sym (take-append-drop n whole); out = out }
-
-  -- what a write of all bytes came to
-  pub front-all_written : {T : Type 0} (tells : W → Bool) (faults : W → ℕ) (refuses : W → ℕ → Error → Type 0) (a b : W) (whole : List ℕ)
-      (r : Result T Error) → IsTrue (tells a) → WritesAll tells faults (Retried refuses) appended a b whole r → AppendsFront appended whole a b
-  front-all_written tells faults refuses a b whole (Ok x) told w = front-all whole a b (w.takes_all told)
-  front-all_written tells faults refuses a b whole (Err e) told w = let out = w.takes_front told in front-take out.0 whole a b out.2
-
-  -- what a write came to
-  pub front-written : (tells : W → Bool) (faults : W → ℕ) (refuses : W → ℕ → Error → Type 0) (a b : W) (whole : List ℕ) (r : Result ℕ Error) →
-      IsTrue (tells a) → Writes tells faults refuses appended a b whole r → AppendsFront appended whole a b
-  front-written tells faults refuses a b whole (Ok n) told w = front-take n whole a b (w.takes_front told)
-  front-written tells faults refuses a b whole (Err e) told w = front-nothing whole a b (w.takes_nothing told)
-
-  -- a beginning is one of more
-  pub front-more : (whole more : List ℕ) (a b : W) → AppendsFront appended whole a b → AppendsFront appended (whole ++ more) a b
-  front-more whole more a b f = record {
-    front = f.front;
-    after = f.after ++ more;
-    joined = ap (λ (l : List ℕ). l ++ more) f.joined ∙ append_assoc f.front f.after more;
-    out = f.out;
-  }
-
   -- a beginning of the begin marker's line is one of the armor of any bytes
   pub front-begun : (bytes : List ℕ) (a b : W) → AppendsFront appended (line begin_marker) a b → AppendsFront appended (armor bytes) a b
   unfolding armor
-  front-begun bytes a b f = front-more (line begin_marker) (flat_map line (armor_lines (padded_columns bytes)) ++ line end_marker) a b f
+  front-begun bytes a b f = front-more appended (line begin_marker) (flat_map line (armor_lines (padded_columns bytes)) ++ line end_marker) a b f
 
   -- full lines of the first bytes are a beginning of those of more
   lines-more : (t y : List ℕ) (a b : W) → AppendsFront appended (full_lines (length t / 48) t) a b →
@@ -72,12 +34,12 @@ module _ {W : Type 0} (appended : W → List ℕ → W → Type 0) where
       let out : full_lines (length (t ++ y) / 48) (t ++ y) ≡ full_lines m t ++ full_lines n (drop (48 * m) (t ++ y))
       = ap (λ (k : ℕ). full_lines k (t ++ y)) count ∙ full_lines-both m n (t ++ y)
       ∙ ap (λ (l : List ℕ). l ++ full_lines n (drop (48 * m) (t ++ y))) (full_lines-front m t y (omega arith)) in
-      rw out (front-more (full_lines m t) (full_lines n (drop (48 * m) (t ++ y))) a b f)
+      rw out (front-more appended (full_lines m t) (full_lines n (drop (48 * m) (t ++ y))) a b f)
 
   -- nothing was sent of these bytes, by a call that appended nothing
   pub sends-nothing : (s : ArmoredWriter W) (bytes : List ℕ) (c : W) (f : Bool) → appended s.inner [] c → SendsFront appended f s bytes c
-  sends-nothing s bytes c true out = front-nothing _ s.inner c out
-  sends-nothing s bytes c false out = front-nothing bytes s.inner c out
+  sends-nothing s bytes c true out = front-nothing appended _ s.inner c out
+  sends-nothing s bytes c false out = front-nothing appended bytes s.inner c out
 
   -- nothing was
   pub sends-none : ((w : W) → appended w [] w) → (s : ArmoredWriter W) (bytes : List ℕ) (f : Bool) → SendsFront appended f s bytes s.inner
@@ -85,17 +47,17 @@ module _ {W : Type 0} (appended : W → List ℕ → W → Type 0) where
 
   -- it failed while it was given these bytes
   pub failed-given : (a b : ArmoredWriter W) (bytes : List ℕ) → a.failed ≡ false → b.failed ≡ true → b.armored ≡ a.armored →
-      SendsFront appended a.armored a bytes b.inner → Appended appended a [] b
-  failed-given a b bytes good failed form sent = inr (inl (record { good = good; failed = failed; same_form = form; more = bytes; sent = sent }))
+      SendsFront appended a.armored a bytes b.inner → Appended appended a bytes b
+  failed-given a b bytes good failed form sent = inr (inl (record { good = good; failed = failed; same_form = form; sent = sent }))
 
   -- all lines of what it took
   pub sends-taken : (a b : ArmoredWriter W) (bytes : List ℕ) → Took appended a bytes b → SendsLines appended a bytes b.inner
-  sends-taken a b bytes took = front-all _ a.inner b.inner took.sent
+  sends-taken a b bytes took = front-all appended _ a.inner b.inner took.sent
 
   -- in either form
   taken-front : (f : Bool) (a b : ArmoredWriter W) (bytes : List ℕ) → Takes appended f a bytes b → SendsFront appended f a bytes b.inner
   taken-front true a b bytes took = sends-taken a b bytes took
-  taken-front false a b bytes took = front-all bytes a.inner b.inner took
+  taken-front false a b bytes took = front-all appended bytes a.inner b.inner took
 
   -- a beginning of the lines of some of the bytes is one of all
   pub sends-more : (s : ArmoredWriter W) (x y : List ℕ) (c : W) → SendsLines appended s x c → SendsLines appended s (x ++ y) c
@@ -106,6 +68,11 @@ module _ {W : Type 0} (appended : W → List ℕ → W → Type 0) where
   -- the same of the first n bytes
   pub sends-part : (s : ArmoredWriter W) (n : ℕ) (bytes : List ℕ) (c : W) → SendsLines appended s (take n bytes) c → SendsLines appended s bytes c
   sends-part s n bytes c f = subst (λ (z : List ℕ). SendsLines appended s z c) (take-append-drop n bytes) (sends-more s (take n bytes) (drop n bytes) c f)
+
+  -- and in either form
+  sends-longer : (f : Bool) (s : ArmoredWriter W) (x y : List ℕ) (c : W) → SendsFront appended f s x c → SendsFront appended f s (x ++ y) c
+  sends-longer true s x y c f = sends-more s x y c f
+  sends-longer false s x y c f = front-more appended x y s.inner c f
 
   -- of a writer that holds nothing
   pub sends-fresh : (s : ArmoredWriter W) (n : ℕ) (bytes : List ℕ) (c : W) → s.held.items ≡ [] →
@@ -131,7 +98,7 @@ module _ {W : Type 0} (appended : W → List ℕ → W → Type 0) where
         subst (λ (z : List ℕ). AppendsFront appended (full_lines (length z / 48) z) start.inner after) t sends in
         let front = front-later appended joins (line begin_marker) (full_lines n bytes) first start.inner after begun lines in
         subst (λ (z : List ℕ). AppendsFront appended z first after) (armor_parts bytes (drop (48 * n) bytes) n refl refl)
-        (front-more (line begin_marker ++ full_lines n bytes) (end_of (drop (48 * n) bytes)) first after front)
+        (front-more appended (line begin_marker ++ full_lines n bytes) (end_of (drop (48 * n) bytes)) first after front)
 
     text-front : (start : ArmoredWriter W) (format : Format) (bytes : List ℕ) (first after : W) → WasMade appended format first start →
         SendsFront appended (in_armor format) start bytes after → AppendsFront appended (text_of format bytes) first after
@@ -150,19 +117,14 @@ module _ {W : Type 0} (appended : W → List ℕ → W → Type 0) where
         (subst (λ b. Takes appended b start taken before) made.same_form took.3)
         (subst (λ b. SendsFront appended b before bytes after) (took.2 ∙ made.same_form) sends))
 
-    -- whatever became of it
-    pub has-sent : (start after : ArmoredWriter W) (format : Format) (bytes : List ℕ) (first : W) → WasMade appended format first start →
-        Appended appended start bytes after → (more : List ℕ) × AppendsFront appended (text_of format (bytes ++ more)) first after.inner
-    has-sent start after format bytes first made (inl stayed) = absurd (true≢false (sym stayed.0 ∙ made.good))
-    has-sent start after format bytes first made (inr (inl broke)) = (
-      broke.more,
-      text-front start format (bytes ++ broke.more) first after.inner made
-          (subst (λ b. SendsFront appended b start (bytes ++ broke.more) after.inner) made.same_form broke.sent),
-    )
-    has-sent start after format bytes first made (inr (inr took)) =
-        let sends : SendsFront appended (in_armor format) start bytes after.inner
-        = taken-front (in_armor format) start after bytes (subst (λ b. Takes appended b start bytes after) made.same_form took.3) in (
-          [],
-          subst (λ (l : List ℕ). AppendsFront appended (text_of format l) first after.inner) (sym (append-nil bytes))
-              (text-front start format bytes first after.inner made sends),
-        )
+    -- whatever became of it, of bytes that go on
+    pub sends-front_of_text : (start after : ArmoredWriter W) (format : Format) (bytes more : List ℕ) (first : W) →
+        WasMade appended format first start → Appended appended start bytes after →
+        AppendsFront appended (text_of format (bytes ++ more)) first after.inner
+    sends-front_of_text start after format bytes more first made (inl stayed) = absurd (true≢false (sym stayed.0 ∙ made.good))
+    sends-front_of_text start after format bytes more first made (inr (inl broke)) =
+        text-front start format (bytes ++ more) first after.inner made (sends-longer (in_armor format) start bytes more after.inner
+        (subst (λ b. SendsFront appended b start bytes after.inner) made.same_form broke.sent))
+    sends-front_of_text start after format bytes more first made (inr (inr took)) =
+        text-front start format (bytes ++ more) first after.inner made (sends-longer (in_armor format) start bytes more after.inner
+        (taken-front (in_armor format) start after bytes (subst (λ b. Takes appended b start bytes after) made.same_form took.3)))

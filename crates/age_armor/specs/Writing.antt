@@ -90,15 +90,14 @@ module _ {W : Type 0} (inner_appended : W → List ℕ → W → Type 0) where
   Takes true before bytes after = Took before bytes after
   Takes false before bytes after = inner_appended before.inner bytes after.inner
 
-  -- It took these bytes and failed when it was given more: a beginning of what carries all of them went out.
+  -- It failed after it was given these bytes, those of the failing write among them: a beginning of what carries them went out.
   pub record FailedAfter (before : ArmoredWriter W) (bytes : List ℕ) (after : ArmoredWriter W) : Type 0 where
     pub good : before.failed ≡ false
     pub failed : after.failed ≡ true
     pub same_form : after.armored ≡ before.armored
-    pub more : List ℕ
-    pub sent : SendsFront before.armored before (bytes ++ more) after.inner
+    pub sent : SendsFront before.armored before bytes after.inner
 
-  -- A failed writer takes nothing and stays as it is. A good one took these bytes and failed later, or took them and is good.
+  -- A failed writer takes nothing and stays as it is. A good one was given these bytes and failed, or took them and is good.
   abbrev pub Appended : ArmoredWriter W → List ℕ → ArmoredWriter W → Type 0
   Appended before bytes after = ((before.failed ≡ true) × (bytes ≡ []) × (after ≡ before))
       ⊎ FailedAfter before bytes after
@@ -120,9 +119,9 @@ SendsText {W} inner_appended appended =
     → appended start taken before → IsGood before → SendsFront inner_appended (is_armored before) before bytes after
     → AppendsFront inner_appended (text_of format (taken ++ bytes)) first after
 
--- Where a writer was made in a form and bytes were appended since: whatever became of it, its inner writer was given a beginning of the
--- text that carries these bytes and perhaps more, from before the writer was made.
-abbrev pub HasSent : {W : Type 0} → (W → List ℕ → W → Type 0) → (ArmoredWriter W → List ℕ → ArmoredWriter W → Type 0) → Type 0
-HasSent {W} inner_appended appended =
-    (start after : ArmoredWriter W) (format : Format) (bytes : List ℕ) (first : W) → WasMade inner_appended format first start
-    → appended start bytes after → (more : List ℕ) × AppendsFront inner_appended (text_of format (bytes ++ more)) first (inner_of after)
+-- Where a writer was made in a form and was given bytes since: whatever became of it, its inner writer has a beginning of the text that
+-- carries these bytes, and of each that carries more after them, from before the writer was made.
+abbrev pub SendsFrontOfText : {W : Type 0} → (W → List ℕ → W → Type 0) → (ArmoredWriter W → List ℕ → ArmoredWriter W → Type 0) → Type 0
+SendsFrontOfText {W} inner_appended appended =
+    (start after : ArmoredWriter W) (format : Format) (bytes more : List ℕ) (first : W) → WasMade inner_appended format first start
+    → appended start bytes after → AppendsFront inner_appended (text_of format (bytes ++ more)) first (inner_of after)

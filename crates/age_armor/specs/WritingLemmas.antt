@@ -7,6 +7,7 @@ use Rattle.age_error.specs.declared.io.Error.{Error}
 use Rattle.age_error.specs.declared.io.Error.TheVariants.{Device}
 use Rattle.age_error.specs.declared.io.ErrorKind.TheVariants.{Interrupted}
 use Rattle.age_io.specs.Copying.{AppendsFront}
+use Rattle.age_io.specs.CopyingLemmas.{front-later}
 use Rattle.age_io.specs.Writing.{Narrows, Retried, HandsOn}
 use Rattle.age_io.specs.WritingLemmas.{hands-on-patient}
 use Rattle.age_armor.specs.declared.writer.ArmoredWriter.{ArmoredWriter}
@@ -72,17 +73,6 @@ module _ {W : Type 0} (inner_appended : W → List ℕ → W → Type 0) where
   Takes-both both true a b c x y first second = Took-both both a b c x y first second
   Takes-both both false a b c x y first second = both a.inner b.inner c.inner x y first second
 
-  -- a beginning after what went out whole
-  pub front-later : ((a b c : W) (x y : List ℕ) → inner_appended a x b → inner_appended b y c → inner_appended a (x ++ y) c) →
-      (first whole : List ℕ) (a b c : W) → inner_appended a first b → AppendsFront inner_appended whole b c →
-      AppendsFront inner_appended (first ++ whole) a c
-  front-later both first whole a b c out f = record {
-    front = first ++ f.front;
-    after = f.after;
-    joined = ap (λ (l : List ℕ). first ++ l) f.joined ∙ sym (append_assoc first f.front f.after);
-    out = both a b c first f.front out f.out;
-  }
-
   -- a beginning of the lines of what follows, after what was taken
   pub sends-on : ((a b c : W) (x y : List ℕ) → inner_appended a x b → inner_appended b y c → inner_appended a (x ++ y) c) →
       (a b : ArmoredWriter W) (c : W) (x y : List ℕ) → Took inner_appended a x b → SendsLines inner_appended b y c →
@@ -99,7 +89,7 @@ module _ {W : Type 0} (inner_appended : W → List ℕ → W → Type 0) where
       let out : full_lines (length (t ++ y) / 48) (t ++ y) ≡ full_lines m t ++ full_lines n (b.held.items ++ y)
       = rw (count, full_lines-both m n (t ++ y), full_lines-front m t y fits, rest) refl in
       let front : AppendsFront inner_appended (full_lines (length (t ++ y) / 48) (t ++ y)) a.inner c
-      = rw out (front-later both _ _ a.inner b.inner c first.sent second) in
+      = rw out (front-later inner_appended both _ _ a.inner b.inner c first.sent second) in
       subst (λ (z : List ℕ). AppendsFront inner_appended (full_lines (length z / 48) z) a.inner c) (append_assoc a.held.items x y) front
 
   -- the same in either form
@@ -107,7 +97,7 @@ module _ {W : Type 0} (inner_appended : W → List ℕ → W → Type 0) where
       (f : Bool) (a b : ArmoredWriter W) (c : W) (x y : List ℕ) → Takes inner_appended f a x b → SendsFront inner_appended f b y c →
       SendsFront inner_appended f a (x ++ y) c
   sends-after both true a b c x y first second = sends-on both a b c x y first second
-  sends-after both false a b c x y first second = front-later both x y a.inner b.inner c first second
+  sends-after both false a b c x y first second = front-later inner_appended both x y a.inner b.inner c first second
 
   pub Appended-both : ((a b c : W) (x y : List ℕ) → inner_appended a x b → inner_appended b y c → inner_appended a (x ++ y) c) →
       (a b c : ArmoredWriter W) (x y : List ℕ) → Appended inner_appended a x b → Appended inner_appended b y c → Appended inner_appended a (x ++ y) c
@@ -120,15 +110,12 @@ module _ {W : Type 0} (inner_appended : W → List ℕ → W → Type 0) where
   Appended-both both a b c x y (inr (inl broke)) (inr (inl later)) = absurd (true≢false (sym broke.failed ∙ later.good))
   Appended-both both a b c x y (inr (inl broke)) (inr (inr second)) = absurd (true≢false (sym broke.failed ∙ second.0))
   Appended-both both a b c x y (inr (inr first)) (inr (inl broke)) =
-      let sent : SendsFront inner_appended a.armored b (y ++ broke.more) c.inner
-      = subst (λ f. SendsFront inner_appended f b (y ++ broke.more) c.inner) first.2 broke.sent in
+      let sent : SendsFront inner_appended a.armored b y c.inner = subst (λ f. SendsFront inner_appended f b y c.inner) first.2 broke.sent in
       inr (inl (record {
         good = first.0;
         failed = broke.failed;
         same_form = broke.same_form ∙ first.2;
-        more = broke.more;
-        sent = subst (λ (l : List ℕ). SendsFront inner_appended a.armored a l c.inner) (sym (append_assoc x y broke.more))
-            (sends-after both a.armored a b c.inner x (y ++ broke.more) first.3 sent);
+        sent = sends-after both a.armored a b c.inner x y first.3 sent;
       }))
   Appended-both both a b c x y (inr (inr first)) (inr (inr second)) =
       let second_took : Takes inner_appended a.armored b y c = subst (λ f. Takes inner_appended f b y c) first.2 second.3 in

@@ -10,7 +10,7 @@ ghost use Rattle.age_v1.specs.Armor.{armor, armor_lines, begin_marker, AreEndedL
 ghost use Rattle.age_v1.specs.ArmorLineVerdict.{IsLineVerdict, LineVerdict, verdict};
 ghost use Rattle.age_v1.specs.DeliveredArmor.{text_delivers, Clean, Refused};
 ghost use Rattle.age_v1.specs.ArmorFirstFault.{IsFirstFault};
-ghost use Rattle.age_armor.specs.Writing.{HasSent, SendsText};
+ghost use Rattle.age_armor.specs.Writing.{SendsFrontOfText, SendsText};
 
 use crate::writer::ArmoredWriter;
 use age_io::Write;
@@ -71,13 +71,14 @@ pub fn first_fault_is_unique()
     ensures delivered { (text bytes : List ℕ) (e : Refusal) → IsFirstFault text bytes e → text_delivers text true ≡ record { bytes = bytes; ending = Refused e } }
 {}
 
-/// What a writer has sent that was made in a form over an inner writer, and took bytes since by writes and flushes of any number, also by
-/// calls that are generic over the writer. All of it is told from before the writer was made.
+/// What a writer has sent that was made in a form over an inner writer, and was given bytes since by writes and flushes of any number, also
+/// by calls that are generic over the writer. All of it is told from before the writer was made.
 ///
 /// `given`: where it hasn't failed and was then given more by one write, whatever that answered, the inner writer was given a beginning of
-/// the text that carries both. `SendsFront` is the clause `sent` of `write`. `sent`: whatever became of it, the inner writer was given a
-/// beginning of the text that carries the bytes it took and perhaps more, which it was given when it failed.
+/// the text that carries both. `SendsFront` is the clause `sent` of `write`. `sent`: whatever became of it, the inner writer has a beginning
+/// of the text that carries the bytes that it was given, and of each text that carries more after them. Where a write failed, the first of
+/// its bytes are among them, as many as `takes_part` of `Writes` says, and the others may come after them.
 pub fn sent_law<W: Write>()
     ensures given { SendsText W.appended ⟦<ArmoredWriter<W> as Write>⟧.appended }
-    ensures sent { HasSent W.appended ⟦<ArmoredWriter<W> as Write>⟧.appended }
+    ensures sent { SendsFrontOfText W.appended ⟦<ArmoredWriter<W> as Write>⟧.appended }
 {}

@@ -78,8 +78,10 @@ impl<W: Write> ArmoredWriter<W> {
         }
     }
 
-    /// `wrap_output`, which hands `inner` back beside the refusal. A beginning of the text, whatever follows, was written to it then
-    /// (`front`).
+    /// It makes a writer and refuses as `wrap_output` does, and hands `inner` back beside the refusal. A beginning of the text, whatever
+    /// follows, was written to it then (`front`).
+    ///
+    /// `wraps` says what the contract of `wrap_output` says, of the writer or of the refusal alone.
     pub fn begin(alloc: Global, inner: W, format: Format) -> Result<Self, (W, Error)>
         ensures wraps { WrapsOutput ⟦<W as Write>⟧ inner format (result_map_both (λ writer. writer) (λ back. back.1) result) }
         ensures front { IsTrue (W.tells inner) → IfErr result (λ back. (bytes : List ℕ) → AppendsFront W.appended (text_of format bytes) inner back.0) }

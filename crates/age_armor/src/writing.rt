@@ -6,9 +6,9 @@ use age_io::{Write, flush_retrying};
 
 /// What was appended are the bytes that were taken. Only `close` and `finish` make the text that carries them whole.
 ///
-/// Of a writer that failed it says what it sent: a beginning of what carries these bytes and those that it was given when it failed. A failed
-/// writer takes nothing and stays as it is. So generic calls, such as `write_all`, say by `sent_law` what the inner writer was given, also
-/// where they refuse.
+/// Of a writer that failed they are the bytes that it was given, those of the failing write among them, and it has sent a beginning of what
+/// carries them. A failed writer takes nothing and stays as it is. So generic calls, such as `write_all`, say by `sent_law` what the inner
+/// writer was given, also where they refuse.
 impl<W: Write> Write for ArmoredWriter<W> {
     ghost use Rattle.age_armor.specs.Writing.{Appended, Refused, inner_of};
     ghost use Rattle.age_armor.specs.WriterCalls.{FlushesArmor, WritesArmor};

@@ -1,13 +1,12 @@
 use Rattle.std.proofs.Common.{◌≡◌, ◌<◌, ◌∙◌, arith, rules, length}
 use Rattle.std.proofs.lemmas.Result.{on_ok_weaker}
+use Rattle.age_io.specs.CopyingLemmas.{front-later, front-more}
 use Rattle.age_io.specs.Writing.{HandsOn}
 use Rattle.age_io.specs.WritingLemmas.{keeps-later}
 use Rattle.age_base64.specs.Lines.{line}
 use Rattle.age_base64.specs.Base64.{padded_columns}
 use Rattle.age_v1.specs.Armor.{end_marker}
 use Rattle.age_v1.proofs.WrittenLines.{last_line, no_line}
-use Rattle.age_armor.specs.WritingLemmas.{front-later}
-use Rattle.age_armor.proofs.Sent.{front-more}
 use Rattle.age_armor.proofs.sending.write_end.Goals as goal
 
 pub returns-then-is_empty-clause-sent : goal.returns-then-is_empty-clause-sent

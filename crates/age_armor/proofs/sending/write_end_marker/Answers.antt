@@ -1,5 +1,6 @@
+use Rattle.age_io.specs.CopyingLemmas.{front-all_written}
+use Rattle.age_io.specs.Writing.{Retried}
 use Rattle.age_io.specs.WritingLemmas.{keeps-writer}
-use Rattle.age_armor.proofs.Sent.{front-all_written}
 use Rattle.age_armor.proofs.sending.write_end_marker.Goals as goal
 
 pub returns-clause-keeps : goal.returns-clause-keeps
@@ -8,4 +9,4 @@ returns-clause-keeps g c = let w = g.W.Write in
 
 pub returns-clause-front : goal.returns-clause-front
 returns-clause-front g c = λ told. let w = g.W.Write in
-    front-all_written w.appended w.tells w.faults w.refuses _ _ _ c.write_all.result told c.write_all.ensures.writes
+    front-all_written w.appended w.tells w.faults (Retried w.refuses) _ _ _ c.write_all.result told c.write_all.ensures.writes

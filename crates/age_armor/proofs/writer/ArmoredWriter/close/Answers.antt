@@ -1,10 +1,10 @@
 use Rattle.std.proofs.Common.{rules, subst, sym}
 use Rattle.std.proofs.lemmas.Result.{on_ok_weaker}
 use Rattle.age_io.specs.Copying.{AppendsFront}
+use Rattle.age_io.specs.CopyingLemmas.{front-all, front-none}
 use Rattle.age_v1.specs.Armor.{text_of}
 use Rattle.age_armor.specs.Writing.{left_of, text_end}
 use Rattle.age_armor.proofs.Ending.{closes_armor, finishes_armor, finishes_binary}
-use Rattle.age_armor.proofs.Sent.{front-all, front-none}
 use Rattle.age_armor.proofs.writer.ArmoredWriter.close.Goals as goal
 
 -- it had failed

@@ -1,4 +1,4 @@
-use Rattle.age_armor.proofs.Sent.{front-none}
+use Rattle.age_io.specs.CopyingLemmas.{front-none}
 use Rattle.age_armor.proofs.writer.ArmoredWriter.fill_line.Goals as goal
 
 pub returns-clause-front : goal.returns-clause-front

@@ -1,6 +1,9 @@
-use Rattle.std.proofs.Common.{refl, rules, subst, sym}
+use Rattle.std.proofs.Common.{arith, length, refl, rules, subst, sym}
+use Rattle.std.proofs.Math.Seq.{take-length}
+use Rattle.age_io.specs.CopyingLemmas.{front-written}
+use Rattle.age_io.specs.WritingLemmas.{hands-on-patient}
 use Rattle.age_armor.specs.Writing.{SendsFront}
-use Rattle.age_armor.proofs.Sent.{failed-given, front-written, sends-none, sends-taken}
+use Rattle.age_armor.proofs.Sent.{failed-given, sends-none, sends-taken}
 use Rattle.age_armor.proofs.writing.ArmoredWriterWrite.write.Goals as goal
 
 -- it had failed
@@ -60,8 +63,14 @@ returns-in-Err-clause-writes g c = record {
   narrows = search rules;
   interrupted = search rules;
   takes_front = search rules;
-  takes_nothing = λ told. let w = g.W.Write in
+  takes_part = λ told. let w = g.W.Write in
       let s = c.args.self.now in
-      failed-given w.appended s _ c.args.bytes.now c.if-self.false refl c.in-Err.ensures.same_form
-      (subst (λ f. SendsFront w.appended f s c.args.bytes.now c.take_all.new.self.inner) (sym c.if-not-self.false) (c.in-Err.ensures.front told));
+      let bytes = c.args.bytes.now in (
+        length bytes,
+        omega arith,
+        rw (take-length bytes)
+            (failed-given w.appended s _ bytes c.if-self.false refl c.in-Err.ensures.same_form
+            (subst (λ f. SendsFront w.appended f s bytes c.take_all.new.self.inner) (sym c.if-not-self.false) (c.in-Err.ensures.front told))),
+      );
+  takes_nothing = λ told is. absurd (hands-on-patient g.W.Write.refuses c.args.self.now.inner _ c.in-Err.ensures.inner.why is);
 }
