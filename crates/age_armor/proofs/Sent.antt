@@ -69,7 +69,7 @@ module _ {W : Type 0} (appended : W → List ℕ → W → Type 0) where
   pub sends-part : (s : ArmoredWriter W) (n : ℕ) (bytes : List ℕ) (c : W) → SendsLines appended s (take n bytes) c → SendsLines appended s bytes c
   sends-part s n bytes c f = subst (λ (z : List ℕ). SendsLines appended s z c) (take-append-drop n bytes) (sends-more s (take n bytes) (drop n bytes) c f)
 
-  -- and in either form
+  -- in either form, what is sent of some bytes is a beginning for more
   sends-longer : (f : Bool) (s : ArmoredWriter W) (x y : List ℕ) (c : W) → SendsFront appended f s x c → SendsFront appended f s (x ++ y) c
   sends-longer true s x y c f = sends-more s x y c f
   sends-longer false s x y c f = front-more appended x y s.inner c f
