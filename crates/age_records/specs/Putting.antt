@@ -1,13 +1,14 @@
 -- What bytes that are written do to the writer of a payload.
-use Rattle.std.specs.Prelude.{◌≡◌, ℕ, ◌+◌, ◌^◌, ◌≤◌, ◌<◌, List, length, Result, Err, OnOk, OnErr, IfErr}
+use Rattle.std.specs.Prelude.{◌≡◌, ℕ, ◌+◌, ◌^◌, ◌≤◌, ◌<◌, IsTrue, List, length, Result, Err, OnOk, OnErr, IfErr}
 use Rattle.age_error.specs.Bytes.{AreBytes}
 use Rattle.age_error.specs.declared.io.Error.{Error}
 use Rattle.age_error.specs.declared.io.Error.TheVariants.{TooLong}
+use Rattle.age_io.specs.Copying.{AppendsFront}
 use Rattle.age_io.specs.Writing.{Retried, WritesAll}
 use Rattle.age_io.specs.declared.traits.Write.{Ghosts}
-use Rattle.age_v1.specs.Payload.{Seal}
+use Rattle.age_v1.specs.Payload.{Seal, payload}
 use Rattle.age_stream.specs.Sending.{RefusesChunk}
-use Rattle.age_stream.specs.Writing.{Appended, IsFailed, IsGood, Refused, inner_of, taken_len}
+use Rattle.age_stream.specs.Writing.{Appended, IsFailed, IsGood, Refused, WasMade, inner_of, taken_len}
 use Rattle.age_stream.specs.declared.writer.StreamWriter.{StreamWriter}
 use Rattle.age_records.specs.Text.{records_text}
 
@@ -25,3 +26,6 @@ pub record WritesRecords {S W T : Type 0} (seal_of : Seal) (write : Ghosts W) (o
   pub bytes : length (records_text records) ≤ 2 ^ 60 → AreBytes (records_text records)
   pub past_limit : 2 ^ 60 < length (records_text records) → (result ≡ Err TooLong) × (new ≡ old)
   pub in_limit : length (records_text records) ≤ 2 ^ 60 → IfErr result (λ e. e ≡ TooLong → RefusesChunk write.refuses (inner_of old) TooLong)
+  -- whatever it answers, the inner writer was given a beginning of the payload of that text, and nothing else
+  pub sent : IsTrue (write.tells (inner_of old)) → (key : List ℕ) (first : W) → WasMade key first old →
+      AppendsFront write.appended (payload seal_of key (records_text records)) first (inner_of new)

@@ -8,6 +8,7 @@ ghost use Rattle.age_records.specs.Text.{ends, joined_records, number_text, reco
 use age_error::bytes::known_bytes;
 use age_error::io::Error;
 use age_io::Write;
+use age_stream::laws::sent_law;
 use age_stream::sizes::LONGEST_PLAINTEXT;
 use age_stream::writer::StreamWriter;
 use age_suite::suite::Suite;
@@ -115,7 +116,8 @@ fn put_text<S: Suite, W: Write>(
 /// so too, and then their bytes. They are whole only after the writer's `finish`, which is the caller's.
 ///
 /// Nothing may have been written to the writer before. Where that text has more than 2^60 bytes it is `TooLong`, and nothing is written. Any
-/// other refusal is that of `StreamWriter::write`; the writer has failed then.
+/// other refusal is that of `StreamWriter::write`; the writer has failed then. Whatever the answer, the inner writer was given a beginning of
+/// the payload of that text, and nothing else (`sent`).
 pub fn write_records<S: Suite, W: Write>(
     records: &[Vec<u8>],
     writer: &mut StreamWriter<S, W>,
@@ -126,5 +128,6 @@ pub fn write_records<S: Suite, W: Write>(
     if !is_plaintext(records) {
         return Err(Error::TooLong);
     }
+    sent_law::<S, W>();
     put_text(writer, records)
 }
