@@ -43,6 +43,7 @@ pub use Rattle.age_io.specs.Failing
 pub use Rattle.age_io.specs.Writing
 pub use Rattle.age_io.specs.WritingLemmas
 pub use Rattle.age_io.specs.Copying
+pub use Rattle.age_io.specs.CopyingLemmas
 pub use Rattle.age_io.specs.Whole
 pub use Rattle.age_io.specs.Cursor
 pub use Rattle.age_io.specs.CursorLemmas

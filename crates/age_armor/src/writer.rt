@@ -227,6 +227,7 @@ impl<W: Write> ArmoredWriter<W> {
 }
 
 impl<W: Write> ArmoredWriter<W> {
+    ghost use Rattle.age_armor.specs.Writing.{inner_of};
     ghost use Rattle.age_armor.specs.WriterCalls.{ClosesText};
 
     /// In armor it writes the line of what is held, where that is some bytes, and the end marker and LF. The inner writer
@@ -253,26 +254,6 @@ impl<W: Write> ArmoredWriter<W> {
         self.failed = true;
         write_end(&mut self.inner, &self.encoder, &self.held)
     }
-}
-
-impl<W: Write + Drop> ArmoredWriter<W> {
-    ghost use Rattle.age_armor.specs.Writing.{inner_of};
-    ghost use Rattle.age_armor.specs.WriterCalls.{FinishesText};
-
-    /// It closes the text, as `close` does, and hands back the inner writer, which isn't flushed.
-    ///
-    /// On success the inner writer was given the text that carries all bytes taken. It refuses as `close` does; the text is cut off
-    /// then, and the inner writer is gone. In binary it writes nothing and never refuses.
-    ///
-    /// `FinishesText` says that the inner writer was given the whole text, from before the writer was made (`ok`), and in binary is
-    /// handed back as it stands (`binary`); what stays of it, and that it refuses later only as before (`same_tells`,
-    /// `no_fewer_faults`, `narrows`); and why it is refused (`failed`, `why`, `patient`).
-    pub fn finish(mut self) -> Result<W, Error>
-        ensures { FinishesText ⟦<W as Write>⟧ self result }
-    {
-        self.close()?;
-        Ok(self.into_inner())
-    }
 
     /// Hands back the inner writer as it stands. It writes nothing: where the writer wasn't closed or finished, armor is cut off.
     pub fn into_inner(self) -> W
@@ -288,6 +269,25 @@ impl<W: Write + Drop> ArmoredWriter<W> {
             failed: _,
         } = self;
         inner
+    }
+}
+
+impl<W: Write + Drop> ArmoredWriter<W> {
+    ghost use Rattle.age_armor.specs.WriterCalls.{FinishesText};
+
+    /// It closes the text, as `close` does, and hands back the inner writer, which isn't flushed.
+    ///
+    /// On success the inner writer was given the text that carries all bytes taken. It refuses as `close` does; the text is cut off
+    /// then, and the inner writer is gone. In binary it writes nothing and never refuses.
+    ///
+    /// `FinishesText` says that the inner writer was given the whole text, from before the writer was made (`ok`), and in binary is
+    /// handed back as it stands (`binary`); what stays of it, and that it refuses later only as before (`same_tells`,
+    /// `no_fewer_faults`, `narrows`); and why it is refused (`failed`, `why`, `patient`).
+    pub fn finish(mut self) -> Result<W, Error>
+        ensures { FinishesText ⟦<W as Write>⟧ self result }
+    {
+        self.close()?;
+        Ok(self.into_inner())
     }
 }
 

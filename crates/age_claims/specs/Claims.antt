@@ -15,7 +15,7 @@ use Rattle.age.specs.File.{file_front, file_text}
 use Rattle.age.specs.FileErrorVariants as variant
 use Rattle.age.specs.Identities.{UnwrapAnswer, Unwraps, CarriesFile, GivesFirst, IsFileFor}
 use Rattle.age.specs.OpVariants.{Read, Seek}
-use Rattle.age.specs.Payload.{Seal, chunk, payload, payload_key, plain_len, EndsAsLast, LastIsNoMiddle}
+use Rattle.age.specs.Payload.{Seal, chunk, payload, payload_key, plain_len, EndsAsLast}
 use Rattle.age.specs.PayloadAnswers.{OpensAs}
 use Rattle.age.specs.PayloadRefusals.{IsAllowed}
 use Rattle.age.specs.PayloadTargets.{sought_in, IsRefusedTarget, IsToEnd}
@@ -25,10 +25,6 @@ use Rattle.age.specs.Stretch.{Stretch, whole}
 use Rattle.age.specs.Types.{Answer, Error, FileError, Op, StreamWriter}
 use Rattle.age.specs.WholeFiles.{RefusesFile}
 use Rattle.age.specs.X25519.{HasShare, opened_with}
-
--- A full last chunk doesn't open as one in the middle, whatever the key and the plaintext are.
-abbrev pub KeepsApart : Seal → Type 0
-KeepsApart seal_of = (key plain : List ℕ) → LastIsNoMiddle seal_of key plain
 
 -- Whenever the identities give a file key to the stanzas of a header, it is the same one.
 abbrev pub GiveOneKey : {I : Type 0} → (I → List StanzaValue → UnwrapAnswer → I → Type 0) → List I → Type 0

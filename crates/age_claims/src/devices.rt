@@ -5,7 +5,8 @@ ghost use Rattle.age.specs.Encrypting.{Prepares};
 ghost use Rattle.age.specs.Identities.{FirstAnswer};
 ghost use Rattle.age.specs.Reading.{IsQuiet};
 ghost use Rattle.age.specs.Several.{BelongsToOne};
-ghost use Rattle.age_claims.specs.Claims.{CarriesFor, KeepsApart, RefusesBack, RefusesRekeying};
+ghost use Rattle.age.specs.FileLaws.{KeepsApart};
+ghost use Rattle.age_claims.specs.Claims.{CarriesFor, RefusesBack, RefusesRekeying};
 
 use age::armor::Format;
 use age::armor::laws::carried_is_unique;

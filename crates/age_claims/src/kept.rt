@@ -2,7 +2,8 @@
 ghost use Rattle.std.specs.Prelude.{◌≡◌, [], ◌∷◌, Some, Err, MatchResult, length};
 ghost use Rattle.age.specs.Several.{BelongsToOne};
 ghost use Rattle.age.specs.Encrypting.{Prepares};
-ghost use Rattle.age_claims.specs.Claims.{KeepsApart, RefusesBack};
+ghost use Rattle.age.specs.FileLaws.{KeepsApart};
+ghost use Rattle.age_claims.specs.Claims.{RefusesBack};
 
 use crate::texts::text_for;
 use age::armor::Format;

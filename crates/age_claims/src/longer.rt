@@ -7,7 +7,8 @@ ghost use Rattle.age.specs.File.{IsFileOf};
 ghost use Rattle.age.specs.Identities.{FirstAnswer, IsFileFor};
 ghost use Rattle.age.specs.Payload.{last_piece};
 ghost use Rattle.age.specs.Stanza.{StanzaValue};
-ghost use Rattle.age_claims.specs.Claims.{KeepsApart, first_chunks};
+ghost use Rattle.age.specs.FileLaws.{KeepsApart};
+ghost use Rattle.age_claims.specs.Claims.{first_chunks};
 
 use age::armor::laws::{carried_is_delivered, carried_is_unique};
 use age::format::laws::{header_text_reads_back, verdict_is_unique};

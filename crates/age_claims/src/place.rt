@@ -3,7 +3,8 @@ ghost use Rattle.std.specs.Prelude.{◌≡◌, ◌≤◌, [], ◌∷◌, length,
 ghost use Rattle.age.specs.Encrypting.{Prepares};
 ghost use Rattle.age.specs.Several.{BelongsToOne};
 ghost use Rattle.age.specs.Replies.{seen, gave, at, IsNoWant};
-ghost use Rattle.age_claims.specs.Claims.{KeepsApart, RefusesBack};
+ghost use Rattle.age.specs.FileLaws.{KeepsApart};
+ghost use Rattle.age_claims.specs.Claims.{RefusesBack};
 
 use crate::texts::text_for;
 use age::armor::Format;

@@ -2,7 +2,7 @@
 ghost use Rattle.std.specs.Prelude.{◌≡◌, [], ◌∷◌, MatchResult};
 ghost use Rattle.age.specs.Several.{BelongsToOne};
 ghost use Rattle.age.specs.FileErrors.{IsDecryptError, IsWant};
-ghost use Rattle.age_claims.specs.Claims.{KeepsApart};
+ghost use Rattle.age.specs.FileLaws.{KeepsApart};
 
 use age::draw::Draw;
 use age::format::Grease;

@@ -3,7 +3,8 @@ ghost use Rattle.std.specs.Prelude.{[], ◌∷◌, Some, Err, IfOk, IfErr, lengt
 ghost use Rattle.age.specs.Encrypting.{Prepares};
 ghost use Rattle.age.specs.Identities.{FirstAnswer};
 ghost use Rattle.age.specs.Several.{BelongsToOne};
-ghost use Rattle.age_claims.specs.Claims.{CarriesFor, KeepsApart, RefusesBack};
+ghost use Rattle.age.specs.FileLaws.{KeepsApart};
+ghost use Rattle.age_claims.specs.Claims.{CarriesFor, RefusesBack};
 
 use age::armor::Format;
 use age::draw::Draw;

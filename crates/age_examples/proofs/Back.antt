@@ -20,7 +20,8 @@ use Rattle.age.specs.Types.{Error, FileError, StreamWriter}
 use Rattle.age.specs.WholeFiles.{RefusesFile}
 use Rattle.age.specs.Writing.{HandsOn, Narrows, OrMemory, Retried}
 use Rattle.age.specs.WritingLemmas.{retried-plain}
-use Rattle.age_examples.specs.Keys.{AlwaysGiveKeysBack, KeepsApart, IsNotWritten, RefusesUnless}
+use Rattle.age.specs.FileLaws.{KeepsApart}
+use Rattle.age_examples.specs.Keys.{AlwaysGiveKeysBack, IsNotWritten, RefusesUnless}
 
 -- a writer that refuses for want of memory alone, as a list does
 abbrev ForWant : {W : Type 0} → W → ℕ → Error → Type 0

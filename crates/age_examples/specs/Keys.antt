@@ -6,7 +6,7 @@ use Rattle.age.specs.DecryptErrors as decrypt
 use Rattle.age.specs.EncryptErrors.{EncryptRefusal, encrypt_refusal}
 use Rattle.age.specs.ErrorVariants.{OutOfMemory, TooLong}
 use Rattle.age.specs.FileErrorVariants as file
-use Rattle.age.specs.Payload.{LastIsNoMiddle, Seal}
+use Rattle.age.specs.Payload.{Seal}
 use Rattle.age.specs.File.{IsFileOf}
 use Rattle.age.specs.Stanza.{StanzaValue}
 use Rattle.age.specs.Recipients.{WrapAnswer}
@@ -31,10 +31,6 @@ AlwaysGiveKeysBack {R} {I} wraps unwraps recipients grease identities =
     (draws left : List ℕ) (file : Prepared) (answer : UnwrapAnswer)
     → Prepares wraps recipients (Some grease) draws (Ok file) left → FirstAnswer unwraps identities file.stanzas answer
     → (answer ≡ Some (Ok file.file_key)) ⊎ (answer ≡ Some (Err decrypt.OutOfMemory))
-
--- The suite never opens a full last chunk as one in the middle.
-abbrev pub KeepsApart : Seal → Type 0
-KeepsApart seal_of = (key plain : List ℕ) → LastIsNoMiddle seal_of key plain
 
 -- Why a plaintext isn't written: memory was refused, or it has more than 2^60 bytes.
 abbrev pub IsNotWritten : List ℕ → Error → Type 0

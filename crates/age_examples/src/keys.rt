@@ -1,6 +1,7 @@
 //! Files to one's own X25519 key.
 ghost use Rattle.std.specs.Prelude.{◌≡◌, [], ◌∷◌, IfOk, IfErr};
-ghost use Rattle.age_examples.specs.Keys.{KeepsApart, RefusesFor};
+ghost use Rattle.age.specs.FileLaws.{KeepsApart};
+ghost use Rattle.age_examples.specs.Keys.{RefusesFor};
 
 use crate::several::opened_by_one;
 use age::armor::Format;

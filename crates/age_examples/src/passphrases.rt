@@ -3,7 +3,8 @@ ghost use Rattle.std.specs.Prelude.{◌≡◌, ◌≤◌, [], ◌∷◌, Err, If
 ghost use Rattle.age.specs.Encrypting.{Prepares};
 ghost use Rattle.age.specs.Scrypt.{PassphraseRecipient, WrapsUnder};
 ghost use Rattle.age.specs.ScryptLaws.{IsMeantFor};
-ghost use Rattle.age_examples.specs.Keys.{IsWhole, KeepsApart, IsNotWritten, RefusesUnless};
+ghost use Rattle.age.specs.FileLaws.{KeepsApart};
+ghost use Rattle.age_examples.specs.Keys.{IsWhole, IsNotWritten, RefusesUnless};
 
 use age::draw::Draw;
 use age::io::{Error, write_all};

@@ -2,7 +2,8 @@
 ghost use Rattle.std.specs.Prelude.{◌≡◌, List, [], ◌∷◌, IfOk, IfErr};
 ghost use Rattle.age.specs.Several.{BelongsToOne};
 ghost use Rattle.age.specs.Stanza.{StanzaValue};
-ghost use Rattle.age_examples.specs.Keys.{AlwaysGiveKeysBack, GiveKeysBack, KeepsApart, RefusesFor};
+ghost use Rattle.age.specs.FileLaws.{KeepsApart};
+ghost use Rattle.age_examples.specs.Keys.{AlwaysGiveKeysBack, GiveKeysBack, RefusesFor};
 
 use age::armor::Format;
 use age::draw::Draw;

@@ -1,7 +1,8 @@
 //! A stream encrypted and decrypted again, bare or in armor.
 ghost use Rattle.std.specs.Prelude.{◌&&◌, length, IsTrue, IfErr, OnOk};
 ghost use Rattle.age.specs.Reading.{IsQuiet};
-ghost use Rattle.age_examples.specs.Keys.{AlwaysGiveKeysBack, GiveKeysBack, KeepsApart, RefusesTo};
+ghost use Rattle.age.specs.FileLaws.{KeepsApart};
+ghost use Rattle.age_examples.specs.Keys.{AlwaysGiveKeysBack, GiveKeysBack, RefusesTo};
 
 use age::armor::Format;
 use age::armor::laws::carried_is_unique;

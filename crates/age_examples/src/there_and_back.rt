@@ -1,6 +1,7 @@
 //! A file encrypted and decrypted in memory.
 ghost use Rattle.std.specs.Prelude.{◌≡◌, IfErr, IfOk};
-ghost use Rattle.age_examples.specs.Keys.{AlwaysGiveKeysBack, GiveKeysBack, KeepsApart, RefusesFor};
+ghost use Rattle.age.specs.FileLaws.{KeepsApart};
+ghost use Rattle.age_examples.specs.Keys.{AlwaysGiveKeysBack, GiveKeysBack, RefusesFor};
 
 use age::draw::Draw;
 use age::format::Grease;

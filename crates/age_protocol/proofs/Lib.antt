@@ -3,6 +3,7 @@ pub mod Asking
 pub mod Sets
 pub mod Files
 pub mod Refusing
+pub mod Writing
 pub mod Fronts
 pub mod Migrating
 pub mod Rule

@@ -20,6 +20,10 @@ use Rattle.age_protocol.specs.Decrypting.{ReadsFront, RefusesFront}
 use Rattle.age_protocol.specs.OpeningFile.{OpensFile, StandsBefore}
 use Rattle.age_protocol.specs.WholeFiles.{RefusesDecrypting}
 
+-- The suite opens no full last chunk as one in the middle, whatever the key and the plaintext are.
+abbrev pub KeepsApart : Seal → Type 0
+KeepsApart seal_of = (key plain : List ℕ) → LastIsNoMiddle seal_of key plain
+
 -- what a decryptor reads from bytes that begin as a file: the header, the nonce, and no byte of what follows
 abbrev pub ReadsBack : Type 0
 ReadsBack = (start rest : Stretch) (start_place place : ℕ) (h : HeaderValue) (read : List ℕ) (stanzas : List StanzaValue) (mac nonce more : List ℕ)

@@ -14,3 +14,4 @@ pub mod Passphrases
 pub mod Laws
 pub mod Ready
 pub mod PrivateAsking
+pub mod PrivateWriting

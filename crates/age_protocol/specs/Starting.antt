@@ -30,7 +30,7 @@ WritesFile {S} {W} seal_of inner_appended appended file output writer =
     → appended writer plain last → Finishes seal_of inner_appended appended last finished
     → IfOk finished (inner_appended output (file_text seal_of file.file_key file.stanzas file.nonce plain))
 
--- A refusal, and the output when it was given up: a beginning of the header and the nonce was appended.
-abbrev pub GivesUp : {W : Type 0} → (W → Bool) → (W → ℕ) → (W → ℕ → Error → Type 0) → (W → List ℕ → W → Type 0) → Prepared → W → Error → Type 0
-GivesUp {W} tells faults refuses appended file output e =
-    (last : W) × WritesAll {T = Unit {0}} tells faults (OrMemory (Retried refuses)) appended output last (file_front file.file_key file.stanzas file.nonce) (Err e)
+-- A refusal, and the output as it is then: a beginning of the header and the nonce was appended.
+abbrev pub GivesUp : {W : Type 0} → (W → Bool) → (W → ℕ) → (W → ℕ → Error → Type 0) → (W → List ℕ → W → Type 0) → Prepared → W → W → Error → Type 0
+GivesUp tells faults refuses appended file output last e =
+    WritesAll {T = Unit {0}} tells faults (OrMemory (Retried refuses)) appended output last (file_front file.file_key file.stanzas file.nonce) (Err e)

@@ -168,11 +168,12 @@ impl<S: Suite> Encryptor<S> {
     }
 
     /// Writes the header and the nonce to `output`, and answers a writer that takes the plaintext, and writes its payload
-    /// after them. The file is whole only after the writer's `finish`.
+    /// after them. The file is whole only after the writer's `finish` or `close`.
     ///
     /// Its memory is taken first: the text of the header, and room for one chunk of 65,536 bytes. Where it is refused that
     /// it answers `OutOfMemory` and has written nothing. Any other refusal is that of the output, or `WriteZero` where that
-    /// took no byte; a beginning of header and nonce was then written. Interruptions are retried as by `write_all`.
+    /// took no byte; a beginning of header and nonce was then written. Interruptions are retried as by `write_all`. `output`
+    /// is gone after a refusal.
     pub fn wrap_output<W: Write + Drop>(
         self,
         alloc: Global,
@@ -184,15 +185,39 @@ impl<S: Suite> Encryptor<S> {
         ensures is_file { OnOk result ((plain : List ℕ) →
             IsFileOf S.seal_of self.file_key self.stanzas plain (file_text S.seal_of self.file_key self.stanzas self.nonce plain)) }
         ensures bytes { OnOk result ((plain : List ℕ) → AreBytes plain → AreBytes (file_text S.seal_of self.file_key self.stanzas self.nonce plain)) }
-        ensures refused { IfErr result (GivesUp W.tells W.faults W.refuses W.appended self output) }
+        ensures refused { IfErr result (λ e. (last : W) × GivesUp W.tells W.faults W.refuses W.appended self output last e) }
         ensures patient { IfErr result (λ e. IsInterruption e → ⊥) }
+    {
+        match self.begin(alloc, output) {
+            Ok(writer) => Ok(writer),
+            Err((_output, error)) => Err(error),
+        }
+    }
+
+    /// `wrap_output`, which hands `output` back beside the refusal. It refuses as `wrap_output` does, and leaves what that leaves.
+    pub fn begin<W: Write>(
+        self,
+        alloc: Global,
+        output: W,
+    ) -> Result<StreamWriter<S, W>, (W, io::Error)>
+        ensures starts { IfOk result (Starts W.tells W.faults W.refuses W.appended self output) }
+        ensures file { IsTrue (W.tells output) → IfOk result (WritesFile S.seal_of W.appended ⟦<StreamWriter<S, W> as Write>⟧.appended self output) }
+        ensures is_file { OnOk result ((plain : List ℕ) →
+            IsFileOf S.seal_of self.file_key self.stanzas plain (file_text S.seal_of self.file_key self.stanzas self.nonce plain)) }
+        ensures bytes { OnOk result ((plain : List ℕ) → AreBytes plain → AreBytes (file_text S.seal_of self.file_key self.stanzas self.nonce plain)) }
+        ensures refused { IfErr result (λ back. GivesUp W.tells W.faults W.refuses W.appended self output back.0 back.1) }
+        ensures patient { IfErr result (λ back. IsInterruption back.1 → ⊥) }
     {
         payload_laws::<S>();
         mac_laws();
         let mut output = output;
-        let room = write_front(alloc, &self.header, &self.nonce, &mut output)?;
-        let key = payload_key_of(&self.file_key, &self.nonce);
-        Ok(StreamWriter::with_room(room, key, output))
+        match write_front(alloc, &self.header, &self.nonce, &mut output) {
+            Ok(room) => {
+                let key = payload_key_of(&self.file_key, &self.nonce);
+                Ok(StreamWriter::with_room(room, key, output))
+            }
+            Err(error) => Err((output, error)),
+        }
     }
 }
 

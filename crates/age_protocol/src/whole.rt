@@ -1,7 +1,13 @@
 //! Whole files from a reader to a writer, in flat memory.
-ghost use Rattle.std.specs.Prelude.{◌≡◌, length, IsTrue, Some, Ok, Err, IfOk, OnOk, IfErr};
+ghost use Rattle.std.specs.Prelude.{◌≡◌, ℕ, List, length, IsTrue, Some, Ok, Err, OnOk, IfErr};
+ghost use Rattle.age_io.specs.Copying.{AppendsFront};
 ghost use Rattle.age_io.specs.Reading.{IsQuiet};
 ghost use Rattle.age_v1.specs.Encrypting.{Prepared, Prepares};
+ghost use Rattle.age_error.specs.Bytes.{AreBytes};
+ghost use Rattle.age_v1.specs.File.{IsFileOf, file_text};
+ghost use Rattle.age_v1.specs.Payload.{payload};
+ghost use Rattle.age_stream.specs.Writing.{WasMade, inner_of};
+ghost use Rattle.age_protocol.specs.PrivateWriting.{EndsText, WritesMade};
 ghost use Rattle.age_protocol.specs.WholeFiles.{RefusesFile};
 ghost use Rattle.age_v1.specs.Armor.{text_of};
 ghost use Rattle.age_v1.specs.Claims.{AppendsFile};
@@ -12,11 +18,14 @@ ghost use Rattle.age_v1.specs.Identities.{AnswersFirst, GivesFirst, FirstAnswer,
 use crate::encryptor::Encryptor;
 use crate::laws::files_carry_themselves;
 use crate::opening::open_file;
-use age_armor::{ArmoredReader, ArmoredWriter, Format, armor_is_carrying};
+use age_armor::{
+    ArmoredReader, ArmoredWriter, Format, armor_is_carrying, sent_law as sent_in_armor,
+};
 use age_error::{FileError, io};
 use age_format::{Grease, Identity, Recipient};
 use age_io::{BufReader, Read, Write, copy_all, flush_retrying};
-use age_stream::laws::reader_law;
+use age_stream::laws::{reader_law, sent_law};
+use age_stream::writer::StreamWriter;
 use age_suite::draw::Draw;
 use age_suite::suite::Suite;
 use std::alloc::Global;
@@ -27,8 +36,9 @@ use std::alloc::Global;
 /// The random bytes are drawn before anything is read or written, as by `Encryptor::with_recipients`, which also says what the
 /// grease is for. A success says that the input ended well, and that what was appended is its file in this form; after an error of
 /// encryption nothing was read or written. It takes the memory of the header's text, of a few chunks, and in armor of some lines,
-/// whatever the length of the input. After any other refusal a beginning of the file may have been appended: an input past 2^60
-/// bytes is `TooLong`, want of memory `OutOfMemory`, and the others are those of the reader and the writer.
+/// whatever the length of the input. After any other refusal a beginning of the file in this form was appended, of all that the input
+/// had (`front`): an input past 2^60 bytes is `TooLong`, want of memory `OutOfMemory`, and the others are those of the reader and the
+/// writer.
 pub fn encrypt_all<S: Suite, T: Recipient, R: Read, W: Write>(
     alloc: Global,
     recipients: &[T],
@@ -44,39 +54,107 @@ pub fn encrypt_all<S: Suite, T: Recipient, R: Read, W: Write>(
         × AppendsFile S.seal_of W.appended (text_of format) file (R.rest reader.old) writer.old writer.new) }
     ensures refused { IfErr result (λ e. IsEncryptError e → (reader.new ≡ reader.old) × (writer.new ≡ writer.old)) }
     ensures why { IfErr result (EncryptsUnless (λ refusal. Prepares T.wraps recipients.now (Some grease) draw.old (Err refusal) draw.new)) }
+    // After any other refusal a beginning of the file in this form was appended.
+    ensures front { IsTrue (R.tells reader.old) → IsTrue (W.tells writer.old) → IfErr result (IfIo (λ _.
+        (file : Prepared) × Prepares T.wraps recipients.now (Some grease) draw.old (Ok file) draw.new
+        × AppendsFront W.appended (text_of format (file_text S.seal_of file.file_key file.stanzas file.nonce (R.rest reader.old).bytes)) writer.old writer.new)) }
     // The file was prepared; where the reader has no fault, the writer refuses, or memory or the length does.
     ensures io { IfErr result (IfIo (λ e.
         ((file : Prepared) × Prepares T.wraps recipients.now (Some grease) draw.old (Ok file) draw.new)
         × (IsTrue (R.tells reader.old) → IsTrue (R.rest reader.old).ends_well → IsQuiet (R.faults reader.old) (R.faults reader.new) →
         RefusesFile W.refuses writer.old (length (R.rest reader.old).bytes) e))) }
 {
+    files_carry_themselves::<S>();
+    armor_is_carrying();
     let encryptor = Encryptor::<S>::with_recipients(alloc, recipients, draw, grease)?;
-    let _out = write_file::<S, R, &mut W>(alloc, encryptor, format, reader, writer)?;
-    Ok(())
+    let written = write_file::<S, R, &mut W>(alloc, encryptor, format, reader, writer);
+    match written.1 {
+        Ok(()) => Ok(()),
+        Err(error) => Err(FileError::Io(error)),
+    }
 }
 
-// The same once the recipients have answered, with a writer that is handed in, and handed back.
-fn write_file<S: Suite, R: Read, W: Write + Drop>(
+// Writes the payload of what `reader` still has. The writer of it takes no more then.
+fn write_payload<S: Suite, R: Read, W: Write>(
+    alloc: Global,
+    reader: &mut R,
+    stream: &mut StreamWriter<S, W>,
+) -> Result<(), io::Error>
+    ensures { (key : List ℕ) (first : W) → WasMade key first stream.old →
+        WritesMade ⟦<R as Read>⟧ ⟦<W as Write>⟧ (payload S.seal_of key) reader.old reader.new first (inner_of stream.new, result) }
+{
+    sent_law::<S, W>();
+    match copy_all(alloc, reader, stream) {
+        Ok(()) => stream.close(),
+        Err(error) => Err(error),
+    }
+}
+
+// Writes the file of what `reader` still has, and hands back the writer beside the answer.
+fn write_binary<S: Suite, R: Read, W: Write>(
+    alloc: Global,
+    encryptor: Encryptor<S>,
+    reader: &mut R,
+    output: W,
+) -> (W, Result<(), io::Error>)
+    ensures made { WritesMade ⟦<R as Read>⟧ ⟦<W as Write>⟧ (λ plain. file_text S.seal_of encryptor.file_key encryptor.stanzas encryptor.nonce plain)
+        reader.old reader.new output result }
+    ensures is_file { OnOk result.1 ((plain : List ℕ) →
+        IsFileOf S.seal_of encryptor.file_key encryptor.stanzas plain (file_text S.seal_of encryptor.file_key encryptor.stanzas encryptor.nonce plain)) }
+    ensures bytes { OnOk result.1 ((plain : List ℕ) → AreBytes plain →
+        AreBytes (file_text S.seal_of encryptor.file_key encryptor.stanzas encryptor.nonce plain)) }
+{
+    match encryptor.begin(alloc, output) {
+        Ok(mut stream) => {
+            let written = write_payload(alloc, reader, &mut stream);
+            (stream.into_inner(), written)
+        }
+        Err((output, error)) => (output, Err(error)),
+    }
+}
+
+// Ends the text of what was written, and flushes the writer below.
+fn end_text<W: Write>(armored: ArmoredWriter<W>) -> (W, Result<(), io::Error>)
+    ensures { EndsText ⟦<W as Write>⟧ armored result }
+{
+    let mut armored = armored;
+    let closed = armored.close();
+    let mut output = armored.into_inner();
+    match closed {
+        Ok(()) => {
+            let flushed = flush_retrying(&mut output);
+            (output, flushed)
+        }
+        Err(error) => (output, Err(error)),
+    }
+}
+
+// The same in this form, flushed.
+fn write_file<S: Suite, R: Read, W: Write>(
     alloc: Global,
     encryptor: Encryptor<S>,
     format: Format,
     reader: &mut R,
     writer: W,
-) -> Result<W, io::Error>
-    ensures file { IsTrue (R.tells reader.old) → IsTrue (W.tells writer) →
-        IfOk result (AppendsFile S.seal_of W.appended (text_of format) encryptor (R.rest reader.old) writer) }
-    ensures why { IsTrue (R.tells reader.old) → IsTrue (R.rest reader.old).ends_well → IsQuiet (R.faults reader.old) (R.faults reader.new) →
-        IfErr result (RefusesFile W.refuses writer (length (R.rest reader.old).bytes)) }
+) -> (W, Result<(), io::Error>)
+    ensures made { WritesMade ⟦<R as Read>⟧ ⟦<W as Write>⟧ (λ plain. text_of format (file_text S.seal_of encryptor.file_key encryptor.stanzas encryptor.nonce plain))
+        reader.old reader.new writer result }
+    ensures is_file { OnOk result.1 ((plain : List ℕ) →
+        IsFileOf S.seal_of encryptor.file_key encryptor.stanzas plain (file_text S.seal_of encryptor.file_key encryptor.stanzas encryptor.nonce plain)) }
+    ensures bytes { OnOk result.1 ((plain : List ℕ) → AreBytes plain →
+        AreBytes (file_text S.seal_of encryptor.file_key encryptor.stanzas encryptor.nonce plain)) }
 {
-    files_carry_themselves::<S>();
-    armor_is_carrying();
-    let armored = ArmoredWriter::wrap_output(alloc, writer, format)?;
-    let mut stream = encryptor.wrap_output(alloc, armored)?;
-    copy_all(alloc, reader, &mut stream)?;
-    let finished = stream.finish()?;
-    let mut out = finished.finish()?;
-    flush_retrying(&mut out)?;
-    Ok(out)
+    sent_in_armor::<W>();
+    match ArmoredWriter::begin(alloc, writer, format) {
+        Ok(armored) => {
+            let written = write_binary(alloc, encryptor, reader, armored);
+            match written.1 {
+                Ok(()) => end_text(written.0),
+                Err(error) => (written.0.into_inner(), Err(error)),
+            }
+        }
+        Err((writer, error)) => (writer, Err(error)),
+    }
 }
 
 /// Reads a file to its end, bare or in armor, and appends its plaintext, decrypted by one of the identities, to `writer`.

@@ -236,6 +236,22 @@ impl<S: Suite, W: Write> StreamWriter<S, W> {
         )?;
         Ok(())
     }
+
+    /// Hands back the inner writer as it stands. It writes nothing: where the writer wasn't closed, the payload is cut off.
+    pub fn into_inner(self) -> W
+        ensures { result ≡ inner_of self }
+    {
+        let StreamWriter {
+            alloc: _,
+            key: _,
+            inner,
+            held: _,
+            sealed: _,
+            failed: _,
+            suite: _,
+        } = self;
+        inner
+    }
 }
 
 impl<S: Suite, W: Write + Drop> StreamWriter<S, W> {
@@ -257,22 +273,6 @@ impl<S: Suite, W: Write + Drop> StreamWriter<S, W> {
     {
         self.close()?;
         Ok(self.into_inner())
-    }
-
-    /// Hands back the inner writer as it stands. It writes nothing: where the writer wasn't closed, the payload is cut off.
-    pub fn into_inner(self) -> W
-        ensures { result ≡ inner_of self }
-    {
-        let StreamWriter {
-            alloc: _,
-            key: _,
-            inner,
-            held: _,
-            sealed: _,
-            failed: _,
-            suite: _,
-        } = self;
-        inner
     }
 }
 
