@@ -1,4 +1,4 @@
-use Rattle.std.specs.Prelude.{◌≡◌, ℕ, Bool, true, false}
+use Rattle.std.specs.Prelude.{◌≡◌, ℕ, Bool, true, false, Result, Ok, Err, OnOk}
 use Rattle.std.proofs.Common.{rules, ◌∙◌, [], List, refl, subst, ap, inl, inr, add-zero}
 use Rattle.std.proofs.lemmas.List.{append-nil}
 use Rattle.age.specs.Types.{Error, StreamWriter}
@@ -11,7 +11,6 @@ use Rattle.age.specs.WritingLemmas.{retried-plain}
 use Rattle.age.specs.CopyingLemmas.{front-still}
 use Rattle.age.specs.StreamWriting.{Refused, WasMade, inner_of}
 use Rattle.age.specs.StreamWritingLemmas.{Refused-made, Refused-patient}
-use Rattle.age_bench.proofs.Sealing.{on-ok}
 use Rattle.age_bench.proofs.payload.seal_into.Goals as goal
 
 module _ {S W : Type 0} (refuses : W → ℕ → Error → Type 0) (key : List ℕ) (writer : W) (stream : StreamWriter S W) (made : WasMade key writer stream) where
@@ -28,6 +27,11 @@ module _ {S W : Type 0} (refuses : W → ℕ → Error → Type 0) (key : List �
       → RefusesFile refuses writer n e
   from_later later n narrows e h =
       from_made n e (subst (λ k. Retried (Refused refuses) stream k e) (add-zero n) (narrows 0 e (inl (Refused-patient refuses later 0 e h, h))))
+
+-- what holds holds of a success
+on-ok : {T E X : Type 0} (r : Result T E) → X → OnOk r X
+on-ok (Ok x) h = h
+on-ok (Err e) h = tt
 
 is-good : (failed : Bool) → (failed ≡ true → ⊥) → failed ≡ false
 is-good true not = absurd (not refl)
