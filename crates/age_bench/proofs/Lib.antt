@@ -10,4 +10,3 @@ pub mod Hex
 pub mod Words
 pub mod Numbers
 pub mod Keys
-pub mod Sealing

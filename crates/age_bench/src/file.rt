@@ -1,6 +1,7 @@
 //! The commands on whole files.
 ghost use Rattle.std.specs.Prelude.{◌≡◌, ◌⊎◌, ℕ, List, length, IsTrue, Ok, Err, IfOk, OnOk, IfErr};
 ghost use Rattle.age.specs.Armor.{text_of};
+ghost use Rattle.age.specs.Copying.{AppendsFront};
 ghost use Rattle.age.specs.DecryptingStreams.{DecryptsAll};
 ghost use Rattle.age.specs.EncryptErrors.{encrypt_refusal, OutOfMemory};
 ghost use Rattle.age.specs.FileErrors.{IfIo, IsEncryptError, EncryptsUnless};
@@ -44,8 +45,9 @@ fn grease(alloc: Global) -> Result<Grease, EncryptError>
 /// the random bytes, the form and the plaintext alone. Beside the stanza of a passphrase stands no other; all else have the one of
 /// `grease` too. It refuses as `encrypt_all` does; an error of encryption is want of memory, or what the random bytes come to:
 /// `ShortRandom` where there are too few, for an X25519 recipient `ZeroSharedSecret`, and for a passphrase `WorkFactorRefused`, where
-/// its work factor isn't one that the suite accepts. Where the reader has no fault, any other refusal is the writer's, want of memory,
-/// or `TooLong` for an input past 2^60 bytes.
+/// its work factor isn't one that the suite accepts. After any other refusal a beginning of the file in this form was appended, of all
+/// that the input had (`front`). Where the reader has no fault, such a refusal is the writer's, want of memory, or `TooLong` for an
+/// input past 2^60 bytes.
 pub fn encrypt_to<R: Read, W: Write>(
     alloc: Global,
     to: To,
@@ -60,6 +62,11 @@ pub fn encrypt_to<R: Read, W: Write>(
         × IsTrue (R.rest reader.old).ends_well
         × W.appended writer.old (text_of format text) writer.new) }
     ensures refused { IfErr result (λ e. IsEncryptError e → (reader.new ≡ reader.old) × (writer.new ≡ writer.old)) }
+    // After any other refusal a beginning of the file in this form was appended.
+    ensures front { IsTrue (R.tells reader.old) → IsTrue (W.tells writer.old) → IfErr result (IfIo (λ _.
+        (text : List ℕ)
+        × (file_by to draw (R.rest reader.old).bytes ≡ Ok text)
+        × AppendsFront W.appended (text_of format text) writer.old writer.new)) }
     ensures why { IfErr result (EncryptsUnless (λ refusal. (refusal ≡ OutOfMemory) ⊎ ((plain : List ℕ) → file_by to draw plain ≡ Err refusal))) }
     ensures io { IfErr result (IfIo (λ e.
         IsTrue (R.tells reader.old) → IsTrue (R.rest reader.old).ends_well → IsQuiet (R.faults reader.old) (R.faults reader.new) →

@@ -22,8 +22,8 @@ use std::alloc::Global;
 /// Reads what `reader` still has, and appends its payload under `key` to `writer`, which is flushed.
 ///
 /// A success says that the input ended well, and that what was appended is its payload. Whatever it answers, what was appended is a
-/// beginning of a payload under the key, of some plaintext. It takes the memory of a few chunks. A plaintext past 2^60 bytes is `TooLong`,
-/// and any other refusal is the reader's, the writer's or want of memory.
+/// beginning of that payload. It takes the memory of a few chunks. A plaintext past 2^60 bytes is `TooLong`, and any other refusal is
+/// the reader's, the writer's or want of memory.
 pub fn seal_all<R: Read, W: Write>(
     alloc: Global,
     key: [u8; 32],
@@ -34,7 +34,7 @@ pub fn seal_all<R: Read, W: Write>(
         (IsTrue (R.rest reader.old).ends_well
         × W.appended writer.old (payload bench_seal key (R.rest reader.old).bytes) writer.new) }
     ensures front { IsTrue (R.tells reader.old) → IsTrue (W.tells writer.old) →
-        (plain : List ℕ) × AppendsFront W.appended (payload bench_seal key plain) writer.old writer.new }
+        AppendsFront W.appended (payload bench_seal key (R.rest reader.old).bytes) writer.old writer.new }
     // Why it refuses, where the reader has no fault: for want of memory, a plaintext past 2^60 bytes, or as the writer does.
     ensures io { IfErr result IsIoError }
     ensures why { IsTrue (R.tells reader.old) → IsTrue (R.rest reader.old).ends_well → IsQuiet (R.faults reader.old) (R.faults reader.new) →
@@ -57,7 +57,7 @@ fn seal_into<R: Read, W: Write + Drop>(
     ensures payload { IsTrue (R.tells reader.old) → IsTrue (W.tells writer) → OnOk result.1 (IsTrue (R.rest reader.old).ends_well
         × W.appended writer (payload bench_seal key (R.rest reader.old).bytes) result.0) }
     ensures front { IsTrue (R.tells reader.old) → IsTrue (W.tells writer) →
-        (plain : List ℕ) × AppendsFront W.appended (payload bench_seal key plain) writer result.0 }
+        AppendsFront W.appended (payload bench_seal key (R.rest reader.old).bytes) writer result.0 }
     ensures why { IsTrue (R.tells reader.old) → IsTrue (R.rest reader.old).ends_well → IsQuiet (R.faults reader.old) (R.faults reader.new) →
         IfErr result.1 (RefusesFile W.refuses writer (length (R.rest reader.old).bytes)) }
 {

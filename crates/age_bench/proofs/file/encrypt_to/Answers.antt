@@ -1,13 +1,17 @@
 use Rattle.std.specs.Prelude.{◌≡◌, ◌∷◌, [], ℕ, List, IsTrue, length, Some, Ok, Err}
 use Rattle.std.proofs.Common.{◌⊎◌}
 use Rattle.std.proofs.lemmas.Result.{on_ok_weaker, IfErr-weaker}
+use Rattle.age.specs.Armor.{text_of}
+use Rattle.age.specs.Copying.{AppendsFront}
 use Rattle.age.specs.EncryptErrors.{EncryptRefusal, OutOfMemory}
 use Rattle.age.specs.FileErrors.{IfIo, EncryptsUnless}
 use Rattle.age.specs.Encrypting.{Prepared, Prepares}
+use Rattle.age.specs.File.{file_text}
 use Rattle.age.specs.Reading.{IsQuiet}
 use Rattle.age.specs.Types.{Error}
 use Rattle.age.specs.WholeFiles.{RefusesFile}
 use Rattle.age.proofs.DecryptingStreams.{io_weaker}
+use Rattle.age_bench.specs.Bench.{bench_seal}
 use Rattle.age_bench.specs.Names.{WrapsTo, file_by}
 use Rattle.age_bench.specs.Recipient.{bench_grease}
 use Rattle.age_bench.proofs.Wrapped.{encrypts_weaker, filed, never_filed}
@@ -21,6 +25,21 @@ returns-clause-file g c = λ reader_told writer_told.
     let by_draws : Prepares WrapsTo (c.args.to ∷ []) (Some bench_grease) c.args.draw (Ok file) c.encrypt_all.new.draw = rw c.in_ok-grease.ensures.value at prepares in
     (_, filed c.args.to c.args.draw (g.R.Read.rest c.args.reader.now).bytes file _ by_draws, made.ended, made.out))
     (c.encrypt_all.ensures.file reader_told writer_told)
+
+pub returns-clause-front : goal.returns-clause-front
+returns-clause-front g c = λ reader_told writer_told.
+    let to = c.args.to in
+    let draw = c.args.draw in
+    let left = c.encrypt_all.new.draw in
+    let plain = (g.R.Read.rest c.args.reader.now).bytes in
+    let begins : List ℕ → Type 0 =
+    λ text. AppendsFront g.W.Write.appended (text_of c.args.format text) c.args.writer.now c.encrypt_all.new.writer in
+    let made : Error → Type 0 = λ _. (file : Prepared) × Prepares WrapsTo (to ∷ []) (Some bench_grease) draw (Ok file) left
+    × begins (file_text bench_seal file.file_key file.stanzas file.nonce plain) in
+    let told : Error → Type 0 = λ _. (text : List ℕ) × (file_by to draw plain ≡ Ok text) × begins text in
+    IfErr-weaker c.encrypt_all.result (IfIo made) (IfIo told)
+    (io_weaker made told (λ _ cut. (_, filed to draw plain cut.0 left cut.1, cut.2)))
+    (rw c.in_ok-grease.ensures.value at c.encrypt_all.ensures.front reader_told writer_told)
 
 pub returns-clause-why : goal.returns-clause-why
 returns-clause-why g c =

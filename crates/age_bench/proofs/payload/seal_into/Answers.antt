@@ -1,5 +1,5 @@
-use Rattle.std.specs.Prelude.{◌≡◌, ℕ, Bool, true, false}
-use Rattle.std.proofs.Common.{rules, ◌∙◌, ◌++◌, [], List, refl, subst, ap, inl, inr, add-zero}
+use Rattle.std.specs.Prelude.{◌≡◌, ℕ, Bool, true, false, Result, Ok, Err, OnOk}
+use Rattle.std.proofs.Common.{rules, ◌∙◌, [], List, refl, subst, ap, inl, inr, add-zero}
 use Rattle.std.proofs.lemmas.List.{append-nil}
 use Rattle.age.specs.Types.{Error, StreamWriter}
 use Rattle.std.proofs.lemmas.Result.{IfErr-weaker}
@@ -8,10 +8,9 @@ use Rattle.age.specs.ErrorKindVariants.{Interrupted}
 use Rattle.age.specs.WholeFiles.{RefusesFile}
 use Rattle.age.specs.Writing.{Narrows, OrMemory, Retried}
 use Rattle.age.specs.WritingLemmas.{retried-plain}
-use Rattle.age.specs.StreamWriting.{Refused, WasMade}
+use Rattle.age.specs.CopyingLemmas.{front-still}
+use Rattle.age.specs.StreamWriting.{Refused, WasMade, inner_of}
 use Rattle.age.specs.StreamWritingLemmas.{Refused-made, Refused-patient}
-use Rattle.age_bench.specs.Bench.{bench_seal}
-use Rattle.age_bench.proofs.Sealing.{closed-front, front-still, on-ok}
 use Rattle.age_bench.proofs.payload.seal_into.Goals as goal
 
 module _ {S W : Type 0} (refuses : W → ℕ → Error → Type 0) (key : List ℕ) (writer : W) (stream : StreamWriter S W) (made : WasMade key writer stream) where
@@ -29,6 +28,11 @@ module _ {S W : Type 0} (refuses : W → ℕ → Error → Type 0) (key : List �
   from_later later n narrows e h =
       from_made n e (subst (λ k. Retried (Refused refuses) stream k e) (add-zero n) (narrows 0 e (inl (Refused-patient refuses later 0 e h, h))))
 
+-- what holds holds of a success
+on-ok : {T E X : Type 0} (r : Result T E) → X → OnOk r X
+on-ok (Ok x) h = h
+on-ok (Err e) h = tt
+
 is-good : (failed : Bool) → (failed ≡ true → ⊥) → failed ≡ false
 is-good true not = absurd (not refl)
 is-good false not = refl
@@ -36,9 +40,10 @@ is-good false not = refl
 pub returns-in-Err-copy_all-clause-front : goal.returns-in-Err-copy_all-clause-front
 returns-in-Err-copy_all-clause-front g c = λ reader_told writer_told.
     let made = c.with_room-stream.ensures in
+    let later = c.copy_all.new.writer in
     let copied = c.in-Err-copy_all.ensures.front reader_told (made.same_tells ∙ writer_told) in
-    let law = c.sent_law.ensures.calls c.with_room-stream.result c.copy_all.new.writer c.args.key copied.front c.args.writer made.made copied.out in
-    rw c.into_inner.ensures (copied.front ++ law.0, law.1)
+    let sent = c.sent_law.ensures.calls c.with_room-stream.result later c.args.key copied.front copied.after c.args.writer made.made copied.out in
+    rw (c.into_inner.ensures, copied.joined) sent
 
 pub returns-in-Err-copy_all-clause-why : goal.returns-in-Err-copy_all-clause-why
 returns-in-Err-copy_all-clause-why g c = λ told well quiet.
@@ -50,9 +55,9 @@ returns-in-Err-close-clause-front g c = λ reader_told writer_told.
     let made = c.with_room-stream.ensures in
     let told = made.same_tells ∙ writer_told in
     let copied = c.in_default.ensures in
-    rw c.into_inner-in-Err-close.ensures (closed-front bench_seal g.W.Write.appended _ c.with_room-stream.result c.copy_all.new.writer c.close.new.self
-    c.args.key _ c.args.writer c.sent_law.ensures.calls c.sent_law.ensures.close made.made (copied.all reader_told told).1
-    (λ failed. (c.close.ensures.failed failed).1) (c.close.ensures.front (copied.tells ∙ told)))
+    rw c.into_inner-in-Err-close.ensures (c.sent_law.ensures.close c.with_room-stream.result c.copy_all.new.writer c.args.key _ c.args.writer
+    (inner_of c.close.new.self) made.made (copied.all reader_told told).1 (λ failed. ap inner_of (c.close.ensures.failed failed).1)
+    (c.close.ensures.front (copied.tells ∙ told)))
 
 pub returns-in-Err-close-clause-why : goal.returns-in-Err-close-clause-why
 returns-in-Err-close-clause-why g c = λ told well quiet.
@@ -81,10 +86,9 @@ returns-clause-front g c = λ reader_told writer_told.
     let out_told : g.W.Write.tells c.into_inner-out.result ≡ true =
     ap g.W.Write.tells c.into_inner-out.ensures ∙ (done.hands_back.same_tells ∙ (copied.tells ∙ told)) in
     let nothing = rw c.into_inner-out.ensures at (c.flush_retrying-flushed.ensures.flushes.nothing out_told) in
-    let sent = closed-front bench_seal g.W.Write.appended _ c.with_room-stream.result c.copy_all.new.writer c.close.new.self c.args.key _ c.args.writer
-    c.sent_law.ensures.calls c.sent_law.ensures.close made.made (copied.all reader_told told).1 (λ failed. (c.close.ensures.failed failed).1)
-    (c.close.ensures.front (copied.tells ∙ told)) in
-    (sent.0, front-still g.W.Write.appended g.met.W.Write.joins _ c.args.writer _ _ sent.1 nothing)
+    let sent = c.sent_law.ensures.close c.with_room-stream.result c.copy_all.new.writer c.args.key _ c.args.writer (inner_of c.close.new.self) made.made
+    (copied.all reader_told told).1 (λ failed. ap inner_of (c.close.ensures.failed failed).1) (c.close.ensures.front (copied.tells ∙ told)) in
+    front-still g.W.Write.appended g.met.W.Write.joins _ c.args.writer _ _ sent nothing
 
 pub returns-clause-why : goal.returns-clause-why
 returns-clause-why g c = λ told well quiet.
