@@ -1,10 +1,8 @@
 -- A text that is given to a writer once it is whole.
-use Rattle.std.specs.Prelude.{◌≡◌, ℕ, List, [], drop, take}
-use Rattle.std.proofs.Common.{◌∙◌, subst, sym}
-use Rattle.std.proofs.lemmas.List.{append-nil, take-append-drop}
+use Rattle.std.specs.Prelude.{◌≡◌, ℕ, List}
+use Rattle.std.proofs.Common.{subst}
 use Rattle.age.specs.Bytes.{AreBytes}
 use Rattle.age.specs.Claims.{AppendsFile}
-use Rattle.age.specs.Copying.{AppendsFront}
 use Rattle.age.specs.Encrypting.{Prepared}
 use Rattle.age.specs.Payload.{Seal}
 use Rattle.age.specs.Stretch.{Stretch, whole}
@@ -24,22 +22,3 @@ written_of seal_of items appended form file input plain old new is bytes alone w
       carries = rw text (made.carries bytes);
       is_file = made.is_file;
     }
-
--- a text's first bytes, however many, are a beginning of it
-pub front_of : {W : Type 0} (appended : W → List ℕ → W → Type 0) (text given : List ℕ) (n : ℕ) (old new : W) → given ≡ text
-    → appended old (take n given) new → AppendsFront appended text old new
-front_of appended text given n old new same out = record {
-  front = take n given;
-  after = drop n given;
-  joined = sym same ∙ sym (take-append-drop n given);
-  out = out;
-}
-
-pub all_of : {W : Type 0} (appended : W → List ℕ → W → Type 0) (text given : List ℕ) (old new : W) → given ≡ text → appended old given new
-    → AppendsFront appended text old new
-all_of appended text given old new same out = record {
-  front = given;
-  after = [];
-  joined = sym same ∙ sym (append-nil given);
-  out = out;
-}

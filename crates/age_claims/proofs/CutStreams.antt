@@ -1,7 +1,8 @@
 -- What is appended of a file that was cut between two of its chunks.
 use Rattle.std.specs.Prelude.{◌≡◌, ◌⊎◌, ℕ, ◌*◌, ◌≤◌, false, List, [], ◌++◌, Option, length, take}
-use Rattle.std.proofs.Common.{◌∙◌, refl, sym, ap, subst, inl, inr}
+use Rattle.std.proofs.Common.{◌∙◌, sym, ap, subst, inl, inr}
 use Rattle.age.specs.Copying.{AppendsFront}
+use Rattle.age.specs.CopyingLemmas.{front-nothing}
 use Rattle.age.specs.Decrypting.{ReadsFront}
 use Rattle.age.specs.DeliveredPayload.{payload_delivers}
 use Rattle.age.specs.File.{file_front}
@@ -21,8 +22,7 @@ use Rattle.age_claims.proofs.SameFronts.{fronted}
 -- a writer that stayed as it was was given a beginning of anything
 pub nothing_or : {W X : Type 0} (appended : W → List ℕ → W → Type 0) (old new : W) (all : List ℕ) → appended old [] old
     → (X → AppendsFront appended all old new) → (new ≡ old) ⊎ X → AppendsFront appended all old new
-nothing_or appended old new all none out (inl same) =
-    record { front = []; after = all; joined = refl; out = subst (λ w. appended old [] w) (sym same) none }
+nothing_or appended old new all none out (inl same) = front-nothing appended all old new (subst (λ w. appended old [] w) (sym same) none)
 nothing_or appended old new all none out (inr x) = out x
 
 module _ {W : Type 0} (appended : W → List ℕ → W → Type 0) (old new : W) (seal_of : Seal) (opened : List ℕ → List ℕ → List ℕ → Option (List ℕ))

@@ -9,6 +9,7 @@ pub mod CutStreams
 pub mod Given
 pub mod InOneChunk
 pub mod InTurn
+pub mod LeftBehind
 pub mod Lengthened
 pub mod OneKeys
 pub mod Outcomes

@@ -12,8 +12,10 @@ pub one_key : (one other : List ℕ) → KeyReadsBack recipient_prefix → AreBy
 one_key one other reads bytes more same =
     (reads other more).alone one (subst (λ text. IsKeyText recipient_prefix text one) same (reads one bytes).text)
 
-pub in_lower_case : (key text : List ℕ) → KeyReadsBack recipient_prefix → AreBytesOf 32 key → text ≡ bech32_text recipient_prefix key → has_upper text ≡ false
+pub in_lower_case : (key text : List ℕ) → KeyReadsBack recipient_prefix → AreBytesOf 32 key → text ≡ bech32_text recipient_prefix key
+    → has_upper text ≡ false
 in_lower_case key text reads bytes is = ap has_upper is ∙ (reads key bytes).in_case.lower refl
 
-pub in_upper_case : (key text : List ℕ) → KeyReadsBack identity_prefix → AreBytesOf 32 key → text ≡ bech32_text identity_prefix key → has_lower text ≡ false
+pub in_upper_case : (key text : List ℕ) → KeyReadsBack identity_prefix → AreBytesOf 32 key → text ≡ bech32_text identity_prefix key
+    → has_lower text ≡ false
 in_upper_case key text reads bytes is = ap has_lower is ∙ (reads key bytes).in_case.upper refl

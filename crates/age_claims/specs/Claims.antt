@@ -11,7 +11,7 @@ use Rattle.age.specs.DecryptErrors.{decrypt_refusal}
 use Rattle.age.specs.EncryptErrors.{EncryptRefusal, encrypt_refusal}
 use Rattle.age.specs.Encrypting.{Prepared}
 use Rattle.age.specs.ErrorVariants.{OutOfMemory, TooLong}
-use Rattle.age.specs.File.{file_front, file_text}
+use Rattle.age.specs.File.{file_front}
 use Rattle.age.specs.FileErrorVariants as variant
 use Rattle.age.specs.Identities.{UnwrapAnswer, Unwraps, CarriesFile, GivesFirst, IsFileFor}
 use Rattle.age.specs.OpVariants.{Read, Seek}
@@ -20,7 +20,7 @@ use Rattle.age.specs.PayloadAnswers.{OpensAs}
 use Rattle.age.specs.PayloadRefusals.{IsAllowed}
 use Rattle.age.specs.PayloadTargets.{sought_in, IsRefusedTarget, IsToEnd}
 use Rattle.age.specs.Stanza.{StanzaValue}
-use Rattle.age.specs.StreamWriting.{IsGood, WasMade, inner_of}
+use Rattle.age.specs.StreamWriting.{WasMade, inner_of}
 use Rattle.age.specs.Stretch.{Stretch, whole}
 use Rattle.age.specs.Types.{Answer, Error, FileError, Op, StreamWriter}
 use Rattle.age.specs.WholeFiles.{RefusesFile}
@@ -79,26 +79,13 @@ pub record AppendsRekeyed {W : Type 0} (seal_of : Seal) (gives : List ℕ → Li
   pub prepares : IsPrepared prepared
   pub appends : AppendsFile seal_of appended form prepared (whole plain) old new
 
--- Where a writer was made under a key and took a plaintext since, and hasn't failed, the writer below has got a beginning of the payload of the
--- plaintext and of the bytes that it is given then, and nothing else.
+-- Where a writer was made under a key and took a plaintext since, the writer below has got a beginning of the payload of the plaintext and of the
+-- bytes that it is given then, and nothing else, also where the writer failed.
 abbrev pub HasBegun : {S W : Type 0} → Seal → (W → List ℕ → W → Type 0) → (StreamWriter S W → List ℕ → StreamWriter S W → Type 0)
     → StreamWriter S W → List ℕ → StreamWriter S W → Type 0
 HasBegun {S} {W} seal_of below appended before bytes after =
-    (start : StreamWriter S W) (key plain : List ℕ) (first : W) → WasMade key first start → appended start plain before → IsGood before
-    → AppendsFront below (payload seal_of key (plain ++ bytes)) first (inner_of after)
-
--- Where a writer was made under a key and took a plaintext since, the writer below has got a beginning of the payload of that plaintext and of
--- some bytes more, and nothing else, also where the writer failed.
-abbrev pub HasBegunMore : {S W : Type 0} → Seal → (W → List ℕ → W → Type 0) → (StreamWriter S W → List ℕ → StreamWriter S W → Type 0)
-    → StreamWriter S W → StreamWriter S W → Type 0
-HasBegunMore {S} {W} seal_of below appended before after =
     (start : StreamWriter S W) (key plain : List ℕ) (first : W) → WasMade key first start → appended start plain before
-    → (more : List ℕ) × AppendsFront below (payload seal_of key (plain ++ more)) first (inner_of after)
-
--- Of a file that was prepared a beginning was appended, with whatever plaintext it goes on.
-abbrev pub HasBegunFile : {W : Type 0} → Seal → (W → List ℕ → W → Type 0) → Prepared → W → W → Type 0
-HasBegunFile seal_of appended file old new =
-    (plain : List ℕ) × AppendsFront appended (file_text seal_of file.file_key file.stanzas file.nonce plain) old new
+    → AppendsFront below (payload seal_of key (plain ++ bytes)) first (inner_of after)
 
 -- By the payload's length its plaintext has this place, or ends there.
 pub record Reaches (place : ℕ) (sealed : Stretch) : Type 0 where
@@ -156,8 +143,8 @@ AnswersFrom Calm seal_of key sealed (op ∷ ops) (a ∷ answers) place end =
     AnswersAt Calm seal_of key sealed op a place × AnswersFrom Calm seal_of key sealed ops answers (place_behind a place) end
 AnswersFrom Calm seal_of key sealed _ _ place end = ⊥
 
--- In the plaintext of a payload of so many bytes, which is no longer than 2^60, this place stands before the end, and room of so many bytes from there
--- on, one or more, ends in the chunk in which it begins.
+-- In the plaintext of a payload of so many bytes, which is no longer than 2^60, this place stands before the end, and room of so many bytes from
+-- there on, one or more, ends in the chunk in which it begins.
 pub record IsInOne (size place room chunk : ℕ) : Type 0 where
   pub len : ℕ
   pub plain : plain_len size ≡ Some len

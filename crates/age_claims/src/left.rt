@@ -3,13 +3,14 @@ ghost use Rattle.std.specs.Prelude.{◌≡◌, ◌⊎◌, List, ℕ, Some, Ok, I
 ghost use Rattle.age.specs.Armor.{text_of};
 ghost use Rattle.age.specs.Copying.{AppendsFront};
 ghost use Rattle.age.specs.Encrypting.{Prepared, Prepares};
+ghost use Rattle.age.specs.File.{file_text};
 ghost use Rattle.age.specs.WholeFiles.{IsWritten};
 
 use age::Recipient;
 use age::armor::Format;
 use age::draw::Draw;
 use age::format::Grease;
-use age::io::{Bytes, Write, write_all};
+use age::io::{Bytes, Read, Write, write_all};
 use age::streaming::{FileError, encrypt_all};
 use age::suite::Suite;
 use age::suite::laws::known_bytes;
@@ -67,4 +68,25 @@ pub fn written_at_once<S: Suite, T: Recipient, W: Write>(
         Err(error) => Err(FileError::Io(error)),
         Ok(()) => Ok(()),
     }
+}
+
+/// Encrypts what a reader still has to recipients, bare or in armor, and writes it chunk by chunk. Reader and writer tell their bytes.
+///
+/// Whatever it answers, the writer is as it was, or it was given a beginning of the text of one file of what the reader had, as the recipients
+/// and the random bytes make it, and nothing else. It refuses as `encrypt_all` does, by which a success gave it all of that text.
+pub fn left_behind<S: Suite, T: Recipient, R: Read, W: Write>(
+    alloc: Global,
+    recipients: &[T],
+    draw: &mut Draw,
+    grease: Grease,
+    format: Format,
+    reader: &mut R,
+    writer: &mut W,
+) -> Result<(), FileError>
+    ensures { IsTrue (R.tells reader.old) → IsTrue (W.tells writer.old) → (writer.new ≡ writer.old)
+        ⊎ ((prepared : Prepared) × Prepares T.wraps recipients.now (Some grease) draw.old (Ok prepared) draw.new
+        × AppendsFront W.appended
+        (text_of format (file_text S.seal_of prepared.file_key prepared.stanzas prepared.nonce (R.rest reader.old).bytes)) writer.old writer.new) }
+{
+    encrypt_all::<S, T, R, W>(alloc, recipients, draw, grease, format, reader, writer)
 }

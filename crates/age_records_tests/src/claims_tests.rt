@@ -11,7 +11,7 @@ use age_bench::suite::BenchSuite;
 use age_claims::devices::kept_between_devices;
 use age_claims::kept::kept;
 use age_claims::keys::{one_key_of_a_text, printed_identity, printed_recipient};
-use age_claims::left::written_at_once;
+use age_claims::left::{left_behind, written_at_once};
 use age_claims::lines::read_by_lines;
 use age_claims::longer::{cut_between_chunks, decrypted_up_to_the_cut, lengthened_or_cut};
 use age_claims::others::refused_as_answered;
@@ -117,6 +117,23 @@ fn is_written(alloc: Global, is_armored: bool, plain: &[u8]) -> Result<bool, Fai
     Ok(answer.is_ok() && out.as_slice() == text.as_slice())
 }
 
+// Whether its file is written chunk by chunk.
+fn is_left_behind(alloc: Global, is_armored: bool, plain: &[u8]) -> Result<bool, Fail> {
+    let mut draw = zeros(alloc, 32)?;
+    let mut out = Vec::new(alloc);
+    let answer = left_behind::<BenchSuite, BenchRecipient, Bytes, Vec<u8>>(
+        alloc,
+        &[BenchRecipient],
+        &mut draw,
+        grease(alloc)?,
+        form(is_armored),
+        &mut Bytes::new(plain),
+        &mut out,
+    );
+    let text = bench_text(alloc, form(is_armored), plain)?;
+    Ok(answer.is_ok() && out.as_slice() == text.as_slice())
+}
+
 // Whether these are a seek to this place, and a read of these bytes.
 fn are_at(answers: &[Answer], place: u64, bytes: &[u8]) -> bool {
     match answers {
@@ -161,6 +178,7 @@ fn a_plaintext_is_kept(rt: HostRuntime) -> Result<(), Fail> {
         assert!(rt; is_kept(alloc, is_armored, &[])? && is_kept(alloc, is_armored, &plain)?);
         assert!(rt; is_passed_on(alloc, is_armored, &plain)?);
         assert!(rt; is_written(alloc, is_armored, &plain)?);
+        assert!(rt; is_left_behind(alloc, is_armored, &plain)?);
     }
     for place in PLACES {
         assert!(rt; is_sliced(alloc, false, &plain, place)?, "at {place}");
@@ -433,7 +451,7 @@ fn encrypted(alloc: Global, plain: &[u8]) -> Result<Vec<u8>, Fail> {
         encryptor,
         &mut Bytes::new(plain),
         Vec::new(alloc),
-    )?;
+    );
     done?;
     Ok(file)
 }

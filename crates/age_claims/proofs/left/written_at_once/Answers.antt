@@ -1,5 +1,5 @@
 use Rattle.std.proofs.Common.{inl, inr, refl}
-use Rattle.age_claims.proofs.AtOnce.{all_of, front_of}
+use Rattle.age.specs.CopyingLemmas.{front-all, front-take}
 use Rattle.age_claims.proofs.left.written_at_once.Goals as goal
 
 pub returns-in-Err-clause-left : goal.returns-in-Err-clause-left
@@ -9,13 +9,13 @@ pub returns-in-Err-write_all-clause-left : goal.returns-in-Err-write_all-clause-
 returns-in-Err-write_all-clause-left g c = λ told.
     let (file, prepares, written) = c.in-Ok.ensures in
     let (n, fits, out) = c.in-Err-write_all.ensures.writes.takes_front told in
-    inr (file, _, prepares, written, front_of g.W.Write.appended _ _ n c.args.writer.now c.write_all.new.writer c.deref.ensures.value out)
+    inr (file, _, prepares, written, front-take g.W.Write.appended n _ c.args.writer.now c.write_all.new.writer (rw c.deref.ensures.value at out))
 
 pub returns-clause-left : goal.returns-clause-left
 returns-clause-left g c = λ told.
     let (file, prepares, written) = c.in-Ok.ensures in
     let out = c.in-Ok-write_all.ensures.writes.takes_all told in
-    inr (file, _, prepares, written, all_of g.W.Write.appended _ _ c.args.writer.now c.write_all.new.writer c.deref.ensures.value out)
+    inr (file, _, prepares, written, front-all g.W.Write.appended _ c.args.writer.now c.write_all.new.writer (rw c.deref.ensures.value at out))
 
 pub returns-clause-whole : goal.returns-clause-whole
 returns-clause-whole g c = λ told.

@@ -19,7 +19,8 @@ turns-preserved g c =
           let was_b = subst (λ n. IsInOne size c.args.other n b) second in_b in
           let (few, had_a, had_b) = before.opened told a b was_a was_b in
           let here_a = subst (λ p. IsInOne (length p.bytes) c.args.one (length c.both-in-turns.new.first) a) (sym (before.same_payload told)) in_a in
-          let here_b = subst (λ p. IsInOne (length p.bytes) c.args.other (length c.both-in-turns.new.second) b) (sym (before.same_payload told)) in_b in
+          let here_b =
+          subst (λ p. IsInOne (length p.bytes) c.args.other (length c.both-in-turns.new.second) b) (sym (before.same_payload told)) in_b in
           let (more, has_a, has_b) = call.opens now a b here_a here_b in
           let none = call.none now a b here_a here_b had_a had_b in
           (omega (arith, none, few), has_a, has_b);
